@@ -1,0 +1,80 @@
+//! What there is at the beginning.
+ghost use Rattle.std.specs.Prelude.{◌≡◌};
+ghost use Rattle.std.specs.List.{list_all};
+ghost use Rattle.evl_base.specs.Limits.{count_fits, sizes_fit, kind_fits, percent_fits, stax_fits};
+
+use crate::mutex_kind::MutexKind;
+use crate::refusal::Refusal;
+use arrayvec::ArrayVec;
+
+/// The elements of a kernel, as they are opened (this profile).
+#[derive(Debug, Drop)]
+pub struct Board {
+    /// How many threads there are, 1 to 64.
+    pub threads: u16,
+    /// The opening count of each semaphore, 0 to 2,147,483,647.
+    pub sems: ArrayVec<u32, 64>,
+    /// The opening bits of each flag group.
+    pub flags: ArrayVec<u32, 64>,
+    /// For each cross-buffer the sizes of the rings of way `In` and way `Out`, each 1 to 256 bytes.
+    pub xbufs: ArrayVec<(u16, u16), 16>,
+    /// The kind of each mutex.
+    pub mutexes: ArrayVec<MutexKind, 32>,
+    /// For each quota group its part of the processor, 1 to 100 percent.
+    pub groups: ArrayVec<u8, 16>,
+    /// For each stage exclusion lock how many may hold it together, 1 to 1000.
+    pub staxes: ArrayVec<u16, 16>,
+}
+
+impl Board {
+    ghost use Rattle.evl_base.specs.Board.{checked};
+
+    /// `Range` exactly where a number is outside its limits (this profile).
+    pub fn check(&self) -> Result<(), Refusal>
+        ensures { result ≡ checked self.now }
+    {
+        let fits = 1 <= self.threads
+            && self.threads <= 64
+            && counts_fit(self.sems.as_slice())
+            && rings_fit(self.xbufs.as_slice())
+            && kinds_fit(self.mutexes.as_slice())
+            && groups_fit(self.groups.as_slice())
+            && staxes_fit(self.staxes.as_slice());
+        if fits { Ok(()) } else { Err(Refusal::Range) }
+    }
+}
+
+fn counts_fit(counts: &[u32]) -> bool
+    ensures { result ≡ list_all count_fits counts.now }
+{
+    counts.iter().all(|count| *count <= 2_147_483_647)
+}
+
+fn rings_fit(rings: &[(u16, u16)]) -> bool
+    ensures { result ≡ list_all sizes_fit rings.now }
+{
+    rings.iter().all(|sizes| { 1 <= sizes.0 && sizes.0 <= 256 && 1 <= sizes.1 && sizes.1 <= 256 })
+}
+
+fn kinds_fit(kinds: &[MutexKind]) -> bool
+    ensures { result ≡ list_all kind_fits kinds.now }
+{
+    kinds.iter().all(|kind| match kind {
+        MutexKind::Ceiling(prio) => 1 <= *prio && *prio <= 99,
+        _ => true,
+    })
+}
+
+fn groups_fit(groups: &[u8]) -> bool
+    ensures { result ≡ list_all percent_fits groups.now }
+{
+    groups
+        .iter()
+        .all(|percent| 1 <= *percent && *percent <= 100)
+}
+
+fn staxes_fit(limits: &[u16]) -> bool
+    ensures { result ≡ list_all stax_fits limits.now }
+{
+    limits.iter().all(|limit| 1 <= *limit && *limit <= 1000)
+}

@@ -1,0 +1,32 @@
+//! What all layers share: stages, numbers, policies, calls, replies, plays, entries, refusals and boards, with their texts.
+#![tactic(auto)]
+
+mod action_kinds;
+mod board;
+mod call;
+mod entry;
+mod mutex_kind;
+mod numbers;
+mod play;
+mod policy;
+mod refusal;
+mod reply;
+mod stage;
+mod take;
+mod texts;
+mod way;
+
+pub use action_kinds::ActionKinds;
+pub use board::Board;
+pub use call::Call;
+pub use entry::Entry;
+pub use mutex_kind::MutexKind;
+pub use numbers::{FlagId, LineNo, MutexId, SemId, StaxId, ThreadId, TimerId, XbufId};
+pub use play::Play;
+pub use policy::Policy;
+pub use refusal::Refusal;
+pub use reply::Reply;
+pub use stage::Stage;
+pub use take::Take;
+pub use texts::{put_call, put_play, put_reply};
+pub use way::{Bytes, Way};

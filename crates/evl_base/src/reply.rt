@@ -1,0 +1,98 @@
+//! What the calls of the kernel answer.
+ghost use Rattle.std.specs.Prelude.{◌≡◌, Some};
+
+use crate::numbers::ThreadId;
+use crate::way::{Bytes, Hex};
+use std::fmt;
+
+/// What a call that wasn't refused answers (this profile).
+#[derive(Debug, Drop)]
+pub enum Reply {
+    Done,
+    Begun,
+    /// A semaphore's count, or minus the number of its waiters.
+    Count(i64),
+    /// Bits of a flag group.
+    Bits(u32),
+    /// A number: a timer's, a date, a rank, a room, overruns.
+    Number(u64),
+    /// What was read from a cross-buffer.
+    Bytes(Bytes),
+    /// The thread that is picked, if there is one.
+    Chosen(Option<ThreadId>),
+    /// The next owner of a mutex, if there is one, and whether more threads wait.
+    Handed { next: Option<ThreadId>, more: bool },
+    TimedOut,
+}
+
+impl Reply {
+    /// The same reply once more. `Reply` isn't `Copy`, as it may carry bytes.
+    pub fn copied(&self) -> Reply
+        ensures { result ≡ self.now }
+    {
+        match self {
+            Reply::Done => Reply::Done,
+            Reply::Begun => Reply::Begun,
+            Reply::Count(count) => Reply::Count(*count),
+            Reply::Bits(bits) => Reply::Bits(*bits),
+            Reply::Number(number) => Reply::Number(*number),
+            Reply::Bytes(bytes) => Reply::Bytes(copied_bytes(bytes)),
+            Reply::Chosen(thread) => Reply::Chosen(*thread),
+            Reply::Handed { next, more } => Reply::Handed {
+                next: *next,
+                more: *more,
+            },
+            Reply::TimedOut => Reply::TimedOut,
+        }
+    }
+}
+
+/// The same bytes once more.
+fn copied_bytes(bytes: &Bytes) -> Bytes
+    ensures { result ≡ bytes.now }
+{
+    let mut copy = Bytes::new();
+    copy.try_extend_from_slice(bytes.as_slice()).unwrap();
+    copy
+}
+
+impl fmt::Display for Reply {
+    ghost use Rattle.evl_base.specs.Reply.{reply_text};
+
+    ghost output = { λ reply. Some (reply_text reply) };
+
+    fn fmt<W: fmt::Write>(&self, f: &mut fmt::Formatter<W>) -> fmt::Result {
+        match self {
+            Reply::Done => write!(f, "done"),
+            Reply::Begun => write!(f, "begun"),
+            Reply::Count(count) => write!(f, "count {count}"),
+            Reply::Bits(bits) => write!(f, "bits {bits}"),
+            Reply::Number(number) => write!(f, "number {number}"),
+            Reply::Bytes(bytes) => {
+                let digits = Hex(bytes.as_slice());
+                write!(f, "bytes {digits}")
+            }
+            Reply::Chosen(None) => write!(f, "thread none"),
+            Reply::Chosen(Some(thread)) => {
+                let thread = thread.0;
+                write!(f, "thread {thread}")
+            }
+            Reply::Handed { next: None, .. } => write!(f, "next none"),
+            Reply::Handed {
+                next: Some(thread),
+                more: true,
+            } => {
+                let thread = thread.0;
+                write!(f, "next {thread} more")
+            }
+            Reply::Handed {
+                next: Some(thread),
+                more: false,
+            } => {
+                let thread = thread.0;
+                write!(f, "next {thread}")
+            }
+            Reply::TimedOut => write!(f, "timed out"),
+        }
+    }
+}
