@@ -30,3 +30,6 @@ pub use stage::Stage;
 pub use take::Take;
 pub use texts::{put_call, put_play, put_reply};
 pub use way::{Bytes, Way};
+
+#[cfg(test)]
+mod tests;

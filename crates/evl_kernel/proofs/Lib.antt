@@ -1,0 +1,4 @@
+pub mod HistoryLaws
+pub mod Determined
+pub mod Walking
+mod Rows

@@ -1,0 +1,12 @@
+pub mod Paths
+pub mod States
+pub mod Effects
+pub mod Semaphores
+pub mod Serving
+pub mod Settling
+pub mod Histories
+pub mod Openings
+pub mod KernelViews
+pub mod Replays
+pub mod Laws
+pub mod Insides
