@@ -1,0 +1,14 @@
+use Rattle.std.proofs.Common.{rules}
+use Rattle.evl_shell.proofs.InputLemmas.{input-ended, input-full}
+use Rattle.evl_shell.proofs.plays.read_input.Goals as goal
+
+pub returns-then-count-eq0-clause-text : goal.returns-then-count-eq0-clause-text
+returns-then-count-eq0-clause-text g c =
+    let kept = c.reading.invariant in
+    input-ended _ _ _ c.reading.text.items c.read.new.buf c.in-Ok.count kept.within kept.read c.in-Ok.ensures.bytes.0 c.if-count-eq0.true
+    (c.in-Ok.ensures.bytes.1 c.if-count-eq0.true (search rules))
+
+pub returns-clause-text : goal.returns-clause-text
+returns-clause-text g c =
+    let kept = c.reading.invariant in
+    input-full _ _ c.reading.text.items (search rules) kept.read

@@ -1,0 +1,15 @@
+use Rattle.std.proofs.Common.{◌∙◌, sym, length}
+use Rattle.evl_shell.specs.Moments.{number_after}
+use Rattle.evl_shell.proofs.TurnLemmas.{made}
+use Rattle.evl_shell.proofs.runs.make_call.Goals as goal
+
+pub returns : goal.returns
+returns c =
+    let call = c.apply-answer in
+    let told = made c.args.kernel.now call.new.self c.args.step.now c.copied_call.result call.result c.copied_call.ensures
+    call.ensures.entry call.ensures.none call.ensures.full call.ensures.limit (sym c.wants_memory.ensures ∙ c.if-wants_memory.false) in
+    record {
+      turns = told.turns;
+      number_is = c.number_after-number.ensures ∙ (λ i. number_after (length (c.history-before.ensures.entries i)) (length (c.history.ensures.entries i))) ∙ told.number_is;
+      answer_is = told.answer_is;
+    }

@@ -1,0 +1,9 @@
+use Rattle.std.proofs.Common.{◌≡◌, ℕ, List, ◌++◌, drop}
+use Rattle.evl_shell.specs.Lines.{play_lines}
+use Rattle.evl_shell.specs.Sinks.{Passes}
+use Rattle.evl_shell.proofs.runs.put_plays.Given as goal
+
+abbrev pub invariant-loop-play : goal.invariant-loop-play
+invariant-loop-play g l =
+    (done : List ℕ) × (done ++ play_lines (drop l.play-index l.plays) ≡ play_lines l.plays)
+    × Passes (g.S.Sink.told l.initial.out) l.initial.chunks (g.S.Sink.told l.out) l.chunks done

@@ -1,0 +1,67 @@
+-- What the program reads, tells and answers.
+use Rattle.std.specs.Prelude.{◌≡◌, ℕ, List, [], ◌++◌, take, decimal, codes, Bool, true, Option, None, IfSome, Result, Ok, Err}
+use Rattle.evl_shell.specs.declared.faults.Fault.{Fault}
+use Rattle.evl_shell.specs.declared.faults.Fault.TheVariants.{Text, Board, Step, Memory, Write}
+use Rattle.evl_shell.specs.declared.plays.Stop.{Stop}
+use Rattle.evl_shell.specs.declared.plays.Stop.TheVariants.{NoFile, Broken}
+use Rattle.evl_shell.specs.Faults.{Writes, WritesPart}
+use Rattle.evl_shell.specs.Lines.{line_feed}
+use Rattle.evl_shell.specs.Runs.{trace_of}
+use Rattle.evl_shell.specs.Sinks.{TakesPrefix}
+
+-- all of the input where it is known, but for what is past 1,048,577 bytes
+abbrev pub IsInput : Option (List ℕ) → List ℕ → Type 0
+IsInput known text = IfSome known (λ bytes. text ≡ take 1048577 bytes)
+
+abbrev pub status_of : Stop → ℕ
+status_of NoFile = 2
+status_of (Broken Text) = 2
+status_of (Broken Board) = 2
+status_of (Broken (Step n)) = 2
+status_of (Broken Memory) = 4
+status_of (Broken Write) = 1
+
+abbrev pub stop_line : Stop → List ℕ
+stop_line NoFile = codes "evl: no file\n"
+stop_line (Broken Text) = codes "evl: bad text\n"
+stop_line (Broken Board) = codes "evl: bad board\n"
+stop_line (Broken (Step n)) = codes "evl: bad step " ++ (decimal n ++ line_feed)
+stop_line (Broken Memory) = codes "evl: no memory\n"
+stop_line (Broken Write) = codes "evl: write fault\n"
+
+-- the fault is the text's, and nothing was told
+abbrev pub Refuses : Option (List ℕ) → Option (List ℕ) → Result (List ℕ) Fault → Fault → Type 0
+Refuses old new trace e = (trace ≡ Err e) × (new ≡ old)
+
+-- what was told of the trace
+abbrev pub Tells : Option (List ℕ) → Option (List ℕ) → Bool → Result (List ℕ) Fault → Result (Unit {0}) Stop → Type 0
+Tells old new failed trace (Ok done) = Writes old new trace
+Tells old new failed trace (Err NoFile) = new ≡ old
+Tells old new failed trace (Err (Broken Text)) = Refuses old new trace Text
+Tells old new failed trace (Err (Broken Board)) = Refuses old new trace Board
+Tells old new failed trace (Err (Broken (Step n))) = Refuses old new trace (Step n)
+Tells old new failed trace (Err (Broken Memory)) = WritesPart old new trace
+Tells old new failed trace (Err (Broken Write)) = WritesPart old new trace × (failed ≡ true)
+
+-- the program's end on an input: the text that it read, and what it told of that text's trace
+pub record Ended (known old new : Option (List ℕ)) (failed : Bool) (end : Result (Unit {0}) Stop) : Type 0 where
+  pub text : List ℕ
+  pub read : IsInput known text
+  pub tells : Tells old new failed (trace_of None text) end
+
+-- its status
+abbrev pub status : Result (Unit {0}) Stop → ℕ
+status (Ok done) = 0
+status (Err stop) = status_of stop
+
+-- the line that it says, if it says one
+abbrev pub said : Result (Unit {0}) Stop → List ℕ
+said (Ok done) = []
+said (Err stop) = stop_line stop
+
+-- the program ended somehow, answered the status of that end, and said its line, or a front part where `err` failed
+pub record Plays (known old new : Option (List ℕ)) (failed : Bool) (quiet spoken : Option (List ℕ)) (answer : ℕ) : Type 0 where
+  pub end : Result (Unit {0}) Stop
+  pub ended : Ended known old new failed end
+  pub status_is : answer ≡ status end
+  pub says : TakesPrefix quiet spoken (said end)

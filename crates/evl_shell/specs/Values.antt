@@ -1,0 +1,63 @@
+-- What a TOML value stands for in a scenario.
+use Rattle.std.specs.Prelude.{ℕ, nat_eq, codes, drop, ◌^◌, List, length, ◌&&◌, nat_lt, decimal, if◌then◌else◌, Option, Some, None, option_map, option_and_then, pos}
+use Rattle.std.specs.List.{starts_with}
+use Rattle.std.specs.Str.{bytes_eq}
+use Rattle.std.specs.Str.Parse.{digits_value}
+use Rattle.toml.specs.Data.{Data, integer, string, Items, no_items, item, as_str, as_array}
+use Rattle.evl_base.specs.declared.mutex_kind.MutexKind.{MutexKind}
+use Rattle.evl_base.specs.declared.mutex_kind.MutexKind.TheVariants.{Normal, Recursive, Ceiling}
+use Rattle.evl_base.specs.declared.numbers.SemId.{SemId}
+use Rattle.evl_base.specs.declared.numbers.ThreadId.{ThreadId}
+
+-- the number below 2 ^ 64 whose decimal digits, without leading zeros, the text is
+abbrev pub text_number : List ℕ → Option ℕ
+text_number text =
+    let n = digits_value 10 text in
+    if nat_lt n (2 ^ 64) && bytes_eq (decimal n) text then Some n else None
+
+-- an integer that isn't negative, or the text of a number
+abbrev pub number_from : Data → Option ℕ
+number_from (integer (pos n)) = Some n
+number_from (string text) = text_number text
+number_from _ = None
+
+-- the number, where it is below a bound
+abbrev pub below : ℕ → Option ℕ → Option ℕ
+below bound number = option_and_then (λ n. if nat_lt n bound then Some n else None) number
+
+abbrev pub word_from : Data → Option ℕ
+word_from value = below (2 ^ 32) (number_from value)
+
+abbrev pub half_word_from : Data → Option ℕ
+half_word_from value = below (2 ^ 16) (number_from value)
+
+abbrev pub byte_from : Data → Option ℕ
+byte_from value = below (2 ^ 8) (number_from value)
+
+abbrev pub thread_from : Data → Option ThreadId
+thread_from value = option_map (λ n. record { 0 = n }) (half_word_from value)
+
+abbrev pub sem_from : Data → Option SemId
+sem_from value = option_map (λ n. record { 0 = n }) (half_word_from value)
+
+-- just two items: the size of the ring of way `In`, and that of way `Out`
+abbrev pub two_sizes : Items → Option (ℕ × ℕ)
+two_sizes (item inbound (item outbound no_items)) =
+    option_and_then (λ first. option_map (λ second. (first, second)) (half_word_from outbound)) (half_word_from inbound)
+two_sizes _ = None
+
+abbrev pub ring_sizes_from : Data → Option (ℕ × ℕ)
+ring_sizes_from value = option_and_then two_sizes (as_array value)
+
+-- what follows this front part of a text
+abbrev pub past_front : List ℕ → List ℕ → Option (List ℕ)
+past_front front text = if starts_with nat_eq text front then Some (drop (length front) text) else None
+
+abbrev pub mutex_kind_of : List ℕ → Option MutexKind
+mutex_kind_of text =
+    if bytes_eq text (codes "normal") then Some Normal
+    else if bytes_eq text (codes "recursive") then Some Recursive
+    else option_map Ceiling (below (2 ^ 8) (option_and_then text_number (past_front (codes "ceiling ") text)))
+
+abbrev pub mutex_kind_from : Data → Option MutexKind
+mutex_kind_from value = option_and_then mutex_kind_of (as_str value)

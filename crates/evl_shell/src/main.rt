@@ -1,0 +1,26 @@
+//! Plays a scenario of calls on an out-of-band core and prints the trace.
+#![tactic(auto)]
+
+mod boards;
+mod chunks;
+mod faults;
+mod lines;
+mod plays;
+mod runs;
+mod scenarios;
+mod sinks;
+mod steps;
+mod tables;
+#[cfg(test)]
+mod tests;
+mod values;
+
+use sinks::Over;
+use std::process::ExitCode;
+
+fn main(rt: HostRuntime) -> ExitCode {
+    let mut input = rt.stdin();
+    let mut out = Over::new(rt.stdout());
+    let mut err = rt.stderr();
+    ExitCode::from(plays::play(rt.alloc(), &mut input, &mut out, &mut err))
+}

@@ -1,0 +1,251 @@
+//! Plays a scenario into a sink.
+ghost use Rattle.std.specs.Prelude.{◌≡◌, List, ℕ, [], true, false, Ok, Err, OnOk, OnErr, IfOk, IfErr, drop, string_bytes};
+ghost use Rattle.std.specs.Io.KnownBytes.{Appends};
+ghost use Rattle.evl_shell.specs.Sinks.{TakesPrefix, Passes, PassesPart};
+ghost use Rattle.evl_shell.specs.Faults.{IsCutShort, IsRefusal, IsCut, Writes, WritesPart};
+ghost use Rattle.evl_shell.specs.Lines.{board_line_of, board_line_text, line_text, play_line_text, play_lines};
+ghost use Rattle.evl_shell.specs.Moments as moments;
+ghost use Rattle.evl_shell.specs.Moments.{moment, Turns, Tells};
+ghost use Rattle.evl_shell.specs.Runs.{turn, turn_lines, lines_from, script_trace, trace_of};
+
+use crate::chunks::Chunks;
+use crate::faults::Fault;
+use crate::lines::{Answer, EntryNumber, PlayLine, StepLine, board_line};
+use crate::scenarios::{Scenario, read_scenario};
+use crate::sinks::{Sink, SinkFailed};
+use crate::steps::{Step, copied_call};
+use evl_base::{Board, Play, Refusal, Reply};
+use evl_kernel::Kernel;
+use std::alloc::Global;
+
+// What the call of a step was answered, and the number of its entry, where it made one.
+#[derive(Drop)]
+struct Called {
+    number: EntryNumber,
+    answer: Answer,
+}
+
+// Whether an answer stands for want of memory.
+fn wants_memory(answer: &Result<Reply, Refusal>) -> bool
+    ensures { result ≡ moments.wants_memory answer.now }
+{
+    match answer {
+        Err(Refusal::NoMemory) => true,
+        _ => false,
+    }
+}
+
+// The number of an entry that raised the count of entries, if one did.
+fn number_after(before: usize, count: usize) -> Option<usize>
+    ensures { result ≡ moments.number_after before count }
+{
+    if before < count { Some(count) } else { None }
+}
+
+// Makes the call of a step. `NoMemory` is all that it is refused for.
+fn make_call(kernel: &mut Kernel<Global>, step: &Step) -> Result<Called, Refusal>
+    ensures { IfOk result (λ called. Tells kernel.old kernel.new called.number.0 called.answer.0 (turn kernel.old.limit (moment kernel.old) step.now)) }
+{
+    let before = kernel.history().len();
+    let answer = kernel.apply(step.who, copied_call(&step.call));
+    if wants_memory(&answer) {
+        return Err(Refusal::NoMemory);
+    }
+    let number = number_after(before, kernel.history().len());
+    Ok(Called {
+        number: EntryNumber(number),
+        answer: Answer(answer),
+    })
+}
+
+// The line of a step.
+fn step_line(alloc: Global, step: &Step, called: Called) -> Result<String, Refusal>
+    ensures { IfOk result (λ line. string_bytes line ≡ line_text called.number.0 step.now called.answer.0) }
+{
+    let Called { number, answer } = called;
+    let line = StepLine {
+        number,
+        step,
+        answer,
+    };
+    match line.to_string(alloc) {
+        Ok(text) => Ok(text),
+        Err(_) => Err(Refusal::NoMemory),
+    }
+}
+
+// The line of a play.
+fn play_line(alloc: Global, play: Play) -> Result<String, Refusal>
+    ensures { IfOk result (λ line. string_bytes line ≡ play_line_text play) }
+{
+    match PlayLine(play).to_string(alloc) {
+        Ok(text) => Ok(text),
+        Err(_) => Err(Refusal::NoMemory),
+    }
+}
+
+// Puts the lines of some plays.
+fn put_plays<S: Sink>(
+    alloc: Global,
+    plays: &[Play],
+    chunks: &mut Chunks,
+    out: &mut S,
+) -> Result<(), Fault>
+    ensures ok { OnOk result (Passes (S.told out.old) chunks.old (S.told out.new) chunks.new (play_lines plays.now)) }
+    ensures part { OnErr result (PassesPart (S.told out.old) chunks.old (S.told out.new) chunks.new (play_lines plays.now)) }
+    ensures kinds { IfErr result (IsCutShort (S.has_failed out.new)) }
+{
+    for play in plays {
+        let Ok(line) = play_line(alloc, *play) else {
+            return Err(Fault::Memory);
+        };
+        match chunks.put(line.as_str(), out) {
+            Ok(()) => {}
+            Err(fault) => return Err(fault),
+        }
+    }
+    Ok(())
+}
+
+// The plays of a kernel from an index on.
+fn plays_from(kernel: &Kernel<Global>, start: usize) -> &[Play]
+    ensures { result.now ≡ drop start kernel.now.history.plays }
+{
+    kernel.plays().get(start..).unwrap_or(&[])
+}
+
+// Makes the call of a step, and puts its line and those of its plays.
+fn play_step<S: Sink>(
+    alloc: Global,
+    kernel: &mut Kernel<Global>,
+    step: &Step,
+    chunks: &mut Chunks,
+    out: &mut S,
+) -> Result<(), Fault>
+    ensures ok { OnOk result (Passes (S.told out.old) chunks.old (S.told out.new) chunks.new (turn_lines step.now (turn kernel.old.limit (moment kernel.old) step.now))) }
+    ensures turns { OnOk result (Turns kernel.old kernel.new (turn kernel.old.limit (moment kernel.old) step.now)) }
+    ensures part { OnErr result (PassesPart (S.told out.old) chunks.old (S.told out.new) chunks.new (turn_lines step.now (turn kernel.old.limit (moment kernel.old) step.now))) }
+    ensures kinds { IfErr result (IsCutShort (S.has_failed out.new)) }
+{
+    let plays = kernel.plays().len();
+    let Ok(called) = make_call(kernel, step) else {
+        return Err(Fault::Memory);
+    };
+    let Ok(line) = step_line(alloc, step, called) else {
+        return Err(Fault::Memory);
+    };
+    match chunks.put(line.as_str(), out) {
+        Ok(()) => {}
+        Err(fault) => return Err(fault),
+    }
+    match put_plays(alloc, plays_from(kernel, plays), chunks, out) {
+        Ok(()) => Ok(()),
+        Err(fault) => Err(fault),
+    }
+}
+
+// Plays some steps.
+fn play_steps<S: Sink>(
+    alloc: Global,
+    kernel: &mut Kernel<Global>,
+    steps: &[Step],
+    chunks: &mut Chunks,
+    out: &mut S,
+) -> Result<(), Fault>
+    ensures ok { OnOk result (Passes (S.told out.old) chunks.old (S.told out.new) chunks.new (lines_from kernel.old.limit (moment kernel.old) steps.now)) }
+    ensures part { OnErr result (PassesPart (S.told out.old) chunks.old (S.told out.new) chunks.new (lines_from kernel.old.limit (moment kernel.old) steps.now)) }
+    ensures kinds { IfErr result (IsCutShort (S.has_failed out.new)) }
+{
+    for step in steps {
+        match play_step(alloc, kernel, step, chunks, out) {
+            Ok(()) => {}
+            Err(fault) => return Err(fault),
+        }
+    }
+    Ok(())
+}
+
+// The first line.
+fn first_line(alloc: Global, board: &Board, limit: u32) -> Result<String, Refusal>
+    ensures { IfOk result (λ line. string_bytes line ≡ board_line_text (board_line_of board.now limit)) }
+{
+    match board_line(board, limit).to_string(alloc) {
+        Ok(text) => Ok(text),
+        Err(_) => Err(Refusal::NoMemory),
+    }
+}
+
+// Plays a scenario, but for what waits at the end.
+fn play_scenario<S: Sink>(
+    alloc: Global,
+    scenario: Scenario,
+    chunks: &mut Chunks,
+    out: &mut S,
+) -> Result<(), Fault>
+    ensures ok { OnOk result (Passes (S.told out.old) chunks.old (S.told out.new) chunks.new (script_trace scenario)) }
+    ensures part { OnErr result (PassesPart (S.told out.old) chunks.old (S.told out.new) chunks.new (script_trace scenario)) }
+    ensures kinds { IfErr result (IsCutShort (S.has_failed out.new)) }
+{
+    let (board, limit, steps) = scenario.into_parts();
+    let Ok(line) = first_line(alloc, &board, limit) else {
+        return Err(Fault::Memory);
+    };
+    let Ok(mut kernel) = Kernel::new(alloc, board, limit) else {
+        return Err(Fault::Memory);
+    };
+    match chunks.put(line.as_str(), out) {
+        Ok(()) => {}
+        Err(fault) => return Err(fault),
+    }
+    match play_steps(alloc, &mut kernel, steps.as_slice(), chunks, out) {
+        Ok(()) => Ok(()),
+        Err(fault) => Err(fault),
+    }
+}
+
+// Writes the trace of a scenario, and what waits at its end or before a fault.
+fn write_scenario<S: Sink>(alloc: Global, scenario: Scenario, out: &mut S) -> Result<(), Fault>
+    ensures ok { OnOk result (Appends (S.told out.old) (S.told out.new) (script_trace scenario)) }
+    ensures part { OnErr result (TakesPrefix (S.told out.old) (S.told out.new) (script_trace scenario)) }
+    ensures kinds { IfErr result (IsCutShort (S.has_failed out.new)) }
+{
+    let mut chunks = Chunks::new(alloc);
+    match play_scenario(alloc, scenario, &mut chunks, out) {
+        Ok(()) => match chunks.flush(out) {
+            Ok(()) => Ok(()),
+            Err(SinkFailed) => Err(Fault::Write),
+        },
+        Err(Fault::Write) => Err(Fault::Write),
+        Err(_) => {
+            chunks.give_up(out);
+            Err(Fault::Memory)
+        }
+    }
+}
+
+/// Writes the trace of a text, under a limit that may be handed in (1 to 1,000,000; it replaces the text's).
+/// The text is checked whole before the first byte is written. `Text`, `Board` and `Step` say what is wrong with it,
+/// `Memory` that a growth was refused, and `Write` that the sink has failed (this profile).
+pub fn run<S: Sink>(
+    alloc: Global,
+    text: &[u8],
+    limit: Option<u32>,
+    out: &mut S,
+) -> Result<(), Fault>
+    requires { S.has_failed out.old ≡ false }
+
+    // The whole trace, and nothing else.
+    ensures done { OnOk result (Writes (S.told out.old) (S.told out.new) (trace_of limit text.now)) }
+
+    // A fault of the text, and nothing written.
+    ensures refused { IfErr result (λ e. IsRefusal e → (trace_of limit text.now ≡ Err e) × (out.new ≡ out.old)) }
+
+    // A front part of the trace, where memory ran out or the sink failed.
+    ensures cut { IfErr result (λ e. IsCut e → WritesPart (S.told out.old) (S.told out.new) (trace_of limit text.now)) }
+    ensures write { result ≡ Err Fault.Write → S.has_failed out.new ≡ true }
+{
+    match read_scenario(alloc, text, limit) {
+        Ok(scenario) => write_scenario(alloc, scenario, out),
+        Err(fault) => Err(fault),
+    }
+}

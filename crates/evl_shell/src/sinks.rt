@@ -1,0 +1,100 @@
+//! Where a trace goes.
+ghost use Rattle.std.specs.Prelude.{◌≡◌, ◌≤◌, ◌<◌, true, false, List, ℕ, Option, Bool, length, take, OnOk, OnErr};
+ghost use Rattle.std.specs.Io.KnownBytes.{Appends};
+ghost use Rattle.evl_shell.specs.Sinks.{TakesPrefix};
+
+use std::io::Write;
+
+/// Something that takes bytes, and tells which it took, or tells nothing (this profile).
+pub trait Sink {
+    /// The bytes that were taken, where they are known.
+    ghost told: { Self → Option (List ℕ) };
+
+    /// Whether the sink has failed.
+    ghost has_failed: { Self → Bool };
+
+    /// Takes a front part of the bytes and answers its length: 0 of some bytes only where the sink has failed.
+    fn put(&mut self, bytes: &[u8]) -> usize
+        ensures within { result ≤ length bytes.now }
+        ensures takes { Appends (told self.old) (told self.new) (take result bytes.now) }
+        ensures failed { result ≡ 0 → 0 < length bytes.now → has_failed self.new ≡ true };
+
+    /// Whether the sink has failed.
+    fn failed(&self) -> bool
+        ensures { result ≡ has_failed self.now };
+}
+
+/// The sink over a writer. An error and a count of 0 are its failures (this profile).
+#[derive(Drop)]
+pub struct Over<W: Write> {
+    writer: W,
+    failed: bool,
+}
+
+impl<W: Write> Over<W> {
+    /// A sink over a writer, which hasn't failed.
+    pub fn new(writer: W) -> Over<W>
+        ensures writer { result.writer ≡ writer }
+        ensures failed { result.failed ≡ false }
+    {
+        Over {
+            writer,
+            failed: false,
+        }
+    }
+
+    /// The writer again.
+    pub fn into_inner(self) -> W
+        ensures { result ≡ self.writer }
+    {
+        self.writer
+    }
+}
+
+impl<W: Write> Sink for Over<W> {
+    ghost told = { λ s. W.contents s.writer };
+
+    ghost has_failed = { λ s. s.failed };
+
+    fn put(&mut self, bytes: &[u8]) -> usize {
+        if bytes.is_empty() {
+            return 0;
+        }
+        match self.writer.write(bytes) {
+            Ok(0) => {
+                self.failed = true;
+                0
+            }
+            Ok(count) => count,
+            Err(_) => {
+                self.failed = true;
+                0
+            }
+        }
+    }
+
+    fn failed(&self) -> bool {
+        self.failed
+    }
+}
+
+/// A sink has failed.
+#[derive(Clone, Copy, PartialEq, Eq, Debug)]
+pub struct SinkFailed;
+
+/// Puts all of the bytes, or a front part where the sink fails.
+pub fn put_all<S: Sink>(out: &mut S, bytes: &[u8]) -> Result<(), SinkFailed>
+    ensures ok { OnOk result (Appends (S.told out.old) (S.told out.new) bytes.now) }
+    ensures part { OnErr result (TakesPrefix (S.told out.old) (S.told out.new) bytes.now) }
+    ensures failed { OnErr result (S.has_failed out.new ≡ true) }
+{
+    let mut rest = bytes;
+    while !rest.is_empty() {
+        let count = out.put(rest);
+        if count == 0 {
+            return Err(SinkFailed);
+        }
+        rest = &rest[count..];
+    }
+    Ok(())
+}
