@@ -6,6 +6,8 @@ mod chunks;
 mod faults;
 mod lines;
 mod plays;
+#[cfg(test)]
+mod program_tests;
 mod runs;
 mod scenarios;
 mod sinks;
