@@ -1,0 +1,5 @@
+pub mod NumberSetLaws
+pub mod PortLaws
+pub mod LineLaws
+pub mod AllowedLaws
+pub mod Rows

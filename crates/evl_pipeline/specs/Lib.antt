@@ -1,0 +1,5 @@
+pub mod Plans
+pub mod NumberSet
+pub mod Counts
+pub mod Lines
+pub mod Sides

@@ -1,0 +1,8 @@
+//! Installed callbacks.
+
+/// A callback, and the line where it stands.
+#[derive(Drop)]
+pub struct Held<C> {
+    pub callback: C,
+    pub line: u16,
+}

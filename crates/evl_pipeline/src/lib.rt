@@ -1,0 +1,28 @@
+//! Interrupt lines, the logs and stall bits of the two stages, and stored callbacks (Dovetail: interrupt pipeline).
+#![tactic(auto)]
+
+mod action;
+mod answer;
+mod callback;
+mod fire;
+mod held;
+mod log;
+mod pipeline;
+mod plan;
+mod port;
+mod ran;
+mod side;
+#[cfg(test)]
+mod tests;
+
+pub use action::Action;
+pub use answer::Answer;
+pub use callback::{Callback, Handler};
+pub use fire::Fire;
+pub use pipeline::PipelineOf;
+pub use plan::Plan;
+pub use ran::Ran;
+use std::alloc::Global;
+
+/// A pipeline of boxed closures.
+pub type Pipeline = PipelineOf<Callback, Global>;

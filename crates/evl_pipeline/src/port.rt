@@ -1,0 +1,9 @@
+//! How a line leads to its callback.
+
+/// The place of a line's callback, with what its calls tell.
+#[derive(Clone, Copy)]
+pub struct Port {
+    pub key: usize,
+    pub tag: u32,
+    pub count: u64,
+}

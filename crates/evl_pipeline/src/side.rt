@@ -1,0 +1,195 @@
+//! One stage: its stall bit, its log and the callbacks on its lines.
+ghost use Rattle.std.specs.Prelude.{◌≡◌, ◌<◌, length, replicate, None, is_some, if◌then◌else◌, IfOk, IfNone, IfSome};
+ghost use Rattle.evl_pipeline.specs.Counts.{count_at, counted};
+ghost use Rattle.evl_pipeline.specs.Lines.{PlaysOn, Taken, callback_on, cleared, empty_side, filled, logged};
+ghost use Rattle.evl_pipeline.specs.NumberSet.{contains, least};
+ghost use Rattle.evl_pipeline.specs.Sides.{port_at};
+
+use crate::answer::Answer;
+use crate::callback::Handler;
+use crate::fire::Fire;
+use crate::held::Held;
+use crate::log::{LINES, Log};
+use crate::port::Port;
+use evl_base::{LineNo, Stage};
+use slab::Slab;
+use std::alloc::{AllocError, Allocator};
+use std::marker::Model;
+
+/// What one stage has. To a contract it is its stall bit, its pending lines, and by line the callbacks and the counts
+/// of unhandled answers.
+#[derive(Drop)]
+pub struct SideOf<C, A: Allocator> {
+    stalled: bool,
+    log: Log<A>,
+    ports: Vec<Option<Port>, A>,
+    callbacks: Slab<Held<C>, A>,
+    unhandled: Vec<u64, A>,
+}
+
+impl<C, A: Allocator> Model for SideOf<C, A> {
+    ghost use Rattle.std.specs.Prelude.{map};
+    ghost use Rattle.evl_pipeline.specs.Lines.{Side};
+    ghost use Rattle.evl_pipeline.specs.Sides.{IsSoundBank, installed_by};
+
+    ghost Value = { Side C };
+
+    ghost view = { λ s. record {
+      stalled = s.stalled;
+      pending = s.log;
+      installed = map (installed_by s.callbacks) s.ports.items;
+      unhandled = s.unhandled.items;
+    } };
+
+    ghost invariant = { λ s. IsSoundBank s.ports.items s.callbacks s.unhandled.items };
+}
+
+impl<C, A: Allocator + Clone> SideOf<C, A> {
+    /// A stage where nothing stands and nothing is pending.
+    pub fn new(alloc: A) -> Result<SideOf<C, A>, AllocError>
+        ensures empty { IfOk result (λ s. s ≡ empty_side) }
+    {
+        let log = Log::new(alloc.clone()?)?;
+        let ports = empty_ports(alloc.clone()?)?;
+        let unhandled = zeros(alloc.clone()?)?;
+        let callbacks = Slab::with_capacity(alloc, LINES)?;
+        Ok(SideOf {
+            stalled: false,
+            log,
+            ports,
+            callbacks,
+            unhandled,
+        })
+    }
+}
+
+impl<C, A: Allocator> SideOf<C, A> {
+    /// Whether the stage is stalled.
+    pub fn is_stalled(&self) -> bool
+        ensures stalled { result ≡ self.now.stalled }
+    {
+        self.stalled
+    }
+
+    /// Begins or ends a stall of the stage.
+    pub fn set_stalled(&mut self, stalled: bool)
+        ensures state { self.new ≡ record self.old { stalled = stalled } }
+    {
+        self.stalled = stalled;
+    }
+
+    /// The lowest pending line.
+    pub fn least(&self) -> Option<u16>
+        ensures least { result ≡ least self.now.pending }
+        ensures range { IfSome result (λ line. line < 1024) }
+    {
+        self.log.least()
+    }
+
+    /// Whether an event of the line is pending.
+    pub fn is_pending(&self, line: u16) -> bool
+        ensures pending { result ≡ contains self.now.pending line }
+    {
+        self.log.contains(line)
+    }
+
+    /// How many answers of the line's callbacks were unhandled.
+    pub fn unhandled(&self, line: u16) -> u64
+        ensures count { result ≡ count_at self.now.unhandled line }
+    {
+        self.unhandled.get(line as usize).copied().unwrap_or(0)
+    }
+
+    /// Whether a callback stands on the line.
+    pub fn is_installed(&self, line: u16) -> bool
+        ensures installed { result ≡ is_some (callback_on self.now line) }
+    {
+        port_of(&self.ports, line).is_some()
+    }
+
+    /// Logs an event of the line.
+    pub fn log(&mut self, line: u16)
+        requires { line < 1024 }
+        ensures state { self.new ≡ logged self.old line }
+    {
+        self.log.insert(line);
+    }
+
+    /// Installs a callback on a line where none stands.
+    pub fn install(&mut self, line: u16, callback: C, tag: u32)
+        requires range { line < 1024 }
+        requires free { callback_on self.old line ≡ None }
+        ensures state { self.new ≡ filled self.old line callback tag }
+    {
+        let key = self.callbacks.insert_reserved(Held { callback, line });
+        self.ports[line as usize] = Some(Port { key, tag, count: 0 });
+    }
+
+    /// Takes the callback from a line, and drops its pending event. Without a callback there nothing changes.
+    pub fn take(&mut self, line: u16) -> Option<C>
+        ensures none { IfNone result ((callback_on self.old line ≡ None) × (self.new ≡ self.old)) }
+        ensures some { IfSome result (λ callback. Taken self.old line callback self.new) }
+    {
+        let port = port_of(&self.ports, line)?;
+        self.log.remove(line);
+        self.ports[line as usize] = None;
+        Some(self.callbacks.remove(port.key).callback)
+    }
+}
+
+fn empty_ports<A: Allocator>(alloc: A) -> Result<Vec<Option<Port>, A>, AllocError>
+    ensures empty { IfOk result (λ ports. ports.items ≡ replicate 1024 None) }
+{
+    let ports = Vec::from_elem(alloc, None, LINES)?;
+    Ok(ports)
+}
+
+/// A count of 0 for each line.
+pub fn zeros<A: Allocator>(alloc: A) -> Result<Vec<u64, A>, AllocError>
+    ensures zeros { IfOk result (λ counts. counts.items ≡ replicate 1024 0) }
+{
+    Vec::from_elem(alloc, 0, LINES)
+}
+
+fn port_of<A: Allocator>(ports: &Vec<Option<Port>, A>, line: u16) -> Option<Port>
+    ensures port { result ≡ port_at ports.now.items line }
+{
+    *ports.get(line as usize)?
+}
+
+// Counts one more unhandled answer of a line, if the answer is one.
+fn count_unless<A: Allocator>(counts: &mut Vec<u64, A>, line: u16, handled: bool)
+    requires { line < length counts.old.items }
+    ensures counted { counts.new.items ≡ (if handled then counts.old.items else counted counts.old.items line) }
+{
+    if !handled {
+        let count = counts[line as usize];
+        counts[line as usize] = count.saturating_add(1);
+    }
+}
+
+impl<C: Handler, A: Allocator> SideOf<C, A> {
+    /// Plays a line: its event is gone, and its callback, if one stands there, is called.
+    pub fn play(&mut self, stage: Stage, line: u16, now: u64) -> Option<(Fire, Answer)>
+        ensures none { IfNone result ((callback_on self.old line ≡ None) × (self.new ≡ cleared self.old line)) }
+        ensures some { IfSome result (λ ran. PlaysOn C.declared C.plan self.old stage line now ran.0 ran.1 self.new) }
+    {
+        self.log.remove(line);
+        let port = port_of(&self.ports, line)?;
+        let fire = Fire {
+            line: LineNo(line),
+            stage,
+            tag: port.tag,
+            count: port.count.saturating_add(1),
+            moment: now,
+        };
+        self.ports[line as usize] = Some(Port {
+            key: port.key,
+            tag: port.tag,
+            count: fire.count,
+        });
+        let answer = self.callbacks[port.key].callback.fire(fire);
+        count_unless(&mut self.unhandled, line, answer.handled);
+        Some((fire, answer))
+    }
+}
