@@ -1,0 +1,76 @@
+-- How a gate is made, and what is known when it is closed.
+use Rattle.std.proofs.Common.{◌≡◌, ℕ, ◌*◌, ◌≤◌, List, [], ◌∷◌, map, get_or, refl, sym, ap, subst, arith}
+use Rattle.std.specs.Prelude.{None, is_some, count_by, replicate, All}
+use Rattle.std.proofs.lemmas.List.Folds.{sum_by-replicate}
+use Rattle.std.proofs.lemmas.List.Elements.{All-nil, All-cons, All-map}
+use Rattle.std.specs.List.{range_with_len}
+use mathlib.Core.Option.{some}
+use lib.ListN.{get_elem?}
+use Rattle.atomic_table.specs.Table.{State, opening}
+use Rattle.atomic_table.proofs.Lists.{at_map}
+use Rattle.evl_words.specs.declared.gate.GateHold.{GateHold}
+use Rattle.evl_words.specs.Machine.{Run}
+use Rattle.evl_words.specs.History.{Fits}
+use Rattle.evl_words.specs.Hands.{Hand, place, AreOf}
+use Rattle.evl_words.specs.Dealings.{Dealing, DealingEvent, DealingStep, Holds, opened}
+use Rattle.evl_words.specs.Gate.{stage_held, open_gate}
+use Rattle.evl_words.specs.GateWorld.{GateView, GateKind, IsGateWorld, gate_steps, gate_author, newcomer, hold}
+use Rattle.evl_words.specs.GateRule.{GateRule, all_seats}
+use Rattle.evl_words.specs.GateCalls.{SeatState, GateState, IsSeatOf, new_seat, Closes, hand_back}
+use Rattle.evl_words.proofs.Sequences.{at_replicate, map-replicate}
+use Rattle.evl_words.proofs.Dealing.{deals_opening, are_of-apart}
+use Rattle.evl_words.proofs.Dealings.{dealings_hold}
+use Rattle.evl_words.proofs.GateSteps.{step_keeps}
+
+gate_opens : (limit seats : ℕ) → limit ≤ 1000 → IsGateWorld limit record { word = 0; log = []; views = replicate seats (newcomer limit) }
+gate_opens limit seats bounded =
+    let held : map (λ (v : GateView). v.held) (replicate seats (newcomer limit)) ≡ replicate seats (hold limit None) = map-replicate (λ (v : GateView). v.held) seats (newcomer limit) in record {
+      state = open_gate;
+      history = record {
+        run = refl;
+        fits = λ seat v at. subst (λ (u : GateView). Fits gate_author [] seat u) (at_replicate seats seat (newcomer limit) v at) record { seen = ([], refl); own = refl; known = refl };
+        others = λ seat far. refl;
+        tied = record {
+          bounded = bounded;
+          word = refl;
+          holds = λ seat h at. sym (at_replicate seats seat (hold limit None) h (subst (λ l. get_elem? l seat ≡ some h) held at));
+          count = let none : count_by (λ (h : GateHold). is_some h.stage) (replicate seats (hold limit None)) ≡ seats * 0 = sum_by-replicate _ seats (hold limit None) in
+              let same = ap (λ l. count_by (λ (h : GateHold). is_some h.stage) l) held in omega arith;
+        };
+      };
+    }
+
+pub rule_opens : (limit seats : ℕ) → limit ≤ 1000 → GateRule limit (opening (0 ∷ []) [] (all_seats limit seats))
+rule_opens limit seats bounded = record {
+  views = replicate seats (newcomer limit);
+  deals = deals_opening (replicate seats (newcomer limit));
+  kept = record { one = refl; kept = ([], gate_opens limit seats bounded) };
+}
+
+-- after any list of events from the opening
+pub gate_law : (limit seats : ℕ) → limit ≤ 1000 → (events : List (DealingEvent GateKind)) (t : Dealing _ _) → Run (DealingStep gate_steps) (opened (replicate seats (newcomer limit))) events t → Holds (IsGateWorld limit) t
+gate_law limit seats bounded = dealings_hold gate_steps (IsGateWorld limit) (step_keeps limit) (replicate seats (newcomer limit)) (gate_opens limit seats bounded)
+
+-- what is kept of all seats, of these seats
+closes_all : (P : SeatState → Type 0) (views : List GateView) → ((s : SeatState) → get_elem? views s.number ≡ some s.view → P s) → (seats : List SeatState) → AreOf views (hand_back seats) → All P seats
+closes_all P views each [] h = All-nil P
+closes_all P views each (s ∷ ss) h =
+    let parts = are_of-apart views (hand_back ss) (place s.number s.view) h in
+    All-cons P s ss (each s parts.1) (closes_all P views each ss parts.0)
+
+pub gate_closes : (limit : ℕ) (seats : List SeatState) (s : State (Unit {0}) (Hand GateView)) → (d : GateRule limit s) → AreOf d.views (hand_back seats) → Closes limit seats (get_or s.words 0 0)
+gate_closes limit seats s d there =
+    let log = d.kept.kept.0 in
+    let state = d.kept.kept.1.state in
+    let h = d.kept.kept.1.history in record {
+      log = log;
+      state = state;
+      run = h.run;
+      word = h.tied.word;
+      fits = closes_all (λ z. Fits gate_author log z.number z.view) d.views (λ z at. h.fits z.number z.view at) seats there;
+      holds = closes_all (λ z. z.view.held ≡ hold limit (stage_held z.number state.holders)) d.views (λ z at. h.tied.holds z.number z.view.held (at_map (λ (v : GateView). v.held) d.views z.number z.view at)) seats there;
+    }
+
+-- the seats that a gate was made with are its seats
+pub all_new : (gate : GateState) (a n : ℕ) → All (λ seat. IsSeatOf seat gate) (map (new_seat gate) (range_with_len a n))
+all_new gate a n = All-map (λ seat. IsSeatOf seat gate) (new_seat gate) (range_with_len a n) (λ k d lt. record { table = refl; id = refl; limit = refl })

@@ -1,0 +1,17 @@
+pub mod Sequences
+pub mod Machines
+pub mod Histories
+pub mod Events
+pub mod Dealing
+pub mod Dealings
+pub mod Parts
+pub mod GateLaws
+pub mod GateWords
+pub mod GateSteps
+pub mod GateSeats
+pub mod GateEnds
+pub mod MutexLaws
+pub mod MutexWords
+pub mod MutexSteps
+pub mod MutexSeats
+pub mod MutexEnds

@@ -1,0 +1,20 @@
+use Rattle.std.proofs.Common.{◌≡◌, refl, sym, ap, ◌∙◌, arith}
+use Rattle.std.specs.Prelude.{bit_and}
+use mathlib.Core.Option.{none}
+use Rattle.atomic_table.specs.Table.{step}
+use Rattle.evl_words.specs.GateWorld.{unclaims}
+use Rattle.evl_words.specs.GateRule.{does}
+use Rattle.evl_words.specs.GateCalls.{SeatState, GateState}
+use Rattle.evl_words.proofs.GateSeats.{gate_allows}
+use Rattle.evl_words.proofs.gate.StaxGate.unclaim.Goals as goal
+
+pub fetch_and-requires : goal.fetch_and-requires
+fetch_and-requires g c =
+    let s = c.seat.inside in
+    let t = c.self.inside.table.shared in
+    let st = step t.table_id.slots 0 18446744071562067967 0 none in
+    let one : t.table_id.words ≡ 1 = c.self.invariant.0 in (
+      ap (λ (z : SeatState). z.table) c.seat.view_is ∙ c.requires.table ∙ sym (ap (λ (z : GateState). z.table) c.self.view_is),
+      omega arith,
+      gate_allows t.key.limit t.table_id.slots s.seat.id s.number s.seat.me c.seat.invariant.0 unclaims tt (λ n. bit_and n 18446744071562067967) (λ n. refl) st (does unclaims) (λ found u d. (refl, d)),
+    )

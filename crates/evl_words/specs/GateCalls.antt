@@ -1,0 +1,116 @@
+-- A gate and its seats as their callers see them, and what a call did.
+use Rattle.std.specs.Prelude.{◌≡◌, ◌≢◌, ◌⊎◌, ℕ, Option, None, IsSome, List, [], ◌∷◌, ◌++◌, All}
+use mathlib.Core.List.{IsPrefix}
+use Rattle.evl_base.specs.declared.stage.Stage.{Stage}
+use Rattle.evl_base.specs.declared.numbers.StaxId.{StaxId}
+use Rattle.evl_base.specs.declared.refusal.Refusal.{Refusal}
+use Rattle.evl_base.specs.declared.refusal.Refusal.TheVariants.{NoMemory, HistoryFull, CoreBusy, Unknown, Invalid, Again, Busy, NotOwner, Deadlock, Limit, Range, TooBig, WrongStage, HoldsStax, Raced}
+use Rattle.evl_words.specs.declared.gate.StaxPass.{StaxPass}
+use Rattle.evl_words.specs.declared.gate.GateCall.{GateCall}
+use Rattle.evl_words.specs.declared.gate.GateCall.TheVariants.{Enter}
+use Rattle.evl_words.specs.declared.gate.GateReply.{GateReply}
+use Rattle.evl_words.specs.declared.gate.GateReply.TheVariants.{Refused}
+use Rattle.atomic_table.specs.Seated.{TableId}
+use Rattle.evl_words.specs.Machine.{Run}
+use Rattle.evl_words.specs.History.{Fits}
+use Rattle.evl_words.specs.Hands.{Hand}
+use Rattle.evl_words.specs.Gate.{Gate, GateEntry, GateStep, open_gate, stage_held}
+use Rattle.evl_words.specs.GateWord.{word_of, word_refusal}
+use Rattle.evl_words.specs.GateWorld.{GateView, GateKind, GateDoes, GateLooks, GateAppends, looks, exchanges, gate_author, hold, newcomer}
+use Rattle.evl_words.specs.GateRule.{Shows}
+
+-- of which table and gate the seat is, its number, and its view
+pub record SeatState : Type 0 where
+  pub table : TableId
+  pub gate : StaxId
+  pub number : ℕ
+  pub view : GateView
+
+pub record GateState : Type 0 where
+  pub table : TableId
+  pub id : StaxId
+  pub limit : ℕ
+
+-- the seat was made with the gate
+pub record IsSeatOf (seat : SeatState) (gate : GateState) : Type 0 where
+  pub table : seat.table ≡ gate.table
+  pub id : seat.gate ≡ gate.id
+  pub limit : seat.view.held.limit ≡ gate.limit
+
+-- only the view of a seat changes, and of what it holds only the stage
+pub record IsSameSeat (old new : SeatState) : Type 0 where
+  pub table : new.table ≡ old.table
+  pub gate : new.gate ≡ old.gate
+  pub number : new.number ≡ old.number
+  pub limit : new.view.held.limit ≡ old.view.held.limit
+
+-- a seat as the gate was made with it
+abbrev pub new_seat : GateState → ℕ → SeatState
+new_seat gate number = record { table = gate.table; gate = gate.id; number = number; view = newcomer gate.limit }
+
+abbrev pub IsPassOf : StaxPass → SeatState → Type 0
+IsPassOf pass seat = (pass.gate ≡ seat.gate) × (pass.seat ≡ seat.number)
+
+-- the seat made one step of this kind, which is one event
+abbrev pub Makes : SeatState → GateKind → SeatState → Type 0
+Makes old kind new = (found : ℕ) × GateDoes old.view.held.limit old.number old.view kind found new.view
+
+-- a seat that wants in makes no step, or looks, or looks and then makes an exchange
+abbrev pub Tries : SeatState → Stage → SeatState → Type 0
+Tries old stage new = (new ≡ old) ⊎ Makes old (looks stage) new ⊎ ((between : SeatState) × (word : ℕ) × Makes old (looks stage) between × Makes between (exchanges stage word) new)
+
+-- the seat made a call that was answered so, and holds the gate at this stage, if any
+pub record Calls (old : SeatState) (call : GateCall) (reply : GateReply) (new : SeatState) (stage : Option Stage) : Type 0 where
+  pub held : new.view.held ≡ hold old.view.held.limit stage
+  pub appends : GateAppends old.view.held.limit old.number old.view call reply new.view
+
+-- The two words differ, and each would let the seat in. They stood in the gate at two points of one history, neither before what the seat had seen
+pub record Races (old : SeatState) (stage : Stage) (first second : ℕ) (new : SeatState) : Type 0 where
+  pub differ : first ≢ second
+  pub first_free : word_refusal old.view.held.limit first stage ≡ None
+  pub second_free : word_refusal old.view.held.limit second stage ≡ None
+  pub earlier : List GateEntry
+  pub first_shown : Shows old.view.held.limit earlier first
+  pub second_shown : Shows old.view.held.limit new.view.seen second
+  pub seen_before : IsPrefix old.view.seen earlier
+  pub seen_between : IsPrefix earlier new.view.seen
+  pub looks : GateLooks old.view.held.limit old.number old.view new.view
+
+-- Why a seat did not get in, and what was seen. A seat that holds the gate already is refused with no step
+abbrev pub FailsToEnter : SeatState → Stage → SeatState → Refusal → Type 0
+FailsToEnter old stage new Again = (old.view.held.stage ≡ None) × Calls old (Enter stage) (Refused Again) new None
+FailsToEnter old stage new Limit = (old.view.held.stage ≡ None) × Calls old (Enter stage) (Refused Limit) new None
+FailsToEnter old stage new (Raced first second) = (old.view.held.stage ≡ None) × (new.view.held ≡ old.view.held) × Races old stage first second new
+FailsToEnter old stage new Busy = IsSome old.view.held.stage × (new ≡ old)
+FailsToEnter old stage new NoMemory = ⊥
+FailsToEnter old stage new HistoryFull = ⊥
+FailsToEnter old stage new CoreBusy = ⊥
+FailsToEnter old stage new Unknown = ⊥
+FailsToEnter old stage new Invalid = ⊥
+FailsToEnter old stage new NotOwner = ⊥
+FailsToEnter old stage new Deadlock = ⊥
+FailsToEnter old stage new Range = ⊥
+FailsToEnter old stage new TooBig = ⊥
+FailsToEnter old stage new WrongStage = ⊥
+FailsToEnter old stage new HoldsStax = ⊥
+
+-- the seat looked, and the word that it found would let it in
+pub record FindsFree (old : SeatState) (stage : Stage) (word : ℕ) (new : SeatState) : Type 0 where
+  pub free : word_refusal old.view.held.limit word stage ≡ None
+  pub held : new.view.held ≡ old.view.held
+  pub shown : Shows old.view.held.limit new.view.seen word
+  pub looks : GateLooks old.view.held.limit old.number old.view new.view
+
+-- The word shows the last state of a legal history that each of the seats fits, and in which each holds what its view says
+pub record Closes (limit : ℕ) (seats : List SeatState) (found : ℕ) : Type 0 where
+  pub log : List GateEntry
+  pub state : Gate
+  pub run : Run (GateStep limit) open_gate log state
+  pub word : found ≡ word_of state
+  pub fits : All (λ s. Fits gate_author log s.number s.view) seats
+  pub holds : All (λ s. s.view.held ≡ hold limit (stage_held s.number state.holders)) seats
+
+-- the hand of these seats, the last one first
+abbrev pub hand_back : List SeatState → Hand GateView
+hand_back [] = []
+hand_back (s ∷ ss) = hand_back ss ++ record { number = s.number; view = s.view } ∷ []

@@ -1,0 +1,16 @@
+pub mod Machine
+pub mod History
+pub mod Events
+pub mod Hands
+pub mod Dealings
+pub mod Parts
+pub mod Gate
+pub mod GateWord
+pub mod GateWorld
+pub mod GateRule
+pub mod GateCalls
+pub mod Mutex
+pub mod MutexBits
+pub mod MutexWorld
+pub mod MutexRule
+pub mod MutexCalls

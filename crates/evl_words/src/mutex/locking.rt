@@ -1,0 +1,79 @@
+//! Taking a mutex and giving it up by one exchange each.
+ghost use Rattle.std.specs.Prelude.{◌≡◌, ◌<◌, ◌==◌, IfOk, IfErr, MatchBool};
+ghost use Rattle.evl_base.specs.declared.refusal.Refusal.TheVariants.{NotOwner};
+ghost use Rattle.evl_words.specs.MutexWorld.{tries, unlocks};
+ghost use Rattle.evl_words.specs.MutexCalls.{IsSeatOf, IsSameSeat, IsPassOf, Makes, Locks, FailsToLock, Unlocks};
+
+use super::steps::{Trying, Unlocking};
+use super::{MutexPass, MutexSeat, MutexWord, Unlock};
+use evl_base::Refusal;
+use std::alloc::Allocator;
+
+impl<A: Allocator> MutexWord<A> {
+    /// Takes the mutex by one exchange of 0 for the seat's number, and otherwise answers Busy (Xenomai 4: fast locking). An owner that tries again is refused by Deadlock, or holds a recursive mutex once more, up to 255 times, and then is refused by Limit (this profile); that makes no step.
+    pub fn try_lock(&self, seat: &mut MutexSeat) -> Result<MutexPass, Refusal>
+        requires { IsSeatOf seat.old self.now }
+        ensures seat { IsSameSeat seat.old seat.new }
+        ensures event { MatchBool (seat.old.depth == 0) (Makes seat.old tries seat.new) (seat.new.view ≡ seat.old.view) }
+        ensures ok { IfOk result (λ pass. IsPassOf pass seat.old × Locks self.now seat.old seat.new) }
+        ensures err { IfErr result (λ refusal. FailsToLock self.now seat.old seat.new refusal) }
+    {
+        let pass = MutexPass {
+            mutex: seat.mutex,
+            seat: seat.number,
+        };
+        if seat.depth > 0 {
+            if !self.recursive {
+                return Err(Refusal::Deadlock);
+            }
+            if seat.depth == 255 {
+                return Err(Refusal::Limit);
+            }
+            seat.depth += 1;
+            return Ok(pass);
+        }
+        let number = u64::from(seat.number) + 1;
+        let found = self
+            .table
+            .shared
+            .compare_exchange::<Trying>(&mut seat.seat, 0, 0, number);
+        if found == 0 {
+            seat.depth = 1;
+            Ok(pass)
+        } else {
+            Err(Refusal::Busy)
+        }
+    }
+
+    /// Spends a pass. At depth 1 the mutex is given up by one exchange of the seat's number for 0, unless it is claimed (Xenomai 4: the claim bit sends the unlocker to the core). A pass that isn't this seat's at this mutex comes back with NotOwner.
+    pub fn unlock(
+        &self,
+        seat: &mut MutexSeat,
+        pass: MutexPass,
+    ) -> Result<Unlock, (Refusal, MutexPass)>
+        requires { IsSeatOf seat.old self.now }
+        ensures seat { IsSameSeat seat.old seat.new }
+        ensures event { IfOk result (λ _. MatchBool (seat.old.depth == 1) (Makes seat.old unlocks seat.new) (seat.new.view ≡ seat.old.view)) }
+        ensures ok { IfOk result (λ done. IsPassOf pass seat.old × (0 < seat.old.depth) × Unlocks seat.old seat.new pass done) }
+        ensures err { IfErr result (λ refused. (refused ≡ (NotOwner, pass)) × (seat.new ≡ seat.old) × ¬ (IsPassOf pass seat.old × (0 < seat.old.depth))) }
+    {
+        if pass.mutex != seat.mutex || pass.seat != seat.number || seat.depth == 0 {
+            return Err((Refusal::NotOwner, pass));
+        }
+        if seat.depth > 1 {
+            seat.depth -= 1;
+            return Ok(Unlock::Done);
+        }
+        let number = u64::from(seat.number) + 1;
+        let found = self
+            .table
+            .shared
+            .compare_exchange::<Unlocking>(&mut seat.seat, 0, number, 0);
+        if found == number {
+            seat.depth = 0;
+            Ok(Unlock::Done)
+        } else {
+            Ok(Unlock::Claimed(pass))
+        }
+    }
+}
