@@ -2,9 +2,24 @@
 use Rattle.std.specs.Prelude.{ℕ, List, ◌++◌, codes}
 use Rattle.std.specs.Fmt.{decimal}
 use Rattle.evl_base.specs.declared.call.Call.{Call}
-use Rattle.evl_base.specs.declared.call.Call.TheVariants.{TryGet, Put, Peek}
+use Rattle.evl_base.specs.declared.call.Call.TheVariants.{Request, Free, Arrive, Post, Stall, Unstall, TryGet, Put, Peek}
+use Rattle.evl_base.specs.declared.stage.Stage.{Stage}
+use Rattle.evl_base.specs.Stage.{stage_text}
+
+abbrev pub line_and_stage_text : ℕ → Stage → List ℕ
+line_and_stage_text line stage = codes "line=" ++ (decimal line ++ (codes " stage=" ++ stage_text stage))
+
+abbrev pub stage_and_line_text : Stage → ℕ → List ℕ
+stage_and_line_text stage line = codes "stage=" ++ (stage_text stage ++ (codes " line=" ++ decimal line))
 
 abbrev pub call_text : Call → List ℕ
+call_text (Request line stage callback tag) =
+    codes "request " ++ (line_and_stage_text line.0 stage ++ (codes " callback=" ++ (decimal callback ++ (codes " tag=" ++ decimal tag))))
+call_text (Free line stage) = codes "free " ++ line_and_stage_text line.0 stage
+call_text (Arrive line) = codes "arrive line=" ++ decimal line.0
+call_text (Post stage line) = codes "post " ++ stage_and_line_text stage line.0
+call_text (Stall stage) = codes "stall stage=" ++ stage_text stage
+call_text (Unstall stage) = codes "unstall stage=" ++ stage_text stage
 call_text (TryGet sem) = codes "try_get sem=" ++ decimal sem.0
 call_text (Put sem) = codes "put sem=" ++ decimal sem.0
 call_text (Peek sem) = codes "peek sem=" ++ decimal sem.0

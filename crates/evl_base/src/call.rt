@@ -1,18 +1,54 @@
 //! The calls of the kernel.
 ghost use Rattle.std.specs.Prelude.{Some};
 
-use crate::numbers::SemId;
+use crate::numbers::{LineNo, SemId};
+use crate::stage::Stage;
 use std::fmt;
 
 /// A call of the kernel (Xenomai 4: EVL elements; the forms are this profile's).
 #[derive(Debug, Drop)]
 pub enum Call {
+    /// Lets a callback of the bank stand on a line of a stage, with a tag that its fires carry.
+    Request {
+        line: LineNo,
+        stage: Stage,
+        callback: u8,
+        tag: u32,
+    },
+    /// Puts the callback on a line of a stage back into its bank place.
+    Free {
+        line: LineNo,
+        stage: Stage,
+    },
+    /// An interrupt on a line.
+    Arrive {
+        line: LineNo,
+    },
+    /// Posts a line on a stage.
+    Post {
+        stage: Stage,
+        line: LineNo,
+    },
+    /// Begins a stall of a stage.
+    Stall {
+        stage: Stage,
+    },
+    /// Ends a stall of a stage.
+    Unstall {
+        stage: Stage,
+    },
     /// Lowers a semaphore's count.
-    TryGet { sem: SemId },
+    TryGet {
+        sem: SemId,
+    },
     /// Raises a semaphore's count.
-    Put { sem: SemId },
+    Put {
+        sem: SemId,
+    },
     /// Asks for a semaphore's count.
-    Peek { sem: SemId },
+    Peek {
+        sem: SemId,
+    },
 }
 
 impl fmt::Display for Call {
@@ -22,6 +58,38 @@ impl fmt::Display for Call {
 
     fn fmt<W: fmt::Write>(&self, f: &mut fmt::Formatter<W>) -> fmt::Result {
         match self {
+            Call::Request {
+                line,
+                stage,
+                callback,
+                tag,
+            } => {
+                let at = LineAndStage {
+                    line: *line,
+                    stage: *stage,
+                };
+                write!(f, "request {at} callback={callback} tag={tag}")
+            }
+            Call::Free { line, stage } => {
+                let at = LineAndStage {
+                    line: *line,
+                    stage: *stage,
+                };
+                write!(f, "free {at}")
+            }
+            Call::Arrive { line } => {
+                let line = line.0;
+                write!(f, "arrive line={line}")
+            }
+            Call::Post { stage, line } => {
+                let at = StageAndLine {
+                    stage: *stage,
+                    line: *line,
+                };
+                write!(f, "post {at}")
+            }
+            Call::Stall { stage } => write!(f, "stall stage={stage}"),
+            Call::Unstall { stage } => write!(f, "unstall stage={stage}"),
             Call::TryGet { sem } => {
                 let sem = sem.0;
                 write!(f, "try_get sem={sem}")
@@ -35,5 +103,43 @@ impl fmt::Display for Call {
                 write!(f, "peek sem={sem}")
             }
         }
+    }
+}
+
+/// The keys of a line and of a stage.
+#[derive(Drop)]
+struct LineAndStage {
+    line: LineNo,
+    stage: Stage,
+}
+
+impl fmt::Display for LineAndStage {
+    ghost use Rattle.evl_base.specs.Call.{line_and_stage_text};
+
+    ghost output = { λ at. Some (line_and_stage_text at.line.0 at.stage) };
+
+    fn fmt<W: fmt::Write>(&self, f: &mut fmt::Formatter<W>) -> fmt::Result {
+        let line = self.line.0;
+        let stage = self.stage;
+        write!(f, "line={line} stage={stage}")
+    }
+}
+
+/// The same keys in the order of a post.
+#[derive(Drop)]
+struct StageAndLine {
+    stage: Stage,
+    line: LineNo,
+}
+
+impl fmt::Display for StageAndLine {
+    ghost use Rattle.evl_base.specs.Call.{stage_and_line_text};
+
+    ghost output = { λ at. Some (stage_and_line_text at.stage at.line.0) };
+
+    fn fmt<W: fmt::Write>(&self, f: &mut fmt::Formatter<W>) -> fmt::Result {
+        let stage = self.stage;
+        let line = self.line.0;
+        write!(f, "stage={stage} line={line}")
     }
 }

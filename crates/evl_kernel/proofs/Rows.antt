@@ -1,37 +1,164 @@
 -- Worked rows, computed on the definitions.
-use Rattle.std.proofs.Common.{◌≡◌, ℕ, List, [], ◌∷◌, Result, Ok, Err, refl, pos}
+use Rattle.std.proofs.Common.{◌≡◌, ℕ, List, [], ◌∷◌, ◌++◌, length, map, Bool, Option, Some, None, Result, Ok, Err, true, false, refl, pos, take, drop}
+use Rattle.evl_base.specs.declared.board.Board.{Board}
 use Rattle.evl_base.specs.declared.call.Call.{Call}
-use Rattle.evl_base.specs.declared.call.Call.TheVariants.{TryGet, Put, Peek}
+use Rattle.evl_base.specs.declared.call.Call.TheVariants.{Request, Free, Arrive, Post, Stall, Unstall, TryGet, Put, Peek}
 use Rattle.evl_base.specs.declared.reply.Reply.{Reply}
 use Rattle.evl_base.specs.declared.reply.Reply.TheVariants.{Done, Count}
 use Rattle.evl_base.specs.declared.refusal.Refusal.{Refusal}
-use Rattle.evl_base.specs.declared.refusal.Refusal.TheVariants.{Unknown, Again, Range}
+use Rattle.evl_base.specs.declared.refusal.Refusal.TheVariants.{Unknown, Invalid, Again, Busy, Range}
 use Rattle.evl_base.specs.declared.play.Play.{Play}
-use Rattle.evl_kernel.specs.States.{State}
+use Rattle.evl_base.specs.declared.play.Play.TheVariants.{Clock, Line}
+use Rattle.evl_base.specs.declared.stage.Stage.TheVariants.{Inband, Oob}
+use Rattle.evl_pipeline.specs.declared.action.Action.{Action}
+use Rattle.evl_pipeline.specs.declared.action.Action.TheVariants as action
+use Rattle.evl_pipeline.specs.Lines as lines
+use Rattle.evl_kernel.specs.States.{State, Handler}
+use Rattle.evl_kernel.specs.Openings.{opening}
 use Rattle.evl_kernel.specs.Settling.{next_play}
 use Rattle.evl_kernel.specs.Replays.{stepped}
 
--- the answers and plays of calls, one after another
-abbrev replies : State → List (ℕ × Call) → List (Result Reply Refusal × List Play)
+-- the answers and plays of calls, one after another, and where they lead
+abbrev replies : State → List Call → List (Result Reply Refusal × List Play)
 replies s [] = []
-replies s ((caller, asked) ∷ calls) = let one = stepped s caller asked in (one.reply, one.plays) ∷ replies one.after calls
+replies s (asked ∷ calls) = let one = stepped s 0 asked in (one.reply, one.plays) ∷ replies one.after calls
 
--- a board of one thread with one semaphore
-abbrev start : ℕ → State
-start count = record { threads = 1; sems = count ∷ [] }
+abbrev led : State → List Call → State
+led s [] = s
+led s (asked ∷ calls) = led (stepped s 0 asked).after calls
 
-first_semaphore : replies (start 0) (
-    (0, TryGet (record { 0 = 0 })) ∷ (0, Put (record { 0 = 0 })) ∷ (0, TryGet (record { 0 = 0 })) ∷ (0, Peek (record { 0 = 0 })) ∷ []
-    ) ≡ (Err Again, []) ∷ (Ok Done, []) ∷ (Ok Done, []) ∷ (Ok (Count (pos 0)), []) ∷ []
-unfolding next_play
+abbrev handler : ℕ → ℕ → List (ℕ × Action) → Handler
+handler kinds accepts rows = record { kinds = kinds; plan = record { accepts = accepts; rows = record { items = rows } } }
+
+-- the eight callbacks of the program
+abbrev bank : List Handler
+bank =
+    handler 0 1 []
+    ∷ handler 1 1 ((1, action.PostSem (record { 0 = 0 })) ∷ [])
+    ∷ handler 1 1 ((2, action.PostSem (record { 0 = 0 })) ∷ [])
+    ∷ handler 4 1 ((1, action.Propagate) ∷ [])
+    ∷ handler 8 1 ((1, action.PostOob (record { 0 = 4 })) ∷ [])
+    ∷ handler 2 1 ((1, action.PostFlags (record { 0 = 0 }) 1) ∷ [])
+    ∷ handler 16 2 ((1, action.StopTimer (record { 0 = 0 })) ∷ [])
+    ∷ handler 0 1 []
+    ∷ []
+
+-- a board of one thread with these semaphores
+abbrev board : List ℕ → Board
+board sems = record {
+  threads = 1;
+  sems = record { items = sems };
+  flags = record { items = [] };
+  xbufs = record { items = [] };
+  mutexes = record { items = [] };
+  groups = record { items = [] };
+  staxes = record { items = [] };
+}
+
+abbrev start : List ℕ → State
+start sems = opening (board sems) bank
+
+abbrev done : Result Reply Refusal × List Play
+done = (Ok Done, [])
+
+abbrev plays : List Play → Result Reply Refusal × List Play
+plays ps = (Ok Done, ps)
+
+abbrev refused : Refusal → Result Reply Refusal × List Play
+refused r = (Err r, [])
+
+first_semaphore : replies (start (0 ∷ [])) (TryGet (record { 0 = 0 }) ∷ Put (record { 0 = 0 }) ∷ TryGet (record { 0 = 0 }) ∷ Peek (record { 0 = 0 }) ∷ [])
+    ≡ refused Again ∷ done ∷ done ∷ (Ok (Count (pos 0)), []) ∷ []
+unfolding next_play lines.opening
 first_semaphore = refl
 
-semaphore_path_1 : replies (start 2147483647) ((0, Put (record { 0 = 0 })) ∷ (0, Peek (record { 0 = 0 })) ∷ [])
-    ≡ (Err Range, []) ∷ (Ok (Count (pos 2147483647)), []) ∷ []
-unfolding next_play
+semaphore_path_1 : replies (start (2147483647 ∷ [])) (Put (record { 0 = 0 }) ∷ Peek (record { 0 = 0 }) ∷ [])
+    ≡ refused Range ∷ (Ok (Count (pos 2147483647)), []) ∷ []
+unfolding next_play lines.opening
 semaphore_path_1 = refl
 
-semaphore_path_2 : replies (start 1) ((1, TryGet (record { 0 = 0 })) ∷ (0, TryGet (record { 0 = 1 })) ∷ [])
-    ≡ (Err Unknown, []) ∷ (Err Unknown, []) ∷ []
-unfolding next_play
+semaphore_path_2 : (stepped (start (1 ∷ [])) 1 (TryGet (record { 0 = 0 }))).reply ∷ (stepped (start (1 ∷ [])) 0 (TryGet (record { 0 = 1 }))).reply ∷ [] ≡ Err Unknown ∷ Err Unknown ∷ []
+unfolding next_play lines.opening
 semaphore_path_2 = refl
+
+stalled_inband : replies (start []) (
+    Request (record { 0 = 5 }) Oob 0 0 ∷ Request (record { 0 = 3 }) Inband 7 0 ∷ Stall Inband
+    ∷ Arrive (record { 0 = 5 }) ∷ Arrive (record { 0 = 3 }) ∷ Unstall Inband ∷ []
+    ) ≡ done ∷ done ∷ done ∷ plays (Line (record { 0 = 5 }) Oob 1 true ∷ []) ∷ done ∷ plays (Line (record { 0 = 3 }) Inband 1 true ∷ []) ∷ []
+unfolding next_play lines.opening
+stalled_inband = refl
+
+merged_arrivals : replies (start []) (
+    Request (record { 0 = 7 }) Oob 0 0 ∷ Stall Oob ∷ Arrive (record { 0 = 7 }) ∷ Arrive (record { 0 = 7 }) ∷ Arrive (record { 0 = 7 }) ∷ Unstall Oob ∷ []
+    ) ≡ done ∷ done ∷ done ∷ done ∷ done ∷ plays (Line (record { 0 = 7 }) Oob 1 true ∷ []) ∷ []
+unfolding next_play lines.opening
+merged_arrivals = refl
+
+lowest_line_first : replies (start (0 ∷ [])) (
+    Request (record { 0 = 9 }) Oob 0 0 ∷ Request (record { 0 = 2 }) Oob 7 0 ∷ Request (record { 0 = 1023 }) Oob 1 0 ∷ Stall Oob
+    ∷ Arrive (record { 0 = 9 }) ∷ Arrive (record { 0 = 1023 }) ∷ Arrive (record { 0 = 2 }) ∷ Unstall Oob ∷ Peek (record { 0 = 0 }) ∷ []
+    ) ≡ done ∷ done ∷ done ∷ done ∷ done ∷ done ∷ done
+    ∷ plays (Line (record { 0 = 2 }) Oob 1 true ∷ Line (record { 0 = 9 }) Oob 1 true ∷ Line (record { 0 = 1023 }) Oob 1 true ∷ []) ∷ (Ok (Count (pos 1)), []) ∷ []
+unfolding next_play lines.opening
+lowest_line_first = refl
+
+ping_pong : replies (start []) (
+    Request (record { 0 = 5 }) Inband 4 0 ∷ Request (record { 0 = 6 }) Inband 0 0 ∷ Request (record { 0 = 4 }) Oob 7 0 ∷ Stall Inband
+    ∷ Arrive (record { 0 = 6 }) ∷ Arrive (record { 0 = 5 }) ∷ Unstall Inband ∷ []
+    ) ≡ done ∷ done ∷ done ∷ done ∷ done ∷ done
+    ∷ plays (Line (record { 0 = 5 }) Inband 1 true ∷ Line (record { 0 = 4 }) Oob 1 true ∷ Line (record { 0 = 6 }) Inband 1 true ∷ []) ∷ []
+unfolding next_play lines.opening
+ping_pong = refl
+
+-- the other run: an out-of-band callback and an in-band one hand line 4 to and fro
+abbrev to_and_fro : List Call
+to_and_fro = Request (record { 0 = 4 }) Oob 3 0 ∷ Request (record { 0 = 4 }) Inband 4 0 ∷ Arrive (record { 0 = 4 }) ∷ []
+
+ping_pong_is_refused : replies (start []) (Request (record { 0 = 4 }) Oob 4 0 ∷ []) ≡ refused Invalid ∷ []
+unfolding next_play lines.opening
+ping_pong_is_refused = refl
+
+ping_pong_is_bounded : map (λ r. length r.1) (replies (start []) to_and_fro) ≡ 0 ∷ 0 ∷ 129 ∷ []
+unfolding next_play lines.opening
+ping_pong_is_bounded = refl
+
+abbrev pending_on_4 : State → Bool × Bool
+pending_on_4 s = (lines.is_pending s.lines Inband 4, lines.is_pending s.lines Oob 4)
+
+ping_pong_leaves : pending_on_4 (led (start []) to_and_fro) ≡ (true, false)
+unfolding next_play lines.opening
+ping_pong_leaves = refl
+
+post_from_handler : replies (start (0 ∷ [])) (Request (record { 0 = 8 }) Oob 2 0 ∷ Arrive (record { 0 = 8 }) ∷ Arrive (record { 0 = 8 }) ∷ Peek (record { 0 = 0 }) ∷ [])
+    ≡ done ∷ plays (Line (record { 0 = 8 }) Oob 1 true ∷ []) ∷ plays (Line (record { 0 = 8 }) Oob 2 true ∷ []) ∷ (Ok (Count (pos 1)), []) ∷ []
+unfolding next_play lines.opening
+post_from_handler = refl
+
+second_is_handled : replies (start []) (Request (record { 0 = 2 }) Oob 6 0 ∷ Arrive (record { 0 = 2 }) ∷ Arrive (record { 0 = 2 }) ∷ [])
+    ≡ done ∷ plays (Line (record { 0 = 2 }) Oob 1 false ∷ []) ∷ plays (Line (record { 0 = 2 }) Oob 2 true ∷ []) ∷ []
+unfolding next_play lines.opening
+second_is_handled = refl
+
+lines_1 : replies (start []) (
+    Request (record { 0 = 5 }) Oob 0 0 ∷ Request (record { 0 = 6 }) Oob 0 0 ∷ Free (record { 0 = 5 }) Oob ∷ Free (record { 0 = 5 }) Oob
+    ∷ Request (record { 0 = 6 }) Oob 0 0 ∷ Free (record { 0 = 0 }) Oob ∷ Arrive (record { 0 = 1024 }) ∷ Post Inband (record { 0 = 6 }) ∷ []
+    ) ≡ done ∷ refused Busy ∷ done ∷ refused Unknown ∷ done ∷ refused Invalid ∷ refused Unknown ∷ done ∷ []
+unfolding next_play lines.opening
+lines_1 = refl
+
+lines_2 : replies (start []) (Arrive (record { 0 = 0 }) ∷ []) ≡ plays (Clock ∷ []) ∷ []
+unfolding next_play lines.opening
+lines_2 = refl
+
+lines_3 : replies (start []) (Stall Oob ∷ Request (record { 0 = 3 }) Oob 0 0 ∷ Arrive (record { 0 = 3 }) ∷ Free (record { 0 = 3 }) Oob ∷ Unstall Oob ∷ [])
+    ≡ done ∷ done ∷ done ∷ done ∷ done ∷ []
+unfolding next_play lines.opening
+lines_3 = refl
+
+-- the order of refusals of a request
+request_refusals : replies (start []) (
+    Request (record { 0 = 0 }) Oob 8 0 ∷ Request (record { 0 = 1024 }) Oob 4 0 ∷ Request (record { 0 = 0 }) Inband 0 0
+    ∷ Request (record { 0 = 9 }) Oob 3 0 ∷ Request (record { 0 = 8 }) Inband 3 0 ∷ Request (record { 0 = 9 }) Oob 0 0 ∷ Request (record { 0 = 8 }) Oob 3 0 ∷ []
+    ) ≡ refused Unknown ∷ refused Unknown ∷ refused Invalid ∷ done ∷ refused Invalid ∷ refused Busy ∷ refused Busy ∷ []
+unfolding next_play lines.opening
+request_refusals = refl

@@ -22,3 +22,13 @@ unless ((applies, refusal) ∷ others) e = if applies then Err refusal else unle
 abbrev pub known : {A : Type 0} → Option A → (A → Effect) → Effect
 known None f = Err Unknown
 known (Some x) f = f x
+
+-- a refusal that was found already, else the effect
+abbrev pub refused_by : Option Refusal → Effect → Effect
+refused_by None e = e
+refused_by (Some refusal) e = Err refusal
+
+-- the records after what was done, or as they were where it would be refused
+abbrev pub if_done : State → Effect → State
+if_done s (Ok (reply, after)) = after
+if_done s (Err refusal) = s

@@ -1,5 +1,5 @@
 -- What contracts see of a kernel.
-use Rattle.std.specs.Prelude.{ℕ, ⊤, ◌≡◌, ◌≤◌, Bool, true, false, List, [], length, Result, Ok, Err}
+use Rattle.std.specs.Prelude.{ℕ, ⊤, IsTrue, ◌≡◌, ◌≤◌, Bool, true, false, List, [], length, map, Result, Ok, Err}
 use Rattle.evl_base.specs.declared.refusal.Refusal.{Refusal}
 use Rattle.evl_base.specs.declared.refusal.Refusal.TheVariants.{NoMemory, HistoryFull, CoreBusy, HoldsStax, Raced}
 use Rattle.evl_base.specs.declared.call.Call.{Call}
@@ -10,9 +10,16 @@ use Rattle.evl_kernel.specs.States.{State}
 use Rattle.evl_kernel.specs.Effects.{Effect}
 use Rattle.evl_kernel.specs.Serving.{served, answer}
 use Rattle.evl_kernel.specs.Histories.{History, Extends}
+use Rattle.evl_base.specs.declared.board.Board.{Board}
+use Rattle.evl_pipeline.specs.declared.plan.Plan.{Plan}
+use Rattle.evl_pipeline.specs.Lines as lines
+use Rattle.evl_kernel.specs.Openings.{opening}
+use Rattle.evl_kernel.specs.Callbacks.{Whereabouts, AreFilled}
 
-pub record KernelView : Type 0 where
+pub record KernelView (C : Type 0) : Type 0 where
   pub history : History
+  -- where the callbacks are
+  pub callbacks : Whereabouts C
   -- the most entries that the history may have
   pub limit : ℕ
   -- how many calls find the room for their entries and plays made already
@@ -39,6 +46,10 @@ abbrev pub IsKernelAnswer : Result Reply Refusal → Type 0
 IsKernelAnswer (Ok reply) = ⊤
 IsKernelAnswer (Err refusal) = IsKernelRefusal refusal
 
+-- an answer with an entry
+abbrev pub IsAnswer : Result Reply Refusal → Type 0
+IsAnswer result = IsTrue (makes_entry result) × IsKernelAnswer result
+
 -- the entry of a call that made these plays
 abbrev pub entry_of : ℕ → Call → Result Reply Refusal → List Play → Entry
 entry_of caller asked reply plays = record { caller = record { 0 = caller }; call = asked; reply = reply; plays = length plays }
@@ -63,10 +74,12 @@ Served old asked result new = Has old (served old asked) result new
 abbrev pub Answers : State → ℕ → Call → Result Reply Refusal → State → Type 0
 Answers old caller asked result new = Has old (answer old caller asked) result new
 
--- a kernel that was just made
-pub record IsOpened (k : KernelView) (opening : State) (limit : ℕ) : Type 0 where
-  pub opening_is : k.history.opening ≡ opening
-  pub state : k.history.state ≡ opening
+-- a kernel that was just made: every callback is in its bank place
+pub record IsOpened {C : Type 0} (declared : C → ℕ) (plan : C → Plan) (board : Board) (bank : List C) (limit : ℕ) (k : KernelView C) : Type 0 where
+  pub opening_is : k.history.opening ≡ opening board (map (λ callback. record { kinds = declared callback; plan = plan callback }) bank)
+  pub state : k.history.state ≡ k.history.opening
   pub entries : k.history.entries ≡ []
   pub plays : k.history.plays ≡ []
   pub limit_is : k.limit ≡ limit
+  pub filled : AreFilled declared plan bank k.callbacks.bank
+  pub nothing_out : k.callbacks.lines ≡ lines.opening

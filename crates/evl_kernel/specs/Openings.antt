@@ -1,13 +1,18 @@
 -- The records of a new kernel.
-use Rattle.std.specs.Prelude.{ℕ, Bool, ◌&&◌}
+use Rattle.std.specs.Prelude.{ℕ, Bool, true, ◌&&◌, nat_le, List, map}
 use Rattle.evl_base.specs.Limits.{within}
 use Rattle.evl_base.specs.Board.{board_fits}
 use Rattle.evl_base.specs.declared.board.Board.{Board}
-use Rattle.evl_kernel.specs.States.{State}
+use Rattle.evl_pipeline.specs.Lines as lines
+use Rattle.evl_kernel.specs.States.{State, Handler, Banked}
 
-abbrev pub opening : Board → State
-opening board = record { threads = board.threads; sems = board.sems.items }
+abbrev pub at_home : Handler → Banked
+at_home h = record { handler = h; home = true }
 
--- the board and the limit of the history are within their limits
-abbrev pub can_open : Board → ℕ → Bool
-can_open board limit = board_fits board && within 1 1000000 limit
+-- every callback is in its bank place, and no line has anything
+abbrev pub opening : Board → List Handler → State
+opening board bank = record { threads = board.threads; sems = board.sems.items; bank = map at_home bank; lines = lines.opening }
+
+-- the board, the bank and the limit of the history are within their limits
+abbrev pub can_open : Board → ℕ → ℕ → Bool
+can_open board callbacks limit = board_fits board && nat_le callbacks 64 && within 1 1000000 limit

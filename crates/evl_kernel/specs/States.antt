@@ -1,8 +1,42 @@
 -- All records of the kernel at one moment.
-use Rattle.std.specs.Prelude.{ℕ, List}
+use Rattle.std.specs.Prelude.{ℕ, Bool, List, [], ◌^◌, map, slice_get, slice_set}
+use Rattle.std.specs.Option.{option_map_or}
+use Rattle.evl_pipeline.specs.declared.plan.Plan.{Plan}
+use Rattle.evl_pipeline.specs.Lines.{Pipeline}
+
+-- what a callback declares, and what it answers
+pub record Handler : Type 0 where
+  pub kinds : ℕ
+  pub plan : Plan
+
+-- a callback of the bank, and whether it is in its bank place
+pub record Banked : Type 0 where
+  pub handler : Handler
+  pub home : Bool
 
 pub record State : Type 0 where
   -- how many threads the board has
   pub threads : ℕ
   -- the count of each semaphore
   pub sems : List ℕ
+  -- the callbacks, by number
+  pub bank : List Banked
+  -- the lines; what stands on a line is named by its number in the bank
+  pub lines : Pipeline ℕ
+
+abbrev pub with_lines : State → Pipeline ℕ → State
+with_lines s lines = record s { lines = lines }
+
+-- the callback of this number is in its bank place, or out of it
+abbrev pub moved : State → Bool → ℕ → Banked → State
+moved s home number b = record s { bank = slice_set s.bank number (record b { home = home }) }
+
+abbrev pub handlers : State → List Handler
+handlers s = map (λ b. b.handler) s.bank
+
+-- in the place of a callback that there isn't: it handles nothing
+abbrev pub no_plan : Plan
+no_plan = record { accepts = 2 ^ 64; rows = record { items = [] } }
+
+abbrev pub plan_at : State → ℕ → Plan
+plan_at s number = option_map_or (λ b. b.handler.plan) (slice_get s.bank number) no_plan

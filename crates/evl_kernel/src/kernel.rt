@@ -1,68 +1,92 @@
 //! The kernel and its history.
-ghost use Rattle.std.specs.Prelude.{◌≡◌, ◌⊎◌, ◌↔◌, ◌+◌, ◌≤◌, ◌<◌, length, false, IsTrue, IsFalse, OnOk, IfOk, IfErr};
+ghost use Rattle.std.specs.Prelude.{◌≡◌, ◌⊎◌, ◌↔◌, ◌+◌, ◌≤◌, ◌<◌, length, map, true, false, IsTrue, IsFalse, OnOk, IfOk, IfErr};
+ghost use Rattle.evl_pipeline.specs.Counts.{count_at};
+ghost use Rattle.evl_pipeline.specs.Lines as lines;
+ghost use Rattle.evl_kernel.specs.Callbacks.{AnswersAsTold, BringsNone, told};
 ghost use Rattle.evl_kernel.specs.Openings.{opening, can_open};
 ghost use Rattle.evl_kernel.specs.Histories.{IsLegal};
 ghost use Rattle.evl_kernel.specs.KernelViews.{AddsEntry, IsOpened, IsKernelAnswer, makes_entry};
 
-use crate::serving::answer;
-use evl_base::{Board, Call, Entry, Play, Refusal, Reply, ThreadId};
-use std::alloc::Allocator;
+use crate::records::Records;
+use evl_base::{Board, Call, Entry, LineNo, Play, Refusal, Reply, Stage, ThreadId};
+use evl_pipeline::{Callback, Handler};
+use std::alloc::{Allocator, Global};
 use std::marker::Model;
 
 /// The greatest limit of a history.
 const MAX_LIMIT: u32 = 1_000_000;
 
+/// The most callbacks of a bank.
+const MAX_CALLBACKS: usize = 64;
+
 /// The most plays that one call makes.
 const MAX_PLAYS: usize = 1472;
 
 /// The kernel: its records, with all calls that it answered and all plays that it made (Xenomai 4: EVL core; the
-/// history is this profile's).
+/// history is this profile's). The type of the callbacks has no bound here: where a struct asks for a bound with
+/// ghost members, no function can name it at a type with a boxed closure.
 #[derive(Drop)]
-pub struct Kernel<A: Allocator> {
+pub struct KernelOf<C, A: Allocator> {
     board: Board,
-    counts: Vec<u32, A>,
+    records: Records<C, A>,
     history: Vec<Entry, A>,
     plays: Vec<Play, A>,
     limit: usize,
 }
 
-impl<A: Allocator> Model for Kernel<A> {
+/// A kernel over stored callbacks.
+pub type Kernel = KernelOf<Callback, Global>;
+
+impl<C, A: Allocator> Model for KernelOf<C, A> {
     ghost use Rattle.evl_kernel.specs.KernelViews.{KernelView};
     ghost use Rattle.evl_kernel.specs.Insides.{kernel_view, KernelIsSound};
 
-    ghost Value = { KernelView };
+    ghost Value = { KernelView C };
 
     ghost view = { kernel_view };
 
     ghost invariant = { KernelIsSound };
 }
 
-impl<A: Allocator> Kernel<A> {
-    /// A kernel with the elements of the board and an empty history of at most `limit` entries.
+/// Whether a board, a number of callbacks and a limit are within their limits.
+fn can_open(board: &Board, callbacks: usize, limit: u32) -> bool
+    ensures fits { result ≡ can_open board.now callbacks limit }
+    ensures limit { result ≡ true → limit ≤ 1000000 }
+{
+    board.check().is_ok() && callbacks <= MAX_CALLBACKS && 1 <= limit && limit <= MAX_LIMIT
+}
+
+impl<C: Handler, A: Allocator> KernelOf<C, A> {
+    /// A kernel with the elements of the board, the callbacks of the bank in their places, and an empty history of at
+    /// most `limit` entries.
     ///
-    /// `Range` exactly where a number of the board is outside its limits, or `limit` is outside 1 to 1,000,000;
-    /// `NoMemory` where room for the elements was refused (this profile).
-    pub fn new(alloc: A, board: Board, limit: u32) -> Result<Kernel<A>, Refusal>
+    /// `Range` exactly where a number of the board is outside its limits, the bank has more than 64 callbacks, or
+    /// `limit` is outside 1 to 1,000,000; `NoMemory` where room for the elements was refused. The bank is then dropped
+    /// (this profile).
+    pub fn new(
+        alloc: A,
+        board: Board,
+        bank: Vec<C, A>,
+        limit: u32,
+    ) -> Result<KernelOf<C, A>, Refusal>
     where
         A: Clone,
-        ensures opened { IfOk result (λ k. IsOpened k (opening board) limit) }
-        ensures range { (result ≡ Err Refusal.Range) ↔ (can_open board limit ≡ false) }
+        ensures opened { IfOk result (λ k. IsOpened C.declared C.plan board bank.items limit k) }
+        ensures answering { IfOk result (λ k. AnswersAsTold C.declared C.plan k.callbacks) }
+        ensures range { (result ≡ Err Refusal.Range) ↔ (can_open board (length bank.items) limit ≡ false) }
         ensures refusals { IfErr result (λ e. (e ≡ Refusal.Range) ⊎ (e ≡ Refusal.NoMemory)) }
     {
-        board.check()?;
-        if limit == 0 || limit > MAX_LIMIT {
+        if !can_open(&board, bank.len(), limit) {
             return Err(Refusal::Range);
         }
-        let for_counts = alloc.clone().map_err(|_| Refusal::NoMemory)?;
         let for_history = alloc.clone().map_err(|_| Refusal::NoMemory)?;
-        let counts = Vec::from_slice(for_counts, board.sems.as_slice()).map_err(
-            |_| Refusal::NoMemory,
-        )?;
-        Ok(Kernel {
+        let for_plays = alloc.clone().map_err(|_| Refusal::NoMemory)?;
+        let records = Records::new(alloc, &board, bank)?;
+        Ok(KernelOf {
             board,
-            counts,
+            records,
             history: Vec::new(for_history),
-            plays: Vec::new(alloc),
+            plays: Vec::new(for_plays),
             limit: limit as usize,
         })
     }
@@ -93,8 +117,10 @@ impl<A: Allocator> Kernel<A> {
     ///
     /// `HistoryFull` exactly where the history is at its limit, `NoMemory` where room for the entry and its plays was
     /// refused: neither makes an entry or changes anything. Every other refusal is an answer with an entry: the first
-    /// that applies of `Unknown` (no such thread or element), `Range`, then the call's own (this profile).
+    /// that applies of `Unknown` (no such thread, line, callback or element), `Range`, `Invalid`, then the call's own.
+    /// Each callback is called as it is played, on the condition that it answers its plan (this profile).
     pub fn apply(&mut self, caller: ThreadId, call: Call) -> Result<Reply, Refusal>
+        requires answering { AnswersAsTold C.declared C.plan self.old.callbacks }
         ensures entry { IsTrue (makes_entry result) → AddsEntry self.old.history caller.0 call result self.new.history }
         ensures none { IsFalse (makes_entry result) → self.new.history ≡ self.old.history }
         ensures full { (result ≡ Err Refusal.HistoryFull) ↔ (length self.old.history.entries ≡ self.old.limit) }
@@ -103,6 +129,9 @@ impl<A: Allocator> Kernel<A> {
         ensures limit { self.new.limit ≡ self.old.limit }
         ensures room { self.old.room ≤ self.new.room + 1 }
         ensures legal { IsLegal self.new.history }
+        ensures answering { AnswersAsTold C.declared C.plan self.new.callbacks }
+        ensures brings { BringsNone self.old.callbacks self.new.callbacks }
+        ensures told { told self.new.callbacks.bank ≡ told self.old.callbacks.bank }
     {
         if self.history.len() == self.limit {
             return Err(Refusal::HistoryFull);
@@ -111,19 +140,22 @@ impl<A: Allocator> Kernel<A> {
         self.plays
             .reserve(MAX_PLAYS)
             .map_err(|_| Refusal::NoMemory)?;
-        let reply = answer(self.board.threads, &mut self.counts, caller, &call);
+        let before = self.plays.len();
+        let reply = self.records.perform(caller, &call, &mut self.plays);
         let entered = copied_reply(&reply);
         self.history
             .push(Entry {
                 caller,
                 call,
                 reply: entered,
-                plays: 0,
+                plays: self.plays.len() - before,
             })
             .unwrap();
         reply
     }
+}
 
+impl<C, A: Allocator> KernelOf<C, A> {
     /// All entries, in order (this profile).
     pub fn history(&self) -> &[Entry]
         ensures entries { result.now ≡ self.now.history.entries }
@@ -138,6 +170,42 @@ impl<A: Allocator> Kernel<A> {
         ensures legal { IsLegal self.now.history }
     {
         self.plays.as_slice()
+    }
+}
+
+impl<C, A: Allocator> KernelOf<C, A> {
+    /// Whether an event of the line is pending on the stage; no line above 1023 is (Dovetail: interrupt pipeline).
+    pub fn pending(&self, stage: Stage, line: LineNo) -> bool
+        ensures pending { result ≡ lines.is_pending self.now.history.state.lines stage line.0 }
+        ensures legal { IsLegal self.now.history }
+    {
+        self.records.is_pending(stage, line)
+    }
+
+    /// Whether the stage is stalled (Dovetail: interrupt pipeline).
+    pub fn stalled(&self, stage: Stage) -> bool
+        ensures stalled { result ≡ (lines.side self.now.history.state.lines stage).stalled }
+        ensures legal { IsLegal self.now.history }
+    {
+        self.records.is_stalled(stage)
+    }
+
+    /// How many events came on the line where no callback stood for them: 0 to 2^64 - 1, and 0 for a line above 1023
+    /// (this profile).
+    pub fn spurious(&self, line: LineNo) -> u64
+        ensures count { result ≡ count_at self.now.history.state.lines.spurious line.0 }
+        ensures legal { IsLegal self.now.history }
+    {
+        self.records.spurious(line)
+    }
+
+    /// How many answers of the callbacks on the line of this stage were unhandled: 0 to 2^64 - 1, and 0 for a line
+    /// above 1023 (this profile).
+    pub fn unhandled(&self, line: LineNo, stage: Stage) -> u64
+        ensures count { result ≡ count_at (lines.side self.now.history.state.lines stage).unhandled line.0 }
+        ensures legal { IsLegal self.now.history }
+    {
+        self.records.unhandled(line, stage)
     }
 }
 

@@ -1,5 +1,5 @@
 //! Laws over histories. Each is the contract of a function without a body.
-ghost use Rattle.evl_kernel.specs.Laws.{RunIsDetermined, StepIsComputed};
+ghost use Rattle.evl_kernel.specs.Laws.{OobPendsOnlyWhileStalled, RunIsDetermined, StepIsComputed, TwoWorlds};
 
 /// Two runs of the same calls from the same opening have the same entries, plays and end (this profile).
 pub fn run_is_determined()
@@ -9,4 +9,17 @@ pub fn run_is_determined()
 /// A step of the kernel is what `stepped` computes (this profile).
 pub fn step_is_computed()
     ensures { StepIsComputed }
+{}
+
+/// After each call a line is pending out-of-band only while the out-of-band stage is stalled (Dovetail: interrupt
+/// pipeline).
+pub fn oob_pends_only_while_stalled()
+    ensures { OobPendsOnlyWhileStalled }
+{}
+
+/// Stalls of the in-band stage change nothing out-of-band: two runs from one opening whose calls are the same but for
+/// in-band stalls, and in which no callback that was requested in-band has actions, make the same plays but for in-band
+/// ones, and give the same replies to those calls (Dovetail: interrupt pipeline).
+pub fn two_worlds()
+    ensures { TwoWorlds }
 {}

@@ -1,12 +1,13 @@
 //! The kernel of the out-of-band core: its records, its calls, and the history of all that it answered.
 #![tactic(auto)]
 
+mod bank;
 mod kernel;
 mod laws;
-mod semaphores;
-mod serving;
+mod records;
+
+pub use kernel::{Kernel, KernelOf};
+pub use laws::{oob_pends_only_while_stalled, run_is_determined, step_is_computed, two_worlds};
+
 #[cfg(test)]
 mod tests;
-
-pub use kernel::Kernel;
-pub use laws::{run_is_determined, step_is_computed};

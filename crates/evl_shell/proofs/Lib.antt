@@ -1,3 +1,4 @@
+pub mod BankLemmas
 pub mod EndLemmas
 pub mod FaultLemmas
 pub mod InputLemmas

@@ -6,10 +6,11 @@ use Rattle.evl_base.specs.declared.board.Board.{Board}
 use Rattle.evl_base.specs.declared.play.Play.{Play}
 use Rattle.evl_kernel.specs.KernelViews.{KernelView, IsOpened}
 use Rattle.evl_kernel.specs.Openings.{opening}
+use Rattle.evl_pipeline.specs.declared.plan.Plan.{Plan}
 use Rattle.evl_shell.specs.declared.steps.Step.{Step}
 use Rattle.evl_shell.specs.Lines.{board_line_of, board_line_text, line_text, play_line_text, play_lines}
 use Rattle.evl_shell.specs.Moments.{moment, Turns}
-use Rattle.evl_shell.specs.Runs.{Moment, Turn, turn, turn_lines, lines_from, beginning, script_trace}
+use Rattle.evl_shell.specs.Runs.{Moment, Turn, turn, turn_lines, lines_from, beginning, handlers_of, script_trace}
 use Rattle.evl_shell.specs.Scenarios.{Script}
 use Rattle.evl_shell.specs.Sinks.{Passes, PassesPart}
 use Rattle.evl_shell.proofs.PassLemmas.{Passes-append, PassesPart-append, PassesPart-more}
@@ -38,7 +39,7 @@ turn-line_part old new waited waiting line step t is h =
     subst P is (PassesPart-more old new waited waiting line (play_lines t.plays) h)
 
 -- the plays past those that the kernel showed before are the turn's own
-pub own_plays : (old new : KernelView) (t : Turn) (shown plays : List Play) → shown ≡ old.history.plays → Turns old new t → plays ≡ drop (length shown) new.history.plays
+pub own_plays : {C : Type 0} (old new : KernelView C) (t : Turn) (shown plays : List Play) → shown ≡ old.history.plays → Turns old new t → plays ≡ drop (length shown) new.history.plays
     → plays ≡ t.plays
 own_plays old new t shown plays before turns found =
     found ∙ ap (λ (ps : List Play). drop (length ps) new.history.plays) before ∙ ap (λ (ps : List Play). drop (length old.history.plays) ps) turns.plays
@@ -63,9 +64,10 @@ turn-part old mid new waited between waiting line step t plays is own h k =
     (PassesPart-append old mid new waited between waiting line (play_lines plays) h k)
 
 -- the trace of a script, from what was opened
-pub script_trace-opened : (script : Script) (line : List ℕ) (board : Board) (limit : ℕ) (steps : List Step) (kernel : KernelView)
-    → board ≡ script.board → limit ≡ script.limit → steps ≡ script.steps → line ≡ board_line_text (board_line_of board limit) → IsOpened kernel (opening board) limit
-    → line ++ lines_from kernel.limit (moment kernel) steps ≡ script_trace script
-script_trace-opened script line board limit steps kernel b l s is k =
-    let start : moment kernel ≡ beginning (opening board) = (λ i. record { entries = length (k.entries i); state = k.state i }) in
+pub script_trace-opened : {C : Type 0} (declared : C → ℕ) (plan : C → Plan) (bank : List C) (script : Script) (line : List ℕ) (board : Board) (limit : ℕ) (steps : List Step) (kernel : KernelView C)
+    → board ≡ script.board → limit ≡ script.limit → steps ≡ script.steps → line ≡ board_line_text (board_line_of board limit) → IsOpened declared plan board bank limit kernel
+    → line ++ lines_from kernel.limit (moment kernel) steps ≡ script_trace (handlers_of declared plan bank) script
+script_trace-opened declared plan bank script line board limit steps kernel b l s is k =
+    let start : moment kernel ≡ beginning (opening board (handlers_of declared plan bank)) =
+    (λ i. record { entries = length (k.entries i); state = (k.state ∙ k.opening_is) i }) in
     rw (start, k.limit_is, is, b, l, s)

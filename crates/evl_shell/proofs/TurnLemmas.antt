@@ -49,7 +49,7 @@ one_more : (n : ℕ) → number_after n (n + 1) ≡ Some (n + 1)
 one_more n = chosen-true (nat_lt n (n + 1)) (Some (n + 1)) None (lt-ltb n (n + 1) (omega arith))
 
 -- a call that finds the history at its limit
-away : (old new : KernelView) (step : Step) (limit : ℕ) → length old.history.entries ≡ limit → new.history ≡ old.history → new.limit ≡ old.limit
+away : {C : Type 0} (old new : KernelView C) (step : Step) (limit : ℕ) → length old.history.entries ≡ limit → new.history ≡ old.history → new.limit ≡ old.limit
     → Tells old new (number_after (length old.history.entries) (length new.history.entries)) (Err HistoryFull) (turn limit (moment old) step)
 away old new step limit full same bound =
     let P : Turn → Type 0 = λ t. Tells old new (number_after (length old.history.entries) (length new.history.entries)) (Err HistoryFull) t in
@@ -64,7 +64,7 @@ away old new step limit full same bound =
     })
 
 -- a call that makes an entry
-enters : (old new : KernelView) (step : Step) (limit : ℕ) (reply : Result Reply Refusal) → (length old.history.entries ≡ limit → ⊥)
+enters : {C : Type 0} (old new : KernelView C) (step : Step) (limit : ℕ) (reply : Result Reply Refusal) → (length old.history.entries ≡ limit → ⊥)
     → AddsEntry old.history step.who.0 step.call reply new.history → new.limit ≡ old.limit
     → Tells old new (number_after (length old.history.entries) (length new.history.entries)) reply (turn limit (moment old) step)
 enters old new step limit reply below added bound =
@@ -87,7 +87,7 @@ enters old new step limit reply below added bound =
     })
 
 -- a call that isn't refused for want of memory
-pub made : (old new : KernelView) (step : Step) (asked : Call) (reply : Result Reply Refusal) → asked ≡ step.call
+pub made : {C : Type 0} (old new : KernelView C) (step : Step) (asked : Call) (reply : Result Reply Refusal) → asked ≡ step.call
     → (IsTrue (makes_entry reply) → AddsEntry old.history step.who.0 asked reply new.history)
     → (IsFalse (makes_entry reply) → new.history ≡ old.history)
     → ((reply ≡ Err HistoryFull) ↔ (length old.history.entries ≡ old.limit))

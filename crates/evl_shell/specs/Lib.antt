@@ -1,3 +1,4 @@
+pub mod Bank
 pub mod Boards
 pub mod Faults
 pub mod Lines

@@ -6,17 +6,17 @@ use Rattle.evl_base.specs.declared.reply.Reply.{Reply}
 use Rattle.evl_kernel.specs.KernelViews.{KernelView}
 use Rattle.evl_shell.specs.Runs.{Moment, Turn}
 
-abbrev pub moment : KernelView → Moment
+abbrev pub moment : {C : Type 0} → KernelView C → Moment
 moment k = record { entries = length k.history.entries; state = k.history.state }
 
 -- the kernel has made this turn
-pub record Turns (old new : KernelView) (turn : Turn) : Type 0 where
+pub record Turns {C : Type 0} (old new : KernelView C) (turn : Turn) : Type 0 where
   pub after : moment new ≡ turn.after
   pub limit : new.limit ≡ old.limit
   pub plays : new.history.plays ≡ old.history.plays ++ turn.plays
 
 -- and this is the number of the turn's entry, and its answer
-pub record Tells (old new : KernelView) (number : Option ℕ) (answer : Result Reply Refusal) (turn : Turn) : Type 0 where
+pub record Tells {C : Type 0} (old new : KernelView C) (number : Option ℕ) (answer : Result Reply Refusal) (turn : Turn) : Type 0 where
   pub turns : Turns old new turn
   pub number_is : number ≡ turn.number
   pub answer_is : answer ≡ turn.answer

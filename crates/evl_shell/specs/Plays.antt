@@ -1,5 +1,6 @@
 -- What the program reads, tells and answers.
 use Rattle.std.specs.Prelude.{◌≡◌, ℕ, List, [], ◌++◌, take, decimal, codes, Bool, true, Option, None, IfSome, Result, Ok, Err}
+use Rattle.evl_kernel.specs.States.{Handler}
 use Rattle.evl_shell.specs.declared.faults.Fault.{Fault}
 use Rattle.evl_shell.specs.declared.faults.Fault.TheVariants.{Text, Board, Step, Memory, Write}
 use Rattle.evl_shell.specs.declared.plays.Stop.{Stop}
@@ -43,11 +44,11 @@ Tells old new failed trace (Err (Broken (Step n))) = Refuses old new trace (Step
 Tells old new failed trace (Err (Broken Memory)) = WritesPart old new trace
 Tells old new failed trace (Err (Broken Write)) = WritesPart old new trace × (failed ≡ true)
 
--- the program's end on an input: the text that it read, and what it told of that text's trace
-pub record Ended (known old new : Option (List ℕ)) (failed : Bool) (end : Result (Unit {0}) Stop) : Type 0 where
+-- the program's end on an input over a bank: the text that it read, and what it told of that text's trace
+pub record Ended (bank : List Handler) (known old new : Option (List ℕ)) (failed : Bool) (end : Result (Unit {0}) Stop) : Type 0 where
   pub text : List ℕ
   pub read : IsInput known text
-  pub tells : Tells old new failed (trace_of None text) end
+  pub tells : Tells old new failed (trace_of bank None text) end
 
 -- its status
 abbrev pub status : Result (Unit {0}) Stop → ℕ
@@ -60,8 +61,8 @@ said (Ok done) = []
 said (Err stop) = stop_line stop
 
 -- the program ended somehow, answered the status of that end, and said its line, or a front part where `err` failed
-pub record Plays (known old new : Option (List ℕ)) (failed : Bool) (quiet spoken : Option (List ℕ)) (answer : ℕ) : Type 0 where
+pub record Plays (bank : List Handler) (known old new : Option (List ℕ)) (failed : Bool) (quiet spoken : Option (List ℕ)) (answer : ℕ) : Type 0 where
   pub end : Result (Unit {0}) Stop
-  pub ended : Ended known old new failed end
+  pub ended : Ended bank known old new failed end
   pub status_is : answer ≡ status end
   pub says : TakesPrefix quiet spoken (said end)

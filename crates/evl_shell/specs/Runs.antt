@@ -1,10 +1,11 @@
--- The trace of a text: the run of its steps, line by line.
-use Rattle.std.specs.Prelude.{ℕ, ◌+◌, ◌==◌, List, [], ◌∷◌, ◌++◌, if◌then◌else◌, Option, Some, None, Result, Ok, Err}
+-- The trace of a text over a bank of callbacks: the run of its steps, line by line.
+use Rattle.std.specs.Prelude.{ℕ, ◌+◌, ◌==◌, List, [], ◌∷◌, ◌++◌, map, if◌then◌else◌, Option, Some, None, Result, Ok, Err}
 use Rattle.evl_base.specs.declared.play.Play.{Play}
 use Rattle.evl_base.specs.declared.refusal.Refusal.{Refusal}
 use Rattle.evl_base.specs.declared.refusal.Refusal.TheVariants.{HistoryFull}
 use Rattle.evl_base.specs.declared.reply.Reply.{Reply}
-use Rattle.evl_kernel.specs.States.{State}
+use Rattle.evl_pipeline.specs.declared.plan.Plan.{Plan}
+use Rattle.evl_kernel.specs.States.{State, Handler}
 use Rattle.evl_kernel.specs.Openings.{opening}
 use Rattle.evl_kernel.specs.Replays.{Outcome, stepped}
 use Rattle.evl_shell.specs.declared.faults.Fault.{Fault}
@@ -54,14 +55,19 @@ lines_from limit m (step ∷ rest) = turn_lines step (turn limit m step) ++ line
 abbrev pub beginning : State → Moment
 beginning s = record { entries = 0; state = s }
 
-abbrev pub script_trace : Script → List ℕ
-script_trace script =
-    board_line_text (board_line_of script.board script.limit) ++ lines_from script.limit (beginning (opening script.board)) script.steps
+-- what callbacks declare and answer
+abbrev pub handlers_of : {C : Type 0} → (C → ℕ) → (C → Plan) → List C → List Handler
+handlers_of declared plan bank = map (λ callback. record { kinds = declared callback; plan = plan callback }) bank
 
-abbrev pub trace_with : Result Script Fault → Result (List ℕ) Fault
-trace_with (Ok script) = Ok (script_trace script)
-trace_with (Err e) = Err e
+-- the trace of a script, with callbacks that declare and answer this
+abbrev pub script_trace : List Handler → Script → List ℕ
+script_trace bank script =
+    board_line_text (board_line_of script.board script.limit) ++ lines_from script.limit (beginning (opening script.board bank)) script.steps
 
--- the trace of a text under a limit that may be handed in, or the text's fault
-abbrev pub trace_of : Option ℕ → List ℕ → Result (List ℕ) Fault
-trace_of given text = trace_with (scenario_of given text)
+abbrev pub trace_with : List Handler → Result Script Fault → Result (List ℕ) Fault
+trace_with bank (Ok script) = Ok (script_trace bank script)
+trace_with bank (Err e) = Err e
+
+-- the trace of a text over a bank, under a limit that may be handed in, or the text's fault
+abbrev pub trace_of : List Handler → Option ℕ → List ℕ → Result (List ℕ) Fault
+trace_of bank given text = trace_with bank (scenario_of given text)

@@ -8,6 +8,11 @@ use Rattle.toml.specs.Data.{Data, Members, no_members, member, Items, no_items, 
 abbrev pub value_at : {A : Type 0} → (Data → Option A) → List ℕ → Members → Option A
 value_at gives key table = option_and_then gives (get_member key table)
 
+-- the value at a key, or this one where nothing stands there
+abbrev pub value_or : {A : Type 0} → (Data → Option A) → A → Option Data → Option A
+value_or gives default None = Some default
+value_or gives default (Some value) = gives value
+
 -- the text at a key that is required
 abbrev pub text_at : List ℕ → Members → Option (List ℕ)
 text_at key table = option_and_then as_str (get_member key table)

@@ -6,8 +6,11 @@ use Rattle.std.specs.Str.Parse.{digits_value}
 use Rattle.toml.specs.Data.{Data, integer, string, Items, no_items, item, as_str, as_array}
 use Rattle.evl_base.specs.declared.mutex_kind.MutexKind.{MutexKind}
 use Rattle.evl_base.specs.declared.mutex_kind.MutexKind.TheVariants.{Normal, Recursive, Ceiling}
+use Rattle.evl_base.specs.declared.numbers.LineNo.{LineNo}
 use Rattle.evl_base.specs.declared.numbers.SemId.{SemId}
 use Rattle.evl_base.specs.declared.numbers.ThreadId.{ThreadId}
+use Rattle.evl_base.specs.declared.stage.Stage.{Stage}
+use Rattle.evl_base.specs.declared.stage.Stage.TheVariants.{Inband, Oob}
 
 -- the number below 2 ^ 64 whose decimal digits, without leading zeros, the text is
 abbrev pub text_number : List ℕ → Option ℕ
@@ -37,8 +40,20 @@ byte_from value = below (2 ^ 8) (number_from value)
 abbrev pub thread_from : Data → Option ThreadId
 thread_from value = option_map (λ n. record { 0 = n }) (half_word_from value)
 
+abbrev pub line_from : Data → Option LineNo
+line_from value = option_map (λ n. record { 0 = n }) (half_word_from value)
+
 abbrev pub sem_from : Data → Option SemId
 sem_from value = option_map (λ n. record { 0 = n }) (half_word_from value)
+
+abbrev pub stage_of : List ℕ → Option Stage
+stage_of text =
+    if bytes_eq text (codes "inband") then Some Inband
+    else if bytes_eq text (codes "oob") then Some Oob
+    else None
+
+abbrev pub stage_from : Data → Option Stage
+stage_from value = option_and_then stage_of (as_str value)
 
 -- just two items: the size of the ring of way `In`, and that of way `Out`
 abbrev pub two_sizes : Items → Option (ℕ × ℕ)

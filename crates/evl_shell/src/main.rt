@@ -1,6 +1,7 @@
 //! Plays a scenario of calls on an out-of-band core and prints the trace.
 #![tactic(auto)]
 
+mod bank;
 mod boards;
 mod chunks;
 mod faults;
@@ -8,6 +9,8 @@ mod lines;
 mod plays;
 #[cfg(test)]
 mod program_tests;
+#[cfg(test)]
+mod row_tests;
 mod runs;
 mod scenarios;
 mod sinks;
@@ -24,5 +27,5 @@ fn main(rt: HostRuntime) -> ExitCode {
     let mut input = rt.stdin();
     let mut out = Over::new(rt.stdout());
     let mut err = rt.stderr();
-    ExitCode::from(plays::play(rt.alloc(), &mut input, &mut out, &mut err))
+    ExitCode::from(bank::play_program(rt.alloc(), &mut input, &mut out, &mut err))
 }

@@ -3,12 +3,14 @@ ghost use Rattle.std.specs.Prelude.{◌≡◌, ◌⊎◌, ◌≤◌, ◌++◌, f
 ghost use Rattle.std.specs.Io.KnownBytes.{Appends};
 ghost use Rattle.evl_shell.specs.Lines.{line_feed};
 ghost use Rattle.evl_shell.specs.Sinks.{TakesPrefix};
+ghost use Rattle.evl_shell.specs.Runs.{handlers_of};
 ghost use Rattle.evl_shell.specs.Plays as plays;
 ghost use Rattle.evl_shell.specs.Plays.{IsInput, Ended, Plays, stop_line};
 
 use crate::faults::Fault;
 use crate::runs::run;
 use crate::sinks::{Sink, SinkFailed};
+use evl_pipeline::Callback;
 use std::alloc::Global;
 use std::io::{Read, Write};
 
@@ -126,38 +128,53 @@ fn report<E: Write>(err: &mut E, stop: Stop)
     }
 }
 
+/// Writes the line of a stop and answers its status; a failure of `err` is ignored (this profile).
+pub fn stopped<E: Write>(err: &mut E, stop: Stop) -> u8
+    ensures says { TakesPrefix (E.contents err.old) (E.contents err.new) (stop_line stop) }
+    ensures status { result ≡ plays.status_of stop }
+{
+    report(err, stop);
+    status_of(stop)
+}
+
 // Plays the scenario that the input holds.
-fn play_input<R: Read, S: Sink>(alloc: Global, input: &mut R, out: &mut S) -> Result<(), Stop>
-    requires { S.has_failed out.old ≡ false }
-    ensures { Ended (R.remaining input.old) (S.told out.old) (S.told out.new) (S.has_failed out.new) result }
+fn play_input<R: Read, S: Sink>(
+    alloc: Global,
+    bank: Vec<Callback>,
+    input: &mut R,
+    out: &mut S,
+) -> Result<(), Stop>
+    requires working { S.has_failed out.old ≡ false }
+    requires few { length bank.items ≤ 64 }
+    ensures { Ended (handlers_of (λ (c : _). c.kinds.0) (λ (c : _). c.plan.value) bank.items) (R.remaining input.old) (S.told out.old) (S.told out.new) (S.has_failed out.new) result }
 {
     let text = match read_input(alloc, input) {
         Ok(text) => text,
         Err(stop) => return Err(stop),
     };
-    match run(alloc, text.as_slice(), None, out) {
+    match run(alloc, text.as_slice(), None, bank, out) {
         Ok(()) => Ok(()),
         Err(fault) => Err(Stop::Broken(fault)),
     }
 }
 
-/// Reads a scenario up to the input's end, at most 1,048,577 bytes, plays it into the sink, and answers the status:
+/// Reads a scenario up to the input's end, at most 1,048,577 bytes, plays it over a bank of at most 64 callbacks into
+/// the sink, and answers the status:
 /// 0 done, 1 the sink failed, 2 the scenario was refused or a read failed, 4 no memory. Where it isn't 0, a line on
 /// `err` says why; a failure of `err` is ignored (this profile).
 pub fn play<R: Read, S: Sink, E: Write>(
     alloc: Global,
+    bank: Vec<Callback>,
     input: &mut R,
     out: &mut S,
     err: &mut E,
 ) -> u8
-    requires { S.has_failed out.old ≡ false }
-    ensures { Plays (R.remaining input.old) (S.told out.old) (S.told out.new) (S.has_failed out.new) (E.contents err.old) (E.contents err.new) result }
+    requires working { S.has_failed out.old ≡ false }
+    requires few { length bank.items ≤ 64 }
+    ensures { Plays (handlers_of (λ (c : _). c.kinds.0) (λ (c : _). c.plan.value) bank.items) (R.remaining input.old) (S.told out.old) (S.told out.new) (S.has_failed out.new) (E.contents err.old) (E.contents err.new) result }
 {
-    match play_input(alloc, input, out) {
+    match play_input(alloc, bank, input, out) {
         Ok(()) => 0,
-        Err(stop) => {
-            report(err, stop);
-            status_of(stop)
-        }
+        Err(stop) => stopped(err, stop),
     }
 }

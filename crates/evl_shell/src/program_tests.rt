@@ -1,6 +1,6 @@
 //! The program's statuses and lines, and writers and readers that take little or fail.
+use crate::bank::play_program;
 use crate::faults::Fault;
-use crate::plays::play;
 use crate::runs::run;
 use crate::sinks::{Over, Sink};
 use std::alloc::Global;
@@ -81,7 +81,7 @@ fn starts(taken: &Vec<u8>, length: usize) -> bool {
 fn one_byte_a_write(rt: HostRuntime) {
     let alloc = rt.alloc();
     let mut out = Over::new(Narrow::new(alloc, 1, 0, false));
-    assert!(rt; run(alloc, TEXT.as_bytes(), None, &mut out).is_ok());
+    assert!(rt; run(alloc, TEXT.as_bytes(), None, Vec::new(alloc), &mut out).is_ok());
     assert!(rt; !out.failed());
     let writer = out.into_inner();
     assert!(rt; starts(&writer.taken, TRACE.len()));
@@ -93,7 +93,7 @@ fn a_write_fails(rt: HostRuntime) {
     let alloc = rt.alloc();
     for stop in 1..60 {
         let mut out = Over::new(Narrow::new(alloc, 2, stop, true));
-        let answer = run(alloc, TEXT.as_bytes(), None, &mut out);
+        let answer = run(alloc, TEXT.as_bytes(), None, Vec::new(alloc), &mut out);
         let whole = stop > TRACE.len().div_ceil(2);
         assert!(rt; answer == (if whole { Ok(()) } else { Err(Fault::Write) }));
         assert!(rt; out.failed() == !whole);
@@ -106,7 +106,7 @@ fn a_write_fails(rt: HostRuntime) {
 fn a_write_takes_nothing(rt: HostRuntime) {
     let alloc = rt.alloc();
     let mut out = Over::new(Narrow::new(alloc, 7, 3, false));
-    assert!(rt; run(alloc, TEXT.as_bytes(), None, &mut out) == Err(Fault::Write));
+    assert!(rt; run(alloc, TEXT.as_bytes(), None, Vec::new(alloc), &mut out) == Err(Fault::Write));
     assert!(rt; out.failed());
     assert!(rt; starts(&out.into_inner().taken, 14));
 }
@@ -126,7 +126,7 @@ fn writes_in_chunks(rt: HostRuntime) -> Result<(), Fail> {
     let alloc = rt.alloc();
     let text = puts(alloc, 1000)?;
     let mut out = Over::new(Narrow::new(alloc, 1_000_000, 0, false));
-    assert!(rt; run(alloc, text.as_slice(), None, &mut out).is_ok());
+    assert!(rt; run(alloc, text.as_slice(), None, Vec::new(alloc), &mut out).is_ok());
     let writer = out.into_inner();
     assert!(rt; writer.taken.len() > 24_000);
     assert!(rt; writer.writes <= writer.taken.len() / 4096 + 1);
@@ -138,7 +138,7 @@ fn outcome(alloc: Global, text: &str) -> (u8, Vec<u8>, Vec<u8>) {
     let mut out = Over::new(Vec::new(alloc));
     let mut err = Vec::new(alloc);
     let mut input = text.as_bytes();
-    let status = play(alloc, &mut input, &mut out, &mut err);
+    let status = play_program(alloc, &mut input, &mut out, &mut err);
     (status, out.into_inner(), err)
 }
 
@@ -176,7 +176,7 @@ fn ends_without_a_file(rt: HostRuntime) {
     let mut out = Over::new(Vec::new(alloc));
     let mut err = Vec::new(alloc);
     let mut input = Broken { given: false };
-    assert_eq!(rt; play(alloc, &mut input, &mut out, &mut err), 2);
+    assert_eq!(rt; play_program(alloc, &mut input, &mut out, &mut err), 2);
     assert!(rt; out.into_inner().is_empty());
     assert!(rt; err.as_slice() == "evl: no file\n".as_bytes());
 }
@@ -187,7 +187,7 @@ fn ends_at_a_write_fault(rt: HostRuntime) {
     let mut out = Over::new(Narrow::new(alloc, 10, 2, false));
     let mut err = Vec::new(alloc);
     let mut input = TEXT.as_bytes();
-    assert_eq!(rt; play(alloc, &mut input, &mut out, &mut err), 1);
+    assert_eq!(rt; play_program(alloc, &mut input, &mut out, &mut err), 1);
     assert!(rt; starts(&out.into_inner().taken, 10));
     assert!(rt; err.as_slice() == "evl: write fault\n".as_bytes());
 }
@@ -198,7 +198,7 @@ fn ends_whatever_becomes_of_its_line(rt: HostRuntime) {
     let mut out = Over::new(Vec::new(alloc));
     let mut err = Narrow::new(alloc, 1, 5, true);
     let mut input = "".as_bytes();
-    assert_eq!(rt; play(alloc, &mut input, &mut out, &mut err), 2);
+    assert_eq!(rt; play_program(alloc, &mut input, &mut out, &mut err), 2);
     assert!(rt; err.taken.as_slice() == "evl:".as_bytes());
 }
 
@@ -210,7 +210,7 @@ fn reads_no_more_than_a_scenario_may_have(rt: HostRuntime) -> Result<(), Fail> {
     let mut out = Over::new(Vec::new(alloc));
     let mut err = Vec::new(alloc);
     let mut input = text.as_slice();
-    assert_eq!(rt; play(alloc, &mut input, &mut out, &mut err), 2);
+    assert_eq!(rt; play_program(alloc, &mut input, &mut out, &mut err), 2);
     assert_eq!(rt; input.len(), 23);
     assert!(rt; err.as_slice() == "evl: bad text\n".as_bytes());
     Ok(())

@@ -1,12 +1,13 @@
 //! Plays a scenario into a sink.
-ghost use Rattle.std.specs.Prelude.{◌≡◌, List, ℕ, [], true, false, Ok, Err, OnOk, OnErr, IfOk, IfErr, drop, string_bytes};
+ghost use Rattle.std.specs.Prelude.{◌≡◌, ◌≤◌, length, List, ℕ, [], true, false, Ok, Err, OnOk, OnErr, IfOk, IfErr, drop, string_bytes};
 ghost use Rattle.std.specs.Io.KnownBytes.{Appends};
+ghost use Rattle.evl_kernel.specs.Callbacks.{AnswersAsTold};
 ghost use Rattle.evl_shell.specs.Sinks.{TakesPrefix, Passes, PassesPart};
 ghost use Rattle.evl_shell.specs.Faults.{IsCutShort, IsRefusal, IsCut, Writes, WritesPart};
 ghost use Rattle.evl_shell.specs.Lines.{board_line_of, board_line_text, line_text, play_line_text, play_lines};
 ghost use Rattle.evl_shell.specs.Moments as moments;
 ghost use Rattle.evl_shell.specs.Moments.{moment, Turns, Tells};
-ghost use Rattle.evl_shell.specs.Runs.{turn, turn_lines, lines_from, script_trace, trace_of};
+ghost use Rattle.evl_shell.specs.Runs.{turn, turn_lines, lines_from, handlers_of, script_trace, trace_of};
 
 use crate::chunks::Chunks;
 use crate::faults::Fault;
@@ -15,7 +16,8 @@ use crate::scenarios::{Scenario, read_scenario};
 use crate::sinks::{Sink, SinkFailed};
 use crate::steps::{Step, copied_call};
 use evl_base::{Board, Play, Refusal, Reply};
-use evl_kernel::Kernel;
+use evl_kernel::KernelOf;
+use evl_pipeline::{Callback, Handler};
 use std::alloc::Global;
 
 // What the call of a step was answered, and the number of its entry, where it made one.
@@ -43,8 +45,10 @@ fn number_after(before: usize, count: usize) -> Option<usize>
 }
 
 // Makes the call of a step. `NoMemory` is all that it is refused for.
-fn make_call(kernel: &mut Kernel<Global>, step: &Step) -> Result<Called, Refusal>
-    ensures { IfOk result (λ called. Tells kernel.old kernel.new called.number.0 called.answer.0 (turn kernel.old.limit (moment kernel.old) step.now)) }
+fn make_call<C: Handler>(kernel: &mut KernelOf<C, Global>, step: &Step) -> Result<Called, Refusal>
+    requires answering { AnswersAsTold C.declared C.plan kernel.old.callbacks }
+    ensures answering { AnswersAsTold C.declared C.plan kernel.new.callbacks }
+    ensures turn { IfOk result (λ called. Tells kernel.old kernel.new called.number.0 called.answer.0 (turn kernel.old.limit (moment kernel.old) step.now)) }
 {
     let before = kernel.history().len();
     let answer = kernel.apply(step.who, copied_call(&step.call));
@@ -108,20 +112,22 @@ fn put_plays<S: Sink>(
 }
 
 // The plays of a kernel from an index on.
-fn plays_from(kernel: &Kernel<Global>, start: usize) -> &[Play]
+fn plays_from<C: Handler>(kernel: &KernelOf<C, Global>, start: usize) -> &[Play]
     ensures { result.now ≡ drop start kernel.now.history.plays }
 {
     kernel.plays().get(start..).unwrap_or(&[])
 }
 
 // Makes the call of a step, and puts its line and those of its plays.
-fn play_step<S: Sink>(
+fn play_step<C: Handler, S: Sink>(
     alloc: Global,
-    kernel: &mut Kernel<Global>,
+    kernel: &mut KernelOf<C, Global>,
     step: &Step,
     chunks: &mut Chunks,
     out: &mut S,
 ) -> Result<(), Fault>
+    requires answering { AnswersAsTold C.declared C.plan kernel.old.callbacks }
+    ensures answering { AnswersAsTold C.declared C.plan kernel.new.callbacks }
     ensures ok { OnOk result (Passes (S.told out.old) chunks.old (S.told out.new) chunks.new (turn_lines step.now (turn kernel.old.limit (moment kernel.old) step.now))) }
     ensures turns { OnOk result (Turns kernel.old kernel.new (turn kernel.old.limit (moment kernel.old) step.now)) }
     ensures part { OnErr result (PassesPart (S.told out.old) chunks.old (S.told out.new) chunks.new (turn_lines step.now (turn kernel.old.limit (moment kernel.old) step.now))) }
@@ -145,13 +151,14 @@ fn play_step<S: Sink>(
 }
 
 // Plays some steps.
-fn play_steps<S: Sink>(
+fn play_steps<C: Handler, S: Sink>(
     alloc: Global,
-    kernel: &mut Kernel<Global>,
+    kernel: &mut KernelOf<C, Global>,
     steps: &[Step],
     chunks: &mut Chunks,
     out: &mut S,
 ) -> Result<(), Fault>
+    requires answering { AnswersAsTold C.declared C.plan kernel.old.callbacks }
     ensures ok { OnOk result (Passes (S.told out.old) chunks.old (S.told out.new) chunks.new (lines_from kernel.old.limit (moment kernel.old) steps.now)) }
     ensures part { OnErr result (PassesPart (S.told out.old) chunks.old (S.told out.new) chunks.new (lines_from kernel.old.limit (moment kernel.old) steps.now)) }
     ensures kinds { IfErr result (IsCutShort (S.has_failed out.new)) }
@@ -176,21 +183,22 @@ fn first_line(alloc: Global, board: &Board, limit: u32) -> Result<String, Refusa
 }
 
 // Plays a scenario, but for what waits at the end.
-fn play_scenario<S: Sink>(
+fn play_scenario<C: Handler, S: Sink>(
     alloc: Global,
     scenario: Scenario,
+    bank: Vec<C>,
     chunks: &mut Chunks,
     out: &mut S,
 ) -> Result<(), Fault>
-    ensures ok { OnOk result (Passes (S.told out.old) chunks.old (S.told out.new) chunks.new (script_trace scenario)) }
-    ensures part { OnErr result (PassesPart (S.told out.old) chunks.old (S.told out.new) chunks.new (script_trace scenario)) }
+    ensures ok { OnOk result (Passes (S.told out.old) chunks.old (S.told out.new) chunks.new (script_trace (handlers_of C.declared C.plan bank.items) scenario)) }
+    ensures part { OnErr result (PassesPart (S.told out.old) chunks.old (S.told out.new) chunks.new (script_trace (handlers_of C.declared C.plan bank.items) scenario)) }
     ensures kinds { IfErr result (IsCutShort (S.has_failed out.new)) }
 {
     let (board, limit, steps) = scenario.into_parts();
     let Ok(line) = first_line(alloc, &board, limit) else {
         return Err(Fault::Memory);
     };
-    let Ok(mut kernel) = Kernel::new(alloc, board, limit) else {
+    let Ok(mut kernel) = KernelOf::new(alloc, board, bank, limit) else {
         return Err(Fault::Memory);
     };
     match chunks.put(line.as_str(), out) {
@@ -204,13 +212,18 @@ fn play_scenario<S: Sink>(
 }
 
 // Writes the trace of a scenario, and what waits at its end or before a fault.
-fn write_scenario<S: Sink>(alloc: Global, scenario: Scenario, out: &mut S) -> Result<(), Fault>
-    ensures ok { OnOk result (Appends (S.told out.old) (S.told out.new) (script_trace scenario)) }
-    ensures part { OnErr result (TakesPrefix (S.told out.old) (S.told out.new) (script_trace scenario)) }
+fn write_scenario<C: Handler, S: Sink>(
+    alloc: Global,
+    scenario: Scenario,
+    bank: Vec<C>,
+    out: &mut S,
+) -> Result<(), Fault>
+    ensures ok { OnOk result (Appends (S.told out.old) (S.told out.new) (script_trace (handlers_of C.declared C.plan bank.items) scenario)) }
+    ensures part { OnErr result (TakesPrefix (S.told out.old) (S.told out.new) (script_trace (handlers_of C.declared C.plan bank.items) scenario)) }
     ensures kinds { IfErr result (IsCutShort (S.has_failed out.new)) }
 {
     let mut chunks = Chunks::new(alloc);
-    match play_scenario(alloc, scenario, &mut chunks, out) {
+    match play_scenario(alloc, scenario, bank, &mut chunks, out) {
         Ok(()) => match chunks.flush(out) {
             Ok(()) => Ok(()),
             Err(SinkFailed) => Err(Fault::Write),
@@ -223,29 +236,31 @@ fn write_scenario<S: Sink>(alloc: Global, scenario: Scenario, out: &mut S) -> Re
     }
 }
 
-/// Writes the trace of a text, under a limit that may be handed in (1 to 1,000,000; it replaces the text's).
+/// Writes the trace of a text over a bank of at most 64 callbacks, under a limit that may be handed in (1 to 1,000,000; it replaces the text's).
 /// The text is checked whole before the first byte is written. `Text`, `Board` and `Step` say what is wrong with it,
 /// `Memory` that a growth was refused, and `Write` that the sink has failed (this profile).
 pub fn run<S: Sink>(
     alloc: Global,
     text: &[u8],
     limit: Option<u32>,
+    bank: Vec<Callback>,
     out: &mut S,
 ) -> Result<(), Fault>
-    requires { S.has_failed out.old ≡ false }
+    requires working { S.has_failed out.old ≡ false }
+    requires few { length bank.items ≤ 64 }
 
     // The whole trace, and nothing else.
-    ensures done { OnOk result (Writes (S.told out.old) (S.told out.new) (trace_of limit text.now)) }
+    ensures done { OnOk result (Writes (S.told out.old) (S.told out.new) (trace_of (handlers_of (λ (c : _). c.kinds.0) (λ (c : _). c.plan.value) bank.items) limit text.now)) }
 
     // A fault of the text, and nothing written.
-    ensures refused { IfErr result (λ e. IsRefusal e → (trace_of limit text.now ≡ Err e) × (out.new ≡ out.old)) }
+    ensures refused { IfErr result (λ e. IsRefusal e → (trace_of (handlers_of (λ (c : _). c.kinds.0) (λ (c : _). c.plan.value) bank.items) limit text.now ≡ Err e) × (out.new ≡ out.old)) }
 
     // A front part of the trace, where memory ran out or the sink failed.
-    ensures cut { IfErr result (λ e. IsCut e → WritesPart (S.told out.old) (S.told out.new) (trace_of limit text.now)) }
+    ensures cut { IfErr result (λ e. IsCut e → WritesPart (S.told out.old) (S.told out.new) (trace_of (handlers_of (λ (c : _). c.kinds.0) (λ (c : _). c.plan.value) bank.items) limit text.now)) }
     ensures write { result ≡ Err Fault.Write → S.has_failed out.new ≡ true }
 {
     match read_scenario(alloc, text, limit) {
-        Ok(scenario) => write_scenario(alloc, scenario, out),
+        Ok(scenario) => write_scenario(alloc, scenario, bank, out),
         Err(fault) => Err(fault),
     }
 }

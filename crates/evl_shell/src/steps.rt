@@ -3,13 +3,19 @@ ghost use Rattle.std.specs.Prelude.{◌≡◌, map};
 ghost use Rattle.toml.specs.View.{view, table_view};
 ghost use Rattle.evl_shell.specs.Steps.{word_of, keys_of, call_of, step_of};
 
-use crate::tables::{at, at_text, has_only_keys};
+use crate::tables::{at, at_or, at_text, has_only_keys};
 use evl_base::{Call, ThreadId};
 use toml::{Table, Value};
 
-/// A word that names a call of the kernel (Xenomai 4: EVL elements; the words are this profile's).
+/// A word that names a call of the kernel (Dovetail: interrupt pipeline; Xenomai 4: EVL elements; the words are this profile's).
 #[derive(Clone, Copy, PartialEq, Eq, Debug)]
 pub enum StepWord {
+    Request,
+    Free,
+    Arrive,
+    Post,
+    Stall,
+    Unstall,
     TryGet,
     Put,
     Peek,
@@ -27,6 +33,12 @@ fn read_word(text: &str) -> Option<StepWord>
     ensures { result ≡ word_of text.now }
 {
     match text {
+        "request" => Some(StepWord::Request),
+        "free" => Some(StepWord::Free),
+        "arrive" => Some(StepWord::Arrive),
+        "post" => Some(StepWord::Post),
+        "stall" => Some(StepWord::Stall),
+        "unstall" => Some(StepWord::Unstall),
         "try_get" => Some(StepWord::TryGet),
         "put" => Some(StepWord::Put),
         "peek" => Some(StepWord::Peek),
@@ -39,6 +51,12 @@ fn step_keys(word: StepWord) -> &'static [&'static str]
     ensures { map (λ key. key.now) result.now ≡ keys_of word }
 {
     match word {
+        StepWord::Request => &["do", "who", "line", "stage", "callback", "tag"],
+        StepWord::Free => &["do", "who", "line", "stage"],
+        StepWord::Arrive => &["do", "who", "line"],
+        StepWord::Post => &["do", "who", "stage", "line"],
+        StepWord::Stall => &["do", "who", "stage"],
+        StepWord::Unstall => &["do", "who", "stage"],
         StepWord::TryGet => &["do", "who", "sem"],
         StepWord::Put => &["do", "who", "sem"],
         StepWord::Peek => &["do", "who", "sem"],
@@ -50,6 +68,29 @@ fn read_call(word: StepWord, table: &Table) -> Option<Call>
     ensures { result ≡ call_of word (table_view table.now) }
 {
     match word {
+        StepWord::Request => Some(Call::Request {
+            line: at(table, "line")?,
+            stage: at(table, "stage")?,
+            callback: at(table, "callback")?,
+            tag: at_or(table, "tag", 0)?,
+        }),
+        StepWord::Free => Some(Call::Free {
+            line: at(table, "line")?,
+            stage: at(table, "stage")?,
+        }),
+        StepWord::Arrive => Some(Call::Arrive {
+            line: at(table, "line")?,
+        }),
+        StepWord::Post => Some(Call::Post {
+            stage: at(table, "stage")?,
+            line: at(table, "line")?,
+        }),
+        StepWord::Stall => Some(Call::Stall {
+            stage: at(table, "stage")?,
+        }),
+        StepWord::Unstall => Some(Call::Unstall {
+            stage: at(table, "stage")?,
+        }),
         StepWord::TryGet => Some(Call::TryGet {
             sem: at(table, "sem")?,
         }),
@@ -81,6 +122,28 @@ pub fn copied_call(call: &Call) -> Call
     ensures { result ≡ call.now }
 {
     match call {
+        Call::Request {
+            line,
+            stage,
+            callback,
+            tag,
+        } => Call::Request {
+            line: *line,
+            stage: *stage,
+            callback: *callback,
+            tag: *tag,
+        },
+        Call::Free { line, stage } => Call::Free {
+            line: *line,
+            stage: *stage,
+        },
+        Call::Arrive { line } => Call::Arrive { line: *line },
+        Call::Post { stage, line } => Call::Post {
+            stage: *stage,
+            line: *line,
+        },
+        Call::Stall { stage } => Call::Stall { stage: *stage },
+        Call::Unstall { stage } => Call::Unstall { stage: *stage },
         Call::TryGet { sem } => Call::TryGet { sem: *sem },
         Call::Put { sem } => Call::Put { sem: *sem },
         Call::Peek { sem } => Call::Peek { sem: *sem },

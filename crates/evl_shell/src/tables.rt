@@ -5,7 +5,7 @@ ghost use Rattle.std.specs.Str.{bytes_eq};
 ghost use Rattle.std.specs.BTreeMap.{keys};
 ghost use Rattle.toml.specs.Data.{get_member};
 ghost use Rattle.toml.specs.View.{view, table_view, items_view};
-ghost use Rattle.evl_shell.specs.Tables.{value_at, text_at, list_of, all_given, at_most_items, has_only};
+ghost use Rattle.evl_shell.specs.Tables.{value_at, value_or, text_at, list_of, all_given, at_most_items, has_only};
 
 use crate::values::FromToml;
 use arrayvec::ArrayVec;
@@ -25,6 +25,16 @@ pub fn at<T: FromToml>(table: &Table, key: &str) -> Option<T>
     match field(table, key) {
         Some(value) => T::from_toml(value),
         None => None,
+    }
+}
+
+/// The value at a key, or this one where nothing stands there.
+pub fn at_or<T: FromToml + Drop>(table: &Table, key: &str, default: T) -> Option<T>
+    ensures { result ≡ value_or T.gives default (get_member key.now (table_view table.now)) }
+{
+    match field(table, key) {
+        Some(value) => T::from_toml(value),
+        None => Some(default),
     }
 }
 

@@ -16,7 +16,7 @@ const FIRST_SEMAPHORE_TRACE: &str =
 // The trace of a text that has one.
 fn trace_of(alloc: Global, text: &str, limit: Option<u32>) -> Result<Vec<u8>, Fail> {
     let mut out = Over::new(Vec::new(alloc));
-    match run(alloc, text.as_bytes(), limit, &mut out) {
+    match run(alloc, text.as_bytes(), limit, Vec::new(alloc), &mut out) {
         Ok(()) => Ok(out.into_inner()),
         Err(_) => Err("run")?,
     }
@@ -25,7 +25,7 @@ fn trace_of(alloc: Global, text: &str, limit: Option<u32>) -> Result<Vec<u8>, Fa
 // The fault of a text, and whether nothing was written.
 fn fault_of(alloc: Global, text: &[u8], limit: Option<u32>) -> (Option<Fault>, bool) {
     let mut out = Over::new(Vec::new(alloc));
-    let fault = run(alloc, text, limit, &mut out).err();
+    let fault = run(alloc, text, limit, Vec::new(alloc), &mut out).err();
     (fault, out.into_inner().is_empty())
 }
 
@@ -231,8 +231,36 @@ fn bad_steps(rt: HostRuntime) -> Result<(), Fail> {
     assert!(rt;
         bad_step(
             alloc,
-            "[[step]]\ndo = \"put\"\nwho = 0\nsem = \"1\"\n[[step]]\ndo = \"stall\"\n[[step]]\n"
+            "[[step]]\ndo = \"put\"\nwho = 0\nsem = \"1\"\n[[step]]\ndo = \"tick\"\n[[step]]\n"
         )? == Some(2)
     );
+    Ok(())
+}
+
+#[test]
+fn bad_lines_and_stages(rt: HostRuntime) -> Result<(), Fail> {
+    let alloc = rt.alloc();
+    let line = "[[step]]\ndo = \"arrive\"\nwho = 0\nline = 65536\n";
+    assert!(rt; bad_step(alloc, line)? == Some(1));
+    let stage = "[[step]]\ndo = \"stall\"\nwho = 0\nstage = \"Oob\"\n";
+    assert!(rt; bad_step(alloc, stage)? == Some(1));
+    let number = "[[step]]\ndo = \"stall\"\nwho = 0\nstage = 1\n";
+    assert!(rt; bad_step(alloc, number)? == Some(1));
+    let key = "[[step]]\ndo = \"arrive\"\nwho = 0\nline = 0\nstage = \"oob\"\n";
+    assert!(rt; bad_step(alloc, key)? == Some(1));
+    Ok(())
+}
+
+#[test]
+fn bad_callbacks_and_tags(rt: HostRuntime) -> Result<(), Fail> {
+    let alloc = rt.alloc();
+    let callback =
+        "[[step]]\ndo = \"request\"\nwho = 0\nline = 5\nstage = \"oob\"\ncallback = 256\n";
+    assert!(rt; bad_step(alloc, callback)? == Some(1));
+    let missing = "[[step]]\ndo = \"request\"\nwho = 0\nline = 5\nstage = \"oob\"\n";
+    assert!(rt; bad_step(alloc, missing)? == Some(1));
+    let tag =
+        "[[step]]\ndo = \"request\"\nwho = 0\nline = 5\nstage = \"oob\"\ncallback = 0\ntag = 4294967296\n";
+    assert!(rt; bad_step(alloc, tag)? == Some(1));
     Ok(())
 }

@@ -2,9 +2,9 @@
 ghost use Rattle.std.specs.Prelude.{◌≡◌, Option, option_map};
 ghost use Rattle.toml.specs.Data.{Data};
 ghost use Rattle.toml.specs.View.{view, items_view};
-ghost use Rattle.evl_shell.specs.Values.{number_from, text_number, word_from, half_word_from, byte_from, past_front, two_sizes, mutex_kind_from, ring_sizes_from, thread_from, sem_from};
+ghost use Rattle.evl_shell.specs.Values.{number_from, text_number, word_from, half_word_from, byte_from, past_front, two_sizes, mutex_kind_from, ring_sizes_from, thread_from, line_from, sem_from, stage_from};
 
-use evl_base::{MutexKind, SemId, ThreadId};
+use evl_base::{LineNo, MutexKind, SemId, Stage, ThreadId};
 use toml::Value;
 
 /// A value that a TOML value may stand for.
@@ -76,11 +76,31 @@ impl FromToml for ThreadId {
     }
 }
 
+impl FromToml for LineNo {
+    ghost gives = { line_from };
+
+    fn from_toml(value: &Value) -> Option<LineNo> {
+        Some(LineNo(u16::try_from(number(value)?).ok()?))
+    }
+}
+
 impl FromToml for SemId {
     ghost gives = { sem_from };
 
     fn from_toml(value: &Value) -> Option<SemId> {
         Some(SemId(u16::try_from(number(value)?).ok()?))
+    }
+}
+
+impl FromToml for Stage {
+    ghost gives = { stage_from };
+
+    fn from_toml(value: &Value) -> Option<Stage> {
+        match value.as_str()? {
+            "inband" => Some(Stage::Inband),
+            "oob" => Some(Stage::Oob),
+            _ => None,
+        }
     }
 }
 

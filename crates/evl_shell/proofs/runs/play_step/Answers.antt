@@ -14,14 +14,14 @@ returns-in_default-step_line-clause-part g c = PassesPart-none _ _ _
 
 pub returns-in-Err-clause-part : goal.returns-in-Err-clause-part
 returns-in-Err-clause-part g c =
-    let told = c.in-Ok.ensures in
+    let told = c.in-Ok.ensures.turn in
     let t = turn c.args.kernel.now.limit (moment c.args.kernel.now) c.args.step.now in
     turn-line_part _ _ _ _ c.as_str.result.now c.args.step.now t
     (c.as_str.ensures.value ∙ c.in-Ok-step_line.ensures ∙ (λ i. line_text (told.number_is i) c.args.step.now (told.answer_is i))) c.in-Err.ensures.part
 
 pub returns-in-Ok-put_plays-clause-ok : goal.returns-in-Ok-put_plays-clause-ok
 returns-in-Ok-put_plays-clause-ok g c =
-    let told = c.in-Ok.ensures in
+    let told = c.in-Ok.ensures.turn in
     let t = turn c.args.kernel.now.limit (moment c.args.kernel.now) c.args.step.now in
     turn-whole _ _ _ _ _ _ c.as_str.result.now c.args.step.now t c.plays_from.result.now
     (c.as_str.ensures.value ∙ c.in-Ok-step_line.ensures ∙ (λ i. line_text (told.number_is i) c.args.step.now (told.answer_is i)))
@@ -30,7 +30,7 @@ returns-in-Ok-put_plays-clause-ok g c =
 
 pub returns-clause-part : goal.returns-clause-part
 returns-clause-part g c =
-    let told = c.in-Ok.ensures in
+    let told = c.in-Ok.ensures.turn in
     let t = turn c.args.kernel.now.limit (moment c.args.kernel.now) c.args.step.now in
     turn-part _ _ _ _ _ _ c.as_str.result.now c.args.step.now t c.plays_from.result.now
     (c.as_str.ensures.value ∙ c.in-Ok-step_line.ensures ∙ (λ i. line_text (told.number_is i) c.args.step.now (told.answer_is i)))

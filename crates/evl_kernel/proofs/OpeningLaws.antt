@@ -1,0 +1,91 @@
+-- The records of a new kernel.
+use Rattle.std.proofs.Common.{◌≡◌, ℕ, zero, suc, inl, inr, true, List, [], ◌∷◌, map, replicate, Option, Some, None, is_some, slice_get, refl, sym, ap, ◌∙◌, subst}
+use Rattle.std.specs.Option.{option_map}
+use Rattle.evl_base.specs.declared.board.Board.{Board}
+use Rattle.evl_base.specs.declared.stage.Stage.{Stage}
+use Rattle.evl_base.specs.declared.stage.Stage.TheVariants.{Inband, Oob}
+use Rattle.evl_pipeline.specs.declared.plan.Plan.{Plan}
+use Rattle.evl_pipeline.specs.Lines as lines
+use Rattle.evl_pipeline.proofs.PortLaws.{at-none}
+use Rattle.evl_kernel.specs.declared.bank.BankPlace.{BankPlace}
+use Rattle.evl_kernel.specs.declared.bank.Numbered.{Numbered}
+use Rattle.evl_kernel.specs.States.{Handler}
+use Rattle.evl_kernel.specs.Openings.{opening, at_home}
+use Rattle.evl_kernel.specs.Renamed.{named, renamed}
+use Rattle.evl_kernel.specs.Callbacks.{Whereabouts, AnswersAsTold, AreFilled, told}
+use Rattle.evl_kernel.specs.Records.{RecordsView, IsOpened, state_of, number_of, banked, AreAllowed}
+
+none_some : {A : Type 0} {x : A} → None ≡ Some x → ⊥
+none_some e = cc
+
+some_is : {A : Type 0} {x y : A} → Some x ≡ Some y → x ≡ y
+some_is e = cc
+
+map-replicate : {A B : Type 0} (f : A → B) (n : ℕ) (x : A) → map f (replicate n x) ≡ replicate n (f x)
+map-replicate f zero x = refl
+map-replicate f (suc n) x = ap (λ xs. f x ∷ xs) (map-replicate f n x)
+
+-- nothing stands on the lines of a new pipeline, under any names
+pub renamed-opening : {X Y : Type 0} (name : X → Y) → renamed name lines.opening ≡ lines.opening
+unfolding lines.opening
+renamed-opening {X} {Y} name =
+    let nothing : map (option_map (named name)) (replicate {A = Option (lines.Installed X)} 1024 None) ≡ replicate {A = Option (lines.Installed Y)} 1024 None = map-replicate (option_map (named name)) 1024 None in
+    (λ i. record {
+      oob = record { stalled = Rattle.std.proofs.Common.false; pending = []; installed = nothing i; unhandled = replicate 1024 0 };
+      inband = record { stalled = Rattle.std.proofs.Common.false; pending = []; installed = nothing i; unhandled = replicate 1024 0 };
+      spurious = replicate 1024 0;
+    })
+
+pub nothing-opening : {X : Type 0} (stage : Stage) (line : ℕ) (at : lines.Installed X) → lines.installed_at lines.opening stage line ≡ Some at → ⊥
+unfolding lines.opening
+nothing-opening {X} Oob line at h = none_some (sym (at-none {A = lines.Installed X} 1024 line) ∙ h)
+nothing-opening {X} Inband line at h = none_some (sym (at-none {A = lines.Installed X} 1024 line) ∙ h)
+
+module _ {C : Type 0} (declared : C → ℕ) (plan : C → Plan) where
+  abbrev pub handler_made : C → Handler
+  handler_made callback = record { kinds = declared callback; plan = plan callback }
+
+  pub told-filled : (bank : List C) (places : List (BankPlace C)) → AreFilled declared plan bank places → told places ≡ map handler_made bank
+  told-filled [] places none = ap told none
+  told-filled (callback ∷ bank) places (place, others, split, has, is, rest) =
+      ap told split ∙ ((λ i. is i ∷ told-filled bank others rest i))
+
+  pub banked-filled : (bank : List C) (places : List (BankPlace C)) → AreFilled declared plan bank places → map banked places ≡ map at_home (map handler_made bank)
+  banked-filled [] places none = ap (map banked) none
+  banked-filled (callback ∷ bank) places (place, others, split, has, is, rest) =
+      ap (map banked) split ∙ ((λ i. record { handler = is i; home = is_some (has i) } ∷ banked-filled bank others rest i))
+
+  -- the callback of a place is the one that it was filled with
+  filled-at : (bank : List C) (places : List (BankPlace C)) (n : ℕ) (place : BankPlace C) (callback : C) → AreFilled declared plan bank places
+      → slice_get places n ≡ Some place → place.callback ≡ Some callback → slice_get (told places) n ≡ Some (handler_made callback)
+  filled-at [] places n place callback none at has = absurd (none_some (ap (λ (ps : List (BankPlace C)). slice_get ps n) (sym none) ∙ at))
+  filled-at (first ∷ bank) places zero place callback (its, others, split, its_has, is, rest) at has =
+      let same : its ≡ place = some_is (ap (λ (ps : List (BankPlace C)). slice_get ps 0) (sym split) ∙ at) in
+      let one : first ≡ callback = some_is (sym its_has ∙ (ap (λ (p : BankPlace C). p.callback) same ∙ has)) in
+      ap (λ (ps : List (BankPlace C)). slice_get (told ps) 0) split ∙ (ap Some is ∙ ap (λ (x : C). Some (handler_made x)) one)
+  filled-at (first ∷ bank) places (suc n) place callback (its, others, split, its_has, is, rest) at has =
+      ap (λ (ps : List (BankPlace C)). slice_get (told ps) (suc n)) split
+      ∙ filled-at bank others n place callback rest (ap (λ (ps : List (BankPlace C)). slice_get ps (suc n)) (sym split) ∙ at) has
+
+  pub answers-opening : (bank : List C) (w : Whereabouts C) → AreFilled declared plan bank w.bank → w.lines ≡ lines.opening → AnswersAsTold declared plan w
+  answers-opening bank w filled nothing number callback (inl home) = filled-at bank w.bank number home.place callback filled home.at home.there
+  answers-opening bank w filled nothing number callback (inr out) =
+      absurd (nothing-opening out.stage out.line out.at (subst (λ (p : lines.Pipeline (Numbered C)). lines.installed_at p out.stage out.line ≡ Some out.at) nothing out.there))
+
+  pub state-opening : (board : Board) (bank : List C) (r : RecordsView C) → r.threads ≡ board.threads → r.counts ≡ board.sems.items
+      → AreFilled declared plan bank r.bank → r.lines ≡ lines.opening → state_of r ≡ opening board (map handler_made bank)
+  state-opening board bank r threads counts filled nothing =
+      let lines_are : renamed number_of r.lines ≡ lines.opening = ap (renamed number_of) nothing ∙ renamed-opening number_of in
+      (λ i. record { threads = threads i; sems = counts i; bank = banked-filled bank r.bank filled i; lines = lines_are i })
+
+  pub opened_records : (board : Board) (bank : List C) (r : RecordsView C) → r.threads ≡ board.threads → r.counts ≡ board.sems.items
+      → AreFilled declared plan bank r.bank → r.lines ≡ lines.opening → IsOpened declared plan board bank r
+  opened_records board bank r threads counts filled nothing = record { filled = filled; nothing_out = nothing; state = state-opening board bank r threads counts filled nothing }
+
+pub allowed-new : {C : Type 0} (r : RecordsView C) → r.lines ≡ lines.opening → AreAllowed (state_of r)
+allowed-new r nothing stage line at h =
+    absurd (nothing-opening stage line at (subst (λ (p : lines.Pipeline ℕ). lines.installed_at p stage line ≡ Some at) (ap (renamed number_of) nothing ∙ renamed-opening number_of) h))
+
+module _ {C : Type 0} (declared : C → ℕ) (plan : C → Plan) where
+  pub opening-told : (board : Board) (bank : List C) (r : RecordsView C) → IsOpened declared plan board bank r → opening board (told r.bank) ≡ opening board (map (handler_made declared plan) bank)
+  opening-told board bank r opened = ap (opening board) (told-filled declared plan bank r.bank opened.filled)

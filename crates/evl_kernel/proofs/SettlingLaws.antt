@@ -1,0 +1,75 @@
+-- A settling goes on by one play at a time, and ends where nothing is playable.
+use Rattle.std.proofs.Common.{◌≡◌, ℕ, ◌+◌, ◌≤◌, nat_lt, Bool, true, false, not, ◌&&◌, List, [], ◌∷◌, ◌++◌, length, Option, Some, None, is_some, is_none, if◌then◌else◌, refl, sym, ap, ◌∙◌, subst, append_assoc, arith, length-append}
+use Rattle.std.proofs.lemmas.List.{append-nil}
+use Rattle.std.specs.Option.{option_map}
+use Rattle.evl_base.specs.declared.stage.Stage.{Stage}
+use Rattle.evl_base.specs.declared.stage.Stage.TheVariants.{Inband, Oob}
+use Rattle.evl_base.specs.declared.play.Play.{Play}
+use Rattle.evl_pipeline.specs.declared.plan.Plan.{Plan}
+use Rattle.evl_pipeline.specs.NumberSet.{least}
+use Rattle.evl_pipeline.specs.Lines as lines
+use Rattle.evl_pipeline.proofs.NumberSetLaws.{length-rises}
+use Rattle.evl_kernel.specs.Paths.{Along}
+use Rattle.evl_kernel.specs.Settling.{Settling, Plays, next_play}
+use Rattle.evl_kernel.specs.Settled.{Appends, settling, left_to_play}
+use Rattle.evl_kernel.specs.Records.{RecordsView, state_of}
+use Rattle.evl_kernel.proofs.PlayLaws.{none_next}
+
+-- a path goes on by one
+pub along_more : {S P : Type 0} (next : S → Option (P × S)) (at : S) (outs : List P) (mid : S) (one : P) (end : S)
+    → Along next at outs mid → next mid ≡ Some (one, end) → Along next at (outs ++ one ∷ []) end
+along_more {S} next at [] mid one end same step = (end, subst (λ (s : S). next s ≡ Some (one, end)) same step, refl)
+along_more next at (first ∷ outs) mid one end (after, here, others) step = (after, here, along_more next after outs mid one end others step)
+
+-- the plays that were appended lead from one to the other
+pub record PlaysOn (start : Settling) (before : List Play) (end : Settling) (after : List Play) : Type 0 where
+  pub made : List Play
+  pub appended : after ≡ before ++ made
+  pub path : Plays start made end
+
+pub plays_on-none : (start : Settling) (before : List Play) → PlaysOn start before start before
+plays_on-none start before = record { made = []; appended = append_none; path = refl }
+  where
+    append_none : before ≡ before ++ []
+    append_none = sym (append-nil before)
+
+pub plays_on-more : (start : Settling) (before : List Play) (mid : Settling) (after : List Play) (one : Play) (end : Settling)
+    → PlaysOn start before mid after → next_play mid ≡ Some (one, end) → PlaysOn start before end (after ++ one ∷ [])
+plays_on-more start before mid after one end so next = record {
+  made = so.made ++ one ∷ [];
+  appended = ap (λ (ps : List Play). ps ++ one ∷ []) so.appended ∙ append_assoc before so.made (one ∷ []);
+  path = along_more next_play start so.made mid one end so.path next;
+}
+
+-- while the out-of-band stage is stalled, nothing is playable
+stalled_next : {X : Type 0} (p : lines.Pipeline X) (eligible inband : Bool) → p.oob.stalled ≡ true → lines.next_line p eligible inband ≡ None
+stalled_next p eligible inband stalled = rw stalled (by (least p.oob.pending) (is_some (least p.inband.pending)) p.inband.stalled)
+  where
+    by : (o : Option ℕ) (there held : Bool)
+        → (if is_some o && not true then option_map {U = Stage × ℕ} (λ line. (Oob, line)) o
+        else (if there && not held && not true && is_none o && not eligible && inband then option_map {U = Stage × ℕ} (λ line. (Inband, line)) (least p.inband.pending) else None)) ≡ None
+    by None false held = refl
+    by None true true = refl
+    by None true false = refl
+    by (Some n) false held = refl
+    by (Some n) true true = refl
+    by (Some n) true false = refl
+
+module _ {C : Type 0} where
+  -- where nothing is playable any more, it has settled
+  pub settled_now : (r s : RecordsView C) (inband : ℕ) (before after : List Play) → PlaysOn (settling r 0) before (settling s inband) after
+      → next_play (settling s inband) ≡ None → length after ≤ length before + 1344 → Appends before (state_of r) after (state_of s)
+  settled_now r s inband before after so ended few = record {
+    made = so.made;
+    appended = so.appended;
+    settles = record { last = settling s inband; played = so.path; ended = ended; left = refl };
+    few = omega (arith, few, ap (λ (ps : List Play). length ps) so.appended, length-append {A = Play} before so.made);
+  }
+
+  -- at most 1344 plays are left after a call
+  pub left_at_first : (r : RecordsView C) → lines.IsSoundPipeline r.lines → left_to_play r 0 ≤ 1344
+  left_at_first r sound = omega (arith, length-rises 0 1024 r.lines.oob.pending (sound.sides Oob).rises)
+
+  pub stalled_settles : (declared : C → ℕ) (plan : C → Plan) (r : RecordsView C) (before : List Play) → r.lines.oob.stalled ≡ true → Appends before (state_of r) before (state_of r)
+  stalled_settles declared plan r before stalled =
+      settled_now r r 0 before before (plays_on-none (settling r 0) before) (none_next declared plan r 0 (stalled_next r.lines false (nat_lt 0 64) stalled)) (omega arith)

@@ -1,0 +1,15 @@
+use Rattle.evl_kernel.proofs.StandingLaws.{old-posted}
+use Rattle.evl_kernel.proofs.CallbackLaws.{keeps-old, allowed-old}
+use Rattle.evl_kernel.specs.RecordsInside.{records_view}
+use Rattle.evl_kernel.proofs.records.Records.post.Goals as goal
+
+pub invariant_of-self-2 : goal.invariant_of-self-2
+invariant_of-self-2 g c = record {
+  allowed = allowed-old (records_view c.self.inside)
+      c.post.new.self (rw c.in_ok-post.ensures.ok.1 (old-posted c.self.inside.pipeline c.args.stage c.args.line.0)) c.self.invariant.allowed;
+}
+
+pub returns-clause-stands : goal.returns-clause-stands
+returns-clause-stands g c = rw (← c.self.view_is)
+    (keeps-old (records_view c.self.inside)
+    c.post.new.self (rw c.in_ok-post.ensures.ok.1 (old-posted c.self.inside.pipeline c.args.stage c.args.line.0)))

@@ -1,0 +1,18 @@
+use Rattle.std.proofs.Common.{◌+◌, ◌≤◌, vec_len, vec_capacity}
+use Rattle.evl_kernel.specs.Settled.{settling, left_to_play}
+use Rattle.evl_kernel.specs.Records.{KeepsCallbacks}
+use Rattle.evl_kernel.proofs.SettlingLaws.{PlaysOn}
+use Rattle.evl_kernel.proofs.records.Records.settle.Given as goal
+
+abbrev pub invariant-loop-play : goal.invariant-loop-play
+invariant-loop-play g l = record {
+  path : PlaysOn (settling l.fn.self 0) l.fn.plays.items (settling l.self l.inband) l.plays.items;
+  room : vec_len l.plays + left_to_play l.self l.inband ≤ vec_capacity l.plays;
+  few : vec_len l.plays + left_to_play l.self l.inband ≤ vec_len l.fn.plays + 1344;
+  capacity : vec_capacity l.fn.plays ≤ vec_capacity l.plays;
+  inband : l.inband ≤ 64;
+  stands : KeepsCallbacks l.fn.self l.self;
+}
+
+abbrev pub decreases-loop-play : goal.decreases-loop-play
+decreases-loop-play g l = left_to_play l.self l.inband

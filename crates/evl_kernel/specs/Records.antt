@@ -1,0 +1,56 @@
+-- The kernel's records as contracts see them, and what they mean.
+use Rattle.std.specs.Prelude.{◌≡◌, ℕ, true, List, map, Some, is_some, slice_get}
+use Rattle.std.specs.Option.{option_map_or}
+use Rattle.evl_base.specs.declared.board.Board.{Board}
+use Rattle.evl_base.specs.declared.stage.Stage.{Stage}
+use Rattle.evl_pipeline.specs.declared.plan.Plan.{Plan}
+use Rattle.evl_pipeline.specs.Plans.{is_allowed}
+use Rattle.evl_pipeline.specs.Lines as lines
+use Rattle.evl_kernel.specs.declared.bank.BankPlace.{BankPlace}
+use Rattle.evl_kernel.specs.declared.bank.Numbered.{Numbered}
+use Rattle.evl_kernel.specs.States.{State, Banked}
+use Rattle.evl_kernel.specs.Renamed.{renamed}
+use Rattle.evl_kernel.specs.Openings.{opening}
+use Rattle.evl_kernel.specs.Callbacks.{Whereabouts, handler_of, told, BringsNone, AreFilled}
+
+pub record RecordsView (C : Type 0) : Type 0 where
+  pub threads : ℕ
+  pub counts : List ℕ
+  pub bank : List (BankPlace C)
+  pub lines : lines.Pipeline (Numbered C)
+
+module _ {C : Type 0} where
+  abbrev pub banked : BankPlace C → Banked
+  banked place = record { handler = handler_of place; home = is_some place.callback }
+
+  abbrev pub number_of : Numbered C → ℕ
+  number_of numbered = numbered.number
+
+  -- what the records mean
+  abbrev pub state_of : RecordsView C → State
+  state_of r = record { threads = r.threads; sems = r.counts; bank = map banked r.bank; lines = renamed number_of r.lines }
+
+  abbrev pub whereabouts : RecordsView C → Whereabouts C
+  whereabouts r = record { bank = r.bank; lines = r.lines }
+
+-- the kinds that the callback of this number declares
+abbrev pub kinds_at : State → ℕ → ℕ
+kinds_at s number = option_map_or (λ b. b.handler.kinds) (slice_get s.bank number) 0
+
+-- each callback on a line declares only kinds that are allowed there
+abbrev pub AreAllowed : State → Type 0
+AreAllowed s = (stage : Stage) (line : ℕ) (at : lines.Installed ℕ) → lines.installed_at s.lines stage line ≡ Some at → is_allowed stage (kinds_at s at.callback) ≡ true
+
+pub record IsSound {C : Type 0} (r : RecordsView C) : Type 0 where
+  pub allowed : AreAllowed (state_of r)
+
+-- the records of a new kernel
+pub record IsOpened {C : Type 0} (declared : C → ℕ) (plan : C → Plan) (board : Board) (bank : List C) (r : RecordsView C) : Type 0 where
+  pub filled : AreFilled declared plan bank r.bank
+  pub nothing_out : r.lines ≡ lines.opening
+  pub state : state_of r ≡ opening board (map (λ callback. record { kinds = declared callback; plan = plan callback }) bank)
+
+-- no callback came, and what is told of the places is the same
+pub record KeepsCallbacks {C : Type 0} (old new : RecordsView C) : Type 0 where
+  pub brings : BringsNone (whereabouts old) (whereabouts new)
+  pub told_is : told new.bank ≡ told old.bank

@@ -1,0 +1,14 @@
+-- The same lines, with other names for what stands on them.
+use Rattle.std.specs.Prelude.{map}
+use Rattle.std.specs.Option.{option_map}
+use Rattle.evl_pipeline.specs.Lines.{Pipeline, Side, Installed}
+
+module _ {X Y : Type 0} where
+  abbrev pub named : (X → Y) → Installed X → Installed Y
+  named name at = record { callback = name at.callback; tag = at.tag; count = at.count }
+
+  abbrev pub renamed_side : (X → Y) → Side X → Side Y
+  renamed_side name s = record { stalled = s.stalled; pending = s.pending; installed = map (option_map (named name)) s.installed; unhandled = s.unhandled }
+
+  abbrev pub renamed : (X → Y) → Pipeline X → Pipeline Y
+  renamed name p = record { oob = renamed_side name p.oob; inband = renamed_side name p.inband; spurious = p.spurious }

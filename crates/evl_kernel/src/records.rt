@@ -1,0 +1,119 @@
+//! The kernel's records: what its calls read and change, apart from its history.
+ghost use Rattle.std.specs.Prelude.{◌≡◌, ℕ, IfOk, IfErr, map};
+ghost use Rattle.evl_pipeline.specs.Counts.{count_at};
+ghost use Rattle.evl_pipeline.specs.Lines.{is_pending, side};
+ghost use Rattle.evl_kernel.specs.Callbacks.{AreFilled};
+ghost use Rattle.evl_kernel.specs.Records.{IsOpened};
+
+mod line_calls;
+mod semaphores;
+mod serving;
+mod settling;
+
+use crate::bank::{BankPlace, Numbered};
+use evl_base::{Board, LineNo, Refusal, Stage};
+use evl_pipeline::{Handler, PipelineOf};
+use std::alloc::Allocator;
+use std::marker::Model;
+use std::snapshot::Snapshot;
+
+/// The elements of a board and the callbacks of a bank at one moment.
+#[derive(Drop)]
+pub(crate) struct Records<C, A: Allocator> {
+    threads: u16,
+    counts: Vec<u32, A>,
+    bank: Vec<BankPlace<C>, A>,
+    pipeline: PipelineOf<Numbered<C>, A>,
+}
+
+impl<C, A: Allocator> Model for Records<C, A> {
+    ghost use Rattle.evl_kernel.specs.Records.{RecordsView};
+    ghost use Rattle.evl_kernel.specs.RecordsInside.{RecordsAreSound, records_view};
+
+    ghost Value = { RecordsView C };
+
+    ghost view = { records_view };
+
+    ghost invariant = { RecordsAreSound };
+}
+
+impl<C: Handler, A: Allocator> Records<C, A> {
+    /// The records of a board, with every callback in its bank place. `NoMemory` where room was refused.
+    pub(crate) fn new(alloc: A, board: &Board, bank: Vec<C, A>) -> Result<Records<C, A>, Refusal>
+    where
+        A: Clone,
+        ensures opened { IfOk result (λ r. IsOpened C.declared C.plan board.now bank.items r) }
+        ensures refusal { IfErr result (λ e. e ≡ Refusal.NoMemory) }
+    {
+        let for_counts = alloc.clone().map_err(|_| Refusal::NoMemory)?;
+        let for_bank = alloc.clone().map_err(|_| Refusal::NoMemory)?;
+        let counts = opening_counts(for_counts, board)?;
+        let bank = placed(for_bank, bank)?;
+        let pipeline = PipelineOf::new(alloc).map_err(|_| Refusal::NoMemory)?;
+        Ok(Records {
+            threads: board.threads,
+            counts,
+            bank,
+            pipeline,
+        })
+    }
+}
+
+/// The opening count of each semaphore.
+fn opening_counts<A: Allocator>(alloc: A, board: &Board) -> Result<Vec<u32, A>, Refusal>
+    ensures counts { IfOk result (λ counts. counts.items ≡ board.now.sems.items) }
+    ensures refusal { IfErr result (λ e. e ≡ Refusal.NoMemory) }
+{
+    Vec::from_slice(alloc, board.sems.as_slice()).map_err(|_| Refusal::NoMemory)
+}
+
+/// Every callback in its bank place.
+#[tactic(auto, using(crate::proofs::CallbackLaws::filled_more))]
+fn placed<C: Handler, A: Allocator>(
+    alloc: A,
+    bank: Vec<C, A>,
+) -> Result<Vec<BankPlace<C>, A>, Refusal>
+    ensures places { IfOk result (λ places. AreFilled C.declared C.plan bank.items places.items) }
+    ensures refusal { IfErr result (λ e. e ≡ Refusal.NoMemory) }
+{
+    let mut places = Vec::new(alloc);
+    for callback in bank {
+        let place = BankPlace {
+            kinds: callback.kinds(),
+            plan: Snapshot::of(callback.told()),
+            callback: Some(callback),
+        };
+        places.push(place).map_err(|_| Refusal::NoMemory)?;
+    }
+    Ok(places)
+}
+
+impl<C, A: Allocator> Records<C, A> {
+    /// Whether an event of the line is pending on the stage.
+    pub(crate) fn is_pending(&self, stage: Stage, line: LineNo) -> bool
+        ensures pending { result ≡ is_pending self.now.lines stage line.0 }
+    {
+        self.pipeline.is_pending(stage, line)
+    }
+
+    /// Whether the stage is stalled.
+    pub(crate) fn is_stalled(&self, stage: Stage) -> bool
+        ensures stalled { result ≡ (side self.now.lines stage).stalled }
+    {
+        self.pipeline.is_stalled(stage)
+    }
+
+    /// How many events came on the line where no callback stood for them.
+    pub(crate) fn spurious(&self, line: LineNo) -> u64
+        ensures count { result ≡ count_at self.now.lines.spurious line.0 }
+    {
+        self.pipeline.spurious(line)
+    }
+
+    /// How many answers of the callbacks on the line of this stage were unhandled.
+    pub(crate) fn unhandled(&self, line: LineNo, stage: Stage) -> u64
+        ensures count { result ≡ count_at (side self.now.lines stage).unhandled line.0 }
+    {
+        self.pipeline.unhandled(line, stage)
+    }
+}

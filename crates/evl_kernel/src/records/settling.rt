@@ -1,0 +1,113 @@
+//! Settling: one play after another until nothing is playable.
+ghost use Rattle.std.specs.Prelude.{◌≡◌, ◌+◌, ◌≤◌, ◌<◌, ◌*◌, ◌-◌, None, Some, IfSome, IfNone, length, vec_len, vec_capacity};
+ghost use Rattle.evl_kernel.specs.Callbacks.{AnswersAsTold};
+ghost use Rattle.evl_kernel.specs.Records.{KeepsCallbacks, state_of, whereabouts};
+ghost use Rattle.evl_kernel.specs.Settling.{acted, all_acted, answered, next_play, one_inband};
+ghost use Rattle.evl_kernel.specs.Settled.{Appends, left_to_play, settling, stage_of};
+
+use super::Records;
+use evl_base::{LineNo, Play, Stage};
+use evl_pipeline::{Action, Answer, Handler, Ran};
+use std::alloc::Allocator;
+
+/// The most in-band plays of one call.
+const MAX_INBAND: u8 = 64;
+
+impl<C, A: Allocator> Records<C, A> {
+    /// Carries out one action of a callback on a line: what its call does, and nothing where that would be refused.
+    fn act(&mut self, line: LineNo, action: Action)
+        ensures acted { state_of self.new ≡ acted (state_of self.old) line.0 action }
+        ensures stands { KeepsCallbacks self.old self.new }
+    {
+        match action {
+            Action::PostSem(sem) => {
+                let _ = self.put(sem);
+            }
+            Action::Propagate => {
+                let _ = self.post(Stage::Inband, line);
+            }
+            Action::PostOob(other) => {
+                let _ = self.post(Stage::Oob, other);
+            }
+            Action::PostFlags(_, _) | Action::StopTimer(_) => {}
+        }
+    }
+
+    /// Carries out the actions of an answer, in order.
+    fn carry_out(&mut self, line: LineNo, actions: &[Action])
+        ensures acted { state_of self.new ≡ all_acted (state_of self.old) line.0 actions.now }
+        ensures stands { KeepsCallbacks self.old self.new }
+    {
+        for action in actions {
+            self.act(line, *action);
+        }
+    }
+
+    /// Carries out what a callback on a line answered; nothing where it didn't handle its fire.
+    fn respond(&mut self, line: LineNo, answer: &Answer)
+        ensures answered { state_of self.new ≡ answered (state_of self.old) line.0 answer.now }
+        ensures stands { KeepsCallbacks self.old self.new }
+    {
+        if answer.handled {
+            self.carry_out(line, answer.actions.as_slice());
+        }
+    }
+}
+
+impl<C: Handler, A: Allocator> Records<C, A> {
+    /// Plays what is next after so many in-band plays of this call, if something is playable.
+    fn play_next(&mut self, inband: u8) -> Option<Play>
+        requires answering { AnswersAsTold C.declared C.plan (whereabouts self.old) }
+        requires few { inband ≤ 64 }
+        ensures played { IfSome result (λ play. next_play (settling self.old inband) ≡ Some (play, settling self.new (inband + one_inband (stage_of play)))) }
+        ensures nearer { IfSome result (λ play. left_to_play self.new (inband + one_inband (stage_of play)) < left_to_play self.old inband) }
+        ensures few { IfSome result (λ play. inband + one_inband (stage_of play) ≤ 64) }
+        ensures ended { IfNone result ((next_play (settling self.old inband) ≡ None) × (self.new ≡ self.old)) }
+        ensures stands { KeepsCallbacks self.old self.new }
+    {
+        match self.pipeline.next(false, inband < MAX_INBAND, 0) {
+            None => None,
+            Some(Ran::Clock) => Some(Play::Clock),
+            Some(Ran::Line { fire, answer }) => {
+                self.respond(fire.line, &answer);
+                Some(Play::Line {
+                    line: fire.line,
+                    stage: fire.stage,
+                    count: fire.count,
+                    handled: answer.handled,
+                })
+            }
+        }
+    }
+
+    /// Plays until nothing is playable, and appends the plays. A stalled out-of-band stage holds both stages back.
+    pub(super) fn settle<B: Allocator>(&mut self, plays: &mut Vec<Play, B>)
+        requires answering { AnswersAsTold C.declared C.plan (whereabouts self.old) }
+        requires room { vec_len plays.old + 1472 ≤ vec_capacity plays.old }
+        ensures settled { Appends plays.old.items (state_of self.old) plays.new.items (state_of self.new) }
+        ensures capacity { vec_capacity plays.old ≤ vec_capacity plays.new }
+        ensures stands { KeepsCallbacks self.old self.new }
+    {
+        if self.pipeline.is_stalled(Stage::Oob) {
+            return;
+        }
+        let mut inband = 0;
+        while let Some(play) = self.play_next(inband) {
+            inband += counted_inband(&play);
+            plays.push(play).unwrap();
+        }
+    }
+}
+
+/// Whether a play is an in-band one, as a number.
+fn counted_inband(play: &Play) -> u8
+    ensures { result ≡ one_inband (stage_of play.now) }
+{
+    match play {
+        Play::Line {
+            stage: Stage::Inband,
+            ..
+        } => 1,
+        _ => 0,
+    }
+}
