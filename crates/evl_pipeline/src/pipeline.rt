@@ -85,12 +85,7 @@ impl<C, A: Allocator> PipelineOf<C, A> {
     /// Why `request` would refuse a callback that declares `kinds`, if it would: the first that applies of `Unknown` for a
     /// line above 1023, `Invalid` for line 0 and for a kind that isn't allowed on the stage, and `Busy` where a callback
     /// stands there (this profile).
-    pub fn request_refusal(
-        &self,
-        line: LineNo,
-        stage: Stage,
-        kinds: ActionKinds,
-    ) -> Option<Refusal>
+    pub fn request_refusal(&self, line: LineNo, stage: Stage, kinds: ActionKinds) -> Option<Refusal>
         ensures refusal { result ≡ request_refusal self.now line.0 stage kinds.0 }
     {
         if line.0 >= 1024 {

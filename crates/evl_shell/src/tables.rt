@@ -32,10 +32,10 @@ pub fn at<T: FromToml>(table: &Table, key: &str) -> Option<T>
 pub fn at_or<T: FromToml + Drop>(table: &Table, key: &str, default: T) -> Option<T>
     ensures { result ≡ value_or T.gives default (get_member key.now (table_view table.now)) }
 {
-    match field(table, key) {
-        Some(value) => T::from_toml(value),
-        None => Some(default),
-    }
+    let Some(value) = field(table, key) else {
+        return Some(default);
+    };
+    T::from_toml(value)
 }
 
 /// The text at a key that is required.

@@ -1,8 +1,5 @@
-use Rattle.std.proofs.Common.{rules, ◌≡◌, List, [], ◌∷◌, subst, sym, ap, ◌∙◌}
+use Rattle.std.proofs.Common.{◌≡◌, List, [], ◌∷◌, subst, ap, ◌∙◌}
 use Rattle.evl_base.specs.declared.action_kinds.ActionKinds.{ActionKinds}
-use Rattle.evl_pipeline.specs.declared.answer.Answer.{Answer}
-use Rattle.evl_pipeline.specs.declared.plan.Plan.{Plan}
-use Rattle.evl_pipeline.specs.Plans.{answer_of}
 use Rattle.evl_kernel.specs.States.{Handler}
 use Rattle.evl_shell.specs.Bank.{program_bank}
 use Rattle.evl_shell.specs.Plays.{Plays}
