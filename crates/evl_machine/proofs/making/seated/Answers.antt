@@ -1,0 +1,16 @@
+use Rattle.std.proofs.Common.{rules, ◌≡◌, [], ◌∷◌, Some, sym, ap, ◌∙◌, subst}
+use Rattle.evl_kernel.specs.Histories.{IsLegal}
+use Rattle.evl_kernel.specs.KernelViews.{KernelView}
+use Rattle.evl_machine.proofs.Seating.{opens_as}
+use Rattle.evl_machine.proofs.making.seated.Goals as goal
+
+pub new-requires : goal.new-requires
+new-requires g c = opens_as c.args.kernel _ _ c.of-key.ensures (search rules) c.requires.new.0 c.requires.new.1
+
+pub seat_callers-requires-clause-new : goal.seat_callers-requires-clause-new
+seat_callers-requires-clause-new g c =
+    let same = ap (λ key. key.value) c.in-Ok.ensures.ok.5 ∙ c.of-key.ensures in
+    subst (λ (k : KernelView _). IsLegal k.history × (k.history.entries ≡ [])) (sym same) c.requires.new
+
+pub returns-clause-first : goal.returns-clause-first
+returns-clause-first g c = ap (λ key. key.value) c.in-Ok.ensures.ok.5 ∙ c.of-key.ensures

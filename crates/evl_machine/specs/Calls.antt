@@ -1,0 +1,93 @@
+-- What one call of the kernel tells its caller.
+use Rattle.std.specs.Prelude.{◌≡◌, ℕ, List, [], ◌∷◌, ◌++◌, Bool, true, false, length, map, Result, Ok, Err, None}
+use Rattle.evl_base.specs.declared.numbers.ThreadId.{ThreadId}
+use Rattle.evl_base.specs.declared.call.Call.{Call}
+use Rattle.evl_base.specs.declared.reply.Reply.{Reply}
+use Rattle.evl_base.specs.declared.refusal.Refusal.{Refusal}
+use Rattle.evl_base.specs.declared.refusal.Refusal.TheVariants.{CoreBusy, HistoryFull}
+use Rattle.evl_base.specs.declared.play.Play.{Play}
+use Rattle.evl_kernel.specs.Histories.{History, IsLegal}
+use Rattle.evl_kernel.specs.KernelViews.{KernelView, IsKernelAnswer, Adds, entry_of, makes_entry, refusal_enters}
+use Rattle.evl_machine.specs.declared.views.Account.{Account}
+use Rattle.evl_machine.specs.declared.views.Known.{Known}
+use Rattle.evl_machine.specs.Nothing.{no_kernel}
+use Rattle.evl_machine.specs.Accounts.{BeginsWith, calls_by, saw}
+use Rattle.evl_machine.specs.CoreRule.{CoreMe, view}
+use Rattle.evl_machine.specs.Known.{ComesFrom, knows}
+use Rattle.evl_machine.specs.Handles.{CallerState, HeldState, Continues, account_of, first_account, seated, holding}
+
+-- a call of the kernel adds just its entry, or leaves the history
+pub record Applied {C : Type 0} (old : KernelView C) (thread : ℕ) (c : Call) (r : Result Reply Refusal) (new : KernelView C) : Type 0 where
+  pub entered : makes_entry r ≡ true → (plays : List Play) × Adds old.history thread c r plays new.history
+  pub refused : makes_entry r ≡ false → new.history ≡ old.history
+  pub full : r ≡ Err HistoryFull → length old.history.entries ≡ old.limit
+  pub answers : IsKernelAnswer r
+  pub comes : ComesFrom old new
+  pub legal : IsLegal new.history
+
+-- what holds of each caller: it has seen a legal history, in which its own calls are just those that it made
+pub record IsAccount (a : Account) : Type 0 where
+  pub legal : IsLegal a.seen
+  pub mine : calls_by a.thread a.seen.entries ≡ a.mine
+
+-- a caller's seat is at rest, with the account of its own thread
+pub record IsCaller {S : Type 0} (me : CoreMe S) (thread : ThreadId) : Type 0 where
+  pub rests : me ≡ seated (account_of me)
+  pub own : (account_of me).thread ≡ thread.0
+  pub account : IsAccount (account_of me)
+
+module _ {C : Type 0} where
+  abbrev pub account_in : List (Known C) → Account
+  account_in [] = first_account []
+  account_in (v ∷ vs) = first_account v.view.accounts
+
+  abbrev pub first_in : List (Known C) → KernelView C
+  first_in [] = no_kernel
+  first_in (v ∷ vs) = v.first
+
+-- a caller's badge is at rest, with the account of its own thread
+pub record IsAtRest {C : Type 0} (views : List (Known C)) (thread : ThreadId) : Type 0 where
+  pub rests : views ≡ knows (view None (account_in views ∷ [])) (first_in views) ∷ []
+  pub own : (account_in views).thread ≡ thread.0
+  pub account : IsAccount (account_in views)
+
+-- the answers that have an entry: all but NoMemory, HistoryFull and CoreBusy
+abbrev pub refusal_completes : Refusal → Bool
+refusal_completes CoreBusy = false
+refusal_completes refusal = refusal_enters refusal
+
+abbrev pub completes : Result Reply Refusal → Bool
+completes (Ok reply) = true
+completes (Err refusal) = refusal_completes refusal
+
+-- The call was entered at one point of the common history, after all that the caller had seen. The history that it has now seen ends there, and of its own calls this one alone is new
+pub record Enters (a : Account) (c : Call) (r : Result Reply Refusal) (a' : Account) : Type 0 where
+  pub before : History
+  pub later : BeginsWith before a.seen
+  pub plays : List Play
+  pub adds : Adds before a.thread c r plays a'.seen
+  pub mine : a'.mine ≡ a.mine ++ entry_of a.thread c r plays ∷ []
+
+-- The answer is the kernel's at one point of the common history, which is legal and begins with all that the caller had seen. A refusal without an entry leaves the caller's own calls, and CoreBusy all that it knows
+pub record Called (limit : ℕ) (a : Account) (c : Call) (r : Result Reply Refusal) (a' : Account) : Type 0 where
+  pub thread : a'.thread ≡ a.thread
+  pub account : IsAccount a'
+  pub later : BeginsWith a'.seen a.seen
+  pub entered : completes r ≡ true → Enters a c r a'
+  pub refused : completes r ≡ false → a'.mine ≡ a.mine
+  pub busy : r ≡ Err CoreBusy → a' ≡ a
+  pub full : r ≡ Err HistoryFull → length a'.seen.entries ≡ limit
+
+-- a seat has the kernel, which goes on from the history that it took by calls of the seat's one caller
+pub record IsHeld {S : Type 0} {C : Type 0} (me : CoreMe S) (thread : ThreadId) (k : KernelView C) : Type 0 where
+  pub holds : me ≡ holding (account_of me)
+  pub own : (account_of me).thread ≡ thread.0
+  pub continues : Continues (account_of me) k.history
+
+-- the kernel's history is what the caller has now seen. It is legal, and it begins with all that the caller had seen; of this thread it has just the caller's own calls
+pub record TookKernel {C : Type 0} (c : CallerState C) (h : HeldState C) : Type 0 where
+  pub machine : h.machine ≡ c.machine
+  pub account : h.account ≡ saw h.kernel.history c.account
+  pub later : BeginsWith h.kernel.history c.account.seen
+  pub just : IsAccount h.account
+  pub comes : ComesFrom c.machine.first h.kernel

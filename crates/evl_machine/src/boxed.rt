@@ -1,0 +1,111 @@
+//! The machine of stored callbacks. These types have no `Model`, since they name the callbacks' type; each keeps, as a
+//! fact, that the callbacks answer what is told of them.
+ghost use Rattle.std.specs.Prelude.{◌≡◌, ◌≢◌, ◌⊎◌, ◌↔◌, false, length, IfOk, IfErr, MatchResult};
+ghost use Rattle.evl_kernel.specs.Callbacks.{AnswersAsTold};
+ghost use Rattle.evl_kernel.specs.KernelViews.{IsOpened};
+ghost use Rattle.evl_kernel.specs.Openings.{can_open};
+ghost use Rattle.evl_machine.specs.Accounts.{informed};
+ghost use Rattle.evl_machine.specs.Handles.{newcomers_of};
+ghost use Rattle.evl_machine.specs.Calls.{Applied, Called, TookKernel};
+
+use crate::caller::CallerOf;
+use crate::held::HeldOf;
+use crate::machine::MachineOf;
+use evl_base::{Board, Call, Refusal, Reply};
+use evl_kernel::Kernel;
+use evl_pipeline::Callback;
+use std::alloc::Global;
+
+/// A caller of a machine of stored callbacks.
+pub type Caller = CallerOf<Callback>;
+
+type MachineCore = MachineOf<Callback, Global>;
+
+type HeldCore<'a> = HeldOf<'a, Callback, Global>;
+
+/// The kernel of stored callbacks behind the core's lock, shared by callers on host threads (this profile).
+#[derive(Drop)]
+pub struct Machine {
+    pub of: MachineCore,
+    ghost answering: { AnswersAsTold (λ c. c.kinds.0) (λ c. c.plan.value) of.first.callbacks },
+}
+
+/// A caller that has the kernel (this profile). Where it is dropped without `give`, the core stays taken.
+#[derive(Drop)]
+pub struct Held<'a> {
+    pub of: HeldCore<'a>,
+    ghost answering: { AnswersAsTold (λ c. c.kinds.0) (λ c. c.plan.value) of.machine.first.callbacks },
+}
+
+impl Machine {
+    /// A machine with a new kernel of this board, bank and limit, and a caller for each thread of the board, in the
+    /// threads' order.
+    ///
+    /// `Range` exactly where a number of the board is outside its limits, the bank has more than 64 callbacks, or
+    /// `limit` is outside 1 to 1,000,000; `NoMemory` where room for the elements, the core or the callers was refused.
+    /// The bank is then dropped (this profile).
+    pub fn new(
+        alloc: Global,
+        board: Board,
+        bank: Vec<Callback>,
+        limit: u32,
+    ) -> Result<(Machine, Vec<Caller>), Refusal>
+        ensures opened { IfOk result (λ m. IsOpened (λ c. c.kinds.0) (λ c. c.plan.value) board bank.items limit m.0.of.first) }
+        ensures callers { IfOk result (λ m. m.1.items ≡ newcomers_of m.0.of board.threads) }
+        ensures range { (result ≡ Err Refusal.Range) ↔ (can_open board (length bank.items) limit ≡ false) }
+        ensures refusals { IfErr result (λ e. (e ≡ Refusal.Range) ⊎ (e ≡ Refusal.NoMemory)) }
+    {
+        let (of, callers) = MachineOf::new(alloc, board, bank, limit)?;
+        Ok((Machine { of }, callers))
+    }
+
+    /// One call of the kernel, by the host thread that makes it.
+    ///
+    /// `CoreBusy` only where another caller has the kernel; every other answer is the kernel's, of which `NoMemory` and
+    /// `HistoryFull` make no entry (this profile).
+    pub fn try_call(&self, caller: &mut Caller, call: Call) -> Result<Reply, Refusal>
+        requires { caller.old.machine ≡ self.now.of }
+        ensures machine { caller.new.machine ≡ caller.old.machine }
+        ensures called { Called self.now.of.first.limit caller.old.account call result caller.new.account }
+    {
+        self.of.try_call(caller, call)
+    }
+
+    /// Takes the kernel for as long as the caller likes. The caller comes back only where another has it (this profile).
+    pub fn take(&self, caller: Caller) -> Result<Held<'_>, Caller>
+        requires { caller.machine ≡ self.now.of }
+        ensures { MatchResult result (λ h. TookKernel caller h.of) (λ c. c ≡ caller) }
+    {
+        match self.of.take(caller) {
+            Ok(of) => Ok(Held { of }),
+            Err(caller) => Err(caller),
+        }
+    }
+}
+
+impl<'a> Held<'a> {
+    /// One call of the kernel, which is entered among all callers' calls when the kernel is given back.
+    ///
+    /// Each answer is the kernel's, of which `NoMemory` and `HistoryFull` make no entry (this profile).
+    pub fn apply(&mut self, call: Call) -> Result<Reply, Refusal>
+        ensures same { (self.new.of.machine ≡ self.old.of.machine) × (self.new.of.account ≡ self.old.of.account) }
+        ensures applied { Applied self.old.of.kernel self.old.of.account.thread call result self.new.of.kernel }
+    {
+        self.of.apply(call)
+    }
+
+    /// The kernel, to be read (this profile).
+    pub fn kernel(&self) -> &Kernel
+        ensures { result.now ≡ self.now.of.kernel }
+    {
+        self.of.kernel()
+    }
+
+    /// Puts the kernel back. The caller has then seen its history (this profile).
+    pub fn give(self) -> Caller
+        ensures { result ≡ record { machine = self.entry.of.machine; account = informed self.entry.of.kernel.history self.entry.of.account } }
+    {
+        let Held { of } = self;
+        of.give()
+    }
+}

@@ -1,0 +1,16 @@
+//! Laws of the core. Each is the contract of a function without a body.
+ghost use Rattle.std.specs.Prelude.{◌≡◌, [], List};
+ghost use Rattle.evl_kernel.specs.Histories.{History, IsLegal};
+ghost use Rattle.evl_words.specs.Machine.{Run};
+ghost use Rattle.evl_machine.specs.CoreWorld.{CoreWorld, CoreEvent, CoreHappens, IsCoreWorld, opening_world};
+
+/// What holds of the core's word and slot, and of what its seats know, holds after any list of their atomic steps (this
+/// profile).
+pub fn core_events_keep_order()
+    ensures { (w t : CoreWorld) (events : List CoreEvent) → IsCoreWorld w → Run CoreHappens w events t → IsCoreWorld t }
+{}
+
+/// From the opening on it holds after any list of atomic steps (this profile).
+pub fn core_world_stands()
+    ensures { (h : History) → IsLegal h → h.entries ≡ [] → (t : CoreWorld) (events : List CoreEvent) → Run CoreHappens (opening_world h) events t → IsCoreWorld t }
+{}

@@ -1,0 +1,21 @@
+//! The machine: the kernel in a lock of one word and one slot, and the callers that take it in turn.
+#![tactic(auto)]
+
+mod boxed;
+mod caller;
+mod core_lock;
+mod held;
+pub mod laws;
+mod machine;
+mod making;
+#[cfg(test)]
+mod tests;
+mod views;
+mod waiting;
+
+pub use boxed::{Caller, Held, Machine};
+pub use caller::CallerOf;
+pub use core_lock::{CoreLock, CoreRule, CoreSeat};
+pub use held::HeldOf;
+pub use machine::MachineOf;
+pub use views::{Account, CoreView, Known, Made, Past};

@@ -1,0 +1,106 @@
+//! The machine: the kernel behind the core's lock.
+ghost use Rattle.std.specs.Prelude.{◌≡◌, MatchOption};
+ghost use Rattle.evl_kernel.specs.Callbacks.{AnswersAsTold};
+ghost use Rattle.evl_machine.specs.Accounts.{informed};
+ghost use Rattle.evl_machine.specs.Known.{ComesFrom, first_of, past_of, seen};
+ghost use Rattle.evl_machine.specs.Handles.{Continues, Taken, account_of, holding, seated};
+ghost use Rattle.evl_machine.specs.Calls.{Called, IsCaller};
+
+use crate::caller::{CallerOf, badge_of, seat_of};
+use crate::core_lock::{CoreLock, CoreSeat, Give, Take};
+use atomic_table::Badge;
+use evl_base::{Call, Refusal, Reply, ThreadId};
+use evl_kernel::KernelOf;
+use evl_pipeline::Handler;
+use std::alloc::Allocator;
+use std::marker::Model;
+use std::mem;
+
+/// The kernel, in a lock of one word and one slot (this profile). To a contract it is its table, and the kernel as it
+/// was made.
+#[derive(Drop)]
+pub struct MachineOf<C: Drop, A: Allocator> {
+    pub(crate) core: CoreLock<C, A>,
+}
+
+impl<C: Drop, A: Allocator> Model for MachineOf<C, A> {
+    ghost use Rattle.std.specs.Prelude.{◌≡◌};
+    ghost use Rattle.evl_machine.specs.Handles.{MachineState};
+
+    ghost Value = { MachineState C };
+
+    ghost view = { λ m. record { id = m.core.shared.table_id; first = m.core.shared.key.value } };
+
+    ghost invariant = { λ m. (m.core.shared.table_id.words ≡ 1) × (m.core.shared.table_id.slots ≡ 1) };
+}
+
+impl<C: Drop, A: Allocator> MachineOf<C, A> {
+    /// Takes the kernel out of the slot, unless a seat has it.
+    pub(crate) fn take_kernel(&self, seat: &mut CoreSeat<C, A>) -> Option<KernelOf<C, A>>
+        requires { (seat.old.table_id ≡ self.now.id) × (seen seat.old.me ≡ seated (account_of (seen seat.old.me))) }
+        ensures same { (seat.new.table_id ≡ seat.old.table_id) × (seat.new.id ≡ seat.old.id) × (first_of seat.new.me.0 ≡ first_of seat.old.me.0) }
+        ensures taken { MatchOption result (seen seat.new.me ≡ seen seat.old.me) (λ k. Taken past_of (seen seat.old.me) k (seen seat.new.me) × ComesFrom (first_of seat.old.me.0) k) }
+    {
+        let table = &self.core.shared;
+        if table.compare_exchange::<Take>(seat, 0, 0, 1) != 0 {
+            return None;
+        }
+        table.exchange(seat, 0, None)
+    }
+
+    /// Puts the kernel back. It goes on from the one that was taken, by calls of the seat's one caller.
+    pub(crate) fn give_kernel(&self, seat: &mut CoreSeat<C, A>, kernel: KernelOf<C, A>)
+        requires machine { seat.old.table_id ≡ self.now.id }
+        requires comes { ComesFrom (first_of seat.old.me.0) kernel }
+        requires kernel { (seen seat.old.me ≡ holding (account_of (seen seat.old.me))) × Continues (account_of (seen seat.old.me)) kernel.history }
+        ensures same { (seat.new.table_id ≡ seat.old.table_id) × (seat.new.id ≡ seat.old.id) × (first_of seat.new.me.0 ≡ first_of seat.old.me.0) }
+        ensures given { seen seat.new.me ≡ seated (informed kernel.history (account_of (seen seat.old.me))) }
+    {
+        let table = &self.core.shared;
+        match table.exchange(seat, 0, Some(kernel)) {
+            None => {}
+            Some(_) => unreachable!(),
+        }
+        table.store::<Give>(seat, 0, 0);
+    }
+}
+
+impl<C: Handler, A: Allocator> MachineOf<C, A> {
+    /// One call of the kernel at a seat, or `CoreBusy` where another seat has it.
+    fn call_with(
+        &self,
+        seat: &mut CoreSeat<C, A>,
+        thread: ThreadId,
+        call: Call,
+    ) -> Result<Reply, Refusal>
+        requires caller { (seat.old.table_id ≡ self.now.id) × IsCaller (seen seat.old.me) thread }
+        requires answering { AnswersAsTold C.declared C.plan (first_of seat.old.me.0).callbacks }
+        ensures same { (seat.new.table_id ≡ seat.old.table_id) × (first_of seat.new.me.0 ≡ first_of seat.old.me.0) }
+        ensures rests { IsCaller (seen seat.new.me) thread }
+        ensures called { Called (first_of seat.old.me.0).limit (account_of (seen seat.old.me)) call result (account_of (seen seat.new.me)) }
+    {
+        let Some(mut kernel) = self.take_kernel(seat) else {
+            return Err(Refusal::CoreBusy);
+        };
+        let reply = kernel.apply(thread, call);
+        self.give_kernel(seat, kernel);
+        reply
+    }
+
+    /// One call of the kernel, by the host thread that makes it.
+    ///
+    /// `CoreBusy` only where another caller has the kernel; every other answer is the kernel's, of which `NoMemory` and
+    /// `HistoryFull` make no entry (this profile).
+    pub fn try_call(&self, caller: &mut CallerOf<C>, call: Call) -> Result<Reply, Refusal>
+        requires machine { caller.old.machine ≡ self.now }
+        requires answering { AnswersAsTold C.declared C.plan self.now.first.callbacks }
+        ensures machine { caller.new.machine ≡ caller.old.machine }
+        ensures called { Called self.now.first.limit caller.old.account call result caller.new.account }
+    {
+        let badge = mem::replace(&mut caller.core, Badge::blank());
+        let mut seat = seat_of::<C, A>(badge, caller.thread);
+        let answer = self.call_with(&mut seat, caller.thread, call);
+        caller.core = badge_of(seat, caller.thread);
+        answer
+    }
+}

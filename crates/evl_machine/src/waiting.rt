@@ -1,0 +1,91 @@
+//! Calls that wait for the core.
+ghost use Rattle.std.specs.Prelude.{◌≡◌, ◌≢◌, Err};
+ghost use Rattle.evl_kernel.specs.Callbacks.{AnswersAsTold};
+ghost use Rattle.evl_base.specs.declared.refusal.Refusal.TheVariants.{CoreBusy};
+ghost use Rattle.evl_machine.specs.Calls.{Called};
+
+use crate::boxed::{Caller, Machine};
+use crate::caller::CallerOf;
+use crate::machine::MachineOf;
+use evl_base::{Call, Refusal, Reply};
+use evl_pipeline::Handler;
+use std::alloc::Allocator;
+use std::sync::Wait;
+use std::thread;
+
+impl<C: Handler, A: Allocator> MachineOf<C, A> {
+    /// One call of the kernel, however long other callers have it: `try_call` until it isn't answered `CoreBusy`.
+    ///
+    /// Every answer is the kernel's, of which `NoMemory` and `HistoryFull` make no entry (this profile).
+    pub fn call<R: Wait>(
+        &self,
+        rt: &R,
+        caller: &mut CallerOf<C>,
+        call: Call,
+    ) -> Result<Reply, Refusal>
+        requires machine { caller.old.machine ≡ self.now }
+        requires answering { AnswersAsTold C.declared C.plan self.now.first.callbacks }
+        ensures machine { caller.new.machine ≡ caller.old.machine }
+        ensures called { Called self.now.first.limit caller.old.account call result caller.new.account }
+        ensures entered { result ≢ Err CoreBusy }
+    {
+        for _ in rt.forever() {
+            match self.try_call(caller, copied_call(&call)) {
+                Err(Refusal::CoreBusy) => thread::yield_now(),
+                answer => return answer,
+            }
+        }
+        unreachable!()
+    }
+}
+
+impl Machine {
+    /// One call of the kernel, however long other callers have it: `try_call` until it isn't answered `CoreBusy`.
+    ///
+    /// Every answer is the kernel's, of which `NoMemory` and `HistoryFull` make no entry (this profile).
+    pub fn call<R: Wait>(
+        &self,
+        rt: &R,
+        caller: &mut Caller,
+        call: Call,
+    ) -> Result<Reply, Refusal>
+        requires { caller.old.machine ≡ self.now.of }
+        ensures machine { caller.new.machine ≡ caller.old.machine }
+        ensures called { Called self.now.of.first.limit caller.old.account call result caller.new.account }
+        ensures entered { result ≢ Err CoreBusy }
+    {
+        self.of.call(rt, caller, call)
+    }
+}
+
+fn copied_call(call: &Call) -> Call
+    ensures { result ≡ call.now }
+{
+    match call {
+        Call::Request {
+            line,
+            stage,
+            callback,
+            tag,
+        } => Call::Request {
+            line: *line,
+            stage: *stage,
+            callback: *callback,
+            tag: *tag,
+        },
+        Call::Free { line, stage } => Call::Free {
+            line: *line,
+            stage: *stage,
+        },
+        Call::Arrive { line } => Call::Arrive { line: *line },
+        Call::Post { stage, line } => Call::Post {
+            stage: *stage,
+            line: *line,
+        },
+        Call::Stall { stage } => Call::Stall { stage: *stage },
+        Call::Unstall { stage } => Call::Unstall { stage: *stage },
+        Call::TryGet { sem } => Call::TryGet { sem: *sem },
+        Call::Put { sem } => Call::Put { sem: *sem },
+        Call::Peek { sem } => Call::Peek { sem: *sem },
+    }
+}
