@@ -28,8 +28,8 @@ impl<C> Model for CallerOf<C> {
     ghost Value = { CallerState C };
 
     ghost view = { λ c. record {
-        machine = record { id = c.core.table_id; first = first_in c.core.views };
-        account = account_in c.core.views;
+      machine = record { id = c.core.table_id; first = first_in c.core.views };
+      account = account_in c.core.views;
     } };
 
     ghost invariant = { λ c. IsAtRest c.core.views c.thread };

@@ -43,12 +43,7 @@ impl Machine {
     /// One call of the kernel, however long other callers have it: `try_call` until it isn't answered `CoreBusy`.
     ///
     /// Every answer is the kernel's, of which `NoMemory` and `HistoryFull` make no entry (this profile).
-    pub fn call<R: Wait>(
-        &self,
-        rt: &R,
-        caller: &mut Caller,
-        call: Call,
-    ) -> Result<Reply, Refusal>
+    pub fn call<R: Wait>(&self, rt: &R, caller: &mut Caller, call: Call) -> Result<Reply, Refusal>
         requires { caller.old.machine ≡ self.now.of }
         ensures machine { caller.new.machine ≡ caller.old.machine }
         ensures called { Called self.now.of.first.limit caller.old.account call result caller.new.account }

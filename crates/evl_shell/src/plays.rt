@@ -159,9 +159,8 @@ fn play_input<R: Read, S: Sink>(
 }
 
 /// Reads a scenario up to the input's end, at most 1,048,577 bytes, plays it over a bank of at most 64 callbacks into
-/// the sink, and answers the status:
-/// 0 done, 1 the sink failed, 2 the scenario was refused or a read failed, 4 no memory. Where it isn't 0, a line on
-/// `err` says why; a failure of `err` is ignored (this profile).
+/// the sink, and answers the status: 0 done, 1 the sink failed, 2 the scenario was refused or a read failed, 4 no
+/// memory. Where it isn't 0, a line on `err` says why; a failure of `err` is ignored (this profile).
 pub fn play<R: Read, S: Sink, E: Write>(
     alloc: Global,
     bank: Vec<Callback>,

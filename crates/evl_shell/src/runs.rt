@@ -236,9 +236,10 @@ fn write_scenario<C: Handler, S: Sink>(
     }
 }
 
-/// Writes the trace of a text over a bank of at most 64 callbacks, under a limit that may be handed in (1 to 1,000,000; it replaces the text's).
-/// The text is checked whole before the first byte is written. `Text`, `Board` and `Step` say what is wrong with it,
-/// `Memory` that a growth was refused, and `Write` that the sink has failed (this profile).
+/// Writes the trace of a text over a bank of at most 64 callbacks, under a limit that may be handed in (1 to
+/// 1,000,000; it replaces the text's). The text is checked whole before the first byte is written, and the bank is
+/// dropped in the end. `Text`, `Board` and `Step` say what is wrong with the text, `Memory` that a growth was refused,
+/// and `Write` that the sink has failed (this profile).
 pub fn run<S: Sink>(
     alloc: Global,
     text: &[u8],
