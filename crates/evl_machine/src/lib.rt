@@ -10,6 +10,8 @@ mod machine;
 mod making;
 #[cfg(test)]
 mod tests;
+#[cfg(test)]
+mod thread_tests;
 mod views;
 mod waiting;
 

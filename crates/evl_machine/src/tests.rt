@@ -7,7 +7,7 @@ use std::alloc::Global;
 use std::test::Fail;
 
 // Two threads and a semaphore of count 0.
-fn two_callers(alloc: Global, limit: u32) -> Result<(Machine, Caller, Caller), Refusal>
+pub(crate) fn two_callers(alloc: Global, limit: u32) -> Result<(Machine, Caller, Caller), Refusal>
     ensures { IfOk result (λ m. (m.1.machine ≡ m.0.of) × (m.2.machine ≡ m.0.of)) }
 {
     let mut sems = ArrayVec::new();

@@ -1,0 +1,103 @@
+//! The same plain step behind a std::sync::Mutex: of one host thread, and of two.
+use std::hint::black_box;
+use std::sync::Mutex;
+use std::time::Instant;
+
+const ROUNDS: u32 = 200_000;
+
+#[derive(Clone, Copy)]
+enum Call {
+    TryGet { sem: u16 },
+    Put { sem: u16 },
+}
+
+#[derive(Clone, Copy, PartialEq)]
+enum Refusal {
+    Again,
+    Unknown,
+    Limit,
+    HistoryFull,
+}
+
+#[allow(dead_code)]
+struct Entry {
+    caller: u16,
+    call: Call,
+    reply: Result<(), Refusal>,
+    plays: usize,
+}
+
+struct Kernel {
+    threads: u16,
+    sems: Vec<u32>,
+    history: Vec<Entry>,
+    limit: usize,
+}
+
+impl Kernel {
+    fn step(&mut self, caller: u16, call: Call) -> Result<(), Refusal> {
+        if caller >= self.threads {
+            return Err(Refusal::Unknown);
+        }
+        match call {
+            Call::TryGet { sem } => match self.sems.get_mut(usize::from(sem)) {
+                None => Err(Refusal::Unknown),
+                Some(0) => Err(Refusal::Again),
+                Some(count) => {
+                    *count -= 1;
+                    Ok(())
+                }
+            },
+            Call::Put { sem } => match self.sems.get_mut(usize::from(sem)) {
+                None => Err(Refusal::Unknown),
+                Some(2_147_483_647) => Err(Refusal::Limit),
+                Some(count) => {
+                    *count += 1;
+                    Ok(())
+                }
+            },
+        }
+    }
+
+    fn apply(&mut self, caller: u16, call: Call) -> Result<(), Refusal> {
+        if self.history.len() == self.limit {
+            return Err(Refusal::HistoryFull);
+        }
+        let reply = self.step(caller, call);
+        self.history.push(Entry { caller, call, reply, plays: 0 });
+        reply
+    }
+}
+
+fn kernel() -> Mutex<Kernel> {
+    Mutex::new(Kernel { threads: 2, sems: vec![0], history: Vec::new(), limit: 1_000_000 })
+}
+
+fn rounds(kernel: &Mutex<Kernel>, caller: u16) -> u32 {
+    let mut done = 0;
+    for _ in 0..ROUNDS {
+        let put = kernel.lock().unwrap().apply(caller, black_box(Call::Put { sem: 0 }));
+        let got = kernel.lock().unwrap().apply(caller, black_box(Call::TryGet { sem: 0 }));
+        done += u32::from(put.is_ok()) + u32::from(got.is_ok());
+    }
+    done
+}
+
+fn puts(kernel: &Mutex<Kernel>, caller: u16) -> u32 {
+    (0..ROUNDS).filter(|_| kernel.lock().unwrap().apply(caller, black_box(Call::Put { sem: 0 })).is_ok()).count() as u32
+}
+
+fn main() {
+    let alone = kernel();
+    let start = Instant::now();
+    let done = rounds(&alone, 0);
+    println!("std::sync::Mutex, one thread: {done} calls in {} ns", start.elapsed().as_nanos());
+    let shared = kernel();
+    let start = Instant::now();
+    let done: u32 = std::thread::scope(|scope| {
+        let first = scope.spawn(|| puts(&shared, 0));
+        let second = puts(&shared, 1);
+        first.join().unwrap() + second
+    });
+    println!("std::sync::Mutex, two threads: {done} calls in {} ns", start.elapsed().as_nanos());
+}
