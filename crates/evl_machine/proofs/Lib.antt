@@ -6,3 +6,4 @@ pub mod Taking
 pub mod Calling
 pub mod Knowing
 pub mod Seating
+pub mod Gathering

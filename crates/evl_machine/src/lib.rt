@@ -3,6 +3,7 @@
 
 mod boxed;
 mod caller;
+mod closing;
 mod core_lock;
 mod held;
 pub mod laws;

@@ -1,5 +1,7 @@
 ghost use Rattle.std.specs.Prelude.{◌≡◌, IfOk};
 
+mod closing;
+
 use crate::{Caller, Machine};
 use arrayvec::ArrayVec;
 use evl_base::{Board, Call, Refusal, Reply, SemId};
@@ -26,6 +28,26 @@ fn two_callers(alloc: Global, limit: u32) -> Result<(Machine, Caller, Caller), R
         return Err(Refusal::NoMemory);
     };
     Ok((machine, first, second))
+}
+
+// One call, of which the caller's machine alone is told.
+fn call_of(machine: &Machine, caller: &mut Caller, call: Call) -> Result<Reply, Refusal>
+    requires { caller.old.machine ≡ machine.now.of }
+    ensures { caller.new.machine ≡ caller.old.machine }
+{
+    machine.try_call(caller, call)
+}
+
+fn put() -> Call {
+    Call::Put { sem: SemId(0) }
+}
+
+fn get() -> Call {
+    Call::TryGet { sem: SemId(0) }
+}
+
+fn is_done(answer: &Result<Reply, Refusal>) -> bool {
+    matches!(answer, Ok(Reply::Done))
 }
 
 #[test]

@@ -1,0 +1,103 @@
+//! Closing a machine: its callers are gathered, and the kernel comes out.
+ghost use Rattle.std.specs.Prelude.{◌≡◌, ◌<◌, [], ◌∷◌, All, IfOk, IfErr, vec_len, vec_capacity};
+ghost use Rattle.evl_machine.specs.Accounts.{Fits};
+ghost use Rattle.evl_machine.specs.Known.{IsLive, seen};
+ghost use Rattle.evl_machine.specs.Handles.{account_of, holding};
+ghost use Rattle.evl_machine.specs.Closings.{Closes, KeepsOpen, gathered};
+
+use crate::caller::{CallerOf, seat_of};
+use crate::core_lock::{CoreSeat, Gather};
+use crate::held::HeldOf;
+use crate::machine::MachineOf;
+use evl_base::Refusal;
+use evl_kernel::KernelOf;
+use std::alloc::Allocator;
+
+impl<C: Drop, A: Allocator> MachineOf<C, A> {
+    /// The kernel with all that its callers did, once they are done with the machine.
+    ///
+    /// `Invalid` where no caller is handed in; `CoreBusy` where the core stands taken, which the first caller tries to
+    /// take; then `Invalid` where there are fewer callers than threads, and the first caller has given the core back.
+    /// The machine and its callers then come back (this profile).
+    pub fn close<B: Allocator>(
+        self,
+        mut callers: Vec<CallerOf<C>, B>,
+    ) -> Result<KernelOf<C, A>, (Refusal, MachineOf<C, A>, Vec<CallerOf<C>, B>)>
+        requires { All (λ c. c.machine ≡ self) callers.items }
+        ensures closed { IfOk result (λ k. Closes self callers.items k) }
+        ensures refused { IfErr result (λ e. KeepsOpen self callers.items e.0 e.2.items) }
+        ensures again { IfErr result (λ e. (e.1 ≡ self) × All (λ c. c.machine ≡ self) e.2.items) }
+    {
+        if callers.is_empty() {
+            return Err((Refusal::Invalid, self, callers));
+        }
+        let few = callers.len() < usize::from(self.threads);
+        let first = callers.remove(0);
+        match self.take(first) {
+            Err(first) => {
+                put_first(&mut callers, first);
+                Err((Refusal::CoreBusy, self, callers))
+            }
+            Ok(held) => {
+                if few {
+                    put_first(&mut callers, held.give());
+                    Err((Refusal::Invalid, self, callers))
+                } else {
+                    let HeldOf {
+                        machine: _,
+                        thread: _,
+                        seat,
+                        kernel,
+                    } = held;
+                    Ok(self.close_with(seat, kernel, callers))
+                }
+            }
+        }
+    }
+
+    /// The kernel that a seat has taken. Its history is that of all callers, whose seats are gathered into this one.
+    fn close_with<B: Allocator>(
+        self,
+        mut seat: CoreSeat<C, A>,
+        kernel: KernelOf<C, A>,
+        mut callers: Vec<CallerOf<C>, B>,
+    ) -> KernelOf<C, A>
+        requires machine { seat.table_id ≡ self.id }
+        requires holds { (seen seat.me ≡ holding (account_of (seen seat.me))) × ((account_of (seen seat.me)).seen ≡ kernel.history) }
+        requires callers { All (λ c. c.machine ≡ self) callers.items }
+        ensures same { result ≡ kernel }
+        ensures fits { All (λ c. Fits kernel.history c.account) callers.items }
+    {
+        while let Some(caller) = callers.pop() {
+            self.gather(&mut seat, caller);
+        }
+        let MachineOf { core, threads: _ } = self;
+        let mut closed = core.close_with(seat);
+        drop(closed.take(0));
+        closed.free();
+        kernel
+    }
+
+    /// The account of a caller comes to a seat.
+    fn gather(&self, seat: &mut CoreSeat<C, A>, caller: CallerOf<C>)
+        requires table { (seat.old.table_id ≡ self.now.id) × IsLive seat.old.me.0 }
+        requires caller { caller.machine ≡ self.now }
+        ensures same { seat.new.table_id ≡ seat.old.table_id }
+        ensures gathered { seen seat.new.me ≡ gathered (seen seat.old.me) (caller.account ∷ []) }
+    {
+        let CallerOf { thread, core } = caller;
+        let other = seat_of::<C, A>(core, thread);
+        self.core.shared.join_seat::<Gather>(seat, other);
+    }
+}
+
+/// Puts a caller before the others, where one was taken away.
+fn put_first<C, B: Allocator>(callers: &mut Vec<CallerOf<C>, B>, first: CallerOf<C>)
+    requires { vec_len callers.old < vec_capacity callers.old }
+    ensures { callers.new.items ≡ first ∷ callers.old.items }
+{
+    match callers.insert(0, first) {
+        Ok(()) => {}
+        Err(_) => unreachable!(),
+    }
+}
