@@ -1,0 +1,47 @@
+use Rattle.std.proofs.Common.{◌≡◌, ◌≤◌, ◌<◌, ◌∷◌, length, refl, sym, ap, ◌∙◌, subst, arith}
+use Rattle.std.specs.Prelude.{All}
+use Rattle.std.proofs.lemmas.List.Elements.{All-head, All-tail}
+use Rattle.evl_kernel.specs.KernelViews.{KernelView}
+use Rattle.evl_machine.specs.Accounts.{Fits}
+use Rattle.evl_machine.specs.Handles.{CallerState, HeldState, MachineState}
+use Rattle.evl_machine.specs.Closings.{Closes, KeepsOpen}
+use Rattle.evl_base.specs.declared.refusal.Refusal.TheVariants.{Invalid}
+use Rattle.evl_machine.proofs.Gathering.{first_removed, stays_open, back_again, closes_all}
+use Rattle.evl_machine.proofs.machine.MachineOf.close.Goals as goal
+
+pub close_with-requires-clause-machine : goal.close_with-requires-clause-machine
+close_with-requires-clause-machine g c =
+    let gone = c.remove-first.ensures in
+    let are = first_removed c.args.callers.items c.remove-first.result c.remove-first.new.self.items (omega (arith, gone.len, c.args.callers.ok.0)) gone.value gone.items in
+    let of = All-head (λ (z : CallerState _). z.machine ≡ c.args.self) c.remove-first.result c.remove-first.new.self.items (subst (λ l. All (λ (z : CallerState _). z.machine ≡ c.args.self) l) are c.requires) in
+    sym (ap (λ (m : MachineState _). m.id) c.held.invariant.0) ∙ (ap (λ (h : HeldState _). h.machine.id) c.held.view_is ∙ ap (λ (m : MachineState _). m.id) (c.in-Ok.ensures.machine ∙ of))
+
+pub close_with-requires-clause-callers : goal.close_with-requires-clause-callers
+close_with-requires-clause-callers g c =
+    let gone = c.remove-first.ensures in
+    let are = first_removed c.args.callers.items c.remove-first.result c.remove-first.new.self.items (omega (arith, gone.len, c.args.callers.ok.0)) gone.value gone.items in
+    All-tail (λ (z : CallerState _). z.machine ≡ c.args.self) c.remove-first.result c.remove-first.new.self.items (subst (λ l. All (λ (z : CallerState _). z.machine ≡ c.args.self) l) are c.requires)
+
+pub returns-then-few-clause-refused : goal.returns-then-few-clause-refused
+returns-then-few-clause-refused g c =
+    let gone = c.remove-first.ensures in
+    let are = first_removed c.args.callers.items c.remove-first.result c.remove-first.new.self.items (omega (arith, gone.len, c.args.callers.ok.0)) gone.value gone.items in
+    let threads = ap (λ (m : MachineState _). m.first.history.opening.threads) c.self.view_is in
+    let few : length c.args.callers.items < c.args.self.first.history.opening.threads = omega (arith, c.if-few.true, c.len.ensures, c.from.ensures, c.args.callers.ok.0, c.self.invariant.2, threads) in
+    stays_open c.args.self c.args.callers.items c.remove-first.result c.remove-first.new.self.items c.put_first-then-few.new.callers.items c.in-Ok.held are few c.in-Ok.ensures (c.put_first-then-few.ensures ∙ ap (λ (z : CallerState _). z ∷ c.remove-first.new.self.items) c.give.ensures)
+
+pub returns-then-few-clause-again : goal.returns-then-few-clause-again
+returns-then-few-clause-again g c = (refl, back_again c.args.self c.args.callers.items Invalid c.put_first-then-few.new.callers.items (returns-then-few-clause-refused g c) c.requires)
+
+pub returns-else-few-clause-closed : goal.returns-else-few-clause-closed
+returns-else-few-clause-closed g c =
+    let gone = c.remove-first.ensures in
+    let first = c.remove-first.result in
+    let others = c.remove-first.new.self.items in
+    let are = first_removed c.args.callers.items first others (omega (arith, gone.len, c.args.callers.ok.0)) gone.value gone.items in
+    let of = All-head (λ (z : CallerState _). z.machine ≡ c.args.self) first others (subst (λ l. All (λ (z : CallerState _). z.machine ≡ c.args.self) l) are c.requires) in
+    let threads = ap (λ (m : MachineState _). m.first.history.opening.threads) c.self.view_is in
+    let enough : c.args.self.first.history.opening.threads ≤ length c.args.callers.items = omega (arith, c.if-few.false, c.len.ensures, c.from.ensures, c.args.callers.ok.0, c.self.invariant.2, threads) in
+    let same : c.held.inside.kernel ≡ c.in-Ok.held.kernel = ap (λ (h : HeldState _). h.kernel) c.held.view_is in
+    let fit = subst (λ (k : KernelView _). All (λ (z : CallerState _). Fits k.history z.account) others) same c.close_with.ensures.fits in
+    subst (λ (k : KernelView _). Closes c.args.self c.args.callers.items k) (sym (c.close_with.ensures.same ∙ same)) (closes_all c.args.self c.args.callers.items first others c.in-Ok.held are enough of c.in-Ok.ensures fit)
