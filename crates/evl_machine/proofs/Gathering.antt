@@ -90,6 +90,10 @@ module _ {C : Type 0} where
   first_removed [] x others some_one at rest = absurd (omega arith)
   first_removed (y ∷ ys) x others some_one at rest = λ i. sym at i ∷ sym rest i
 
+  pub none_handed : (m : MachineState C) (xs : List (CallerState C)) → length xs ≡ 0 → KeepsOpen m xs Invalid xs
+  none_handed m [] none = (refl, refl)
+  none_handed m (x ∷ xs) none = absurd (omega arith)
+
   pub stays_busy : (m : MachineState C) (xs : List (CallerState C)) (first : CallerState C) (others back : List (CallerState C)) → xs ≡ first ∷ others → back ≡ first ∷ others → KeepsOpen m xs CoreBusy back
   stays_busy m xs first others back are same = subst (λ (ys : List (CallerState C)). KeepsOpen m ys CoreBusy back) (sym are) (inl (refl, same))
 

@@ -1,13 +1,24 @@
 use Rattle.std.proofs.Common.{◌≡◌, ◌≤◌, ◌<◌, ◌∷◌, length, refl, sym, ap, ◌∙◌, subst, arith}
 use Rattle.std.specs.Prelude.{All}
+use Rattle.std.proofs.lemmas.Bool.{eqb-true}
 use Rattle.std.proofs.lemmas.List.Elements.{All-head, All-tail}
 use Rattle.evl_kernel.specs.KernelViews.{KernelView}
 use Rattle.evl_machine.specs.Accounts.{Fits}
 use Rattle.evl_machine.specs.Handles.{CallerState, HeldState, MachineState}
 use Rattle.evl_machine.specs.Closings.{Closes, KeepsOpen}
 use Rattle.evl_base.specs.declared.refusal.Refusal.TheVariants.{Invalid}
-use Rattle.evl_machine.proofs.Gathering.{first_removed, stays_open, back_again, closes_all}
+use Rattle.evl_machine.proofs.Gathering.{first_removed, none_handed, stays_busy, stays_open, back_again, closes_all}
 use Rattle.evl_machine.proofs.machine.MachineOf.close.Goals as goal
+
+pub returns-then-is_empty-clause-refused : goal.returns-then-is_empty-clause-refused
+returns-then-is_empty-clause-refused g c = none_handed c.args.self c.args.callers.items (sym c.args.callers.ok.0 ∙ eqb-true c.args.callers.len 0 (sym c.if-is_empty.ensures))
+
+pub returns-in-Err-clause-refused : goal.returns-in-Err-clause-refused
+returns-in-Err-clause-refused g c =
+    let gone = c.remove-first.ensures in
+    let others = c.remove-first.new.self.items in
+    let are = first_removed c.args.callers.items c.remove-first.result others (omega (arith, gone.len, c.args.callers.ok.0)) gone.value gone.items in
+    stays_busy c.args.self c.args.callers.items c.remove-first.result others c.put_first.new.callers.items are (c.put_first.ensures ∙ ap (λ (z : CallerState _). z ∷ others) c.in-Err.ensures)
 
 pub close_with-requires-clause-machine : goal.close_with-requires-clause-machine
 close_with-requires-clause-machine g c =
