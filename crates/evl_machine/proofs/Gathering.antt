@@ -1,5 +1,5 @@
 -- The seats of all callers are gathered into the one that has the kernel, and the lock is closed.
-use Rattle.std.proofs.Common.{◌≡◌, ℕ, zero, suc, ◌≤◌, ◌<◌, List, [], ◌∷◌, ◌++◌, length, set, Bool, true, false, Option, Some, None, refl, sym, ap, ◌∙◌, subst, arith, inl, inr, ⊎_elim}
+use Rattle.std.proofs.Common.{◌≡◌, ℕ, zero, suc, ◌≤◌, ◌<◌, List, [], ◌∷◌, ◌++◌, length, set, Bool, true, false, Option, Some, None, refl, sym, ap, ◌∙◌, subst, append_assoc, append-nil, arith, inl, inr, ⊎_elim}
 use Rattle.std.specs.Prelude.{All, slice_index_or}
 use Rattle.std.specs.List.{remove}
 use Rattle.std.proofs.lemmas.List.Elements.{All-nil, All-cons, All-head, All-tail}
@@ -51,6 +51,10 @@ pub none_full : (filled filled' : List Bool) (n : ℕ) → n ≡ 1 → filled' �
 none_full filled filled' n one now zero less = ap (λ (bs : List Bool). slice_index_or bs 0 false) now ∙ first_cleared filled
 none_full filled filled' n one now (suc k) less = absurd (omega arith)
 
+-- a seat that carries an account carries one with more
+pub still_live : (xs more now : List Account) → (a : Account) × (others : List Account) × (xs ≡ a ∷ others) → now ≡ xs ++ more → (a : Account) × (others : List Account) × (now ≡ a ∷ others)
+still_live xs more now l e = (l.0, l.1 ++ more, e ∙ ap (λ (ys : List Account). ys ++ more) l.2)
+
 module _ {C : Type 0} where
   -- a seat takes in the accounts of another, which has no kernel
   pub joins_known : (first : KernelView C) (id : ℕ) (v : Known C) (other : ℕ) (w : Known C) → IsLive v → w.view.taken ≡ None
@@ -69,21 +73,22 @@ module _ {C : Type 0} where
   all_fit h [] f = All-nil _
   all_fit h (c ∷ cs) f = All-cons (λ (x : CallerState C). Fits h x.account) c cs (fits_last h (accounts_back cs) c.account f) (all_fit h cs (fits_left h (accounts_back cs) (c.account ∷ []) f))
 
-  abbrev accounts_in_me : CoreMe (KernelView C) → List Account
-  accounts_in_me m = m.0.accounts
+  -- the accounts come one after another
+  pub gathers_none : (me : CoreMe (KernelView C)) → me ≡ gathered me []
+  gathers_none me = λ i. (view me.0.taken (sym (append-nil me.0.accounts) i), me.1)
 
-  -- the seat that has the kernel, with the accounts of these callers
-  abbrev pub holds_all : Account → List (CallerState C) → CoreMe (KernelView C)
-  holds_all a done = gathered (holding a) (accounts_back done)
+  pub gathers_one : (me : CoreMe (KernelView C)) (done : List (CallerState C)) (c : CallerState C) (me' me'' : CoreMe (KernelView C)) → me' ≡ gathered me (accounts_back done) → me'' ≡ gathered me' (c.account ∷ []) → me'' ≡ gathered me (accounts_back (c ∷ done))
+  gathers_one me done c me' me'' was now =
+      now ∙ (ap (λ (m : CoreMe (KernelView C)). gathered m (c.account ∷ [])) was ∙ (λ i. (view me.0.taken (append_assoc me.0.accounts (accounts_back done) (c.account ∷ []) i), me.1)))
 
-  pub gathers_one : (a : Account) (done : List (CallerState C)) (c : CallerState C) (me me' : CoreMe (KernelView C)) → me ≡ holds_all a done → me' ≡ gathered me (c.account ∷ []) → me' ≡ holds_all a (c ∷ done)
-  gathers_one a done c me me' was now = now ∙ ap (λ (m : CoreMe (KernelView C)). gathered m (c.account ∷ [])) was
+  -- the seat that has the kernel, with the accounts of the others
+  pub has_taken : (a : Account) (more : List Account) (h : History) (me me' : CoreMe (KernelView C)) → me ≡ holding a → a.seen ≡ h → me' ≡ gathered me more → me'.0.taken ≡ Some h
+  has_taken a more h me me' holds same now = ap (λ (m : CoreMe (KernelView C)). m.0.taken) (now ∙ ap (λ (m : CoreMe (KernelView C)). gathered m more) holds) ∙ ap (λ (x : History). Some x) same
 
-  pub is_live : (a : Account) (done : List (CallerState C)) (accounts : List Account) → accounts ≡ accounts_in_me (holds_all a done) → (b : Account) × (others : List Account) × (accounts ≡ b ∷ others)
-  is_live a done accounts e = (a, accounts_back done, e)
-
-  pub gathered_fit : (h : History) (a : Account) (done : List (CallerState C)) (accounts : List Account) → accounts ≡ accounts_in_me (holds_all a done) → AccountsFit h accounts → All (λ (c : CallerState C). Fits h c.account) done
-  gathered_fit h a done accounts e f = all_fit h done (fits_rest h a (accounts_back done) (subst (AccountsFit h) e f))
+  pub gathered_fit : (a : Account) (others : List (CallerState C)) (h : History) (me me' : CoreMe (KernelView C)) → me ≡ holding a → me' ≡ gathered me (accounts_back others) → AccountsFit h me'.0.accounts → All (λ (c : CallerState C). Fits h c.account) others
+  gathered_fit a others h me me' holds now f =
+      let is = ap (λ (m : CoreMe (KernelView C)). m.0.accounts) (now ∙ ap (λ (m : CoreMe (KernelView C)). gathered m (accounts_back others)) holds) in
+      all_fit h others (fits_rest h a (accounts_back others) (subst (AccountsFit h) is f))
 
   -- the first caller and the others
   pub first_removed : (xs : List (CallerState C)) (x : CallerState C) (others : List (CallerState C)) → 0 < length xs → x ≡ slice_index_or xs 0 x → others ≡ remove xs 0 → xs ≡ x ∷ others

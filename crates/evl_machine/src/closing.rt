@@ -1,9 +1,8 @@
 //! Closing a machine: its callers are gathered, and the kernel comes out.
-ghost use Rattle.std.specs.Prelude.{◌≡◌, ◌<◌, [], ◌∷◌, All, IfOk, IfErr, vec_len, vec_capacity};
-ghost use Rattle.evl_machine.specs.Accounts.{Fits};
+ghost use Rattle.std.specs.Prelude.{◌≡◌, ◌<◌, [], ◌∷◌, Some, All, IfOk, IfErr, vec_len, vec_capacity};
+ghost use Rattle.evl_machine.specs.CoreRule.{AccountsFit};
 ghost use Rattle.evl_machine.specs.Known.{IsLive, seen};
-ghost use Rattle.evl_machine.specs.Handles.{account_of, holding};
-ghost use Rattle.evl_machine.specs.Closings.{Closes, KeepsOpen, gathered};
+ghost use Rattle.evl_machine.specs.Closings.{Closes, KeepsOpen, accounts_back, gathered};
 
 use crate::caller::{CallerOf, seat_of};
 use crate::core_lock::{CoreSeat, Gather};
@@ -46,36 +45,26 @@ impl<C: Drop, A: Allocator> MachineOf<C, A> {
                     let HeldOf {
                         machine: _,
                         thread: _,
-                        seat,
+                        mut seat,
                         kernel,
                     } = held;
-                    Ok(self.close_with(seat, kernel, callers))
+                    self.gather_all(&mut seat, callers);
+                    Ok(self.close_with(seat, kernel))
                 }
             }
         }
     }
 
-    /// The kernel that a seat has taken. Its history is that of all callers, whose seats are gathered into this one.
-    fn close_with<B: Allocator>(
-        self,
-        mut seat: CoreSeat<C, A>,
-        kernel: KernelOf<C, A>,
-        mut callers: Vec<CallerOf<C>, B>,
-    ) -> KernelOf<C, A>
-        requires machine { seat.table_id ≡ self.id }
-        requires holds { (seen seat.me ≡ holding (account_of (seen seat.me))) × ((account_of (seen seat.me)).seen ≡ kernel.history) }
-        requires callers { All (λ c. c.machine ≡ self) callers.items }
-        ensures same { result ≡ kernel }
-        ensures fits { All (λ c. Fits kernel.history c.account) callers.items }
+    /// The accounts of all these callers come to a seat.
+    fn gather_all<B: Allocator>(&self, seat: &mut CoreSeat<C, A>, mut callers: Vec<CallerOf<C>, B>)
+        requires table { (seat.old.table_id ≡ self.now.id) × IsLive seat.old.me.0 }
+        requires callers { All (λ c. c.machine ≡ self.now) callers.items }
+        ensures same { seat.new.table_id ≡ seat.old.table_id }
+        ensures gathered { seen seat.new.me ≡ gathered (seen seat.old.me) (accounts_back callers.items) }
     {
         while let Some(caller) = callers.pop() {
-            self.gather(&mut seat, caller);
+            self.gather(seat, caller);
         }
-        let MachineOf { core, threads: _ } = self;
-        let mut closed = core.close_with(seat);
-        drop(closed.take(0));
-        closed.free();
-        kernel
     }
 
     /// The account of a caller comes to a seat.
@@ -88,6 +77,20 @@ impl<C: Drop, A: Allocator> MachineOf<C, A> {
         let CallerOf { thread, core } = caller;
         let other = seat_of::<C, A>(core, thread);
         self.core.shared.join_seat::<Gather>(seat, other);
+    }
+
+    /// The kernel that a seat has taken. Its history is that of all accounts which the seat carries.
+    fn close_with(self, seat: CoreSeat<C, A>, kernel: KernelOf<C, A>) -> KernelOf<C, A>
+        requires machine { seat.table_id ≡ self.id }
+        requires taken { (seen seat.me).0.taken ≡ Some kernel.history }
+        ensures same { result ≡ kernel }
+        ensures fits { AccountsFit kernel.history (seen seat.me).0.accounts }
+    {
+        let MachineOf { core, threads: _ } = self;
+        let mut closed = core.close_with(seat);
+        drop(closed.take(0));
+        closed.free();
+        kernel
     }
 }
 
