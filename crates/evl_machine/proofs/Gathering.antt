@@ -17,7 +17,7 @@ use Rattle.evl_machine.specs.Beside.{plain}
 use Rattle.evl_machine.specs.Accounts.{Fits, saw, informed, account, calls_by}
 use Rattle.evl_machine.specs.CoreRule.{AccountsFit, CoreMe, Kept, view, spent}
 use Rattle.evl_machine.specs.Known.{ComesFrom, HasCome, IsLive, KernelMe, KeptKnown, first_of, knows, past_of, seen, view_of}
-use Rattle.evl_machine.specs.Handles.{MachineState, CallerState, HeldState, account_of, holding}
+use Rattle.evl_machine.specs.Handles.{MachineState, CallerState, HeldState, holding}
 use Rattle.evl_machine.specs.Calls.{TookKernel}
 use Rattle.evl_machine.specs.Closings.{Closes, KeepsOpen, Misses, accounts_back, gathered, informs}
 use Rattle.evl_machine.proofs.BesideSteps.{joins_both, map_at}

@@ -8,7 +8,7 @@ use Rattle.evl_machine.specs.declared.views.Account.{Account}
 use Rattle.evl_machine.specs.CoreRule.{CoreMe}
 use Rattle.evl_machine.specs.Known.{seen}
 use Rattle.evl_machine.specs.Handles.{CallerState, HeldState, MachineState, account_of}
-use Rattle.evl_machine.specs.Closings.{Closes, KeepsOpen}
+use Rattle.evl_machine.specs.Closings.{Closes}
 use Rattle.evl_base.specs.declared.refusal.Refusal.TheVariants.{Invalid}
 use Rattle.evl_machine.proofs.Gathering.{first_removed, gathered_fit, has_taken, none_handed, stays_busy, stays_open, back_again, closes_all}
 use Rattle.evl_machine.proofs.machine.MachineOf.close.Goals as goal
