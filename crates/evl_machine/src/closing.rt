@@ -1,5 +1,6 @@
 //! Closing a machine: its callers are gathered, and the kernel comes out.
 ghost use Rattle.std.specs.Prelude.{◌≡◌, ◌<◌, [], ◌∷◌, Some, All, IfOk, IfErr, vec_len, vec_capacity};
+ghost use Rattle.evl_machine.specs.Accounts.{informed};
 ghost use Rattle.evl_machine.specs.CoreRule.{AccountsFit};
 ghost use Rattle.evl_machine.specs.Known.{IsLive, seen};
 ghost use Rattle.evl_machine.specs.Closings.{Closes, KeepsOpen, accounts_back, gathered};
@@ -39,7 +40,7 @@ impl<C: Drop, A: Allocator> MachineOf<C, A> {
             }
             Ok(held) => {
                 if few {
-                    put_first(&mut callers, held.give());
+                    give_first(&mut callers, held);
                     Err((Refusal::Invalid, self, callers))
                 } else {
                     let HeldOf {
@@ -103,4 +104,15 @@ fn put_first<C, B: Allocator>(callers: &mut Vec<CallerOf<C>, B>, first: CallerOf
         Ok(()) => {}
         Err(_) => unreachable!(),
     }
+}
+
+/// A caller that has the kernel gives it back, and stands before the others again.
+fn give_first<C: Drop, A: Allocator, B: Allocator>(
+    callers: &mut Vec<CallerOf<C>, B>,
+    held: HeldOf<'_, C, A>,
+)
+    requires { vec_len callers.old < vec_capacity callers.old }
+    ensures { callers.new.items ≡ record { machine = held.entry.machine; account = informed held.entry.kernel.history held.entry.account } ∷ callers.old.items }
+{
+    put_first(callers, held.give());
 }

@@ -52,10 +52,10 @@ returns-then-few-clause-refused g c =
     let are = first_removed c.args.callers.items c.remove-first.result c.remove-first.new.self.items (omega (arith, gone.len, c.args.callers.ok.0)) gone.value gone.items in
     let threads = ap (λ (m : MachineState _). m.first.history.opening.threads) c.self.view_is in
     let few : length c.args.callers.items < c.args.self.first.history.opening.threads = omega (arith, c.if-few.true, c.len.ensures, c.from.ensures, c.args.callers.ok.0, c.self.invariant.2, threads) in
-    stays_open c.args.self c.args.callers.items c.remove-first.result c.remove-first.new.self.items c.put_first-then-few.new.callers.items c.in-Ok.held are few c.in-Ok.ensures (c.put_first-then-few.ensures ∙ ap (λ (z : CallerState _). z ∷ c.remove-first.new.self.items) c.give.ensures)
+    stays_open c.args.self c.args.callers.items c.remove-first.result c.remove-first.new.self.items c.give_first.new.callers.items c.in-Ok.held are few c.in-Ok.ensures c.give_first.ensures
 
 pub returns-then-few-clause-again : goal.returns-then-few-clause-again
-returns-then-few-clause-again g c = (refl, back_again c.args.self c.args.callers.items Invalid c.put_first-then-few.new.callers.items (returns-then-few-clause-refused g c) c.requires)
+returns-then-few-clause-again g c = (refl, back_again c.args.self c.args.callers.items Invalid c.give_first.new.callers.items (returns-then-few-clause-refused g c) c.requires)
 
 pub returns-else-few-clause-closed : goal.returns-else-few-clause-closed
 returns-else-few-clause-closed g c =
