@@ -19,7 +19,7 @@ use Rattle.evl_machine.specs.CoreRule.{AccountsFit, CoreMe, Kept, view, spent}
 use Rattle.evl_machine.specs.Known.{ComesFrom, HasCome, IsLive, KernelMe, KeptKnown, first_of, knows, past_of, seen, view_of}
 use Rattle.evl_machine.specs.Handles.{MachineState, CallerState, HeldState, holding}
 use Rattle.evl_machine.specs.Calls.{TookKernel}
-use Rattle.evl_machine.specs.Closings.{Closes, KeepsOpen, Misses, accounts_back, gathered, informs}
+use Rattle.evl_machine.specs.Closings.{Closes, KeepsOpen, LacksCaller, accounts_back, gathered, shown}
 use Rattle.evl_machine.proofs.BesideSteps.{joins_both, map_at}
 use Rattle.evl_machine.proofs.CoreSteps.{joins_core, closes_core}
 
@@ -111,7 +111,7 @@ module _ {C : Type 0} where
     mine = subst (λ (a : Account). calls_by a.thread a.seen.entries ≡ a.mine) took.account took.just.mine;
   }
 
-  informs_as : (c : CallerState C) (k : HeldState C) → TookKernel c k → record { machine = k.machine; account = informed k.kernel.history k.account } ≡ informs k.kernel.history c
+  informs_as : (c : CallerState C) (k : HeldState C) → TookKernel c k → record { machine = k.machine; account = informed k.kernel.history k.account } ≡ shown k.kernel.history c
   informs_as c k took =
       let h = k.kernel.history in
       let same : informed h k.account ≡ saw h c.account = ap (informed h) took.account ∙ ap (account c.account.thread h) (fits_first c k took).mine in
@@ -135,8 +135,8 @@ module _ {C : Type 0} where
   back_again m [] refusal back (invalid, none) all = subst (λ (ys : List (CallerState C)). All (λ (c : CallerState C). c.machine ≡ m) ys) (sym none) (All-nil _)
   back_again m (x ∷ xs) refusal back kept all = ⊎_elim
       (λ (busy : (refusal ≡ CoreBusy) × (back ≡ x ∷ xs)). subst (λ (ys : List (CallerState C)). All (λ (c : CallerState C). c.machine ≡ m) ys) (sym busy.1) all)
-      (λ (missing : (refusal ≡ Invalid) × Misses m x xs back). subst (λ (ys : List (CallerState C)). All (λ (c : CallerState C). c.machine ≡ m) ys) (sym missing.1.back_is)
-      (All-cons (λ (c : CallerState C). c.machine ≡ m) (informs missing.1.history x) xs (All-head (λ (c : CallerState C). c.machine ≡ m) x xs all) (All-tail (λ (c : CallerState C). c.machine ≡ m) x xs all)))
+      (λ (missing : (refusal ≡ Invalid) × LacksCaller m x xs back). subst (λ (ys : List (CallerState C)). All (λ (c : CallerState C). c.machine ≡ m) ys) (sym missing.1.back_is)
+      (All-cons (λ (c : CallerState C). c.machine ≡ m) (shown missing.1.history x) xs (All-head (λ (c : CallerState C). c.machine ≡ m) x xs all) (All-tail (λ (c : CallerState C). c.machine ≡ m) x xs all)))
       kept
 
   pub closes_all : (m : MachineState C) (xs : List (CallerState C)) (first : CallerState C) (others : List (CallerState C)) (k : HeldState C) → xs ≡ first ∷ others → m.first.history.opening.threads ≤ length xs → first.machine ≡ m → TookKernel first k
