@@ -31,7 +31,7 @@ module _ {V W : Type 0} (view : W → V) where
   map_set (v ∷ vs) zero w = refl
   map_set (v ∷ vs) (suc i) w = ap (λ (us : List V). view v ∷ us) (map_set vs i w)
 
-  map_at : (vs : List W) (i : ℕ) (w : W) → get_elem? vs i ≡ some w → get_elem? (map view vs) i ≡ some (view w)
+  pub map_at : (vs : List W) (i : ℕ) (w : W) → get_elem? vs i ≡ some w → get_elem? (map view vs) i ≡ some (view w)
   map_at [] i w e = absurd (some-ne-none w (sym e))
   map_at (v ∷ vs) zero w e = ap (λ (u : W). some (view u)) (some-injective v w e)
   map_at (v ∷ vs) (suc i) w e = map_at vs i w e

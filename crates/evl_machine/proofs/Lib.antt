@@ -7,3 +7,4 @@ pub mod Calling
 pub mod Knowing
 pub mod Seating
 pub mod Crossing
+pub mod Gathering

@@ -6,3 +6,4 @@ pub mod Beside
 pub mod Known
 pub mod Handles
 pub mod Calls
+pub mod Closings

@@ -1,12 +1,13 @@
 //! The machine of stored callbacks. These types have no `Model`, since they name the callbacks' type; each keeps, as a
 //! fact, that the callbacks answer what is told of them.
-ghost use Rattle.std.specs.Prelude.{◌≡◌, ◌≢◌, ◌⊎◌, ◌↔◌, false, length, IfOk, IfErr, MatchResult};
+ghost use Rattle.std.specs.Prelude.{◌≡◌, ◌≢◌, ◌⊎◌, ◌↔◌, false, length, All, IfOk, IfErr, MatchResult};
 ghost use Rattle.evl_kernel.specs.Callbacks.{AnswersAsTold};
 ghost use Rattle.evl_kernel.specs.KernelViews.{IsOpened};
 ghost use Rattle.evl_kernel.specs.Openings.{can_open};
 ghost use Rattle.evl_machine.specs.Accounts.{informed};
 ghost use Rattle.evl_machine.specs.Handles.{newcomers_of};
 ghost use Rattle.evl_machine.specs.Calls.{Applied, Called, TookKernel};
+ghost use Rattle.evl_machine.specs.Closings.{Closes, KeepsOpen};
 
 use crate::caller::CallerOf;
 use crate::held::HeldOf;
@@ -69,6 +70,25 @@ impl Machine {
         ensures called { Called self.now.of.first.limit caller.old.account call result caller.new.account }
     {
         self.of.try_call(caller, call)
+    }
+
+    /// The kernel with all that its callers did, once they are done with the machine.
+    ///
+    /// `Invalid` where no caller is handed in; `CoreBusy` where the core stands taken, which the first caller tries to
+    /// take; then `Invalid` where there are fewer callers than threads, and the first caller has given the core back.
+    /// The machine and its callers then come back (this profile).
+    pub fn close(self, callers: Vec<Caller>) -> Result<Kernel, (Refusal, Machine, Vec<Caller>)>
+        requires { All (λ c. c.machine ≡ self.of) callers.items }
+        ensures closed { IfOk result (λ k. Closes self.of callers.items k) }
+        ensures answering { IfOk result (λ k. AnswersAsTold (λ c. c.kinds.0) (λ c. c.plan.value) k.callbacks) }
+        ensures refused { IfErr result (λ e. KeepsOpen self.of callers.items e.0 e.2.items) }
+        ensures again { IfErr result (λ e. (e.1.of ≡ self.of) × All (λ c. c.machine ≡ self.of) e.2.items) }
+    {
+        let Machine { of } = self;
+        match of.close(callers) {
+            Ok(kernel) => Ok(kernel),
+            Err((refusal, of, callers)) => Err((refusal, Machine { of }, callers)),
+        }
     }
 
     /// Takes the kernel for as long as the caller likes. The caller comes back only where another has it (this profile).

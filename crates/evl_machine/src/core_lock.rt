@@ -62,3 +62,14 @@ impl<C> Split<Known<C>> for First {
 
     ghost right = { λ v. knows (view None (take 1 v.view.accounts)) v.first };
 }
+
+/// The accounts of another seat come to this one, which leaves the other spent.
+pub(crate) struct Gather;
+
+impl<C> Join<Known<C>> for Gather {
+    ghost use Rattle.evl_machine.specs.Nothing.{no_kernel};
+
+    ghost both = { λ v w. knows (view v.view.taken (v.view.accounts ++ w.view.accounts)) v.first };
+
+    ghost spent = { knows spent no_kernel };
+}

@@ -3,6 +3,7 @@
 
 mod boxed;
 mod caller;
+mod closing;
 mod core_lock;
 mod held;
 pub mod laws;
@@ -10,8 +11,6 @@ mod machine;
 mod making;
 #[cfg(test)]
 mod tests;
-#[cfg(test)]
-mod thread_tests;
 mod views;
 mod waiting;
 

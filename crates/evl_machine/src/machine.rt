@@ -21,6 +21,7 @@ use std::mem;
 #[derive(Drop)]
 pub struct MachineOf<C: Drop, A: Allocator> {
     pub(crate) core: CoreLock<C, A>,
+    pub(crate) threads: u16,
 }
 
 impl<C: Drop, A: Allocator> Model for MachineOf<C, A> {
@@ -31,7 +32,7 @@ impl<C: Drop, A: Allocator> Model for MachineOf<C, A> {
 
     ghost view = { λ m. record { id = m.core.shared.table_id; first = m.core.shared.key.value } };
 
-    ghost invariant = { λ m. (m.core.shared.table_id.words ≡ 1) × (m.core.shared.table_id.slots ≡ 1) };
+    ghost invariant = { λ m. (m.core.shared.table_id.words ≡ 1) × (m.core.shared.table_id.slots ≡ 1) × (m.core.shared.key.value.history.opening.threads ≡ m.threads) };
 }
 
 impl<C: Drop, A: Allocator> MachineOf<C, A> {

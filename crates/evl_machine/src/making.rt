@@ -68,7 +68,7 @@ fn seated<C: Drop, A: Allocator + Clone>(
         return Err(AllocError);
     };
     seat_callers(&core, &mut root, &mut callers, threads)?;
-    Ok((MachineOf { core }, callers))
+    Ok((MachineOf { core, threads }, callers))
 }
 
 /// Gives each thread's account to a caller of its own.

@@ -1,5 +1,8 @@
 ghost use Rattle.std.specs.Prelude.{◌≡◌, IfOk};
 
+mod closing;
+mod threads;
+
 use crate::{Caller, Machine};
 use arrayvec::ArrayVec;
 use evl_base::{Board, Call, Refusal, Reply, SemId};
@@ -7,7 +10,7 @@ use std::alloc::Global;
 use std::test::Fail;
 
 // Two threads and a semaphore of count 0.
-pub(crate) fn two_callers(alloc: Global, limit: u32) -> Result<(Machine, Caller, Caller), Refusal>
+fn two_callers(alloc: Global, limit: u32) -> Result<(Machine, Caller, Caller), Refusal>
     ensures { IfOk result (λ m. (m.1.machine ≡ m.0.of) × (m.2.machine ≡ m.0.of)) }
 {
     let mut sems = ArrayVec::new();
@@ -26,6 +29,26 @@ pub(crate) fn two_callers(alloc: Global, limit: u32) -> Result<(Machine, Caller,
         return Err(Refusal::NoMemory);
     };
     Ok((machine, first, second))
+}
+
+// One call, of which the caller's machine alone is told.
+fn call_of(machine: &Machine, caller: &mut Caller, call: Call) -> Result<Reply, Refusal>
+    requires { caller.old.machine ≡ machine.now.of }
+    ensures { caller.new.machine ≡ caller.old.machine }
+{
+    machine.try_call(caller, call)
+}
+
+fn put() -> Call {
+    Call::Put { sem: SemId(0) }
+}
+
+fn get() -> Call {
+    Call::TryGet { sem: SemId(0) }
+}
+
+fn is_done(answer: &Result<Reply, Refusal>) -> bool {
+    matches!(answer, Ok(Reply::Done))
 }
 
 #[test]
