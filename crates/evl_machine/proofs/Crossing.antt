@@ -94,4 +94,4 @@ module _ (C A : RattleType) (g : Ghosts A.Denot) where
   slot_send s a f = let k = kernel_send s a f in search (crosses, sendable) depth 20
 
   pub machine_sync : IsSend C → IsSend A → IsSync A → Frees g g.dealloc_token → IsSync (MachineOf.the_row C A g)
-  machine_sync s a b f = let o = slot_send s a f in view_sync _ _ _ _ _ (declared_sync (MachineOf.TheInside.the_type C A g) (search (table_sync, lease_sync, struct_sync, sendable) depth 40 fits 20000, tt))
+  machine_sync s a b f = let o = slot_send s a f in view_sync _ _ _ _ _ (declared_sync (MachineOf.TheInside.the_type C A g) (search (table_sync, lease_sync, struct_sync, sendable) depth 40 fits 20000, (search sendable depth 20, tt)))

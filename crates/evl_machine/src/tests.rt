@@ -1,6 +1,7 @@
 ghost use Rattle.std.specs.Prelude.{◌≡◌, IfOk};
 
 mod closing;
+mod racing;
 mod threads;
 
 use crate::{Caller, Machine};

@@ -60,7 +60,7 @@ fn is_get(entry: &Entry, thread: u16) -> bool {
 }
 
 // A caller more, if there is room.
-fn with(mut callers: Vec<Caller>, machine: &Machine, caller: Caller) -> Option<Vec<Caller>>
+pub fn with(mut callers: Vec<Caller>, machine: &Machine, caller: Caller) -> Option<Vec<Caller>>
     requires callers { All (λ c. c.machine ≡ machine.now.of) callers.items }
     requires caller { caller.machine ≡ machine.now.of }
     ensures { IfSome result (λ r. All (λ c. c.machine ≡ machine.now.of) r.items) }
