@@ -2,16 +2,29 @@ ghost use Rattle.std.specs.Prelude.{◌≡◌, IfOk};
 
 mod closing;
 mod racing;
+mod stored;
 mod threads;
 
 use crate::{Caller, Machine};
 use arrayvec::ArrayVec;
 use evl_base::{Board, Call, Refusal, Reply, SemId};
+use evl_pipeline::Callback;
 use std::alloc::Global;
 use std::test::Fail;
 
 // Two threads and a semaphore of count 0.
 fn two_callers(alloc: Global, limit: u32) -> Result<(Machine, Caller, Caller), Refusal>
+    ensures { IfOk result (λ m. (m.1.machine ≡ m.0.of) × (m.2.machine ≡ m.0.of)) }
+{
+    two_callers_over(alloc, Vec::new(alloc), limit)
+}
+
+// The same over a bank.
+fn two_callers_over(
+    alloc: Global,
+    bank: Vec<Callback>,
+    limit: u32,
+) -> Result<(Machine, Caller, Caller), Refusal>
     ensures { IfOk result (λ m. (m.1.machine ≡ m.0.of) × (m.2.machine ≡ m.0.of)) }
 {
     let mut sems = ArrayVec::new();
@@ -25,7 +38,7 @@ fn two_callers(alloc: Global, limit: u32) -> Result<(Machine, Caller, Caller), R
         groups: ArrayVec::new(),
         staxes: ArrayVec::new(),
     };
-    let (machine, mut callers) = Machine::new(alloc, board, Vec::new(alloc), limit)?;
+    let (machine, mut callers) = Machine::new(alloc, board, bank, limit)?;
     let (Some(second), Some(first)) = (callers.pop(), callers.pop()) else {
         return Err(Refusal::NoMemory);
     };

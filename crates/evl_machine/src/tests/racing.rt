@@ -14,11 +14,11 @@ use std::thread::Threads;
 
 // What two host threads told, and what they left.
 #[derive(Drop)]
-struct Outcome {
-    first: u32,
-    second: u32,
-    count: i64,
-    kernel: Kernel,
+pub struct Outcome {
+    pub first: u32,
+    pub second: u32,
+    pub count: i64,
+    pub kernel: Kernel,
 }
 
 // The count of the semaphore.
@@ -42,7 +42,7 @@ fn closed(alloc: Global, machine: Machine, first: Caller, second: Caller) -> Opt
 }
 
 // Both callers work on two host threads, the first one is asked for the count, and the machine is closed.
-fn worked<R: Threads + Wait + Sync>(
+pub fn worked<R: Threads + Wait + Sync>(
     rt: &R,
     alloc: Global,
     machine: Machine,
