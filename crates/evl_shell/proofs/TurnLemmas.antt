@@ -42,6 +42,12 @@ turn-entered limit m step o below is =
     chosen-false (m.entries == limit) (turned_away m) (entered m (stepped m.state step.who.0 step.call)) (ne_eqb m.entries limit below)
     ∙ ap (λ (x : Outcome). entered m x) is
 
+-- an answer that stands for want of memory is that refusal
+pub wanted : (reply : Result Reply Refusal) → wants_memory reply ≡ true → reply ≡ Err NoMemory
+wanted (Ok reply) wants = cc
+wanted (Err NoMemory) wants = refl
+wanted (Err refusal) wants = cc
+
 not_more : (n : ℕ) → number_after n n ≡ None
 not_more n = chosen-false (nat_lt n n) (Some n) None (false_from_ne_true (nat_lt n n) (λ e. absurd (omega (arith, ltb-true n n e))))
 

@@ -1,5 +1,5 @@
 //! A trace on its way to a sink, in chunks.
-ghost use Rattle.std.specs.Prelude.{◌≡◌, [], true, OnOk, OnErr, IfErr};
+ghost use Rattle.std.specs.Prelude.{◌≡◌, [], true, false, OnOk, OnErr, IfErr};
 ghost use Rattle.std.specs.Io.KnownBytes.{Appends};
 ghost use Rattle.evl_shell.specs.Sinks.{TakesPrefix, Passes, PassesPart};
 ghost use Rattle.evl_shell.specs.Faults.{IsCutShort};
@@ -48,9 +48,10 @@ impl Chunks {
         result
     }
 
-    /// Hands on as much of what waits as the sink takes.
+    /// Hands on as much of what waits as the sink takes: all of it, unless the sink fails.
     pub fn give_up<S: Sink>(self, out: &mut S)
-        ensures { TakesPrefix (S.told out.old) (S.told out.new) self }
+        ensures part { TakesPrefix (S.told out.old) (S.told out.new) self }
+        ensures whole { S.has_failed out.new ≡ false → Appends (S.told out.old) (S.told out.new) self }
     {
         match put_all(out, self.waiting.as_slice()) {
             Ok(()) => {}

@@ -44,10 +44,12 @@ fn number_after(before: usize, count: usize) -> Option<usize>
     if before < count { Some(count) } else { None }
 }
 
-// Makes the call of a step. `NoMemory` is all that it is refused for.
+// Makes the call of a step. `NoMemory` is all that it is refused for, and only where the kernel had no room: any other
+// refusal of the call is told.
 fn make_call<C: Handler>(kernel: &mut KernelOf<C, Global>, step: &Step) -> Result<Called, Refusal>
     requires answering { AnswersAsTold C.declared C.plan kernel.old.callbacks }
     ensures answering { AnswersAsTold C.declared C.plan kernel.new.callbacks }
+    ensures memory { IfErr result (λ e. kernel.old.room ≡ 0) }
     ensures turn { IfOk result (λ called. Tells kernel.old kernel.new called.number.0 called.answer.0 (turn kernel.old.limit (moment kernel.old) step.now)) }
 {
     let before = kernel.history().len();

@@ -1,6 +1,6 @@
 use Rattle.std.proofs.Common.{◌∙◌, sym, length}
 use Rattle.evl_shell.specs.Moments.{number_after}
-use Rattle.evl_shell.proofs.TurnLemmas.{made}
+use Rattle.evl_shell.proofs.TurnLemmas.{made, wanted}
 use Rattle.evl_shell.proofs.runs.make_call.Goals as goal
 
 pub returns-clause-turn : goal.returns-clause-turn
@@ -13,3 +13,8 @@ returns-clause-turn g c =
       number_is = c.number_after-number.ensures ∙ (λ i. number_after (length (c.history-before.ensures.entries i)) (length (c.history.ensures.entries i))) ∙ told.number_is;
       answer_is = told.answer_is;
     }
+
+pub returns-then-wants_memory-clause-memory : goal.returns-then-wants_memory-clause-memory
+returns-then-wants_memory-clause-memory g c =
+    let call = c.apply-answer in
+    call.ensures.memory (wanted call.result (sym c.wants_memory.ensures ∙ c.if-wants_memory.true))

@@ -8,4 +8,4 @@ pub returns-in-Ok-clause-part : goal.returns-in-Ok-clause-part
 returns-in-Ok-clause-part g c = TakesPrefix-flush _ _ _ _ _ _ c.new-chunks.ensures c.in-Ok.ensures.ok c.in-Err-flush.ensures.part
 
 pub returns : goal.returns
-returns g c = record { ok = tt; part = TakesPrefix-rest _ _ _ _ _ _ c.new-chunks.ensures c.in-Err.ensures.part c.give_up.ensures; kinds = tt }
+returns g c = record { ok = tt; part = TakesPrefix-rest _ _ _ _ _ _ c.new-chunks.ensures c.in-Err.ensures.part c.give_up.ensures.part; kinds = tt }
