@@ -1,6 +1,7 @@
 ghost use Rattle.std.specs.Prelude.{◌≡◌, IfOk};
 
 mod closing;
+mod growths;
 mod racing;
 mod stored;
 mod threads;
@@ -27,9 +28,17 @@ fn two_callers_over(
 ) -> Result<(Machine, Caller, Caller), Refusal>
     ensures { IfOk result (λ m. (m.1.machine ≡ m.0.of) × (m.2.machine ≡ m.0.of)) }
 {
+    let (machine, mut callers) = Machine::new(alloc, board_of_two(), bank, limit)?;
+    let (Some(second), Some(first)) = (callers.pop(), callers.pop()) else {
+        return Err(Refusal::NoMemory);
+    };
+    Ok((machine, first, second))
+}
+
+fn board_of_two() -> Board {
     let mut sems = ArrayVec::new();
     sems.push(0);
-    let board = Board {
+    Board {
         threads: 2,
         sems,
         flags: ArrayVec::new(),
@@ -37,12 +46,7 @@ fn two_callers_over(
         mutexes: ArrayVec::new(),
         groups: ArrayVec::new(),
         staxes: ArrayVec::new(),
-    };
-    let (machine, mut callers) = Machine::new(alloc, board, bank, limit)?;
-    let (Some(second), Some(first)) = (callers.pop(), callers.pop()) else {
-        return Err(Refusal::NoMemory);
-    };
-    Ok((machine, first, second))
+    }
 }
 
 // One call, of which the caller's machine alone is told.
