@@ -1,5 +1,5 @@
 -- A call of the kernel between a take and a give.
-use Rattle.std.proofs.Common.{◌≡◌, ℕ, List, [], ◌∷◌, ◌++◌, Bool, true, false, true≢false, None, Result, Ok, Err, length, refl, sym, ap, ◌∙◌, subst}
+use Rattle.std.proofs.Common.{◌≡◌, ◌↔◌, ◌+◌, ◌≤◌, ℕ, List, [], ◌∷◌, ◌++◌, Bool, true, false, true≢false, None, Result, Ok, Err, length, refl, sym, ap, ◌∙◌, subst}
 use Rattle.std.proofs.lemmas.List.{append-nil}
 use lib.ListN.{get_elem?}
 use Rattle.evl_base.specs.declared.numbers.ThreadId.{ThreadId}
@@ -121,8 +121,8 @@ module _ {C : Type 0} where
   -- what the kernel's contract says of a call
   pub applies : (k : KernelView C) (t : ℕ) (c : Call) (r : Result Reply Refusal) (k' : KernelView C)
       → (makes_entry r ≡ true → (plays : List Play) × Adds k.history t c r plays k'.history) → (makes_entry r ≡ false → k'.history ≡ k.history)
-      → (r ≡ Err HistoryFull → length k.history.entries ≡ k.limit) → IsKernelAnswer r → ComesFrom k k' → IsLegal k'.history → Applied k t c r k'
-  applies k t c r k' entered refused full answers comes legal = record { entered = entered; refused = refused; full = full; answers = answers; comes = comes; legal = legal }
+      → ((r ≡ Err HistoryFull) ↔ (length k.history.entries ≡ k.limit)) → (r ≡ Err NoMemory → k.room ≡ 0) → k.room ≤ k'.room + 1 → IsKernelAnswer r → ComesFrom k k' → IsLegal k'.history → Applied k t c r k'
+  applies k t c r k' entered refused full memory room answers comes legal = record { entered = entered; refused = refused; full = full.0; filled = full.1; memory = memory; room = room; answers = answers; comes = comes; legal = legal }
 
   applied_by : (me : CoreMe (KernelView C)) (thread : ThreadId) (c : Call) (r : Result Reply Refusal) (k k' : KernelView C) → IsCaller me thread → Applied k thread.0 c r k' → Applied k (account_of me).thread c r k'
   applied_by me thread c r k k' is done = subst (λ (t : ℕ). Applied k t c r k') (sym is.own) done

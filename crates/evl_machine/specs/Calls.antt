@@ -1,10 +1,10 @@
 -- What one call of the kernel tells its caller.
-use Rattle.std.specs.Prelude.{◌≡◌, ℕ, List, [], ◌∷◌, ◌++◌, Bool, true, false, length, map, Result, Ok, Err, None}
+use Rattle.std.specs.Prelude.{◌≡◌, ◌+◌, ◌≤◌, ℕ, List, [], ◌∷◌, ◌++◌, Bool, true, false, length, map, Result, Ok, Err, None}
 use Rattle.evl_base.specs.declared.numbers.ThreadId.{ThreadId}
 use Rattle.evl_base.specs.declared.call.Call.{Call}
 use Rattle.evl_base.specs.declared.reply.Reply.{Reply}
 use Rattle.evl_base.specs.declared.refusal.Refusal.{Refusal}
-use Rattle.evl_base.specs.declared.refusal.Refusal.TheVariants.{CoreBusy, HistoryFull}
+use Rattle.evl_base.specs.declared.refusal.Refusal.TheVariants.{NoMemory, CoreBusy, HistoryFull}
 use Rattle.evl_base.specs.declared.play.Play.{Play}
 use Rattle.evl_kernel.specs.Histories.{History, IsLegal}
 use Rattle.evl_kernel.specs.KernelViews.{KernelView, IsKernelAnswer, Adds, entry_of, makes_entry, refusal_enters}
@@ -16,11 +16,14 @@ use Rattle.evl_machine.specs.CoreRule.{CoreMe, view}
 use Rattle.evl_machine.specs.Known.{ComesFrom, knows}
 use Rattle.evl_machine.specs.Handles.{CallerState, HeldState, Continues, account_of, first_account, seated, holding}
 
--- a call of the kernel adds just its entry, or leaves the history
+-- a call of the kernel adds just its entry, or leaves the history: it is full, or no room was made for the call
 pub record Applied {C : Type 0} (old : KernelView C) (thread : ℕ) (c : Call) (r : Result Reply Refusal) (new : KernelView C) : Type 0 where
   pub entered : makes_entry r ≡ true → (plays : List Play) × Adds old.history thread c r plays new.history
   pub refused : makes_entry r ≡ false → new.history ≡ old.history
   pub full : r ≡ Err HistoryFull → length old.history.entries ≡ old.limit
+  pub filled : length old.history.entries ≡ old.limit → r ≡ Err HistoryFull
+  pub memory : r ≡ Err NoMemory → old.room ≡ 0
+  pub room : old.room ≤ new.room + 1
   pub answers : IsKernelAnswer r
   pub comes : ComesFrom old new
   pub legal : IsLegal new.history

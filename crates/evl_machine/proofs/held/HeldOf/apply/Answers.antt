@@ -15,11 +15,11 @@ apply-requires g c =
 pub invariant_of-self : goal.invariant_of-self
 invariant_of-self g c =
     let e = c.apply.ensures in
-    (c.self.invariant.0, held_applied _ _ _ _ _ c.apply.new.self c.self.invariant.1 (applies _ _ _ _ _ e.entry e.none e.full.0 e.answers (record { brings = e.brings; told_is = e.told; limit = e.limit }) e.legal), comes_on _ c.self.inside.kernel _ c.self.invariant.2 (record { brings = e.brings; told_is = e.told; limit = e.limit }))
+    (c.self.invariant.0, held_applied _ _ _ _ _ c.apply.new.self c.self.invariant.1 (applies _ _ _ _ _ e.entry e.none e.full e.memory e.room e.answers (record { brings = e.brings; told_is = e.told; limit = e.limit }) e.legal), comes_on _ c.self.inside.kernel _ c.self.invariant.2 (record { brings = e.brings; told_is = e.told; limit = e.limit }))
 
 pub returns-clause-applied : goal.returns-clause-applied
 returns-clause-applied g c =
     let e = c.apply.ensures in
-    let done = applies c.self.inside.kernel c.self.inside.thread.0 c.args.call c.apply.result c.apply.new.self e.entry e.none e.full.0 e.answers (record { brings = e.brings; told_is = e.told; limit = e.limit }) e.legal in
+    let done = applies c.self.inside.kernel c.self.inside.thread.0 c.args.call c.apply.result c.apply.new.self e.entry e.none e.full e.memory e.room e.answers (record { brings = e.brings; told_is = e.told; limit = e.limit }) e.legal in
     subst (λ (h : HeldState _). Applied h.kernel h.account.thread c.args.call c.apply.result c.apply.new.self) c.self.view_is
     (subst (λ (t : ℕ). Applied c.self.inside.kernel t c.args.call c.apply.result c.apply.new.self) (sym c.self.invariant.1.own) done)

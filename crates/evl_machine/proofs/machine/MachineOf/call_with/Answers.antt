@@ -16,14 +16,14 @@ give_kernel-requires-clause-comes g c =
 pub give_kernel-requires-clause-kernel : goal.give_kernel-requires-clause-kernel
 give_kernel-requires-clause-kernel g c =
     let e = c.apply-reply.ensures in
-    may_continue _ _ _ _ _ c.in-Some.kernel c.apply-reply.new.self c.requires.caller.1 c.in-Some.ensures.taken.0 (applies _ _ _ _ _ e.entry e.none e.full.0 e.answers (record { brings = e.brings; told_is = e.told; limit = e.limit }) e.legal)
+    may_continue _ _ _ _ _ c.in-Some.kernel c.apply-reply.new.self c.requires.caller.1 c.in-Some.ensures.taken.0 (applies _ _ _ _ _ e.entry e.none e.full e.memory e.room e.answers (record { brings = e.brings; told_is = e.told; limit = e.limit }) e.legal)
 
 pub returns-clause-rests : goal.returns-clause-rests
 returns-clause-rests g c =
     let e = c.apply-reply.ensures in
-    still_caller _ _ _ _ _ _ c.in-Some.kernel c.apply-reply.new.self c.requires.caller.1 c.in-Some.ensures.taken.0 (applies _ _ _ _ _ e.entry e.none e.full.0 e.answers (record { brings = e.brings; told_is = e.told; limit = e.limit }) e.legal) c.give_kernel.ensures.given
+    still_caller _ _ _ _ _ _ c.in-Some.kernel c.apply-reply.new.self c.requires.caller.1 c.in-Some.ensures.taken.0 (applies _ _ _ _ _ e.entry e.none e.full e.memory e.room e.answers (record { brings = e.brings; told_is = e.told; limit = e.limit }) e.legal) c.give_kernel.ensures.given
 
 pub returns-clause-called : goal.returns-clause-called
 returns-clause-called g c =
     let e = c.apply-reply.ensures in
-    called _ _ _ _ _ _ _ c.in-Some.kernel c.apply-reply.new.self c.in-Some.ensures.taken.1.limit c.requires.caller.1 c.in-Some.ensures.taken.0 (applies _ _ _ _ _ e.entry e.none e.full.0 e.answers (record { brings = e.brings; told_is = e.told; limit = e.limit }) e.legal) c.give_kernel.ensures.given
+    called _ _ _ _ _ _ _ c.in-Some.kernel c.apply-reply.new.self c.in-Some.ensures.taken.1.limit c.requires.caller.1 c.in-Some.ensures.taken.0 (applies _ _ _ _ _ e.entry e.none e.full e.memory e.room e.answers (record { brings = e.brings; told_is = e.told; limit = e.limit }) e.legal) c.give_kernel.ensures.given
