@@ -35,7 +35,9 @@ fn two_callers_over(
     Ok((machine, first, second))
 }
 
-fn board_of_two() -> Board {
+fn board_of_two() -> Board
+    ensures { result.threads ≡ 2 }
+{
     let mut sems = ArrayVec::new();
     sems.push(0);
     Board {
