@@ -7,7 +7,7 @@ use Rattle.atomic_table.proofs.Lists.{set_else}
 use Rattle.evl_base.specs.declared.entry.Entry.{Entry}
 use Rattle.evl_base.specs.declared.play.Play.{Play}
 use Rattle.evl_kernel.specs.States.{State}
-use Rattle.evl_kernel.specs.Histories.{History, Run, EntryStep, IsLegal}
+use Rattle.evl_kernel.specs.Histories.{History, Run, IsLegal}
 use Rattle.evl_machine.specs.declared.views.Account.{Account}
 use Rattle.evl_machine.specs.declared.views.CoreView.{CoreView}
 use Rattle.evl_machine.specs.Accounts.{GoesOn, BeginsWith, calls_by, MadeBy, Fits}

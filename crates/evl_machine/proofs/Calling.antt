@@ -12,12 +12,11 @@ use Rattle.evl_base.specs.declared.refusal.Refusal.TheVariants.{NoMemory, Histor
 use Rattle.evl_kernel.specs.Histories.{History, IsLegal}
 use Rattle.evl_kernel.specs.KernelViews.{KernelView, IsKernelAnswer, Adds, entry_of, makes_entry}
 use Rattle.evl_machine.specs.declared.views.Account.{Account}
-use Rattle.evl_machine.specs.declared.views.Known.{Known}
 use Rattle.evl_machine.specs.Accounts.{GoesOn, MadeBy, Fits, saw, informed, calls_by}
-use Rattle.evl_machine.specs.CoreRule.{CoreMe, after_take, view}
-use Rattle.evl_machine.specs.Known.{ComesFrom, KernelMe, past_of, seen, first_of, knows}
+use Rattle.evl_machine.specs.CoreRule.{CoreMe, after_take}
+use Rattle.evl_machine.specs.Known.{ComesFrom, past_of}
 use Rattle.evl_machine.specs.Handles.{MachineState, Taken, Continues, holding, seated, account_of}
-use Rattle.evl_machine.specs.Calls.{Applied, IsAccount, IsCaller, IsAtRest, account_in, first_in, completes, Enters, Called, IsHeld, TookKernel}
+use Rattle.evl_machine.specs.Calls.{Applied, IsAccount, IsCaller, completes, Enters, Called, IsHeld, TookKernel}
 use Rattle.evl_machine.proofs.Accounts.{goes_on_none, goes_on_more, made_by-append, starts_whole, starts_longer, calls_by-append, calls_by-own}
 
 -- what adds an entry goes on by it

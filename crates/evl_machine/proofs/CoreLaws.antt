@@ -1,15 +1,14 @@
 -- The conditions of the core's world hold after any list of atomic steps.
-use Rattle.std.proofs.Common.{◌≡◌, ◌≢◌, ◌⊎◌, ℕ, List, [], ◌∷◌, ◌++◌, set, Option, Some, None, refl, sym, ap, ◌∙◌, subst, ⊎_elim, arith}
+use Rattle.std.proofs.Common.{◌≡◌, ℕ, List, [], ◌∷◌, ◌++◌, set, Option, Some, sym, ap, ◌∙◌, subst, ⊎_elim, arith}
 use mathlib.Core.Option.{some, none, some-injective}
 use mathlib.Core.Option as maybe
 use lib.ListN.{get_elem?}
-use Rattle.atomic_table.specs.Table.{State}
 use Rattle.atomic_table.proofs.Lists.{set_else}
 use Rattle.evl_kernel.specs.Histories.{History, IsLegal}
 use Rattle.evl_words.specs.Machine.{Run}
 use Rattle.evl_machine.specs.declared.views.CoreView.{CoreView}
 use Rattle.evl_machine.specs.Accounts.{GoesOn}
-use Rattle.evl_machine.specs.CoreRule.{CoreKept, Core, IsFree, IsTaken, Kept, MayGive, after_take, after_give, spent, view}
+use Rattle.evl_machine.specs.CoreRule.{CoreKept, Core, IsFree, IsTaken, Kept, MayGive, after_take, after_give, view}
 use Rattle.evl_machine.specs.CoreWorld.{CoreWorld, CoreEvent, CoreHappens, IsCoreWorld, opening_world, takes, fails, gives, splits, joins, moves_out, moves_in}
 use Rattle.evl_machine.proofs.CoreSteps.{taken_core, given_core, holder_is, splits_core, joins_core, opens_core}
 

@@ -2,12 +2,11 @@
 use Rattle.std.proofs.Common.{◌≡◌, eqb, ℕ, List, [], ◌∷◌, Option, Some, None, MatchOption, refl, sym, ap, ◌∙◌, subst, slice_get}
 use prog.Atomic.{either}
 use mathlib.Core.Option.{none}
-use Rattle.atomic_table.specs.Table.{Me, step, Allows, rest}
+use Rattle.atomic_table.specs.Table.{step, Allows, rest}
 use Rattle.evl_pipeline.specs.declared.plan.Plan.{Plan}
 use Rattle.evl_kernel.specs.States.{Handler}
 use Rattle.evl_kernel.specs.KernelViews.{KernelView}
-use Rattle.evl_kernel.specs.Callbacks.{AnswersAsTold, told}
-use Rattle.evl_machine.specs.declared.views.Known.{Known}
+use Rattle.evl_kernel.specs.Callbacks.{AnswersAsTold}
 use Rattle.evl_machine.specs.Beside.{AllHeld}
 use Rattle.evl_machine.specs.Handles.{MachineState}
 use Rattle.evl_machine.specs.CoreRule.{Kept, MayGive, took, gave}

@@ -1,6 +1,5 @@
 -- A new lock keeps its rule, and the first seat's accounts go to seats of their own, one after another.
-use Rattle.std.proofs.Common.{◌≡◌, ℕ, zero, suc, ◌+◌, ◌-◌, ◌<◌, List, [], ◌∷◌, ◌++◌, map, Option, Some, None, take, drop, refl, sym, ap, ◌∙◌, subst, arith, zero-add}
-use Rattle.std.specs.List.{range_with_len}
+use Rattle.std.proofs.Common.{◌≡◌, ℕ, zero, suc, ◌+◌, ◌-◌, ◌<◌, List, [], ◌∷◌, ◌++◌, Option, Some, None, take, drop, refl, sym, ap, ◌∙◌, subst, arith, zero-add}
 use Rattle.std.proofs.lemmas.List.FromFn.{map-range_with_len_more}
 use mathlib.Core.Option.{some, some-injective, some-ne-none}
 use lib.ListN.{get_elem?}
@@ -9,17 +8,15 @@ use Rattle.atomic_table.specs.Seated.{TableId}
 use Rattle.evl_base.specs.declared.board.Board.{Board}
 use Rattle.evl_base.specs.declared.numbers.ThreadId.{ThreadId}
 use Rattle.evl_base.specs.declared.entry.Entry.{Entry}
-use Rattle.evl_base.specs.declared.play.Play.{Play}
 use Rattle.evl_pipeline.specs.declared.plan.Plan.{Plan}
-use Rattle.evl_kernel.specs.States.{State}
 use Rattle.evl_kernel.specs.Histories.{History, Run, IsLegal}
 use Rattle.evl_kernel.specs.KernelViews.{KernelView, IsOpened}
 use Rattle.evl_machine.specs.declared.views.Account.{Account}
 use Rattle.evl_machine.specs.declared.views.Known.{Known}
 use Rattle.evl_machine.specs.Accounts.{newcomer, newcomers, calls_by}
 use Rattle.evl_machine.specs.CoreRule.{CoreMe, Kept, view}
-use Rattle.evl_machine.specs.Known.{ComesFrom, HasCome, IsLive, KernelMe, KeptKnown, first_known, first_of, view_of, past_of, knows, seen}
-use Rattle.evl_machine.specs.Handles.{MachineState, CallerState, account_of, newcomer_of, newcomers_of, seated}
+use Rattle.evl_machine.specs.Known.{ComesFrom, HasCome, IsLive, KeptKnown, first_known, first_of, view_of, past_of, knows}
+use Rattle.evl_machine.specs.Handles.{MachineState, CallerState, newcomer_of, newcomers_of, seated}
 use Rattle.evl_machine.specs.Calls.{IsCaller}
 use Rattle.evl_machine.proofs.BesideSteps.{splits_both}
 use Rattle.evl_machine.proofs.CoreSteps.{opens_core, splits_core}

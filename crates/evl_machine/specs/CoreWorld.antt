@@ -3,7 +3,7 @@ use Rattle.std.specs.Prelude.{◌≡◌, ◌≢◌, ℕ, List, [], ◌∷◌, �
 use mathlib.Core.Option.{some, none}
 use mathlib.Core.Option as maybe
 use lib.ListN.{get_elem?}
-use Rattle.evl_kernel.specs.Histories.{History, IsLegal}
+use Rattle.evl_kernel.specs.Histories.{History}
 use Rattle.evl_machine.specs.declared.views.CoreView.{CoreView}
 use Rattle.evl_machine.specs.CoreRule.{CoreKept, MayGive, after_take, after_give, root, spent, view}
 

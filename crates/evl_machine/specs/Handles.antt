@@ -7,7 +7,6 @@ use Rattle.evl_kernel.specs.Histories.{History, IsLegal}
 use Rattle.evl_kernel.specs.KernelViews.{KernelView}
 use Rattle.evl_machine.specs.Nothing.{no_history}
 use Rattle.evl_machine.specs.declared.views.Account.{Account}
-use Rattle.evl_machine.specs.declared.views.CoreView.{CoreView}
 use Rattle.evl_machine.specs.Accounts.{GoesOn, MadeBy, account, calls_by, newcomer}
 use Rattle.evl_machine.specs.CoreRule.{AccountsFit, CoreMe, after_take, view}
 

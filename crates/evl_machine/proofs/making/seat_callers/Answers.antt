@@ -1,4 +1,4 @@
-use Rattle.std.proofs.Common.{sym, ap, ◌∙◌, arith}
+use Rattle.std.proofs.Common.{ap, ◌∙◌, arith}
 use Rattle.evl_machine.specs.Handles.{account_of}
 use Rattle.evl_machine.specs.Known.{seen}
 use Rattle.evl_machine.proofs.Knowing.{first_in_me}

@@ -1,7 +1,6 @@
-use Rattle.std.proofs.Common.{ap, sym, ◌∙◌, subst}
-use Rattle.evl_machine.specs.Handles.{account_of}
-use Rattle.evl_machine.specs.Known.{ComesFrom, past_of, seen}
-use Rattle.evl_machine.proofs.Calling.{applies, may_continue, called, still_caller, called_none}
+use Rattle.std.proofs.Common.{sym, subst}
+use Rattle.evl_machine.specs.Known.{ComesFrom}
+use Rattle.evl_machine.proofs.Calling.{applies, may_continue, called, still_caller}
 use Rattle.evl_machine.proofs.Knowing.{answers_still, comes_on}
 use Rattle.evl_machine.proofs.machine.MachineOf.call_with.Goals as goal
 

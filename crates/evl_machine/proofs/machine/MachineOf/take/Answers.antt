@@ -1,6 +1,6 @@
-use Rattle.std.proofs.Common.{◌≡◌, ap, sym, ◌∙◌, subst}
+use Rattle.std.proofs.Common.{ap, sym, ◌∙◌, subst}
 use Rattle.evl_kernel.specs.KernelViews.{KernelView}
-use Rattle.evl_machine.specs.Handles.{CallerState, MachineState, account_of}
+use Rattle.evl_machine.specs.Handles.{CallerState, account_of}
 use Rattle.evl_machine.specs.Known.{ComesFrom, seen}
 use Rattle.evl_machine.specs.Calls.{TookKernel}
 use Rattle.evl_machine.proofs.Calling.{is_held, took_kernel}
