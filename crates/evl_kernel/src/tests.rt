@@ -3,6 +3,8 @@ ghost use Rattle.std.specs.Prelude.{◌≡◌, [], ◌∷◌, true, IfOk};
 ghost use Rattle.evl_kernel.specs.Callbacks.{AnswersAsTold};
 ghost use Rattle.evl_pipeline.specs.Plans.{divides};
 
+mod growths;
+
 use crate::{Kernel, KernelOf};
 use arrayvec::ArrayVec;
 use bitflags::Flags;
