@@ -13,3 +13,4 @@ pub mod QuietLaws
 pub mod OutsideLaws
 pub mod SilenceLaws
 pub mod WorldLaws
+pub mod Crossing

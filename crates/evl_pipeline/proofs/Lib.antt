@@ -3,3 +3,4 @@ pub mod PortLaws
 pub mod LineLaws
 pub mod AllowedLaws
 pub mod Rows
+pub mod Crossing

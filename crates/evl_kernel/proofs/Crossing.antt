@@ -1,0 +1,38 @@
+-- A kernel may go to another host thread, as its callbacks and its allocator may.
+use denote.RattleType.{RattleType}
+use denote.Param.Send.{Frees, IsSend, sendable, view_send}
+use Rattle.std.specs.declared.alloc.Allocator.{Ghosts}
+use Rattle.std.specs.contracts.vec.Vec as Vec
+use Rattle.std.proofs.CrossingOver.{crosses}
+use Rattle.evl_base.specs.contracts.entry.Entry as Entry
+use Rattle.evl_base.specs.contracts.play.Play as Play
+use Rattle.evl_base.proofs.Crossing.{board_send, declared_send, entry_send, play_send}
+use Rattle.evl_pipeline.proofs.Crossing.{pipeline_send}
+use Rattle.evl_kernel.specs.contracts.bank.BankPlace as BankPlace
+use Rattle.evl_kernel.specs.contracts.bank.Numbered as Numbered
+use Rattle.evl_kernel.specs.contracts.records.Records as Records
+use Rattle.evl_kernel.specs.contracts.kernel.KernelOf as KernelOf
+
+module _ (C A : RattleType) (g : Ghosts A.Denot) where
+  plays_send : IsSend A → Frees g g.dealloc_token → IsSend (Vec.the_row Play.the_row A g)
+  plays_send a f = search (play_send, crosses, sendable) depth 20
+
+  entries_send : IsSend A → Frees g g.dealloc_token → IsSend (Vec.the_row Entry.the_row A g)
+  entries_send a f = search (entry_send, crosses, sendable) depth 20
+
+  places_send : IsSend C → IsSend A → Frees g g.dealloc_token → IsSend (Vec.the_row (BankPlace.the_row C) A g)
+  places_send s a f = search (declared_send, crosses, sendable) depth 20 fits 20000
+
+  numbered_send : IsSend C → IsSend (Numbered.the_row C)
+  numbered_send s = search (declared_send, crosses, sendable) depth 20
+
+module _ (C A : RattleType) (g : Ghosts A.Denot) where
+  records_send : IsSend C → IsSend A → Frees g g.dealloc_token → IsSend (Records.the_row C A g)
+  records_send s a f =
+      let places = places_send C A g s a f in let lines = pipeline_send (Numbered.the_row C) A g (numbered_send C A g s) a f in
+      search (view_send, declared_send, crosses, sendable) depth 20
+
+  pub kernel_send : IsSend C → IsSend A → Frees g g.dealloc_token → IsSend (KernelOf.the_row C A g)
+  kernel_send s a f =
+      let records = records_send s a f in let board = board_send in let plays = plays_send C A g a f in let entries = entries_send C A g a f in
+      search (view_send, declared_send, crosses, sendable) depth 20
