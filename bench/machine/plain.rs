@@ -1,17 +1,36 @@
-//! The same plain step behind a std::sync::Mutex: of one host thread, and of two.
+//! The same plain step on the same data behind a std::sync::Mutex: of one host thread, and of two.
 use std::hint::black_box;
+use std::mem::MaybeUninit;
 use std::sync::Mutex;
 use std::time::Instant;
 
 const ROUNDS: u32 = 200_000;
 
-#[derive(Clone, Copy)]
+#[allow(dead_code)]
 enum Call {
+    Request { line: u16, stage: u8, callback: u8, tag: u32 },
     TryGet { sem: u16 },
     Put { sem: u16 },
 }
 
-#[derive(Clone, Copy, PartialEq)]
+#[allow(dead_code)]
+#[derive(Clone, Copy)]
+struct Bytes {
+    len: usize,
+    bytes: [MaybeUninit<u8>; 256],
+}
+
+// What a call answers: up to 256 bytes, as the kernel's reply.
+#[allow(dead_code)]
+#[derive(Clone, Copy)]
+enum Reply {
+    Done,
+    Count(i64),
+    Bytes(Bytes),
+}
+
+#[allow(dead_code)]
+#[derive(Clone, Copy)]
 enum Refusal {
     Again,
     Unknown,
@@ -23,7 +42,7 @@ enum Refusal {
 struct Entry {
     caller: u16,
     call: Call,
-    reply: Result<(), Refusal>,
+    reply: Result<Reply, Refusal>,
     plays: usize,
 }
 
@@ -35,17 +54,18 @@ struct Kernel {
 }
 
 impl Kernel {
-    fn step(&mut self, caller: u16, call: Call) -> Result<(), Refusal> {
+    fn step(&mut self, caller: u16, call: &Call) -> Result<Reply, Refusal> {
         if caller >= self.threads {
             return Err(Refusal::Unknown);
         }
-        match call {
+        match *call {
+            Call::Request { .. } => Err(Refusal::Unknown),
             Call::TryGet { sem } => match self.sems.get_mut(usize::from(sem)) {
                 None => Err(Refusal::Unknown),
                 Some(0) => Err(Refusal::Again),
                 Some(count) => {
                     *count -= 1;
-                    Ok(())
+                    Ok(Reply::Done)
                 }
             },
             Call::Put { sem } => match self.sems.get_mut(usize::from(sem)) {
@@ -53,17 +73,17 @@ impl Kernel {
                 Some(2_147_483_647) => Err(Refusal::Limit),
                 Some(count) => {
                     *count += 1;
-                    Ok(())
+                    Ok(Reply::Done)
                 }
             },
         }
     }
 
-    fn apply(&mut self, caller: u16, call: Call) -> Result<(), Refusal> {
+    fn apply(&mut self, caller: u16, call: Call) -> Result<Reply, Refusal> {
         if self.history.len() == self.limit {
             return Err(Refusal::HistoryFull);
         }
-        let reply = self.step(caller, call);
+        let reply = self.step(caller, &call);
         self.history.push(Entry { caller, call, reply, plays: 0 });
         reply
     }

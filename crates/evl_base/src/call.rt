@@ -1,5 +1,5 @@
 //! The calls of the kernel.
-ghost use Rattle.std.specs.Prelude.{Some};
+ghost use Rattle.std.specs.Prelude.{◌≡◌, Some};
 
 use crate::numbers::{LineNo, SemId};
 use crate::stage::Stage;
@@ -49,6 +49,41 @@ pub enum Call {
     Peek {
         sem: SemId,
     },
+}
+
+impl Call {
+    /// The same call once more. `Call` isn't `Copy`, as it may carry bytes.
+    pub fn copied(&self) -> Call
+        ensures { result ≡ self.now }
+    {
+        match self {
+            Call::Request {
+                line,
+                stage,
+                callback,
+                tag,
+            } => Call::Request {
+                line: *line,
+                stage: *stage,
+                callback: *callback,
+                tag: *tag,
+            },
+            Call::Free { line, stage } => Call::Free {
+                line: *line,
+                stage: *stage,
+            },
+            Call::Arrive { line } => Call::Arrive { line: *line },
+            Call::Post { stage, line } => Call::Post {
+                stage: *stage,
+                line: *line,
+            },
+            Call::Stall { stage } => Call::Stall { stage: *stage },
+            Call::Unstall { stage } => Call::Unstall { stage: *stage },
+            Call::TryGet { sem } => Call::TryGet { sem: *sem },
+            Call::Put { sem } => Call::Put { sem: *sem },
+            Call::Peek { sem } => Call::Peek { sem: *sem },
+        }
+    }
 }
 
 impl fmt::Display for Call {

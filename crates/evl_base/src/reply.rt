@@ -8,7 +8,9 @@ use std::fmt;
 /// What a call that wasn't refused answers (this profile).
 #[derive(Debug, Drop)]
 pub enum Reply {
+    /// The call is done, and there is nothing to tell.
     Done,
+    /// The caller waits from now on.
     Begun,
     /// A semaphore's count, or minus the number of its waiters.
     Count(i64),
@@ -22,6 +24,7 @@ pub enum Reply {
     Chosen(Option<ThreadId>),
     /// The next owner of a mutex, if there is one, and whether more threads wait.
     Handed { next: Option<ThreadId>, more: bool },
+    /// The wait ended at its deadline.
     TimedOut,
 }
 

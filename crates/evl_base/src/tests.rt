@@ -1,6 +1,8 @@
+ghost use Rattle.std.specs.Prelude.{◌≡◌, []};
+
 use crate::{
-    Board, Bytes, Call, LineNo, Play, Refusal, Reply, SemId, Stage, ThreadId, TimerId, put_call,
-    put_play, put_reply,
+    Board, Bytes, Call, LineNo, MutexKind, Play, Policy, Refusal, Reply, SemId, Stage, Take,
+    ThreadId, TimerId, Way, put_call, put_play, put_reply,
 };
 use arrayvec::ArrayVec;
 use std::alloc::Global;
@@ -39,7 +41,10 @@ fn replies_have_their_texts(rt: HostRuntime) -> Result<(), Fail> {
     bytes.push(0xff);
     let cases = [
         (Ok(Reply::Done), "done"),
+        (Ok(Reply::Begun), "begun"),
         (Ok(Reply::Count(-2)), "count -2"),
+        (Ok(Reply::Bits(4_294_967_295)), "bits 4294967295"),
+        (Ok(Reply::Number(540)), "number 540"),
         (Ok(Reply::Bytes(bytes)), "bytes 610aff"),
         (Ok(Reply::Bytes(Bytes::new())), "bytes -"),
         (Ok(Reply::Chosen(None)), "thread none"),
@@ -49,6 +54,21 @@ fn replies_have_their_texts(rt: HostRuntime) -> Result<(), Fail> {
                 more: true,
             }),
             "next 3 more",
+        ),
+        (Ok(Reply::Chosen(Some(ThreadId(63)))), "thread 63"),
+        (
+            Ok(Reply::Handed {
+                next: Some(ThreadId(0)),
+                more: false,
+            }),
+            "next 0",
+        ),
+        (
+            Ok(Reply::Handed {
+                next: None,
+                more: true,
+            }),
+            "next none",
         ),
         (Ok(Reply::TimedOut), "timed out"),
         (
@@ -87,20 +107,154 @@ fn plays_have_their_texts(rt: HostRuntime) -> Result<(), Fail> {
         text.as_slice(),
         b"timer 0 count 1 missed 3 none".as_slice()
     );
+    let text = play_text(rt.alloc(), Play::Clock).map_err(|_| "clock")?;
+    assert_eq!(rt; text.as_slice(), b"clock".as_slice());
+    let deadline = Play::Deadline {
+        thread: ThreadId(2),
+    };
+    let text = play_text(rt.alloc(), deadline).map_err(|_| "deadline")?;
+    assert_eq!(rt; text.as_slice(), b"deadline T2".as_slice());
     Ok(())
 }
 
 #[test]
-fn a_board_is_checked(rt: HostRuntime) -> Result<(), Fail> {
-    let mut board = Board {
-        threads: 64,
+fn refusals_have_their_numbers_and_names(rt: HostRuntime) {
+    let table = [
+        (Refusal::NoMemory, 1, "NoMemory"),
+        (Refusal::HistoryFull, 2, "HistoryFull"),
+        (Refusal::CoreBusy, 3, "CoreBusy"),
+        (Refusal::Unknown, 4, "Unknown"),
+        (Refusal::Invalid, 5, "Invalid"),
+        (Refusal::Again, 6, "Again"),
+        (Refusal::Busy, 7, "Busy"),
+        (Refusal::NotOwner, 8, "NotOwner"),
+        (Refusal::Deadlock, 9, "Deadlock"),
+        (Refusal::Limit, 10, "Limit"),
+        (Refusal::Range, 11, "Range"),
+        (Refusal::TooBig, 12, "TooBig"),
+        (Refusal::WrongStage, 13, "WrongStage"),
+        (Refusal::HoldsStax, 14, "HoldsStax"),
+        (
+            Refusal::Raced {
+                first: 1,
+                second: 2,
+            },
+            15,
+            "Raced",
+        ),
+    ];
+    for (refusal, number, name) in table {
+        assert!(rt; refusal.number() == number && refusal.name() == name);
+    }
+}
+
+#[test]
+fn policies_takes_and_ways_have_their_texts(rt: HostRuntime) -> Result<(), Fail> {
+    let policies = [
+        (Policy::Fifo(99), "fifo 99"),
+        (
+            Policy::Rr {
+                prio: 10,
+                slice: 100,
+            },
+            "rr 10 100",
+        ),
+        (Policy::Quota { group: 0, prio: 5 }, "quota 0 5"),
+        (Policy::Weak(0), "weak 0"),
+    ];
+    for (policy, expected) in policies {
+        let text = policy.to_string(rt.alloc()).map_err(|_| "policy")?;
+        assert!(rt; text.as_str() == expected);
+    }
+    let takes = [
+        (Take::Any, "any"),
+        (Take::Of(1), "of 1"),
+        (Take::Exact(6), "exact 6"),
+    ];
+    for (take, expected) in takes {
+        let text = take.to_string(rt.alloc()).map_err(|_| "take")?;
+        assert!(rt; text.as_str() == expected);
+    }
+    for (way, expected) in [(Way::In, "in"), (Way::Out, "out")] {
+        let text = way.to_string(rt.alloc()).map_err(|_| "way")?;
+        assert!(rt; text.as_str() == expected);
+    }
+    Ok(())
+}
+
+// A board of so many threads, and nothing else.
+fn bare_board(threads: u16) -> Board
+    ensures sems { result.sems.items ≡ [] }
+    ensures xbufs { result.xbufs.items ≡ [] }
+    ensures mutexes { result.mutexes.items ≡ [] }
+    ensures groups { result.groups.items ≡ [] }
+    ensures staxes { result.staxes.items ≡ [] }
+{
+    Board {
+        threads,
         sems: ArrayVec::new(),
         flags: ArrayVec::new(),
         xbufs: ArrayVec::new(),
         mutexes: ArrayVec::new(),
         groups: ArrayVec::new(),
         staxes: ArrayVec::new(),
-    };
+    }
+}
+
+fn is_fit(board: Board) -> bool {
+    board.check().is_ok()
+}
+
+fn fits_count(count: u32) -> bool {
+    let mut board = bare_board(1);
+    board.sems.push(count);
+    is_fit(board)
+}
+
+fn fits_rings(inbound: u16, outbound: u16) -> bool {
+    let mut board = bare_board(1);
+    board.xbufs.push((inbound, outbound));
+    is_fit(board)
+}
+
+fn fits_ceiling(prio: u8) -> bool {
+    let mut board = bare_board(1);
+    board.mutexes.push(MutexKind::Ceiling(prio));
+    is_fit(board)
+}
+
+fn fits_percent(percent: u8) -> bool {
+    let mut board = bare_board(1);
+    board.groups.push(percent);
+    is_fit(board)
+}
+
+fn fits_stax(limit: u16) -> bool {
+    let mut board = bare_board(1);
+    board.staxes.push(limit);
+    is_fit(board)
+}
+
+#[test]
+fn threads_and_counts_have_a_range(rt: HostRuntime) {
+    assert!(rt; !is_fit(bare_board(0)) && is_fit(bare_board(1)));
+    assert!(rt; is_fit(bare_board(64)) && !is_fit(bare_board(65)));
+    assert!(rt; fits_count(0) && fits_count(2_147_483_647) && !fits_count(2_147_483_648));
+    assert!(rt; fits_rings(1, 256) && fits_rings(256, 1));
+    assert!(rt; !fits_rings(0, 4) && !fits_rings(257, 4));
+    assert!(rt; !fits_rings(4, 0) && !fits_rings(4, 257));
+}
+
+#[test]
+fn ceilings_groups_and_staxes_have_a_range(rt: HostRuntime) {
+    assert!(rt; !fits_ceiling(0) && fits_ceiling(1) && fits_ceiling(99) && !fits_ceiling(100));
+    assert!(rt; !fits_percent(0) && fits_percent(1) && fits_percent(100) && !fits_percent(101));
+    assert!(rt; !fits_stax(0) && fits_stax(1) && fits_stax(1000) && !fits_stax(1001));
+}
+
+#[test]
+fn a_board_is_checked(rt: HostRuntime) -> Result<(), Fail> {
+    let mut board = bare_board(64);
     assert!(rt; board.check().is_ok());
     board.xbufs.push((256, 0));
     assert!(rt; matches!(board.check(), Err(Refusal::Range)));

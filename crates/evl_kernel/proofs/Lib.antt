@@ -13,4 +13,5 @@ pub mod QuietLaws
 pub mod OutsideLaws
 pub mod SilenceLaws
 pub mod WorldLaws
+pub mod SemaphoreLaws
 pub mod Crossing

@@ -1,5 +1,5 @@
 -- Worked rows, computed on the definitions.
-use Rattle.std.proofs.Common.{◌≡◌, ℕ, List, [], ◌∷◌, ◌++◌, length, map, Bool, Option, Some, None, Result, Ok, Err, true, false, refl, pos, take, drop}
+use Rattle.std.proofs.Common.{◌≡◌, ℕ, List, [], ◌∷◌, ◌++◌, length, map, Bool, Result, Ok, Err, true, false, refl, pos}
 use Rattle.evl_base.specs.declared.board.Board.{Board}
 use Rattle.evl_base.specs.declared.call.Call.{Call}
 use Rattle.evl_base.specs.declared.call.Call.TheVariants.{Request, Free, Arrive, Post, Stall, Unstall, TryGet, Put, Peek}
@@ -12,11 +12,13 @@ use Rattle.evl_base.specs.declared.play.Play.TheVariants.{Clock, Line}
 use Rattle.evl_base.specs.declared.stage.Stage.TheVariants.{Inband, Oob}
 use Rattle.evl_pipeline.specs.declared.action.Action.{Action}
 use Rattle.evl_pipeline.specs.declared.action.Action.TheVariants as action
+use Rattle.evl_pipeline.specs.Counts.{count_at}
 use Rattle.evl_pipeline.specs.Lines as lines
 use Rattle.evl_kernel.specs.States.{State, Handler}
 use Rattle.evl_kernel.specs.Openings.{opening}
 use Rattle.evl_kernel.specs.Settling.{next_play}
 use Rattle.evl_kernel.specs.Replays.{stepped}
+use Rattle.evl_kernel.specs.SemaphoreParts.{SemRun, action_steps, answer_steps, called, entry_steps, get, peek, posted, put}
 
 -- the answers and plays of calls, one after another, and where they lead
 abbrev replies : State → List Call → List (Result Reply Refusal × List Play)
@@ -162,3 +164,137 @@ request_refusals : replies (start []) (
     ) ≡ refused Unknown ∷ refused Unknown ∷ refused Invalid ∷ done ∷ refused Invalid ∷ refused Busy ∷ refused Busy ∷ []
 unfolding next_play lines.opening
 request_refusals = refl
+
+-- the order of refusals of a free
+free_refusals : replies (start []) (Free (record { 0 = 1024 }) Oob ∷ Free (record { 0 = 0 }) Oob ∷ Free (record { 0 = 0 }) Inband ∷ Free (record { 0 = 5 }) Inband ∷ [])
+    ≡ refused Unknown ∷ refused Invalid ∷ refused Invalid ∷ refused Unknown ∷ []
+unfolding next_play lines.opening
+free_refusals = refl
+
+-- there is no such line, and no such semaphore
+unknown_numbers : replies (start (1 ∷ [])) (
+    Post Oob (record { 0 = 1024 }) ∷ Post Inband (record { 0 = 65535 }) ∷ Arrive (record { 0 = 1024 })
+    ∷ TryGet (record { 0 = 1 }) ∷ Put (record { 0 = 1 }) ∷ Peek (record { 0 = 1 }) ∷ []
+    ) ≡ refused Unknown ∷ refused Unknown ∷ refused Unknown ∷ refused Unknown ∷ refused Unknown ∷ refused Unknown ∷ []
+unfolding next_play lines.opening
+unknown_numbers = refl
+
+-- there is no such thread: that goes before all else
+abbrev replies_to_stranger : State → List Call → List (Result Reply Refusal)
+replies_to_stranger s calls = map (λ asked. (stepped s 1 asked).reply) calls
+
+stranger_is_unknown : replies_to_stranger (start (0 ∷ [])) (
+    Request (record { 0 = 0 }) Oob 0 0 ∷ Free (record { 0 = 0 }) Oob ∷ Arrive (record { 0 = 0 }) ∷ Post Oob (record { 0 = 0 })
+    ∷ Stall Oob ∷ Unstall Oob ∷ TryGet (record { 0 = 0 }) ∷ Put (record { 0 = 0 }) ∷ Peek (record { 0 = 0 }) ∷ []
+    ) ≡ Err Unknown ∷ Err Unknown ∷ Err Unknown ∷ Err Unknown ∷ Err Unknown ∷ Err Unknown ∷ Err Unknown ∷ Err Unknown ∷ Err Unknown ∷ []
+unfolding next_play lines.opening
+stranger_is_unknown = refl
+
+-- how many events of a line were spurious after these calls
+abbrev spurious_after : List Call → ℕ → ℕ
+spurious_after calls line = count_at (led (start []) calls).lines.spurious line
+
+-- a post in-band where the callback stands out-of-band, an arrival where none stands, and a post in-band on line 0
+spurious_events : spurious_after (Request (record { 0 = 6 }) Oob 0 0 ∷ Post Inband (record { 0 = 6 }) ∷ []) 6
+    ∷ spurious_after (Arrive (record { 0 = 6 }) ∷ Arrive (record { 0 = 6 }) ∷ []) 6
+    ∷ spurious_after (Post Inband (record { 0 = 0 }) ∷ []) 0 ∷ [] ≡ 1 ∷ 2 ∷ 1 ∷ []
+unfolding next_play lines.opening
+spurious_events = refl
+
+-- so do actions that post where no callback stands
+spurious_actions : spurious_after (Request (record { 0 = 3 }) Oob 3 0 ∷ Arrive (record { 0 = 3 }) ∷ []) 3
+    ∷ spurious_after (Request (record { 0 = 3 }) Inband 4 0 ∷ Arrive (record { 0 = 3 }) ∷ []) 4 ∷ [] ≡ 1 ∷ 1 ∷ []
+unfolding next_play lines.opening
+spurious_actions = refl
+
+-- an action whose call would be refused does nothing: there is no such semaphore, or its count is the greatest
+refused_actions : replies (start []) (Request (record { 0 = 2 }) Oob 1 0 ∷ Arrive (record { 0 = 2 }) ∷ Peek (record { 0 = 0 }) ∷ [])
+    ++ replies (start (2147483647 ∷ [])) (Request (record { 0 = 2 }) Oob 1 0 ∷ Arrive (record { 0 = 2 }) ∷ Peek (record { 0 = 0 }) ∷ [])
+    ≡ done ∷ plays (Line (record { 0 = 2 }) Oob 1 true ∷ []) ∷ refused Unknown
+    ∷ done ∷ plays (Line (record { 0 = 2 }) Oob 1 true ∷ []) ∷ (Ok (Count (pos 2147483647)), []) ∷ []
+unfolding next_play lines.opening
+refused_actions = refl
+
+-- a callback that handles each second event, and asks for a put at every one
+abbrev second_puts : State
+second_puts = opening (board (0 ∷ [])) (handler 1 2 ((1, action.PostSem (record { 0 = 0 })) ∷ []) ∷ [])
+
+-- of an answer that isn't handled no action is carried out
+actions_of_unhandled : replies second_puts (
+    Request (record { 0 = 2 }) Oob 0 0 ∷ Arrive (record { 0 = 2 }) ∷ Peek (record { 0 = 0 }) ∷ Arrive (record { 0 = 2 }) ∷ Peek (record { 0 = 0 }) ∷ []
+    ) ≡ done ∷ plays (Line (record { 0 = 2 }) Oob 1 false ∷ []) ∷ (Ok (Count (pos 0)), [])
+    ∷ plays (Line (record { 0 = 2 }) Oob 2 true ∷ []) ∷ (Ok (Count (pos 1)), []) ∷ []
+unfolding next_play lines.opening
+actions_of_unhandled = refl
+
+-- the clock's line goes before the other out-of-band lines
+clock_comes_first : replies (start []) (
+    Request (record { 0 = 1 }) Oob 0 0 ∷ Stall Oob ∷ Arrive (record { 0 = 1 }) ∷ Post Oob (record { 0 = 0 }) ∷ Unstall Oob ∷ []
+    ) ≡ done ∷ done ∷ done ∷ done ∷ plays (Clock ∷ Line (record { 0 = 1 }) Oob 1 true ∷ []) ∷ []
+unfolding next_play lines.opening
+clock_comes_first = refl
+
+-- an out-of-band stall holds in-band lines back too
+oob_stall_holds_inband : replies (start []) (
+    Request (record { 0 = 3 }) Inband 7 0 ∷ Stall Oob ∷ Arrive (record { 0 = 3 }) ∷ Unstall Inband ∷ Unstall Oob ∷ []
+    ) ≡ done ∷ done ∷ done ∷ done ∷ plays (Line (record { 0 = 3 }) Inband 1 true ∷ []) ∷ []
+unfolding next_play lines.opening
+oob_stall_holds_inband = refl
+
+-- a free drops the event of its own stage alone, and a request finds nothing pending
+free_drops_one_event : replies (start []) (
+    Request (record { 0 = 3 }) Oob 0 0 ∷ Request (record { 0 = 3 }) Inband 7 0 ∷ Stall Oob ∷ Post Oob (record { 0 = 3 }) ∷ Post Inband (record { 0 = 3 })
+    ∷ Free (record { 0 = 3 }) Oob ∷ Request (record { 0 = 3 }) Oob 0 0 ∷ Unstall Oob ∷ []
+    ) ≡ done ∷ done ∷ done ∷ done ∷ done ∷ done ∷ done ∷ plays (Line (record { 0 = 3 }) Inband 1 true ∷ []) ∷ []
+unfolding next_play lines.opening
+free_drops_one_event = refl
+
+-- a request begins the count of fires anew, and keeps that of unhandled answers
+abbrev requested_anew : List Call
+requested_anew =
+    Request (record { 0 = 2 }) Oob 6 0 ∷ Arrive (record { 0 = 2 }) ∷ Free (record { 0 = 2 }) Oob ∷ Request (record { 0 = 2 }) Oob 6 0 ∷ Arrive (record { 0 = 2 }) ∷ []
+
+request_counts_anew : replies (start []) requested_anew
+    ≡ done ∷ plays (Line (record { 0 = 2 }) Oob 1 false ∷ []) ∷ done ∷ done ∷ plays (Line (record { 0 = 2 }) Oob 1 false ∷ []) ∷ []
+unfolding next_play lines.opening
+request_counts_anew = refl
+
+unhandled_is_kept : count_at (led (start []) requested_anew).lines.oob.unhandled 2 ≡ 2
+unfolding next_play lines.opening
+unhandled_is_kept = refl
+
+-- after 64 in-band plays a refused call plays nothing, and the next accepted call goes on with 64 more
+ping_pong_goes_on : map (λ r. length r.1) (replies (start (0 ∷ [])) (to_and_fro ++ Arrive (record { 0 = 1024 }) ∷ TryGet (record { 0 = 0 }) ∷ Peek (record { 0 = 0 }) ∷ []))
+    ≡ 0 ∷ 0 ∷ 129 ∷ 0 ∷ 0 ∷ 128 ∷ []
+unfolding next_play lines.opening
+ping_pong_goes_on = refl
+
+-- the same to and fro, with a put at each out-of-band fire
+abbrev putting : State
+putting = opening (board (0 ∷ [])) (handler 5 1 ((1, action.Propagate) ∷ (1, action.PostSem (record { 0 = 0 })) ∷ []) ∷ handler 8 1 ((1, action.PostOob (record { 0 = 4 })) ∷ []) ∷ [])
+
+-- the answer is that of the moment before settling
+reply_is_before_settling : map (λ r. r.0) (replies putting (
+    Request (record { 0 = 4 }) Oob 0 0 ∷ Request (record { 0 = 4 }) Inband 1 0 ∷ Arrive (record { 0 = 4 }) ∷ Peek (record { 0 = 0 }) ∷ Peek (record { 0 = 0 }) ∷ []
+    )) ≡ Ok Done ∷ Ok Done ∷ Ok Done ∷ Ok (Count (pos 65)) ∷ Ok (Count (pos 129)) ∷ []
+unfolding next_play lines.opening
+reply_is_before_settling = refl
+
+-- a semaphore by itself: the row of the first semaphore, and then a put by a callback and a put at the greatest count
+semaphore_by_itself : SemRun 0 (called get (Err Again) ∷ called put (Ok Done) ∷ called get (Ok Done) ∷ called peek (Ok (Count (pos 0))) ∷ posted ∷ called peek (Ok (Count (pos 1))) ∷ []) 1
+semaphore_by_itself = (refl, (refl, (refl, (refl, (refl, refl)))))
+
+semaphore_at_its_greatest : SemRun 2147483647 (called put (Err Range) ∷ posted ∷ called peek (Ok (Count (pos 2147483647))) ∷ []) 2147483647
+semaphore_at_its_greatest = (refl, (refl, refl))
+
+-- which steps are its own: those of its number, by a caller of the board, and of an answer that was handled
+own_steps : entry_steps 0 (start (0 ∷ [])) 0 (Put (record { 0 = 0 })) (Ok Done) ++ entry_steps 1 (start (0 ∷ 0 ∷ [])) 0 (Put (record { 0 = 0 })) (Ok Done)
+    ++ entry_steps 0 (start (0 ∷ [])) 1 (Put (record { 0 = 0 })) (Err Unknown) ≡ called put (Ok Done) ∷ []
+unfolding lines.opening
+own_steps = refl
+
+own_posts : action_steps 0 (action.Propagate ∷ action.PostSem (record { 0 = 0 }) ∷ action.PostSem (record { 0 = 1 }) ∷ action.PostSem (record { 0 = 0 }) ∷ []) ≡ posted ∷ posted ∷ []
+own_posts = refl
+
+no_post_of_unhandled : answer_steps 0 (record { handled = false; actions = record { items = action.PostSem (record { 0 = 0 }) ∷ [] } }) ≡ []
+no_post_of_unhandled = refl

@@ -15,5 +15,6 @@ pub mod Settled
 pub mod KernelViews
 pub mod Replays
 pub mod Worlds
+pub mod SemaphoreParts
 pub mod Laws
 pub mod Insides

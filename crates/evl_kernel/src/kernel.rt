@@ -142,15 +142,12 @@ impl<C: Handler, A: Allocator> KernelOf<C, A> {
             .map_err(|_| Refusal::NoMemory)?;
         let before = self.plays.len();
         let reply = self.records.perform(caller, &call, &mut self.plays);
-        let entered = copied_reply(&reply);
-        self.history
-            .push(Entry {
-                caller,
-                call,
-                reply: entered,
-                plays: self.plays.len() - before,
-            })
-            .unwrap();
+        self.history.push_reserved(Entry {
+            caller,
+            call,
+            reply: copied_reply(&reply),
+            plays: self.plays.len() - before,
+        });
         reply
     }
 }

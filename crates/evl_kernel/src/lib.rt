@@ -7,7 +7,10 @@ mod laws;
 mod records;
 
 pub use kernel::{Kernel, KernelOf};
-pub use laws::{oob_pends_only_while_stalled, run_is_determined, step_is_computed, two_worlds};
+pub use laws::{
+    oob_pends_only_while_stalled, run_is_determined, semaphores_run_by_themselves,
+    step_is_computed, two_worlds,
+};
 
 #[cfg(test)]
 mod tests;

@@ -49,7 +49,7 @@ impl<C: Handler, A: Allocator> Records<C, A> {
         let for_bank = alloc.clone().map_err(|_| Refusal::NoMemory)?;
         let counts = opening_counts(for_counts, board)?;
         let bank = placed(for_bank, bank)?;
-        let pipeline = PipelineOf::new(alloc).map_err(|_| Refusal::NoMemory)?;
+        let pipeline = PipelineOf::new(alloc)?;
         Ok(Records {
             threads: board.threads,
             counts,

@@ -197,6 +197,7 @@ fn semaphore_path_2(rt: HostRuntime) -> Result<(), Fail> {
 fn semaphore_path_4(rt: HostRuntime) -> Result<(), Fail> {
     assert!(rt; matches!(kernel_with(rt.alloc(), 0, 0), Err(Refusal::Range)));
     assert!(rt; matches!(kernel_with(rt.alloc(), 0, 1_000_001), Err(Refusal::Range)));
+    assert!(rt; kernel_with(rt.alloc(), 0, 1).is_ok());
     assert!(rt; kernel_with(rt.alloc(), 0, 1_000_000).is_ok());
     assert!(rt;
         matches!(
@@ -286,5 +287,45 @@ fn stalled_inband(rt: HostRuntime) -> Result<(), Fail> {
     assert!(rt; unstalled && !kernel.pending(stage, line));
     assert_eq!(rt; kernel.unhandled(line, stage), 1);
     assert_eq!(rt; kernel.spurious(line), 0);
+    Ok(())
+}
+
+#[test]
+fn a_bank_has_a_range(rt: HostRuntime) -> Result<(), Fail> {
+    let alloc = rt.alloc();
+    let mut bank = Vec::new(alloc);
+    for _ in 0u8..65 {
+        let none = ActionKinds::from_bits_retain(0);
+        let callback = Callback::new(
+            none,
+            &quiet_plan(1),
+            Box::new(alloc, |_: Fire| quiet()).map_err(|_| "box")?,
+        );
+        bank.push(callback)?;
+    }
+    assert!(rt;
+        matches!(
+            KernelOf::new(alloc, board_of(0), bank, 1),
+            Err(Refusal::Range)
+        )
+    );
+    Ok(())
+}
+
+#[test]
+fn readers_know_no_other_lines(rt: HostRuntime) -> Result<(), Fail> {
+    let Ok(mut kernel) = kernel_with(rt.alloc(), 0, 100) else {
+        panic!(rt; "new");
+    };
+    let line = LineNo(6);
+    assert!(rt; is_done(apply(&mut kernel, Call::Arrive { line })));
+    assert_eq!(rt; kernel.spurious(line), 1);
+    for number in [1024, 65535] {
+        let line = LineNo(number);
+        assert!(rt; !kernel.pending(Stage::Oob, line) && !kernel.pending(Stage::Inband, line));
+        assert_eq!(rt; kernel.spurious(line), 0);
+        assert_eq!(rt; kernel.unhandled(line, Stage::Oob), 0);
+        assert_eq!(rt; kernel.unhandled(line, Stage::Inband), 0);
+    }
     Ok(())
 }

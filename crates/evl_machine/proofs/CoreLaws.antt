@@ -1,5 +1,5 @@
 -- The conditions of the core's world hold after any list of atomic steps.
-use Rattle.std.proofs.Common.{◌≡◌, ℕ, List, [], ◌∷◌, ◌++◌, set, Option, Some, sym, ap, ◌∙◌, subst, ⊎_elim, arith}
+use Rattle.std.proofs.Common.{◌≡◌, ℕ, List, [], ◌∷◌, ◌++◌, set, Option, Some, refl, sym, ap, ◌∙◌, subst, ⊎_elim, arith}
 use mathlib.Core.Option.{some, none, some-injective}
 use mathlib.Core.Option as maybe
 use lib.ListN.{get_elem?}
@@ -12,17 +12,21 @@ use Rattle.evl_machine.specs.CoreRule.{CoreKept, Core, IsFree, IsTaken, Kept, Ma
 use Rattle.evl_machine.specs.CoreWorld.{CoreWorld, CoreEvent, CoreHappens, IsCoreWorld, opening_world, takes, fails, gives, splits, joins, moves_out, moves_in}
 use Rattle.evl_machine.proofs.CoreSteps.{taken_core, given_core, holder_is, splits_core, joins_core, opens_core}
 
-abbrev itself : History → History
+abbrev pub itself : History → History
 itself h = h
 
 -- the table of a world
-abbrev table : CoreWorld → Core History
+abbrev pub table : CoreWorld → Core History
 table w = record { words = w.word ∷ []; homes = w.slot ∷ []; views = w.views }
 
-table_kept : (w : CoreWorld) → IsCoreWorld w → Kept itself (table w)
+pub table_kept : (w : CoreWorld) → IsCoreWorld w → Kept itself (table w)
 table_kept w stands = record { some_word = omega arith; core = stands }
 
-slot_history : (x y : History) → some (Some x) ∷ [] ≡ some (Some y) ∷ [] → x ≡ y
+pub table_history : (w : CoreWorld) (r : IsCoreWorld w) → (table_kept w r).core.history ≡ r.history
+unfolding table_kept
+table_history w r = refl
+
+pub slot_history : (x y : History) → some (Some x) ∷ [] ≡ some (Some y) ∷ [] → x ≡ y
 slot_history x y e = cc
 
 after_taking : (w : CoreWorld) (id : ℕ) (v : CoreView) (h : History) → IsCoreWorld w → get_elem? w.views id ≡ some v → w.word ≡ 0 → w.slot ≡ some (Some h)

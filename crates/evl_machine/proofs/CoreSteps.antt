@@ -330,3 +330,28 @@ module _ {S : Type 0} (past : S → History) where
   -- at the end: what the seat that has the kernel carries fits the history that it took
   pub closes_core : (id : ℕ) (v : CoreView) (h : History) (s : Core S) → Kept past s → get_elem? s.views id ≡ some v → v.taken ≡ Some h → AccountsFit h v.accounts
   closes_core id v h s r at has k a e = subst (λ (x : History). Fits x a) (holder_is (get_or s.words 0 0) s.homes s.views id v h r.core at has).1 (r.core.fits id v at k a e)
+
+  -- which history is common after each of these steps
+  pub taken_history : (n : ℕ) (homes : Homes S) (views : List CoreView) (id : ℕ) (v : CoreView) (r : CoreKept past n homes views) (at : get_elem? views id ≡ some v) (nobody : (j : ℕ) (u : CoreView) → get_elem? views j ≡ some u → u.taken ≡ None)
+      → (taken_core n homes views id v r at nobody).history ≡ r.history
+  unfolding taken_core
+  taken_history n homes views id v r at nobody = refl
+
+  pub given_history : (n : ℕ) (homes : Homes S) (views : List CoreView) (id : ℕ) (v : CoreView) (a : Account) (added : List Entry) (k : S) (r : CoreKept past n homes views) (at : get_elem? views id ≡ some v) (one : v.accounts ≡ a ∷ [])
+      (own : MadeBy a.thread added) (longer : GoesOn r.history added (past k)) (nobody : (j : ℕ) (u : CoreView) → j ≢ id → get_elem? views j ≡ some u → u.taken ≡ None)
+      → (given_core n homes views id v a added k r at one own longer nobody).history ≡ past k
+  unfolding given_core
+  given_history n homes views id v a added k r at one own longer nobody = refl
+
+  pub split_history : (id : ℕ) (v : CoreView) (s : Core S) (r : Kept past s) (at : get_elem? s.views id ≡ some v) → (splits_core id v s r at).core.history ≡ r.core.history
+  unfolding splits_core
+  split_history id v s r at = refl
+
+  pub joined_history : (id : ℕ) (v : CoreView) (other : ℕ) (w : CoreView) (idle : w.taken ≡ None) (s : Core S) (r : Kept past s) (at : get_elem? s.views id ≡ some v) (away : other ≢ id)
+      (there : get_elem? (set s.views id (view v.taken (v.accounts ++ w.accounts))) other ≡ some w) → (joins_core id v other w idle s r at away there).core.history ≡ r.core.history
+  unfolding joins_core
+  joined_history id v other w idle s r at away there = refl
+
+  pub opened_history : (k : S) (legal : IsLegal (past k)) (none_yet : (past k).entries ≡ []) → (opens_core k legal none_yet).core.history ≡ past k
+  unfolding opens_core
+  opened_history k legal none_yet = refl

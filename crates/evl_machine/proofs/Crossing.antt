@@ -1,19 +1,22 @@
 -- Host threads may share a machine whose callbacks and allocator may go to another thread.
 use denote.RattleType.{RattleType}
-use denote.Param.Send.{Frees, IsSend, IsSync, sendable, struct_sync, view_sync}
+use denote.Param.Send.{Frees, IsSend, IsSync, sendable, struct_sync, view_send, view_sync}
 use Rattle.std.specs.declared.alloc.Allocator.{Ghosts}
 use Rattle.std.specs.contracts.option.Option as Option
 use Rattle.std.proofs.CrossingOver.{crosses}
 use Rattle.atomic_table.proofs.shared.Shared.TheSendSync.{the_sync as table_sync}
 use Rattle.atomic_table.proofs.send_lease.SendLease.TheSendSync.{the_sync as lease_sync}
-use Rattle.evl_base.proofs.Crossing.{declared_sync}
-use Rattle.evl_kernel.specs.contracts.kernel.KernelOf as KernelOf
+use Rattle.evl_base.proofs.Crossing.{declared_send, declared_sync}
 use Rattle.evl_kernel.proofs.Crossing.{kernel_send}
+use Rattle.evl_machine.specs.contracts.kernel_box.KernelBox as KernelBox
 use Rattle.evl_machine.specs.contracts.machine.MachineOf as MachineOf
 
 module _ (C A : RattleType) (g : Ghosts A.Denot) where
-  slot_send : IsSend C → IsSend A → Frees g g.dealloc_token → IsSend (Option.the_row (KernelOf.the_row C A g))
-  slot_send s a f = let kernel = kernel_send C A g s a f in search (crosses, sendable) depth 20
+  box_send : IsSend C → IsSend A → Frees g g.dealloc_token → IsSend (KernelBox.the_row C A g)
+  box_send s a f = let kernel = kernel_send C A g s a f in search (view_send, declared_send, crosses, sendable) depth 20
+
+  slot_send : IsSend C → IsSend A → Frees g g.dealloc_token → IsSend (Option.the_row (KernelBox.the_row C A g))
+  slot_send s a f = let kernel = box_send s a f in search (crosses, sendable) depth 20
 
   pub machine_sync : IsSend C → IsSend A → IsSync A → Frees g g.dealloc_token → IsSync (MachineOf.the_row C A g)
   machine_sync s a b f =

@@ -1,6 +1,7 @@
 pub mod Accounts
 pub mod CoreSteps
 pub mod CoreLaws
+pub mod QuietCore
 pub mod BesideSteps
 pub mod Taking
 pub mod Calling

@@ -2,6 +2,7 @@ pub mod Nothing
 pub mod Accounts
 pub mod CoreRule
 pub mod CoreWorld
+pub mod QuietCore
 pub mod Beside
 pub mod Known
 pub mod Handles

@@ -5,10 +5,10 @@ ghost use Rattle.evl_machine.specs.Known.{first_of, seen};
 ghost use Rattle.evl_machine.specs.Calls.{IsAtRest, IsCaller, account_in, first_in};
 
 use crate::core_lock::CoreSeat;
+use crate::kernel_box::KernelBox;
 use crate::views::Known;
 use atomic_table::Badge;
 use evl_base::ThreadId;
-use evl_kernel::KernelOf;
 use std::alloc::Allocator;
 use std::marker::Model;
 
@@ -43,7 +43,7 @@ pub(crate) fn seat_of<C, A: Allocator>(badge: Badge<Known<C>>, thread: ThreadId)
     ensures first { first_of result.me.0 ≡ first_in badge.views }
     ensures account { account_of (seen result.me) ≡ account_in badge.views }
 {
-    badge.into_seat::<Option<KernelOf<C, A>>>()
+    badge.into_seat::<Option<KernelBox<C, A>>>()
 }
 
 /// The badge of a seat at rest.

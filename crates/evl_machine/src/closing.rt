@@ -8,6 +8,7 @@ ghost use Rattle.evl_machine.specs.Closings.{Closes, KeepsOpen, accounts_back, g
 use crate::caller::{CallerOf, seat_of};
 use crate::core_lock::{CoreSeat, Gather};
 use crate::held::HeldOf;
+use crate::kernel_box::KernelBox;
 use crate::machine::MachineOf;
 use evl_base::Refusal;
 use evl_kernel::KernelOf;
@@ -81,7 +82,7 @@ impl<C: Drop, A: Allocator> MachineOf<C, A> {
     }
 
     /// The kernel that a seat has taken. Its history is that of all accounts which the seat carries.
-    fn close_with(self, seat: CoreSeat<C, A>, kernel: KernelOf<C, A>) -> KernelOf<C, A>
+    fn close_with(self, seat: CoreSeat<C, A>, kernel: KernelBox<C, A>) -> KernelOf<C, A>
         requires machine { seat.table_id ≡ self.id }
         requires taken { (seen seat.me).0.taken ≡ Some kernel.history }
         ensures same { result ≡ kernel }
@@ -91,7 +92,7 @@ impl<C: Drop, A: Allocator> MachineOf<C, A> {
         let mut closed = core.close_with(seat);
         drop(closed.take(0));
         closed.free();
-        kernel
+        kernel.into_kernel()
     }
 }
 

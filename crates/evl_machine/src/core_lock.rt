@@ -3,6 +3,7 @@ ghost use Rattle.std.specs.Prelude.{◌++◌, None, take, drop};
 ghost use Rattle.evl_machine.specs.CoreRule.{view, spent};
 ghost use Rattle.evl_machine.specs.Known.{knows};
 
+use crate::kernel_box::KernelBox;
 use crate::views::Known;
 use atomic_table::{Join, Play, Seat, Split, Table, TableRule};
 use evl_kernel::KernelOf;
@@ -15,7 +16,7 @@ pub struct CoreRule<C, A> {
     of: PhantomData<(C, A)>,
 }
 
-impl<C, A: Allocator> TableRule<Option<KernelOf<C, A>>, Known<C>, Snapshot<KernelOf<C, A>>>
+impl<C, A: Allocator> TableRule<Option<KernelBox<C, A>>, Known<C>, Snapshot<KernelOf<C, A>>>
     for CoreRule<C, A> {
     ghost use Rattle.evl_machine.specs.Known.{KeptKnown, first_known};
 
@@ -25,11 +26,11 @@ impl<C, A: Allocator> TableRule<Option<KernelOf<C, A>>, Known<C>, Snapshot<Kerne
 }
 
 /// A seat at the core's lock.
-pub type CoreSeat<C, A> = Seat<Option<KernelOf<C, A>>, Known<C>>;
+pub type CoreSeat<C, A> = Seat<Option<KernelBox<C, A>>, Known<C>>;
 
 /// The table of the core's lock: one word and one slot.
 pub type CoreLock<C, A> = Table<
-    Option<KernelOf<C, A>>,
+    Option<KernelBox<C, A>>,
     Known<C>,
     Snapshot<KernelOf<C, A>>,
     CoreRule<C, A>,
@@ -39,7 +40,7 @@ pub type CoreLock<C, A> = Table<
 /// The kernel goes out to a seat, where the word is 0.
 pub(crate) struct Take;
 
-impl<C, A: Allocator> Play<Option<KernelOf<C, A>>, Known<C>> for Take {
+impl<C, A: Allocator> Play<Option<KernelBox<C, A>>, Known<C>> for Take {
     ghost use Rattle.evl_machine.specs.Known.{took_known};
 
     ghost then = { took_known };
@@ -48,7 +49,7 @@ impl<C, A: Allocator> Play<Option<KernelOf<C, A>>, Known<C>> for Take {
 /// The kernel comes back from a seat.
 pub(crate) struct Give;
 
-impl<C, A: Allocator> Play<Option<KernelOf<C, A>>, Known<C>> for Give {
+impl<C, A: Allocator> Play<Option<KernelBox<C, A>>, Known<C>> for Give {
     ghost use Rattle.evl_machine.specs.Known.{gave_known};
 
     ghost then = { gave_known };

@@ -6,6 +6,7 @@ ghost use Rattle.evl_machine.specs.Calls.{Applied, TookKernel};
 
 use crate::caller::{CallerOf, badge_of, seat_of};
 use crate::core_lock::CoreSeat;
+use crate::kernel_box::KernelBox;
 use crate::machine::MachineOf;
 use evl_base::{Call, Refusal, Reply, ThreadId};
 use evl_kernel::KernelOf;
@@ -20,7 +21,7 @@ pub struct HeldOf<'a, C: Drop, A: Allocator> {
     pub(crate) machine: &'a MachineOf<C, A>,
     pub(crate) thread: ThreadId,
     pub(crate) seat: CoreSeat<C, A>,
-    pub(crate) kernel: KernelOf<C, A>,
+    pub(crate) kernel: KernelBox<C, A>,
 }
 
 impl<'a, C: Drop, A: Allocator> Model for HeldOf<'a, C, A> {
@@ -54,7 +55,7 @@ impl<'a, C: Drop, A: Allocator> HeldOf<'a, C, A> {
     pub fn kernel(&self) -> &KernelOf<C, A>
         ensures { result.now ≡ self.now.kernel }
     {
-        &self.kernel
+        self.kernel.kernel()
     }
 
     /// Puts the kernel back. The caller has then seen its history (this profile).

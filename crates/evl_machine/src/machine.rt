@@ -8,9 +8,9 @@ ghost use Rattle.evl_machine.specs.Calls.{Called, IsCaller};
 
 use crate::caller::{CallerOf, badge_of, seat_of};
 use crate::core_lock::{CoreLock, CoreSeat, Give, Take};
+use crate::kernel_box::KernelBox;
 use atomic_table::Badge;
 use evl_base::{Call, Refusal, Reply, ThreadId};
-use evl_kernel::KernelOf;
 use evl_pipeline::Handler;
 use std::alloc::Allocator;
 use std::marker::Model;
@@ -37,7 +37,7 @@ impl<C: Drop, A: Allocator> Model for MachineOf<C, A> {
 
 impl<C: Drop, A: Allocator> MachineOf<C, A> {
     /// Takes the kernel out of the slot, unless a seat has it.
-    pub(crate) fn take_kernel(&self, seat: &mut CoreSeat<C, A>) -> Option<KernelOf<C, A>>
+    pub(crate) fn take_kernel(&self, seat: &mut CoreSeat<C, A>) -> Option<KernelBox<C, A>>
         requires { (seat.old.table_id ≡ self.now.id) × (seen seat.old.me ≡ seated (account_of (seen seat.old.me))) }
         ensures same { (seat.new.table_id ≡ seat.old.table_id) × (seat.new.id ≡ seat.old.id) × (first_of seat.new.me.0 ≡ first_of seat.old.me.0) }
         ensures taken { MatchOption result (seen seat.new.me ≡ seen seat.old.me) (λ k. Taken past_of (seen seat.old.me) k (seen seat.new.me) × ComesFrom (first_of seat.old.me.0) k) }
@@ -50,7 +50,7 @@ impl<C: Drop, A: Allocator> MachineOf<C, A> {
     }
 
     /// Puts the kernel back. It goes on from the one that was taken, by calls of the seat's one caller.
-    pub(crate) fn give_kernel(&self, seat: &mut CoreSeat<C, A>, kernel: KernelOf<C, A>)
+    pub(crate) fn give_kernel(&self, seat: &mut CoreSeat<C, A>, kernel: KernelBox<C, A>)
         requires machine { seat.old.table_id ≡ self.now.id }
         requires comes { ComesFrom (first_of seat.old.me.0) kernel }
         requires kernel { (seen seat.old.me ≡ holding (account_of (seen seat.old.me))) × Continues (account_of (seen seat.old.me)) kernel.history }

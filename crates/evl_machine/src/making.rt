@@ -9,6 +9,7 @@ ghost use Rattle.evl_machine.specs.Handles.{newcomers_of};
 
 use crate::caller::{CallerOf, badge_of};
 use crate::core_lock::{CoreLock, CoreSeat, First};
+use crate::kernel_box::KernelBox;
 use crate::machine::MachineOf;
 use atomic_table::Table;
 use evl_base::{Board, Refusal, ThreadId};
@@ -63,7 +64,7 @@ fn seated<C: Drop, A: Allocator + Clone>(
     let key = Snapshot::of(&kernel);
     let mut callers = Vec::with_capacity(alloc.clone()?, usize::from(threads))?;
     let mut slots = Vec::with_capacity(alloc.clone()?, 1)?;
-    slots.push(Some(kernel))?;
+    slots.push(Some(KernelBox::new(alloc.clone()?, kernel)?))?;
     let Ok((core, mut root)) = Table::new(alloc, &[0], slots, &key) else {
         return Err(AllocError);
     };

@@ -83,6 +83,9 @@ fn core_held(rt: HostRuntime) -> Result<(), Fail> {
     assert!(rt; matches!(put, Ok(Reply::Done)));
     let busy = machine.try_call(&mut second, Call::Put { sem: SemId(0) });
     assert!(rt; matches!(busy, Err(Refusal::CoreBusy)));
+    let Err(mut second) = machine.take(second) else {
+        panic!(rt; "the core is held")
+    };
     assert!(rt; held.kernel().history().len() == 1);
     let mut first = held.give();
     let got = machine.try_call(&mut second, Call::TryGet { sem: SemId(0) });
@@ -95,5 +98,28 @@ fn core_held(rt: HostRuntime) -> Result<(), Fail> {
     assert!(rt; matches!(again, Err(Refusal::Again)));
     let count = machine.try_call(&mut second, Call::Peek { sem: SemId(0) });
     assert!(rt; matches!(count, Ok(Reply::Count(0))));
+    Ok(())
+}
+
+#[test]
+fn machine_has_a_range(rt: HostRuntime) {
+    assert!(rt; matches!(two_callers(rt.alloc(), 0), Err(Refusal::Range)));
+    assert!(rt; matches!(two_callers(rt.alloc(), 1_000_001), Err(Refusal::Range)));
+}
+
+#[test]
+fn full_history_behind_the_core(rt: HostRuntime) -> Result<(), Fail> {
+    let Ok((machine, first, mut second)) = two_callers(rt.alloc(), 1) else {
+        panic!(rt; "a machine")
+    };
+    let done = call_of(&machine, &mut second, put());
+    let full = call_of(&machine, &mut second, put());
+    assert!(rt; is_done(&done) && matches!(full, Err(Refusal::HistoryFull)));
+    let Ok(mut held) = machine.take(first) else {
+        panic!(rt; "the core is free")
+    };
+    let full = held.apply(put());
+    assert!(rt; matches!(full, Err(Refusal::HistoryFull)));
+    assert!(rt; held.kernel().history().len() == 1);
     Ok(())
 }

@@ -30,7 +30,7 @@ impl<C: Handler, A: Allocator> MachineOf<C, A> {
         ensures entered { result ≢ Err CoreBusy }
     {
         for _ in rt.forever() {
-            match self.try_call(caller, copied_call(&call)) {
+            match self.try_call(caller, call.copied()) {
                 Err(Refusal::CoreBusy) => thread::yield_now(),
                 answer => return answer,
             }
@@ -50,37 +50,5 @@ impl Machine {
         ensures entered { result ≢ Err CoreBusy }
     {
         self.of.call(rt, caller, call)
-    }
-}
-
-fn copied_call(call: &Call) -> Call
-    ensures { result ≡ call.now }
-{
-    match call {
-        Call::Request {
-            line,
-            stage,
-            callback,
-            tag,
-        } => Call::Request {
-            line: *line,
-            stage: *stage,
-            callback: *callback,
-            tag: *tag,
-        },
-        Call::Free { line, stage } => Call::Free {
-            line: *line,
-            stage: *stage,
-        },
-        Call::Arrive { line } => Call::Arrive { line: *line },
-        Call::Post { stage, line } => Call::Post {
-            stage: *stage,
-            line: *line,
-        },
-        Call::Stall { stage } => Call::Stall { stage: *stage },
-        Call::Unstall { stage } => Call::Unstall { stage: *stage },
-        Call::TryGet { sem } => Call::TryGet { sem: *sem },
-        Call::Put { sem } => Call::Put { sem: *sem },
-        Call::Peek { sem } => Call::Peek { sem: *sem },
     }
 }

@@ -37,8 +37,15 @@ impl<C, A: Allocator> Model for PipelineOf<C, A> {
 
 impl<C: Drop, A: Allocator + Clone> PipelineOf<C, A> {
     /// A pipeline with 1024 lines, where nothing stands, nothing is pending and nothing was counted. It has room for a
-    /// callback on each line of each stage (this profile).
-    pub fn new(alloc: A) -> Result<PipelineOf<C, A>, AllocError>
+    /// callback on each line of each stage. `NoMemory` where that room was refused (this profile).
+    pub fn new(alloc: A) -> Result<PipelineOf<C, A>, Refusal>
+        ensures opening { IfOk result (λ p. p ≡ opening) }
+        ensures refusal { IfErr result (λ e. e ≡ Refusal.NoMemory) }
+    {
+        PipelineOf::with_room(alloc).map_err(|_| Refusal::NoMemory)
+    }
+
+    fn with_room(alloc: A) -> Result<PipelineOf<C, A>, AllocError>
         ensures opening { IfOk result (λ p. p ≡ opening) }
     {
         let oob = SideOf::new(alloc.clone()?)?;

@@ -248,6 +248,12 @@ fn requests_and_frees(rt: HostRuntime) -> Result<(), Fail> {
         panic!(rt; "another answer");
     };
     assert_eq!(rt; unknown, Refusal::Unknown);
+    assert!(rt;
+        matches!(
+            pipeline.free(LineNo(1024), Stage::Oob),
+            Err(Refusal::Unknown)
+        )
+    );
     let Ok(zero) = pipeline.free(LineNo(5), Stage::Oob) else {
         panic!(rt; "another answer");
     };
@@ -377,7 +383,12 @@ fn only_new_takes_memory(rt: HostRuntime) -> Result<(), Fail> {
     );
     for size in [64, 4096, 16384, 65536] {
         let heap = LocalHeap::new(rt.alloc(), size)?;
-        assert!(rt; PipelineOf::<Callback, &LocalHeap>::new(&heap).is_err());
+        assert!(rt;
+            matches!(
+                PipelineOf::<Callback, &LocalHeap>::new(&heap),
+                Err(Refusal::NoMemory)
+            )
+        );
         assert_eq!(rt; heap.used(), 0);
     }
     let heap = LocalHeap::new(rt.alloc(), 1048576)?;

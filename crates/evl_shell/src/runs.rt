@@ -14,7 +14,7 @@ use crate::faults::Fault;
 use crate::lines::{Answer, EntryNumber, PlayLine, StepLine, board_line};
 use crate::scenarios::{Scenario, read_scenario};
 use crate::sinks::{Sink, SinkFailed};
-use crate::steps::{Step, copied_call};
+use crate::steps::Step;
 use evl_base::{Board, Play, Refusal, Reply};
 use evl_kernel::KernelOf;
 use evl_pipeline::{Callback, Handler};
@@ -53,7 +53,7 @@ fn make_call<C: Handler>(kernel: &mut KernelOf<C, Global>, step: &Step) -> Resul
     ensures turn { IfOk result (λ called. Tells kernel.old kernel.new called.number.0 called.answer.0 (turn kernel.old.limit (moment kernel.old) step.now)) }
 {
     let before = kernel.history().len();
-    let answer = kernel.apply(step.who, copied_call(&step.call));
+    let answer = kernel.apply(step.who, step.call.copied());
     if wants_memory(&answer) {
         return Err(Refusal::NoMemory);
     }

@@ -116,36 +116,3 @@ pub fn read_step(value: &Value) -> Option<Step>
     let call = read_call(word, table)?;
     Some(Step { who, call })
 }
-
-/// The same call once more. `Call` isn't `Copy`, as it may carry bytes.
-pub fn copied_call(call: &Call) -> Call
-    ensures { result ≡ call.now }
-{
-    match call {
-        Call::Request {
-            line,
-            stage,
-            callback,
-            tag,
-        } => Call::Request {
-            line: *line,
-            stage: *stage,
-            callback: *callback,
-            tag: *tag,
-        },
-        Call::Free { line, stage } => Call::Free {
-            line: *line,
-            stage: *stage,
-        },
-        Call::Arrive { line } => Call::Arrive { line: *line },
-        Call::Post { stage, line } => Call::Post {
-            stage: *stage,
-            line: *line,
-        },
-        Call::Stall { stage } => Call::Stall { stage: *stage },
-        Call::Unstall { stage } => Call::Unstall { stage: *stage },
-        Call::TryGet { sem } => Call::TryGet { sem: *sem },
-        Call::Put { sem } => Call::Put { sem: *sem },
-        Call::Peek { sem } => Call::Peek { sem: *sem },
-    }
-}

@@ -264,3 +264,77 @@ fn bad_callbacks_and_tags(rt: HostRuntime) -> Result<(), Fail> {
     assert!(rt; bad_step(alloc, tag)? == Some(1));
     Ok(())
 }
+
+// A text whose limit is written so is played, and its first line tells a limit of 10.
+fn is_limit_ten(alloc: Global, limit: &str) -> Result<bool, Fail> {
+    let mut text = Vec::new(alloc);
+    text.extend_from_slice(b"limit = ")?;
+    text.extend_from_slice(limit.as_bytes())?;
+    text.extend_from_slice(b"\n[board]\nthreads = 1\n")?;
+    let mut out = Over::new(Vec::new(alloc));
+    let done = run(alloc, text.as_slice(), None, Vec::new(alloc), &mut out).is_ok();
+    let trace = out.into_inner();
+    Ok(
+        done && is(
+            &trace,
+            "board threads=1 sems=0 flags=0 xbufs=0 mutexes=0 groups=0 limit=10\n",
+        ),
+    )
+}
+
+#[test]
+fn forms_of_numbers(rt: HostRuntime) -> Result<(), Fail> {
+    let alloc = rt.alloc();
+    assert!(rt; is_limit_ten(alloc, "+10")?);
+    assert!(rt; is_limit_ten(alloc, "1_0")?);
+    assert!(rt; is_limit_ten(alloc, "0xA")?);
+    assert!(rt; is_limit_ten(alloc, "\"10\"")?);
+    Ok(())
+}
+
+// Whether a step by a thread that is written so is a bad one.
+fn is_bad_who(alloc: Global, who: &str) -> Result<bool, Fail> {
+    let mut steps = Vec::new(alloc);
+    steps.extend_from_slice(BOARD.as_bytes())?;
+    steps.extend_from_slice(b"[[step]]\ndo = \"put\"\nsem = 0\nwho = ")?;
+    steps.extend_from_slice(who.as_bytes())?;
+    steps.extend_from_slice(b"\n")?;
+    Ok(fault_of(alloc, steps.as_slice(), None) == (Some(Fault::Step(1)), true))
+}
+
+#[test]
+fn forms_of_no_number(rt: HostRuntime) -> Result<(), Fail> {
+    let alloc = rt.alloc();
+    assert!(rt; !is_bad_who(alloc, "\"0\"")?);
+    assert!(rt; is_bad_who(alloc, "\"\"")?);
+    assert!(rt; is_bad_who(alloc, "\" 0\"")?);
+    assert!(rt; is_bad_who(alloc, "\"0x0\"")?);
+    assert!(rt; is_bad_who(alloc, "\"1_0\"")?);
+    assert!(rt; is_bad_who(alloc, "true")?);
+    assert!(rt; is_bad_who(alloc, "[0]")?);
+    Ok(())
+}
+
+#[test]
+fn faults_in_order(rt: HostRuntime) {
+    let alloc = rt.alloc();
+    let board_first = "[board]\nthreads = 0\n[[step]]\ncolour = 1\n";
+    assert!(rt; is_bad_board(alloc, board_first));
+    assert!(rt; is_bad_text(alloc, b"[board]\nthreads = 0\n[[step]]\ncolour =\n"));
+    let own_limit = b"limit = 0\n[board]\nthreads = 1\n";
+    assert!(rt; fault_of(alloc, own_limit, Some(5)) == (Some(Fault::Board), true));
+}
+
+#[test]
+fn steps_in_one_array(rt: HostRuntime) -> Result<(), Fail> {
+    let text =
+        "limit = 1\nstep = [{ do = \"put\", who = 0, sem = 0 }, { sem = 0, do = \"put\", who = 9 }]\n[board]\nthreads = 1\nsems = [0]\n";
+    let trace = trace_of(rt.alloc(), text, None)?;
+    assert!(rt;
+        is(
+            &trace,
+            "board threads=1 sems=1 flags=0 xbufs=0 mutexes=0 groups=0 limit=1\n1 T0 put sem=0 -> done\n- T9 put sem=0 -> HistoryFull\n"
+        )
+    );
+    Ok(())
+}

@@ -2,7 +2,7 @@
 use Rattle.std.specs.Prelude.{◌≡◌, ◌⊎◌, ℕ, ◌+◌, ◌-◌, ◌<◌, ◌==◌, Bool, true, false, List, [], ◌∷◌, ◌++◌, All, MatchBool}
 use Rattle.evl_base.specs.declared.numbers.MutexId.{MutexId}
 use Rattle.evl_base.specs.declared.refusal.Refusal.{Refusal}
-use Rattle.evl_base.specs.declared.refusal.Refusal.TheVariants.{NoMemory, HistoryFull, CoreBusy, Unknown, Invalid, Again, Busy, NotOwner, Deadlock, Limit, Range, TooBig, WrongStage, HoldsStax, Raced}
+use Rattle.evl_base.specs.declared.refusal.Refusal.TheVariants.{Busy, Deadlock, Limit}
 use Rattle.evl_words.specs.declared.mutex.MutexPass.{MutexPass}
 use Rattle.evl_words.specs.declared.mutex.MutexRole.{MutexRole}
 use Rattle.evl_words.specs.declared.mutex.MutexRole.TheVariants.{Bystander, Owner}
@@ -79,18 +79,7 @@ abbrev pub FailsToLock : MutexState → MutexSeatState → MutexSeatState → Re
 FailsToLock mutex old new Busy = (old.depth ≡ 0) × Calls old Try (Refused Busy) new old.view.held.role 0
 FailsToLock mutex old new Deadlock = (0 < old.depth) × (mutex.recursive ≡ false) × (new ≡ old)
 FailsToLock mutex old new Limit = (mutex.recursive ≡ true) × (old.depth ≡ 255) × (new ≡ old)
-FailsToLock mutex old new NoMemory = ⊥
-FailsToLock mutex old new HistoryFull = ⊥
-FailsToLock mutex old new CoreBusy = ⊥
-FailsToLock mutex old new Unknown = ⊥
-FailsToLock mutex old new Invalid = ⊥
-FailsToLock mutex old new Again = ⊥
-FailsToLock mutex old new NotOwner = ⊥
-FailsToLock mutex old new Range = ⊥
-FailsToLock mutex old new TooBig = ⊥
-FailsToLock mutex old new WrongStage = ⊥
-FailsToLock mutex old new HoldsStax = ⊥
-FailsToLock mutex old new (Raced first second) = ⊥
+FailsToLock mutex old new _ = ⊥
 
 -- at depth 1 the seat gives the mutex up, unless it is claimed
 abbrev pub Releases : MutexSeatState → MutexSeatState → MutexPass → Unlocking → Type 0

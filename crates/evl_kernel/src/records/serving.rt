@@ -26,13 +26,11 @@ impl<C: Handler, A: Allocator> Records<C, A> {
         ensures capacity { vec_capacity plays.old ≤ vec_capacity plays.new }
         ensures stands { KeepsCallbacks self.old self.new }
     {
-        match self.answer(caller, call) {
-            Ok(reply) => {
-                self.settle(plays);
-                Ok(reply)
-            }
-            Err(refusal) => Err(refusal),
+        let reply = self.answer(caller, call);
+        if reply.is_ok() {
+            self.settle(plays);
         }
+        reply
     }
 
     /// Answers a call, and makes its change, but for settling.

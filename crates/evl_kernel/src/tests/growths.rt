@@ -124,3 +124,21 @@ fn lowest_line_first_in_short_memory(rt: HostRuntime) -> Result<(), Fail> {
     assert!(rt; short >= 1 && whole >= 1);
     Ok(())
 }
+
+// Whether a kernel within a heap, which has room for a few calls, refuses to make room for a hundred, and is as before.
+fn refuses_room<'h>(heap: &'h LocalHeap, bank: Vec<Callback, &'h LocalHeap>) -> bool {
+    let Ok(mut kernel) = KernelOf::new(heap, board_of(0), bank, 100) else {
+        return false;
+    };
+    matches!(kernel.reserve(100), Err(Refusal::NoMemory))
+        && kernel.history().is_empty()
+        && kernel.reserve(1).is_ok()
+}
+
+#[test]
+fn room_is_refused_in_short_memory(rt: HostRuntime) -> Result<(), Fail> {
+    let heap = LocalHeap::new(rt.alloc(), 320 * 4096)?;
+    assert!(rt; refuses_room(&heap, Vec::new(&heap)));
+    assert!(rt; heap.used() == 0);
+    Ok(())
+}

@@ -263,6 +263,57 @@ fn a_try_after_a_race_gets_in(rt: HostRuntime) -> Result<(), Fail> {
     Ok(())
 }
 
+// The last seat that is left.
+fn last_seat(gate: &StaxGate, seats: &mut Vec<StaxSeat>) -> Result<StaxSeat, Fail>
+    requires { All (λ seat. IsSeatOf seat gate.now) seats.old.items }
+    ensures seat { IfOk result (λ seat. IsSeatOf seat gate.now) }
+    ensures rest { All (λ seat. IsSeatOf seat gate.now) seats.new.items }
+{
+    match seats.pop() {
+        Some(seat) => Ok(seat),
+        None => Err("no seat")?,
+    }
+}
+
+// Whether seat 0 loses a race and gets in at its next try.
+fn gets_in_after_a_race(gate: &StaxGate, seat: &mut StaxSeat, other: &mut StaxSeat) -> bool
+    requires seat { IsSeatOf seat.old gate.now }
+    requires other { IsSeatOf other.old gate.now }
+    ensures seat { IsSameSeat seat.old seat.new }
+    ensures other { IsSameSeat other.old other.new }
+{
+    race(gate, seat, other, Stage::Inband).is_err() && gate.try_lock(seat, Stage::Inband).is_ok()
+}
+
+// Row gate_3: the word.
+#[test]
+fn the_word_counts_both_after_a_race(rt: HostRuntime) -> Result<(), Fail> {
+    let (gate, mut seats) = made(rt.alloc(), 3, 2)?;
+    let mut other = last_seat(&gate, &mut seats)?;
+    let mut seat = last_seat(&gate, &mut seats)?;
+    assert!(rt; gets_in_after_a_race(&gate, &mut seat, &mut other));
+    seats.push(seat)?;
+    seats.push(other)?;
+    assert!(rt; gate.close(seats) == 2);
+    Ok(())
+}
+
+// A seat that holds the gate leaves by its own pass alone.
+#[test]
+fn a_holder_leaves_by_its_own_pass(rt: HostRuntime) -> Result<(), Fail> {
+    let (gate, mut seats) = made(rt.alloc(), 3, 2)?;
+    assert!(rt; seats.len() == 2);
+    let first = enter(&gate, &mut seats, 0, Stage::Inband).ok().ok_or("0")?;
+    let second = enter(&gate, &mut seats, 1, Stage::Inband).ok().ok_or("1")?;
+    let Err((refusal, first)) = leave(&gate, &mut seats, 1, first) else {
+        panic!(rt; "by another pass")
+    };
+    assert!(rt; refusal == Refusal::NotOwner);
+    assert!(rt; leave(&gate, &mut seats, 1, second).ok() == Some(Left::Others));
+    assert!(rt; leave(&gate, &mut seats, 0, first).ok() == Some(Left::Last { claimed: false }));
+    Ok(())
+}
+
 // Row gate_4.
 #[test]
 fn a_pass_is_its_seats(rt: HostRuntime) -> Result<(), Fail> {

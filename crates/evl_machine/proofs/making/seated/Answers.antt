@@ -4,8 +4,8 @@ use Rattle.evl_kernel.specs.KernelViews.{KernelView}
 use Rattle.evl_machine.proofs.Seating.{opens_as}
 use Rattle.evl_machine.proofs.making.seated.Goals as goal
 
-pub new-requires : goal.new-requires
-new-requires g c = opens_as c.args.kernel _ _ c.of-key.ensures (search rules) c.requires.new.0 c.requires.new.1
+pub new-requires-2 : goal.new-requires-2
+new-requires-2 g c = opens_as c.args.kernel _ _ c.of-key.ensures (search rules) c.requires.new.0 c.requires.new.1
 
 pub seat_callers-requires-clause-new : goal.seat_callers-requires-clause-new
 seat_callers-requires-clause-new g c =

@@ -6,7 +6,7 @@ use Rattle.evl_shell.proofs.runs.make_call.Goals as goal
 pub returns-clause-turn : goal.returns-clause-turn
 returns-clause-turn g c =
     let call = c.apply-answer in
-    let told = made c.args.kernel.now call.new.self c.args.step.now c.copied_call.result call.result c.copied_call.ensures
+    let told = made c.args.kernel.now call.new.self c.args.step.now c.copied.result call.result c.copied.ensures
     call.ensures.entry call.ensures.none call.ensures.full call.ensures.limit (sym c.wants_memory.ensures ∙ c.if-wants_memory.false) in
     record {
       turns = told.turns;

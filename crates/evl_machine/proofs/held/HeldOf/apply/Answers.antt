@@ -3,23 +3,20 @@ use Rattle.evl_kernel.specs.KernelViews.{KernelView}
 use Rattle.evl_machine.specs.Handles.{HeldState, MachineState}
 use Rattle.evl_machine.specs.Known.{ComesFrom}
 use Rattle.evl_machine.specs.Calls.{Applied}
-use Rattle.evl_machine.proofs.Calling.{applies, held_applied}
+use Rattle.evl_machine.proofs.Calling.{held_applied}
 use Rattle.evl_machine.proofs.Knowing.{answers_still, comes_on}
 use Rattle.evl_machine.proofs.held.HeldOf.apply.Goals as goal
 
 pub apply-requires : goal.apply-requires
 apply-requires g c =
     let first = sym (ap (λ (m : MachineState _). m.first) c.self.invariant.0) ∙ ap (λ (h : HeldState _). h.machine.first) c.self.view_is in
-    record { answering = answers_still _ _ c.args.self.now.machine.first c.self.inside.kernel (subst (λ (f : KernelView _). ComesFrom f c.self.inside.kernel) first c.self.invariant.2) c.requires }
+    answers_still _ _ c.args.self.now.machine.first c.self.inside.kernel (subst (λ (f : KernelView _). ComesFrom f c.self.inside.kernel) first c.self.invariant.2) c.requires
 
 pub invariant_of-self : goal.invariant_of-self
 invariant_of-self g c =
-    let e = c.apply.ensures in
-    (c.self.invariant.0, held_applied _ _ _ _ _ c.apply.new.self c.self.invariant.1 (applies _ _ _ _ _ e.entry e.none e.full e.memory e.room e.answers (record { brings = e.brings; told_is = e.told; limit = e.limit }) e.legal), comes_on _ c.self.inside.kernel _ c.self.invariant.2 (record { brings = e.brings; told_is = e.told; limit = e.limit }))
+    (c.self.invariant.0, held_applied _ _ _ _ _ c.apply.new.self c.self.invariant.1 c.apply.ensures, comes_on _ c.self.inside.kernel _ c.self.invariant.2 c.apply.ensures.comes)
 
 pub returns-clause-applied : goal.returns-clause-applied
 returns-clause-applied g c =
-    let e = c.apply.ensures in
-    let done = applies c.self.inside.kernel c.self.inside.thread.0 c.args.call c.apply.result c.apply.new.self e.entry e.none e.full e.memory e.room e.answers (record { brings = e.brings; told_is = e.told; limit = e.limit }) e.legal in
     subst (λ (h : HeldState _). Applied h.kernel h.account.thread c.args.call c.apply.result c.apply.new.self) c.self.view_is
-    (subst (λ (t : ℕ). Applied c.self.inside.kernel t c.args.call c.apply.result c.apply.new.self) (sym c.self.invariant.1.own) done)
+    (subst (λ (t : ℕ). Applied c.self.inside.kernel t c.args.call c.apply.result c.apply.new.self) (sym c.self.invariant.1.own) c.apply.ensures)

@@ -1,7 +1,7 @@
 use Rattle.std.proofs.Common.{refl}
 use Rattle.evl_pipeline.specs.Lines.{opening}
 use Rattle.evl_pipeline.proofs.LineLaws.{sound-opening}
-use Rattle.evl_pipeline.proofs.pipeline.PipelineOf.new.Goals as goal
+use Rattle.evl_pipeline.proofs.pipeline.PipelineOf.with_room.Goals as goal
 
 pub invariant_of-result : goal.invariant_of-result
 unfolding opening

@@ -1,0 +1,5 @@
+use Rattle.evl_kernel.proofs.SemaphoreLaws.{by_themselves}
+use Rattle.evl_kernel.proofs.laws.semaphores_run_by_themselves.Goals as goal
+
+pub returns : goal.returns
+returns c = by_themselves

@@ -1,0 +1,18 @@
+use Rattle.std.proofs.Common.{◌≡◌, sym, ◌∙◌, subst}
+use Rattle.evl_kernel.specs.Callbacks.{AnswersAsTold}
+use Rattle.evl_kernel.specs.KernelViews.{KernelView}
+use Rattle.evl_machine.specs.Calls.{Applied}
+use Rattle.evl_machine.proofs.Calling.{applies}
+use Rattle.evl_machine.proofs.kernel_box.KernelBox.apply.Goals as goal
+
+pub apply-requires : goal.apply-requires
+apply-requires g c =
+    let same : c.deref_mut.result.now ≡ c.args.self.now = c.deref_mut.ensures.value ∙ c.self.view_is in
+    record { answering = subst (λ (k : KernelView _). AnswersAsTold g.C.Handler.declared g.C.Handler.plan k.callbacks) (sym same) c.requires }
+
+pub returns : goal.returns
+returns g c =
+    let e = c.apply.ensures in
+    let same : c.deref_mut.result.now ≡ c.args.self.now = c.deref_mut.ensures.value ∙ c.self.view_is in
+    subst (λ (k : KernelView _). Applied k c.args.caller.0 c.args.call c.apply.result c.apply.new.self) same
+    (applies _ _ _ _ _ e.entry e.none e.full e.memory e.room e.answers (record { brings = e.brings; told_is = e.told; limit = e.limit }) e.legal)

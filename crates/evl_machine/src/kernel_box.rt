@@ -1,0 +1,63 @@
+//! What lies in the slot: the kernel in a box, so that only a pointer moves where the kernel goes out or in.
+ghost use Rattle.std.specs.Prelude.{◌≡◌, IfOk};
+ghost use Rattle.evl_kernel.specs.Callbacks.{AnswersAsTold};
+ghost use Rattle.evl_machine.specs.Calls.{Applied};
+
+use evl_base::{Call, Refusal, Reply, ThreadId};
+use evl_kernel::KernelOf;
+use evl_pipeline::Handler;
+use std::alloc::{AllocError, Allocator};
+use std::marker::Model;
+
+/// A kernel in a box of its own (this profile). To a contract it is the kernel.
+#[derive(Drop)]
+pub struct KernelBox<C, A: Allocator> {
+    kernel: Box<KernelOf<C, A>, A>,
+}
+
+impl<C, A: Allocator> Model for KernelBox<C, A> {
+    ghost use Rattle.evl_kernel.specs.KernelViews.{KernelView};
+
+    ghost Value = { KernelView C };
+
+    ghost view = { λ b. b.kernel.value };
+}
+
+impl<C, A: Allocator> KernelBox<C, A> {
+    /// This kernel in a box, for which room may be refused. The kernel is then dropped.
+    pub(crate) fn new(alloc: A, kernel: KernelOf<C, A>) -> Result<KernelBox<C, A>, AllocError>
+    where
+        C: Drop,
+        ensures { IfOk result (λ b. b ≡ kernel) }
+    {
+        match Box::new(alloc, kernel) {
+            Ok(kernel) => Ok(KernelBox { kernel }),
+            Err(_) => Err(AllocError),
+        }
+    }
+
+    /// The kernel, to be read.
+    pub(crate) fn kernel(&self) -> &KernelOf<C, A>
+        ensures { result.now ≡ self.now }
+    {
+        &*self.kernel
+    }
+
+    /// The kernel out of its box.
+    pub(crate) fn into_kernel(self) -> KernelOf<C, A>
+        ensures { result ≡ self }
+    {
+        let KernelBox { kernel } = self;
+        Box::into_inner(kernel)
+    }
+}
+
+impl<C: Handler, A: Allocator> KernelBox<C, A> {
+    /// One call of the kernel.
+    pub(crate) fn apply(&mut self, caller: ThreadId, call: Call) -> Result<Reply, Refusal>
+        requires { AnswersAsTold C.declared C.plan self.old.callbacks }
+        ensures { Applied self.old caller.0 call result self.new }
+    {
+        self.kernel.apply(caller, call)
+    }
+}
