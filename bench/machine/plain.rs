@@ -1,4 +1,5 @@
-//! The same plain step on the same data behind a std::sync::Mutex: of one host thread, and of two.
+//! The same plain step behind a std::sync::Mutex, of one host thread and of two: on the same data as the kernel's, whose
+//! replies may carry 256 bytes, and on replies that carry none.
 use std::hint::black_box;
 use std::mem::MaybeUninit;
 use std::sync::Mutex;
@@ -15,18 +16,17 @@ enum Call {
 
 #[allow(dead_code)]
 #[derive(Clone, Copy)]
-struct Bytes {
+struct Bytes<const N: usize> {
     len: usize,
-    bytes: [MaybeUninit<u8>; 256],
+    bytes: [MaybeUninit<u8>; N],
 }
 
-// What a call answers: up to 256 bytes, as the kernel's reply.
 #[allow(dead_code)]
 #[derive(Clone, Copy)]
-enum Reply {
+enum Reply<const N: usize> {
     Done,
     Count(i64),
-    Bytes(Bytes),
+    Bytes(Bytes<N>),
 }
 
 #[allow(dead_code)]
@@ -39,22 +39,26 @@ enum Refusal {
 }
 
 #[allow(dead_code)]
-struct Entry {
+struct Entry<const N: usize> {
     caller: u16,
     call: Call,
-    reply: Result<Reply, Refusal>,
+    reply: Result<Reply<N>, Refusal>,
     plays: usize,
 }
 
-struct Kernel {
+struct Kernel<const N: usize> {
     threads: u16,
     sems: Vec<u32>,
-    history: Vec<Entry>,
+    history: Vec<Entry<N>>,
     limit: usize,
 }
 
-impl Kernel {
-    fn step(&mut self, caller: u16, call: &Call) -> Result<Reply, Refusal> {
+impl<const N: usize> Kernel<N> {
+    fn new() -> Mutex<Kernel<N>> {
+        Mutex::new(Kernel { threads: 2, sems: vec![0], history: Vec::new(), limit: 1_000_000 })
+    }
+
+    fn step(&mut self, caller: u16, call: &Call) -> Result<Reply<N>, Refusal> {
         if caller >= self.threads {
             return Err(Refusal::Unknown);
         }
@@ -79,7 +83,7 @@ impl Kernel {
         }
     }
 
-    fn apply(&mut self, caller: u16, call: Call) -> Result<Reply, Refusal> {
+    fn apply(&mut self, caller: u16, call: Call) -> Result<Reply<N>, Refusal> {
         if self.history.len() == self.limit {
             return Err(Refusal::HistoryFull);
         }
@@ -89,11 +93,7 @@ impl Kernel {
     }
 }
 
-fn kernel() -> Mutex<Kernel> {
-    Mutex::new(Kernel { threads: 2, sems: vec![0], history: Vec::new(), limit: 1_000_000 })
-}
-
-fn rounds(kernel: &Mutex<Kernel>, caller: u16) -> u32 {
+fn rounds<const N: usize>(kernel: &Mutex<Kernel<N>>, caller: u16) -> u32 {
     let mut done = 0;
     for _ in 0..ROUNDS {
         let put = kernel.lock().unwrap().apply(caller, black_box(Call::Put { sem: 0 }));
@@ -103,21 +103,26 @@ fn rounds(kernel: &Mutex<Kernel>, caller: u16) -> u32 {
     done
 }
 
-fn puts(kernel: &Mutex<Kernel>, caller: u16) -> u32 {
+fn puts<const N: usize>(kernel: &Mutex<Kernel<N>>, caller: u16) -> u32 {
     (0..ROUNDS).filter(|_| kernel.lock().unwrap().apply(caller, black_box(Call::Put { sem: 0 })).is_ok()).count() as u32
 }
 
-fn main() {
-    let alone = kernel();
+fn measure<const N: usize>(name: &str) {
+    let alone = Kernel::<N>::new();
     let start = Instant::now();
     let done = rounds(&alone, 0);
-    println!("std::sync::Mutex, one thread: {done} calls in {} ns", start.elapsed().as_nanos());
-    let shared = kernel();
+    println!("{name}, one thread: {done} calls in {} ns", start.elapsed().as_nanos());
+    let shared = Kernel::<N>::new();
     let start = Instant::now();
     let done: u32 = std::thread::scope(|scope| {
         let first = scope.spawn(|| puts(&shared, 0));
         let second = puts(&shared, 1);
         first.join().unwrap() + second
     });
-    println!("std::sync::Mutex, two threads: {done} calls in {} ns", start.elapsed().as_nanos());
+    println!("{name}, two threads: {done} calls in {} ns", start.elapsed().as_nanos());
+}
+
+fn main() {
+    measure::<256>("std::sync::Mutex");
+    measure::<0>("std::sync::Mutex without bytes");
 }
