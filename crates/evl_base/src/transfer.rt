@@ -1,5 +1,5 @@
 //! The bytes of one transfer in a box of their own, and boxes that are kept for transfers to come.
-ghost use Rattle.std.specs.Prelude.{◌≡◌, ◌≤◌, ◌<◌, ◌+◌, length, IfOk, OnOk, IfErr};
+ghost use Rattle.std.specs.Prelude.{◌≡◌, ◌≤◌, ◌<◌, ◌+◌, length, max, OnOk, OnErr, IfErr};
 
 use crate::refusal::Refusal;
 use crate::way::Bytes;
@@ -81,8 +81,9 @@ impl<A: Allocator> Spares<A> {
 
     /// Makes boxes until there are `n` of them. `NoMemory` where one was refused; those made by then stay.
     pub fn keep(&mut self, n: usize) -> Result<(), Refusal>
-        ensures there { OnOk result (n ≤ self.new) }
+        ensures there { OnOk result (self.new ≡ max self.old n) }
         ensures grows { self.old ≤ self.new }
+        ensures needed { OnErr result (self.old < n) }
         ensures refusal { IfErr result (λ e. e ≡ Refusal.NoMemory) }
     {
         while self.boxes.len() < n {
