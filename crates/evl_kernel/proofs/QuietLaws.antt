@@ -1,5 +1,5 @@
 -- After each call the out-of-band stage is stalled, or nothing is pending there.
-use Rattle.std.proofs.Common.{◌≡◌, ℕ, Bool, true, false, not, ◌&&◌, List, [], ◌∷◌, Option, Some, None, Result, Ok, Err, is_some, if◌then◌else◌, refl, sym, subst}
+use Rattle.std.proofs.Common.{◌≡◌, ℕ, Bool, true, false, not, ◌&&◌, List, [], ◌∷◌, Option, Some, None, Result, Ok, Err, is_some, if◌then◌else◌, refl, sym, ◌∙◌, subst}
 use Rattle.std.proofs.lemmas.Bool.{false≢true}
 use Rattle.std.specs.Option.{option_map}
 use Rattle.evl_base.specs.declared.board.Board.{Board}
@@ -14,9 +14,10 @@ use Rattle.evl_pipeline.specs.Lines as lines
 use Rattle.evl_kernel.specs.States.{State, Handler}
 use Rattle.evl_kernel.specs.Effects.{Effect}
 use Rattle.evl_kernel.specs.Serving.{answer}
-use Rattle.evl_kernel.specs.Settling.{Settling, next_play, next_of}
-use Rattle.evl_kernel.specs.Histories.{Run, Follows}
+use Rattle.evl_kernel.specs.Settling.{Settling, line_next, next_play, next_of}
+use Rattle.evl_kernel.specs.Histories.{Run, Follows, opened}
 use Rattle.evl_kernel.specs.Openings.{opening}
+use Rattle.evl_kernel.proofs.DueLaws.{line_plays}
 use Rattle.evl_kernel.specs.Laws.{OobPendsOnlyWhileStalled}
 
 -- no line is playable out-of-band
@@ -38,8 +39,7 @@ quiet_of false (Some n) other h = absurd (some_none h)
 
 -- where a settling ends nothing is playable out-of-band
 pub ended_quiet : (at : Settling) → next_play at ≡ None → IsQuiet at.state
-unfolding next_play
-ended_quiet at h = quiet_of at.state.lines.oob.stalled (least at.state.lines.oob.pending) _ (no_line at _ h)
+ended_quiet at h = quiet_of at.state.lines.oob.stalled (least at.state.lines.oob.pending) _ (no_line at (line_next at) (sym (line_plays at) ∙ h))
 
 pub follows_quiet : (old : State) (effect : Effect) (reply : Result Reply Refusal) (plays : List Play) (new : State)
     → IsQuiet old → Follows old effect reply plays new → IsQuiet new
@@ -63,5 +63,5 @@ pending_stalled (m ∷ ms) true line quiet there = refl
 pending_stalled (m ∷ ms) false line quiet there = absurd (false≢true (sym quiet))
 
 pub stalled_while_pending : OobPendsOnlyWhileStalled
-stalled_while_pending board bank entries plays state run line there =
-    pending_stalled state.lines.oob.pending state.lines.oob.stalled line (run_quiet (opening board bank) entries plays state (opening_quiet board bank) run) there
+stalled_while_pending h legal line there =
+    pending_stalled h.state.lines.oob.pending h.state.lines.oob.stalled line (run_quiet (opened h) h.entries h.plays h.state (opening_quiet h.board h.bank) legal) there

@@ -5,41 +5,32 @@ use Rattle.std.specs.Option.{option_map}
 use Rattle.evl_base.specs.declared.stage.Stage.{Stage}
 use Rattle.evl_base.specs.declared.stage.Stage.TheVariants.{Inband, Oob}
 use Rattle.evl_base.specs.declared.play.Play.{Play}
+use Rattle.evl_base.specs.declared.play.Play.TheVariants.{Clock, Timer, Deadline, Line}
+use Rattle.evl_pipeline.specs.declared.answer.Answer.{Answer}
+use Rattle.evl_pipeline.specs.declared.fire.Fire.{Fire}
 use Rattle.evl_pipeline.specs.declared.plan.Plan.{Plan}
+use Rattle.evl_pipeline.specs.Limits.{line_count}
 use Rattle.evl_pipeline.specs.NumberSet.{least}
 use Rattle.evl_pipeline.specs.Lines as lines
 use Rattle.evl_pipeline.proofs.NumberSetLaws.{length-rises}
+use Rattle.evl_kernel.specs.Limits.{inband_limit, play_limit}
 use Rattle.evl_kernel.specs.Paths.{Along}
-use Rattle.evl_kernel.specs.Settling.{Settling, Plays, next_play}
+use Rattle.evl_kernel.specs.States.{State}
+use Rattle.evl_kernel.specs.Callbacks.{Whereabouts, BringsNone}
+use Rattle.evl_kernel.specs.Fires.{Called, AllCalled}
+use Rattle.evl_kernel.specs.Settling.{Settling, Plays, next_play, after_call}
 use Rattle.evl_kernel.specs.Settled.{Appends, settling, left_to_play}
 use Rattle.evl_kernel.specs.Records.{RecordsView, state_of}
 use Rattle.evl_kernel.proofs.PlayLaws.{none_next}
+
+some_is : {A : Type 0} {x y : A} → Some x ≡ Some y → x ≡ y
+some_is e = cc
 
 -- a path goes on by one
 pub along_more : {S P : Type 0} (next : S → Option (P × S)) (at : S) (outs : List P) (mid : S) (one : P) (end : S)
     → Along next at outs mid → next mid ≡ Some (one, end) → Along next at (outs ++ one ∷ []) end
 along_more {S} next at [] mid one end same step = (end, subst (λ (s : S). next s ≡ Some (one, end)) same step, refl)
 along_more next at (first ∷ outs) mid one end (after, here, others) step = (after, here, along_more next after outs mid one end others step)
-
--- the plays that were appended lead from one to the other
-pub record PlaysOn (start : Settling) (before : List Play) (end : Settling) (after : List Play) : Type 0 where
-  pub made : List Play
-  pub appended : after ≡ before ++ made
-  pub path : Plays start made end
-
-pub plays_on-none : (start : Settling) (before : List Play) → PlaysOn start before start before
-plays_on-none start before = record { made = []; appended = append_none; path = refl }
-  where
-    append_none : before ≡ before ++ []
-    append_none = sym (append-nil before)
-
-pub plays_on-more : (start : Settling) (before : List Play) (mid : Settling) (after : List Play) (one : Play) (end : Settling)
-    → PlaysOn start before mid after → next_play mid ≡ Some (one, end) → PlaysOn start before end (after ++ one ∷ [])
-plays_on-more start before mid after one end so next = record {
-  made = so.made ++ one ∷ [];
-  appended = ap (λ (ps : List Play). ps ++ one ∷ []) so.appended ∙ append_assoc before so.made (one ∷ []);
-  path = along_more next_play start so.made mid one end so.path next;
-}
 
 -- while the out-of-band stage is stalled, nothing is playable
 stalled_next : {X : Type 0} (p : lines.Pipeline X) (eligible inband : Bool) → p.oob.stalled ≡ true → lines.next_line p eligible inband ≡ None
@@ -55,21 +46,73 @@ stalled_next p eligible inband stalled = rw stalled (by (least p.oob.pending) (i
     by (Some n) true true = refl
     by (Some n) true false = refl
 
-module _ {C : Type 0} where
+module _ {C : Type 0} (gives : C → Fire → Answer → Type 0) where
+  -- what was called before stood there already
+  pub called_before : (v w : Whereabouts C) → BringsNone w v → (s : State) (one : Play) → Called gives v s one → Called gives w s one
+  called_before v w brings s (Line line stage count handled) (at, there, gave) =
+      (at, there, record { callback = gave.callback; stands = brings at.callback gave.callback gave.stands; gave = gave.gave })
+  called_before v w brings s Clock called = tt
+  called_before v w brings s (Timer timer count missed handled) called = tt
+  called_before v w brings s (Deadline thread) called = tt
+
+  all_called_before : (v w : Whereabouts C) → BringsNone w v → (at : Settling) (plays : List Play) → AllCalled gives v at plays → AllCalled gives w at plays
+  all_called_before v w brings at [] called = tt
+  all_called_before v w brings at (one ∷ others) (its, more) =
+      (called_before v w brings at.state one its, λ mid is. all_called_before v w brings mid others (more mid is))
+
+  pub appends_before : (v w : Whereabouts C) → BringsNone w v → (before after : List Play) (old new : State) → Appends gives v before old after new → Appends gives w before old after new
+  appends_before v w brings before after old new so = record {
+    made = so.made;
+    appended = so.appended;
+    settles = so.settles;
+    few = so.few;
+    called = all_called_before v w brings (after_call old) so.made so.called;
+  }
+
+module _ {C : Type 0} (gives : C → Fire → Answer → Type 0) (w : Whereabouts C) where
+  -- the plays that were appended lead from one to the other, and each of a line called its callback
+  pub record PlaysOn (start : Settling) (before : List Play) (end : Settling) (after : List Play) : Type 0 where
+    pub made : List Play
+    pub appended : after ≡ before ++ made
+    pub path : Plays start made end
+    pub called : AllCalled gives w start made
+
+  pub plays_on-none : (start : Settling) (before : List Play) → PlaysOn start before start before
+  plays_on-none start before = record { made = []; appended = sym (append-nil before); path = refl; called = tt }
+
+  all_called-more : (start : Settling) (made : List Play) (mid : Settling) (one : Play) → Plays start made mid → AllCalled gives w start made → Called gives w mid.state one
+      → AllCalled gives w start (made ++ one ∷ [])
+  all_called-more start [] mid one path called now = (subst (λ (x : Settling). Called gives w x.state one) path now, λ next is. tt)
+  all_called-more start (first ∷ made) mid one (after, here, path) (its, others) now =
+      (its, λ next is. all_called-more next made mid one (subst (λ (x : Settling). Plays x made mid) (same next is) path) (others next is) now)
+    where
+      same : (next : Settling) → next_play start ≡ Some (first, next) → after ≡ next
+      same next is = ap (λ (x : Play × Settling). x.1) (some_is (sym here ∙ is))
+
+  pub plays_on-more : (start : Settling) (before : List Play) (mid : Settling) (after : List Play) (one : Play) (end : Settling)
+      → PlaysOn start before mid after → next_play mid ≡ Some (one, end) → Called gives w mid.state one → PlaysOn start before end (after ++ one ∷ [])
+  plays_on-more start before mid after one end so next called = record {
+    made = so.made ++ one ∷ [];
+    appended = ap (λ (ps : List Play). ps ++ one ∷ []) so.appended ∙ append_assoc before so.made (one ∷ []);
+    path = along_more next_play start so.made mid one end so.path next;
+    called = all_called-more start so.made mid one so.path so.called called;
+  }
+
   -- where nothing is playable any more, it has settled
   pub settled_now : (r s : RecordsView C) (inband : ℕ) (before after : List Play) → PlaysOn (settling r 0) before (settling s inband) after
-      → next_play (settling s inband) ≡ None → length after ≤ length before + 1344 → Appends before (state_of r) after (state_of s)
+      → next_play (settling s inband) ≡ None → length after ≤ length before + play_limit → Appends gives w before (state_of r) after (state_of s)
   settled_now r s inband before after so ended few = record {
     made = so.made;
     appended = so.appended;
     settles = record { last = settling s inband; played = so.path; ended = ended; left = refl };
     few = omega (arith, few, ap (λ (ps : List Play). length ps) so.appended, length-append {A = Play} before so.made);
+    called = so.called;
   }
 
-  -- at most 1344 plays are left after a call
-  pub left_at_first : (r : RecordsView C) → lines.IsSoundPipeline r.lines → left_to_play r 0 ≤ 1344
-  left_at_first r sound = omega (arith, length-rises 0 1024 r.lines.oob.pending (sound.sides Oob).rises)
-
-  pub stalled_settles : (declared : C → ℕ) (plan : C → Plan) (r : RecordsView C) (before : List Play) → r.lines.oob.stalled ≡ true → Appends before (state_of r) before (state_of r)
+  pub stalled_settles : (declared : C → ℕ) (plan : C → Plan) (r : RecordsView C) (before : List Play) → r.lines.oob.stalled ≡ true → Appends gives w before (state_of r) before (state_of r)
   stalled_settles declared plan r before stalled =
-      settled_now r r 0 before before (plays_on-none (settling r 0) before) (none_next declared plan r 0 (stalled_next r.lines false (nat_lt 0 64) stalled)) (omega arith)
+      settled_now r r 0 before before (plays_on-none (settling r 0) before) (none_next declared plan r 0 (stalled_next r.lines false (nat_lt 0 inband_limit) stalled)) (omega arith)
+
+-- few plays are left after a call
+pub left_at_first : {C : Type 0} (r : RecordsView C) → lines.IsSoundPipeline r.lines → left_to_play (settling r 0) ≤ play_limit
+left_at_first r sound = omega (arith, length-rises 0 line_count r.lines.oob.pending (sound.sides Oob).rises)

@@ -4,6 +4,7 @@ use Rattle.evl_base.specs.Limits.{within}
 use Rattle.evl_base.specs.Board.{board_fits}
 use Rattle.evl_base.specs.declared.board.Board.{Board}
 use Rattle.evl_pipeline.specs.Lines as lines
+use Rattle.evl_kernel.specs.Limits.{callback_limit, history_limit}
 use Rattle.evl_kernel.specs.States.{State, Handler, Banked}
 
 abbrev pub at_home : Handler → Banked
@@ -15,4 +16,4 @@ opening board bank = record { threads = board.threads; sems = board.sems.items; 
 
 -- the board, the bank and the limit of the history are within their limits
 abbrev pub can_open : Board → ℕ → ℕ → Bool
-can_open board callbacks limit = board_fits board && nat_le callbacks 64 && within 1 1000000 limit
+can_open board callbacks limit = board_fits board && nat_le callbacks callback_limit && within 1 history_limit limit

@@ -1,5 +1,5 @@
 -- What a settling has played so far, and how much is left at most.
-use Rattle.std.specs.Prelude.{ℕ, ◌≡◌, ◌+◌, ◌-◌, ◌*◌, ◌≤◌, List, ◌++◌, length, Result}
+use Rattle.std.specs.Prelude.{ℕ, ◌≡◌, ◌+◌, ◌-◌, ◌*◌, ◌≤◌, false, List, ◌++◌, length, Result}
 use Rattle.evl_base.specs.declared.stage.Stage.{Stage}
 use Rattle.evl_base.specs.declared.stage.Stage.TheVariants.{Oob}
 use Rattle.evl_base.specs.declared.call.Call.{Call}
@@ -7,9 +7,16 @@ use Rattle.evl_base.specs.declared.refusal.Refusal.{Refusal}
 use Rattle.evl_base.specs.declared.reply.Reply.{Reply}
 use Rattle.evl_base.specs.declared.play.Play.{Play}
 use Rattle.evl_base.specs.declared.play.Play.TheVariants.{Clock, Timer, Deadline, Line}
+use Rattle.evl_pipeline.specs.declared.answer.Answer.{Answer}
+use Rattle.evl_pipeline.specs.declared.fire.Fire.{Fire}
+use Rattle.evl_pipeline.specs.Limits.{action_limit}
+use Rattle.evl_kernel.specs.Limits.{inband_limit, play_limit}
 use Rattle.evl_kernel.specs.States.{State}
-use Rattle.evl_kernel.specs.Settling.{Settling, Settles}
+use Rattle.evl_kernel.specs.Serving.{answer}
+use Rattle.evl_kernel.specs.Settling.{Settling, Settles, after_call, due_items}
 use Rattle.evl_kernel.specs.Histories.{Step}
+use Rattle.evl_kernel.specs.Callbacks.{Whereabouts}
+use Rattle.evl_kernel.specs.Fires.{AllCalled, FollowsByCalls}
 use Rattle.evl_kernel.specs.Records.{RecordsView, state_of}
 
 -- the stage on which it was played
@@ -19,24 +26,27 @@ stage_of (Timer timer count missed handled) = Oob
 stage_of (Deadline thread) = Oob
 stage_of (Line line stage count handled) = stage
 
+-- the settling of some records after so many in-band plays, but for the clock's play
 abbrev pub settling : {C : Type 0} → RecordsView C → ℕ → Settling
-settling r inband = record { state = state_of r; inband = inband }
+settling r inband = record { state = state_of r; inband = inband; in_clock = false }
 
--- No more plays than this are left: each pending out-of-band line is one, and each of the in-band plays that are left
--- may post four more.
-abbrev pub left_to_play : {C : Type 0} → RecordsView C → ℕ → ℕ
-left_to_play r inband = 5 * (64 - inband) + length r.lines.oob.pending
+-- No more plays than this are left: each pending out-of-band line is one, each due item is one, and each of the in-band
+-- plays that are left may post as many out-of-band lines as an answer has actions.
+abbrev pub left_to_play : Settling → ℕ
+left_to_play at = (1 + action_limit) * (inband_limit - at.inband) + length at.state.lines.oob.pending + due_items at.state
 
--- the plays of a settling were appended, at most 1344
-pub record Appends (before : List Play) (old : State) (after : List Play) (new : State) : Type 0 where
+-- the plays of a settling were appended, few of them, and each of a line called its callback
+pub record Appends {C : Type 0} (gives : C → Fire → Answer → Type 0) (w : Whereabouts C) (before : List Play) (old : State) (after : List Play) (new : State) : Type 0 where
   pub made : List Play
   pub appended : after ≡ before ++ made
   pub settles : Settles old made new
-  pub few : length made ≤ 1344
+  pub few : length made ≤ play_limit
+  pub called : AllCalled gives w (after_call old) made
 
--- a step of the kernel was made, and its plays, at most 1344, were appended
-pub record Performs (before : List Play) (old : State) (caller : ℕ) (asked : Call) (reply : Result Reply Refusal) (after : List Play) (new : State) : Type 0 where
+-- a step of the kernel was made, and its plays were appended, few of them, and each of a line called its callback
+pub record Performs {C : Type 0} (gives : C → Fire → Answer → Type 0) (w : Whereabouts C) (before : List Play) (old : State) (caller : ℕ) (asked : Call) (reply : Result Reply Refusal) (after : List Play) (new : State) : Type 0 where
   pub made : List Play
   pub appended : after ≡ before ++ made
   pub step : Step old caller asked reply made new
-  pub few : length made ≤ 1344
+  pub few : length made ≤ play_limit
+  pub called : FollowsByCalls gives w (answer old caller asked) made

@@ -24,6 +24,10 @@ pub record State : Type 0 where
   -- the lines; what stands on a line is named by its number in the bank
   pub lines : Pipeline ℕ
 
+-- the date, in nanoseconds: nothing moves it yet
+abbrev pub date : State → ℕ
+date s = 0
+
 abbrev pub with_lines : State → Pipeline ℕ → State
 with_lines s lines = record s { lines = lines }
 

@@ -27,6 +27,8 @@ impl<C: Handler> Handler for Numbered<C> {
 
     ghost declared = { λ numbered. C.declared numbered.callback };
 
+    ghost gives = { λ numbered fire answer. C.gives numbered.callback fire answer };
+
     fn fire(&self, fire: Fire) -> Answer {
         self.callback.fire(fire)
     }

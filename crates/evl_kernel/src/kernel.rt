@@ -1,9 +1,12 @@
 //! The kernel and its history.
-ghost use Rattle.std.specs.Prelude.{◌≡◌, ◌⊎◌, ◌↔◌, ◌+◌, ◌≤◌, ◌<◌, length, map, true, false, IsTrue, IsFalse, OnOk, IfOk, IfErr};
+ghost use Rattle.std.specs.Prelude.{◌≡◌, ◌⊎◌, ◌↔◌, ◌+◌, ◌≤◌, ◌<◌, length, true, false, IsTrue, IsFalse, OnOk, IfOk, IfErr};
 ghost use Rattle.evl_pipeline.specs.Counts.{count_at};
+ghost use Rattle.evl_pipeline.specs.Limits.{line_count};
 ghost use Rattle.evl_pipeline.specs.Lines as lines;
 ghost use Rattle.evl_kernel.specs.Callbacks.{AnswersAsTold, BringsNone, told};
-ghost use Rattle.evl_kernel.specs.Openings.{opening, can_open};
+ghost use Rattle.evl_kernel.specs.Fires.{AddsByCalls};
+ghost use Rattle.evl_kernel.specs.Limits.{history_limit};
+ghost use Rattle.evl_kernel.specs.Openings.{can_open};
 ghost use Rattle.evl_kernel.specs.Histories.{IsLegal};
 ghost use Rattle.evl_kernel.specs.KernelViews.{AddsEntry, IsOpened, IsKernelAnswer, makes_entry};
 
@@ -51,7 +54,7 @@ impl<C, A: Allocator> Model for KernelOf<C, A> {
 /// Whether a board, a number of callbacks and a limit are within their limits.
 fn can_open(board: &Board, callbacks: usize, limit: u32) -> bool
     ensures fits { result ≡ can_open board.now callbacks limit }
-    ensures limit { result ≡ true → limit ≤ 1000000 }
+    ensures limit { result ≡ true → limit ≤ history_limit }
 {
     board.check().is_ok() && callbacks <= MAX_CALLBACKS && 1 <= limit && limit <= MAX_LIMIT
 }
@@ -95,13 +98,12 @@ impl<C: Handler, A: Allocator> KernelOf<C, A> {
     /// nor `HistoryFull`.
     ///
     /// `HistoryFull` exactly where the history has fewer than `n` places left; `NoMemory` where the room was refused.
-    /// The history is as before (this profile).
+    /// All but the room is as before: the history, and where each callback is (this profile).
     pub fn reserve(&mut self, n: usize) -> Result<(), Refusal>
         ensures room { OnOk result (n ≤ self.new.room) }
         ensures full { (result ≡ Err Refusal.HistoryFull) ↔ (self.old.limit < length self.old.history.entries + n) }
         ensures refusals { IfErr result (λ e. (e ≡ Refusal.HistoryFull) ⊎ (e ≡ Refusal.NoMemory)) }
-        ensures history { self.new.history ≡ self.old.history }
-        ensures limit { self.new.limit ≡ self.old.limit }
+        ensures rest { self.new ≡ record self.old { room = self.new.room } }
         ensures keeps { self.old.room ≤ self.new.room }
     {
         if n > self.limit - self.history.len() {
@@ -118,7 +120,8 @@ impl<C: Handler, A: Allocator> KernelOf<C, A> {
     /// `HistoryFull` exactly where the history is at its limit, `NoMemory` where room for the entry and its plays was
     /// refused: neither makes an entry or changes anything. Every other refusal is an answer with an entry: the first
     /// that applies of `Unknown` (no such thread, line, callback or element), `Range`, `Invalid`, then the call's own.
-    /// Each callback is called as it is played, on the condition that it answers its plan (this profile).
+    /// Each play of a line calls the callback that stands there with its line, stage, tag, count and date, on the condition
+    /// that it answers its plan (this profile).
     pub fn apply(&mut self, caller: ThreadId, call: Call) -> Result<Reply, Refusal>
         requires answering { AnswersAsTold C.declared C.plan self.old.callbacks }
         ensures entry { IsTrue (makes_entry result) → AddsEntry self.old.history caller.0 call result self.new.history }
@@ -132,6 +135,7 @@ impl<C: Handler, A: Allocator> KernelOf<C, A> {
         ensures answering { AnswersAsTold C.declared C.plan self.new.callbacks }
         ensures brings { BringsNone self.old.callbacks self.new.callbacks }
         ensures told { told self.new.callbacks.bank ≡ told self.old.callbacks.bank }
+        ensures called { AddsByCalls C.gives self.old.callbacks self.old.history caller.0 call self.new.history }
     {
         if self.history.len() == self.limit {
             return Err(Refusal::HistoryFull);
@@ -174,6 +178,7 @@ impl<C, A: Allocator> KernelOf<C, A> {
     /// Whether an event of the line is pending on the stage; no line above 1023 is (Dovetail: interrupt pipeline).
     pub fn pending(&self, stage: Stage, line: LineNo) -> bool
         ensures pending { result ≡ lines.is_pending self.now.history.state.lines stage line.0 }
+        ensures outside { line_count ≤ line.0 → result ≡ false }
         ensures legal { IsLegal self.now.history }
     {
         self.records.is_pending(stage, line)
@@ -191,6 +196,7 @@ impl<C, A: Allocator> KernelOf<C, A> {
     /// (this profile).
     pub fn spurious(&self, line: LineNo) -> u64
         ensures count { result ≡ count_at self.now.history.state.lines.spurious line.0 }
+        ensures outside { line_count ≤ line.0 → result ≡ 0 }
         ensures legal { IsLegal self.now.history }
     {
         self.records.spurious(line)
@@ -200,6 +206,7 @@ impl<C, A: Allocator> KernelOf<C, A> {
     /// above 1023 (this profile).
     pub fn unhandled(&self, line: LineNo, stage: Stage) -> u64
         ensures count { result ≡ count_at (lines.side self.now.history.state.lines stage).unhandled line.0 }
+        ensures outside { line_count ≤ line.0 → result ≡ 0 }
         ensures legal { IsLegal self.now.history }
     {
         self.records.unhandled(line, stage)

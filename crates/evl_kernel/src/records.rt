@@ -1,6 +1,7 @@
 //! The kernel's records: what its calls read and change, apart from its history.
-ghost use Rattle.std.specs.Prelude.{◌≡◌, ℕ, IfOk, IfErr, map};
+ghost use Rattle.std.specs.Prelude.{◌≡◌, ◌≤◌, ℕ, false, IfOk, IfErr, map};
 ghost use Rattle.evl_pipeline.specs.Counts.{count_at};
+ghost use Rattle.evl_pipeline.specs.Limits.{line_count};
 ghost use Rattle.evl_pipeline.specs.Lines.{is_pending, side};
 ghost use Rattle.evl_kernel.specs.Callbacks.{AreFilled};
 ghost use Rattle.evl_kernel.specs.Records.{IsOpened};
@@ -92,6 +93,7 @@ impl<C, A: Allocator> Records<C, A> {
     /// Whether an event of the line is pending on the stage.
     pub(crate) fn is_pending(&self, stage: Stage, line: LineNo) -> bool
         ensures pending { result ≡ is_pending self.now.lines stage line.0 }
+        ensures outside { line_count ≤ line.0 → result ≡ false }
     {
         self.pipeline.is_pending(stage, line)
     }
@@ -106,6 +108,7 @@ impl<C, A: Allocator> Records<C, A> {
     /// How many events came on the line where no callback stood for them.
     pub(crate) fn spurious(&self, line: LineNo) -> u64
         ensures count { result ≡ count_at self.now.lines.spurious line.0 }
+        ensures outside { line_count ≤ line.0 → result ≡ 0 }
     {
         self.pipeline.spurious(line)
     }
@@ -113,6 +116,7 @@ impl<C, A: Allocator> Records<C, A> {
     /// How many answers of the callbacks on the line of this stage were unhandled.
     pub(crate) fn unhandled(&self, line: LineNo, stage: Stage) -> u64
         ensures count { result ≡ count_at (side self.now.lines stage).unhandled line.0 }
+        ensures outside { line_count ≤ line.0 → result ≡ 0 }
     {
         self.pipeline.unhandled(line, stage)
     }

@@ -1,6 +1,6 @@
 -- What the answers of allowed callbacks hold, and that each change keeps all callbacks allowed.
-use Rattle.std.proofs.Common.{◌≡◌, ℕ, ◌≤◌, ◌<◌, ◌==◌, ◌||◌, nat_lt, Bool, true, false, not, List, length, filter, Option, Some, None, is_some, slice_index_or, slice_set, if◌then◌else◌, refl, sym, ap, ◌∙◌, arith}
-use Rattle.std.proofs.lemmas.Bool.{false≢true}
+use Rattle.std.proofs.Common.{◌≡◌, ℕ, ◌≤◌, ◌<◌, ◌==◌, ◌||◌, nat_lt, bit_and, Bool, true, false, not, List, length, filter, Option, Some, None, is_some, slice_index_or, slice_set, if◌then◌else◌, refl, sym, ap, ◌∙◌, arith}
+use Rattle.std.proofs.lemmas.Nat.{and_assoc}
 use Rattle.std.proofs.lemmas.List.{get_or-set_same, get_or-set_other, length-map, length-set}
 use Rattle.std.proofs.lemmas.List.Sums.{length-filter, count_by-le-length}
 use Rattle.std.proofs.lemmas.List.Elements.{All-map, All-filter, All-weaker}
@@ -14,9 +14,10 @@ use Rattle.evl_pipeline.specs.Lines.{AreAllowed, Installed, Pipeline, Side, arri
 use Rattle.evl_pipeline.proofs.NumberSetLaws.{is_same, is_other}
 use Rattle.evl_pipeline.proofs.PortLaws.{at-none, none_there, within}
 use Rattle.evl_pipeline.specs.Plans.{IsSound, PostsNoOob, answer_of, declares, divides, is_allowed, kind_of}
+use Rattle.evl_pipeline.specs.Limits.{action_limit, line_count}
 
 -- a callback answers at most as many actions as its plan has rows
-pub few : (kinds : ℕ) (plan : Plan) (count : ℕ) → IsSound kinds plan → length (answer_of plan count).actions.items ≤ 4
+pub few : (kinds : ℕ) (plan : Plan) (count : ℕ) → IsSound kinds plan → length (answer_of plan count).actions.items ≤ action_limit
 few kinds plan count sound =
     let passing = filter (λ row. divides row.0 count) plan.rows.items in
     omega (
@@ -27,12 +28,20 @@ few kinds plan count sound =
       sound.few,
     )
 
+-- what is allowed out-of-band has no bit of a post
+posts_not : (kinds : ℕ) → is_allowed Oob kinds ≡ true → declares kinds 8 ≡ true → ⊥
+posts_not kinds allowed declared =
+    let within : bit_and 23 kinds ≡ kinds = is_same (bit_and 23 kinds) kinds allowed in
+    let posts : bit_and kinds 8 ≡ 8 = is_same (bit_and kinds 8) 8 declared in
+    let none : bit_and 23 8 ≡ 8 = ap (bit_and 23) (sym posts) ∙ sym (and_assoc 8 23 kinds) ∙ ap (λ k. bit_and k 8) within ∙ posts in
+    absurd (omega (arith, none))
+
 other_kind : (kinds : ℕ) (action : Action) → is_allowed Oob kinds ≡ true → declares kinds (kind_of action) ≡ true → (kind_of action == 8) ≡ false
 other_kind kinds action allowed declared =
     elim (kind_of action == 8) as (λ b. (kind_of action == 8) ≡ b → b ≡ false) [
       | true ↦ λ e.
           let is : kind_of action ≡ 8 = is_same (kind_of action) 8 e in
-          absurd (false≢true (sym (ap not (ap (declares kinds) (sym is) ∙ declared)) ∙ allowed))
+          absurd (posts_not kinds allowed (ap (declares kinds) (sym is) ∙ declared))
       | false ↦ λ _. refl
     ] refl
 
@@ -50,7 +59,7 @@ allowed_by line true false false there e = absurd (none_there None Invalid refl 
 allowed_by line false clock false there e = absurd (none_there None Unknown refl (sym e))
 
 pub request-allowed : {C : Type 0} (p : Pipeline C) (line : ℕ) (stage : Stage) (kinds : ℕ) → request_refusal p line stage kinds ≡ None → is_allowed stage kinds ≡ true
-request-allowed p line stage kinds e = allowed_by line (nat_lt line 1024) (line == 0) (is_allowed stage kinds) (is_some (installed_at p stage line)) e
+request-allowed p line stage kinds e = allowed_by line (nat_lt line line_count) (line == 0) (is_allowed stage kinds) (is_some (installed_at p stage line)) e
 
 module _ {C : Type 0} (declared : C → ℕ) where
   -- all callbacks of a stage declare only what the stage allows
@@ -80,8 +89,8 @@ module _ {C : Type 0} (declared : C → ℕ) where
   pub allowed-opening : AreAllowed declared opening
   unfolding opening
   allowed-opening = λ stage. elim stage as (λ stage. AreAllowedOn stage (side opening stage)) [
-    | Oob ↦ λ line at e. absurd (none_there _ at (at-none 1024 line) e)
-    | Inband ↦ λ line at e. absurd (none_there _ at (at-none 1024 line) e)
+    | Oob ↦ λ line at e. absurd (none_there _ at (at-none line_count line) e)
+    | Inband ↦ λ line at e. absurd (none_there _ at (at-none line_count line) e)
   ]
 
   pub allowed-requested : (p : Pipeline C) (line : ℕ) (stage : Stage) (callback : C) (tag : ℕ) → AreAllowed declared p → request_refusal p line stage (declared callback) ≡ None

@@ -13,6 +13,7 @@ use Rattle.evl_pipeline.specs.Lines.{Installed, Side, Pipeline, IsSoundSide, IsS
 use Rattle.evl_pipeline.specs.NumberSet.{contains}
 use Rattle.evl_pipeline.proofs.NumberSetLaws.{is_same, is_other, contains-insert, contains-remove, rises-insert, rises-remove}
 use Rattle.evl_pipeline.proofs.PortLaws.{at-none, length-counted, none_there, within}
+use Rattle.evl_pipeline.specs.Limits.{line_count}
 
 first_false : (a b : Bool) → (not a && b) ≡ true → (a ≡ false) × (b ≡ true)
 first_false true b e = absurd (false≢true e)
@@ -80,7 +81,7 @@ module _ {C : Type 0} where
   not_clock p stage line at h e zero = none_there (callback_on (side p stage) 0) at (h.sides stage).clock (ap (callback_on (side p stage)) (sym zero) ∙ e)
 
   sound-empty : IsSoundSide (empty_side {C = C})
-  sound-empty = record { lines = refl; counts = refl; rises = tt; clock = at-none 1024 0 }
+  sound-empty = record { lines = refl; counts = refl; rises = tt; clock = at-none line_count 0 }
 
   pub sound-opening : IsSoundPipeline (opening {C = C})
   unfolding opening
@@ -104,11 +105,11 @@ module _ {C : Type 0} where
         [ Oob ↦ h.stands Oob | Inband ↦ h.stands Inband ];
   }
 
-  pub sound-logged : (p : Pipeline C) (stage : Stage) (line : ℕ) → IsSoundPipeline p → line < 1024 → has_callback p stage line ≡ true
+  pub sound-logged : (p : Pipeline C) (stage : Stage) (line : ℕ) → IsSoundPipeline p → line < line_count → has_callback p stage line ≡ true
       → IsSoundPipeline (with_side p stage (logged (side p stage) line))
   sound-logged p stage line h below there =
       let s = h.sides stage in
-      sound-with p stage _ h (record { lines = s.lines; counts = s.counts; rises = rises-insert 0 1024 line _ s.rises (omega arith) below; clock = s.clock })
+      sound-with p stage _ h (record { lines = s.lines; counts = s.counts; rises = rises-insert 0 line_count line _ s.rises (omega arith) below; clock = s.clock })
       (λ other e. either (has_in stage (side p stage).installed other ≡ true) (line == other) (contains (side p stage).pending other) (sym (contains-insert (side p stage).pending line other) ∙ e)
       (λ is. ap (has_in stage (side p stage).installed) (sym (is_same line other is)) ∙ sym (has_is p stage line) ∙ there)
       (has p stage h other))
@@ -116,7 +117,7 @@ module _ {C : Type 0} where
   pub sound-cleared : (p : Pipeline C) (stage : Stage) (line : ℕ) → IsSoundPipeline p → IsSoundPipeline (with_side p stage (cleared (side p stage) line))
   sound-cleared p stage line h =
       let s = h.sides stage in
-      sound-with p stage _ h (record { lines = s.lines; counts = s.counts; rises = rises-remove 0 1024 line _ s.rises; clock = s.clock })
+      sound-with p stage _ h (record { lines = s.lines; counts = s.counts; rises = rises-remove 0 line_count line _ s.rises; clock = s.clock })
       (λ other e. has p stage h other (first_false (line == other) _ (sym (contains-remove (side p stage).pending line other) ∙ e)).1)
 
   pub sound-filled : (p : Pipeline C) (stage : Stage) (line : ℕ) (callback : C) (tag : ℕ) → IsSoundPipeline p → line ≢ 0
@@ -138,7 +139,7 @@ module _ {C : Type 0} where
       sound-with p stage _ h (record {
         lines = length-set (side p stage).installed line _ ∙ s.lines;
         counts = length-counted handled (side p stage).unhandled line ∙ s.counts;
-        rises = rises-remove 0 1024 line _ s.rises;
+        rises = rises-remove 0 line_count line _ s.rises;
         clock = get_or-set_other (side p stage).installed line 0 _ None (λ e. ne (sym e)) ∙ s.clock;
       })
       (λ other e. has-more stage (side p stage).installed _ other
@@ -151,7 +152,7 @@ module _ {C : Type 0} where
       sound-with p stage _ h (record {
         lines = length-set (side p stage).installed line _ ∙ s.lines;
         counts = s.counts;
-        rises = rises-remove 0 1024 line _ s.rises;
+        rises = rises-remove 0 line_count line _ s.rises;
         clock = get_or-set_other (side p stage).installed line 0 None None (λ e. ne (sym e)) ∙ s.clock;
       })
       (λ other e.
@@ -160,12 +161,12 @@ module _ {C : Type 0} where
       (λ some. ap is_some (get_or-set_other (side p stage).installed line other None None (λ q. is_other line other left.0 (sym q))) ∙ some))
 
   -- a stage after a line of it was played, or after its event was taken where no callback stands
-  pub sound-stepped : (p : Pipeline C) (stage : Stage) (line now : ℕ) (declared : C → ℕ) (plan : C → Plan) (ran : Option (Fire × Answer)) (s : Side C) → IsSoundPipeline p
+  pub sound-stepped : (p : Pipeline C) (stage : Stage) (line now : ℕ) (declared : C → ℕ) (plan : C → Plan) (gives : C → Fire → Answer → Type 0) (ran : Option (Fire × Answer)) (s : Side C) → IsSoundPipeline p
       → IfNone ran ((installed_at p stage line ≡ None) × (s ≡ cleared (side p stage) line))
-      → IfSome ran (λ r. PlaysOn declared plan (side p stage) stage line now r.0 r.1 s)
+      → IfSome ran (λ r. PlaysOn declared plan gives (side p stage) stage line now r.0 r.1 s)
       → IsSoundPipeline (with_side p stage s)
-  sound-stepped p stage line now declared plan None s h none some = rw none.1 (sound-cleared p stage line h)
-  sound-stepped p stage line now declared plan (Some r) s h none some = rw some.after (sound-played p stage line some.at r.1.handled h some.stands)
+  sound-stepped p stage line now declared plan gives None s h none some = rw none.1 (sound-cleared p stage line h)
+  sound-stepped p stage line now declared plan gives (Some r) s h none some = rw some.after (sound-played p stage line some.at r.1.handled h some.stands)
 
   -- a stage after the callback of a line was taken, where one stood
   pub sound-taken : (p : Pipeline C) (stage : Stage) (line : ℕ) (taken : Option C) (s : Side C) → IsSoundPipeline p → line ≢ 0

@@ -4,6 +4,7 @@ use Rattle.std.specs.List as std
 use Rattle.std.proofs.lemmas.Bool.Decides.{nat_tests}
 use Rattle.std.proofs.lemmas.Bool.{false≢true}
 use Rattle.evl_pipeline.specs.NumberSet.{NumberSet, contains, insert, remove, least, RisesWithin}
+use Rattle.evl_pipeline.specs.Limits.{line_count}
 
 pub chosen : {A : Type 0} (b : Bool) (x y : A) → b ≡ true → (if b then x else y) ≡ x
 chosen true x y e = refl
@@ -226,11 +227,19 @@ insert-member from limit n (m ∷ ms) h e =
           ∙ ap (λ s. m ∷ s) (insert-member (m + 1) limit n ms h.2 later)
     ] refl e
 
--- what the log does: rising numbers below 1024, one that is missing, and its place among them
-module _ (n : ℕ) (s : NumberSet) (place : ℕ) (rises : RisesWithin 0 1024 s) (below : n < 1024) (missing : contains s n ≡ false)
+-- what the log does: rising numbers that are lines, one that is missing, and its place among them
+module _ (n : ℕ) (s : NumberSet) (place : ℕ) (rises : RisesWithin 0 line_count s) (below : n < line_count) (missing : contains s n ≡ false)
     (before : (k : ℕ) → k < place → slice_index s k < n) (at : place < length s → n ≤ slice_index s place) (within : place ≤ length s) where
   pub inserted : std.insert s place n ≡ insert s n
   inserted = placed n s place before (λ l. omega (arith, at l, missing-at n s place missing l)) within
 
-  pub has_room : length s < 1024
-  has_room = omega (arith, length-rises 0 1024 (insert s n) (rises-insert 0 1024 n s rises (omega arith) below), ap length inserted, length-std_insert s place n within)
+  pub has_room : length s < line_count
+  has_room = omega (arith, length-rises 0 line_count (insert s n) (rises-insert 0 line_count n s rises (omega arith) below), ap length inserted, length-std_insert s place n within)
+
+-- no number from the limit on is a member
+pub contains_past : (from limit n : ℕ) (s : NumberSet) → RisesWithin from limit s → limit ≤ n → contains s n ≡ false
+contains_past from limit n s rises past = by (contains s n) refl
+  where
+    by : (b : Bool) → contains s n ≡ b → b ≡ false
+    by true there = absurd (omega (arith, past, (low from limit n s rises there).1))
+    by false there = refl

@@ -7,6 +7,7 @@ use Rattle.evl_pipeline.specs.declared.held.Held.{Held}
 use Rattle.evl_pipeline.specs.declared.port.Port.{Port}
 use Rattle.evl_base.specs.declared.stage.Stage.{Stage}
 use Rattle.evl_pipeline.specs.declared.answer.Answer.{Answer}
+use Rattle.evl_pipeline.specs.declared.fire.Fire.{Fire}
 use Rattle.evl_pipeline.specs.declared.plan.Plan.{Plan}
 use Rattle.evl_pipeline.specs.Counts.{one_more, counted}
 use Rattle.evl_pipeline.specs.Lines.{Side, PlaysOn, Taken}
@@ -14,6 +15,7 @@ use Rattle.evl_pipeline.specs.NumberSet.{NumberSet, remove}
 use Rattle.evl_pipeline.specs.Plans.{IsSound, answer_of}
 use Rattle.evl_pipeline.proofs.NumberSetLaws.{is_same, is_other}
 use Rattle.evl_pipeline.specs.Sides.{installed_by, port_at, AreLinked}
+use Rattle.evl_pipeline.specs.Limits.{line_count}
 
 pub at-map : {A B : Type 0} (f : A → B) (xs : List A) (i : ℕ) (d : A) → slice_index_or (map f xs) i (f d) ≡ f (slice_index_or xs i d)
 at-map f [] i d = refl
@@ -174,10 +176,10 @@ module _ {C : Type 0} (ports : List (Option Port)) (before after : Slab (Held C)
             ap (option_map (λ held. held.line)) (others_stay q other old ne) ∙ linked q other old
       ] refl
 
-pub linked-nothing : {C : Type 0} (callbacks : Slab (Held C)) → AreLinked (replicate 1024 None) callbacks
-linked-nothing callbacks line port e = absurd (none_there _ port (at-none 1024 line) e)
+pub linked-nothing : {C : Type 0} (callbacks : Slab (Held C)) → AreLinked (replicate line_count None) callbacks
+linked-nothing callbacks line port e = absurd (none_there _ port (at-none line_count line) e)
 
-pub filled-nothing : 0 ≡ count_by is_some (replicate {A = Option Port} 1024 None)
+pub filled-nothing : 0 ≡ count_by is_some (replicate {A = Option Port} line_count None)
 filled-nothing = refl
 
 pub length-counted : (handled : Bool) (counts : List ℕ) (line : ℕ) → length (if handled then counts else counted counts line) ≡ length counts
@@ -192,17 +194,19 @@ seen_side stalled pending ports callbacks unhandled =
 module _ {C : Type 0} (ports : List (Option Port)) (callbacks : Slab (Held C)) (linked : AreLinked ports callbacks)
     (line : ℕ) (port : Port) (held : Held C) (there : port_at ports line ≡ Some port) (leads_to : get callbacks port.key ≡ Some held) where
   -- a line was played
-  pub plays-on : (declared : C → ℕ) (plan : C → Plan) (stalled : Bool) (pending : NumberSet) (unhandled after : List ℕ) (stage : Stage) (now : ℕ) (answer : Answer)
+  pub plays-on : (declared : C → ℕ) (plan : C → Plan) (gives : C → Fire → Answer → Type 0) (stalled : Bool) (pending : NumberSet) (unhandled after : List ℕ) (stage : Stage) (now : ℕ) (answer : Answer)
       → answer ≡ answer_of (plan held.callback) (one_more port.count)
       → IsSound (declared held.callback) (plan held.callback)
       → after ≡ (if answer.handled then unhandled else counted unhandled line)
-      → PlaysOn declared plan (seen_side stalled pending ports callbacks unhandled) stage line now
+      → gives held.callback (record { line = record { 0 = line }; stage = stage; tag = port.tag; count = one_more port.count; moment = now }) answer
+      → PlaysOn declared plan gives (seen_side stalled pending ports callbacks unhandled) stage line now
       (record { line = record { 0 = line }; stage = stage; tag = port.tag; count = one_more port.count; moment = now }) answer
       (seen_side stalled (remove pending line) (slice_set ports line (Some (record { key = port.key; tag = port.tag; count = one_more port.count }))) callbacks after)
-  plays-on declared plan stalled pending unhandled after stage now answer answered sound is = record {
+  plays-on declared plan gives stalled pending unhandled after stage now answer answered sound is called = record {
     at = record { callback = held.callback; tag = port.tag; count = port.count };
     stands = seen-some ports callbacks linked line port held there leads_to;
     fire_is = refl;
+    called = called;
     answered = answered;
     after =
         ap (λ counts. seen_side stalled (remove pending line) (slice_set ports line (Some (record { key = port.key; tag = port.tag; count = one_more port.count }))) callbacks counts) is

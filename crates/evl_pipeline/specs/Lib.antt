@@ -1,3 +1,4 @@
+pub mod Limits
 pub mod Plans
 pub mod NumberSet
 pub mod Counts

@@ -3,6 +3,7 @@ use Rattle.std.specs.Prelude.{◌≡◌, ℕ, ◌≤◌, List, length, count_by,
 use Rattle.slab.specs.Slab.{Slab, get, slab_len}
 use Rattle.evl_pipeline.specs.declared.held.Held.{Held}
 use Rattle.evl_pipeline.specs.declared.port.Port.{Port}
+use Rattle.evl_pipeline.specs.Limits.{line_count}
 use Rattle.evl_pipeline.specs.Lines.{Installed}
 
 -- the port of a line
@@ -23,8 +24,8 @@ module _ {C : Type 0} where
 
   -- the callbacks of a stage are those that its ports lead to, and there is room for one on each line
   pub record IsSoundBank (ports : List (Option Port)) (callbacks : Slab (Held C)) (unhandled : List ℕ) : Type 0 where
-    pub lines : length ports ≡ 1024
-    pub counts : length unhandled ≡ 1024
+    pub lines : length ports ≡ line_count
+    pub counts : length unhandled ≡ line_count
     pub linked : AreLinked ports callbacks
     pub filled : slab_len callbacks ≡ count_by is_some ports
-    pub room : 1024 ≤ callbacks.capacity
+    pub room : line_count ≤ callbacks.capacity

@@ -42,6 +42,8 @@ impl Callback {
 
 /// What a pipeline asks of the callbacks that it holds.
 pub trait Handler: Drop {
+    ghost use Rattle.evl_pipeline.specs.declared.answer.Answer.{Answer};
+    ghost use Rattle.evl_pipeline.specs.declared.fire.Fire.{Fire};
     ghost use Rattle.evl_pipeline.specs.declared.plan.Plan.{Plan};
 
     /// The plan that it answers.
@@ -50,9 +52,13 @@ pub trait Handler: Drop {
     /// The kinds of action that it declares, as bits.
     ghost declared: { Self → ℕ };
 
-    /// Calls it, and gives its answer.
+    /// That it gives this answer when it is called with this fire.
+    ghost gives: { Self → Fire → Answer → Type 0 };
+
+    /// Calls it with this fire, and gives its answer.
     fn fire(&self, fire: Fire) -> Answer
         requires { 1 ≤ fire.count }
+        ensures called { gives self.now fire result }
         ensures answer { result ≡ answer_of (plan self.now) fire.count }
         ensures sound { IsSound (declared self.now) (plan self.now) };
 
@@ -69,6 +75,8 @@ impl Handler for Callback {
     ghost plan = { λ callback. callback.plan.value };
 
     ghost declared = { λ callback. callback.kinds.0 };
+
+    ghost gives = { λ callback fire answer. post callback.run fire answer };
 
     fn fire(&self, fire: Fire) -> Answer {
         (self.run)(fire)

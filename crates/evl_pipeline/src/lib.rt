@@ -12,8 +12,6 @@ mod plan;
 mod port;
 mod ran;
 mod side;
-#[cfg(test)]
-mod tests;
 
 pub use action::Action;
 pub use answer::Answer;

@@ -1,5 +1,6 @@
 //! The pending lines of one stage.
-ghost use Rattle.std.specs.Prelude.{◌≡◌, ℕ, ◌<◌, ◌≤◌, ◌==◌, not, [], length, slice_index, IfOk, IfSome};
+ghost use Rattle.std.specs.Prelude.{◌≡◌, ℕ, ◌<◌, ◌≤◌, ◌==◌, not, false, [], length, slice_index, IfOk, IfSome};
+ghost use Rattle.evl_pipeline.specs.Limits.{line_count};
 ghost use Rattle.evl_pipeline.specs.NumberSet.{contains, insert, remove, least, RisesWithin};
 
 use std::alloc::{AllocError, Allocator};
@@ -18,13 +19,14 @@ pub struct Log<A: Allocator> {
 
 impl<A: Allocator> Model for Log<A> {
     ghost use Rattle.std.specs.Prelude.{◌≤◌, vec_capacity};
+    ghost use Rattle.evl_pipeline.specs.Limits.{line_count};
     ghost use Rattle.evl_pipeline.specs.NumberSet.{NumberSet, RisesWithin};
 
     ghost Value = { NumberSet };
 
     ghost view = { λ log. log.lines.items };
 
-    ghost invariant = { λ log. RisesWithin 0 1024 log.lines.items × (1024 ≤ vec_capacity log.lines) };
+    ghost invariant = { λ log. RisesWithin 0 line_count log.lines.items × (line_count ≤ vec_capacity log.lines) };
 }
 
 impl<A: Allocator> Log<A> {
@@ -40,7 +42,7 @@ impl<A: Allocator> Log<A> {
     /// The least line, or none where the set is empty.
     pub fn least(&self) -> Option<u16>
         ensures least { result ≡ least self.now }
-        ensures range { IfSome result (λ line. line < 1024) }
+        ensures range { IfSome result (λ line. line < line_count) }
     {
         self.lines.first().copied()
     }
@@ -48,14 +50,15 @@ impl<A: Allocator> Log<A> {
     /// Whether the line is in the set.
     pub fn contains(&self, line: u16) -> bool
         ensures member { result ≡ contains self.now line }
-        ensures rises { RisesWithin 0 1024 self.now }
+        ensures outside { line_count ≤ line → result ≡ false }
+        ensures rises { RisesWithin 0 line_count self.now }
     {
         self.lines.contains(&line)
     }
 
     /// Adds a line.
     pub fn insert(&mut self, line: u16)
-        requires { line < 1024 }
+        requires { line < line_count }
         ensures added { self.new ≡ insert self.old line }
     {
         if !self.lines.contains(&line) {

@@ -1,13 +1,15 @@
 //! The interrupt pipeline: the two stages and their lines (Dovetail: interrupt pipeline).
-ghost use Rattle.std.specs.Prelude.{◌≡◌, ◌<◌, true, None, Some, is_some, option_map, IfOk, IfErr, IfNone, IfSome, OnOk, OnErr};
+ghost use Rattle.std.specs.Prelude.{◌≡◌, ◌<◌, ◌≤◌, false, true, None, Some, is_some, option_map, IfOk, IfErr, IfNone, IfSome, OnOk, OnErr};
 ghost use Rattle.evl_base.specs.declared.refusal.Refusal.{Refusal};
 ghost use Rattle.evl_pipeline.specs.Counts.{count_at};
+ghost use Rattle.evl_pipeline.specs.Limits.{line_count};
 ghost use Rattle.evl_pipeline.specs.Lines.{IsBounded, IsSoundPipeline, Plays, PlaysOn, arrived, cleared, free_refusal, freed, has_callback, installed_at, is_pending, next_line, opening, post_refusal, posted, request_refusal, requested, side, stalled, unstalled, with_side};
-ghost use Rattle.evl_pipeline.specs.Plans.{forbidden};
+ghost use Rattle.evl_pipeline.specs.Plans.{allowed};
 
 use crate::answer::Answer;
 use crate::callback::Handler;
 use crate::fire::Fire;
+use crate::log::LINES;
 use crate::ran::Ran;
 use crate::side::{SideOf, zeros};
 use bitflags::Flags;
@@ -59,13 +61,17 @@ impl<C: Drop, A: Allocator + Clone> PipelineOf<C, A> {
     }
 }
 
-// The kind of action that no callback on a line of the stage may declare.
-fn forbidden(stage: Stage) -> ActionKinds
-    ensures kind { result.0 ≡ forbidden stage }
+// The kinds of action that a callback on a line of the stage may declare: an out-of-band one posts no out-of-band lines,
+// and an in-band one hands nothing on to the in-band stage.
+fn allowed(stage: Stage) -> ActionKinds
+    ensures kinds { result.0 ≡ allowed stage }
 {
+    let others = ActionKinds::POST_SEM
+        .union(ActionKinds::POST_FLAGS)
+        .union(ActionKinds::STOP_TIMER);
     match stage {
-        Stage::Oob => ActionKinds::POST_OOB,
-        Stage::Inband => ActionKinds::PROPAGATE,
+        Stage::Oob => others.union(ActionKinds::PROPAGATE),
+        Stage::Inband => others.union(ActionKinds::POST_OOB),
     }
 }
 
@@ -95,10 +101,10 @@ impl<C, A: Allocator> PipelineOf<C, A> {
     pub fn request_refusal(&self, line: LineNo, stage: Stage, kinds: ActionKinds) -> Option<Refusal>
         ensures refusal { result ≡ request_refusal self.now line.0 stage kinds.0 }
     {
-        if line.0 >= 1024 {
+        if usize::from(line.0) >= LINES {
             return Some(Refusal::Unknown);
         }
-        if line.0 == 0 || kinds.contains(forbidden(stage)) {
+        if line.0 == 0 || !allowed(stage).contains(kinds) {
             return Some(Refusal::Invalid);
         }
         if self.is_installed(stage, line.0) {
@@ -109,7 +115,7 @@ impl<C, A: Allocator> PipelineOf<C, A> {
 
     // Logs an event of a line that there is, or counts it as spurious.
     fn log(&mut self, stage: Stage, line: u16)
-        requires { line < 1024 }
+        requires { line < line_count }
         ensures state { self.new ≡ posted self.old stage line }
     {
         if !self.has_callback(stage, line) {
@@ -126,7 +132,7 @@ impl<C, A: Allocator> PipelineOf<C, A> {
     // The line that is next, if something may be played.
     fn next_line(&self, eligible: bool, inband: bool) -> Option<(Stage, u16)>
         ensures next { result ≡ next_line self.now eligible inband }
-        ensures range { IfSome result (λ next. next.1 < 1024) }
+        ensures range { IfSome result (λ next. next.1 < line_count) }
         ensures has { IfSome result (λ next. has_callback self.now next.0 next.1 ≡ true) }
         ensures sound { IsSoundPipeline self.now }
     {
@@ -152,7 +158,7 @@ impl<C, A: Allocator> PipelineOf<C, A> {
         ensures refused { IfErr result (λ e. post_refusal line.0 ≡ Some e) }
         ensures unchanged { OnErr result (self.new ≡ self.old) }
     {
-        if line.0 >= 1024 {
+        if usize::from(line.0) >= LINES {
             return Err(Refusal::Unknown);
         }
         if self.has_callback(Stage::Oob, line.0) {
@@ -170,7 +176,7 @@ impl<C, A: Allocator> PipelineOf<C, A> {
         ensures refused { IfErr result (λ e. post_refusal line.0 ≡ Some e) }
         ensures unchanged { OnErr result (self.new ≡ self.old) }
     {
-        if line.0 >= 1024 {
+        if usize::from(line.0) >= LINES {
             return Err(Refusal::Unknown);
         }
         self.log(stage, line.0);
@@ -201,6 +207,7 @@ impl<C, A: Allocator> PipelineOf<C, A> {
     /// Whether an event of the line is pending on the stage. No line above 1023 is.
     pub fn is_pending(&self, stage: Stage, line: LineNo) -> bool
         ensures pending { result ≡ is_pending self.now stage line.0 }
+        ensures outside { line_count ≤ line.0 → result ≡ false }
         ensures sound { IsSoundPipeline self.now }
     {
         match stage {
@@ -223,6 +230,7 @@ impl<C, A: Allocator> PipelineOf<C, A> {
     /// How many events came on the line where no callback stood for them: 0 to 2^64 - 1, and 0 for a line above 1023.
     pub fn spurious(&self, line: LineNo) -> u64
         ensures count { result ≡ count_at self.now.spurious line.0 }
+        ensures outside { line_count ≤ line.0 → result ≡ 0 }
     {
         self.spurious.get(line.0 as usize).copied().unwrap_or(0)
     }
@@ -231,6 +239,7 @@ impl<C, A: Allocator> PipelineOf<C, A> {
     /// above 1023. A request and a free keep the count.
     pub fn unhandled(&self, line: LineNo, stage: Stage) -> u64
         ensures count { result ≡ count_at (side self.now stage).unhandled line.0 }
+        ensures outside { line_count ≤ line.0 → result ≡ 0 }
     {
         match stage {
             Stage::Oob => self.oob.unhandled(line.0),
@@ -247,7 +256,7 @@ impl<C, A: Allocator> PipelineOf<C, A> {
         ensures refused { IfErr result (λ e. free_refusal self.old line.0 stage ≡ Some e) }
         ensures unchanged { OnErr result (self.new ≡ self.old) }
     {
-        if line.0 >= 1024 {
+        if usize::from(line.0) >= LINES {
             return Err(Refusal::Unknown);
         }
         if line.0 == 0 {
@@ -264,8 +273,8 @@ impl<C, A: Allocator> PipelineOf<C, A> {
 impl<C: Handler, A: Allocator> PipelineOf<C, A> {
     /// Lets a callback stand on a line of a stage, with a tag that its fires carry. Its first fire counts 1; how many
     /// answers of the line were unhandled is kept. Refused, in this order: `Unknown` for a line above 1023, `Invalid`
-    /// for line 0, which is the clock's, and for a kind of action that isn't allowed on the stage (out-of-band
-    /// POST_OOB, in-band PROPAGATE), and `Busy` where a callback stands there. A refused call changes nothing and gives
+    /// for line 0, which is the clock's, and for kinds of action beyond those that are allowed on the stage (POST_SEM,
+    /// POST_FLAGS, STOP_TIMER, out-of-band also PROPAGATE, in-band also POST_OOB), and `Busy` where a callback stands there. A refused call changes nothing and gives
     /// the callback back. (this profile)
     pub fn request(
         &mut self,
@@ -295,7 +304,7 @@ impl<C: Handler, A: Allocator> PipelineOf<C, A> {
     /// calls its callback once, at the date `now` in nanoseconds; line 0 is the clock's and calls nothing. Counts of
     /// fires and of unhandled answers stay at 2^64 - 1 once there. (Dovetail: interrupt pipeline)
     pub fn next(&mut self, eligible: bool, inband: bool, now: u64) -> Option<Ran>
-        ensures plays { Plays C.declared C.plan self.old eligible inband now result self.new }
+        ensures plays { Plays C.declared C.plan C.gives self.old eligible inband now result self.new }
         ensures bounded { IsBounded C.declared self.old result }
     {
         let (stage, line) = self.next_line(eligible, inband)?;
@@ -308,7 +317,7 @@ impl<C: Handler, A: Allocator> PipelineOf<C, A> {
     // Plays a line of a stage. Where no callback stands there, its event is gone.
     fn play(&mut self, stage: Stage, line: u16, now: u64) -> Option<(Fire, Answer)>
         ensures none { IfNone result ((installed_at self.old stage line ≡ None) × (side self.new stage ≡ cleared (side self.old stage) line)) }
-        ensures some { IfSome result (λ ran. PlaysOn C.declared C.plan (side self.old stage) stage line now ran.0 ran.1 (side self.new stage)) }
+        ensures some { IfSome result (λ ran. PlaysOn C.declared C.plan C.gives (side self.old stage) stage line now ran.0 ran.1 (side self.new stage)) }
         ensures rest { self.new ≡ with_side self.old stage (side self.new stage) }
     {
         match stage {

@@ -1,6 +1,7 @@
 //! One stage: its stall bit, its log and the callbacks on its lines.
-ghost use Rattle.std.specs.Prelude.{◌≡◌, ◌<◌, length, replicate, None, is_some, if◌then◌else◌, IfOk, IfNone, IfSome};
+ghost use Rattle.std.specs.Prelude.{◌≡◌, ◌<◌, ◌≤◌, false, length, replicate, None, is_some, if◌then◌else◌, IfOk, IfNone, IfSome};
 ghost use Rattle.evl_pipeline.specs.Counts.{count_at, counted};
+ghost use Rattle.evl_pipeline.specs.Limits.{line_count};
 ghost use Rattle.evl_pipeline.specs.Lines.{PlaysOn, Taken, callback_on, cleared, empty_side, filled, logged};
 ghost use Rattle.evl_pipeline.specs.NumberSet.{contains, least};
 ghost use Rattle.evl_pipeline.specs.Sides.{port_at};
@@ -81,7 +82,7 @@ impl<C, A: Allocator> SideOf<C, A> {
     /// The lowest pending line.
     pub fn least(&self) -> Option<u16>
         ensures least { result ≡ least self.now.pending }
-        ensures range { IfSome result (λ line. line < 1024) }
+        ensures range { IfSome result (λ line. line < line_count) }
     {
         self.log.least()
     }
@@ -89,6 +90,7 @@ impl<C, A: Allocator> SideOf<C, A> {
     /// Whether an event of the line is pending.
     pub fn is_pending(&self, line: u16) -> bool
         ensures pending { result ≡ contains self.now.pending line }
+        ensures outside { line_count ≤ line → result ≡ false }
     {
         self.log.contains(line)
     }
@@ -96,6 +98,7 @@ impl<C, A: Allocator> SideOf<C, A> {
     /// How many answers of the line's callbacks were unhandled.
     pub fn unhandled(&self, line: u16) -> u64
         ensures count { result ≡ count_at self.now.unhandled line }
+        ensures outside { line_count ≤ line → result ≡ 0 }
     {
         self.unhandled.get(line as usize).copied().unwrap_or(0)
     }
@@ -109,7 +112,7 @@ impl<C, A: Allocator> SideOf<C, A> {
 
     /// Logs an event of the line.
     pub fn log(&mut self, line: u16)
-        requires { line < 1024 }
+        requires { line < line_count }
         ensures state { self.new ≡ logged self.old line }
     {
         self.log.insert(line);
@@ -117,7 +120,7 @@ impl<C, A: Allocator> SideOf<C, A> {
 
     /// Installs a callback on a line where none stands.
     pub fn install(&mut self, line: u16, callback: C, tag: u32)
-        requires range { line < 1024 }
+        requires range { line < line_count }
         requires free { callback_on self.old line ≡ None }
         ensures state { self.new ≡ filled self.old line callback tag }
     {
@@ -138,7 +141,7 @@ impl<C, A: Allocator> SideOf<C, A> {
 }
 
 fn empty_ports<A: Allocator>(alloc: A) -> Result<Vec<Option<Port>, A>, AllocError>
-    ensures empty { IfOk result (λ ports. ports.items ≡ replicate 1024 None) }
+    ensures empty { IfOk result (λ ports. ports.items ≡ replicate line_count None) }
 {
     let ports = Vec::from_elem(alloc, None, LINES)?;
     Ok(ports)
@@ -146,7 +149,7 @@ fn empty_ports<A: Allocator>(alloc: A) -> Result<Vec<Option<Port>, A>, AllocErro
 
 /// A count of 0 for each line.
 pub fn zeros<A: Allocator>(alloc: A) -> Result<Vec<u64, A>, AllocError>
-    ensures zeros { IfOk result (λ counts. counts.items ≡ replicate 1024 0) }
+    ensures zeros { IfOk result (λ counts. counts.items ≡ replicate line_count 0) }
 {
     Vec::from_elem(alloc, 0, LINES)
 }
@@ -172,7 +175,7 @@ impl<C: Handler, A: Allocator> SideOf<C, A> {
     /// Plays a line: its event is gone, and its callback, if one stands there, is called.
     pub fn play(&mut self, stage: Stage, line: u16, now: u64) -> Option<(Fire, Answer)>
         ensures none { IfNone result ((callback_on self.old line ≡ None) × (self.new ≡ cleared self.old line)) }
-        ensures some { IfSome result (λ ran. PlaysOn C.declared C.plan self.old stage line now ran.0 ran.1 self.new) }
+        ensures some { IfSome result (λ ran. PlaysOn C.declared C.plan C.gives self.old stage line now ran.0 ran.1 self.new) }
     {
         self.log.remove(line);
         let port = port_of(&self.ports, line)?;

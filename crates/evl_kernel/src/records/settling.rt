@@ -2,6 +2,9 @@
 ghost use Rattle.std.specs.Prelude.{◌≡◌, ◌+◌, ◌≤◌, ◌<◌, ◌*◌, ◌-◌, None, Some, IfSome, IfNone, length, vec_len, vec_capacity};
 ghost use Rattle.evl_kernel.specs.Callbacks.{AnswersAsTold};
 ghost use Rattle.evl_kernel.specs.Records.{KeepsCallbacks, state_of, whereabouts};
+ghost use Rattle.evl_kernel.specs.Fires.{Called};
+ghost use Rattle.evl_kernel.specs.Limits.{inband_limit, play_limit};
+ghost use Rattle.evl_kernel.specs.States.{date};
 ghost use Rattle.evl_kernel.specs.Settling.{acted, all_acted, answered, next_play, one_inband};
 ghost use Rattle.evl_kernel.specs.Settled.{Appends, left_to_play, settling, stage_of};
 
@@ -14,6 +17,13 @@ use std::alloc::Allocator;
 const MAX_INBAND: u8 = 64;
 
 impl<C, A: Allocator> Records<C, A> {
+    /// The date, in nanoseconds: nothing moves it yet.
+    fn date(&self) -> u64
+        ensures date { result ≡ date (state_of self.now) }
+    {
+        0
+    }
+
     /// Carries out one action of a callback on a line: what its call does, and nothing where that would be refused.
     fn act(&mut self, line: LineNo, action: Action)
         ensures acted { state_of self.new ≡ acted (state_of self.old) line.0 action }
@@ -58,14 +68,16 @@ impl<C: Handler, A: Allocator> Records<C, A> {
     /// Plays what is next after so many in-band plays of this call, if something is playable.
     fn play_next(&mut self, inband: u8) -> Option<Play>
         requires answering { AnswersAsTold C.declared C.plan (whereabouts self.old) }
-        requires few { inband ≤ 64 }
+        requires few { inband ≤ inband_limit }
         ensures played { IfSome result (λ play. next_play (settling self.old inband) ≡ Some (play, settling self.new (inband + one_inband (stage_of play)))) }
-        ensures nearer { IfSome result (λ play. left_to_play self.new (inband + one_inband (stage_of play)) < left_to_play self.old inband) }
-        ensures few { IfSome result (λ play. inband + one_inband (stage_of play) ≤ 64) }
+        ensures nearer { IfSome result (λ play. left_to_play (settling self.new (inband + one_inband (stage_of play))) < left_to_play (settling self.old inband)) }
+        ensures few { IfSome result (λ play. inband + one_inband (stage_of play) ≤ inband_limit) }
+        ensures called { IfSome result (λ play. Called C.gives (whereabouts self.old) (state_of self.old) play) }
         ensures ended { IfNone result ((next_play (settling self.old inband) ≡ None) × (self.new ≡ self.old)) }
         ensures stands { KeepsCallbacks self.old self.new }
     {
-        match self.pipeline.next(false, inband < MAX_INBAND, 0) {
+        let date = self.date();
+        match self.pipeline.next(false, inband < MAX_INBAND, date) {
             None => None,
             Some(Ran::Clock) => Some(Play::Clock),
             Some(Ran::Line { fire, answer }) => {
@@ -83,8 +95,8 @@ impl<C: Handler, A: Allocator> Records<C, A> {
     /// Plays until nothing is playable, and appends the plays. A stalled out-of-band stage holds both stages back.
     pub(super) fn settle<B: Allocator>(&mut self, plays: &mut Vec<Play, B>)
         requires answering { AnswersAsTold C.declared C.plan (whereabouts self.old) }
-        requires room { vec_len plays.old + 1472 ≤ vec_capacity plays.old }
-        ensures settled { Appends plays.old.items (state_of self.old) plays.new.items (state_of self.new) }
+        requires room { vec_len plays.old + play_limit ≤ vec_capacity plays.old }
+        ensures settled { Appends C.gives (whereabouts self.old) plays.old.items (state_of self.old) plays.new.items (state_of self.new) }
         ensures capacity { vec_capacity plays.old ≤ vec_capacity plays.new }
         ensures stands { KeepsCallbacks self.old self.new }
     {

@@ -1,6 +1,17 @@
+use Rattle.std.proofs.Common.{sym, ◌∙◌}
+use Rattle.evl_kernel.specs.Records.{state_of, whereabouts}
 use Rattle.evl_kernel.proofs.CallbackLaws.{answers-kept}
+use Rattle.evl_kernel.proofs.HistoryLaws.{performed_ok}
+use Rattle.evl_kernel.proofs.SettlingLaws.{appends_before}
 use Rattle.evl_kernel.proofs.records.Records.perform.Goals as goal
 
 pub settle-requires-clause-answering : goal.settle-requires-clause-answering
 settle-requires-clause-answering g c =
     answers-kept g.C.Handler.declared g.C.Handler.plan c.args.self.now c.answer-reply.new.self c.answer-reply.ensures.stands c.requires.answering
+
+pub returns-then-is_ok-clause-performed : goal.returns-then-is_ok-clause-performed
+returns-then-is_ok-clause-performed g c =
+    let old = c.args.self.now in let mid = c.answer-reply.new.self in
+    performed_ok g.C.Handler.gives (whereabouts old) c.args.plays.now.items c.settle.new.plays.items (state_of old) (state_of mid) (state_of c.settle.new.self) c.args.caller.0 c.args.call.now
+    c.answer-reply.result (sym c.is_ok.ensures.value ∙ c.if-is_ok.true) c.answer-reply.ensures.answered
+    (appends_before g.C.Handler.gives (whereabouts mid) (whereabouts old) c.answer-reply.ensures.stands.brings c.args.plays.now.items c.settle.new.plays.items (state_of mid) (state_of c.settle.new.self) c.settle.ensures.settled)

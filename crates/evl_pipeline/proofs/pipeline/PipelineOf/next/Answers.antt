@@ -18,6 +18,7 @@ returns-in-Some-clause-plays g c =
       at = plays.at;
       stands = plays.stands;
       fire_is = plays.fire_is;
+      called = plays.called;
       answered = plays.answered;
       after = c.play.ensures.rest ∙ ap (with_side old stage) plays.after;
       sound = plays.sound;

@@ -27,5 +27,5 @@ returns-clause-some g c =
     let s = c.self.inside in let is = c.self.invariant in let line = c.args.line in let port = c.in_ok-port.port in
     let there : port_at s.ports.items line ≡ Some port = sym c.port_of.ensures.port ∙ c.in_ok-port.was in
     rw (← c.self.view_is, c.remove.ensures.removed, c.saturating_add.ensures) (plays-on s.ports.items s.callbacks is.linked line port c.index.result.now there c.index.ensures
-    g.C.Handler.declared g.C.Handler.plan s.stalled s.log s.unhandled.items c.count_unless.new.counts.items c.args.stage c.args.now c.fire-answer.result
-    (c.fire-answer.ensures.answer ∙ ap (answer_of (g.C.Handler.plan c.index.result.now.callback)) c.saturating_add.ensures) c.fire-answer.ensures.sound c.count_unless.ensures.counted)
+    g.C.Handler.declared g.C.Handler.plan g.C.Handler.gives s.stalled s.log s.unhandled.items c.count_unless.new.counts.items c.args.stage c.args.now c.fire-answer.result
+    (c.fire-answer.ensures.answer ∙ ap (answer_of (g.C.Handler.plan c.index.result.now.callback)) c.saturating_add.ensures) c.fire-answer.ensures.sound c.count_unless.ensures.counted (rw c.saturating_add.ensures at c.fire-answer.ensures.called))

@@ -1,0 +1,18 @@
+-- How many there are at most.
+use Rattle.std.specs.Prelude.{ℕ}
+
+-- the callbacks of a bank
+abbrev pub callback_limit : ℕ
+callback_limit = 64
+
+-- the entries of a history
+abbrev pub history_limit : ℕ
+history_limit = 1000000
+
+-- the in-band plays of one call
+abbrev pub inband_limit : ℕ
+inband_limit = 64
+
+-- the plays of one call: five for each in-band one, and one for each of 1024 lines, of 64 timers and of 64 deadlines
+abbrev pub play_limit : ℕ
+play_limit = 1472
