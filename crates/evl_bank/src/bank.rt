@@ -2,7 +2,7 @@
 ghost use Rattle.std.specs.Prelude.{◌≡◌, ℕ, [], ◌∷◌, true, false, if◌then◌else◌, OnErr, IfOk};
 ghost use Rattle.evl_pipeline.specs.Plans.{answer_of};
 ghost use Rattle.evl_shell.specs.Plays.{Plays};
-ghost use Rattle.evl.specs.Bank.{plan_of, plan_of_none, program_bank};
+ghost use Rattle.evl_bank.specs.Bank.{plan_of, plan_of_none, program_bank};
 
 use arrayvec::ArrayVec;
 use bitflags::Flags;

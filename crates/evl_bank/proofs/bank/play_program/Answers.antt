@@ -1,11 +1,11 @@
 use Rattle.std.proofs.Common.{ℕ, List, Option, Err, inr, refl, subst, sym, ap}
 use Rattle.evl_scenario.specs.declared.faults.Fault.TheVariants.{Memory}
 use Rattle.evl_shell.specs.declared.plays.Stop.TheVariants.{Broken}
-use Rattle.evl.specs.Bank.{program_bank}
+use Rattle.evl_bank.specs.Bank.{program_bank}
 use Rattle.evl_shell.specs.Plays.{Ended, stop_line}
 use Rattle.evl_shell.specs.Sinks.{TakesPrefix}
 use Rattle.evl_shell.proofs.EndLemmas.{ended-unread}
-use Rattle.evl.proofs.bank.play_program.Goals as goal
+use Rattle.evl_bank.proofs.bank.play_program.Goals as goal
 
 pub returns-in-Err : goal.returns-in-Err
 returns-in-Err g c =

@@ -1,11 +1,11 @@
 use Rattle.std.proofs.Common.{◌≡◌, List, [], ◌∷◌, subst, ap, ◌∙◌}
 use Rattle.evl_base.specs.declared.action_kinds.ActionKinds.{ActionKinds}
 use Rattle.evl_kernel.specs.States.{Handler}
-use Rattle.evl.specs.Bank.{program_bank}
+use Rattle.evl_bank.specs.Bank.{program_bank}
 use Rattle.evl_shell.specs.Plays.{Plays}
 use Rattle.evl_shell.specs.Runs.{handlers_of}
-use Rattle.evl.proofs.BankLemmas.{tells}
-use Rattle.evl.proofs.bank.play_over_bank.Goals as goal
+use Rattle.evl_bank.proofs.BankLemmas.{tells}
+use Rattle.evl_bank.proofs.bank.play_over_bank.Goals as goal
 
 pub returns-clause-played : goal.returns-clause-played
 returns-clause-played g c =
