@@ -7,11 +7,11 @@ use Rattle.evl_base.specs.declared.play.Play.{Play}
 use Rattle.evl_kernel.specs.KernelViews.{KernelView, IsOpened}
 use Rattle.evl_kernel.specs.Openings.{opening}
 use Rattle.evl_pipeline.specs.declared.plan.Plan.{Plan}
-use Rattle.evl_shell.specs.declared.steps.Step.{Step}
-use Rattle.evl_shell.specs.Lines.{board_line_of, board_line_text, line_text, play_line_text, play_lines}
+use Rattle.evl_scenario.specs.declared.steps.Step.{Step}
+use Rattle.evl_scenario.specs.Lines.{board_line_of, board_line_text, line_text, play_line_text, play_lines}
 use Rattle.evl_shell.specs.Moments.{moment, Turns}
 use Rattle.evl_shell.specs.Runs.{Moment, Turn, turn, turn_lines, lines_from, beginning, handlers_of, script_trace}
-use Rattle.evl_shell.specs.Scenarios.{Script}
+use Rattle.evl_scenario.specs.Scenarios.{Script}
 use Rattle.evl_shell.specs.Sinks.{Passes, PassesPart}
 use Rattle.evl_shell.proofs.PassLemmas.{Passes-append, PassesPart-append, PassesPart-more}
 

@@ -11,7 +11,7 @@ use Rattle.evl_kernel.specs.Histories.{History}
 use Rattle.evl_kernel.specs.KernelViews.{KernelView, AddsEntry, makes_entry, entry_of}
 use Rattle.evl_kernel.specs.Replays.{Outcome, stepped}
 use Rattle.evl_kernel.proofs.Walking.{step_is_stepped}
-use Rattle.evl_shell.specs.declared.steps.Step.{Step}
+use Rattle.evl_scenario.specs.declared.steps.Step.{Step}
 use Rattle.evl_shell.specs.Moments.{moment, Tells, wants_memory, number_after}
 use Rattle.evl_shell.specs.Runs.{Moment, Turn, turned_away, entered, turn}
 
