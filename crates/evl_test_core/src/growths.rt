@@ -8,7 +8,7 @@ use evl_base::{ActionKinds, Call, LineNo, Refusal, Stage};
 use evl_kernel::KernelOf;
 use evl_pipeline::{Action, Callback, Fire, Handler};
 use linked_list_allocator::LocalHeap;
-use std::alloc::Allocator;
+use std::alloc::{Allocator, Global};
 use std::test::*;
 
 const STAGE: Stage = Stage::Oob;
@@ -72,8 +72,12 @@ fn row<C: Handler, A: Allocator>(kernel: &mut KernelOf<C, A>) -> Option<u8>
 }
 
 // The same on a new kernel within a heap, which has no plays but the row's.
-fn row_within<'h>(heap: &'h LocalHeap, bank: Vec<Callback, &'h LocalHeap>) -> Option<u8> {
-    let mut kernel = match KernelOf::new(heap, board_of(0), bank, 100) {
+fn row_within<'h>(
+    heap: &'h LocalHeap,
+    boxes: Global,
+    bank: Vec<Callback, &'h LocalHeap>,
+) -> Option<u8> {
+    let mut kernel = match KernelOf::over(heap, boxes, board_of(0), bank, 100) {
         Ok(kernel) => kernel,
         Err(Refusal::NoMemory) => return Some(0),
         Err(_) => return None,
@@ -111,7 +115,7 @@ fn lowest_line_first_in_short_memory(rt: HostRuntime) -> Result<(), Fail> {
             Box::new(alloc, |_: Fire| quiet()).map_err(|_| "box")?,
         );
         if let Ok(bank) = Vec::from_array(&heap, [first, posts, third]) {
-            let done = row_within(&heap, bank);
+            let done = row_within(&heap, alloc, bank);
             assert!(rt; done.is_some());
             if done == Some(CALLS) {
                 whole = whole.saturating_add(1);
@@ -126,8 +130,12 @@ fn lowest_line_first_in_short_memory(rt: HostRuntime) -> Result<(), Fail> {
 }
 
 // Whether a kernel within a heap, which has room for a few calls, refuses to make room for a hundred, and is as before.
-fn refuses_room<'h>(heap: &'h LocalHeap, bank: Vec<Callback, &'h LocalHeap>) -> bool {
-    let Ok(mut kernel) = KernelOf::new(heap, board_of(0), bank, 100) else {
+fn refuses_room<'h>(
+    heap: &'h LocalHeap,
+    boxes: Global,
+    bank: Vec<Callback, &'h LocalHeap>,
+) -> bool {
+    let Ok(mut kernel) = KernelOf::over(heap, boxes, board_of(0), bank, 100) else {
         return false;
     };
     matches!(kernel.reserve(100), Err(Refusal::NoMemory))
@@ -144,7 +152,7 @@ fn room_is_refused_in_short_memory(rt: HostRuntime) -> Result<(), Fail> {
         Box::new(rt.alloc(), |_: Fire| quiet()).map_err(|_| "box")?,
     );
     if let Ok(bank) = Vec::from_array(&heap, [callback]) {
-        assert!(rt; refuses_room(&heap, bank));
+        assert!(rt; refuses_room(&heap, rt.alloc(), bank));
     }
     assert!(rt; heap.used() == 0);
     Ok(())

@@ -1,0 +1,6 @@
+pub mod Limits
+pub mod Timers
+pub mod Clocks
+pub mod Dues
+pub mod Searching
+pub mod ClockSteps

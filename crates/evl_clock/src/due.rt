@@ -1,0 +1,30 @@
+//! What falls due.
+use evl_base::{ThreadId, TimerId};
+use evl_pipeline::{Answer, Fire};
+
+/// What is due next, before it falls due.
+#[derive(Clone, Copy, Debug, PartialEq, Eq)]
+pub enum Item {
+    /// A timer.
+    Timer(TimerId),
+    /// The deadline of a thread's wait.
+    Deadline(ThreadId),
+}
+
+/// What fell due (this profile).
+#[derive(Debug, Drop)]
+pub enum Due {
+    /// A timer fired.
+    Timer {
+        /// Which timer.
+        id: TimerId,
+        /// What its callback was called with.
+        fire: Fire,
+        /// How many whole periods lie between its date and the date now: 0 to 2^64 - 1.
+        missed: u64,
+        /// What its callback answered.
+        answer: Answer,
+    },
+    /// The deadline of a thread's wait is gone.
+    Deadline(ThreadId),
+}
