@@ -9,6 +9,7 @@ use std::marker::Model;
 mod calls;
 mod ends;
 mod enter;
+mod readers;
 mod steps;
 mod word;
 
