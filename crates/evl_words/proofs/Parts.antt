@@ -19,10 +19,10 @@ module _ {V : Type 0} (part : ℕ → List V → Type 0) where
       (t.0, subst (λ n. part n (set views k t.0)) (same found) t.1, weaker found t.0 t.2)
 
   -- what a step of a token with one seat and no slot owes in a table of one word
-  pub allows_part : {S : Type 0} (slots id k : ℕ) (d : V) (me : Me S (Hand V)) → me ≡ (place k (first_view d me.0) ∷ [], []) → (f : ℕ → ℕ) (st : Step S) (then : Tells S V)
+  pub allows_part : {S : Type 0} (seats slots id k : ℕ) (d : V) (me : Me S (Hand V)) → me ≡ (place k (first_view d me.0) ∷ [], []) → (f : ℕ → ℕ) (st : Step S) (then : Tells S V)
       → PartTurns part k (first_view d me.0) f (λ found u. then st k (first_view d me.0, []) found (u, []))
-      → Allows (Dealt (OneWord part)) slots id me 0 f (Told then st me)
-  allows_part slots id k d me one f st then turns = allows_at (OneWord part) slots id k d me one 0 f st then
+      → Allows (Dealt (OneWord part seats)) slots id me 0 f (Told then st me)
+  allows_part seats slots id k d me one f st then turns = allows_at (OneWord part seats) slots id k d me one 0 f st then
       (λ words homes views kept len at below.
       let n : ℕ = get_or words 0 0 in
       let t = turns n views kept.kept at in
@@ -30,7 +30,11 @@ module _ {V : Type 0} (part : ℕ → List V → Type 0) where
         t.0,
         keeps,
         tt,
-        record { one = length-set words 0 (f n) ∙ kept.one; kept = subst (λ m. part m (set views k t.0)) (sym (get_or-set_same words 0 (f n) 0 (omega arith))) t.1 },
+        record {
+          one = length-set words 0 (f n) ∙ kept.one;
+          all = length-set views k t.0 ∙ kept.all;
+          kept = subst (λ m. part m (set views k t.0)) (sym (get_or-set_same words 0 (f n) 0 (omega arith))) t.1;
+        },
         t.2,
       ))
 
