@@ -9,11 +9,9 @@ use Rattle.evl_base.specs.declared.play.Play.{Play}
 use Rattle.evl_kernel.specs.Histories.{History, IsLegal}
 use Rattle.evl_kernel.specs.KernelViews.{KernelView, IsKernelAnswer, Adds, entry_of, makes_entry, refusal_enters}
 use Rattle.evl_machine.specs.declared.views.Account.{Account}
-use Rattle.evl_machine.specs.declared.views.Known.{Known}
-use Rattle.evl_machine.specs.Nothing.{no_kernel}
 use Rattle.evl_machine.specs.Accounts.{BeginsWith, calls_by, saw}
-use Rattle.evl_machine.specs.CoreRule.{CoreMe, view}
-use Rattle.evl_machine.specs.Known.{ComesFrom, knows}
+use Rattle.evl_machine.specs.Seats.{CoreMe}
+use Rattle.evl_machine.specs.Known.{ComesFrom, CoreHand, accounts_in, taken_in, first_of}
 use Rattle.evl_machine.specs.Handles.{CallerState, HeldState, Continues, account_of, first_account, seated, holding}
 
 -- a call of the kernel adds just its entry, or leaves the history: it is full, or no room was made for the call
@@ -40,17 +38,21 @@ pub record IsCaller {S : Type 0} (me : CoreMe S) (thread : ThreadId) : Type 0 wh
   pub account : IsAccount (account_of me)
 
 module _ {C : Type 0} where
-  abbrev pub account_in : List (Known C) → Account
-  account_in [] = first_account []
-  account_in (v ∷ vs) = first_account v.view.accounts
+  abbrev pub hand_in : List (CoreHand C) → CoreHand C
+  hand_in [] = []
+  hand_in (h ∷ hs) = h
 
-  abbrev pub first_in : List (Known C) → KernelView C
-  first_in [] = no_kernel
-  first_in (v ∷ vs) = v.first
+  abbrev pub account_in : List (CoreHand C) → Account
+  account_in views = first_account (accounts_in (hand_in views))
+
+  abbrev pub first_in : List (CoreHand C) → KernelView C
+  first_in views = first_of (hand_in views)
 
 -- a caller's badge is at rest, with the account of its own thread
-pub record IsAtRest {C : Type 0} (views : List (Known C)) (thread : ThreadId) : Type 0 where
-  pub rests : views ≡ knows (view None (account_in views ∷ [])) (first_in views) ∷ []
+pub record IsAtRest {C : Type 0} (views : List (CoreHand C)) (thread : ThreadId) : Type 0 where
+  pub one : views ≡ hand_in views ∷ []
+  pub idle : taken_in (hand_in views) ≡ None
+  pub rests : accounts_in (hand_in views) ≡ account_in views ∷ []
   pub own : (account_in views).thread ≡ thread.0
   pub account : IsAccount (account_in views)
 

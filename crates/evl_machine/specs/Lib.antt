@@ -1,10 +1,11 @@
 pub mod Nothing
 pub mod Accounts
 pub mod CoreRule
-pub mod CoreWorld
-pub mod QuietCore
-pub mod Beside
+pub mod ThreadRule
+pub mod Seats
 pub mod Known
 pub mod Handles
 pub mod Calls
 pub mod Closings
+pub mod CoreWorld
+pub mod QuietCore
