@@ -1,12 +1,12 @@
 -- Histories that go on, and the calls of one thread in them.
-use Rattle.std.proofs.Common.{◌≡◌, ◌≢◌, ◌==◌, eq-eqb, ne_eqb, ℕ, cond, true, false, List, [], ◌∷◌, ◌++◌, refl, sym, ap, ◌∙◌, subst, append_assoc}
+use Rattle.std.proofs.Common.{◌≡◌, ◌≢◌, ◌<◌, ◌==◌, eq-eqb, ne_eqb, ℕ, cond, true, false, List, [], ◌∷◌, ◌++◌, refl, sym, ap, ◌∙◌, subst, append_assoc, arith}
 use Rattle.std.proofs.lemmas.List.{append-nil}
 use Rattle.evl_base.specs.declared.entry.Entry.{Entry}
 use Rattle.evl_base.specs.declared.play.Play.{Play}
 use Rattle.evl_kernel.specs.States.{State}
 use Rattle.evl_kernel.specs.Histories.{History, Run, IsLegal}
 use Rattle.evl_machine.specs.declared.views.Account.{Account}
-use Rattle.evl_machine.specs.Accounts.{GoesOn, BeginsWith, calls_by, MadeBy, Fits}
+use Rattle.evl_machine.specs.Accounts.{HasNoStranger, IsAccount, saw, threads_of, GoesOn, BeginsWith, calls_by, MadeBy, Fits}
 
 run_runs : (old : State) (xs : List Entry) (ps : List Play) (mid : State) (ys : List Entry) (qs : List Play) (new : State)
     → Run old xs ps mid → Run mid ys qs new → Run old (xs ++ ys) (ps ++ qs) new
@@ -17,6 +17,10 @@ run_runs old (x ∷ xs) ps mid ys qs new (own, rest, next, split, step, run) mor
 -- a history goes on by nothing
 pub goes_on_none : (h : History) → GoesOn h [] h
 goes_on_none h = record { plays = []; opening = refl; entries_are = sym (append-nil h.entries); plays_are = sym (append-nil h.plays); run = (refl, refl) }
+
+-- the board stays
+pub goes_on_threads : (old new : History) (es : List Entry) → GoesOn old es new → threads_of new ≡ threads_of old
+goes_on_threads old new es g = ap (λ (o : State). o.threads) g.opening
 
 -- what goes on and goes on
 pub goes_on_more : (h mid new : History) (xs ys : List Entry) → GoesOn h xs mid → GoesOn mid ys new → GoesOn h (xs ++ ys) new
@@ -63,4 +67,20 @@ pub fits_longer : (h new : History) (added : List Entry) (t : ℕ) (a : Account)
 fits_longer h new added t a g m apart f = record {
   seen = starts_longer h new a.seen added g f.seen;
   mine = ap (calls_by a.thread) g.entries_are ∙ (calls_by-append a.thread h.entries added ∙ (ap (λ (k : List Entry). calls_by a.thread h.entries ++ k) (calls_by-other t a.thread added m apart) ∙ (append-nil _ ∙ f.mine)));
+}
+
+-- no stranger comes by the calls of a thread that is on the board
+pub strangers_more : (h new : History) (added : List Entry) (t : ℕ) → GoesOn h added new → MadeBy t added → t < threads_of h → HasNoStranger h → HasNoStranger new
+strangers_more h new added t g m member none u far =
+    let same = goes_on_threads h new added g in
+    let ne : u ≢ t = λ e. absurd (omega arith) in
+    ap (calls_by u) g.entries_are ∙ (calls_by-append u h.entries added ∙ (ap (λ (es : List Entry). calls_by u h.entries ++ es) (calls_by-other t u added m ne) ∙ (append-nil _ ∙ none u (omega arith))))
+
+-- what a caller knows once it took a kernel
+pub saw_account : (h : History) (room : ℕ) (a : Account) → IsLegal h → HasNoStranger h → Fits h a → IsAccount a → IsAccount (saw h room a)
+saw_account h room a legal none f is = record {
+  legal = legal;
+  member = let same = goes_on_threads a.seen h f.seen.0 f.seen.1 in let m = is.member in omega arith;
+  mine = f.mine;
+  strangers = none;
 }

@@ -1,81 +1,71 @@
--- The conditions of the core's world hold after any list of atomic steps, and the history keeps its opening.
-use Rattle.std.proofs.Common.{◌≡◌, ℕ, List, [], ◌∷◌, ◌++◌, set, Option, Some, refl, sym, ap, ◌∙◌, subst, ⊎_elim, arith}
+-- What holds of the core's world holds after any list of atomic steps, and while hands of threads are split and joined.
+use Rattle.std.proofs.Common.{◌≡◌, ℕ, List, [], ◌∷◌, ◌++◌, set, Some, refl, sym, ◌∙◌, subst, ⊎_elim}
 use mathlib.Core.Option.{some, none}
-use mathlib.Core.Option as maybe
 use lib.ListN.{get_elem?}
-use Rattle.atomic_table.proofs.Lists.{set_else}
-use Rattle.evl_kernel.specs.States.{State}
+use Rattle.atomic_table.proofs.Lists.{set_again, set_else}
 use Rattle.evl_kernel.specs.Histories.{History, IsLegal}
 use Rattle.evl_words.specs.Machine.{Run}
-use Rattle.evl_words.specs.Hands.{Deals, place}
+use Rattle.evl_words.specs.Events.{Event}
+use Rattle.evl_words.specs.Hands.{place}
+use Rattle.evl_words.specs.Dealings.{DealingEvent, acts, cuts, gathers}
+use Rattle.evl_words.proofs.Machines.{run_keeps}
 use Rattle.evl_words.proofs.Dealing.{deals_turn, deals_split, deals_join, deals_opening}
-use Rattle.evl_machine.specs.Accounts.{GoesOn}
-use Rattle.evl_machine.specs.CoreRule.{Homes, IsFree, IsTaken, MayGive, after_take, after_give}
-use Rattle.evl_machine.specs.CoreWorld.{CoreKnown, CoreWorld, CoreEvent, CoreHappens, IsCore, IsCoreWorld, opening_world, takes, fails, gives, splits, joins, moves_out, moves_in}
-use Rattle.evl_machine.proofs.CoreSteps.{taken_core, given_core, holder_is, opens_core, taken_history, given_history, opened_history}
+use Rattle.evl_machine.specs.declared.views.CorePart.{CorePart}
+use Rattle.evl_machine.specs.Accounts.{GoesOn, threads_of}
+use Rattle.evl_machine.specs.CoreRule.{CoreKept, IsFree, IsTaken, MayGive, after_take}
+use Rattle.evl_machine.specs.CoreWorld.{CoreWorld, CoreKind, CoreHappens, CoreDealing, CoreDealingStep, IsCoreWorld, Slot, StandsDealt, takes, gives, moves_out, moves_in, opened_core, step_may, step_part, world_after}
+use Rattle.evl_machine.proofs.CoreSteps.{taken_core, given_core, holder_is, opens_core, only_slot}
 
-abbrev itself : History → History
-itself h = h
+module _ {S B : Type 0} (past : S → History) (room : S → ℕ) (comes : B → S → Type 0) (first : B) where
+  abbrev pub Stands : CoreWorld S B → Type 0
+  Stands = IsCoreWorld past room comes first
 
-abbrev any : Unit {0} → History → Type 0
-any b h = Unit {0}
+  -- a step that changes nothing
+  stays : (w : CoreWorld S B) → Stands w → (k : ℕ) (c : CorePart B) → get_elem? w.views k ≡ some c → Stands record { word = w.word; slot = w.slot; views = set w.views k c }
+  stays w r k c at = subst (λ (l : List (CorePart B)). CoreKept past comes first w.word (w.slot ∷ []) l) (sym (set_again w.views k c at)) r
 
-slot_history : (x y : History) → some (Some x) ∷ [] ≡ some (Some y) ∷ [] → x ≡ y
-slot_history x y e = cc
+  take_keeps : (w : CoreWorld S B) → Stands w → (k : ℕ) (c : CorePart B) → get_elem? w.views k ≡ some c → Stands (world_after past room comes w k c takes)
+  take_keeps w r k c at = ⊎_elim
+      (λ (f : IsFree past comes first r.history w.word (w.slot ∷ []) w.views).
+      let y = f.kernel in
+      let slot : w.slot ≡ some (Some y) = only_slot w.slot (some (Some y)) f.slot_is in
+      let now : CoreKept past comes first 1 (none ∷ []) (set w.views k (after_take (past y) (room y) c)) =
+      subst (λ (h : History). CoreKept past comes first 1 (none ∷ []) (set w.views k (after_take h (room y) c))) (sym f.past_is) (taken_core past comes first (room y) w.word (w.slot ∷ []) w.views k c r at f.nobody) in
+      subst (λ (z : ℕ × Slot S). Stands (world_after past room comes record { word = z.0; slot = z.1; views = w.views } k c takes)) (λ i. (sym f.word_is i, sym slot i)) now)
+      (λ (t : IsTaken r.history w.word (w.slot ∷ []) w.views).
+      subst (λ (n : ℕ). Stands (world_after past room comes record { word = n; slot = w.slot; views = w.views } k c takes)) (sym t.word_is)
+      (subst (λ (n : ℕ). Stands record { word = n; slot = w.slot; views = set w.views k c }) t.word_is (stays w r k c at)))
+      r.who
 
-abbrev opened : History → State
-opened h = h.opening
+  give_keeps : (w : CoreWorld S B) → Stands w → (k : ℕ) (c : CorePart B) → get_elem? w.views k ≡ some c → (y : S) → MayGive k c (past y) → comes c.first y → Stands (world_after past room comes w k c (gives y))
+  give_keeps w r k c at y m from =
+      let x = holder_is past comes first w.word (w.slot ∷ []) w.views k c m.before r at m.taken in
+      let longer : GoesOn r.history m.added (past y) = subst (λ (h : History). GoesOn h m.added (past y)) (sym x.1) m.longer in
+      given_core past comes first w.word (w.slot ∷ []) w.views k c m.added y r at m.own longer (subst (λ (b : B). comes b y) (r.knows k c at) from) x.2
 
-abbrev CoreFrom : State → ℕ → Homes History → List CoreKnown → Type 0
-CoreFrom o word homes views = (r : IsCore word homes views) × (r.history.opening ≡ o)
+  step_keeps : (w : CoreWorld S B) → Stands w → (k : ℕ) (c : CorePart B) → get_elem? w.views k ≡ some c → (kind : CoreKind S) → step_may past room comes k c kind → Stands (world_after past room comes w k c kind)
+  step_keeps w r k c at takes may = take_keeps w r k c at
+  step_keeps w r k c at (gives y) (may, from) = give_keeps w r k c at y may from
+  step_keeps w r k c at moves_out may = stays w r k c at
+  step_keeps w r k c at moves_in may = stays w r k c at
 
--- the conditions of the world hold, of a common history with this opening
-abbrev pub StandsFrom : State → CoreWorld → Type 0
-StandsFrom o w = CoreFrom o w.word (w.slot ∷ []) w.views × Deals w.views w.hands
+  -- after any list of events
+  pub events_keep : (w t : CoreWorld S B) (events : List (Event (CoreKind S))) → Stands w → Run (CoreHappens past room comes) w events t → Stands t
+  events_keep w t events stands run =
+      run_keeps (CoreHappens past room comes) Stands (λ s e u kept one. subst Stands (sym one.changed) (step_keeps s kept e.by one.view one.at e.kind one.may)) w t events stands run
 
-taken_from : (o : State) (w : CoreWorld) (k : ℕ) (c : CoreKnown) (h : History) (r : IsCore w.word (w.slot ∷ []) w.views) → r.history.opening ≡ o → get_elem? w.views k ≡ some c → w.word ≡ 0 → w.slot ≡ some (Some h)
-    → CoreFrom o 1 (none ∷ []) (set w.views k (after_take h c))
-taken_from o w k c h r from at free slot = ⊎_elim
-    (λ (f : IsFree itself any tt r.history w.word (w.slot ∷ []) w.views).
-    let same : r.history ≡ h = sym f.past_is ∙ slot_history f.kernel h (sym f.slot_is ∙ ap (λ (x : maybe.Option (Option History)). x ∷ []) slot) in
-    subst (λ (x : History). CoreFrom o 1 (none ∷ []) (set w.views k (after_take x c))) same
-    (taken_core itself any tt w.word (w.slot ∷ []) w.views k c r at f.nobody, ap opened (taken_history itself any tt w.word (w.slot ∷ []) w.views k c r at f.nobody) ∙ from))
-    (λ (t : IsTaken r.history w.word (w.slot ∷ []) w.views). let one = t.word_is in absurd (omega arith))
-    r.who
+  dealing_keeps : (d : CoreDealing S B) (e : DealingEvent (CoreKind S)) (t : CoreDealing S B) → StandsDealt past room comes first d → CoreDealingStep past room comes d e t → StandsDealt past room comes first t
+  dealing_keeps d (acts id kind) t h (k, c, at, may, changed) =
+      let here = (h.1.same id (place k c ∷ []) at).0 in
+      subst (StandsDealt past room comes first) (sym changed)
+      (step_keeps d.world h.0 k c here kind may, deals_turn d.world.views d.hands id k c (step_part past room comes d.world.word d.world.slot k c kind) h.1 at)
+  dealing_keeps d (cuts id) t h (hand, at, changed) = subst (StandsDealt past room comes first) (sym changed) (h.0, deals_split d.world.views d.hands id hand h.1 at)
+  dealing_keeps d (gathers id other) t h (hand, theirs, at, ne, at', changed) =
+      subst (StandsDealt past room comes first) (sym changed) (h.0, deals_join d.world.views d.hands id other hand theirs h.1 at ne (set_else d.hands id other (hand ++ theirs) ne ∙ at'))
 
-given_from : (o : State) (w : CoreWorld) (k : ℕ) (c : CoreKnown) (h : History) (r : IsCore w.word (w.slot ∷ []) w.views) → r.history.opening ≡ o → get_elem? w.views k ≡ some c → MayGive k c h
-    → CoreFrom o 0 (some (Some h) ∷ []) (set w.views k (after_give h k c))
-given_from o w k c h r from at m =
-    let x = holder_is itself any tt w.word (w.slot ∷ []) w.views k c m.before r at m.taken in
-    let longer : GoesOn r.history m.added h = subst (λ (y : History). GoesOn y m.added h) (sym x.1) m.longer in (
-      given_core itself any tt w.word (w.slot ∷ []) w.views k c m.added h r at m.own longer tt x.2,
-      ap opened (given_history itself any tt w.word (w.slot ∷ []) w.views k c m.added h r at m.own longer tt x.2) ∙ (longer.opening ∙ from),
-    )
-
-event_from : (o : State) (w : CoreWorld) (e : CoreEvent) (t : CoreWorld) → StandsFrom o w → CoreHappens w e t → StandsFrom o t
-event_from o w (takes id) t ((r, from), d) (k, c, h, at, free, slot, now) =
-    let here = (d.same id (place k c ∷ []) at).0 in
-    subst (StandsFrom o) (sym now) (taken_from o w k c h r from here free slot, deals_turn w.views w.hands id k c (after_take h c) d at)
-event_from o w (fails id) t s (taken, now) = subst (StandsFrom o) (sym now) s
-event_from o w (gives id h) t ((r, from), d) (k, c, at, may, now) =
-    let here = (d.same id (place k c ∷ []) at).0 in
-    subst (StandsFrom o) (sym now) (given_from o w k c h r from here may, deals_turn w.views w.hands id k c (after_give h k c) d at)
-event_from o w (splits id) t (s, d) (hand, at, now) = subst (StandsFrom o) (sym now) (s, deals_split w.views w.hands id hand d at)
-event_from o w (joins id other) t (s, d) (hand, theirs, at, there, away, now) =
-    subst (StandsFrom o) (sym now) (s, deals_join w.views w.hands id other hand theirs d at away (set_else w.hands id other (hand ++ theirs) away ∙ there))
-event_from o w (moves_out id) t s now = subst (StandsFrom o) (sym now) s
-event_from o w (moves_in id) t s now = subst (StandsFrom o) (sym now) s
-
-pub events_from : (o : State) (w : CoreWorld) (events : List CoreEvent) (t : CoreWorld) → StandsFrom o w → Run CoreHappens w events t → StandsFrom o t
-events_from o w [] t s same = subst (StandsFrom o) same s
-events_from o w (e ∷ es) t s (u, happens, run) = events_from o u es t (event_from o w e u s happens) run
-
-pub events_keep : (w : CoreWorld) (events : List CoreEvent) (t : CoreWorld) → IsCoreWorld w → Run CoreHappens w events t → IsCoreWorld t
-events_keep w events t stands run = let s = events_from stands.0.history.opening w events t ((stands.0, refl), stands.1) run in (s.0.0, s.1)
-
-pub opening_from : (o : State) (h : History) → h.opening ≡ o → IsLegal h → h.entries ≡ [] → StandsFrom o (opening_world h)
-opening_from o h from legal none_yet =
-    ((opens_core itself any tt h h.opening.threads legal none_yet tt, ap opened (opened_history itself any tt h h.opening.threads legal none_yet tt) ∙ from), deals_opening (opening_world h).views)
-
-pub opening_stands : (h : History) → IsLegal h → h.entries ≡ [] → IsCoreWorld (opening_world h)
-opening_stands h legal none_yet = let s = opening_from h.opening h refl legal none_yet in (s.0.0, s.1)
+  -- after any list of events from the opening
+  pub dealings_keep : (y : S) → IsLegal (past y) → (past y).entries ≡ [] → comes first y → (events : List (DealingEvent (CoreKind S))) (t : CoreDealing S B)
+      → Run (CoreDealingStep past room comes) (opened_core past room comes first y) events t → StandsDealt past room comes first t
+  dealings_keep y legal none_yet from events t run =
+      let d = opened_core past room comes first y in
+      run_keeps (CoreDealingStep past room comes) (StandsDealt past room comes first) dealing_keeps d t events (opens_core past comes first y (threads_of (past y)) refl legal none_yet from, deals_opening d.world.views) run

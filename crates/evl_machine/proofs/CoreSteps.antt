@@ -1,6 +1,6 @@
 -- Each step on the core's lock keeps its part of a table's rule.
-use Rattle.std.proofs.Common.{◌≡◌, ◌≢◌, eqb, ℕ, ◌≤◌, List, [], ◌∷◌, ◌++◌, length, set, Option, Some, None, refl, sym, ap, ◌∙◌, subst, ⊎_elim, inl, inr, arith, length-set}
-use Rattle.std.proofs.lemmas.List.{append-nil}
+use Rattle.std.proofs.Common.{◌≡◌, ◌≢◌, eqb, ℕ, List, [], ◌∷◌, set, Option, Some, None, refl, sym, ap, ◌∙◌, subst, ⊎_elim, inl, inr, arith, length-set}
+use Rattle.std.proofs.lemmas.List.{length-replicate}
 use Rattle.std.specs.Prelude.{replicate}
 use mathlib.Core.Option.{some, none, some-injective}
 use mathlib.Core.Logic.{dite}
@@ -14,9 +14,12 @@ use Rattle.evl_kernel.specs.Histories.{History, IsLegal}
 use Rattle.evl_words.specs.Parts.{LockTurns, LockChange}
 use Rattle.evl_words.proofs.Sequences.{at_below, at_replicate}
 use Rattle.evl_machine.specs.declared.views.CorePart.{CorePart}
-use Rattle.evl_machine.specs.Accounts.{GoesOn, MadeBy, calls_by, Fits}
-use Rattle.evl_machine.specs.CoreRule.{IsFree, IsTaken, CoreKept, Homes, CoreMe, MayGive, account_at, newcomer_part, after_take, after_give, took, gave}
-use Rattle.evl_machine.proofs.Accounts.{starts_whole, fits_longer, goes_on_legal, calls_by-append, calls_by-other}
+use Rattle.evl_machine.specs.Accounts.{GoesOn, HasNoStranger, MadeBy, calls_by, Fits, threads_of}
+use Rattle.evl_machine.specs.CoreRule.{IsFree, IsTaken, CoreKept, Homes, MayGive, account_at, newcomer_part, after_take, after_give}
+use Rattle.evl_machine.specs.CoreWorld as kind
+use Rattle.evl_machine.specs.CoreWorld.{CoreWorld, IsCoreEvent, Slot, step_part}
+use Rattle.evl_machine.specs.CoreTells.{CoreMe, took, gave}
+use Rattle.evl_machine.proofs.Accounts.{goes_on_threads, strangers_more, starts_whole, fits_longer, goes_on_legal}
 
 -- what holds of the elements but one, and of the new one there, holds of all
 all_set : {A : Type 0} (P : ℕ → A → Type 0) (xs : List A) (k : ℕ) (w : A) → P k w → ((j : ℕ) (u : A) → j ≢ k → get_elem? xs j ≡ some u → P j u) → (j : ℕ) (u : A) → get_elem? (set xs k w) j ≡ some u → P j u
@@ -28,6 +31,9 @@ none_some x y e f = let g : Some x ≡ None = sym e ∙ f in absurd (cc)
 
 Some-injective : {X : Type 0} (x y : X) → Some x ≡ Some y → x ≡ y
 Some-injective x y e = cc
+
+pub only_slot : {S : Type 0} (x y : Slot S) → x ∷ [] ≡ y ∷ [] → x ≡ y
+only_slot x y e = cc
 
 abbrev first_slot : {S : Type 0} → List (ℕ × Option S) → Option S
 first_slot [] = None
@@ -44,19 +50,20 @@ module _ {S B : Type 0} (past : S → History) (comes : B → S → Type 0) (fir
   abbrev pub Stays : Change → Type 0
   Stays beside = (n : ℕ) (homes : Homes S) (cores : List (CorePart B)) → beside n homes cores n homes cores
 
-  abbrev pub Taking : Change → ℕ → CorePart B → Type 0
-  Taking beside k c = (y : S) (cores : List (CorePart B)) → Lock 0 (some (Some y) ∷ []) cores → get_elem? cores k ≡ some c → beside 0 (some (Some y) ∷ []) cores 1 (none ∷ []) (set cores k (after_take (past y) c))
+  abbrev pub Taking : (S → ℕ) → Change → ℕ → CorePart B → Type 0
+  Taking room beside k c = (y : S) (cores : List (CorePart B)) → Lock 0 (some (Some y) ∷ []) cores → get_elem? cores k ≡ some c → beside 0 (some (Some y) ∷ []) cores 1 (none ∷ []) (set cores k (after_take (past y) (room y) c))
 
   abbrev pub Giving : Change → ℕ → CorePart B → S → Type 0
   Giving beside k c y = (cores : List (CorePart B)) → Lock 1 (none ∷ []) cores → get_elem? cores k ≡ some c → beside 1 (none ∷ []) cores 0 (some (Some y) ∷ []) (set cores k (after_give (past y) k c))
 
-  pub taken_core : (n : ℕ) (homes : Homes S) (cores : List (CorePart B)) (k : ℕ) (c : CorePart B) (r : Lock n homes cores) → get_elem? cores k ≡ some c → ((j : ℕ) (u : CorePart B) → get_elem? cores j ≡ some u → u.taken ≡ None)
-      → Lock 1 (none ∷ []) (set cores k (after_take r.history c))
-  taken_core n homes cores k c r at nobody = let h = r.history in let w = after_take h c in record {
+  pub taken_core : (room n : ℕ) (homes : Homes S) (cores : List (CorePart B)) (k : ℕ) (c : CorePart B) (r : Lock n homes cores) → get_elem? cores k ≡ some c → ((j : ℕ) (u : CorePart B) → get_elem? cores j ≡ some u → u.taken ≡ None)
+      → Lock 1 (none ∷ []) (set cores k (after_take r.history room c))
+  taken_core room n homes cores k c r at nobody = let h = r.history in let w = after_take h room c in record {
     history = h;
     legal = r.legal;
     fits = all_set (λ j u. Fits h (account_at j u)) cores k w (record { seen = starts_whole h; mine = (r.fits k c at).mine }) (λ j u _ e. r.fits j u e);
-    others = λ t far. r.others t (subst (λ l. l ≤ t) (length-set cores k w) far);
+    all = length-set cores k w ∙ r.all;
+    strangers = r.strangers;
     knows = all_set (λ _ u. u.first ≡ first) cores k w (r.knows k c at) (λ j u _ e. r.knows j u e);
     who = inr (record {
       word_is = refl;
@@ -67,15 +74,18 @@ module _ {S B : Type 0} (past : S → History) (comes : B → S → Type 0) (fir
     });
   }
 
+  one_stays : (n : ℕ) → n ≡ 1 → n ≡ either (eqb n 0) 1 n
+  one_stays n e = subst (λ (x : ℕ). x ≡ either (eqb x 0) 1 x) (sym e) refl
+
   -- the kernel goes out of the slot where the word is 0, and nothing changes elsewhere
-  pub takes_core : (beside : Change) → Stays beside → (slots k : ℕ) (c : CorePart B) → Taking beside k c → (st : Step (Option S))
-      → LockTurns Lock beside slots k (c, []) (λ n. either (eqb n 0) 1 n) (took past comes st k (c, []))
-  takes_core beside stays slots k c taking st n homes cores r len at below = ⊎_elim
+  pub takes_core : (room : S → ℕ) (beside : Change) → Stays beside → (slots k : ℕ) (c : CorePart B) → Taking room beside k c → (st : Step (Option S))
+      → LockTurns Lock beside slots k (c, []) (λ n. either (eqb n 0) 1 n) (took past room comes st k (c, []))
+  takes_core room beside stays slots k c taking st n homes cores r len at below = ⊎_elim
       (λ (f : IsFree past comes first r.history n homes cores).
       let y = f.kernel in
-      let w = after_take (past y) c in
+      let w = after_take (past y) (room y) c in
       let free : Lock 0 (some (Some y) ∷ []) cores = subst (λ (z : ℕ × Homes S). Lock z.0 z.1 cores) (λ i. (f.word_is i, f.slot_is i)) r in
-      let now : Lock 1 (none ∷ []) (set cores k w) = subst (λ (h : History). Lock 1 (none ∷ []) (set cores k (after_take h c))) (sym f.past_is) (taken_core n homes cores k c r at f.nobody) in
+      let now : Lock 1 (none ∷ []) (set cores k w) = subst (λ (h : History). Lock 1 (none ∷ []) (set cores k (after_take h (room y) c))) (sym f.past_is) (taken_core (room y) n homes cores k c r at f.nobody) in
       let both = subst (λ (z : ℕ × Homes S). Lock (either (eqb z.0 0) 1 z.0) (set z.1 0 none) (set cores k w) × beside z.0 z.1 cores (either (eqb z.0 0) 1 z.0) (set z.1 0 none) (set cores k w))
       (λ i. (sym f.word_is i, sym f.slot_is i)) (now, taking y cores free at) in (
         w,
@@ -84,24 +94,47 @@ module _ {S B : Type 0} (past : S → History) (comes : B → S → Type 0) (fir
         both.0,
         both.1,
         (
-          (λ _. (y, refl, subst IsLegal (sym f.past_is) r.legal, subst (λ (h : History). Fits h (account_at k c)) (sym f.past_is) (r.fits k c at), subst (λ (b : B). comes b y) (sym (r.knows k c at)) f.comes_from)),
+          (λ _. (
+            y,
+            refl,
+            subst IsLegal (sym f.past_is) r.legal,
+            subst HasNoStranger (sym f.past_is) r.strangers,
+            subst (λ (h : History). Fits h (account_at k c)) (sym f.past_is) (r.fits k c at),
+            subst (λ (b : B). comes b y) (sym (r.knows k c at)) f.comes_from,
+          )),
           (λ other. absurd (other f.word_is)),
+          record {
+            world = record { word = n; slot = some (Some y); views = cores };
+            stands = subst (λ (b : B). CoreKept past comes b n (some (Some y) ∷ []) cores) (sym (r.knows k c at)) (subst (λ (hs : Homes S). Lock n hs cores) f.slot_is r);
+            at = at;
+            may = tt;
+            shows = refl;
+            after = ap (λ m. step_part past room comes m (some (Some y)) k c kind.takes) (sym f.word_is);
+          },
         ),
       ))
       (λ (t : IsTaken r.history n homes cores).
-      let both = subst (λ (z : ℕ × List (CorePart B)). Lock z.0 homes z.1 × beside n homes cores z.0 homes z.1) (λ i. (one n t.word_is i, sym (set_again cores k c at) i)) (r, stays n homes cores) in
+      let both = subst (λ (z : ℕ × List (CorePart B)). Lock z.0 homes z.1 × beside n homes cores z.0 homes z.1) (λ i. (one_stays n t.word_is i, sym (set_again cores k c at) i)) (r, stays n homes cores) in
       let taken : n ≡ 1 = t.word_is in (
         c,
         keeps,
         tt,
         both.0,
         both.1,
-        ((λ (zero_found : n ≡ 0). absurd (omega arith)), (λ _. refl)),
+        (
+          (λ (zero_found : n ≡ 0). absurd (omega arith)),
+          (λ _. refl),
+          record {
+            world = record { word = n; slot = none; views = cores };
+            stands = subst (λ (b : B). CoreKept past comes b n (none ∷ []) cores) (sym (r.knows k c at)) (subst (λ (hs : Homes S). Lock n hs cores) t.slot_is r);
+            at = at;
+            may = tt;
+            shows = refl;
+            after = ap (λ m. step_part past room comes m none k c kind.takes) (sym t.word_is);
+          },
+        ),
       ))
       r.who
-    where
-      one : (n : ℕ) → n ≡ 1 → n ≡ either (eqb n 0) 1 n
-      one n e = subst (λ (x : ℕ). x ≡ either (eqb x 0) 1 x) (sym e) refl
 
   -- the thread that has the kernel: the core is taken, by it, and the common history is the one that it found
   pub holder_is : (n : ℕ) (homes : Homes S) (cores : List (CorePart B)) (k : ℕ) (c : CorePart B) (h : History) (r : Lock n homes cores) → get_elem? cores k ≡ some c → c.taken ≡ Some h
@@ -125,11 +158,8 @@ module _ {S B : Type 0} (past : S → History) (comes : B → S → Type 0) (fir
     history = h;
     legal = goes_on_legal r.history h added r.legal longer;
     fits = all_set (λ j u. Fits h (account_at j u)) cores k w (record { seen = starts_whole h; mine = refl }) (λ j u other e. fits_longer r.history h added k (account_at j u) longer own other (r.fits j u e));
-    others = λ t far.
-        let far' : length cores ≤ t = subst (λ l. l ≤ t) (length-set cores k w) far in
-        let within = at_below cores k c at in
-        let ne : t ≢ k = λ e. absurd (omega arith) in
-        ap (calls_by t) longer.entries_are ∙ (calls_by-append t r.history.entries added ∙ (ap (λ es. calls_by t r.history.entries ++ es) (calls_by-other k t added own ne) ∙ (append-nil _ ∙ r.others t far')));
+    all = length-set cores k w ∙ (r.all ∙ sym (goes_on_threads r.history h added longer));
+    strangers = strangers_more r.history h added k longer own (let within = at_below cores k c at in let crew = r.all in omega arith) r.strangers;
     knows = all_set (λ _ u. u.first ≡ first) cores k w (r.knows k c at) (λ j u _ e. r.knows j u e);
     who = inl (record {
       word_is = refl;
@@ -142,34 +172,43 @@ module _ {S B : Type 0} (past : S → History) (comes : B → S → Type 0) (fir
   }
 
   -- the kernel goes back into the slot, with more calls of the thread that had it
-  pub gives_core : (beside : Change) → (slots k : ℕ) (c : CorePart B) (y : S) → Giving beside k c y → MayGive k c (past y) → comes c.first y → (st : Step (Option S))
-      → LockTurns Lock beside slots k (c, (0, Some y) ∷ []) (λ _. 0) (gave past st k (c, (0, Some y) ∷ []))
-  gives_core beside slots k c y giving m from st n homes cores r len at below =
+  pub gives_core : (room : S → ℕ) (beside : Change) → (slots k : ℕ) (c : CorePart B) (y : S) → Giving beside k c y → MayGive k c (past y) → comes c.first y → (st : Step (Option S))
+      → LockTurns Lock beside slots k (c, (0, Some y) ∷ []) (λ _. 0) (gave past room comes st k (c, (0, Some y) ∷ []))
+  gives_core room beside slots k c y giving m from st n homes cores r len at below =
       let x = holder_is n homes cores k c m.before r at m.taken in
       let w = after_give (past y) k c in
       let longer : GoesOn r.history m.added (past y) = subst (λ (h : History). GoesOn h m.added (past y)) (sym x.1) m.longer in
       let now : Lock 0 (some (Some y) ∷ []) (set cores k w) = given_core n homes cores k c m.added y r at m.own longer (subst (λ (b : B). comes b y) (r.knows k c at) from) x.2 in
       let taken : Lock 1 (none ∷ []) cores = subst (λ (z : ℕ × Homes S). Lock z.0 z.1 cores) (λ i. (x.0.word_is i, x.0.slot_is i)) r in
       let both = subst (λ (z : ℕ × Homes S). Lock 0 (set z.1 0 (some (Some y))) (set cores k w) × beside z.0 z.1 cores 0 (set z.1 0 (some (Some y))) (set cores k w))
-      (λ i. (sym x.0.word_is i, sym x.0.slot_is i)) (now, giving cores taken at) in (
+      (λ i. (sym x.0.word_is i, sym x.0.slot_is i)) (now, giving cores taken at) in
+      let event : IsCoreEvent past room comes k c (kind.gives y) n w = record {
+        world = record { word = n; slot = none; views = cores };
+        stands = subst (λ (b : B). CoreKept past comes b n (none ∷ []) cores) (sym (r.knows k c at)) (subst (λ (hs : Homes S). Lock n hs cores) x.0.slot_is r);
+        at = at;
+        may = (m, from);
+        shows = refl;
+        after = refl;
+      } in (
         w,
         gives,
         tt,
         both.0,
         both.1,
-        (λ z e. ap (λ (q : S). back q) (Some-injective y z (ap (λ (xs : List (ℕ × Option S)). first_slot xs) e))),
+        (λ z e. subst (λ (q : S). Back q) (Some-injective y z (ap (λ (xs : List (ℕ × Option S)). first_slot xs) e)) (refl, n, event)),
       )
     where
-      back : S → CoreMe S B
-      back q = (after_give (past q) k c, [])
+      Back : S → Type 0
+      Back q = (◌≡◌ {A = CoreMe S B} (after_give (past y) k c, []) (after_give (past q) k c, [])) × (found : ℕ) × IsCoreEvent past room comes k c (kind.gives q) found (after_give (past y) k c)
 
   -- at the opening the kernel lies in the slot, and no thread has made a call
-  pub opens_core : (y : S) (n : ℕ) → IsLegal (past y) → (past y).entries ≡ [] → comes first y → Lock 0 (some (Some y) ∷ []) (replicate n (newcomer_part (past y) first))
-  opens_core y n legal none_yet from = let h = past y in let one = newcomer_part h first in record {
+  pub opens_core : (y : S) (n : ℕ) → n ≡ threads_of (past y) → IsLegal (past y) → (past y).entries ≡ [] → comes first y → Lock 0 (some (Some y) ∷ []) (replicate n (newcomer_part (past y) first))
+  opens_core y n all legal none_yet from = let h = past y in let one = newcomer_part h first in record {
     history = h;
     legal = legal;
     fits = λ k c at. subst (λ (u : CorePart B). Fits h (account_at k u)) (at_replicate n k one c at) (record { seen = starts_whole h; mine = ap (calls_by k) none_yet });
-    others = λ t far. ap (calls_by t) none_yet;
+    all = length-replicate n one ∙ all;
+    strangers = λ t far. ap (calls_by t) none_yet;
     knows = λ k c at. sym (ap (λ (u : CorePart B). u.first) (at_replicate n k one c at));
     who = inl (record {
       word_is = refl;
@@ -193,19 +232,3 @@ module _ {S B : Type 0} (past : S → History) (comes : B → S → Type 0) (fir
       (λ (f : IsFree past comes first r.history 1 homes cores). absurd (let e = f.word_is in omega arith))
       (λ (t : IsTaken r.history 1 homes cores). (t.holder, t.holds.0, t.holds.1, t.holds.2, t.others))
       r.who
-
-  -- which history is common after each of these steps
-  pub taken_history : (n : ℕ) (homes : Homes S) (cores : List (CorePart B)) (k : ℕ) (c : CorePart B) (r : Lock n homes cores) (at : get_elem? cores k ≡ some c) (nobody : (j : ℕ) (u : CorePart B) → get_elem? cores j ≡ some u → u.taken ≡ None)
-      → (taken_core n homes cores k c r at nobody).history ≡ r.history
-  unfolding taken_core
-  taken_history n homes cores k c r at nobody = refl
-
-  pub given_history : (n : ℕ) (homes : Homes S) (cores : List (CorePart B)) (k : ℕ) (c : CorePart B) (added : List Entry) (y : S) (r : Lock n homes cores) (at : get_elem? cores k ≡ some c)
-      (own : MadeBy k added) (longer : GoesOn r.history added (past y)) (from : comes first y) (nobody : (j : ℕ) (u : CorePart B) → j ≢ k → get_elem? cores j ≡ some u → u.taken ≡ None)
-      → (given_core n homes cores k c added y r at own longer from nobody).history ≡ past y
-  unfolding given_core
-  given_history n homes cores k c added y r at own longer from nobody = refl
-
-  pub opened_history : (y : S) (n : ℕ) (legal : IsLegal (past y)) (none_yet : (past y).entries ≡ []) (from : comes first y) → (opens_core y n legal none_yet from).history ≡ past y
-  unfolding opens_core
-  opened_history y n legal none_yet from = refl

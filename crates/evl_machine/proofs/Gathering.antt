@@ -17,13 +17,13 @@ use Rattle.evl_kernel.specs.KernelViews.{KernelView}
 use Rattle.evl_machine.specs.declared.views.Account.{Account}
 use Rattle.evl_machine.specs.declared.views.ThreadView.{ThreadView}
 use Rattle.evl_machine.specs.ThreadRule.{ThreadRule, core_of}
-use Rattle.evl_machine.specs.Accounts.{Fits, saw, informed, account, calls_by}
+use Rattle.evl_machine.specs.Accounts.{Fits, HasNoStranger, account, calls_by, threads_of}
 use Rattle.evl_machine.specs.Seats.{AccountsFit, CoreMe, view}
 use Rattle.evl_machine.specs.CoreRule.{account_at}
 use Rattle.evl_machine.specs.Known.{ComesFrom, CoreHand, IsLive, KeptKnown, KernelMe, accounts_in, taken_in, mutex_count, no_tie, past_of, seen}
-use Rattle.evl_machine.specs.Handles.{MachineState, CallerState, HeldState, holding}
+use Rattle.evl_machine.specs.Handles.{Belongs, MachineState, CallerState, HeldState, holding, returned, shown}
 use Rattle.evl_machine.specs.Calls.{TookKernel}
-use Rattle.evl_machine.specs.Closings.{Closes, KeepsOpen, LacksCaller, accounts_back, gathered, shown}
+use Rattle.evl_machine.specs.Closings.{Closes, KeepsOpen, LacksCaller, accounts_back, gathered}
 use Rattle.evl_machine.proofs.CoreSteps.{all_fit as fits_all}
 
 fits_left : (h : History) (xs ys : List Account) → AccountsFit h (xs ++ ys) → AccountsFit h xs
@@ -119,48 +119,53 @@ module _ {C : Type 0} where
   stays_busy m xs first others back are same = subst (λ (ys : List (CallerState C)). KeepsOpen m ys CoreBusy back) (sym are) (inl (refl, same))
 
   legal_of : (c : CallerState C) (k : HeldState C) → TookKernel c k → IsLegal k.kernel.history
-  legal_of c k took = subst (λ (a : Account). IsLegal a.seen) took.account took.just.legal
+  legal_of c k took = subst (λ (s : CallerState C). IsLegal s.account.seen) took.caller took.just.legal
+
+  strangers_of : (c : CallerState C) (k : HeldState C) → TookKernel c k → HasNoStranger k.kernel.history
+  strangers_of c k took = subst (λ (s : CallerState C). HasNoStranger s.account.seen) took.caller took.just.strangers
 
   fits_first : (c : CallerState C) (k : HeldState C) → TookKernel c k → Fits k.kernel.history c.account
   fits_first c k took = record {
     seen = took.later;
-    mine = subst (λ (a : Account). calls_by a.thread a.seen.entries ≡ a.mine) took.account took.just.mine;
+    mine = subst (λ (s : CallerState C). calls_by s.account.thread s.account.seen.entries ≡ s.account.mine) took.caller took.just.mine;
   }
 
-  informs_as : (c : CallerState C) (k : HeldState C) → TookKernel c k → record { machine = k.machine; account = informed k.kernel.history k.account } ≡ shown k.kernel.history c
+  informs_as : (c : CallerState C) (k : HeldState C) → TookKernel c k → returned k.kernel.history k.caller ≡ shown k.kernel.history k.kernel.room c
   informs_as c k took =
       let h = k.kernel.history in
-      let same : informed h k.account ≡ saw h c.account = ap (informed h) took.account ∙ ap (account c.account.thread h) (fits_first c k took).mine in
-      λ i. record { machine = took.machine i; account = same i }
+      ap (returned h) took.caller ∙ ap (λ mine. record { machine = c.machine; account = account c.account.thread h mine (c.account.found ++ k.kernel.room ∷ []) }) (fits_first c k took).mine
 
-  pub stays_open : (m : MachineState C) (xs : List (CallerState C)) (first : CallerState C) (others back : List (CallerState C)) (k : HeldState C) → xs ≡ first ∷ others → length xs < m.first.history.opening.threads → TookKernel first k
-      → back ≡ record { machine = k.machine; account = informed k.kernel.history k.account } ∷ others → KeepsOpen m xs Invalid back
+  pub stays_open : (m : MachineState C) (xs : List (CallerState C)) (first : CallerState C) (others back : List (CallerState C)) (k : HeldState C) → xs ≡ first ∷ others → length xs < threads_of m.first.history → TookKernel first k
+      → back ≡ returned k.kernel.history k.caller ∷ others → KeepsOpen m xs Invalid back
   stays_open m xs first others back k are few took now = subst (λ (ys : List (CallerState C)). KeepsOpen m ys Invalid back) (sym are) (inr (
     refl,
     record {
-      few = subst (λ (ys : List (CallerState C)). length ys < m.first.history.opening.threads) are few;
+      few = subst (λ (ys : List (CallerState C)). length ys < threads_of m.first.history) are few;
       history = k.kernel.history;
+      room = k.kernel.room;
       legal = legal_of first k took;
+      strangers = strangers_of first k took;
       fits = fits_first first k took;
       back_is = now ∙ ap (λ (c : CallerState C). c ∷ others) (informs_as first k took);
     },
   ))
 
   -- the callers that come back are of the machine, as those were that were handed in
-  pub back_again : (m : MachineState C) (xs : List (CallerState C)) (refusal : Refusal) (back : List (CallerState C)) → KeepsOpen m xs refusal back → All (λ (c : CallerState C). c.machine ≡ m) xs → All (λ (c : CallerState C). c.machine ≡ m) back
-  back_again m [] refusal back (invalid, none) all = subst (λ (ys : List (CallerState C)). All (λ (c : CallerState C). c.machine ≡ m) ys) (sym none) (All-nil _)
+  pub back_again : (m : MachineState C) (xs : List (CallerState C)) (refusal : Refusal) (back : List (CallerState C)) → KeepsOpen m xs refusal back → All (λ (c : CallerState C). Belongs c m) xs → All (λ (c : CallerState C). Belongs c m) back
+  back_again m [] refusal back (invalid, none) all = subst (λ (ys : List (CallerState C)). All (λ (c : CallerState C). Belongs c m) ys) (sym none) (All-nil _)
   back_again m (x ∷ xs) refusal back kept all = ⊎_elim
-      (λ (busy : (refusal ≡ CoreBusy) × (back ≡ x ∷ xs)). subst (λ (ys : List (CallerState C)). All (λ (c : CallerState C). c.machine ≡ m) ys) (sym busy.1) all)
-      (λ (missing : (refusal ≡ Invalid) × LacksCaller m x xs back). subst (λ (ys : List (CallerState C)). All (λ (c : CallerState C). c.machine ≡ m) ys) (sym missing.1.back_is)
-      (All-cons (λ (c : CallerState C). c.machine ≡ m) (shown missing.1.history x) xs (All-head (λ (c : CallerState C). c.machine ≡ m) x xs all) (All-tail (λ (c : CallerState C). c.machine ≡ m) x xs all)))
+      (λ (busy : (refusal ≡ CoreBusy) × (back ≡ x ∷ xs)). subst (λ (ys : List (CallerState C)). All (λ (c : CallerState C). Belongs c m) ys) (sym busy.1) all)
+      (λ (missing : (refusal ≡ Invalid) × LacksCaller m x xs back). subst (λ (ys : List (CallerState C)). All (λ (c : CallerState C). Belongs c m) ys) (sym missing.1.back_is)
+      (All-cons (λ (c : CallerState C). Belongs c m) (shown missing.1.history missing.1.room x) xs (All-head (λ (c : CallerState C). Belongs c m) x xs all) (All-tail (λ (c : CallerState C). Belongs c m) x xs all)))
       kept
 
-  pub closes_all : (m : MachineState C) (xs : List (CallerState C)) (first : CallerState C) (others : List (CallerState C)) (k : HeldState C) → xs ≡ first ∷ others → m.first.history.opening.threads ≤ length xs → first.machine ≡ m → TookKernel first k
+  pub closes_all : (m : MachineState C) (xs : List (CallerState C)) (first : CallerState C) (others : List (CallerState C)) (k : HeldState C) → xs ≡ first ∷ others → threads_of m.first.history ≤ length xs → Belongs first m → TookKernel first k
       → All (λ (c : CallerState C). Fits k.kernel.history c.account) others → Closes m xs k.kernel
   closes_all m xs first others k are all of took fit = subst (λ (ys : List (CallerState C)). Closes m ys k.kernel) (sym are) (record {
     some_caller = omega arith;
-    all_callers = subst (λ (ys : List (CallerState C)). m.first.history.opening.threads ≤ length ys) are all;
+    all_callers = subst (λ (ys : List (CallerState C)). threads_of m.first.history ≤ length ys) are all;
     legal = legal_of first k took;
+    strangers = strangers_of first k took;
     fits = All-cons (λ (x : CallerState C). Fits k.kernel.history x.account) first others (fits_first first k took) fit;
     comes = subst (λ (n : MachineState C). ComesFrom n.first k.kernel) of took.comes;
   })

@@ -2,10 +2,10 @@ pub mod Accounts
 pub mod CoreSteps
 pub mod ThreadSteps
 pub mod Taking
+pub mod QuietCore
 pub mod Calling
 pub mod Knowing
 pub mod Seating
 pub mod Gathering
 pub mod Crossing
 pub mod CoreLaws
-pub mod QuietCore

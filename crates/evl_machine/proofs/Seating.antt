@@ -1,5 +1,5 @@
 -- A new table keeps its rule, and its threads are dealt out to tokens of their own, one after another.
-use Rattle.std.proofs.Common.{◌≡◌, ℕ, ◌+◌, ◌-◌, ◌<◌, List, [], ◌∷◌, ◌++◌, Option, Some, refl, sym, ap, ◌∙◌, subst, arith, zero-add}
+use Rattle.std.proofs.Common.{◌≡◌, ℕ, ◌+◌, ◌-◌, ◌<◌, List, [], ◌∷◌, ◌++◌, map, Option, Some, refl, sym, ap, ◌∙◌, subst, arith, zero-add}
 use Rattle.std.specs.Prelude.{replicate}
 use Rattle.std.proofs.lemmas.List.FromFn.{map-range_with_len_more}
 use Rattle.atomic_table.specs.Table.{opening, Splits}
@@ -15,32 +15,33 @@ use Rattle.evl_words.specs.MutexWorld.{MutexView}
 use Rattle.evl_words.proofs.Dealing.{hand_step}
 use Rattle.evl_machine.specs.declared.views.Account.{Account}
 use Rattle.evl_machine.specs.declared.views.ThreadView.{ThreadView}
-use Rattle.evl_machine.specs.Accounts.{newcomer, calls_by}
+use Rattle.evl_machine.specs.Accounts.{newcomer, calls_by, threads_of}
 use Rattle.evl_machine.specs.ThreadRule.{newcomer_view}
 use Rattle.evl_machine.specs.Seats.{CoreMe}
-use Rattle.evl_machine.specs.Known.{ComesFrom, CoreHand, KernelMe, KeptKnown, first_known, first_of, past_of, seen, no_tie, mutex_count}
+use Rattle.evl_machine.specs.Known.{ComesFrom, CoreHand, KernelMe, KeptKnown, first_known, first_of, past_of, room_of, seen, no_tie, mutex_count}
 use Rattle.evl_machine.specs.Handles.{MachineState, CallerState, newcomer_of, newcomers_of, seated}
+use Rattle.evl_machine.specs.QuietCore.{IsOpening}
 use Rattle.evl_machine.specs.Calls.{IsCaller}
 use Rattle.evl_machine.proofs.ThreadSteps.{opens_thread, splits_thread}
 use Rattle.evl_machine.proofs.Calling.{is_caller}
 
 module _ {C : Type 0} where
   -- a kernel that was just made has the history of no call
-  pub opened_legal : (declared : C → ℕ) (plan : C → Plan) (board : Board) (bank : List C) (limit : ℕ) (k : KernelView C) → IsOpened declared plan board bank limit k → IsLegal k.history × (k.history.entries ≡ [])
-  opened_legal declared plan board bank limit k o = (subst (λ (es : List Entry). Run k.history.opening es k.history.plays k.history.state) (sym o.entries) (o.plays, o.state), o.entries)
+  pub opened_legal : (declared : C → ℕ) (plan : C → Plan) (board : Board) (bank : List C) (limit : ℕ) (k : KernelView C) → IsOpened declared plan board bank limit k → IsLegal k.history × (k.history.entries ≡ []) × IsOpening k.history
+  opened_legal declared plan board bank limit k o = (subst (λ (es : List Entry). Run k.history.opening es k.history.plays k.history.state) (sym o.entries) (o.plays, o.state), o.entries, (board, map (λ callback. record { kinds = declared callback; plan = plan callback }) bank, o.opening_is))
 
   pub comes_itself : (k : KernelView C) → ComesFrom k k
-  comes_itself k = record { brings = λ number callback stands. stands; told_is = refl; limit = refl }
+  comes_itself k = record { opening = refl; brings = λ number callback stands. stands; told_is = refl; limit = refl }
 
   pub opens_known : (k : KernelView C) → IsLegal k.history → k.history.entries ≡ [] → KeptKnown k (opening (0 ∷ []) (Some k ∷ []) (first_known k))
-  opens_known k legal none_yet = opens_thread past_of ComesFrom no_tie k (mutex_count k) k k.history.opening.threads (λ i lt. absurd (omega arith)) legal none_yet (comes_itself k) (λ i lt. tt) (0 ∷ []) refl
+  opens_known k legal none_yet = opens_thread past_of room_of ComesFrom no_tie k (mutex_count k) k (threads_of k.history) refl (λ i lt. absurd (omega arith)) legal none_yet (comes_itself k) (λ i lt. tt) (0 ∷ []) refl
 
   pub opens_as : (k key : KernelView C) (items : List (Option (KernelView C))) → key ≡ k → items ≡ Some k ∷ [] → IsLegal k.history → k.history.entries ≡ [] → KeptKnown key (opening (0 ∷ []) items (first_known key))
   opens_as k key items same one legal none_yet =
       subst (λ (x : KernelView C × List (Option (KernelView C))). KeptKnown x.0 (opening (0 ∷ []) x.1 (first_known x.0))) (λ i. (sym same i, sym one i)) (opens_known k legal none_yet)
 
   pub splits_known : (first : KernelView C) (id : ℕ) (hand : CoreHand C) → Splits (KeptKnown first) id hand (first_place hand) (rest_of hand)
-  splits_known first id hand = splits_thread past_of ComesFrom no_tie first (mutex_count first) id hand
+  splits_known first id hand = splits_thread past_of room_of ComesFrom no_tie first (mutex_count first) id hand
 
   abbrev new_view : KernelView C → ℕ → ThreadView (KernelView C) MutexView
   new_view k n = newcomer_view k.history k (mutex_count k) n
@@ -63,8 +64,9 @@ module _ {C : Type 0} where
       first_me : KernelMe C → KernelMe C
       first_me m = (first_place m.0, m.1)
 
-  pub new_caller : (h : History) (t : ThreadId) (me : CoreMe (KernelView C)) → IsLegal h → h.entries ≡ [] → me ≡ seated (newcomer h t.0) → IsCaller me t
-  new_caller h t me legal none_yet e = is_caller (newcomer h t.0) me t e refl (record { legal = legal; mine = ap (calls_by t.0) none_yet })
+  pub new_caller : (h : History) (t : ThreadId) (me : CoreMe (KernelView C)) → t.0 < threads_of h → IsLegal h → h.entries ≡ [] → me ≡ seated (newcomer h t.0) → IsCaller me t
+  new_caller h t me member legal none_yet e =
+      is_caller (newcomer h t.0) me t e refl (record { legal = legal; member = member; mine = ap (calls_by t.0) none_yet; strangers = λ u far. ap (calls_by u) none_yet })
 
   -- one caller more
   pub one_more : (m : MachineState C) (i : ℕ) (items : List (CallerState C)) (id : TableId) (first : KernelView C) (a : Account) → items ≡ newcomers_of m i → id ≡ m.id → first ≡ m.first → a ≡ newcomer m.first.history i

@@ -19,7 +19,9 @@ use Rattle.evl_words.proofs.MutexSeats.{mutex_turns}
 use Rattle.evl_words.proofs.MutexEnds.{mutex_opens}
 use Rattle.evl_machine.specs.declared.views.CorePart.{CorePart}
 use Rattle.evl_machine.specs.declared.views.ThreadView.{ThreadView}
-use Rattle.evl_machine.specs.CoreRule.{CoreKept, Homes, MayGive, newcomer_part, took, gave}
+use Rattle.evl_machine.specs.CoreRule.{CoreKept, Homes, MayGive, newcomer_part}
+use Rattle.evl_machine.specs.CoreTells.{took, gave}
+use Rattle.evl_machine.specs.Accounts.{threads_of}
 use Rattle.evl_machine.specs.ThreadRule.{Tie, MutexParts, ThreadRule, MachineRule, core_of, put_core, mutex_of, put_mutex, newcomer_view, all_threads, on_core, on_mutex}
 use Rattle.evl_machine.proofs.CoreSteps.{Taking, Giving, takes_core, gives_core, opens_core}
 
@@ -33,28 +35,28 @@ parts_apart = record {
   part_core = λ i v c. refl;
 }
 
-module _ {S B : Type 0} (past : S → History) (comes : B → S → Type 0) (tie : Tie S B) (first : B) (m : ℕ) where
+module _ {S B : Type 0} (past : S → History) (room : S → ℕ) (comes : B → S → Type 0) (tie : Tie S B) (first : B) (m : ℕ) where
   abbrev pub Seat : Type 0
   Seat = Me (Option S) (Hand (ThreadView B MutexView))
 
   -- a take by a thread that has no slot owes the ties alone
-  pub takes_thread : (slots id k : ℕ) (v : ThreadView B MutexView) (me : Seat) → me ≡ (place k v ∷ [], []) → Taking past comes first (KeepsTies tie) k v.core → (st : Step (Option S))
-      → Allows (MachineRule past comes tie first m) slots id me 0 (λ n. either (eqb n 0) 1 n) (Told (on_core (took past comes)) st me)
+  pub takes_thread : (slots id k : ℕ) (v : ThreadView B MutexView) (me : Seat) → me ≡ (place k v ∷ [], []) → Taking past comes first room (KeepsTies tie) k v.core → (st : Step (Option S))
+      → Allows (MachineRule past comes tie first m) slots id me 0 (λ n. either (eqb n 0) 1 n) (Told (on_core (took past room comes)) st me)
   takes_thread slots id k v me one ties st =
-      let turns = lock_turns (CoreKept past comes first) MutexParts tie core_of put_core mutex_of put_mutex parts_apart m slots k v [] (λ n. either (eqb n 0) 1 n) (took past comes st k (v.core, []))
-      (takes_core past comes first (KeepsTies tie) (λ n hs cs i word t. t) slots k v.core ties st) in
-      subst (λ (z : Seat). Allows (MachineRule past comes tie first m) slots id z 0 (λ n. either (eqb n 0) 1 n) (Told (on_core (took past comes)) st z)) (sym one)
-      (allows_of (ThreadRule past comes tie first m) slots id k v (place k v ∷ [], []) refl 0 (λ n. either (eqb n 0) 1 n) st (on_core (took past comes)) turns)
+      let turns = lock_turns (CoreKept past comes first) MutexParts tie core_of put_core mutex_of put_mutex parts_apart m slots k v [] (λ n. either (eqb n 0) 1 n) (took past room comes st k (v.core, []))
+      (takes_core past comes first room (KeepsTies tie) (λ n hs cs i word t. t) slots k v.core ties st) in
+      subst (λ (z : Seat). Allows (MachineRule past comes tie first m) slots id z 0 (λ n. either (eqb n 0) 1 n) (Told (on_core (took past room comes)) st z)) (sym one)
+      (allows_of (ThreadRule past comes tie first m) slots id k v (place k v ∷ [], []) refl 0 (λ n. either (eqb n 0) 1 n) st (on_core (took past room comes)) turns)
 
   -- a give by the thread that has the kernel owes the ties alone
   pub gives_thread : (slots id k : ℕ) (v : ThreadView B MutexView) (y : S) (me : Seat) → me ≡ (place k v ∷ [], (0, Some y) ∷ []) → Giving past comes first (KeepsTies tie) k v.core y
       → MayGive k v.core (past y) → comes v.core.first y → (st : Step (Option S))
-      → Allows (MachineRule past comes tie first m) slots id me 0 (λ _. 0) (λ _. Told (on_core (gave past)) st me 0)
+      → Allows (MachineRule past comes tie first m) slots id me 0 (λ _. 0) (λ _. Told (on_core (gave past room comes)) st me 0)
   gives_thread slots id k v y me one ties may from st =
-      let turns = lock_turns (CoreKept past comes first) MutexParts tie core_of put_core mutex_of put_mutex parts_apart m slots k v ((0, Some y) ∷ []) (λ _. 0) (gave past st k (v.core, (0, Some y) ∷ []))
-      (gives_core past comes first (KeepsTies tie) slots k v.core y ties may from st) in
-      subst (λ (z : Seat). Allows (MachineRule past comes tie first m) slots id z 0 (λ _. 0) (λ _. Told (on_core (gave past)) st z 0)) (sym one)
-      (allows_of (ThreadRule past comes tie first m) slots id k v (place k v ∷ [], (0, Some y) ∷ []) refl 0 (λ _. 0) st (on_core (gave past)) turns)
+      let turns = lock_turns (CoreKept past comes first) MutexParts tie core_of put_core mutex_of put_mutex parts_apart m slots k v ((0, Some y) ∷ []) (λ _. 0) (gave past room comes st k (v.core, (0, Some y) ∷ []))
+      (gives_core past comes first room (KeepsTies tie) slots k v.core y ties may from st) in
+      subst (λ (z : Seat). Allows (MachineRule past comes tie first m) slots id z 0 (λ _. 0) (λ _. Told (on_core (gave past room comes)) st z 0)) (sym one)
+      (allows_of (ThreadRule past comes tie first m) slots id k v (place k v ∷ [], (0, Some y) ∷ []) refl 0 (λ _. 0) st (on_core (gave past room comes)) turns)
 
   -- A step of this kind on the word of the mutex i: what it owes of that mutex's part is what it owes in a table of that word alone, and beside it the tie of i
   pub steps_thread : (slots id k : ℕ) (v : ThreadView B MutexView) (me : Seat) → me.0 ≡ place k v ∷ [] → (i : ℕ) → i < m → (kind : MutexKind) → step_may k (mutex_of i v) kind
@@ -85,9 +87,9 @@ module _ {S B : Type 0} (past : S → History) (comes : B → S → Type 0) (tie
   at_blank x d (suc n) (suc i) lt = at_blank x d n i (omega arith)
 
   -- The table at the opening: n threads, at most 64 where there are mutexes, and m mutexes that nobody has. It owes the ties
-  pub opens_thread : (y : S) (n : ℕ) → ((i : ℕ) → i < m → n ≤ 64) → IsLegal (past y) → (past y).entries ≡ [] → comes first y → ((i : ℕ) → i < m → tie i 0 (some (Some y) ∷ []) (replicate n (newcomer_part (past y) first)) 0)
+  pub opens_thread : (y : S) (n : ℕ) → n ≡ threads_of (past y) → ((i : ℕ) → i < m → n ≤ 64) → IsLegal (past y) → (past y).entries ≡ [] → comes first y → ((i : ℕ) → i < m → tie i 0 (some (Some y) ∷ []) (replicate n (newcomer_part (past y) first)) 0)
       → (words : List ℕ) → words ≡ replicate (1 + m) 0 → MachineRule past comes tie first m (opening words (Some y ∷ []) (all_threads (past y) first m n))
-  opens_thread y n few legal none_yet from ties words are =
+  opens_thread y n all few legal none_yet from ties words are =
       let one = newcomer_view (past y) first m n in
       let views = replicate n one in
       let zero_at : (i : ℕ) → get_or words i 0 ≡ 0 = λ i. ap (λ l. get_or l i 0) are ∙ zeros (1 + m) i in
@@ -97,7 +99,7 @@ module _ {S B : Type 0} (past : S → History) (comes : B → S → Type 0) (tie
         deals = deals_opening views;
         kept = record {
           long = long;
-          locked = subst (λ (z : ℕ × List (CorePart B)). CoreKept past comes first z.0 (some (Some y) ∷ []) z.1) (λ j. (sym (zero_at 0) j, sym cores j)) (opens_core past comes first y n legal none_yet from);
+          locked = subst (λ (z : ℕ × List (CorePart B)). CoreKept past comes first z.0 (some (Some y) ∷ []) z.1) (λ j. (sym (zero_at 0) j, sym cores j)) (opens_core past comes first y n all legal none_yet from);
           parts = λ i lt.
               let blank : map (mutex_of i) views ≡ replicate n (newcomer n) = map-replicate (mutex_of i) n one ∙ ap (replicate n) (at_blank (newcomer n) (newcomer 0) m i (omega arith)) in
               subst (λ (z : ℕ × List MutexView). MutexPart z.0 z.1) (λ j. (sym (zero_at (1 + i)) j, sym blank j)) ([], mutex_opens n (few i (omega arith)));

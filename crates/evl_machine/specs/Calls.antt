@@ -1,5 +1,5 @@
 -- What one call of the kernel tells its caller.
-use Rattle.std.specs.Prelude.{◌≡◌, ◌+◌, ◌≤◌, ℕ, List, [], ◌∷◌, ◌++◌, Bool, true, false, length, Result, Ok, Err, None}
+use Rattle.std.specs.Prelude.{◌≡◌, ◌≢◌, ◌+◌, ◌≤◌, ℕ, List, [], ◌∷◌, ◌++◌, Bool, true, false, length, Result, Ok, Err, None}
 use Rattle.evl_base.specs.declared.numbers.ThreadId.{ThreadId}
 use Rattle.evl_base.specs.declared.call.Call.{Call}
 use Rattle.evl_base.specs.declared.reply.Reply.{Reply}
@@ -9,10 +9,11 @@ use Rattle.evl_base.specs.declared.play.Play.{Play}
 use Rattle.evl_kernel.specs.Histories.{History, IsLegal}
 use Rattle.evl_kernel.specs.KernelViews.{KernelView, IsKernelAnswer, Adds, entry_of, makes_entry, refusal_enters}
 use Rattle.evl_machine.specs.declared.views.Account.{Account}
-use Rattle.evl_machine.specs.Accounts.{BeginsWith, calls_by, saw}
+use Rattle.evl_machine.specs.Accounts.{BeginsWith, IsAccount}
 use Rattle.evl_machine.specs.Seats.{CoreMe}
+use Rattle.evl_machine.specs.QuietCore.{IsQuiet}
 use Rattle.evl_machine.specs.Known.{ComesFrom, CoreHand, accounts_in, taken_in, first_of}
-use Rattle.evl_machine.specs.Handles.{CallerState, HeldState, Continues, account_of, first_account, seated, holding}
+use Rattle.evl_machine.specs.Handles.{CallerState, HeldState, Continues, account_of, first_account, seated, holding, shown}
 
 -- a call of the kernel adds just its entry, or leaves the history: it is full, or no room was made for the call
 pub record Applied {C : Type 0} (old : KernelView C) (thread : ℕ) (c : Call) (r : Result Reply Refusal) (new : KernelView C) : Type 0 where
@@ -25,11 +26,6 @@ pub record Applied {C : Type 0} (old : KernelView C) (thread : ℕ) (c : Call) (
   pub answers : IsKernelAnswer r
   pub comes : ComesFrom old new
   pub legal : IsLegal new.history
-
--- what holds of each caller: it has seen a legal history, in which its own calls are just those that it made
-pub record IsAccount (a : Account) : Type 0 where
-  pub legal : IsLegal a.seen
-  pub mine : calls_by a.thread a.seen.entries ≡ a.mine
 
 -- a caller's seat is at rest, with the account of its own thread
 pub record IsCaller {S : Type 0} (me : CoreMe S) (thread : ThreadId) : Type 0 where
@@ -73,7 +69,7 @@ pub record Enters (a : Account) (c : Call) (r : Result Reply Refusal) (a' : Acco
   pub adds : Adds before a.thread c r plays a'.seen
   pub mine : a'.mine ≡ a.mine ++ entry_of a.thread c r plays ∷ []
 
--- The answer is the kernel's at one point of the common history, which is legal and begins with all that the caller had seen. A refusal without an entry leaves the caller's own calls, and CoreBusy all that it knows
+-- The answer is the kernel's at one point of the common history, which is legal and begins with all that the caller had seen. A refusal without an entry leaves the caller's own calls, and CoreBusy all that it knows. For every other answer the kernel was taken once. It was full for HistoryFull, and for NoMemory it was not, and had no room made
 pub record Called (limit : ℕ) (a : Account) (c : Call) (r : Result Reply Refusal) (a' : Account) : Type 0 where
   pub thread : a'.thread ≡ a.thread
   pub account : IsAccount a'
@@ -81,7 +77,9 @@ pub record Called (limit : ℕ) (a : Account) (c : Call) (r : Result Reply Refus
   pub entered : completes r ≡ true → Enters a c r a'
   pub refused : completes r ≡ false → a'.mine ≡ a.mine
   pub busy : r ≡ Err CoreBusy → a' ≡ a
+  pub taken : r ≢ Err CoreBusy → (room : ℕ) × (a'.found ≡ a.found ++ room ∷ [])
   pub full : r ≡ Err HistoryFull → length a'.seen.entries ≡ limit
+  pub memory : r ≡ Err NoMemory → (a'.found ≡ a.found ++ 0 ∷ []) × (length a'.seen.entries ≢ limit)
 
 -- a seat has the kernel, which goes on from the history that it took by calls of the seat's one caller
 pub record IsHeld {S : Type 0} {C : Type 0} (me : CoreMe S) (thread : ThreadId) (k : KernelView C) : Type 0 where
@@ -89,10 +87,10 @@ pub record IsHeld {S : Type 0} {C : Type 0} (me : CoreMe S) (thread : ThreadId) 
   pub own : (account_of me).thread ≡ thread.0
   pub continues : Continues (account_of me) k.history
 
--- the kernel's history is what the caller has now seen. It is legal, and it begins with all that the caller had seen; of this thread it has just the caller's own calls
+-- the kernel's history is what the caller has now seen. It is legal, and it begins with all that the caller had seen; of this thread it has just the caller's own calls. At its end a line is pending out-of-band only while the out-of-band stage is stalled
 pub record TookKernel {C : Type 0} (c : CallerState C) (h : HeldState C) : Type 0 where
-  pub machine : h.machine ≡ c.machine
-  pub account : h.account ≡ saw h.kernel.history c.account
+  pub caller : h.caller ≡ shown h.kernel.history h.kernel.room c
   pub later : BeginsWith h.kernel.history c.account.seen
-  pub just : IsAccount h.account
+  pub just : IsAccount h.caller.account
   pub comes : ComesFrom c.machine.first h.kernel
+  pub quiet : IsQuiet h.kernel.history

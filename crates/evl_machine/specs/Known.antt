@@ -9,12 +9,15 @@ use Rattle.evl_words.specs.MutexWorld.{MutexView}
 use Rattle.evl_machine.specs.declared.views.Account.{Account}
 use Rattle.evl_machine.specs.declared.views.ThreadView.{ThreadView}
 use Rattle.evl_machine.specs.Nothing.{no_kernel}
+use Rattle.evl_machine.specs.Accounts.{opened, threads_of}
 use Rattle.evl_machine.specs.Seats.{CoreMe, view}
-use Rattle.evl_machine.specs.CoreRule.{account_at, took, gave}
+use Rattle.evl_machine.specs.CoreRule.{account_at}
+use Rattle.evl_machine.specs.CoreTells.{took, gave}
 use Rattle.evl_machine.specs.ThreadRule.{Tie, MachineRule, all_threads, on_core}
 
--- no callback came into the kernel since it was made, what is told of them is the same, and so is the limit
+-- since the kernel was made no callback came into it, what is told of them is the same, and so are what it began with and its limit
 pub record ComesFrom {C : Type 0} (first k : KernelView C) : Type 0 where
+  pub opening : opened k.history ≡ opened first.history
   pub brings : BringsNone first.callbacks k.callbacks
   pub told_is : told k.callbacks.bank ≡ told first.callbacks.bank
   pub limit : k.limit ≡ first.limit
@@ -28,6 +31,9 @@ KernelMe C = Me (Option (KernelView C)) (CoreHand C)
 module _ {C : Type 0} where
   abbrev pub past_of : KernelView C → History
   past_of k = k.history
+
+  abbrev pub room_of : KernelView C → ℕ
+  room_of k = k.room
 
   -- the accounts of a hand's threads, what its first thread has taken, and the kernel as it was made
   abbrev pub accounts_in : CoreHand C → List Account
@@ -61,10 +67,10 @@ module _ {C : Type 0} where
   KeptKnown first = MachineRule past_of ComesFrom no_tie first (mutex_count first)
 
   abbrev pub first_known : KernelView C → CoreHand C
-  first_known first = all_threads first.history first (mutex_count first) first.history.opening.threads
+  first_known first = all_threads first.history first (mutex_count first) (threads_of first.history)
 
   abbrev pub took_known : Step (Option (KernelView C)) → KernelMe C → ℕ → KernelMe C → Type 0
-  took_known = Told (on_core (took past_of ComesFrom))
+  took_known = Told (on_core (took past_of room_of ComesFrom))
 
   abbrev pub gave_known : Step (Option (KernelView C)) → KernelMe C → ℕ → KernelMe C → Type 0
-  gave_known = Told (on_core (gave past_of))
+  gave_known = Told (on_core (gave past_of room_of ComesFrom))

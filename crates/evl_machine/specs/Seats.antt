@@ -17,9 +17,9 @@ AccountsFit history accounts = (k : ℕ) (a : Account) → get_elem? accounts k 
 abbrev pub CoreMe : Type 0 → Type 0
 CoreMe S = Me (Option S) CoreView
 
--- the token once a kernel with this history was taken, and once it was given back
-abbrev pub after_take : History → CoreView → CoreView
-after_take h v = view (Some h) (map (saw h) v.accounts)
+-- the token once a kernel with this history and this room was taken, and once it was given back
+abbrev pub after_take : History → ℕ → CoreView → CoreView
+after_take h room v = view (Some h) (map (saw h room) v.accounts)
 
 abbrev pub after_give : History → CoreView → CoreView
 after_give h v = view None (map (informed h) v.accounts)

@@ -4,7 +4,9 @@ ghost use Rattle.evl_kernel.specs.Callbacks.{AnswersAsTold};
 ghost use Rattle.evl_kernel.specs.Histories.{IsLegal};
 ghost use Rattle.evl_kernel.specs.KernelViews.{IsOpened};
 ghost use Rattle.evl_kernel.specs.Openings.{can_open};
+ghost use Rattle.evl_machine.specs.Accounts.{threads_of};
 ghost use Rattle.evl_machine.specs.Known.{first_known};
+ghost use Rattle.evl_machine.specs.QuietCore.{IsOpening};
 ghost use Rattle.evl_machine.specs.Handles.{newcomers_of};
 
 use crate::caller::{CallerOf, badge_of};
@@ -57,8 +59,8 @@ fn seated<C: Drop, A: Allocator + Clone>(
     kernel: KernelOf<C, A>,
     threads: u16,
 ) -> Result<(MachineOf<C, A>, Vec<CallerOf<C>, A>), AllocError>
-    requires new { IsLegal kernel.history × (kernel.history.entries ≡ []) }
-    requires threads { kernel.history.opening.threads ≡ threads }
+    requires new { IsLegal kernel.history × (kernel.history.entries ≡ []) × IsOpening kernel.history }
+    requires threads { threads_of kernel.history ≡ threads }
     ensures first { IfOk result (λ m. m.0.first ≡ kernel) }
     ensures callers { IfOk result (λ m. m.1.items ≡ newcomers_of m.0 threads) }
 {
@@ -82,7 +84,7 @@ fn seat_callers<C: Drop, A: Allocator>(
 ) -> Result<(), AllocError>
     requires table { (root.table_id ≡ core.now.shared.table_id) × (core.now.shared.table_id.words ≡ 1) }
     requires first { root.me ≡ (first_known core.now.shared.key.value, []) }
-    requires threads { core.now.shared.key.value.history.opening.threads ≡ threads }
+    requires threads { threads_of core.now.shared.key.value.history ≡ threads }
     requires new { IsLegal core.now.shared.key.value.history × (core.now.shared.key.value.history.entries ≡ []) }
     requires empty { callers.old.items ≡ [] }
     ensures { IfOk result (λ _. callers.new.items ≡ newcomers_of (record { id = core.now.shared.table_id; first = core.now.shared.key.value }) threads) }

@@ -17,11 +17,13 @@ impl Model for Past {
     ghost view = { λ past. record no_history { entries = past.entries } };
 }
 
-/// What is known of one caller: the history that it has seen, and its own calls there.
+/// What is known of one caller: the history that it has seen, its own calls there, and for how many calls it found room
+/// made in the kernel, at each time that it took it.
 pub struct Account {
     pub thread: u64,
     pub seen: Past,
     pub mine: LinkedList<Entry>,
+    pub found: LinkedList<u64>,
 }
 
 /// What is read of a token of the table: the history of the kernel that it took, if it has one, and the accounts of its
@@ -32,11 +34,13 @@ pub struct CoreView {
 }
 
 /// What a thread knows of the core: the history of the kernel that it took, if it has one, the history that it has
-/// seen, its own calls there, and the kernel as it was made.
+/// seen, its own calls there, for how many calls it found room made in the kernel, at each time that it took it, and
+/// the kernel as it was made.
 pub struct CorePart<F> {
     pub taken: Option<Past>,
     pub seen: Past,
     pub mine: LinkedList<Entry>,
+    pub found: LinkedList<u64>,
     pub first: F,
 }
 
