@@ -1,5 +1,5 @@
 -- What one call of the kernel tells its caller.
-use Rattle.std.specs.Prelude.{◌≡◌, ◌≢◌, ◌+◌, ◌≤◌, ℕ, List, [], ◌∷◌, ◌++◌, Bool, true, false, length, Result, Ok, Err, None}
+use Rattle.std.specs.Prelude.{◌≡◌, ◌≢◌, ◌+◌, ◌≤◌, ℕ, List, [], ◌∷◌, ◌++◌, Bool, true, false, length, Result, Ok, Err, Option, None, MatchOption}
 use Rattle.evl_base.specs.declared.numbers.ThreadId.{ThreadId}
 use Rattle.evl_base.specs.declared.call.Call.{Call}
 use Rattle.evl_base.specs.declared.reply.Reply.{Reply}
@@ -70,7 +70,7 @@ pub record Enters (a : Account) (c : Call) (r : Result Reply Refusal) (a' : Acco
   pub mine : a'.mine ≡ a.mine ++ entry_of a.thread c r plays ∷ []
 
 -- The answer is the kernel's at one point of the common history, which is legal and begins with all that the caller had seen. A refusal without an entry leaves the caller's own calls, and CoreBusy all that it knows. For every other answer the kernel was taken once. It was full for HistoryFull, and for NoMemory it was not, and had no room made
-pub record Called (limit : ℕ) (a : Account) (c : Call) (r : Result Reply Refusal) (a' : Account) : Type 0 where
+pub record Answered (limit : ℕ) (a : Account) (c : Call) (r : Result Reply Refusal) (a' : Account) : Type 0 where
   pub thread : a'.thread ≡ a.thread
   pub account : IsAccount a'
   pub later : BeginsWith a'.seen a.seen
@@ -94,3 +94,16 @@ pub record TookKernel {C : Type 0} (c : CallerState C) (h : HeldState C) : Type 
   pub just : IsAccount h.caller.account
   pub comes : ComesFrom c.machine.first h.kernel
   pub quiet : IsQuiet h.kernel.history
+
+module _ {C : Type 0} where
+  -- what a caller's call is refused by what the caller has itself, before any step: nothing, as long as callers hold nothing and wait for nothing
+  abbrev pub own_refusal : CallerState C → Call → Option Refusal
+  own_refusal caller c = None
+
+  -- an own answer leaves the caller as it was; every other one is the kernel's
+  abbrev pub Called : ℕ → CallerState C → Call → Result Reply Refusal → CallerState C → Type 0
+  Called limit old c r new = MatchOption (own_refusal old c) (Answered limit old.account c r new.account) (λ refusal. (r ≡ Err refusal) × (new ≡ old))
+
+  -- the same of a caller that has the kernel
+  abbrev pub CalledHeld : HeldState C → Call → Result Reply Refusal → HeldState C → Type 0
+  CalledHeld old c r new = MatchOption (own_refusal old.caller c) ((new.caller ≡ old.caller) × Applied old.kernel old.caller.account.thread c r new.kernel) (λ refusal. (r ≡ Err refusal) × (new ≡ old))

@@ -6,7 +6,7 @@ ghost use Rattle.evl_kernel.specs.KernelViews.{IsOpened};
 ghost use Rattle.evl_kernel.specs.Openings.{can_open};
 ghost use Rattle.evl_machine.specs.Handles.{Belongs, IsSameCaller, newcomers_of, returned};
 ghost use Rattle.evl_machine.specs.Events.{FailsToTake, Gives, Takes};
-ghost use Rattle.evl_machine.specs.Calls.{Applied, Called, TookKernel};
+ghost use Rattle.evl_machine.specs.Calls.{Called, CalledHeld, TookKernel};
 ghost use Rattle.evl_machine.specs.Closings.{Closes, KeepsOpen};
 
 use crate::caller::CallerOf;
@@ -67,7 +67,7 @@ impl Machine {
     pub fn try_call(&self, caller: &mut Caller, call: Call) -> Result<Reply, Refusal>
         requires { Belongs caller.old self.now.of }
         ensures machine { IsSameCaller caller.old caller.new }
-        ensures called { Called self.now.of.first.limit caller.old.account call result caller.new.account }
+        ensures called { Called self.now.of.first.limit caller.old call result caller.new }
     {
         self.of.try_call(caller, call)
     }
@@ -110,7 +110,7 @@ impl<'a> Held<'a> {
     /// Each answer is the kernel's, of which `NoMemory` and `HistoryFull` make no entry (this profile).
     pub fn apply(&mut self, call: Call) -> Result<Reply, Refusal>
         ensures same { self.new.of.caller ≡ self.old.of.caller }
-        ensures applied { Applied self.old.of.kernel self.old.of.caller.account.thread call result self.new.of.kernel }
+        ensures called { CalledHeld self.old.of call result self.new.of }
     {
         self.of.apply(call)
     }

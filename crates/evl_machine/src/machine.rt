@@ -6,7 +6,7 @@ ghost use Rattle.evl_machine.specs.Known.{ComesFrom, first_of, past_of, room_of,
 ghost use Rattle.evl_machine.specs.Handles.{Belongs, Continues, IsSameCaller, Taken, account_of, holding, seated};
 ghost use Rattle.evl_machine.specs.QuietCore.{IsOpening};
 ghost use Rattle.evl_machine.specs.Events.{FailsToTake, Gives, Takes};
-ghost use Rattle.evl_machine.specs.Calls.{Called, IsCaller};
+ghost use Rattle.evl_machine.specs.Calls.{Answered, Called, IsCaller};
 
 use crate::caller::{CallerOf, badge_of, seat_of};
 use crate::core_lock::{CoreLock, CoreSeat, Give, Take};
@@ -85,7 +85,7 @@ impl<C: Handler, A: Allocator> MachineOf<C, A> {
         requires answering { AnswersAsTold C.declared C.plan (first_of seat.old.me.0).callbacks }
         ensures same { (seat.new.table_id ≡ seat.old.table_id) × (first_of seat.new.me.0 ≡ first_of seat.old.me.0) }
         ensures rests { IsCaller (seen seat.new.me) thread }
-        ensures called { Called (first_of seat.old.me.0).limit (account_of (seen seat.old.me)) call result (account_of (seen seat.new.me)) }
+        ensures called { Answered (first_of seat.old.me.0).limit (account_of (seen seat.old.me)) call result (account_of (seen seat.new.me)) }
     {
         let Some(mut kernel) = self.take_kernel(seat) else {
             return Err(Refusal::CoreBusy);
@@ -103,7 +103,7 @@ impl<C: Handler, A: Allocator> MachineOf<C, A> {
         requires machine { Belongs caller.old self.now }
         requires answering { AnswersAsTold C.declared C.plan self.now.first.callbacks }
         ensures machine { IsSameCaller caller.old caller.new }
-        ensures called { Called self.now.first.limit caller.old.account call result caller.new.account }
+        ensures called { Called self.now.first.limit caller.old call result caller.new }
     {
         let badge = mem::replace(&mut caller.core, Badge::blank());
         let mut seat = seat_of::<C, A>(badge, caller.thread);

@@ -27,7 +27,7 @@ impl<C: Handler, A: Allocator> MachineOf<C, A> {
         requires machine { Belongs caller.old self.now }
         requires answering { AnswersAsTold C.declared C.plan self.now.first.callbacks }
         ensures machine { IsSameCaller caller.old caller.new }
-        ensures called { Called self.now.first.limit caller.old.account call result caller.new.account }
+        ensures called { Called self.now.first.limit caller.old call result caller.new }
         ensures entered { result ≢ Err CoreBusy }
     {
         for _ in rt.forever() {
@@ -47,7 +47,7 @@ impl Machine {
     pub fn call<R: Wait>(&self, rt: &R, caller: &mut Caller, call: Call) -> Result<Reply, Refusal>
         requires { Belongs caller.old self.now.of }
         ensures machine { IsSameCaller caller.old caller.new }
-        ensures called { Called self.now.of.first.limit caller.old.account call result caller.new.account }
+        ensures called { Called self.now.of.first.limit caller.old call result caller.new }
         ensures entered { result ≢ Err CoreBusy }
     {
         self.of.call(rt, caller, call)

@@ -16,7 +16,9 @@ pub invariant_of-self : goal.invariant_of-self
 invariant_of-self g c =
     (c.self.invariant.0, held_applied _ _ _ _ _ c.apply.new.self c.self.invariant.1 c.apply.ensures, comes_on _ c.self.inside.kernel _ c.self.invariant.2 c.apply.ensures.comes)
 
-pub returns-clause-applied : goal.returns-clause-applied
-returns-clause-applied g c =
-    subst (λ (h : HeldState _). Applied h.kernel h.caller.account.thread c.args.call c.apply.result c.apply.new.self) c.self.view_is
-    (subst (λ (t : ℕ). Applied c.self.inside.kernel t c.args.call c.apply.result c.apply.new.self) (sym c.self.invariant.1.own) c.apply.ensures)
+pub returns-clause-called : goal.returns-clause-called
+returns-clause-called g c = (
+  ap (λ (h : HeldState _). h.caller) c.self.view_is,
+  subst (λ (h : HeldState _). Applied h.kernel h.caller.account.thread c.args.call c.apply.result c.apply.new.self) c.self.view_is
+      (subst (λ (t : ℕ). Applied c.self.inside.kernel t c.args.call c.apply.result c.apply.new.self) (sym c.self.invariant.1.own) c.apply.ensures),
+)
