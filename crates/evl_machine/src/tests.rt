@@ -54,7 +54,7 @@ fn board_of_two() -> Board
 // One call, of which the caller's machine alone is told.
 fn call_of(machine: &Machine, caller: &mut Caller, call: Call) -> Result<Reply, Refusal>
     requires { caller.old.machine ≡ machine.now.of }
-    ensures { caller.new.machine ≡ caller.old.machine }
+    ensures { IsSameCaller caller.old caller.new }
 {
     machine.try_call(caller, call)
 }

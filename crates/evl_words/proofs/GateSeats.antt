@@ -26,13 +26,13 @@ abbrev pub IsOneSeat : ℕ → Me (Unit {0}) (Hand GateView) → Type 0
 IsOneSeat k me = me ≡ (place k (view_in me.0) ∷ [], [])
 
 -- a step of this kind by a token with one seat
-pub gate_allows : (limit slots id k : ℕ) (me : Me (Unit {0}) (Hand GateView)) → IsOneSeat k me → (kind : GateKind) → step_may k (view_in me.0) kind
+pub gate_allows : (limit seats slots id k : ℕ) (me : Me (Unit {0}) (Hand GateView)) → IsOneSeat k me → (kind : GateKind) → step_may k (view_in me.0) kind
     → (f : ℕ → ℕ) → ((n : ℕ) → step_word n k (view_in me.0) kind ≡ f n) → (st : Step (Unit {0})) (then : Tells)
     → ((found : ℕ) (u : GateView) → GateDoes (view_in me.0).held.limit k (view_in me.0) kind found u → then st k (view_in me.0, []) found (u, []))
-    → Allows (GateRule limit) slots id me 0 f (Told then st me)
-gate_allows limit slots id k me one kind may f same st then weaker =
+    → Allows (GateRule limit seats) slots id me 0 f (Told then st me)
+gate_allows limit seats slots id k me one kind may f same st then weaker =
     let v = view_in me.0 in
-    allows_part (GatePart limit) slots id k (newcomer 0) me one f st then
+    allows_part (GatePart limit) seats slots id k (newcomer 0) me one f st then
     (turns_as (GatePart limit) k v (λ n. step_word n k v kind) f (GateDoes v.held.limit k v kind) (λ found u. then st k (v, []) found (u, [])) same weaker (gate_turn limit k v kind may))
 
 pub gate_told : (k : ℕ) (me me' : Me (Unit {0}) (Hand GateView)) (st : Step (Unit {0})) (found : ℕ) (then : Tells)

@@ -16,8 +16,8 @@ use Rattle.evl_words.specs.GateWorld.{GateView, GateKind, IsGateWorld, GateDoes,
 abbrev pub GatePart : ℕ → ℕ → List GateView → Type 0
 GatePart limit = Part (IsGateWorld limit)
 
-abbrev pub GateRule : ℕ → State (Unit {0}) (Hand GateView) → Type 0
-GateRule limit = Dealt (OneWord (GatePart limit))
+abbrev pub GateRule : ℕ → ℕ → State (Unit {0}) (Hand GateView) → Type 0
+GateRule limit seats = Dealt (OneWord (GatePart limit) seats)
 
 abbrev pub all_seats : ℕ → ℕ → Hand GateView
 all_seats limit seats = hand_from 0 (replicate seats (newcomer limit))

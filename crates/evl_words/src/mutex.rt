@@ -11,6 +11,7 @@ mod ends;
 mod handing;
 mod locking;
 mod offering;
+mod readers;
 mod steps;
 
 use steps::{MutexKey, Worded};
