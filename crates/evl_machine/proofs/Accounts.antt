@@ -1,10 +1,11 @@
 -- Histories that go on, and the calls of one thread in them.
 use Rattle.std.proofs.Common.{◌≡◌, ◌≢◌, ◌<◌, ◌==◌, eq-eqb, ne_eqb, ℕ, cond, true, false, List, [], ◌∷◌, ◌++◌, refl, sym, ap, ◌∙◌, subst, append_assoc, arith}
 use Rattle.std.proofs.lemmas.List.{append-nil}
+use Rattle.evl_base.specs.declared.board.Board.{Board}
 use Rattle.evl_base.specs.declared.entry.Entry.{Entry}
 use Rattle.evl_base.specs.declared.play.Play.{Play}
 use Rattle.evl_kernel.specs.States.{State}
-use Rattle.evl_kernel.specs.Histories.{History, Run, IsLegal}
+use Rattle.evl_kernel.specs.Histories.{History, Run, IsLegal, opened}
 use Rattle.evl_machine.specs.declared.views.Account.{Account}
 use Rattle.evl_machine.specs.Accounts.{HasNoStranger, IsAccount, saw, threads_of, GoesOn, BeginsWith, calls_by, MadeBy, Fits}
 
@@ -16,17 +17,18 @@ run_runs old (x ∷ xs) ps mid ys qs new (own, rest, next, split, step, run) mor
 
 -- a history goes on by nothing
 pub goes_on_none : (h : History) → GoesOn h [] h
-goes_on_none h = record { plays = []; opening = refl; entries_are = sym (append-nil h.entries); plays_are = sym (append-nil h.plays); run = (refl, refl) }
+goes_on_none h = record { plays = []; board = refl; bank = refl; entries_are = sym (append-nil h.entries); plays_are = sym (append-nil h.plays); run = (refl, refl) }
 
 -- the board stays
 pub goes_on_threads : (old new : History) (es : List Entry) → GoesOn old es new → threads_of new ≡ threads_of old
-goes_on_threads old new es g = ap (λ (o : State). o.threads) g.opening
+goes_on_threads old new es g = ap (λ (b : Board). b.threads) g.board
 
 -- what goes on and goes on
 pub goes_on_more : (h mid new : History) (xs ys : List Entry) → GoesOn h xs mid → GoesOn mid ys new → GoesOn h (xs ++ ys) new
 goes_on_more h mid new xs ys f g = record {
   plays = f.plays ++ g.plays;
-  opening = g.opening ∙ f.opening;
+  board = g.board ∙ f.board;
+  bank = g.bank ∙ f.bank;
   entries_are = g.entries_are ∙ (ap (λ (es : List Entry). es ++ ys) f.entries_are ∙ append_assoc h.entries xs ys);
   plays_are = g.plays_are ∙ (ap (λ (ps : List Play). ps ++ g.plays) f.plays_are ∙ append_assoc h.plays f.plays g.plays);
   run = run_runs h.state xs f.plays mid.state ys g.plays new.state f.run g.run;
@@ -35,7 +37,7 @@ goes_on_more h mid new xs ys f g = record {
 -- a legal history that goes on is legal
 pub goes_on_legal : (old new : History) (xs : List Entry) → IsLegal old → GoesOn old xs new → IsLegal new
 goes_on_legal old new xs legal g =
-    rw (g.opening, g.entries_are, g.plays_are) (run_runs old.opening old.entries old.plays old.state xs g.plays new.state legal g.run)
+    rw (g.board, g.bank, g.entries_are, g.plays_are) (run_runs (opened old) old.entries old.plays old.state xs g.plays new.state legal g.run)
 
 pub starts_whole : (h : History) → BeginsWith h h
 starts_whole h = ([], goes_on_none h)

@@ -168,7 +168,8 @@ module _ {C : Type 0} where
 
   pub comes_on : (a b c : KernelView C) → ComesFrom a b → ComesFrom b c → ComesFrom a c
   comes_on a b c f g = record {
-    opening = g.opening ∙ f.opening;
+    board = g.board ∙ f.board;
+    bank = g.bank ∙ f.bank;
     brings = λ number callback stands. f.brings number callback (g.brings number callback stands);
     told_is = g.told_is ∙ f.told_is;
     limit = g.limit ∙ f.limit;

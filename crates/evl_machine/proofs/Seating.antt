@@ -8,7 +8,7 @@ use Rattle.evl_base.specs.declared.board.Board.{Board}
 use Rattle.evl_base.specs.declared.numbers.ThreadId.{ThreadId}
 use Rattle.evl_base.specs.declared.entry.Entry.{Entry}
 use Rattle.evl_pipeline.specs.declared.plan.Plan.{Plan}
-use Rattle.evl_kernel.specs.Histories.{History, Run, IsLegal}
+use Rattle.evl_kernel.specs.Histories.{History, Run, IsLegal, opened}
 use Rattle.evl_kernel.specs.KernelViews.{KernelView, IsOpened}
 use Rattle.evl_words.specs.Hands.{place, hand_from, rest_of, first_of as first_place}
 use Rattle.evl_words.specs.MutexWorld.{MutexView}
@@ -20,18 +20,17 @@ use Rattle.evl_machine.specs.ThreadRule.{newcomer_view}
 use Rattle.evl_machine.specs.Seats.{CoreMe}
 use Rattle.evl_machine.specs.Known.{ComesFrom, CoreHand, KernelMe, KeptKnown, first_known, first_of, past_of, room_of, seen, no_tie, mutex_count}
 use Rattle.evl_machine.specs.Handles.{MachineState, CallerState, newcomer_of, newcomers_of, seated}
-use Rattle.evl_machine.specs.QuietCore.{IsOpening}
 use Rattle.evl_machine.specs.Calls.{IsCaller}
 use Rattle.evl_machine.proofs.ThreadSteps.{opens_thread, splits_thread}
 use Rattle.evl_machine.proofs.Calling.{is_caller}
 
 module _ {C : Type 0} where
   -- a kernel that was just made has the history of no call
-  pub opened_legal : (declared : C → ℕ) (plan : C → Plan) (board : Board) (bank : List C) (limit : ℕ) (k : KernelView C) → IsOpened declared plan board bank limit k → IsLegal k.history × (k.history.entries ≡ []) × IsOpening k.history
-  opened_legal declared plan board bank limit k o = (subst (λ (es : List Entry). Run k.history.opening es k.history.plays k.history.state) (sym o.entries) (o.plays, o.state), o.entries, (board, map (λ callback. record { kinds = declared callback; plan = plan callback }) bank, o.opening_is))
+  pub opened_legal : (declared : C → ℕ) (plan : C → Plan) (board : Board) (bank : List C) (limit : ℕ) (k : KernelView C) → IsOpened declared plan board bank limit k → IsLegal k.history × (k.history.entries ≡ [])
+  opened_legal declared plan board bank limit k o = (subst (λ (es : List Entry). Run (opened k.history) es k.history.plays k.history.state) (sym o.entries) (o.plays, o.state), o.entries)
 
   pub comes_itself : (k : KernelView C) → ComesFrom k k
-  comes_itself k = record { opening = refl; brings = λ number callback stands. stands; told_is = refl; limit = refl }
+  comes_itself k = record { board = refl; bank = refl; brings = λ number callback stands. stands; told_is = refl; limit = refl }
 
   pub opens_known : (k : KernelView C) → IsLegal k.history → k.history.entries ≡ [] → KeptKnown k (opening (0 ∷ []) (Some k ∷ []) (first_known k))
   opens_known k legal none_yet = opens_thread past_of room_of ComesFrom no_tie k (mutex_count k) k (threads_of k.history) refl (λ i lt. absurd (omega arith)) legal none_yet (comes_itself k) (λ i lt. tt) (0 ∷ []) refl

@@ -2,21 +2,18 @@
 use Rattle.std.specs.Prelude.{◌≡◌, ℕ, ◌<◌, ◌≤◌, ◌==◌, cond, List, [], ◌∷◌, ◌++◌}
 use Rattle.evl_base.specs.declared.entry.Entry.{Entry}
 use Rattle.evl_base.specs.declared.play.Play.{Play}
-use Rattle.evl_kernel.specs.States.{State}
 use Rattle.evl_kernel.specs.Histories.{History, Run, IsLegal}
 use Rattle.evl_machine.specs.declared.views.Account.{Account}
 
--- the records that a history began with, and how many threads are on their board
-abbrev pub opened : History → State
-opened h = h.opening
-
+-- how many threads are on a history's board
 abbrev pub threads_of : History → ℕ
-threads_of h = (opened h).threads
+threads_of h = h.board.threads
 
 -- new is old with these further entries, which lead on from where old ends
 pub record GoesOn (old : History) (entries : List Entry) (new : History) : Type 0 where
   pub plays : List Play
-  pub opening : opened new ≡ opened old
+  pub board : new.board ≡ old.board
+  pub bank : new.bank ≡ old.bank
   pub entries_are : new.entries ≡ old.entries ++ entries
   pub plays_are : new.plays ≡ old.plays ++ plays
   pub run : Run old.state entries plays new.state

@@ -9,15 +9,16 @@ use Rattle.evl_words.specs.MutexWorld.{MutexView}
 use Rattle.evl_machine.specs.declared.views.Account.{Account}
 use Rattle.evl_machine.specs.declared.views.ThreadView.{ThreadView}
 use Rattle.evl_machine.specs.Nothing.{no_kernel}
-use Rattle.evl_machine.specs.Accounts.{opened, threads_of}
+use Rattle.evl_machine.specs.Accounts.{threads_of}
 use Rattle.evl_machine.specs.Seats.{CoreMe, view}
 use Rattle.evl_machine.specs.CoreRule.{account_at}
 use Rattle.evl_machine.specs.CoreTells.{took, gave}
 use Rattle.evl_machine.specs.ThreadRule.{Tie, MachineRule, all_threads, on_core}
 
--- since the kernel was made no callback came into it, what is told of them is the same, and so are what it began with and its limit
+-- since the kernel was made no callback came into it, what is told of them is the same, and so are the board and bank that it began with and its limit
 pub record ComesFrom {C : Type 0} (first k : KernelView C) : Type 0 where
-  pub opening : opened k.history ≡ opened first.history
+  pub board : k.history.board ≡ first.history.board
+  pub bank : k.history.bank ≡ first.history.bank
   pub brings : BringsNone first.callbacks k.callbacks
   pub told_is : told k.callbacks.bank ≡ told first.callbacks.bank
   pub limit : k.limit ≡ first.limit

@@ -56,7 +56,7 @@ impl Machine {
         ensures range { (result ≡ Err Refusal.Range) ↔ (can_open board (length bank.items) limit ≡ false) }
         ensures refusals { IfErr result (λ e. (e ≡ Refusal.Range) ⊎ (e ≡ Refusal.NoMemory)) }
     {
-        let (of, callers) = MachineOf::new(alloc, board, bank, limit)?;
+        let (of, callers) = MachineOf::over(alloc, alloc, board, bank, limit)?;
         Ok((Machine { of }, callers))
     }
 

@@ -8,7 +8,7 @@ ghost use Rattle.evl_words.specs.Events.{Event};
 ghost use Rattle.evl_words.specs.Dealings.{DealingEvent};
 ghost use Rattle.evl_machine.specs.CoreWorld.{CoreWorld, CoreDealing, CoreKind, CoreHappens, CoreDealingStep, IsCoreWorld, StandsDealt, opened_core};
 ghost use Rattle.evl_machine.specs.Known.{ComesFrom, CoreHand, KeptKnown, past_of, room_of};
-ghost use Rattle.evl_machine.specs.QuietCore.{IsOpening, LiesQuiet};
+ghost use Rattle.evl_machine.specs.QuietCore.{LiesQuiet};
 
 /// What holds of the core's word and slot, and of what its threads know, holds after any list of their atomic steps
 /// (this profile).
@@ -25,5 +25,5 @@ pub fn core_world_stands<C>()
 /// Whenever the core of a running machine is free, the kernel lies in the slot with a legal history, and a line is
 /// pending there out-of-band only while the out-of-band stage is stalled (Dovetail: interrupt pipeline).
 pub fn free_core_is_quiet<C>()
-    ensures { (first : KernelView C) → IsOpening first.history → (s : State (Option (KernelView C)) (CoreHand C)) → KeptKnown first s → slice_index s.words 0 ≡ 0 → LiesQuiet s.homes }
+    ensures { (first : KernelView C) → (s : State (Option (KernelView C)) (CoreHand C)) → KeptKnown first s → slice_index s.words 0 ≡ 0 → LiesQuiet s.homes }
 {}

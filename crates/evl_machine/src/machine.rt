@@ -4,7 +4,6 @@ ghost use Rattle.evl_kernel.specs.Callbacks.{AnswersAsTold};
 ghost use Rattle.evl_machine.specs.Accounts.{informed};
 ghost use Rattle.evl_machine.specs.Known.{ComesFrom, first_of, past_of, room_of, seen};
 ghost use Rattle.evl_machine.specs.Handles.{Belongs, Continues, IsSameCaller, Taken, account_of, holding, seated};
-ghost use Rattle.evl_machine.specs.QuietCore.{IsOpening};
 ghost use Rattle.evl_machine.specs.Events.{FailsToTake, Gives, Takes};
 ghost use Rattle.evl_machine.specs.Calls.{Answered, Called, IsCaller};
 
@@ -29,14 +28,13 @@ pub struct MachineOf<C: Drop, A: Allocator> {
 impl<C: Drop, A: Allocator> Model for MachineOf<C, A> {
     ghost use Rattle.std.specs.Prelude.{◌≡◌};
     ghost use Rattle.evl_machine.specs.Accounts.{threads_of};
-    ghost use Rattle.evl_machine.specs.QuietCore.{IsOpening};
     ghost use Rattle.evl_machine.specs.Handles.{MachineState};
 
     ghost Value = { MachineState C };
 
     ghost view = { λ m. record { id = m.core.shared.table_id; first = m.core.shared.key.value } };
 
-    ghost invariant = { λ m. (m.core.shared.table_id.words ≡ 1) × (m.core.shared.table_id.slots ≡ 1) × (threads_of m.core.shared.key.value.history ≡ m.threads) × IsOpening m.core.shared.key.value.history };
+    ghost invariant = { λ m. (m.core.shared.table_id.words ≡ 1) × (m.core.shared.table_id.slots ≡ 1) × (threads_of m.core.shared.key.value.history ≡ m.threads) };
 }
 
 impl<C: Drop, A: Allocator> MachineOf<C, A> {
@@ -44,7 +42,6 @@ impl<C: Drop, A: Allocator> MachineOf<C, A> {
     pub(crate) fn take_kernel(&self, seat: &mut CoreSeat<C, A>) -> Option<KernelBox<C, A>>
         requires { (seat.old.table_id ≡ self.now.id) × (seen seat.old.me ≡ seated (account_of (seen seat.old.me))) }
         ensures same { (seat.new.table_id ≡ seat.old.table_id) × (seat.new.id ≡ seat.old.id) × (first_of seat.new.me.0 ≡ first_of seat.old.me.0) }
-        ensures opening { IsOpening self.now.first.history }
         ensures event { MatchOption result (FailsToTake (first_of seat.old.me.0) (account_of (seen seat.old.me)) (account_of (seen seat.new.me))) (λ _. Takes (first_of seat.old.me.0) (account_of (seen seat.old.me)) (account_of (seen seat.new.me))) }
         ensures taken { MatchOption result (seen seat.new.me ≡ seen seat.old.me) (λ k. Taken past_of room_of (seen seat.old.me) k (seen seat.new.me) × ComesFrom (first_of seat.old.me.0) k) }
     {

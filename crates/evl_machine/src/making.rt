@@ -6,7 +6,6 @@ ghost use Rattle.evl_kernel.specs.KernelViews.{IsOpened};
 ghost use Rattle.evl_kernel.specs.Openings.{can_open};
 ghost use Rattle.evl_machine.specs.Accounts.{threads_of};
 ghost use Rattle.evl_machine.specs.Known.{first_known};
-ghost use Rattle.evl_machine.specs.QuietCore.{IsOpening};
 ghost use Rattle.evl_machine.specs.Handles.{newcomers_of};
 
 use crate::caller::{CallerOf, badge_of};
@@ -18,18 +17,19 @@ use evl_base::{Board, Refusal, ThreadId};
 use evl_kernel::KernelOf;
 use evl_pipeline::Handler;
 use evl_words::Deal;
-use std::alloc::{AllocError, Allocator};
+use std::alloc::{AllocError, Allocator, Global};
 use std::snapshot::Snapshot;
 
 impl<C: Handler, A: Allocator> MachineOf<C, A> {
     /// A machine with a new kernel of this board, bank and limit, and a caller for each thread of the board, in the
-    /// threads' order.
+    /// threads' order. The boxes of transferred bytes come from `boxes`.
     ///
     /// `Range` exactly where a number of the board is outside its limits, the bank has more than 64 callbacks, or
     /// `limit` is outside 1 to 1,000,000; `NoMemory` where room for the elements, the core or the callers was refused.
     /// The bank is then dropped (this profile).
-    pub fn new(
+    pub fn over(
         alloc: A,
+        boxes: Global,
         board: Board,
         bank: Vec<C, A>,
         limit: u32,
@@ -44,7 +44,7 @@ impl<C: Handler, A: Allocator> MachineOf<C, A> {
     {
         let threads = board.threads;
         let for_machine: Result<A, AllocError> = alloc.clone();
-        let kernel = KernelOf::new(alloc, board, bank, limit)?;
+        let kernel = KernelOf::over(alloc, boxes, board, bank, limit)?;
         let spare = for_machine.map_err(|_| Refusal::NoMemory)?;
         match seated(spare, kernel, threads) {
             Ok(made) => Ok(made),
@@ -59,7 +59,7 @@ fn seated<C: Drop, A: Allocator + Clone>(
     kernel: KernelOf<C, A>,
     threads: u16,
 ) -> Result<(MachineOf<C, A>, Vec<CallerOf<C>, A>), AllocError>
-    requires new { IsLegal kernel.history × (kernel.history.entries ≡ []) × IsOpening kernel.history }
+    requires new { IsLegal kernel.history × (kernel.history.entries ≡ []) }
     requires threads { threads_of kernel.history ≡ threads }
     ensures first { IfOk result (λ m. m.0.first ≡ kernel) }
     ensures callers { IfOk result (λ m. m.1.items ≡ newcomers_of m.0 threads) }

@@ -1,7 +1,6 @@
 use Rattle.std.proofs.Common.{ap, sym, ◌∙◌, subst}
 use Rattle.evl_kernel.specs.KernelViews.{KernelView}
 use Rattle.evl_machine.specs.Handles.{CallerState, MachineState, account_of}
-use Rattle.evl_machine.specs.QuietCore.{IsOpening}
 use Rattle.evl_machine.specs.Known.{ComesFrom, seen}
 use Rattle.evl_machine.specs.declared.views.Account.{Account}
 use Rattle.evl_machine.specs.Events.{Takes}
@@ -27,9 +26,8 @@ returns-in-Some-clause-taken g c =
     let took = c.in-Some.ensures in
     let account = seat.account ∙ ap (λ (s : CallerState _). s.account) c.caller.view_is in
     let first = seat.first ∙ ap (λ (s : CallerState _). s.machine.first) c.caller.view_is in
-    let opening = subst (λ (m : MachineState _). IsOpening m.first.history) (sym c.requires) took.opening in
     subst (λ (s : CallerState _). TookKernel s (record { caller = record { machine = c.args.self.now; account = account_of (seen c.take_kernel.new.seat.me) }; kernel = c.in-Some.kernel })) (λ i. record { machine = c.args.caller.machine; account = account i })
-    (took_kernel _ _ _ c.in-Some.kernel c.args.caller.machine c.args.self.now seat.caller took.taken.0 (sym c.requires) opening (subst (λ (f : KernelView _). ComesFrom f c.in-Some.kernel) first took.taken.1))
+    (took_kernel _ _ _ c.in-Some.kernel c.args.caller.machine c.args.self.now seat.caller took.taken.0 (sym c.requires) (subst (λ (f : KernelView _). ComesFrom f c.in-Some.kernel) first took.taken.1))
 
 pub returns-in-Some-clause-event : goal.returns-in-Some-clause-event
 returns-in-Some-clause-event g c =

@@ -4,7 +4,6 @@ use Rattle.atomic_table.specs.Table.{step}
 use Rattle.evl_machine.specs.Seats.{CoreMe}
 use Rattle.evl_machine.specs.Handles.{MachineState, account_of}
 use Rattle.evl_machine.specs.declared.views.Account.{Account}
-use Rattle.evl_machine.specs.QuietCore.{IsOpening}
 use Rattle.evl_machine.specs.Events.{Takes}
 use Rattle.evl_machine.specs.Known.{first_of, past_of, room_of, seen}
 use Rattle.evl_machine.proofs.Knowing.{takes_known, took_seen, first_in_me}
@@ -30,12 +29,6 @@ pub returns-clause-same : goal.returns-clause-same
 returns-clause-same g c =
     let told = took_seen (step 0 0 0 1 none) _ _ _ _ c.requires.1 c.compare_exchange.ensures.2 in
     (c.exchange.ensures.0 ∙ c.compare_exchange.ensures.0, c.exchange.ensures.1 ∙ c.compare_exchange.ensures.1, ap first_in_me c.exchange.ensures.3 ∙ told.2)
-
-pub returns-clause-opening : goal.returns-clause-opening
-returns-clause-opening g c = subst (λ (m : MachineState _). IsOpening m.first.history) c.self.view_is c.self.invariant.3
-
-pub returns-then-compare_exchange-ne0-clause-opening : goal.returns-then-compare_exchange-ne0-clause-opening
-returns-then-compare_exchange-ne0-clause-opening g c = subst (λ (m : MachineState _). IsOpening m.first.history) c.self.view_is c.self.invariant.3
 
 pub returns-clause-event : goal.returns-clause-event
 returns-clause-event g c =

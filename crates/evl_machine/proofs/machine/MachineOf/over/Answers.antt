@@ -2,7 +2,7 @@ use Rattle.std.proofs.Common.{sym, subst}
 use Rattle.evl_kernel.specs.Callbacks.{AnswersAsTold}
 use Rattle.evl_kernel.specs.KernelViews.{KernelView}
 use Rattle.evl_machine.proofs.Seating.{opened_legal}
-use Rattle.evl_machine.proofs.machine.MachineOf.new.Goals as goal
+use Rattle.evl_machine.proofs.machine.MachineOf.over.Goals as goal
 
 pub seated-requires-clause-new : goal.seated-requires-clause-new
 seated-requires-clause-new g c = opened_legal _ _ _ _ _ c.in_ok-kernel.kernel c.in_ok-kernel.ensures.opened
