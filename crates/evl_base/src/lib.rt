@@ -14,6 +14,7 @@ mod reply;
 mod stage;
 mod take;
 mod texts;
+mod transfer;
 mod way;
 
 pub use action_kinds::ActionKinds;
@@ -29,6 +30,7 @@ pub use reply::Reply;
 pub use stage::Stage;
 pub use take::Take;
 pub use texts::{put_call, put_play, put_reply};
+pub use transfer::{Spares, Transfer};
 pub use way::{Bytes, Way};
 
 #[cfg(test)]

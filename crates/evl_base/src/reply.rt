@@ -1,8 +1,11 @@
 //! What the calls of the kernel answer.
-ghost use Rattle.std.specs.Prelude.{◌≡◌, Some};
+ghost use Rattle.std.specs.Prelude.{◌≡◌, ◌≤◌, ◌+◌, Some};
+ghost use Rattle.evl_base.specs.Reply.{boxes_in};
 
 use crate::numbers::ThreadId;
-use crate::way::{Bytes, Hex};
+use crate::transfer::{Spares, Transfer};
+use crate::way::Hex;
+use std::alloc::Allocator;
 use std::fmt;
 
 /// What a call that wasn't refused answers (this profile).
@@ -19,7 +22,7 @@ pub enum Reply {
     /// A number: a timer's, a date, a rank, a room, overruns.
     Number(u64),
     /// What was read from a cross-buffer.
-    Bytes(Bytes),
+    Bytes(Transfer),
     /// The thread that is picked, if there is one.
     Chosen(Option<ThreadId>),
     /// The next owner of a mutex, if there is one, and whether more threads wait.
@@ -29,9 +32,12 @@ pub enum Reply {
 }
 
 impl Reply {
-    /// The same reply once more. `Reply` isn't `Copy`, as it may carry bytes.
-    pub fn copied(&self) -> Reply
-        ensures { result ≡ self.now }
+    /// The same reply once more, its bytes, if it carries any, in a box of `spares`. `Reply` isn't `Copy`, as it may
+    /// carry bytes (this profile).
+    pub fn copied<A: Allocator>(&self, spares: &mut Spares<A>) -> Reply
+        requires { boxes_in self.now ≤ spares.old }
+        ensures same { result ≡ self.now }
+        ensures spent { spares.new + boxes_in self.now ≡ spares.old }
     {
         match self {
             Reply::Done => Reply::Done,
@@ -39,7 +45,7 @@ impl Reply {
             Reply::Count(count) => Reply::Count(*count),
             Reply::Bits(bits) => Reply::Bits(*bits),
             Reply::Number(number) => Reply::Number(*number),
-            Reply::Bytes(bytes) => Reply::Bytes(copied_bytes(bytes)),
+            Reply::Bytes(bytes) => Reply::Bytes(spares.take(bytes.as_slice())),
             Reply::Chosen(thread) => Reply::Chosen(*thread),
             Reply::Handed { next, more } => Reply::Handed {
                 next: *next,
@@ -48,15 +54,6 @@ impl Reply {
             Reply::TimedOut => Reply::TimedOut,
         }
     }
-}
-
-/// The same bytes once more.
-fn copied_bytes(bytes: &Bytes) -> Bytes
-    ensures { result ≡ bytes.now }
-{
-    let mut copy = Bytes::new();
-    copy.try_extend_from_slice(bytes.as_slice()).unwrap();
-    copy
 }
 
 impl fmt::Display for Reply {

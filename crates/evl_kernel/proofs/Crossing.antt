@@ -6,7 +6,7 @@ use Rattle.std.specs.contracts.vec.Vec as Vec
 use Rattle.std.proofs.CrossingOver.{crosses}
 use Rattle.evl_base.specs.contracts.entry.Entry as Entry
 use Rattle.evl_base.specs.contracts.play.Play as Play
-use Rattle.evl_base.proofs.Crossing.{board_send, declared_send, entry_send, play_send}
+use Rattle.evl_base.proofs.Crossing.{board_send, declared_send, entry_send, play_send, spares_send}
 use Rattle.evl_pipeline.proofs.Crossing.{pipeline_send}
 use Rattle.evl_kernel.specs.contracts.bank.BankPlace as BankPlace
 use Rattle.evl_kernel.specs.contracts.bank.Numbered as Numbered
@@ -34,5 +34,5 @@ module _ (C A : RattleType) (g : Ghosts A.Denot) where
 
   pub kernel_send : IsSend C → IsSend A → Frees g g.dealloc_token → IsSend (KernelOf.the_row C A g)
   kernel_send s a f =
-      let records = records_send s a f in let board = board_send in let plays = plays_send C A g a f in let entries = entries_send C A g a f in
+      let records = records_send s a f in let board = board_send in let plays = plays_send C A g a f in let entries = entries_send C A g a f in let spares = spares_send A g a f in
       search (view_send, declared_send, crosses, sendable) depth 20

@@ -16,3 +16,7 @@ inband_limit = 64
 -- the plays of one call: five for each in-band one, and one for each of 1024 lines, of 64 timers and of 64 deadlines
 abbrev pub play_limit : ℕ
 play_limit = 1472
+
+-- the boxes that the bytes of one call's reply take: the caller's and the entry's
+abbrev pub box_limit : ℕ
+box_limit = 2

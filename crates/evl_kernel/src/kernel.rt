@@ -11,7 +11,7 @@ ghost use Rattle.evl_kernel.specs.Histories.{IsLegal};
 ghost use Rattle.evl_kernel.specs.KernelViews.{AddsEntry, IsOpened, IsKernelAnswer, makes_entry};
 
 use crate::records::Records;
-use evl_base::{Board, Call, Entry, LineNo, Play, Refusal, Reply, Stage, ThreadId};
+use evl_base::{Board, Call, Entry, LineNo, Play, Refusal, Reply, Spares, Stage, ThreadId};
 use evl_pipeline::{Callback, Handler};
 use std::alloc::{Allocator, Global};
 use std::marker::Model;
@@ -25,6 +25,9 @@ const MAX_CALLBACKS: usize = 64;
 /// The most plays that one call makes.
 const MAX_PLAYS: usize = 1472;
 
+/// The most boxes that the bytes of one call's reply take: the caller's and the entry's.
+const MAX_BOXES: usize = 2;
+
 /// The kernel: its records, with all calls that it answered and all plays that it made (Xenomai 4: EVL core; the
 /// history is this profile's). The type of the callbacks has no bound here: where a struct asks for a bound with
 /// ghost members, no function can name it at a type with a boxed closure.
@@ -34,6 +37,7 @@ pub struct KernelOf<C, A: Allocator> {
     records: Records<C, A>,
     history: Vec<Entry, A>,
     plays: Vec<Play, A>,
+    spares: Spares<A>,
     limit: usize,
 }
 
@@ -59,7 +63,7 @@ fn can_open(board: &Board, callbacks: usize, limit: u32) -> bool
     board.check().is_ok() && callbacks <= MAX_CALLBACKS && 1 <= limit && limit <= MAX_LIMIT
 }
 
-impl<C: Handler, A: Allocator> KernelOf<C, A> {
+impl<C: Handler> KernelOf<C, Global> {
     /// A kernel with the elements of the board, the callbacks of the bank in their places, and an empty history of at
     /// most `limit` entries.
     ///
@@ -67,7 +71,25 @@ impl<C: Handler, A: Allocator> KernelOf<C, A> {
     /// `limit` is outside 1 to 1,000,000; `NoMemory` where room for the elements was refused. The bank is then dropped
     /// (this profile).
     pub fn new(
+        alloc: Global,
+        board: Board,
+        bank: Vec<C>,
+        limit: u32,
+    ) -> Result<KernelOf<C, Global>, Refusal>
+        ensures opened { IfOk result (λ k. IsOpened C.declared C.plan board bank.items limit k) }
+        ensures answering { IfOk result (λ k. AnswersAsTold C.declared C.plan k.callbacks) }
+        ensures range { (result ≡ Err Refusal.Range) ↔ (can_open board (length bank.items) limit ≡ false) }
+        ensures refusals { IfErr result (λ e. (e ≡ Refusal.Range) ⊎ (e ≡ Refusal.NoMemory)) }
+    {
+        KernelOf::over(alloc, alloc, board, bank, limit)
+    }
+}
+
+impl<C: Handler, A: Allocator> KernelOf<C, A> {
+    /// A kernel as `new` makes it, over any allocator; the boxes of transferred bytes come from `boxes` (this profile).
+    pub fn over(
         alloc: A,
+        boxes: Global,
         board: Board,
         bank: Vec<C, A>,
         limit: u32,
@@ -84,12 +106,14 @@ impl<C: Handler, A: Allocator> KernelOf<C, A> {
         }
         let for_history = alloc.clone().map_err(|_| Refusal::NoMemory)?;
         let for_plays = alloc.clone().map_err(|_| Refusal::NoMemory)?;
+        let for_spares = alloc.clone().map_err(|_| Refusal::NoMemory)?;
         let records = Records::new(alloc, &board, bank)?;
         Ok(KernelOf {
             board,
             records,
             history: Vec::new(for_history),
             plays: Vec::new(for_plays),
+            spares: Spares::new(for_spares, boxes),
             limit: limit as usize,
         })
     }
@@ -112,7 +136,8 @@ impl<C: Handler, A: Allocator> KernelOf<C, A> {
         self.history.reserve(n).map_err(|_| Refusal::NoMemory)?;
         self.plays
             .reserve(n * MAX_PLAYS)
-            .map_err(|_| Refusal::NoMemory)
+            .map_err(|_| Refusal::NoMemory)?;
+        self.spares.keep(n * MAX_BOXES)
     }
 
     /// Answers a call of a thread, settles, and enters the call with its answer into the history.
@@ -144,12 +169,14 @@ impl<C: Handler, A: Allocator> KernelOf<C, A> {
         self.plays
             .reserve(MAX_PLAYS)
             .map_err(|_| Refusal::NoMemory)?;
+        self.spares.keep(MAX_BOXES)?;
         let before = self.plays.len();
         let reply = self.records.perform(caller, &call, &mut self.plays);
+        let kept = copied_reply(&reply, &mut self.spares);
         self.history.push_reserved(Entry {
             caller,
             call,
-            reply: copied_reply(&reply),
+            reply: kept,
             plays: self.plays.len() - before,
         });
         reply
@@ -213,11 +240,17 @@ impl<C, A: Allocator> KernelOf<C, A> {
     }
 }
 
-fn copied_reply(reply: &Result<Reply, Refusal>) -> Result<Reply, Refusal>
-    ensures { result ≡ reply.now }
+/// The same answer once more, for the entry: its bytes, if it has any, lie in a box that was kept.
+fn copied_reply<A: Allocator>(
+    reply: &Result<Reply, Refusal>,
+    spares: &mut Spares<A>,
+) -> Result<Reply, Refusal>
+    requires { 1 ≤ spares.old }
+    ensures same { result ≡ reply.now }
+    ensures spent { spares.old ≤ spares.new + 1 }
 {
     match reply {
-        Ok(given) => Ok(given.copied()),
+        Ok(given) => Ok(given.copied(spares)),
         Err(refusal) => Err(*refusal),
     }
 }

@@ -1,14 +1,15 @@
 -- How the program ends.
 use Rattle.std.proofs.Common.{◌≡◌, ◌⊎◌, inl, inr, ℕ, List, [], take, Bool, true, Option, Some, None, Ok, Err, refl, sym, subst}
 use Rattle.evl_kernel.specs.States.{Handler}
-use Rattle.evl_shell.specs.declared.faults.Fault.{Fault}
-use Rattle.evl_shell.specs.declared.faults.Fault.TheVariants.{Text, Board, Step, Memory, Write}
+use Rattle.evl_scenario.specs.declared.faults.Fault.{Fault}
+use Rattle.evl_scenario.specs.declared.faults.Fault.TheVariants.{Text, Board, Step, Memory, Write}
 use Rattle.evl_shell.specs.declared.plays.Stop.{Stop}
 use Rattle.evl_shell.specs.declared.plays.Stop.TheVariants.{NoFile, Broken}
-use Rattle.evl_shell.specs.Faults.{IsRefusal, IsCut, Writes, WritesPart}
+use Rattle.evl_scenario.specs.Faults.{IsRefusal}
+use Rattle.evl_shell.specs.Faults.{IsCut, Writes, WritesPart}
 use Rattle.evl_shell.specs.Plays.{IsInput, Ended}
 use Rattle.evl_shell.specs.Runs.{trace_of}
-use Rattle.evl_shell.proofs.FaultLemmas.{WritesPart-nothing}
+use Rattle.evl_shell.proofs.SinkLemmas.{WritesPart-nothing}
 
 -- what is known of the input, as far as it is read
 abbrev whole_input : Option (List ℕ) → List ℕ

@@ -1,13 +1,6 @@
-pub mod BankLemmas
 pub mod EndLemmas
-pub mod FaultLemmas
 pub mod InputLemmas
-pub mod Keys
-pub mod Numbers
 pub mod PassLemmas
 pub mod RunLemmas
 pub mod SinkLemmas
-pub mod Sizes
-pub mod StepLemmas
-pub mod Texts
 pub mod TurnLemmas

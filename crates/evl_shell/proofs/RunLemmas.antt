@@ -7,11 +7,11 @@ use Rattle.evl_base.specs.declared.play.Play.{Play}
 use Rattle.evl_kernel.specs.KernelViews.{KernelView, IsOpened}
 use Rattle.evl_kernel.specs.Openings.{opening}
 use Rattle.evl_pipeline.specs.declared.plan.Plan.{Plan}
-use Rattle.evl_shell.specs.declared.steps.Step.{Step}
-use Rattle.evl_shell.specs.Lines.{board_line_of, board_line_text, line_text, play_line_text, play_lines}
+use Rattle.evl_scenario.specs.declared.steps.Step.{Step}
+use Rattle.evl_scenario.specs.Lines.{board_line_of, board_line_text, line_text, play_line_text, play_lines}
 use Rattle.evl_shell.specs.Moments.{moment, Turns}
 use Rattle.evl_shell.specs.Runs.{Moment, Turn, turn, turn_lines, lines_from, beginning, handlers_of, script_trace}
-use Rattle.evl_shell.specs.Scenarios.{Script}
+use Rattle.evl_scenario.specs.Scenarios.{Script}
 use Rattle.evl_shell.specs.Sinks.{Passes, PassesPart}
 use Rattle.evl_shell.proofs.PassLemmas.{Passes-append, PassesPart-append, PassesPart-more}
 
@@ -69,5 +69,5 @@ pub script_trace-opened : {C : Type 0} (declared : C → ℕ) (plan : C → Plan
     → line ++ lines_from kernel.limit (moment kernel) steps ≡ script_trace (handlers_of declared plan bank) script
 script_trace-opened declared plan bank script line board limit steps kernel b l s is k =
     let start : moment kernel ≡ beginning (opening board (handlers_of declared plan bank)) =
-    (λ i. record { entries = length (k.entries i); state = (k.state ∙ k.opening_is) i }) in
+    (λ i. record { entries = length (k.entries i); state = (k.state ∙ (λ j. opening (k.board_is j) (k.bank_is j))) i }) in
     rw (start, k.limit_is, is, b, l, s)

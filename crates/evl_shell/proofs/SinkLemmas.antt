@@ -1,8 +1,10 @@
 -- Bytes that a sink was told in parts.
-use Rattle.std.proofs.Common.{◌≡◌, ℕ, ◌-◌, List, [], ◌++◌, take, drop, length, length-drop, Option, Some, None, ◌∙◌, sym, ap, append_assoc, append-nil, refl}
+use Rattle.std.proofs.Common.{◌≡◌, ℕ, ◌-◌, List, [], ◌++◌, take, drop, length, length-drop, Option, Some, None, Result, Ok, Err, ◌∙◌, sym, ap, append_assoc, append-nil, refl}
 use Rattle.std.proofs.Math.Seq.{take-length}
 use Rattle.std.proofs.lemmas.List.{take-append-drop}
 use Rattle.std.specs.Io.KnownBytes.{Appends}
+use Rattle.evl_scenario.specs.declared.faults.Fault.{Fault}
+use Rattle.evl_shell.specs.Faults.{WritesPart}
 use Rattle.evl_shell.specs.Sinks.{TakesPrefix}
 
 -- two parts in turn
@@ -58,3 +60,8 @@ TakesPrefix-next old mid new shown xs ys is h took = record {
   whole = append_assoc shown took.front took.back ∙ (λ i. is i ++ took.whole i);
   tells = Appends-append old mid new shown took.front h took.tells;
 }
+
+-- nothing is a part of any trace
+pub WritesPart-nothing : (told : Option (List ℕ)) (trace : Result (List ℕ) Fault) → WritesPart told told trace
+WritesPart-nothing told (Ok trace) = TakesPrefix-nil told trace
+WritesPart-nothing told (Err e) = refl

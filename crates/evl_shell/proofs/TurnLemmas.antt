@@ -11,7 +11,7 @@ use Rattle.evl_kernel.specs.Histories.{History}
 use Rattle.evl_kernel.specs.KernelViews.{KernelView, AddsEntry, makes_entry, entry_of}
 use Rattle.evl_kernel.specs.Replays.{Outcome, stepped}
 use Rattle.evl_kernel.proofs.Walking.{step_is_stepped}
-use Rattle.evl_shell.specs.declared.steps.Step.{Step}
+use Rattle.evl_scenario.specs.declared.steps.Step.{Step}
 use Rattle.evl_shell.specs.Moments.{moment, Tells, wants_memory, number_after}
 use Rattle.evl_shell.specs.Runs.{Moment, Turn, turned_away, entered, turn}
 
@@ -76,7 +76,7 @@ enters : {C : Type 0} (old new : KernelView C) (step : Step) (limit : ℕ) (repl
 enters old new step limit reply below added bound =
     let plays = added.0 in
     let by = added.1 in
-    let o : Outcome = record { reply = reply; plays = plays; after = new.history.state } in
+    let o : Outcome = record { reply = reply; plays = plays; touches = (stepped old.history.state step.who.0 step.call).touches; after = new.history.state } in
     let is : stepped old.history.state step.who.0 step.call ≡ o =
     step_is_stepped old.history.state step.who.0 step.call reply plays new.history.state by.extends.step.1 by.few in
     let count : length new.history.entries ≡ length old.history.entries + 1 =

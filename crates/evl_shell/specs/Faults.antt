@@ -1,17 +1,9 @@
 -- Which faults stop a run, and what was written then.
 use Rattle.std.specs.Prelude.{◌≡◌, ℕ, List, Bool, true, Option, Result, Ok, Err}
 use Rattle.std.specs.Io.KnownBytes.{Appends}
-use Rattle.evl_shell.specs.declared.faults.Fault.{Fault}
-use Rattle.evl_shell.specs.declared.faults.Fault.TheVariants.{Text, Board, Step, Memory, Write}
+use Rattle.evl_scenario.specs.declared.faults.Fault.{Fault}
+use Rattle.evl_scenario.specs.declared.faults.Fault.TheVariants.{Text, Board, Step, Memory, Write}
 use Rattle.evl_shell.specs.Sinks.{TakesPrefix}
-
--- a fault that the text has
-abbrev pub IsRefusal : Fault → Type 0
-IsRefusal Text = Unit {0}
-IsRefusal Board = Unit {0}
-IsRefusal (Step n) = Unit {0}
-IsRefusal Memory = ⊥
-IsRefusal Write = ⊥
 
 -- want of memory, or a failure of the sink
 abbrev pub IsCut : Fault → Type 0

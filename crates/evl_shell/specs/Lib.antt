@@ -1,12 +1,5 @@
-pub mod Bank
-pub mod Boards
 pub mod Faults
-pub mod Lines
 pub mod Moments
 pub mod Plays
 pub mod Runs
-pub mod Scenarios
 pub mod Sinks
-pub mod Steps
-pub mod Tables
-pub mod Values

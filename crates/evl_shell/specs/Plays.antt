@@ -1,12 +1,12 @@
 -- What the program reads, tells and answers.
 use Rattle.std.specs.Prelude.{◌≡◌, ℕ, List, [], ◌++◌, take, decimal, codes, Bool, true, Option, None, IfSome, Result, Ok, Err}
 use Rattle.evl_kernel.specs.States.{Handler}
-use Rattle.evl_shell.specs.declared.faults.Fault.{Fault}
-use Rattle.evl_shell.specs.declared.faults.Fault.TheVariants.{Text, Board, Step, Memory, Write}
+use Rattle.evl_scenario.specs.declared.faults.Fault.{Fault}
+use Rattle.evl_scenario.specs.declared.faults.Fault.TheVariants.{Text, Board, Step, Memory, Write}
 use Rattle.evl_shell.specs.declared.plays.Stop.{Stop}
 use Rattle.evl_shell.specs.declared.plays.Stop.TheVariants.{NoFile, Broken}
 use Rattle.evl_shell.specs.Faults.{Writes, WritesPart}
-use Rattle.evl_shell.specs.Lines.{line_feed}
+use Rattle.evl_scenario.specs.Lines.{line_feed}
 use Rattle.evl_shell.specs.Runs.{trace_of}
 use Rattle.evl_shell.specs.Sinks.{TakesPrefix}
 

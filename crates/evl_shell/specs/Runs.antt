@@ -8,10 +8,10 @@ use Rattle.evl_pipeline.specs.declared.plan.Plan.{Plan}
 use Rattle.evl_kernel.specs.States.{State, Handler}
 use Rattle.evl_kernel.specs.Openings.{opening}
 use Rattle.evl_kernel.specs.Replays.{Outcome, stepped}
-use Rattle.evl_shell.specs.declared.faults.Fault.{Fault}
-use Rattle.evl_shell.specs.declared.steps.Step.{Step}
-use Rattle.evl_shell.specs.Lines.{board_line_of, board_line_text, line_text, play_lines}
-use Rattle.evl_shell.specs.Scenarios.{Script, scenario_of}
+use Rattle.evl_scenario.specs.declared.faults.Fault.{Fault}
+use Rattle.evl_scenario.specs.declared.steps.Step.{Step}
+use Rattle.evl_scenario.specs.Lines.{board_line_of, board_line_text, line_text, play_lines}
+use Rattle.evl_scenario.specs.Scenarios.{Script, scenario_of}
 
 -- how far a run is: how many entries its history has, and the kernel's records
 pub record Moment : Type 0 where

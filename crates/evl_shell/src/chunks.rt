@@ -4,8 +4,8 @@ ghost use Rattle.std.specs.Io.KnownBytes.{Appends};
 ghost use Rattle.evl_shell.specs.Sinks.{TakesPrefix, Passes, PassesPart};
 ghost use Rattle.evl_shell.specs.Faults.{IsCutShort};
 
-use crate::faults::Fault;
 use crate::sinks::{Sink, SinkFailed, put_all};
+use evl_scenario::Fault;
 use std::alloc::Global;
 use std::marker::Model;
 

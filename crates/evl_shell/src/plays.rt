@@ -1,16 +1,16 @@
 //! The program: reads a scenario, plays it, and says why it stopped.
 ghost use Rattle.std.specs.Prelude.{◌≡◌, ◌⊎◌, ◌≤◌, ◌++◌, false, length, take, decimal, codes, List, ℕ, OnOk, OnErr, IfOk, IfErr};
 ghost use Rattle.std.specs.Io.KnownBytes.{Appends};
-ghost use Rattle.evl_shell.specs.Lines.{line_feed};
+ghost use Rattle.evl_scenario.specs.Lines.{line_feed};
 ghost use Rattle.evl_shell.specs.Sinks.{TakesPrefix};
 ghost use Rattle.evl_shell.specs.Runs.{handlers_of};
 ghost use Rattle.evl_shell.specs.Plays as plays;
 ghost use Rattle.evl_shell.specs.Plays.{IsInput, Ended, Plays, stop_line};
 
-use crate::faults::Fault;
 use crate::runs::run;
 use crate::sinks::{Sink, SinkFailed};
 use evl_pipeline::Callback;
+use evl_scenario::Fault;
 use std::alloc::Global;
 use std::io::{Read, Write};
 

@@ -3,21 +3,21 @@ ghost use Rattle.std.specs.Prelude.{◌≡◌, ◌≤◌, length, List, ℕ, [],
 ghost use Rattle.std.specs.Io.KnownBytes.{Appends};
 ghost use Rattle.evl_kernel.specs.Callbacks.{AnswersAsTold};
 ghost use Rattle.evl_shell.specs.Sinks.{TakesPrefix, Passes, PassesPart};
-ghost use Rattle.evl_shell.specs.Faults.{IsCutShort, IsRefusal, IsCut, Writes, WritesPart};
-ghost use Rattle.evl_shell.specs.Lines.{board_line_of, board_line_text, line_text, play_line_text, play_lines};
+ghost use Rattle.evl_scenario.specs.Faults.{IsRefusal};
+ghost use Rattle.evl_shell.specs.Faults.{IsCutShort, IsCut, Writes, WritesPart};
+ghost use Rattle.evl_scenario.specs.Lines.{board_line_of, board_line_text, line_text, play_line_text, play_lines};
 ghost use Rattle.evl_shell.specs.Moments as moments;
 ghost use Rattle.evl_shell.specs.Moments.{moment, Turns, Tells};
 ghost use Rattle.evl_shell.specs.Runs.{turn, turn_lines, lines_from, handlers_of, script_trace, trace_of};
 
 use crate::chunks::Chunks;
-use crate::faults::Fault;
-use crate::lines::{Answer, EntryNumber, PlayLine, StepLine, board_line};
-use crate::scenarios::{Scenario, read_scenario};
 use crate::sinks::{Sink, SinkFailed};
-use crate::steps::Step;
 use evl_base::{Board, Play, Refusal, Reply};
 use evl_kernel::KernelOf;
 use evl_pipeline::{Callback, Handler};
+use evl_scenario::{
+    Answer, EntryNumber, Fault, PlayLine, Scenario, Step, StepLine, board_line, read_scenario,
+};
 use std::alloc::Global;
 
 // What the call of a step was answered, and the number of its entry, where it made one.

@@ -1,5 +1,5 @@
 use Rattle.std.proofs.Common.{◌∙◌, Err, ap}
-use Rattle.evl_shell.specs.declared.faults.Fault.{Fault}
+use Rattle.evl_scenario.specs.declared.faults.Fault.{Fault}
 use Rattle.evl_shell.proofs.EndLemmas.{ended-unread, ended-done, ended-broken}
 use Rattle.evl_shell.proofs.plays.play_input.Goals as goal
 

@@ -1,5 +1,5 @@
 use Rattle.std.proofs.Common.{◌∙◌, ◌++◌, codes, decimal, refl}
-use Rattle.evl_shell.specs.Lines.{line_feed}
+use Rattle.evl_scenario.specs.Lines.{line_feed}
 use Rattle.evl_shell.proofs.SinkLemmas.{TakesPrefix-more, TakesPrefix-next}
 use Rattle.evl_shell.proofs.plays.write_step_line.Goals as goal
 

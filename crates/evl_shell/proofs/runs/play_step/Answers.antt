@@ -1,5 +1,5 @@
 use Rattle.std.proofs.Common.{◌∙◌}
-use Rattle.evl_shell.specs.Lines.{line_text}
+use Rattle.evl_scenario.specs.Lines.{line_text}
 use Rattle.evl_shell.specs.Moments.{moment}
 use Rattle.evl_shell.specs.Runs.{turn}
 use Rattle.evl_shell.proofs.PassLemmas.{PassesPart-none}

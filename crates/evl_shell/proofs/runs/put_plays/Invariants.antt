@@ -1,5 +1,5 @@
 use Rattle.std.proofs.Common.{◌≡◌, ℕ, List, ◌++◌, drop}
-use Rattle.evl_shell.specs.Lines.{play_lines}
+use Rattle.evl_scenario.specs.Lines.{play_lines}
 use Rattle.evl_shell.specs.Sinks.{Passes}
 use Rattle.evl_shell.proofs.runs.put_plays.Given as goal
 

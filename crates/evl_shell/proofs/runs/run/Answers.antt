@@ -1,8 +1,9 @@
 use Rattle.std.proofs.Common.{◌≡◌, inl, inr, subst}
-use Rattle.evl_shell.specs.declared.faults.Fault.{Fault}
-use Rattle.evl_shell.specs.declared.faults.Fault.TheVariants as fault
-use Rattle.evl_shell.specs.Faults.{IsRefusal}
-use Rattle.evl_shell.proofs.FaultLemmas.{scenario_of-fault, WritesPart-nothing}
+use Rattle.evl_scenario.specs.declared.faults.Fault.{Fault}
+use Rattle.evl_scenario.specs.declared.faults.Fault.TheVariants as fault
+use Rattle.evl_scenario.specs.Faults.{IsRefusal}
+use Rattle.evl_scenario.proofs.FaultLemmas.{scenario_of-fault}
+use Rattle.evl_shell.proofs.SinkLemmas.{WritesPart-nothing}
 use Rattle.evl_shell.proofs.runs.run.Goals as goal
 
 pub returns-in-Err-clause-cut : goal.returns-in-Err-clause-cut

@@ -1,0 +1,25 @@
+use Rattle.std.proofs.Common.{◌≡◌, List, [], ◌∷◌, subst, ap, ◌∙◌}
+use Rattle.evl_base.specs.declared.action_kinds.ActionKinds.{ActionKinds}
+use Rattle.evl_kernel.specs.States.{Handler}
+use Rattle.evl_bank.specs.Bank.{program_bank}
+use Rattle.evl_shell.specs.Plays.{Plays}
+use Rattle.evl_shell.specs.Runs.{handlers_of}
+use Rattle.evl_bank.proofs.BankLemmas.{tells}
+use Rattle.evl_bank.proofs.bank.play_over_bank.Goals as goal
+
+pub returns-clause-played : goal.returns-clause-played
+returns-clause-played g c =
+    let tells-0 = tells c.new-9.result.kinds.0 _ _ _ _ (ap (λ (k : ActionKinds). k.0) c.new-9.ensures.kinds ∙ c.from_bits_retain-none.ensures tt) c.new-9.ensures.plan c.quiet_plan.ensures in
+    let tells-1 = tells c.new-10.result.kinds.0 _ _ _ _ (ap (λ (k : ActionKinds). k.0) c.new-10.ensures.kinds) c.new-10.ensures.plan c.plan.ensures in
+    let tells-2 = tells c.new-11.result.kinds.0 _ _ _ _ (ap (λ (k : ActionKinds). k.0) c.new-11.ensures.kinds) c.new-11.ensures.plan c.plan-2.ensures in
+    let tells-3 = tells c.new-12.result.kinds.0 _ _ _ _ (ap (λ (k : ActionKinds). k.0) c.new-12.ensures.kinds) c.new-12.ensures.plan c.plan-3.ensures in
+    let tells-4 = tells c.new-13.result.kinds.0 _ _ _ _ (ap (λ (k : ActionKinds). k.0) c.new-13.ensures.kinds) c.new-13.ensures.plan c.plan-4.ensures in
+    let tells-5 = tells c.new-14.result.kinds.0 _ _ _ _ (ap (λ (k : ActionKinds). k.0) c.new-14.ensures.kinds) c.new-14.ensures.plan c.plan-5.ensures in
+    let tells-6 = tells c.new-15.result.kinds.0 _ _ _ _ (ap (λ (k : ActionKinds). k.0) c.new-15.ensures.kinds) c.new-15.ensures.plan c.plan-6.ensures in
+    let tells-7 = tells c.new-16.result.kinds.0 _ _ _ _ (ap (λ (k : ActionKinds). k.0) c.new-16.ensures.kinds ∙ c.from_bits_retain-none.ensures tt) c.new-16.ensures.plan c.quiet_plan-2.ensures in
+    let items : c.in_ok-bank.bank.items ≡ c.new-9.result ∷ c.new-10.result ∷ c.new-11.result ∷ c.new-12.result ∷ c.new-13.result ∷ c.new-14.result ∷ c.new-15.result ∷ c.new-16.result ∷ [] = c.in_ok-bank.ensures.items in
+    let told : handlers_of (λ x. x.kinds.0) (λ x. x.plan.value) c.in_ok-bank.bank.items ≡ program_bank =
+    ap (handlers_of (λ x. x.kinds.0) (λ x. x.plan.value)) items ∙ (λ i. tells-0 i ∷ tells-1 i ∷ tells-2 i ∷ tells-3 i ∷ tells-4 i ∷ tells-5 i ∷ tells-6 i ∷ tells-7 i ∷ []) in
+    let P : List Handler → Type 0 = λ b. Plays b (g.R.Read.remaining c.args.input.now) (g.S.Sink.told c.args.out.now) (g.S.Sink.told c.play.new.out)
+    (g.S.Sink.has_failed c.play.new.out) (g.E.Write.contents c.args.err.now) (g.E.Write.contents c.play.new.err) c.play.result in
+    subst P told c.play.ensures

@@ -1,0 +1,138 @@
+//! The callbacks of the program, each answering just its plan.
+ghost use Rattle.std.specs.Prelude.{◌≡◌, ℕ, [], ◌∷◌, true, false, if◌then◌else◌, OnErr, IfOk};
+ghost use Rattle.evl_pipeline.specs.Plans.{answer_of};
+ghost use Rattle.evl_shell.specs.Plays.{Plays};
+ghost use Rattle.evl_bank.specs.Bank.{plan_of, plan_of_none, program_bank};
+
+use arrayvec::ArrayVec;
+use bitflags::Flags;
+use evl_base::{ActionKinds, FlagId, LineNo, SemId, TimerId};
+use evl_pipeline::{Action, Answer, Callback, Fire, Plan};
+use evl_shell::{Fault, Sink, Stop, play, stopped};
+use std::alloc::{AllocError, Global};
+use std::io::{Read, Write};
+
+const POST: Action = Action::PostSem(SemId(0));
+
+const POST_LINE: Action = Action::PostOob(LineNo(4));
+
+const POST_BIT: Action = Action::PostFlags(FlagId(0), 1);
+
+const STOP: Action = Action::StopTimer(TimerId(0));
+
+// Handled, and nothing asked for.
+fn quiet() -> Answer
+    ensures handled { result.handled ≡ true }
+    ensures actions { result.actions.items ≡ [] }
+{
+    Answer {
+        handled: true,
+        actions: ArrayVec::new(),
+    }
+}
+
+// Handled, and one action asked for.
+fn asks(action: Action) -> Answer
+    ensures handled { result.handled ≡ true }
+    ensures actions { result.actions.items ≡ action ∷ [] }
+{
+    let mut actions = ArrayVec::new();
+    actions.push(action);
+    Answer {
+        handled: true,
+        actions,
+    }
+}
+
+// Handled, and the action asked for at every second count.
+fn asks_each_second(count: u64, action: Action) -> Answer
+    ensures { result ≡ answer_of (plan_of 1 2 action) count }
+{
+    if count % 2 == 0 {
+        asks(action)
+    } else {
+        quiet()
+    }
+}
+
+// The action asked for, and each second event handled.
+fn handles_each_second(count: u64, action: Action) -> Answer
+    ensures { result ≡ answer_of (plan_of 2 1 action) count }
+{
+    let mut answer = asks(action);
+    answer.handled = count % 2 == 0;
+    answer
+}
+
+// The plan that handles each event and asks for nothing.
+fn quiet_plan() -> Plan
+    ensures { result ≡ plan_of_none }
+{
+    Plan {
+        accepts: 1,
+        rows: ArrayVec::new(),
+    }
+}
+
+// A plan of one row.
+fn plan(accepts: u64, every: u64, action: Action) -> Plan
+    ensures { result ≡ plan_of accepts every action }
+{
+    let mut rows = ArrayVec::new();
+    rows.push((every, action));
+    Plan { accepts, rows }
+}
+
+// Plays the scenario that the input holds over the program's bank, where there is memory for the bank.
+fn play_over_bank<R: Read, S: Sink, E: Write>(
+    alloc: Global,
+    input: &mut R,
+    out: &mut S,
+    err: &mut E,
+) -> Result<u8, AllocError>
+    requires { S.has_failed out.old ≡ false }
+    ensures played { IfOk result (λ status. Plays program_bank (R.remaining input.old) (S.told out.old) (S.told out.new) (S.has_failed out.new) (E.contents err.old) (E.contents err.new) status) }
+    ensures out { OnErr result (out.new ≡ out.old) }
+    ensures err { OnErr result (err.new ≡ err.old) }
+{
+    let none = ActionKinds::from_bits_retain(0);
+    let zero = Box::new(alloc, |_: Fire| quiet())?;
+    let one = Box::new(alloc, |_: Fire| asks(POST))?;
+    let two = Box::new(alloc, |fire: Fire| asks_each_second(fire.count, POST))?;
+    let three = Box::new(alloc, |_: Fire| asks(Action::Propagate))?;
+    let four = Box::new(alloc, |_: Fire| asks(POST_LINE))?;
+    let five = Box::new(alloc, |_: Fire| asks(POST_BIT))?;
+    let six = Box::new(alloc, |fire: Fire| handles_each_second(fire.count, STOP))?;
+    let seven = Box::new(alloc, |_: Fire| quiet())?;
+    let bank = vec![in alloc;
+        Callback::new(none, &quiet_plan(), zero),
+        Callback::new(ActionKinds::POST_SEM, &plan(1, 1, POST), one),
+        Callback::new(ActionKinds::POST_SEM, &plan(1, 2, POST), two),
+        Callback::new(
+            ActionKinds::PROPAGATE,
+            &plan(1, 1, Action::Propagate),
+            three
+        ),
+        Callback::new(ActionKinds::POST_OOB, &plan(1, 1, POST_LINE), four),
+        Callback::new(ActionKinds::POST_FLAGS, &plan(1, 1, POST_BIT), five),
+        Callback::new(ActionKinds::STOP_TIMER, &plan(2, 1, STOP), six),
+        Callback::new(none, &quiet_plan(), seven),
+    ]?;
+    Ok(play(alloc, bank, input, out, err))
+}
+
+/// Plays a scenario as `play` does, over the program's bank (this profile).
+pub fn play_program<R: Read, S: Sink, E: Write>(
+    alloc: Global,
+    input: &mut R,
+    out: &mut S,
+    err: &mut E,
+) -> u8
+    requires { S.has_failed out.old ≡ false }
+    ensures { Plays program_bank (R.remaining input.old) (S.told out.old) (S.told out.new) (S.has_failed out.new) (E.contents err.old) (E.contents err.new) result }
+{
+    match play_over_bank(alloc, input, out, err) {
+        Ok(status) => status,
+        Err(_) => stopped(err, Stop::Broken(Fault::Memory)),
+    }
+}

@@ -1,0 +1,107 @@
+//! The bytes of one transfer in a box of their own, and boxes that are kept for transfers to come.
+ghost use Rattle.std.specs.Prelude.{◌≡◌, ◌≤◌, ◌<◌, ◌+◌, length, max, OnOk, OnErr, IfErr};
+
+use crate::refusal::Refusal;
+use crate::way::Bytes;
+use arrayvec::ArrayVec;
+use std::alloc::{Allocator, Global};
+use std::marker::Model;
+
+/// The bytes of one transfer through a cross-buffer, at most 256, in a box: what carries one is as small as a pointer
+/// (this profile).
+#[derive(Debug, Drop)]
+pub struct Transfer {
+    held: Box<Bytes>,
+}
+
+impl Model for Transfer {
+    ghost use Rattle.std.specs.Prelude.{ℕ};
+    ghost use Rattle.arrayvec.specs.ArrayVec.{ArrayVec as Items};
+
+    ghost Value = { Items ℕ };
+
+    ghost view = { λ t. t.held.value };
+}
+
+impl Transfer {
+    /// No bytes yet. `NoMemory` where the box was refused.
+    fn empty(alloc: Global) -> Result<Transfer, Refusal>
+        ensures { IfErr result (λ e. e ≡ Refusal.NoMemory) }
+    {
+        match Box::new(alloc, ArrayVec::new()) {
+            Ok(held) => Ok(Transfer { held }),
+            Err(_) => Err(Refusal::NoMemory),
+        }
+    }
+
+    /// The bytes, at most 256 (this profile).
+    pub fn as_slice(&self) -> &[u8]
+        ensures items { result.now ≡ self.now.items }
+        ensures few { length self.now.items ≤ 256 }
+    {
+        self.held.as_slice()
+    }
+
+    /// These bytes take the place of the ones that were there.
+    fn set(&mut self, bytes: &[u8])
+        requires { length bytes.now ≤ 256 }
+        ensures { self.new.items ≡ bytes.now }
+    {
+        self.held.clear();
+        self.held.try_extend_from_slice(bytes).unwrap();
+    }
+}
+
+/// Boxes that wait for the bytes of transfers to come: how many there are. Whoever has made enough of them before a
+/// change needs no memory in the midst of it (this profile).
+#[derive(Drop)]
+pub struct Spares<A: Allocator> {
+    alloc: Global,
+    boxes: Vec<Transfer, A>,
+}
+
+impl<A: Allocator> Model for Spares<A> {
+    ghost use Rattle.std.specs.Prelude.{ℕ, length};
+
+    ghost Value = { ℕ };
+
+    ghost view = { λ s. length s.boxes.items };
+}
+
+impl<A: Allocator> Spares<A> {
+    /// None yet; their list grows by `alloc`, the boxes themselves come from `boxes`.
+    pub fn new(alloc: A, boxes: Global) -> Spares<A>
+        ensures { result ≡ 0 }
+    {
+        Spares {
+            alloc: boxes,
+            boxes: Vec::new(alloc),
+        }
+    }
+
+    /// Makes boxes until there are `n` of them. `NoMemory` where one was refused; those made by then stay.
+    pub fn keep(&mut self, n: usize) -> Result<(), Refusal>
+        ensures there { OnOk result (self.new ≡ max self.old n) }
+        ensures grows { self.old ≤ self.new }
+        ensures needed { OnErr result (self.old < n) }
+        ensures refusal { IfErr result (λ e. e ≡ Refusal.NoMemory) }
+    {
+        while self.boxes.len() < n {
+            let made = Transfer::empty(self.alloc)?;
+            self.boxes.push(made).map_err(|_| Refusal::NoMemory)?;
+        }
+        Ok(())
+    }
+
+    /// A box with these bytes, one of those that were kept.
+    pub fn take(&mut self, bytes: &[u8]) -> Transfer
+        requires there { 0 < self.old }
+        requires few { length bytes.now ≤ 256 }
+        ensures bytes { result.items ≡ bytes.now }
+        ensures fewer { self.new + 1 ≡ self.old }
+    {
+        let mut taken = self.boxes.pop().unwrap();
+        taken.set(bytes);
+        taken
+    }
+}

@@ -1,0 +1,50 @@
+//! Plays rows: scenarios, each with what is wanted of it. The words are their names. The scenario of a row lies in
+//! `NAME.toml`; beside it lies its trace, `NAME.trace`, or, where it is to be refused, the line that says why,
+//! `NAME.fault`.
+#![tactic(auto)]
+
+use evl_bank::play_program;
+use evl_shell::Over;
+use std::alloc::Global;
+use std::rt::Files;
+use std::{env, fs, io};
+
+/// The status of a scenario that was refused.
+const REFUSED: u8 = 2;
+
+// Whether the program ends so on a scenario: its status, what it writes and what it says.
+fn ends(alloc: Global, scenario: &[u8], status: u8, written: &[u8], said: &[u8]) -> bool {
+    let mut out = Over::new(Vec::new(alloc));
+    let mut err = Vec::new(alloc);
+    let mut input = scenario;
+    let ended = play_program(alloc, &mut input, &mut out, &mut err);
+    ended == status && out.into_inner().as_slice() == written && err.as_slice() == said
+}
+
+// Whether the row of this name is played as is wanted.
+fn is_as_wanted<R: Files + AllocGlobal>(rt: &R, name: &str) -> io::Result<bool> {
+    let scenario = fs::read(rt, format!(in rt.alloc(); "{name}.toml")?)?;
+    if let Ok(trace) = fs::read(rt, format!(in rt.alloc(); "{name}.trace")?) {
+        return Ok(ends(rt.alloc(), scenario.as_slice(), 0, trace.as_slice(), b""));
+    }
+    let fault = fs::read(rt, format!(in rt.alloc(); "{name}.fault")?)?;
+    Ok(ends(
+        rt.alloc(),
+        scenario.as_slice(),
+        REFUSED,
+        b"",
+        fault.as_slice(),
+    ))
+}
+
+fn main(rt: HostRuntime) -> io::Result<()> {
+    for name in env::args(&rt)?.skip(1) {
+        let told = match is_as_wanted(&rt, name.as_str()) {
+            Ok(true) => "as wanted",
+            Ok(false) => "otherwise",
+            Err(_) => "not played",
+        };
+        println!(rt; "{name}: {told}")?;
+    }
+    Ok(())
+}

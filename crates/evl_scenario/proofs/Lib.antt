@@ -1,0 +1,6 @@
+pub mod FaultLemmas
+pub mod Keys
+pub mod Numbers
+pub mod Sizes
+pub mod StepLemmas
+pub mod Texts

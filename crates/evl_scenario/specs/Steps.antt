@@ -1,0 +1,67 @@
+-- The step that a table of a scenario stands for.
+use Rattle.std.specs.Prelude.{ℕ, List, [], ◌∷◌, if◌then◌else◌, Option, Some, None, option_map, option_and_then, codes}
+use Rattle.std.specs.Str.{bytes_eq}
+use Rattle.toml.specs.Data.{Data, Members, as_table, get_member}
+use Rattle.evl_base.specs.declared.call.Call.{Call}
+use Rattle.evl_base.specs.declared.call.Call.TheVariants as make
+use Rattle.evl_scenario.specs.declared.steps.StepWord.{StepWord}
+use Rattle.evl_scenario.specs.declared.steps.StepWord.TheVariants.{Request, Free, Arrive, Post, Stall, Unstall, TryGet, Put, Peek}
+use Rattle.evl_scenario.specs.declared.steps.Step.{Step}
+use Rattle.evl_scenario.specs.Tables.{value_at, value_or, text_at, has_only}
+use Rattle.evl_scenario.specs.Values.{word_from, byte_from, thread_from, line_from, sem_from, stage_from}
+
+-- the word that a text is
+abbrev pub word_of : List ℕ → Option StepWord
+word_of text =
+    if bytes_eq text (codes "request") then Some Request
+    else if bytes_eq text (codes "free") then Some Free
+    else if bytes_eq text (codes "arrive") then Some Arrive
+    else if bytes_eq text (codes "post") then Some Post
+    else if bytes_eq text (codes "stall") then Some Stall
+    else if bytes_eq text (codes "unstall") then Some Unstall
+    else if bytes_eq text (codes "try_get") then Some TryGet
+    else if bytes_eq text (codes "put") then Some Put
+    else if bytes_eq text (codes "peek") then Some Peek
+    else None
+
+-- the keys of a step with this word
+abbrev pub keys_of : StepWord → List (List ℕ)
+keys_of Request = codes "do" ∷ codes "who" ∷ codes "line" ∷ codes "stage" ∷ codes "callback" ∷ codes "tag" ∷ []
+keys_of Free = codes "do" ∷ codes "who" ∷ codes "line" ∷ codes "stage" ∷ []
+keys_of Arrive = codes "do" ∷ codes "who" ∷ codes "line" ∷ []
+keys_of Post = codes "do" ∷ codes "who" ∷ codes "stage" ∷ codes "line" ∷ []
+keys_of Stall = codes "do" ∷ codes "who" ∷ codes "stage" ∷ []
+keys_of Unstall = codes "do" ∷ codes "who" ∷ codes "stage" ∷ []
+keys_of TryGet = codes "do" ∷ codes "who" ∷ codes "sem" ∷ []
+keys_of Put = codes "do" ∷ codes "who" ∷ codes "sem" ∷ []
+keys_of Peek = codes "do" ∷ codes "who" ∷ codes "sem" ∷ []
+
+-- the call that a word and a table make
+abbrev pub call_of : StepWord → Members → Option Call
+call_of Request table =
+    option_and_then (λ line. option_and_then (λ stage. option_and_then (λ callback. option_map (λ tag. make.Request line stage callback tag)
+    (value_or word_from 0 (get_member (codes "tag") table)))
+    (value_at byte_from (codes "callback") table))
+    (value_at stage_from (codes "stage") table))
+    (value_at line_from (codes "line") table)
+call_of Free table = option_and_then (λ line. option_map (make.Free line) (value_at stage_from (codes "stage") table)) (value_at line_from (codes "line") table)
+call_of Arrive table = option_map make.Arrive (value_at line_from (codes "line") table)
+call_of Post table = option_and_then (λ stage. option_map (make.Post stage) (value_at line_from (codes "line") table)) (value_at stage_from (codes "stage") table)
+call_of Stall table = option_map make.Stall (value_at stage_from (codes "stage") table)
+call_of Unstall table = option_map make.Unstall (value_at stage_from (codes "stage") table)
+call_of TryGet table = option_map make.TryGet (value_at sem_from (codes "sem") table)
+call_of Put table = option_map make.Put (value_at sem_from (codes "sem") table)
+call_of Peek table = option_map make.Peek (value_at sem_from (codes "sem") table)
+
+-- the step with this word
+abbrev pub step_with : Members → StepWord → Option Step
+step_with table word =
+    if has_only (keys_of word) table
+    then option_and_then (λ who. option_map (λ call. record { who = who; call = call }) (call_of word table)) (value_at thread_from (codes "who") table)
+    else None
+
+abbrev pub step_in : Members → Option Step
+step_in table = option_and_then (step_with table) (option_and_then word_of (text_at (codes "do") table))
+
+abbrev pub step_of : Data → Option Step
+step_of value = option_and_then step_in (as_table value)

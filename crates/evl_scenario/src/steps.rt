@@ -1,0 +1,118 @@
+//! The steps of a scenario.
+ghost use Rattle.std.specs.Prelude.{◌≡◌, map};
+ghost use Rattle.toml.specs.View.{view, table_view};
+ghost use Rattle.evl_scenario.specs.Steps.{word_of, keys_of, call_of, step_of};
+
+use crate::tables::{at, at_or, at_text, has_only_keys};
+use evl_base::{Call, ThreadId};
+use toml::{Table, Value};
+
+/// A word that names a call of the kernel (Dovetail: interrupt pipeline; Xenomai 4: EVL elements; the words are this profile's).
+#[derive(Clone, Copy, PartialEq, Eq, Debug)]
+pub enum StepWord {
+    Request,
+    Free,
+    Arrive,
+    Post,
+    Stall,
+    Unstall,
+    TryGet,
+    Put,
+    Peek,
+}
+
+/// A call, and the thread that makes it.
+#[derive(Debug, Drop)]
+pub struct Step {
+    pub who: ThreadId,
+    pub call: Call,
+}
+
+// The word that a text is.
+fn read_word(text: &str) -> Option<StepWord>
+    ensures { result ≡ word_of text.now }
+{
+    match text {
+        "request" => Some(StepWord::Request),
+        "free" => Some(StepWord::Free),
+        "arrive" => Some(StepWord::Arrive),
+        "post" => Some(StepWord::Post),
+        "stall" => Some(StepWord::Stall),
+        "unstall" => Some(StepWord::Unstall),
+        "try_get" => Some(StepWord::TryGet),
+        "put" => Some(StepWord::Put),
+        "peek" => Some(StepWord::Peek),
+        _ => None,
+    }
+}
+
+// The keys that a step with this word may have.
+fn step_keys(word: StepWord) -> &'static [&'static str]
+    ensures { map (λ key. key.now) result.now ≡ keys_of word }
+{
+    match word {
+        StepWord::Request => &["do", "who", "line", "stage", "callback", "tag"],
+        StepWord::Free => &["do", "who", "line", "stage"],
+        StepWord::Arrive => &["do", "who", "line"],
+        StepWord::Post => &["do", "who", "stage", "line"],
+        StepWord::Stall => &["do", "who", "stage"],
+        StepWord::Unstall => &["do", "who", "stage"],
+        StepWord::TryGet => &["do", "who", "sem"],
+        StepWord::Put => &["do", "who", "sem"],
+        StepWord::Peek => &["do", "who", "sem"],
+    }
+}
+
+// The call that a word and a table make.
+fn read_call(word: StepWord, table: &Table) -> Option<Call>
+    ensures { result ≡ call_of word (table_view table.now) }
+{
+    match word {
+        StepWord::Request => Some(Call::Request {
+            line: at(table, "line")?,
+            stage: at(table, "stage")?,
+            callback: at(table, "callback")?,
+            tag: at_or(table, "tag", 0)?,
+        }),
+        StepWord::Free => Some(Call::Free {
+            line: at(table, "line")?,
+            stage: at(table, "stage")?,
+        }),
+        StepWord::Arrive => Some(Call::Arrive {
+            line: at(table, "line")?,
+        }),
+        StepWord::Post => Some(Call::Post {
+            stage: at(table, "stage")?,
+            line: at(table, "line")?,
+        }),
+        StepWord::Stall => Some(Call::Stall {
+            stage: at(table, "stage")?,
+        }),
+        StepWord::Unstall => Some(Call::Unstall {
+            stage: at(table, "stage")?,
+        }),
+        StepWord::TryGet => Some(Call::TryGet {
+            sem: at(table, "sem")?,
+        }),
+        StepWord::Put => Some(Call::Put {
+            sem: at(table, "sem")?,
+        }),
+        StepWord::Peek => Some(Call::Peek {
+            sem: at(table, "sem")?,
+        }),
+    }
+}
+
+/// The step that a TOML value stands for: a table with a word, a thread, and just the keys of the word.
+pub fn read_step(value: &Value) -> Option<Step>
+    ensures { result ≡ step_of (view value.now) }
+{
+    let table = value.as_table()?;
+    let word = read_word(at_text(table, "do")?)?;
+    if !has_only_keys(table, step_keys(word)) {
+        return None;
+    }
+    let who = at(table, "who")?;
+    let call = read_call(word, table)?;
+    Some(Step { who, call })
+}

@@ -1,0 +1,150 @@
+//! The values of a scenario, each read from a TOML value.
+ghost use Rattle.std.specs.Prelude.{◌≡◌, Option, option_map};
+ghost use Rattle.toml.specs.Data.{Data};
+ghost use Rattle.toml.specs.View.{view, items_view};
+ghost use Rattle.evl_scenario.specs.Values.{number_from, text_number, word_from, half_word_from, byte_from, past_front, two_sizes, mutex_kind_from, ring_sizes_from, thread_from, line_from, sem_from, stage_from};
+
+use evl_base::{LineNo, MutexKind, SemId, Stage, ThreadId};
+use toml::Value;
+
+/// A value that a TOML value may stand for.
+pub trait FromToml: Sized {
+    /// What a TOML value stands for, if it does.
+    ghost gives: { Data → Option Self };
+
+    /// The value, where the TOML value stands for one.
+    fn from_toml(value: &Value) -> Option<Self>
+        ensures { result ≡ gives (view value.now) };
+}
+
+// The number that a text writes in decimal digits without leading zeros.
+fn number_of_text(text: &str) -> Option<u64>
+    ensures { result ≡ text_number text.now }
+{
+    match text.parse::<u64>() {
+        Ok(number) => {
+            if itoa::Buffer::new().format(number) == text {
+                Some(number)
+            } else {
+                None
+            }
+        }
+        Err(_) => None,
+    }
+}
+
+// A TOML integer that isn't negative, or a text of a number.
+fn number(value: &Value) -> Option<u64>
+    ensures { result ≡ number_from (view value.now) }
+{
+    match value {
+        Value::Integer(number) => u64::try_from(*number).ok(),
+        Value::String(text) => number_of_text(text.as_str()),
+        _ => None,
+    }
+}
+
+impl FromToml for u32 {
+    ghost gives = { word_from };
+
+    fn from_toml(value: &Value) -> Option<u32> {
+        u32::try_from(number(value)?).ok()
+    }
+}
+
+impl FromToml for u16 {
+    ghost gives = { half_word_from };
+
+    fn from_toml(value: &Value) -> Option<u16> {
+        u16::try_from(number(value)?).ok()
+    }
+}
+
+impl FromToml for u8 {
+    ghost gives = { byte_from };
+
+    fn from_toml(value: &Value) -> Option<u8> {
+        u8::try_from(number(value)?).ok()
+    }
+}
+
+impl FromToml for ThreadId {
+    ghost gives = { thread_from };
+
+    fn from_toml(value: &Value) -> Option<ThreadId> {
+        Some(ThreadId(u16::try_from(number(value)?).ok()?))
+    }
+}
+
+impl FromToml for LineNo {
+    ghost gives = { line_from };
+
+    fn from_toml(value: &Value) -> Option<LineNo> {
+        Some(LineNo(u16::try_from(number(value)?).ok()?))
+    }
+}
+
+impl FromToml for SemId {
+    ghost gives = { sem_from };
+
+    fn from_toml(value: &Value) -> Option<SemId> {
+        Some(SemId(u16::try_from(number(value)?).ok()?))
+    }
+}
+
+impl FromToml for Stage {
+    ghost gives = { stage_from };
+
+    fn from_toml(value: &Value) -> Option<Stage> {
+        match value.as_str()? {
+            "inband" => Some(Stage::Inband),
+            "oob" => Some(Stage::Oob),
+            _ => None,
+        }
+    }
+}
+
+// The sizes of the rings of a cross-buffer: that of way `In`, and that of way `Out`.
+#[tactic(auto, using(crate::proofs::Sizes::two_sizes_fewer, crate::proofs::Sizes::two_sizes_more))]
+fn ring_sizes(values: &[Value]) -> Option<(u16, u16)>
+    ensures { result ≡ two_sizes (items_view values.now) }
+{
+    match values {
+        [inbound, outbound] => Some((u16::from_toml(inbound)?, u16::from_toml(outbound)?)),
+        _ => None,
+    }
+}
+
+impl FromToml for (u16, u16) {
+    ghost gives = { ring_sizes_from };
+
+    fn from_toml(value: &Value) -> Option<(u16, u16)> {
+        ring_sizes(value.as_array()?.as_slice())
+    }
+}
+
+// What follows this front part of a text.
+fn text_after<'a>(front: &str, text: &'a str) -> Option<&'a str>
+    ensures { option_map (λ rest. rest.now) result ≡ past_front front.now text.now }
+{
+    match text.strip_prefix(front) {
+        Some(rest) => Some(rest),
+        None => None,
+    }
+}
+
+impl FromToml for MutexKind {
+    ghost gives = { mutex_kind_from };
+
+    fn from_toml(value: &Value) -> Option<MutexKind> {
+        let text = value.as_str()?;
+        match text {
+            "normal" => Some(MutexKind::Normal),
+            "recursive" => Some(MutexKind::Recursive),
+            _ => {
+                let prio = number_of_text(text_after("ceiling ", text)?)?;
+                Some(MutexKind::Ceiling(u8::try_from(prio).ok()?))
+            }
+        }
+    }
+}

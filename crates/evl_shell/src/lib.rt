@@ -1,0 +1,12 @@
+//! The shell: plays a scenario's text into a sink, line by line, and says why it stopped.
+#![tactic(auto)]
+
+mod chunks;
+mod plays;
+mod runs;
+mod sinks;
+
+pub use evl_scenario::Fault;
+pub use plays::{Stop, play, stopped};
+pub use runs::run;
+pub use sinks::{Over, Sink};

@@ -1,0 +1,194 @@
+//! Texts that are refused: what fault each is, that nothing is written, and which fault goes first.
+use evl_shell::{Fault, Over, run};
+use std::alloc::Global;
+use std::test::*;
+
+const BOARD: &str = "[board]\nthreads = 1\nsems = [0]\n";
+
+const FIRST_SEMAPHORE: &str =
+    "limit = 100\n[board]\nthreads = 1\nsems = [0]\n[[step]]\ndo = \"try_get\"\nwho = 0\nsem = 0\n";
+
+// The fault of a text, and whether nothing was written.
+fn fault_of(alloc: Global, text: &[u8], limit: Option<u32>) -> (Option<Fault>, bool) {
+    let mut out = Over::new(Vec::new(alloc));
+    let fault = run(alloc, text, limit, Vec::new(alloc), &mut out).err();
+    (fault, out.into_inner().is_empty())
+}
+
+// Whether a text is refused as a whole, with nothing written.
+fn is_bad_text(alloc: Global, text: &[u8]) -> bool {
+    fault_of(alloc, text, None) == (Some(Fault::Text), true)
+}
+
+fn is_bad_board(alloc: Global, text: &str) -> bool {
+    fault_of(alloc, text.as_bytes(), None) == (Some(Fault::Board), true)
+}
+
+// Whether just this step of a board with these steps is refused, with nothing written.
+fn is_bad_step(alloc: Global, steps: &str, number: u32) -> Result<bool, Fail> {
+    let mut text = Vec::new(alloc);
+    text.extend_from_slice(BOARD.as_bytes())?;
+    text.extend_from_slice(steps.as_bytes())?;
+    Ok(fault_of(alloc, text.as_slice(), None) == (Some(Fault::Step(number)), true))
+}
+
+// Whether a scenario is played under a limit that is handed in.
+fn is_limit(alloc: Global, limit: u32) -> bool {
+    fault_of(alloc, FIRST_SEMAPHORE.as_bytes(), Some(limit)) == (None, false)
+}
+
+#[test]
+fn limits_that_are_handed_in(rt: HostRuntime) {
+    let alloc = rt.alloc();
+    assert!(rt; !is_limit(alloc, 0));
+    assert!(rt; is_limit(alloc, 1));
+    assert!(rt; is_limit(alloc, 1_000_000));
+    assert!(rt; !is_limit(alloc, 1_000_001));
+}
+
+#[test]
+fn bad_texts(rt: HostRuntime) {
+    let texts: [&[u8]; 5] = [
+        b"\xff",
+        b"[board]\nthreads = 0\n# \xff",
+        b"[board",
+        b"[board]\nthreads = 1\nthreads = 1\n",
+        b"limit = 9223372036854775808\n[board]\nthreads = 1\n",
+    ];
+    for text in texts {
+        assert!(rt; is_bad_text(rt.alloc(), text));
+    }
+}
+
+// So many spaces.
+fn spaces(alloc: Global, count: usize) -> Result<String, Fail> {
+    let mut text = String::new(alloc);
+    for _ in 0..count {
+        text.push(' ')?;
+    }
+    Ok(text)
+}
+
+#[test]
+fn longest_text(rt: HostRuntime) -> Result<(), Fail> {
+    let alloc = rt.alloc();
+    assert!(rt; is_bad_text(alloc, spaces(alloc, 1_048_577)?.as_bytes()));
+    assert!(rt; is_bad_board(alloc, spaces(alloc, 1_048_576)?.as_str()));
+    Ok(())
+}
+
+#[test]
+fn bad_boards(rt: HostRuntime) {
+    let texts = [
+        "",
+        "colour = 1\n[board]\nthreads = 1\n",
+        "[board]\nthreads = 1\nstaxes = [1]\n",
+        "[board]\nsems = [0]\n",
+        "[board]\nthreads = 0\n",
+        "[board]\nthreads = 65\n",
+        "[board]\nthreads = 1\nsems = [2147483648]\n",
+        "[board]\nthreads = 1\nsems = [-1]\n",
+        "[board]\nthreads = 1\nsems = 0\n",
+        "[board]\nthreads = 1\nxbufs = [[1]]\n",
+        "[board]\nthreads = 1\nxbufs = [[1, 2, 3]]\n",
+        "[board]\nthreads = 1\nxbufs = [[1, 257]]\n",
+        "[board]\nthreads = 1\nmutexes = [\"ceiling 05\"]\n",
+        "[board]\nthreads = 1\ngroups = [101]\n",
+        "limit = 0\n[board]\nthreads = 1\n",
+        "limit = 1000001\n[board]\nthreads = 1\n",
+        "step = [1]\n[board]\nthreads = 1\n",
+        "[board]\nthreads = 1\n[step]\ndo = \"put\"\n",
+    ];
+    for text in texts {
+        assert!(rt; is_bad_board(rt.alloc(), text), "{text}");
+    }
+}
+
+#[test]
+fn bad_steps(rt: HostRuntime) -> Result<(), Fail> {
+    let steps = [
+        "[[step]]\ncolour = 1\n",
+        "[[step]]\ndo = \"get\"\nwho = 0\nsem = 0\n",
+        "[[step]]\ndo = \"put\"\nwho = 0\n",
+        "[[step]]\ndo = \"put\"\nsem = 0\n",
+        "[[step]]\ndo = \"put\"\nwho = 0\nsem = 0\nuntil = 1\n",
+        "[[step]]\ndo = \"arrive\"\nwho = 0\nline = 65536\n",
+        "[[step]]\ndo = \"stall\"\nwho = 0\nstage = \"Oob\"\n",
+        "[[step]]\ndo = \"stall\"\nwho = 0\nstage = 1\n",
+        "[[step]]\ndo = \"arrive\"\nwho = 0\nline = 0\nstage = \"oob\"\n",
+        "[[step]]\ndo = \"request\"\nwho = 0\nline = 5\nstage = \"oob\"\ncallback = 256\n",
+        "[[step]]\ndo = \"request\"\nwho = 0\nline = 5\nstage = \"oob\"\n",
+        "[[step]]\ndo = \"request\"\nwho = 0\nline = 5\nstage = \"oob\"\ncallback = 0\ntag = 4294967296\n",
+    ];
+    for step in steps {
+        assert!(rt; is_bad_step(rt.alloc(), step, 1)?, "{step}");
+    }
+    Ok(())
+}
+
+#[test]
+fn later_bad_steps(rt: HostRuntime) -> Result<(), Fail> {
+    let alloc = rt.alloc();
+    let good = "[[step]]\ndo = \"put\"\nwho = 0\nsem = \"0\"\n";
+    let mut steps = String::from_str(alloc, good)?;
+    steps.push_str("[[step]]\ndo = \"tick\"\n[[step]]\n")?;
+    assert!(rt; is_bad_step(alloc, steps.as_str(), 2)?);
+    let mut many = String::new(alloc);
+    for _ in 0..1233 {
+        many.push_str(good)?;
+    }
+    many.push_str("[[step]]\n")?;
+    assert!(rt; is_bad_step(alloc, many.as_str(), 1234)?);
+    Ok(())
+}
+
+// Whether a step by a thread that is written so is a bad one.
+fn is_bad_who(alloc: Global, who: &str) -> Result<bool, Fail> {
+    let mut steps = String::from_str(alloc, "[[step]]\ndo = \"put\"\nsem = 0\nwho = ")?;
+    steps.push_str(who)?;
+    steps.push_str("\n")?;
+    is_bad_step(alloc, steps.as_str(), 1)
+}
+
+#[test]
+fn forms_of_no_number(rt: HostRuntime) -> Result<(), Fail> {
+    let alloc = rt.alloc();
+    assert!(rt; !is_bad_who(alloc, "\"0\"")?);
+    let forms = [
+        "65536", "-1", "0.0", "\"00\"", "\"+1\"", "\"\"", "\" 0\"", "\"0x0\"", "\"1_0\"", "true",
+        "[0]",
+    ];
+    for form in forms {
+        assert!(rt; is_bad_who(alloc, form)?, "{form}");
+    }
+    Ok(())
+}
+
+// A text whose limit is written so is played, and its first line tells a limit of 10.
+fn is_limit_ten(alloc: Global, limit: &str) -> Result<bool, Fail> {
+    let mut text = String::from_str(alloc, "limit = ")?;
+    text.push_str(limit)?;
+    text.push_str("\n[board]\nthreads = 1\n")?;
+    let mut out = Over::new(Vec::new(alloc));
+    let done = run(alloc, text.as_bytes(), None, Vec::new(alloc), &mut out).is_ok();
+    let trace = "board threads=1 sems=0 flags=0 xbufs=0 mutexes=0 groups=0 limit=10\n";
+    Ok(done && out.into_inner().as_slice() == trace.as_bytes())
+}
+
+#[test]
+fn forms_of_numbers(rt: HostRuntime) -> Result<(), Fail> {
+    for form in ["+10", "1_0", "0xA", "\"10\""] {
+        assert!(rt; is_limit_ten(rt.alloc(), form)?, "{form}");
+    }
+    Ok(())
+}
+
+#[test]
+fn faults_in_order(rt: HostRuntime) {
+    let alloc = rt.alloc();
+    let board_first = "[board]\nthreads = 0\n[[step]]\ncolour = 1\n";
+    assert!(rt; is_bad_board(alloc, board_first));
+    assert!(rt; is_bad_text(alloc, b"[board]\nthreads = 0\n[[step]]\ncolour =\n"));
+    let own_limit = b"limit = 0\n[board]\nthreads = 1\n";
+    assert!(rt; fault_of(alloc, own_limit, Some(5)) == (Some(Fault::Board), true));
+}

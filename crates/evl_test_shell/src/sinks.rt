@@ -1,0 +1,79 @@
+//! Runs into sinks that take little, fail, or tell how they were used.
+use crate::writers::Narrow;
+use evl_shell::{Fault, Over, Sink, run};
+use std::alloc::Global;
+use std::test::*;
+
+const TEXT: &str = "[board]\nthreads = 1\nsems = [0]\n[[step]]\ndo = \"put\"\nwho = 0\nsem = 0\n";
+
+const TRACE: &str =
+    "board threads=1 sems=1 flags=0 xbufs=0 mutexes=0 groups=0 limit=1000\n1 T0 put sem=0 -> done\n";
+
+// Whether a run ends in a write fault where it has to: the sink has failed just then, and took just so many bytes.
+fn stops_after(
+    alloc: Global,
+    text: &str,
+    out: Narrow,
+    fails: bool,
+    count: usize,
+) -> (bool, Narrow) {
+    let mut out = Over::new(out);
+    let answer = run(alloc, text.as_bytes(), None, Vec::new(alloc), &mut out);
+    let wanted = if fails { Err(Fault::Write) } else { Ok(()) };
+    let is_answered = answer == wanted && out.failed() == fails;
+    let writer = out.into_inner();
+    (is_answered && writer.taken.len() == count, writer)
+}
+
+fn starts(taken: &Vec<u8>, trace: &str) -> bool {
+    Some(taken.as_slice()) == trace.as_bytes().get(..taken.len())
+}
+
+#[test]
+fn a_byte_a_write(rt: HostRuntime) {
+    let alloc = rt.alloc();
+    let narrow = Narrow::new(alloc, 1, 0, false);
+    let (ends, writer) = stops_after(alloc, TEXT, narrow, false, TRACE.len());
+    assert!(rt; ends && writer.writes == TRACE.len() && starts(&writer.taken, TRACE));
+}
+
+#[test]
+fn each_write_fails_once(rt: HostRuntime) {
+    let alloc = rt.alloc();
+    for stop in 1..60 {
+        let fails = stop <= TRACE.len().div_ceil(2);
+        let count = if fails { 2 * (stop - 1) } else { TRACE.len() };
+        let narrow = Narrow::new(alloc, 2, stop, stop % 2 == 0);
+        let (ends, writer) = stops_after(alloc, TEXT, narrow, fails, count);
+        assert!(rt; ends && starts(&writer.taken, TRACE));
+    }
+}
+
+// A scenario of so many puts.
+fn puts(alloc: Global, count: usize) -> Result<String, Fail> {
+    let mut text = String::from_str(alloc, "[board]\nthreads = 1\nsems = [0]\n")?;
+    for _ in 0..count {
+        text.push_str("[[step]]\ndo = \"put\"\nwho = 0\nsem = 0\n")?;
+    }
+    Ok(text)
+}
+
+#[test]
+fn writes_in_chunks(rt: HostRuntime) -> Result<(), Fail> {
+    let alloc = rt.alloc();
+    let text = puts(alloc, 1000)?;
+    let wide = Narrow::new(alloc, 1_000_000, 0, false);
+    let (ends, writer) = stops_after(alloc, text.as_str(), wide, false, 24_962);
+    assert!(rt; ends && writer.writes == 7);
+    Ok(())
+}
+
+#[test]
+fn fails_after_4096_bytes(rt: HostRuntime) -> Result<(), Fail> {
+    let alloc = rt.alloc();
+    let text = puts(alloc, 1000)?;
+    let narrow = Narrow::new(alloc, 1024, 5, true);
+    let (ends, writer) = stops_after(alloc, text.as_str(), narrow, true, 4096);
+    assert!(rt; ends && writer.writes == 5);
+    Ok(())
+}
