@@ -10,8 +10,6 @@ mod kernel_box;
 pub mod laws;
 mod machine;
 mod making;
-#[cfg(test)]
-mod tests;
 mod views;
 mod waiting;
 

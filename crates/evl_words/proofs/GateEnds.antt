@@ -43,7 +43,7 @@ gate_opens limit seats bounded =
       };
     }
 
-pub rule_opens : (limit seats : ℕ) → limit ≤ 1000 → GateRule limit seats (opening (0 ∷ []) [] (all_seats limit seats))
+pub rule_opens : (limit seats : ℕ) → limit ≤ 1000 → GateRule {S = Unit {0}} limit seats (opening (0 ∷ []) [] (all_seats limit seats))
 rule_opens limit seats bounded = record {
   views = replicate seats (newcomer limit);
   deals = deals_opening (replicate seats (newcomer limit));

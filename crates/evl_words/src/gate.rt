@@ -98,6 +98,3 @@ impl<A: Allocator> Model for StaxGate<A> {
 
     ghost invariant = { λ g. (g.table.shared.table_id.words ≡ 1) × (g.table.shared.table_id.slots ≡ 0) × (g.table.shared.key.limit ≡ g.limit) × (g.limit ≤ 1000) };
 }
-
-#[cfg(test)]
-mod tests;

@@ -130,6 +130,3 @@ impl<A: Allocator> Model for MutexWord<A> {
 
     ghost invariant = { λ m. (m.table.shared.table_id.words ≡ 1) × (m.table.shared.table_id.slots ≡ 0) };
 }
-
-#[cfg(test)]
-mod tests;
