@@ -87,37 +87,25 @@ fn held_call(held: &mut Held<'_>, call: Call) -> Result<Reply, Refusal>
     held.apply(call)
 }
 
-// The kernel goes back, and of its caller the machine alone is told.
-fn given(held: Held<'_>) -> Caller
-    ensures { result.machine ≡ held.entry.of.caller.machine }
-{
-    held.give()
-}
-
 fn is_busy(answer: &Result<Reply, Refusal>) -> bool {
     matches!(answer, Err(Refusal::CoreBusy))
 }
 
-// What the first caller does while it has the kernel, and what the second is told meanwhile. None where an answer isn't
-// the one that is wanted.
-fn held_row(machine: &Machine, first: Caller, second: Caller) -> Option<(Caller, Caller)>
-    requires { (first.machine ≡ machine.now.of) × (second.machine ≡ machine.now.of) }
-    ensures { IfSome result (λ both. (both.0.machine ≡ machine.now.of) × (both.1.machine ≡ machine.now.of)) }
+// The first caller has the core for one call, while the second is told that it is busy. None where an answer isn't the
+// one that is wanted.
+fn held_row(machine: &Machine, first: Caller, second: &mut Caller) -> Option<Caller>
+    requires { (first.machine ≡ machine.now.of) × (second.old.machine ≡ machine.now.of) }
+    ensures second { second.new.machine ≡ second.old.machine }
+    ensures first { IfSome result (λ c. c.machine ≡ machine.now.of) }
 {
-    let mut second = second;
-    let Ok(mut held) = taken(machine, first) else {
+    let Ok(mut held) = machine.take(first) else {
         return None;
     };
-    let put_held = held_call(&mut held, put());
-    let busy = call_of(machine, &mut second, put());
-    let back = taken(machine, second);
-    let first = given(held);
-    let (second, refused) = match back {
-        Err(second) => (second, true),
-        Ok(other) => (given(other), false),
-    };
-    if refused && is_done(&put_held) && is_busy(&busy) {
-        Some((first, second))
+    let put_held = held.apply(put());
+    let busy = call_of(machine, second, put());
+    let first = held.give();
+    if is_done(&put_held) && is_busy(&busy) {
+        Some(first)
     } else {
         None
     }
@@ -143,13 +131,26 @@ fn free_row(machine: &Machine, first: &mut Caller, second: &mut Caller) -> bool
 // Row core_held.
 #[test]
 fn core_held(rt: HostRuntime) -> Result<(), Fail> {
-    let Ok((machine, first, second)) = two_callers(rt.alloc(), 100) else {
+    let Ok((machine, first, mut second)) = two_callers(rt.alloc(), 100) else {
         panic!(rt; "a machine")
     };
-    let Some((mut first, mut second)) = held_row(&machine, first, second) else {
+    let Some(mut first) = held_row(&machine, first, &mut second) else {
         panic!(rt; "while the core is held")
     };
     assert!(rt; free_row(&machine, &mut first, &mut second));
+    Ok(())
+}
+
+#[test]
+fn held_core_is_not_taken(rt: HostRuntime) -> Result<(), Fail> {
+    let Ok((machine, first, second)) = two_callers(rt.alloc(), 100) else {
+        panic!(rt; "a machine")
+    };
+    let Ok(held) = taken(&machine, first) else {
+        panic!(rt; "the core is free")
+    };
+    assert!(rt; taken(&machine, second).is_err());
+    assert!(rt; held.kernel().history().is_empty());
     Ok(())
 }
 

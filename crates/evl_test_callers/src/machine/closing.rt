@@ -62,10 +62,10 @@ fn refused(machine: Machine, callers: Vec<Caller>, why: Refusal) -> Option<(Mach
 
 #[test]
 fn close_machine(rt: HostRuntime) -> Result<(), Fail> {
-    let Ok((machine, first, second)) = two_callers(rt.alloc(), 100) else {
+    let Ok((machine, first, mut second)) = two_callers(rt.alloc(), 100) else {
         panic!(rt; "a machine")
     };
-    let Some((mut first, mut second)) = held_row(&machine, first, second) else {
+    let Some(mut first) = held_row(&machine, first, &mut second) else {
         panic!(rt; "the row")
     };
     assert!(rt; free_row(&machine, &mut first, &mut second));
