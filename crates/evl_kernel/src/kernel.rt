@@ -8,6 +8,7 @@ ghost use Rattle.evl_kernel.specs.Fires.{AddsByCalls};
 ghost use Rattle.evl_kernel.specs.Limits.{history_limit};
 ghost use Rattle.evl_kernel.specs.Openings.{can_open};
 ghost use Rattle.evl_kernel.specs.Histories.{IsLegal};
+ghost use Rattle.evl_kernel.specs.Places.{AreInOnePlace};
 ghost use Rattle.evl_kernel.specs.KernelViews.{AddsEntry, IsOpened, IsKernelAnswer, makes_entry};
 
 use crate::records::Records;
@@ -45,6 +46,7 @@ pub struct KernelOf<C, A: Allocator> {
 pub type Kernel = KernelOf<Callback, Global>;
 
 impl<C, A: Allocator> Model for KernelOf<C, A> {
+    ghost use Rattle.evl_kernel.specs.Places.{AreInOnePlace};
     ghost use Rattle.evl_kernel.specs.KernelViews.{KernelView};
     ghost use Rattle.evl_kernel.specs.Insides.{kernel_view, KernelIsSound};
 
@@ -98,6 +100,7 @@ impl<C: Handler, A: Allocator> KernelOf<C, A> {
         A: Clone,
         ensures opened { IfOk result (λ k. IsOpened C.declared C.plan board bank.items limit k) }
         ensures answering { IfOk result (λ k. AnswersAsTold C.declared C.plan k.callbacks) }
+        ensures places { IfOk result (λ k. AreInOnePlace k.callbacks) }
         ensures range { (result ≡ Err Refusal.Range) ↔ (can_open board (length bank.items) limit ≡ false) }
         ensures refusals { IfErr result (λ e. (e ≡ Refusal.Range) ⊎ (e ≡ Refusal.NoMemory)) }
     {
@@ -127,7 +130,9 @@ impl<C: Handler, A: Allocator> KernelOf<C, A> {
         ensures room { OnOk result (n ≤ self.new.room) }
         ensures full { (result ≡ Err Refusal.HistoryFull) ↔ (self.old.limit < length self.old.history.entries + n) }
         ensures refusals { IfErr result (λ e. (e ≡ Refusal.HistoryFull) ⊎ (e ≡ Refusal.NoMemory)) }
-        ensures rest { self.new ≡ record self.old { room = self.new.room } }
+        ensures history { self.new.history ≡ self.old.history }
+        ensures callbacks { self.new.callbacks ≡ self.old.callbacks }
+        ensures limit { self.new.limit ≡ self.old.limit }
         ensures keeps { self.old.room ≤ self.new.room }
     {
         if n > self.limit - self.history.len() {
@@ -161,6 +166,7 @@ impl<C: Handler, A: Allocator> KernelOf<C, A> {
         ensures brings { BringsNone self.old.callbacks self.new.callbacks }
         ensures told { told self.new.callbacks.bank ≡ told self.old.callbacks.bank }
         ensures called { AddsByCalls C.gives self.old.callbacks self.old.history caller.0 call self.new.history }
+        ensures places { AreInOnePlace self.new.callbacks }
     {
         if self.history.len() == self.limit {
             return Err(Refusal::HistoryFull);
