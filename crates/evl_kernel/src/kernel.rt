@@ -1,8 +1,10 @@
 //! The kernel and its history.
-ghost use Rattle.std.specs.Prelude.{◌≡◌, ◌⊎◌, ◌↔◌, ◌+◌, ◌≤◌, ◌<◌, length, true, false, IsTrue, IsFalse, OnOk, IfOk, IfErr};
+ghost use Rattle.std.specs.Prelude.{◌≡◌, ◌⊎◌, ◌↔◌, ◌+◌, ◌≤◌, ◌<◌, length, true, false, None, option_map, IsTrue, IsFalse, OnOk, IfOk, IfErr};
 ghost use Rattle.evl_pipeline.specs.Counts.{count_at};
 ghost use Rattle.evl_pipeline.specs.Limits.{line_count};
 ghost use Rattle.evl_pipeline.specs.Lines as lines;
+ghost use Rattle.evl_clock.specs.Clocks.{timer_at};
+ghost use Rattle.evl_clock.specs.Limits.{timer_count};
 ghost use Rattle.evl_kernel.specs.Callbacks.{AnswersAsTold, BringsNone, told};
 ghost use Rattle.evl_kernel.specs.Fires.{AddsByCalls};
 ghost use Rattle.evl_kernel.specs.Limits.{history_limit};
@@ -12,7 +14,10 @@ ghost use Rattle.evl_kernel.specs.Places.{AreInOnePlace};
 ghost use Rattle.evl_kernel.specs.KernelViews.{AddsEntry, IsOpened, IsKernelAnswer, makes_entry};
 
 use crate::records::Records;
-use evl_base::{Board, Call, Entry, LineNo, Play, Refusal, Reply, Spares, Stage, ThreadId};
+use evl_base::{
+    Board, Call, Entry, LineNo, Play, Refusal, Reply, Spares, Stage, ThreadId, TimerId,
+};
+use evl_clock::TimerState;
 use evl_pipeline::{Callback, Handler};
 use std::alloc::{Allocator, Global};
 use std::marker::Model;
@@ -150,9 +155,10 @@ impl<C: Handler, A: Allocator> KernelOf<C, A> {
     ///
     /// `HistoryFull` exactly where the history is at its limit, `NoMemory` where room for the entry and its plays was
     /// refused: neither makes an entry or changes anything. Every other refusal is an answer with an entry: the first
-    /// that applies of `Unknown` (no such thread, line, callback or element), `Range`, `Invalid`, then the call's own.
-    /// Each play of a line calls the callback that stands there with its line, stage, tag, count and date, on the condition
-    /// that it answers its plan (this profile).
+    /// that applies of `Unknown` (no such thread, line, callback, timer or element), `Range`, `Invalid`, then the call's own.
+    /// Each play of a line calls the callback that stands there with its line, stage, tag, count and date, and each play of
+    /// a timer its callback with line 0, the out-of-band stage, its tag, its count and the date, on the condition that it
+    /// answers its plan (this profile).
     pub fn apply(&mut self, caller: ThreadId, call: Call) -> Result<Reply, Refusal>
         requires answering { AnswersAsTold C.declared C.plan self.old.callbacks }
         ensures entry { IsTrue (makes_entry result) → AddsEntry self.old.history caller.0 call result self.new.history }
@@ -244,6 +250,15 @@ impl<C, A: Allocator> KernelOf<C, A> {
         ensures legal { IsLegal self.now.history }
     {
         self.records.unhandled(line, stage)
+    }
+
+    /// What a timer does, if there is such a timer; there is none above 63 (Xenomai 4: EVL timers).
+    pub fn timer(&self, id: TimerId) -> Option<TimerState>
+        ensures timer { result ≡ option_map (λ t. t.state) (timer_at self.now.history.state.clock id.0) }
+        ensures outside { timer_count ≤ id.0 → result ≡ None }
+        ensures legal { IsLegal self.now.history }
+    {
+        self.records.timer(id)
     }
 }
 
