@@ -4,13 +4,14 @@ use Rattle.atomic_table.specs.Table.{State as TableState}
 use Rattle.evl_kernel.specs.Histories.{History, IsLegal}
 use Rattle.evl_kernel.specs.KernelViews.{KernelView}
 use Rattle.evl_kernel.proofs.QuietLaws.{stalled_while_pending}
+use Rattle.evl_kernel.proofs.PendingLaws.{due_pends}
 use Rattle.evl_machine.specs.CoreRule.{IsFree, IsTaken}
 use Rattle.evl_machine.specs.ThreadRule.{core_of}
 use Rattle.evl_machine.specs.Known.{ComesFrom, CoreHand, KeptKnown, past_of}
 use Rattle.evl_machine.specs.QuietCore.{IsQuiet, LiesQuiet}
 
 pub ends_quiet : (h : History) → IsLegal h → IsQuiet h
-ends_quiet h legal = stalled_while_pending h legal
+ends_quiet h legal = record { stalled = stalled_while_pending h legal; due = due_pends h legal }
 
 module _ {C : Type 0} where
   pub free_is_quiet : (first : KernelView C) → (s : TableState (Option (KernelView C)) (CoreHand C)) → KeptKnown first s → get_or s.words 0 0 ≡ 0 → LiesQuiet s.homes

@@ -23,7 +23,8 @@ pub fn core_world_stands<C>()
 {}
 
 /// Whenever the core of a running machine is free, the kernel lies in the slot with a legal history, and a line is
-/// pending there out-of-band only while the out-of-band stage is stalled (Dovetail: interrupt pipeline).
+/// pending there out-of-band only while the out-of-band stage is stalled, and a timer or deadline is due only while line 0
+/// is (Dovetail: interrupt pipeline).
 pub fn free_core_is_quiet<C>()
     ensures { (first : KernelView C) → (s : State (Option (KernelView C)) (CoreHand C)) → KeptKnown first s → slice_index s.words 0 ≡ 0 → LiesQuiet s.homes }
 {}
