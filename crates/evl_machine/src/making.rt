@@ -45,7 +45,9 @@ impl<C: Handler, A: Allocator> MachineOf<C, A> {
         let threads = board.threads;
         let for_machine: Result<A, AllocError> = alloc.clone();
         let kernel = KernelOf::over(alloc, boxes, board, bank, limit)?;
-        let spare = for_machine.map_err(|_| Refusal::NoMemory)?;
+        let Ok(spare) = for_machine else {
+            return Err(Refusal::NoMemory);
+        };
         match seated(spare, kernel, threads) {
             Ok(made) => Ok(made),
             Err(_) => Err(Refusal::NoMemory),
