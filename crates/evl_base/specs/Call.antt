@@ -2,7 +2,7 @@
 use Rattle.std.specs.Prelude.{ℕ, List, ◌++◌, codes}
 use Rattle.std.specs.Fmt.{decimal}
 use Rattle.evl_base.specs.declared.call.Call.{Call}
-use Rattle.evl_base.specs.declared.call.Call.TheVariants.{Request, Free, Arrive, Post, Stall, Unstall, TryGet, Put, Peek}
+use Rattle.evl_base.specs.declared.call.Call.TheVariants.{Request, Free, Arrive, Post, Stall, Unstall, Tick, Now, NewTimer, StartTimer, StopTimer, DropTimer, Overruns, TryGet, Put, Peek}
 use Rattle.evl_base.specs.declared.stage.Stage.{Stage}
 use Rattle.evl_base.specs.Stage.{stage_text}
 
@@ -12,6 +12,9 @@ line_and_stage_text line stage = codes "line=" ++ (decimal line ++ (codes " stag
 abbrev pub stage_and_line_text : Stage → ℕ → List ℕ
 stage_and_line_text stage line = codes "stage=" ++ (stage_text stage ++ (codes " line=" ++ decimal line))
 
+abbrev pub date_and_interval_text : ℕ → ℕ → List ℕ
+date_and_interval_text date interval = codes "date=" ++ (decimal date ++ (codes " interval=" ++ decimal interval))
+
 abbrev pub call_text : Call → List ℕ
 call_text (Request line stage callback tag) =
     codes "request " ++ (line_and_stage_text line.0 stage ++ (codes " callback=" ++ (decimal callback ++ (codes " tag=" ++ decimal tag))))
@@ -20,6 +23,14 @@ call_text (Arrive line) = codes "arrive line=" ++ decimal line.0
 call_text (Post stage line) = codes "post " ++ stage_and_line_text stage line.0
 call_text (Stall stage) = codes "stall stage=" ++ stage_text stage
 call_text (Unstall stage) = codes "unstall stage=" ++ stage_text stage
+call_text (Tick delta) = codes "tick delta=" ++ decimal delta
+call_text Now = codes "now"
+call_text (NewTimer callback tag) = codes "new_timer callback=" ++ (decimal callback ++ (codes " tag=" ++ decimal tag))
+call_text (StartTimer timer date interval) =
+    codes "start_timer timer=" ++ (decimal timer.0 ++ (codes " " ++ date_and_interval_text date interval))
+call_text (StopTimer timer) = codes "stop_timer timer=" ++ decimal timer.0
+call_text (DropTimer timer) = codes "drop_timer timer=" ++ decimal timer.0
+call_text (Overruns timer) = codes "overruns timer=" ++ decimal timer.0
 call_text (TryGet sem) = codes "try_get sem=" ++ decimal sem.0
 call_text (Put sem) = codes "put sem=" ++ decimal sem.0
 call_text (Peek sem) = codes "peek sem=" ++ decimal sem.0

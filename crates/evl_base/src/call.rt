@@ -1,7 +1,7 @@
 //! The calls of the kernel.
 ghost use Rattle.std.specs.Prelude.{◌≡◌, Some};
 
-use crate::numbers::{LineNo, SemId};
+use crate::numbers::{LineNo, SemId, TimerId};
 use crate::stage::Stage;
 use std::fmt;
 
@@ -36,6 +36,35 @@ pub enum Call {
     /// Ends a stall of a stage.
     Unstall {
         stage: Stage,
+    },
+    /// Moves the date by so many nanoseconds.
+    Tick {
+        delta: u64,
+    },
+    /// Asks for the date.
+    Now,
+    /// Makes an idle timer of a callback of the bank, with a tag that its fires carry.
+    NewTimer {
+        callback: u8,
+        tag: u32,
+    },
+    /// Lets a timer run: it fires at the date, and then with the interval, both in nanoseconds; once where that is 0.
+    StartTimer {
+        timer: TimerId,
+        date: u64,
+        interval: u64,
+    },
+    /// Makes a timer idle.
+    StopTimer {
+        timer: TimerId,
+    },
+    /// Takes a timer away and puts its callback back into its bank place.
+    DropTimer {
+        timer: TimerId,
+    },
+    /// Asks how many periods a timer missed since its start.
+    Overruns {
+        timer: TimerId,
     },
     /// Lowers a semaphore's count.
     TryGet {
@@ -79,6 +108,24 @@ impl Call {
             },
             Call::Stall { stage } => Call::Stall { stage: *stage },
             Call::Unstall { stage } => Call::Unstall { stage: *stage },
+            Call::Tick { delta } => Call::Tick { delta: *delta },
+            Call::Now => Call::Now,
+            Call::NewTimer { callback, tag } => Call::NewTimer {
+                callback: *callback,
+                tag: *tag,
+            },
+            Call::StartTimer {
+                timer,
+                date,
+                interval,
+            } => Call::StartTimer {
+                timer: *timer,
+                date: *date,
+                interval: *interval,
+            },
+            Call::StopTimer { timer } => Call::StopTimer { timer: *timer },
+            Call::DropTimer { timer } => Call::DropTimer { timer: *timer },
+            Call::Overruns { timer } => Call::Overruns { timer: *timer },
             Call::TryGet { sem } => Call::TryGet { sem: *sem },
             Call::Put { sem } => Call::Put { sem: *sem },
             Call::Peek { sem } => Call::Peek { sem: *sem },
@@ -125,6 +172,35 @@ impl fmt::Display for Call {
             }
             Call::Stall { stage } => write!(f, "stall stage={stage}"),
             Call::Unstall { stage } => write!(f, "unstall stage={stage}"),
+            Call::Tick { delta } => write!(f, "tick delta={delta}"),
+            Call::Now => write!(f, "now"),
+            Call::NewTimer { callback, tag } => {
+                write!(f, "new_timer callback={callback} tag={tag}")
+            }
+            Call::StartTimer {
+                timer,
+                date,
+                interval,
+            } => {
+                let timer = timer.0;
+                let dates = DateAndInterval {
+                    date: *date,
+                    interval: *interval,
+                };
+                write!(f, "start_timer timer={timer} {dates}")
+            }
+            Call::StopTimer { timer } => {
+                let timer = timer.0;
+                write!(f, "stop_timer timer={timer}")
+            }
+            Call::DropTimer { timer } => {
+                let timer = timer.0;
+                write!(f, "drop_timer timer={timer}")
+            }
+            Call::Overruns { timer } => {
+                let timer = timer.0;
+                write!(f, "overruns timer={timer}")
+            }
             Call::TryGet { sem } => {
                 let sem = sem.0;
                 write!(f, "try_get sem={sem}")
@@ -176,5 +252,24 @@ impl fmt::Display for StageAndLine {
         let stage = self.stage;
         let line = self.line.0;
         write!(f, "stage={stage} line={line}")
+    }
+}
+
+/// The keys of a timer's dates.
+#[derive(Drop)]
+struct DateAndInterval {
+    date: u64,
+    interval: u64,
+}
+
+impl fmt::Display for DateAndInterval {
+    ghost use Rattle.evl_base.specs.Call.{date_and_interval_text};
+
+    ghost output = { λ dates. Some (date_and_interval_text dates.date dates.interval) };
+
+    fn fmt<W: fmt::Write>(&self, f: &mut fmt::Formatter<W>) -> fmt::Result {
+        let date = self.date;
+        let interval = self.interval;
+        write!(f, "date={date} interval={interval}")
     }
 }

@@ -1,8 +1,8 @@
 ghost use Rattle.std.specs.Prelude.{◌≡◌, []};
 
 use crate::{
-    Board, Bytes, Call, LineNo, MutexKind, Play, Policy, Refusal, Reply, SemId, Stage, Take,
-    ThreadId, TimerId, Way, put_call, put_play, put_reply,
+    Board, Call, LineNo, MutexKind, Play, Policy, Refusal, Reply, SemId, Spares, Stage, Take,
+    ThreadId, TimerId, Transfer, Way, put_call, put_play, put_reply,
 };
 use arrayvec::ArrayVec;
 use std::alloc::Global;
@@ -33,20 +33,41 @@ fn calls_are_appended(rt: HostRuntime) -> Result<(), Fail> {
     Ok(())
 }
 
+// Three bytes and none, in boxes that were kept.
+fn two_transfers(alloc: Global) -> Result<(Transfer, Transfer), Refusal> {
+    let mut spares = Spares::new(alloc, alloc);
+    spares.keep(2)?;
+    let three = spares.take(&[0x61, 0x0a, 0xff]);
+    Ok((three, spares.take(&[])))
+}
+
+// Whether a reply that was copied has the same text.
+fn is_copied(alloc: Global, reply: &Reply, wanted: &str) -> Result<bool, Refusal> {
+    let mut spares = Spares::new(alloc, alloc);
+    spares.keep(1)?;
+    let copy = Ok(reply.copied(&mut spares));
+    Ok(reply_text(alloc, &copy)?.as_slice() == wanted.as_bytes())
+}
+
+#[test]
+fn bytes_are_copied(rt: HostRuntime) -> Result<(), Fail> {
+    let (three, _) = two_transfers(rt.alloc()).map_err(|_| "boxes")?;
+    let reply = Reply::Bytes(three);
+    assert!(rt; is_copied(rt.alloc(), &reply, "bytes 610aff").map_err(|_| "copy")?);
+    Ok(())
+}
+
 #[test]
 fn replies_have_their_texts(rt: HostRuntime) -> Result<(), Fail> {
-    let mut bytes = Bytes::new();
-    bytes.push(0x61);
-    bytes.push(0x0a);
-    bytes.push(0xff);
+    let (three, none) = two_transfers(rt.alloc()).map_err(|_| "boxes")?;
     let cases = [
         (Ok(Reply::Done), "done"),
         (Ok(Reply::Begun), "begun"),
         (Ok(Reply::Count(-2)), "count -2"),
         (Ok(Reply::Bits(4_294_967_295)), "bits 4294967295"),
         (Ok(Reply::Number(540)), "number 540"),
-        (Ok(Reply::Bytes(bytes)), "bytes 610aff"),
-        (Ok(Reply::Bytes(Bytes::new())), "bytes -"),
+        (Ok(Reply::Bytes(three)), "bytes 610aff"),
+        (Ok(Reply::Bytes(none)), "bytes -"),
         (Ok(Reply::Chosen(None)), "thread none"),
         (
             Ok(Reply::Handed {

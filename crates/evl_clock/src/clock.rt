@@ -8,7 +8,7 @@ ghost use Rattle.evl_clock.specs.Limits.{thread_count, timer_count};
 ghost use Rattle.evl_clock.specs.Timers.{timer_kinds};
 
 use crate::due::{Due, Item};
-use crate::search::{free_place, least_deadline, least_timer, sooner, take_timer, undated};
+use crate::search::{free_place, least_deadline, least_timer, sooner_item, take_timer};
 use crate::timer::Timer;
 use crate::timer_state::TimerState;
 use bitflags::Flags;
@@ -108,7 +108,7 @@ impl<C, A: Allocator> ClockOf<C, A> {
     {
         let timer = least_timer(&self.timers, self.date);
         let deadline = least_deadline(&self.deadlines, self.date);
-        undated(sooner(timer, deadline))
+        sooner_item(timer, deadline)
     }
 
     // Whether something is due.

@@ -18,8 +18,8 @@ fn due_of(now: u64, date: Option<u64>, one: Item) -> Option<(u64, Item)>
     }
 }
 
-/// Of two the one with the lower date, and the first at equal dates.
-pub fn sooner(a: Option<(u64, Item)>, b: Option<(u64, Item)>) -> Option<(u64, Item)>
+// Of two the one with the lower date, and the first at equal dates.
+fn sooner(a: Option<(u64, Item)>, b: Option<(u64, Item)>) -> Option<(u64, Item)>
     ensures sooner { result ≡ sooner a b }
 {
     match (a, b) {
@@ -29,11 +29,11 @@ pub fn sooner(a: Option<(u64, Item)>, b: Option<(u64, Item)>) -> Option<(u64, It
     }
 }
 
-/// What was found, without its date.
-pub fn undated(found: Option<(u64, Item)>) -> Option<Item>
-    ensures item { result ≡ option_map (λ d. d.1) found }
+/// The sooner of a timer and a deadline, without its date; at equal dates the timer.
+pub fn sooner_item(timer: Option<(u64, Item)>, deadline: Option<(u64, Item)>) -> Option<Item>
+    ensures item { result ≡ option_map (λ d. d.1) (sooner timer deadline) }
 {
-    match found {
+    match sooner(timer, deadline) {
         Some((_, item)) => Some(item),
         None => None,
     }

@@ -75,7 +75,7 @@ module _ {C : Type 0} where
       by None = refl
       by (Some place) = refl
 
-  kinds-kept : (r s : RecordsView C) (n : ℕ) → told s.bank ≡ told r.bank → kinds_at (state_of s) n ≡ kinds_at (state_of r) n
+  pub kinds-kept : (r s : RecordsView C) (n : ℕ) → told s.bank ≡ told r.bank → kinds_at (state_of s) n ≡ kinds_at (state_of r) n
   kinds-kept r s n same = kinds-told s n ∙ (ap (λ (hs : List Handler). option_map_or (λ h. h.kinds) (slice_get hs n) 0) same ∙ sym (kinds-told r n))
 
   pub allowed-kept : (r s : RecordsView C) → OnlyOld r.lines s.lines → told s.bank ≡ told r.bank → AreAllowed (state_of r) → AreAllowed (state_of s)
@@ -114,27 +114,28 @@ module _ {C : Type 0} where
       home : (number : ℕ) (callback : C) (p : BankPlace C) → p.callback ≡ Some callback
           → (slice_get r.bank number ≡ Some p) ⊎ ((number ≡ at.callback.number) × (record place { callback = Some at.callback.callback } ≡ p)) → Stands (whereabouts r) number callback
       home number callback p has (inl old) = inl (record { place = p; at = old; there = has })
-      home number callback p has (inr (same, is)) = inr (record {
+      home number callback p has (inr (same, is)) = inr (inl (record {
         stage = stage;
         line = line;
         at = at;
         there = here;
         number_is = sym same;
         callback_is = some_is (ap (λ (q : BankPlace C). q.callback) is ∙ has);
-      })
+      }))
 
       stood : BringsNone (whereabouts r) (whereabouts (after_free r line stage at place))
       stood number callback (inl it) = home number callback it.place it.there (get-set r.bank at.callback.number number _ it.place it.at)
-      stood number callback (inr it) =
+      stood number callback (inr (inr it)) = inr (inr (record { timer = it.timer; at = it.at; there = it.there; number_is = it.number_is; callback_is = it.callback_is }))
+      stood number callback (inr (inl it)) =
           let was = old-freed r.lines line stage it.stage it.line it.at it.there in
-          inr (record {
+          inr (inl (record {
             stage = it.stage;
             line = it.line;
             at = was.0;
             there = was.1;
             number_is = ap (λ (n : Numbered C). n.number) (sym was.2) ∙ it.number_is;
             callback_is = ap (λ (n : Numbered C). n.callback) (sym was.2) ∙ it.callback_is;
-          })
+          }))
 
   -- a callback leaves for a line
   abbrev pub after_request : RecordsView C → ℕ → Stage → ℕ → ℕ → C → BankPlace C → RecordsView C
@@ -182,14 +183,14 @@ module _ {C : Type 0} where
 
       out : (number : ℕ) (other : C) (v : Stage) (l : ℕ) (at : Installed (Numbered C)) → at.callback.number ≡ number → at.callback.callback ≡ other
           → Stood r.lines v l at ⊎ ((v ≡ stage) × (at.callback ≡ record { number = n; callback = callback })) → Stands (whereabouts r) number other
-      out number other v l at is_number is_callback (inl was) = inr (record {
+      out number other v l at is_number is_callback (inl was) = inr (inl (record {
         stage = v;
         line = l;
         at = was.0;
         there = was.1;
         number_is = ap (λ (m : Numbered C). m.number) (sym was.2) ∙ is_number;
         callback_is = ap (λ (m : Numbered C). m.callback) (sym was.2) ∙ is_callback;
-      })
+      }))
       out number other v l at is_number is_callback (inr (same, new)) =
           let this_number : number ≡ n = sym is_number ∙ ap (λ (m : Numbered C). m.number) new in
           let this_callback : callback ≡ other = sym (ap (λ (m : Numbered C). m.callback) new) ∙ is_callback in
@@ -197,7 +198,8 @@ module _ {C : Type 0} where
 
       stood : BringsNone (whereabouts r) (whereabouts (after_request r line stage n tag callback place))
       stood number other (inl it) = home number other it.place it.there (get-set r.bank n number _ it.place it.at)
-      stood number other (inr it) = out number other it.stage it.line it.at it.number_is it.callback_is
+      stood number other (inr (inr it)) = inr (inr (record { timer = it.timer; at = it.at; there = it.there; number_is = it.number_is; callback_is = it.callback_is }))
+      stood number other (inr (inl it)) = out number other it.stage it.line it.at it.number_is it.callback_is
           (new-requested r.lines line stage (record { number = n; callback = callback }) tag it.stage it.line it.at it.there)
 
 -- a request that isn't refused brings allowed kinds only
@@ -253,14 +255,14 @@ module _ {C : Type 0} where
       by None here e = absurd (none_some e)
       by (Some at) here e =
           let same : at.callback ≡ numbered = some_is e in
-          let place = place_of declared plan (whereabouts r) numbered.number numbered.callback answers (inr (record {
+          let place = place_of declared plan (whereabouts r) numbered.number numbered.callback answers (inr (inl (record {
             stage = stage;
             line = line;
             at = at;
             there = here;
             number_is = ap (λ (n : Numbered C). n.number) same;
             callback_is = ap (λ (n : Numbered C). n.callback) same;
-          })) in
+          }))) in
           record { at = at; here = here; is = same; place = place.0; there = place.1 }
 
   -- the records after a callback came back, under the names of the call that gave it

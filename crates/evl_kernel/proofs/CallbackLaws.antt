@@ -14,16 +14,17 @@ use Rattle.evl_kernel.proofs.RenamedLaws.{old-renamed}
 module _ {C : Type 0} where
   pub brings-old : (w : Whereabouts C) (q : Pipeline (Numbered C)) → OnlyOld w.lines q → BringsNone w (record w { lines = q })
   brings-old w q only number callback (inl home) = inl (record { place = home.place; at = home.at; there = home.there })
-  brings-old w q only number callback (inr out) =
+  brings-old w q only number callback (inr (inr timed)) = inr (inr (record { timer = timed.timer; at = timed.at; there = timed.there; number_is = timed.number_is; callback_is = timed.callback_is }))
+  brings-old w q only number callback (inr (inl out)) =
       let was = only out.stage out.line out.at out.there in
-      inr (record {
+      inr (inl (record {
         stage = out.stage;
         line = out.line;
         at = was.0;
         there = was.1;
         number_is = ap (λ (n : Numbered C). n.number) (sym was.2) ∙ out.number_is;
         callback_is = ap (λ (n : Numbered C). n.callback) (sym was.2) ∙ out.callback_is;
-      })
+      }))
 
   -- after a change of the lines that brings nothing
   pub keeps-old : (r : RecordsView C) (q : Pipeline (Numbered C)) → OnlyOld r.lines q → KeepsCallbacks r (record r { lines = q })

@@ -1,20 +1,83 @@
--- Nothing is due yet, so what is played next is a line.
-use Rattle.std.proofs.Common.{◌≡◌, Bool, true, false, Option, None, if◌then◌else◌, refl, ap}
+-- What is played next is a due item or a line.
+use Rattle.std.proofs.Common.{◌≡◌, ℕ, Bool, true, false, Option, Some, None, if◌then◌else◌, refl, sym, ap, ◌∙◌, subst}
+use Rattle.evl_base.specs.declared.numbers.TimerId.{TimerId}
+use Rattle.evl_base.specs.declared.stage.Stage.{Stage}
+use Rattle.evl_base.specs.declared.stage.Stage.TheVariants.{Oob}
 use Rattle.evl_base.specs.declared.play.Play.{Play}
+use Rattle.evl_clock.specs.declared.due.Item.{Item}
+use Rattle.evl_clock.specs.declared.due.Item.TheVariants as item
+use Rattle.evl_clock.specs.declared.timer.Timer.{Timer}
+use Rattle.evl_clock.specs.Clocks.{Clock, timer_at}
+use Rattle.evl_clock.specs.Dues.{next_due}
+use Rattle.evl_clock.proofs.DueLaws.{not-empty}
 use Rattle.evl_kernel.specs.States.{State}
-use Rattle.evl_kernel.specs.Settling.{Settling, item_played, item_next, item_before, item_moves, line_next, move_of, next_move, next_of, next_play}
+use Rattle.evl_kernel.specs.Elements.{Touch}
+use Rattle.evl_kernel.specs.Settling.{Settling, Move, item_played, item_touches, item_next, item_before, item_moves, line_next, move_of, moving, next_move, next_of, next_play, going_on, play_touches, played, timer_there}
 
-no_item : (at : Settling) → item_next at ≡ None
-no_item at = by at.in_clock
+some_is : {A : Type 0} {x y : A} → Some x ≡ Some y → x ≡ y
+some_is e = cc
+
+none_some : {A : Type 0} {x : A} → None ≡ Some x → ⊥
+none_some e = cc
+
+some_none : {A : Type 0} {x : A} → Some x ≡ None → ⊥
+some_none e = cc
+
+-- what is looked for in the clock is what is due
+pub item_due : (at : Settling) (found : Item) → item_next at ≡ Some found → next_due at.state.clock ≡ Some found
+item_due at found = by at.in_clock
   where
-    by : (b : Bool) → (if b then item_played at.state else None) ≡ None
-    by true = refl
-    by false = refl
+    by : (b : Bool) → (if b then next_due at.state.clock else None) ≡ Some found → next_due at.state.clock ≡ Some found
+    by true e = e
+    by false e = absurd (none_some e)
 
-pub line_plays : (at : Settling) → next_play at ≡ next_of at (line_next at)
+-- a timer that is due is there
+pub timer_found : {C : Type 0} (c : Clock C) (id : TimerId) → next_due c ≡ Some (item.Timer id) → (t : Timer C) × (timer_at c id.0 ≡ Some t)
+timer_found {C} c id due = by (timer_at c id.0) refl
+  where
+    by : (o : Option (Timer C)) → timer_at c id.0 ≡ o → (t : Timer C) × (timer_at c id.0 ≡ Some t)
+    by None none = absurd (not-empty c id.0 due none)
+    by (Some t) is = (t, is)
+
+-- a play is that of a due item, or of a line
+pub one_played : (P : Play × Settling → Type 0) (at mid : Settling) (one : Play)
+    → ((found : Item) → item_next at ≡ Some found → P (going_on at Oob (item_played at.state found)))
+    → ((stage : Stage) (line : ℕ) → item_next at ≡ None → line_next at ≡ Some (stage, line) → P (going_on at stage (played at.state stage line)))
+    → next_play at ≡ Some (one, mid) → P (one, mid)
 unfolding next_play
-line_plays at = ap (item_before at) (no_item at)
+one_played P at mid one items each next = by (item_next at) refl next
+  where
+    by_line : item_next at ≡ None → (o : Option (Stage × ℕ)) → line_next at ≡ o → next_of at o ≡ Some (one, mid) → P (one, mid)
+    by_line none None is e = absurd (none_some e)
+    by_line none (Some (stage, line)) is e = subst P (some_is e) (each stage line none is)
 
-pub line_moves : (at : Settling) → next_move at ≡ move_of at (line_next at)
+    by : (o : Option Item) → item_next at ≡ o → item_before at o ≡ Some (one, mid) → P (one, mid)
+    by None is e = by_line is (line_next at) refl e
+    by (Some found) is e = subst P (some_is e) (items found is)
+
+-- where nothing is played, nothing is due in the clock's play, and no line is playable
+pub none_played : (at : Settling) → next_play at ≡ None → (item_next at ≡ None) × (line_next at ≡ None)
+unfolding next_play
+none_played at none = by (item_next at) refl none
+  where
+    by_line : item_next at ≡ None → (o : Option (Stage × ℕ)) → line_next at ≡ o → next_of at o ≡ None → (item_next at ≡ None) × (line_next at ≡ None)
+    by_line no_item None is e = (no_item, is)
+    by_line no_item (Some x) is e = absurd (some_none e)
+
+    by : (o : Option Item) → item_next at ≡ o → item_before at o ≡ None → (item_next at ≡ None) × (line_next at ≡ None)
+    by None is e = by_line is (line_next at) refl e
+    by (Some found) is e = absurd (some_none e)
+
+-- the same with the steps of elements
+pub moves_item : (at : Settling) (found : Item) → item_next at ≡ Some found → next_move at ≡ Some (moving (item_touches at.state found) (going_on at Oob (item_played at.state found)))
 unfolding next_move
-line_moves at = ap (item_moves at) (no_item at)
+moves_item at found is = ap (item_moves at) is
+
+pub moves_line : (at : Settling) (stage : Stage) (line : ℕ) → item_next at ≡ None → line_next at ≡ Some (stage, line)
+    → next_move at ≡ Some (moving (play_touches at.state stage line) (going_on at stage (played at.state stage line)))
+unfolding next_move
+moves_line at stage line none is = ap (item_moves at) none ∙ ap (move_of at) is
+
+pub moves_none : (at : Settling) → item_next at ≡ None → line_next at ≡ None → next_move at ≡ None
+unfolding next_move
+moves_none at none is = ap (item_moves at) none ∙ ap (move_of at) is

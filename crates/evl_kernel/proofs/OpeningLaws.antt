@@ -6,14 +6,17 @@ use Rattle.evl_base.specs.declared.stage.Stage.{Stage}
 use Rattle.evl_base.specs.declared.stage.Stage.TheVariants.{Inband, Oob}
 use Rattle.evl_pipeline.specs.declared.plan.Plan.{Plan}
 use Rattle.evl_pipeline.specs.Lines as lines
+use Rattle.evl_clock.specs.declared.timer.Timer.{Timer}
+use Rattle.evl_clock.specs.Clocks as clocks
 use Rattle.evl_pipeline.proofs.PortLaws.{at-none}
 use Rattle.evl_kernel.specs.declared.bank.BankPlace.{BankPlace}
 use Rattle.evl_kernel.specs.declared.bank.Numbered.{Numbered}
 use Rattle.evl_kernel.specs.States.{Handler}
 use Rattle.evl_kernel.specs.Openings.{opening, at_home}
-use Rattle.evl_kernel.specs.Renamed.{named, renamed}
+use Rattle.evl_kernel.specs.Renamed.{named, renamed, renamed_clock}
 use Rattle.evl_kernel.specs.Callbacks.{Whereabouts, AnswersAsTold, AreFilled, told}
-use Rattle.evl_kernel.specs.Records.{RecordsView, IsOpened, state_of, number_of, banked, AreAllowed}
+use Rattle.evl_kernel.specs.Records.{RecordsView, IsOpened, state_of, number_of, banked, AreAllowed, AreTimersAllowed}
+use Rattle.evl_kernel.proofs.ClockLaws.{clock-opening}
 
 none_some : {A : Type 0} {x : A} → None ≡ Some x → ⊥
 none_some e = cc
@@ -41,6 +44,10 @@ unfolding lines.opening
 nothing-opening {X} Oob line at h = none_some (sym (at-none {A = lines.Installed X} 1024 line) ∙ h)
 nothing-opening {X} Inband line at h = none_some (sym (at-none {A = lines.Installed X} 1024 line) ∙ h)
 
+pub no_timer-opening : {X : Type 0} (n : ℕ) (at : Timer X) → clocks.timer_at clocks.opening n ≡ Some at → ⊥
+unfolding clocks.opening
+no_timer-opening {X} n at h = none_some (sym (at-none {A = Timer X} 64 n) ∙ h)
+
 module _ {C : Type 0} (declared : C → ℕ) (plan : C → Plan) where
   abbrev pub handler_made : C → Handler
   handler_made callback = record { kinds = declared callback; plan = plan callback }
@@ -67,20 +74,35 @@ module _ {C : Type 0} (declared : C → ℕ) (plan : C → Plan) where
       ap (λ (ps : List (BankPlace C)). slice_get (told ps) (suc n)) split
       ∙ filled-at bank others n place callback rest (ap (λ (ps : List (BankPlace C)). slice_get ps (suc n)) (sym split) ∙ at) has
 
-  pub answers-opening : (bank : List C) (w : Whereabouts C) → AreFilled declared plan bank w.bank → w.lines ≡ lines.opening → AnswersAsTold declared plan w
-  answers-opening bank w filled nothing number callback (inl home) = filled-at bank w.bank number home.place callback filled home.at home.there
-  answers-opening bank w filled nothing number callback (inr out) =
+  pub answers-opening : (bank : List C) (w : Whereabouts C) → AreFilled declared plan bank w.bank → w.lines ≡ lines.opening → w.clock ≡ clocks.opening → AnswersAsTold declared plan w
+  answers-opening bank w filled nothing no_timers number callback (inl home) = filled-at bank w.bank number home.place callback filled home.at home.there
+  answers-opening bank w filled nothing no_timers number callback (inr (inr timed)) =
+      absurd (no_timer-opening timed.timer timed.at (subst (λ (c : clocks.Clock (Numbered C)). clocks.timer_at c timed.timer ≡ Some timed.at) no_timers timed.there))
+  answers-opening bank w filled nothing no_timers number callback (inr (inl out)) =
       absurd (nothing-opening out.stage out.line out.at (subst (λ (p : lines.Pipeline (Numbered C)). lines.installed_at p out.stage out.line ≡ Some out.at) nothing out.there))
 
   pub state-opening : (board : Board) (bank : List C) (r : RecordsView C) → r.threads ≡ board.threads → r.counts ≡ board.sems.items
-      → AreFilled declared plan bank r.bank → r.lines ≡ lines.opening → state_of r ≡ opening board (map handler_made bank)
-  state-opening board bank r threads counts filled nothing =
+      → AreFilled declared plan bank r.bank → r.lines ≡ lines.opening → r.clock ≡ clocks.opening → state_of r ≡ opening board (map handler_made bank)
+  state-opening board bank r threads counts filled nothing no_timers =
       let lines_are : renamed number_of r.lines ≡ lines.opening = ap (renamed number_of) nothing ∙ renamed-opening number_of in
-      (λ i. record { threads = threads i; sems = counts i; bank = banked-filled bank r.bank filled i; lines = lines_are i })
+      let clock_is : renamed_clock number_of r.clock ≡ clocks.opening = ap (renamed_clock number_of) no_timers ∙ clock-opening number_of in
+      (λ i. record { threads = threads i; sems = counts i; bank = banked-filled bank r.bank filled i; lines = lines_are i; clock = clock_is i })
 
   pub opened_records : (board : Board) (bank : List C) (r : RecordsView C) → r.threads ≡ board.threads → r.counts ≡ board.sems.items
-      → AreFilled declared plan bank r.bank → r.lines ≡ lines.opening → IsOpened declared plan board bank r
-  opened_records board bank r threads counts filled nothing = record { filled = filled; nothing_out = nothing; state = state-opening board bank r threads counts filled nothing }
+      → AreFilled declared plan bank r.bank → r.lines ≡ lines.opening → r.clock ≡ clocks.opening → IsOpened declared plan board bank r
+  opened_records board bank r threads counts filled nothing no_timers =
+      record { filled = filled; nothing_out = nothing; no_timers = no_timers; state = state-opening board bank r threads counts filled nothing no_timers }
+
+pub sound_opening : {X : Type 0} → clocks.IsSoundClock {C = X} clocks.opening
+unfolding clocks.opening
+sound_opening = record { timers = refl; deadlines = refl }
+
+pub sound-opening_clock : {C : Type 0} (r : RecordsView C) → r.clock ≡ clocks.opening → clocks.IsSoundClock r.clock
+sound-opening_clock {C} r nothing = subst (λ (c : clocks.Clock (Numbered C)). clocks.IsSoundClock c) (sym nothing) sound_opening
+
+pub timers_allowed-new : {C : Type 0} (r : RecordsView C) → r.clock ≡ clocks.opening → AreTimersAllowed (state_of r)
+timers_allowed-new r nothing timer at h =
+    absurd (no_timer-opening timer at (subst (λ (c : clocks.Clock ℕ). clocks.timer_at c timer ≡ Some at) (ap (renamed_clock number_of) nothing ∙ clock-opening number_of) h))
 
 pub allowed-new : {C : Type 0} (r : RecordsView C) → r.lines ≡ lines.opening → AreAllowed (state_of r)
 allowed-new r nothing stage line at h =

@@ -17,7 +17,7 @@ use Rattle.evl_kernel.specs.Serving.{answer}
 use Rattle.evl_kernel.specs.Settling.{Settling, line_next, next_play, next_of}
 use Rattle.evl_kernel.specs.Histories.{Run, Follows, opened}
 use Rattle.evl_kernel.specs.Openings.{opening}
-use Rattle.evl_kernel.proofs.DueLaws.{line_plays}
+use Rattle.evl_kernel.proofs.DueLaws.{none_played}
 use Rattle.evl_kernel.specs.Laws.{OobPendsOnlyWhileStalled}
 
 -- no line is playable out-of-band
@@ -27,10 +27,6 @@ IsQuiet s = (is_some (least s.lines.oob.pending) && not s.lines.oob.stalled) ≡
 some_none : {A : Type 0} {x : A} → Some x ≡ None → ⊥
 some_none e = cc
 
-no_line : (at : Settling) (found : Option (Stage × ℕ)) → next_of at found ≡ None → found ≡ None
-no_line at None h = refl
-no_line at (Some x) h = absurd (some_none h)
-
 quiet_of : (stalled : Bool) (low : Option ℕ) (other : Option (Stage × ℕ))
     → (if is_some low && not stalled then option_map {U = Stage × ℕ} (λ line. (Oob, line)) low else other) ≡ None → (is_some low && not stalled) ≡ false
 quiet_of stalled None other h = refl
@@ -39,7 +35,7 @@ quiet_of false (Some n) other h = absurd (some_none h)
 
 -- where a settling ends nothing is playable out-of-band
 pub ended_quiet : (at : Settling) → next_play at ≡ None → IsQuiet at.state
-ended_quiet at h = quiet_of at.state.lines.oob.stalled (least at.state.lines.oob.pending) _ (no_line at (line_next at) (sym (line_plays at) ∙ h))
+ended_quiet at h = quiet_of at.state.lines.oob.stalled (least at.state.lines.oob.pending) _ (none_played at h).1
 
 pub follows_quiet : (old : State) (effect : Effect) (reply : Result Reply Refusal) (plays : List Play) (new : State)
     → IsQuiet old → Follows old effect reply plays new → IsQuiet new

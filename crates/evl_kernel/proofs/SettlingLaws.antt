@@ -19,9 +19,14 @@ use Rattle.evl_kernel.specs.States.{State}
 use Rattle.evl_kernel.specs.Callbacks.{Whereabouts, BringsNone}
 use Rattle.evl_kernel.specs.Fires.{Called, AllCalled}
 use Rattle.evl_kernel.specs.Settling.{Settling, Plays, next_play, after_call}
-use Rattle.evl_kernel.specs.Settled.{Appends, settling, left_to_play}
-use Rattle.evl_kernel.specs.Records.{RecordsView, state_of}
+use Rattle.evl_kernel.specs.Settled.{Appends, settling, left_after}
+use Rattle.evl_kernel.specs.Records.{RecordsView, state_of, number_of}
+use Rattle.evl_clock.specs.Clocks.{IsSoundClock}
+use Rattle.evl_clock.proofs.DueLaws.{few}
+use Rattle.std.proofs.lemmas.Bool.{false≢true}
+use Rattle.evl_kernel.proofs.ClockLaws.{count-renamed}
 use Rattle.evl_kernel.proofs.PlayLaws.{none_next}
+use Rattle.evl_kernel.proofs.ItemLaws.{line_behind}
 
 some_is : {A : Type 0} {x y : A} → Some x ≡ Some y → x ≡ y
 some_is e = cc
@@ -52,7 +57,8 @@ module _ {C : Type 0} (gives : C → Fire → Answer → Type 0) where
   called_before v w brings s (Line line stage count handled) (at, there, gave) =
       (at, there, record { callback = gave.callback; stands = brings at.callback gave.callback gave.stands; gave = gave.gave })
   called_before v w brings s Clock called = tt
-  called_before v w brings s (Timer timer count missed handled) called = tt
+  called_before v w brings s (Timer timer count missed handled) (at, there, gave) =
+      (at, there, record { callback = gave.callback; stands = brings at.callback gave.callback gave.stands; gave = gave.gave })
   called_before v w brings s (Deadline thread) called = tt
 
   all_called_before : (v w : Whereabouts C) → BringsNone w v → (at : Settling) (plays : List Play) → AllCalled gives v at plays → AllCalled gives w at plays
@@ -99,20 +105,21 @@ module _ {C : Type 0} (gives : C → Fire → Answer → Type 0) (w : Whereabout
   }
 
   -- where nothing is playable any more, it has settled
-  pub settled_now : (r s : RecordsView C) (inband : ℕ) (before after : List Play) → PlaysOn (settling r 0) before (settling s inband) after
-      → next_play (settling s inband) ≡ None → length after ≤ length before + play_limit → Appends gives w before (state_of r) after (state_of s)
-  settled_now r s inband before after so ended few = record {
+  pub settled_now : (r s : RecordsView C) (inband : ℕ) (of_clock : Bool) (before after : List Play) → PlaysOn (settling r 0 false) before (settling s inband of_clock) after
+      → next_play (settling s inband of_clock) ≡ None → length after ≤ length before + play_limit → Appends gives w before (state_of r) after (state_of s)
+  settled_now r s inband of_clock before after so ended few = record {
     made = so.made;
     appended = so.appended;
-    settles = record { last = settling s inband; played = so.path; ended = ended; left = refl };
+    settles = record { last = settling s inband of_clock; played = so.path; ended = ended; left = refl };
     few = omega (arith, few, ap (λ (ps : List Play). length ps) so.appended, length-append {A = Play} before so.made);
     called = so.called;
   }
 
   pub stalled_settles : (declared : C → ℕ) (plan : C → Plan) (r : RecordsView C) (before : List Play) → r.lines.oob.stalled ≡ true → Appends gives w before (state_of r) before (state_of r)
   stalled_settles declared plan r before stalled =
-      settled_now r r 0 before before (plays_on-none (settling r 0) before) (none_next declared plan r 0 (stalled_next r.lines false (nat_lt 0 inband_limit) stalled)) (omega arith)
+      settled_now r r 0 false before before (plays_on-none (settling r 0 false) before)
+      (line_behind r 0 false (λ e. absurd (false≢true e)) ∙ none_next declared plan r 0 (stalled_next r.lines false (nat_lt 0 inband_limit) stalled)) (omega arith)
 
 -- few plays are left after a call
-pub left_at_first : {C : Type 0} (r : RecordsView C) → lines.IsSoundPipeline r.lines → left_to_play (settling r 0) ≤ play_limit
-left_at_first r sound = omega (arith, length-rises 0 line_count r.lines.oob.pending (sound.sides Oob).rises)
+pub left_at_first : {C : Type 0} (r : RecordsView C) → lines.IsSoundPipeline r.lines → IsSoundClock r.clock → left_after (state_of r) 0 ≤ play_limit
+left_at_first r sound clock = omega (arith, length-rises 0 line_count r.lines.oob.pending (sound.sides Oob).rises, count-renamed number_of r.clock, few r.clock clock)

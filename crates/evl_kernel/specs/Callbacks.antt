@@ -3,14 +3,17 @@ use Rattle.std.specs.Prelude.{◌≡◌, ℕ, ◌⊎◌, List, [], ◌∷◌, ma
 use Rattle.evl_base.specs.declared.stage.Stage.{Stage}
 use Rattle.evl_pipeline.specs.declared.plan.Plan.{Plan}
 use Rattle.evl_pipeline.specs.Lines.{Pipeline, Installed, installed_at}
+use Rattle.evl_clock.specs.declared.timer.Timer.{Timer}
+use Rattle.evl_clock.specs.Clocks.{Clock, timer_at}
 use Rattle.evl_kernel.specs.declared.bank.BankPlace.{BankPlace}
 use Rattle.evl_kernel.specs.declared.bank.Numbered.{Numbered}
 use Rattle.evl_kernel.specs.States.{Handler}
 
--- where the callbacks are: in their places, or on lines with their numbers
+-- where the callbacks are: in their places, or on lines and in timers with their numbers
 pub record Whereabouts (C : Type 0) : Type 0 where
   pub bank : List (BankPlace C)
   pub lines : Pipeline (Numbered C)
+  pub clock : Clock (Numbered C)
 
 module _ {C : Type 0} where
   abbrev pub handler_of : BankPlace C → Handler
@@ -20,7 +23,7 @@ module _ {C : Type 0} where
   abbrev pub told : List (BankPlace C) → List Handler
   told bank = map handler_of bank
 
-  -- the callback of this number stands in its place, or on a line
+  -- the callback of this number stands in its place, on a line, or in a timer
   pub record IsHome (w : Whereabouts C) (number : ℕ) (callback : C) : Type 0 where
     pub place : BankPlace C
     pub at : slice_get w.bank number ≡ Some place
@@ -34,8 +37,15 @@ module _ {C : Type 0} where
     pub number_is : at.callback.number ≡ number
     pub callback_is : at.callback.callback ≡ callback
 
+  pub record IsTimed (w : Whereabouts C) (number : ℕ) (callback : C) : Type 0 where
+    pub timer : ℕ
+    pub at : Timer (Numbered C)
+    pub there : timer_at w.clock timer ≡ Some at
+    pub number_is : at.callback.number ≡ number
+    pub callback_is : at.callback.callback ≡ callback
+
   abbrev pub Stands : Whereabouts C → ℕ → C → Type 0
-  Stands w number callback = IsHome w number callback ⊎ IsOut w number callback
+  Stands w number callback = IsHome w number callback ⊎ (IsOut w number callback ⊎ IsTimed w number callback)
 
   -- whatever stands in new stood in old, under the same number
   abbrev pub BringsNone : Whereabouts C → Whereabouts C → Type 0

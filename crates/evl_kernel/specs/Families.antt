@@ -1,14 +1,15 @@
--- What a call asks for, by its family: a step on lines and stages, or a step of one element. A law over all calls goes by
+-- What a call asks for, by its family: a step on lines and stages, one on the clock, or a step of one element. A law over all calls goes by
 -- these families.
 use Rattle.std.specs.Prelude.{ℕ, Some}
 use Rattle.evl_base.specs.declared.stage.Stage.{Stage}
 use Rattle.evl_base.specs.declared.call.Call.{Call}
-use Rattle.evl_base.specs.declared.call.Call.TheVariants.{Request, Free, Arrive, Post, Stall, Unstall, TryGet, Put, Peek}
+use Rattle.evl_base.specs.declared.call.Call.TheVariants.{Request, Free, Arrive, Post, Stall, Unstall, Tick, Now, NewTimer, StartTimer, StopTimer, DropTimer, Overruns, TryGet, Put, Peek}
 use Rattle.evl_kernel.specs.States.{State}
 use Rattle.evl_kernel.specs.Effects.{Effect}
 use Rattle.evl_kernel.specs.Semaphores.{get, put, peek}
 use Rattle.evl_kernel.specs.Elements.{ElementStep, on_sem, Told, touched, untouched}
 use Rattle.evl_kernel.specs.LineCalls as line_call
+use Rattle.evl_kernel.specs.TimerCalls as timer_call
 
 pub data LineStep : Type 0 where
   -- of a line, on a stage, the callback of this number, with a tag
@@ -27,13 +28,35 @@ line_effect s (post stage line) = line_call.post s stage line
 line_effect s (stall stage) = line_call.stall s stage
 line_effect s (unstall stage) = line_call.unstall s stage
 
+pub data ClockStep : Type 0 where
+  tick : ℕ → ClockStep
+  read_date : ClockStep
+  -- of the callback of this number, with a tag
+  new_timer : ℕ → ℕ → ClockStep
+  -- of a timer, at a date, with an interval
+  start_timer : ℕ → ℕ → ℕ → ClockStep
+  stop_timer : ℕ → ClockStep
+  drop_timer : ℕ → ClockStep
+  overruns : ℕ → ClockStep
+
+abbrev pub clock_effect : State → ClockStep → Effect
+clock_effect s (tick delta) = timer_call.tick s delta
+clock_effect s read_date = timer_call.now s
+clock_effect s (new_timer number tag) = timer_call.new_timer s number tag
+clock_effect s (start_timer timer date interval) = timer_call.start_timer s timer date interval
+clock_effect s (stop_timer timer) = timer_call.stop_timer s timer
+clock_effect s (drop_timer timer) = timer_call.drop_timer s timer
+clock_effect s (overruns timer) = timer_call.overruns s timer
+
 pub data Task : Type 0 where
   on_lines : LineStep → Task
+  on_clock : ClockStep → Task
   on_element : ElementStep → Task
 
--- a step on lines reaches no element, and one of an element is its caller's
+-- a step on lines or on the clock reaches no element, and one of an element is its caller's
 abbrev pub performing : State → ℕ → Task → Told
 performing s caller (on_lines step) = untouched (line_effect s step)
+performing s caller (on_clock step) = untouched (clock_effect s step)
 performing s caller (on_element step) = touched s (Some caller) step
 
 -- the table of calls
@@ -44,6 +67,13 @@ task_of (Arrive line) = on_lines (arrive line.0)
 task_of (Post stage line) = on_lines (post stage line.0)
 task_of (Stall stage) = on_lines (stall stage)
 task_of (Unstall stage) = on_lines (unstall stage)
+task_of (Tick delta) = on_clock (tick delta)
+task_of Now = on_clock read_date
+task_of (NewTimer callback tag) = on_clock (new_timer callback tag)
+task_of (StartTimer timer date interval) = on_clock (start_timer timer.0 date interval)
+task_of (StopTimer timer) = on_clock (stop_timer timer.0)
+task_of (DropTimer timer) = on_clock (drop_timer timer.0)
+task_of (Overruns timer) = on_clock (overruns timer.0)
 task_of (TryGet sem) = on_element (on_sem sem.0 get)
 task_of (Put sem) = on_element (on_sem sem.0 put)
 task_of (Peek sem) = on_element (on_sem sem.0 peek)

@@ -2,14 +2,17 @@
 use Rattle.std.specs.Prelude.{⊤, ℕ, ◌≡◌, List, [], ◌∷◌, ◌++◌, Option, Some, Ok, Err}
 use Rattle.evl_base.specs.declared.call.Call.{Call}
 use Rattle.evl_base.specs.declared.play.Play.{Play}
-use Rattle.evl_base.specs.declared.play.Play.TheVariants.{Line}
+use Rattle.evl_base.specs.declared.play.Play.TheVariants.{Line, Timer}
 use Rattle.evl_pipeline.specs.declared.answer.Answer.{Answer}
 use Rattle.evl_pipeline.specs.declared.fire.Fire.{Fire}
 use Rattle.evl_pipeline.specs.Lines.{Installed, installed_at, fire_of}
+use Rattle.evl_clock.specs.declared.timer.Timer as timer
+use Rattle.evl_clock.specs.Timers as timers
+use Rattle.evl_clock.specs.Clocks.{timer_at}
 use Rattle.evl_kernel.specs.States.{State, date}
 use Rattle.evl_kernel.specs.Effects.{Effect}
 use Rattle.evl_kernel.specs.Serving.{answer}
-use Rattle.evl_kernel.specs.Settling.{Settling, next_play, given, after_call}
+use Rattle.evl_kernel.specs.Settling.{Settling, next_play, given, timer_given, after_call}
 use Rattle.evl_kernel.specs.Histories.{History}
 use Rattle.evl_kernel.specs.Callbacks.{Whereabouts, Stands}
 
@@ -25,6 +28,10 @@ module _ {C : Type 0} (gives : C → Fire → Answer → Type 0) (w : Whereabout
   abbrev pub Called : State → Play → Type 0
   Called s (Line line stage count handled) =
       (at : Installed ℕ) × (installed_at s.lines stage line.0 ≡ Some at) × Gave at.callback (fire_of at stage line.0 (date s)) (given s at)
+  -- a play of a timer calls its callback: with line 0 and the out-of-band stage, the tag of its making, a count that is one
+  -- higher, and the date
+  Called s (Timer id count missed handled) =
+      (at : timer.Timer ℕ) × (timer_at s.clock id.0 ≡ Some at) × Gave at.callback (timers.fire_of at (date s)) (timer_given s at)
   Called s _ = ⊤
 
   -- each play of a settling

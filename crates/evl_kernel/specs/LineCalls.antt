@@ -1,10 +1,9 @@
 -- The calls on lines and stages.
 use Rattle.std.specs.Prelude.{ℕ, not, true, false, [], ◌∷◌, Option, Some, None, slice_get}
-use Rattle.std.specs.Option.{option_map_or}
 use Rattle.evl_base.specs.declared.stage.Stage.{Stage}
 use Rattle.evl_base.specs.declared.refusal.Refusal.TheVariants.{Busy}
 use Rattle.evl_pipeline.specs.Lines as lines
-use Rattle.evl_kernel.specs.States.{State, with_lines, moved}
+use Rattle.evl_kernel.specs.States.{State, with_lines, moved, come_home}
 use Rattle.evl_kernel.specs.Effects.{Effect, done, unless, known, refused_by}
 
 -- the callback leaves its bank place for the line
@@ -16,7 +15,7 @@ request s line stage number tag = known (slice_get s.bank number) (λ b.
 -- the callback that stood on the line is back in its bank place
 abbrev pub returned : State → Option (lines.Installed ℕ) → State
 returned s None = s
-returned s (Some at) = option_map_or (moved s true at.callback) (slice_get s.bank at.callback) s
+returned s (Some at) = come_home s at.callback
 
 abbrev pub free : State → ℕ → Stage → Effect
 free s line stage = refused_by (lines.free_refusal s.lines line stage)

@@ -4,15 +4,16 @@ use Rattle.evl_base.specs.Limits.{within}
 use Rattle.evl_base.specs.Board.{board_fits}
 use Rattle.evl_base.specs.declared.board.Board.{Board}
 use Rattle.evl_pipeline.specs.Lines as lines
+use Rattle.evl_clock.specs.Clocks as clocks
 use Rattle.evl_kernel.specs.Limits.{callback_limit, history_limit}
 use Rattle.evl_kernel.specs.States.{State, Handler, Banked}
 
 abbrev pub at_home : Handler → Banked
 at_home h = record { handler = h; home = true }
 
--- every callback is in its bank place, and no line has anything
+-- every callback is in its bank place, no line has anything, and there are no timers
 abbrev pub opening : Board → List Handler → State
-opening board bank = record { threads = board.threads; sems = board.sems.items; bank = map at_home bank; lines = lines.opening }
+opening board bank = record { threads = board.threads; sems = board.sems.items; bank = map at_home bank; lines = lines.opening; clock = clocks.opening }
 
 -- the board, the bank and the limit of the history are within their limits
 abbrev pub can_open : Board → ℕ → ℕ → Bool

@@ -6,10 +6,13 @@ use Rattle.evl_base.specs.declared.stage.Stage.{Stage}
 use Rattle.evl_pipeline.specs.declared.plan.Plan.{Plan}
 use Rattle.evl_pipeline.specs.Plans.{is_allowed}
 use Rattle.evl_pipeline.specs.Lines as lines
+use Rattle.evl_clock.specs.declared.timer.Timer.{Timer}
+use Rattle.evl_clock.specs.Timers.{is_timer_allowed}
+use Rattle.evl_clock.specs.Clocks as clocks
 use Rattle.evl_kernel.specs.declared.bank.BankPlace.{BankPlace}
 use Rattle.evl_kernel.specs.declared.bank.Numbered.{Numbered}
 use Rattle.evl_kernel.specs.States.{State, Banked}
-use Rattle.evl_kernel.specs.Renamed.{renamed}
+use Rattle.evl_kernel.specs.Renamed.{renamed, renamed_clock}
 use Rattle.evl_kernel.specs.Openings.{opening}
 use Rattle.evl_kernel.specs.Callbacks.{Whereabouts, handler_of, told, BringsNone, AreFilled}
 
@@ -18,6 +21,7 @@ pub record RecordsView (C : Type 0) : Type 0 where
   pub counts : List ℕ
   pub bank : List (BankPlace C)
   pub lines : lines.Pipeline (Numbered C)
+  pub clock : clocks.Clock (Numbered C)
 
 module _ {C : Type 0} where
   abbrev pub banked : BankPlace C → Banked
@@ -28,10 +32,10 @@ module _ {C : Type 0} where
 
   -- what the records mean
   abbrev pub state_of : RecordsView C → State
-  state_of r = record { threads = r.threads; sems = r.counts; bank = map banked r.bank; lines = renamed number_of r.lines }
+  state_of r = record { threads = r.threads; sems = r.counts; bank = map banked r.bank; lines = renamed number_of r.lines; clock = renamed_clock number_of r.clock }
 
   abbrev pub whereabouts : RecordsView C → Whereabouts C
-  whereabouts r = record { bank = r.bank; lines = r.lines }
+  whereabouts r = record { bank = r.bank; lines = r.lines; clock = r.clock }
 
 -- the kinds that the callback of this number declares
 abbrev pub kinds_at : State → ℕ → ℕ
@@ -41,13 +45,20 @@ kinds_at s number = option_map_or (λ b. b.handler.kinds) (slice_get s.bank numb
 abbrev pub AreAllowed : State → Type 0
 AreAllowed s = (stage : Stage) (line : ℕ) (at : lines.Installed ℕ) → lines.installed_at s.lines stage line ≡ Some at → is_allowed stage (kinds_at s at.callback) ≡ true
 
+-- and so does each callback of a timer
+abbrev pub AreTimersAllowed : State → Type 0
+AreTimersAllowed s = (timer : ℕ) (at : Timer ℕ) → clocks.timer_at s.clock timer ≡ Some at → is_timer_allowed (kinds_at s at.callback) ≡ true
+
 pub record IsSound {C : Type 0} (r : RecordsView C) : Type 0 where
   pub allowed : AreAllowed (state_of r)
+  pub timers_allowed : AreTimersAllowed (state_of r)
+  pub clock_sound : clocks.IsSoundClock r.clock
 
 -- the records of a new kernel
 pub record IsOpened {C : Type 0} (declared : C → ℕ) (plan : C → Plan) (board : Board) (bank : List C) (r : RecordsView C) : Type 0 where
   pub filled : AreFilled declared plan bank r.bank
   pub nothing_out : r.lines ≡ lines.opening
+  pub no_timers : r.clock ≡ clocks.opening
   pub state : state_of r ≡ opening board (map (λ callback. record { kinds = declared callback; plan = plan callback }) bank)
 
 -- no callback came, and what is told of the places is the same

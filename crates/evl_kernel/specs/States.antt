@@ -1,8 +1,9 @@
 -- All records of the kernel at one moment.
-use Rattle.std.specs.Prelude.{ℕ, Bool, List, [], ◌^◌, map, slice_get, slice_set}
+use Rattle.std.specs.Prelude.{ℕ, Bool, true, List, [], ◌^◌, map, slice_get, slice_set}
 use Rattle.std.specs.Option.{option_map_or}
 use Rattle.evl_pipeline.specs.declared.plan.Plan.{Plan}
 use Rattle.evl_pipeline.specs.Lines.{Pipeline}
+use Rattle.evl_clock.specs.Clocks.{Clock}
 
 -- what a callback declares, and what it answers
 pub record Handler : Type 0 where
@@ -21,19 +22,27 @@ pub record State : Type 0 where
   pub sems : List ℕ
   -- the callbacks, by number
   pub bank : List Banked
-  -- the lines; what stands on a line is named by its number in the bank
+  -- the lines and the timers; what stands there is named by its number in the bank
   pub lines : Pipeline ℕ
+  pub clock : Clock ℕ
 
--- the date, in nanoseconds: nothing moves it yet
+-- the date, in nanoseconds
 abbrev pub date : State → ℕ
-date s = 0
+date s = s.clock.now
 
 abbrev pub with_lines : State → Pipeline ℕ → State
 with_lines s lines = record s { lines = lines }
 
+abbrev pub with_clock : State → Clock ℕ → State
+with_clock s clock = record s { clock = clock }
+
 -- the callback of this number is in its bank place, or out of it
 abbrev pub moved : State → Bool → ℕ → Banked → State
 moved s home number b = record s { bank = slice_set s.bank number (record b { home = home }) }
+
+-- the callback of this number is back in its bank place
+abbrev pub come_home : State → ℕ → State
+come_home s number = option_map_or (moved s true number) (slice_get s.bank number) s
 
 abbrev pub handlers : State → List Handler
 handlers s = map (λ b. b.handler) s.bank

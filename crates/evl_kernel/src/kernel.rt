@@ -1,17 +1,23 @@
 //! The kernel and its history.
-ghost use Rattle.std.specs.Prelude.{◌≡◌, ◌⊎◌, ◌↔◌, ◌+◌, ◌≤◌, ◌<◌, length, true, false, IsTrue, IsFalse, OnOk, IfOk, IfErr};
+ghost use Rattle.std.specs.Prelude.{◌≡◌, ◌⊎◌, ◌↔◌, ◌+◌, ◌≤◌, ◌<◌, length, true, false, None, option_map, IsTrue, IsFalse, OnOk, IfOk, IfErr};
 ghost use Rattle.evl_pipeline.specs.Counts.{count_at};
 ghost use Rattle.evl_pipeline.specs.Limits.{line_count};
 ghost use Rattle.evl_pipeline.specs.Lines as lines;
+ghost use Rattle.evl_clock.specs.Clocks.{timer_at};
+ghost use Rattle.evl_clock.specs.Limits.{timer_count};
 ghost use Rattle.evl_kernel.specs.Callbacks.{AnswersAsTold, BringsNone, told};
 ghost use Rattle.evl_kernel.specs.Fires.{AddsByCalls};
 ghost use Rattle.evl_kernel.specs.Limits.{history_limit};
 ghost use Rattle.evl_kernel.specs.Openings.{can_open};
 ghost use Rattle.evl_kernel.specs.Histories.{IsLegal};
+ghost use Rattle.evl_kernel.specs.Places.{AreInOnePlace};
 ghost use Rattle.evl_kernel.specs.KernelViews.{AddsEntry, IsOpened, IsKernelAnswer, makes_entry};
 
 use crate::records::Records;
-use evl_base::{Board, Call, Entry, LineNo, Play, Refusal, Reply, Spares, Stage, ThreadId};
+use evl_base::{
+    Board, Call, Entry, LineNo, Play, Refusal, Reply, Spares, Stage, ThreadId, TimerId,
+};
+use evl_clock::TimerState;
 use evl_pipeline::{Callback, Handler};
 use std::alloc::{Allocator, Global};
 use std::marker::Model;
@@ -45,6 +51,7 @@ pub struct KernelOf<C, A: Allocator> {
 pub type Kernel = KernelOf<Callback, Global>;
 
 impl<C, A: Allocator> Model for KernelOf<C, A> {
+    ghost use Rattle.evl_kernel.specs.Places.{AreInOnePlace};
     ghost use Rattle.evl_kernel.specs.KernelViews.{KernelView};
     ghost use Rattle.evl_kernel.specs.Insides.{kernel_view, KernelIsSound};
 
@@ -78,6 +85,7 @@ impl<C: Handler> KernelOf<C, Global> {
     ) -> Result<KernelOf<C, Global>, Refusal>
         ensures opened { IfOk result (λ k. IsOpened C.declared C.plan board bank.items limit k) }
         ensures answering { IfOk result (λ k. AnswersAsTold C.declared C.plan k.callbacks) }
+        ensures places { IfOk result (λ k. AreInOnePlace k.callbacks) }
         ensures range { (result ≡ Err Refusal.Range) ↔ (can_open board (length bank.items) limit ≡ false) }
         ensures refusals { IfErr result (λ e. (e ≡ Refusal.Range) ⊎ (e ≡ Refusal.NoMemory)) }
     {
@@ -98,6 +106,7 @@ impl<C: Handler, A: Allocator> KernelOf<C, A> {
         A: Clone,
         ensures opened { IfOk result (λ k. IsOpened C.declared C.plan board bank.items limit k) }
         ensures answering { IfOk result (λ k. AnswersAsTold C.declared C.plan k.callbacks) }
+        ensures places { IfOk result (λ k. AreInOnePlace k.callbacks) }
         ensures range { (result ≡ Err Refusal.Range) ↔ (can_open board (length bank.items) limit ≡ false) }
         ensures refusals { IfErr result (λ e. (e ≡ Refusal.Range) ⊎ (e ≡ Refusal.NoMemory)) }
     {
@@ -127,7 +136,9 @@ impl<C: Handler, A: Allocator> KernelOf<C, A> {
         ensures room { OnOk result (n ≤ self.new.room) }
         ensures full { (result ≡ Err Refusal.HistoryFull) ↔ (self.old.limit < length self.old.history.entries + n) }
         ensures refusals { IfErr result (λ e. (e ≡ Refusal.HistoryFull) ⊎ (e ≡ Refusal.NoMemory)) }
-        ensures rest { self.new ≡ record self.old { room = self.new.room } }
+        ensures history { self.new.history ≡ self.old.history }
+        ensures callbacks { self.new.callbacks ≡ self.old.callbacks }
+        ensures limit { self.new.limit ≡ self.old.limit }
         ensures keeps { self.old.room ≤ self.new.room }
     {
         if n > self.limit - self.history.len() {
@@ -144,9 +155,10 @@ impl<C: Handler, A: Allocator> KernelOf<C, A> {
     ///
     /// `HistoryFull` exactly where the history is at its limit, `NoMemory` where room for the entry and its plays was
     /// refused: neither makes an entry or changes anything. Every other refusal is an answer with an entry: the first
-    /// that applies of `Unknown` (no such thread, line, callback or element), `Range`, `Invalid`, then the call's own.
-    /// Each play of a line calls the callback that stands there with its line, stage, tag, count and date, on the condition
-    /// that it answers its plan (this profile).
+    /// that applies of `Unknown` (no such thread, line, callback, timer or element), `Range`, `Invalid`, then the call's own.
+    /// Each play of a line calls the callback that stands there with its line, stage, tag, count and date, and each play of
+    /// a timer its callback with line 0, the out-of-band stage, its tag, its count and the date, on the condition that it
+    /// answers its plan (this profile).
     pub fn apply(&mut self, caller: ThreadId, call: Call) -> Result<Reply, Refusal>
         requires answering { AnswersAsTold C.declared C.plan self.old.callbacks }
         ensures entry { IsTrue (makes_entry result) → AddsEntry self.old.history caller.0 call result self.new.history }
@@ -161,6 +173,7 @@ impl<C: Handler, A: Allocator> KernelOf<C, A> {
         ensures brings { BringsNone self.old.callbacks self.new.callbacks }
         ensures told { told self.new.callbacks.bank ≡ told self.old.callbacks.bank }
         ensures called { AddsByCalls C.gives self.old.callbacks self.old.history caller.0 call self.new.history }
+        ensures places { AreInOnePlace self.new.callbacks }
     {
         if self.history.len() == self.limit {
             return Err(Refusal::HistoryFull);
@@ -237,6 +250,15 @@ impl<C, A: Allocator> KernelOf<C, A> {
         ensures legal { IsLegal self.now.history }
     {
         self.records.unhandled(line, stage)
+    }
+
+    /// What a timer does, if there is such a timer; there is none above 63 (Xenomai 4: EVL timers).
+    pub fn timer(&self, id: TimerId) -> Option<TimerState>
+        ensures timer { result ≡ option_map (λ t. t.state) (timer_at self.now.history.state.clock id.0) }
+        ensures outside { timer_count ≤ id.0 → result ≡ None }
+        ensures legal { IsLegal self.now.history }
+    {
+        self.records.timer(id)
     }
 }
 

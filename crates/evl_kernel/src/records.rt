@@ -1,8 +1,10 @@
 //! The kernel's records: what its calls read and change, apart from its history.
-ghost use Rattle.std.specs.Prelude.{◌≡◌, ◌≤◌, ℕ, false, IfOk, IfErr, map};
+ghost use Rattle.std.specs.Prelude.{◌≡◌, ◌≤◌, ℕ, None, false, IfOk, IfErr, map, option_map};
 ghost use Rattle.evl_pipeline.specs.Counts.{count_at};
 ghost use Rattle.evl_pipeline.specs.Limits.{line_count};
 ghost use Rattle.evl_pipeline.specs.Lines.{is_pending, side};
+ghost use Rattle.evl_clock.specs.Clocks.{timer_at};
+ghost use Rattle.evl_clock.specs.Limits.{timer_count};
 ghost use Rattle.evl_kernel.specs.Callbacks.{AreFilled};
 ghost use Rattle.evl_kernel.specs.Records.{IsOpened};
 
@@ -10,9 +12,11 @@ mod line_calls;
 mod semaphores;
 mod serving;
 mod settling;
+mod timers;
 
 use crate::bank::{BankPlace, Numbered};
-use evl_base::{Board, LineNo, Refusal, Stage};
+use evl_base::{Board, LineNo, Refusal, Stage, TimerId};
+use evl_clock::{ClockOf, TimerState};
 use evl_pipeline::{Handler, PipelineOf};
 use std::alloc::Allocator;
 use std::marker::Model;
@@ -25,6 +29,7 @@ pub(crate) struct Records<C, A: Allocator> {
     counts: Vec<u32, A>,
     bank: Vec<BankPlace<C>, A>,
     pipeline: PipelineOf<Numbered<C>, A>,
+    clock: ClockOf<Numbered<C>, A>,
 }
 
 impl<C, A: Allocator> Model for Records<C, A> {
@@ -50,12 +55,15 @@ impl<C: Handler, A: Allocator> Records<C, A> {
         let for_bank = alloc.clone().map_err(|_| Refusal::NoMemory)?;
         let counts = opening_counts(for_counts, board)?;
         let bank = placed(for_bank, bank)?;
-        let pipeline = PipelineOf::new(alloc)?;
+        let for_lines = alloc.clone().map_err(|_| Refusal::NoMemory)?;
+        let pipeline = PipelineOf::new(for_lines)?;
+        let clock = ClockOf::new(alloc)?;
         Ok(Records {
             threads: board.threads,
             counts,
             bank,
             pipeline,
+            clock,
         })
     }
 }
@@ -119,5 +127,13 @@ impl<C, A: Allocator> Records<C, A> {
         ensures outside { line_count ≤ line.0 → result ≡ 0 }
     {
         self.pipeline.unhandled(line, stage)
+    }
+
+    /// What a timer does, if there is such a timer.
+    pub(crate) fn timer(&self, id: TimerId) -> Option<TimerState>
+        ensures timer { result ≡ option_map (λ t. t.state) (timer_at self.now.clock id.0) }
+        ensures outside { timer_count ≤ id.0 → result ≡ None }
+    {
+        self.clock.state(id)
     }
 }

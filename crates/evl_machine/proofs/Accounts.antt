@@ -1,17 +1,13 @@
--- Histories that go on, the calls of one thread in them, and the accounts that views carry.
-use Rattle.std.proofs.Common.{◌≡◌, ◌≢◌, ◌==◌, eq-eqb, ne_eqb, ℕ, zero, suc, ◌+◌, ◌≤◌, cond, true, false, List, [], ◌∷◌, ◌++◌, map, set, refl, sym, ap, ◌∙◌, subst, arith, append_assoc}
+-- Histories that go on, and the calls of one thread in them.
+use Rattle.std.proofs.Common.{◌≡◌, ◌≢◌, ◌<◌, ◌==◌, eq-eqb, ne_eqb, ℕ, cond, true, false, List, [], ◌∷◌, ◌++◌, refl, sym, ap, ◌∙◌, subst, append_assoc, arith}
 use Rattle.std.proofs.lemmas.List.{append-nil}
-use mathlib.Core.Option.{some, some-injective, some-ne-none}
-use lib.ListN.{get_elem?}
-use Rattle.atomic_table.proofs.Lists.{set_else}
+use Rattle.evl_base.specs.declared.board.Board.{Board}
 use Rattle.evl_base.specs.declared.entry.Entry.{Entry}
 use Rattle.evl_base.specs.declared.play.Play.{Play}
 use Rattle.evl_kernel.specs.States.{State}
-use Rattle.evl_kernel.specs.Histories.{History, Run, IsLegal}
+use Rattle.evl_kernel.specs.Histories.{History, Run, IsLegal, opened}
 use Rattle.evl_machine.specs.declared.views.Account.{Account}
-use Rattle.evl_machine.specs.declared.views.CoreView.{CoreView}
-use Rattle.evl_machine.specs.Accounts.{GoesOn, BeginsWith, calls_by, MadeBy, Fits}
-use Rattle.evl_machine.specs.CoreRule.{accounts_in, accounts_of, spent}
+use Rattle.evl_machine.specs.Accounts.{HasNoStranger, IsAccount, saw, threads_of, GoesOn, BeginsWith, calls_by, MadeBy, Fits}
 
 run_runs : (old : State) (xs : List Entry) (ps : List Play) (mid : State) (ys : List Entry) (qs : List Play) (new : State)
     → Run old xs ps mid → Run mid ys qs new → Run old (xs ++ ys) (ps ++ qs) new
@@ -21,13 +17,18 @@ run_runs old (x ∷ xs) ps mid ys qs new (own, rest, next, split, step, run) mor
 
 -- a history goes on by nothing
 pub goes_on_none : (h : History) → GoesOn h [] h
-goes_on_none h = record { plays = []; opening = refl; entries_are = sym (append-nil h.entries); plays_are = sym (append-nil h.plays); run = (refl, refl) }
+goes_on_none h = record { plays = []; board = refl; bank = refl; entries_are = sym (append-nil h.entries); plays_are = sym (append-nil h.plays); run = (refl, refl) }
+
+-- the board stays
+pub goes_on_threads : (old new : History) (es : List Entry) → GoesOn old es new → threads_of new ≡ threads_of old
+goes_on_threads old new es g = ap (λ (b : Board). b.threads) g.board
 
 -- what goes on and goes on
 pub goes_on_more : (h mid new : History) (xs ys : List Entry) → GoesOn h xs mid → GoesOn mid ys new → GoesOn h (xs ++ ys) new
 goes_on_more h mid new xs ys f g = record {
   plays = f.plays ++ g.plays;
-  opening = g.opening ∙ f.opening;
+  board = g.board ∙ f.board;
+  bank = g.bank ∙ f.bank;
   entries_are = g.entries_are ∙ (ap (λ (es : List Entry). es ++ ys) f.entries_are ∙ append_assoc h.entries xs ys);
   plays_are = g.plays_are ∙ (ap (λ (ps : List Play). ps ++ g.plays) f.plays_are ∙ append_assoc h.plays f.plays g.plays);
   run = run_runs h.state xs f.plays mid.state ys g.plays new.state f.run g.run;
@@ -36,7 +37,7 @@ goes_on_more h mid new xs ys f g = record {
 -- a legal history that goes on is legal
 pub goes_on_legal : (old new : History) (xs : List Entry) → IsLegal old → GoesOn old xs new → IsLegal new
 goes_on_legal old new xs legal g =
-    rw (g.opening, g.entries_are, g.plays_are) (run_runs old.opening old.entries old.plays old.state xs g.plays new.state legal g.run)
+    rw (g.board, g.bank, g.entries_are, g.plays_are) (run_runs (opened old) old.entries old.plays old.state xs g.plays new.state legal g.run)
 
 pub starts_whole : (h : History) → BeginsWith h h
 starts_whole h = ([], goes_on_none h)
@@ -70,43 +71,18 @@ fits_longer h new added t a g m apart f = record {
   mine = ap (calls_by a.thread) g.entries_are ∙ (calls_by-append a.thread h.entries added ∙ (ap (λ (k : List Entry). calls_by a.thread h.entries ++ k) (calls_by-other t a.thread added m apart) ∙ (append-nil _ ∙ f.mine)));
 }
 
-pub accounts_in-map : (f : Account → Account) → ((a : Account) → (f a).thread ≡ a.thread) → (t : ℕ) (xs : List Account) → accounts_in t (map f xs) ≡ accounts_in t xs
-accounts_in-map f same t [] = refl
-accounts_in-map f same t (a ∷ rest) = ap (λ (n : ℕ). cond (n == t) 1 0 + accounts_in t (map f rest)) (same a) ∙ ap (λ (n : ℕ). cond (a.thread == t) 1 0 + n) (accounts_in-map f same t rest)
+-- no stranger comes by the calls of a thread that is on the board
+pub strangers_more : (h new : History) (added : List Entry) (t : ℕ) → GoesOn h added new → MadeBy t added → t < threads_of h → HasNoStranger h → HasNoStranger new
+strangers_more h new added t g m member none u far =
+    let same = goes_on_threads h new added g in
+    let ne : u ≢ t = λ e. absurd (omega arith) in
+    ap (calls_by u) g.entries_are ∙ (calls_by-append u h.entries added ∙ (ap (λ (es : List Entry). calls_by u h.entries ++ es) (calls_by-other t u added m ne) ∙ (append-nil _ ∙ none u (omega arith))))
 
-pub accounts_in-append : (t : ℕ) (xs ys : List Account) → accounts_in t (xs ++ ys) ≡ accounts_in t xs + accounts_in t ys
-accounts_in-append t [] ys = omega arith
-accounts_in-append t (a ∷ rest) ys = omega (arith, accounts_in-append t rest ys)
-
-pub some_account : (xs : List Account) (k : ℕ) (a : Account) → get_elem? xs k ≡ some a → 1 ≤ accounts_in a.thread xs
-some_account [] k a e = absurd (some-ne-none a (sym e))
-some_account (x ∷ xs) zero a e =
-    let here : cond (x.thread == a.thread) 1 0 ≡ 1 = ap (λ b. cond b 1 0) (eq-eqb x.thread a.thread (ap (λ (y : Account). y.thread) (some-injective x a e))) in
-    let all : ℕ = accounts_in a.thread xs in
-    let one : ℕ = cond (x.thread == a.thread) 1 0 in
-    let is : one ≡ 1 = here in
-    omega arith
-some_account (x ∷ xs) (suc k) a e = let more = some_account xs k a e in omega arith
-
-pub accounts_of-set : (t : ℕ) (views : List CoreView) (j : ℕ) (v w : CoreView) → get_elem? views j ≡ some v → accounts_of t (set views j w) + accounts_in t v.accounts ≡ accounts_of t views + accounts_in t w.accounts
-accounts_of-set t [] j v w e = absurd (some-ne-none v (sym e))
-accounts_of-set t (x ∷ xs) zero v w e = let same : accounts_in t x.accounts ≡ accounts_in t v.accounts = ap (λ (y : CoreView). accounts_in t y.accounts) (some-injective x v e) in omega arith
-accounts_of-set t (x ∷ xs) (suc j) v w e = let more = accounts_of-set t xs j v w e in omega arith
-
-pub accounts_of-snoc : (t : ℕ) (views : List CoreView) (w : CoreView) → accounts_of t (views ++ w ∷ []) ≡ accounts_of t views + accounts_in t w.accounts
-accounts_of-snoc t [] w = omega arith
-accounts_of-snoc t (x ∷ xs) w = omega (arith, accounts_of-snoc t xs w)
-
-pub accounts_of-get : (t : ℕ) (views : List CoreView) (j : ℕ) (v : CoreView) → get_elem? views j ≡ some v → accounts_in t v.accounts ≤ accounts_of t views
-accounts_of-get t views j v e = let all = accounts_of-set t views j v spent e in omega arith
-
--- two seats have no account of one thread
-pub apart : (views : List CoreView) (i j : ℕ) (v w : CoreView) (k l : ℕ) (a b : Account) → ((t : ℕ) → accounts_of t views ≤ 1) → j ≢ i → get_elem? views i ≡ some v → get_elem? views j ≡ some w → get_elem? v.accounts k ≡ some a → get_elem? w.accounts l ≡ some b → b.thread ≢ a.thread
-apart views i j v w k l a b single other at_i at_j at_k at_l same =
-    let t : ℕ = a.thread in
-    let one : 1 ≤ accounts_in t v.accounts = some_account v.accounts k a at_k in
-    let two : 1 ≤ accounts_in t w.accounts = subst (λ (n : ℕ). 1 ≤ accounts_in n w.accounts) same (some_account w.accounts l b at_l) in
-    let moved = accounts_of-set t views i v spent at_i in
-    let there = accounts_of-get t (set views i spent) j w (set_else views i j spent other ∙ at_j) in
-    let most = single t in
-    omega arith
+-- what a caller knows once it took a kernel
+pub saw_account : (h : History) (room : ℕ) (a : Account) → IsLegal h → HasNoStranger h → Fits h a → IsAccount a → IsAccount (saw h room a)
+saw_account h room a legal none f is = record {
+  legal = legal;
+  member = let same = goes_on_threads a.seen h f.seen.0 f.seen.1 in let m = is.member in omega arith;
+  mine = f.mine;
+  strangers = none;
+}

@@ -1,62 +1,71 @@
--- The conditions of the core's world hold after any list of atomic steps.
-use Rattle.std.proofs.Common.{◌≡◌, ℕ, List, [], ◌∷◌, ◌++◌, set, Option, Some, refl, sym, ap, ◌∙◌, subst, ⊎_elim, arith}
-use mathlib.Core.Option.{some, none, some-injective}
-use mathlib.Core.Option as maybe
+-- What holds of the core's world holds after any list of atomic steps, and while hands of threads are split and joined.
+use Rattle.std.proofs.Common.{◌≡◌, ℕ, List, [], ◌∷◌, ◌++◌, set, Some, refl, sym, ◌∙◌, subst, ⊎_elim}
+use mathlib.Core.Option.{some, none}
 use lib.ListN.{get_elem?}
-use Rattle.atomic_table.proofs.Lists.{set_else}
+use Rattle.atomic_table.proofs.Lists.{set_again, set_else}
 use Rattle.evl_kernel.specs.Histories.{History, IsLegal}
 use Rattle.evl_words.specs.Machine.{Run}
-use Rattle.evl_machine.specs.declared.views.CoreView.{CoreView}
-use Rattle.evl_machine.specs.Accounts.{GoesOn}
-use Rattle.evl_machine.specs.CoreRule.{CoreKept, Core, IsFree, IsTaken, Kept, MayGive, after_take, after_give, view}
-use Rattle.evl_machine.specs.CoreWorld.{CoreWorld, CoreEvent, CoreHappens, IsCoreWorld, opening_world, takes, fails, gives, splits, joins, moves_out, moves_in}
-use Rattle.evl_machine.proofs.CoreSteps.{taken_core, given_core, holder_is, splits_core, joins_core, opens_core}
+use Rattle.evl_words.specs.Events.{Event}
+use Rattle.evl_words.specs.Hands.{place}
+use Rattle.evl_words.specs.Dealings.{DealingEvent, acts, cuts, gathers}
+use Rattle.evl_words.proofs.Machines.{run_keeps}
+use Rattle.evl_words.proofs.Dealing.{deals_turn, deals_split, deals_join, deals_opening}
+use Rattle.evl_machine.specs.declared.views.CorePart.{CorePart}
+use Rattle.evl_machine.specs.Accounts.{GoesOn, threads_of}
+use Rattle.evl_machine.specs.CoreRule.{CoreKept, IsFree, IsTaken, MayGive, after_take}
+use Rattle.evl_machine.specs.CoreWorld.{CoreWorld, CoreKind, CoreHappens, CoreDealing, CoreDealingStep, IsCoreWorld, Slot, StandsDealt, takes, gives, moves_out, moves_in, opened_core, step_may, step_part, world_after}
+use Rattle.evl_machine.proofs.CoreSteps.{taken_core, given_core, holder_is, opens_core, only_slot}
 
-abbrev pub itself : History → History
-itself h = h
+module _ {S B : Type 0} (past : S → History) (room : S → ℕ) (comes : B → S → Type 0) (first : B) where
+  abbrev pub Stands : CoreWorld S B → Type 0
+  Stands = IsCoreWorld past room comes first
 
--- the table of a world
-abbrev pub table : CoreWorld → Core History
-table w = record { words = w.word ∷ []; homes = w.slot ∷ []; views = w.views }
+  -- a step that changes nothing
+  stays : (w : CoreWorld S B) → Stands w → (k : ℕ) (c : CorePart B) → get_elem? w.views k ≡ some c → Stands record { word = w.word; slot = w.slot; views = set w.views k c }
+  stays w r k c at = subst (λ (l : List (CorePart B)). CoreKept past comes first w.word (w.slot ∷ []) l) (sym (set_again w.views k c at)) r
 
-pub table_kept : (w : CoreWorld) → IsCoreWorld w → Kept itself (table w)
-table_kept w stands = record { some_word = omega arith; core = stands }
+  take_keeps : (w : CoreWorld S B) → Stands w → (k : ℕ) (c : CorePart B) → get_elem? w.views k ≡ some c → Stands (world_after past room comes w k c takes)
+  take_keeps w r k c at = ⊎_elim
+      (λ (f : IsFree past comes first r.history w.word (w.slot ∷ []) w.views).
+      let y = f.kernel in
+      let slot : w.slot ≡ some (Some y) = only_slot w.slot (some (Some y)) f.slot_is in
+      let now : CoreKept past comes first 1 (none ∷ []) (set w.views k (after_take (past y) (room y) c)) =
+      subst (λ (h : History). CoreKept past comes first 1 (none ∷ []) (set w.views k (after_take h (room y) c))) (sym f.past_is) (taken_core past comes first (room y) w.word (w.slot ∷ []) w.views k c r at f.nobody) in
+      subst (λ (z : ℕ × Slot S). Stands (world_after past room comes record { word = z.0; slot = z.1; views = w.views } k c takes)) (λ i. (sym f.word_is i, sym slot i)) now)
+      (λ (t : IsTaken r.history w.word (w.slot ∷ []) w.views).
+      subst (λ (n : ℕ). Stands (world_after past room comes record { word = n; slot = w.slot; views = w.views } k c takes)) (sym t.word_is)
+      (subst (λ (n : ℕ). Stands record { word = n; slot = w.slot; views = set w.views k c }) t.word_is (stays w r k c at)))
+      r.who
 
-pub table_history : (w : CoreWorld) (r : IsCoreWorld w) → (table_kept w r).core.history ≡ r.history
-unfolding table_kept
-table_history w r = refl
+  give_keeps : (w : CoreWorld S B) → Stands w → (k : ℕ) (c : CorePart B) → get_elem? w.views k ≡ some c → (y : S) → MayGive k c (past y) → comes c.first y → Stands (world_after past room comes w k c (gives y))
+  give_keeps w r k c at y m from =
+      let x = holder_is past comes first w.word (w.slot ∷ []) w.views k c m.before r at m.taken in
+      let longer : GoesOn r.history m.added (past y) = subst (λ (h : History). GoesOn h m.added (past y)) (sym x.1) m.longer in
+      given_core past comes first w.word (w.slot ∷ []) w.views k c m.added y r at m.own longer (subst (λ (b : B). comes b y) (r.knows k c at) from) x.2
 
-pub slot_history : (x y : History) → some (Some x) ∷ [] ≡ some (Some y) ∷ [] → x ≡ y
-slot_history x y e = cc
+  step_keeps : (w : CoreWorld S B) → Stands w → (k : ℕ) (c : CorePart B) → get_elem? w.views k ≡ some c → (kind : CoreKind S) → step_may past room comes k c kind → Stands (world_after past room comes w k c kind)
+  step_keeps w r k c at takes may = take_keeps w r k c at
+  step_keeps w r k c at (gives y) (may, from) = give_keeps w r k c at y may from
+  step_keeps w r k c at moves_out may = stays w r k c at
+  step_keeps w r k c at moves_in may = stays w r k c at
 
-after_taking : (w : CoreWorld) (id : ℕ) (v : CoreView) (h : History) → IsCoreWorld w → get_elem? w.views id ≡ some v → w.word ≡ 0 → w.slot ≡ some (Some h)
-    → CoreKept itself 1 (none ∷ []) (set w.views id (after_take h v))
-after_taking w id v h r at free slot = ⊎_elim
-    (λ (f : IsFree itself r.history w.word (w.slot ∷ []) w.views).
-    let same : r.history ≡ h = sym f.past_is ∙ slot_history f.kernel h (sym f.slot_is ∙ ap (λ (x : maybe.Option (Option History)). x ∷ []) slot) in
-    subst (λ (x : History). CoreKept itself 1 (none ∷ []) (set w.views id (after_take x v))) same (taken_core itself w.word (w.slot ∷ []) w.views id v r at f.nobody))
-    (λ (t : IsTaken r.history w.word (w.slot ∷ []) w.views). let one = t.word_is in absurd (omega arith))
-    r.who
+  -- after any list of events
+  pub events_keep : (w t : CoreWorld S B) (events : List (Event (CoreKind S))) → Stands w → Run (CoreHappens past room comes) w events t → Stands t
+  events_keep w t events stands run =
+      run_keeps (CoreHappens past room comes) Stands (λ s e u kept one. subst Stands (sym one.changed) (step_keeps s kept e.by one.view one.at e.kind one.may)) w t events stands run
 
-after_giving : (w : CoreWorld) (id : ℕ) (v : CoreView) (h : History) → IsCoreWorld w → get_elem? w.views id ≡ some v → MayGive v h
-    → CoreKept itself 0 (some (Some h) ∷ []) (set w.views id (after_give h v))
-after_giving w id v h r at m =
-    let x = holder_is itself w.word (w.slot ∷ []) w.views id v m.before r at m.taken in
-    given_core itself w.word (w.slot ∷ []) w.views id v m.caller m.added h r at m.only m.own (subst (λ (y : History). GoesOn y m.added h) (sym x.1) m.longer) x.2
+  dealing_keeps : (d : CoreDealing S B) (e : DealingEvent (CoreKind S)) (t : CoreDealing S B) → StandsDealt past room comes first d → CoreDealingStep past room comes d e t → StandsDealt past room comes first t
+  dealing_keeps d (acts id kind) t h (k, c, at, may, changed) =
+      let here = (h.1.same id (place k c ∷ []) at).0 in
+      subst (StandsDealt past room comes first) (sym changed)
+      (step_keeps d.world h.0 k c here kind may, deals_turn d.world.views d.hands id k c (step_part past room comes d.world.word d.world.slot k c kind) h.1 at)
+  dealing_keeps d (cuts id) t h (hand, at, changed) = subst (StandsDealt past room comes first) (sym changed) (h.0, deals_split d.world.views d.hands id hand h.1 at)
+  dealing_keeps d (gathers id other) t h (hand, theirs, at, ne, at', changed) =
+      subst (StandsDealt past room comes first) (sym changed) (h.0, deals_join d.world.views d.hands id other hand theirs h.1 at ne (set_else d.hands id other (hand ++ theirs) ne ∙ at'))
 
-pub event_keeps : (w : CoreWorld) (e : CoreEvent) (t : CoreWorld) → IsCoreWorld w → CoreHappens w e t → IsCoreWorld t
-event_keeps w (takes id) t r (v, h, at, free, slot, now) = subst IsCoreWorld (sym now) (after_taking w id v h r at free slot)
-event_keeps w (fails id) t r (taken, now) = subst IsCoreWorld (sym now) r
-event_keeps w (gives id h) t r (v, at, may, now) = subst IsCoreWorld (sym now) (after_giving w id v h r at may)
-event_keeps w (splits id) t r (v, at, now) = subst IsCoreWorld (sym now) (splits_core itself id v (table w) (table_kept w r) at).core
-event_keeps w (joins id other) t r (v, u, at, there, away, idle, now) =
-    subst IsCoreWorld (sym now) (joins_core itself id v other u idle (table w) (table_kept w r) at away (set_else w.views id other (view v.taken (v.accounts ++ u.accounts)) away ∙ there)).core
-event_keeps w (moves_out id) t r now = subst IsCoreWorld (sym now) r
-event_keeps w (moves_in id) t r now = subst IsCoreWorld (sym now) r
-
-pub events_keep : (w : CoreWorld) (events : List CoreEvent) (t : CoreWorld) → IsCoreWorld w → Run CoreHappens w events t → IsCoreWorld t
-events_keep w [] t r same = subst IsCoreWorld same r
-events_keep w (e ∷ es) t r (u, happens, run) = events_keep u es t (event_keeps w e u r happens) run
-
-pub opening_stands : (h : History) → IsLegal h → h.entries ≡ [] → IsCoreWorld (opening_world h)
-opening_stands h legal none_yet = (opens_core itself h legal none_yet).core
+  -- after any list of events from the opening
+  pub dealings_keep : (y : S) → IsLegal (past y) → (past y).entries ≡ [] → comes first y → (events : List (DealingEvent (CoreKind S))) (t : CoreDealing S B)
+      → Run (CoreDealingStep past room comes) (opened_core past room comes first y) events t → StandsDealt past room comes first t
+  dealings_keep y legal none_yet from events t run =
+      let d = opened_core past room comes first y in
+      run_keeps (CoreDealingStep past room comes) (StandsDealt past room comes first) dealing_keeps d t events (opens_core past comes first y (threads_of (past y)) refl legal none_yet from, deals_opening d.world.views) run

@@ -1,27 +1,30 @@
 -- The seats of all callers are gathered into the one that has the kernel, and the lock is closed.
-use Rattle.std.proofs.Common.{◌≡◌, ℕ, zero, suc, ◌≤◌, ◌<◌, List, [], ◌∷◌, ◌++◌, length, set, Bool, true, false, Option, Some, None, refl, sym, ap, ◌∙◌, subst, append_assoc, append-nil, arith, inl, inr, ⊎_elim}
+use Rattle.std.proofs.Common.{◌≡◌, ℕ, zero, suc, ◌≤◌, ◌<◌, List, [], ◌∷◌, ◌++◌, length, map, set, get_or, Bool, true, false, Option, Some, refl, sym, ap, ◌∙◌, subst, append_assoc, append-nil, arith, inl, inr, ⊎_elim}
 use Rattle.std.specs.Prelude.{All, slice_index_or}
 use Rattle.std.specs.List.{remove}
 use Rattle.std.proofs.lemmas.List.Elements.{All-nil, All-cons, All-head, All-tail}
-use mathlib.Core.Option.{some, some-ne-none}
+use mathlib.Core.Option.{some, some-injective, some-ne-none}
 use lib.ListN.{get_elem?}
 use Rattle.atomic_table.specs.Table.{State, Joins}
+use Rattle.atomic_table.proofs.Lists.{at_map}
+use Rattle.evl_words.specs.Hands.{AreOf}
+use Rattle.evl_words.specs.MutexWorld.{MutexView}
+use Rattle.evl_words.proofs.Dealing.{joins}
 use Rattle.evl_base.specs.declared.refusal.Refusal.{Refusal}
 use Rattle.evl_base.specs.declared.refusal.Refusal.TheVariants.{CoreBusy, Invalid}
 use Rattle.evl_kernel.specs.Histories.{History, IsLegal}
 use Rattle.evl_kernel.specs.KernelViews.{KernelView}
 use Rattle.evl_machine.specs.declared.views.Account.{Account}
-use Rattle.evl_machine.specs.declared.views.Known.{Known}
-use Rattle.evl_machine.specs.Nothing.{no_kernel}
-use Rattle.evl_machine.specs.Beside.{plain}
-use Rattle.evl_machine.specs.Accounts.{Fits, saw, informed, account, calls_by}
-use Rattle.evl_machine.specs.CoreRule.{AccountsFit, CoreMe, Kept, view, spent}
-use Rattle.evl_machine.specs.Known.{ComesFrom, HasCome, IsLive, KernelMe, KeptKnown, first_of, knows, past_of, seen, view_of}
-use Rattle.evl_machine.specs.Handles.{MachineState, CallerState, HeldState, holding}
+use Rattle.evl_machine.specs.declared.views.ThreadView.{ThreadView}
+use Rattle.evl_machine.specs.ThreadRule.{ThreadRule, core_of}
+use Rattle.evl_machine.specs.Accounts.{Fits, HasNoStranger, account, calls_by, threads_of}
+use Rattle.evl_machine.specs.Seats.{AccountsFit, CoreMe, view}
+use Rattle.evl_machine.specs.CoreRule.{account_at}
+use Rattle.evl_machine.specs.Known.{ComesFrom, CoreHand, IsLive, KeptKnown, KernelMe, accounts_in, taken_in, mutex_count, no_tie, past_of, seen}
+use Rattle.evl_machine.specs.Handles.{Belongs, MachineState, CallerState, HeldState, holding, returned, shown}
 use Rattle.evl_machine.specs.Calls.{TookKernel}
-use Rattle.evl_machine.specs.Closings.{Closes, KeepsOpen, LacksCaller, accounts_back, gathered, shown}
-use Rattle.evl_machine.proofs.BesideSteps.{joins_both, map_at}
-use Rattle.evl_machine.proofs.CoreSteps.{joins_core, closes_core}
+use Rattle.evl_machine.specs.Closings.{Closes, KeepsOpen, LacksCaller, accounts_back, gathered}
+use Rattle.evl_machine.proofs.CoreSteps.{all_fit as fits_all}
 
 fits_left : (h : History) (xs ys : List Account) → AccountsFit h (xs ++ ys) → AccountsFit h xs
 fits_left h [] ys f k a e = absurd (some-ne-none a (sym e))
@@ -34,10 +37,6 @@ fits_last h (y ∷ ys) x f = fits_last h ys x (λ i b at. f (suc i) b at)
 
 fits_rest : (h : History) (a : Account) (xs : List Account) → AccountsFit h (a ∷ xs) → AccountsFit h xs
 fits_rest h a xs f k b e = f (suc k) b e
-
--- no account is left with a spent seat
-not_live : (a : Account) (others : List Account) → [] ≡ a ∷ others → ⊥
-not_live a others e = absurd (cc)
 
 -- the lock's only slot, which is full, and empty once its value is taken out
 pub one_full : (filled : List Bool) (n : ℕ) → n ≡ 1 → ((k : ℕ) → 0 ≤ k → k < n → slice_index_or filled k false ≡ true) → (0 < n) × (slice_index_or filled 0 false ≡ true)
@@ -56,18 +55,35 @@ pub still_live : (xs more now : List Account) → (a : Account) × (others : Lis
 still_live xs more now l e = (l.0, l.1 ++ more, e ∙ ap (λ (ys : List Account). ys ++ more) l.2)
 
 module _ {C : Type 0} where
-  -- a seat takes in the accounts of another, which has no kernel
-  pub joins_known : (first : KernelView C) (id : ℕ) (v : Known C) (other : ℕ) (w : Known C) → IsLive v → w.view.taken ≡ None
-      → Joins (KeptKnown first) id v other w (knows (view v.view.taken (v.view.accounts ++ w.view.accounts)) v.first) (knows spent no_kernel)
-  joins_known first id v other w lives idle =
-      joins_both HasCome view_of first_of knows (λ v b. refl) (λ v b. refl) IsLive (Kept past_of) first id v other w (knows (view v.view.taken (v.view.accounts ++ w.view.accounts)) v.first) (knows spent no_kernel) lives refl (λ l. not_live l.0 l.1 l.2) (joins_core past_of id v.view other w.view idle)
+  -- a token takes in the threads of another
+  pub joins_known : (first : KernelView C) (id : ℕ) (v : CoreHand C) (other : ℕ) (w : CoreHand C) → Joins (KeptKnown first) id v other w (v ++ w) []
+  joins_known first id v other w = joins (ThreadRule past_of ComesFrom no_tie first (mutex_count first)) id v other w
 
-  pub gathers : (me me' : KernelMe C) (w : Known C) (a b : Account) → me' ≡ (knows (view me.0.view.taken (me.0.view.accounts ++ w.view.accounts)) me.0.first, me.1) → w.view.accounts ≡ a ∷ [] → a ≡ b → seen me' ≡ gathered (seen me) (b ∷ [])
-  gathers me me' w a b now one same = ap seen now ∙ ap (λ (xs : List Account). gathered (seen me) xs) (one ∙ ap (λ (x : Account). x ∷ []) same)
+  accounts_in-append : (v w : CoreHand C) → accounts_in (v ++ w) ≡ accounts_in v ++ accounts_in w
+  accounts_in-append [] w = refl
+  accounts_in-append (p ∷ ps) w = ap (λ xs. account_at p.number p.view.core ∷ xs) (accounts_in-append ps w)
 
-  -- at the end what the seat that has the kernel carries fits the history that it took
-  pub closes_known : (first : KernelView C) (id : ℕ) (v : Known C) (h : History) (s : State (Option (KernelView C)) (Known C)) → KeptKnown first s → get_elem? s.views id ≡ some v → v.view.taken ≡ Some h → AccountsFit h v.view.accounts
-  closes_known first id v h s r at has = closes_core past_of id v.view h (plain view_of s) r.rule (map_at view_of s.views id v at) has
+  taken_in-append : (v w : CoreHand C) (a : Account) (others : List Account) → accounts_in v ≡ a ∷ others → taken_in (v ++ w) ≡ taken_in v
+  taken_in-append [] w a others e = absurd (cc)
+  taken_in-append (p ∷ ps) w a others e = refl
+
+  pub gathers : (me me' : KernelMe C) (w : CoreHand C) (a b : Account) → IsLive me.0 → me' ≡ (me.0 ++ w, me.1) → accounts_in w ≡ a ∷ [] → a ≡ b → seen me' ≡ gathered (seen me) (b ∷ [])
+  gathers me me' w a b lives now one same =
+      let more : accounts_in (me.0 ++ w) ≡ accounts_in me.0 ++ b ∷ [] = accounts_in-append me.0 w ∙ ap (λ xs. accounts_in me.0 ++ xs) (one ∙ ap (λ (x : Account). x ∷ []) same) in
+      ap seen now ∙ (λ i. (view (taken_in-append me.0 w lives.0 lives.1 lives.2 i) (more i), me.1))
+
+  -- what holds of the views of all threads holds of a hand
+  hand_fit : (h : History) (views : List (ThreadView (KernelView C) MutexView)) → ((k : ℕ) (v : ThreadView (KernelView C) MutexView) → get_elem? views k ≡ some v → Fits h (account_at k v.core)) → (hand : CoreHand C) → AreOf views hand → AccountsFit h (accounts_in hand)
+  hand_fit h views each [] are k a e = absurd (some-ne-none a (sym e))
+  hand_fit h views each (p ∷ ps) are zero a e = subst (Fits h) (some-injective _ a e) (each p.number p.view are.0)
+  hand_fit h views each (p ∷ ps) are (suc k) a e = hand_fit h views each ps are.1 k a e
+
+  -- at the end the threads of the token that has the kernel fit the history that it took
+  pub closes_known : (first : KernelView C) (id : ℕ) (hand : CoreHand C) (h : History) (s : State (Option (KernelView C)) (CoreHand C)) → KeptKnown first s → get_elem? s.views id ≡ some hand → taken_in hand ≡ Some h → AccountsFit h (accounts_in hand)
+  closes_known first id [] h s r at has = λ k a e. absurd (some-ne-none a (sym e))
+  closes_known first id (p ∷ ps) h s r at has =
+      let are = r.deals.same id (p ∷ ps) at in
+      hand_fit h r.views (λ k v there. fits_all past_of ComesFrom first (get_or s.words 0 0) s.homes (map core_of r.views) p.number p.view.core h r.kept.locked (at_map core_of r.views p.number p.view are.0) has k v.core (at_map core_of r.views k v there)) (p ∷ ps) are
 
   all_fit : (h : History) (cs : List (CallerState C)) → AccountsFit h (accounts_back cs) → All (λ (c : CallerState C). Fits h c.account) cs
   all_fit h [] f = All-nil _
@@ -103,48 +119,53 @@ module _ {C : Type 0} where
   stays_busy m xs first others back are same = subst (λ (ys : List (CallerState C)). KeepsOpen m ys CoreBusy back) (sym are) (inl (refl, same))
 
   legal_of : (c : CallerState C) (k : HeldState C) → TookKernel c k → IsLegal k.kernel.history
-  legal_of c k took = subst (λ (a : Account). IsLegal a.seen) took.account took.just.legal
+  legal_of c k took = subst (λ (s : CallerState C). IsLegal s.account.seen) took.caller took.just.legal
+
+  strangers_of : (c : CallerState C) (k : HeldState C) → TookKernel c k → HasNoStranger k.kernel.history
+  strangers_of c k took = subst (λ (s : CallerState C). HasNoStranger s.account.seen) took.caller took.just.strangers
 
   fits_first : (c : CallerState C) (k : HeldState C) → TookKernel c k → Fits k.kernel.history c.account
   fits_first c k took = record {
     seen = took.later;
-    mine = subst (λ (a : Account). calls_by a.thread a.seen.entries ≡ a.mine) took.account took.just.mine;
+    mine = subst (λ (s : CallerState C). calls_by s.account.thread s.account.seen.entries ≡ s.account.mine) took.caller took.just.mine;
   }
 
-  informs_as : (c : CallerState C) (k : HeldState C) → TookKernel c k → record { machine = k.machine; account = informed k.kernel.history k.account } ≡ shown k.kernel.history c
+  informs_as : (c : CallerState C) (k : HeldState C) → TookKernel c k → returned k.kernel.history k.caller ≡ shown k.kernel.history k.kernel.room c
   informs_as c k took =
       let h = k.kernel.history in
-      let same : informed h k.account ≡ saw h c.account = ap (informed h) took.account ∙ ap (account c.account.thread h) (fits_first c k took).mine in
-      λ i. record { machine = took.machine i; account = same i }
+      ap (returned h) took.caller ∙ ap (λ mine. record { machine = c.machine; account = account c.account.thread h mine (c.account.found ++ k.kernel.room ∷ []) }) (fits_first c k took).mine
 
-  pub stays_open : (m : MachineState C) (xs : List (CallerState C)) (first : CallerState C) (others back : List (CallerState C)) (k : HeldState C) → xs ≡ first ∷ others → length xs < m.first.history.opening.threads → TookKernel first k
-      → back ≡ record { machine = k.machine; account = informed k.kernel.history k.account } ∷ others → KeepsOpen m xs Invalid back
+  pub stays_open : (m : MachineState C) (xs : List (CallerState C)) (first : CallerState C) (others back : List (CallerState C)) (k : HeldState C) → xs ≡ first ∷ others → length xs < threads_of m.first.history → TookKernel first k
+      → back ≡ returned k.kernel.history k.caller ∷ others → KeepsOpen m xs Invalid back
   stays_open m xs first others back k are few took now = subst (λ (ys : List (CallerState C)). KeepsOpen m ys Invalid back) (sym are) (inr (
     refl,
     record {
-      few = subst (λ (ys : List (CallerState C)). length ys < m.first.history.opening.threads) are few;
+      few = subst (λ (ys : List (CallerState C)). length ys < threads_of m.first.history) are few;
       history = k.kernel.history;
+      room = k.kernel.room;
       legal = legal_of first k took;
+      strangers = strangers_of first k took;
       fits = fits_first first k took;
       back_is = now ∙ ap (λ (c : CallerState C). c ∷ others) (informs_as first k took);
     },
   ))
 
   -- the callers that come back are of the machine, as those were that were handed in
-  pub back_again : (m : MachineState C) (xs : List (CallerState C)) (refusal : Refusal) (back : List (CallerState C)) → KeepsOpen m xs refusal back → All (λ (c : CallerState C). c.machine ≡ m) xs → All (λ (c : CallerState C). c.machine ≡ m) back
-  back_again m [] refusal back (invalid, none) all = subst (λ (ys : List (CallerState C)). All (λ (c : CallerState C). c.machine ≡ m) ys) (sym none) (All-nil _)
+  pub back_again : (m : MachineState C) (xs : List (CallerState C)) (refusal : Refusal) (back : List (CallerState C)) → KeepsOpen m xs refusal back → All (λ (c : CallerState C). Belongs c m) xs → All (λ (c : CallerState C). Belongs c m) back
+  back_again m [] refusal back (invalid, none) all = subst (λ (ys : List (CallerState C)). All (λ (c : CallerState C). Belongs c m) ys) (sym none) (All-nil _)
   back_again m (x ∷ xs) refusal back kept all = ⊎_elim
-      (λ (busy : (refusal ≡ CoreBusy) × (back ≡ x ∷ xs)). subst (λ (ys : List (CallerState C)). All (λ (c : CallerState C). c.machine ≡ m) ys) (sym busy.1) all)
-      (λ (missing : (refusal ≡ Invalid) × LacksCaller m x xs back). subst (λ (ys : List (CallerState C)). All (λ (c : CallerState C). c.machine ≡ m) ys) (sym missing.1.back_is)
-      (All-cons (λ (c : CallerState C). c.machine ≡ m) (shown missing.1.history x) xs (All-head (λ (c : CallerState C). c.machine ≡ m) x xs all) (All-tail (λ (c : CallerState C). c.machine ≡ m) x xs all)))
+      (λ (busy : (refusal ≡ CoreBusy) × (back ≡ x ∷ xs)). subst (λ (ys : List (CallerState C)). All (λ (c : CallerState C). Belongs c m) ys) (sym busy.1) all)
+      (λ (missing : (refusal ≡ Invalid) × LacksCaller m x xs back). subst (λ (ys : List (CallerState C)). All (λ (c : CallerState C). Belongs c m) ys) (sym missing.1.back_is)
+      (All-cons (λ (c : CallerState C). Belongs c m) (shown missing.1.history missing.1.room x) xs (All-head (λ (c : CallerState C). Belongs c m) x xs all) (All-tail (λ (c : CallerState C). Belongs c m) x xs all)))
       kept
 
-  pub closes_all : (m : MachineState C) (xs : List (CallerState C)) (first : CallerState C) (others : List (CallerState C)) (k : HeldState C) → xs ≡ first ∷ others → m.first.history.opening.threads ≤ length xs → first.machine ≡ m → TookKernel first k
+  pub closes_all : (m : MachineState C) (xs : List (CallerState C)) (first : CallerState C) (others : List (CallerState C)) (k : HeldState C) → xs ≡ first ∷ others → threads_of m.first.history ≤ length xs → Belongs first m → TookKernel first k
       → All (λ (c : CallerState C). Fits k.kernel.history c.account) others → Closes m xs k.kernel
   closes_all m xs first others k are all of took fit = subst (λ (ys : List (CallerState C)). Closes m ys k.kernel) (sym are) (record {
     some_caller = omega arith;
-    all_callers = subst (λ (ys : List (CallerState C)). m.first.history.opening.threads ≤ length ys) are all;
+    all_callers = subst (λ (ys : List (CallerState C)). threads_of m.first.history ≤ length ys) are all;
     legal = legal_of first k took;
+    strangers = strangers_of first k took;
     fits = All-cons (λ (x : CallerState C). Fits k.kernel.history x.account) first others (fits_first first k took) fit;
     comes = subst (λ (n : MachineState C). ComesFrom n.first k.kernel) of took.comes;
   })

@@ -1,45 +1,175 @@
--- The steps on the core's lock beside what each seat knows of the kernel as it was made.
-use Rattle.std.proofs.Common.{◌≡◌, eqb, ℕ, List, [], ◌∷◌, Option, Some, None, MatchOption, refl, sym, ap, ◌∙◌, subst, slice_get}
+-- What the steps of a token owe and tell, as contracts read the token.
+use Rattle.std.proofs.Common.{◌≡◌, ◌≢◌, eqb, ℕ, zero, suc, List, [], ◌∷◌, Option, Some, None, refl, sym, ap, ◌∙◌, subst, slice_get}
+use mathlib.Core.Option.{some-injective, some-ne-none}
+use mathlib.Core.Logic.{dite}
+use native.Mathlib.Decide.{ℕ_discrete}
 use prog.Atomic.{either}
-use mathlib.Core.Option.{none}
-use Rattle.atomic_table.specs.Table.{step, Allows, rest}
+use Rattle.atomic_table.specs.Table.{Step, Allows}
 use Rattle.evl_pipeline.specs.declared.plan.Plan.{Plan}
 use Rattle.evl_kernel.specs.States.{Handler}
+use Rattle.evl_kernel.specs.Histories.{History}
 use Rattle.evl_kernel.specs.KernelViews.{KernelView}
 use Rattle.evl_kernel.specs.Callbacks.{AnswersAsTold}
-use Rattle.evl_machine.specs.Beside.{AllHeld}
-use Rattle.evl_machine.specs.Handles.{MachineState}
-use Rattle.evl_machine.specs.CoreRule.{Kept, MayGive, took, gave}
-use Rattle.evl_machine.specs.Known.{ComesFrom, HasCome, IsLive, KernelMe, view_of, first_of, past_of, knows, seen, KeptKnown, took_known, gave_known}
-use Rattle.evl_machine.proofs.BesideSteps.{lifts}
-use Rattle.evl_machine.proofs.CoreSteps.{takes_as, gives_as}
+use Rattle.evl_words.specs.Hands.{place}
+use Rattle.evl_words.specs.MutexWorld.{MutexView}
+use Rattle.evl_machine.specs.declared.views.Account.{Account}
+use Rattle.evl_machine.specs.declared.views.CorePart.{CorePart}
+use Rattle.evl_machine.specs.declared.views.ThreadView.{ThreadView}
+use Rattle.evl_machine.specs.Accounts.{Fits, MadeBy, informed}
+use Rattle.evl_machine.specs.CoreRule.{MayGive, account_at, core_part}
+use Rattle.evl_machine.specs.CoreWorld.{CoreKind, takes, gives}
+use Rattle.evl_machine.specs.Events.{FailsToTake, Gives, KernelEvent, Takes, at_rest, in_hand}
+use Rattle.evl_machine.specs.Seats.{CoreMe, AccountsFit, view}
+use Rattle.evl_machine.specs.Handles.{MachineState, Continues, account_of, seated}
+use Rattle.evl_machine.specs.Known.{ComesFrom, CoreHand, KernelMe, accounts_in, taken_in, first_of, past_of, room_of, seen, no_tie, mutex_count, KeptKnown, took_known, gave_known}
+use Rattle.evl_machine.proofs.Taking.{Took, loaded}
+use Rattle.evl_machine.proofs.ThreadSteps.{takes_thread, gives_thread}
+
+fit_one : (h : History) (b : Account) (xs : List Account) → xs ≡ b ∷ [] → Fits h b → AccountsFit h xs
+fit_one h b xs one f = subst (AccountsFit h) (sym one) at
+  where
+    at : AccountsFit h (b ∷ [])
+    at zero a e = subst (Fits h) (some-injective b a e) f
+    at (suc k) a e = absurd (some-ne-none a (sym e))
+
+abbrev pub Thread : Type 0 → Type 0
+Thread C = ThreadView (KernelView C) MutexView
+
+abbrev pub Slots : Type 0 → Type 0
+Slots C = List (ℕ × Option (KernelView C))
 
 module _ {C : Type 0} where
-  pub takes_known : (first : KernelView C) (slots id : ℕ) (me : KernelMe C) → me.1 ≡ [] → me.0.view.taken ≡ None → IsLive me.0
-      → Allows (KeptKnown first) slots id me 0 (λ n. either (eqb n 0) 1 n) (took_known (step slots 0 0 1 none) me)
-  takes_known first slots id me no_slot idle lives =
-      lifts HasCome view_of first_of knows (λ v b. refl) (λ v b. refl) IsLive (Kept past_of) first slots id me 0 (λ n. either (eqb n 0) 1 n) (took past_of (step slots 0 0 1 none) (seen me))
-      lives (subst (AllHeld HasCome (first_of me.0)) (sym no_slot) tt) (takes_as past_of slots id (seen me) no_slot idle)
+  -- a token of one account has one thread
+  record IsOne (me : KernelMe C) (taken : Option History) (a : Account) (cs : Slots C) : Type 0 where
+    number : ℕ
+    thread : Thread C
+    me_is : me ≡ (place number thread ∷ [], cs)
+    taken_is : thread.core.taken ≡ taken
+    account_is : account_at number thread.core ≡ a
 
-  pub gives_known : (first : KernelView C) (slots id : ℕ) (me : KernelMe C) (k : KernelView C) → me.1 ≡ (0, Some k) ∷ [] → ComesFrom (first_of me.0) k → MayGive (view_of me.0) k.history → IsLive me.0
-      → Allows (KeptKnown first) slots id me 0 (λ _. 0) (λ _. gave_known (step slots 0 0 0 none) me 0)
-  gives_known first slots id me k one comes may lives =
-      lifts HasCome view_of first_of knows (λ v b. refl) (λ v b. refl) IsLive (Kept past_of) first slots id me 0 (λ _. 0) (λ _. gave past_of (step slots 0 0 0 none) (seen me) 0)
-      lives (subst (AllHeld HasCome (first_of me.0)) (sym one) (comes, tt)) (gives_as past_of slots id (seen me) k one may)
-
-  -- the kernel that comes out has come from the one that the seat knows
-  pub with_first : (b : KernelView C) (P : Type 0) (Q : KernelView C → Type 0) (cs : List (ℕ × Option (KernelView C))) (out : Option (KernelView C)) → AllHeld HasCome b cs → cs ≡ (0, out) ∷ rest cs → MatchOption out P Q → MatchOption out P (λ k. Q k × ComesFrom b k)
-  with_first b P Q cs out held e m = both out (subst (AllHeld HasCome b) e held).0 m
+  is_one : (hand : CoreHand C) (slots : Slots C) (taken : Option History) (a : Account) (cs : Slots C) → seen (hand, slots) ≡ (view taken (a ∷ []), cs) → IsOne (hand, slots) taken a cs
+  is_one [] slots taken a cs e = let none = ap (λ (m : CoreMe (KernelView C)). m.0.accounts) e in absurd (cc)
+  is_one (p ∷ []) slots taken a cs e = record {
+    number = p.number;
+    thread = p.view;
+    me_is = ap (λ (m : CoreMe (KernelView C)). (p ∷ [], m.1)) e;
+    taken_is = ap (λ (m : CoreMe (KernelView C)). m.0.taken) e;
+    account_is = first_is (ap (λ (m : CoreMe (KernelView C)). m.0.accounts) e);
+  }
     where
-      both : (o : Option (KernelView C)) → HasCome b o → MatchOption o P Q → MatchOption o P (λ k. Q k × ComesFrom b k)
-      both None h m = m
-      both (Some k) h m = (m, h)
+      first_is : account_at p.number p.view.core ∷ [] ≡ a ∷ [] → account_at p.number p.view.core ≡ a
+      first_is e = cc
+  is_one (p ∷ q ∷ ps) slots taken a cs e = let two = ap (λ (m : CoreMe (KernelView C)). m.0.accounts) e in absurd (cc)
+
+  -- a token of the thread k is read so
+  abbrev seen_at : ℕ → CorePart (KernelView C) × Slots C → CoreMe (KernelView C)
+  seen_at k x = (view x.0.taken (account_at k x.0 ∷ []), x.1)
+
+  abbrev seen_hand : Slots C → CoreHand C → CoreMe (KernelView C)
+  seen_hand cs hand = (view (taken_in hand) (accounts_in hand), cs)
+
+  pub takes_known : (first : KernelView C) (slots id : ℕ) (me : KernelMe C) (a : Account) → seen me ≡ seated a → (st : Step (Option (KernelView C))) → Allows (KeptKnown first) slots id me 0 (λ n. either (eqb n 0) 1 n) (took_known st me)
+  takes_known first slots id me a rests st =
+      let o = is_one me.0 me.1 None a [] rests in
+      takes_thread past_of room_of ComesFrom no_tie first (mutex_count first) slots id o.number o.thread me o.me_is (λ y cores l at i word t. tt) st
+
+  -- what a thread knows of the core is what its account tells, what it has taken, and the kernel as it was made
+  part_is : (k : ℕ) (c : CorePart (KernelView C)) (taken : Option History) (a : Account) (first : KernelView C) → c.taken ≡ taken → account_at k c ≡ a → c.first ≡ first → c ≡ core_part taken a.seen a.mine a.found first
+  part_is k c taken a first t s f = λ i. core_part (t i) (s i).seen (s i).mine (s i).found (f i)
+
+  event_as : (k k' : ℕ) (c c' : CorePart (KernelView C)) (kind : CoreKind (KernelView C)) (found found' : ℕ) (d d' : CorePart (KernelView C)) → k ≡ k' → c ≡ c' → found ≡ found' → d ≡ d' → KernelEvent k c kind found d → KernelEvent k' c' kind found' d'
+  event_as k k' c c' kind found found' d d' e f g h event = subst (λ (z : (ℕ × CorePart (KernelView C)) × (ℕ × CorePart (KernelView C))). KernelEvent z.0.0 z.0.1 kind z.1.0 z.1.1) (λ i. ((e i, f i), (g i, h i))) event
+
+  -- what a take tells
+  pub took_seen : (st : Step (Option (KernelView C))) (found : ℕ) (me me' : KernelMe C) (a : Account) → seen me ≡ seated a → took_known st me found me'
+      → (found ≡ 0 → Took past_of room_of (ComesFrom (first_of me.0)) (seen me) (seen me')) × (found ≢ 0 → seen me' ≡ seen me) × (first_of me'.0 ≡ first_of me.0)
+      × (found ≡ 0 → Takes (first_of me.0) a (account_of (seen me'))) × (found ≢ 0 → FailsToTake (first_of me.0) a (account_of (seen me')))
+  took_seen st found me me' a rests told =
+      let o = is_one me.0 me.1 None a [] rests in
+      let k = o.number in
+      let v = o.thread in
+      let hand = ap (λ (z : KernelMe C). z.0) o.me_is in
+      let t = told k v hand in
+      let was : seen me ≡ seen_at k (v.core, me.1) = ap (seen_hand me.1) hand in
+      let now : seen me' ≡ seen_at k (t.0.core, me'.1) = ap (seen_hand me'.1) t.1 in
+      let before : first_of me.0 ≡ v.core.first = ap first_of hand in
+      let after : first_of me'.0 ≡ t.0.core.first = ap first_of t.1 in
+      let stays : t.0.core.first ≡ v.core.first = dite (ℕ_discrete found 0)
+      (λ (e : found ≡ 0). ap (λ (x : CorePart (KernelView C) × Slots C). x.0.first) (t.2.0.0 e).1)
+      (λ (ne : found ≢ 0). ap (λ (x : CorePart (KernelView C) × Slots C). x.0.first) (t.2.0.1 ne)) in
+      let number : k ≡ a.thread = ap (λ (x : Account). x.thread) o.account_is in
+      let from : v.core ≡ at_rest (first_of me.0) a = part_is k v.core None a (first_of me.0) o.taken_is o.account_is (sym before) in
+      let account : account_at k t.0.core ≡ account_of (seen me') = sym (ap account_of now) in (
+        (λ e.
+            let q = t.2.0.0 e in (
+              q.0,
+              now ∙ (ap (seen_at k) q.1 ∙ ap (λ (m : CoreMe (KernelView C)). taken_at q.0 m) (sym was)),
+              q.2,
+              q.3,
+              fit_one (past_of q.0) (account_at k v.core) (seen me).0.accounts (ap (λ (m : CoreMe (KernelView C)). m.0.accounts) was) q.4,
+              subst (λ (first : KernelView C). ComesFrom first q.0) (sym before) q.5,
+            )),
+        (λ ne. now ∙ (ap (seen_at k) (t.2.0.1 ne) ∙ sym was)),
+        after ∙ (stays ∙ sym before),
+        (λ e.
+            let q = t.2.0.0 e in
+            let taken : t.0.core.taken ≡ Some (account_of (seen me')).seen = ap (λ (x : CorePart (KernelView C) × Slots C). x.0.taken) q.1 ∙ ap (λ (h : History). Some h) (sym (ap (λ (x : CorePart (KernelView C) × Slots C). x.0.seen) q.1) ∙ ap (λ (x : Account). x.seen) account) in
+            event_as k a.thread v.core (at_rest (first_of me.0) a) takes found 0 t.0.core (in_hand (first_of me.0) (account_of (seen me'))) number from e
+            (part_is k t.0.core (Some (account_of (seen me')).seen) (account_of (seen me')) (first_of me.0) taken account (stays ∙ sym before)) t.2.0.2),
+        (λ ne.
+            let taken : t.0.core.taken ≡ None = ap (λ (x : CorePart (KernelView C) × Slots C). x.0.taken) (t.2.0.1 ne) ∙ o.taken_is in (
+              found,
+              ne,
+              event_as k a.thread v.core (at_rest (first_of me.0) a) takes found found t.0.core (at_rest (first_of me.0) (account_of (seen me'))) number from refl
+                  (part_is k t.0.core None (account_of (seen me')) (first_of me.0) taken account (stays ∙ sym before)) t.2.0.2,
+            )),
+      )
+    where
+      taken_at : KernelView C → CoreMe (KernelView C) → CoreMe (KernelView C)
+      taken_at y m = (Rattle.evl_machine.specs.Seats.after_take (past_of y) (room_of y) m.0, (0, Some y) ∷ [])
+
+  pub gives_known : (first : KernelView C) (slots id : ℕ) (me : KernelMe C) (a : Account) (k : KernelView C) → seen me ≡ loaded past_of room_of a k → ComesFrom (first_of me.0) k → Continues a k.history → (st : Step (Option (KernelView C)))
+      → Allows (KeptKnown first) slots id me 0 (λ _. 0) (λ _. gave_known st me 0)
+  gives_known first slots id me a k is comes c st =
+      let o = is_one me.0 me.1 (Some a.seen) a ((0, Some k) ∷ []) is in
+      let may : MayGive o.number o.thread.core k.history = record {
+        before = a.seen;
+        added = c.added;
+        taken = o.taken_is;
+        longer = c.longer;
+        own = subst (λ t. MadeBy t c.added) (sym (ap (λ (x : Account). x.thread) o.account_is)) c.own;
+      } in
+      gives_thread past_of room_of ComesFrom no_tie first (mutex_count first) slots id o.number o.thread k me o.me_is (λ cores l at i word t. tt) may
+      (subst (λ (z : KernelMe C). ComesFrom (first_of z.0) k) o.me_is comes) st
+
+  -- what a give tells
+  pub gave_seen : (st : Step (Option (KernelView C))) (found : ℕ) (me me' : KernelMe C) (a : Account) (k : KernelView C) → seen me ≡ loaded past_of room_of a k → gave_known st me found me'
+      → (seen me' ≡ seated (informed k.history a)) × (first_of me'.0 ≡ first_of me.0) × Gives (first_of me.0) a k (account_of (seen me'))
+  gave_seen st found me me' a k is told =
+      let o = is_one me.0 me.1 (Some a.seen) a ((0, Some k) ∷ []) is in
+      let hand = ap (λ (z : KernelMe C). z.0) o.me_is in
+      let t = told o.number o.thread hand in
+      let gave = t.2.0 k (ap (λ (z : KernelMe C). z.1) o.me_is) in
+      let now : seen me' ≡ seen_at o.number (t.0.core, me'.1) = ap (seen_hand me'.1) t.1 in
+      let before : first_of me.0 ≡ o.thread.core.first = ap first_of hand in
+      let stays : t.0.core.first ≡ first_of me.0 = ap (λ (x : CorePart (KernelView C) × Slots C). x.0.first) gave.0 ∙ sym before in (
+        now ∙ (ap (seen_at o.number) gave.0 ∙ ap (λ (x : Account). seated (informed k.history x)) o.account_is),
+        ap first_of t.1 ∙ stays,
+        (
+          gave.1,
+          event_as o.number a.thread o.thread.core (in_hand (first_of me.0) a) (gives k) gave.1 gave.1 t.0.core (at_rest (first_of me.0) (account_of (seen me'))) (ap (λ (x : Account). x.thread) o.account_is)
+              (part_is o.number o.thread.core (Some a.seen) a (first_of me.0) o.taken_is o.account_is (sym before)) refl
+              (part_is o.number t.0.core None (account_of (seen me')) (first_of me.0) (ap (λ (x : CorePart (KernelView C) × Slots C). x.0.taken) gave.0) (sym (ap account_of now)) stays) gave.2,
+        ),
+      )
 
   abbrev pub first_in_me : KernelMe C → KernelView C
   first_in_me m = first_of m.0
 
   pub comes_on : (a b c : KernelView C) → ComesFrom a b → ComesFrom b c → ComesFrom a c
   comes_on a b c f g = record {
+    board = g.board ∙ f.board;
+    bank = g.bank ∙ f.bank;
     brings = λ number callback stands. f.brings number callback (g.brings number callback stands);
     told_is = g.told_is ∙ f.told_is;
     limit = g.limit ∙ f.limit;

@@ -1,11 +1,11 @@
 pub mod Accounts
 pub mod CoreSteps
-pub mod CoreLaws
-pub mod QuietCore
-pub mod BesideSteps
+pub mod ThreadSteps
 pub mod Taking
+pub mod QuietCore
 pub mod Calling
 pub mod Knowing
 pub mod Seating
-pub mod Crossing
 pub mod Gathering
+pub mod Crossing
+pub mod CoreLaws

@@ -1,96 +1,71 @@
--- A new lock keeps its rule, and the first seat's accounts go to seats of their own, one after another.
-use Rattle.std.proofs.Common.{◌≡◌, ℕ, zero, suc, ◌+◌, ◌-◌, ◌<◌, List, [], ◌∷◌, ◌++◌, Option, Some, None, take, drop, refl, sym, ap, ◌∙◌, subst, arith, zero-add}
+-- A new table keeps its rule, and its threads are dealt out to tokens of their own, one after another.
+use Rattle.std.proofs.Common.{◌≡◌, ℕ, ◌+◌, ◌-◌, ◌<◌, List, [], ◌∷◌, ◌++◌, map, Option, Some, refl, sym, ap, ◌∙◌, subst, arith, zero-add}
+use Rattle.std.specs.Prelude.{replicate}
 use Rattle.std.proofs.lemmas.List.FromFn.{map-range_with_len_more}
-use mathlib.Core.Option.{some, some-injective, some-ne-none}
-use lib.ListN.{get_elem?}
 use Rattle.atomic_table.specs.Table.{opening, Splits}
 use Rattle.atomic_table.specs.Seated.{TableId}
 use Rattle.evl_base.specs.declared.board.Board.{Board}
 use Rattle.evl_base.specs.declared.numbers.ThreadId.{ThreadId}
 use Rattle.evl_base.specs.declared.entry.Entry.{Entry}
 use Rattle.evl_pipeline.specs.declared.plan.Plan.{Plan}
-use Rattle.evl_kernel.specs.Histories.{History, Run, IsLegal}
+use Rattle.evl_kernel.specs.Histories.{History, Run, IsLegal, opened}
 use Rattle.evl_kernel.specs.KernelViews.{KernelView, IsOpened}
+use Rattle.evl_words.specs.Hands.{place, hand_from, rest_of, first_of as first_place}
+use Rattle.evl_words.specs.MutexWorld.{MutexView}
+use Rattle.evl_words.proofs.Dealing.{hand_step}
 use Rattle.evl_machine.specs.declared.views.Account.{Account}
-use Rattle.evl_machine.specs.declared.views.Known.{Known}
-use Rattle.evl_machine.specs.Accounts.{newcomer, newcomers, calls_by}
-use Rattle.evl_machine.specs.CoreRule.{CoreMe, Kept, view}
-use Rattle.evl_machine.specs.Known.{ComesFrom, HasCome, IsLive, KeptKnown, first_known, first_of, view_of, past_of, knows}
+use Rattle.evl_machine.specs.declared.views.ThreadView.{ThreadView}
+use Rattle.evl_machine.specs.Accounts.{newcomer, calls_by, threads_of}
+use Rattle.evl_machine.specs.ThreadRule.{newcomer_view}
+use Rattle.evl_machine.specs.Seats.{CoreMe}
+use Rattle.evl_machine.specs.Known.{ComesFrom, CoreHand, KernelMe, KeptKnown, first_known, first_of, past_of, room_of, seen, no_tie, mutex_count}
 use Rattle.evl_machine.specs.Handles.{MachineState, CallerState, newcomer_of, newcomers_of, seated}
 use Rattle.evl_machine.specs.Calls.{IsCaller}
-use Rattle.evl_machine.proofs.BesideSteps.{splits_both}
-use Rattle.evl_machine.proofs.CoreSteps.{opens_core, splits_core}
+use Rattle.evl_machine.proofs.ThreadSteps.{opens_thread, splits_thread}
 use Rattle.evl_machine.proofs.Calling.{is_caller}
-
-live_before : (xs : List Account) (a : Account) (others : List Account) → drop 1 xs ≡ a ∷ others → (b : Account) × (more : List Account) × (xs ≡ b ∷ more)
-live_before [] a others e = absurd (cc)
-live_before (x ∷ xs) a others e = (x, xs, refl)
-
-live_first : (xs : List Account) (a : Account) (others : List Account) → take 1 xs ≡ a ∷ others → (b : Account) × (more : List Account) × (xs ≡ b ∷ more)
-live_first [] a others e = absurd (cc)
-live_first (x ∷ xs) a others e = (x, xs, refl)
 
 module _ {C : Type 0} where
   -- a kernel that was just made has the history of no call
   pub opened_legal : (declared : C → ℕ) (plan : C → Plan) (board : Board) (bank : List C) (limit : ℕ) (k : KernelView C) → IsOpened declared plan board bank limit k → IsLegal k.history × (k.history.entries ≡ [])
-  opened_legal declared plan board bank limit k o = (subst (λ (es : List Entry). Run k.history.opening es k.history.plays k.history.state) (sym o.entries) (o.plays, o.state), o.entries)
+  opened_legal declared plan board bank limit k o = (subst (λ (es : List Entry). Run (opened k.history) es k.history.plays k.history.state) (sym o.entries) (o.plays, o.state), o.entries)
 
   pub comes_itself : (k : KernelView C) → ComesFrom k k
-  comes_itself k = record { brings = λ number callback stands. stands; told_is = refl; limit = refl }
+  comes_itself k = record { board = refl; bank = refl; brings = λ number callback stands. stands; told_is = refl; limit = refl }
 
   pub opens_known : (k : KernelView C) → IsLegal k.history → k.history.entries ≡ [] → KeptKnown k (opening (0 ∷ []) (Some k ∷ []) (first_known k))
-  opens_known k legal none_yet = record {
-    rule = opens_core past_of k legal none_yet;
-    known = one;
-    home = home_one;
-  }
-    where
-      one : (i : ℕ) (v : Known C) → get_elem? (first_known k ∷ []) i ≡ some v → IsLive v → first_of v ≡ k
-      one zero v e lives = sym (ap first_of (some-injective _ v e))
-      one (suc i) v e lives = absurd (some-ne-none v (sym e))
-
-      home_one : (j : ℕ) (y : Option (KernelView C)) → get_elem? (some (Some k) ∷ []) j ≡ some (some y) → HasCome k y
-      home_one zero y e = subst (HasCome k) (some-injective _ y (some-injective _ (some y) e)) (comes_itself k)
-      home_one (suc j) y e = absurd (some-ne-none (some y) (sym e))
+  opens_known k legal none_yet = opens_thread past_of room_of ComesFrom no_tie k (mutex_count k) k (threads_of k.history) refl (λ i lt. absurd (omega arith)) legal none_yet (comes_itself k) (λ i lt. tt) (0 ∷ []) refl
 
   pub opens_as : (k key : KernelView C) (items : List (Option (KernelView C))) → key ≡ k → items ≡ Some k ∷ [] → IsLegal k.history → k.history.entries ≡ [] → KeptKnown key (opening (0 ∷ []) items (first_known key))
   opens_as k key items same one legal none_yet =
       subst (λ (x : KernelView C × List (Option (KernelView C))). KeptKnown x.0 (opening (0 ∷ []) x.1 (first_known x.0))) (λ i. (sym same i, sym one i)) (opens_known k legal none_yet)
 
-  pub splits_known : (first : KernelView C) (id : ℕ) (v : Known C) → Splits (KeptKnown first) id v (knows (view v.view.taken (drop 1 v.view.accounts)) v.first) (knows (view None (take 1 v.view.accounts)) v.first)
-  splits_known first id v =
-      splits_both HasCome view_of first_of knows (λ v b. refl) (λ v b. refl) IsLive (Kept past_of) first id v (knows (view v.view.taken (drop 1 v.view.accounts)) v.first) (knows (view None (take 1 v.view.accounts)) v.first) refl refl (λ l. live_before v.view.accounts l.0 l.1 l.2) (λ l. live_first v.view.accounts l.0 l.1 l.2) (splits_core past_of id v.view)
+  pub splits_known : (first : KernelView C) (id : ℕ) (hand : CoreHand C) → Splits (KeptKnown first) id hand (first_place hand) (rest_of hand)
+  splits_known first id hand = splits_thread past_of room_of ComesFrom no_tie first (mutex_count first) id hand
 
-  -- the first seat with the accounts that are left
-  abbrev pub left_from : History → ℕ → ℕ → CoreMe (KernelView C)
-  left_from h i n = (view None (newcomers h i (n - i)), [])
+  abbrev new_view : KernelView C → ℕ → ThreadView (KernelView C) MutexView
+  new_view k n = newcomer_view k.history k (mutex_count k) n
 
-  abbrev accounts_me : List Account → CoreMe (KernelView C)
-  accounts_me xs = (view None xs, [])
+  -- the token with the threads that are left
+  abbrev pub left_from : KernelView C → ℕ → ℕ → KernelMe C
+  left_from k i n = (hand_from i (replicate (n - i) (new_view k n)), [])
 
-  next_left : (h : History) (i n : ℕ) → i < n → accounts_me (drop 1 (newcomers h i (n - i))) ≡ left_from h (i + 1) n
-  next_left h i n less =
-      let e : n - i ≡ suc (n - (i + 1)) = omega arith in
-      let s : suc i ≡ i + 1 = omega arith in
-      ap (λ (k : ℕ). accounts_me (drop 1 (newcomers h i k))) e ∙ ap (λ (k : ℕ). accounts_me (newcomers h k (n - (i + 1)))) s
+  abbrev hand_me : CoreHand C → KernelMe C
+  hand_me hand = (hand, [])
 
-  next_seat : (h : History) (i n : ℕ) → i < n → accounts_me (take 1 (newcomers h i (n - i))) ≡ seated (newcomer h i)
-  next_seat h i n less = let e : n - i ≡ suc (n - (i + 1)) = omega arith in ap (λ (k : ℕ). accounts_me (take 1 (newcomers h i k))) e
+  pub rest_goes : (k : KernelView C) (i n : ℕ) (me me' : KernelMe C) → i < n → me ≡ left_from k i n → me' ≡ (rest_of me.0, []) → me' ≡ left_from k (i + 1) n
+  rest_goes k i n me me' less was now = now ∙ ap (λ (m : KernelMe C). hand_me (rest_of m.0)) was ∙ ap (λ h. hand_me (rest_of h)) (hand_step i n (new_view k n) less)
 
-  abbrev cut_left : CoreMe (KernelView C) → CoreMe (KernelView C)
-  cut_left m = (view m.0.taken (drop 1 m.0.accounts), m.1)
+  pub seat_comes : (k : KernelView C) (i n : ℕ) (me me' : KernelMe C) → i < n → me ≡ left_from k i n → me' ≡ (first_place me.0, me.1) → (seen me' ≡ seated (newcomer k.history i)) × (first_of me'.0 ≡ k)
+  seat_comes k i n me me' less was now =
+      let is : me' ≡ hand_me (place i (new_view k n) ∷ []) = now ∙ ap (λ (m : KernelMe C). first_me m) was ∙ ap (λ h. hand_me (first_place h)) (hand_step i n (new_view k n) less) in
+      (ap seen is, ap (λ (m : KernelMe C). first_of m.0) is)
+    where
+      first_me : KernelMe C → KernelMe C
+      first_me m = (first_place m.0, m.1)
 
-  abbrev cut_right : CoreMe (KernelView C) → CoreMe (KernelView C)
-  cut_right m = (view None (take 1 m.0.accounts), [])
-
-  pub root_goes : (h : History) (i n : ℕ) (me me' : CoreMe (KernelView C)) → i < n → me ≡ left_from h i n → me' ≡ cut_left me → me' ≡ left_from h (i + 1) n
-  root_goes h i n me me' less was now = now ∙ (ap cut_left was ∙ next_left h i n less)
-
-  pub seat_comes : (h : History) (i n : ℕ) (me me' : CoreMe (KernelView C)) → i < n → me ≡ left_from h i n → me' ≡ cut_right me → me' ≡ seated (newcomer h i)
-  seat_comes h i n me me' less was now = now ∙ (ap cut_right was ∙ next_seat h i n less)
-
-  pub new_caller : (h : History) (t : ThreadId) (me : CoreMe (KernelView C)) → IsLegal h → h.entries ≡ [] → me ≡ seated (newcomer h t.0) → IsCaller me t
-  new_caller h t me legal none_yet e = is_caller (newcomer h t.0) me t e refl (record { legal = legal; mine = ap (calls_by t.0) none_yet })
+  pub new_caller : (h : History) (t : ThreadId) (me : CoreMe (KernelView C)) → t.0 < threads_of h → IsLegal h → h.entries ≡ [] → me ≡ seated (newcomer h t.0) → IsCaller me t
+  new_caller h t me member legal none_yet e =
+      is_caller (newcomer h t.0) me t e refl (record { legal = legal; member = member; mine = ap (calls_by t.0) none_yet; strangers = λ u far. ap (calls_by u) none_yet })
 
   -- one caller more
   pub one_more : (m : MachineState C) (i : ℕ) (items : List (CallerState C)) (id : TableId) (first : KernelView C) (a : Account) → items ≡ newcomers_of m i → id ≡ m.id → first ≡ m.first → a ≡ newcomer m.first.history i

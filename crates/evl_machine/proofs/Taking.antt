@@ -1,13 +1,13 @@
 -- The kernel goes out of the slot after a take, and into it before a give.
 use Rattle.std.proofs.Common.{◌≡◌, ℕ, List, [], ◌∷◌, Option, Some, None, MatchOption, sym, ap, ◌∙◌, subst}
 use Rattle.atomic_table.specs.Table.{rest}
-use Rattle.evl_kernel.specs.Histories.{History}
+use Rattle.evl_kernel.specs.Histories.{History, IsLegal}
 use Rattle.evl_machine.specs.declared.views.Account.{Account}
-use Rattle.evl_machine.specs.CoreRule.{CoreMe, MayGive, view, after_give, Took}
-use Rattle.evl_machine.specs.Accounts.{informed}
-use Rattle.evl_machine.specs.Handles.{Taken, Continues, holding, seated}
+use Rattle.evl_machine.specs.Seats.{CoreMe, AccountsFit, view, after_take}
+use Rattle.evl_machine.specs.Accounts.{HasNoStranger}
+use Rattle.evl_machine.specs.Handles.{Taken, holding}
 
-module _ {S : Type 0} (past : S → History) where
+module _ {S : Type 0} (past : S → History) (room : S → ℕ) where
   abbrev pub Slots : Type 0
   Slots = List (ℕ × Option S)
 
@@ -28,17 +28,31 @@ module _ {S : Type 0} (past : S → History) where
   abbrev pub put_none : CoreMe S → CoreMe S
   put_none m = (m.0, put_first None m.1)
 
+  -- what a take tells of a token, where it found the core free
+  abbrev pub Took : (S → Type 0) → CoreMe S → CoreMe S → Type 0
+  Took from me me' = (k : S) × (me' ≡ (after_take (past k) (room k) me.0, (0, Some k) ∷ [])) × IsLegal (past k) × HasNoStranger (past k) × AccountsFit (past k) me.0.accounts × from k
+
   -- what comes out of the slot after a take is the kernel
-  pub takes_out : (me me' me'' : CoreMe S) (out : Option S) → Took past me me' → me'.1 ≡ put_first out me'.1 → me'' ≡ put_none me' → MatchOption out (me'' ≡ me) (λ k. Taken past me k me'')
-  takes_out me me' me'' out t slot now =
+  pub takes_out : (from : S → Type 0) (me me' me'' : CoreMe S) (out : Option S) → Took from me me' → me'.1 ≡ put_first out me'.1 → me'' ≡ put_none me' → MatchOption out (me'' ≡ me) (λ k. Taken past room me k me'' × from k)
+  takes_out from me me' me'' out t slot now =
       let k = t.0 in
       let is : me'.1 ≡ slot_with (Some k) = ap (λ (m : CoreMe S). m.1) t.1 in
       let same : Some k ≡ out = ap first_slot (sym is ∙ slot) in
-      subst (λ (x : Option S). MatchOption x (me'' ≡ me) (λ k. Taken past me k me'')) same (record {
-        now = now ∙ ap put_none t.1;
-        legal = t.2;
-        fits = t.3;
-      })
+      subst (λ (x : Option S). MatchOption x (me'' ≡ me) (λ k. Taken past room me k me'' × from k)) same (
+        record {
+          now = now ∙ ap put_none t.1;
+          legal = t.2;
+          strangers = t.3;
+          fits = t.4;
+        },
+        t.5,
+      )
+
+  -- what comes out is some kernel
+  pub comes_out : (from : S → Type 0) (me me' : CoreMe S) (out : Option S) (None' Some' : Type 0) → Took from me me' → me'.1 ≡ put_first out me'.1 → Some' → MatchOption out None' (λ _. Some')
+  comes_out from me me' out None' Some' t slot e =
+      let is : me'.1 ≡ slot_with (Some t.0) = ap (λ (m : CoreMe S). m.1) t.1 in
+      subst (λ (x : Option S). MatchOption x None' (λ _. Some')) (ap first_slot (sym is ∙ slot)) e
 
   -- a seat that has put the kernel back into the slot, and has yet to give the slot
   abbrev pub loaded : Account → S → CoreMe S
@@ -47,22 +61,5 @@ module _ {S : Type 0} (past : S → History) where
   abbrev pub put_kernel : S → CoreMe S → CoreMe S
   put_kernel k m = (m.0, put_first (Some k) m.1)
 
-  abbrev pub given_me : S → CoreMe S → CoreMe S
-  given_me k m = (after_give (past k) m.0, [])
-
   pub is_loaded : (a : Account) (k : S) (me me' : CoreMe S) → me ≡ holding a → me' ≡ put_kernel k me → me' ≡ loaded a k
   is_loaded a k me me' was now = now ∙ ap (put_kernel k) was
-
-  pub may_give : (a : Account) (k : S) (me : CoreMe S) → me ≡ loaded a k → Continues a (past k) → MayGive me.0 (past k)
-  may_give a k me is c = record {
-    before = a.seen;
-    added = c.added;
-    caller = a;
-    taken = ap (λ (m : CoreMe S). m.0.taken) is;
-    only = ap (λ (m : CoreMe S). m.0.accounts) is;
-    longer = c.longer;
-    own = c.own;
-  }
-
-  pub after_giving : (a : Account) (k : S) (me me' : CoreMe S) → me ≡ loaded a k → ((y : S) → me.1 ≡ slot_with (Some y) → me' ≡ given_me y me) → me' ≡ seated (informed (past k) a)
-  after_giving a k me me' is then = then k (ap (λ (m : CoreMe S). m.1) is) ∙ ap (given_me k) is

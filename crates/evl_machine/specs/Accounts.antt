@@ -1,14 +1,19 @@
--- What one caller knows of the kernel's history: what it has seen, and its own calls there.
-use Rattle.std.specs.Prelude.{◌≡◌, ℕ, zero, suc, ◌==◌, cond, List, [], ◌∷◌, ◌++◌}
+-- What one caller knows of the kernel: the history that it has seen, its own calls there, and what room it found.
+use Rattle.std.specs.Prelude.{◌≡◌, ℕ, ◌<◌, ◌≤◌, ◌==◌, cond, List, [], ◌∷◌, ◌++◌}
 use Rattle.evl_base.specs.declared.entry.Entry.{Entry}
 use Rattle.evl_base.specs.declared.play.Play.{Play}
-use Rattle.evl_kernel.specs.Histories.{History, Run}
+use Rattle.evl_kernel.specs.Histories.{History, Run, IsLegal}
 use Rattle.evl_machine.specs.declared.views.Account.{Account}
+
+-- how many threads are on a history's board
+abbrev pub threads_of : History → ℕ
+threads_of h = h.board.threads
 
 -- new is old with these further entries, which lead on from where old ends
 pub record GoesOn (old : History) (entries : List Entry) (new : History) : Type 0 where
   pub plays : List Play
-  pub opening : new.opening ≡ old.opening
+  pub board : new.board ≡ old.board
+  pub bank : new.bank ≡ old.bank
   pub entries_are : new.entries ≡ old.entries ++ entries
   pub plays_are : new.plays ≡ old.plays ++ plays
   pub run : Run old.state entries plays new.state
@@ -27,26 +32,32 @@ abbrev pub MadeBy : ℕ → List Entry → Type 0
 MadeBy t [] = Unit {0}
 MadeBy t (e ∷ es) = (e.caller.0 ≡ t) × MadeBy t es
 
-abbrev pub account : ℕ → History → List Entry → Account
-account t seen mine = record { thread = t; seen = seen; mine = mine }
+-- no call is of a thread that isn't on the board
+abbrev pub HasNoStranger : History → Type 0
+HasNoStranger h = (t : ℕ) → threads_of h ≤ t → calls_by t h.entries ≡ []
+
+abbrev pub account : ℕ → History → List Entry → List ℕ → Account
+account t seen mine found = record { thread = t; seen = seen; mine = mine; found = found }
 
 -- the common history begins with what the caller has seen, and its own calls are all that the history has of its thread
 pub record Fits (history : History) (a : Account) : Type 0 where
   pub seen : BeginsWith history a.seen
   pub mine : calls_by a.thread history.entries ≡ a.mine
 
--- the account once its caller has seen a history, and once all of that history's calls of its thread are its own
-abbrev pub saw : History → Account → Account
-saw h a = account a.thread h a.mine
+-- What holds of each caller. Its thread is on the board. It has seen a legal history, of which its own calls are just those of its thread, and in which no call is of a thread that isn't on the board
+pub record IsAccount (a : Account) : Type 0 where
+  pub legal : IsLegal a.seen
+  pub member : a.thread < threads_of a.seen
+  pub mine : calls_by a.thread a.seen.entries ≡ a.mine
+  pub strangers : HasNoStranger a.seen
+
+-- the account once its caller took a kernel with this history and this room, and once all of a history's calls of its thread are its own
+abbrev pub saw : History → ℕ → Account → Account
+saw h room a = record a { seen = h; found = a.found ++ room ∷ [] }
 
 abbrev pub informed : History → Account → Account
-informed h a = account a.thread h (calls_by a.thread h.entries)
+informed h a = record a { seen = h; mine = calls_by a.thread h.entries }
 
 -- a caller of this thread that has made no call
 abbrev pub newcomer : History → ℕ → Account
-newcomer h t = account t h []
-
--- the newcomers of n threads, from the thread t on
-abbrev pub newcomers : History → ℕ → ℕ → List Account
-newcomers h t zero = []
-newcomers h t (suc n) = newcomer h t ∷ newcomers h (suc t) n
+newcomer h t = account t h [] []

@@ -1,5 +1,5 @@
 -- What one call of the kernel tells its caller.
-use Rattle.std.specs.Prelude.{◌≡◌, ◌+◌, ◌≤◌, ℕ, List, [], ◌∷◌, ◌++◌, Bool, true, false, length, Result, Ok, Err, None}
+use Rattle.std.specs.Prelude.{◌≡◌, ◌≢◌, ◌+◌, ◌≤◌, ℕ, List, [], ◌∷◌, ◌++◌, Bool, true, false, length, Result, Ok, Err, Option, None, MatchOption}
 use Rattle.evl_base.specs.declared.numbers.ThreadId.{ThreadId}
 use Rattle.evl_base.specs.declared.call.Call.{Call}
 use Rattle.evl_base.specs.declared.reply.Reply.{Reply}
@@ -9,12 +9,11 @@ use Rattle.evl_base.specs.declared.play.Play.{Play}
 use Rattle.evl_kernel.specs.Histories.{History, IsLegal}
 use Rattle.evl_kernel.specs.KernelViews.{KernelView, IsKernelAnswer, Adds, entry_of, makes_entry, refusal_enters}
 use Rattle.evl_machine.specs.declared.views.Account.{Account}
-use Rattle.evl_machine.specs.declared.views.Known.{Known}
-use Rattle.evl_machine.specs.Nothing.{no_kernel}
-use Rattle.evl_machine.specs.Accounts.{BeginsWith, calls_by, saw}
-use Rattle.evl_machine.specs.CoreRule.{CoreMe, view}
-use Rattle.evl_machine.specs.Known.{ComesFrom, knows}
-use Rattle.evl_machine.specs.Handles.{CallerState, HeldState, Continues, account_of, first_account, seated, holding}
+use Rattle.evl_machine.specs.Accounts.{BeginsWith, IsAccount}
+use Rattle.evl_machine.specs.Seats.{CoreMe}
+use Rattle.evl_machine.specs.QuietCore.{IsQuiet}
+use Rattle.evl_machine.specs.Known.{ComesFrom, CoreHand, accounts_in, taken_in, first_of}
+use Rattle.evl_machine.specs.Handles.{CallerState, HeldState, Continues, account_of, first_account, seated, holding, shown}
 
 -- a call of the kernel adds just its entry, or leaves the history: it is full, or no room was made for the call
 pub record Applied {C : Type 0} (old : KernelView C) (thread : ℕ) (c : Call) (r : Result Reply Refusal) (new : KernelView C) : Type 0 where
@@ -28,11 +27,6 @@ pub record Applied {C : Type 0} (old : KernelView C) (thread : ℕ) (c : Call) (
   pub comes : ComesFrom old new
   pub legal : IsLegal new.history
 
--- what holds of each caller: it has seen a legal history, in which its own calls are just those that it made
-pub record IsAccount (a : Account) : Type 0 where
-  pub legal : IsLegal a.seen
-  pub mine : calls_by a.thread a.seen.entries ≡ a.mine
-
 -- a caller's seat is at rest, with the account of its own thread
 pub record IsCaller {S : Type 0} (me : CoreMe S) (thread : ThreadId) : Type 0 where
   pub rests : me ≡ seated (account_of me)
@@ -40,17 +34,21 @@ pub record IsCaller {S : Type 0} (me : CoreMe S) (thread : ThreadId) : Type 0 wh
   pub account : IsAccount (account_of me)
 
 module _ {C : Type 0} where
-  abbrev pub account_in : List (Known C) → Account
-  account_in [] = first_account []
-  account_in (v ∷ vs) = first_account v.view.accounts
+  abbrev pub hand_in : List (CoreHand C) → CoreHand C
+  hand_in [] = []
+  hand_in (h ∷ hs) = h
 
-  abbrev pub first_in : List (Known C) → KernelView C
-  first_in [] = no_kernel
-  first_in (v ∷ vs) = v.first
+  abbrev pub account_in : List (CoreHand C) → Account
+  account_in views = first_account (accounts_in (hand_in views))
+
+  abbrev pub first_in : List (CoreHand C) → KernelView C
+  first_in views = first_of (hand_in views)
 
 -- a caller's badge is at rest, with the account of its own thread
-pub record IsAtRest {C : Type 0} (views : List (Known C)) (thread : ThreadId) : Type 0 where
-  pub rests : views ≡ knows (view None (account_in views ∷ [])) (first_in views) ∷ []
+pub record IsAtRest {C : Type 0} (views : List (CoreHand C)) (thread : ThreadId) : Type 0 where
+  pub one : views ≡ hand_in views ∷ []
+  pub idle : taken_in (hand_in views) ≡ None
+  pub rests : accounts_in (hand_in views) ≡ account_in views ∷ []
   pub own : (account_in views).thread ≡ thread.0
   pub account : IsAccount (account_in views)
 
@@ -71,15 +69,17 @@ pub record Enters (a : Account) (c : Call) (r : Result Reply Refusal) (a' : Acco
   pub adds : Adds before a.thread c r plays a'.seen
   pub mine : a'.mine ≡ a.mine ++ entry_of a.thread c r plays ∷ []
 
--- The answer is the kernel's at one point of the common history, which is legal and begins with all that the caller had seen. A refusal without an entry leaves the caller's own calls, and CoreBusy all that it knows
-pub record Called (limit : ℕ) (a : Account) (c : Call) (r : Result Reply Refusal) (a' : Account) : Type 0 where
+-- The answer is the kernel's at one point of the common history, which is legal and begins with all that the caller had seen. A refusal without an entry leaves the caller's own calls, and CoreBusy all that it knows. For every other answer the kernel was taken once. It was full for HistoryFull, and for NoMemory it was not, and had no room made
+pub record Answered (limit : ℕ) (a : Account) (c : Call) (r : Result Reply Refusal) (a' : Account) : Type 0 where
   pub thread : a'.thread ≡ a.thread
   pub account : IsAccount a'
   pub later : BeginsWith a'.seen a.seen
   pub entered : completes r ≡ true → Enters a c r a'
   pub refused : completes r ≡ false → a'.mine ≡ a.mine
   pub busy : r ≡ Err CoreBusy → a' ≡ a
+  pub taken : r ≢ Err CoreBusy → (room : ℕ) × (a'.found ≡ a.found ++ room ∷ [])
   pub full : r ≡ Err HistoryFull → length a'.seen.entries ≡ limit
+  pub memory : r ≡ Err NoMemory → (a'.found ≡ a.found ++ 0 ∷ []) × (length a'.seen.entries ≢ limit)
 
 -- a seat has the kernel, which goes on from the history that it took by calls of the seat's one caller
 pub record IsHeld {S : Type 0} {C : Type 0} (me : CoreMe S) (thread : ThreadId) (k : KernelView C) : Type 0 where
@@ -87,10 +87,23 @@ pub record IsHeld {S : Type 0} {C : Type 0} (me : CoreMe S) (thread : ThreadId) 
   pub own : (account_of me).thread ≡ thread.0
   pub continues : Continues (account_of me) k.history
 
--- the kernel's history is what the caller has now seen. It is legal, and it begins with all that the caller had seen; of this thread it has just the caller's own calls
+-- the kernel's history is what the caller has now seen. It is legal, and it begins with all that the caller had seen; of this thread it has just the caller's own calls. At its end a line is pending out-of-band only while the out-of-band stage is stalled
 pub record TookKernel {C : Type 0} (c : CallerState C) (h : HeldState C) : Type 0 where
-  pub machine : h.machine ≡ c.machine
-  pub account : h.account ≡ saw h.kernel.history c.account
+  pub caller : h.caller ≡ shown h.kernel.history h.kernel.room c
   pub later : BeginsWith h.kernel.history c.account.seen
-  pub just : IsAccount h.account
+  pub just : IsAccount h.caller.account
   pub comes : ComesFrom c.machine.first h.kernel
+  pub quiet : IsQuiet h.kernel.history
+
+module _ {C : Type 0} where
+  -- what a caller's call is refused by what the caller has itself, before any step: nothing, as long as callers hold nothing and wait for nothing
+  abbrev pub own_refusal : CallerState C → Call → Option Refusal
+  own_refusal caller c = None
+
+  -- an own answer leaves the caller as it was; every other one is the kernel's
+  abbrev pub Called : ℕ → CallerState C → Call → Result Reply Refusal → CallerState C → Type 0
+  Called limit old c r new = MatchOption (own_refusal old c) (Answered limit old.account c r new.account) (λ refusal. (r ≡ Err refusal) × (new ≡ old))
+
+  -- the same of a caller that has the kernel
+  abbrev pub CalledHeld : HeldState C → Call → Result Reply Refusal → HeldState C → Type 0
+  CalledHeld old c r new = MatchOption (own_refusal old.caller c) ((new.caller ≡ old.caller) × Applied old.kernel old.caller.account.thread c r new.kernel) (λ refusal. (r ≡ Err refusal) × (new ≡ old))

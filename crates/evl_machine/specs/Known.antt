@@ -1,57 +1,77 @@
--- The rule of the core's lock beside what each seat knows of the kernel as it was made: its limit, and which callback stood in it under which number.
-use Rattle.std.specs.Prelude.{◌≡◌, ℕ, List, ◌∷◌, Option, Some, None}
+-- The rule of the machine's table, and what is read of its tokens.
+use Rattle.std.specs.Prelude.{◌≡◌, ℕ, List, [], ◌∷◌, Option, None}
 use Rattle.atomic_table.specs.Table.{State, Me, Step}
 use Rattle.evl_kernel.specs.Histories.{History}
 use Rattle.evl_kernel.specs.KernelViews.{KernelView}
 use Rattle.evl_kernel.specs.Callbacks.{BringsNone, told}
+use Rattle.evl_words.specs.Hands.{Hand, Told}
+use Rattle.evl_words.specs.MutexWorld.{MutexView}
 use Rattle.evl_machine.specs.declared.views.Account.{Account}
-use Rattle.evl_machine.specs.declared.views.CoreView.{CoreView}
-use Rattle.evl_machine.specs.declared.views.Known.{Known}
-use Rattle.evl_machine.specs.Beside.{AllHeld, Both, plain_me}
-use Rattle.evl_machine.specs.CoreRule.{CoreMe, Kept, root, took, gave}
+use Rattle.evl_machine.specs.declared.views.ThreadView.{ThreadView}
+use Rattle.evl_machine.specs.Nothing.{no_kernel}
+use Rattle.evl_machine.specs.Accounts.{threads_of}
+use Rattle.evl_machine.specs.Seats.{CoreMe, view}
+use Rattle.evl_machine.specs.CoreRule.{account_at}
+use Rattle.evl_machine.specs.CoreTells.{took, gave}
+use Rattle.evl_machine.specs.ThreadRule.{Tie, MachineRule, all_threads, on_core}
 
--- no callback came into the kernel since it was made, what is told of them is the same, and so is the limit
+-- since the kernel was made no callback came into it, what is told of them is the same, and so are the board and bank that it began with and its limit
 pub record ComesFrom {C : Type 0} (first k : KernelView C) : Type 0 where
+  pub board : k.history.board ≡ first.history.board
+  pub bank : k.history.bank ≡ first.history.bank
   pub brings : BringsNone first.callbacks k.callbacks
   pub told_is : told k.callbacks.bank ≡ told first.callbacks.bank
   pub limit : k.limit ≡ first.limit
 
+abbrev pub CoreHand : Type 0 → Type 0
+CoreHand C = Hand (ThreadView (KernelView C) MutexView)
+
+abbrev pub KernelMe : Type 0 → Type 0
+KernelMe C = Me (Option (KernelView C)) (CoreHand C)
+
 module _ {C : Type 0} where
-  abbrev pub HasCome : KernelView C → Option (KernelView C) → Type 0
-  HasCome first None = Unit {0}
-  HasCome first (Some k) = ComesFrom first k
-
-  abbrev pub view_of : Known C → CoreView
-  view_of v = v.view
-
-  abbrev pub first_of : Known C → KernelView C
-  first_of v = v.first
-
   abbrev pub past_of : KernelView C → History
   past_of k = k.history
 
--- a seat that carries an account
-abbrev pub IsLive : {C : Type 0} → Known C → Type 0
-IsLive v = (a : Account) × (others : List Account) × (v.view.accounts ≡ a ∷ others)
+  abbrev pub room_of : KernelView C → ℕ
+  room_of k = k.room
 
-abbrev pub KernelMe : Type 0 → Type 0
-KernelMe C = Me (Option (KernelView C)) (Known C)
+  -- the accounts of a hand's threads, what its first thread has taken, and the kernel as it was made
+  abbrev pub accounts_in : CoreHand C → List Account
+  accounts_in [] = []
+  accounts_in (p ∷ ps) = account_at p.number p.view.core ∷ accounts_in ps
 
-abbrev pub knows : {C : Type 0} → CoreView → KernelView C → Known C
-knows v first = record { view = v; first = first }
+  abbrev pub taken_in : CoreHand C → Option History
+  taken_in [] = None
+  taken_in (p ∷ ps) = p.view.core.taken
 
--- what the seat knows of the calls
-abbrev pub seen : {C : Type 0} → KernelMe C → CoreMe (KernelView C)
-seen m = plain_me view_of m
+  abbrev pub first_of : CoreHand C → KernelView C
+  first_of [] = no_kernel
+  first_of (p ∷ ps) = p.view.core.first
 
-abbrev pub KeptKnown : {C : Type 0} → KernelView C → State (Option (KernelView C)) (Known C) → Type 0
-KeptKnown first = Both HasCome view_of first_of IsLive (Kept past_of) first
+  -- a token that acts for a thread at least
+  abbrev pub IsLive : CoreHand C → Type 0
+  IsLive hand = (a : Account) × (others : List Account) × (accounts_in hand ≡ a ∷ others)
 
-abbrev pub first_known : {C : Type 0} → KernelView C → Known C
-first_known first = knows (root first.history) first
+  -- what the token knows of the calls
+  abbrev pub seen : KernelMe C → CoreMe (KernelView C)
+  seen m = (view (taken_in m.0) (accounts_in m.0), m.1)
 
-abbrev pub took_known : {C : Type 0} → Step (Option (KernelView C)) → KernelMe C → ℕ → KernelMe C → Type 0
-took_known step m n m' = took past_of step (seen m) n (seen m') × (first_of m'.0 ≡ first_of m.0) × AllHeld HasCome (first_of m.0) m'.1
+  -- no mutex word stands in the table yet
+  abbrev pub mutex_count : KernelView C → ℕ
+  mutex_count first = 0
 
-abbrev pub gave_known : {C : Type 0} → Step (Option (KernelView C)) → KernelMe C → ℕ → KernelMe C → Type 0
-gave_known step m n m' = gave past_of step (seen m) n (seen m') × (first_of m'.0 ≡ first_of m.0) × AllHeld HasCome (first_of m.0) m'.1
+  abbrev pub no_tie : Tie (KernelView C) (KernelView C)
+  no_tie i n homes cores word = Unit {0}
+
+  abbrev pub KeptKnown : KernelView C → State (Option (KernelView C)) (CoreHand C) → Type 0
+  KeptKnown first = MachineRule past_of ComesFrom no_tie first (mutex_count first)
+
+  abbrev pub first_known : KernelView C → CoreHand C
+  first_known first = all_threads first.history first (mutex_count first) (threads_of first.history)
+
+  abbrev pub took_known : Step (Option (KernelView C)) → KernelMe C → ℕ → KernelMe C → Type 0
+  took_known = Told (on_core (took past_of room_of ComesFrom))
+
+  abbrev pub gave_known : Step (Option (KernelView C)) → KernelMe C → ℕ → KernelMe C → Type 0
+  gave_known = Told (on_core (gave past_of room_of ComesFrom))

@@ -2,9 +2,12 @@ pub mod Nothing
 pub mod Accounts
 pub mod CoreRule
 pub mod CoreWorld
+pub mod CoreTells
 pub mod QuietCore
-pub mod Beside
+pub mod ThreadRule
+pub mod Seats
 pub mod Known
 pub mod Handles
+pub mod Events
 pub mod Calls
 pub mod Closings

@@ -1,25 +1,19 @@
--- Whenever the core is free the kernel lies in the slot, and its out-of-band stage holds nothing back but by a stall.
-use Rattle.std.specs.Prelude.{ℕ, ◌≡◌, List, [], true, Some}
+-- A kernel whose out-of-band stage holds nothing back but by a stall, and that forgets nothing that is due.
+use Rattle.std.specs.Prelude.{ℕ, ◌≡◌, List, [], ◌∷◌, true, Some}
 use mathlib.Core.Option.{some}
-use Rattle.evl_base.specs.declared.board.Board.{Board}
 use Rattle.evl_base.specs.declared.stage.Stage.TheVariants.{Oob}
 use Rattle.evl_pipeline.specs.Lines.{is_pending}
-use Rattle.evl_kernel.specs.States.{Handler}
-use Rattle.evl_kernel.specs.Openings.{opening}
+use Rattle.evl_clock.specs.Dues.{is_due}
 use Rattle.evl_kernel.specs.Histories.{History, IsLegal}
-use Rattle.evl_words.specs.Machine.{Run}
-use Rattle.evl_machine.specs.CoreWorld.{CoreWorld, CoreEvent, CoreHappens, opening_world}
+use Rattle.evl_kernel.specs.KernelViews.{KernelView}
+use Rattle.evl_machine.specs.CoreRule.{Homes}
 
--- a line is pending out-of-band only while the out-of-band stage is stalled
-abbrev pub IsQuiet : History → Type 0
-IsQuiet h = (line : ℕ) → is_pending h.state.lines Oob line ≡ true → h.state.lines.oob.stalled ≡ true
+-- a line is pending out-of-band only while the out-of-band stage is stalled, and something is due only while line 0 is
+-- pending
+pub record IsQuiet (h : History) : Type 0 where
+  pub stalled : (line : ℕ) → is_pending h.state.lines Oob line ≡ true → h.state.lines.oob.stalled ≡ true
+  pub due : is_due h.state.clock ≡ true → is_pending h.state.lines Oob 0 ≡ true
 
--- a legal history lies in the slot, and it ends quiet
-abbrev pub LiesQuiet : CoreWorld → Type 0
-LiesQuiet w = (h : History) × (w.slot ≡ some (Some h)) × IsLegal h × IsQuiet h
-
-abbrev pub FreeCoreIsQuiet : Type 0
-FreeCoreIsQuiet =
-    (board : Board) (bank : List Handler) (h : History) → h.opening ≡ opening board bank → IsLegal h → h.entries ≡ []
-    → (t : CoreWorld) (events : List CoreEvent) → Run CoreHappens (opening_world h) events t
-    → t.word ≡ 0 → LiesQuiet t
+-- a kernel lies in the slot, whose history is legal and ends quiet
+abbrev pub LiesQuiet : {C : Type 0} → Homes (KernelView C) → Type 0
+LiesQuiet {C} homes = (k : KernelView C) × (homes ≡ some (Some k) ∷ []) × IsLegal k.history × IsQuiet k.history

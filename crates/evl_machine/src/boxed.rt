@@ -4,9 +4,9 @@ ghost use Rattle.std.specs.Prelude.{◌≡◌, ◌≢◌, ◌⊎◌, ◌↔◌, 
 ghost use Rattle.evl_kernel.specs.Callbacks.{AnswersAsTold};
 ghost use Rattle.evl_kernel.specs.KernelViews.{IsOpened};
 ghost use Rattle.evl_kernel.specs.Openings.{can_open};
-ghost use Rattle.evl_machine.specs.Accounts.{informed};
-ghost use Rattle.evl_machine.specs.Handles.{newcomers_of};
-ghost use Rattle.evl_machine.specs.Calls.{Applied, Called, TookKernel};
+ghost use Rattle.evl_machine.specs.Handles.{Belongs, IsSameCaller, newcomers_of, returned};
+ghost use Rattle.evl_machine.specs.Events.{FailsToTake, Gives, Takes};
+ghost use Rattle.evl_machine.specs.Calls.{Called, CalledHeld, TookKernel};
 ghost use Rattle.evl_machine.specs.Closings.{Closes, KeepsOpen};
 
 use crate::caller::CallerOf;
@@ -35,7 +35,7 @@ pub struct Machine {
 #[derive(Drop)]
 pub struct Held<'a> {
     pub of: HeldCore<'a>,
-    ghost answering: { AnswersAsTold (λ c. c.kinds.0) (λ c. c.plan.value) of.machine.first.callbacks },
+    ghost answering: { AnswersAsTold (λ c. c.kinds.0) (λ c. c.plan.value) of.caller.machine.first.callbacks },
 }
 
 impl Machine {
@@ -56,7 +56,7 @@ impl Machine {
         ensures range { (result ≡ Err Refusal.Range) ↔ (can_open board (length bank.items) limit ≡ false) }
         ensures refusals { IfErr result (λ e. (e ≡ Refusal.Range) ⊎ (e ≡ Refusal.NoMemory)) }
     {
-        let (of, callers) = MachineOf::new(alloc, board, bank, limit)?;
+        let (of, callers) = MachineOf::over(alloc, alloc, board, bank, limit)?;
         Ok((Machine { of }, callers))
     }
 
@@ -65,9 +65,9 @@ impl Machine {
     /// `CoreBusy` only where another caller has the kernel; every other answer is the kernel's, of which `NoMemory` and
     /// `HistoryFull` make no entry (this profile).
     pub fn try_call(&self, caller: &mut Caller, call: Call) -> Result<Reply, Refusal>
-        requires { caller.old.machine ≡ self.now.of }
-        ensures machine { caller.new.machine ≡ caller.old.machine }
-        ensures called { Called self.now.of.first.limit caller.old.account call result caller.new.account }
+        requires { Belongs caller.old self.now.of }
+        ensures machine { IsSameCaller caller.old caller.new }
+        ensures called { Called self.now.of.first.limit caller.old call result caller.new }
     {
         self.of.try_call(caller, call)
     }
@@ -78,11 +78,11 @@ impl Machine {
     /// take; then `Invalid` where there are fewer callers than threads, and the first caller has given the core back.
     /// The machine and its callers then come back (this profile).
     pub fn close(self, callers: Vec<Caller>) -> Result<Kernel, (Refusal, Machine, Vec<Caller>)>
-        requires { All (λ c. c.machine ≡ self.of) callers.items }
+        requires { All (λ c. Belongs c self.of) callers.items }
         ensures closed { IfOk result (λ k. Closes self.of callers.items k) }
         ensures answering { IfOk result (λ k. AnswersAsTold (λ c. c.kinds.0) (λ c. c.plan.value) k.callbacks) }
         ensures refused { IfErr result (λ e. KeepsOpen self.of callers.items e.0 e.2.items) }
-        ensures again { IfErr result (λ e. (e.1.of ≡ self.of) × All (λ c. c.machine ≡ self.of) e.2.items) }
+        ensures again { IfErr result (λ e. (e.1.of ≡ self.of) × All (λ c. Belongs c self.of) e.2.items) }
     {
         let Machine { of } = self;
         match of.close(callers) {
@@ -93,8 +93,9 @@ impl Machine {
 
     /// Takes the kernel for as long as the caller likes. The caller comes back only where another has it (this profile).
     pub fn take(&self, caller: Caller) -> Result<Held<'_>, Caller>
-        requires { caller.machine ≡ self.now.of }
-        ensures { MatchResult result (λ h. TookKernel caller h.of) (λ c. c ≡ caller) }
+        requires { Belongs caller self.now.of }
+        ensures taken { MatchResult result (λ h. TookKernel caller h.of) (λ c. c ≡ caller) }
+        ensures event { MatchResult result (λ h. Takes self.now.of.first caller.account h.of.caller.account) (λ c. FailsToTake self.now.of.first caller.account c.account) }
     {
         match self.of.take(caller) {
             Ok(of) => Ok(Held { of }),
@@ -108,8 +109,8 @@ impl<'a> Held<'a> {
     ///
     /// Each answer is the kernel's, of which `NoMemory` and `HistoryFull` make no entry (this profile).
     pub fn apply(&mut self, call: Call) -> Result<Reply, Refusal>
-        ensures same { (self.new.of.machine ≡ self.old.of.machine) × (self.new.of.account ≡ self.old.of.account) }
-        ensures applied { Applied self.old.of.kernel self.old.of.account.thread call result self.new.of.kernel }
+        ensures same { self.new.of.caller ≡ self.old.of.caller }
+        ensures called { CalledHeld self.old.of call result self.new.of }
     {
         self.of.apply(call)
     }
@@ -123,7 +124,8 @@ impl<'a> Held<'a> {
 
     /// Puts the kernel back. The caller has then seen its history (this profile).
     pub fn give(self) -> Caller
-        ensures { result ≡ record { machine = self.entry.of.machine; account = informed self.entry.of.kernel.history self.entry.of.account } }
+        ensures given { result ≡ returned self.entry.of.kernel.history self.entry.of.caller }
+        ensures event { Gives self.entry.of.caller.machine.first self.entry.of.caller.account self.entry.of.kernel result.account }
     {
         let Held { of } = self;
         of.give()

@@ -1,24 +1,30 @@
 //! Laws of the core. Each is the contract of a function without a body.
-ghost use Rattle.std.specs.Prelude.{◌≡◌, [], List};
-ghost use Rattle.evl_kernel.specs.Histories.{History, IsLegal};
+ghost use Rattle.std.specs.Prelude.{◌≡◌, [], List, Option, slice_index};
+ghost use Rattle.atomic_table.specs.Table.{State};
+ghost use Rattle.evl_kernel.specs.Histories.{IsLegal};
+ghost use Rattle.evl_kernel.specs.KernelViews.{KernelView};
 ghost use Rattle.evl_words.specs.Machine.{Run};
-ghost use Rattle.evl_machine.specs.CoreWorld.{CoreWorld, CoreEvent, CoreHappens, IsCoreWorld, opening_world};
-ghost use Rattle.evl_machine.specs.QuietCore.{FreeCoreIsQuiet};
+ghost use Rattle.evl_words.specs.Events.{Event};
+ghost use Rattle.evl_words.specs.Dealings.{DealingEvent};
+ghost use Rattle.evl_machine.specs.CoreWorld.{CoreWorld, CoreDealing, CoreKind, CoreHappens, CoreDealingStep, IsCoreWorld, StandsDealt, opened_core};
+ghost use Rattle.evl_machine.specs.Known.{ComesFrom, CoreHand, KeptKnown, past_of, room_of};
+ghost use Rattle.evl_machine.specs.QuietCore.{LiesQuiet};
 
-/// What holds of the core's word and slot, and of what its seats know, holds after any list of their atomic steps (this
+/// What holds of the core's word and slot, and of what its threads know, holds after any list of their atomic steps
+/// (this profile).
+pub fn core_events_keep_order<C>()
+    ensures { (first : KernelView C) (w t : CoreWorld (KernelView C) (KernelView C)) (events : List (Event (CoreKind (KernelView C)))) → IsCoreWorld past_of room_of ComesFrom first w → Run (CoreHappens past_of room_of ComesFrom) w events t → IsCoreWorld past_of room_of ComesFrom first t }
+{}
+
+/// From the opening on it holds after any list of atomic steps, among which hands of threads are split and joined (this
 /// profile).
-pub fn core_events_keep_order()
-    ensures { (w t : CoreWorld) (events : List CoreEvent) → IsCoreWorld w → Run CoreHappens w events t → IsCoreWorld t }
+pub fn core_world_stands<C>()
+    ensures { (first k : KernelView C) → IsLegal k.history → k.history.entries ≡ [] → ComesFrom first k → (events : List (DealingEvent (CoreKind (KernelView C)))) (t : CoreDealing (KernelView C) (KernelView C)) → Run (CoreDealingStep past_of room_of ComesFrom) (opened_core past_of room_of ComesFrom first k) events t → StandsDealt past_of room_of ComesFrom first t }
 {}
 
-/// From the opening on it holds after any list of atomic steps (this profile).
-pub fn core_world_stands()
-    ensures { (h : History) → IsLegal h → h.entries ≡ [] → (t : CoreWorld) (events : List CoreEvent) → Run CoreHappens (opening_world h) events t → IsCoreWorld t }
-{}
-
-/// Whenever the core is free, after any list of atomic steps from the opening on, the kernel lies in the slot with a
-/// legal history, and a line is pending there out-of-band only while the out-of-band stage is stalled (Dovetail:
-/// interrupt pipeline).
-pub fn free_core_is_quiet()
-    ensures { FreeCoreIsQuiet }
+/// Whenever the core of a running machine is free, the kernel lies in the slot with a legal history, and a line is
+/// pending there out-of-band only while the out-of-band stage is stalled, and a timer or deadline is due only while line 0
+/// is (Dovetail: interrupt pipeline).
+pub fn free_core_is_quiet<C>()
+    ensures { (first : KernelView C) → (s : State (Option (KernelView C)) (CoreHand C)) → KeptKnown first s → slice_index s.words 0 ≡ 0 → LiesQuiet s.homes }
 {}

@@ -10,15 +10,13 @@ mod kernel_box;
 pub mod laws;
 mod machine;
 mod making;
-#[cfg(test)]
-mod tests;
 mod views;
 mod waiting;
 
 pub use boxed::{Caller, Held, Machine};
 pub use caller::CallerOf;
-pub use core_lock::{CoreLock, CoreRule, CoreSeat};
+pub use core_lock::{CoreHand, CoreLock, CoreRule, CoreSeat};
 pub use held::HeldOf;
 pub use kernel_box::KernelBox;
 pub use machine::MachineOf;
-pub use views::{Account, CoreView, Known, Made, Past};
+pub use views::{Account, CorePart, CoreView, Made, Past, ThreadView};

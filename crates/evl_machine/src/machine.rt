@@ -2,9 +2,10 @@
 ghost use Rattle.std.specs.Prelude.{◌≡◌, MatchOption};
 ghost use Rattle.evl_kernel.specs.Callbacks.{AnswersAsTold};
 ghost use Rattle.evl_machine.specs.Accounts.{informed};
-ghost use Rattle.evl_machine.specs.Known.{ComesFrom, first_of, past_of, seen};
-ghost use Rattle.evl_machine.specs.Handles.{Continues, Taken, account_of, holding, seated};
-ghost use Rattle.evl_machine.specs.Calls.{Called, IsCaller};
+ghost use Rattle.evl_machine.specs.Known.{ComesFrom, first_of, past_of, room_of, seen};
+ghost use Rattle.evl_machine.specs.Handles.{Belongs, Continues, IsSameCaller, Taken, account_of, holding, seated};
+ghost use Rattle.evl_machine.specs.Events.{FailsToTake, Gives, Takes};
+ghost use Rattle.evl_machine.specs.Calls.{Answered, Called, IsCaller};
 
 use crate::caller::{CallerOf, badge_of, seat_of};
 use crate::core_lock::{CoreLock, CoreSeat, Give, Take};
@@ -26,13 +27,14 @@ pub struct MachineOf<C: Drop, A: Allocator> {
 
 impl<C: Drop, A: Allocator> Model for MachineOf<C, A> {
     ghost use Rattle.std.specs.Prelude.{◌≡◌};
+    ghost use Rattle.evl_machine.specs.Accounts.{threads_of};
     ghost use Rattle.evl_machine.specs.Handles.{MachineState};
 
     ghost Value = { MachineState C };
 
     ghost view = { λ m. record { id = m.core.shared.table_id; first = m.core.shared.key.value } };
 
-    ghost invariant = { λ m. (m.core.shared.table_id.words ≡ 1) × (m.core.shared.table_id.slots ≡ 1) × (m.core.shared.key.value.history.opening.threads ≡ m.threads) };
+    ghost invariant = { λ m. (m.core.shared.table_id.words ≡ 1) × (m.core.shared.table_id.slots ≡ 1) × (threads_of m.core.shared.key.value.history ≡ m.threads) };
 }
 
 impl<C: Drop, A: Allocator> MachineOf<C, A> {
@@ -40,7 +42,8 @@ impl<C: Drop, A: Allocator> MachineOf<C, A> {
     pub(crate) fn take_kernel(&self, seat: &mut CoreSeat<C, A>) -> Option<KernelBox<C, A>>
         requires { (seat.old.table_id ≡ self.now.id) × (seen seat.old.me ≡ seated (account_of (seen seat.old.me))) }
         ensures same { (seat.new.table_id ≡ seat.old.table_id) × (seat.new.id ≡ seat.old.id) × (first_of seat.new.me.0 ≡ first_of seat.old.me.0) }
-        ensures taken { MatchOption result (seen seat.new.me ≡ seen seat.old.me) (λ k. Taken past_of (seen seat.old.me) k (seen seat.new.me) × ComesFrom (first_of seat.old.me.0) k) }
+        ensures event { MatchOption result (FailsToTake (first_of seat.old.me.0) (account_of (seen seat.old.me)) (account_of (seen seat.new.me))) (λ _. Takes (first_of seat.old.me.0) (account_of (seen seat.old.me)) (account_of (seen seat.new.me))) }
+        ensures taken { MatchOption result (seen seat.new.me ≡ seen seat.old.me) (λ k. Taken past_of room_of (seen seat.old.me) k (seen seat.new.me) × ComesFrom (first_of seat.old.me.0) k) }
     {
         let table = &self.core.shared;
         if table.compare_exchange::<Take>(seat, 0, 0, 1) != 0 {
@@ -55,6 +58,7 @@ impl<C: Drop, A: Allocator> MachineOf<C, A> {
         requires comes { ComesFrom (first_of seat.old.me.0) kernel }
         requires kernel { (seen seat.old.me ≡ holding (account_of (seen seat.old.me))) × Continues (account_of (seen seat.old.me)) kernel.history }
         ensures same { (seat.new.table_id ≡ seat.old.table_id) × (seat.new.id ≡ seat.old.id) × (first_of seat.new.me.0 ≡ first_of seat.old.me.0) }
+        ensures event { Gives (first_of seat.old.me.0) (account_of (seen seat.old.me)) kernel (account_of (seen seat.new.me)) }
         ensures given { seen seat.new.me ≡ seated (informed kernel.history (account_of (seen seat.old.me))) }
     {
         let table = &self.core.shared;
@@ -78,7 +82,7 @@ impl<C: Handler, A: Allocator> MachineOf<C, A> {
         requires answering { AnswersAsTold C.declared C.plan (first_of seat.old.me.0).callbacks }
         ensures same { (seat.new.table_id ≡ seat.old.table_id) × (first_of seat.new.me.0 ≡ first_of seat.old.me.0) }
         ensures rests { IsCaller (seen seat.new.me) thread }
-        ensures called { Called (first_of seat.old.me.0).limit (account_of (seen seat.old.me)) call result (account_of (seen seat.new.me)) }
+        ensures called { Answered (first_of seat.old.me.0).limit (account_of (seen seat.old.me)) call result (account_of (seen seat.new.me)) }
     {
         let Some(mut kernel) = self.take_kernel(seat) else {
             return Err(Refusal::CoreBusy);
@@ -93,10 +97,10 @@ impl<C: Handler, A: Allocator> MachineOf<C, A> {
     /// `CoreBusy` only where another caller has the kernel; every other answer is the kernel's, of which `NoMemory` and
     /// `HistoryFull` make no entry (this profile).
     pub fn try_call(&self, caller: &mut CallerOf<C>, call: Call) -> Result<Reply, Refusal>
-        requires machine { caller.old.machine ≡ self.now }
+        requires machine { Belongs caller.old self.now }
         requires answering { AnswersAsTold C.declared C.plan self.now.first.callbacks }
-        ensures machine { caller.new.machine ≡ caller.old.machine }
-        ensures called { Called self.now.first.limit caller.old.account call result caller.new.account }
+        ensures machine { IsSameCaller caller.old caller.new }
+        ensures called { Called self.now.first.limit caller.old call result caller.new }
     {
         let badge = mem::replace(&mut caller.core, Badge::blank());
         let mut seat = seat_of::<C, A>(badge, caller.thread);

@@ -1,4 +1,4 @@
-//! What the seats of the core's lock know. Views stand in proofs alone: no value of these types is made.
+//! What each thread knows. Views stand in proofs alone: no value of these types is made.
 use evl_base::Entry;
 use std::collections::LinkedList;
 use std::marker::Model;
@@ -17,18 +17,37 @@ impl Model for Past {
     ghost view = { λ past. record no_history { entries = past.entries } };
 }
 
-/// What a seat knows of one caller: the history that it has seen, and its own calls there.
+/// What is known of one caller: the history that it has seen, its own calls there, and for how many calls it found room
+/// made in the kernel, at each time that it took it.
 pub struct Account {
     pub thread: u64,
     pub seen: Past,
     pub mine: LinkedList<Entry>,
+    pub found: LinkedList<u64>,
 }
 
-/// What a seat knows of the calls: the history of the kernel that it took, if it has one, and the accounts that it
-/// carries.
+/// What is read of a token of the table: the history of the kernel that it took, if it has one, and the accounts of its
+/// threads.
 pub struct CoreView {
     pub taken: Option<Past>,
     pub accounts: LinkedList<Account>,
+}
+
+/// What a thread knows of the core: the history of the kernel that it took, if it has one, the history that it has
+/// seen, its own calls there, for how many calls it found room made in the kernel, at each time that it took it, and
+/// the kernel as it was made.
+pub struct CorePart<F> {
+    pub taken: Option<Past>,
+    pub seen: Past,
+    pub mine: LinkedList<Entry>,
+    pub found: LinkedList<u64>,
+    pub first: F,
+}
+
+/// What a thread knows: of the core, and of each word beside it.
+pub struct ThreadView<F, M> {
+    pub core: CorePart<F>,
+    pub mutexes: LinkedList<M>,
 }
 
 /// A kernel as it was made.
@@ -43,10 +62,4 @@ impl<C> Model for Made<C> {
     ghost Value = { KernelView C };
 
     ghost view = { λ made. no_kernel };
-}
-
-/// What a seat knows, with the kernel as it was made.
-pub struct Known<C> {
-    pub view: CoreView,
-    pub first: Made<C>,
 }

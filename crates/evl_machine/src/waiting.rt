@@ -2,6 +2,7 @@
 ghost use Rattle.std.specs.Prelude.{◌≡◌, ◌≢◌, Err};
 ghost use Rattle.evl_kernel.specs.Callbacks.{AnswersAsTold};
 ghost use Rattle.evl_base.specs.declared.refusal.Refusal.TheVariants.{CoreBusy};
+ghost use Rattle.evl_machine.specs.Handles.{Belongs, IsSameCaller};
 ghost use Rattle.evl_machine.specs.Calls.{Called};
 
 use crate::boxed::{Caller, Machine};
@@ -23,10 +24,10 @@ impl<C: Handler, A: Allocator> MachineOf<C, A> {
         caller: &mut CallerOf<C>,
         call: Call,
     ) -> Result<Reply, Refusal>
-        requires machine { caller.old.machine ≡ self.now }
+        requires machine { Belongs caller.old self.now }
         requires answering { AnswersAsTold C.declared C.plan self.now.first.callbacks }
-        ensures machine { caller.new.machine ≡ caller.old.machine }
-        ensures called { Called self.now.first.limit caller.old.account call result caller.new.account }
+        ensures machine { IsSameCaller caller.old caller.new }
+        ensures called { Called self.now.first.limit caller.old call result caller.new }
         ensures entered { result ≢ Err CoreBusy }
     {
         for _ in rt.forever() {
@@ -44,9 +45,9 @@ impl Machine {
     ///
     /// Every answer is the kernel's, of which `NoMemory` and `HistoryFull` make no entry (this profile).
     pub fn call<R: Wait>(&self, rt: &R, caller: &mut Caller, call: Call) -> Result<Reply, Refusal>
-        requires { caller.old.machine ≡ self.now.of }
-        ensures machine { caller.new.machine ≡ caller.old.machine }
-        ensures called { Called self.now.of.first.limit caller.old.account call result caller.new.account }
+        requires { Belongs caller.old self.now.of }
+        ensures machine { IsSameCaller caller.old caller.new }
+        ensures called { Called self.now.of.first.limit caller.old call result caller.new }
         ensures entered { result ≢ Err CoreBusy }
     {
         self.of.call(rt, caller, call)

@@ -1,5 +1,6 @@
 pub mod FaultLemmas
 pub mod Keys
+pub mod LineLemmas
 pub mod Numbers
 pub mod Sizes
 pub mod StepLemmas

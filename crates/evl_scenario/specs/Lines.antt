@@ -1,5 +1,5 @@
 -- The lines of a trace.
-use Rattle.std.specs.Prelude.{ℕ, List, [], ◌∷◌, ◌++◌, length, codes, decimal, Option, Some, None, Result}
+use Rattle.std.specs.Prelude.{◌≡◌, ◌⊎◌, ℕ, List, [], ◌∷◌, ◌++◌, length, codes, decimal, Option, Some, None, Result}
 use Rattle.evl_base.specs.Call.{call_text}
 use Rattle.evl_base.specs.Play.{play_text}
 use Rattle.evl_base.specs.Reply.{outcome_text}
@@ -14,6 +14,15 @@ use Rattle.evl_scenario.specs.declared.steps.Step.{Step}
 
 abbrev pub line_feed : List ℕ
 line_feed = 10 ∷ []
+
+-- the last of the bytes is a line feed
+pub record EndsLine (bytes : List ℕ) : Type 0 where
+  pub front : List ℕ
+  pub whole : bytes ≡ front ++ line_feed
+
+-- lines, each of them whole
+abbrev pub AreLines : List ℕ → Type 0
+AreLines bytes = (bytes ≡ []) ⊎ EndsLine bytes
 
 -- how many elements there are
 abbrev pub element_counts_text : ElementCounts → List ℕ

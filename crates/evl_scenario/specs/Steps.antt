@@ -5,10 +5,10 @@ use Rattle.toml.specs.Data.{Data, Members, as_table, get_member}
 use Rattle.evl_base.specs.declared.call.Call.{Call}
 use Rattle.evl_base.specs.declared.call.Call.TheVariants as make
 use Rattle.evl_scenario.specs.declared.steps.StepWord.{StepWord}
-use Rattle.evl_scenario.specs.declared.steps.StepWord.TheVariants.{Request, Free, Arrive, Post, Stall, Unstall, TryGet, Put, Peek}
+use Rattle.evl_scenario.specs.declared.steps.StepWord.TheVariants.{Request, Free, Arrive, Post, Stall, Unstall, Tick, Now, NewTimer, StartTimer, StopTimer, DropTimer, Overruns, TryGet, Put, Peek}
 use Rattle.evl_scenario.specs.declared.steps.Step.{Step}
 use Rattle.evl_scenario.specs.Tables.{value_at, value_or, text_at, has_only}
-use Rattle.evl_scenario.specs.Values.{word_from, byte_from, thread_from, line_from, sem_from, stage_from}
+use Rattle.evl_scenario.specs.Values.{number_from, word_from, byte_from, thread_from, line_from, sem_from, timer_from, stage_from}
 
 -- the word that a text is
 abbrev pub word_of : List ℕ → Option StepWord
@@ -19,6 +19,13 @@ word_of text =
     else if bytes_eq text (codes "post") then Some Post
     else if bytes_eq text (codes "stall") then Some Stall
     else if bytes_eq text (codes "unstall") then Some Unstall
+    else if bytes_eq text (codes "tick") then Some Tick
+    else if bytes_eq text (codes "now") then Some Now
+    else if bytes_eq text (codes "new_timer") then Some NewTimer
+    else if bytes_eq text (codes "start_timer") then Some StartTimer
+    else if bytes_eq text (codes "stop_timer") then Some StopTimer
+    else if bytes_eq text (codes "drop_timer") then Some DropTimer
+    else if bytes_eq text (codes "overruns") then Some Overruns
     else if bytes_eq text (codes "try_get") then Some TryGet
     else if bytes_eq text (codes "put") then Some Put
     else if bytes_eq text (codes "peek") then Some Peek
@@ -32,6 +39,13 @@ keys_of Arrive = codes "do" ∷ codes "who" ∷ codes "line" ∷ []
 keys_of Post = codes "do" ∷ codes "who" ∷ codes "stage" ∷ codes "line" ∷ []
 keys_of Stall = codes "do" ∷ codes "who" ∷ codes "stage" ∷ []
 keys_of Unstall = codes "do" ∷ codes "who" ∷ codes "stage" ∷ []
+keys_of Tick = codes "do" ∷ codes "who" ∷ codes "delta" ∷ []
+keys_of Now = codes "do" ∷ codes "who" ∷ []
+keys_of NewTimer = codes "do" ∷ codes "who" ∷ codes "callback" ∷ codes "tag" ∷ []
+keys_of StartTimer = codes "do" ∷ codes "who" ∷ codes "timer" ∷ codes "date" ∷ codes "interval" ∷ []
+keys_of StopTimer = codes "do" ∷ codes "who" ∷ codes "timer" ∷ []
+keys_of DropTimer = codes "do" ∷ codes "who" ∷ codes "timer" ∷ []
+keys_of Overruns = codes "do" ∷ codes "who" ∷ codes "timer" ∷ []
 keys_of TryGet = codes "do" ∷ codes "who" ∷ codes "sem" ∷ []
 keys_of Put = codes "do" ∷ codes "who" ∷ codes "sem" ∷ []
 keys_of Peek = codes "do" ∷ codes "who" ∷ codes "sem" ∷ []
@@ -49,6 +63,19 @@ call_of Arrive table = option_map make.Arrive (value_at line_from (codes "line")
 call_of Post table = option_and_then (λ stage. option_map (make.Post stage) (value_at line_from (codes "line") table)) (value_at stage_from (codes "stage") table)
 call_of Stall table = option_map make.Stall (value_at stage_from (codes "stage") table)
 call_of Unstall table = option_map make.Unstall (value_at stage_from (codes "stage") table)
+call_of Tick table = option_map make.Tick (value_at number_from (codes "delta") table)
+call_of Now table = Some make.Now
+call_of NewTimer table =
+    option_and_then (λ callback. option_map (make.NewTimer callback) (value_or word_from 0 (get_member (codes "tag") table)))
+    (value_at byte_from (codes "callback") table)
+call_of StartTimer table =
+    option_and_then (λ timer. option_and_then (λ date. option_map (make.StartTimer timer date)
+    (value_at number_from (codes "interval") table))
+    (value_at number_from (codes "date") table))
+    (value_at timer_from (codes "timer") table)
+call_of StopTimer table = option_map make.StopTimer (value_at timer_from (codes "timer") table)
+call_of DropTimer table = option_map make.DropTimer (value_at timer_from (codes "timer") table)
+call_of Overruns table = option_map make.Overruns (value_at timer_from (codes "timer") table)
 call_of TryGet table = option_map make.TryGet (value_at sem_from (codes "sem") table)
 call_of Put table = option_map make.Put (value_at sem_from (codes "sem") table)
 call_of Peek table = option_map make.Peek (value_at sem_from (codes "sem") table)

@@ -9,6 +9,7 @@ use Rattle.evl_base.specs.declared.mutex_kind.MutexKind.TheVariants.{Normal, Rec
 use Rattle.evl_base.specs.declared.numbers.LineNo.{LineNo}
 use Rattle.evl_base.specs.declared.numbers.SemId.{SemId}
 use Rattle.evl_base.specs.declared.numbers.ThreadId.{ThreadId}
+use Rattle.evl_base.specs.declared.numbers.TimerId.{TimerId}
 use Rattle.evl_base.specs.declared.stage.Stage.{Stage}
 use Rattle.evl_base.specs.declared.stage.Stage.TheVariants.{Inband, Oob}
 
@@ -45,6 +46,9 @@ line_from value = option_map (λ n. record { 0 = n }) (half_word_from value)
 
 abbrev pub sem_from : Data → Option SemId
 sem_from value = option_map (λ n. record { 0 = n }) (half_word_from value)
+
+abbrev pub timer_from : Data → Option TimerId
+timer_from value = option_map (λ n. record { 0 = n }) (half_word_from value)
 
 abbrev pub stage_of : List ℕ → Option Stage
 stage_of text =

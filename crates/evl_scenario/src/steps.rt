@@ -16,6 +16,13 @@ pub enum StepWord {
     Post,
     Stall,
     Unstall,
+    Tick,
+    Now,
+    NewTimer,
+    StartTimer,
+    StopTimer,
+    DropTimer,
+    Overruns,
     TryGet,
     Put,
     Peek,
@@ -39,6 +46,13 @@ fn read_word(text: &str) -> Option<StepWord>
         "post" => Some(StepWord::Post),
         "stall" => Some(StepWord::Stall),
         "unstall" => Some(StepWord::Unstall),
+        "tick" => Some(StepWord::Tick),
+        "now" => Some(StepWord::Now),
+        "new_timer" => Some(StepWord::NewTimer),
+        "start_timer" => Some(StepWord::StartTimer),
+        "stop_timer" => Some(StepWord::StopTimer),
+        "drop_timer" => Some(StepWord::DropTimer),
+        "overruns" => Some(StepWord::Overruns),
         "try_get" => Some(StepWord::TryGet),
         "put" => Some(StepWord::Put),
         "peek" => Some(StepWord::Peek),
@@ -57,6 +71,13 @@ fn step_keys(word: StepWord) -> &'static [&'static str]
         StepWord::Post => &["do", "who", "stage", "line"],
         StepWord::Stall => &["do", "who", "stage"],
         StepWord::Unstall => &["do", "who", "stage"],
+        StepWord::Tick => &["do", "who", "delta"],
+        StepWord::Now => &["do", "who"],
+        StepWord::NewTimer => &["do", "who", "callback", "tag"],
+        StepWord::StartTimer => &["do", "who", "timer", "date", "interval"],
+        StepWord::StopTimer => &["do", "who", "timer"],
+        StepWord::DropTimer => &["do", "who", "timer"],
+        StepWord::Overruns => &["do", "who", "timer"],
         StepWord::TryGet => &["do", "who", "sem"],
         StepWord::Put => &["do", "who", "sem"],
         StepWord::Peek => &["do", "who", "sem"],
@@ -90,6 +111,29 @@ fn read_call(word: StepWord, table: &Table) -> Option<Call>
         }),
         StepWord::Unstall => Some(Call::Unstall {
             stage: at(table, "stage")?,
+        }),
+        StepWord::Tick => Some(Call::Tick {
+            delta: at(table, "delta")?,
+        }),
+        StepWord::Now => Some(Call::Now),
+        StepWord::NewTimer => {
+            let callback = at(table, "callback")?;
+            let tag = at_or(table, "tag", 0)?;
+            Some(Call::NewTimer { callback, tag })
+        }
+        StepWord::StartTimer => Some(Call::StartTimer {
+            timer: at(table, "timer")?,
+            date: at(table, "date")?,
+            interval: at(table, "interval")?,
+        }),
+        StepWord::StopTimer => Some(Call::StopTimer {
+            timer: at(table, "timer")?,
+        }),
+        StepWord::DropTimer => Some(Call::DropTimer {
+            timer: at(table, "timer")?,
+        }),
+        StepWord::Overruns => Some(Call::Overruns {
+            timer: at(table, "timer")?,
         }),
         StepWord::TryGet => Some(Call::TryGet {
             sem: at(table, "sem")?,

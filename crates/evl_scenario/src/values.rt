@@ -2,9 +2,9 @@
 ghost use Rattle.std.specs.Prelude.{◌≡◌, Option, option_map};
 ghost use Rattle.toml.specs.Data.{Data};
 ghost use Rattle.toml.specs.View.{view, items_view};
-ghost use Rattle.evl_scenario.specs.Values.{number_from, text_number, word_from, half_word_from, byte_from, past_front, two_sizes, mutex_kind_from, ring_sizes_from, thread_from, line_from, sem_from, stage_from};
+ghost use Rattle.evl_scenario.specs.Values.{number_from, text_number, word_from, half_word_from, byte_from, past_front, two_sizes, mutex_kind_from, ring_sizes_from, thread_from, line_from, sem_from, stage_from, timer_from};
 
-use evl_base::{LineNo, MutexKind, SemId, Stage, ThreadId};
+use evl_base::{LineNo, MutexKind, SemId, Stage, ThreadId, TimerId};
 use toml::Value;
 
 /// A value that a TOML value may stand for.
@@ -41,6 +41,14 @@ fn number(value: &Value) -> Option<u64>
         Value::Integer(number) => u64::try_from(*number).ok(),
         Value::String(text) => number_of_text(text.as_str()),
         _ => None,
+    }
+}
+
+impl FromToml for u64 {
+    ghost gives = { number_from };
+
+    fn from_toml(value: &Value) -> Option<u64> {
+        number(value)
     }
 }
 
@@ -89,6 +97,14 @@ impl FromToml for SemId {
 
     fn from_toml(value: &Value) -> Option<SemId> {
         Some(SemId(u16::try_from(number(value)?).ok()?))
+    }
+}
+
+impl FromToml for TimerId {
+    ghost gives = { timer_from };
+
+    fn from_toml(value: &Value) -> Option<TimerId> {
+        Some(TimerId(u16::try_from(number(value)?).ok()?))
     }
 }
 

@@ -1,11 +1,12 @@
 -- Bytes that a sink was told in parts.
-use Rattle.std.proofs.Common.{◌≡◌, ℕ, ◌-◌, List, [], ◌++◌, take, drop, length, length-drop, Option, Some, None, Result, Ok, Err, ◌∙◌, sym, ap, append_assoc, append-nil, refl}
+use Rattle.std.proofs.Common.{◌≡◌, inl, Bool, true, false, subst, ℕ, ◌-◌, List, [], ◌++◌, take, drop, length, length-drop, Option, Some, None, Result, Ok, Err, ◌∙◌, sym, ap, append_assoc, append-nil, refl}
 use Rattle.std.proofs.Math.Seq.{take-length}
 use Rattle.std.proofs.lemmas.List.{take-append-drop}
+use Rattle.std.proofs.lemmas.Bool.{ne_eqb}
 use Rattle.std.specs.Io.KnownBytes.{Appends}
 use Rattle.evl_scenario.specs.declared.faults.Fault.{Fault}
-use Rattle.evl_shell.specs.Faults.{WritesPart}
-use Rattle.evl_shell.specs.Sinks.{TakesPrefix}
+use Rattle.evl_shell.specs.Faults.{WritesPart, WritesLines}
+use Rattle.evl_shell.specs.Sinks.{TakesPrefix, Takes, failed_after}
 
 -- two parts in turn
 pub Appends-append : (old between new : Option (List ℕ)) (xs ys : List ℕ) → Appends old between xs → Appends between new ys → Appends old new (xs ++ ys)
@@ -65,3 +66,32 @@ TakesPrefix-next old mid new shown xs ys is h took = record {
 pub WritesPart-nothing : (told : Option (List ℕ)) (trace : Result (List ℕ) Fault) → WritesPart told told trace
 WritesPart-nothing told (Ok trace) = TakesPrefix-nil told trace
 WritesPart-nothing told (Err e) = refl
+
+-- no line is the front of any trace
+pub WritesLines-nothing : (told : Option (List ℕ)) (trace : Result (List ℕ) Fault) → WritesLines told told trace
+WritesLines-nothing told (Ok trace) = record { lines = []; back = trace; whole = refl; ends = inl refl; tells = Appends-nil told }
+WritesLines-nothing told (Err e) = refl
+
+-- a sink that took some of the bytes has failed only where it had failed before
+pub still_working : (failed : Bool) (bytes : List ℕ) (taken : ℕ) → (taken ≡ 0 → ⊥) → failed_after failed bytes taken ≡ failed
+still_working failed bytes taken some = rw (ne_eqb taken 0 some) refl
+
+-- all of the bytes were taken by a sink that hasn't failed
+pub Takes-all : (old new : Option (List ℕ)) (bytes : List ℕ) (failed : Bool) → failed ≡ false → Appends old new bytes → Takes old new bytes failed
+Takes-all old new bytes failed working h = let P : Bool → Type 0 = λ b. Takes old new bytes b in subst P (sym working) h
+
+-- a front part was taken by one that has
+pub Takes-part : (old new : Option (List ℕ)) (bytes : List ℕ) (failed : Bool) → failed ≡ true → TakesPrefix old new bytes → Takes old new bytes failed
+Takes-part old new bytes failed broken h = let P : Bool → Type 0 = λ b. Takes old new bytes b in subst P (sym broken) h
+
+-- the first of two texts, and then the second
+pub Takes-next : (old mid new : Option (List ℕ)) (shown xs ys : List ℕ) (failed : Bool) → shown ≡ xs → Appends old mid shown → Takes mid new ys failed
+    → Takes old new (xs ++ ys) failed
+Takes-next old mid new shown xs ys false is h took =
+    let P : List ℕ → Type 0 = λ s. Appends old new (s ++ ys) in subst P is (Appends-append old mid new shown ys h took)
+Takes-next old mid new shown xs ys true is h took = TakesPrefix-next old mid new shown xs ys is h took
+
+-- whatever became of the sink, it took a front part
+pub Takes-prefix : (old new : Option (List ℕ)) (bytes : List ℕ) (failed : Bool) → Takes old new bytes failed → TakesPrefix old new bytes
+Takes-prefix old new bytes false h = TakesPrefix-whole old new bytes h
+Takes-prefix old new bytes true h = h

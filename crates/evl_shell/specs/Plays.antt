@@ -1,11 +1,11 @@
 -- What the program reads, tells and answers.
-use Rattle.std.specs.Prelude.{◌≡◌, ℕ, List, [], ◌++◌, take, decimal, codes, Bool, true, Option, None, IfSome, Result, Ok, Err}
+use Rattle.std.specs.Prelude.{◌≡◌, ℕ, List, [], ◌++◌, take, decimal, codes, Bool, false, Option, None, IfSome, Result, Ok, Err}
 use Rattle.evl_kernel.specs.States.{Handler}
 use Rattle.evl_scenario.specs.declared.faults.Fault.{Fault}
 use Rattle.evl_scenario.specs.declared.faults.Fault.TheVariants.{Text, Board, Step, Memory, Write}
 use Rattle.evl_shell.specs.declared.plays.Stop.{Stop}
 use Rattle.evl_shell.specs.declared.plays.Stop.TheVariants.{NoFile, Broken}
-use Rattle.evl_shell.specs.Faults.{Writes, WritesPart}
+use Rattle.evl_shell.specs.Faults.{Writes, WritesPart, WritesLines, is_write_fault}
 use Rattle.evl_scenario.specs.Lines.{line_feed}
 use Rattle.evl_shell.specs.Runs.{trace_of}
 use Rattle.evl_shell.specs.Sinks.{TakesPrefix}
@@ -35,20 +35,28 @@ abbrev pub Refuses : Option (List ℕ) → Option (List ℕ) → Result (List �
 Refuses old new trace e = (trace ≡ Err e) × (new ≡ old)
 
 -- what was told of the trace
-abbrev pub Tells : Option (List ℕ) → Option (List ℕ) → Bool → Result (List ℕ) Fault → Result (Unit {0}) Stop → Type 0
-Tells old new failed trace (Ok done) = Writes old new trace
-Tells old new failed trace (Err NoFile) = new ≡ old
-Tells old new failed trace (Err (Broken Text)) = Refuses old new trace Text
-Tells old new failed trace (Err (Broken Board)) = Refuses old new trace Board
-Tells old new failed trace (Err (Broken (Step n))) = Refuses old new trace (Step n)
-Tells old new failed trace (Err (Broken Memory)) = WritesPart old new trace
-Tells old new failed trace (Err (Broken Write)) = WritesPart old new trace × (failed ≡ true)
+abbrev pub Tells : Option (List ℕ) → Option (List ℕ) → Result (List ℕ) Fault → Result (Unit {0}) Stop → Type 0
+Tells old new trace (Ok done) = Writes old new trace
+Tells old new trace (Err NoFile) = new ≡ old
+Tells old new trace (Err (Broken Text)) = Refuses old new trace Text
+Tells old new trace (Err (Broken Board)) = Refuses old new trace Board
+Tells old new trace (Err (Broken (Step n))) = Refuses old new trace (Step n)
+Tells old new trace (Err (Broken Memory)) = WritesLines old new trace
+Tells old new trace (Err (Broken Write)) = WritesPart old new trace
 
--- the program's end on an input over a bank: the text that it read, and what it told of that text's trace
+-- the one end at which the sink has failed
+abbrev pub ends_by_write : Result (Unit {0}) Stop → Bool
+ends_by_write (Ok done) = false
+ends_by_write (Err NoFile) = false
+ends_by_write (Err (Broken fault)) = is_write_fault (Err fault)
+
+-- the program's end on an input over a bank: the text that it read, what it told of that text's trace, and whether the
+-- sink has failed
 pub record Ended (bank : List Handler) (known old new : Option (List ℕ)) (failed : Bool) (end : Result (Unit {0}) Stop) : Type 0 where
   pub text : List ℕ
   pub read : IsInput known text
-  pub tells : Tells old new failed (trace_of bank None text) end
+  pub tells : Tells old new (trace_of bank None text) end
+  pub fails : failed ≡ ends_by_write end
 
 -- its status
 abbrev pub status : Result (Unit {0}) Stop → ℕ

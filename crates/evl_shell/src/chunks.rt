@@ -1,8 +1,8 @@
 //! A trace on its way to a sink, in chunks.
-ghost use Rattle.std.specs.Prelude.{◌≡◌, [], true, false, OnOk, OnErr, IfErr};
+ghost use Rattle.std.specs.Prelude.{◌≡◌, ◌++◌, [], true, false, OnOk, OnErr, IfErr};
 ghost use Rattle.std.specs.Io.KnownBytes.{Appends};
-ghost use Rattle.evl_shell.specs.Sinks.{TakesPrefix, Passes, PassesPart};
-ghost use Rattle.evl_shell.specs.Faults.{IsCutShort};
+ghost use Rattle.evl_shell.specs.Sinks.{TakesPrefix, Passes, kept};
+ghost use Rattle.evl_shell.specs.Faults.{Stopped};
 
 use crate::sinks::{Sink, SinkFailed, put_all};
 use evl_scenario::Fault;
@@ -36,10 +36,11 @@ impl Chunks {
         }
     }
 
-    /// Hands on all that waits.
+    /// Hands on all that waits, or a front part where the sink fails; nothing waits then.
     pub fn flush<S: Sink>(&mut self, out: &mut S) -> Result<(), SinkFailed>
         ensures ok { OnOk result (Appends (S.told out.old) (S.told out.new) self.old) }
         ensures part { OnErr result (TakesPrefix (S.told out.old) (S.told out.new) self.old) }
+        ensures working { OnOk result (S.has_failed out.new ≡ S.has_failed out.old) }
         ensures failed { OnErr result (S.has_failed out.new ≡ true) }
         ensures empty { self.new ≡ [] }
     {
@@ -48,26 +49,31 @@ impl Chunks {
         result
     }
 
-    /// Hands on as much of what waits as the sink takes: all of it, unless the sink fails.
-    pub fn give_up<S: Sink>(self, out: &mut S)
-        ensures part { TakesPrefix (S.told out.old) (S.told out.new) self }
-        ensures whole { S.has_failed out.new ≡ false → Appends (S.told out.old) (S.told out.new) self }
+    /// Hands on all that waits where no more can be made for want of memory, and says so: `Memory`, or `Write` where the
+    /// sink fails.
+    pub fn give_up<S: Sink>(&mut self, out: &mut S) -> Fault
+        requires working { S.has_failed out.old ≡ false }
+        ensures stopped { Stopped (S.told out.old) self.old (S.told out.new) [] (S.has_failed out.new) result }
+        ensures empty { self.new ≡ [] }
     {
-        match put_all(out, self.waiting.as_slice()) {
-            Ok(()) => {}
-            Err(SinkFailed) => {}
+        match self.flush(out) {
+            Ok(()) => Fault::Memory,
+            Err(SinkFailed) => Fault::Write,
         }
     }
 
-    /// Lets a text wait, and hands on what waits where that is a chunk.
+    /// Lets a text wait, and hands on all that waits where that is a chunk or more.
     /// `Memory` where the text can't wait for want of memory, `Write` where the sink fails: then nothing waits.
     pub fn put<S: Sink>(&mut self, text: &str, out: &mut S) -> Result<(), Fault>
+        requires working { S.has_failed out.old ≡ false }
         ensures ok { OnOk result (Passes (S.told out.old) self.old (S.told out.new) self.new text.now) }
-        ensures part { OnErr result (PassesPart (S.told out.old) self.old (S.told out.new) self.new text.now) }
-        ensures kinds { IfErr result (IsCutShort (S.has_failed out.new)) }
+        ensures waits { OnOk result (self.new ≡ kept (self.old ++ text.now)) }
+        ensures working { OnOk result (S.has_failed out.new ≡ false) }
+        ensures stopped { IfErr result (Stopped (S.told out.old) self.old (S.told out.new) text.now (S.has_failed out.new)) }
+        ensures empty { OnErr result (self.new ≡ []) }
     {
         if self.waiting.extend_from_slice(text.as_bytes()).is_err() {
-            return Err(Fault::Memory);
+            return Err(self.give_up(out));
         }
         if self.waiting.len() < CHUNK {
             return Ok(());

@@ -2,6 +2,7 @@
 #![tactic(auto)]
 
 mod chunks;
+mod lent;
 mod plays;
 mod runs;
 mod sinks;

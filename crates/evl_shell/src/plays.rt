@@ -1,14 +1,14 @@
 //! The program: reads a scenario, plays it, and says why it stopped.
-ghost use Rattle.std.specs.Prelude.{◌≡◌, ◌⊎◌, ◌≤◌, ◌++◌, false, length, take, decimal, codes, List, ℕ, OnOk, OnErr, IfOk, IfErr};
-ghost use Rattle.std.specs.Io.KnownBytes.{Appends};
+ghost use Rattle.std.specs.Prelude.{◌≡◌, ◌⊎◌, ◌≤◌, ◌++◌, false, length, decimal, codes, IfOk, IfErr};
 ghost use Rattle.evl_scenario.specs.Lines.{line_feed};
-ghost use Rattle.evl_shell.specs.Sinks.{TakesPrefix};
+ghost use Rattle.evl_shell.specs.Sinks.{TakesPrefix, Takes};
 ghost use Rattle.evl_shell.specs.Runs.{handlers_of};
 ghost use Rattle.evl_shell.specs.Plays as plays;
 ghost use Rattle.evl_shell.specs.Plays.{IsInput, Ended, Plays, stop_line};
 
+use crate::lent::OverLent;
 use crate::runs::run;
-use crate::sinks::{Sink, SinkFailed};
+use crate::sinks::{Sink, SinkFailed, put_all};
 use evl_pipeline::Callback;
 use evl_scenario::Fault;
 use std::alloc::Global;
@@ -51,56 +51,33 @@ fn read_input<R: Read>(alloc: Global, input: &mut R) -> Result<Vec<u8>, Stop>
     Ok(text)
 }
 
-// Writes a front part of the bytes and answers its length: 0 where the writer fails.
-fn write_part<W: Write>(out: &mut W, bytes: &[u8]) -> usize
-    ensures within { result ≤ length bytes.now }
-    ensures takes { Appends (W.contents out.old) (W.contents out.new) (take result bytes.now) }
+// Puts a line whole, or a front part where the sink fails. Its failure is ignored.
+fn put_line<S: Sink>(err: &mut S, line: &[u8])
+    requires working { S.has_failed err.old ≡ false }
+    ensures takes { Takes (S.told err.old) (S.told err.new) line.now (S.has_failed err.new) }
+    ensures place { S.place err.new ≡ S.place err.old }
 {
-    match out.write(bytes) {
-        Ok(count) => count,
-        Err(_) => 0,
-    }
-}
-
-// Writes all of the bytes, or a front part where the writer fails.
-fn write_all<W: Write>(out: &mut W, bytes: &[u8]) -> Result<(), SinkFailed>
-    ensures ok { OnOk result (Appends (W.contents out.old) (W.contents out.new) bytes.now) }
-    ensures part { OnErr result (TakesPrefix (W.contents out.old) (W.contents out.new) bytes.now) }
-{
-    let mut rest = bytes;
-    while !rest.is_empty() {
-        let count = write_part(out, rest);
-        if count == 0 {
-            return Err(SinkFailed);
-        }
-        rest = &rest[count..];
-    }
-    Ok(())
-}
-
-// Writes a line whole, or a front part where the writer fails. Its failure is ignored.
-fn write_line<W: Write>(out: &mut W, line: &[u8])
-    ensures { TakesPrefix (W.contents out.old) (W.contents out.new) line.now }
-{
-    match write_all(out, line) {
+    match put_all(err, line) {
         Ok(()) => {}
         Err(SinkFailed) => {}
     }
 }
 
-// Writes the line of a bad step.
-fn write_step_line<W: Write>(out: &mut W, number: u32)
-    ensures { TakesPrefix (W.contents out.old) (W.contents out.new) (codes "evl: bad step " ++ (decimal number ++ line_feed)) }
+// Puts the line of a bad step.
+fn put_step_line<S: Sink>(err: &mut S, number: u32)
+    requires working { S.has_failed err.old ≡ false }
+    ensures takes { Takes (S.told err.old) (S.told err.new) (codes "evl: bad step " ++ (decimal number ++ line_feed)) (S.has_failed err.new) }
+    ensures place { S.place err.new ≡ S.place err.old }
 {
-    match write_all(out, b"evl: bad step ") {
+    match put_all(err, b"evl: bad step ") {
         Ok(()) => {}
         Err(SinkFailed) => return,
     }
-    match write_all(out, itoa::Buffer::new().format(number).as_bytes()) {
+    match put_all(err, itoa::Buffer::new().format(number).as_bytes()) {
         Ok(()) => {}
         Err(SinkFailed) => return,
     }
-    write_line(out, b"\n");
+    put_line(err, b"\n");
 }
 
 // The status of a stop.
@@ -114,18 +91,31 @@ fn status_of(stop: Stop) -> u8
     }
 }
 
-// Writes the line of a stop.
-fn report<E: Write>(err: &mut E, stop: Stop)
-    ensures { TakesPrefix (E.contents err.old) (E.contents err.new) (stop_line stop) }
+// Puts the line of a stop whole, or a front part where the sink fails.
+fn report<S: Sink>(err: &mut S, stop: Stop)
+    requires working { S.has_failed err.old ≡ false }
+    ensures takes { Takes (S.told err.old) (S.told err.new) (stop_line stop) (S.has_failed err.new) }
+    ensures place { S.place err.new ≡ S.place err.old }
 {
     match stop {
-        Stop::NoFile => write_line(err, b"evl: no file\n"),
-        Stop::Broken(Fault::Text) => write_line(err, b"evl: bad text\n"),
-        Stop::Broken(Fault::Board) => write_line(err, b"evl: bad board\n"),
-        Stop::Broken(Fault::Step(number)) => write_step_line(err, number),
-        Stop::Broken(Fault::Memory) => write_line(err, b"evl: no memory\n"),
-        Stop::Broken(Fault::Write) => write_line(err, b"evl: write fault\n"),
+        Stop::NoFile => put_line(err, b"evl: no file\n"),
+        Stop::Broken(Fault::Text) => put_line(err, b"evl: bad text\n"),
+        Stop::Broken(Fault::Board) => put_line(err, b"evl: bad board\n"),
+        Stop::Broken(Fault::Step(number)) => put_step_line(err, number),
+        Stop::Broken(Fault::Memory) => put_line(err, b"evl: no memory\n"),
+        Stop::Broken(Fault::Write) => put_line(err, b"evl: write fault\n"),
     }
+}
+
+/// Puts the line of a stop and answers its status. The line goes out whole, unless the sink fails (this profile).
+pub fn conclude<S: Sink>(err: &mut S, stop: Stop) -> u8
+    requires working { S.has_failed err.old ≡ false }
+    ensures takes { Takes (S.told err.old) (S.told err.new) (stop_line stop) (S.has_failed err.new) }
+    ensures status { result ≡ plays.status_of stop }
+    ensures place { S.place err.new ≡ S.place err.old }
+{
+    report(err, stop);
+    status_of(stop)
 }
 
 /// Writes the line of a stop and answers its status; a failure of `err` is ignored (this profile).
@@ -133,8 +123,15 @@ pub fn stopped<E: Write>(err: &mut E, stop: Stop) -> u8
     ensures says { TakesPrefix (E.contents err.old) (E.contents err.new) (stop_line stop) }
     ensures status { result ≡ plays.status_of stop }
 {
-    report(err, stop);
-    status_of(stop)
+    let mut sink = OverLent {
+        writer: err,
+        failed: false,
+    };
+    let status = conclude(&mut sink, stop);
+
+    // The proof reads what `err` holds from this use of the writer.
+    let _ = &*sink.writer;
+    status
 }
 
 // Plays the scenario that the input holds.

@@ -2,9 +2,9 @@
 ghost use Rattle.std.specs.Prelude.{◌≡◌, ◌≤◌, length, List, ℕ, [], true, false, Ok, Err, OnOk, OnErr, IfOk, IfErr, drop, string_bytes};
 ghost use Rattle.std.specs.Io.KnownBytes.{Appends};
 ghost use Rattle.evl_kernel.specs.Callbacks.{AnswersAsTold};
-ghost use Rattle.evl_shell.specs.Sinks.{TakesPrefix, Passes, PassesPart};
+ghost use Rattle.evl_shell.specs.Sinks.{Passes};
 ghost use Rattle.evl_scenario.specs.Faults.{IsRefusal};
-ghost use Rattle.evl_shell.specs.Faults.{IsCutShort, IsCut, Writes, WritesPart};
+ghost use Rattle.evl_shell.specs.Faults.{Stopped, Writes, WritesPart, WritesLines, is_write_fault};
 ghost use Rattle.evl_scenario.specs.Lines.{board_line_of, board_line_text, line_text, play_line_text, play_lines};
 ghost use Rattle.evl_shell.specs.Moments as moments;
 ghost use Rattle.evl_shell.specs.Moments.{moment, Turns, Tells};
@@ -97,13 +97,14 @@ fn put_plays<S: Sink>(
     chunks: &mut Chunks,
     out: &mut S,
 ) -> Result<(), Fault>
+    requires working { S.has_failed out.old ≡ false }
     ensures ok { OnOk result (Passes (S.told out.old) chunks.old (S.told out.new) chunks.new (play_lines plays.now)) }
-    ensures part { OnErr result (PassesPart (S.told out.old) chunks.old (S.told out.new) chunks.new (play_lines plays.now)) }
-    ensures kinds { IfErr result (IsCutShort (S.has_failed out.new)) }
+    ensures working { OnOk result (S.has_failed out.new ≡ false) }
+    ensures stopped { IfErr result (Stopped (S.told out.old) chunks.old (S.told out.new) (play_lines plays.now) (S.has_failed out.new)) }
 {
     for play in plays {
         let Ok(line) = play_line(alloc, *play) else {
-            return Err(Fault::Memory);
+            return Err(chunks.give_up(out));
         };
         match chunks.put(line.as_str(), out) {
             Ok(()) => {}
@@ -128,19 +129,20 @@ fn play_step<C: Handler, S: Sink>(
     chunks: &mut Chunks,
     out: &mut S,
 ) -> Result<(), Fault>
+    requires working { S.has_failed out.old ≡ false }
     requires answering { AnswersAsTold C.declared C.plan kernel.old.callbacks }
     ensures answering { AnswersAsTold C.declared C.plan kernel.new.callbacks }
     ensures ok { OnOk result (Passes (S.told out.old) chunks.old (S.told out.new) chunks.new (turn_lines step.now (turn kernel.old.limit (moment kernel.old) step.now))) }
     ensures turns { OnOk result (Turns kernel.old kernel.new (turn kernel.old.limit (moment kernel.old) step.now)) }
-    ensures part { OnErr result (PassesPart (S.told out.old) chunks.old (S.told out.new) chunks.new (turn_lines step.now (turn kernel.old.limit (moment kernel.old) step.now))) }
-    ensures kinds { IfErr result (IsCutShort (S.has_failed out.new)) }
+    ensures working { OnOk result (S.has_failed out.new ≡ false) }
+    ensures stopped { IfErr result (Stopped (S.told out.old) chunks.old (S.told out.new) (turn_lines step.now (turn kernel.old.limit (moment kernel.old) step.now)) (S.has_failed out.new)) }
 {
     let plays = kernel.plays().len();
     let Ok(called) = make_call(kernel, step) else {
-        return Err(Fault::Memory);
+        return Err(chunks.give_up(out));
     };
     let Ok(line) = step_line(alloc, step, called) else {
-        return Err(Fault::Memory);
+        return Err(chunks.give_up(out));
     };
     match chunks.put(line.as_str(), out) {
         Ok(()) => {}
@@ -160,10 +162,11 @@ fn play_steps<C: Handler, S: Sink>(
     chunks: &mut Chunks,
     out: &mut S,
 ) -> Result<(), Fault>
+    requires working { S.has_failed out.old ≡ false }
     requires answering { AnswersAsTold C.declared C.plan kernel.old.callbacks }
     ensures ok { OnOk result (Passes (S.told out.old) chunks.old (S.told out.new) chunks.new (lines_from kernel.old.limit (moment kernel.old) steps.now)) }
-    ensures part { OnErr result (PassesPart (S.told out.old) chunks.old (S.told out.new) chunks.new (lines_from kernel.old.limit (moment kernel.old) steps.now)) }
-    ensures kinds { IfErr result (IsCutShort (S.has_failed out.new)) }
+    ensures working { OnOk result (S.has_failed out.new ≡ false) }
+    ensures stopped { IfErr result (Stopped (S.told out.old) chunks.old (S.told out.new) (lines_from kernel.old.limit (moment kernel.old) steps.now) (S.has_failed out.new)) }
 {
     for step in steps {
         match play_step(alloc, kernel, step, chunks, out) {
@@ -192,16 +195,17 @@ fn play_scenario<C: Handler, S: Sink>(
     chunks: &mut Chunks,
     out: &mut S,
 ) -> Result<(), Fault>
+    requires working { S.has_failed out.old ≡ false }
     ensures ok { OnOk result (Passes (S.told out.old) chunks.old (S.told out.new) chunks.new (script_trace (handlers_of C.declared C.plan bank.items) scenario)) }
-    ensures part { OnErr result (PassesPart (S.told out.old) chunks.old (S.told out.new) chunks.new (script_trace (handlers_of C.declared C.plan bank.items) scenario)) }
-    ensures kinds { IfErr result (IsCutShort (S.has_failed out.new)) }
+    ensures working { OnOk result (S.has_failed out.new ≡ false) }
+    ensures stopped { IfErr result (Stopped (S.told out.old) chunks.old (S.told out.new) (script_trace (handlers_of C.declared C.plan bank.items) scenario) (S.has_failed out.new)) }
 {
     let (board, limit, steps) = scenario.into_parts();
     let Ok(line) = first_line(alloc, &board, limit) else {
-        return Err(Fault::Memory);
+        return Err(chunks.give_up(out));
     };
     let Ok(mut kernel) = KernelOf::new(alloc, board, bank, limit) else {
-        return Err(Fault::Memory);
+        return Err(chunks.give_up(out));
     };
     match chunks.put(line.as_str(), out) {
         Ok(()) => {}
@@ -213,16 +217,17 @@ fn play_scenario<C: Handler, S: Sink>(
     }
 }
 
-// Writes the trace of a scenario, and what waits at its end or before a fault.
+// Writes the trace of a scenario, and what waits at its end.
 fn write_scenario<C: Handler, S: Sink>(
     alloc: Global,
     scenario: Scenario,
     bank: Vec<C>,
     out: &mut S,
 ) -> Result<(), Fault>
+    requires working { S.has_failed out.old ≡ false }
     ensures ok { OnOk result (Appends (S.told out.old) (S.told out.new) (script_trace (handlers_of C.declared C.plan bank.items) scenario)) }
-    ensures part { OnErr result (TakesPrefix (S.told out.old) (S.told out.new) (script_trace (handlers_of C.declared C.plan bank.items) scenario)) }
-    ensures kinds { IfErr result (IsCutShort (S.has_failed out.new)) }
+    ensures working { OnOk result (S.has_failed out.new ≡ false) }
+    ensures stopped { IfErr result (Stopped (S.told out.old) [] (S.told out.new) (script_trace (handlers_of C.declared C.plan bank.items) scenario) (S.has_failed out.new)) }
 {
     let mut chunks = Chunks::new(alloc);
     match play_scenario(alloc, scenario, bank, &mut chunks, out) {
@@ -230,18 +235,15 @@ fn write_scenario<C: Handler, S: Sink>(
             Ok(()) => Ok(()),
             Err(SinkFailed) => Err(Fault::Write),
         },
-        Err(Fault::Write) => Err(Fault::Write),
-        Err(_) => {
-            chunks.give_up(out);
-            Err(Fault::Memory)
-        }
+        Err(fault) => Err(fault),
     }
 }
 
 /// Writes the trace of a text over a bank of at most 64 callbacks, under a limit that may be handed in (1 to
 /// 1,000,000; it replaces the text's). The text is checked whole before the first byte is written, and the bank is
-/// dropped in the end. `Text`, `Board` and `Step` say what is wrong with the text, `Memory` that a growth was refused,
-/// and `Write` that the sink has failed (this profile).
+/// dropped in the end. `Text`, `Board` and `Step` say what is wrong with the text, `Memory` that a growth was refused:
+/// the lines made before it were written whole; and `Write` that the sink has failed, which it has at no other answer
+/// (this profile).
 pub fn run<S: Sink>(
     alloc: Global,
     text: &[u8],
@@ -258,9 +260,12 @@ pub fn run<S: Sink>(
     // A fault of the text, and nothing written.
     ensures refused { IfErr result (λ e. IsRefusal e → (trace_of (handlers_of (λ (c : _). c.kinds.0) (λ (c : _). c.plan.value) bank.items) limit text.now ≡ Err e) × (out.new ≡ out.old)) }
 
-    // A front part of the trace, where memory ran out or the sink failed.
-    ensures cut { IfErr result (λ e. IsCut e → WritesPart (S.told out.old) (S.told out.new) (trace_of (handlers_of (λ (c : _). c.kinds.0) (λ (c : _). c.plan.value) bank.items) limit text.now)) }
-    ensures write { result ≡ Err Fault.Write → S.has_failed out.new ≡ true }
+    // Whole lines at the front of the trace, where memory ran out.
+    ensures memory { result ≡ Err Fault.Memory → WritesLines (S.told out.old) (S.told out.new) (trace_of (handlers_of (λ (c : _). c.kinds.0) (λ (c : _). c.plan.value) bank.items) limit text.now) }
+
+    // A front part of the trace, where the sink failed; it has failed nowhere else.
+    ensures write { result ≡ Err Fault.Write → WritesPart (S.told out.old) (S.told out.new) (trace_of (handlers_of (λ (c : _). c.kinds.0) (λ (c : _). c.plan.value) bank.items) limit text.now) }
+    ensures failed { S.has_failed out.new ≡ is_write_fault result }
 {
     match read_scenario(alloc, text, limit) {
         Ok(scenario) => write_scenario(alloc, scenario, bank, out),

@@ -2,7 +2,7 @@
 #![tactic(auto)]
 
 #[cfg(test)]
-mod bank;
+mod endings;
 #[cfg(test)]
 mod faults;
 #[cfg(test)]

@@ -1,6 +1,7 @@
 //! The program's statuses and lines, over inputs, sinks and error streams that are whole or fail.
-use crate::bank::{ends, played};
+use crate::endings::ends;
 use crate::writers::{Ended, Narrow};
+use evl_bank::play_program;
 use evl_shell::Over;
 use std::alloc::Global;
 use std::test::*;
@@ -11,18 +12,17 @@ const TRACE: &str =
     "board threads=1 sems=1 flags=0 xbufs=0 mutexes=0 groups=0 limit=1000\n1 T0 put sem=0 -> done\n";
 
 #[test]
-fn ends_done(rt: HostRuntime) -> Result<(), Fail> {
-    assert!(rt; ends(rt.alloc(), TEXT, 0, TRACE, "")?);
-    Ok(())
+fn ends_done(rt: HostRuntime) {
+    assert!(rt; ends(rt.alloc(), TEXT, 0, TRACE, ""));
 }
 
 #[test]
 fn ends_refused(rt: HostRuntime) -> Result<(), Fail> {
     let alloc = rt.alloc();
-    assert!(rt; ends(alloc, "[board", 2, "", "evl: bad text\n")?);
-    assert!(rt; ends(alloc, "", 2, "", "evl: bad board\n")?);
+    assert!(rt; ends(alloc, "[board", 2, "", "evl: bad text\n"));
+    assert!(rt; ends(alloc, "", 2, "", "evl: bad board\n"));
     let step = "[board]\nthreads = 1\n[[step]]\ncolour = 1\n";
-    assert!(rt; ends(alloc, step, 2, "", "evl: bad step 1\n")?);
+    assert!(rt; ends(alloc, step, 2, "", "evl: bad step 1\n"));
     Ok(())
 }
 
@@ -34,7 +34,7 @@ fn tells_the_whole_number_of_a_step(rt: HostRuntime) -> Result<(), Fail> {
         text.push_str("[[step]]\ndo = \"put\"\nwho = 0\nsem = 0\n")?;
     }
     text.push_str("[[step]]\n")?;
-    assert!(rt; ends(alloc, text.as_str(), 2, "", "evl: bad step 1234\n")?);
+    assert!(rt; ends(alloc, text.as_str(), 2, "", "evl: bad step 1234\n"));
     Ok(())
 }
 
@@ -49,7 +49,7 @@ fn ends_over(
     let mut out = Over::new(Vec::new(alloc));
     let mut err = Vec::new(alloc);
     let mut input = Ended::new(TEXT, given);
-    let done = played(alloc, &mut input, &mut out, &mut err)?;
+    let done = play_program(alloc, &mut input, &mut out, &mut err);
     let is_written = out.into_inner().as_slice() == written.as_bytes();
     Ok(done == status && is_written && err.as_slice() == said.as_bytes())
 }
@@ -72,7 +72,7 @@ fn ends_at_a_write_fault(rt: HostRuntime) -> Result<(), Fail> {
     let mut out = Over::new(Narrow::new(alloc, 10, 2, false));
     let mut err = Vec::new(alloc);
     let mut input = TEXT.as_bytes();
-    assert!(rt; played(alloc, &mut input, &mut out, &mut err)? == 1);
+    assert!(rt; play_program(alloc, &mut input, &mut out, &mut err) == 1);
     assert!(rt; out.into_inner().taken.as_slice() == &TRACE.as_bytes()[..10]);
     assert!(rt; err.as_slice() == b"evl: write fault\n".as_slice());
     Ok(())
@@ -83,7 +83,7 @@ fn says(alloc: Global, err: Narrow, line: &str) -> Result<bool, Fail> {
     let mut out = Over::new(Vec::new(alloc));
     let mut said = err;
     let mut input = "".as_bytes();
-    let status = played(alloc, &mut input, &mut out, &mut said)?;
+    let status = play_program(alloc, &mut input, &mut out, &mut said);
     Ok(status == 2 && said.taken.as_slice() == line.as_bytes())
 }
 
@@ -103,7 +103,7 @@ fn reads_no_more_than_a_scenario_may_have(rt: HostRuntime) -> Result<(), Fail> {
     let mut out = Over::new(Vec::new(alloc));
     let mut err = Vec::new(alloc);
     let mut input = text.as_slice();
-    assert!(rt; played(alloc, &mut input, &mut out, &mut err)? == 2);
+    assert!(rt; play_program(alloc, &mut input, &mut out, &mut err) == 2);
     assert!(rt; input.len() == 23 && out.into_inner().is_empty());
     assert!(rt; err.as_slice() == b"evl: bad text\n".as_slice());
     Ok(())

@@ -37,7 +37,7 @@ module _ {E H S : Type 0} (author : E → ℕ) (step : S → E → S → Type 0)
           seat_after steps found part.0 k v kind,
           (part.0 ++ es, after),
           record {
-            event = record { world = w; stands = part.1; at = at; shows = refl; after = refl };
+            event = record { world = w; stands = part.1; at = at; may = may; shows = refl; after = refl };
             held = refl;
             extends = extends_moved w part.1 k v at (steps.word found k v kind) es (steps.held found k v kind) after;
             leads = (after.state, after.history.run, map (λ (u : View E H). u.held) (set views k (seat_after steps found part.0 k v kind)), after.history.tied);

@@ -1,8 +1,10 @@
 -- How a gate is made, and what is known when it is closed.
-use Rattle.std.proofs.Common.{◌≡◌, ℕ, ◌*◌, ◌≤◌, List, [], ◌∷◌, map, get_or, refl, sym, ap, subst, arith}
-use Rattle.std.specs.Prelude.{None, is_some, count_by, replicate, All}
+use Rattle.std.proofs.Common.{◌≡◌, ℕ, ◌*◌, ◌≤◌, List, [], ◌∷◌, cond, length, map, get_or, refl, sym, ap, ◌∙◌, subst, arith}
+use Rattle.std.specs.Prelude.{None, is_some, count_by, sum_by, replicate, All}
+use Rattle.std.proofs.lemmas.List.{length-replicate}
 use Rattle.std.proofs.lemmas.List.Folds.{sum_by-replicate}
-use Rattle.std.proofs.lemmas.List.Elements.{All-nil, All-cons, All-map}
+use Rattle.std.proofs.lemmas.List.Sums.{sum_by-cons}
+use Rattle.std.proofs.lemmas.List.Elements.{All-map}
 use Rattle.std.specs.List.{range_with_len}
 use mathlib.Core.Option.{some}
 use lib.ListN.{get_elem?}
@@ -11,14 +13,15 @@ use Rattle.atomic_table.proofs.Lists.{at_map}
 use Rattle.evl_words.specs.declared.gate.GateHold.{GateHold}
 use Rattle.evl_words.specs.Machine.{Run}
 use Rattle.evl_words.specs.History.{Fits}
-use Rattle.evl_words.specs.Hands.{Hand, place, AreOf}
+use Rattle.evl_words.specs.Hands.{Hand, places_of, AreOf, hand_back}
 use Rattle.evl_words.specs.Dealings.{Dealing, DealingEvent, DealingStep, Holds, opened}
 use Rattle.evl_words.specs.Gate.{stage_held, open_gate}
 use Rattle.evl_words.specs.GateWorld.{GateView, GateKind, IsGateWorld, gate_steps, gate_author, newcomer, hold}
 use Rattle.evl_words.specs.GateRule.{GateRule, all_seats}
-use Rattle.evl_words.specs.GateCalls.{SeatState, GateState, IsSeatOf, new_seat, Closes, hand_back}
+use Rattle.evl_words.specs.GateCalls.{SeatState, GateState, IsSeatOf, new_seat, place_of, Closes}
 use Rattle.evl_words.proofs.Sequences.{at_replicate, map-replicate}
-use Rattle.evl_words.proofs.Dealing.{deals_opening, are_of-apart}
+use Rattle.evl_words.proofs.Dealing.{deals_opening}
+use Rattle.evl_words.proofs.Counting.{each_back, length_back, hand_sum, sum_back}
 use Rattle.evl_words.proofs.Dealings.{dealings_hold}
 use Rattle.evl_words.proofs.GateSteps.{step_keeps}
 
@@ -40,36 +43,46 @@ gate_opens limit seats bounded =
       };
     }
 
-pub rule_opens : (limit seats : ℕ) → limit ≤ 1000 → GateRule limit (opening (0 ∷ []) [] (all_seats limit seats))
+pub rule_opens : (limit seats : ℕ) → limit ≤ 1000 → GateRule {S = Unit {0}} limit seats (opening (0 ∷ []) [] (all_seats limit seats))
 rule_opens limit seats bounded = record {
   views = replicate seats (newcomer limit);
   deals = deals_opening (replicate seats (newcomer limit));
-  kept = record { one = refl; kept = ([], gate_opens limit seats bounded) };
+  kept = record { one = refl; all = length-replicate seats (newcomer limit); kept = ([], gate_opens limit seats bounded) };
 }
 
 -- after any list of events from the opening
 pub gate_law : (limit seats : ℕ) → limit ≤ 1000 → (events : List (DealingEvent GateKind)) (t : Dealing _ _) → Run (DealingStep gate_steps) (opened (replicate seats (newcomer limit))) events t → Holds (IsGateWorld limit) t
 gate_law limit seats bounded = dealings_hold gate_steps (IsGateWorld limit) (step_keeps limit) (replicate seats (newcomer limit)) (gate_opens limit seats bounded)
 
--- what is kept of all seats, of these seats
-closes_all : (P : SeatState → Type 0) (views : List GateView) → ((s : SeatState) → get_elem? views s.number ≡ some s.view → P s) → (seats : List SeatState) → AreOf views (hand_back seats) → All P seats
-closes_all P views each [] h = All-nil P
-closes_all P views each (s ∷ ss) h =
-    let parts = are_of-apart views (hand_back ss) (place s.number s.view) h in
-    All-cons P s ss (each s parts.1) (closes_all P views each ss parts.0)
-
-pub gate_closes : (limit : ℕ) (seats : List SeatState) (s : State (Unit {0}) (Hand GateView)) → (d : GateRule limit s) → AreOf d.views (hand_back seats) → Closes limit seats (get_or s.words 0 0)
-gate_closes limit seats s d there =
+-- A closed gate, where these seats were in one hand
+pub gate_closes : (gate : GateState) (seats : List SeatState) (s : State (Unit {0}) (Hand GateView)) → (d : GateRule gate.limit gate.seats s) → AreOf d.views (hand_back place_of seats)
+    → ((k : ℕ) → places_of k (hand_back place_of seats) ≤ 1) → Closes gate seats (get_or s.words 0 0)
+gate_closes gate seats s d there once =
     let log = d.kept.kept.0 in
     let state = d.kept.kept.1.state in
-    let h = d.kept.kept.1.history in record {
+    let h = d.kept.kept.1.history in
+    let holds : GateView → ℕ = λ v. cond {A = ℕ} (is_some v.held.stage) 1 0 in record {
       log = log;
       state = state;
       run = h.run;
       word = h.tied.word;
-      fits = closes_all (λ z. Fits gate_author log z.number z.view) d.views (λ z at. h.fits z.number z.view at) seats there;
-      holds = closes_all (λ z. z.view.held ≡ hold limit (stage_held z.number state.holders)) d.views (λ z at. h.tied.holds z.number z.view.held (at_map (λ (v : GateView). v.held) d.views z.number z.view at)) seats there;
+      fits = each_back place_of (λ z. Fits gate_author log z.number z.view) d.views (λ z at. h.fits z.number z.view at) seats there;
+      holds = each_back place_of (λ z. z.view.held ≡ hold gate.limit (stage_held z.number state.holders)) d.views (λ z at. h.tied.holds z.number z.view.held (at_map (λ (v : GateView). v.held) d.views z.number z.view at)) seats there;
+      strangers = λ k far. h.others k (subst (λ n. n ≤ k) (sym d.kept.all) far);
+      count = λ all.
+          let enough : length d.views ≤ length (hand_back place_of seats) = omega (arith, d.kept.all, length_back place_of seats) in
+          let sums : sum_by holds d.views ≡ sum_by (λ (z : SeatState). holds z.view) seats = sym (hand_sum holds (hand_back place_of seats) once d.views there enough) ∙ sum_back place_of holds seats in
+          h.tied.count ∙ count_held d.views ∙ sums;
     }
+  where
+    count_held : (views : List GateView) → count_by (λ (h : GateHold). is_some h.stage) (map (λ (v : GateView). v.held) views) ≡ sum_by (λ (v : GateView). cond {A = ℕ} (is_some v.held.stage) 1 0) views
+    count_held [] = refl
+    count_held (v ∷ vs) = omega (
+      arith,
+      sum_by-cons (λ (h : GateHold). cond {A = ℕ} (is_some h.stage) 1 0) v.held (map (λ (u : GateView). u.held) vs),
+      sum_by-cons (λ (u : GateView). cond {A = ℕ} (is_some u.held.stage) 1 0) v vs,
+      count_held vs,
+    )
 
 -- the seats that a gate was made with are its seats
 pub all_new : (gate : GateState) (a n : ℕ) → All (λ seat. IsSeatOf seat gate) (map (new_seat gate) (range_with_len a n))

@@ -11,10 +11,11 @@ use Rattle.evl_words.specs.declared.gate.GateCall.TheVariants.{Enter}
 use Rattle.evl_words.specs.declared.gate.GateReply.{GateReply}
 use Rattle.evl_words.specs.declared.gate.GateReply.TheVariants.{Refused}
 use Rattle.evl_words.specs.Hands.{Hand, place, Told}
+use Rattle.evl_words.specs.Parts.{Tells}
 use Rattle.evl_words.specs.Gate.{GateStep, open_gate}
 use Rattle.evl_words.specs.GateWord.{word_refusal}
 use Rattle.evl_words.specs.GateWorld.{GateView, GateKind, GateDoes, GateLooks, GateAppends, step_may, step_word, gate_author, gate_entry, hold, newcomer}
-use Rattle.evl_words.specs.GateRule.{GateRule, GatePart, Tells, Shows, Finds, view_in}
+use Rattle.evl_words.specs.GateRule.{GateRule, GatePart, Shows, Finds, view_in}
 use Rattle.evl_words.specs.GateCalls.{SeatState, IsSameSeat, Calls, Races, FailsToEnter}
 use Rattle.evl_words.proofs.Sequences.{prefix_refl, prefix_trans}
 use Rattle.evl_words.proofs.Histories.{extends_after, seen_before}
@@ -26,16 +27,16 @@ abbrev pub IsOneSeat : ℕ → Me (Unit {0}) (Hand GateView) → Type 0
 IsOneSeat k me = me ≡ (place k (view_in me.0) ∷ [], [])
 
 -- a step of this kind by a token with one seat
-pub gate_allows : (limit slots id k : ℕ) (me : Me (Unit {0}) (Hand GateView)) → IsOneSeat k me → (kind : GateKind) → step_may k (view_in me.0) kind
-    → (f : ℕ → ℕ) → ((n : ℕ) → step_word n k (view_in me.0) kind ≡ f n) → (st : Step (Unit {0})) (then : Tells)
+pub gate_allows : {S : Type 0} (limit seats slots id k : ℕ) (me : Me S (Hand GateView)) → me ≡ (place k (view_in me.0) ∷ [], []) → (kind : GateKind) → step_may k (view_in me.0) kind
+    → (f : ℕ → ℕ) → ((n : ℕ) → step_word n k (view_in me.0) kind ≡ f n) → (st : Step S) (then : Tells S GateView)
     → ((found : ℕ) (u : GateView) → GateDoes (view_in me.0).held.limit k (view_in me.0) kind found u → then st k (view_in me.0, []) found (u, []))
-    → Allows (GateRule limit) slots id me 0 f (Told then st me)
-gate_allows limit slots id k me one kind may f same st then weaker =
+    → Allows (GateRule limit seats) slots id me 0 f (Told then st me)
+gate_allows limit seats slots id k me one kind may f same st then weaker =
     let v = view_in me.0 in
-    allows_part (GatePart limit) slots id k (newcomer 0) me one f st then
+    allows_part (GatePart limit) seats slots id k (newcomer 0) me one f st then
     (turns_as (GatePart limit) k v (λ n. step_word n k v kind) f (GateDoes v.held.limit k v kind) (λ found u. then st k (v, []) found (u, [])) same weaker (gate_turn limit k v kind may))
 
-pub gate_told : (k : ℕ) (me me' : Me (Unit {0}) (Hand GateView)) (st : Step (Unit {0})) (found : ℕ) (then : Tells)
+pub gate_told : (k : ℕ) (me me' : Me (Unit {0}) (Hand GateView)) (st : Step (Unit {0})) (found : ℕ) (then : Tells (Unit {0}) GateView)
     → ((w : Me (Unit {0}) GateView) → then st k (view_in me.0, []) found w → w.1 ≡ []) → IsOneSeat k me → Told then st me found me'
     → IsOneSeat k me' × then st k (view_in me.0, []) found (view_in me'.0, [])
 gate_told k me me' st found then slotless one told = told_at k (newcomer 0) me me' st found then slotless one told

@@ -4,6 +4,7 @@ pub mod Histories
 pub mod Events
 pub mod Dealing
 pub mod Dealings
+pub mod Counting
 pub mod Parts
 pub mod GateLaws
 pub mod GateWords

@@ -64,7 +64,7 @@ module _ {A : Type 0} where
         omega (arith, sum_by-cons f b xs, sum_by-cons f x xs)
     total_set (x ∷ xs) (suc i) a b e = omega (arith, sum_by-cons f x (set xs i b), sum_by-cons f x xs, total_set xs i a b e)
 
-    total_at : (l : List A) (i : ℕ) (a : A) → get_elem? l i ≡ some a → f a ≤ sum_by f l
+    pub total_at : (l : List A) (i : ℕ) (a : A) → get_elem? l i ≡ some a → f a ≤ sum_by f l
     total_at [] i a e = absurd (some-ne-none a (sym e))
     total_at (x ∷ xs) zero a e = let same : f x ≡ f a = ap f (some-injective x a e) in omega (arith, sum_by-cons f x xs)
     total_at (x ∷ xs) (suc i) a e = omega (arith, sum_by-cons f x xs, total_at xs i a e)

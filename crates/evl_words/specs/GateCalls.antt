@@ -1,5 +1,5 @@
 -- A gate and its seats as their callers see them, and what a call did.
-use Rattle.std.specs.Prelude.{◌≡◌, ◌≢◌, ◌⊎◌, ℕ, Option, None, IsSome, List, [], ◌∷◌, ◌++◌, All}
+use Rattle.std.specs.Prelude.{◌≡◌, ◌≢◌, ◌⊎◌, ℕ, ◌≤◌, Option, None, IsSome, is_some, List, [], length, count_by, All}
 use mathlib.Core.List.{IsPrefix}
 use Rattle.evl_base.specs.declared.stage.Stage.{Stage}
 use Rattle.evl_base.specs.declared.numbers.StaxId.{StaxId}
@@ -12,8 +12,9 @@ use Rattle.evl_words.specs.declared.gate.GateReply.{GateReply}
 use Rattle.evl_words.specs.declared.gate.GateReply.TheVariants.{Refused}
 use Rattle.atomic_table.specs.Seated.{TableId}
 use Rattle.evl_words.specs.Machine.{Run}
-use Rattle.evl_words.specs.History.{Fits}
-use Rattle.evl_words.specs.Hands.{Hand}
+use Rattle.evl_words.specs.History.{Fits, entries_of}
+use Rattle.evl_words.specs.declared.history.Place.{Place}
+use Rattle.evl_words.specs.Hands.{place}
 use Rattle.evl_words.specs.Gate.{Gate, GateEntry, GateStep, open_gate, stage_held}
 use Rattle.evl_words.specs.GateWord.{word_of, word_refusal}
 use Rattle.evl_words.specs.GateWorld.{GateView, GateKind, GateDoes, GateLooks, GateAppends, looks, exchanges, gate_author, hold, newcomer}
@@ -30,6 +31,7 @@ pub record GateState : Type 0 where
   pub table : TableId
   pub id : StaxId
   pub limit : ℕ
+  pub seats : ℕ
 
 -- the seat was made with the gate
 pub record IsSeatOf (seat : SeatState) (gate : GateState) : Type 0 where
@@ -101,16 +103,16 @@ pub record FindsFree (old : SeatState) (stage : Stage) (word : ℕ) (new : SeatS
   pub shown : Shows old.view.held.limit new.view.seen word
   pub looks : GateLooks old.view.held.limit old.number old.view new.view
 
--- The word shows the last state of a legal history that each of the seats fits, and in which each holds what its view says
-pub record Closes (limit : ℕ) (seats : List SeatState) (found : ℕ) : Type 0 where
+-- The word shows the last state of a legal history that each of the seats fits, and in which each holds what its view says. No entry is of a seat that the gate was not made with. Where all its seats are handed in, its holders are just those of them that hold it
+pub record Closes (gate : GateState) (seats : List SeatState) (found : ℕ) : Type 0 where
   pub log : List GateEntry
   pub state : Gate
-  pub run : Run (GateStep limit) open_gate log state
+  pub run : Run (GateStep gate.limit) open_gate log state
   pub word : found ≡ word_of state
   pub fits : All (λ s. Fits gate_author log s.number s.view) seats
-  pub holds : All (λ s. s.view.held ≡ hold limit (stage_held s.number state.holders)) seats
+  pub holds : All (λ s. s.view.held ≡ hold gate.limit (stage_held s.number state.holders)) seats
+  pub strangers : (k : ℕ) → gate.seats ≤ k → entries_of gate_author k log ≡ []
+  pub count : gate.seats ≤ length seats → length state.holders ≡ count_by (λ s. is_some s.view.held.stage) seats
 
--- the hand of these seats, the last one first
-abbrev pub hand_back : List SeatState → Hand GateView
-hand_back [] = []
-hand_back (s ∷ ss) = hand_back ss ++ record { number = s.number; view = s.view } ∷ []
+abbrev pub place_of : SeatState → Place GateView
+place_of seat = place seat.number seat.view

@@ -3,10 +3,10 @@ use Rattle.std.specs.Prelude.{◌≡◌, ℕ, ◌==◌, Some, List, replicate, M
 use Rattle.evl_base.specs.declared.stage.Stage.{Stage}
 use Rattle.evl_words.specs.declared.gate.GateCall.TheVariants.{Enter}
 use Rattle.evl_words.specs.declared.gate.GateReply.TheVariants.{Entered, Refused}
-use Rattle.atomic_table.specs.Table.{State, Me, Step}
+use Rattle.atomic_table.specs.Table.{State}
 use Rattle.evl_words.specs.Machine.{Run}
 use Rattle.evl_words.specs.Events.{Part}
-use Rattle.evl_words.specs.Parts.{OneWord}
+use Rattle.evl_words.specs.Parts.{Tells, OneWord}
 use Rattle.evl_words.specs.Hands.{Hand, Dealt, hand_from, first_view}
 use Rattle.evl_words.specs.Gate.{Gate, GateEntry, GateStep, open_gate}
 use Rattle.evl_words.specs.GateWord.{word_of, word_refusal}
@@ -16,8 +16,8 @@ use Rattle.evl_words.specs.GateWorld.{GateView, GateKind, IsGateWorld, GateDoes,
 abbrev pub GatePart : ℕ → ℕ → List GateView → Type 0
 GatePart limit = Part (IsGateWorld limit)
 
-abbrev pub GateRule : ℕ → State (Unit {0}) (Hand GateView) → Type 0
-GateRule limit = Dealt (OneWord (GatePart limit))
+abbrev pub GateRule : {S : Type 0} → ℕ → ℕ → State S (Hand GateView) → Type 0
+GateRule limit seats = Dealt (OneWord (GatePart limit) seats)
 
 abbrev pub all_seats : ℕ → ℕ → Hand GateView
 all_seats limit seats = hand_from 0 (replicate seats (newcomer limit))
@@ -38,15 +38,13 @@ Finds k v stage word w = (w.held ≡ v.held) × MatchOption (word_refusal v.held
 abbrev pub Enters : ℕ → GateView → Stage → ℕ → ℕ → GateView → Type 0
 Enters k v stage old word w = MatchBool (word == old) ((w.held ≡ hold v.held.limit (Some stage)) × GateAppends v.held.limit k v (Enter stage) Entered w) (Finds k v stage word w)
 
-abbrev pub Tells : Type 1
-Tells = Step (Unit {0}) → ℕ → Me (Unit {0}) GateView → ℕ → Me (Unit {0}) GateView → Type 0
+module _ {S : Type 0} where
+  -- a step tells that it is this event
+  abbrev pub does : GateKind → Tells S GateView
+  does kind st k m found n = (n.1 ≡ m.1) × GateDoes m.0.held.limit k m.0 kind found n.0
 
--- a step tells that it is this event
-abbrev pub does : GateKind → Tells
-does kind st k m found n = (n.1 ≡ m.1) × GateDoes m.0.held.limit k m.0 kind found n.0
+  abbrev pub looked : Stage → Tells S GateView
+  looked stage st k m found n = does (looks stage) st k m found n × Finds k m.0 stage found n.0
 
-abbrev pub looked : Stage → Tells
-looked stage st k m found n = does (looks stage) st k m found n × Finds k m.0 stage found n.0
-
-abbrev pub entered : Stage → Tells
-entered stage st k m found n = does (exchanges stage st.first) st k m found n × Enters k m.0 stage st.first found n.0
+  abbrev pub entered : Stage → Tells S GateView
+  entered stage st k m found n = does (exchanges stage st.first) st k m found n × Enters k m.0 stage st.first found n.0

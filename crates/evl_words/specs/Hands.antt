@@ -1,5 +1,5 @@
 -- Seats dealt out among the tokens of a table. A table's token has a hand of seats, mostly one; a table's rule is over the seats' views, wherever the seats are.
-use Rattle.std.specs.Prelude.{◌≡◌, ℕ, suc, ◌<◌, ◌≤◌, ◌==◌, List, [], ◌∷◌, length, slice_index, slice_set, sum_by, count_by}
+use Rattle.std.specs.Prelude.{◌≡◌, ℕ, suc, ◌<◌, ◌≤◌, ◌==◌, List, [], ◌∷◌, ◌++◌, length, slice_index, slice_set, sum_by, count_by}
 use mathlib.Core.Option.{Option, some}
 use lib.ListN.{get_elem?}
 use Rattle.atomic_table.specs.Table.{State, Me, Step, Act, Valid, homes_after, carried_after}
@@ -44,6 +44,11 @@ module _ {V : Type 0} where
   abbrev pub rest_of : Hand V → Hand V
   rest_of [] = []
   rest_of (p ∷ ps) = ps
+
+  -- the hand that has the place of each of these, the last one first
+  abbrev pub hand_back : {Q : Type 0} → (Q → Place V) → List Q → Hand V
+  hand_back place_of [] = []
+  hand_back place_of (q ∷ qs) = hand_back place_of qs ++ place_of q ∷ []
 
   module _ {S : Type 0} where
     -- what a step tells, at a token that has one seat: of the step, the seat's number, its view and slots before, the number found, and its view and slots after

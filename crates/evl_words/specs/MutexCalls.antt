@@ -1,5 +1,5 @@
 -- A mutex word and its seats as their callers see them, and what a call did.
-use Rattle.std.specs.Prelude.{◌≡◌, ◌⊎◌, ℕ, ◌+◌, ◌-◌, ◌<◌, ◌==◌, Bool, true, false, List, [], ◌∷◌, ◌++◌, All, MatchBool}
+use Rattle.std.specs.Prelude.{◌≡◌, ◌⊎◌, ℕ, ◌+◌, ◌-◌, ◌<◌, ◌≤◌, ◌==◌, Bool, true, false, List, [], All, MatchBool}
 use Rattle.evl_base.specs.declared.numbers.MutexId.{MutexId}
 use Rattle.evl_base.specs.declared.refusal.Refusal.{Refusal}
 use Rattle.evl_base.specs.declared.refusal.Refusal.TheVariants.{Busy, Deadlock, Limit}
@@ -16,11 +16,12 @@ use Rattle.evl_words.specs.declared.mutex.Unlock.{Unlock as Unlocking}
 use Rattle.evl_words.specs.declared.mutex.Unlock.TheVariants.{Done as IsDone, Claimed as IsClaimed}
 use Rattle.atomic_table.specs.Seated.{TableId}
 use Rattle.evl_words.specs.Machine.{Run}
-use Rattle.evl_words.specs.History.{Fits}
-use Rattle.evl_words.specs.Hands.{Hand}
+use Rattle.evl_words.specs.History.{Fits, entries_of}
+use Rattle.evl_words.specs.declared.history.Place.{Place}
+use Rattle.evl_words.specs.Hands.{place}
 use Rattle.evl_words.specs.Mutex.{Mutex, MutexEntry, MutexStep, unowned, is_owner, is_seizing}
 use Rattle.evl_words.specs.MutexBits.{mutex_word}
-use Rattle.evl_words.specs.MutexWorld.{MutexView, MutexKind, MutexDoes, MutexLooks, MutexAppends, EndsOffered, awaits, accepts, mutex_author, newcomer, role_of, owns, wins}
+use Rattle.evl_words.specs.MutexWorld.{MutexView, MutexKind, MutexDoes, MutexLooks, MutexAppends, EndsOffered, NamesBelow, awaits, accepts, mutex_author, newcomer, role_of, owns, wins}
 
 -- of which table and mutex the seat is, its number, how often it holds the mutex, and its view
 pub record MutexSeatState : Type 0 where
@@ -107,8 +108,8 @@ pub record SeesOffer (old new : MutexSeatState) : Type 0 where
 abbrev pub Accepts : MutexSeatState → MutexSeatState → Type 0
 Accepts old new = Makes old awaits new ⊎ ((between : MutexSeatState) × Makes old awaits between × Makes between accepts new)
 
--- The word shows the last state of a legal history that each of the seats fits, and in which each owns or has seized what its view says
-pub record Closes (seats : List MutexSeatState) (found : ℕ) : Type 0 where
+-- The word shows the last state of a legal history that each of the seats fits, and in which each owns or has seized what its view says. No entry is of a seat that the mutex was not made with, and it is of no such seat itself
+pub record Closes (mutex : MutexState) (seats : List MutexSeatState) (found : ℕ) : Type 0 where
   pub log : List MutexEntry
   pub state : Mutex
   pub run : Run MutexStep unowned log state
@@ -116,8 +117,8 @@ pub record Closes (seats : List MutexSeatState) (found : ℕ) : Type 0 where
   pub fits : All (λ s. Fits mutex_author log s.number s.view) seats
   pub owner : All (λ s. is_owner state s.number ≡ owns s.view.held.role) seats
   pub winner : All (λ s. is_seizing state s.number ≡ wins s.view.held.role) seats
+  pub strangers : (k : ℕ) → mutex.seats ≤ k → entries_of mutex_author k log ≡ []
+  pub below : NamesBelow mutex.seats state
 
--- the hand of these seats, the last one first
-abbrev pub hand_back : List MutexSeatState → Hand MutexView
-hand_back [] = []
-hand_back (s ∷ ss) = hand_back ss ++ record { number = s.number; view = s.view } ∷ []
+abbrev pub place_of : MutexSeatState → Place MutexView
+place_of seat = place seat.number seat.view

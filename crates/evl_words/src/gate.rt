@@ -9,6 +9,7 @@ use std::marker::Model;
 mod calls;
 mod ends;
 mod enter;
+mod readers;
 mod steps;
 mod word;
 
@@ -93,10 +94,7 @@ impl<A: Allocator> Model for StaxGate<A> {
 
     ghost Value = { GateState };
 
-    ghost view = { λ g. record { table = g.table.shared.table_id; id = g.id; limit = g.limit } };
+    ghost view = { λ g. record { table = g.table.shared.table_id; id = g.id; limit = g.limit; seats = g.table.shared.key.seats } };
 
     ghost invariant = { λ g. (g.table.shared.table_id.words ≡ 1) × (g.table.shared.table_id.slots ≡ 0) × (g.table.shared.key.limit ≡ g.limit) × (g.limit ≤ 1000) };
 }
-
-#[cfg(test)]
-mod tests;

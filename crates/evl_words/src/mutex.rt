@@ -11,6 +11,7 @@ mod ends;
 mod handing;
 mod locking;
 mod offering;
+mod readers;
 mod steps;
 
 use steps::{MutexKey, Worded};
@@ -129,6 +130,3 @@ impl<A: Allocator> Model for MutexWord<A> {
 
     ghost invariant = { λ m. (m.table.shared.table_id.words ≡ 1) × (m.table.shared.table_id.slots ≡ 0) };
 }
-
-#[cfg(test)]
-mod tests;

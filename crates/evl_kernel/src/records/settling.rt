@@ -1,15 +1,17 @@
 //! Settling: one play after another until nothing is playable.
-ghost use Rattle.std.specs.Prelude.{◌≡◌, ◌+◌, ◌≤◌, ◌<◌, ◌*◌, ◌-◌, None, Some, IfSome, IfNone, length, vec_len, vec_capacity};
+ghost use Rattle.std.specs.Prelude.{◌≡◌, ◌+◌, ◌≤◌, ◌<◌, ◌*◌, ◌-◌, false, None, Some, IfSome, IfNone, length, vec_len, vec_capacity};
+ghost use Rattle.evl_clock.specs.Dues.{next_due};
 ghost use Rattle.evl_kernel.specs.Callbacks.{AnswersAsTold};
 ghost use Rattle.evl_kernel.specs.Records.{KeepsCallbacks, state_of, whereabouts};
 ghost use Rattle.evl_kernel.specs.Fires.{Called};
 ghost use Rattle.evl_kernel.specs.Limits.{inband_limit, play_limit};
 ghost use Rattle.evl_kernel.specs.States.{date};
-ghost use Rattle.evl_kernel.specs.Settling.{acted, all_acted, answered, next_play, one_inband};
-ghost use Rattle.evl_kernel.specs.Settled.{Appends, left_to_play, settling, stage_of};
+ghost use Rattle.evl_kernel.specs.Settling.{acted, all_acted, answered, due_played, is_of_clock, line_goes, next_play, one_inband};
+ghost use Rattle.evl_kernel.specs.Settled.{Appends, left_after, left_to_play, settling, stage_of, waiting};
 
 use super::Records;
 use evl_base::{LineNo, Play, Stage};
+use evl_clock::Due;
 use evl_pipeline::{Action, Answer, Handler, Ran};
 use std::alloc::Allocator;
 
@@ -17,13 +19,15 @@ use std::alloc::Allocator;
 const MAX_INBAND: u8 = 64;
 
 impl<C, A: Allocator> Records<C, A> {
-    /// The date, in nanoseconds: nothing moves it yet.
+    /// The date, in nanoseconds.
     fn date(&self) -> u64
         ensures date { result ≡ date (state_of self.now) }
     {
-        0
+        self.clock.now()
     }
+}
 
+impl<C: Drop, A: Allocator> Records<C, A> {
     /// Carries out one action of a callback on a line: what its call does, and nothing where that would be refused.
     fn act(&mut self, line: LineNo, action: Action)
         ensures acted { state_of self.new ≡ acted (state_of self.old) line.0 action }
@@ -39,7 +43,10 @@ impl<C, A: Allocator> Records<C, A> {
             Action::PostOob(other) => {
                 let _ = self.post(Stage::Oob, other);
             }
-            Action::PostFlags(_, _) | Action::StopTimer(_) => {}
+            Action::StopTimer(timer) => {
+                let _ = self.stop_timer(timer);
+            }
+            Action::PostFlags(_, _) => {}
         }
     }
 
@@ -65,15 +72,43 @@ impl<C, A: Allocator> Records<C, A> {
 }
 
 impl<C: Handler, A: Allocator> Records<C, A> {
-    /// Plays what is next after so many in-band plays of this call, if something is playable.
-    fn play_next(&mut self, inband: u8) -> Option<Play>
+    /// Plays the next due item of the clock, if something is due.
+    fn play_item(&mut self) -> Option<Play>
+        requires answering { AnswersAsTold C.declared C.plan (whereabouts self.old) }
+        ensures played { IfSome result (λ play. due_played (state_of self.old) ≡ Some (play, state_of self.new)) }
+        ensures nearer { IfSome result (λ play. waiting (state_of self.new) < waiting (state_of self.old)) }
+        ensures called { IfSome result (λ play. Called C.gives (whereabouts self.old) (state_of self.old) play) }
+        ensures ended { IfNone result ((next_due (state_of self.old).clock ≡ None) × (self.new ≡ self.old)) }
+        ensures stands { KeepsCallbacks self.old self.new }
+    {
+        match self.clock.next_due()? {
+            Due::Deadline(thread) => Some(Play::Deadline { thread }),
+            Due::Timer {
+                id,
+                fire,
+                missed,
+                answer,
+            } => {
+                self.respond(fire.line, &answer);
+                Some(Play::Timer {
+                    timer: id,
+                    count: fire.count,
+                    missed,
+                    handled: answer.handled,
+                })
+            }
+        }
+    }
+
+    /// Plays the line that is next after so many in-band plays of this call, if a line is playable.
+    fn play_line(&mut self, inband: u8) -> Option<Play>
         requires answering { AnswersAsTold C.declared C.plan (whereabouts self.old) }
         requires few { inband ≤ inband_limit }
-        ensures played { IfSome result (λ play. next_play (settling self.old inband) ≡ Some (play, settling self.new (inband + one_inband (stage_of play)))) }
-        ensures nearer { IfSome result (λ play. left_to_play (settling self.new (inband + one_inband (stage_of play))) < left_to_play (settling self.old inband)) }
+        ensures played { IfSome result (λ play. line_goes (settling self.old inband false) ≡ Some (play, settling self.new (inband + one_inband (stage_of play)) (is_of_clock play))) }
+        ensures nearer { IfSome result (λ play. left_after (state_of self.new) (inband + one_inband (stage_of play)) < left_after (state_of self.old) inband) }
         ensures few { IfSome result (λ play. inband + one_inband (stage_of play) ≤ inband_limit) }
         ensures called { IfSome result (λ play. Called C.gives (whereabouts self.old) (state_of self.old) play) }
-        ensures ended { IfNone result ((next_play (settling self.old inband) ≡ None) × (self.new ≡ self.old)) }
+        ensures ended { IfNone result ((line_goes (settling self.old inband false) ≡ None) × (self.new ≡ self.old)) }
         ensures stands { KeepsCallbacks self.old self.new }
     {
         let date = self.date();
@@ -92,6 +127,26 @@ impl<C: Handler, A: Allocator> Records<C, A> {
         }
     }
 
+    /// Plays what is next after so many in-band plays of this call, if something is playable: behind a play of the clock
+    /// or of a due item what is due, else a line.
+    fn play_next(&mut self, inband: u8, of_clock: bool) -> Option<Play>
+        requires answering { AnswersAsTold C.declared C.plan (whereabouts self.old) }
+        requires few { inband ≤ inband_limit }
+        ensures played { IfSome result (λ play. next_play (settling self.old inband of_clock) ≡ Some (play, settling self.new (inband + one_inband (stage_of play)) (is_of_clock play))) }
+        ensures nearer { IfSome result (λ play. left_after (state_of self.new) (inband + one_inband (stage_of play)) < left_after (state_of self.old) inband) }
+        ensures few { IfSome result (λ play. inband + one_inband (stage_of play) ≤ inband_limit) }
+        ensures called { IfSome result (λ play. Called C.gives (whereabouts self.old) (state_of self.old) play) }
+        ensures ended { IfNone result ((next_play (settling self.old inband of_clock) ≡ None) × (self.new ≡ self.old)) }
+        ensures stands { KeepsCallbacks self.old self.new }
+    {
+        if of_clock {
+            if let Some(play) = self.play_item() {
+                return Some(play);
+            }
+        }
+        self.play_line(inband)
+    }
+
     /// Plays until nothing is playable, and appends the plays. A stalled out-of-band stage holds both stages back.
     pub(super) fn settle<B: Allocator>(&mut self, plays: &mut Vec<Play, B>)
         requires answering { AnswersAsTold C.declared C.plan (whereabouts self.old) }
@@ -104,11 +159,20 @@ impl<C: Handler, A: Allocator> Records<C, A> {
             return;
         }
         let mut inband = 0;
-        while let Some(play) = self.play_next(inband) {
+        let mut of_clock = false;
+        while let Some(play) = self.play_next(inband, of_clock) {
             inband += counted_inband(&play);
+            of_clock = is_of_clock(&play);
             plays.push(play).unwrap();
         }
     }
+}
+
+/// Whether a play is the clock's, or that of a due item.
+fn is_of_clock(play: &Play) -> bool
+    ensures { result ≡ is_of_clock play.now }
+{
+    !matches!(play, Play::Line { .. })
 }
 
 /// Whether a play is an in-band one, as a number.

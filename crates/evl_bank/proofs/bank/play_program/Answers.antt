@@ -1,4 +1,4 @@
-use Rattle.std.proofs.Common.{ℕ, List, Option, Err, inr, refl, subst, sym, ap}
+use Rattle.std.proofs.Common.{ℕ, List, Option, Err, inr, refl, subst, sym, ap, ◌∙◌}
 use Rattle.evl_scenario.specs.declared.faults.Fault.TheVariants.{Memory}
 use Rattle.evl_shell.specs.declared.plays.Stop.TheVariants.{Broken}
 use Rattle.evl_bank.specs.Bank.{program_bank}
@@ -16,7 +16,7 @@ returns-in-Err g c =
     let Q : Option (List ℕ) → Type 0 = λ quiet. TakesPrefix quiet (g.E.Write.contents c.stopped.new.err) (stop_line (Broken Memory)) in
     record {
       end = Err (Broken Memory);
-      ended = subst P (ap g.S.Sink.told (sym c.in-Err.ensures.out)) (ended-unread program_bank known old failed (Broken Memory) (inr refl));
+      ended = subst P (ap g.S.Sink.told (sym c.in-Err.ensures.out)) (ended-unread program_bank known old failed (Broken Memory) (ap g.S.Sink.has_failed c.in-Err.ensures.out ∙ c.requires) (inr refl));
       status_is = c.stopped.ensures.status;
       says = subst Q (ap g.E.Write.contents c.in-Err.ensures.err) c.stopped.ensures.says;
     }

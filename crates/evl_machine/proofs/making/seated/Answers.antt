@@ -10,7 +10,7 @@ new-requires-2 g c = opens_as c.args.kernel _ _ c.of-key.ensures (search rules) 
 pub seat_callers-requires-clause-new : goal.seat_callers-requires-clause-new
 seat_callers-requires-clause-new g c =
     let same = ap (λ key. key.value) c.in-Ok.ensures.ok.5 ∙ c.of-key.ensures in
-    subst (λ (k : KernelView _). IsLegal k.history × (k.history.entries ≡ [])) (sym same) c.requires.new
+    subst (λ (k : KernelView _). IsLegal k.history × (k.history.entries ≡ [])) (sym same) (c.requires.new.0, c.requires.new.1)
 
 pub returns-clause-first : goal.returns-clause-first
 returns-clause-first g c = ap (λ key. key.value) c.in-Ok.ensures.ok.5 ∙ c.of-key.ensures

@@ -1,6 +1,7 @@
-use Rattle.std.proofs.Common.{arith}
+use Rattle.std.proofs.Common.{arith, refl}
 use Rattle.std.proofs.lemmas.Option.{slice_get_within}
-use Rattle.evl_kernel.proofs.BankLaws.{was_out, back_state, back_keeps, back_allowed}
+use Rattle.evl_kernel.proofs.BankLaws.{was_out, back, back_state, back_keeps, back_allowed}
+use Rattle.evl_kernel.proofs.TimerLaws.{timers_allowed-kept}
 use Rattle.evl_kernel.specs.RecordsInside.{records_view}
 use Rattle.evl_kernel.proofs.records.Records.free.Goals as goal
 use Rattle.evl_kernel.proofs.records.Records.free.Goals.{In_ok-numbered, After-put_back}
@@ -19,6 +20,10 @@ invariant_of-self-2 g c =
     record {
       allowed = rw (c.put_back.ensures.put out.place out.there, c.in_ok-numbered.ensures.state)
           (back_allowed r c.args.line.0 c.args.stage c.in_ok-numbered.numbered out c.self.invariant.allowed);
+      timers_allowed = rw (c.put_back.ensures.put out.place out.there)
+          (timers_allowed-kept r (back r c.args.line.0 c.args.stage c.in_ok-numbered.numbered out.place) (λ n at h. (at, h, refl))
+          (back_keeps r c.args.line.0 c.args.stage c.in_ok-numbered.numbered out).told_is c.self.invariant.timers_allowed);
+      clock_sound = c.self.invariant.clock_sound;
     }
 
 pub returns-clause-served : goal.returns-clause-served

@@ -1,6 +1,6 @@
 use Rattle.std.proofs.Common.{sym, ◌∙◌}
 use Rattle.evl_kernel.specs.Records.{state_of, whereabouts}
-use Rattle.evl_kernel.proofs.CallbackLaws.{answers-kept}
+use Rattle.evl_kernel.proofs.CallbackLaws.{answers-kept, keeps-both}
 use Rattle.evl_kernel.proofs.HistoryLaws.{performed_ok}
 use Rattle.evl_kernel.proofs.SettlingLaws.{appends_before}
 use Rattle.evl_kernel.proofs.records.Records.perform.Goals as goal
@@ -15,3 +15,6 @@ returns-then-is_ok-clause-performed g c =
     performed_ok g.C.Handler.gives (whereabouts old) c.args.plays.now.items c.settle.new.plays.items (state_of old) (state_of mid) (state_of c.settle.new.self) c.args.caller.0 c.args.call.now
     c.answer-reply.result (sym c.is_ok.ensures.value ∙ c.if-is_ok.true) c.answer-reply.ensures.answered
     (appends_before g.C.Handler.gives (whereabouts mid) (whereabouts old) c.answer-reply.ensures.stands.brings c.args.plays.now.items c.settle.new.plays.items (state_of mid) (state_of c.settle.new.self) c.settle.ensures.settled)
+
+pub returns-then-is_ok-clause-stands : goal.returns-then-is_ok-clause-stands
+returns-then-is_ok-clause-stands g c = keeps-both c.args.self.now c.answer-reply.new.self c.settle.new.self c.answer-reply.ensures.stands c.settle.ensures.stands

@@ -1,52 +1,36 @@
-use Rattle.std.proofs.Common.{refl}
-use Rattle.evl_kernel.specs.RecordsInside.{records_view}
-use Rattle.evl_kernel.proofs.CallbackLaws.{keeps-old, keeps-both, allowed-old}
-use Rattle.evl_kernel.proofs.PlayLaws.{line_next, line_called, clock_next, none_next, clock_nearer, line_nearer, clock_old, line_old}
+use Rattle.std.proofs.Common.{◌≡◌, false, refl, sym, ◌∙◌}
+use Rattle.std.proofs.lemmas.Bool.{false≢true}
+use Rattle.evl_kernel.specs.Settling.{line_goes, next_play}
+use Rattle.evl_kernel.specs.Settled.{settling}
+use Rattle.evl_kernel.proofs.ItemLaws.{item_goes, line_behind}
 use Rattle.evl_kernel.proofs.records.Records.play_next.Goals as goal
+use Rattle.evl_kernel.proofs.records.Records.play_next.Goals.{then-of_clock+in_default, else-of_clock}
 
-pub returns-in-None-clause-ended : goal.returns-in-None-clause-ended
-returns-in-None-clause-ended g c =
-    rw (← c.self.view_is, c.in-None.ensures.plays.1) (none_next g.C.Handler.declared g.C.Handler.plan (records_view c.self.inside) c.args.inband c.in-None.ensures.plays.0, refl)
+pub returns-in-Some-clause-played : goal.returns-in-Some-clause-played
+returns-in-Some-clause-played g c = rw c.if-of_clock.true (item_goes c.args.self.now c.play_item.new.self c.args.inband c.in-Some.play c.in-Some.ensures.played)
 
-pub invariant_of-self-in-Some-Clock : goal.invariant_of-self-in-Some-Clock
-invariant_of-self-in-Some-Clock g c = record {
-  allowed = allowed-old (records_view c.self.inside) c.next.new.self (clock_old (records_view c.self.inside) c.next.new.self (rw c.in-Some-Clock.field-0-is at c.in-Some-Clock.ensures.plays).1) c.self.invariant.allowed;
-}
+pub play_line-requires-clause-answering : goal.play_line-requires-clause-answering
+play_line-requires-clause-answering g c = elim c.if-of_clock.branch [
+  | then-of_clock+in_default w ↦ rw (w.self-is, w.in_default.ensures.ended.1) c.requires.answering
+  | else-of_clock w ↦ rw w.self-is c.requires.answering
+]
 
-pub returns-in-Some-Clock-clause-played : goal.returns-in-Some-Clock-clause-played
-returns-in-Some-Clock-clause-played g c =
-    rw (← c.self.view_is) (clock_next g.C.Handler.declared g.C.Handler.plan (records_view c.self.inside) c.args.inband c.next.new.self (rw c.in-Some-Clock.field-0-is at c.in-Some-Clock.ensures.plays).0 (rw c.in-Some-Clock.field-0-is at c.in-Some-Clock.ensures.plays).1)
+-- nothing has changed
+unchanged : (g : _) (c : goal.After-play_line g) → c.if-of_clock.self ≡ c.args.self.now
+unchanged g c = elim c.if-of_clock.branch [
+  | then-of_clock+in_default w ↦ w.self-is ∙ w.in_default.ensures.ended.1
+  | else-of_clock w ↦ w.self-is
+]
 
-pub returns-in-Some-Clock-clause-nearer : goal.returns-in-Some-Clock-clause-nearer
-returns-in-Some-Clock-clause-nearer g c =
-    rw (← c.self.view_is) (clock_nearer g.C.Handler.declared g.C.Handler.plan (records_view c.self.inside) c.args.inband c.next.new.self (rw c.in-Some-Clock.field-0-is at c.in-Some-Clock.ensures.plays).0 (rw c.in-Some-Clock.field-0-is at c.in-Some-Clock.ensures.plays).1)
+-- a line is next
+behind : (g : _) (c : goal.After-play_line g) → next_play (settling c.args.self.now c.args.inband c.args.of_clock) ≡ line_goes (settling c.if-of_clock.self c.args.inband false)
+behind g c = elim c.if-of_clock.branch [
+  | then-of_clock+in_default w ↦ rw (w.self-is, w.in_default.ensures.ended.1) (line_behind c.args.self.now c.args.inband c.args.of_clock (λ _. w.in_default.ensures.ended.0))
+  | else-of_clock w ↦ rw w.self-is (line_behind c.args.self.now c.args.inband c.args.of_clock (λ e. absurd (false≢true (sym w.if-of_clock.false ∙ e))))
+]
 
-pub returns-in-Some-Clock-clause-stands : goal.returns-in-Some-Clock-clause-stands
-returns-in-Some-Clock-clause-stands g c =
-    rw (← c.self.view_is) (keeps-old (records_view c.self.inside) c.next.new.self (clock_old (records_view c.self.inside) c.next.new.self (rw c.in-Some-Clock.field-0-is at c.in-Some-Clock.ensures.plays).1))
+pub returns-clause-played : goal.returns-clause-played
+returns-clause-played g c = rw (behind g c) c.play_line.ensures.played
 
-pub invariant_of-self-in-Some-Line : goal.invariant_of-self-in-Some-Line
-invariant_of-self-in-Some-Line g c = record {
-  allowed = allowed-old (records_view c.self.inside) c.next.new.self (line_old g.C.Handler.declared g.C.Handler.plan g.C.Handler.gives (records_view c.self.inside) c.next.new.self c.args.inband c.date-date.result c.in-Some-Line.fire c.in-Some-Line.answer (rw c.in-Some-Line.field-0-is at c.in-Some-Line.ensures.plays)) c.self.invariant.allowed;
-}
-
-pub returns-in-Some-Line-clause-played : goal.returns-in-Some-Line-clause-played
-returns-in-Some-Line-clause-played g c =
-    rw (← c.self.view_is) (line_next g.C.Handler.declared g.C.Handler.plan g.C.Handler.gives (records_view c.self.inside) c.respond.new.self c.args.inband c.date-date.result c.in-Some-Line.fire c.in-Some-Line.answer c.next.new.self
-    (rw (← c.self.view_is) at c.requires.answering) (rw c.in-Some-Line.field-0-is at c.in-Some-Line.ensures.plays) c.respond.ensures.answered)
-
-pub returns-in-Some-Line-clause-nearer : goal.returns-in-Some-Line-clause-nearer
-returns-in-Some-Line-clause-nearer g c =
-    rw (← c.self.view_is) (line_nearer g.C.Handler.declared g.C.Handler.plan g.C.Handler.gives (records_view c.self.inside) c.respond.new.self c.args.inband c.date-date.result c.in-Some-Line.fire c.in-Some-Line.answer c.next.new.self
-    (rw (← c.self.view_is) at c.requires.answering) c.self.invariant.allowed (rw c.in-Some-Line.field-0-is at c.in-Some-Line.ensures.plays) (rw c.in-Some-Line.field-0-is at c.in-Some-Line.ensures.bounded) c.respond.ensures.answered)
-
-pub returns-in-Some-Line-clause-stands : goal.returns-in-Some-Line-clause-stands
-returns-in-Some-Line-clause-stands g c =
-    rw (← c.self.view_is) (keeps-both (records_view c.self.inside) _ c.respond.new.self
-    (keeps-old (records_view c.self.inside) c.next.new.self (line_old g.C.Handler.declared g.C.Handler.plan g.C.Handler.gives (records_view c.self.inside) c.next.new.self c.args.inband c.date-date.result c.in-Some-Line.fire c.in-Some-Line.answer (rw c.in-Some-Line.field-0-is at c.in-Some-Line.ensures.plays)))
-    c.respond.ensures.stands)
-
-pub returns-in-Some-Line-clause-called : goal.returns-in-Some-Line-clause-called
-returns-in-Some-Line-clause-called g c =
-    rw (← c.self.view_is) (line_called g.C.Handler.declared g.C.Handler.plan g.C.Handler.gives (records_view c.self.inside) c.args.inband c.date-date.result c.in-Some-Line.fire c.in-Some-Line.answer c.next.new.self
-    c.date-date.ensures.date (rw (← c.self.view_is) at c.requires.answering) (rw c.in-Some-Line.field-0-is at c.in-Some-Line.ensures.plays))
+pub returns-clause-ended : goal.returns-clause-ended
+returns-clause-ended g c = rw (behind g c, sym (unchanged g c)) c.play_line.ensures.ended

@@ -7,6 +7,8 @@ pub invariant_of-self-2 : goal.invariant_of-self-2
 invariant_of-self-2 g c = record {
   allowed = allowed-old (records_view c.self.inside)
       c.post.new.self (rw c.in_ok-post.ensures.ok.1 (old-posted c.self.inside.pipeline c.args.stage c.args.line.0)) c.self.invariant.allowed;
+  timers_allowed = c.self.invariant.timers_allowed;
+  clock_sound = c.self.invariant.clock_sound;
 }
 
 pub returns-clause-stands : goal.returns-clause-stands

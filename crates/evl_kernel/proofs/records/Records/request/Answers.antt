@@ -1,8 +1,9 @@
 use Rattle.std.proofs.Common.{◌≡◌, Some, None, sym, ◌∙◌, refl, arith}
 use Rattle.std.proofs.lemmas.Option.{slice_get_within}
 use Rattle.evl_pipeline.specs.Lines.{request_refusal}
+use Rattle.evl_kernel.proofs.TimerLaws.{timers_allowed-kept}
 use Rattle.evl_kernel.specs.RecordsInside.{records_view}
-use Rattle.evl_kernel.proofs.BankLaws.{asked, declared_is, request_refused, request_busy, requested_state, requested_keeps, requested_allowed}
+use Rattle.evl_kernel.proofs.BankLaws.{asked, declared_is, after_request, request_refused, request_busy, requested_state, requested_keeps, requested_allowed}
 use Rattle.evl_kernel.proofs.records.Records.request.Goals as goal
 
 never : {A : Type 0} {o : _} {x : A} → o ≡ None → o ≡ Some x → ⊥
@@ -48,6 +49,10 @@ invariant_of-self-in-Ok g c =
     record {
       allowed = rw ((c.in-Some-take_out.ensures.taken place there).1, c.in-Ok.ensures.ok.1)
           (requested_allowed r c.args.line.0 c.args.stage c.args.callback c.args.tag c.in-Some-take_out.taken place there none c.self.invariant.allowed);
+      timers_allowed = rw ((c.in-Some-take_out.ensures.taken place there).1)
+          (timers_allowed-kept r (after_request r c.args.line.0 c.args.stage c.args.callback c.args.tag c.in-Some-take_out.taken place) (λ n at h. (at, h, refl))
+          (requested_keeps r c.args.line.0 c.args.stage c.args.callback c.args.tag c.in-Some-take_out.taken place there has).told_is c.self.invariant.timers_allowed);
+      clock_sound = c.self.invariant.clock_sound;
     }
 
 pub returns-in-Ok-clause-served : goal.returns-in-Ok-clause-served

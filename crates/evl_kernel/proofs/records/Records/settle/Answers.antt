@@ -1,9 +1,10 @@
-use Rattle.std.proofs.Common.{◌≡◌, ◌+◌, ◌≤◌, ◌∷◌, [], ◌++◌, List, sym, ◌∙◌, subst, arith}
+use Rattle.std.proofs.Common.{◌≡◌, ◌+◌, ◌≤◌, false, ◌∷◌, [], ◌++◌, List, sym, ◌∙◌, subst, arith}
 use Rattle.evl_base.specs.declared.play.Play.{Play}
 use Rattle.evl_kernel.specs.RecordsInside.{records_view}
 use Rattle.evl_kernel.specs.Limits.{play_limit}
 use Rattle.evl_kernel.specs.Records.{state_of, whereabouts}
-use Rattle.evl_kernel.specs.Settled.{settling, left_to_play}
+use Rattle.evl_kernel.specs.Settled.{settling, left_after}
+use Rattle.evl_kernel.specs.Settling.{is_of_clock}
 use Rattle.evl_kernel.proofs.CallbackLaws.{keeps-none, keeps-both, answers-kept}
 use Rattle.evl_kernel.proofs.SettlingLaws.{PlaysOn, called_before, plays_on-none, plays_on-more, left_at_first, stalled_settles}
 use Rattle.evl_kernel.proofs.records.Records.settle.Goals as goal
@@ -14,9 +15,9 @@ returns-then-is_stalled-clause-settled g c =
 
 pub loop-play-init : goal.loop-play-init
 loop-play-init g c =
-    let first : left_to_play (settling c.args.self.now 0) ≤ play_limit = rw (← c.self.view_is) (left_at_first (records_view c.self.inside) c.is_stalled.ensures.sound) in
+    let first : left_after (state_of c.args.self.now) 0 ≤ play_limit = rw (← c.self.view_is) (left_at_first (records_view c.self.inside) c.is_stalled.ensures.sound c.self.invariant.clock_sound) in
     record {
-      path = plays_on-none g.C.Handler.gives (whereabouts c.args.self.now) (settling c.args.self.now 0) c.args.plays.now.items;
+      path = plays_on-none g.C.Handler.gives (whereabouts c.args.self.now) (settling c.args.self.now 0 false) c.args.plays.now.items;
       room = omega (arith, first, c.requires.room);
       few = omega (arith, first);
       capacity = omega arith;
@@ -33,9 +34,9 @@ loop-play-preserved g c =
     let pushed : c.push.new.self.items ≡ c.loop-play.plays.items ++ c.in-Some.play ∷ [] = rw c.unwrap.ensures at c.push.ensures.items in
     let near = rw (sym c.counted_inband-inband.ensures) at c.in-Some.ensures.nearer in
     record {
-      path = subst (λ (ps : List Play). PlaysOn g.C.Handler.gives (whereabouts c.args.self.now) (settling c.args.self.now 0) c.args.plays.now.items (settling c.play_next.new.self (c.loop-play.inband + c.counted_inband-inband.result)) ps) (sym pushed)
-          (plays_on-more g.C.Handler.gives (whereabouts c.args.self.now) (settling c.args.self.now 0) c.args.plays.now.items (settling c.loop-play.self c.loop-play.inband) c.loop-play.plays.items c.in-Some.play _
-          c.loop-play.invariant.path (rw (sym c.counted_inband-inband.ensures) at c.in-Some.ensures.played)
+      path = subst (λ (ps : List Play). PlaysOn g.C.Handler.gives (whereabouts c.args.self.now) (settling c.args.self.now 0 false) c.args.plays.now.items (settling c.play_next.new.self (c.loop-play.inband + c.counted_inband-inband.result) c.is_of_clock-of_clock.result) ps) (sym pushed)
+          (plays_on-more g.C.Handler.gives (whereabouts c.args.self.now) (settling c.args.self.now 0 false) c.args.plays.now.items (settling c.loop-play.self c.loop-play.inband c.loop-play.of_clock) c.loop-play.plays.items c.in-Some.play _
+          c.loop-play.invariant.path (rw (sym c.counted_inband-inband.ensures, sym c.is_of_clock-of_clock.ensures) at c.in-Some.ensures.played)
           (called_before g.C.Handler.gives (whereabouts c.loop-play.self) (whereabouts c.args.self.now) c.loop-play.invariant.stands.brings (state_of c.loop-play.self) c.in-Some.play c.in-Some.ensures.called));
       room = omega (arith, near);
       few = omega (arith, near);

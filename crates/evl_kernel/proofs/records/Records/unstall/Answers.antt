@@ -7,6 +7,8 @@ pub invariant_of-self : goal.invariant_of-self
 invariant_of-self g c = record {
   allowed = allowed-old (records_view c.self.inside)
       c.unstall.new.self (rw c.unstall.ensures.state (old-unstalled c.self.inside.pipeline c.args.stage)) c.self.invariant.allowed;
+  timers_allowed = c.self.invariant.timers_allowed;
+  clock_sound = c.self.invariant.clock_sound;
 }
 
 pub returns-clause-stands : goal.returns-clause-stands

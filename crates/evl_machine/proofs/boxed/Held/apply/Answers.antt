@@ -1,5 +1,7 @@
+use Rattle.std.proofs.Common.{ap}
+use Rattle.evl_machine.specs.Handles.{CallerState}
 use Rattle.evl_machine.proofs.Knowing.{answers_there}
 use Rattle.evl_machine.proofs.boxed.Held.apply.Goals as goal
 
 pub invariant_of-self : goal.invariant_of-self
-invariant_of-self g c = record { answering = answers_there (λ x. x.kinds.0) (λ x. x.plan.value) c.args.self.now.of.machine c.apply.new.self.machine c.apply.ensures.same.0 c.args.self.now.answering }
+invariant_of-self g c = record { answering = answers_there (λ x. x.kinds.0) (λ x. x.plan.value) c.args.self.now.of.caller.machine c.apply.new.self.caller.machine (ap (λ (s : CallerState _). s.machine) c.apply.ensures.same) c.args.self.now.answering }

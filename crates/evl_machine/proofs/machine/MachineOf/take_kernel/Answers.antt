@@ -1,29 +1,56 @@
-use Rattle.std.proofs.Common.{sym, ap, ◌∙◌, arith, []}
-use Rattle.evl_machine.specs.CoreRule.{CoreMe}
-use Rattle.evl_machine.specs.Handles.{MachineState}
-use Rattle.evl_machine.specs.Known.{past_of, seen}
-use Rattle.evl_machine.proofs.Knowing.{takes_known, with_first, first_in_me}
-use Rattle.evl_machine.proofs.Taking.{one_slot, takes_out}
+use Rattle.std.proofs.Common.{sym, ap, ◌∙◌, arith, subst}
+use mathlib.Core.Option.{none}
+use Rattle.atomic_table.specs.Table.{step}
+use Rattle.evl_machine.specs.Seats.{CoreMe}
+use Rattle.evl_machine.specs.Handles.{MachineState, account_of}
+use Rattle.evl_machine.specs.declared.views.Account.{Account}
+use Rattle.evl_machine.specs.Events.{Takes}
+use Rattle.evl_machine.specs.Known.{first_of, past_of, room_of, seen}
+use Rattle.evl_machine.proofs.Knowing.{takes_known, took_seen, first_in_me}
+use Rattle.evl_machine.proofs.Taking.{one_slot, takes_out, comes_out}
 use Rattle.evl_machine.proofs.machine.MachineOf.take_kernel.Goals as goal
 
 pub compare_exchange-requires : goal.compare_exchange-requires
 compare_exchange-requires g c = (
   c.requires.0 ∙ sym (ap (λ (m : MachineState _). m.id) c.self.view_is),
   omega (arith, c.self.invariant.0),
-  takes_known c.self.inside.core.shared.key.value _ _ c.args.seat.now.me (ap (λ (m : CoreMe _). m.1) c.requires.1) (ap (λ (m : CoreMe _). m.0.taken) c.requires.1) (_, [], ap (λ (m : CoreMe _). m.0.accounts) c.requires.1),
+  takes_known c.self.inside.core.shared.key.value _ _ c.args.seat.now.me _ c.requires.1 (step 0 0 0 1 none),
 )
 
 pub exchange-requires : goal.exchange-requires
 exchange-requires g c =
-    let t = c.compare_exchange.ensures.2.0.0 c.if-compare_exchange-ne0.false in (
+    let told = took_seen (step 0 0 0 1 none) _ _ _ _ c.requires.1 c.compare_exchange.ensures.2 in
+    let t = told.0 c.if-compare_exchange-ne0.false in (
       c.compare_exchange.ensures.0 ∙ (c.requires.0 ∙ sym (ap (λ (m : MachineState _). m.id) c.self.view_is)),
-      one_slot past_of _ _ (ap (λ (m : CoreMe _). m.1) t.1),
+      one_slot past_of room_of _ _ (ap (λ (m : CoreMe _). m.1) t.1),
     )
 
 pub returns-clause-same : goal.returns-clause-same
-returns-clause-same g c = (c.exchange.ensures.0 ∙ c.compare_exchange.ensures.0, c.exchange.ensures.1 ∙ c.compare_exchange.ensures.1, ap first_in_me c.exchange.ensures.3 ∙ c.compare_exchange.ensures.2.1)
+returns-clause-same g c =
+    let told = took_seen (step 0 0 0 1 none) _ _ _ _ c.requires.1 c.compare_exchange.ensures.2 in
+    (c.exchange.ensures.0 ∙ c.compare_exchange.ensures.0, c.exchange.ensures.1 ∙ c.compare_exchange.ensures.1, ap first_in_me c.exchange.ensures.3 ∙ told.2)
+
+pub returns-clause-event : goal.returns-clause-event
+returns-clause-event g c =
+    let told = took_seen (step 0 0 0 1 none) _ _ _ _ c.requires.1 c.compare_exchange.ensures.2 in
+    let found = c.if-compare_exchange-ne0.false in
+    let same = ap (λ m. account_of (seen m)) c.exchange.ensures.3 in
+    comes_out past_of room_of _ (seen c.args.seat.now.me) (seen c.compare_exchange.new.seat.me) _ _ _ (told.0 found) c.exchange.ensures.2
+    (subst (λ (a : Account). Takes (first_of c.args.seat.now.me.0) (account_of (seen c.args.seat.now.me)) a) (sym same) (told.3 found))
+
+pub returns-then-compare_exchange-ne0-clause-event : goal.returns-then-compare_exchange-ne0-clause-event
+returns-then-compare_exchange-ne0-clause-event g c = (took_seen (step 0 0 0 1 none) _ _ _ _ c.requires.1 c.compare_exchange.ensures.2).4 c.if-compare_exchange-ne0.true
 
 pub returns-clause-taken : goal.returns-clause-taken
 returns-clause-taken g c =
-    with_first _ _ _ _ _ c.compare_exchange.ensures.2.2 c.exchange.ensures.2
-    (takes_out past_of (seen c.args.seat.now.me) (seen c.compare_exchange.new.seat.me) (seen c.exchange.new.seat.me) _ (c.compare_exchange.ensures.2.0.0 c.if-compare_exchange-ne0.false) c.exchange.ensures.2 (ap seen c.exchange.ensures.3))
+    let told = took_seen (step 0 0 0 1 none) _ _ _ _ c.requires.1 c.compare_exchange.ensures.2 in
+    takes_out past_of room_of _ (seen c.args.seat.now.me) (seen c.compare_exchange.new.seat.me) (seen c.exchange.new.seat.me) _ (told.0 c.if-compare_exchange-ne0.false) c.exchange.ensures.2 (ap seen c.exchange.ensures.3)
+
+pub returns-then-compare_exchange-ne0-clause-same : goal.returns-then-compare_exchange-ne0-clause-same
+returns-then-compare_exchange-ne0-clause-same g c =
+    let told = took_seen (step 0 0 0 1 none) _ _ _ _ c.requires.1 c.compare_exchange.ensures.2 in
+    (c.compare_exchange.ensures.0, c.compare_exchange.ensures.1, told.2)
+
+pub returns-then-compare_exchange-ne0-clause-taken : goal.returns-then-compare_exchange-ne0-clause-taken
+returns-then-compare_exchange-ne0-clause-taken g c =
+    (took_seen (step 0 0 0 1 none) _ _ _ _ c.requires.1 c.compare_exchange.ensures.2).1 c.if-compare_exchange-ne0.true

@@ -16,5 +16,5 @@ fetch_or-requires g c =
     let one : t.table_id.words ≡ 1 = c.self.invariant.0 in (
       ap (λ (z : SeatState). z.table) c.seat.view_is ∙ c.requires.table ∙ sym (ap (λ (z : GateState). z.table) c.self.view_is),
       omega arith,
-      gate_allows t.key.limit t.table_id.slots s.seat.id s.number s.seat.me c.seat.invariant.0 claims tt (λ n. bit_or n 2147483648) (λ n. refl) st (does claims) (λ found u d. (refl, d)),
+      gate_allows t.key.limit t.key.seats t.table_id.slots s.seat.id s.number s.seat.me c.seat.invariant.0 claims tt (λ n. bit_or n 2147483648) (λ n. refl) st (does claims) (λ found u d. (refl, d)),
     )

@@ -2,19 +2,20 @@ use Rattle.std.proofs.Common.{◌≡◌, ℕ, ◌++◌, ◌∷◌, [], List, get
 use Rattle.std.specs.Prelude.{All}
 use mathlib.Core.Option.{some}
 use Rattle.atomic_table.specs.Table.{Me}
-use Rattle.evl_words.specs.Hands.{Hand}
+use Rattle.evl_words.specs.Hands.{Hand, hand_back}
 use Rattle.evl_words.specs.Parts.{OneWord}
 use Rattle.evl_words.specs.GateWorld.{GateView}
 use Rattle.evl_words.specs.GateRule.{GatePart}
-use Rattle.evl_words.specs.GateCalls.{GateState, SeatState, IsSeatOf, Closes, hand_back}
+use Rattle.evl_words.specs.GateCalls.{GateState, SeatState, IsSeatOf, place_of, Closes}
 use Rattle.evl_words.proofs.Dealing.{joins}
+use Rattle.evl_words.proofs.Counting.{once_in}
 use Rattle.evl_words.proofs.Sequences.{all_at, all_push, first_is, nil_is}
 use Rattle.evl_words.proofs.GateEnds.{gate_closes}
 use Rattle.evl_words.proofs.gate.StaxGate.close_with.Goals as goal
 
 pub loop-seat-init : goal.loop-seat-init
 loop-seat-init g c =
-    let one : c.last.inside.seat.me ≡ (hand_back (c.args.last ∷ []), []) = c.last.invariant.0 ∙ (λ i. (hand_back (c.last.view_is i ∷ []), [])) in (
+    let one : c.last.inside.seat.me ≡ (hand_back place_of (c.args.last ∷ []), []) = c.last.invariant.0 ∙ (λ i. (hand_back place_of (c.last.view_is i ∷ []), [])) in (
       c.args.last ∷ [],
       refl,
       ap (λ (z : SeatState). z.table) c.last.view_is ∙ c.requires.last.table ∙ sym (ap (λ (z : GateState). z.table) c.self.view_is),
@@ -34,7 +35,7 @@ join_seat-requires g c =
       ap (λ (z : SeatState). z.table) c.seat.view_is ∙ mine.table ∙ sym (ap (λ (z : GateState). z.table) c.self.view_is),
       ap (λ (z : Me (Unit {0}) (Hand GateView)). z.1) c.seat.invariant.0,
       omega arith,
-      joins (OneWord (GatePart t.key.limit)) c.loop-seat.hand.id c.loop-seat.hand.me.0 c.seat.inside.seat.id c.seat.inside.seat.me.0,
+      joins (OneWord (GatePart t.key.limit) t.key.seats) c.loop-seat.hand.id c.loop-seat.hand.me.0 c.seat.inside.seat.id c.seat.inside.seat.me.0,
     )
 
 pub returns : goal.returns
@@ -42,11 +43,13 @@ returns g c =
     let t = c.self.inside.table.shared in
     let h = c.loop-seat.invariant in
     let final = c.close_with-closed.ensures.values.2 in
-    let limit : t.key.limit ≡ c.args.self.limit = c.self.invariant.2 ∙ ap (λ (z : GateState). z.limit) c.self.view_is in
+    let gate : GateState = record { table = t.table_id; id = c.self.inside.id; limit = t.key.limit; seats = t.key.seats } in
+    let same : gate ≡ c.args.self = (λ i. record { table = t.table_id; id = c.self.inside.id; limit = c.self.invariant.2 i; seats = t.key.seats }) ∙ c.self.view_is in
     let none : c.loop-seat.seats.items ≡ [] = nil_is c.loop-seat.seats.items (omega (arith, c.loop-seat.seats.ok.0, c.in_default.ensures.cases.0)) in
     let all : h.0 ≡ c.args.seats.items ++ c.args.last ∷ [] = ap (λ l. l ++ h.0) (sym none) ∙ h.1 in
     let hand = ap (λ (z : Me (Unit {0}) (Hand GateView)). some z.0) h.3 in
-    let there = final.1.0.deals.same c.loop-seat.hand.id (hand_back h.0) (final.1.1 ∙ hand) in
-    let closes = gate_closes t.key.limit h.0 final.0 final.1.0 there in
+    let at = final.1.1 ∙ hand in
+    let there = final.1.0.deals.same c.loop-seat.hand.id (hand_back place_of h.0) at in
+    let closes = gate_closes gate h.0 final.0 final.1.0 there (once_in final.1.0.views final.0.views final.1.0.deals c.loop-seat.hand.id (hand_back place_of h.0) at) in
     let word : get_or final.0.words 0 0 ≡ c.word-word.result = ap (λ l. get_or l 0 0) final.2 ∙ first_is _ _ c.word-word.ensures in
-    subst (λ (z : ℕ × List SeatState × ℕ). Closes z.0 z.1 z.2) (λ i. (limit i, all i, word i)) closes
+    subst (λ (z : GateState × List SeatState × ℕ). Closes z.0 z.1 z.2) (λ i. (same i, all i, word i)) closes

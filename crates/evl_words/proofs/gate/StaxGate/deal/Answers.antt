@@ -13,12 +13,12 @@ pub split_seat-others-requires : goal.split_seat-others-requires
 split_seat-others-requires g c =
     let t = c.args.table.shared in
     let one : t.table_id.words ≡ 1 = c.requires.table.0 in
-    (c.loop-number.invariant.table, omega arith, splits (OneWord (GatePart t.key.limit)) c.loop-number.rest.id c.loop-number.rest.me.0)
+    (c.loop-number.invariant.table, omega arith, splits (OneWord (GatePart t.key.limit) t.key.seats) c.loop-number.rest.id c.loop-number.rest.me.0)
 
 pub push_reserved-requires : goal.push_reserved-requires
 push_reserved-requires g c =
     let h = c.loop-number.invariant in
-    let gate : GateState = record { table = c.args.table.shared.table_id; id = c.args.id; limit = c.args.limit } in
+    let gate : GateState = record { table = c.args.table.shared.table_id; id = c.args.id; limit = c.args.limit; seats = c.args.seats } in
     let l = ap length h.dealt ∙ length-map-range_with_len (new_seat gate) 0 c.loop-number.number in
     omega (arith, h.room, c.loop-number.dealt.ok.0)
 
@@ -27,7 +27,7 @@ loop-number-preserved g c =
     let h = c.loop-number.invariant in
     let n = c.loop-number.number in
     let e = c.split_seat-others.ensures in
-    let gate : GateState = record { table = c.args.table.shared.table_id; id = c.args.id; limit = c.args.limit } in
+    let gate : GateState = record { table = c.args.table.shared.table_id; id = c.args.id; limit = c.args.limit; seats = c.args.seats } in
     let hand = ap (λ (z : Me (Unit {0}) (Hand GateView)). z.0) h.hand ∙ hand_step n c.args.seats (newcomer c.args.limit) c.loop-number-test.true in
     let view : view_in c.split_seat-others.new.seat.me.0 ≡ newcomer c.args.limit = ap (λ (z : Me (Unit {0}) (Hand GateView)). view_in z.0) e.2 ∙ ap (λ z. view_in (first_of z)) hand in
     let table : c.split_seat-others.new.seat.table_id ≡ gate.table = e.0 ∙ h.table in

@@ -10,6 +10,6 @@ abbrev pub invariant-loop-number : goal.invariant-loop-number
 invariant-loop-number g l = record {
   table : l.rest.table_id ≡ l.table.shared.table_id;
   hand : l.rest.me ≡ (hand_from l.number (replicate (l.seats - l.number) (newcomer l.limit)), []);
-  dealt : l.dealt.items ≡ map (new_seat record { table = l.table.shared.table_id; id = l.id; limit = l.limit }) (range_with_len 0 l.number);
+  dealt : l.dealt.items ≡ map (new_seat record { table = l.table.shared.table_id; id = l.id; limit = l.limit; seats = l.seats }) (range_with_len 0 l.number);
   room : l.seats ≤ vec_capacity l.dealt;
 }

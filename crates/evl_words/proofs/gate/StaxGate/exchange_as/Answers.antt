@@ -33,7 +33,7 @@ compare_exchange-found-requires g c =
     let one : t.table_id.words ≡ 1 = c.self.invariant.0 in (
       ap (λ (z : SeatState). z.table) c.seat.view_is ∙ c.requires.mine.table ∙ sym (ap (λ (z : GateState). z.table) c.self.view_is),
       omega arith,
-      gate_allows t.key.limit t.table_id.slots s.seat.id s.number s.seat.me c.seat.invariant.0 (exchanges g.W.Wanting.stage c.args.word) (free, fits) (λ n. either (eqb n c.args.word) c.pack.result n)
+      gate_allows t.key.limit t.key.seats t.table_id.slots s.seat.id s.number s.seat.me c.seat.invariant.0 (exchanges g.W.Wanting.stage c.args.word) (free, fits) (λ n. either (eqb n c.args.word) c.pack.result n)
           (λ n. ap (λ z. either (eqb n c.args.word) z n) (sym new)) st (entered g.W.Wanting.stage)
           (λ found u d. ((refl, d), exchange_enters s.number (view_in s.seat.me.0) u g.W.Wanting.stage found c.args.word d)),
     )

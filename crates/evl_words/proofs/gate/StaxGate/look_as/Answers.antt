@@ -19,6 +19,6 @@ load-word-requires g c =
     let one : t.table_id.words ≡ 1 = c.self.invariant.0 in (
       ap (λ (z : SeatState). z.table) c.seat.view_is ∙ c.requires.mine.table ∙ sym (ap (λ (z : GateState). z.table) c.self.view_is),
       omega arith,
-      gate_allows t.key.limit t.table_id.slots s.seat.id s.number s.seat.me c.seat.invariant.0 (looks stage) free (λ n. n) (λ n. refl) (step t.table_id.slots 0 0 0 none) (looked stage)
+      gate_allows t.key.limit t.key.seats t.table_id.slots s.seat.id s.number s.seat.me c.seat.invariant.0 (looks stage) free (λ n. n) (λ n. refl) (step t.table_id.slots 0 0 0 none) (looked stage)
           (λ found u d. ((refl, d), looks_finds s.number v u stage found d)),
     )

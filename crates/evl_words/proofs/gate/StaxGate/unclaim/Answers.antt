@@ -16,5 +16,5 @@ fetch_and-requires g c =
     let one : t.table_id.words ≡ 1 = c.self.invariant.0 in (
       ap (λ (z : SeatState). z.table) c.seat.view_is ∙ c.requires.table ∙ sym (ap (λ (z : GateState). z.table) c.self.view_is),
       omega arith,
-      gate_allows t.key.limit t.table_id.slots s.seat.id s.number s.seat.me c.seat.invariant.0 unclaims tt (λ n. bit_and n 18446744071562067967) (λ n. refl) st (does unclaims) (λ found u d. (refl, d)),
+      gate_allows t.key.limit t.key.seats t.table_id.slots s.seat.id s.number s.seat.me c.seat.invariant.0 unclaims tt (λ n. bit_and n 18446744071562067967) (λ n. refl) st (does unclaims) (λ found u d. (refl, d)),
     )

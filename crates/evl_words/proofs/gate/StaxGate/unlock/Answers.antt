@@ -17,5 +17,5 @@ fetch_sub-requires g c =
     let one : t.table_id.words ≡ 1 = c.self.invariant.0 in (
       ap (λ (z : SeatState). z.table) c.seat.view_is ∙ c.requires.table ∙ sym (ap (λ (z : GateState). z.table) c.self.view_is),
       omega arith,
-      gate_allows t.key.limit t.table_id.slots s.seat.id s.number s.seat.me c.seat.invariant.0 leaves holds (λ n. (n + (2 ^ 64 - 1)) % 2 ^ 64) (λ n. refl) st (does leaves) (λ found u d. (refl, d)),
+      gate_allows t.key.limit t.key.seats t.table_id.slots s.seat.id s.number s.seat.me c.seat.invariant.0 leaves holds (λ n. (n + (2 ^ 64 - 1)) % 2 ^ 64) (λ n. refl) st (does leaves) (λ found u d. (refl, d)),
     )

@@ -13,7 +13,7 @@ pub split_seat-others-requires : goal.split_seat-others-requires
 split_seat-others-requires g c =
     let t = c.args.table.shared in
     let one : t.table_id.words ≡ 1 = c.requires.table.0 in
-    (c.loop-number.invariant.table, omega arith, splits (OneWord MutexPart) c.loop-number.rest.id c.loop-number.rest.me.0)
+    (c.loop-number.invariant.table, omega arith, splits (OneWord MutexPart t.key.seats) c.loop-number.rest.id c.loop-number.rest.me.0)
 
 pub push_reserved-requires : goal.push_reserved-requires
 push_reserved-requires g c =

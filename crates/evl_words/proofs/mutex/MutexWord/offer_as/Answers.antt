@@ -23,5 +23,5 @@ swap-requires g c =
     let one : t.table_id.words ≡ 1 = c.self.invariant.0 in (
       ap (λ (z : MutexSeatState). z.table) c.seat.view_is ∙ c.requires.mine.table ∙ sym (ap (λ (z : MutexState). z.table) c.self.view_is),
       omega arith,
-      mutex_allows t.table_id.slots s.seat.id s.number s.seat.me c.seat.invariant.0 (offers g.H.Handing.next g.H.Handing.more) (owner, within) (λ _. c.offered_word-word.result) (λ n. (λ i. offer_word (sym c.requires.handing.0 i) (sym c.requires.handing.1 i)) ∙ sym c.offered_word-word.ensures) (step t.table_id.slots 0 c.offered_word-word.result 0 none) (does (offers g.H.Handing.next g.H.Handing.more)) (λ found u d. (refl, d)),
+      mutex_allows t.key.seats t.table_id.slots s.seat.id s.number s.seat.me c.seat.invariant.0 (offers g.H.Handing.next g.H.Handing.more) (owner, within) (λ _. c.offered_word-word.result) (λ n. (λ i. offer_word (sym c.requires.handing.0 i) (sym c.requires.handing.1 i)) ∙ sym c.offered_word-word.ensures) (step t.table_id.slots 0 c.offered_word-word.result 0 none) (does (offers g.H.Handing.next g.H.Handing.more)) (λ found u d. (refl, d)),
     )

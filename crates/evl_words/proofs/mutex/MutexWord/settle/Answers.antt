@@ -18,5 +18,5 @@ swap-requires g c =
     let one : t.table_id.words ≡ 1 = c.self.invariant.0 in (
       ap (λ (z : MutexSeatState). z.table) c.seat.view_is ∙ c.requires.mine.table ∙ sym (ap (λ (z : MutexState). z.table) c.self.view_is),
       omega arith,
-      mutex_allows t.table_id.slots s.seat.id s.number s.seat.me c.seat.invariant.0 settles won (λ _. c.from-number.result + 1) (λ n. ap (λ z. z + 1) (sym number)) (step t.table_id.slots 0 (c.from-number.result + 1) 0 none) (does settles) (λ found u d. (refl, d)),
+      mutex_allows t.key.seats t.table_id.slots s.seat.id s.number s.seat.me c.seat.invariant.0 settles won (λ _. c.from-number.result + 1) (λ n. ap (λ z. z + 1) (sym number)) (step t.table_id.slots 0 (c.from-number.result + 1) 0 none) (does settles) (λ found u d. (refl, d)),
     )

@@ -19,5 +19,5 @@ compare_exchange-found-requires g c =
     let one : t.table_id.words ≡ 1 = c.self.invariant.0 in (
       ap (λ (z : MutexSeatState). z.table) c.seat.view_is ∙ c.requires.table ∙ sym (ap (λ (z : MutexState). z.table) c.self.view_is),
       omega arith,
-      mutex_allows t.table_id.slots s.seat.id s.number s.seat.me c.seat.invariant.0 tries stranger (λ n. either (eqb n 0) (c.from-number.result + 1) n) (λ n. ap (λ z. either (eqb n 0) (z + 1) n) (sym number)) (step t.table_id.slots 0 0 (c.from-number.result + 1) none) tried (λ found u d. ((refl, d), tried_of s.number v u found d)),
+      mutex_allows t.key.seats t.table_id.slots s.seat.id s.number s.seat.me c.seat.invariant.0 tries stranger (λ n. either (eqb n 0) (c.from-number.result + 1) n) (λ n. ap (λ z. either (eqb n 0) (z + 1) n) (sym number)) (step t.table_id.slots 0 0 (c.from-number.result + 1) none) tried (λ found u d. ((refl, d), tried_of s.number v u found d)),
     )

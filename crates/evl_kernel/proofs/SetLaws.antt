@@ -1,0 +1,24 @@
+-- A list after one of its elements was set.
+use Rattle.std.proofs.Common.{◌≡◌, ℕ, zero, suc, ◌==◌, true, false, List, [], ◌∷◌, Some, None, slice_get, slice_set, refl, sym, arith}
+use Rattle.std.proofs.lemmas.Bool.{false≢true}
+use Rattle.std.proofs.lemmas.Bool.Decides.{nat_tests}
+
+none_some : {A : Type 0} {x : A} → None ≡ Some x → ⊥
+none_some e = cc
+
+fewer : (m n : ℕ) → (suc m == suc n) ≡ false → (m == n) ≡ false
+fewer m n e = grind (arith, nat_tests)
+
+module _ {X : Type 0} where
+  pub set_here : (xs : List X) (n : ℕ) (c v : X) → slice_get xs n ≡ Some c → slice_get (slice_set xs n v) n ≡ Some v
+  set_here [] zero c v h = absurd (none_some h)
+  set_here [] (suc n) c v h = absurd (none_some h)
+  set_here (x ∷ xs) zero c v h = refl
+  set_here (x ∷ xs) (suc n) c v h = set_here xs n c v h
+
+  pub set_there : (xs : List X) (m n : ℕ) (v : X) → (m == n) ≡ false → slice_get (slice_set xs m v) n ≡ slice_get xs n
+  set_there [] m n v e = refl
+  set_there (x ∷ xs) zero zero v e = absurd (false≢true (sym e))
+  set_there (x ∷ xs) zero (suc n) v e = refl
+  set_there (x ∷ xs) (suc m) zero v e = refl
+  set_there (x ∷ xs) (suc m) (suc n) v e = set_there xs m n v (fewer m n e)

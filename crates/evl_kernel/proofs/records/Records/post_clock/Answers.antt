@@ -1,0 +1,15 @@
+use Rattle.evl_kernel.proofs.CallbackLaws.{keeps-old, allowed-old}
+use Rattle.evl_kernel.proofs.TimerLaws.{old-tried}
+use Rattle.evl_kernel.specs.RecordsInside.{records_view}
+use Rattle.evl_kernel.proofs.records.Records.post_clock.Goals as goal
+
+pub invariant_of-self : goal.invariant_of-self
+invariant_of-self g c = record {
+  allowed = allowed-old (records_view c.self.inside) c.post.new.self (old-tried c.self.inside.pipeline c.post.new.self c.post.result c.post.ensures.ok c.post.ensures.unchanged) c.self.invariant.allowed;
+  timers_allowed = c.self.invariant.timers_allowed;
+  clock_sound = c.self.invariant.clock_sound;
+}
+
+pub returns-clause-stands : goal.returns-clause-stands
+returns-clause-stands g c =
+    rw (← c.self.view_is) (keeps-old (records_view c.self.inside) c.post.new.self (old-tried c.self.inside.pipeline c.post.new.self c.post.result c.post.ensures.ok c.post.ensures.unchanged))

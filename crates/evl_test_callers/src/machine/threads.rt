@@ -1,0 +1,222 @@
+//! Callers on two host threads.
+ghost use Rattle.std.specs.Prelude.{◌≡◌, ◌≤◌};
+ghost use Rattle.evl_kernel.specs.Callbacks.{AnswersAsTold};
+
+use super::{get, put};
+use evl_base::{Call, LineNo, Refusal, Reply, SemId};
+use evl_machine::{Caller, CallerOf, Machine, MachineOf};
+use evl_pipeline::Handler;
+use std::alloc::{Allocator, Global};
+use std::sync::Wait;
+use std::sync::atomic::{AtomicBool, Ordering};
+use std::thread;
+use std::thread::Threads;
+
+// The most turns that a host thread waits for another one's sign.
+const MOST_TURNS: u32 = 1_000_000_000;
+
+// Where each of two host threads tells the other how far it is.
+#[derive(Drop)]
+pub struct Signs {
+    pub taken: AtomicBool,
+    pub tried: AtomicBool,
+}
+
+impl Signs {
+    pub fn new() -> Signs {
+        Signs {
+            taken: AtomicBool::new(false),
+            tried: AtomicBool::new(false),
+        }
+    }
+}
+
+fn wait_for(sign: &AtomicBool) {
+    for _ in 0..MOST_TURNS {
+        if sign.load(Ordering::SeqCst) {
+            return;
+        }
+        thread::yield_now();
+    }
+}
+
+// What a host thread does with its caller.
+#[derive(Clone, Copy)]
+pub enum Task {
+    // Puts so often.
+    Puts(u32),
+    // Lets an event arrive on a line so often.
+    Arrivals(u32, LineNo),
+    // Takes the kernel, and gives it back only once the other thread has tried.
+    Holds,
+    // Tries three calls, once the other thread has the kernel.
+    Tries,
+}
+
+// What goes to a host thread and works there on what all threads share.
+trait Worker<M>: Drop {
+    ghost fits: { Self → M → Type 0 };
+
+    // It comes back with the number of its calls that were answered as the task wants.
+    fn work<R: Wait>(self, rt: &R, shared: &M, signs: &Signs, task: Task) -> (Self, u32)
+        requires { fits self shared.now }
+        ensures { fits result.0 shared.now };
+}
+
+impl<C: Handler, A: Allocator> Worker<MachineOf<C, A>> for CallerOf<C> {
+    ghost use Rattle.std.specs.Prelude.{◌≡◌};
+    ghost use Rattle.evl_kernel.specs.Callbacks.{AnswersAsTold};
+
+    ghost fits = { λ c m. (c.machine ≡ m) × AnswersAsTold C.declared C.plan m.first.callbacks };
+
+    fn work<R: Wait>(
+        self,
+        rt: &R,
+        shared: &MachineOf<C, A>,
+        signs: &Signs,
+        task: Task,
+    ) -> (CallerOf<C>, u32) {
+        match task {
+            Task::Puts(times) => called(rt, shared, self, put(), times),
+            Task::Arrivals(times, line) => called(rt, shared, self, Call::Arrive { line }, times),
+            Task::Holds => holds(shared, self, signs),
+            Task::Tries => tries(shared, self, signs),
+        }
+    }
+}
+
+// Makes a call so often, each time however long another caller has the core, and counts how many were done.
+fn called<C: Handler, A: Allocator, R: Wait>(
+    rt: &R,
+    machine: &MachineOf<C, A>,
+    mut caller: CallerOf<C>,
+    call: Call,
+    times: u32,
+) -> (CallerOf<C>, u32)
+    requires machine { caller.machine ≡ machine.now }
+    requires answering { AnswersAsTold C.declared C.plan machine.now.first.callbacks }
+    ensures machine { result.0.machine ≡ machine.now }
+{
+    let mut done = 0;
+    for _ in 0..times {
+        if let Ok(Reply::Done) = machine.call(rt, &mut caller, copy_of(&call)) {
+            done += 1;
+        }
+    }
+    (caller, done)
+}
+
+fn copy_of(call: &Call) -> Call {
+    match call {
+        Call::Arrive { line } => Call::Arrive { line: *line },
+        _ => put(),
+    }
+}
+
+// Has the kernel until the other thread has tried; 1 where it was free.
+fn holds<C: Handler, A: Allocator>(
+    machine: &MachineOf<C, A>,
+    caller: CallerOf<C>,
+    signs: &Signs,
+) -> (CallerOf<C>, u32)
+    requires { caller.machine ≡ machine.now }
+    ensures { result.0.machine ≡ machine.now }
+{
+    match machine.take(caller) {
+        Err(caller) => (caller, 0),
+        Ok(held) => {
+            signs.taken.store(true, Ordering::SeqCst);
+            wait_for(&signs.tried);
+            (held.give(), 1)
+        }
+    }
+}
+
+// How many of three calls were told that the core is busy.
+fn tries<C: Handler, A: Allocator>(
+    machine: &MachineOf<C, A>,
+    mut caller: CallerOf<C>,
+    signs: &Signs,
+) -> (CallerOf<C>, u32)
+    requires machine { caller.machine ≡ machine.now }
+    requires answering { AnswersAsTold C.declared C.plan machine.now.first.callbacks }
+    ensures machine { result.0.machine ≡ machine.now }
+{
+    wait_for(&signs.taken);
+    let put_busy = is_busy(machine, &mut caller, put());
+    let get_busy = is_busy(machine, &mut caller, get());
+    let peek_busy = is_busy(machine, &mut caller, Call::Peek { sem: SemId(0) });
+    signs.tried.store(true, Ordering::SeqCst);
+    (
+        caller,
+        u32::from(put_busy) + u32::from(get_busy) + u32::from(peek_busy),
+    )
+}
+
+fn is_busy<C: Handler, A: Allocator>(
+    machine: &MachineOf<C, A>,
+    caller: &mut CallerOf<C>,
+    call: Call,
+) -> bool
+    requires machine { caller.old.machine ≡ machine.now }
+    requires answering { AnswersAsTold C.declared C.plan machine.now.first.callbacks }
+    ensures { caller.new.machine ≡ caller.old.machine }
+{
+    matches!(machine.try_call(caller, call), Err(Refusal::CoreBusy))
+}
+
+// Both work at once.
+fn both_work<M: Sync, W: Worker<M> + Send, R: Threads + Wait + Sync>(
+    rt: &R,
+    shared: &M,
+    first: W,
+    second: W,
+    signs: &Signs,
+    tasks: (Task, Task),
+) -> ((W, u32), (W, u32))
+    requires { W.fits first shared.now × W.fits second shared.now }
+    ensures { W.fits result.0.0 shared.now × W.fits result.1.0 shared.now }
+{
+    thread::join(
+        rt,
+        move || -> (W, u32)
+            requires { W.fits first shared.now }
+            ensures { W.fits result.0 shared.entry.now }
+        { first.work(rt, shared, signs, tasks.0) },
+        move || -> (W, u32)
+            requires { W.fits second shared.now }
+            ensures { W.fits result.0 shared.entry.now }
+        { second.work(rt, shared, signs, tasks.1) },
+    )
+}
+
+// Both callers work at once on a machine.
+fn both_call<C: Handler + Send, R: Threads + Wait + Sync>(
+    rt: &R,
+    machine: &MachineOf<C, Global>,
+    first: CallerOf<C>,
+    second: CallerOf<C>,
+    signs: &Signs,
+    tasks: (Task, Task),
+) -> ((CallerOf<C>, u32), (CallerOf<C>, u32))
+    requires machine { (first.machine ≡ machine.now) × (second.machine ≡ machine.now) }
+    requires answering { AnswersAsTold C.declared C.plan machine.now.first.callbacks }
+    ensures { (result.0.0.machine ≡ machine.now) × (result.1.0.machine ≡ machine.now) }
+{
+    both_work(rt, machine, first, second, signs, tasks)
+}
+
+// The same on a machine of stored callbacks.
+pub fn on_two_threads<R: Threads + Wait + Sync>(
+    rt: &R,
+    machine: &Machine,
+    first: Caller,
+    second: Caller,
+    tasks: (Task, Task),
+) -> ((Caller, u32), (Caller, u32))
+    requires { (first.machine ≡ machine.now.of) × (second.machine ≡ machine.now.of) }
+    ensures { (result.0.0.machine ≡ machine.now.of) × (result.1.0.machine ≡ machine.now.of) }
+{
+    let signs = Signs::new();
+    both_call(rt, &machine.of, first, second, &signs, tasks)
+}

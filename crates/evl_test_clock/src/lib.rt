@@ -1,0 +1,7 @@
+//! Tests of the clock, as a caller uses it.
+#![tactic(auto)]
+
+#[cfg(test)]
+mod clocks;
+#[cfg(test)]
+mod handlers;

@@ -1,0 +1,13 @@
+//! Tests of the pipeline and of the kernel, as a caller uses them.
+#![tactic(auto)]
+
+#[cfg(test)]
+mod fires;
+#[cfg(test)]
+mod growths;
+#[cfg(test)]
+mod handlers;
+#[cfg(test)]
+mod kernels;
+#[cfg(test)]
+mod pipelines;

@@ -1,0 +1,44 @@
+//! What a pass and a seat of a mutex tell.
+ghost use Rattle.std.specs.Prelude.{◌≡◌};
+
+use super::{MutexPass, MutexSeat};
+use evl_base::MutexId;
+
+impl MutexPass {
+    /// The mutex that a seat holds by it (this profile).
+    pub fn mutex(&self) -> MutexId
+        ensures { result ≡ self.now.mutex }
+    {
+        self.mutex
+    }
+
+    /// The number of the seat that holds the mutex by it, from 0 to 63 (this profile).
+    pub fn seat(&self) -> u16
+        ensures { result ≡ self.now.seat }
+    {
+        self.seat
+    }
+}
+
+impl MutexSeat {
+    /// The mutex that it was made with (this profile).
+    pub fn mutex(&self) -> MutexId
+        ensures { result ≡ self.now.mutex }
+    {
+        self.mutex
+    }
+
+    /// Its number among the mutex's seats, from 0 to 63 (this profile).
+    pub fn number(&self) -> u16
+        ensures { result ≡ self.now.number }
+    {
+        self.number
+    }
+
+    /// How often it holds the mutex, from 0 to 255 (this profile).
+    pub fn depth(&self) -> u8
+        ensures { result ≡ self.now.depth }
+    {
+        self.depth
+    }
+}
