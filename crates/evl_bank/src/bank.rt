@@ -1,7 +1,9 @@
 //! The callbacks of the program, each answering just its plan.
-ghost use Rattle.std.specs.Prelude.{◌≡◌, ℕ, [], ◌∷◌, true, false, if◌then◌else◌, OnErr, IfOk};
+ghost use Rattle.std.specs.Prelude.{◌≡◌, ◌≤◌, ℕ, [], ◌∷◌, true, false, if◌then◌else◌, length, map, None, OnErr, IfOk, is_some};
+ghost use Rattle.evl_shell.specs.Words.{file_of};
 ghost use Rattle.evl_pipeline.specs.Plans.{answer_of};
 ghost use Rattle.evl_shell.specs.Plays.{Plays};
+ghost use Rattle.evl_shell.specs.Programs.{Answers};
 ghost use Rattle.evl_bank.specs.Bank.{plan_of, plan_of_none, program_bank};
 
 use arrayvec::ArrayVec;
@@ -11,6 +13,7 @@ use evl_pipeline::{Action, Answer, Callback, Fire, Plan};
 use evl_shell::{Fault, Sink, Stop, play, stopped};
 use std::alloc::{AllocError, Global};
 use std::io::{Read, Write};
+use std::rt::Files;
 
 const POST: Action = Action::PostSem(SemId(0));
 
@@ -83,15 +86,18 @@ fn plan(accepts: u64, every: u64, action: Action) -> Plan
     Plan { accepts, rows }
 }
 
-// Plays the scenario that the input holds over the program's bank, where there is memory for the bank.
-fn play_over_bank<R: Read, S: Sink, E: Write>(
+// Does what the words ask for over the program's bank, where there is memory for the bank.
+fn play_over_bank<F: Files, R: Read, S: Sink, E: Write>(
+    rt: &F,
     alloc: Global,
+    words: &[&str],
     input: &mut R,
     out: &mut S,
     err: &mut E,
 ) -> Result<u8, AllocError>
     requires { S.has_failed out.old ≡ false }
-    ensures played { IfOk result (λ status. Plays program_bank (R.remaining input.old) (S.told out.old) (S.told out.new) (S.has_failed out.new) (E.contents err.old) (E.contents err.new) status) }
+    ensures answers { IfOk result (λ status. Answers (map (λ s. s.now) words.now) program_bank (R.remaining input.old) (S.told out.old) (S.told out.new) (S.has_failed out.new) (E.contents err.old) (E.contents err.new) status) }
+    ensures untouched { is_some (file_of (map (λ s. s.now) words.now)) ≡ true → input.new ≡ input.old }
     ensures out { OnErr result (out.new ≡ out.old) }
     ensures err { OnErr result (err.new ≡ err.old) }
 {
@@ -118,20 +124,24 @@ fn play_over_bank<R: Read, S: Sink, E: Write>(
         Callback::new(ActionKinds::STOP_TIMER, &plan(2, 1, STOP), six),
         Callback::new(none, &quiet_plan(), seven),
     ]?;
-    Ok(play(alloc, bank, input, out, err))
+    Ok(play(rt, alloc, words, bank, input, out, err))
 }
 
-/// Plays a scenario as `play` does, over the program's bank (this profile).
-pub fn play_program<R: Read, S: Sink, E: Write>(
+/// Does what the words ask for as `play` does, over the program's bank (this profile).
+pub fn play_program<F: Files, R: Read, S: Sink, E: Write>(
+    rt: &F,
     alloc: Global,
+    words: &[&str],
     input: &mut R,
     out: &mut S,
     err: &mut E,
 ) -> u8
     requires { S.has_failed out.old ≡ false }
-    ensures { Plays program_bank (R.remaining input.old) (S.told out.old) (S.told out.new) (S.has_failed out.new) (E.contents err.old) (E.contents err.new) result }
+    ensures answers { Answers (map (λ s. s.now) words.now) program_bank (R.remaining input.old) (S.told out.old) (S.told out.new) (S.has_failed out.new) (E.contents err.old) (E.contents err.new) result }
+    ensures untouched { is_some (file_of (map (λ s. s.now) words.now)) ≡ true → input.new ≡ input.old }
+    ensures plain { length words.now ≤ 1 → Plays program_bank None (R.remaining input.old) (S.told out.old) (S.told out.new) (S.has_failed out.new) (E.contents err.old) (E.contents err.new) result }
 {
-    match play_over_bank(alloc, input, out, err) {
+    match play_over_bank(rt, alloc, words, input, out, err) {
         Ok(status) => status,
         Err(_) => stopped(err, Stop::Broken(Fault::Memory)),
     }

@@ -2,8 +2,9 @@
 use Rattle.std.specs.Prelude.{ℕ, List, ◌++◌, codes}
 use Rattle.std.specs.Fmt.{decimal}
 use Rattle.evl_base.specs.declared.call.Call.{Call}
-use Rattle.evl_base.specs.declared.call.Call.TheVariants.{Request, Free, Arrive, Post, Stall, Unstall, Tick, Now, NewTimer, StartTimer, StopTimer, DropTimer, Overruns, TryGet, Put, Peek}
+use Rattle.evl_base.specs.declared.call.Call.TheVariants.{Request, Free, Arrive, Post, Stall, Unstall, Tick, Now, NewTimer, StartTimer, StopTimer, DropTimer, Overruns, Attach, Detach, SetPolicy, SetStage, Pick, RankOf, TryGet, Put, Peek}
 use Rattle.evl_base.specs.declared.stage.Stage.{Stage}
+use Rattle.evl_base.specs.Policy.{policy_text}
 use Rattle.evl_base.specs.Stage.{stage_text}
 
 abbrev pub line_and_stage_text : ℕ → Stage → List ℕ
@@ -31,6 +32,12 @@ call_text (StartTimer timer date interval) =
 call_text (StopTimer timer) = codes "stop_timer timer=" ++ decimal timer.0
 call_text (DropTimer timer) = codes "drop_timer timer=" ++ decimal timer.0
 call_text (Overruns timer) = codes "overruns timer=" ++ decimal timer.0
+call_text (Attach policy stage) = codes "attach policy=" ++ (policy_text policy ++ (codes " stage=" ++ stage_text stage))
+call_text Detach = codes "detach"
+call_text (SetPolicy policy) = codes "set_policy policy=" ++ policy_text policy
+call_text (SetStage stage) = codes "set_stage stage=" ++ stage_text stage
+call_text Pick = codes "pick"
+call_text (RankOf thread) = codes "rank_of thread=" ++ decimal thread.0
 call_text (TryGet sem) = codes "try_get sem=" ++ decimal sem.0
 call_text (Put sem) = codes "put sem=" ++ decimal sem.0
 call_text (Peek sem) = codes "peek sem=" ++ decimal sem.0

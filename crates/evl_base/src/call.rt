@@ -1,7 +1,8 @@
 //! The calls of the kernel.
 ghost use Rattle.std.specs.Prelude.{◌≡◌, Some};
 
-use crate::numbers::{LineNo, SemId, TimerId};
+use crate::numbers::{LineNo, SemId, ThreadId, TimerId};
+use crate::policy::Policy;
 use crate::stage::Stage;
 use std::fmt;
 
@@ -66,6 +67,27 @@ pub enum Call {
     Overruns {
         timer: TimerId,
     },
+    /// Makes the caller a thread of the core, with a policy, on a stage.
+    Attach {
+        policy: Policy,
+        stage: Stage,
+    },
+    /// Takes the caller out of the core.
+    Detach,
+    /// Sets the caller's policy.
+    SetPolicy {
+        policy: Policy,
+    },
+    /// Moves the caller to a stage.
+    SetStage {
+        stage: Stage,
+    },
+    /// Asks which thread is picked.
+    Pick,
+    /// Asks for a thread's effective rank.
+    RankOf {
+        thread: ThreadId,
+    },
     /// Lowers a semaphore's count.
     TryGet {
         sem: SemId,
@@ -126,6 +148,15 @@ impl Call {
             Call::StopTimer { timer } => Call::StopTimer { timer: *timer },
             Call::DropTimer { timer } => Call::DropTimer { timer: *timer },
             Call::Overruns { timer } => Call::Overruns { timer: *timer },
+            Call::Attach { policy, stage } => Call::Attach {
+                policy: *policy,
+                stage: *stage,
+            },
+            Call::Detach => Call::Detach,
+            Call::SetPolicy { policy } => Call::SetPolicy { policy: *policy },
+            Call::SetStage { stage } => Call::SetStage { stage: *stage },
+            Call::Pick => Call::Pick,
+            Call::RankOf { thread } => Call::RankOf { thread: *thread },
             Call::TryGet { sem } => Call::TryGet { sem: *sem },
             Call::Put { sem } => Call::Put { sem: *sem },
             Call::Peek { sem } => Call::Peek { sem: *sem },
@@ -200,6 +231,15 @@ impl fmt::Display for Call {
             Call::Overruns { timer } => {
                 let timer = timer.0;
                 write!(f, "overruns timer={timer}")
+            }
+            Call::Attach { policy, stage } => { write!(f, "attach policy={policy} stage={stage}") }
+            Call::Detach => write!(f, "detach"),
+            Call::SetPolicy { policy } => write!(f, "set_policy policy={policy}"),
+            Call::SetStage { stage } => write!(f, "set_stage stage={stage}"),
+            Call::Pick => write!(f, "pick"),
+            Call::RankOf { thread } => {
+                let thread = thread.0;
+                write!(f, "rank_of thread={thread}")
             }
             Call::TryGet { sem } => {
                 let sem = sem.0;

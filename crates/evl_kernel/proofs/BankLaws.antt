@@ -9,6 +9,7 @@ use Rattle.evl_base.specs.declared.refusal.Refusal.{Refusal}
 use Rattle.evl_base.specs.declared.refusal.Refusal.TheVariants.{Unknown, Invalid, Busy}
 use Rattle.evl_base.specs.declared.reply.Reply.TheVariants.{Done}
 use Rattle.evl_pipeline.specs.declared.plan.Plan.{Plan}
+use Rattle.evl_pipeline.specs.Limits.{line_count}
 use Rattle.evl_pipeline.specs.Plans.{is_allowed}
 use Rattle.evl_pipeline.specs.Lines.{Pipeline, Installed, installed_at, request_refusal, requested, free_refusal, freed}
 use Rattle.evl_kernel.specs.declared.bank.BankPlace.{BankPlace}
@@ -204,7 +205,7 @@ module _ {C : Type 0} where
 
 -- a request that isn't refused brings allowed kinds only
 pub request_allowed : {X : Type 0} (p : Pipeline X) (line : ℕ) (stage : Stage) (kinds : ℕ) → request_refusal p line stage kinds ≡ None → is_allowed stage kinds ≡ true
-request_allowed p line stage kinds = by (nat_lt line 1024) (line == 0) (is_allowed stage kinds) (is_some (installed_at p stage line))
+request_allowed p line stage kinds = by (nat_lt line line_count) (line == 0) (is_allowed stage kinds) (is_some (installed_at p stage line))
   where
     by : (there clock allowed stands : Bool)
         → (if not there then Some Unknown else (if clock || not allowed then Some Invalid else (if stands then Some Busy else None))) ≡ None → allowed ≡ true

@@ -1,14 +1,13 @@
 -- Other names for what stands in timers: each change of the clock comes to the same before and after the renaming.
-use Rattle.std.proofs.Common.{◌≡◌, ℕ, zero, suc, ◌+◌, nat_lt, Bool, true, false, cond, List, [], ◌∷◌, ◌++◌, length, map, replicate, Option, Some, None, is_some, is_none, slice_index_or, if◌then◌else◌, refl, sym, ap, ◌∙◌}
-use Rattle.std.specs.List.{position, position_or_len}
+use Rattle.std.proofs.Common.{◌≡◌, ℕ, zero, suc, ◌+◌, nat_lt, Bool, cond, List, [], ◌∷◌, ◌++◌, length, map, replicate, Option, Some, None, is_some, is_none, if◌then◌else◌, refl, sym, ap, ◌∙◌}
+use Rattle.std.specs.List.{position_or_len}
 use Rattle.std.specs.Option.{option_map}
 use Rattle.std.proofs.lemmas.List.{length-map, map-set}
-use Rattle.evl_base.specs.declared.refusal.Refusal.{Refusal}
 use Rattle.evl_base.specs.declared.refusal.Refusal.TheVariants.{Unknown}
 use Rattle.evl_clock.specs.declared.due.Item.{Item}
 use Rattle.evl_clock.specs.declared.timer.Timer.{Timer}
 use Rattle.evl_clock.specs.Timers.{made, after_fire, started, stopped}
-use Rattle.evl_clock.specs.Clocks.{Clock, opening, timer_at, with_timer, free_place, timer_refusal, with_new_timer, changed, start, stop, dropped, advanced, with_deadline}
+use Rattle.evl_clock.specs.Clocks.{Clock, opening, timer_at, with_timer, free_place, timer_refusal, with_new_timer, changed, start, stop, dropped}
 use Rattle.evl_clock.specs.ClockSteps.{fired}
 use Rattle.evl_clock.specs.Dues.{all_due, due_from, timer, deadline, timer_date, earliest, next_due, is_due, due_count}
 use Rattle.evl_kernel.specs.Renamed.{named_timer, renamed_clock}

@@ -1,7 +1,6 @@
 -- What holds of every state that steps on the clock leave, and of every state that the play of a due item leaves.
-use Rattle.std.proofs.Common.{◌≡◌, ℕ, nat_le, Bool, true, false, not, List, [], ◌∷◌, Option, Some, None, Ok, Err, unwrap_or, slice_get, if◌then◌else◌, refl, sym, ap, ◌∙◌, subst}
+use Rattle.std.proofs.Common.{◌≡◌, ℕ, nat_le, Bool, true, false, not, [], ◌∷◌, Option, Some, None, unwrap_or, slice_get, if◌then◌else◌, refl, sym, subst}
 use Rattle.std.proofs.lemmas.Bool.{false≢true}
-use Rattle.evl_base.specs.declared.refusal.Refusal.{Refusal}
 use Rattle.evl_base.specs.declared.refusal.Refusal.TheVariants.{Invalid, Busy}
 use Rattle.evl_pipeline.specs.declared.answer.Answer.{Answer}
 use Rattle.evl_clock.specs.declared.due.Item.{Item}
@@ -12,19 +11,21 @@ use Rattle.evl_clock.specs.Clocks as clocks
 use Rattle.evl_clock.specs.ClockSteps.{fired}
 use Rattle.evl_clock.specs.Dues.{next_due, is_due}
 use Rattle.evl_kernel.specs.States.{State, Banked, with_clock, moved, come_home}
-use Rattle.evl_kernel.specs.Effects.{Effect, done, unless}
+use Rattle.evl_kernel.specs.Effects.{Effect, unless}
 use Rattle.evl_kernel.specs.TimerCalls as timer_call
+use Rattle.evl_kernel.specs.ThreadCalls as thread_call
 use Rattle.evl_kernel.specs.Families.{ClockStep, tick, read_date, new_timer, start_timer, stop_timer, drop_timer, overruns, clock_effect}
-use Rattle.evl_kernel.specs.Settling.{answered, timer_given, timer_there, timer_played, no_timer, item_played}
+use Rattle.evl_kernel.specs.Settling.{answered, timer_given, timer_played, no_timer, item_played}
 use Rattle.evl_kernel.proofs.LeavesLaws.{Leaves, leaves-refused, leaves-known}
 use Rattle.evl_kernel.proofs.DueLaws.{timer_found}
 
 none_some : {A : Type 0} {x : A} → None ≡ Some x → ⊥
 none_some e = cc
 
--- each change of the clock keeps this
+-- each change of the clock keeps this, and so does whatever a tick costs
 pub record KeptByClock (P : State → Type 0) : Type 0 where
   pub posted : (s : State) → P s → P (timer_call.posted_clock s)
+  pub charged : (s : State) (before delta now : ℕ) → P s → P (thread_call.paid_between s before delta now)
   pub advanced : (s : State) (delta : ℕ) → P s → P (with_clock s (clocks.advanced s.clock delta))
   pub made : (s : State) (n number tag : ℕ) (b : Banked) → P s → slice_get s.bank number ≡ Some b → b.home ≡ true → is_timer_allowed b.handler.kinds ≡ true → clocks.free_place s.clock ≡ Some n
       → P (moved (with_clock s (clocks.with_new_timer s.clock n number tag)) false number b)
@@ -68,7 +69,8 @@ module _ (P : State → Type 0) (k : KeptByClock P) where
   leaves-stop s n h = leaves-refused P (clocks.timer_refusal s.clock n) _ (λ passed. k.stopped s n h)
 
   pub leaves-clock : (s : State) (step : ClockStep) → P s → Leaves P (clock_effect s step)
-  leaves-clock s (tick delta) h = leaves-refused P (clocks.advance_refusal s.clock delta) _ (λ passed. alarmed (with_clock s (clocks.advanced s.clock delta)) (k.advanced s delta h))
+  leaves-clock s (tick delta) h = leaves-refused P (clocks.advance_refusal s.clock delta) _ (λ passed.
+      alarmed (timer_call.later (timer_call.paid s delta) delta) (k.advanced (timer_call.paid s delta) delta (k.charged s s.clock.now delta (clocks.advanced s.clock delta).now h)))
   leaves-clock s read_date h = h
   leaves-clock s (new_timer number tag) h = leaves-known P (slice_get s.bank number) _ (λ b here.
       unrefused (not (is_timer_allowed b.handler.kinds)) (not b.home) _ (λ allowed home. placed s number tag b h here (is_true b.home home) (is_true (is_timer_allowed b.handler.kinds) allowed) (clocks.free_place s.clock) refl))

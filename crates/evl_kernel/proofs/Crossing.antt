@@ -9,6 +9,7 @@ use Rattle.evl_base.specs.contracts.play.Play as Play
 use Rattle.evl_base.proofs.Crossing.{board_send, declared_send, entry_send, play_send, spares_send}
 use Rattle.evl_pipeline.proofs.Crossing.{pipeline_send}
 use Rattle.evl_clock.proofs.Crossing.{clock_send}
+use Rattle.evl_sched.proofs.Crossing.{sched_send}
 use Rattle.evl_kernel.specs.contracts.bank.BankPlace as BankPlace
 use Rattle.evl_kernel.specs.contracts.bank.Numbered as Numbered
 use Rattle.evl_kernel.specs.contracts.records.Records as Records
@@ -31,7 +32,7 @@ module _ (C A : RattleType) (g : Ghosts A.Denot) where
   records_send : IsSend C → IsSend A → Frees g g.dealloc_token → IsSend (Records.the_row C A g)
   records_send s a f =
       let places = places_send C A g s a f in let lines = pipeline_send (Numbered.the_row C) A g (numbered_send C A g s) a f in
-      let clock = clock_send (Numbered.the_row C) A g (numbered_send C A g s) a f in
+      let clock = clock_send (Numbered.the_row C) A g (numbered_send C A g s) a f in let sched = sched_send A g a f in
       search (view_send, declared_send, crosses, sendable) depth 20
 
   pub kernel_send : IsSend C → IsSend A → Frees g g.dealloc_token → IsSend (KernelOf.the_row C A g)

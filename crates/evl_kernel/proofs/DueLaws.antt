@@ -1,5 +1,5 @@
 -- What is played next is a due item or a line.
-use Rattle.std.proofs.Common.{◌≡◌, ℕ, Bool, true, false, Option, Some, None, if◌then◌else◌, refl, sym, ap, ◌∙◌, subst}
+use Rattle.std.proofs.Common.{◌≡◌, ℕ, Bool, true, false, Option, Some, None, if◌then◌else◌, refl, ap, ◌∙◌, subst}
 use Rattle.evl_base.specs.declared.numbers.TimerId.{TimerId}
 use Rattle.evl_base.specs.declared.stage.Stage.{Stage}
 use Rattle.evl_base.specs.declared.stage.Stage.TheVariants.{Oob}
@@ -10,9 +10,7 @@ use Rattle.evl_clock.specs.declared.timer.Timer.{Timer}
 use Rattle.evl_clock.specs.Clocks.{Clock, timer_at}
 use Rattle.evl_clock.specs.Dues.{next_due}
 use Rattle.evl_clock.proofs.DueLaws.{not-empty}
-use Rattle.evl_kernel.specs.States.{State}
-use Rattle.evl_kernel.specs.Elements.{Touch}
-use Rattle.evl_kernel.specs.Settling.{Settling, Move, item_played, item_touches, item_next, item_before, item_moves, line_next, move_of, moving, next_move, next_of, next_play, going_on, play_touches, played, timer_there}
+use Rattle.evl_kernel.specs.Settling.{Settling, item_played, item_touches, item_next, item_before, item_moves, line_next, move_of, moving, next_move, next_of, next_play, going_on, play_touches, played}
 
 some_is : {A : Type 0} {x y : A} → Some x ≡ Some y → x ≡ y
 some_is e = cc

@@ -1,5 +1,5 @@
 -- What the play of a due item makes of the records, and that it leaves fewer plays to make.
-use Rattle.std.proofs.Common.{◌≡◌, ℕ, ◌+◌, ◌<◌, ◌≤◌, nat_lt, inl, inr, Bool, true, false, ◌&&◌, List, length, Option, Some, None, is_some, unwrap_or, if◌then◌else◌, refl, sym, ap, ◌∙◌, subst, arith}
+use Rattle.std.proofs.Common.{◌≡◌, ℕ, ◌+◌, ◌<◌, ◌≤◌, inr, Bool, true, false, Option, Some, None, refl, sym, ap, ◌∙◌, subst, arith}
 use Rattle.std.specs.Option.{option_map}
 use Rattle.evl_base.specs.declared.numbers.ThreadId.{ThreadId}
 use Rattle.evl_base.specs.declared.numbers.TimerId.{TimerId}
@@ -10,22 +10,19 @@ use Rattle.evl_pipeline.specs.declared.answer.Answer.{Answer}
 use Rattle.evl_pipeline.specs.declared.fire.Fire.{Fire}
 use Rattle.evl_pipeline.specs.declared.plan.Plan.{Plan}
 use Rattle.evl_pipeline.specs.Counts.{one_more}
-use Rattle.evl_pipeline.specs.Limits.{action_limit}
 use Rattle.evl_pipeline.specs.Plans.{PostsNoOob, answer_of}
-use Rattle.evl_pipeline.specs.Lines as lines
 use Rattle.evl_clock.specs.declared.due.Item.{Item}
 use Rattle.evl_clock.specs.declared.due.Item.TheVariants as item
 use Rattle.evl_clock.specs.declared.timer.Timer.{Timer}
-use Rattle.evl_clock.specs.Timers as timers
 use Rattle.evl_clock.specs.Timers.{is_timer_allowed, missed}
 use Rattle.evl_clock.specs.Clocks.{Clock, timer_at, with_deadline}
 use Rattle.evl_clock.specs.ClockSteps as steps
 use Rattle.evl_clock.specs.ClockSteps.{Fires, fired}
-use Rattle.evl_clock.specs.Dues.{timer, deadline, next_due, is_due, due_count}
+use Rattle.evl_clock.specs.Dues.{timer, deadline, next_due, due_count}
 use Rattle.evl_kernel.specs.declared.bank.Numbered.{Numbered}
-use Rattle.evl_kernel.specs.States.{State, date, with_clock, plan_at}
+use Rattle.evl_kernel.specs.States.{State, with_clock, plan_at}
 use Rattle.evl_kernel.specs.Renamed.{named_timer, renamed_clock}
-use Rattle.evl_kernel.specs.Settling.{Settling, answered, timer_given, timer_there, timer_played, item_played, due_played, going_on, is_of_clock, item_next, item_before, line_next, next_of, line_goes, next_play, one_inband}
+use Rattle.evl_kernel.specs.Settling.{answered, timer_given, item_played, due_played, going_on, is_of_clock, item_next, item_before, line_next, next_of, line_goes, next_play, one_inband}
 use Rattle.evl_kernel.specs.Fires.{Called}
 use Rattle.evl_kernel.specs.Settled.{settling, stage_of, waiting, left_after}
 use Rattle.evl_kernel.specs.Callbacks.{AnswersAsTold}

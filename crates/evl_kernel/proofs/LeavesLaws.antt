@@ -1,5 +1,5 @@
 -- What holds of every state that an effect leaves.
-use Rattle.std.proofs.Common.{◌≡◌, Bool, true, false, List, [], ◌∷◌, Option, Some, None, Ok, Err, refl}
+use Rattle.std.proofs.Common.{◌≡◌, Bool, true, false, [], ◌∷◌, Option, Some, None, Ok, Err, refl}
 use Rattle.evl_base.specs.declared.refusal.Refusal.{Refusal}
 use Rattle.evl_kernel.specs.States.{State}
 use Rattle.evl_kernel.specs.Effects.{Effect, unless, known, refused_by, if_done}

@@ -5,8 +5,10 @@ use Rattle.evl_base.specs.declared.board.Board.{Board}
 use Rattle.evl_base.specs.declared.stage.Stage.{Stage}
 use Rattle.evl_base.specs.declared.stage.Stage.TheVariants.{Inband, Oob}
 use Rattle.evl_pipeline.specs.declared.plan.Plan.{Plan}
+use Rattle.evl_pipeline.specs.Limits.{line_count}
 use Rattle.evl_pipeline.specs.Lines as lines
 use Rattle.evl_clock.specs.declared.timer.Timer.{Timer}
+use Rattle.evl_clock.specs.Limits.{timer_count}
 use Rattle.evl_clock.specs.Clocks as clocks
 use Rattle.evl_pipeline.proofs.PortLaws.{at-none}
 use Rattle.evl_kernel.specs.declared.bank.BankPlace.{BankPlace}
@@ -16,7 +18,9 @@ use Rattle.evl_kernel.specs.Openings.{opening, at_home}
 use Rattle.evl_kernel.specs.Renamed.{named, renamed, renamed_clock}
 use Rattle.evl_kernel.specs.Callbacks.{Whereabouts, AnswersAsTold, AreFilled, told}
 use Rattle.evl_kernel.specs.Records.{RecordsView, IsOpened, state_of, number_of, banked, AreAllowed, AreTimersAllowed}
+use Rattle.evl_sched.specs.Ranks.{Ranked, fresh}
 use Rattle.evl_kernel.proofs.ClockLaws.{clock-opening}
+use Rattle.evl_kernel.proofs.SchedLaws.{sched-fresh}
 
 none_some : {A : Type 0} {x : A} → None ≡ Some x → ⊥
 none_some e = cc
@@ -32,21 +36,21 @@ map-replicate f (suc n) x = ap (λ xs. f x ∷ xs) (map-replicate f n x)
 pub renamed-opening : {X Y : Type 0} (name : X → Y) → renamed name lines.opening ≡ lines.opening
 unfolding lines.opening
 renamed-opening {X} {Y} name =
-    let nothing : map (option_map (named name)) (replicate {A = Option (lines.Installed X)} 1024 None) ≡ replicate {A = Option (lines.Installed Y)} 1024 None = map-replicate (option_map (named name)) 1024 None in
+    let nothing : map (option_map (named name)) (replicate {A = Option (lines.Installed X)} line_count None) ≡ replicate {A = Option (lines.Installed Y)} line_count None = map-replicate (option_map (named name)) line_count None in
     (λ i. record {
-      oob = record { stalled = Rattle.std.proofs.Common.false; pending = []; installed = nothing i; unhandled = replicate 1024 0 };
-      inband = record { stalled = Rattle.std.proofs.Common.false; pending = []; installed = nothing i; unhandled = replicate 1024 0 };
-      spurious = replicate 1024 0;
+      oob = record { stalled = Rattle.std.proofs.Common.false; pending = []; installed = nothing i; unhandled = replicate line_count 0 };
+      inband = record { stalled = Rattle.std.proofs.Common.false; pending = []; installed = nothing i; unhandled = replicate line_count 0 };
+      spurious = replicate line_count 0;
     })
 
 pub nothing-opening : {X : Type 0} (stage : Stage) (line : ℕ) (at : lines.Installed X) → lines.installed_at lines.opening stage line ≡ Some at → ⊥
 unfolding lines.opening
-nothing-opening {X} Oob line at h = none_some (sym (at-none {A = lines.Installed X} 1024 line) ∙ h)
-nothing-opening {X} Inband line at h = none_some (sym (at-none {A = lines.Installed X} 1024 line) ∙ h)
+nothing-opening {X} Oob line at h = none_some (sym (at-none {A = lines.Installed X} line_count line) ∙ h)
+nothing-opening {X} Inband line at h = none_some (sym (at-none {A = lines.Installed X} line_count line) ∙ h)
 
 pub no_timer-opening : {X : Type 0} (n : ℕ) (at : Timer X) → clocks.timer_at clocks.opening n ≡ Some at → ⊥
 unfolding clocks.opening
-no_timer-opening {X} n at h = none_some (sym (at-none {A = Timer X} 64 n) ∙ h)
+no_timer-opening {X} n at h = none_some (sym (at-none {A = Timer X} timer_count n) ∙ h)
 
 module _ {C : Type 0} (declared : C → ℕ) (plan : C → Plan) where
   abbrev pub handler_made : C → Handler
@@ -82,16 +86,19 @@ module _ {C : Type 0} (declared : C → ℕ) (plan : C → Plan) where
       absurd (nothing-opening out.stage out.line out.at (subst (λ (p : lines.Pipeline (Numbered C)). lines.installed_at p out.stage out.line ≡ Some out.at) nothing out.there))
 
   pub state-opening : (board : Board) (bank : List C) (r : RecordsView C) → r.threads ≡ board.threads → r.counts ≡ board.sems.items
-      → AreFilled declared plan bank r.bank → r.lines ≡ lines.opening → r.clock ≡ clocks.opening → state_of r ≡ opening board (map handler_made bank)
-  state-opening board bank r threads counts filled nothing no_timers =
+      → AreFilled declared plan bank r.bank → r.lines ≡ lines.opening → r.clock ≡ clocks.opening → r.sched ≡ fresh board.threads board.groups.items
+      → state_of r ≡ opening board (map handler_made bank)
+  state-opening board bank r threads counts filled nothing no_timers nobody =
       let lines_are : renamed number_of r.lines ≡ lines.opening = ap (renamed number_of) nothing ∙ renamed-opening number_of in
       let clock_is : renamed_clock number_of r.clock ≡ clocks.opening = ap (renamed_clock number_of) no_timers ∙ clock-opening number_of in
-      (λ i. record { threads = threads i; sems = counts i; bank = banked-filled bank r.bank filled i; lines = lines_are i; clock = clock_is i })
+      let sched_is = ap (λ (x : Ranked). x.sched) nobody ∙ sched-fresh board.threads board.groups.items in
+      (λ i. record { threads = threads i; sems = counts i; bank = banked-filled bank r.bank filled i; lines = lines_are i; clock = clock_is i; sched = sched_is i })
 
   pub opened_records : (board : Board) (bank : List C) (r : RecordsView C) → r.threads ≡ board.threads → r.counts ≡ board.sems.items
-      → AreFilled declared plan bank r.bank → r.lines ≡ lines.opening → r.clock ≡ clocks.opening → IsOpened declared plan board bank r
-  opened_records board bank r threads counts filled nothing no_timers =
-      record { filled = filled; nothing_out = nothing; no_timers = no_timers; state = state-opening board bank r threads counts filled nothing no_timers }
+      → AreFilled declared plan bank r.bank → r.lines ≡ lines.opening → r.clock ≡ clocks.opening → r.sched ≡ fresh board.threads board.groups.items
+      → IsOpened declared plan board bank r
+  opened_records board bank r threads counts filled nothing no_timers nobody =
+      record { filled = filled; nothing_out = nothing; no_timers = no_timers; state = state-opening board bank r threads counts filled nothing no_timers nobody }
 
 pub sound_opening : {X : Type 0} → clocks.IsSoundClock {C = X} clocks.opening
 unfolding clocks.opening

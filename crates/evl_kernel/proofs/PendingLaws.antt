@@ -1,5 +1,5 @@
 -- After each call something is due only where line 0 is pending out-of-band.
-use Rattle.std.proofs.Common.{◌≡◌, ℕ, ◌+◌, ◌≤◌, ◌==◌, nat_le, nat_lt, Bool, true, false, not, ◌&&◌, ◌||◌, List, [], ◌∷◌, length, map, Option, Some, None, Result, Ok, Err, is_some, unwrap_or, slice_get, slice_set, if◌then◌else◌, refl, sym, ap, ◌∙◌, subst, arith, length-append}
+use Rattle.std.proofs.Common.{◌≡◌, ℕ, ◌≤◌, ◌==◌, nat_le, Bool, true, false, not, ◌&&◌, ◌||◌, List, [], ◌∷◌, length, map, Option, Some, None, Result, Ok, Err, is_some, unwrap_or, slice_get, slice_set, if◌then◌else◌, refl, sym, ap, ◌∙◌, subst, arith, length-append}
 use Rattle.std.specs.Option.{option_map, option_map_or}
 use Rattle.std.proofs.lemmas.Bool.{false≢true}
 use Rattle.std.proofs.lemmas.Bool.Decides.{nat_tests}
@@ -16,7 +16,7 @@ use Rattle.evl_pipeline.specs.declared.action.Action.{Action}
 use Rattle.evl_pipeline.specs.declared.action.Action.TheVariants.{PostSem, PostFlags, Propagate, PostOob, StopTimer}
 use Rattle.evl_pipeline.specs.declared.answer.Answer.{Answer}
 use Rattle.evl_pipeline.specs.Counts.{counted}
-use Rattle.evl_pipeline.specs.NumberSet.{contains, insert, remove}
+use Rattle.evl_pipeline.specs.NumberSet.{contains, remove}
 use Rattle.evl_pipeline.specs.Lines as lines
 use Rattle.evl_pipeline.proofs.NumberSetLaws.{contains-insert, contains-remove}
 use Rattle.evl_pipeline.proofs.PortLaws.{map-set}
@@ -38,13 +38,14 @@ use Rattle.evl_kernel.specs.Elements.{Elements, ElementStep, on_sem, elements, w
 use Rattle.evl_kernel.specs.Semaphores.{put}
 use Rattle.evl_kernel.specs.LineCalls as line_call
 use Rattle.evl_kernel.specs.TimerCalls as timer_call
-use Rattle.evl_kernel.specs.Families.{LineStep, request, free, arrive, post, stall, unstall, line_effect, ClockStep, tick, read_date, new_timer, start_timer, stop_timer, drop_timer, overruns, clock_effect, Task, on_lines, on_clock, on_element, performing, task_of}
+use Rattle.evl_kernel.specs.Families.{LineStep, request, free, arrive, post, stall, unstall, line_effect, ClockStep, tick, read_date, new_timer, start_timer, stop_timer, drop_timer, overruns, clock_effect, Task, on_lines, on_clock, on_threads, on_element, performing, task_of}
 use Rattle.evl_kernel.specs.Serving.{served, general_refusal, answer}
 use Rattle.evl_kernel.specs.Settling.{Settling, item_next, next_play, going_on, is_of_clock, item_played, played, line_played, clock_played, acted, all_acted, answered, given, after_call, nothing}
 use Rattle.evl_kernel.specs.Openings.{opening}
 use Rattle.evl_kernel.specs.Histories.{Run, Follows, opened}
 use Rattle.evl_kernel.specs.Laws.{DueMeansPending}
 use Rattle.evl_kernel.proofs.LeavesLaws.{Leaves, leaves-refused, leaves-unless, leaves-known, leaves-if_done}
+use Rattle.evl_kernel.proofs.ThreadSteps.{leaves-threads}
 use Rattle.evl_kernel.proofs.DueLaws.{one_played, none_played}
 
 none_some : {A : Type 0} {x : A} → None ≡ Some x → ⊥
@@ -249,7 +250,7 @@ held-both false true e h = tt
 held-both false false e h = h
 
 held-clock : (s : State) (step : ClockStep) → IsHeld s → Leaves IsHeld (clock_effect s step)
-held-clock s (tick delta) h = leaves-refused IsHeld (clocks.advance_refusal s.clock delta) _ (λ passed. held-alarmed (with_clock s (clocks.advanced s.clock delta)))
+held-clock s (tick delta) h = leaves-refused IsHeld (clocks.advance_refusal s.clock delta) _ (λ passed. held-alarmed (timer_call.later (timer_call.paid s delta) delta))
 held-clock s read_date h = h
 held-clock s (new_timer number tag) h = leaves-known IsHeld (slice_get s.bank number) _ (λ b here.
     held-both (not (is_timer_allowed b.handler.kinds)) (not b.home) _ (held-placed s number tag b (clocks.free_place s.clock) h))
@@ -262,6 +263,7 @@ held-clock s (overruns timer) h = leaves-known IsHeld (clocks.timer_at s.clock t
 held-task : (s : State) (caller : ℕ) (task : Task) → IsHeld s → Leaves IsHeld (performing s caller task).effect
 held-task s caller (on_lines step) h = held-line s step h
 held-task s caller (on_clock step) h = held-clock s step h
+held-task s caller (on_threads step) h = leaves-threads IsHeld (λ s q h. h) s caller step h
 held-task s caller (on_element step) h = held-touched s (Some caller) step h
 
 held-answer : (s : State) (caller : ℕ) (asked : Call) → IsHeld s → Leaves IsHeld (answer s caller asked)

@@ -1,5 +1,5 @@
 -- After each call the out-of-band stage is stalled, or nothing is pending there.
-use Rattle.std.proofs.Common.{◌≡◌, ℕ, Bool, true, false, not, ◌&&◌, List, [], ◌∷◌, Option, Some, None, Result, Ok, Err, is_some, if◌then◌else◌, refl, sym, ◌∙◌, subst}
+use Rattle.std.proofs.Common.{◌≡◌, ℕ, Bool, true, false, not, ◌&&◌, List, [], ◌∷◌, Option, Some, None, Result, Ok, Err, is_some, if◌then◌else◌, refl, sym, subst}
 use Rattle.std.proofs.lemmas.Bool.{false≢true}
 use Rattle.std.specs.Option.{option_map}
 use Rattle.evl_base.specs.declared.board.Board.{Board}
@@ -14,7 +14,7 @@ use Rattle.evl_pipeline.specs.Lines as lines
 use Rattle.evl_kernel.specs.States.{State, Handler}
 use Rattle.evl_kernel.specs.Effects.{Effect}
 use Rattle.evl_kernel.specs.Serving.{answer}
-use Rattle.evl_kernel.specs.Settling.{Settling, line_next, next_play, next_of}
+use Rattle.evl_kernel.specs.Settling.{Settling, next_play}
 use Rattle.evl_kernel.specs.Histories.{Run, Follows, opened}
 use Rattle.evl_kernel.specs.Openings.{opening}
 use Rattle.evl_kernel.proofs.DueLaws.{none_played}

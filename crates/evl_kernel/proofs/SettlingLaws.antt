@@ -13,6 +13,7 @@ use Rattle.evl_pipeline.specs.Limits.{line_count}
 use Rattle.evl_pipeline.specs.NumberSet.{least}
 use Rattle.evl_pipeline.specs.Lines as lines
 use Rattle.evl_pipeline.proofs.NumberSetLaws.{length-rises}
+use Rattle.evl_sched.specs.Picks.{is_anyone_eligible}
 use Rattle.evl_kernel.specs.Limits.{inband_limit, play_limit}
 use Rattle.evl_kernel.specs.Paths.{Along}
 use Rattle.evl_kernel.specs.States.{State}
@@ -118,7 +119,7 @@ module _ {C : Type 0} (gives : C → Fire → Answer → Type 0) (w : Whereabout
   pub stalled_settles : (declared : C → ℕ) (plan : C → Plan) (r : RecordsView C) (before : List Play) → r.lines.oob.stalled ≡ true → Appends gives w before (state_of r) before (state_of r)
   stalled_settles declared plan r before stalled =
       settled_now r r 0 false before before (plays_on-none (settling r 0 false) before)
-      (line_behind r 0 false (λ e. absurd (false≢true e)) ∙ none_next declared plan r 0 (stalled_next r.lines false (nat_lt 0 inband_limit) stalled)) (omega arith)
+      (line_behind r 0 false (λ e. absurd (false≢true e)) ∙ none_next declared plan r 0 (stalled_next r.lines (is_anyone_eligible r.sched.sched) (nat_lt 0 inband_limit) stalled)) (omega arith)
 
 -- few plays are left after a call
 pub left_at_first : {C : Type 0} (r : RecordsView C) → lines.IsSoundPipeline r.lines → IsSoundClock r.clock → left_after (state_of r) 0 ≤ play_limit

@@ -1,6 +1,6 @@
 -- What a change of the clock leaves of the callbacks: which stand in timers, and that they are allowed there.
-use Rattle.std.proofs.Common.{◌≡◌, ℕ, zero, suc, nat_le, ◌⊎◌, inl, inr, Bool, true, false, not, List, [], ◌∷◌, Option, Some, None, is_some, slice_get, slice_set, slice_index_or, Result, Ok, Err, OnOk, OnErr, length, if◌then◌else◌, refl, sym, ap, ◌∙◌, subst}
-use Rattle.std.specs.Option.{option_map, option_map_or}
+use Rattle.std.proofs.Common.{◌≡◌, ℕ, zero, suc, nat_le, ◌⊎◌, inl, inr, Bool, true, false, not, List, [], ◌∷◌, Option, Some, None, is_some, slice_get, slice_set, slice_index_or, Result, Ok, Err, OnOk, OnErr, if◌then◌else◌, refl, sym, ap, ◌∙◌, subst}
+use Rattle.std.specs.Option.{option_map}
 use Rattle.std.proofs.lemmas.Option.{slice_get-map}
 use Rattle.std.proofs.lemmas.List.{map-set, length-set}
 use Rattle.evl_base.specs.declared.refusal.Refusal.{Refusal}
@@ -16,13 +16,14 @@ use Rattle.evl_clock.specs.ClockSteps.{fired}
 use Rattle.evl_kernel.specs.declared.bank.BankPlace.{BankPlace}
 use Rattle.evl_kernel.specs.declared.bank.Numbered.{Numbered}
 use Rattle.evl_clock.specs.Dues.{is_due}
-use Rattle.evl_kernel.specs.States.{State, Handler}
+use Rattle.evl_kernel.specs.States.{State}
 use Rattle.evl_kernel.specs.Renamed.{named_timer, renamed_clock}
+use Rattle.evl_kernel.specs.ThreadCalls.{paid_between}
 use Rattle.evl_kernel.specs.TimerCalls as timer_call
-use Rattle.evl_kernel.specs.Effects.{Effect, known, tells}
+use Rattle.evl_kernel.specs.Effects.{known, tells}
 use Rattle.std.proofs.lemmas.Bool.{false≢true}
 use Rattle.evl_kernel.proofs.SetLaws.{set_here}
-use Rattle.evl_kernel.specs.Callbacks.{Whereabouts, Stands, BringsNone, AnswersAsTold, handler_of, told}
+use Rattle.evl_kernel.specs.Callbacks.{Stands, BringsNone, AnswersAsTold, told}
 use Rattle.evl_kernel.specs.Records.{RecordsView, state_of, whereabouts, number_of, banked, kinds_at, AreAllowed, AreTimersAllowed, KeepsCallbacks}
 use Rattle.evl_kernel.proofs.StandingLaws.{OnlyOld, old-posted, set-lookup}
 use Rattle.evl_kernel.proofs.ClockLaws.{timer-renamed, new-renamed, dropped-renamed, free-renamed, refusal-renamed, start-renamed, stop-renamed, is_due-renamed}
@@ -151,10 +152,10 @@ module _ {C : Type 0} where
   stopped_state r n d none after = rw (refusal-renamed number_of r.clock n, none, after, stop-renamed number_of r.clock n) refl
 
   pub ticked_state : (r : RecordsView C) (delta : ℕ) (due : Bool) (d : Clock (Numbered C)) → advance_refusal r.clock delta ≡ None → d ≡ advanced r.clock delta → due ≡ is_due d
-      → (t : State) → t ≡ timer_call.posted_if due (state_of (with_clock r d)) → timer_call.tick (state_of r) delta ≡ Ok (Done, t)
-  ticked_state r delta due d none after is t after_t =
+      → (paid : State) → paid ≡ paid_between (state_of (with_clock r d)) r.clock.now delta d.now → (t : State) → t ≡ timer_call.posted_if due paid → timer_call.tick (state_of r) delta ≡ Ok (Done, t)
+  ticked_state r delta due d none after is paid paid_is t after_t =
       let same : due ≡ is_due (renamed_clock number_of (advanced r.clock delta)) = is ∙ (ap (λ (c : Clock (Numbered C)). is_due c) after ∙ sym (is_due-renamed number_of (advanced r.clock delta))) in
-      rw (none, after_t, same, after) refl
+      rw (none, after_t, paid_is, same, after) refl
 
   pub started_state : (r : RecordsView C) (n date interval : ℕ) (due : Bool) (d : Clock (Numbered C)) → timer_refusal r.clock n ≡ None → d ≡ start r.clock n date interval → due ≡ nat_le date r.clock.now
       → (t : State) → t ≡ timer_call.posted_if due (state_of (with_clock r d)) → timer_call.start_timer (state_of r) n date interval ≡ Ok (Done, t)

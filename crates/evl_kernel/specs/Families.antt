@@ -1,15 +1,17 @@
--- What a call asks for, by its family: a step on lines and stages, one on the clock, or a step of one element. A law over all calls goes by
--- these families.
+-- What a call asks for, by its family: a step on lines and stages, one on the clock, one on threads,
+-- or a step of one element. A law over all calls goes by these families.
 use Rattle.std.specs.Prelude.{ℕ, Some}
 use Rattle.evl_base.specs.declared.stage.Stage.{Stage}
+use Rattle.evl_base.specs.declared.policy.Policy.{Policy}
 use Rattle.evl_base.specs.declared.call.Call.{Call}
-use Rattle.evl_base.specs.declared.call.Call.TheVariants.{Request, Free, Arrive, Post, Stall, Unstall, Tick, Now, NewTimer, StartTimer, StopTimer, DropTimer, Overruns, TryGet, Put, Peek}
+use Rattle.evl_base.specs.declared.call.Call.TheVariants.{Request, Free, Arrive, Post, Stall, Unstall, Tick, Now, NewTimer, StartTimer, StopTimer, DropTimer, Overruns, Attach, Detach, SetPolicy, SetStage, Pick, RankOf, TryGet, Put, Peek}
 use Rattle.evl_kernel.specs.States.{State}
 use Rattle.evl_kernel.specs.Effects.{Effect}
 use Rattle.evl_kernel.specs.Semaphores.{get, put, peek}
 use Rattle.evl_kernel.specs.Elements.{ElementStep, on_sem, Told, touched, untouched}
 use Rattle.evl_kernel.specs.LineCalls as line_call
 use Rattle.evl_kernel.specs.TimerCalls as timer_call
+use Rattle.evl_kernel.specs.ThreadCalls as thread_call
 
 pub data LineStep : Type 0 where
   -- of a line, on a stage, the callback of this number, with a tag
@@ -48,15 +50,35 @@ clock_effect s (stop_timer timer) = timer_call.stop_timer s timer
 clock_effect s (drop_timer timer) = timer_call.drop_timer s timer
 clock_effect s (overruns timer) = timer_call.overruns s timer
 
+pub data ThreadStep : Type 0 where
+  attach : Policy → Stage → ThreadStep
+  detach : ThreadStep
+  set_policy : Policy → ThreadStep
+  set_stage : Stage → ThreadStep
+  pick : ThreadStep
+  -- of this thread
+  tell_rank : ℕ → ThreadStep
+
+-- the first four are about the caller itself
+abbrev pub thread_effect : State → ℕ → ThreadStep → Effect
+thread_effect s caller (attach policy stage) = thread_call.attach s caller policy stage
+thread_effect s caller detach = thread_call.detach s caller
+thread_effect s caller (set_policy policy) = thread_call.set_policy s caller policy
+thread_effect s caller (set_stage stage) = thread_call.set_stage s caller stage
+thread_effect s caller pick = thread_call.pick s
+thread_effect s caller (tell_rank thread) = thread_call.tell_rank s thread
+
 pub data Task : Type 0 where
   on_lines : LineStep → Task
   on_clock : ClockStep → Task
+  on_threads : ThreadStep → Task
   on_element : ElementStep → Task
 
--- a step on lines or on the clock reaches no element, and one of an element is its caller's
+-- a step on lines, on the clock or on threads reaches no element, and one of an element is its caller's
 abbrev pub performing : State → ℕ → Task → Told
 performing s caller (on_lines step) = untouched (line_effect s step)
 performing s caller (on_clock step) = untouched (clock_effect s step)
+performing s caller (on_threads step) = untouched (thread_effect s caller step)
 performing s caller (on_element step) = touched s (Some caller) step
 
 -- the table of calls
@@ -74,6 +96,12 @@ task_of (StartTimer timer date interval) = on_clock (start_timer timer.0 date in
 task_of (StopTimer timer) = on_clock (stop_timer timer.0)
 task_of (DropTimer timer) = on_clock (drop_timer timer.0)
 task_of (Overruns timer) = on_clock (overruns timer.0)
+task_of (Attach policy stage) = on_threads (attach policy stage)
+task_of Detach = on_threads detach
+task_of (SetPolicy policy) = on_threads (set_policy policy)
+task_of (SetStage stage) = on_threads (set_stage stage)
+task_of Pick = on_threads pick
+task_of (RankOf thread) = on_threads (tell_rank thread.0)
 task_of (TryGet sem) = on_element (on_sem sem.0 get)
 task_of (Put sem) = on_element (on_sem sem.0 put)
 task_of (Peek sem) = on_element (on_sem sem.0 peek)

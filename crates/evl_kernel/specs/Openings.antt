@@ -5,15 +5,23 @@ use Rattle.evl_base.specs.Board.{board_fits}
 use Rattle.evl_base.specs.declared.board.Board.{Board}
 use Rattle.evl_pipeline.specs.Lines as lines
 use Rattle.evl_clock.specs.Clocks as clocks
+use Rattle.evl_sched.specs.Threads as threads
 use Rattle.evl_kernel.specs.Limits.{callback_limit, history_limit}
 use Rattle.evl_kernel.specs.States.{State, Handler, Banked}
 
 abbrev pub at_home : Handler → Banked
 at_home h = record { handler = h; home = true }
 
--- every callback is in its bank place, no line has anything, and there are no timers
+-- every callback is in its bank place, no line has anything, there are no timers, and no thread is attached
 abbrev pub opening : Board → List Handler → State
-opening board bank = record { threads = board.threads; sems = board.sems.items; bank = map at_home bank; lines = lines.opening; clock = clocks.opening }
+opening board bank = record {
+  threads = board.threads;
+  sems = board.sems.items;
+  bank = map at_home bank;
+  lines = lines.opening;
+  clock = clocks.opening;
+  sched = threads.opening board.threads board.groups.items;
+}
 
 -- the board, the bank and the limit of the history are within their limits
 abbrev pub can_open : Board → ℕ → ℕ → Bool

@@ -1,5 +1,5 @@
 -- Where a callback of the bank is.
-use Rattle.std.specs.Prelude.{◌≡◌, ◌<◌, ℕ, true, List, length, Some, slice_get}
+use Rattle.std.specs.Prelude.{◌≡◌, ◌<◌, ℕ, true, length, Some, slice_get}
 use Rattle.evl_base.specs.declared.stage.Stage.{Stage}
 use Rattle.evl_pipeline.specs.Lines as lines
 use Rattle.evl_clock.specs.declared.timer.Timer.{Timer}

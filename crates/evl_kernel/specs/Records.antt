@@ -9,6 +9,7 @@ use Rattle.evl_pipeline.specs.Lines as lines
 use Rattle.evl_clock.specs.declared.timer.Timer.{Timer}
 use Rattle.evl_clock.specs.Timers.{is_timer_allowed}
 use Rattle.evl_clock.specs.Clocks as clocks
+use Rattle.evl_sched.specs.Ranks.{IsUnboosted, Ranked}
 use Rattle.evl_kernel.specs.declared.bank.BankPlace.{BankPlace}
 use Rattle.evl_kernel.specs.declared.bank.Numbered.{Numbered}
 use Rattle.evl_kernel.specs.States.{State, Banked}
@@ -22,6 +23,7 @@ pub record RecordsView (C : Type 0) : Type 0 where
   pub bank : List (BankPlace C)
   pub lines : lines.Pipeline (Numbered C)
   pub clock : clocks.Clock (Numbered C)
+  pub sched : Ranked
 
 module _ {C : Type 0} where
   abbrev pub banked : BankPlace C → Banked
@@ -32,7 +34,14 @@ module _ {C : Type 0} where
 
   -- what the records mean
   abbrev pub state_of : RecordsView C → State
-  state_of r = record { threads = r.threads; sems = r.counts; bank = map banked r.bank; lines = renamed number_of r.lines; clock = renamed_clock number_of r.clock }
+  state_of r = record {
+    threads = r.threads;
+    sems = r.counts;
+    bank = map banked r.bank;
+    lines = renamed number_of r.lines;
+    clock = renamed_clock number_of r.clock;
+    sched = r.sched.sched;
+  }
 
   abbrev pub whereabouts : RecordsView C → Whereabouts C
   whereabouts r = record { bank = r.bank; lines = r.lines; clock = r.clock }
@@ -53,6 +62,8 @@ pub record IsSound {C : Type 0} (r : RecordsView C) : Type 0 where
   pub allowed : AreAllowed (state_of r)
   pub timers_allowed : AreTimersAllowed (state_of r)
   pub clock_sound : clocks.IsSoundClock r.clock
+  -- nobody inherits a rank yet, so nobody was given one
+  pub ranks : IsUnboosted r.sched
 
 -- the records of a new kernel
 pub record IsOpened {C : Type 0} (declared : C → ℕ) (plan : C → Plan) (board : Board) (bank : List C) (r : RecordsView C) : Type 0 where

@@ -4,6 +4,7 @@ use Rattle.std.specs.Option.{option_map_or}
 use Rattle.evl_pipeline.specs.declared.plan.Plan.{Plan}
 use Rattle.evl_pipeline.specs.Lines.{Pipeline}
 use Rattle.evl_clock.specs.Clocks.{Clock}
+use Rattle.evl_sched.specs.Threads.{Sched}
 
 -- what a callback declares, and what it answers
 pub record Handler : Type 0 where
@@ -25,6 +26,8 @@ pub record State : Type 0 where
   -- the lines and the timers; what stands there is named by its number in the bank
   pub lines : Pipeline ℕ
   pub clock : Clock ℕ
+  -- the threads of the core: their policies and stages, who is ready, and the quota groups
+  pub sched : Sched
 
 -- the date, in nanoseconds
 abbrev pub date : State → ℕ
@@ -35,6 +38,9 @@ with_lines s lines = record s { lines = lines }
 
 abbrev pub with_clock : State → Clock ℕ → State
 with_clock s clock = record s { clock = clock }
+
+abbrev pub with_sched : State → Sched → State
+with_sched s sched = record s { sched = sched }
 
 -- the callback of this number is in its bank place, or out of it
 abbrev pub moved : State → Bool → ℕ → Banked → State

@@ -8,6 +8,7 @@ use Rattle.evl_clock.specs.Clocks as clocks
 use Rattle.evl_clock.specs.Dues.{is_due}
 use Rattle.evl_kernel.specs.States.{State, Banked, with_lines, with_clock, moved, come_home}
 use Rattle.evl_kernel.specs.Effects.{Effect, done, tells, unless, known, refused_by}
+use Rattle.evl_kernel.specs.ThreadCalls.{paid_between}
 
 -- an event of line 0, the clock's
 abbrev pub posted_clock : State → State
@@ -20,8 +21,16 @@ posted_if due s = if due then posted_clock s else s
 abbrev pub alarmed : State → State
 alarmed s = posted_if (is_due s.clock) s
 
+-- the date moves
+abbrev pub later : State → ℕ → State
+later s delta = with_clock s (clocks.advanced s.clock delta)
+
+-- who is picked before the date moves is charged, and a new second refills the quota groups
+abbrev pub paid : State → ℕ → State
+paid s delta = paid_between s s.clock.now delta (clocks.advanced s.clock delta).now
+
 abbrev pub tick : State → ℕ → Effect
-tick s delta = refused_by (clocks.advance_refusal s.clock delta) (done (alarmed (with_clock s (clocks.advanced s.clock delta))))
+tick s delta = refused_by (clocks.advance_refusal s.clock delta) (done (alarmed (later (paid s delta) delta)))
 
 abbrev pub now : State → Effect
 now s = tells s.clock.now s

@@ -5,6 +5,7 @@ ghost use Rattle.evl_pipeline.specs.Limits.{line_count};
 ghost use Rattle.evl_pipeline.specs.Lines as lines;
 ghost use Rattle.evl_clock.specs.Clocks.{timer_at};
 ghost use Rattle.evl_clock.specs.Limits.{timer_count};
+ghost use Rattle.evl_sched.specs.Threads.{stage_of};
 ghost use Rattle.evl_kernel.specs.Callbacks.{AnswersAsTold, BringsNone, told};
 ghost use Rattle.evl_kernel.specs.Fires.{AddsByCalls};
 ghost use Rattle.evl_kernel.specs.Limits.{history_limit};
@@ -155,7 +156,7 @@ impl<C: Handler, A: Allocator> KernelOf<C, A> {
     ///
     /// `HistoryFull` exactly where the history is at its limit, `NoMemory` where room for the entry and its plays was
     /// refused: neither makes an entry or changes anything. Every other refusal is an answer with an entry: the first
-    /// that applies of `Unknown` (no such thread, line, callback, timer or element), `Range`, `Invalid`, then the call's own.
+    /// that applies of `Unknown` (no such thread, line, callback, timer, group or element), `Range`, `Invalid`, then the call's own.
     /// Each play of a line calls the callback that stands there with its line, stage, tag, count and date, and each play of
     /// a timer its callback with line 0, the out-of-band stage, its tag, its count and the date, on the condition that it
     /// answers its plan (this profile).
@@ -259,6 +260,16 @@ impl<C, A: Allocator> KernelOf<C, A> {
         ensures legal { IsLegal self.now.history }
     {
         self.records.timer(id)
+    }
+
+    /// The stage of a thread: in-band where it isn't attached, or where there is no such thread (Xenomai 4: EVL threads,
+    /// `evl_is_inband`; Dovetail: interrupt pipeline).
+    pub fn stage(&self, thread: ThreadId) -> Stage
+        ensures stage { result ≡ stage_of self.now.history.state.sched thread.0 }
+        ensures outside { self.now.history.board.threads ≤ thread.0 → result ≡ Stage.Inband }
+        ensures legal { IsLegal self.now.history }
+    {
+        self.records.stage(thread)
     }
 }
 

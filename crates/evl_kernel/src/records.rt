@@ -5,6 +5,7 @@ ghost use Rattle.evl_pipeline.specs.Limits.{line_count};
 ghost use Rattle.evl_pipeline.specs.Lines.{is_pending, side};
 ghost use Rattle.evl_clock.specs.Clocks.{timer_at};
 ghost use Rattle.evl_clock.specs.Limits.{timer_count};
+ghost use Rattle.evl_sched.specs.Threads.{stage_of};
 ghost use Rattle.evl_kernel.specs.Callbacks.{AreFilled};
 ghost use Rattle.evl_kernel.specs.Records.{IsOpened};
 
@@ -12,12 +13,14 @@ mod line_calls;
 mod semaphores;
 mod serving;
 mod settling;
+mod threads;
 mod timers;
 
 use crate::bank::{BankPlace, Numbered};
-use evl_base::{Board, LineNo, Refusal, Stage, TimerId};
+use evl_base::{Board, LineNo, Refusal, Stage, ThreadId, TimerId};
 use evl_clock::{ClockOf, TimerState};
 use evl_pipeline::{Handler, PipelineOf};
+use evl_sched::SchedOf;
 use std::alloc::Allocator;
 use std::marker::Model;
 use std::snapshot::Snapshot;
@@ -30,6 +33,7 @@ pub(crate) struct Records<C, A: Allocator> {
     bank: Vec<BankPlace<C>, A>,
     pipeline: PipelineOf<Numbered<C>, A>,
     clock: ClockOf<Numbered<C>, A>,
+    sched: SchedOf<A>,
 }
 
 impl<C, A: Allocator> Model for Records<C, A> {
@@ -51,21 +55,31 @@ impl<C: Handler, A: Allocator> Records<C, A> {
         ensures opened { IfOk result (λ r. IsOpened C.declared C.plan board.now bank.items r) }
         ensures refusal { IfErr result (λ e. e ≡ Refusal.NoMemory) }
     {
-        let for_counts = alloc.clone().map_err(|_| Refusal::NoMemory)?;
-        let for_bank = alloc.clone().map_err(|_| Refusal::NoMemory)?;
+        let for_counts = another(&alloc)?;
+        let for_bank = another(&alloc)?;
         let counts = opening_counts(for_counts, board)?;
         let bank = placed(for_bank, bank)?;
-        let for_lines = alloc.clone().map_err(|_| Refusal::NoMemory)?;
+        let for_lines = another(&alloc)?;
         let pipeline = PipelineOf::new(for_lines)?;
-        let clock = ClockOf::new(alloc)?;
+        let for_clock = another(&alloc)?;
+        let clock = ClockOf::new(for_clock)?;
+        let sched = SchedOf::new(alloc, board.threads, board.groups.as_slice())?;
         Ok(Records {
             threads: board.threads,
             counts,
             bank,
             pipeline,
             clock,
+            sched,
         })
     }
+}
+
+/// The same allocator once more.
+fn another<A: Allocator + Clone>(alloc: &A) -> Result<A, Refusal>
+    ensures refusal { IfErr result (λ e. e ≡ Refusal.NoMemory) }
+{
+    alloc.clone().map_err(|_| Refusal::NoMemory)
 }
 
 /// The opening count of each semaphore.
@@ -135,5 +149,11 @@ impl<C, A: Allocator> Records<C, A> {
         ensures outside { timer_count ≤ id.0 → result ≡ None }
     {
         self.clock.state(id)
+    }
+    /// The stage of a thread: in-band where it isn't attached, or where there is no such thread.
+    pub(crate) fn stage(&self, thread: ThreadId) -> Stage
+        ensures stage { result ≡ stage_of self.now.sched.sched thread.0 }
+    {
+        self.sched.stage(thread)
     }
 }

@@ -133,7 +133,7 @@ module _ {C : Type 0} where
   informs_as : (c : CallerState C) (k : HeldState C) → TookKernel c k → returned k.kernel.history k.caller ≡ shown k.kernel.history k.kernel.room c
   informs_as c k took =
       let h = k.kernel.history in
-      ap (returned h) took.caller ∙ ap (λ mine. record { machine = c.machine; account = account c.account.thread h mine (c.account.found ++ k.kernel.room ∷ []) }) (fits_first c k took).mine
+      ap (returned h) took.caller ∙ ap (λ mine. record c { account = account c.account.thread h mine (c.account.found ++ k.kernel.room ∷ []) }) (fits_first c k took).mine
 
   pub stays_open : (m : MachineState C) (xs : List (CallerState C)) (first : CallerState C) (others back : List (CallerState C)) (k : HeldState C) → xs ≡ first ∷ others → length xs < threads_of m.first.history → TookKernel first k
       → back ≡ returned k.kernel.history k.caller ∷ others → KeepsOpen m xs Invalid back

@@ -19,7 +19,7 @@ use Rattle.evl_machine.specs.Accounts.{newcomer, calls_by, threads_of}
 use Rattle.evl_machine.specs.ThreadRule.{newcomer_view}
 use Rattle.evl_machine.specs.Seats.{CoreMe}
 use Rattle.evl_machine.specs.Known.{ComesFrom, CoreHand, KernelMe, KeptKnown, first_known, first_of, past_of, room_of, seen, no_tie, mutex_count}
-use Rattle.evl_machine.specs.Handles.{MachineState, CallerState, newcomer_of, newcomers_of, seated}
+use Rattle.evl_machine.specs.Handles.{MachineState, CallerState, caller_of, newcomer_of, newcomers_of, seated}
 use Rattle.evl_machine.specs.Calls.{IsCaller}
 use Rattle.evl_machine.proofs.ThreadSteps.{opens_thread, splits_thread}
 use Rattle.evl_machine.proofs.Calling.{is_caller}
@@ -69,6 +69,6 @@ module _ {C : Type 0} where
 
   -- one caller more
   pub one_more : (m : MachineState C) (i : ℕ) (items : List (CallerState C)) (id : TableId) (first : KernelView C) (a : Account) → items ≡ newcomers_of m i → id ≡ m.id → first ≡ m.first → a ≡ newcomer m.first.history i
-      → items ++ record { machine = record { id = id; first = first }; account = a } ∷ [] ≡ newcomers_of m (i + 1)
+      → items ++ caller_of (record { id = id; first = first }) a ∷ [] ≡ newcomers_of m (i + 1)
   one_more m i items id first a was same from at =
-      (λ j. was j ++ record { machine = record { id = same j; first = from j }; account = at j } ∷ []) ∙ sym (map-range_with_len_more (newcomer_of m) 0 i i (zero-add i))
+      (λ j. was j ++ caller_of (record { id = same j; first = from j }) (at j) ∷ []) ∙ sym (map-range_with_len_more (newcomer_of m) 0 i i (zero-add i))

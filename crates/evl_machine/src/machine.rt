@@ -103,9 +103,9 @@ impl<C: Handler, A: Allocator> MachineOf<C, A> {
         ensures called { Called self.now.first.limit caller.old call result caller.new }
     {
         let badge = mem::replace(&mut caller.core, Badge::blank());
-        let mut seat = seat_of::<C, A>(badge, caller.thread);
-        let answer = self.call_with(&mut seat, caller.thread, call);
-        caller.core = badge_of(seat, caller.thread);
+        let mut seat = seat_of::<C, A>(badge, caller.actor.thread);
+        let answer = self.call_with(&mut seat, caller.actor.thread, call);
+        caller.core = badge_of(seat, caller.actor.thread);
         answer
     }
 }

@@ -8,7 +8,7 @@ ghost use Rattle.evl_machine.specs.Accounts.{threads_of};
 ghost use Rattle.evl_machine.specs.Known.{first_known};
 ghost use Rattle.evl_machine.specs.Handles.{newcomers_of};
 
-use crate::caller::{CallerOf, badge_of};
+use crate::caller::{Actor, CallerOf, badge_of};
 use crate::core_lock::{CoreLock, CoreSeat};
 use crate::kernel_box::KernelBox;
 use crate::machine::MachineOf;
@@ -95,10 +95,9 @@ fn seat_callers<C: Drop, A: Allocator>(
     for number in 0..threads {
         let others = core.shared.split_seat::<Deal>(&mut rest);
         let thread = ThreadId(number);
-        callers.push(CallerOf {
-            thread,
-            core: badge_of(rest, thread),
-        })?;
+        let core = badge_of(rest, thread);
+        let actor = Actor { thread };
+        callers.push(CallerOf { actor, core })?;
         rest = others;
     }
     Ok(())

@@ -5,7 +5,6 @@
 
 use evl_bank::play_program;
 use evl_shell::Over;
-use std::alloc::Global;
 use std::rt::Files;
 use std::{env, fs, io};
 
@@ -13,11 +12,25 @@ use std::{env, fs, io};
 const REFUSED: u8 = 2;
 
 // Whether the program ends so on a scenario: its status, what it writes and what it says.
-fn ends(alloc: Global, scenario: &[u8], status: u8, written: &[u8], said: &[u8]) -> bool {
-    let mut out = Over::new(Vec::new(alloc));
-    let mut err = Vec::new(alloc);
+fn ends<R: Files + AllocGlobal>(
+    rt: &R,
+    scenario: &[u8],
+    status: u8,
+    written: &[u8],
+    said: &[u8],
+) -> bool {
+    let words = ["evl"];
+    let mut out = Over::new(Vec::new(rt.alloc()));
+    let mut err = Vec::new(rt.alloc());
     let mut input = scenario;
-    let ended = play_program(alloc, &mut input, &mut out, &mut err);
+    let ended = play_program(
+        rt,
+        rt.alloc(),
+        words.as_slice(),
+        &mut input,
+        &mut out,
+        &mut err,
+    );
     ended == status && out.into_inner().as_slice() == written && err.as_slice() == said
 }
 
@@ -25,16 +38,10 @@ fn ends(alloc: Global, scenario: &[u8], status: u8, written: &[u8], said: &[u8])
 fn is_as_wanted<R: Files + AllocGlobal>(rt: &R, name: &str) -> io::Result<bool> {
     let scenario = fs::read(rt, format!(in rt.alloc(); "{name}.toml")?)?;
     if let Ok(trace) = fs::read(rt, format!(in rt.alloc(); "{name}.trace")?) {
-        return Ok(ends(rt.alloc(), scenario.as_slice(), 0, trace.as_slice(), b""));
+        return Ok(ends(rt, scenario.as_slice(), 0, trace.as_slice(), b""));
     }
     let fault = fs::read(rt, format!(in rt.alloc(); "{name}.fault")?)?;
-    Ok(ends(
-        rt.alloc(),
-        scenario.as_slice(),
-        REFUSED,
-        b"",
-        fault.as_slice(),
-    ))
+    Ok(ends(rt, scenario.as_slice(), REFUSED, b"", fault.as_slice()))
 }
 
 fn main(rt: HostRuntime) -> io::Result<()> {

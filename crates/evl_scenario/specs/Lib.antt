@@ -5,3 +5,4 @@ pub mod Scenarios
 pub mod Steps
 pub mod Tables
 pub mod Values
+pub mod Policies

@@ -5,9 +5,10 @@ use Rattle.toml.specs.Data.{Data, Members, as_table, get_member}
 use Rattle.evl_base.specs.declared.call.Call.{Call}
 use Rattle.evl_base.specs.declared.call.Call.TheVariants as make
 use Rattle.evl_scenario.specs.declared.steps.StepWord.{StepWord}
-use Rattle.evl_scenario.specs.declared.steps.StepWord.TheVariants.{Request, Free, Arrive, Post, Stall, Unstall, Tick, Now, NewTimer, StartTimer, StopTimer, DropTimer, Overruns, TryGet, Put, Peek}
+use Rattle.evl_scenario.specs.declared.steps.StepWord.TheVariants.{Request, Free, Arrive, Post, Stall, Unstall, Tick, Now, NewTimer, StartTimer, StopTimer, DropTimer, Overruns, Attach, Detach, SetPolicy, SetStage, Pick, RankOf, TryGet, Put, Peek}
 use Rattle.evl_scenario.specs.declared.steps.Step.{Step}
 use Rattle.evl_scenario.specs.Tables.{value_at, value_or, text_at, has_only}
+use Rattle.evl_scenario.specs.Policies.{policy_from}
 use Rattle.evl_scenario.specs.Values.{number_from, word_from, byte_from, thread_from, line_from, sem_from, timer_from, stage_from}
 
 -- the word that a text is
@@ -26,6 +27,12 @@ word_of text =
     else if bytes_eq text (codes "stop_timer") then Some StopTimer
     else if bytes_eq text (codes "drop_timer") then Some DropTimer
     else if bytes_eq text (codes "overruns") then Some Overruns
+    else if bytes_eq text (codes "attach") then Some Attach
+    else if bytes_eq text (codes "detach") then Some Detach
+    else if bytes_eq text (codes "set_policy") then Some SetPolicy
+    else if bytes_eq text (codes "set_stage") then Some SetStage
+    else if bytes_eq text (codes "pick") then Some Pick
+    else if bytes_eq text (codes "rank_of") then Some RankOf
     else if bytes_eq text (codes "try_get") then Some TryGet
     else if bytes_eq text (codes "put") then Some Put
     else if bytes_eq text (codes "peek") then Some Peek
@@ -46,6 +53,12 @@ keys_of StartTimer = codes "do" ∷ codes "who" ∷ codes "timer" ∷ codes "dat
 keys_of StopTimer = codes "do" ∷ codes "who" ∷ codes "timer" ∷ []
 keys_of DropTimer = codes "do" ∷ codes "who" ∷ codes "timer" ∷ []
 keys_of Overruns = codes "do" ∷ codes "who" ∷ codes "timer" ∷ []
+keys_of Attach = codes "do" ∷ codes "who" ∷ codes "policy" ∷ codes "stage" ∷ []
+keys_of Detach = codes "do" ∷ codes "who" ∷ []
+keys_of SetPolicy = codes "do" ∷ codes "who" ∷ codes "policy" ∷ []
+keys_of SetStage = codes "do" ∷ codes "who" ∷ codes "stage" ∷ []
+keys_of Pick = codes "do" ∷ codes "who" ∷ []
+keys_of RankOf = codes "do" ∷ codes "who" ∷ codes "thread" ∷ []
 keys_of TryGet = codes "do" ∷ codes "who" ∷ codes "sem" ∷ []
 keys_of Put = codes "do" ∷ codes "who" ∷ codes "sem" ∷ []
 keys_of Peek = codes "do" ∷ codes "who" ∷ codes "sem" ∷ []
@@ -76,6 +89,12 @@ call_of StartTimer table =
 call_of StopTimer table = option_map make.StopTimer (value_at timer_from (codes "timer") table)
 call_of DropTimer table = option_map make.DropTimer (value_at timer_from (codes "timer") table)
 call_of Overruns table = option_map make.Overruns (value_at timer_from (codes "timer") table)
+call_of Attach table = option_and_then (λ policy. option_map (make.Attach policy) (value_at stage_from (codes "stage") table)) (value_at policy_from (codes "policy") table)
+call_of Detach table = Some make.Detach
+call_of SetPolicy table = option_map make.SetPolicy (value_at policy_from (codes "policy") table)
+call_of SetStage table = option_map make.SetStage (value_at stage_from (codes "stage") table)
+call_of Pick table = Some make.Pick
+call_of RankOf table = option_map make.RankOf (value_at thread_from (codes "thread") table)
 call_of TryGet table = option_map make.TryGet (value_at sem_from (codes "sem") table)
 call_of Put table = option_map make.Put (value_at sem_from (codes "sem") table)
 call_of Peek table = option_map make.Peek (value_at sem_from (codes "sem") table)

@@ -4,6 +4,7 @@
 mod boards;
 mod faults;
 mod lines;
+mod policies;
 mod scenarios;
 mod steps;
 mod tables;

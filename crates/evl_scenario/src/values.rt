@@ -18,7 +18,7 @@ pub trait FromToml: Sized {
 }
 
 // The number that a text writes in decimal digits without leading zeros.
-fn number_of_text(text: &str) -> Option<u64>
+pub(crate) fn number_of_text(text: &str) -> Option<u64>
     ensures { result ≡ text_number text.now }
 {
     match text.parse::<u64>() {

@@ -1,5 +1,7 @@
 pub mod Faults
 pub mod Moments
 pub mod Plays
+pub mod Programs
 pub mod Runs
 pub mod Sinks
+pub mod Words

@@ -1,5 +1,5 @@
 -- What the program reads, tells and answers.
-use Rattle.std.specs.Prelude.{◌≡◌, ℕ, List, [], ◌++◌, take, decimal, codes, Bool, false, Option, None, IfSome, Result, Ok, Err}
+use Rattle.std.specs.Prelude.{◌≡◌, ℕ, List, [], ◌++◌, take, decimal, codes, Bool, false, Option, IfSome, Result, Ok, Err}
 use Rattle.evl_kernel.specs.States.{Handler}
 use Rattle.evl_scenario.specs.declared.faults.Fault.{Fault}
 use Rattle.evl_scenario.specs.declared.faults.Fault.TheVariants.{Text, Board, Step, Memory, Write}
@@ -50,12 +50,12 @@ ends_by_write (Ok done) = false
 ends_by_write (Err NoFile) = false
 ends_by_write (Err (Broken fault)) = is_write_fault (Err fault)
 
--- the program's end on an input over a bank: the text that it read, what it told of that text's trace, and whether the
--- sink has failed
-pub record Ended (bank : List Handler) (known old new : Option (List ℕ)) (failed : Bool) (end : Result (Unit {0}) Stop) : Type 0 where
+-- the program's end on an input over a bank, under a limit that may be handed in: the text that it read, what it told of
+-- that text's trace, and whether the sink has failed
+pub record Ended (bank : List Handler) (given : Option ℕ) (known old new : Option (List ℕ)) (failed : Bool) (end : Result (Unit {0}) Stop) : Type 0 where
   pub text : List ℕ
   pub read : IsInput known text
-  pub tells : Tells old new (trace_of bank None text) end
+  pub tells : Tells old new (trace_of bank given text) end
   pub fails : failed ≡ ends_by_write end
 
 -- its status
@@ -69,8 +69,8 @@ said (Ok done) = []
 said (Err stop) = stop_line stop
 
 -- the program ended somehow, answered the status of that end, and said its line, or a front part where `err` failed
-pub record Plays (bank : List Handler) (known old new : Option (List ℕ)) (failed : Bool) (quiet spoken : Option (List ℕ)) (answer : ℕ) : Type 0 where
+pub record Plays (bank : List Handler) (given : Option ℕ) (known old new : Option (List ℕ)) (failed : Bool) (quiet spoken : Option (List ℕ)) (answer : ℕ) : Type 0 where
   pub end : Result (Unit {0}) Stop
-  pub ended : Ended bank known old new failed end
+  pub ended : Ended bank given known old new failed end
   pub status_is : answer ≡ status end
   pub says : TakesPrefix quiet spoken (said end)

@@ -4,10 +4,13 @@
 mod chunks;
 mod lent;
 mod plays;
+mod programs;
 mod runs;
 mod sinks;
+mod words;
 
 pub use evl_scenario::Fault;
-pub use plays::{Stop, play, stopped};
+pub use plays::{Stop, stopped};
+pub use programs::play;
 pub use runs::run;
 pub use sinks::{Over, Sink};

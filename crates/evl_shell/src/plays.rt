@@ -1,10 +1,10 @@
-//! The program: reads a scenario, plays it, and says why it stopped.
+//! Reads a scenario, plays it, and says why it stopped.
 ghost use Rattle.std.specs.Prelude.{◌≡◌, ◌⊎◌, ◌≤◌, ◌++◌, false, length, decimal, codes, IfOk, IfErr};
 ghost use Rattle.evl_scenario.specs.Lines.{line_feed};
 ghost use Rattle.evl_shell.specs.Sinks.{TakesPrefix, Takes};
 ghost use Rattle.evl_shell.specs.Runs.{handlers_of};
 ghost use Rattle.evl_shell.specs.Plays as plays;
-ghost use Rattle.evl_shell.specs.Plays.{IsInput, Ended, Plays, stop_line};
+ghost use Rattle.evl_shell.specs.Plays.{IsInput, Ended, stop_line};
 
 use crate::lent::OverLent;
 use crate::runs::run;
@@ -134,43 +134,25 @@ pub fn stopped<E: Write>(err: &mut E, stop: Stop) -> u8
     status
 }
 
-// Plays the scenario that the input holds.
-fn play_input<R: Read, S: Sink>(
+/// Plays the scenario that an input holds, over a bank of at most 64 callbacks, under a limit that may be handed in (this
+/// profile).
+pub fn play_input<R: Read, S: Sink>(
     alloc: Global,
+    limit: Option<u32>,
     bank: Vec<Callback>,
     input: &mut R,
     out: &mut S,
 ) -> Result<(), Stop>
     requires working { S.has_failed out.old ≡ false }
     requires few { length bank.items ≤ 64 }
-    ensures { Ended (handlers_of (λ (c : _). c.kinds.0) (λ (c : _). c.plan.value) bank.items) (R.remaining input.old) (S.told out.old) (S.told out.new) (S.has_failed out.new) result }
+    ensures { Ended (handlers_of (λ (c : _). c.kinds.0) (λ (c : _). c.plan.value) bank.items) limit (R.remaining input.old) (S.told out.old) (S.told out.new) (S.has_failed out.new) result }
 {
     let text = match read_input(alloc, input) {
         Ok(text) => text,
         Err(stop) => return Err(stop),
     };
-    match run(alloc, text.as_slice(), None, bank, out) {
+    match run(alloc, text.as_slice(), limit, bank, out) {
         Ok(()) => Ok(()),
         Err(fault) => Err(Stop::Broken(fault)),
-    }
-}
-
-/// Reads a scenario up to the input's end, at most 1,048,577 bytes, plays it over a bank of at most 64 callbacks into
-/// the sink, and answers the status: 0 done, 1 the sink failed, 2 the scenario was refused or a read failed, 4 no
-/// memory. Where it isn't 0, a line on `err` says why; a failure of `err` is ignored (this profile).
-pub fn play<R: Read, S: Sink, E: Write>(
-    alloc: Global,
-    bank: Vec<Callback>,
-    input: &mut R,
-    out: &mut S,
-    err: &mut E,
-) -> u8
-    requires working { S.has_failed out.old ≡ false }
-    requires few { length bank.items ≤ 64 }
-    ensures { Plays (handlers_of (λ (c : _). c.kinds.0) (λ (c : _). c.plan.value) bank.items) (R.remaining input.old) (S.told out.old) (S.told out.new) (S.has_failed out.new) (E.contents err.old) (E.contents err.new) result }
-{
-    match play_input(alloc, bank, input, out) {
-        Ok(()) => 0,
-        Err(stop) => stopped(err, stop),
     }
 }

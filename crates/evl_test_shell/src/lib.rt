@@ -14,4 +14,6 @@ mod sinks;
 #[cfg(test)]
 mod statuses;
 #[cfg(test)]
+mod words;
+#[cfg(test)]
 mod writers;

@@ -3,7 +3,7 @@ use evl_shell::{Over, run};
 use std::alloc::Global;
 use std::test::*;
 
-const FIRST_SEMAPHORE: &str =
+pub const FIRST_SEMAPHORE: &str =
     "limit = 100\n[board]\nthreads = 1\nsems = [0]\n[[step]]\ndo = \"try_get\"\nwho = 0\nsem = 0\n[[step]]\ndo = \"put\"\nwho = 0\nsem = 0\n[[step]]\ndo = \"try_get\"\nwho = 0\nsem = 0\n[[step]]\ndo = \"peek\"\nwho = 0\nsem = 0\n";
 
 // The trace of a text under a limit that is handed in.

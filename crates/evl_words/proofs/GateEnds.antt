@@ -14,6 +14,7 @@ use Rattle.evl_words.specs.declared.gate.GateHold.{GateHold}
 use Rattle.evl_words.specs.Machine.{Run}
 use Rattle.evl_words.specs.History.{Fits}
 use Rattle.evl_words.specs.Hands.{Hand, places_of, AreOf, hand_back}
+use Rattle.evl_words.specs.Endings.{Ends, EndsWith}
 use Rattle.evl_words.specs.Dealings.{Dealing, DealingEvent, DealingStep, Holds, opened}
 use Rattle.evl_words.specs.Gate.{stage_held, open_gate}
 use Rattle.evl_words.specs.GateWorld.{GateView, GateKind, IsGateWorld, gate_steps, gate_author, newcomer, hold}
@@ -21,7 +22,7 @@ use Rattle.evl_words.specs.GateRule.{GateRule, all_seats}
 use Rattle.evl_words.specs.GateCalls.{SeatState, GateState, IsSeatOf, new_seat, place_of, Closes}
 use Rattle.evl_words.proofs.Sequences.{at_replicate, map-replicate}
 use Rattle.evl_words.proofs.Dealing.{deals_opening}
-use Rattle.evl_words.proofs.Counting.{each_back, length_back, hand_sum, sum_back}
+use Rattle.evl_words.proofs.Counting.{once_in, each_back, length_back, hand_sum, sum_back}
 use Rattle.evl_words.proofs.Dealings.{dealings_hold}
 use Rattle.evl_words.proofs.GateSteps.{step_keeps}
 
@@ -83,6 +84,16 @@ gate_closes gate seats s d there once =
       sum_by-cons (λ (u : GateView). cond {A = ℕ} (is_some u.held.stage) 1 0) v vs,
       count_held vs,
     )
+
+-- A gate whose table ended so
+pub ends_alone : (gate : GateState) (word : ℕ) → Ends (GateRule gate.limit gate.seats) word → Closes gate [] word
+ends_alone gate word e = subst (λ n. Closes gate [] n) (sym e.shown) (gate_closes gate [] e.state e.kept tt (λ k. omega arith))
+
+pub ends_with : (gate : GateState) (seats : List SeatState) (word : ℕ) → EndsWith (GateRule gate.limit gate.seats) (hand_back place_of seats) word → Closes gate seats word
+ends_with gate seats word e =
+    let s = e.ends.state in
+    let d = e.ends.kept in
+    subst (λ n. Closes gate seats n) (sym e.ends.shown) (gate_closes gate seats s d (d.deals.same e.token (hand_back place_of seats) e.there) (once_in d.views s.views d.deals e.token (hand_back place_of seats) e.there))
 
 -- the seats that a gate was made with are its seats
 pub all_new : (gate : GateState) (a n : ℕ) → All (λ seat. IsSeatOf seat gate) (map (new_seat gate) (range_with_len a n))

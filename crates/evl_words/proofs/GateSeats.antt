@@ -4,7 +4,7 @@ use Rattle.std.specs.Prelude.{Option, Some, None, is_some, false, IsSome, MatchO
 use Rattle.atomic_table.specs.Table.{Me, Step, Allows}
 use Rattle.evl_base.specs.declared.stage.Stage.{Stage}
 use Rattle.evl_base.specs.declared.refusal.Refusal.{Refusal}
-use Rattle.evl_base.specs.declared.refusal.Refusal.TheVariants.{NoMemory, HistoryFull, CoreBusy, Unknown, Invalid, Again, Busy, NotOwner, Deadlock, Limit, Range, TooBig, WrongStage, HoldsStax, Raced}
+use Rattle.evl_base.specs.declared.refusal.Refusal.TheVariants.{Again, Busy, Limit, Raced}
 use Rattle.evl_words.specs.declared.gate.GateHold.{GateHold}
 use Rattle.evl_words.specs.declared.gate.GateCall.{GateCall}
 use Rattle.evl_words.specs.declared.gate.GateCall.TheVariants.{Enter}
@@ -85,17 +85,7 @@ fails_after old mid new stage Again same look held free f = (free, calls_after o
 fails_after old mid new stage Limit same look held free f = (free, calls_after old mid new (Enter stage) (Refused Limit) None same look f.1)
 fails_after old mid new stage (Raced first second) same look held free f = (free, f.1 ∙ held, races_after old mid new stage first second same look f.2)
 fails_after old mid new stage Busy same look held free f = let some : IsSome old.view.held.stage = subst (λ (h : GateHold). IsSome h.stage) held f.0 in absurd (let none : IsSome {T = Stage} None = rw free at some in cc)
-fails_after old mid new stage NoMemory same look held free f = f
-fails_after old mid new stage NotOwner same look held free f = f
-fails_after old mid new stage Deadlock same look held free f = f
-fails_after old mid new stage Range same look held free f = f
-fails_after old mid new stage HistoryFull same look held free f = f
-fails_after old mid new stage CoreBusy same look held free f = f
-fails_after old mid new stage Unknown same look held free f = f
-fails_after old mid new stage Invalid same look held free f = f
-fails_after old mid new stage TooBig same look held free f = f
-fails_after old mid new stage WrongStage same look held free f = f
-fails_after old mid new stage HoldsStax same look held free f = f
+fails_after old mid new stage _ same look held free f = f
 
 pub is_none : (o : Option Stage) → is_some o ≡ false → o ≡ None
 is_none None e = refl

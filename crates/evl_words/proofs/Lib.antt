@@ -5,6 +5,7 @@ pub mod Events
 pub mod Dealing
 pub mod Dealings
 pub mod Counting
+pub mod Endings
 pub mod Parts
 pub mod GateLaws
 pub mod GateWords

@@ -56,6 +56,11 @@ module _ {A : Type 0} where
   all_push P [] x all here = All-cons P x [] here (All-nil P)
   all_push P (y ∷ xs) x all here = All-cons P y (xs ++ x ∷ []) (All-head P y xs all) (all_push P xs x (All-tail P y xs all) here)
 
+  -- what follows for each of the list without its last one
+  pub all_front : (P Q : A → Type 0) → ((x : A) → P x → Q x) → (xs : List A) (x : A) → All P (xs ++ x ∷ []) → All Q xs
+  all_front P Q f [] x all = All-nil Q
+  all_front P Q f (y ∷ xs) x all = All-cons Q y xs (f y (All-head P y (xs ++ x ∷ []) all)) (all_front P Q f xs x (All-tail P y (xs ++ x ∷ []) all))
+
   module _ (f : A → ℕ) where
     pub total_set : (l : List A) (i : ℕ) (a b : A) → get_elem? l i ≡ some a → sum_by f (set l i b) + f a ≡ sum_by f l + f b
     total_set [] i a b e = absurd (some-ne-none a (sym e))

@@ -1,10 +1,10 @@
 -- A gate and its seats as their callers see them, and what a call did.
-use Rattle.std.specs.Prelude.{◌≡◌, ◌≢◌, ◌⊎◌, ℕ, ◌≤◌, Option, None, IsSome, is_some, List, [], length, count_by, All}
+use Rattle.std.specs.Prelude.{◌≡◌, ◌≢◌, ◌⊎◌, ℕ, ◌≤◌, Option, None, IsSome, is_some, List, [], ◌∷◌, length, count_by, All}
 use mathlib.Core.List.{IsPrefix}
 use Rattle.evl_base.specs.declared.stage.Stage.{Stage}
 use Rattle.evl_base.specs.declared.numbers.StaxId.{StaxId}
 use Rattle.evl_base.specs.declared.refusal.Refusal.{Refusal}
-use Rattle.evl_base.specs.declared.refusal.Refusal.TheVariants.{NoMemory, HistoryFull, CoreBusy, Unknown, Invalid, Again, Busy, NotOwner, Deadlock, Limit, Range, TooBig, WrongStage, HoldsStax, Raced}
+use Rattle.evl_base.specs.declared.refusal.Refusal.TheVariants.{Again, Busy, Limit, Raced}
 use Rattle.evl_words.specs.declared.gate.StaxPass.{StaxPass}
 use Rattle.evl_words.specs.declared.gate.GateCall.{GateCall}
 use Rattle.evl_words.specs.declared.gate.GateCall.TheVariants.{Enter}
@@ -14,11 +14,11 @@ use Rattle.atomic_table.specs.Seated.{TableId}
 use Rattle.evl_words.specs.Machine.{Run}
 use Rattle.evl_words.specs.History.{Fits, entries_of}
 use Rattle.evl_words.specs.declared.history.Place.{Place}
-use Rattle.evl_words.specs.Hands.{place}
+use Rattle.evl_words.specs.Hands.{Hand, place}
 use Rattle.evl_words.specs.Gate.{Gate, GateEntry, GateStep, open_gate, stage_held}
 use Rattle.evl_words.specs.GateWord.{word_of, word_refusal}
 use Rattle.evl_words.specs.GateWorld.{GateView, GateKind, GateDoes, GateLooks, GateAppends, looks, exchanges, gate_author, hold, newcomer}
-use Rattle.evl_words.specs.GateRule.{Shows}
+use Rattle.evl_words.specs.GateRule.{Shows, view_in}
 
 -- of which table and gate the seat is, its number, and its view
 pub record SeatState : Type 0 where
@@ -45,6 +45,14 @@ pub record IsSameSeat (old new : SeatState) : Type 0 where
   pub gate : new.gate ≡ old.gate
   pub number : new.number ≡ old.number
   pub limit : new.view.held.limit ≡ old.view.held.limit
+
+-- the seat that has this hand alone, and holds nothing
+abbrev pub seat_with : TableId → StaxId → ℕ → Hand GateView → SeatState
+seat_with table gate number hand = record { table = table; gate = gate; number = number; view = view_in hand }
+
+-- a seat of this number begins with its own place alone, at which it holds nothing
+abbrev pub begins : ℕ → Hand GateView → Type 0
+begins number hand = (hand ≡ place number (view_in hand) ∷ []) × ((view_in hand).held.stage ≡ None)
 
 -- a seat as the gate was made with it
 abbrev pub new_seat : GateState → ℕ → SeatState
@@ -84,17 +92,7 @@ FailsToEnter old stage new Again = (old.view.held.stage ≡ None) × Calls old (
 FailsToEnter old stage new Limit = (old.view.held.stage ≡ None) × Calls old (Enter stage) (Refused Limit) new None
 FailsToEnter old stage new (Raced first second) = (old.view.held.stage ≡ None) × (new.view.held ≡ old.view.held) × Races old stage first second new
 FailsToEnter old stage new Busy = IsSome old.view.held.stage × (new ≡ old)
-FailsToEnter old stage new NoMemory = ⊥
-FailsToEnter old stage new HistoryFull = ⊥
-FailsToEnter old stage new CoreBusy = ⊥
-FailsToEnter old stage new Unknown = ⊥
-FailsToEnter old stage new Invalid = ⊥
-FailsToEnter old stage new NotOwner = ⊥
-FailsToEnter old stage new Deadlock = ⊥
-FailsToEnter old stage new Range = ⊥
-FailsToEnter old stage new TooBig = ⊥
-FailsToEnter old stage new WrongStage = ⊥
-FailsToEnter old stage new HoldsStax = ⊥
+FailsToEnter old stage new _ = ⊥
 
 -- the seat looked, and the word that it found would let it in
 pub record FindsFree (old : SeatState) (stage : Stage) (word : ℕ) (new : SeatState) : Type 0 where

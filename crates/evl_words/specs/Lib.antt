@@ -2,6 +2,7 @@ pub mod Machine
 pub mod History
 pub mod Events
 pub mod Hands
+pub mod Endings
 pub mod Dealings
 pub mod Parts
 pub mod Gate

@@ -1,5 +1,5 @@
 -- A mutex word and its seats as their callers see them, and what a call did.
-use Rattle.std.specs.Prelude.{◌≡◌, ◌⊎◌, ℕ, ◌+◌, ◌-◌, ◌<◌, ◌≤◌, ◌==◌, Bool, true, false, List, [], All, MatchBool}
+use Rattle.std.specs.Prelude.{◌≡◌, ◌⊎◌, ℕ, ◌+◌, ◌-◌, ◌<◌, ◌≤◌, ◌==◌, Bool, true, false, List, [], ◌∷◌, All, MatchBool}
 use Rattle.evl_base.specs.declared.numbers.MutexId.{MutexId}
 use Rattle.evl_base.specs.declared.refusal.Refusal.{Refusal}
 use Rattle.evl_base.specs.declared.refusal.Refusal.TheVariants.{Busy, Deadlock, Limit}
@@ -18,9 +18,10 @@ use Rattle.atomic_table.specs.Seated.{TableId}
 use Rattle.evl_words.specs.Machine.{Run}
 use Rattle.evl_words.specs.History.{Fits, entries_of}
 use Rattle.evl_words.specs.declared.history.Place.{Place}
-use Rattle.evl_words.specs.Hands.{place}
+use Rattle.evl_words.specs.Hands.{Hand, place}
 use Rattle.evl_words.specs.Mutex.{Mutex, MutexEntry, MutexStep, unowned, is_owner, is_seizing}
 use Rattle.evl_words.specs.MutexBits.{mutex_word}
+use Rattle.evl_words.specs.MutexRule.{view_in}
 use Rattle.evl_words.specs.MutexWorld.{MutexView, MutexKind, MutexDoes, MutexLooks, MutexAppends, EndsOffered, NamesBelow, awaits, accepts, mutex_author, newcomer, role_of, owns, wins}
 
 -- of which table and mutex the seat is, its number, how often it holds the mutex, and its view
@@ -49,6 +50,14 @@ pub record IsSameSeat (old new : MutexSeatState) : Type 0 where
   pub mutex : new.mutex ≡ old.mutex
   pub number : new.number ≡ old.number
   pub seats : new.view.held.seats ≡ old.view.held.seats
+
+-- the seat that has this hand alone, and owns nothing
+abbrev pub seat_with : TableId → MutexId → ℕ → Hand MutexView → MutexSeatState
+seat_with table mutex number hand = record { table = table; mutex = mutex; number = number; depth = 0; view = view_in hand }
+
+-- a seat of this number begins with its own place alone, at which it holds nothing
+abbrev pub begins : ℕ → Hand MutexView → Type 0
+begins number hand = (hand ≡ place number (view_in hand) ∷ []) × (owns (view_in hand).held.role ≡ false)
 
 -- a seat as the mutex was made with it
 abbrev pub new_seat : MutexState → ℕ → MutexSeatState

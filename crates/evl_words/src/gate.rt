@@ -11,6 +11,8 @@ mod ends;
 mod enter;
 mod readers;
 mod steps;
+#[cfg(test)]
+mod tests;
 mod word;
 
 use steps::{GateKey, Gated};

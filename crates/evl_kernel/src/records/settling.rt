@@ -100,7 +100,8 @@ impl<C: Handler, A: Allocator> Records<C, A> {
         }
     }
 
-    /// Plays the line that is next after so many in-band plays of this call, if a line is playable.
+    /// Plays the line that is next after so many in-band plays of this call, if a line is playable; an eligible thread holds
+    /// in-band lines back.
     fn play_line(&mut self, inband: u8) -> Option<Play>
         requires answering { AnswersAsTold C.declared C.plan (whereabouts self.old) }
         requires few { inband ≤ inband_limit }
@@ -112,7 +113,8 @@ impl<C: Handler, A: Allocator> Records<C, A> {
         ensures stands { KeepsCallbacks self.old self.new }
     {
         let date = self.date();
-        match self.pipeline.next(false, inband < MAX_INBAND, date) {
+        let eligible = self.sched.eligible();
+        match self.pipeline.next(eligible, inband < MAX_INBAND, date) {
             None => None,
             Some(Ran::Clock) => Some(Play::Clock),
             Some(Ran::Line { fire, answer }) => {

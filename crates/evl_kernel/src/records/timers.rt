@@ -33,14 +33,17 @@ impl<C, A: Allocator> Records<C, A> {
         Ok(Reply::Number(self.clock.now()))
     }
 
-    /// Moves the date by so many nanoseconds, and posts line 0 where something is due then. `Range` where the date would
-    /// be past 2^64 - 1.
+    /// Charges the thread that is picked, moves the date by so many nanoseconds, and posts line 0 where something is due
+    /// then. `Range` where the date would be past 2^64 - 1.
     pub(super) fn tick(&mut self, delta: u64) -> Result<Reply, Refusal>
         ensures answer { IsAnswer result }
         ensures served { Has (state_of self.old) (timer_call.tick (state_of self.old) delta) result (state_of self.new) }
         ensures stands { KeepsCallbacks self.old self.new }
     {
+        let before = self.clock.now();
         let due = self.clock.advance(delta)?;
+        let now = self.clock.now();
+        self.pay(before, delta, now);
         self.alarm(due);
         Ok(Reply::Done)
     }

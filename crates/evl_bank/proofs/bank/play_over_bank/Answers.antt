@@ -1,14 +1,14 @@
-use Rattle.std.proofs.Common.{◌≡◌, List, [], ◌∷◌, subst, ap, ◌∙◌}
+use Rattle.std.proofs.Common.{◌≡◌, List, [], ◌∷◌, map, subst, ap, ◌∙◌}
 use Rattle.evl_base.specs.declared.action_kinds.ActionKinds.{ActionKinds}
 use Rattle.evl_kernel.specs.States.{Handler}
 use Rattle.evl_bank.specs.Bank.{program_bank}
-use Rattle.evl_shell.specs.Plays.{Plays}
+use Rattle.evl_shell.specs.Programs.{Answers}
 use Rattle.evl_shell.specs.Runs.{handlers_of}
 use Rattle.evl_bank.proofs.BankLemmas.{tells}
 use Rattle.evl_bank.proofs.bank.play_over_bank.Goals as goal
 
-pub returns-clause-played : goal.returns-clause-played
-returns-clause-played g c =
+pub returns-clause-answers : goal.returns-clause-answers
+returns-clause-answers g c =
     let tells-0 = tells c.new-9.result.kinds.0 _ _ _ _ (ap (λ (k : ActionKinds). k.0) c.new-9.ensures.kinds ∙ c.from_bits_retain-none.ensures tt) c.new-9.ensures.plan c.quiet_plan.ensures in
     let tells-1 = tells c.new-10.result.kinds.0 _ _ _ _ (ap (λ (k : ActionKinds). k.0) c.new-10.ensures.kinds) c.new-10.ensures.plan c.plan.ensures in
     let tells-2 = tells c.new-11.result.kinds.0 _ _ _ _ (ap (λ (k : ActionKinds). k.0) c.new-11.ensures.kinds) c.new-11.ensures.plan c.plan-2.ensures in
@@ -20,6 +20,6 @@ returns-clause-played g c =
     let items : c.in_ok-bank.bank.items ≡ c.new-9.result ∷ c.new-10.result ∷ c.new-11.result ∷ c.new-12.result ∷ c.new-13.result ∷ c.new-14.result ∷ c.new-15.result ∷ c.new-16.result ∷ [] = c.in_ok-bank.ensures.items in
     let told : handlers_of (λ x. x.kinds.0) (λ x. x.plan.value) c.in_ok-bank.bank.items ≡ program_bank =
     ap (handlers_of (λ x. x.kinds.0) (λ x. x.plan.value)) items ∙ (λ i. tells-0 i ∷ tells-1 i ∷ tells-2 i ∷ tells-3 i ∷ tells-4 i ∷ tells-5 i ∷ tells-6 i ∷ tells-7 i ∷ []) in
-    let P : List Handler → Type 0 = λ b. Plays b (g.R.Read.remaining c.args.input.now) (g.S.Sink.told c.args.out.now) (g.S.Sink.told c.play.new.out)
+    let P : List Handler → Type 0 = λ b. Answers (map (λ s. s.now) c.args.words.now) b (g.R.Read.remaining c.args.input.now) (g.S.Sink.told c.args.out.now) (g.S.Sink.told c.play.new.out)
     (g.S.Sink.has_failed c.play.new.out) (g.E.Write.contents c.args.err.now) (g.E.Write.contents c.play.new.err) c.play.result in
-    subst P told c.play.ensures
+    subst P told c.play.ensures.answers

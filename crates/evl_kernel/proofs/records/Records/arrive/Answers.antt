@@ -9,6 +9,7 @@ invariant_of-self-2 g c = record {
       c.arrive.new.self (rw c.in_ok-arrive.ensures.ok.1 (old-arrived c.self.inside.pipeline c.args.line.0)) c.self.invariant.allowed;
   timers_allowed = c.self.invariant.timers_allowed;
   clock_sound = c.self.invariant.clock_sound;
+  ranks = c.self.invariant.ranks;
 }
 
 pub returns-clause-stands : goal.returns-clause-stands

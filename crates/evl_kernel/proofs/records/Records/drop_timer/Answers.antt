@@ -1,6 +1,6 @@
 use Rattle.std.proofs.Common.{arith}
 use Rattle.std.proofs.lemmas.Option.{slice_get_within}
-use Rattle.evl_kernel.proofs.TimerLaws.{was_in, dropped_back, dropped_state, dropped_keeps, dropped_allowed, dropped_timers_allowed, dropped_sound}
+use Rattle.evl_kernel.proofs.TimerLaws.{was_in, dropped_state, dropped_keeps, dropped_allowed, dropped_timers_allowed, dropped_sound}
 use Rattle.evl_kernel.specs.RecordsInside.{records_view}
 use Rattle.evl_kernel.proofs.records.Records.drop_timer.Goals as goal
 
@@ -19,6 +19,7 @@ invariant_of-self-2 g c =
       allowed = rw (c.put_back.ensures.put out.place out.there) (dropped_allowed r c.args.timer.0 c.in_ok-numbered.numbered out c.self.invariant.allowed);
       timers_allowed = rw (c.put_back.ensures.put out.place out.there, c.in_ok-numbered.ensures.state) (dropped_timers_allowed r c.args.timer.0 c.in_ok-numbered.numbered out c.self.invariant.timers_allowed);
       clock_sound = rw c.in_ok-numbered.ensures.state (dropped_sound r c.args.timer.0 c.self.invariant.clock_sound);
+      ranks = c.self.invariant.ranks;
     }
 
 pub returns-clause-served : goal.returns-clause-served

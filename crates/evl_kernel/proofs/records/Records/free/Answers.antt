@@ -24,6 +24,7 @@ invariant_of-self-2 g c =
           (timers_allowed-kept r (back r c.args.line.0 c.args.stage c.in_ok-numbered.numbered out.place) (λ n at h. (at, h, refl))
           (back_keeps r c.args.line.0 c.args.stage c.in_ok-numbered.numbered out).told_is c.self.invariant.timers_allowed);
       clock_sound = c.self.invariant.clock_sound;
+      ranks = c.self.invariant.ranks;
     }
 
 pub returns-clause-served : goal.returns-clause-served

@@ -1,19 +1,23 @@
-use Rattle.std.proofs.Common.{rules, ◌≡◌, refl}
+use Rattle.std.proofs.Common.{rules, ◌≡◌, refl, sym, subst}
 use Rattle.evl_pipeline.specs.Lines.{opening}
 use Rattle.evl_clock.specs.Clocks as clocks
 use Rattle.evl_kernel.proofs.OpeningLaws.{opened_records, allowed-new, timers_allowed-new, sound-opening_clock}
+use Rattle.evl_sched.specs.Ranks.{IsUnboosted, fresh}
 use Rattle.evl_kernel.specs.Records.{RecordsView}
+use Rattle.evl_sched.proofs.UnboostedLaws.{unboosted-fresh}
 use Rattle.evl_kernel.proofs.records.Records.new.Goals as goal
 
 pub invariant_of-result : goal.invariant_of-result
 invariant_of-result g c =
     let nothing : c.in_ok-pipeline.pipeline ≡ opening = search rules in
     let no_timers : c.in_ok-clock.clock ≡ clocks.opening = search rules in
-    let r : RecordsView g.row.C.Denot = record { threads = c.args.board.now.threads; counts = c.in_ok-counts.counts.items; bank = c.in_ok-bank.bank.items; lines = c.in_ok-pipeline.pipeline; clock = c.in_ok-clock.clock } in
-    record { allowed = allowed-new r nothing; timers_allowed = timers_allowed-new r no_timers; clock_sound = sound-opening_clock r no_timers }
+    let r : RecordsView g.row.C.Denot = record { threads = c.args.board.now.threads; counts = c.in_ok-counts.counts.items; bank = c.in_ok-bank.bank.items; lines = c.in_ok-pipeline.pipeline; clock = c.in_ok-clock.clock; sched = c.in_ok-sched.sched } in
+    let nobody : c.in_ok-sched.sched ≡ fresh c.args.board.now.threads c.args.board.now.groups.items = search rules in
+    record { allowed = allowed-new r nothing; timers_allowed = timers_allowed-new r no_timers; clock_sound = sound-opening_clock r no_timers; ranks = subst IsUnboosted (sym nobody) (unboosted-fresh c.args.board.now.threads c.args.board.now.groups.items) }
 
 pub returns-clause-opened : goal.returns-clause-opened
 returns-clause-opened g c =
     let nothing : c.in_ok-pipeline.pipeline ≡ opening = search rules in
     let no_timers : c.in_ok-clock.clock ≡ clocks.opening = search rules in
-    opened_records g.C.Handler.declared g.C.Handler.plan c.args.board.now c.args.bank.items _ refl c.in_ok-counts.ensures.counts c.in_ok-bank.ensures.places nothing no_timers
+    let nobody : c.in_ok-sched.sched ≡ fresh c.args.board.now.threads c.args.board.now.groups.items = search rules in
+    opened_records g.C.Handler.declared g.C.Handler.plan c.args.board.now c.args.bank.items _ refl c.in_ok-counts.ensures.counts c.in_ok-bank.ensures.places nothing no_timers nobody

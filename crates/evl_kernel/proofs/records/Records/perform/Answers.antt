@@ -1,7 +1,7 @@
 use Rattle.std.proofs.Common.{sym, ◌∙◌}
 use Rattle.evl_kernel.specs.Records.{state_of, whereabouts}
 use Rattle.evl_kernel.proofs.CallbackLaws.{answers-kept, keeps-both}
-use Rattle.evl_kernel.proofs.HistoryLaws.{performed_ok}
+use Rattle.evl_kernel.proofs.HistoryLaws.{performed_err, performed_ok}
 use Rattle.evl_kernel.proofs.SettlingLaws.{appends_before}
 use Rattle.evl_kernel.proofs.records.Records.perform.Goals as goal
 
@@ -18,3 +18,9 @@ returns-then-is_ok-clause-performed g c =
 
 pub returns-then-is_ok-clause-stands : goal.returns-then-is_ok-clause-stands
 returns-then-is_ok-clause-stands g c = keeps-both c.args.self.now c.answer-reply.new.self c.settle.new.self c.answer-reply.ensures.stands c.settle.ensures.stands
+
+pub returns-else-is_ok-clause-performed : goal.returns-else-is_ok-clause-performed
+returns-else-is_ok-clause-performed g c =
+    let old = c.args.self.now in
+    performed_err g.C.Handler.gives (whereabouts old) c.args.plays.now.items (state_of old) (state_of c.answer-reply.new.self) c.args.caller.0 c.args.call.now
+    c.answer-reply.result (sym c.is_ok.ensures.value ∙ c.if-is_ok.false) c.answer-reply.ensures.answered

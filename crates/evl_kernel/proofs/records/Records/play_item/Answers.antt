@@ -18,6 +18,7 @@ invariant_of-self-in-Deadline g c =
       timers_allowed = timers_allowed-clock (records_view c.self.inside) c.next_due.new.self
           (subst (OnlyOldTimers c.self.inside.clock) (sym fell.1) (old-with_deadline c.self.inside.clock c.in-Deadline.thread.0 None)) c.self.invariant.timers_allowed;
       clock_sound = subst IsSoundClock (sym fell.1) (sound-with_deadline c.self.inside.clock c.in-Deadline.thread.0 None c.self.invariant.clock_sound);
+      ranks = c.self.invariant.ranks;
     }
 
 pub invariant_of-self-in-Timer : goal.invariant_of-self-in-Timer
@@ -28,6 +29,7 @@ invariant_of-self-in-Timer g c =
       timers_allowed = timers_allowed-clock (records_view c.self.inside) c.next_due.new.self
           (subst (OnlyOldTimers c.self.inside.clock) (sym fell.1.after) (old-fired c.self.inside.clock c.in-Timer.id.0 fell.1.at fell.1.stands)) c.self.invariant.timers_allowed;
       clock_sound = subst IsSoundClock (sym fell.1.after) (sound-with_timer c.self.inside.clock c.in-Timer.id.0 _ c.self.invariant.clock_sound);
+      ranks = c.self.invariant.ranks;
     }
 
 pub returns-in-Deadline-clause-played : goal.returns-in-Deadline-clause-played

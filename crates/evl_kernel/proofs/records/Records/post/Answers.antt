@@ -9,6 +9,7 @@ invariant_of-self-2 g c = record {
       c.post.new.self (rw c.in_ok-post.ensures.ok.1 (old-posted c.self.inside.pipeline c.args.stage c.args.line.0)) c.self.invariant.allowed;
   timers_allowed = c.self.invariant.timers_allowed;
   clock_sound = c.self.invariant.clock_sound;
+  ranks = c.self.invariant.ranks;
 }
 
 pub returns-clause-stands : goal.returns-clause-stands

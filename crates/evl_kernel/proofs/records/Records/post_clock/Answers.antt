@@ -8,6 +8,7 @@ invariant_of-self g c = record {
   allowed = allowed-old (records_view c.self.inside) c.post.new.self (old-tried c.self.inside.pipeline c.post.new.self c.post.result c.post.ensures.ok c.post.ensures.unchanged) c.self.invariant.allowed;
   timers_allowed = c.self.invariant.timers_allowed;
   clock_sound = c.self.invariant.clock_sound;
+  ranks = c.self.invariant.ranks;
 }
 
 pub returns-clause-stands : goal.returns-clause-stands

@@ -53,6 +53,7 @@ invariant_of-self-in-Ok g c =
           (timers_allowed-kept r (after_request r c.args.line.0 c.args.stage c.args.callback c.args.tag c.in-Some-take_out.taken place) (λ n at h. (at, h, refl))
           (requested_keeps r c.args.line.0 c.args.stage c.args.callback c.args.tag c.in-Some-take_out.taken place there has).told_is c.self.invariant.timers_allowed);
       clock_sound = c.self.invariant.clock_sound;
+      ranks = c.self.invariant.ranks;
     }
 
 pub returns-in-Ok-clause-served : goal.returns-in-Ok-clause-served

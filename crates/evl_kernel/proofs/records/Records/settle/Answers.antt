@@ -4,7 +4,6 @@ use Rattle.evl_kernel.specs.RecordsInside.{records_view}
 use Rattle.evl_kernel.specs.Limits.{play_limit}
 use Rattle.evl_kernel.specs.Records.{state_of, whereabouts}
 use Rattle.evl_kernel.specs.Settled.{settling, left_after}
-use Rattle.evl_kernel.specs.Settling.{is_of_clock}
 use Rattle.evl_kernel.proofs.CallbackLaws.{keeps-none, keeps-both, answers-kept}
 use Rattle.evl_kernel.proofs.SettlingLaws.{PlaysOn, called_before, plays_on-none, plays_on-more, left_at_first, stalled_settles}
 use Rattle.evl_kernel.proofs.records.Records.settle.Goals as goal

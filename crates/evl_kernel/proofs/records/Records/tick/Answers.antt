@@ -11,13 +11,14 @@ invariant_of-self-2 g c = record {
   timers_allowed = timers_allowed-clock (records_view c.self.inside) c.advance.new.self
       (subst (OnlyOldTimers c.self.inside.clock) (sym c.in_ok-due.ensures.state) (old-advanced c.self.inside.clock c.args.delta)) c.self.invariant.timers_allowed;
   clock_sound = subst IsSoundClock (sym c.in_ok-due.ensures.state) (sound-advanced c.self.inside.clock c.args.delta c.self.invariant.clock_sound);
+  ranks = c.self.invariant.ranks;
 }
 
 pub returns-clause-served : goal.returns-clause-served
 returns-clause-served g c =
-    rw (← c.self.view_is) (ticked_state (records_view c.self.inside) c.args.delta c.in_ok-due.due _ c.in_ok-due.ensures.ok.0 c.in_ok-due.ensures.state c.in_ok-due.ensures.ok.1 _ c.alarm.ensures.posted)
+    rw (← c.self.view_is) (ticked_state (records_view c.self.inside) c.args.delta c.in_ok-due.due _ c.in_ok-due.ensures.ok.0 c.in_ok-due.ensures.state c.in_ok-due.ensures.ok.1 _ (rw (c.now-before.ensures.now, c.now-now.ensures.now) at c.pay.ensures.paid) _ c.alarm.ensures.posted)
 
 pub returns-clause-stands : goal.returns-clause-stands
 returns-clause-stands g c =
-    rw (← c.self.view_is) (keeps-both (records_view c.self.inside) _ c.alarm.new.self (keeps-clock (records_view c.self.inside) _
-    (subst (OnlyOldTimers c.self.inside.clock) (sym c.in_ok-due.ensures.state) (old-advanced c.self.inside.clock c.args.delta))) c.alarm.ensures.stands)
+    rw (← c.self.view_is) (keeps-both (records_view c.self.inside) c.pay.new.self c.alarm.new.self (keeps-both (records_view c.self.inside) _ c.pay.new.self (keeps-clock (records_view c.self.inside) _
+    (subst (OnlyOldTimers c.self.inside.clock) (sym c.in_ok-due.ensures.state) (old-advanced c.self.inside.clock c.args.delta))) c.pay.ensures.stands) c.alarm.ensures.stands)

@@ -9,6 +9,7 @@ invariant_of-self g c = record {
       c.unstall.new.self (rw c.unstall.ensures.state (old-unstalled c.self.inside.pipeline c.args.stage)) c.self.invariant.allowed;
   timers_allowed = c.self.invariant.timers_allowed;
   clock_sound = c.self.invariant.clock_sound;
+  ranks = c.self.invariant.ranks;
 }
 
 pub returns-clause-stands : goal.returns-clause-stands

@@ -8,12 +8,12 @@ use Rattle.evl_machine.specs.Calls.{account_in}
 use Rattle.evl_machine.proofs.Calling.{gives_caller}
 use Rattle.evl_machine.proofs.held.HeldOf.give.Goals as goal
 
-pub badge_of-requires : goal.badge_of-requires
-badge_of-requires g c = gives_caller _ _ c.self.inside.thread c.self.inside.kernel c.self.invariant.1 c.give_kernel.ensures.given
+pub badge_of-core-requires : goal.badge_of-core-requires
+badge_of-core-requires g c = gives_caller _ _ c.self.inside.actor.thread c.self.inside.kernel c.self.invariant.1 c.give_kernel.ensures.given
 
 pub returns-clause-event : goal.returns-clause-event
 returns-clause-event g c =
     let first = sym (ap (λ (m : MachineState _). m.first) c.self.invariant.0) in
-    let account = sym c.badge_of.ensures.account in
-    subst (λ (h : HeldState _). Gives h.caller.machine.first h.caller.account h.kernel (account_in c.badge_of.result.views)) c.self.view_is
+    let account = sym c.badge_of-core.ensures.account in
+    subst (λ (h : HeldState _). Gives h.caller.machine.first h.caller.account h.kernel (account_in c.badge_of-core.result.views)) c.self.view_is
     (subst (λ (z : KernelView _ × Account). Gives z.0 (account_of (seen c.self.inside.seat.me)) c.self.inside.kernel z.1) (λ i. (first i, account i)) c.give_kernel.ensures.event)

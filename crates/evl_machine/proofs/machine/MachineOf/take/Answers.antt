@@ -1,6 +1,6 @@
 use Rattle.std.proofs.Common.{ap, sym, ◌∙◌, subst}
 use Rattle.evl_kernel.specs.KernelViews.{KernelView}
-use Rattle.evl_machine.specs.Handles.{CallerState, MachineState, account_of}
+use Rattle.evl_machine.specs.Handles.{CallerState, MachineState, account_of, caller_of}
 use Rattle.evl_machine.specs.Known.{ComesFrom, seen}
 use Rattle.evl_machine.specs.declared.views.Account.{Account}
 use Rattle.evl_machine.specs.Events.{Takes}
@@ -26,7 +26,7 @@ returns-in-Some-clause-taken g c =
     let took = c.in-Some.ensures in
     let account = seat.account ∙ ap (λ (s : CallerState _). s.account) c.caller.view_is in
     let first = seat.first ∙ ap (λ (s : CallerState _). s.machine.first) c.caller.view_is in
-    subst (λ (s : CallerState _). TookKernel s (record { caller = record { machine = c.args.self.now; account = account_of (seen c.take_kernel.new.seat.me) }; kernel = c.in-Some.kernel })) (λ i. record { machine = c.args.caller.machine; account = account i })
+    subst (λ (s : CallerState _). TookKernel s (record { caller = caller_of c.args.self.now (account_of (seen c.take_kernel.new.seat.me)); kernel = c.in-Some.kernel })) (λ i. caller_of c.args.caller.machine (account i))
     (took_kernel _ _ _ c.in-Some.kernel c.args.caller.machine c.args.self.now seat.caller took.taken.0 (sym c.requires) (subst (λ (f : KernelView _). ComesFrom f c.in-Some.kernel) first took.taken.1))
 
 pub returns-in-Some-clause-event : goal.returns-in-Some-clause-event

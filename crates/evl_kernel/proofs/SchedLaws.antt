@@ -1,0 +1,88 @@
+-- Nobody was given a rank, so who is picked and who is charged go by base ranks; and no change of the records gives one.
+use Rattle.std.proofs.lemmas.Bool.{false≢true}
+use Rattle.std.proofs.lemmas.Bool.Decides.{nat_tests}
+use Rattle.std.proofs.Common.{◌≡◌, ◌≢◌, ◌==◌, ◌/◌, not, arith, ℕ, Bool, true, false, if◌then◌else◌, List, Option, Some, None, Ok, Err, refl, sym, ap, ◌∙◌, subst}
+use Rattle.std.specs.Option.{option_map}
+use Rattle.evl_base.specs.declared.numbers.ThreadId.{ThreadId}
+use Rattle.evl_sched.specs.Threads.{Sched, base_of, opening}
+use Rattle.evl_sched.specs.Ranks.{IsUnboosted, Ranked, fresh, rank_of}
+use Rattle.evl_sched.proofs.UnboostedLaws.{charge-base, picked-base, rank-base}
+use Rattle.evl_sched.specs.Calls as calls
+use Rattle.evl_sched.specs.Calls.{is_thread, stranger_refusal}
+use Rattle.evl_sched.specs.Threads.{is_attached, refused_first}
+use Rattle.evl_sched.specs.Picks.{picked}
+use Rattle.evl_base.specs.declared.refusal.Refusal.{Refusal}
+use Rattle.evl_base.specs.declared.refusal.Refusal.TheVariants.{Invalid, Unknown}
+use Rattle.evl_base.specs.declared.reply.Reply.TheVariants.{Number, Chosen}
+use Rattle.evl_sched.specs.Charges.{charged, refilled}
+use Rattle.evl_kernel.specs.States.{with_sched}
+use Rattle.evl_kernel.specs.ThreadCalls.{named, paid_between, pick, tell_rank}
+use Rattle.evl_kernel.specs.KernelViews.{IsAnswer}
+use Rattle.evl_kernel.specs.Records.{RecordsView, state_of}
+
+pub sched-fresh : (threads : ℕ) (percents : List ℕ) → (fresh threads percents).sched ≡ opening threads percents
+unfolding fresh
+sched-fresh threads percents = refl
+
+-- a thread by its number
+pub named-number : (o : Option ThreadId) → option_map named (option_map (λ (t : ThreadId). t.0) o) ≡ o
+named-number None = refl
+named-number (Some thread) = refl
+
+differ : (a b : ℕ) → a ≢ b → not (a == b) ≡ true
+differ a b other = by (a == b) refl
+  where
+    by : (same : Bool) → (a == b) ≡ same → not same ≡ true
+    by true is = absurd (other (grind (arith, nat_tests)))
+    by false is = refl
+
+agree : (a b : ℕ) → a ≡ b → not (a == b) ≡ false
+agree a b one = by (a == b) refl
+  where
+    by : (same : Bool) → (a == b) ≡ same → not same ≡ false
+    by true is = refl
+    by false is = absurd (never (grind (arith, nat_tests)))
+      where
+        never : (a == b) ≡ true → ⊥
+        never e = absurd (false≢true (sym is ∙ e))
+
+-- what whoever is picked pays
+module _ {C : Type 0} (r : RecordsView C) (q : Ranked) (before delta now : ℕ) (base : IsUnboosted r.sched) where
+  by_base : charged (rank_of r.sched) r.sched.sched delta ≡ charged (base_of r.sched.sched) r.sched.sched delta
+  by_base = ap (λ (x : Ranked). x.sched) (charge-base r.sched delta base)
+
+  pub paid_anew : q ≡ calls.refill (calls.charge r.sched delta) → before / 1000000000 ≢ now / 1000000000 → state_of (record r { sched = q }) ≡ paid_between (state_of r) before delta now
+  paid_anew is other =
+      let left = charged (base_of r.sched.sched) r.sched.sched delta in
+      let anew = differ (before / 1000000000) (now / 1000000000) other in
+      ap (with_sched (state_of r)) (ap (λ (x : Ranked). x.sched) is ∙ (ap refilled by_base ∙ sym (ap (λ (b : Bool). if b then refilled left else left) anew)))
+
+  pub paid_within : q ≡ calls.charge r.sched delta → before / 1000000000 ≡ now / 1000000000 → state_of (record r { sched = q }) ≡ paid_between (state_of r) before delta now
+  paid_within is one =
+      let left = charged (base_of r.sched.sched) r.sched.sched delta in
+      let same = agree (before / 1000000000) (now / 1000000000) one in
+      ap (with_sched (state_of r)) (ap (λ (x : Ranked). x.sched) is ∙ (by_base ∙ sym (ap (λ (b : Bool). if b then refilled left else left) same)))
+
+-- a refusal of a thread that isn't attached is one that the kernel answers
+pub stranger_answers : (q : Sched) (thread : ℕ) (e : Refusal) → stranger_refusal q thread ≡ Some e → IsAnswer (Err e)
+stranger_answers q thread e = by (is_thread q thread) (is_attached q thread)
+  where
+    some_is : {A : Type 0} {x y : A} → Some x ≡ Some y → x ≡ y
+    some_is h = cc
+
+    none_some : {A : Type 0} {x : A} → None ≡ Some x → ⊥
+    none_some h = cc
+
+    by : (there attached : Bool) → refused_first (if there then None else Some Unknown) (if attached then None else Some Invalid) ≡ Some e → IsAnswer (Err e)
+    by true true h = absurd (none_some h)
+    by true false h = subst (λ (r : Refusal). IsAnswer (Err r)) (some_is h) (refl, tt)
+    by false attached h = subst (λ (r : Refusal). IsAnswer (Err r)) (some_is h) (refl, tt)
+
+-- what is told of ranks and of who is picked
+module _ {C : Type 0} (r : RecordsView C) (base : IsUnboosted r.sched) where
+  pub told_rank : (thread rank : ℕ) → stranger_refusal r.sched.sched thread ≡ None → rank ≡ rank_of r.sched thread → tell_rank (state_of r) thread ≡ Ok (Number rank, state_of r)
+  told_rank thread rank passed is = rw (passed, is, rank-base r.sched base thread) refl
+
+  pub told_pick : (o : Option ThreadId) → option_map (λ (t : ThreadId). t.0) o ≡ picked (rank_of r.sched) r.sched.sched → pick (state_of r) ≡ Ok (Chosen o, state_of r)
+  told_pick o is =
+      ap (λ (x : Option ThreadId). Ok (Chosen x, state_of r)) (ap (option_map named) (sym (is ∙ picked-base r.sched base)) ∙ named-number o)

@@ -1,0 +1,9 @@
+pub mod ChainLaws
+pub mod QueueLaws
+pub mod MutexLaws
+pub mod SoundLaws
+pub mod RankLaws
+pub mod ListLaws
+pub mod CallLaws
+pub mod Rows
+pub mod Crossing

@@ -1,0 +1,13 @@
+use Rattle.std.proofs.Common.{length}
+use Rattle.evl_mutex.specs.Views.{mutexes_of}
+use Rattle.evl_mutex.proofs.SoundLaws.{sound-dropped}
+use Rattle.evl_mutex.proofs.owners.OwnersOf.drop_waiter.Goals as goal
+
+pub invariant_of-self : goal.invariant_of-self
+invariant_of-self g c =
+    let s = c.self.inside in let is = c.self.invariant in
+    record {
+      sound = rw c.drop_waiter.ensures.dropped (sound-dropped (record { base = s.base.items; mutexes = mutexes_of s.mutexes.items }) _ is.sound);
+      room = c.drop_waiter.ensures.room (length s.base.items) is.room;
+      few = is.few;
+    }

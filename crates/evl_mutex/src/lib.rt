@@ -1,0 +1,13 @@
+//! Recorded owners of mutexes, and effective ranks (Xenomai 4: EVL mutexes).
+#![tactic(auto)]
+
+mod mutex_record;
+mod owners;
+mod waiter;
+mod walks;
+
+pub use owners::OwnersOf;
+use std::alloc::Global;
+
+/// The records of one kernel.
+pub type Owners = OwnersOf<Global>;

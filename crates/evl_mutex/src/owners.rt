@@ -1,0 +1,300 @@
+//! The recorded owners of all mutexes, and the effective ranks of all threads.
+ghost use Rattle.std.specs.Prelude.{◌≡◌, List, ◌<◌, ◌^◌, ℕ, Bool, Option, Some, None, Ok, Err, Result, length, map, slice_get, nat_lt, is_ok, option_map, replicate, IfOk, IfErr, if◌then◌else◌};
+ghost use Rattle.evl_base.specs.declared.refusal.Refusal.{Refusal};
+ghost use Rattle.evl_mutex.specs.Mutexes.{raised, lowered, opened};
+ghost use Rattle.evl_mutex.specs.Owners.{IsClaim, IsRelease, IsRingFree, IsSound, base_of, changed, claim_answer, claim_refusal, dropped, fresh, is_thread, lower_refusal, owner_of, raise_refusal, rank_of, unless_refused, with_base};
+ghost use Rattle.evl_mutex.specs.Ranks.{IsEffective};
+ghost use Rattle.evl_mutex.specs.Views.{HaveRoom, mutexes_of, numbers_of};
+
+use crate::mutex_record::MutexRecord;
+use crate::waiter::Waiter;
+use crate::walks;
+use evl_base::{MutexId, MutexKind, Refusal, ThreadId};
+use std::alloc::{AllocError, Allocator};
+use std::marker::Model;
+
+/// What is recorded of threads and mutexes: base ranks, owners and waiters. The owner of a mutex is recorded while somebody
+/// waits for it, and where it has a ceiling also while nobody waits, from `raise`, `claim` or `release` on. To a contract
+/// it is the record `Owners` of `specs/Owners.antt`. Only `new` takes memory. (Xenomai 4: EVL mutexes; this profile)
+#[derive(Drop)]
+pub struct OwnersOf<A: Allocator> {
+    base: Vec<u16, A>,
+    mutexes: Vec<MutexRecord<A>, A>,
+}
+
+impl<A: Allocator> Model for OwnersOf<A> {
+    ghost use Rattle.evl_mutex.specs.Owners.{Owners};
+    ghost use Rattle.evl_mutex.specs.Views.{IsKept, mutexes_of};
+
+    ghost Value = { Owners };
+
+    ghost view = { λ o. record { base = o.base.items; mutexes = mutexes_of o.mutexes.items } };
+
+    ghost invariant = { λ o. IsKept o.base.items o.mutexes.items };
+}
+
+impl<A: Allocator + Clone> OwnersOf<A> {
+    /// So many threads, each of base rank 0, and a mutex of each kind, for which no owner is recorded and nobody waits.
+    /// Each mutex has room for all of these threads. `NoMemory` where that room was refused. (Xenomai 4: EVL mutexes; this
+    /// profile)
+    pub fn new(alloc: A, threads: u16, kinds: &[MutexKind]) -> Result<OwnersOf<A>, Refusal>
+        ensures fresh { IfOk result (λ o. o ≡ fresh threads kinds.now) }
+        ensures refusal { IfErr result (λ e. e ≡ Refusal.NoMemory) }
+    {
+        OwnersOf::with_room(alloc, threads, kinds).map_err(|_| Refusal::NoMemory)
+    }
+
+    fn with_room(alloc: A, threads: u16, kinds: &[MutexKind]) -> Result<OwnersOf<A>, AllocError>
+        ensures fresh { IfOk result (λ o. o ≡ fresh threads kinds.now) }
+    {
+        let base = zeros(alloc.clone()?, threads as usize)?;
+        let mutexes = opened(alloc, kinds, threads as usize)?;
+        Ok(OwnersOf { base, mutexes })
+    }
+}
+
+impl<A: Allocator> OwnersOf<A> {
+    /// The effective rank of a thread: the greatest of its base rank, the ceilings that are recorded for it (512 and the
+    /// priority), and the base ranks of all threads from which it is reached along "waits for a mutex recorded as owned
+    /// by". A waiter's own ceilings aren't inherited. (Xenomai 4: EVL mutexes, priority inheritance and ceilings)
+    pub fn effective(&self, thread: ThreadId) -> u16
+        ensures rank { result ≡ rank_of self.now thread.0 }
+        ensures rule { IsEffective (base_of self.now) self.now.mutexes thread.0 result }
+        ensures ring_free { IsRingFree self.now }
+        ensures sound { IsSound self.now }
+    {
+        walks::effective(&self.base, &self.mutexes, thread.0)
+    }
+
+    /// Who is recorded as the owner of a mutex, if anybody is; nobody where there is no such mutex. (Xenomai 4: EVL
+    /// mutexes)
+    pub fn owner(&self, mutex: MutexId) -> Option<ThreadId>
+        ensures owner { option_map (λ thread. thread.0) result ≡ owner_of self.now mutex.0 }
+    {
+        let record = self.mutexes.get(mutex.0 as usize)?;
+        named(record.owner)
+    }
+
+    /// Sets the base rank of a thread. Its place in a queue is kept. `Unknown` where there is no such thread; nothing
+    /// changes then. (Xenomai 4: EVL scheduling policies; this profile)
+    pub fn set_base(&mut self, thread: ThreadId, rank: u16) -> Result<(), Refusal>
+        ensures answer { result ≡ (if is_thread self.old thread.0 then Ok tt else Err Refusal.Unknown) }
+        ensures state { self.new ≡ (if is_thread self.old thread.0 then with_base self.old thread.0 rank else self.old) }
+    {
+        if thread.0 as usize >= self.base.len() {
+            return Err(Refusal::Unknown);
+        }
+        self.base[thread.0 as usize] = rank;
+        Ok(())
+    }
+
+    /// Lets a thread wait for no mutex any more, if it does. Where it was the last waiter, no owner of that mutex is
+    /// recorded any more; at a ceiling the owner stays. (Xenomai 4: EVL mutexes; this profile)
+    pub fn drop_waiter(&mut self, thread: ThreadId)
+        ensures state { self.new ≡ dropped self.old thread.0 }
+    {
+        walks::drop_waiter(&mut self.mutexes, thread.0);
+    }
+
+    /// A thread begins to wait for a mutex, whose owner it names, and that owner is recorded. It stands behind the waiters
+    /// of its effective rank or a greater one. Refused, in this order: `Busy` where it waits already; `Unknown` where there
+    /// is no such mutex, waiter or owner; `Invalid` where the owner is the waiter, or another owner is recorded; `Deadlock`
+    /// where somebody would wait for itself then. A refused call changes nothing. (Xenomai 4: EVL mutexes; this profile)
+    pub fn claim(
+        &mut self,
+        mutex: MutexId,
+        waiter: ThreadId,
+        owner: ThreadId,
+    ) -> Result<(), Refusal>
+        ensures claim { IsClaim self.old mutex.0 waiter.0 owner.0 result self.new }
+        ensures answer { result ≡ claim_answer self.old mutex.0 waiter.0 owner.0 }
+    {
+        if let Some(refusal) = claim_refusal(
+            self.base.len(),
+            &self.mutexes,
+            mutex.0,
+            waiter.0,
+            owner.0,
+        ) {
+            return Err(refusal);
+        }
+        if walks::reaches(&self.mutexes, self.base.len(), owner.0, waiter.0) {
+            return Err(Refusal::Deadlock);
+        }
+        let waiting = waiter_of(&self.base, &self.mutexes, waiter.0);
+        self.mutexes[mutex.0 as usize].claim(waiting, owner.0);
+        Ok(())
+    }
+
+    /// Hands a mutex on to the first waiter: who that is, if anybody waits, and whether more do. It is recorded as the
+    /// owner where more wait or the mutex has a ceiling; else nobody is. Refused, in this order: `Unknown` where there is
+    /// no such mutex; `NotOwner` where another owner is recorded. Where none is, anybody may release it. A refused call
+    /// changes nothing. (Xenomai 4: EVL mutexes; this profile)
+    pub fn release(
+        &mut self,
+        mutex: MutexId,
+        owner: ThreadId,
+    ) -> Result<(Option<ThreadId>, bool), Refusal>
+        ensures release { IsRelease self.old mutex.0 owner.0 (numbers_of result) self.new }
+    {
+        let place = mutex.0 as usize;
+        if place >= self.mutexes.len() {
+            return Err(Refusal::Unknown);
+        }
+        if !self.mutexes[place].is_open_to(owner.0) {
+            return Err(Refusal::NotOwner);
+        }
+        let (next, more) = self.mutexes[place].hand_on();
+        Ok((named(next), more))
+    }
+
+    /// Records a thread as the owner of a mutex with a ceiling. Refused, in this order: `Unknown` where there is no such
+    /// mutex or thread; `Invalid` where the mutex has no ceiling; `Busy` where an owner is recorded, this thread too.
+    /// A refused call changes nothing. (Xenomai 4: EVL mutexes, priority ceilings; this profile)
+    pub fn raise(&mut self, mutex: MutexId, thread: ThreadId) -> Result<(), Refusal>
+        ensures answer { result ≡ unless_refused (raise_refusal self.old mutex.0 thread.0) tt }
+        ensures state { self.new ≡ (if is_ok result then changed self.old mutex.0 (λ m. raised m thread.0) else self.old) }
+    {
+        if let Some(refusal) = raise_refusal(self.base.len(), &self.mutexes, mutex.0, thread.0) {
+            return Err(refusal);
+        }
+        self.mutexes[mutex.0 as usize].owner = Some(thread.0);
+        Ok(())
+    }
+
+    /// Takes back a raise: no owner is recorded any more. Refused, in this order: `Unknown` where there is no such mutex;
+    /// `Invalid` where it has no ceiling; `NotOwner` where the thread isn't recorded as its owner; `Busy` where somebody
+    /// waits. A refused call changes nothing. (Xenomai 4: EVL mutexes, priority ceilings; this profile)
+    pub fn lower(&mut self, mutex: MutexId, thread: ThreadId) -> Result<(), Refusal>
+        ensures answer { result ≡ unless_refused (lower_refusal self.old mutex.0 thread.0) tt }
+        ensures state { self.new ≡ (if is_ok result then changed self.old mutex.0 lowered else self.old) }
+    {
+        if let Some(refusal) = lower_refusal(&self.mutexes, mutex.0, thread.0) {
+            return Err(refusal);
+        }
+        self.mutexes[mutex.0 as usize].owner = None;
+        Ok(())
+    }
+}
+
+// A thread by its number.
+fn named(number: Option<u16>) -> Option<ThreadId>
+    ensures number { option_map (λ thread. thread.0) result ≡ number }
+{
+    number.map(ThreadId)
+}
+
+// A base rank of 0 for each thread.
+fn zeros<A: Allocator>(alloc: A, threads: usize) -> Result<Vec<u16, A>, AllocError>
+    ensures zeros { IfOk result (λ base. base.items ≡ replicate threads 0) }
+{
+    Vec::from_elem(alloc, 0, threads)
+}
+
+// A mutex of each kind, with room for so many waiters.
+fn opened<A: Allocator + Clone>(
+    alloc: A,
+    kinds: &[MutexKind],
+    room: usize,
+) -> Result<Vec<MutexRecord<A>, A>, AllocError>
+    ensures opened { IfOk result (λ ms. mutexes_of ms.items ≡ map opened kinds.now) }
+    ensures room { IfOk result (λ ms. HaveRoom room ms.items) }
+{
+    let mut mutexes = Vec::with_capacity(alloc.clone()?, kinds.len())?;
+    for kind in kinds {
+        mutexes.push(MutexRecord::new(alloc.clone()?, *kind, room)?)?;
+    }
+    Ok(mutexes)
+}
+
+// A thread that begins to wait, with its effective rank.
+fn waiter_of<A: Allocator>(
+    base: &Vec<u16, A>,
+    mutexes: &Vec<MutexRecord<A>, A>,
+    thread: u16,
+) -> Waiter
+    requires { length base.now.items < 2 ^ 16 }
+    ensures waiter { result ≡ (record { thread = thread; rank = rank_of (record { base = base.now.items; mutexes = mutexes_of mutexes.now.items }) thread }) }
+{
+    Waiter {
+        thread,
+        rank: walks::effective(base, mutexes, thread),
+    }
+}
+
+// What refuses a claim, but for a ring.
+fn claim_refusal<A: Allocator, B: Allocator>(
+    threads: usize,
+    mutexes: &Vec<MutexRecord<A>, B>,
+    mutex: u16,
+    waiter: u16,
+    owner: u16,
+) -> Option<Refusal>
+    ensures refusal { (base : List ℕ) → length base ≡ threads
+        → result ≡ claim_refusal (record { base = base; mutexes = mutexes_of mutexes.now.items }) mutex waiter owner }
+{
+    if walks::is_waiting(mutexes, waiter) {
+        return Some(Refusal::Busy);
+    }
+    let record = match mutexes.get(mutex as usize) {
+        Some(record) => record,
+        None => return Some(Refusal::Unknown),
+    };
+    if !((waiter as usize) < threads && (owner as usize) < threads) {
+        return Some(Refusal::Unknown);
+    }
+    if owner == waiter || !record.is_open_to(owner) {
+        return Some(Refusal::Invalid);
+    }
+    None
+}
+
+// What refuses a raise.
+fn raise_refusal<A: Allocator, B: Allocator>(
+    threads: usize,
+    mutexes: &Vec<MutexRecord<A>, B>,
+    mutex: u16,
+    thread: u16,
+) -> Option<Refusal>
+    ensures refusal { (base : List ℕ) → length base ≡ threads
+        → result ≡ raise_refusal (record { base = base; mutexes = mutexes_of mutexes.now.items }) mutex thread }
+{
+    let record = match mutexes.get(mutex as usize) {
+        Some(record) => record,
+        None => return Some(Refusal::Unknown),
+    };
+    if thread as usize >= threads {
+        return Some(Refusal::Unknown);
+    }
+    if !record.has_ceiling() {
+        return Some(Refusal::Invalid);
+    }
+    if record.owner.is_some() {
+        return Some(Refusal::Busy);
+    }
+    None
+}
+
+// What refuses a lowering.
+fn lower_refusal<A: Allocator, B: Allocator>(
+    mutexes: &Vec<MutexRecord<A>, B>,
+    mutex: u16,
+    thread: u16,
+) -> Option<Refusal>
+    ensures refusal { (base : List ℕ) → result ≡ lower_refusal (record { base = base; mutexes = mutexes_of mutexes.now.items }) mutex thread }
+{
+    let record = match mutexes.get(mutex as usize) {
+        Some(record) => record,
+        None => return Some(Refusal::Unknown),
+    };
+    if !record.has_ceiling() {
+        return Some(Refusal::Invalid);
+    }
+    if !record.is_owned_by(thread) {
+        return Some(Refusal::NotOwner);
+    }
+    if !record.waiters.is_empty() {
+        return Some(Refusal::Busy);
+    }
+    None
+}

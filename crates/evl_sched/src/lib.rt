@@ -1,0 +1,15 @@
+//! Threads, their policies and ranks, the ready list, and who is picked (Xenomai 4: EVL scheduling).
+#![tactic(auto)]
+
+mod group;
+mod policies;
+mod ready;
+mod sched;
+mod search;
+mod seat;
+
+pub use sched::SchedOf;
+use std::alloc::Global;
+
+/// The scheduler of one kernel.
+pub type Sched = SchedOf<Global>;

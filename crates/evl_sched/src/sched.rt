@@ -1,0 +1,376 @@
+//! The scheduler.
+ghost use Rattle.std.specs.Prelude.{◌≡◌, ◌<◌, false, [], None, Some, filter, map, replicate, option_map, IfOk, IfErr, MatchOption, OnOk, OnErr};
+ghost use Rattle.std.specs.List.{list_any};
+ghost use Rattle.evl_base.specs.declared.refusal.Refusal.{Refusal};
+ghost use Rattle.evl_sched.specs.Calls as calls;
+ghost use Rattle.evl_sched.specs.Calls.{attach_refusal, set_policy_refusal, stranger_refusal};
+ghost use Rattle.evl_sched.specs.Charges.{slice_charged, thread_charged};
+ghost use Rattle.evl_sched.specs.Groups.{drained, opened, refilled};
+ghost use Rattle.evl_sched.specs.Picks.{IsPicked, eligible, is_anyone_eligible, may_run, picked};
+ghost use Rattle.evl_sched.specs.Ranks.{IsSoundSched, fresh, rank_of, with_given, with_sched};
+ghost use Rattle.evl_sched.specs.Searching.{highest};
+ghost use Rattle.evl_sched.specs.Threads.{base_of, seat_at, stage_of};
+
+use crate::group::Group;
+use crate::seat::Seat;
+use crate::{policies, ready, search};
+use evl_base::{Policy, Refusal, Stage, ThreadId};
+use std::alloc::{AllocError, Allocator};
+use std::marker::Model;
+
+/// The attached threads, the ready list, the quota groups, and the rank that each thread was given. To a contract it is
+/// the record `Ranked` of `specs/Ranks.antt`. Only `new` takes memory.
+#[derive(Drop)]
+pub struct SchedOf<A: Allocator> {
+    seats: Vec<Option<Seat>, A>,
+    ready: Vec<u16, A>,
+    groups: Vec<Group, A>,
+    given: Vec<Option<u16>, A>,
+}
+
+impl<A: Allocator> Model for SchedOf<A> {
+    ghost use Rattle.std.specs.Prelude.{vec_capacity};
+    ghost use Rattle.evl_sched.specs.Ranks.{IsKept, Ranked};
+
+    ghost Value = { Ranked };
+
+    ghost view = { λ s. record { sched = record { seats = s.seats.items; ready = s.ready.items; groups = s.groups.items }; given = s.given.items } };
+
+    ghost invariant = { λ s. IsKept (record { sched = record { seats = s.seats.items; ready = s.ready.items; groups = s.groups.items }; given = s.given.items }) (vec_capacity s.ready) };
+}
+
+impl<A: Allocator + Clone> SchedOf<A> {
+    /// A scheduler of so many threads, none of which is attached, and of a quota group for each part of the processor
+    /// in percent, with its whole budget of 10,000,000 ns a percent. It has room for all of these threads.
+    /// `NoMemory` where that room was refused (Xenomai 4: EVL scheduling policies; this profile).
+    pub fn new(alloc: A, threads: u16, groups: &[u8]) -> Result<SchedOf<A>, Refusal>
+        ensures fresh { IfOk result (λ s. s ≡ fresh threads groups.now) }
+        ensures refusal { IfErr result (λ e. e ≡ Refusal.NoMemory) }
+    {
+        SchedOf::with_room(alloc, threads, groups).map_err(|_| Refusal::NoMemory)
+    }
+
+    fn with_room(alloc: A, threads: u16, groups: &[u8]) -> Result<SchedOf<A>, AllocError>
+        ensures fresh { IfOk result (λ s. s ≡ fresh threads groups.now) }
+    {
+        let seats = no_seats(alloc.clone()?, threads as usize)?;
+        let ready = Vec::with_capacity(alloc.clone()?, threads as usize)?;
+        let given = no_ranks(alloc.clone()?, threads as usize)?;
+        let groups = opened(alloc, groups)?;
+        Ok(SchedOf {
+            seats,
+            ready,
+            groups,
+            given,
+        })
+    }
+}
+
+impl<A: Allocator> SchedOf<A> {
+    /// Who is picked: of the eligible threads the first, in the order of the ready list, of the greatest rank. None is
+    /// picked exactly where none is eligible. (Xenomai 4: EVL scheduling policies)
+    pub fn pick(&self) -> Option<ThreadId>
+        ensures picked { option_map (λ t. t.0) result ≡ picked (rank_of self.now) self.now.sched }
+        ensures rule { MatchOption result (eligible self.now.sched ≡ []) (λ t. IsPicked (rank_of self.now) (eligible self.now.sched) t.0) }
+        ensures sound { IsSoundSched self.now }
+    {
+        named(highest_of(&self.seats, &self.groups, &self.given, &self.ready))
+    }
+
+    /// Whether some thread is eligible: attached, out-of-band and not blocked, and, where its policy names a quota group,
+    /// with some of that group's budget left. (Xenomai 4: EVL scheduling policies)
+    pub fn eligible(&self) -> bool
+        ensures eligible { result ≡ is_anyone_eligible self.now.sched }
+        ensures nobody { result ≡ false → eligible self.now.sched ≡ [] }
+    {
+        anyone_of(&self.seats, &self.groups, &self.ready)
+    }
+
+    /// The base rank of a thread, that of its policy: 512 and its priority under `Fifo` and `Rr`, 256 and its priority
+    /// under `Quota`, its priority under `Weak`. Refused, in this order: `Unknown` where there is no such thread, and
+    /// `Invalid` where it isn't attached. (Xenomai 4: EVL scheduling policies; this profile)
+    pub fn base(&self, thread: ThreadId) -> Result<u16, Refusal>
+        ensures ok { IfOk result (λ rank. (stranger_refusal self.now.sched thread.0 ≡ None) × (rank ≡ base_of self.now.sched thread.0)) }
+        ensures refused { IfErr result (λ e. stranger_refusal self.now.sched thread.0 ≡ Some e) }
+    {
+        let seat = self.seat(thread)?;
+        Ok(policies::base_rank(seat.policy))
+    }
+
+    /// The rank that a thread was given last since it was attached, or else its base rank. Refused as `base` is.
+    /// (this profile)
+    pub fn rank(&self, thread: ThreadId) -> Result<u16, Refusal>
+        ensures ok { IfOk result (λ rank. (stranger_refusal self.now.sched thread.0 ≡ None) × (rank ≡ rank_of self.now thread.0)) }
+        ensures refused { IfErr result (λ e. stranger_refusal self.now.sched thread.0 ≡ Some e) }
+    {
+        let seat = self.seat(thread)?;
+        Ok(match search::given_at(&self.given, thread.0) {
+            Some(rank) => rank,
+            None => policies::base_rank(seat.policy),
+        })
+    }
+
+    /// The stage of a thread: in-band where it isn't attached, or where there is no such thread.
+    /// (Dovetail: interrupt pipeline)
+    pub fn stage(&self, thread: ThreadId) -> Stage
+        ensures stage { result ≡ stage_of self.now.sched thread.0 }
+    {
+        search::stage_of(&self.seats, thread.0)
+    }
+
+    // The seat of an attached thread.
+    fn seat(&self, thread: ThreadId) -> Result<Seat, Refusal>
+        ensures ok { IfOk result (λ seat. (stranger_refusal self.now.sched thread.0 ≡ None) × (seat_at self.now.sched thread.0 ≡ Some seat)) }
+        ensures refused { IfErr result (λ e. stranger_refusal self.now.sched thread.0 ≡ Some e) }
+    {
+        if thread.0 as usize >= self.seats.len() {
+            return Err(Refusal::Unknown);
+        }
+        match self.seats[thread.0 as usize] {
+            None => Err(Refusal::Invalid),
+            Some(seat) => Ok(seat),
+        }
+    }
+
+    // Whether a thread may be attached.
+    fn may_attach(&self, thread: ThreadId, policy: Policy) -> Result<(), Refusal>
+        ensures ok { OnOk result (attach_refusal self.now.sched thread.0 policy ≡ None) }
+        ensures refused { IfErr result (λ e. attach_refusal self.now.sched thread.0 policy ≡ Some e) }
+    {
+        if thread.0 as usize >= self.seats.len() {
+            return Err(Refusal::Unknown);
+        }
+        policies::allowed(&self.groups, policy)?;
+        match self.seats[thread.0 as usize] {
+            None => Ok(()),
+            Some(_) => Err(Refusal::Busy),
+        }
+    }
+
+    // The seat of a thread that may have this policy.
+    fn seat_for(&self, thread: ThreadId, policy: Policy) -> Result<Seat, Refusal>
+        ensures ok { IfOk result (λ seat. (set_policy_refusal self.now.sched thread.0 policy ≡ None) × (seat_at self.now.sched thread.0 ≡ Some seat)) }
+        ensures refused { IfErr result (λ e. set_policy_refusal self.now.sched thread.0 policy ≡ Some e) }
+    {
+        if thread.0 as usize >= self.seats.len() {
+            return Err(Refusal::Unknown);
+        }
+        policies::allowed(&self.groups, policy)?;
+        match self.seats[thread.0 as usize] {
+            None => Err(Refusal::Invalid),
+            Some(seat) => Ok(seat),
+        }
+    }
+
+    /// Attaches a thread, with a policy, on a stage. It has a full slice and its base rank; out-of-band it goes to the
+    /// end of the ready list. Refused, in this order: `Unknown` where there is no such thread, or where the policy is
+    /// `Quota`, since quota groups can't be named yet; `Range` where a number of the policy is out of its range
+    /// (priorities 1 to 99, and 0 to 99 under `Weak`; slices 1 to 1,000,000,000 ns); `Busy` where the thread is attached.
+    /// A refused call changes nothing. (Xenomai 4: EVL threads; this profile)
+    pub fn attach(&mut self, thread: ThreadId, policy: Policy, stage: Stage) -> Result<(), Refusal>
+        ensures ok { OnOk result (attach_refusal self.old.sched thread.0 policy ≡ None) }
+        ensures state { OnOk result (self.new ≡ calls.attach self.old thread.0 policy stage) }
+        ensures refused { IfErr result (λ e. attach_refusal self.old.sched thread.0 policy ≡ Some e) }
+        ensures unchanged { OnErr result (self.new ≡ self.old) }
+    {
+        self.may_attach(thread, policy)?;
+        self.seats[thread.0 as usize] = Some(Seat::new(policy, stage));
+        self.given[thread.0 as usize] = None;
+        ready::queue(&self.seats, &mut self.ready, thread.0);
+        Ok(())
+    }
+
+    /// Detaches a thread: it has no policy, slice or place in the ready list any more. Refused, in this order: `Unknown`
+    /// where there is no such thread, and `Invalid` where it isn't attached. A refused call changes nothing.
+    /// (Xenomai 4: EVL threads; this profile)
+    pub fn detach(&mut self, thread: ThreadId) -> Result<(), Refusal>
+        ensures ok { OnOk result (stranger_refusal self.old.sched thread.0 ≡ None) }
+        ensures state { OnOk result (self.new ≡ calls.detach self.old thread.0) }
+        ensures refused { IfErr result (λ e. stranger_refusal self.old.sched thread.0 ≡ Some e) }
+        ensures unchanged { OnErr result (self.new ≡ self.old) }
+    {
+        self.seat(thread)?;
+        self.seats[thread.0 as usize] = None;
+        ready::take_out(&mut self.ready, thread.0);
+        Ok(())
+    }
+
+    /// Sets the policy of a thread, with a full slice. Where it is ready it goes to the end of the ready list; the rank
+    /// that it was given is kept. Refused, in this order: as `attach` is for `Unknown` and `Range`, and `Invalid` where
+    /// the thread isn't attached. A refused call changes nothing. (Xenomai 4: EVL scheduling policies; this profile)
+    pub fn set_policy(&mut self, thread: ThreadId, policy: Policy) -> Result<(), Refusal>
+        ensures ok { OnOk result (set_policy_refusal self.old.sched thread.0 policy ≡ None) }
+        ensures state { OnOk result (self.new ≡ calls.set_policy self.old thread.0 policy) }
+        ensures refused { IfErr result (λ e. set_policy_refusal self.old.sched thread.0 policy ≡ Some e) }
+        ensures unchanged { OnErr result (self.new ≡ self.old) }
+    {
+        let seat = self.seat_for(thread, policy)?;
+        self.seats[thread.0 as usize] = Some(seat.with_policy(policy));
+        ready::move_to_end(&self.seats, &mut self.ready, thread.0);
+        Ok(())
+    }
+
+    /// Switches a thread to a stage: out-of-band it goes to the end of the ready list, in-band out of it. On the stage
+    /// where it is already, nothing changes. What is left of its slice is kept. Refused, in this order: `Unknown` where
+    /// there is no such thread, and `Invalid` where it isn't attached. A refused call changes nothing.
+    /// (Xenomai 4: EVL threads, Dovetail: interrupt pipeline)
+    pub fn set_stage(&mut self, thread: ThreadId, stage: Stage) -> Result<(), Refusal>
+        ensures ok { OnOk result (stranger_refusal self.old.sched thread.0 ≡ None) }
+        ensures state { OnOk result (self.new ≡ calls.set_stage self.old thread.0 stage) }
+        ensures refused { IfErr result (λ e. stranger_refusal self.old.sched thread.0 ≡ Some e) }
+        ensures unchanged { OnErr result (self.new ≡ self.old) }
+    {
+        let seat = self.seat(thread)?;
+        if seat.stage == stage {
+            return Ok(());
+        }
+        self.seats[thread.0 as usize] = Some(seat.with_stage(stage));
+        ready::queue(&self.seats, &mut self.ready, thread.0);
+        Ok(())
+    }
+
+    /// A thread is blocked: it is ready no more. (Xenomai 4: EVL threads)
+    pub fn block(&mut self, thread: ThreadId)
+        ensures state { self.new ≡ calls.block self.old thread.0 }
+    {
+        ready::take_out(&mut self.ready, thread.0);
+    }
+
+    /// A thread is blocked no more: it goes to the end of the ready list, where it is attached and out-of-band.
+    /// (Xenomai 4: EVL threads)
+    pub fn ready(&mut self, thread: ThreadId)
+        ensures state { self.new ≡ calls.ready self.old thread.0 }
+    {
+        ready::queue(&self.seats, &mut self.ready, thread.0);
+    }
+
+    /// Gives a thread a rank, which counts in place of its base rank until it is attached anew. Its place in the ready
+    /// list is kept. Where there is no such thread, nothing changes. (Xenomai 4: EVL mutexes)
+    pub fn boost(&mut self, thread: ThreadId, rank: u16)
+        ensures state { self.new ≡ with_given self.old thread.0 (Some rank) }
+    {
+        if (thread.0 as usize) < self.given.len() {
+            self.given[thread.0 as usize] = Some(rank);
+        }
+    }
+
+    /// Charges the thread that is picked with so many nanoseconds. Under `Rr`, where so much or less is left of its
+    /// slice, it goes to the end of the ready list with a full slice, and else its slice falls; under `Quota` its
+    /// group's budget falls, not below 0. With nobody picked nothing changes. (Xenomai 4: EVL scheduling policies)
+    pub fn charge(&mut self, delta: u64)
+        ensures state { self.new ≡ calls.charge self.old delta }
+    {
+        if let Some(thread) = self.pick() {
+            self.charge_thread(thread, delta);
+        }
+    }
+
+    // Charges a thread.
+    fn charge_thread(&mut self, thread: ThreadId, delta: u64)
+        ensures state { self.new ≡ with_sched self.old (thread_charged self.old.sched thread.0 delta) }
+    {
+        let Some(seat) = search::seat_at(&self.seats, thread.0) else {
+            return;
+        };
+        match seat.policy {
+            Policy::Rr { slice, .. } => self.charge_slice(thread, seat, slice, delta),
+            Policy::Quota { group, .. } => self.drain(group, delta),
+            _ => {},
+        }
+    }
+
+    // Charges the slice of a thread.
+    fn charge_slice(&mut self, thread: ThreadId, seat: Seat, slice: u64, delta: u64)
+        requires { seat_at self.old.sched thread.0 ≡ Some seat }
+        ensures state { self.new ≡ with_sched self.old (slice_charged self.old.sched thread.0 seat slice delta) }
+    {
+        if delta < seat.rest {
+            self.seats[thread.0 as usize] = Some(seat.with_rest(seat.rest - delta));
+            return;
+        }
+        self.seats[thread.0 as usize] = Some(seat.with_rest(slice));
+        ready::queue(&self.seats, &mut self.ready, thread.0);
+    }
+
+    // Charges a quota group, if there is such a group.
+    fn drain(&mut self, group: u16, delta: u64)
+        ensures state { self.new ≡ with_sched self.old (record self.old.sched { groups = drained self.old.sched.groups group delta }) }
+    {
+        if (group as usize) < self.groups.len() {
+            self.groups[group as usize] = self.groups[group as usize].drained(delta);
+        }
+    }
+
+    /// A new second begins: each quota group has its whole budget again. (Xenomai 4: EVL scheduling policies)
+    pub fn refill(&mut self)
+        ensures state { self.new ≡ calls.refill self.old }
+    {
+        refill_all(&mut self.groups);
+    }
+}
+
+// Each group has its whole budget again.
+fn refill_all<A: Allocator>(groups: &mut Vec<Group, A>)
+    ensures refilled { groups.new.items ≡ refilled groups.old.items }
+{
+    for i in 0..groups.len() {
+        groups[i] = groups[i].refilled();
+    }
+}
+
+// The first of the greatest rank of those that may run.
+fn highest_of<A: Allocator>(
+    seats: &Vec<Option<Seat>, A>,
+    groups: &Vec<Group, A>,
+    given: &Vec<Option<u16>, A>,
+    ready: &Vec<u16, A>,
+) -> Option<u16>
+    ensures highest { result ≡ highest (rank_of (record { sched = record { seats = seats.now.items; ready = []; groups = [] }; given = given.now.items })) (filter (may_run (record { seats = seats.now.items; ready = []; groups = groups.now.items })) ready.now.items) }
+{
+    search::highest(seats, groups, given, ready)
+}
+
+// Whether any of them may run.
+fn anyone_of<A: Allocator>(
+    seats: &Vec<Option<Seat>, A>,
+    groups: &Vec<Group, A>,
+    ready: &Vec<u16, A>,
+) -> bool
+    ensures anyone { result ≡ list_any (may_run (record { seats = seats.now.items; ready = []; groups = groups.now.items })) ready.now.items }
+{
+    search::is_anyone(seats, groups, ready)
+}
+
+// A thread by its number.
+fn named(number: Option<u16>) -> Option<ThreadId>
+    ensures number { option_map (λ thread. thread.0) result ≡ number }
+{
+    number.map(ThreadId)
+}
+
+// Nobody is attached.
+fn no_seats<A: Allocator>(alloc: A, threads: usize) -> Result<Vec<Option<Seat>, A>, AllocError>
+    ensures empty { IfOk result (λ seats. seats.items ≡ replicate threads None) }
+{
+    let seats = Vec::from_elem(alloc, None, threads)?;
+    Ok(seats)
+}
+
+// Nobody was given a rank.
+fn no_ranks<A: Allocator>(alloc: A, threads: usize) -> Result<Vec<Option<u16>, A>, AllocError>
+    ensures empty { IfOk result (λ given. given.items ≡ replicate threads None) }
+{
+    let given = Vec::from_elem(alloc, None, threads)?;
+    Ok(given)
+}
+
+// A group of each part, with its whole budget.
+fn opened<A: Allocator>(alloc: A, percents: &[u8]) -> Result<Vec<Group, A>, AllocError>
+    ensures opened { IfOk result (λ gs. gs.items ≡ map opened percents.now) }
+{
+    let mut groups = Vec::with_capacity(alloc, percents.len())?;
+    for percent in percents {
+        groups.push(Group::opened(*percent))?;
+    }
+    Ok(groups)
+}

@@ -1,0 +1,6 @@
+pub mod QueueLaws
+pub mod FlagLaws
+pub mod RestLaws
+pub mod GroupLaws
+pub mod Crossing
+pub mod Rows

@@ -1,0 +1,213 @@
+-- Queues after each change.
+use Rattle.std.proofs.Common.{◌≡◌, ℕ, suc, ◌+◌, ◌<◌, ◌≤◌, ◌==◌, nat_lt, eqb, Bool, true, false, not, ◌||◌, cond, List, [], ◌∷◌, ◌++◌, Some, None, length, map, insert, remove, if◌then◌else◌, refl, sym, ap, ◌∙◌, arith}
+use Rattle.std.specs.List.{list_any, AllByRecursion, IsDistinct, position, position_or_len}
+use Rattle.std.proofs.lemmas.Bool.Decides.{nat_tests}
+use Rattle.std.proofs.lemmas.Bool.{false≢true}
+use Rattle.std.proofs.lemmas.Map.Steps.{length-le_from_distinct_below}
+use Rattle.std.proofs.lemmas.Map.Keys.{IsDistinct-cons}
+use Rattle.evl_sync.specs.Queues.{enqueued, dropped, stands_in, rest_of, AreRanked, IsKept}
+
+or_swap : (a b c : Bool) → (a || (b || c)) ≡ (b || (a || c))
+or_swap true true c = refl
+or_swap true false c = refl
+or_swap false b c = refl
+
+swapped : (n m : ℕ) → (n == m) ≡ (m == n)
+swapped n m = grind (arith, nat_tests)
+
+pub is_same : (n m : ℕ) → (n == m) ≡ true → n ≡ m
+is_same n m e = grind (arith, nat_tests)
+
+less : (n m : ℕ) → nat_lt n m ≡ true → n ≤ m
+less n m e = grind (arith, nat_tests)
+
+not_less : (n m : ℕ) → nat_lt n m ≡ false → m ≤ n
+not_less n m e = grind (arith, nat_tests)
+
+pub or_false : (a b : Bool) → a ≡ false → b ≡ false → (a || b) ≡ false
+or_false true b e h = absurd (false≢true (sym e))
+or_false false b e h = h
+
+pub or_left : (a b : Bool) → (a || b) ≡ false → a ≡ false
+or_left true b e = e
+or_left false b e = refl
+
+pub or_right : (a b : Bool) → (a || b) ≡ false → b ≡ false
+or_right true b e = absurd (false≢true (sym e))
+or_right false b e = e
+
+or_true : (a b : Bool) → b ≡ true → (a || b) ≡ true
+or_true true b e = refl
+or_true false b e = e
+
+none_twice : IsDistinct eqb []
+unfolding IsDistinct
+none_twice = tt
+
+module _ {A : Type 0} where
+  -- the waiter came, and nobody else
+  pub stands-enqueued : (thread rank : A → ℕ) (w : A) (ws : List A) (t : ℕ) → stands_in thread t (enqueued rank w ws) ≡ ((thread w == t) || stands_in thread t ws)
+  stands-enqueued thread rank w [] t = refl
+  stands-enqueued thread rank w (v ∷ vs) t =
+      elim (nat_lt (rank v) (rank w)) as (λ b. stands_in thread t (if b then w ∷ v ∷ vs else v ∷ enqueued rank w vs) ≡ ((thread w == t) || ((thread v == t) || stands_in thread t vs))) [
+        | true ↦ refl
+        | false ↦ ap (λ b. (thread v == t) || b) (stands-enqueued thread rank w vs t) ∙ or_swap (thread v == t) (thread w == t) (stands_in thread t vs)
+      ]
+
+  pub all-enqueued : (P : A → Type 0) (rank : A → ℕ) (w : A) (ws : List A) → P w → AllByRecursion P ws → AllByRecursion P (enqueued rank w ws)
+  all-enqueued P rank w [] p h = (p, tt)
+  all-enqueued P rank w (v ∷ vs) p h =
+      elim (nat_lt (rank v) (rank w)) as (λ b. AllByRecursion P (if b then w ∷ v ∷ vs else v ∷ enqueued rank w vs)) [
+        | true ↦ (p, h)
+        | false ↦ (h.0, all-enqueued P rank w vs p h.1)
+      ]
+
+  at_most : (rank : A → ℕ) (n m : ℕ) (ws : List A) → n ≤ m → AllByRecursion (λ v. rank v ≤ n) ws → AllByRecursion (λ v. rank v ≤ m) ws
+  at_most rank n m [] l h = tt
+  at_most rank n m (w ∷ ws) l h = (omega (arith, l, h.0), at_most rank n m ws l h.1)
+
+  pub ranked-enqueued : (thread rank : A → ℕ) (w : A) (ws : List A) → stands_in thread (thread w) ws ≡ false → AreRanked thread rank ws → AreRanked thread rank (enqueued rank w ws)
+  ranked-enqueued thread rank w [] e h = (tt, refl, tt)
+  ranked-enqueued thread rank w (v ∷ vs) e h =
+      elim (nat_lt (rank v) (rank w)) as (λ b. nat_lt (rank v) (rank w) ≡ b → AreRanked thread rank (if b then w ∷ v ∷ vs else v ∷ enqueued rank w vs)) [
+        | true ↦ λ l. ((less (rank v) (rank w) l, at_most rank (rank v) (rank w) vs (less (rank v) (rank w) l) h.0), e, h)
+        | false ↦ λ l. (
+          all-enqueued (λ u. rank u ≤ rank v) rank w vs (not_less (rank v) (rank w) l) h.0,
+          stands-enqueued thread rank w vs (thread v) ∙ or_false (thread w == thread v) (stands_in thread (thread v) vs) (swapped (thread w) (thread v) ∙ or_left (thread v == thread w) (stands_in thread (thread w) vs) e) h.1,
+          ranked-enqueued thread rank w vs (or_right (thread v == thread w) (stands_in thread (thread w) vs) e) h.2,
+        )
+      ] refl
+
+  pub kept-enqueued : (thread rank : A → ℕ) (w : A) (ws : List A) → stands_in thread (thread w) ws ≡ false → thread w < 64 → IsKept thread rank ws → IsKept thread rank (enqueued rank w ws)
+  kept-enqueued thread rank w ws e l h = record {
+    ranked = ranked-enqueued thread rank w ws e h.ranked;
+    few = λ t s. below t (thread w == t) refl (sym (stands-enqueued thread rank w ws t) ∙ s);
+  }
+    where
+      below : (t : ℕ) (b : Bool) → (thread w == t) ≡ b → (b || stands_in thread t ws) ≡ true → t < 64
+      below t true at s = omega (arith, is_same (thread w) t at, l)
+      below t false at s = h.few t s
+
+  -- what is left after some went: nobody came, and the rest stands as it stood
+  pub all-dropped : (P : A → Type 0) (thread : A → ℕ) (t : ℕ) (ws : List A) → AllByRecursion P ws → AllByRecursion P (dropped thread t ws)
+  all-dropped P thread t [] h = tt
+  all-dropped P thread t (w ∷ ws) h =
+      elim (thread w == t) as (λ b. AllByRecursion P (cond (not b) (w ∷ dropped thread t ws) (dropped thread t ws))) [
+        | true ↦ all-dropped P thread t ws h.1
+        | false ↦ (h.0, all-dropped P thread t ws h.1)
+      ]
+
+  pub away-dropped : (thread : A → ℕ) (t : ℕ) (ws : List A) (q : ℕ) → stands_in thread q ws ≡ false → stands_in thread q (dropped thread t ws) ≡ false
+  away-dropped thread t [] q e = refl
+  away-dropped thread t (w ∷ ws) q e =
+      elim (thread w == t) as (λ b. stands_in thread q (cond (not b) (w ∷ dropped thread t ws) (dropped thread t ws)) ≡ false) [
+        | true ↦ away-dropped thread t ws q (or_right (thread w == q) (stands_in thread q ws) e)
+        | false ↦ or_false (thread w == q) (stands_in thread q (dropped thread t ws)) (or_left (thread w == q) (stands_in thread q ws) e) (away-dropped thread t ws q (or_right (thread w == q) (stands_in thread q ws) e))
+      ]
+
+  pub ranked-dropped : (thread rank : A → ℕ) (t : ℕ) (ws : List A) → AreRanked thread rank ws → AreRanked thread rank (dropped thread t ws)
+  ranked-dropped thread rank t [] h = tt
+  ranked-dropped thread rank t (w ∷ ws) h =
+      elim (thread w == t) as (λ b. AreRanked thread rank (cond (not b) (w ∷ dropped thread t ws) (dropped thread t ws))) [
+        | true ↦ ranked-dropped thread rank t ws h.2
+        | false ↦ (all-dropped (λ v. rank v ≤ rank w) thread t ws h.0, away-dropped thread t ws (thread w) h.1, ranked-dropped thread rank t ws h.2)
+      ]
+
+  pub came_before : (thread : A → ℕ) (xs ws : List A) (t : ℕ) → (stands_in thread t ws ≡ false → stands_in thread t xs ≡ false) → stands_in thread t xs ≡ true → stands_in thread t ws ≡ true
+  came_before thread xs ws t f e = by (stands_in thread t ws) refl
+    where
+      by : (b : Bool) → stands_in thread t ws ≡ b → b ≡ true
+      by true at = refl
+      by false at = absurd (false≢true (sym (f at) ∙ e))
+
+  pub kept-dropped : (thread rank : A → ℕ) (t : ℕ) (ws : List A) → IsKept thread rank ws → IsKept thread rank (dropped thread t ws)
+  kept-dropped thread rank t ws h = record {
+    ranked = ranked-dropped thread rank t ws h.ranked;
+    few = λ q e. h.few q (came_before thread (dropped thread t ws) ws q (away-dropped thread t ws q) e);
+  }
+
+  pub kept-rest : (thread rank : A → ℕ) (ws : List A) → IsKept thread rank ws → IsKept thread rank (rest_of ws)
+  kept-rest thread rank [] h = h
+  kept-rest thread rank (w ∷ ws) h = record { ranked = h.ranked.2; few = λ t e. h.few t (or_true (thread w == t) (stands_in thread t ws) e) }
+
+  abbrev numbers : (A → ℕ) → List A → List ℕ
+  numbers thread ws = map thread ws
+
+  apart_numbers : (thread : A → ℕ) (t : ℕ) (ws : List A) → stands_in thread t ws ≡ false → AllByRecursion (λ n. eqb t n ≡ false) (numbers thread ws)
+  apart_numbers thread t [] e = tt
+  apart_numbers thread t (w ∷ ws) e = (swapped t (thread w) ∙ or_left (thread w == t) (stands_in thread t ws) e, apart_numbers thread t ws (or_right (thread w == t) (stands_in thread t ws) e))
+
+  distinct_numbers : (thread rank : A → ℕ) (ws : List A) → AreRanked thread rank ws → IsDistinct eqb (numbers thread ws)
+  distinct_numbers thread rank [] h = none_twice
+  distinct_numbers thread rank (w ∷ ws) h = IsDistinct-cons eqb (thread w) (numbers thread ws) (apart_numbers thread (thread w) ws h.1) (distinct_numbers thread rank ws h.2)
+
+  stands_number : (thread : A → ℕ) (t : ℕ) (ws : List A) → list_any (eqb t) (numbers thread ws) ≡ stands_in thread t ws
+  stands_number thread t [] = refl
+  stands_number thread t (w ∷ ws) = ap (λ b. b || list_any (eqb t) (numbers thread ws)) (swapped t (thread w)) ∙ ap (λ b. (thread w == t) || b) (stands_number thread t ws)
+
+  count_numbers : (thread : A → ℕ) (ws : List A) → length (numbers thread ws) ≡ length ws
+  count_numbers thread [] = refl
+  count_numbers thread (w ∷ ws) = ap suc (count_numbers thread ws)
+
+  -- one of the 64 threads isn't in the queue: there is room for it
+  pub has_room : (thread rank : A → ℕ) (t : ℕ) (ws : List A) → IsKept thread rank ws → stands_in thread t ws ≡ false → t < 64 → length ws < 64
+  has_room thread rank t ws h away below =
+      let l : length (t ∷ numbers thread ws) ≤ 64 = length-le_from_distinct_below (t ∷ numbers thread ws) 64
+      (IsDistinct-cons eqb t (numbers thread ws) (apart_numbers thread t ws away) (distinct_numbers thread rank ws h.ranked)) (λ q e. within q (q == t) refl e) in
+      omega (arith, l, count_numbers thread ws)
+    where
+      within : (q : ℕ) (b : Bool) → (q == t) ≡ b → (b || list_any (eqb q) (numbers thread ws)) ≡ true → q < 64
+      within q true at e = omega (arith, is_same q t at, below)
+      within q false at e = h.few q (sym (stands_number thread q ws) ∙ e)
+
+  -- where a waiter is put
+  pub inserted : (rank : A → ℕ) (w : A) (ws : List A) → insert ws (position_or_len (λ v. nat_lt (rank v) (rank w)) ws) w ≡ enqueued rank w ws
+  inserted rank w [] = refl
+  inserted rank w (v ∷ vs) =
+      elim (nat_lt (rank v) (rank w)) as (λ b. insert (v ∷ vs) (cond (not b) (1 + position_or_len (λ v. nat_lt (rank v) (rank w)) vs) 0) w ≡ (if b then w ∷ v ∷ vs else v ∷ enqueued rank w vs)) [
+        | true ↦ refl
+        | false ↦ one_more (position_or_len (λ v. nat_lt (rank v) (rank w)) vs) (inserted rank w vs)
+      ]
+    where
+      by_suc : (n : ℕ) → 1 + n ≡ suc n
+      by_suc n = omega arith
+
+      one_more : (n : ℕ) → insert vs n w ≡ enqueued rank w vs → insert (v ∷ vs) (1 + n) w ≡ v ∷ enqueued rank w vs
+      one_more n e = ap (λ k. insert (v ∷ vs) k w) (by_suc n) ∙ ap (λ xs. v ∷ xs) e
+
+  -- behind all others, where all ranks are the same
+  pub enqueued-last : (w : A) (ws : List A) → enqueued (λ v. 0) w ws ≡ ws ++ w ∷ []
+  enqueued-last w [] = refl
+  enqueued-last w (v ∷ vs) = ap (λ xs. v ∷ xs) (enqueued-last w vs)
+
+  -- the first one leaves
+  pub rest-is : (ws : List A) → remove ws 0 ≡ rest_of ws
+  rest-is [] = refl
+  rest-is (w ∷ ws) = refl
+
+  pub kept_first : (thread rank : A → ℕ) (ws after : List A) → after ≡ remove ws 0 → IsKept thread rank ws → IsKept thread rank after
+  kept_first thread rank ws after e h = rw (e ∙ rest-is ws) (kept-rest thread rank ws h)
+
+  -- the first that passes, or behind all
+  within_all : (p : A → Bool) (ws : List A) → position_or_len p ws ≤ length ws
+  within_all p [] = omega arith
+  within_all p (w ∷ ws) =
+      let l = within_all p ws in
+      elim (p w) as (λ b. cond (not b) (1 + position_or_len p ws) 0 ≤ length (w ∷ ws)) [
+        | true ↦ omega arith
+        | false ↦ omega (arith, l)
+      ]
+
+  pub place_found : (p : A → Bool) (ws : List A) (n : ℕ) → Some n ≡ position p ws → n ≡ position_or_len p ws
+  place_found p ws n e = by (nat_lt (position_or_len p ws) (length ws)) e
+    where
+      by : (b : Bool) → Some n ≡ cond b (Some (position_or_len p ws)) None → n ≡ position_or_len p ws
+      by true h = cc
+      by false h = cc
+
+  pub place_behind : (p : A → Bool) (ws : List A) → None ≡ position p ws → length ws ≡ position_or_len p ws
+  place_behind p ws e = by (nat_lt (position_or_len p ws) (length ws)) refl e
+    where
+      by : (b : Bool) → nat_lt (position_or_len p ws) (length ws) ≡ b → None ≡ cond b (Some (position_or_len p ws)) None → length ws ≡ position_or_len p ws
+      by true at h = cc
+      by false at h = let l = within_all p ws in let m = not_less (position_or_len p ws) (length ws) at in omega (arith, l, m)

@@ -1,0 +1,4 @@
+pub mod Queues
+pub mod Steps
+pub mod Semaphores
+pub mod FlagGroups

@@ -1,0 +1,108 @@
+//! Threads that wait, by arrival alone.
+ghost use Rattle.std.specs.Prelude.{◌≡◌, ◌<◌, ◌≤◌, ◌++◌, [], ◌∷◌, false, length};
+ghost use Rattle.evl_sync.specs.Queues.{IsKept, dropped, first_of, number_of, rest_of, stands_in};
+
+use arrayvec::ArrayVec;
+use evl_base::ThreadId;
+use std::marker::Model;
+
+/// Threads that wait, in the order of their arrival (this profile). To a contract it is the list of their numbers, the
+/// first one at its head. It has a place for each of the 64 threads and takes no memory.
+#[derive(Drop)]
+pub struct ArrivalQueue {
+    threads: ArrayVec<u16, 64>,
+}
+
+impl Model for ArrivalQueue {
+    ghost use Rattle.std.specs.Prelude.{ℕ, List};
+    ghost use Rattle.evl_sync.specs.Queues.{IsKept};
+
+    ghost Value = { List ℕ };
+
+    ghost view = { λ q. q.threads.items };
+
+    ghost invariant = { λ q. IsKept (λ t. t) (λ t. 0) q.threads.items };
+}
+
+impl ArrivalQueue {
+    /// A queue in which nobody waits. (this profile)
+    pub fn new() -> ArrivalQueue
+        ensures empty { result ≡ [] }
+    {
+        ArrivalQueue {
+            threads: ArrayVec::new(),
+        }
+    }
+
+    /// A thread, which doesn't wait here yet, begins to wait, behind all others. (this profile)
+    pub fn push(&mut self, thread: ThreadId)
+        requires away { stands_in (λ t. t) thread.0 self.old ≡ false }
+        requires few { thread.0 < 64 }
+        ensures pushed { self.new ≡ self.old ++ thread.0 ∷ [] }
+    {
+        self.threads.push(thread.0);
+    }
+
+    /// Who is first; none where nobody waits. (this profile)
+    pub fn head(&self) -> Option<ThreadId>
+        ensures first { number_of result ≡ first_of (λ t. t) self.now }
+    {
+        match self.threads.as_slice().first() {
+            Some(thread) => Some(ThreadId(*thread)),
+            None => None,
+        }
+    }
+
+    /// Lets the first one wait no more, and says who that was; none where nobody waits. (this profile)
+    #[tactic(auto, using(crate::proofs::QueueLaws::kept_first))]
+    pub fn pop(&mut self) -> Option<ThreadId>
+        ensures first { number_of result ≡ first_of (λ t. t) self.old }
+        ensures rest { self.new ≡ rest_of self.old }
+    {
+        if self.threads.is_empty() {
+            return None;
+        }
+        let first = self.threads.remove(0);
+        Some(ThreadId(first))
+    }
+
+    /// Lets a thread wait no more, wherever it stands, and says whether it waited here. Nothing changes where it didn't.
+    /// (this profile)
+    pub fn remove(&mut self, thread: ThreadId) -> bool
+        ensures there { result ≡ stands_in (λ t. t) thread.0 self.old }
+        ensures dropped { self.new ≡ dropped (λ t. t) thread.0 self.old }
+    {
+        let there = stands_in(self.threads.as_slice(), thread.0);
+        self.threads = without(self.threads.as_slice(), thread.0);
+        there
+    }
+
+    /// How many wait, at most 64. (this profile)
+    pub fn len(&self) -> usize
+        ensures count { result ≡ length self.now }
+        ensures few { result ≤ 64 }
+        ensures kept { IsKept (λ t. t) (λ t. 0) self.now }
+    {
+        self.threads.len()
+    }
+}
+
+fn stands_in(threads: &[u16], thread: u16) -> bool
+    ensures there { result ≡ stands_in (λ t. t) thread threads.now }
+{
+    threads.iter().any(|number| *number == thread)
+}
+
+// All but this thread.
+fn without(threads: &[u16], thread: u16) -> ArrayVec<u16, 64>
+    requires few { length threads.now ≤ 64 }
+    ensures dropped { result.items ≡ dropped (λ t. t) thread threads.now }
+{
+    let mut kept = ArrayVec::new();
+    for number in threads {
+        if *number != thread {
+            kept.push(*number);
+        }
+    }
+    kept
+}

@@ -1,0 +1,191 @@
+//! One flag group.
+ghost use Rattle.std.specs.Prelude.{◌≡◌, ◌<◌, ◌≤◌, false, nat_lt, length, IfErr, IfSome, Ok};
+ghost use Rattle.std.specs.List.{position, position_or_len};
+ghost use Rattle.evl_sync.specs.Queues.{dropped, stands_in};
+ghost use Rattle.evl_sync.specs.Steps.{stepped, unless};
+ghost use Rattle.evl_sync.specs.FlagGroups.{IsSoundGroup, begin_take, drop_waiter, opened, pairs, post, post_refusal, take_refusal, try_take, walk_of, walked};
+
+use crate::flag_waiter::{FlagWaiter, Served};
+use crate::kinds::{is_empty_mask, taken};
+use arrayvec::ArrayVec;
+use evl_base::{Refusal, Take, ThreadId};
+use std::marker::Model;
+
+/// A flag group: its 32 bits, and who waits for which of them, by rank and arrival (Xenomai 4: EVL event flag group). To a
+/// contract it is the record `FlagGroup` of `specs/FlagGroups.antt`. It takes no memory.
+#[derive(Drop)]
+pub struct FlagGroup {
+    bits: u32,
+    waiters: ArrayVec<FlagWaiter, 64>,
+}
+
+impl Model for FlagGroup {
+    ghost use Rattle.evl_sync.specs.FlagGroups.{FlagGroup, IsSoundGroup};
+
+    ghost Value = { FlagGroup };
+
+    ghost view = { λ f. record { bits = f.bits; waiters = f.waiters.items } };
+
+    ghost invariant = { λ f. IsSoundGroup (record { bits = f.bits; waiters = f.waiters.items }) };
+}
+
+impl FlagGroup {
+    /// A flag group with these bits, for which nobody waits. (Xenomai 4: EVL event flag group)
+    pub fn new(bits: u32) -> FlagGroup
+        ensures opened { result ≡ opened bits }
+    {
+        FlagGroup {
+            bits,
+            waiters: ArrayVec::new(),
+        }
+    }
+
+    /// Takes bits, and says which, whoever waits: all of them under `Any`, those of the mask that are there under `Of`, the
+    /// whole mask under `Exact`. Refused, in this order, with nothing changed: `Invalid` where the mask has no bits, `Again`
+    /// where there are no bits to take, or under `Exact` not all of them. (Xenomai 4: EVL event flag group; this profile)
+    #[tactic(auto, using(crate::proofs::GroupLaws::sound_taken))]
+    pub fn try_take(&mut self, kind: Take) -> Result<u32, Refusal>
+        ensures step { stepped (λ got. got) result self.new ≡ try_take kind self.old }
+        ensures refused { IfErr result (λ e. self.new ≡ self.old) }
+    {
+        if is_empty_mask(kind) {
+            return Err(Refusal::Invalid);
+        }
+        match taken(kind, self.bits) {
+            Some(got) => {
+                self.bits = self.bits ^ got;
+                Ok(got)
+            }
+            None => Err(Refusal::Again),
+        }
+    }
+
+    /// Adds bits, and goes once through the waiters in the order of the queue, each of which takes what it wants from what
+    /// those before it left; says whom it served with which bits, in that order. Bits that nobody takes stay. `Invalid`
+    /// where there are no bits to add; then nothing changes. (Xenomai 4: EVL event flag group; this profile)
+    pub fn post(&mut self, bits: u32) -> Result<ArrayVec<Served, 64>, Refusal>
+        ensures step { stepped (λ served. pairs served.items) result self.new ≡ unless (post_refusal bits) (Ok (walked (post bits self.old))) }
+        ensures refused { IfErr result (λ e. self.new ≡ self.old) }
+    {
+        if bits == 0 {
+            return Err(Refusal::Invalid);
+        }
+        let (served, waiting, left) = walk(self.waiters.as_slice(), self.bits | bits);
+        self.bits = left;
+        self.waiters = waiting;
+        Ok(served)
+    }
+
+    /// Takes bits as `try_take` does, past all waiters, and says which; where they aren't there the thread, which doesn't
+    /// wait here yet, begins to wait, behind those of its rank or a greater one, and the answer is none. `Invalid` where
+    /// the mask has no bits; then nothing changes. (Xenomai 4: EVL event flag group; this profile)
+    #[tactic(auto, using(crate::proofs::GroupLaws::sound_taken))]
+    pub fn begin_take(
+        &mut self,
+        thread: ThreadId,
+        rank: u16,
+        kind: Take,
+    ) -> Result<Option<u32>, Refusal>
+        requires away { stands_in (λ w. w.thread) thread.0 self.old.waiters ≡ false }
+        requires few { thread.0 < 64 }
+        ensures step { stepped (λ got. got) result self.new
+            ≡ unless (take_refusal kind) (Ok (begin_take (record { thread = thread.0; rank = rank; kind = kind }) self.old)) }
+        ensures refused { IfErr result (λ e. self.new ≡ self.old) }
+    {
+        if is_empty_mask(kind) {
+            return Err(Refusal::Invalid);
+        }
+        match taken(kind, self.bits) {
+            Some(got) => {
+                self.bits = self.bits ^ got;
+                Ok(Some(got))
+            }
+            None => {
+                let place = place_for(self.waiters.as_slice(), rank);
+                self.waiters.insert(
+                    place,
+                    FlagWaiter {
+                        thread: thread.0,
+                        rank,
+                        kind,
+                    },
+                );
+                Ok(None)
+            }
+        }
+    }
+
+    /// Lets a thread wait here no more. Nothing changes where it doesn't wait here. (this profile)
+    pub fn drop_waiter(&mut self, thread: ThreadId)
+        ensures step { self.new ≡ drop_waiter thread.0 self.old }
+    {
+        self.waiters = without(self.waiters.as_slice(), thread.0);
+    }
+
+    /// The bits that are there. (Xenomai 4: EVL event flag group)
+    pub fn peek(&self) -> u32
+        ensures told { result ≡ self.now.bits }
+        ensures sound { IsSoundGroup self.now }
+    {
+        self.bits
+    }
+}
+
+// One walk through the waiters: whom it serves, who goes on waiting, and which bits are left.
+fn walk(waiters: &[FlagWaiter], bits: u32) -> (ArrayVec<Served, 64>, ArrayVec<FlagWaiter, 64>, u32)
+    requires few { length waiters.now ≤ 64 }
+    ensures served { pairs result.0.items ≡ (walk_of waiters.now bits).served }
+    ensures waiting { result.1.items ≡ (walk_of waiters.now bits).waiting }
+    ensures left { result.2 ≡ (walk_of waiters.now bits).left }
+{
+    let mut left = bits;
+    let mut served = ArrayVec::new();
+    let mut waiting = ArrayVec::new();
+    for waiter in waiters {
+        match taken(waiter.kind, left) {
+            Some(got) => {
+                left = left ^ got;
+                served.push(Served {
+                    thread: ThreadId(waiter.thread),
+                    bits: got,
+                });
+            }
+            None => waiting.push(*waiter),
+        }
+    }
+    (served, waiting, left)
+}
+
+// All but this thread.
+fn without(waiters: &[FlagWaiter], thread: u16) -> ArrayVec<FlagWaiter, 64>
+    requires few { length waiters.now ≤ 64 }
+    ensures dropped { result.items ≡ dropped (λ w. w.thread) thread waiters.now }
+{
+    let mut kept = ArrayVec::new();
+    for waiter in waiters {
+        if waiter.thread != thread {
+            kept.push(*waiter);
+        }
+    }
+    kept
+}
+
+// The place behind those of this rank or a greater one.
+#[tactic(auto, using(crate::proofs::QueueLaws::place_found, crate::proofs::QueueLaws::place_behind))]
+fn place_for(waiters: &[FlagWaiter], rank: u16) -> usize
+    ensures place { result ≡ position_or_len (λ w. nat_lt w.rank rank) waiters.now }
+    ensures within { result ≤ length waiters.now }
+{
+    match first_below(waiters, rank) {
+        Some(place) => place,
+        None => waiters.len(),
+    }
+}
+
+// The first of a lower rank.
+fn first_below(waiters: &[FlagWaiter], rank: u16) -> Option<usize>
+    ensures first { result ≡ position (λ w. nat_lt w.rank rank) waiters.now }
+    ensures within { IfSome result (λ place. place < length waiters.now) }
+{
+    waiters.iter().position(|waiter| waiter.rank < rank)
+}

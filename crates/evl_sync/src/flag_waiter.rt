@@ -1,0 +1,44 @@
+//! A thread that waits for flags, and one that was served.
+ghost use Rattle.std.specs.Prelude.{◌≡◌};
+
+use evl_base::{Take, ThreadId};
+use std::default::Default;
+
+/// A waiting thread, with the effective rank that it had when its wait began, and which bits it wants (this profile).
+#[derive(Clone, Copy, Debug)]
+pub struct FlagWaiter {
+    /// The number of the thread, 0 to 63.
+    pub thread: u16,
+    /// Its rank at the beginning of the wait.
+    pub rank: u16,
+    /// Which bits it wants.
+    pub kind: Take,
+}
+
+impl Default for FlagWaiter {
+    fn default() -> FlagWaiter {
+        FlagWaiter {
+            thread: 0,
+            rank: 0,
+            kind: Take::Any,
+        }
+    }
+}
+
+/// A thread that a post served, and which bits it took (this profile).
+#[derive(Clone, Copy, Debug, PartialEq, Eq)]
+pub struct Served {
+    /// Who waits no more.
+    pub thread: ThreadId,
+    /// The bits that it took; they are in the group no more.
+    pub bits: u32,
+}
+
+impl Default for Served {
+    fn default() -> Served {
+        Served {
+            thread: ThreadId(0),
+            bits: 0,
+        }
+    }
+}

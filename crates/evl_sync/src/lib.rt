@@ -1,0 +1,17 @@
+//! Queues of waiting threads, semaphores and flag groups (Xenomai 4: EVL semaphores and event flag groups).
+#![tactic(auto)]
+
+mod arrival_queue;
+mod flag_group;
+mod flag_waiter;
+mod kinds;
+mod sem;
+mod wait_queue;
+mod waiter;
+
+pub use arrival_queue::ArrivalQueue;
+pub use flag_group::FlagGroup;
+pub use flag_waiter::{FlagWaiter, Served};
+pub use sem::Sem;
+pub use wait_queue::WaitQueue;
+pub use waiter::Waiter;

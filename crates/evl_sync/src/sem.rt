@@ -1,0 +1,105 @@
+//! One semaphore.
+ghost use Rattle.std.specs.Prelude.{◌≡◌, ◌<◌, ◌≤◌, false, IfErr};
+ghost use Rattle.evl_sync.specs.Queues.{number_of, stands_in};
+ghost use Rattle.evl_sync.specs.Steps.{stepped};
+ghost use Rattle.evl_sync.specs.Semaphores.{IsSoundSemaphore, begin_get, drop_waiter, opened, peek, put, try_get};
+
+use crate::wait_queue::WaitQueue;
+use evl_base::{Refusal, ThreadId};
+use std::marker::Model;
+
+// The greatest count of a semaphore (this profile).
+const MAX_COUNT: u32 = 2_147_483_647;
+
+/// A semaphore: its count, and who waits for it, by rank and arrival (Xenomai 4: EVL semaphore). To a contract it is the
+/// record `Semaphore` of `specs/Semaphores.antt`. It takes no memory.
+#[derive(Drop)]
+pub struct Sem {
+    count: u32,
+    queue: WaitQueue,
+}
+
+impl Model for Sem {
+    ghost use Rattle.evl_sync.specs.Semaphores.{IsKeptSemaphore, Semaphore};
+
+    ghost Value = { Semaphore };
+
+    ghost view = { λ s. record { count = s.count; waiters = s.queue } };
+
+    ghost invariant = { λ s. IsKeptSemaphore s.count s.queue };
+}
+
+impl Sem {
+    /// A semaphore with this count, at most 2,147,483,647, for which nobody waits. (Xenomai 4: EVL semaphore)
+    pub fn new(count: u32) -> Sem
+        requires few { count ≤ 2147483647 }
+        ensures opened { result ≡ opened count }
+    {
+        Sem {
+            count,
+            queue: WaitQueue::new(),
+        }
+    }
+
+    /// Lowers the count by 1. `Again` where it is 0; then nothing changes. (Xenomai 4: EVL semaphore)
+    pub fn try_get(&mut self) -> Result<(), Refusal>
+        ensures step { stepped (λ u. u) result self.new ≡ try_get self.old }
+        ensures refused { IfErr result (λ e. self.new ≡ self.old) }
+    {
+        if self.count == 0 {
+            return Err(Refusal::Again);
+        }
+        self.count -= 1;
+        Ok(())
+    }
+
+    /// Lets the first waiter wait no more, and says who that was; where nobody waits, raises the count by 1. `Range` where
+    /// nobody waits and the count is 2,147,483,647; then nothing changes. (Xenomai 4: EVL semaphore; this profile)
+    pub fn put(&mut self) -> Result<Option<ThreadId>, Refusal>
+        ensures step { stepped number_of result self.new ≡ put self.old }
+        ensures refused { IfErr result (λ e. self.new ≡ self.old) }
+    {
+        if let Some(thread) = self.queue.pop() {
+            return Ok(Some(thread));
+        }
+        if self.count >= MAX_COUNT {
+            return Err(Refusal::Range);
+        }
+        self.count += 1;
+        Ok(None)
+    }
+
+    /// Lowers the count by 1 where it isn't 0; else the thread, which doesn't wait here yet, begins to wait, behind those
+    /// of its rank or a greater one. Whether it was served at once. (Xenomai 4: EVL semaphore; this profile)
+    pub fn begin_get(&mut self, thread: ThreadId, rank: u16) -> bool
+        requires away { stands_in (λ w. w.thread) thread.0 self.old.waiters ≡ false }
+        requires few { thread.0 < 64 }
+        ensures step { (result, self.new) ≡ begin_get (record { thread = thread.0; rank = rank }) self.old }
+    {
+        if self.count > 0 {
+            self.count -= 1;
+            return true;
+        }
+        self.queue.push(thread, rank);
+        false
+    }
+
+    /// Lets a thread wait here no more. Nothing changes where it doesn't wait here. (this profile)
+    pub fn drop_waiter(&mut self, thread: ThreadId)
+        ensures step { self.new ≡ drop_waiter thread.0 self.old }
+    {
+        let _ = self.queue.remove(thread);
+    }
+
+    /// The count, or minus the number of waiters where there are any. (Xenomai 4: EVL semaphore)
+    pub fn peek(&self) -> i64
+        ensures told { result ≡ peek self.now }
+        ensures sound { IsSoundSemaphore self.now }
+    {
+        let waiting = self.queue.len();
+        if waiting == 0 {
+            return i64::from(self.count);
+        }
+        -(waiting as i64)
+    }
+}

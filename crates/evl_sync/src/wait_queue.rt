@@ -1,0 +1,139 @@
+//! Threads that wait, by rank and arrival.
+ghost use Rattle.std.specs.Prelude.{◌≡◌, ◌<◌, ◌≤◌, [], false, nat_lt, length, IfSome};
+ghost use Rattle.std.specs.List.{position, position_or_len};
+ghost use Rattle.evl_sync.specs.Queues.{IsKept, dropped, enqueued, first_of, number_of, rest_of, stands_in};
+
+use crate::waiter::Waiter;
+use arrayvec::ArrayVec;
+use evl_base::ThreadId;
+use std::marker::Model;
+
+/// Threads that wait: greater ranks first, those of one rank in the order of their arrival (this profile). To a contract
+/// it is the list of them, the first one at its head. It has a place for each of the 64 threads and takes no memory.
+#[derive(Drop)]
+pub struct WaitQueue {
+    waiters: ArrayVec<Waiter, 64>,
+}
+
+impl Model for WaitQueue {
+    ghost use Rattle.std.specs.Prelude.{List};
+    ghost use Rattle.evl_sync.specs.declared.waiter.Waiter.{Waiter};
+    ghost use Rattle.evl_sync.specs.Queues.{IsKept};
+
+    ghost Value = { List Waiter };
+
+    ghost view = { λ q. q.waiters.items };
+
+    ghost invariant = { λ q. IsKept (λ w. w.thread) (λ w. w.rank) q.waiters.items };
+}
+
+impl WaitQueue {
+    /// A queue in which nobody waits. (this profile)
+    pub fn new() -> WaitQueue
+        ensures empty { result ≡ [] }
+    {
+        WaitQueue {
+            waiters: ArrayVec::new(),
+        }
+    }
+
+    /// A thread, which doesn't wait here yet, begins to wait: behind those of its rank or a greater one, before all
+    /// others. (this profile)
+    pub fn push(&mut self, thread: ThreadId, rank: u16)
+        requires away { stands_in (λ w. w.thread) thread.0 self.old ≡ false }
+        requires few { thread.0 < 64 }
+        ensures pushed { self.new ≡ enqueued (λ w. w.rank) (record { thread = thread.0; rank = rank }) self.old }
+    {
+        let place = place_for(self.waiters.as_slice(), rank);
+        self.waiters.insert(
+            place,
+            Waiter {
+                thread: thread.0,
+                rank,
+            },
+        );
+    }
+
+    /// Who is first; none where nobody waits. (this profile)
+    pub fn head(&self) -> Option<ThreadId>
+        ensures first { number_of result ≡ first_of (λ w. w.thread) self.now }
+    {
+        match self.waiters.as_slice().first() {
+            Some(waiter) => Some(ThreadId(waiter.thread)),
+            None => None,
+        }
+    }
+
+    /// Lets the first one wait no more, and says who that was; none where nobody waits. (this profile)
+    #[tactic(auto, using(crate::proofs::QueueLaws::kept_first))]
+    pub fn pop(&mut self) -> Option<ThreadId>
+        ensures first { number_of result ≡ first_of (λ w. w.thread) self.old }
+        ensures rest { self.new ≡ rest_of self.old }
+    {
+        if self.waiters.is_empty() {
+            return None;
+        }
+        let first = self.waiters.remove(0);
+        Some(ThreadId(first.thread))
+    }
+
+    /// Lets a thread wait no more, wherever it stands, and says whether it waited here. Nothing changes where it didn't.
+    /// (this profile)
+    pub fn remove(&mut self, thread: ThreadId) -> bool
+        ensures there { result ≡ stands_in (λ w. w.thread) thread.0 self.old }
+        ensures dropped { self.new ≡ dropped (λ w. w.thread) thread.0 self.old }
+    {
+        let there = stands_in(self.waiters.as_slice(), thread.0);
+        self.waiters = without(self.waiters.as_slice(), thread.0);
+        there
+    }
+
+    /// How many wait, at most 64. (this profile)
+    pub fn len(&self) -> usize
+        ensures count { result ≡ length self.now }
+        ensures few { result ≤ 64 }
+        ensures kept { IsKept (λ w. w.thread) (λ w. w.rank) self.now }
+    {
+        self.waiters.len()
+    }
+}
+
+fn stands_in(waiters: &[Waiter], thread: u16) -> bool
+    ensures there { result ≡ stands_in (λ w. w.thread) thread waiters.now }
+{
+    waiters.iter().any(|waiter| waiter.thread == thread)
+}
+
+// All but this thread.
+fn without(waiters: &[Waiter], thread: u16) -> ArrayVec<Waiter, 64>
+    requires few { length waiters.now ≤ 64 }
+    ensures dropped { result.items ≡ dropped (λ w. w.thread) thread waiters.now }
+{
+    let mut kept = ArrayVec::new();
+    for waiter in waiters {
+        if waiter.thread != thread {
+            kept.push(*waiter);
+        }
+    }
+    kept
+}
+
+// The place behind those of this rank or a greater one.
+#[tactic(auto, using(crate::proofs::QueueLaws::place_found, crate::proofs::QueueLaws::place_behind))]
+fn place_for(waiters: &[Waiter], rank: u16) -> usize
+    ensures place { result ≡ position_or_len (λ w. nat_lt w.rank rank) waiters.now }
+    ensures within { result ≤ length waiters.now }
+{
+    match first_below(waiters, rank) {
+        Some(place) => place,
+        None => waiters.len(),
+    }
+}
+
+// The first of a lower rank.
+fn first_below(waiters: &[Waiter], rank: u16) -> Option<usize>
+    ensures first { result ≡ position (λ w. nat_lt w.rank rank) waiters.now }
+    ensures within { IfSome result (λ place. place < length waiters.now) }
+{
+    waiters.iter().position(|waiter| waiter.rank < rank)
+}

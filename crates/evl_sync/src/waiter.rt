@@ -1,0 +1,11 @@
+//! A waiting thread.
+
+/// A waiting thread, with the effective rank that it had when its wait began: a rank that it is given later doesn't move
+/// it (this profile).
+#[derive(Clone, Copy, Debug, Default, PartialEq, Eq)]
+pub struct Waiter {
+    /// The number of the thread, 0 to 63.
+    pub thread: u16,
+    /// Its rank at the beginning of the wait.
+    pub rank: u16,
+}

@@ -1,0 +1,86 @@
+//! The program's words: a file, a limit, help, and what is refused.
+use crate::endings::ends_by;
+use crate::rows::FIRST_SEMAPHORE;
+use crate::writers::Narrow;
+use evl_bank::play_program;
+use evl_shell::Over;
+use std::rt::Files;
+use std::test::*;
+
+const UNDER_THREE: &str =
+    "board threads=1 sems=1 flags=0 xbufs=0 mutexes=0 groups=0 limit=3\n1 T0 try_get sem=0 -> Again\n2 T0 put sem=0 -> done\n3 T0 try_get sem=0 -> done\n- T0 peek sem=0 -> HistoryFull\n";
+
+#[test]
+fn threads_3(rt: HostRuntime) {
+    let limited = ["evl", "--limit", "3"];
+    assert!(rt; ends_by(&rt, limited.as_slice(), FIRST_SEMAPHORE, 0, UNDER_THREE, ""));
+    let limited_input = ["evl", "-", "--limit=3"];
+    assert!(rt;
+        ends_by(
+            &rt,
+            limited_input.as_slice(),
+            FIRST_SEMAPHORE,
+            0,
+            UNDER_THREE,
+            ""
+        )
+    );
+    let absent = ["evl", "there_is_no_such_file.toml"];
+    assert!(rt;
+        ends_by(
+            &rt,
+            absent.as_slice(),
+            FIRST_SEMAPHORE,
+            2,
+            "",
+            "evl: no file\n"
+        )
+    );
+}
+
+// Whether the program ends with this status on these words, and writes and says something.
+fn turns_away<F: Files + AllocGlobal>(
+    rt: &F,
+    words: &[&str],
+    status: u8,
+    writes: bool,
+    says: bool,
+) -> bool {
+    let mut out = Over::new(Vec::new(rt.alloc()));
+    let mut err = Vec::new(rt.alloc());
+    let mut input = FIRST_SEMAPHORE.as_bytes();
+    let done = play_program(rt, rt.alloc(), words, &mut input, &mut out, &mut err);
+    done == status && out.into_inner().is_empty() != writes && err.is_empty() != says
+}
+
+#[test]
+fn refuses_words(rt: HostRuntime) {
+    for words in [
+        ["evl", "--limit", "0"],
+        ["evl", "--limit", "1000001"],
+        ["evl", "--limit", "x"],
+        ["evl", "a.toml", "b.toml"],
+    ] {
+        assert!(rt; turns_away(&rt, words.as_slice(), 3, false, true));
+    }
+}
+
+#[test]
+fn tells_help(rt: HostRuntime) {
+    let words = ["evl", "--help"];
+    assert!(rt; turns_away(&rt, words.as_slice(), 0, true, false));
+    let mut out = Over::new(Narrow::new(rt.alloc(), 10, 2, true));
+    let mut err = Vec::new(rt.alloc());
+    let mut input = "".as_bytes();
+    assert!(rt;
+        play_program(
+            &rt,
+            rt.alloc(),
+            words.as_slice(),
+            &mut input,
+            &mut out,
+            &mut err
+        ) == 1
+    );
+    assert!(rt; err.as_slice() == b"evl: write fault\n".as_slice());
+}
