@@ -1,8 +1,8 @@
 -- The text of a call: its step word, then each key with its value.
-use Rattle.std.specs.Prelude.{ℕ, List, ◌++◌, codes}
+use Rattle.std.specs.Prelude.{ℕ, Bool, true, false, List, ◌++◌, Option, Some, None, codes}
 use Rattle.std.specs.Fmt.{decimal}
 use Rattle.evl_base.specs.declared.call.Call.{Call}
-use Rattle.evl_base.specs.declared.call.Call.TheVariants.{Request, Free, Arrive, Post, Stall, Unstall, Tick, Now, NewTimer, StartTimer, StopTimer, DropTimer, Overruns, Attach, Detach, SetPolicy, SetStage, Pick, RankOf, TryGet, Put, Peek}
+use Rattle.evl_base.specs.declared.call.Call.TheVariants.{Request, Free, Arrive, Post, Stall, Unstall, Tick, Now, NewTimer, StartTimer, StopTimer, DropTimer, Overruns, Attach, Detach, SetPolicy, SetStage, Pick, RankOf, TryGet, Put, Peek, BeginGet, Finish}
 use Rattle.evl_base.specs.declared.stage.Stage.{Stage}
 use Rattle.evl_base.specs.Policy.{policy_text}
 use Rattle.evl_base.specs.Stage.{stage_text}
@@ -15,6 +15,15 @@ stage_and_line_text stage line = codes "stage=" ++ (stage_text stage ++ (codes "
 
 abbrev pub date_and_interval_text : ℕ → ℕ → List ℕ
 date_and_interval_text date interval = codes "date=" ++ (decimal date ++ (codes " interval=" ++ decimal interval))
+
+-- the date of a deadline, or `none`
+abbrev pub until_text : Option ℕ → List ℕ
+until_text None = codes "none"
+until_text (Some date) = decimal date
+
+abbrev pub truth_text : Bool → List ℕ
+truth_text true = codes "true"
+truth_text false = codes "false"
 
 abbrev pub call_text : Call → List ℕ
 call_text (Request line stage callback tag) =
@@ -41,3 +50,5 @@ call_text (RankOf thread) = codes "rank_of thread=" ++ decimal thread.0
 call_text (TryGet sem) = codes "try_get sem=" ++ decimal sem.0
 call_text (Put sem) = codes "put sem=" ++ decimal sem.0
 call_text (Peek sem) = codes "peek sem=" ++ decimal sem.0
+call_text (BeginGet sem until) = codes "begin_get sem=" ++ (decimal sem.0 ++ (codes " until=" ++ until_text until))
+call_text (Finish keep) = codes "finish keep=" ++ truth_text keep

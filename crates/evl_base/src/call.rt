@@ -100,6 +100,15 @@ pub enum Call {
     Peek {
         sem: SemId,
     },
+    /// Begins a wait for a semaphore, until a date in nanoseconds, or without a deadline.
+    BeginGet {
+        sem: SemId,
+        until: Option<u64>,
+    },
+    /// Asks what ended the caller's wait; a weak thread goes in-band then, unless it keeps its stage.
+    Finish {
+        keep: bool,
+    },
 }
 
 impl Call {
@@ -160,6 +169,11 @@ impl Call {
             Call::TryGet { sem } => Call::TryGet { sem: *sem },
             Call::Put { sem } => Call::Put { sem: *sem },
             Call::Peek { sem } => Call::Peek { sem: *sem },
+            Call::BeginGet { sem, until } => Call::BeginGet {
+                sem: *sem,
+                until: *until,
+            },
+            Call::Finish { keep } => Call::Finish { keep: *keep },
         }
     }
 }
@@ -253,6 +267,12 @@ impl fmt::Display for Call {
                 let sem = sem.0;
                 write!(f, "peek sem={sem}")
             }
+            Call::BeginGet { sem, until } => {
+                let sem = sem.0;
+                let until = Until(*until);
+                write!(f, "begin_get sem={sem} until={until}")
+            }
+            Call::Finish { keep } => write!(f, "finish keep={keep}"),
         }
     }
 }
@@ -311,5 +331,22 @@ impl fmt::Display for DateAndInterval {
         let date = self.date;
         let interval = self.interval;
         write!(f, "date={date} interval={interval}")
+    }
+}
+
+/// The date of a deadline, or `none`.
+#[derive(Drop)]
+struct Until(Option<u64>);
+
+impl fmt::Display for Until {
+    ghost use Rattle.evl_base.specs.Call.{until_text};
+
+    ghost output = { λ until. Some (until_text until.0) };
+
+    fn fmt<W: fmt::Write>(&self, f: &mut fmt::Formatter<W>) -> fmt::Result {
+        match self.0 {
+            Some(date) => write!(f, "{date}"),
+            None => write!(f, "none"),
+        }
     }
 }
