@@ -15,7 +15,7 @@ use Rattle.evl_kernel.specs.Effects.{Effect, unless}
 use Rattle.evl_kernel.specs.TimerCalls as timer_call
 use Rattle.evl_kernel.specs.ThreadCalls as thread_call
 use Rattle.evl_kernel.specs.Families.{ClockStep, tick, read_date, new_timer, start_timer, stop_timer, drop_timer, overruns, clock_effect}
-use Rattle.evl_kernel.specs.Settling.{answered, timer_given, timer_played, no_timer, item_played}
+use Rattle.evl_kernel.specs.Settling.{answered, deadline_left, timer_given, timer_played, no_timer, item_played}
 use Rattle.evl_kernel.proofs.LeavesLaws.{Leaves, leaves-refused, leaves-known}
 use Rattle.evl_kernel.proofs.DueLaws.{timer_found}
 
@@ -81,7 +81,7 @@ module _ (P : State → Type 0) (k : KeptByClock P) where
 
   -- a due item
   pub leaves-item : ((s : State) (n : ℕ) (t : Timer ℕ) → P s → clocks.timer_at s.clock n ≡ Some t → P (with_clock s (fired s.clock n t)))
-      → ((s : State) (thread : ℕ) → P s → P (with_clock s (clocks.with_deadline s.clock thread None)))
+      → ((s : State) (thread : ℕ) → P s → P (deadline_left s thread).1)
       → ((s : State) (line : ℕ) (answer : Answer) → P s → P (answered s line answer))
       → (s : State) (found : Item) → P s → next_due s.clock ≡ Some found → P (item_played s found).1
   leaves-item fires gone answers s (item.Deadline thread) h due = gone s thread.0 h

@@ -1,9 +1,11 @@
 -- What the play of a due item makes of the records, and that it leaves fewer plays to make.
-use Rattle.std.proofs.Common.{◌≡◌, ℕ, ◌+◌, ◌<◌, ◌≤◌, inr, Bool, true, false, Option, Some, None, refl, sym, ap, ◌∙◌, subst, arith}
-use Rattle.std.specs.Option.{option_map}
+use Rattle.std.proofs.Common.{◌≡◌, ℕ, ◌+◌, ◌<◌, ◌≤◌, inr, Bool, true, false, List, [], Option, Some, None, Err, refl, sym, ap, ◌∙◌, subst, arith}
+use Rattle.std.specs.Option.{option_map, option_map_or}
 use Rattle.evl_base.specs.declared.numbers.ThreadId.{ThreadId}
 use Rattle.evl_base.specs.declared.numbers.TimerId.{TimerId}
 use Rattle.evl_base.specs.declared.stage.Stage.TheVariants.{Oob}
+use Rattle.evl_base.specs.declared.refusal.Refusal.TheVariants.{Invalid}
+use Rattle.evl_base.specs.declared.reply.Reply.TheVariants.{TimedOut}
 use Rattle.evl_base.specs.declared.play.Play.{Play}
 use Rattle.evl_base.specs.declared.play.Play.TheVariants as play
 use Rattle.evl_pipeline.specs.declared.answer.Answer.{Answer}
@@ -22,13 +24,19 @@ use Rattle.evl_clock.specs.Dues.{timer, deadline, next_due, due_count}
 use Rattle.evl_kernel.specs.declared.bank.Numbered.{Numbered}
 use Rattle.evl_kernel.specs.States.{State, with_clock, plan_at}
 use Rattle.evl_kernel.specs.Renamed.{named_timer, renamed_clock}
-use Rattle.evl_kernel.specs.Settling.{answered, timer_given, item_played, due_played, going_on, is_of_clock, item_next, item_before, line_next, next_of, line_goes, next_play, one_inband}
+use Rattle.evl_clock.proofs.DueLaws.{fewer-cleared}
+use Rattle.evl_kernel.specs.declared.waits.Wait.{Wait}
+use Rattle.evl_kernel.specs.Elements.{Told, touched}
+use Rattle.evl_kernel.specs.Waits.{wait_at, woken}
+use Rattle.evl_kernel.specs.Endings.{drop_step}
+use Rattle.evl_kernel.specs.Settling.{Left, left, deadline_left, answered, timer_given, item_played, due_played, going_on, is_of_clock, item_next, item_before, line_next, next_of, line_goes, next_play, one_inband}
 use Rattle.evl_kernel.specs.Fires.{Called}
 use Rattle.evl_kernel.specs.Settled.{settling, stage_of, waiting, left_after}
 use Rattle.evl_kernel.specs.Callbacks.{AnswersAsTold}
 use Rattle.evl_kernel.specs.Records.{RecordsView, state_of, whereabouts, number_of, kinds_at, AreTimersAllowed}
 use Rattle.evl_kernel.proofs.ClockLaws.{timer-renamed, next-renamed, count-renamed, fired-renamed}
-use Rattle.evl_kernel.proofs.PlayLaws.{plan_told, oob_pending, due_in, answered-none, answered-due}
+use Rattle.evl_kernel.proofs.PlayLaws.{plan_told, oob_pending, due_in, answered-none, answered-due, deadline-due, deadline-pending}
+use Rattle.evl_kernel.proofs.SetLaws.{set_twice}
 
 some_is : {A : Type 0} {x y : A} → Some x ≡ Some y → x ≡ y
 some_is e = cc
@@ -112,12 +120,39 @@ module _ {C : Type 0} (declared : C → ℕ) (plan : C → Plan) where
         fewer,
       )
 
-pub deadline_next : {C : Type 0} (r : RecordsView C) (thread : ThreadId) (d : Clock (Numbered C)) → next_due r.clock ≡ Some (deadline thread.0) → d ≡ with_deadline r.clock thread.0 None
-    → due_played (state_of r) ≡ Some (play.Deadline thread, state_of (record r { clock = d }))
-deadline_next r thread d next after = rw (next-renamed number_of r.clock, next, after) refl
+-- a deadline that was taken away is taken away once more as its thread's wait ends
+pub woken_once : (s : State) (thread : ℕ) → deadline_left (with_clock s (with_deadline s.clock thread None)) thread ≡ deadline_left s thread
+woken_once s thread = ap (λ (dates : List (Option ℕ)). left (ended dates) (told (ended dates) (wait_at s thread))) (set_twice s.clock.deadlines thread None None)
+  where
+    ended : List (Option ℕ) → State
+    ended dates = with_clock (woken s thread TimedOut) (record s.clock { deadlines = dates })
 
-pub deadline_nearer : {C : Type 0} (r : RecordsView C) (d : Clock (Numbered C)) → due_count d + 1 ≡ due_count r.clock → waiting (state_of (record r { clock = d })) < waiting (state_of r)
-deadline_nearer r d fewer = omega (arith, count-renamed number_of d, count-renamed number_of r.clock, fewer)
+    told : State → Option Wait → Told
+    told x o = option_map_or (λ (w : Wait). touched x None (drop_step thread w.on)) o (record { touches = []; effect = Err Invalid })
+
+module _ {C : Type 0} (r t : RecordsView C) (thread : ThreadId) (d : Clock (Numbered C)) (after : d ≡ with_deadline r.clock thread.0 None) (ended : state_of t ≡ (deadline_left (state_of (record r { clock = d })) thread.0).1) where
+  ended_is : state_of t ≡ (deadline_left (state_of r) thread.0).1
+  ended_is =
+      ended ∙ (ap (λ (c : Clock (Numbered C)). (deadline_left (state_of (record r { clock = c })) thread.0).1) after
+      ∙ ap (λ (x : Left). x.1) (woken_once (state_of r) thread.0))
+
+  pub deadline_next : next_due r.clock ≡ Some (deadline thread.0) → due_played (state_of r) ≡ Some (play.Deadline thread, state_of t)
+  deadline_next next = ap (option_map (item_played (state_of r))) (next-renamed number_of r.clock ∙ next) ∙ ap (λ (x : State). Some (play.Deadline thread, x)) (sym ended_is)
+
+  pub deadline_nearer : due_count d + 1 ≡ due_count r.clock → waiting (state_of t) < waiting (state_of r)
+  deadline_nearer fewer =
+      let mid = state_of (record r { clock = d }) in
+      omega (
+        arith,
+        ap oob_pending ended,
+        ap due_in ended,
+        deadline-pending mid thread.0,
+        deadline-due mid thread.0,
+        fewer-cleared mid.clock thread.0,
+        count-renamed number_of d,
+        count-renamed number_of r.clock,
+        fewer,
+      )
 
 pub nothing_due : {C : Type 0} (r : RecordsView C) → next_due r.clock ≡ None → next_due (state_of r).clock ≡ None
 nothing_due r none = next-renamed number_of r.clock ∙ none

@@ -1,6 +1,12 @@
 -- The records of a new kernel.
-use Rattle.std.proofs.Common.{◌≡◌, ℕ, zero, suc, inl, inr, true, List, [], ◌∷◌, map, replicate, Option, Some, None, is_some, slice_get, refl, sym, ap, ◌∙◌, subst}
-use Rattle.std.specs.Option.{option_map}
+use Rattle.std.proofs.Common.{◌≡◌, ◌≤◌, ℕ, zero, suc, inl, inr, Bool, true, false, ◌&&◌, nat_le, arith, length, List, [], ◌∷◌, map, replicate, Option, Some, None, is_some, slice_get, refl, sym, ap, ◌∙◌, subst}
+use Rattle.std.specs.Option.{option_map, option_map_or}
+use Rattle.std.specs.List.{list_all}
+use Rattle.std.proofs.lemmas.Bool.Decides.{nat_tests}
+use Rattle.evl_base.specs.Board.{board_fits}
+use Rattle.evl_base.specs.Limits.{within, count_fits, kind_fits, percent_fits, sizes_fit, stax_fits}
+use Rattle.std.proofs.lemmas.Bool.{false≢true}
+use Rattle.std.proofs.lemmas.List.{length-replicate}
 use Rattle.evl_base.specs.declared.board.Board.{Board}
 use Rattle.evl_base.specs.declared.stage.Stage.{Stage}
 use Rattle.evl_base.specs.declared.stage.Stage.TheVariants.{Inband, Oob}
@@ -17,8 +23,16 @@ use Rattle.evl_kernel.specs.States.{Handler}
 use Rattle.evl_kernel.specs.Openings.{opening, at_home}
 use Rattle.evl_kernel.specs.Renamed.{named, renamed, renamed_clock}
 use Rattle.evl_kernel.specs.Callbacks.{Whereabouts, AnswersAsTold, AreFilled, told}
-use Rattle.evl_kernel.specs.Records.{RecordsView, IsOpened, state_of, number_of, banked, AreAllowed, AreTimersAllowed}
+use Rattle.evl_kernel.specs.Records.{RecordsView, IsOpened, state_of, number_of, banked, AreAllowed, AreTimersAllowed, WaitsAreKept, stands_for}
 use Rattle.evl_sched.specs.Ranks.{Ranked, fresh}
+use Rattle.evl_sync.specs.Semaphores as semaphores
+use Rattle.evl_sync.specs.Semaphores.{Semaphore}
+use Rattle.evl_sync.specs.Queues.{stands_in}
+use Rattle.evl_kernel.specs.declared.waits.Awaited.{Awaited}
+use Rattle.evl_kernel.specs.declared.waits.Awaited.TheVariants.{Sem}
+use Rattle.evl_kernel.specs.declared.waits.Wait.{Wait}
+use Rattle.evl_kernel.specs.Elements.{Elements}
+use Rattle.evl_kernel.specs.Waits.{wait_of, going_on}
 use Rattle.evl_kernel.proofs.ClockLaws.{clock-opening}
 use Rattle.evl_kernel.proofs.SchedLaws.{sched-fresh}
 
@@ -85,20 +99,20 @@ module _ {C : Type 0} (declared : C → ℕ) (plan : C → Plan) where
   answers-opening bank w filled nothing no_timers number callback (inr (inl out)) =
       absurd (nothing-opening out.stage out.line out.at (subst (λ (p : lines.Pipeline (Numbered C)). lines.installed_at p out.stage out.line ≡ Some out.at) nothing out.there))
 
-  pub state-opening : (board : Board) (bank : List C) (r : RecordsView C) → r.threads ≡ board.threads → r.counts ≡ board.sems.items
+  pub state-opening : (board : Board) (bank : List C) (r : RecordsView C) → r.threads ≡ board.threads → r.sems ≡ map semaphores.opened board.sems.items → r.waits ≡ replicate board.threads None
       → AreFilled declared plan bank r.bank → r.lines ≡ lines.opening → r.clock ≡ clocks.opening → r.sched ≡ fresh board.threads board.groups.items
       → state_of r ≡ opening board (map handler_made bank)
-  state-opening board bank r threads counts filled nothing no_timers nobody =
+  state-opening board bank r threads sems waits filled nothing no_timers nobody =
       let lines_are : renamed number_of r.lines ≡ lines.opening = ap (renamed number_of) nothing ∙ renamed-opening number_of in
       let clock_is : renamed_clock number_of r.clock ≡ clocks.opening = ap (renamed_clock number_of) no_timers ∙ clock-opening number_of in
       let sched_is = ap (λ (x : Ranked). x.sched) nobody ∙ sched-fresh board.threads board.groups.items in
-      (λ i. record { threads = threads i; sems = counts i; bank = banked-filled bank r.bank filled i; lines = lines_are i; clock = clock_is i; sched = sched_is i })
+      (λ i. record { threads = threads i; sems = sems i; bank = banked-filled bank r.bank filled i; lines = lines_are i; clock = clock_is i; sched = sched_is i; waits = waits i })
 
-  pub opened_records : (board : Board) (bank : List C) (r : RecordsView C) → r.threads ≡ board.threads → r.counts ≡ board.sems.items
+  pub opened_records : (board : Board) (bank : List C) (r : RecordsView C) → r.threads ≡ board.threads → r.sems ≡ map semaphores.opened board.sems.items → r.waits ≡ replicate board.threads None
       → AreFilled declared plan bank r.bank → r.lines ≡ lines.opening → r.clock ≡ clocks.opening → r.sched ≡ fresh board.threads board.groups.items
       → IsOpened declared plan board bank r
-  opened_records board bank r threads counts filled nothing no_timers nobody =
-      record { filled = filled; nothing_out = nothing; no_timers = no_timers; state = state-opening board bank r threads counts filled nothing no_timers nobody }
+  opened_records board bank r threads sems waits filled nothing no_timers nobody =
+      record { filled = filled; nothing_out = nothing; no_timers = no_timers; state = state-opening board bank r threads sems waits filled nothing no_timers nobody }
 
 pub sound_opening : {X : Type 0} → clocks.IsSoundClock {C = X} clocks.opening
 unfolding clocks.opening
@@ -118,3 +132,37 @@ allowed-new r nothing stage line at h =
 module _ {C : Type 0} (declared : C → ℕ) (plan : C → Plan) where
   pub opening-told : (board : Board) (bank : List C) (r : RecordsView C) → IsOpened declared plan board bank r → opening board (told r.bank) ≡ opening board (map (handler_made declared plan) bank)
   opening-told board bank r opened = ap (opening board) (told-filled declared plan bank r.bank opened.filled)
+
+-- nobody stands in a queue of a new semaphore
+nobody_stands : (counts : List ℕ) (n thread : ℕ) → option_map_or (λ (q : Semaphore). stands_in (λ w. w.thread) thread q.waiters) (slice_get (map semaphores.opened counts) n) false ≡ false
+nobody_stands [] n thread = refl
+nobody_stands (c ∷ counts) zero thread = refl
+nobody_stands (c ∷ counts) (suc n) thread = nobody_stands counts n thread
+
+pub waits-new : (threads : ℕ) (counts : List ℕ) (sems : List Semaphore) (waits : List (Option Wait)) → threads ≤ 64 → sems ≡ map semaphores.opened counts → waits ≡ replicate threads None
+    → WaitsAreKept threads (record { sems = sems }) waits
+waits-new threads counts sems waits few opened none = record {
+  few = few;
+  places = ap (λ (ws : List (Option Wait)). length ws) none ∙ length-replicate threads None;
+  going = λ on thread stands. absurd (false≢true (sym (by on thread) ∙ stands));
+}
+  where
+    by : (on : Awaited) (thread : ℕ) → stands_for (record { sems = sems }) on thread ≡ false
+    by (Sem id) thread = ap (λ (qs : List Semaphore). option_map_or (λ (q : Semaphore). stands_in (λ w. w.thread) thread q.waiters) (slice_get qs id.0) false) opened ∙ nobody_stands counts id.0 thread
+
+-- a board that fits has few threads
+first_of_six : (a b c d e f : Bool) → (a && b && c && d && e && f) ≡ true → a ≡ true
+first_of_six true b c d e f h = refl
+first_of_six false b c d e f h = absurd (false≢true h)
+
+second_of_two : (a b : Bool) → (a && b) ≡ true → b ≡ true
+second_of_two true b h = h
+second_of_two false b h = absurd (false≢true h)
+
+pub threads_few : (board : Board) → board_fits board ≡ true → board.threads ≤ 64
+threads_few b fits =
+    at_most (second_of_two (nat_le 1 b.threads) (nat_le b.threads 64)
+    (first_of_six (within 1 64 b.threads) (list_all count_fits b.sems.items) (list_all sizes_fit b.xbufs.items) (list_all kind_fits b.mutexes.items) (list_all percent_fits b.groups.items) (list_all stax_fits b.staxes.items) fits))
+  where
+    at_most : nat_le b.threads 64 ≡ true → b.threads ≤ 64
+    at_most e = grind (arith, nat_tests)

@@ -30,15 +30,16 @@ use Rattle.evl_clock.specs.Clocks.{Clock, timer_at, with_timer}
 use Rattle.evl_clock.specs.Dues.{all_due, due_from, due_of, due_count, earliest, is_due, next_due, timer, deadline, timer_date}
 use Rattle.evl_clock.specs.Searching.{least_in, sooner}
 use Rattle.evl_clock.proofs.LeastLaws.{earliest-least}
-use Rattle.evl_clock.proofs.DueLaws.{no_more_due, fewer-stop, fewer-dropped}
+use Rattle.evl_clock.proofs.DueLaws.{no_more_due, fewer-stop, fewer-dropped, fewer-cleared}
 use Rattle.evl_kernel.specs.Paths.{Along}
 use Rattle.evl_kernel.specs.States.{State, Handler, Banked, with_lines, with_clock, moved, come_home}
-use Rattle.evl_kernel.specs.Effects.{Answered, Effect, lifted, done, unless}
-use Rattle.evl_kernel.specs.Elements.{Elements, ElementStep, on_sem, elements, with_elements, element, touched}
+use Rattle.evl_kernel.specs.Effects.{Effect, done, unless}
+use Rattle.evl_kernel.specs.Elements.{on_sem}
+use Rattle.evl_kernel.specs.Waits.{is_past}
 use Rattle.evl_kernel.specs.Semaphores.{put}
 use Rattle.evl_kernel.specs.LineCalls as line_call
 use Rattle.evl_kernel.specs.TimerCalls as timer_call
-use Rattle.evl_kernel.specs.Families.{LineStep, request, free, arrive, post, stall, unstall, line_effect, ClockStep, tick, read_date, new_timer, start_timer, stop_timer, drop_timer, overruns, clock_effect, Task, on_lines, on_clock, on_threads, on_element, performing, task_of}
+use Rattle.evl_kernel.specs.Families.{LineStep, request, free, arrive, post, stall, unstall, line_effect, ClockStep, tick, read_date, new_timer, start_timer, stop_timer, drop_timer, overruns, clock_effect, Task, on_lines, on_clock, on_threads, on_element, begins, ends, performing, task_of}
 use Rattle.evl_kernel.specs.Serving.{served, general_refusal, answer}
 use Rattle.evl_kernel.specs.Settling.{Settling, item_next, next_play, going_on, is_of_clock, item_played, played, line_played, clock_played, acted, all_acted, answered, given, after_call, nothing}
 use Rattle.evl_kernel.specs.Openings.{opening}
@@ -46,6 +47,7 @@ use Rattle.evl_kernel.specs.Histories.{Run, Follows, opened}
 use Rattle.evl_kernel.specs.Laws.{DueMeansPending}
 use Rattle.evl_kernel.proofs.LeavesLaws.{Leaves, leaves-refused, leaves-unless, leaves-known, leaves-if_done}
 use Rattle.evl_kernel.proofs.ThreadSteps.{leaves-threads}
+use Rattle.evl_kernel.proofs.WaitSteps.{KeptByWakes, leaves-touched, leaves-beginning, leaves-finish}
 use Rattle.evl_kernel.proofs.DueLaws.{one_played, none_played}
 
 none_some : {A : Type 0} {x : A} → None ≡ Some x → ⊥
@@ -117,6 +119,17 @@ module _ {C : Type 0} where
       by : (x : Item) (o : Option (Timer C)) → due_of c.now (timer_date (option_map (λ t. timers.started t date interval) o)) x ≡ []
       by x None = refl
       by x (Some t) = ap (λ (b : Bool). if b then (date, x) ∷ [] else []) later
+
+  -- a deadline that is after now isn't due
+  dated_later : (c : Clock C) (n date : ℕ) → nat_le date c.now ≡ false → due_count (clocks.with_deadline c n (Some date)) ≤ due_count c
+  unfolding due_count
+  dated_later c n date later =
+      omega (
+        arith,
+        length-append (due_from timer c.now 0 (map timer_date c.timers)) (due_from deadline c.now 0 c.deadlines),
+        length-append (due_from timer c.now 0 (map timer_date c.timers)) (due_from deadline c.now 0 (slice_set c.deadlines n (Some date))),
+        no_more_due deadline c.now 0 c.deadlines n (Some date) (λ x. ap (λ (b : Bool). if b then (date, x) ∷ [] else []) later),
+      )
 
   made_idle : (c : Clock C) (n : ℕ) (callback : C) (tag : ℕ) → due_count (clocks.with_new_timer c n callback tag) ≤ due_count c
   made_idle c n callback tag = no_more c n (Some (timers.made callback tag)) (λ x. refl)
@@ -198,12 +211,22 @@ held-home s number h = by (slice_get s.bank number)
     by None = h
     by (Some b) = h
 
-held-touched : (s : State) (by : Option ℕ) (step : ElementStep) → IsHeld s → Leaves IsHeld (touched s by step).effect
-held-touched s by step h = left (element (elements s) step)
+held_waiting : KeptByWakes IsHeld
+held_waiting = record {
+  changed = λ s e h. h;
+  waiting = λ s thread wait h. h;
+  freed = λ s thread h due. h (omega (arith, due, fewer-cleared s.clock thread));
+  queued = λ s ready h. h;
+}
+
+-- a deadline that isn't after now posts line 0, and another isn't due
+held-timed : (s : State) (thread : ℕ) (until : Option ℕ) → IsHeld s → IsHeld (timer_call.posted_if (is_past s.clock.now until) (with_clock s (clocks.with_deadline s.clock thread until)))
+held-timed s thread None h = λ due. h (omega (arith, due, fewer-cleared s.clock thread))
+held-timed s thread (Some date) h = by (nat_le date s.clock.now) refl
   where
-    left : (a : Answered Elements) → Leaves IsHeld (lifted (with_elements s) a)
-    left (Ok (reply, e)) = h
-    left (Err refusal) = tt
+    by : (b : Bool) → nat_le date s.clock.now ≡ b → IsHeld (timer_call.posted_if b (with_clock s (clocks.with_deadline s.clock thread (Some date))))
+    by true is due = posted-pends s.lines
+    by false is due = h (omega (arith, due, dated_later s.clock thread date is))
 
 held-post : (s : State) (stage : Stage) (line : ℕ) → IsHeld s → Leaves IsHeld (line_call.post s stage line)
 held-post s stage line h = leaves-refused IsHeld (lines.post_refusal line) _ (λ passed due. pends-posted s.lines stage line (h due))
@@ -264,13 +287,15 @@ held-task : (s : State) (caller : ℕ) (task : Task) → IsHeld s → Leaves IsH
 held-task s caller (on_lines step) h = held-line s step h
 held-task s caller (on_clock step) h = held-clock s step h
 held-task s caller (on_threads step) h = leaves-threads IsHeld (λ s q h. h) s caller step h
-held-task s caller (on_element step) h = held-touched s (Some caller) step h
+held-task s caller (on_element step) h = leaves-touched IsHeld held_waiting s (Some caller) step h
+held-task s caller (begins on until) h = leaves-beginning IsHeld held_waiting held-timed s caller on until h
+held-task s caller (ends keep) h = leaves-finish IsHeld held_waiting s caller keep (λ x hx. hx) h
 
 held-answer : (s : State) (caller : ℕ) (asked : Call) → IsHeld s → Leaves IsHeld (answer s caller asked)
 held-answer s caller asked h = leaves-refused IsHeld (general_refusal s caller asked) (served s caller asked) (λ passed. held-task s caller (task_of asked) h)
 
 held-acted : (s : State) (line : ℕ) (action : Action) → IsHeld s → IsHeld (acted s line action)
-held-acted s line (PostSem sem) h = leaves-if_done IsHeld s _ h (held-touched s None (on_sem sem.0 put) h)
+held-acted s line (PostSem sem) h = leaves-if_done IsHeld s _ h (leaves-touched IsHeld held_waiting s None (on_sem sem.0 put) h)
 held-acted s line (PostFlags flags bits) h = h
 held-acted s line Propagate h = leaves-if_done IsHeld s _ h (held-post s Inband line h)
 held-acted s line (PostOob other) h = leaves-if_done IsHeld s _ h (held-post s Oob other.0 h)

@@ -26,17 +26,17 @@ use Rattle.evl_clock.specs.declared.timer.Timer.{Timer}
 use Rattle.evl_clock.specs.Timers as timers
 use Rattle.evl_clock.specs.Timers.{made}
 use Rattle.evl_clock.specs.Clocks as clocks
-use Rattle.evl_clock.specs.Clocks.{Clock, IsSoundClock, timer_at, free_place, with_new_timer, dropped}
+use Rattle.evl_clock.specs.Clocks.{Clock, IsSoundClock, timer_at, free_place, with_deadline, with_new_timer, dropped}
 use Rattle.evl_clock.specs.Dues.{next_due}
 use Rattle.evl_sched.specs.Threads.{Sched}
 use Rattle.evl_sched.specs.Picks.{is_anyone_eligible}
 use Rattle.evl_kernel.specs.States.{State, with_sched, Handler, Banked, with_lines, with_clock, moved, come_home}
-use Rattle.evl_kernel.specs.Effects.{Answered, Effect, lifted, done}
+use Rattle.evl_kernel.specs.Effects.{Effect, done}
 use Rattle.evl_kernel.specs.Paths.{Along}
 use Rattle.evl_kernel.specs.Semaphores.{put}
-use Rattle.evl_kernel.specs.Elements.{Elements, ElementStep, on_sem, elements, with_elements, element, touched}
+use Rattle.evl_kernel.specs.Elements.{on_sem}
 use Rattle.evl_kernel.specs.LineCalls as line_call
-use Rattle.evl_kernel.specs.Families.{LineStep, request, free, arrive, post, stall, unstall, line_effect, Task, on_lines, on_clock, on_threads, on_element, performing, task_of}
+use Rattle.evl_kernel.specs.Families.{LineStep, request, free, arrive, post, stall, unstall, line_effect, Task, on_lines, on_clock, on_threads, on_element, begins, ends, performing, task_of}
 use Rattle.evl_kernel.specs.Serving.{general_refusal, answer}
 use Rattle.evl_kernel.specs.Settling.{Settling, next_play, item_played, acted, all_acted, answered, given, played, line_played, clock_played, after_call, nothing}
 use Rattle.evl_kernel.specs.Openings.{opening, at_home}
@@ -49,6 +49,7 @@ use Rattle.evl_kernel.proofs.OpeningLaws.{sound_opening}
 use Rattle.evl_kernel.proofs.LeavesLaws.{Leaves, leaves-refused, leaves-known, leaves-if_done}
 use Rattle.evl_kernel.proofs.ClockSteps.{KeptByClock, leaves-clock, leaves-stop, leaves-item}
 use Rattle.evl_kernel.proofs.ThreadSteps.{leaves-threads}
+use Rattle.evl_kernel.proofs.WaitSteps.{KeptByWakes, kept-deadline, leaves-touched, leaves-beginning, leaves-finish, timed-by}
 use Rattle.evl_kernel.proofs.SilenceLaws.{below_limit, sound-posted, sound-arrived, free-not_clock}
 use Rattle.evl_kernel.proofs.WorldLaws.{chosen, chosen_pends}
 use Rattle.evl_kernel.specs.Limits.{inband_limit}
@@ -64,13 +65,6 @@ module _ (size : ℕ) where
   -- other lines on which the same stands
   placed-lines : (s : State) (q : lines.Pipeline ℕ) → IsPlaced s → ((n : ℕ) → in_tables n q ≡ in_tables n s.lines) → lines.IsSoundPipeline q → IsPlaced (with_lines s q)
   placed-lines s q h same sound = record { once = λ n. omega (arith, h.once n, same n); size_is = h.size_is; sound = sound; clock_sound = h.clock_sound }
-
-  placed-touched : (s : State) (by : Option ℕ) (step : ElementStep) → IsPlaced s → Leaves IsPlaced (touched s by step).effect
-  placed-touched s by step h = left (element (elements s) step)
-    where
-      left : (a : Answered Elements) → Leaves IsPlaced (lifted (with_elements s) a)
-      left (Ok (reply, e)) = record { once = h.once; size_is = h.size_is; sound = h.sound; clock_sound = h.clock_sound }
-      left (Err refusal) = tt
 
   placed-post : (s : State) (stage : Stage) (line : ℕ) → IsPlaced s → Leaves IsPlaced (line_call.post s stage line)
   placed-post s stage line h = leaves-refused IsPlaced (lines.post_refusal line) _ (λ none.
@@ -239,6 +233,17 @@ module _ (size : ℕ) where
   placed-sched : (s : State) (q : Sched) → IsPlaced s → IsPlaced (with_sched s q)
   placed-sched s q h = record { once = h.once; size_is = h.size_is; sound = h.sound; clock_sound = h.clock_sound }
 
+  placed-dated : (s : State) (thread : ℕ) (until : Option ℕ) → IsPlaced s → IsPlaced (with_clock s (with_deadline s.clock thread until))
+  placed-dated s thread until h = placed-clock s _ h (λ n. refl) (sound-with_deadline s.clock thread until h.clock_sound)
+
+  kept_waiting : KeptByWakes IsPlaced
+  kept_waiting = record {
+    changed = λ s e h. record { once = h.once; size_is = h.size_is; sound = h.sound; clock_sound = h.clock_sound };
+    waiting = λ s thread wait h. record { once = h.once; size_is = h.size_is; sound = h.sound; clock_sound = h.clock_sound };
+    freed = λ s thread h. placed-dated s thread None h;
+    queued = λ s ready h. placed-sched s _ h;
+  }
+
   kept_placed : KeptByClock IsPlaced
   kept_placed = record {
     posted = λ s h. placed-lines s (lines.posted s.lines Oob 0) h (λ n. in-posted n s.lines Oob 0) (sound-posted s.lines Oob 0 h.sound (omega arith));
@@ -266,13 +271,15 @@ module _ (size : ℕ) where
   placed-task s caller (on_lines step) h = placed-line s step h
   placed-task s caller (on_clock step) h = leaves-clock IsPlaced kept_placed s step h
   placed-task s caller (on_threads step) h = leaves-threads IsPlaced placed-sched s caller step h
-  placed-task s caller (on_element step) h = placed-touched s (Some caller) step h
+  placed-task s caller (on_element step) h = leaves-touched IsPlaced kept_waiting s (Some caller) step h
+  placed-task s caller (begins on until) h = leaves-beginning IsPlaced kept_waiting (timed-by IsPlaced kept_waiting kept_placed.posted placed-dated) s caller on until h
+  placed-task s caller (ends keep) h = leaves-finish IsPlaced kept_waiting s caller keep (λ x hx. placed-sched x _ hx) h
 
   placed-answer : (s : State) (caller : ℕ) (asked : Call) → IsPlaced s → Leaves IsPlaced (answer s caller asked)
   placed-answer s caller asked h = leaves-refused IsPlaced (general_refusal s caller asked) _ (λ passed. placed-task s caller (task_of asked) h)
 
   placed-acted : (s : State) (line : ℕ) (action : Action) → IsPlaced s → IsPlaced (acted s line action)
-  placed-acted s line (PostSem sem) h = leaves-if_done IsPlaced s _ h (placed-touched s None (on_sem sem.0 put) h)
+  placed-acted s line (PostSem sem) h = leaves-if_done IsPlaced s _ h (leaves-touched IsPlaced kept_waiting s None (on_sem sem.0 put) h)
   placed-acted s line (PostFlags flags bits) h = h
   placed-acted s line Propagate h = leaves-if_done IsPlaced s _ h (placed-post s Inband line h)
   placed-acted s line (PostOob other) h = leaves-if_done IsPlaced s _ h (placed-post s Oob other.0 h)
@@ -323,7 +330,7 @@ module _ (size : ℕ) where
   placed-item : (s : State) (found : Item) → IsPlaced s → next_due s.clock ≡ Some found → IsPlaced (item_played s found).1
   placed-item s found h due = leaves-item IsPlaced kept_placed
       (λ s i t h there. placed-clock s _ h (λ n. fired_same n s.clock i t there) (sound-with_timer s.clock i _ h.clock_sound))
-      (λ s thread h. placed-clock s _ h (λ n. refl) (sound-with_deadline s.clock thread None h.clock_sound)) placed-answered s found h due
+      (kept-deadline IsPlaced kept_waiting) placed-answered s found h due
 
   next_placed : (at mid : Settling) (one : Play) → IsPlaced at.state → next_play at ≡ Some (one, mid) → IsPlaced mid.state
   next_placed at mid one h next = one_played (λ (x : Play × Settling). IsPlaced x.1.state) at mid one

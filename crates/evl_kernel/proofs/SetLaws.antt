@@ -1,10 +1,13 @@
 -- A list after one of its elements was set.
-use Rattle.std.proofs.Common.{◌≡◌, ℕ, zero, suc, ◌==◌, false, List, [], ◌∷◌, Some, None, slice_get, slice_set, refl, sym, arith}
+use Rattle.std.proofs.Common.{◌≡◌, ℕ, zero, suc, ◌==◌, false, List, [], ◌∷◌, Some, None, slice_get, slice_set, refl, sym, ap, arith}
 use Rattle.std.proofs.lemmas.Bool.{false≢true}
 use Rattle.std.proofs.lemmas.Bool.Decides.{nat_tests}
 
 none_some : {A : Type 0} {x : A} → None ≡ Some x → ⊥
 none_some e = cc
+
+some_is : {A : Type 0} {x y : A} → Some x ≡ Some y → x ≡ y
+some_is e = cc
 
 fewer : (m n : ℕ) → (suc m == suc n) ≡ false → (m == n) ≡ false
 fewer m n e = grind (arith, nat_tests)
@@ -22,3 +25,15 @@ module _ {X : Type 0} where
   set_there (x ∷ xs) zero (suc n) v e = refl
   set_there (x ∷ xs) (suc m) zero v e = refl
   set_there (x ∷ xs) (suc m) (suc n) v e = set_there xs m n v (fewer m n e)
+
+-- an element that was set is set back
+pub set_back : {A : Type 0} (xs : List A) (n : ℕ) (y x : A) → slice_get xs n ≡ Some x → slice_set (slice_set xs n y) n x ≡ xs
+set_back [] n y x has = refl
+set_back {A} (z ∷ xs) zero y x has = ap (λ (w : A). w ∷ xs) (some_is (sym has))
+set_back {A} (z ∷ xs) (suc n) y x has = ap (λ (ws : List A). z ∷ ws) (set_back xs n y x has)
+
+-- an element that is set twice
+pub set_twice : {A : Type 0} (xs : List A) (n : ℕ) (y x : A) → slice_set (slice_set xs n y) n x ≡ slice_set xs n x
+set_twice [] n y x = refl
+set_twice {A} (z ∷ xs) zero y x = refl
+set_twice {A} (z ∷ xs) (suc n) y x = ap (λ (ws : List A). z ∷ ws) (set_twice xs n y x)

@@ -1,4 +1,5 @@
--- Only ticks and steps on threads change the scheduler's record, and none of them changes the stage of a thread but its own caller's.
+-- Only ticks, steps on threads and waits change the scheduler's record, and none of them changes the stage of a thread but
+-- its own caller's.
 use Rattle.std.proofs.Common.{◌≡◌, ◌≢◌, ℕ, ◌-◌, zero, suc, ◌==◌, nat_le, Bool, true, false, not, ◌≤◌, List, [], ◌∷◌, length, Option, Some, None, Result, Ok, Err, unwrap_or, slice_get, slice_index_or, if◌then◌else◌, refl, sym, ap, ◌∙◌, subst, arith}
 use Rattle.std.specs.Option.{option_map, option_map_or}
 use Rattle.std.proofs.lemmas.Bool.Decides.{nat_tests}
@@ -8,15 +9,9 @@ use Rattle.evl_base.specs.declared.play.Play.{Play}
 use Rattle.evl_base.specs.declared.policy.Policy.{Policy}
 use Rattle.evl_base.specs.declared.policy.Policy.TheVariants.{Fifo, Rr, Quota, Weak}
 use Rattle.evl_base.specs.declared.refusal.Refusal.{Refusal}
-use Rattle.evl_base.specs.declared.refusal.Refusal.TheVariants.{Busy}
 use Rattle.evl_base.specs.declared.reply.Reply.{Reply}
 use Rattle.evl_base.specs.declared.stage.Stage.{Stage}
 use Rattle.evl_base.specs.declared.stage.Stage.TheVariants.{Inband, Oob}
-use Rattle.evl_pipeline.specs.declared.action.Action.{Action}
-use Rattle.evl_pipeline.specs.declared.action.Action.TheVariants.{PostSem, PostFlags, Propagate, PostOob, StopTimer}
-use Rattle.evl_pipeline.specs.declared.answer.Answer.{Answer}
-use Rattle.evl_pipeline.specs.Lines as lines
-use Rattle.evl_clock.specs.declared.due.Item.{Item}
 use Rattle.evl_sched.specs.declared.seat.Seat.{Seat}
 use Rattle.evl_sched.specs.Threads as threads
 use Rattle.evl_sched.specs.Threads.{Sched, seat_at, stage_of, with_seat}
@@ -25,134 +20,45 @@ use Rattle.evl_sched.specs.Picks.{picked}
 use Rattle.evl_sched.specs.Groups.{is_new_second}
 use Rattle.evl_sched.specs.Charges.{slice_charged, policy_charged, thread_charged, charged, refilled, refilled_at}
 use Rattle.evl_sched.specs.Calls.{attach_refusal, set_policy_refusal, stranger_refusal}
-use Rattle.evl_kernel.specs.Paths.{Along}
-use Rattle.evl_kernel.specs.States.{State, Banked, with_lines, moved, come_home}
-use Rattle.evl_kernel.specs.Effects.{Answered, Effect, lifted, done}
-use Rattle.evl_kernel.specs.Semaphores.{put}
-use Rattle.evl_kernel.specs.Elements.{Elements, ElementStep, on_sem, elements, with_elements, element, touched}
-use Rattle.evl_kernel.specs.LineCalls as line_call
+use Rattle.evl_kernel.specs.States.{State}
 use Rattle.evl_kernel.specs.ThreadCalls as thread_call
-use Rattle.evl_kernel.specs.Families.{LineStep, request, free, arrive, post, stall, unstall, line_effect, ThreadStep, attach, detach, set_policy, set_stage, pick, tell_rank, thread_effect, Task, on_lines, on_clock, on_threads, on_element, performing, task_of}
-use Rattle.evl_kernel.specs.Serving.{general_refusal, answer}
-use Rattle.evl_kernel.specs.Settling.{Settling, next_play, acted, all_acted, answered, given, item_played, played, line_played, clock_played, is_clock, after_call, nothing}
+use Rattle.evl_kernel.specs.Serving.{answer}
 use Rattle.evl_base.specs.declared.entry.Entry.{Entry}
 use Rattle.evl_base.specs.declared.board.Board.{Board}
 use Rattle.evl_kernel.specs.States.{Handler}
 use Rattle.evl_kernel.specs.Openings.{opening}
 use Rattle.evl_kernel.specs.Histories.{History, Run, Follows, IsLegal, opened}
 use Rattle.evl_kernel.specs.Laws.{StagesAreTheThreadsOwn}
-use Rattle.evl_kernel.proofs.DueLaws.{one_played, item_due}
-use Rattle.evl_kernel.proofs.LeavesLaws.{Leaves, leaves-refused, leaves-unless, leaves-known, leaves-if_done}
-use Rattle.evl_kernel.proofs.ClockSteps.{KeptByClock, leaves-clock, leaves-stop, leaves-item}
+use Rattle.evl_kernel.specs.Families.{ThreadStep, attach, detach, set_policy, set_stage, pick, tell_rank, thread_effect}
+use Rattle.evl_kernel.proofs.LeavesLaws.{Leaves, leaves-refused}
+use Rattle.evl_kernel.proofs.WaitSteps.{KeptByWakes, kept-deadline, leaves-touched, leaves-beginning, leaves-finish, timed-by}
+use Rattle.evl_kernel.proofs.StateWalk.{KeptByEach, KeptByOwn, follows_holds, holds-answer, run_holds}
 
--- whatever is said of the scheduler's record alone, and stays true when whoever is picked pays
-module _ (Q : Sched → Type 0) (pays : (rank : ℕ → ℕ) (q : Sched) (before delta now : ℕ) → Q q → Q (refilled_at before now (charged rank q delta))) where
+-- whatever is said of the scheduler's record alone, and stays true when whoever is picked pays and whoever is ready
+module _ (Q : Sched → Type 0) (pays : (rank : ℕ → ℕ) (q : Sched) (before delta now : ℕ) → Q q → Q (refilled_at before now (charged rank q delta))) (queues : (q : Sched) (ready : List ℕ) → Q q → Q (record q { ready = ready })) where
   abbrev Holds : State → Type 0
   Holds s = Q s.sched
 
-  holds-home : (s : State) (number : ℕ) → Holds s → Holds (come_home s number)
-  holds-home s number h = by (slice_get s.bank number)
-    where
-      by : (o : Option Banked) → Holds (option_map_or (moved s true number) o s)
-      by None = h
-      by (Some b) = h
+  kept_waiting : KeptByWakes Holds
+  kept_waiting = record { changed = λ s e h. h; waiting = λ s thread wait h. h; freed = λ s thread h. h; queued = λ s ready h. queues s.sched ready h }
 
-  kept_holds : KeptByClock Holds
-  kept_holds = record {
-    posted = λ s h. h;
-    charged = λ s before delta now h. pays (thread_call.rank_of s) s.sched before delta now h;
-    advanced = λ s delta h. h;
-    made = λ s n number tag b h here home allowed free. h;
-    started = λ s n date interval h. h;
-    stopped = λ s n h. h;
-    dropped = λ s n t h there. holds-home _ t.callback h;
+  kept_by_each : KeptByEach Holds
+  kept_by_each = record {
+    lined = λ s q h. h;
+    banked = λ s number home b h. h;
+    clocked = λ s c same h. h;
+    paid = λ s before delta now h. pays (thread_call.rank_of s) s.sched before delta now h;
+    asked = λ s by step plain h. leaves-touched Holds kept_waiting s by step h;
+    expired = λ s thread h. kept-deadline Holds kept_waiting s thread h;
   }
 
-  holds-post : (s : State) (stage : Stage) (line : ℕ) → Holds s → Leaves Holds (line_call.post s stage line)
-  holds-post s stage line h = leaves-refused Holds (lines.post_refusal line) _ (λ passed. h)
-
-  holds-returned : (s : State) (o : Option (lines.Installed ℕ)) → Holds s → Holds (line_call.returned s o)
-  holds-returned s None h = h
-  holds-returned s (Some at) h = holds-home s at.callback h
-
-  holds-line : (s : State) (step : LineStep) → Holds s → Leaves Holds (line_effect s step)
-  holds-line s (request line stage number tag) h = leaves-known Holds (slice_get s.bank number) _ (λ b here.
-      leaves-refused Holds (lines.request_refusal s.lines line stage b.handler.kinds) _ (λ passed. leaves-unless Holds (not b.home) Busy
-      (done (moved (with_lines s (lines.requested s.lines line stage number tag)) false number b)) h))
-  holds-line s (free line stage) h = leaves-refused Holds (lines.free_refusal s.lines line stage) _ (λ passed.
-      holds-returned (with_lines s (lines.freed s.lines line stage)) (lines.installed_at s.lines stage line) h)
-  holds-line s (arrive line) h = leaves-refused Holds (lines.post_refusal line) _ (λ passed. h)
-  holds-line s (post stage line) h = holds-post s stage line h
-  holds-line s (stall stage) h = h
-  holds-line s (unstall stage) h = h
-
-  holds-touched : (s : State) (by : Option ℕ) (step : ElementStep) → Holds s → Leaves Holds (touched s by step).effect
-  holds-touched s by step h = left (element (elements s) step)
-    where
-      left : (a : Answered Elements) → Leaves Holds (lifted (with_elements s) a)
-      left (Ok (reply, e)) = h
-      left (Err refusal) = tt
-
-  -- where it stays true of this caller's steps on threads, it stays true of all that the caller asks for
-  holds-answer : (s : State) (caller : ℕ) (asked : Call) → ((step : ThreadStep) → Leaves Holds (thread_effect s caller step)) → Holds s → Leaves Holds (answer s caller asked)
-  holds-answer s caller asked steps h = leaves-refused Holds (general_refusal s caller asked) _ (λ passed. by (task_of asked))
-    where
-      by : (task : Task) → Leaves Holds (performing s caller task).effect
-      by (on_lines step) = holds-line s step h
-      by (on_clock step) = leaves-clock Holds kept_holds s step h
-      by (on_threads step) = steps step
-      by (on_element step) = holds-touched s (Some caller) step h
-
-  holds-acted : (s : State) (line : ℕ) (action : Action) → Holds s → Holds (acted s line action)
-  holds-acted s line (PostSem sem) h = leaves-if_done Holds s _ h (holds-touched s None (on_sem sem.0 put) h)
-  holds-acted s line (PostFlags flags bits) h = h
-  holds-acted s line Propagate h = leaves-if_done Holds s _ h (holds-post s Inband line h)
-  holds-acted s line (PostOob other) h = leaves-if_done Holds s _ h (holds-post s Oob other.0 h)
-  holds-acted s line (StopTimer timer) h = leaves-if_done Holds s _ h (leaves-stop Holds kept_holds s timer.0 h)
-
-  holds-all_acted : (s : State) (line : ℕ) (actions : List Action) → Holds s → Holds (all_acted s line actions)
-  holds-all_acted s line [] h = h
-  holds-all_acted s line (action ∷ actions) h = holds-all_acted (acted s line action) line actions (holds-acted s line action h)
-
-  holds-answered : (s : State) (line : ℕ) (answer : Answer) → Holds s → Holds (answered s line answer)
-  holds-answered s line answer h = by answer.handled
-    where
-      by : (b : Bool) → Holds (if b then all_acted s line answer.actions.items else s)
-      by true = holds-all_acted s line answer.actions.items h
-      by false = h
-
-  holds-item : (s : State) (found : Item) → Holds s → Rattle.evl_clock.specs.Dues.next_due s.clock ≡ Some found → Holds (item_played s found).1
-  holds-item s found h due = leaves-item Holds kept_holds (λ s n t h there. h) (λ s thread h. h) holds-answered s found h due
-
-  holds-played : (s : State) (stage : Stage) (line : ℕ) → Holds s → Holds (played s stage line).1
-  holds-played s stage line h = by (is_clock stage line)
-    where
-      at : lines.Installed ℕ
-      at = unwrap_or (lines.installed_at s.lines stage line) nothing
-
-      by : (b : Bool) → Holds (if b then clock_played s else line_played s stage line at).1
-      by true = h
-      by false = holds-answered (with_lines s (lines.played s.lines stage line at (given s at).handled)) line (given s at) h
-
-  next_holds : (at mid : Settling) (one : Play) → Holds at.state → next_play at ≡ Some (one, mid) → Holds mid.state
-  next_holds at mid one h next = one_played (λ (x : Play × Settling). Holds x.1.state) at mid one
-      (λ found is. holds-item at.state found h (item_due at found is))
-      (λ stage line none is. holds-played at.state stage line h) next
-
-  along_holds : (at last : Settling) (plays : List Play) → Holds at.state → Along next_play at plays last → Holds last.state
-  along_holds at last [] h path = subst (λ (x : Settling). Holds x.state) (sym path) h
-  along_holds at last (one ∷ plays) h (mid, next, path) = along_holds mid last plays (next_holds at mid one h next) path
-
-  pub follows_holds : (old : State) (effect : Effect) (reply : Result Reply Refusal) (plays : List Play) (new : State) → Holds old → Leaves Holds effect → Follows old effect reply plays new → Holds new
-  follows_holds old (Err refusal) reply plays new h left p = subst Holds (sym p.2) h
-  follows_holds old (Ok (said, changed)) reply plays new h left (is, settles) = subst Holds (sym settles.left) (along_holds (after_call changed) settles.last plays left settles.played)
-
-  -- where it stays true of every caller's steps on threads, it holds along a run
-  module _ (steps : (s : State) (caller : ℕ) (step : ThreadStep) → Holds s → Leaves Holds (thread_effect s caller step)) where
-    pub run_holds : (old : State) (entries : List Entry) (plays : List Play) (new : State) → Holds old → Run old entries plays new → Holds new
-    run_holds old [] plays new h run = subst Holds (sym run.1) h
-    run_holds old (e ∷ entries) plays new h (own, rest, mid, split, (counted, step), run) =
-        run_holds mid entries rest new (follows_holds old (answer old e.caller.0 e.call) e.reply own mid h (holds-answer old e.caller.0 e.call (λ step. steps old e.caller.0 step h) h) step) run
+  -- where it stays true of this caller's steps on threads, and as the caller goes in-band
+  kept_by_own : (s : State) (caller : ℕ) → ((step : ThreadStep) → Holds s → Leaves Holds (thread_effect s caller step)) → ((q : Sched) → Q q → Q (threads.stage_set q caller Inband)) → KeptByOwn Holds s caller
+  kept_by_own s caller steps goes = record {
+    threads = steps;
+    begun = λ asked on until is passed h. leaves-beginning Holds kept_waiting (timed-by Holds kept_waiting (λ s h. h) (λ s thread until h. h)) s caller on until h;
+    ended = λ keep h. leaves-finish Holds kept_waiting s caller keep (λ x hx. goes x.sched hx) h;
+  }
 
 -- the stage of a thread that isn't the caller
 module _ (thread : ℕ) where
@@ -181,8 +87,12 @@ apart m n other = by (m == n) refl
 pub stages_are : StagesAreTheThreadsOwn
 stages_are old caller asked reply plays new step thread other =
     let Q = λ (q : Sched). stage_of q thread ≡ stage_of old.sched thread in
-    follows_holds Q (stage-paid thread (stage_of old.sched thread)) old (answer old caller asked) reply plays new refl
-    (holds-answer Q (stage-paid thread (stage_of old.sched thread)) old caller asked (λ step. stage-threads thread old caller step (apart thread caller other)) refl) step
+    let pays = stage-paid thread (stage_of old.sched thread) in
+    let queues : (q : Sched) (ready : List ℕ) → Q q → Q (record q { ready = ready }) = λ q ready h. h in
+    let each = kept_by_each Q pays queues in
+    follows_holds (λ s. Q s.sched) each old (answer old caller asked) reply plays new refl
+    (holds-answer (λ s. Q s.sched) each old caller asked
+    (kept_by_own Q pays queues old caller (λ step h. stage-threads thread old caller step (apart thread caller other)) (λ q h. stage-stage_set q caller Inband thread (apart thread caller other) ∙ h)) refl) step
 
 -- there are as many seats as the board has threads
 module _ (n : ℕ) where
@@ -248,7 +158,9 @@ unfolding threads.opening
 seats-opening board bank = length-replicate board.threads None
 
 pub seats_are : (h : History) → IsLegal h → length h.state.sched.seats ≡ h.board.threads
-seats_are h legal = run_holds (Seats h.board.threads) (seats-paid h.board.threads) (seats-threads h.board.threads) (opened h) h.entries h.plays h.state (seats-opening h.board h.bank) legal
+seats_are h legal =
+    let Q = Seats h.board.threads in let pays = seats-paid h.board.threads in let queues : (q : Sched) (ready : List ℕ) → Q q → Q (record q { ready = ready }) = λ q ready h. h in
+    run_holds (λ s. Q s.sched) (kept_by_each Q pays queues) (λ s caller. kept_by_own Q pays queues s caller (seats-threads h.board.threads s caller) (λ q. seats-switched h.board.threads q caller Inband)) (opened h) h.entries h.plays h.state (seats-opening h.board h.bank) legal
 
 -- nobody sits past the last seat
 past_seats : (seats : List (Option Seat)) (thread : ℕ) → length seats ≤ thread → slice_index_or seats thread None ≡ None

@@ -1,14 +1,18 @@
--- What a call asks for, by its family: a step on lines and stages, one on the clock, one on threads,
--- or a step of one element. A law over all calls goes by these families.
-use Rattle.std.specs.Prelude.{ℕ, Some}
+-- What a call asks for, by its family: a step on lines and stages, one on the clock, one on threads, a step of one element,
+-- a wait that begins, or one that ends. A law over all calls goes by these families.
+use Rattle.std.specs.Prelude.{ℕ, Bool, true, false, Option, Some}
 use Rattle.evl_base.specs.declared.stage.Stage.{Stage}
 use Rattle.evl_base.specs.declared.policy.Policy.{Policy}
 use Rattle.evl_base.specs.declared.call.Call.{Call}
-use Rattle.evl_base.specs.declared.call.Call.TheVariants.{Request, Free, Arrive, Post, Stall, Unstall, Tick, Now, NewTimer, StartTimer, StopTimer, DropTimer, Overruns, Attach, Detach, SetPolicy, SetStage, Pick, RankOf, TryGet, Put, Peek}
+use Rattle.evl_base.specs.declared.call.Call.TheVariants.{Request, Free, Arrive, Post, Stall, Unstall, Tick, Now, NewTimer, StartTimer, StopTimer, DropTimer, Overruns, Attach, Detach, SetPolicy, SetStage, Pick, RankOf, TryGet, Put, Peek, BeginGet, Finish}
+use Rattle.evl_kernel.specs.declared.waits.Awaited.{Awaited}
+use Rattle.evl_kernel.specs.declared.waits.Awaited.TheVariants.{Sem}
 use Rattle.evl_kernel.specs.States.{State}
 use Rattle.evl_kernel.specs.Effects.{Effect}
 use Rattle.evl_kernel.specs.Semaphores.{get, put, peek}
 use Rattle.evl_kernel.specs.Elements.{ElementStep, on_sem, Told, touched, untouched}
+use Rattle.evl_kernel.specs.Beginnings.{beginning}
+use Rattle.evl_kernel.specs.Endings.{finish}
 use Rattle.evl_kernel.specs.LineCalls as line_call
 use Rattle.evl_kernel.specs.TimerCalls as timer_call
 use Rattle.evl_kernel.specs.ThreadCalls as thread_call
@@ -73,13 +77,26 @@ pub data Task : Type 0 where
   on_clock : ClockStep → Task
   on_threads : ThreadStep → Task
   on_element : ElementStep → Task
+  -- for an element, until the deadline where there is one
+  begins : Awaited → Option ℕ → Task
+  -- whether a weak thread keeps its stage
+  ends : Bool → Task
 
--- a step on lines, on the clock or on threads reaches no element, and one of an element is its caller's
+-- a task beside lines and clock
+abbrev pub is_of_threads : Task → Bool
+is_of_threads (on_lines step) = false
+is_of_threads (on_clock step) = false
+is_of_threads _ = true
+
+-- a step on lines, on the clock or on threads reaches no element, nor does the end of a wait, and one of an element is its
+-- caller's
 abbrev pub performing : State → ℕ → Task → Told
 performing s caller (on_lines step) = untouched (line_effect s step)
 performing s caller (on_clock step) = untouched (clock_effect s step)
 performing s caller (on_threads step) = untouched (thread_effect s caller step)
 performing s caller (on_element step) = touched s (Some caller) step
+performing s caller (begins on until) = beginning s caller on until
+performing s caller (ends keep) = untouched (finish s caller keep)
 
 -- the table of calls
 abbrev pub task_of : Call → Task
@@ -105,3 +122,5 @@ task_of (RankOf thread) = on_threads (tell_rank thread.0)
 task_of (TryGet sem) = on_element (on_sem sem.0 get)
 task_of (Put sem) = on_element (on_sem sem.0 put)
 task_of (Peek sem) = on_element (on_sem sem.0 peek)
+task_of (BeginGet sem until) = begins (Sem sem) until
+task_of (Finish keep) = ends keep

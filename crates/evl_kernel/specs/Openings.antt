@@ -1,26 +1,28 @@
 -- The records of a new kernel.
-use Rattle.std.specs.Prelude.{ℕ, Bool, true, ◌&&◌, nat_le, List, map}
+use Rattle.std.specs.Prelude.{ℕ, Bool, true, ◌&&◌, nat_le, List, map, replicate, None}
 use Rattle.evl_base.specs.Limits.{within}
 use Rattle.evl_base.specs.Board.{board_fits}
 use Rattle.evl_base.specs.declared.board.Board.{Board}
 use Rattle.evl_pipeline.specs.Lines as lines
 use Rattle.evl_clock.specs.Clocks as clocks
 use Rattle.evl_sched.specs.Threads as threads
+use Rattle.evl_sync.specs.Semaphores as semaphores
 use Rattle.evl_kernel.specs.Limits.{callback_limit, history_limit}
 use Rattle.evl_kernel.specs.States.{State, Handler, Banked}
 
 abbrev pub at_home : Handler → Banked
 at_home h = record { handler = h; home = true }
 
--- every callback is in its bank place, no line has anything, there are no timers, and no thread is attached
+-- every callback is in its bank place, no line has anything, there are no timers, no thread is attached, and nobody waits
 abbrev pub opening : Board → List Handler → State
 opening board bank = record {
   threads = board.threads;
-  sems = board.sems.items;
+  sems = map semaphores.opened board.sems.items;
   bank = map at_home bank;
   lines = lines.opening;
   clock = clocks.opening;
   sched = threads.opening board.threads board.groups.items;
+  waits = replicate board.threads None;
 }
 
 -- the board, the bank and the limit of the history are within their limits

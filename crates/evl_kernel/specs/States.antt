@@ -1,10 +1,12 @@
 -- All records of the kernel at one moment.
-use Rattle.std.specs.Prelude.{ℕ, Bool, true, List, [], ◌^◌, map, slice_get, slice_set}
+use Rattle.std.specs.Prelude.{ℕ, Bool, true, List, [], ◌^◌, map, Option, slice_get, slice_set}
 use Rattle.std.specs.Option.{option_map_or}
 use Rattle.evl_pipeline.specs.declared.plan.Plan.{Plan}
 use Rattle.evl_pipeline.specs.Lines.{Pipeline}
 use Rattle.evl_clock.specs.Clocks.{Clock}
 use Rattle.evl_sched.specs.Threads.{Sched}
+use Rattle.evl_sync.specs.Semaphores.{Semaphore}
+use Rattle.evl_kernel.specs.declared.waits.Wait.{Wait}
 
 -- what a callback declares, and what it answers
 pub record Handler : Type 0 where
@@ -19,8 +21,8 @@ pub record Banked : Type 0 where
 pub record State : Type 0 where
   -- how many threads the board has
   pub threads : ℕ
-  -- the count of each semaphore
-  pub sems : List ℕ
+  -- the semaphores, by number
+  pub sems : List Semaphore
   -- the callbacks, by number
   pub bank : List Banked
   -- the lines and the timers; what stands there is named by its number in the bank
@@ -28,6 +30,8 @@ pub record State : Type 0 where
   pub clock : Clock ℕ
   -- the threads of the core: their policies and stages, who is ready, and the quota groups
   pub sched : Sched
+  -- the unfinished wait of each thread
+  pub waits : List (Option Wait)
 
 -- the date, in nanoseconds
 abbrev pub date : State → ℕ
@@ -41,6 +45,9 @@ with_clock s clock = record s { clock = clock }
 
 abbrev pub with_sched : State → Sched → State
 with_sched s sched = record s { sched = sched }
+
+abbrev pub with_waits : State → List (Option Wait) → State
+with_waits s waits = record s { waits = waits }
 
 -- the callback of this number is in its bank place, or out of it
 abbrev pub moved : State → Bool → ℕ → Banked → State

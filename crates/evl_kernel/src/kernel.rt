@@ -11,6 +11,7 @@ ghost use Rattle.evl_kernel.specs.Fires.{AddsByCalls};
 ghost use Rattle.evl_kernel.specs.Limits.{history_limit};
 ghost use Rattle.evl_kernel.specs.Openings.{can_open};
 ghost use Rattle.evl_kernel.specs.Histories.{IsLegal};
+ghost use Rattle.evl_kernel.specs.Waits.{has_ended, has_timed_out, is_waiting};
 ghost use Rattle.evl_kernel.specs.Places.{AreInOnePlace};
 ghost use Rattle.evl_kernel.specs.KernelViews.{AddsEntry, IsOpened, IsKernelAnswer, makes_entry};
 
@@ -156,7 +157,8 @@ impl<C: Handler, A: Allocator> KernelOf<C, A> {
     ///
     /// `HistoryFull` exactly where the history is at its limit, `NoMemory` where room for the entry and its plays was
     /// refused: neither makes an entry or changes anything. Every other refusal is an answer with an entry: the first
-    /// that applies of `Unknown` (no such thread, line, callback, timer, group or element), `Range`, `Invalid`, then the call's own.
+    /// that applies of `Busy` (the caller has an unfinished wait, and the call isn't `Finish`), `Unknown` (no such thread,
+    /// line, callback, timer, group or element), `Range`, `Invalid`, `WrongStage`, then the call's own.
     /// Each play of a line calls the callback that stands there with its line, stage, tag, count and date, and each play of
     /// a timer its callback with line 0, the out-of-band stage, its tag, its count and the date, on the condition that it
     /// answers its plan (this profile).
@@ -270,6 +272,36 @@ impl<C, A: Allocator> KernelOf<C, A> {
         ensures legal { IsLegal self.now.history }
     {
         self.records.stage(thread)
+    }
+
+    /// Whether a thread has an unfinished wait, ended or not; false where there is no such thread (Xenomai 4: EVL elements;
+    /// this profile).
+    pub fn waits(&self, thread: ThreadId) -> bool
+        ensures waits { result ≡ is_waiting self.now.history.state thread.0 }
+        ensures outside { self.now.history.board.threads ≤ thread.0 → result ≡ false }
+        ensures legal { IsLegal self.now.history }
+    {
+        self.records.waits(thread)
+    }
+
+    /// Whether a thread's unfinished wait has ended, so that `Finish` answers what ended it; false where there is no such
+    /// thread (this profile).
+    pub fn finished(&self, thread: ThreadId) -> bool
+        ensures ended { result ≡ has_ended self.now.history.state thread.0 }
+        ensures outside { self.now.history.board.threads ≤ thread.0 → result ≡ false }
+        ensures legal { IsLegal self.now.history }
+    {
+        self.records.finished(thread)
+    }
+
+    /// Whether a thread's unfinished wait has ended by its deadline; false where there is no such thread (Xenomai 4: EVL
+    /// timed waits; this profile).
+    pub fn timed_out(&self, thread: ThreadId) -> bool
+        ensures ended { result ≡ has_timed_out self.now.history.state thread.0 }
+        ensures outside { self.now.history.board.threads ≤ thread.0 → result ≡ false }
+        ensures legal { IsLegal self.now.history }
+    {
+        self.records.timed_out(thread)
     }
 }
 

@@ -1,13 +1,16 @@
 //! The kernel's records: what its calls read and change, apart from its history.
-ghost use Rattle.std.specs.Prelude.{◌≡◌, ◌≤◌, ℕ, None, false, IfOk, IfErr, map, option_map};
+ghost use Rattle.std.specs.Prelude.{◌≡◌, ◌≤◌, ℕ, None, true, false, IfOk, IfErr, map, option_map, replicate};
+ghost use Rattle.evl_base.specs.Board.{board_fits};
 ghost use Rattle.evl_pipeline.specs.Counts.{count_at};
 ghost use Rattle.evl_pipeline.specs.Limits.{line_count};
 ghost use Rattle.evl_pipeline.specs.Lines.{is_pending, side};
 ghost use Rattle.evl_clock.specs.Clocks.{timer_at};
 ghost use Rattle.evl_clock.specs.Limits.{timer_count};
 ghost use Rattle.evl_sched.specs.Threads.{stage_of};
+ghost use Rattle.evl_sync.specs.Semaphores as semaphores;
 ghost use Rattle.evl_kernel.specs.Callbacks.{AreFilled};
-ghost use Rattle.evl_kernel.specs.Records.{IsOpened};
+ghost use Rattle.evl_kernel.specs.Records.{IsOpened, state_of};
+ghost use Rattle.evl_kernel.specs.Waits.{has_ended, has_timed_out, is_waiting};
 
 mod line_calls;
 mod semaphores;
@@ -15,13 +18,16 @@ mod serving;
 mod settling;
 mod threads;
 mod timers;
+mod waiting;
 
 use crate::bank::{BankPlace, Numbered};
-use evl_base::{Board, LineNo, Refusal, Stage, ThreadId, TimerId};
+use crate::waits::Wait;
+use evl_base::{Board, LineNo, Refusal, Reply, Stage, ThreadId, TimerId};
 use evl_clock::{ClockOf, TimerState};
 use evl_pipeline::{Handler, PipelineOf};
 use evl_sched::SchedOf;
-use std::alloc::Allocator;
+use evl_sync::Sem;
+use std::alloc::{AllocError, Allocator};
 use std::marker::Model;
 use std::snapshot::Snapshot;
 
@@ -29,11 +35,12 @@ use std::snapshot::Snapshot;
 #[derive(Drop)]
 pub(crate) struct Records<C, A: Allocator> {
     threads: u16,
-    counts: Vec<u32, A>,
+    sems: Vec<Sem, A>,
     bank: Vec<BankPlace<C>, A>,
     pipeline: PipelineOf<Numbered<C>, A>,
     clock: ClockOf<Numbered<C>, A>,
     sched: SchedOf<A>,
+    waits: Vec<Option<Wait>, A>,
 }
 
 impl<C, A: Allocator> Model for Records<C, A> {
@@ -52,12 +59,15 @@ impl<C: Handler, A: Allocator> Records<C, A> {
     pub(crate) fn new(alloc: A, board: &Board, bank: Vec<C, A>) -> Result<Records<C, A>, Refusal>
     where
         A: Clone,
+        requires fits { board_fits board.now ≡ true }
         ensures opened { IfOk result (λ r. IsOpened C.declared C.plan board.now bank.items r) }
         ensures refusal { IfErr result (λ e. e ≡ Refusal.NoMemory) }
     {
-        let for_counts = another(&alloc)?;
+        let for_sems = another(&alloc)?;
         let for_bank = another(&alloc)?;
-        let counts = opening_counts(for_counts, board)?;
+        let for_waits = another(&alloc)?;
+        let sems = opening_sems(for_sems, board)?;
+        let waits = opening_waits(for_waits, board)?;
         let bank = placed(for_bank, bank)?;
         let for_lines = another(&alloc)?;
         let pipeline = PipelineOf::new(for_lines)?;
@@ -66,11 +76,12 @@ impl<C: Handler, A: Allocator> Records<C, A> {
         let sched = SchedOf::new(alloc, board.threads, board.groups.as_slice())?;
         Ok(Records {
             threads: board.threads,
-            counts,
+            sems,
             bank,
             pipeline,
             clock,
             sched,
+            waits,
         })
     }
 }
@@ -82,12 +93,42 @@ fn another<A: Allocator + Clone>(alloc: &A) -> Result<A, Refusal>
     alloc.clone().map_err(|_| Refusal::NoMemory)
 }
 
-/// The opening count of each semaphore.
-fn opening_counts<A: Allocator>(alloc: A, board: &Board) -> Result<Vec<u32, A>, Refusal>
-    ensures counts { IfOk result (λ counts. counts.items ≡ board.now.sems.items) }
+/// The semaphores of a board.
+fn opening_sems<A: Allocator>(alloc: A, board: &Board) -> Result<Vec<Sem, A>, Refusal>
+    ensures sems { IfOk result (λ sems. sems.items ≡ map semaphores.opened board.now.sems.items) }
     ensures refusal { IfErr result (λ e. e ≡ Refusal.NoMemory) }
 {
-    Vec::from_slice(alloc, board.sems.as_slice()).map_err(|_| Refusal::NoMemory)
+    opened_sems(alloc, board.sems.as_slice()).map_err(|_| Refusal::NoMemory)
+}
+
+/// A place for the wait of each thread of a board; nobody waits.
+fn opening_waits<A: Allocator>(alloc: A, board: &Board) -> Result<Vec<Option<Wait>, A>, Refusal>
+    ensures waits { IfOk result (λ waits. waits.items ≡ replicate board.now.threads None) }
+    ensures refusal { IfErr result (λ e. e ≡ Refusal.NoMemory) }
+{
+    no_waits(alloc, board.threads).map_err(|_| Refusal::NoMemory)
+}
+
+/// A semaphore of each count.
+fn opened_sems<A: Allocator>(alloc: A, counts: &[u32]) -> Result<Vec<Sem, A>, AllocError>
+    ensures sems { IfOk result (λ sems. sems.items ≡ map semaphores.opened counts.now) }
+{
+    let mut sems = Vec::with_capacity(alloc, counts.len())?;
+    for count in counts {
+        sems.push(Sem::new(*count))?;
+    }
+    Ok(sems)
+}
+
+/// Nobody waits.
+fn no_waits<A: Allocator>(alloc: A, threads: u16) -> Result<Vec<Option<Wait>, A>, AllocError>
+    ensures waits { IfOk result (λ waits. waits.items ≡ replicate threads None) }
+{
+    let mut waits = Vec::with_capacity(alloc, usize::from(threads))?;
+    for _ in 0..threads {
+        waits.push_reserved(None);
+    }
+    Ok(waits)
 }
 
 /// Every callback in its bank place.
@@ -155,5 +196,42 @@ impl<C, A: Allocator> Records<C, A> {
         ensures stage { result ≡ stage_of self.now.sched.sched thread.0 }
     {
         self.sched.stage(thread)
+    }
+
+    /// Whether a thread has an unfinished wait, ended or not.
+    pub(crate) fn waits(&self, thread: ThreadId) -> bool
+        ensures waits { result ≡ is_waiting (state_of self.now) thread.0 }
+    {
+        match self.waits.get(usize::from(thread.0)) {
+            Some(Some(_)) => true,
+            _ => false,
+        }
+    }
+
+    /// Whether a thread's unfinished wait has ended.
+    pub(crate) fn finished(&self, thread: ThreadId) -> bool
+        ensures ended { result ≡ has_ended (state_of self.now) thread.0 }
+    {
+        match self.waits.get(usize::from(thread.0)) {
+            Some(Some(wait)) => wait.outcome.is_some(),
+            _ => false,
+        }
+    }
+
+    /// Whether a thread's unfinished wait has ended by its deadline.
+    pub(crate) fn timed_out(&self, thread: ThreadId) -> bool
+        ensures ended { result ≡ has_timed_out (state_of self.now) thread.0 }
+    {
+        match self.waits.get(usize::from(thread.0)) {
+            Some(
+                Some(
+                    Wait {
+                        outcome: Some(Reply::TimedOut),
+                        ..
+                    },
+                ),
+            ) => true,
+            _ => false,
+        }
     }
 }

@@ -118,6 +118,16 @@ impl<A: Allocator> SchedOf<A> {
         search::stage_of(&self.seats, thread.0)
     }
 
+    /// The policy of a thread, if it is attached. (Xenomai 4: EVL scheduling policies; this profile)
+    pub fn policy(&self, thread: ThreadId) -> Option<Policy>
+        ensures policy { result ≡ option_map (λ seat. seat.policy) (seat_at self.now.sched thread.0) }
+    {
+        match search::seat_at(&self.seats, thread.0) {
+            Some(seat) => Some(seat.policy),
+            None => None,
+        }
+    }
+
     // The seat of an attached thread.
     fn seat(&self, thread: ThreadId) -> Result<Seat, Refusal>
         ensures ok { IfOk result (λ seat. (stranger_refusal self.now.sched thread.0 ≡ None) × (seat_at self.now.sched thread.0 ≡ Some seat)) }

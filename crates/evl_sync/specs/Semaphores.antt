@@ -1,5 +1,5 @@
 -- One semaphore by itself: its count and its waiters.
-use Rattle.std.specs.Prelude.{ℕ, ◌≡◌, ◌≤◌, ◌+◌, ◌-◌, ◌==◌, nat_lt, Bool, true, false, List, [], ◌∷◌, length, Option, Some, None, Result, Ok, Err, ℤ, pos, neg_ℤ, if◌then◌else◌}
+use Rattle.std.specs.Prelude.{ℕ, ◌≡◌, ◌≤◌, ◌+◌, ◌-◌, ◌==◌, nat_lt, min, Bool, true, false, List, [], ◌∷◌, length, Option, Some, None, Result, Ok, Err, ℤ, pos, neg_ℤ, if◌then◌else◌}
 use Rattle.evl_base.specs.declared.refusal.Refusal.{Refusal}
 use Rattle.evl_base.specs.declared.refusal.Refusal.TheVariants.{Again, Range}
 use Rattle.evl_sync.specs.declared.waiter.Waiter.{Waiter}
@@ -9,8 +9,9 @@ pub record Semaphore : Type 0 where
   pub count : ℕ
   pub waiters : List Waiter
 
+-- with this count, or the greatest where it is greater
 abbrev pub opened : ℕ → Semaphore
-opened count = record { count = count; waiters = [] }
+opened count = record { count = min count 2147483647; waiters = [] }
 
 -- lowers the count
 abbrev pub try_get : Semaphore → Result (Unit {0} × Semaphore) Refusal

@@ -30,13 +30,13 @@ impl Model for Sem {
 }
 
 impl Sem {
-    /// A semaphore with this count, at most 2,147,483,647, for which nobody waits. (Xenomai 4: EVL semaphore)
+    /// A semaphore with this count, or with 2,147,483,647 where it is greater, for which nobody waits.
+    /// (Xenomai 4: EVL semaphore; this profile)
     pub fn new(count: u32) -> Sem
-        requires few { count ≤ 2147483647 }
         ensures opened { result ≡ opened count }
     {
         Sem {
-            count,
+            count: count.min(MAX_COUNT),
             queue: WaitQueue::new(),
         }
     }
@@ -57,6 +57,7 @@ impl Sem {
     /// nobody waits and the count is 2,147,483,647; then nothing changes. (Xenomai 4: EVL semaphore; this profile)
     pub fn put(&mut self) -> Result<Option<ThreadId>, Refusal>
         ensures step { stepped number_of result self.new ≡ put self.old }
+        ensures sound { IsSoundSemaphore self.old }
         ensures refused { IfErr result (λ e. self.new ≡ self.old) }
     {
         if let Some(thread) = self.queue.pop() {

@@ -69,6 +69,7 @@ impl WaitQueue {
     pub fn pop(&mut self) -> Option<ThreadId>
         ensures first { number_of result ≡ first_of (λ w. w.thread) self.old }
         ensures rest { self.new ≡ rest_of self.old }
+        ensures kept { IsKept (λ w. w.thread) (λ w. w.rank) self.old }
     {
         if self.waiters.is_empty() {
             return None;

@@ -82,7 +82,10 @@ impl<C: Handler, A: Allocator> Records<C, A> {
         ensures stands { KeepsCallbacks self.old self.new }
     {
         match self.clock.next_due()? {
-            Due::Deadline(thread) => Some(Play::Deadline { thread }),
+            Due::Deadline(thread) => {
+                self.expire(thread);
+                Some(Play::Deadline { thread })
+            }
             Due::Timer {
                 id,
                 fire,

@@ -60,7 +60,7 @@ impl<C, A: Allocator> Records<C, A> {
     }
 
     /// An event of line 0 where something is due.
-    fn alarm(&mut self, due: bool)
+    pub(super) fn alarm(&mut self, due: bool)
         ensures posted { state_of self.new ≡ timer_call.posted_if due (state_of self.old) }
         ensures stands { KeepsCallbacks self.old self.new }
     {

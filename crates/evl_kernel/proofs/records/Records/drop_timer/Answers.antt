@@ -20,6 +20,7 @@ invariant_of-self-2 g c =
       timers_allowed = rw (c.put_back.ensures.put out.place out.there, c.in_ok-numbered.ensures.state) (dropped_timers_allowed r c.args.timer.0 c.in_ok-numbered.numbered out c.self.invariant.timers_allowed);
       clock_sound = rw c.in_ok-numbered.ensures.state (dropped_sound r c.args.timer.0 c.self.invariant.clock_sound);
       ranks = c.self.invariant.ranks;
+      waits = c.self.invariant.waits;
     }
 
 pub returns-clause-served : goal.returns-clause-served

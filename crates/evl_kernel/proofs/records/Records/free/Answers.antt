@@ -25,6 +25,7 @@ invariant_of-self-2 g c =
           (back_keeps r c.args.line.0 c.args.stage c.in_ok-numbered.numbered out).told_is c.self.invariant.timers_allowed);
       clock_sound = c.self.invariant.clock_sound;
       ranks = c.self.invariant.ranks;
+      waits = c.self.invariant.waits;
     }
 
 pub returns-clause-served : goal.returns-clause-served

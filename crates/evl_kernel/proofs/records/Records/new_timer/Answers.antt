@@ -34,6 +34,7 @@ invariant_of-self-in-Ok g c =
       timers_allowed = rw (out, c.in-Ok.ensures.ok.2) (new_timers_allowed r c.in-Ok.timer.0 c.args.callback c.args.tag c.in-Some-take_out.taken place there allowed c.self.invariant.timers_allowed);
       clock_sound = rw c.in-Ok.ensures.ok.2 (sound-with_timer c.self.inside.clock c.in-Ok.timer.0 _ c.self.invariant.clock_sound);
       ranks = c.self.invariant.ranks;
+      waits = c.self.invariant.waits;
     }
 
 pub put_back-requires : goal.put_back-requires

@@ -19,6 +19,7 @@ invariant_of-self-in-Deadline g c =
           (subst (OnlyOldTimers c.self.inside.clock) (sym fell.1) (old-with_deadline c.self.inside.clock c.in-Deadline.thread.0 None)) c.self.invariant.timers_allowed;
       clock_sound = subst IsSoundClock (sym fell.1) (sound-with_deadline c.self.inside.clock c.in-Deadline.thread.0 None c.self.invariant.clock_sound);
       ranks = c.self.invariant.ranks;
+      waits = c.self.invariant.waits;
     }
 
 pub invariant_of-self-in-Timer : goal.invariant_of-self-in-Timer
@@ -30,22 +31,24 @@ invariant_of-self-in-Timer g c =
           (subst (OnlyOldTimers c.self.inside.clock) (sym fell.1.after) (old-fired c.self.inside.clock c.in-Timer.id.0 fell.1.at fell.1.stands)) c.self.invariant.timers_allowed;
       clock_sound = subst IsSoundClock (sym fell.1.after) (sound-with_timer c.self.inside.clock c.in-Timer.id.0 _ c.self.invariant.clock_sound);
       ranks = c.self.invariant.ranks;
+      waits = c.self.invariant.waits;
     }
 
 pub returns-in-Deadline-clause-played : goal.returns-in-Deadline-clause-played
 returns-in-Deadline-clause-played g c =
     let fell = rw c.in-Deadline.is at c.in_ok-thread.ensures.due in
-    rw (← c.self.view_is) (deadline_next (records_view c.self.inside) c.in-Deadline.thread c.next_due.new.self fell.0 fell.1)
+    rw (← c.self.view_is) (deadline_next (records_view c.self.inside) c.expire.new.self c.in-Deadline.thread c.next_due.new.self fell.1 c.expire.ensures.expired fell.0)
 
 pub returns-in-Deadline-clause-nearer : goal.returns-in-Deadline-clause-nearer
 returns-in-Deadline-clause-nearer g c =
-    rw (← c.self.view_is) (deadline_nearer (records_view c.self.inside) c.next_due.new.self c.in_ok-thread.ensures.fewer)
+    let fell = rw c.in-Deadline.is at c.in_ok-thread.ensures.due in
+    rw (← c.self.view_is) (deadline_nearer (records_view c.self.inside) c.expire.new.self c.in-Deadline.thread c.next_due.new.self fell.1 c.expire.ensures.expired c.in_ok-thread.ensures.fewer)
 
 pub returns-in-Deadline-clause-stands : goal.returns-in-Deadline-clause-stands
 returns-in-Deadline-clause-stands g c =
     let fell = rw c.in-Deadline.is at c.in_ok-thread.ensures.due in
-    rw (← c.self.view_is) (keeps-clock (records_view c.self.inside) c.next_due.new.self
-    (subst (OnlyOldTimers c.self.inside.clock) (sym fell.1) (old-with_deadline c.self.inside.clock c.in-Deadline.thread.0 None)))
+    rw (← c.self.view_is) (keeps-both (records_view c.self.inside) _ c.expire.new.self (keeps-clock (records_view c.self.inside) c.next_due.new.self
+    (subst (OnlyOldTimers c.self.inside.clock) (sym fell.1) (old-with_deadline c.self.inside.clock c.in-Deadline.thread.0 None))) c.expire.ensures.stands)
 
 pub returns-in-Timer-clause-played : goal.returns-in-Timer-clause-played
 returns-in-Timer-clause-played g c =

@@ -14,6 +14,7 @@ invariant_of-self-in-Some-Clock g c = record {
   timers_allowed = c.self.invariant.timers_allowed;
   clock_sound = c.self.invariant.clock_sound;
   ranks = c.self.invariant.ranks;
+  waits = c.self.invariant.waits;
 }
 
 pub returns-in-Some-Clock-clause-played : goal.returns-in-Some-Clock-clause-played
@@ -34,6 +35,7 @@ invariant_of-self-in-Some-Line g c = record {
   timers_allowed = c.self.invariant.timers_allowed;
   clock_sound = c.self.invariant.clock_sound;
   ranks = c.self.invariant.ranks;
+  waits = c.self.invariant.waits;
 }
 
 pub returns-in-Some-Line-clause-played : goal.returns-in-Some-Line-clause-played

@@ -54,6 +54,7 @@ invariant_of-self-in-Ok g c =
           (requested_keeps r c.args.line.0 c.args.stage c.args.callback c.args.tag c.in-Some-take_out.taken place there has).told_is c.self.invariant.timers_allowed);
       clock_sound = c.self.invariant.clock_sound;
       ranks = c.self.invariant.ranks;
+      waits = c.self.invariant.waits;
     }
 
 pub returns-in-Ok-clause-served : goal.returns-in-Ok-clause-served

@@ -12,6 +12,7 @@ invariant_of-self-2 g c = record {
       (subst (OnlyOldTimers c.self.inside.clock) (sym c.in_ok-due.ensures.state) (old-start c.self.inside.clock c.args.timer.0 c.args.date c.args.interval)) c.self.invariant.timers_allowed;
   clock_sound = subst IsSoundClock (sym c.in_ok-due.ensures.state) (sound-start c.self.inside.clock c.args.timer.0 c.args.date c.args.interval c.self.invariant.clock_sound);
   ranks = c.self.invariant.ranks;
+  waits = c.self.invariant.waits;
 }
 
 pub returns-clause-served : goal.returns-clause-served

@@ -11,6 +11,7 @@ invariant_of-self-2 g c = record {
       (subst (OnlyOldTimers c.self.inside.clock) (sym c.in_ok-stop.ensures.state) (old-stop c.self.inside.clock c.args.timer.0)) c.self.invariant.timers_allowed;
   clock_sound = subst IsSoundClock (sym c.in_ok-stop.ensures.state) (sound-stop c.self.inside.clock c.args.timer.0 c.self.invariant.clock_sound);
   ranks = c.self.invariant.ranks;
+  waits = c.self.invariant.waits;
 }
 
 pub returns-clause-served : goal.returns-clause-served

@@ -10,6 +10,7 @@ invariant_of-self g c = record {
   timers_allowed = c.self.invariant.timers_allowed;
   clock_sound = c.self.invariant.clock_sound;
   ranks = c.self.invariant.ranks;
+  waits = c.self.invariant.waits;
 }
 
 pub returns-clause-stands : goal.returns-clause-stands
