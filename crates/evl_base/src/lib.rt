@@ -32,6 +32,3 @@ pub use take::Take;
 pub use texts::{put_call, put_play, put_reply};
 pub use transfer::{Spares, Transfer};
 pub use way::{Bytes, Way};
-
-#[cfg(test)]
-mod tests;
