@@ -4,7 +4,9 @@
 mod action_kinds;
 mod board;
 mod call;
+mod call_text;
 mod entry;
+mod keys;
 mod mutex_kind;
 mod numbers;
 mod play;
