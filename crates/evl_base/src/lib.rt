@@ -4,7 +4,9 @@
 mod action_kinds;
 mod board;
 mod call;
+mod call_text;
 mod entry;
+mod keys;
 mod mutex_kind;
 mod numbers;
 mod play;
@@ -32,6 +34,3 @@ pub use take::Take;
 pub use texts::{put_call, put_play, put_reply};
 pub use transfer::{Spares, Transfer};
 pub use way::{Bytes, Way};
-
-#[cfg(test)]
-mod tests;

@@ -1,15 +1,15 @@
 -- The step that a table of a scenario stands for.
-use Rattle.std.specs.Prelude.{ℕ, List, [], ◌∷◌, if◌then◌else◌, Option, Some, None, option_map, option_and_then, codes}
+use Rattle.std.specs.Prelude.{ℕ, false, List, [], ◌∷◌, if◌then◌else◌, Option, Some, None, option_map, option_and_then, codes}
 use Rattle.std.specs.Str.{bytes_eq}
 use Rattle.toml.specs.Data.{Data, Members, as_table, get_member}
 use Rattle.evl_base.specs.declared.call.Call.{Call}
 use Rattle.evl_base.specs.declared.call.Call.TheVariants as make
 use Rattle.evl_scenario.specs.declared.steps.StepWord.{StepWord}
-use Rattle.evl_scenario.specs.declared.steps.StepWord.TheVariants.{Request, Free, Arrive, Post, Stall, Unstall, Tick, Now, NewTimer, StartTimer, StopTimer, DropTimer, Overruns, Attach, Detach, SetPolicy, SetStage, Pick, RankOf, TryGet, Put, Peek}
+use Rattle.evl_scenario.specs.declared.steps.StepWord.TheVariants.{Request, Free, Arrive, Post, Stall, Unstall, Tick, Now, NewTimer, StartTimer, StopTimer, DropTimer, Overruns, Attach, Detach, SetPolicy, SetStage, Pick, RankOf, TryGet, Put, Peek, BeginGet, Finish}
 use Rattle.evl_scenario.specs.declared.steps.Step.{Step}
 use Rattle.evl_scenario.specs.Tables.{value_at, value_or, text_at, has_only}
 use Rattle.evl_scenario.specs.Policies.{policy_from}
-use Rattle.evl_scenario.specs.Values.{number_from, word_from, byte_from, thread_from, line_from, sem_from, timer_from, stage_from}
+use Rattle.evl_scenario.specs.Values.{number_from, word_from, byte_from, thread_from, line_from, sem_from, timer_from, stage_from, truth_from, until_from}
 
 -- the word that a text is
 abbrev pub word_of : List ℕ → Option StepWord
@@ -36,6 +36,8 @@ word_of text =
     else if bytes_eq text (codes "try_get") then Some TryGet
     else if bytes_eq text (codes "put") then Some Put
     else if bytes_eq text (codes "peek") then Some Peek
+    else if bytes_eq text (codes "begin_get") then Some BeginGet
+    else if bytes_eq text (codes "finish") then Some Finish
     else None
 
 -- the keys of a step with this word
@@ -62,6 +64,8 @@ keys_of RankOf = codes "do" ∷ codes "who" ∷ codes "thread" ∷ []
 keys_of TryGet = codes "do" ∷ codes "who" ∷ codes "sem" ∷ []
 keys_of Put = codes "do" ∷ codes "who" ∷ codes "sem" ∷ []
 keys_of Peek = codes "do" ∷ codes "who" ∷ codes "sem" ∷ []
+keys_of BeginGet = codes "do" ∷ codes "who" ∷ codes "sem" ∷ codes "until" ∷ []
+keys_of Finish = codes "do" ∷ codes "who" ∷ codes "keep" ∷ []
 
 -- the call that a word and a table make
 abbrev pub call_of : StepWord → Members → Option Call
@@ -98,6 +102,10 @@ call_of RankOf table = option_map make.RankOf (value_at thread_from (codes "thre
 call_of TryGet table = option_map make.TryGet (value_at sem_from (codes "sem") table)
 call_of Put table = option_map make.Put (value_at sem_from (codes "sem") table)
 call_of Peek table = option_map make.Peek (value_at sem_from (codes "sem") table)
+call_of BeginGet table =
+    option_and_then (λ sem. option_map (make.BeginGet sem) (value_or until_from None (get_member (codes "until") table)))
+    (value_at sem_from (codes "sem") table)
+call_of Finish table = option_map make.Finish (value_or truth_from false (get_member (codes "keep") table))
 
 -- the step with this word
 abbrev pub step_with : Members → StepWord → Option Step

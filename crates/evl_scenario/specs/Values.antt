@@ -1,9 +1,9 @@
 -- What a TOML value stands for in a scenario.
-use Rattle.std.specs.Prelude.{ℕ, nat_eq, codes, drop, ◌^◌, List, length, ◌&&◌, nat_lt, decimal, if◌then◌else◌, Option, Some, None, option_map, option_and_then, pos}
+use Rattle.std.specs.Prelude.{ℕ, nat_eq, codes, drop, ◌^◌, List, length, Bool, ◌&&◌, nat_lt, decimal, if◌then◌else◌, Option, Some, None, option_map, option_and_then, pos}
 use Rattle.std.specs.List.{starts_with}
 use Rattle.std.specs.Str.{bytes_eq}
 use Rattle.std.specs.Str.Parse.{digits_value}
-use Rattle.toml.specs.Data.{Data, integer, string, Items, no_items, item, as_str, as_array}
+use Rattle.toml.specs.Data.{Data, integer, string, Items, no_items, item, as_str, as_bool, as_array}
 use Rattle.evl_base.specs.declared.mutex_kind.MutexKind.{MutexKind}
 use Rattle.evl_base.specs.declared.mutex_kind.MutexKind.TheVariants.{Normal, Recursive, Ceiling}
 use Rattle.evl_base.specs.declared.numbers.LineNo.{LineNo}
@@ -58,6 +58,18 @@ stage_of text =
 
 abbrev pub stage_from : Data → Option Stage
 stage_from value = option_and_then stage_of (as_str value)
+
+-- the date of a deadline, or the text `none` where there is none
+abbrev pub until_of : List ℕ → Option (Option ℕ)
+until_of text = if bytes_eq text (codes "none") then Some None else option_map Some (text_number text)
+
+abbrev pub until_from : Data → Option (Option ℕ)
+until_from (string text) = until_of text
+until_from value = option_map Some (number_from value)
+
+-- a truth value of TOML, and no text of one
+abbrev pub truth_from : Data → Option Bool
+truth_from value = as_bool value
 
 -- just two items: the size of the ring of way `In`, and that of way `Out`
 abbrev pub two_sizes : Items → Option (ℕ × ℕ)

@@ -32,6 +32,8 @@ pub enum StepWord {
     TryGet,
     Put,
     Peek,
+    BeginGet,
+    Finish,
 }
 
 /// A call, and the thread that makes it.
@@ -68,6 +70,8 @@ fn read_word(text: &str) -> Option<StepWord>
         "try_get" => Some(StepWord::TryGet),
         "put" => Some(StepWord::Put),
         "peek" => Some(StepWord::Peek),
+        "begin_get" => Some(StepWord::BeginGet),
+        "finish" => Some(StepWord::Finish),
         _ => None,
     }
 }
@@ -99,6 +103,8 @@ fn step_keys(word: StepWord) -> &'static [&'static str]
         StepWord::TryGet => &["do", "who", "sem"],
         StepWord::Put => &["do", "who", "sem"],
         StepWord::Peek => &["do", "who", "sem"],
+        StepWord::BeginGet => &["do", "who", "sem", "until"],
+        StepWord::Finish => &["do", "who", "keep"],
     }
 }
 
@@ -177,6 +183,15 @@ fn read_call(word: StepWord, table: &Table) -> Option<Call>
         StepWord::Peek => Some(Call::Peek {
             sem: at(table, "sem")?,
         }),
+        StepWord::BeginGet => {
+            let sem = at(table, "sem")?;
+            let until = at_or(table, "until", None)?;
+            Some(Call::BeginGet { sem, until })
+        }
+        StepWord::Finish => {
+            let keep = at_or(table, "keep", false)?;
+            Some(Call::Finish { keep })
+        }
     }
 }
 

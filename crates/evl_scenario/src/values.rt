@@ -2,7 +2,7 @@
 ghost use Rattle.std.specs.Prelude.{◌≡◌, Option, option_map};
 ghost use Rattle.toml.specs.Data.{Data};
 ghost use Rattle.toml.specs.View.{view, items_view};
-ghost use Rattle.evl_scenario.specs.Values.{number_from, text_number, word_from, half_word_from, byte_from, past_front, two_sizes, mutex_kind_from, ring_sizes_from, thread_from, line_from, sem_from, stage_from, timer_from};
+ghost use Rattle.evl_scenario.specs.Values.{number_from, text_number, word_from, half_word_from, byte_from, past_front, two_sizes, mutex_kind_from, ring_sizes_from, thread_from, line_from, sem_from, stage_from, timer_from, truth_from, until_from, until_of};
 
 use evl_base::{LineNo, MutexKind, SemId, Stage, ThreadId, TimerId};
 use toml::Value;
@@ -116,6 +116,35 @@ impl FromToml for Stage {
             "inband" => Some(Stage::Inband),
             "oob" => Some(Stage::Oob),
             _ => None,
+        }
+    }
+}
+
+impl FromToml for bool {
+    ghost gives = { truth_from };
+
+    fn from_toml(value: &Value) -> Option<bool> {
+        value.as_bool()
+    }
+}
+
+// The date of a deadline, or the text that says that there is none.
+fn until_of_text(text: &str) -> Option<Option<u64>>
+    ensures { result ≡ until_of text.now }
+{
+    match text {
+        "none" => Some(None),
+        _ => Some(Some(number_of_text(text)?)),
+    }
+}
+
+impl FromToml for Option<u64> {
+    ghost gives = { until_from };
+
+    fn from_toml(value: &Value) -> Option<Option<u64>> {
+        match value {
+            Value::String(text) => until_of_text(text.as_str()),
+            _ => Some(Some(number(value)?)),
         }
     }
 }

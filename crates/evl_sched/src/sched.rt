@@ -41,8 +41,8 @@ impl<A: Allocator> Model for SchedOf<A> {
 
 impl<A: Allocator + Clone> SchedOf<A> {
     /// A scheduler of so many threads, none of which is attached, and of a quota group for each part of the processor
-    /// in percent, with its whole budget of 10,000,000 ns a percent. It has room for all of these threads.
-    /// `NoMemory` where that room was refused (Xenomai 4: EVL scheduling policies; this profile).
+    /// in percent, numbered from 0, with its whole budget of 10,000,000 ns a percent. It has room for all of these
+    /// threads. `NoMemory` where that room was refused (Xenomai 4: EVL scheduling policies; this profile).
     pub fn new(alloc: A, threads: u16, groups: &[u8]) -> Result<SchedOf<A>, Refusal>
         ensures fresh { IfOk result (λ s. s ≡ fresh threads groups.now) }
         ensures refusal { IfErr result (λ e. e ≡ Refusal.NoMemory) }
@@ -173,9 +173,9 @@ impl<A: Allocator> SchedOf<A> {
     }
 
     /// Attaches a thread, with a policy, on a stage. It has a full slice and its base rank; out-of-band it goes to the
-    /// end of the ready list. Refused, in this order: `Unknown` where there is no such thread, or where the policy is
-    /// `Quota`, since quota groups can't be named yet; `Range` where a number of the policy is out of its range
-    /// (priorities 1 to 99, and 0 to 99 under `Weak`; slices 1 to 1,000,000,000 ns); `Busy` where the thread is attached.
+    /// end of the ready list. Refused, in this order: `Unknown` where there is no such thread, or no quota group of the
+    /// number that the policy names; `Range` where a number of the policy is out of its range (priorities 1 to 99, and 0
+    /// to 99 under `Weak`; slices 1 to 1,000,000,000 ns); `Busy` where the thread is attached.
     /// A refused call changes nothing. (Xenomai 4: EVL threads; this profile)
     pub fn attach(&mut self, thread: ThreadId, policy: Policy, stage: Stage) -> Result<(), Refusal>
         ensures ok { OnOk result (attach_refusal self.old.sched thread.0 policy ≡ None) }

@@ -13,6 +13,8 @@ const RR: Policy = Policy::Rr {
     slice: 100,
 };
 
+const QUOTA: Policy = Policy::Quota { group: 0, prio: 5 };
+
 #[test]
 fn round_robin(rt: HostRuntime) -> Result<(), Fail> {
     let mut sched = Sched::new(rt.alloc(), 3, &[])?;
@@ -23,6 +25,21 @@ fn round_robin(rt: HostRuntime) -> Result<(), Fail> {
     assert!(rt; matches!(sched.pick(), Some(ThreadId(1))));
     sched.charge(1);
     assert!(rt; matches!(sched.pick(), Some(ThreadId(2))));
+    Ok(())
+}
+
+#[test]
+fn quota_refill(rt: HostRuntime) -> Result<(), Fail> {
+    let mut sched = Sched::new(rt.alloc(), 3, &[10])?;
+    let beyond = Policy::Quota { group: 1, prio: 5 };
+    assert!(rt; matches!(sched.attach(ONE, beyond, Stage::Oob), Err(Refusal::Unknown)));
+    assert!(rt; sched.attach(ONE, QUOTA, Stage::Oob).is_ok());
+    assert!(rt; matches!(sched.rank(ONE), Ok(261)));
+    assert!(rt; matches!(sched.pick(), Some(ThreadId(1))));
+    sched.charge(100_000_000);
+    assert!(rt; matches!(sched.pick(), None) && !sched.eligible());
+    sched.refill();
+    assert!(rt; matches!(sched.pick(), Some(ThreadId(1))));
     Ok(())
 }
 

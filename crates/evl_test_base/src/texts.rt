@@ -1,10 +1,8 @@
-ghost use Rattle.std.specs.Prelude.{◌≡◌, []};
-
-use crate::{
-    Board, Call, LineNo, MutexKind, Play, Policy, Refusal, Reply, SemId, Spares, Stage, Take,
-    ThreadId, TimerId, Transfer, Way, put_call, put_play, put_reply,
+//! Texts, numbers and names.
+use evl_base::{
+    Call, LineNo, Play, Policy, Refusal, Reply, SemId, Spares, Stage, Take, ThreadId, TimerId,
+    Transfer, Way, put_call, put_play, put_reply,
 };
-use arrayvec::ArrayVec;
 use std::alloc::Global;
 use std::test::*;
 
@@ -29,6 +27,21 @@ fn calls_are_appended(rt: HostRuntime) -> Result<(), Fail> {
     assert_eq!(rt;
         text.as_slice(),
         b"try_get sem=0put sem=63peek sem=65535".as_slice()
+    );
+    Ok(())
+}
+
+#[test]
+fn waits_have_their_texts(rt: HostRuntime) -> Result<(), Fail> {
+    let mut text = Vec::new(rt.alloc());
+    let sem = SemId(1);
+    put_call(&mut text, &Call::BeginGet { sem, until: None }).map_err(|_| "no deadline")?;
+    let until = Some(18_446_744_073_709_551_615);
+    put_call(&mut text, &Call::BeginGet { sem, until }).map_err(|_| "deadline")?;
+    put_call(&mut text, &Call::Finish { keep: false }).map_err(|_| "finish")?;
+    assert_eq!(rt;
+        text.as_slice(),
+        b"begin_get sem=1 until=nonebegin_get sem=1 until=18446744073709551615finish keep=false".as_slice()
     );
     Ok(())
 }
@@ -200,84 +213,5 @@ fn policies_takes_and_ways_have_their_texts(rt: HostRuntime) -> Result<(), Fail>
         let text = way.to_string(rt.alloc()).map_err(|_| "way")?;
         assert!(rt; text.as_str() == expected);
     }
-    Ok(())
-}
-
-// A board of so many threads, and nothing else.
-fn bare_board(threads: u16) -> Board
-    ensures sems { result.sems.items ≡ [] }
-    ensures xbufs { result.xbufs.items ≡ [] }
-    ensures mutexes { result.mutexes.items ≡ [] }
-    ensures groups { result.groups.items ≡ [] }
-    ensures staxes { result.staxes.items ≡ [] }
-{
-    Board {
-        threads,
-        sems: ArrayVec::new(),
-        flags: ArrayVec::new(),
-        xbufs: ArrayVec::new(),
-        mutexes: ArrayVec::new(),
-        groups: ArrayVec::new(),
-        staxes: ArrayVec::new(),
-    }
-}
-
-fn is_fit(board: Board) -> bool {
-    board.check().is_ok()
-}
-
-fn fits_count(count: u32) -> bool {
-    let mut board = bare_board(1);
-    board.sems.push(count);
-    is_fit(board)
-}
-
-fn fits_rings(inbound: u16, outbound: u16) -> bool {
-    let mut board = bare_board(1);
-    board.xbufs.push((inbound, outbound));
-    is_fit(board)
-}
-
-fn fits_ceiling(prio: u8) -> bool {
-    let mut board = bare_board(1);
-    board.mutexes.push(MutexKind::Ceiling(prio));
-    is_fit(board)
-}
-
-fn fits_percent(percent: u8) -> bool {
-    let mut board = bare_board(1);
-    board.groups.push(percent);
-    is_fit(board)
-}
-
-fn fits_stax(limit: u16) -> bool {
-    let mut board = bare_board(1);
-    board.staxes.push(limit);
-    is_fit(board)
-}
-
-#[test]
-fn threads_and_counts_have_a_range(rt: HostRuntime) {
-    assert!(rt; !is_fit(bare_board(0)) && is_fit(bare_board(1)));
-    assert!(rt; is_fit(bare_board(64)) && !is_fit(bare_board(65)));
-    assert!(rt; fits_count(0) && fits_count(2_147_483_647) && !fits_count(2_147_483_648));
-    assert!(rt; fits_rings(1, 256) && fits_rings(256, 1));
-    assert!(rt; !fits_rings(0, 4) && !fits_rings(257, 4));
-    assert!(rt; !fits_rings(4, 0) && !fits_rings(4, 257));
-}
-
-#[test]
-fn ceilings_groups_and_staxes_have_a_range(rt: HostRuntime) {
-    assert!(rt; !fits_ceiling(0) && fits_ceiling(1) && fits_ceiling(99) && !fits_ceiling(100));
-    assert!(rt; !fits_percent(0) && fits_percent(1) && fits_percent(100) && !fits_percent(101));
-    assert!(rt; !fits_stax(0) && fits_stax(1) && fits_stax(1000) && !fits_stax(1001));
-}
-
-#[test]
-fn a_board_is_checked(rt: HostRuntime) -> Result<(), Fail> {
-    let mut board = bare_board(64);
-    assert!(rt; board.check().is_ok());
-    board.xbufs.push((256, 0));
-    assert!(rt; matches!(board.check(), Err(Refusal::Range)));
     Ok(())
 }

@@ -1,0 +1,131 @@
+//! What a call says in a trace, by families: lines, clock, threads, semaphores and waits. A family hands on what isn't its
+//! own, so that a call costs the proof of its family alone.
+ghost use Rattle.std.specs.Prelude.{Some};
+
+use crate::call::Call;
+use crate::keys::{DateAndInterval, LineAndStage, Numbered, StageAndLine, Staged, Until};
+use std::fmt;
+
+impl fmt::Display for Call {
+    ghost use Rattle.evl_base.specs.Call.{call_text};
+
+    ghost output = { λ call. Some (call_text call) };
+
+    fn fmt<W: fmt::Write>(&self, f: &mut fmt::Formatter<W>) -> fmt::Result {
+        match self {
+            Call::Request {
+                line,
+                stage,
+                callback,
+                tag,
+            } => {
+                let at = LineAndStage {
+                    line: *line,
+                    stage: *stage,
+                };
+                write!(f, "request {at} callback={callback} tag={tag}")
+            }
+            Call::Free { line, stage } => {
+                let at = LineAndStage {
+                    line: *line,
+                    stage: *stage,
+                };
+                write!(f, "free {at}")
+            }
+            Call::Arrive { line } => Numbered("arrive line=", line.0).fmt(f),
+            Call::Post { stage, line } => {
+                let at = StageAndLine {
+                    stage: *stage,
+                    line: *line,
+                };
+                write!(f, "post {at}")
+            }
+            Call::Stall { stage } => Staged("stall stage=", *stage).fmt(f),
+            Call::Unstall { stage } => Staged("unstall stage=", *stage).fmt(f),
+            _ => ClockText(self).fmt(f),
+        }
+    }
+}
+
+/// The text of a call on the clock and its timers, or of one of those below.
+#[derive(Drop)]
+struct ClockText<'a>(&'a Call);
+
+impl<'a> fmt::Display for ClockText<'a> {
+    ghost use Rattle.evl_base.specs.Call.{call_text};
+
+    ghost output = { λ text. Some (call_text text.0.now) };
+
+    fn fmt<W: fmt::Write>(&self, f: &mut fmt::Formatter<W>) -> fmt::Result {
+        match self.0 {
+            Call::Tick { delta } => write!(f, "tick delta={delta}"),
+            Call::Now => write!(f, "now"),
+            Call::NewTimer { callback, tag } => {
+                write!(f, "new_timer callback={callback} tag={tag}")
+            }
+            Call::StartTimer {
+                timer,
+                date,
+                interval,
+            } => {
+                let timer = timer.0;
+                let dates = DateAndInterval {
+                    date: *date,
+                    interval: *interval,
+                };
+                write!(f, "start_timer timer={timer} {dates}")
+            }
+            Call::StopTimer { timer } => Numbered("stop_timer timer=", timer.0).fmt(f),
+            Call::DropTimer { timer } => Numbered("drop_timer timer=", timer.0).fmt(f),
+            Call::Overruns { timer } => Numbered("overruns timer=", timer.0).fmt(f),
+            _ => ThreadText(self.0).fmt(f),
+        }
+    }
+}
+
+/// The text of a call on threads, or of one of those below.
+#[derive(Drop)]
+struct ThreadText<'a>(&'a Call);
+
+impl<'a> fmt::Display for ThreadText<'a> {
+    ghost use Rattle.evl_base.specs.Call.{call_text};
+
+    ghost output = { λ text. Some (call_text text.0.now) };
+
+    fn fmt<W: fmt::Write>(&self, f: &mut fmt::Formatter<W>) -> fmt::Result {
+        match self.0 {
+            Call::Attach { policy, stage } => { write!(f, "attach policy={policy} stage={stage}") }
+            Call::Detach => write!(f, "detach"),
+            Call::SetPolicy { policy } => write!(f, "set_policy policy={policy}"),
+            Call::SetStage { stage } => Staged("set_stage stage=", *stage).fmt(f),
+            Call::Pick => write!(f, "pick"),
+            Call::RankOf { thread } => Numbered("rank_of thread=", thread.0).fmt(f),
+            _ => WaitText(self.0).fmt(f),
+        }
+    }
+}
+
+/// The text of a call on semaphores and waits; no other is left.
+#[derive(Drop)]
+struct WaitText<'a>(&'a Call);
+
+impl<'a> fmt::Display for WaitText<'a> {
+    ghost use Rattle.evl_base.specs.Call.{call_text};
+
+    ghost output = { λ text. Some (call_text text.0.now) };
+
+    fn fmt<W: fmt::Write>(&self, f: &mut fmt::Formatter<W>) -> fmt::Result {
+        match self.0 {
+            Call::TryGet { sem } => Numbered("try_get sem=", sem.0).fmt(f),
+            Call::Put { sem } => Numbered("put sem=", sem.0).fmt(f),
+            Call::Peek { sem } => Numbered("peek sem=", sem.0).fmt(f),
+            Call::BeginGet { sem, until } => {
+                let sem = sem.0;
+                let until = Until(*until);
+                write!(f, "begin_get sem={sem} until={until}")
+            }
+            Call::Finish { keep } => write!(f, "finish keep={keep}"),
+            _ => Err(fmt::Error),
+        }
+    }
+}

@@ -1,0 +1,114 @@
+//! Keys of a call's text with their values.
+ghost use Rattle.std.specs.Prelude.{Some};
+
+use crate::numbers::LineNo;
+use crate::stage::Stage;
+use std::fmt;
+
+/// A text that ends in a number.
+#[derive(Drop)]
+pub struct Numbered(pub &'static str, pub u16);
+
+impl fmt::Display for Numbered {
+    ghost use Rattle.std.specs.Prelude.{◌++◌};
+    ghost use Rattle.std.specs.Fmt.{decimal};
+
+    ghost output = { λ text. Some (text.0.now ++ decimal text.1) };
+
+    fn fmt<W: fmt::Write>(&self, f: &mut fmt::Formatter<W>) -> fmt::Result {
+        let front = self.0;
+        let number = self.1;
+        write!(f, "{front}{number}")
+    }
+}
+
+/// A text that ends in a stage.
+#[derive(Drop)]
+pub struct Staged(pub &'static str, pub Stage);
+
+impl fmt::Display for Staged {
+    ghost use Rattle.std.specs.Prelude.{◌++◌};
+    ghost use Rattle.evl_base.specs.Stage.{stage_text};
+
+    ghost output = { λ text. Some (text.0.now ++ stage_text text.1) };
+
+    fn fmt<W: fmt::Write>(&self, f: &mut fmt::Formatter<W>) -> fmt::Result {
+        let front = self.0;
+        let stage = self.1;
+        write!(f, "{front}{stage}")
+    }
+}
+
+/// The keys of a line and of a stage.
+#[derive(Drop)]
+pub struct LineAndStage {
+    pub line: LineNo,
+    pub stage: Stage,
+}
+
+impl fmt::Display for LineAndStage {
+    ghost use Rattle.evl_base.specs.Call.{line_and_stage_text};
+
+    ghost output = { λ at. Some (line_and_stage_text at.line.0 at.stage) };
+
+    fn fmt<W: fmt::Write>(&self, f: &mut fmt::Formatter<W>) -> fmt::Result {
+        let line = self.line.0;
+        let stage = self.stage;
+        write!(f, "line={line} stage={stage}")
+    }
+}
+
+/// The same keys in the order of a post.
+#[derive(Drop)]
+pub struct StageAndLine {
+    pub stage: Stage,
+    pub line: LineNo,
+}
+
+impl fmt::Display for StageAndLine {
+    ghost use Rattle.evl_base.specs.Call.{stage_and_line_text};
+
+    ghost output = { λ at. Some (stage_and_line_text at.stage at.line.0) };
+
+    fn fmt<W: fmt::Write>(&self, f: &mut fmt::Formatter<W>) -> fmt::Result {
+        let stage = self.stage;
+        let line = self.line.0;
+        write!(f, "stage={stage} line={line}")
+    }
+}
+
+/// The keys of a timer's dates.
+#[derive(Drop)]
+pub struct DateAndInterval {
+    pub date: u64,
+    pub interval: u64,
+}
+
+impl fmt::Display for DateAndInterval {
+    ghost use Rattle.evl_base.specs.Call.{date_and_interval_text};
+
+    ghost output = { λ dates. Some (date_and_interval_text dates.date dates.interval) };
+
+    fn fmt<W: fmt::Write>(&self, f: &mut fmt::Formatter<W>) -> fmt::Result {
+        let date = self.date;
+        let interval = self.interval;
+        write!(f, "date={date} interval={interval}")
+    }
+}
+
+/// The date of a deadline, or `none`.
+#[derive(Drop)]
+pub struct Until(pub Option<u64>);
+
+impl fmt::Display for Until {
+    ghost use Rattle.evl_base.specs.Call.{until_text};
+
+    ghost output = { λ until. Some (until_text until.0) };
+
+    fn fmt<W: fmt::Write>(&self, f: &mut fmt::Formatter<W>) -> fmt::Result {
+        match self.0 {
+            Some(date) => write!(f, "{date}"),
+            None => write!(f, "none"),
+        }
+    }
+}

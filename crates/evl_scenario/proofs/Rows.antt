@@ -1,0 +1,36 @@
+-- Worked rows, computed from the definitions.
+use Rattle.std.proofs.Common.{◌≡◌, true, false, Some, None, codes, pos, refl}
+use Rattle.toml.specs.Data.{integer, string, boolean, no_members, member}
+use Rattle.evl_base.specs.declared.call.Call.TheVariants as make
+use Rattle.evl_scenario.specs.Steps.{call_of}
+use Rattle.evl_scenario.specs.Values.{truth_from, until_from}
+use Rattle.evl_scenario.specs.declared.steps.StepWord.TheVariants.{BeginGet, Finish}
+
+-- a deadline is a number, or the text that says that there is none; without the key there is none
+until-number : until_from (integer (pos 5)) ≡ Some (Some 5)
+until-number = refl
+
+until-none : until_from (string (codes "none")) ≡ Some None
+until-none = refl
+
+until-truth : until_from (boolean false) ≡ None
+until-truth = refl
+
+begin_get-without_deadline : call_of BeginGet (member (codes "sem") (integer (pos 3)) no_members) ≡ Some (make.BeginGet (record { 0 = 3 }) None)
+begin_get-without_deadline = refl
+
+begin_get-deadline : call_of BeginGet (member (codes "sem") (integer (pos 3)) (member (codes "until") (integer (pos 0)) no_members)) ≡ Some (make.BeginGet (record { 0 = 3 }) (Some 0))
+begin_get-deadline = refl
+
+begin_get-without_semaphore : call_of BeginGet (member (codes "until") (integer (pos 0)) no_members) ≡ None
+begin_get-without_semaphore = refl
+
+-- a truth value is TOML's own, and false where the key is missing
+keep-text : truth_from (string (codes "true")) ≡ None
+keep-text = refl
+
+finish-by_itself : call_of Finish no_members ≡ Some (make.Finish false)
+finish-by_itself = refl
+
+finish-keep : call_of Finish (member (codes "keep") (boolean true) no_members) ≡ Some (make.Finish true)
+finish-keep = refl
