@@ -27,7 +27,7 @@ pub play_send : IsSend Play.the_row
 play_send = search (heap.crosses, crosses, sendable) depth 20 fits 20000
 
 -- the bytes of a transfer, in their box
-transfer_send : IsSend Transfer.the_row
+pub transfer_send : IsSend Transfer.the_row
 transfer_send = search (view_send, declared_send, heap.crosses, crosses, sendable) depth 20 fits 20000
 
 pub entry_send : IsSend Entry.the_row

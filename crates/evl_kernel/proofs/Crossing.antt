@@ -6,7 +6,7 @@ use Rattle.std.specs.contracts.vec.Vec as Vec
 use Rattle.std.proofs.CrossingOver.{crosses}
 use Rattle.evl_base.specs.contracts.entry.Entry as Entry
 use Rattle.evl_base.specs.contracts.play.Play as Play
-use Rattle.evl_base.proofs.Crossing.{board_send, declared_send, entry_send, play_send, spares_send}
+use Rattle.evl_base.proofs.Crossing.{board_send, declared_send, entry_send, play_send, spares_send, transfer_send}
 use Rattle.evl_pipeline.proofs.Crossing.{pipeline_send}
 use Rattle.evl_clock.proofs.Crossing.{clock_send}
 use Rattle.evl_sched.proofs.Crossing.{sched_send}
@@ -14,16 +14,10 @@ use Rattle.evl_sync.proofs.Crossing.{sem_send}
 use Rattle.evl_sync.specs.contracts.sem.Sem as Sem
 use Rattle.std.specs.contracts.option.Option as Option
 use Rattle.evl_kernel.specs.contracts.waits.Wait as Wait
-use Rattle.std.proofs.Crossing as heap
-use Rattle.evl_base.specs.contracts.transfer.Transfer as Transfer
 use Rattle.evl_kernel.specs.contracts.bank.BankPlace as BankPlace
 use Rattle.evl_kernel.specs.contracts.bank.Numbered as Numbered
 use Rattle.evl_kernel.specs.contracts.records.Records as Records
 use Rattle.evl_kernel.specs.contracts.kernel.KernelOf as KernelOf
-
--- what ended a wait may carry bytes
-transfer_send : IsSend Transfer.the_row
-transfer_send = search (view_send, declared_send, heap.crosses, crosses, sendable) depth 20 fits 20000
 
 module _ (C A : RattleType) (g : Ghosts A.Denot) where
   plays_send : IsSend A → Frees g g.dealloc_token → IsSend (Vec.the_row Play.the_row A g)

@@ -8,11 +8,14 @@ use Rattle.evl_sched.specs.Threads.{Sched, base_of, opening}
 use Rattle.evl_sched.specs.Ranks.{IsUnboosted, Ranked, fresh, rank_of}
 use Rattle.evl_sched.proofs.UnboostedLaws.{charge-base, picked-base, rank-base}
 use Rattle.evl_sched.specs.Calls as calls
-use Rattle.evl_sched.specs.Calls.{is_thread, stranger_refusal}
+use Rattle.evl_sched.specs.Calls.{is_thread, attach_refusal, set_policy_refusal, stranger_refusal}
+use Rattle.evl_sched.specs.Groups.{is_known}
+use Rattle.evl_sched.specs.Policies.{group_of, is_in_range}
+use Rattle.evl_base.specs.declared.policy.Policy.{Policy}
 use Rattle.evl_sched.specs.Threads.{is_attached, refused_first}
 use Rattle.evl_sched.specs.Picks.{picked}
 use Rattle.evl_base.specs.declared.refusal.Refusal.{Refusal}
-use Rattle.evl_base.specs.declared.refusal.Refusal.TheVariants.{Invalid, Unknown}
+use Rattle.evl_base.specs.declared.refusal.Refusal.TheVariants.{Busy, Invalid, Range, Unknown}
 use Rattle.evl_base.specs.declared.reply.Reply.TheVariants.{Number, Chosen}
 use Rattle.evl_sched.specs.Charges.{charged, refilled}
 use Rattle.evl_kernel.specs.States.{with_sched}
@@ -41,10 +44,10 @@ agree a b one = by (a == b) refl
   where
     by : (same : Bool) → (a == b) ≡ same → not same ≡ false
     by true is = refl
-    by false is = absurd (never (grind (arith, nat_tests)))
+    by false is = absurd (other (grind (arith, nat_tests)))
       where
-        never : (a == b) ≡ true → ⊥
-        never e = absurd (false≢true (sym is ∙ e))
+        other : (a == b) ≡ true → ⊥
+        other e = absurd (false≢true (sym is ∙ e))
 
 -- what whoever is picked pays
 module _ {C : Type 0} (r : RecordsView C) (q : Ranked) (before delta now : ℕ) (base : IsUnboosted r.sched) where
@@ -63,6 +66,12 @@ module _ {C : Type 0} (r : RecordsView C) (q : Ranked) (before delta now : ℕ) 
       let same = agree (before / 1000000000) (now / 1000000000) one in
       ap (with_sched (state_of r)) (ap (λ (x : Ranked). x.sched) is ∙ (by_base ∙ sym (ap (λ (b : Bool). if b then refilled left else left) same)))
 
+first_is : {A : Type 0} {x y : A} → Some x ≡ Some y → x ≡ y
+first_is h = cc
+
+never : {A : Type 0} {x : A} → None ≡ Some x → ⊥
+never h = cc
+
 -- a refusal of a thread that isn't attached is one that the kernel answers
 pub stranger_answers : (q : Sched) (thread : ℕ) (e : Refusal) → stranger_refusal q thread ≡ Some e → IsAnswer (Err e)
 stranger_answers q thread e = by (is_thread q thread) (is_attached q thread)
@@ -77,6 +86,28 @@ stranger_answers q thread e = by (is_thread q thread) (is_attached q thread)
     by true true h = absurd (none_some h)
     by true false h = subst (λ (r : Refusal). IsAnswer (Err r)) (some_is h) (refl, tt)
     by false attached h = subst (λ (r : Refusal). IsAnswer (Err r)) (some_is h) (refl, tt)
+
+-- and so is one of a policy
+policy_answers : (there known in_range : Bool) (other : Option Refusal) → ((e : Refusal) → other ≡ Some e → IsAnswer (Err e)) → (e : Refusal)
+    → refused_first (if there then None else Some Unknown) (refused_first (if not known then Some Unknown else (if in_range then None else Some Range)) other) ≡ Some e → IsAnswer (Err e)
+policy_answers false known in_range other last e h = subst (λ (r : Refusal). IsAnswer (Err r)) (first_is h) (refl, tt)
+policy_answers true false in_range other last e h = subst (λ (r : Refusal). IsAnswer (Err r)) (first_is h) (refl, tt)
+policy_answers true true false other last e h = subst (λ (r : Refusal). IsAnswer (Err r)) (first_is h) (refl, tt)
+policy_answers true true true other last e h = last e h
+
+pub attach_answers : (q : Sched) (thread : ℕ) (policy : Policy) (e : Refusal) → attach_refusal q thread policy ≡ Some e → IsAnswer (Err e)
+attach_answers q thread policy e h = policy_answers (is_thread q thread) (is_known q.groups (group_of policy)) (is_in_range policy) (if is_attached q thread then Some Busy else None) (last (is_attached q thread)) e h
+  where
+    last : (b : Bool) (r : Refusal) → (if b then Some Busy else None) ≡ Some r → IsAnswer (Err r)
+    last true r h = subst (λ (x : Refusal). IsAnswer (Err x)) (first_is h) (refl, tt)
+    last false r h = absurd (never h)
+
+pub set_policy_answers : (q : Sched) (thread : ℕ) (policy : Policy) (e : Refusal) → set_policy_refusal q thread policy ≡ Some e → IsAnswer (Err e)
+set_policy_answers q thread policy e h = policy_answers (is_thread q thread) (is_known q.groups (group_of policy)) (is_in_range policy) (if is_attached q thread then None else Some Invalid) (last (is_attached q thread)) e h
+  where
+    last : (b : Bool) (r : Refusal) → (if b then None else Some Invalid) ≡ Some r → IsAnswer (Err r)
+    last false r h = subst (λ (x : Refusal). IsAnswer (Err x)) (first_is h) (refl, tt)
+    last true r h = absurd (never h)
 
 -- what is told of ranks and of who is picked
 module _ {C : Type 0} (r : RecordsView C) (base : IsUnboosted r.sched) where

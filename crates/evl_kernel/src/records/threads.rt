@@ -25,7 +25,10 @@ impl<C, A: Allocator> Records<C, A> {
         ensures served { Has (state_of self.old) (thread_call.attach (state_of self.old) thread.0 policy stage) result (state_of self.new) }
         ensures stands { KeepsCallbacks self.old self.new }
     {
-        self.sched.attach(thread, policy, stage)?;
+        match self.sched.attach(thread, policy, stage) {
+            Ok(()) => {}
+            Err(refusal) => return Err(refusal),
+        }
         Ok(Reply::Done)
     }
 
@@ -46,7 +49,10 @@ impl<C, A: Allocator> Records<C, A> {
         ensures served { Has (state_of self.old) (thread_call.set_policy (state_of self.old) thread.0 policy) result (state_of self.new) }
         ensures stands { KeepsCallbacks self.old self.new }
     {
-        self.sched.set_policy(thread, policy)?;
+        match self.sched.set_policy(thread, policy) {
+            Ok(()) => {}
+            Err(refusal) => return Err(refusal),
+        }
         Ok(Reply::Done)
     }
 
