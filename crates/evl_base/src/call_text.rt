@@ -105,7 +105,8 @@ impl<'a> fmt::Display for ThreadText<'a> {
     }
 }
 
-/// The text of a call on semaphores and waits; no other is left.
+/// The text of a call on semaphores and waits. The calls of the families above are named, so that a new call is in one of
+/// them or here.
 #[derive(Drop)]
 struct WaitText<'a>(&'a Call);
 
@@ -125,7 +126,25 @@ impl<'a> fmt::Display for WaitText<'a> {
                 write!(f, "begin_get sem={sem} until={until}")
             }
             Call::Finish { keep } => write!(f, "finish keep={keep}"),
-            _ => Err(fmt::Error),
+            Call::Request { .. }
+            | Call::Free { .. }
+            | Call::Arrive { .. }
+            | Call::Post { .. }
+            | Call::Stall { .. }
+            | Call::Unstall { .. }
+            | Call::Tick { .. }
+            | Call::Now
+            | Call::NewTimer { .. }
+            | Call::StartTimer { .. }
+            | Call::StopTimer { .. }
+            | Call::DropTimer { .. }
+            | Call::Overruns { .. }
+            | Call::Attach { .. }
+            | Call::Detach
+            | Call::SetPolicy { .. }
+            | Call::SetStage { .. }
+            | Call::Pick
+            | Call::RankOf { .. } => Err(fmt::Error),
         }
     }
 }

@@ -11,3 +11,5 @@ mod handlers;
 mod kernels;
 #[cfg(test)]
 mod pipelines;
+#[cfg(test)]
+mod waits;
