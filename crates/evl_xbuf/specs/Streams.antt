@@ -1,5 +1,6 @@
 -- One way of a cross-buffer: the bytes that are there, and who waits.
 use Rattle.std.specs.Prelude.{ℕ, ◌≡◌, ◌≤◌, ◌<◌, ◌⊎◌, zero, suc, ◌+◌, ◌-◌, ◌==◌, nat_le, nat_lt, Bool, true, false, not, ◌&&◌, ◌||◌, List, [], ◌∷◌, ◌++◌, length, take, drop, Option, Some, None, Result, Ok, Err, if◌then◌else◌}
+use Rattle.std.specs.List.{AllByRecursion}
 use Rattle.std.specs.Option.{option_or}
 use Rattle.evl_base.specs.declared.refusal.Refusal.{Refusal}
 use Rattle.evl_base.specs.declared.refusal.Refusal.TheVariants.{Again, Range, TooBig}
@@ -66,6 +67,16 @@ pub data Service : Type 0 where
   Wrote : ℕ → Service
   Got : ℕ → List ℕ → Service
 
+-- what the reader at the head of its queue wants
+abbrev pub first_len : List Reader → Option ℕ
+first_len [] = None
+first_len (r ∷ rs) = Some r.len
+
+-- whether the bytes of the writer at the head of its queue fit
+abbrev pub first_fits : Stream → List Writer → Bool
+first_fits s [] = false
+first_fits s (w ∷ ws) = fits s w.bytes.items
+
 -- the reader at the head of its queue, where it can be served
 abbrev pub reader_served : List Reader → Stream → Option (Service × Stream)
 reader_served [] s = None
@@ -129,10 +140,11 @@ pub record IsAtRest (s : Stream) : Type 0 where
   pub rests : next_service s ≡ None
   pub one_queue : (s.writers ≡ []) ⊎ (s.readers ≡ [])
 
--- what is there fits the ring, and each thread below 64 waits once in a queue at most
+-- what is there fits the ring, and so would what each writer waits to write; each thread below 64 waits once in a queue at most
 pub record IsKeptStream (s : Stream) : Type 0 where
   pub few : s.size ≤ 256
   pub within : length s.there ≤ s.size
+  pub short : AllByRecursion (λ w. length w.bytes.items ≤ s.size) s.writers
   pub writers : IsKept (λ w. w.thread) (λ w. 0) s.writers
   pub readers : IsKept (λ r. r.thread) (λ r. 0) s.readers
 

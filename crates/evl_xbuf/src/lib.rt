@@ -3,6 +3,7 @@
 
 mod bytes;
 mod served;
+mod stream;
 mod waiters;
 
 pub use served::{Served, Service};
