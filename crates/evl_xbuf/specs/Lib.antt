@@ -1,3 +1,4 @@
 pub mod Streams
 pub mod Served
+pub mod Serving
 pub mod Xbufs

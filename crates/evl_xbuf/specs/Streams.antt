@@ -67,16 +67,6 @@ pub data Service : Type 0 where
   Wrote : ℕ → Service
   Got : ℕ → List ℕ → Service
 
--- what the reader at the head of its queue wants
-abbrev pub first_len : List Reader → Option ℕ
-first_len [] = None
-first_len (r ∷ rs) = Some r.len
-
--- whether the bytes of the writer at the head of its queue fit
-abbrev pub first_fits : Stream → List Writer → Bool
-first_fits s [] = false
-first_fits s (w ∷ ws) = fits s w.bytes.items
-
 -- the reader at the head of its queue, where it can be served
 abbrev pub reader_served : List Reader → Stream → Option (Service × Stream)
 reader_served [] s = None
@@ -135,10 +125,14 @@ begin_read thread len s = if can_read s len then at_once (with_bytes (given s le
 abbrev pub drop_waiter : ℕ → Stream → List Service × Stream
 drop_waiter thread s = served (without s thread)
 
--- nobody waits who can be served, and at most one of the queues has anybody
+-- at most one of the two queues has anybody
+abbrev pub HasOneQueue : Stream → Type 0
+HasOneQueue s = (s.writers ≡ []) ⊎ (s.readers ≡ [])
+
+-- nobody waits who can be served
 pub record IsAtRest (s : Stream) : Type 0 where
   pub rests : next_service s ≡ None
-  pub one_queue : (s.writers ≡ []) ⊎ (s.readers ≡ [])
+  pub one_queue : HasOneQueue s
 
 -- what is there fits the ring, and so would what each writer waits to write; each thread below 64 waits once in a queue at most
 pub record IsKeptStream (s : Stream) : Type 0 where

@@ -1,7 +1,10 @@
 //! One way of a cross-buffer: the bytes that are there, and who waits.
-ghost use Rattle.std.specs.Prelude.{◌≡◌, ◌<◌, ◌≤◌, ◌+◌, ◌==◌, ◌∷◌, not, true, false, length, nat_lt, take, drop, vec_capacity, IfOk};
+ghost use Rattle.std.specs.Prelude.{◌≡◌, ◌<◌, ◌≤◌, ◌+◌, ◌==◌, ◌∷◌, not, true, false, length, nat_lt, take, drop, is_some, vec_capacity, IfOk};
 ghost use Rattle.evl_sync.specs.Queues.{dropped, is_nobody, stands_in};
-ghost use Rattle.evl_xbuf.specs.Streams.{IsKeptStream, can_read, can_write, empty, first_fits, first_len, fits, given, read, room, with_reader, with_writer, without, written};
+ghost use Rattle.evl_xbuf.specs.Streams.{IsKeptStream, can_read, can_write, empty, fits, given, read, reader_served, room, with_reader, with_writer, without, writer_served, written};
+
+mod serving;
+mod steps;
 
 use crate::bytes::bytes_of;
 use crate::waiters::{Reader, Writer};
@@ -128,19 +131,19 @@ impl<A: Allocator> Stream<A> {
         });
     }
 
-    /// How many bytes the reader at the head of its queue wants; none where nobody waits to read.
-    pub fn first_reader(&self) -> Option<u16>
-        ensures first { result ≡ first_len self.now.readers }
+    /// Whether the reader at the head of its queue can be served; not where nobody waits to read.
+    pub fn can_serve_reader(&self) -> bool
+        ensures can { result ≡ is_some (reader_served self.now.readers self.now) }
     {
         match self.readers.as_slice().first() {
-            Some(reader) => Some(reader.len),
-            None => None,
+            Some(reader) => self.can_read(reader.len),
+            None => false,
         }
     }
 
-    /// Whether the bytes of the writer at the head of its queue fit; they don't where nobody waits to write.
-    pub fn first_fits(&self) -> bool
-        ensures fits { result ≡ first_fits self.now self.now.writers }
+    /// Whether the writer at the head of its queue can be served; not where nobody waits to write.
+    pub fn can_serve_writer(&self) -> bool
+        ensures can { result ≡ is_some (writer_served self.now.writers self.now) }
     {
         match self.writers.first() {
             Some(writer) => self.fits(writer.bytes.as_slice()),
