@@ -5,6 +5,12 @@ mod bytes;
 mod served;
 mod stream;
 mod waiters;
+mod xbuf;
 
 pub use served::{Served, Service};
+use std::alloc::Global;
 pub use waiters::{Reader, Writer};
+pub use xbuf::XbufOf;
+
+/// The cross-buffers of one kernel.
+pub type Xbuf = XbufOf<Global>;
