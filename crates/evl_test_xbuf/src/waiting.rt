@@ -21,9 +21,9 @@ fn readers_share_a_write(rt: HostRuntime) -> Result<(), Fail> {
     match (served.get(0), served.get(1)) {
         (Some(Service::Got(first, ab)), Some(Service::Got(second, c))) => {
             assert_eq!(rt; first, TWO);
-            assert_eq!(rt; ab, b"ab");
+            assert_eq!(rt; ab, b"ab".as_slice());
             assert_eq!(rt; second, ONE);
-            assert_eq!(rt; c, b"c");
+            assert_eq!(rt; c, b"c".as_slice());
         }
         _ => assert!(rt; false),
     }
@@ -43,7 +43,7 @@ fn a_dropped_writer_lets_others_in(rt: HostRuntime) -> Result<(), Fail> {
     assert_eq!(rt; served.len(), 1);
     assert!(rt; matches!(served.get(0), Some(Service::Wrote(ThreadId(2)))));
     let (bytes, _) = xbuf.try_read(Stage::Inband, Way::Out, 256)?;
-    assert_eq!(rt; bytes.as_slice(), b"af");
+    assert_eq!(rt; bytes.as_slice(), b"af".as_slice());
     Ok(())
 }
 
