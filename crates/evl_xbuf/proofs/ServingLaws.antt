@@ -18,7 +18,7 @@ at_rest s e zero = refl
 at_rest s e (suc n) = rw e refl
 
 -- one can be: it is the first of those that are
-goes_on : (s mid : Stream) (one : Service) (n : ℕ) → next_service s ≡ Some (one, mid) → served_from (suc n) s ≡ preceded_by one (served_from n mid)
+pub goes_on : (s mid : Stream) (one : Service) (n : ℕ) → next_service s ≡ Some (one, mid) → served_from (suc n) s ≡ preceded_by one (served_from n mid)
 goes_on s mid one n e = rw e refl
 
 no_service : (o : Option (Service × Stream)) → is_some o ≡ false → o ≡ None

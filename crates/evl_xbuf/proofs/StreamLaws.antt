@@ -65,7 +65,7 @@ kept-without s t h = record {
   readers = kept-dropped (λ r. r.thread) (λ r. 0) t s.readers h.readers;
 }
 
--- the head and the rest
-pub first_and_rest : {A : Type 0} (xs after : List A) (x : A) → is_nobody xs ≡ false → x ≡ slice_index_or xs 0 x → after ≡ remove xs 0 → xs ≡ x ∷ after
-first_and_rest [] after x n e r = cc
-first_and_rest (y ∷ ys) after x n e r = rw (r, e) refl
+-- what a push leaves where it had room
+pub pushed : {A : Type 0} (was now : List A) (x : A) (b : Bool) → b ≡ true → now ≡ (if b then was ++ x ∷ [] else was) → now ≡ was ++ x ∷ []
+pushed was now x true e h = h
+pushed was now x false e h = cc

@@ -2,11 +2,13 @@
 #![tactic(auto)]
 
 mod bytes;
+mod laws;
 mod served;
 mod stream;
 mod waiters;
 mod xbuf;
 
+pub use laws::{reads_follow_writes, services_go_by_arrival};
 pub use served::{Served, Service};
 use std::alloc::Global;
 pub use waiters::{Reader, Writer};
