@@ -36,7 +36,10 @@ fn a_dropped_writer_lets_others_in(rt: HostRuntime) -> Result<(), Fail> {
     let heap = LocalHeap::new(rt.alloc(), 65536)?;
     let mut xbuf = XbufOf::new(&heap, 1, 4)?;
     assert!(rt; xbuf.try_write(Stage::Oob, Way::Out, b"a").is_ok());
-    assert!(rt; xbuf.begin_write(ONE, Stage::Oob, Way::Out, b"bcde")?.is_none());
+    assert!(rt;
+        xbuf.begin_write(ONE, Stage::Oob, Way::Out, b"bcde")?
+            .is_none()
+    );
     assert!(rt; xbuf.begin_write(TWO, Stage::Oob, Way::Out, b"f")?.is_none());
     assert_eq!(rt; xbuf.drop_waiter(THREE, Way::Out).len(), 0);
     let served = xbuf.drop_waiter(ONE, Way::Out);

@@ -1,9 +1,9 @@
 -- Who is served stood first.
-use Rattle.std.proofs.Common.{◌≡◌, ℕ, zero, suc, Bool, true, false, List, [], ◌∷◌, ◌++◌, map, Option, Some, None, if◌then◌else◌, refl, ap, ◌∙◌}
+use Rattle.std.proofs.Common.{◌≡◌, ℕ, zero, suc, Bool, true, false, List, [], ◌∷◌, map, Option, Some, None, if◌then◌else◌, refl, ap, ◌∙◌}
 use Rattle.std.specs.Option.{option_or}
 use Rattle.evl_xbuf.specs.declared.waiters.Reader.{Reader}
 use Rattle.evl_xbuf.specs.declared.waiters.Writer.{Writer}
-use Rattle.evl_xbuf.specs.Streams.{Stream, Service, Wrote, Got, can_read, fits, given, next_service, read, reader_served, served, served_from, waiting, writer_served, written}
+use Rattle.evl_xbuf.specs.Streams.{Stream, Service, Wrote, Got, can_read, fits, given, next_service, read, reader_served, served_from, waiting, writer_served, written}
 use Rattle.evl_xbuf.specs.Arrivals.{GoesByArrival, ServicesGoByArrival}
 use Rattle.evl_xbuf.proofs.ServingLaws.{at_rest, goes_on}
 

@@ -1,15 +1,14 @@
 -- Bytes come out in the order in which they went in.
-use Rattle.std.proofs.Common.{◌≡◌, ℕ, zero, suc, nat_lt, Bool, true, false, List, [], ◌∷◌, ◌++◌, length, take, drop, Option, Some, None, Result, Ok, Err, if◌then◌else◌, refl, sym, ap, subst, ◌∙◌, append_assoc, append-nil}
+use Rattle.std.proofs.Common.{◌≡◌, ℕ, zero, suc, nat_lt, Bool, true, false, List, [], ◌∷◌, ◌++◌, length, take, drop, Option, Some, None, Ok, Err, if◌then◌else◌, refl, sym, ap, ◌∙◌, append_assoc, append-nil}
 use Rattle.std.specs.Option.{option_or}
 use Rattle.std.proofs.lemmas.List.{take-append-drop}
-use Rattle.evl_base.specs.declared.refusal.Refusal.{Refusal}
 use Rattle.evl_base.specs.declared.refusal.Refusal.TheVariants.{Again, TooBig}
 use Rattle.evl_sync.specs.Steps.{unless}
 use Rattle.evl_xbuf.specs.declared.waiters.Reader.{Reader}
 use Rattle.evl_xbuf.specs.declared.waiters.Writer.{Writer}
 use Rattle.evl_xbuf.specs.Served.{read_by}
-use Rattle.evl_xbuf.specs.Streams.{Stream, Service, Wrote, Got, at_once, can_read, can_write, empty, fits, given, next_service, preceded_by, read, reader_served, served, served_from, waiting, with_bytes, with_reader, with_writer, without, writer_served, written}
-use Rattle.evl_xbuf.specs.Flows.{Call, Write, Read, BeginWrite, BeginRead, Drop, Flow, IsStream, ReadsFollowWrites, flow, flowing, followed_by, of_begin_read, of_begin_write, of_read, of_write, run, still, written_by}
+use Rattle.evl_xbuf.specs.Streams.{Stream, Service, Wrote, Got, at_once, can_read, can_write, empty, fits, given, next_service, read, reader_served, served, served_from, waiting, with_bytes, with_reader, with_writer, without, writer_served, written}
+use Rattle.evl_xbuf.specs.Flows.{Call, Write, Read, BeginWrite, BeginRead, Drop, Flow, ReadsFollowWrites, flow, flowing, of_begin_read, of_begin_write, of_read, of_write, run, written_by}
 use Rattle.evl_xbuf.proofs.ServingLaws.{at_rest, goes_on}
 
 -- what is there, and then what comes, is what goes, and then what is there afterwards

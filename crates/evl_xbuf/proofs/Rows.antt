@@ -1,5 +1,5 @@
 -- Worked rows, computed.
-use Rattle.std.proofs.Common.{◌≡◌, ℕ, ◌⊎◌, List, [], ◌∷◌, Option, Some, None, Result, Ok, Err, refl, inl, inr}
+use Rattle.std.proofs.Common.{◌≡◌, ℕ, List, [], ◌∷◌, Some, None, Ok, Err, refl}
 use Rattle.evl_base.specs.declared.stage.Stage.TheVariants.{Inband, Oob}
 use Rattle.evl_base.specs.declared.way.Way.TheVariants.{In, Out}
 use Rattle.evl_base.specs.declared.refusal.Refusal.TheVariants.{Again, Range, TooBig, WrongStage}

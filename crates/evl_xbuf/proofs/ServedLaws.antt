@@ -1,5 +1,5 @@
 -- Services one after another, and their bytes behind one another.
-use Rattle.std.proofs.Common.{◌≡◌, ℕ, ◌≤◌, ◌+◌, ◌-◌, Bool, true, false, List, [], ◌∷◌, ◌++◌, length, map, take, drop, slice_range, if◌then◌else◌, refl, sym, ap, ◌∙◌, append_assoc, append-nil, length-append, length-drop, arith}
+use Rattle.std.proofs.Common.{◌≡◌, ℕ, ◌≤◌, ◌-◌, Bool, true, false, List, [], ◌∷◌, ◌++◌, length, take, drop, slice_range, if◌then◌else◌, refl, sym, ap, ◌∙◌, append_assoc, append-nil, length-append, length-drop, arith}
 use Rattle.std.specs.List.{AllByRecursion}
 use Rattle.std.proofs.lemmas.List.{take-append-le, drop-append-le, map-append}
 use Rattle.std.proofs.Math.Seq.{take-append_seam, drop-append_seam}
@@ -75,5 +75,5 @@ pub turns-got : (bytes more : List ℕ) (turns : List Turn) (thread start end : 
 turns-got bytes more turns thread start end s e h = record {
   within = all-last (Lies (bytes ++ more)) turns (reads thread start end) (longer bytes more turns h.within) (omega (arith, s, e, length-append bytes more), omega (arith, e));
   whole = ap read_by (services-got bytes more turns thread start end s e h.within) ∙ read_by-append (services bytes turns) (Got thread more ∷ [])
-    ∙ ap (λ xs. read_by (services bytes turns) ++ xs) (append-nil more) ∙ ap (λ xs. xs ++ more) h.whole;
+      ∙ ap (λ xs. read_by (services bytes turns) ++ xs) (append-nil more) ∙ ap (λ xs. xs ++ more) h.whole;
 }

@@ -1,13 +1,13 @@
 -- Serving waiters one by one.
-use Rattle.std.proofs.Common.{◌≡◌, ℕ, zero, suc, ◌+◌, ◌<◌, ◌≤◌, ◌==◌, ◌⊎◌, inl, inr, Bool, true, false, List, [], ◌∷◌, ◌++◌, length, take, drop, Option, Some, None, if◌then◌else◌, refl, sym, ap, ◌∙◌, append_assoc, append-nil, length-append, arith}
+use Rattle.std.proofs.Common.{◌≡◌, ℕ, zero, suc, ◌+◌, ◌<◌, ◌≤◌, ◌==◌, inl, inr, Bool, true, false, List, [], ◌∷◌, ◌++◌, length, take, drop, Option, Some, None, if◌then◌else◌, refl, sym, ap, ◌∙◌, append_assoc, append-nil, length-append, arith}
 use Rattle.std.specs.Option.{option_or, is_some}
 use Rattle.std.proofs.lemmas.Bool.Decides.{nat_tests}
 use Rattle.std.proofs.lemmas.List.{take-append-drop}
-use Rattle.evl_sync.specs.Queues.{is_nobody, IsKept}
+use Rattle.evl_sync.specs.Queues.{IsKept}
 use Rattle.evl_sync.proofs.QueueLaws.{has_room, kept-rest}
 use Rattle.evl_xbuf.specs.declared.waiters.Reader.{Reader}
 use Rattle.evl_xbuf.specs.declared.waiters.Writer.{Writer}
-use Rattle.evl_xbuf.specs.Streams.{HasOneQueue, IsAtRest, IsKeptStream, Stream, Service, Wrote, Got, can_read, fits, given, next_service, preceded_by, read, reader_served, served, served_from, waiting, writer_served, written}
+use Rattle.evl_xbuf.specs.Streams.{HasOneQueue, IsAtRest, IsKeptStream, Stream, Service, Got, can_read, given, next_service, preceded_by, read, reader_served, served, served_from, waiting, writer_served}
 use Rattle.evl_xbuf.specs.Served.{read_by}
 use Rattle.evl_xbuf.specs.Serving.{Fit, ServesOne, Serves, after_these}
 use Rattle.evl_xbuf.proofs.ServedLaws.{read_by-append}

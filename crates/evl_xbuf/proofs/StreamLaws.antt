@@ -1,7 +1,7 @@
 -- What is known of a way after each change of its bytes and queues.
-use Rattle.std.proofs.Common.{◌≡◌, ℕ, ◌<◌, ◌≤◌, ◌==◌, Bool, true, false, List, [], ◌∷◌, ◌++◌, length, remove, slice_index_or, is_ok, if◌then◌else◌, refl, sym, ap, ◌∙◌, arith}
+use Rattle.std.proofs.Common.{◌≡◌, ℕ, ◌<◌, ◌≤◌, Bool, true, false, List, [], ◌∷◌, ◌++◌, length, remove, if◌then◌else◌}
 use Rattle.std.specs.List.{AllByRecursion}
-use Rattle.evl_sync.specs.Queues.{dropped, is_nobody, stands_in, IsKept}
+use Rattle.evl_sync.specs.Queues.{stands_in, IsKept}
 use Rattle.evl_sync.proofs.QueueLaws.{all-dropped, kept-dropped, kept-enqueued, kept_first, enqueued-last}
 use Rattle.evl_xbuf.specs.declared.waiters.Reader.{Reader}
 use Rattle.evl_xbuf.specs.declared.waiters.Writer.{Writer}

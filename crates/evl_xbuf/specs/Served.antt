@@ -1,5 +1,5 @@
 -- Whom a call served, and how that is kept: the bytes of all readers stand behind one another.
-use Rattle.std.specs.Prelude.{ℕ, ◌≡◌, ◌≤◌, Bool, List, [], ◌∷◌, ◌++◌, length, map, slice_range, Option, if◌then◌else◌}
+use Rattle.std.specs.Prelude.{ℕ, ◌≡◌, ◌≤◌, List, [], ◌∷◌, ◌++◌, length, map, slice_range, if◌then◌else◌}
 use Rattle.std.specs.List.{AllByRecursion}
 use Rattle.evl_xbuf.specs.declared.served.Service.{Service as Told}
 use Rattle.evl_xbuf.specs.declared.served.Service.TheVariants as told

@@ -1,5 +1,5 @@
 -- Serving waiters one by one, as it goes on.
-use Rattle.std.specs.Prelude.{ℕ, suc, ◌≡◌, ◌≤◌, ◌⊎◌, ◌+◌, List, [], ◌∷◌, ◌++◌, length, Option, Some}
+use Rattle.std.specs.Prelude.{suc, ◌≡◌, ◌≤◌, ◌⊎◌, ◌+◌, List, [], ◌∷◌, ◌++◌, length, Some}
 use Rattle.evl_xbuf.specs.Streams.{HasOneQueue, Stream, Service, next_service, served, waiting}
 use Rattle.evl_xbuf.specs.Served.{read_by}
 

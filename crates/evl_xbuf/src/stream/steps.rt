@@ -45,11 +45,7 @@ impl<A: Allocator> Stream<A> {
     /// Writes all of the bytes where that is done at once, and serves whom that serves; else the thread begins to wait,
     /// behind all other writers, and the answer is none. `TooBig` where they are longer than the ring; nothing changes
     /// then.
-    pub fn begin_write(
-        &mut self,
-        thread: ThreadId,
-        bytes: &[u8],
-    ) -> Result<Option<Served>, Refusal>
+    pub fn begin_write(&mut self, thread: ThreadId, bytes: &[u8]) -> Result<Option<Served>, Refusal>
         requires rest { IsAtRest self.old }
         requires away { stands_in (λ w. w.thread) thread.0 self.old.writers ≡ false }
         requires few { thread.0 < 64 }

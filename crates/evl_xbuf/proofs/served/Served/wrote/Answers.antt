@@ -1,4 +1,4 @@
-use Rattle.evl_xbuf.proofs.ServedLaws.{services-wrote, turns-wrote}
+use Rattle.evl_xbuf.proofs.ServedLaws.{turns-wrote}
 use Rattle.evl_xbuf.proofs.served.Served.wrote.Goals as goal
 
 pub invariant_of-self : goal.invariant_of-self
