@@ -1,5 +1,5 @@
 -- Whom a call served, and how that is kept: the bytes of all readers stand behind one another.
-use Rattle.std.specs.Prelude.{ℕ, ◌≡◌, ◌≤◌, List, [], ◌∷◌, ◌++◌, length, map, slice_range, if◌then◌else◌}
+use Rattle.std.specs.Prelude.{ℕ, ◌≡◌, ◌≤◌, List, [], ◌∷◌, ◌++◌, length, map, slice_range, Option, Some, None, if◌then◌else◌}
 use Rattle.std.specs.List.{AllByRecursion}
 use Rattle.evl_xbuf.specs.declared.served.Service.{Service as Told}
 use Rattle.evl_xbuf.specs.declared.served.Service.TheVariants as told
@@ -16,6 +16,12 @@ read_by (Got thread bytes ∷ others) = bytes ++ read_by others
 abbrev pub told_of : Told → Service
 told_of (told.Wrote thread) = Wrote thread.0
 told_of (told.Got thread bytes) = Got thread.0 bytes.now
+
+-- one transfer carries its bytes
+abbrev pub IsShort : Option Told → Type 0
+IsShort None = Unit {0}
+IsShort (Some (told.Wrote thread)) = Unit {0}
+IsShort (Some (told.Got thread bytes)) = length bytes.now ≤ 256
 
 abbrev pub service_of : List ℕ → Turn → Service
 service_of bytes turn = if turn.reads then Got turn.thread (slice_range bytes turn.start turn.end) else Wrote turn.thread

@@ -1,7 +1,7 @@
 //! Whom a call on a cross-buffer served, and with what.
 ghost use Rattle.std.specs.Prelude.{◌≡◌, ◌<◌, ◌≤◌, ◌+◌, [], ◌∷◌, ◌++◌, length, slice_get};
 ghost use Rattle.std.specs.Option.{option_map};
-ghost use Rattle.evl_xbuf.specs.Served.{read_by, told_of};
+ghost use Rattle.evl_xbuf.specs.Served.{IsShort, read_by, told_of};
 ghost use Rattle.evl_xbuf.specs.Streams.{Got, Wrote};
 
 use arrayvec::ArrayVec;
@@ -65,9 +65,10 @@ impl Served {
         self.turns.len()
     }
 
-    /// The service at this place, from 0; none behind the last one. (this profile)
+    /// The service at this place, from 0, with at most 256 bytes; none behind the last one. (this profile)
     pub fn get(&self, place: usize) -> Option<Service<'_>>
         ensures service { option_map told_of result ≡ slice_get self.now place }
+        ensures short { IsShort result }
     {
         let turn = *self.turns.get(place)?;
         let thread = ThreadId(turn.thread);

@@ -14,6 +14,7 @@ impl<A: Allocator> Stream<A> {
         ensures served { (result, self.new) ≡ served self.old }
         ensures rest { IsAtRest self.new }
     {
+        // what is kept of a way is known where one of its fields is used
         let _ = &self.size;
         let mut served = Served::new();
         while self.can_serve() {

@@ -59,6 +59,7 @@ impl<A: Allocator> Stream<A> {
         if self.can_write(bytes) {
             return Ok(Some(self.write(bytes)));
         }
+        // what is kept of a way is known where one of its fields is used
         let _ = &self.size;
         self.add_writer(thread, bytes);
         Ok(None)
@@ -76,6 +77,7 @@ impl<A: Allocator> Stream<A> {
         if self.can_read(len) {
             return Some(self.read(len));
         }
+        // what is kept of a way is known where one of its fields is used
         let _ = &self.size;
         self.add_reader(thread, len);
         None
@@ -97,6 +99,7 @@ impl<A: Allocator> Stream<A> {
         ensures step { (result, self.new) ≡ served (written self.old bytes.now) }
         ensures rest { IsAtRest self.new }
     {
+        // what is kept of a way is known where one of its fields is used
         let _ = &self.size;
         self.put(bytes);
         self.serve()
