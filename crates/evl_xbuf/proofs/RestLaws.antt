@@ -7,7 +7,7 @@ use Rattle.evl_sync.specs.Queues.{dropped, is_nobody}
 use Rattle.evl_sync.proofs.QueueLaws.{or_right}
 use Rattle.evl_xbuf.specs.declared.waiters.Reader.{Reader}
 use Rattle.evl_xbuf.specs.declared.waiters.Writer.{Writer}
-use Rattle.evl_xbuf.specs.Streams.{HasOneQueue, IsAtRest, IsKeptStream, Stream, Service, Wrote, Got, can_read, can_write, fits, given, next_service, read, reader_served, with_reader, with_writer, without, writer_served, written}
+use Rattle.evl_xbuf.specs.Streams.{HasOneQueue, IsAtRest, IsKeptStream, Stream, Service, Wrote, Got, can_read, can_write, fits, given, is_empty, next_service, read, reader_served, with_reader, with_writer, without, writer_served, written}
 
 -- whether the first one can be served
 abbrev first_can : Stream → List Reader → Bool
@@ -52,7 +52,7 @@ nobody s r w = ap (λ o. option_or o (writer_served s.writers s)) (reader s.read
     writer [] h = refl
     writer (w ∷ ws) h = rw h refl
 
-is_nothing : {A : Type 0} (xs : List A) → not (is_nobody xs) ≡ false → xs ≡ []
+is_nothing : (xs : List ℕ) → not (is_empty xs) ≡ false → xs ≡ []
 is_nothing [] e = refl
 is_nothing (x ∷ xs) e = cc
 
@@ -60,17 +60,17 @@ is_nothing (x ∷ xs) e = cc
 no_reader_waits : (s : Stream) (bytes : List ℕ) → IsAtRest s → length bytes ≤ s.size → can_write s bytes ≡ false → s.readers ≡ []
 no_reader_waits s bytes h l c = by h.one_queue
   where
-    there : (xs : List ℕ) → nat_le (length xs + length bytes) s.size ≡ false → is_nobody xs ≡ false
+    there : (xs : List ℕ) → nat_le (length xs + length bytes) s.size ≡ false → is_empty xs ≡ false
     there [] e = absurd (grind (arith, nat_tests))
     there (x ∷ xs) e = refl
 
-    full : (ws : List Writer) → ws ≡ [] → (is_nobody bytes || (is_nobody ws && fits s bytes)) ≡ false → fits s bytes ≡ false
-    full [] e c = or_right (is_nobody bytes) (fits s bytes) c
+    full : (ws : List Writer) → ws ≡ [] → (is_empty bytes || (is_nobody ws && fits s bytes)) ≡ false → fits s bytes ≡ false
+    full [] e c = or_right (is_empty bytes) (fits s bytes) c
     full (w ∷ ws) e c = cc
 
-    empty : (rs : List Reader) → first_can s rs ≡ false → is_nobody s.there ≡ false → rs ≡ []
+    empty : (rs : List Reader) → first_can s rs ≡ false → is_empty s.there ≡ false → rs ≡ []
     empty [] e t = refl
-    empty (r ∷ rs) e t = let some : not (is_nobody s.there) ≡ false = or_right (r.len == 0) (not (is_nobody s.there)) e in absurd (cc (ap not t))
+    empty (r ∷ rs) e t = let some : not (is_empty s.there) ≡ false = or_right (r.len == 0) (not (is_empty s.there)) e in absurd (cc (ap not t))
 
     by : HasOneQueue s → s.readers ≡ []
     by (inl e) = empty s.readers (no-reader s h.rests) (there s.there (full s.writers e c))
@@ -85,8 +85,8 @@ rests-writer s t bytes h l c =
       one_queue = inr none;
     }
   where
-    last : (ws : List Writer) → first_fits s ws ≡ false → (is_nobody bytes || (is_nobody ws && fits s bytes)) ≡ false → first_fits s (ws ++ record { thread = t; bytes = record { items = bytes } } ∷ []) ≡ false
-    last [] f c = or_right (is_nobody bytes) (fits s bytes) c
+    last : (ws : List Writer) → first_fits s ws ≡ false → (is_empty bytes || (is_nobody ws && fits s bytes)) ≡ false → first_fits s (ws ++ record { thread = t; bytes = record { items = bytes } } ∷ []) ≡ false
+    last [] f c = or_right (is_empty bytes) (fits s bytes) c
     last (v ∷ vs) f c = f
 
 -- where nothing is there each waiting writer's bytes would fit; so no writer waits
@@ -100,7 +100,7 @@ no_writer_waits s k h e = by s.writers k.short (no-writer s h.rests)
 pub rests-reader : (s : Stream) (t len : ℕ) → IsKeptStream s → IsAtRest s → can_read s len ≡ false → IsAtRest (with_reader s t len)
 rests-reader s t len k h c = record {
   rests = nobody (with_reader s t len) (last s.readers (no-reader s h.rests)) (no-writer s h.rests);
-  one_queue = inl (no_writer_waits s k h (is_nothing s.there (or_right (len == 0) (not (is_nobody s.there)) c)));
+  one_queue = inl (no_writer_waits s k h (is_nothing s.there (or_right (len == 0) (not (is_empty s.there)) c)));
 }
   where
     last : (rs : List Reader) → first_can s rs ≡ false → first_can s (rs ++ record { thread = t; len = len } ∷ []) ≡ false

@@ -1,5 +1,5 @@
 -- One way of a cross-buffer: the bytes that are there, and who waits.
-use Rattle.std.specs.Prelude.{ℕ, ◌≡◌, ◌≤◌, ◌⊎◌, zero, suc, ◌+◌, ◌-◌, ◌==◌, nat_le, nat_lt, Bool, not, ◌&&◌, ◌||◌, List, [], ◌∷◌, ◌++◌, length, take, drop, Option, Some, None, Result, Ok, Err, if◌then◌else◌}
+use Rattle.std.specs.Prelude.{ℕ, ◌≡◌, ◌≤◌, ◌⊎◌, zero, suc, ◌+◌, ◌-◌, ◌==◌, nat_le, nat_lt, Bool, true, false, not, ◌&&◌, ◌||◌, List, [], ◌∷◌, ◌++◌, length, take, drop, Option, Some, None, Result, Ok, Err, if◌then◌else◌}
 use Rattle.std.specs.List.{AllByRecursion}
 use Rattle.std.specs.Option.{option_or}
 use Rattle.evl_base.specs.declared.refusal.Refusal.{Refusal}
@@ -27,13 +27,17 @@ room s = s.size - length s.there
 abbrev pub fits : Stream → List ℕ → Bool
 fits s bytes = nat_le (length s.there + length bytes) s.size
 
+abbrev pub is_empty : List ℕ → Bool
+is_empty [] = true
+is_empty (byte ∷ bytes) = false
+
 -- a write of nothing is accepted; another if no writer waits and it fits
 abbrev pub can_write : Stream → List ℕ → Bool
-can_write s bytes = is_nobody bytes || (is_nobody s.writers && fits s bytes)
+can_write s bytes = is_empty bytes || (is_nobody s.writers && fits s bytes)
 
 -- a read of nothing gives nothing; another what is there, if anything is
 abbrev pub can_read : Stream → ℕ → Bool
-can_read s len = (len == 0) || not (is_nobody s.there)
+can_read s len = (len == 0) || not (is_empty s.there)
 
 -- longer than the ring
 abbrev pub too_big : Stream → List ℕ → Option Refusal
