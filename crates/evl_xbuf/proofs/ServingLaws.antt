@@ -1,15 +1,14 @@
 -- Serving waiters one by one.
-use Rattle.std.proofs.Common.{◌≡◌, ℕ, zero, suc, ◌+◌, ◌<◌, ◌≤◌, ◌==◌, inl, inr, Bool, true, false, List, [], ◌∷◌, ◌++◌, length, take, drop, Option, Some, None, if◌then◌else◌, refl, sym, ap, ◌∙◌, append_assoc, append-nil, length-append, arith}
-use Rattle.std.specs.Option.{option_or, is_some}
+use Rattle.std.proofs.Common.{◌≡◌, ℕ, zero, suc, ◌≤◌, ◌==◌, inl, inr, Bool, true, false, List, [], ◌∷◌, ◌++◌, length, take, drop, Option, Some, None, if◌then◌else◌, refl, ap, append-nil, length-append, arith}
+use Rattle.std.specs.Option.{is_some}
 use Rattle.std.proofs.lemmas.Bool.Decides.{nat_tests}
 use Rattle.std.proofs.lemmas.List.{take-append-drop}
 use Rattle.evl_sync.specs.Queues.{IsKept}
 use Rattle.evl_sync.proofs.QueueLaws.{has_room, kept-rest}
 use Rattle.evl_xbuf.specs.declared.waiters.Reader.{Reader}
-use Rattle.evl_xbuf.specs.declared.waiters.Writer.{Writer}
-use Rattle.evl_xbuf.specs.Streams.{HasOneQueue, IsAtRest, IsKeptStream, Stream, Service, Got, can_read, given, next_service, preceded_by, read, reader_served, served, served_from, waiting, writer_served}
+use Rattle.evl_xbuf.specs.Streams.{HasOneQueue, IsKeptStream, Stream, Service, Got, can_read, given, next_service, preceded_by, read, reader_served, served_from, waiting}
 use Rattle.evl_xbuf.specs.Served.{read_by}
-use Rattle.evl_xbuf.specs.Serving.{Fit, ServesOne, Serves, after_these}
+use Rattle.evl_xbuf.specs.Serving.{Fit, ServesOne, Serves}
 use Rattle.evl_xbuf.proofs.ServedLaws.{read_by-append}
 
 -- nobody can be served: so nobody is
@@ -44,27 +43,6 @@ serves-begin s h q = record {
   fit = inr (omega (arith, h.within, h.few));
 }
 
-pub serves-step : (start now mid : Stream) (done more : List Service) → Serves start done now → ServesOne now done mid more → Serves start more mid
-serves-step start now mid done more h o = record {
-  whole = rw o.told (moved (served mid) ∙ ap (after_these done) (sym served-now) ∙ h.whole);
-  one_queue = o.one_queue;
-  few = rw o.told (omega (arith, h.few, o.fewer, length-append done (o.one ∷ [])));
-  fit = o.fit;
-}
-  where
-    moved : (rest : List Service × Stream) → after_these (done ++ o.one ∷ []) rest ≡ after_these done (preceded_by o.one rest)
-    moved (others, end) = ap (λ xs. (xs, end)) (append_assoc done (o.one ∷ []) others)
-
-    served-now : served now ≡ preceded_by o.one (served mid)
-    served-now = ap (λ n. served_from n now) o.fewer ∙ goes_on now mid o.one (waiting mid) o.is
-
-pub serves-end : (start now : Stream) (done : List Service) → Serves start done now → is_some (next_service now) ≡ false → (done, now) ≡ served start
-serves-end start now done h e =
-    ap (λ xs. (xs, now)) (sym (append-nil done)) ∙ ap (after_these done) (sym (at_rest now (no_service (next_service now) e) (waiting now))) ∙ h.whole
-
-pub rest-end : (start now : Stream) (done : List Service) → Serves start done now → is_some (next_service now) ≡ false → IsAtRest now
-rest-end start now done h e = record { rests = no_service (next_service now) e; one_queue = h.one_queue }
-
 -- the reader at the head is served
 pub reader-serves : (mid : Stream) (r : Reader) (done : List Service) → can_read mid r.len ≡ true
     → HasOneQueue (record mid { readers = r ∷ mid.readers }) → Fit done (record mid { readers = r ∷ mid.readers })
@@ -94,12 +72,3 @@ can_be_read s r rs e = by (can_read s r.len) e
     by : (b : Bool) → is_some {T = Service × Stream} (if b then Some (Got r.thread (given s r.len), record (read s r.len) { readers = rs }) else None) ≡ true → b ≡ true
     by true h = refl
     by false h = cc
-
--- whoever can be served waits
-pub somebody : (s : Stream) → is_some (next_service s) ≡ true → 0 < waiting s
-somebody s e = by s.readers s.writers e
-  where
-    by : (rs : List Reader) (ws : List Writer) → is_some (option_or (reader_served rs s) (writer_served ws s)) ≡ true → 0 < length rs + length ws
-    by [] [] h = cc
-    by [] (w ∷ ws) h = omega arith
-    by (r ∷ rs) ws h = omega arith
