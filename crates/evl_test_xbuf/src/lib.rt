@@ -1,0 +1,7 @@
+//! Tests of cross-buffers, as a caller uses them.
+#![tactic(auto)]
+
+#[cfg(test)]
+mod rows;
+#[cfg(test)]
+mod waiting;

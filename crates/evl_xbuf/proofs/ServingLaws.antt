@@ -1,0 +1,74 @@
+-- Serving waiters one by one.
+use Rattle.std.proofs.Common.{◌≡◌, ℕ, zero, suc, ◌≤◌, ◌==◌, inl, inr, Bool, true, false, List, [], ◌∷◌, ◌++◌, length, take, drop, Option, Some, None, if◌then◌else◌, refl, ap, append-nil, length-append, arith}
+use Rattle.std.specs.Option.{is_some}
+use Rattle.std.proofs.lemmas.Bool.Decides.{nat_tests}
+use Rattle.std.proofs.lemmas.List.{take-append-drop}
+use Rattle.evl_sync.specs.Queues.{IsKept}
+use Rattle.evl_sync.proofs.QueueLaws.{has_room, kept-rest}
+use Rattle.evl_xbuf.specs.declared.waiters.Reader.{Reader}
+use Rattle.evl_xbuf.specs.Streams.{HasOneQueue, IsKeptStream, Stream, Service, Got, can_read, given, next_service, preceded_by, read, reader_served, served_from, waiting}
+use Rattle.evl_xbuf.specs.Served.{read_by}
+use Rattle.evl_xbuf.specs.Serving.{Fit, ServesOne, Serves}
+use Rattle.evl_xbuf.proofs.ServedLaws.{read_by-append}
+
+-- nobody can be served: so nobody is
+pub at_rest : (s : Stream) → next_service s ≡ None → (n : ℕ) → served_from n s ≡ ([], s)
+at_rest s e zero = refl
+at_rest s e (suc n) = rw e refl
+
+-- one can be: it is the first of those that are
+pub goes_on : (s mid : Stream) (one : Service) (n : ℕ) → next_service s ≡ Some (one, mid) → served_from (suc n) s ≡ preceded_by one (served_from n mid)
+goes_on s mid one n e = rw e refl
+
+no_service : (o : Option (Service × Stream)) → is_some o ≡ false → o ≡ None
+no_service None e = refl
+no_service (Some x) e = cc
+
+same : (n : ℕ) → (n == n) ≡ true
+same n = grind (arith, nat_tests)
+
+few_kept : {A : Type 0} (thread : A → ℕ) (ws : List A) → IsKept thread (λ v. 0) ws → length ws ≤ 64
+few_kept thread [] h = omega arith
+few_kept thread (w ∷ ws) h = omega (arith, has_room thread (λ v. 0) (thread w) ws (kept-rest thread (λ v. 0) (w ∷ ws) h) h.ranked.1 (h.few (thread w) (rw (same (thread w)) refl)))
+
+few_waiting : (s : Stream) → IsKeptStream s → HasOneQueue s → waiting s ≤ 64
+few_waiting s h (inl e) = let l = few_kept (λ r. r.thread) s.readers h.readers in omega (arith, ap length e, l)
+few_waiting s h (inr e) = let l = few_kept (λ w. w.thread) s.writers h.writers in omega (arith, ap length e, l)
+
+pub serves-begin : (s : Stream) → IsKeptStream s → HasOneQueue s → Serves s [] s
+serves-begin s h q = record {
+  whole = refl;
+  one_queue = q;
+  few = omega (arith, few_waiting s h q);
+  fit = inr (omega (arith, h.within, h.few));
+}
+
+-- the reader at the head is served
+pub reader-serves : (mid : Stream) (r : Reader) (done : List Service) → can_read mid r.len ≡ true
+    → HasOneQueue (record mid { readers = r ∷ mid.readers }) → Fit done (record mid { readers = r ∷ mid.readers })
+    → ServesOne (record mid { readers = r ∷ mid.readers }) done (read mid r.len) (done ++ Got r.thread (given mid r.len) ∷ [])
+reader-serves mid r done can q fit = record {
+  one = Got r.thread (given mid r.len);
+  is = rw can refl;
+  told = refl;
+  fewer = omega arith;
+  one_queue = queue q;
+  fit = within fit;
+}
+  where
+    queue : HasOneQueue (record mid { readers = r ∷ mid.readers }) → HasOneQueue (read mid r.len)
+    queue (inl e) = inl e
+    queue (inr e) = absurd (cc)
+
+    within : Fit done (record mid { readers = r ∷ mid.readers }) → Fit (done ++ Got r.thread (given mid r.len) ∷ []) (read mid r.len)
+    within (inl e) = absurd (cc)
+    within (inr l) =
+        let parts = ap length (take-append-drop r.len mid.there) in
+        inr (rw (read_by-append done (Got r.thread (given mid r.len) ∷ []), append-nil (take r.len mid.there)) (omega (arith, l, parts, length-append (read_by done) (take r.len mid.there), length-append (take r.len mid.there) (drop r.len mid.there))))
+
+pub can_be_read : (s : Stream) (r : Reader) (rs : List Reader) → is_some (reader_served (r ∷ rs) s) ≡ true → can_read s r.len ≡ true
+can_be_read s r rs e = by (can_read s r.len) e
+  where
+    by : (b : Bool) → is_some {T = Service × Stream} (if b then Some (Got r.thread (given s r.len), record (read s r.len) { readers = rs }) else None) ≡ true → b ≡ true
+    by true h = refl
+    by false h = cc

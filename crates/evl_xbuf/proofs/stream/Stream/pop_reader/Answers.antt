@@ -1,0 +1,8 @@
+use Rattle.evl_xbuf.specs.Streams.{Stream}
+use Rattle.evl_xbuf.proofs.StreamLaws.{kept-reader_gone}
+use Rattle.evl_xbuf.proofs.stream.Stream.pop_reader.Goals as goal
+
+pub invariant_of-self : goal.invariant_of-self
+invariant_of-self g c =
+    let s : Stream = record { size = c.self.inside.size; there = c.self.inside.there.items; writers = c.self.inside.writers.items; readers = c.self.inside.readers.items } in
+    (kept-reader_gone s c.remove.new.self.items c.remove.ensures.items c.self.invariant.0, c.self.invariant.1)

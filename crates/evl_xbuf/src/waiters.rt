@@ -1,0 +1,21 @@
+//! Threads that wait at one way of a cross-buffer.
+
+use evl_base::Bytes;
+
+/// A thread that waits to write (this profile).
+#[derive(Drop)]
+pub struct Writer {
+    /// The number of the thread, 0 to 63.
+    pub thread: u16,
+    /// What it writes, all at once.
+    pub bytes: Bytes,
+}
+
+/// A thread that waits to read (this profile).
+#[derive(Clone, Copy, Debug, Default)]
+pub struct Reader {
+    /// The number of the thread, 0 to 63.
+    pub thread: u16,
+    /// How many bytes it takes at most.
+    pub len: u16,
+}

@@ -1,0 +1,197 @@
+//! One cross-buffer.
+ghost use Rattle.std.specs.Prelude.{◌≡◌, ◌<◌, ◌≤◌, false, IfOk, IfErr};
+ghost use Rattle.std.specs.Option.{option_map};
+ghost use Rattle.evl_base.specs.declared.refusal.Refusal.{Refusal};
+ghost use Rattle.evl_sync.specs.Queues.{stands_in};
+ghost use Rattle.evl_sync.specs.Steps.{stepped};
+ghost use Rattle.evl_xbuf.specs.Streams.{room};
+ghost use Rattle.evl_xbuf.specs.Xbufs.{IsSoundXbuf, begin_read, begin_write, drop_waiter, opened, same_stage, reading_stage, stream, try_read, try_write, writing_stage};
+
+use crate::served::Served;
+use crate::stream::Stream;
+use evl_base::{Bytes, Refusal, Stage, ThreadId, Way};
+use std::alloc::{AllocError, Allocator};
+use std::marker::Model;
+
+// The most bytes of one transfer (this profile).
+const MAX_TRANSFER: u16 = 256;
+
+/// A cross-buffer: two rings of bytes between the stages, one for each way, and who waits to write or to read there, by
+/// arrival alone (Xenomai 4: EVL cross-buffer). Way `In` is written in-band and read out-of-band, way `Out` the other way
+/// round. To a contract it is the record `Xbuf` of `specs/Xbufs.antt`. Only `new` takes memory.
+#[derive(Drop)]
+pub struct XbufOf<A: Allocator> {
+    inbound: Stream<A>,
+    outbound: Stream<A>,
+}
+
+impl<A: Allocator> Model for XbufOf<A> {
+    ghost use Rattle.evl_xbuf.specs.Streams.{IsAtRest};
+    ghost use Rattle.evl_xbuf.specs.Xbufs.{Xbuf};
+
+    ghost Value = { Xbuf };
+
+    ghost view = { λ x. record { inbound = x.inbound; outbound = x.outbound } };
+
+    ghost invariant = { λ x. IsAtRest x.inbound × IsAtRest x.outbound };
+}
+
+impl<A: Allocator + Clone> XbufOf<A> {
+    /// A cross-buffer whose ring of way `In` has `inbound` bytes and whose ring of way `Out` has `outbound`, each at most
+    /// 256. Nothing is in them and nobody waits. `NoMemory` where the room for waiting writers was refused. (Xenomai 4: EVL
+    /// cross-buffer; this profile)
+    pub fn new(alloc: A, inbound: u16, outbound: u16) -> Result<XbufOf<A>, Refusal>
+        requires inbound { inbound ≤ 256 }
+        requires outbound { outbound ≤ 256 }
+        ensures opened { IfOk result (λ x. x ≡ opened inbound outbound) }
+        ensures refusal { IfErr result (λ e. e ≡ Refusal.NoMemory) }
+    {
+        XbufOf::with_room(alloc, inbound, outbound).map_err(|_| Refusal::NoMemory)
+    }
+
+    fn with_room(alloc: A, inbound: u16, outbound: u16) -> Result<XbufOf<A>, AllocError>
+        requires inbound { inbound ≤ 256 }
+        requires outbound { outbound ≤ 256 }
+        ensures opened { IfOk result (λ x. x ≡ opened inbound outbound) }
+    {
+        let inbound = Stream::new(alloc.clone()?, inbound)?;
+        let outbound = Stream::new(alloc, outbound)?;
+        Ok(XbufOf { inbound, outbound })
+    }
+}
+
+impl<A: Allocator> XbufOf<A> {
+    /// Writes all of the bytes, whole, from the stage that writes this way, and says whom that served: the readers that
+    /// waited, in order, each with its bytes. Refused, in this order, with nothing changed: `WrongStage` from the other
+    /// stage; `TooBig` where the bytes are longer than the ring; `Again` where a writer waits or the bytes don't fit. A
+    /// write of no bytes is always accepted. (Xenomai 4: EVL cross-buffer; this profile)
+    pub fn try_write(&mut self, stage: Stage, way: Way, bytes: &[u8]) -> Result<Served, Refusal>
+        ensures step { stepped (λ served. served) result self.new ≡ try_write stage way bytes.now self.old }
+        ensures refused { IfErr result (λ e. self.new ≡ self.old) }
+    {
+        if !writes(stage, way) {
+            return Err(Refusal::WrongStage);
+        }
+        match way {
+            Way::In => self.inbound.try_write(bytes),
+            Way::Out => self.outbound.try_write(bytes),
+        }
+    }
+
+    /// Reads the next bytes that were written, `len` of them or as many as are there, from the stage that reads this way,
+    /// and says whom that served: the writers that waited and now fit, in order. Refused, in this order, with nothing
+    /// changed: `Range` where `len` is above 256; `WrongStage` from the other stage; `Again` where nothing is there. A read
+    /// of no bytes always gives none. (Xenomai 4: EVL cross-buffer; this profile)
+    pub fn try_read(&mut self, stage: Stage, way: Way, len: u16) -> Result<(Bytes, Served), Refusal>
+        ensures step { stepped (λ told. (told.0.items, told.1)) result self.new ≡ try_read stage way len self.old }
+        ensures refused { IfErr result (λ e. self.new ≡ self.old) }
+    {
+        if len > MAX_TRANSFER {
+            return Err(Refusal::Range);
+        }
+        if !reads(stage, way) {
+            return Err(Refusal::WrongStage);
+        }
+        match way {
+            Way::In => self.inbound.try_read(len),
+            Way::Out => self.outbound.try_read(len),
+        }
+    }
+
+    /// Writes as `try_write` does where that is done at once, and says whom that served; else the thread, which doesn't
+    /// wait to write here yet, begins to wait, behind all other writers, and the answer is none. Refused, in this order,
+    /// with nothing changed: `WrongStage` from the other stage; `TooBig` where the bytes are longer than the ring.
+    /// (Xenomai 4: EVL cross-buffer; this profile)
+    pub fn begin_write(
+        &mut self,
+        thread: ThreadId,
+        stage: Stage,
+        way: Way,
+        bytes: &[u8],
+    ) -> Result<Option<Served>, Refusal>
+        requires away { stands_in (λ w. w.thread) thread.0 (stream self.old way).writers ≡ false }
+        requires few { thread.0 < 64 }
+        ensures step { stepped (λ served. served) result self.new ≡ begin_write thread.0 stage way bytes.now self.old }
+        ensures refused { IfErr result (λ e. self.new ≡ self.old) }
+    {
+        if !writes(stage, way) {
+            return Err(Refusal::WrongStage);
+        }
+        match way {
+            Way::In => self.inbound.begin_write(thread, bytes),
+            Way::Out => self.outbound.begin_write(thread, bytes),
+        }
+    }
+
+    /// Reads as `try_read` does where that is done at once, and says whom that served; else the thread, which doesn't wait
+    /// to read here yet, begins to wait, behind all other readers, and the answer is none. Refused, in this order, with
+    /// nothing changed: `Range` where `len` is above 256; `WrongStage` from the other stage. (Xenomai 4: EVL cross-buffer;
+    /// this profile)
+    pub fn begin_read(
+        &mut self,
+        thread: ThreadId,
+        stage: Stage,
+        way: Way,
+        len: u16,
+    ) -> Result<Option<(Bytes, Served)>, Refusal>
+        requires away { stands_in (λ r. r.thread) thread.0 (stream self.old way).readers ≡ false }
+        requires few { thread.0 < 64 }
+        ensures step { stepped (λ told. option_map (λ t. (t.0.items, t.1)) told) result self.new ≡ begin_read thread.0 stage way len self.old }
+        ensures refused { IfErr result (λ e. self.new ≡ self.old) }
+    {
+        if len > MAX_TRANSFER {
+            return Err(Refusal::Range);
+        }
+        if !reads(stage, way) {
+            return Err(Refusal::WrongStage);
+        }
+        match way {
+            Way::In => Ok(self.inbound.begin_read(thread, len)),
+            Way::Out => Ok(self.outbound.begin_read(thread, len)),
+        }
+    }
+
+    /// Lets a thread wait this way no more, and says whom that served: those behind it whom it held back, in order. Where
+    /// it doesn't wait there nothing changes and nobody is served. (this profile)
+    pub fn drop_waiter(&mut self, thread: ThreadId, way: Way) -> Served
+        ensures step { (result, self.new) ≡ drop_waiter thread.0 way self.old }
+    {
+        match way {
+            Way::In => self.inbound.drop_waiter(thread),
+            Way::Out => self.outbound.drop_waiter(thread),
+        }
+    }
+
+    /// How many bytes of this way's ring are free. (Xenomai 4: EVL cross-buffer)
+    pub fn room(&self, way: Way) -> u16
+        ensures room { result ≡ room (stream self.now way) }
+        ensures sound { IsSoundXbuf self.now }
+    {
+        let inbound = self.inbound.room();
+        let outbound = self.outbound.room();
+        match way {
+            Way::In => inbound,
+            Way::Out => outbound,
+        }
+    }
+}
+
+// Whether this stage writes this way.
+fn writes(stage: Stage, way: Way) -> bool
+    ensures writes { result ≡ same_stage (writing_stage way) stage }
+{
+    match way {
+        Way::In => stage == Stage::Inband,
+        Way::Out => stage == Stage::Oob,
+    }
+}
+
+// Whether this stage reads this way.
+fn reads(stage: Stage, way: Way) -> bool
+    ensures reads { result ≡ same_stage (reading_stage way) stage }
+{
+    match way {
+        Way::In => stage == Stage::Oob,
+        Way::Out => stage == Stage::Inband,
+    }
+}
