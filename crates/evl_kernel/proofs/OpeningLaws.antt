@@ -31,8 +31,6 @@ use Rattle.evl_sync.specs.Queues.{stands_in}
 use Rattle.evl_kernel.specs.declared.waits.Awaited.{Awaited}
 use Rattle.evl_kernel.specs.declared.waits.Awaited.TheVariants.{Sem}
 use Rattle.evl_kernel.specs.declared.waits.Wait.{Wait}
-use Rattle.evl_kernel.specs.Elements.{Elements}
-use Rattle.evl_kernel.specs.Waits.{wait_of, going_on}
 use Rattle.evl_kernel.proofs.ClockLaws.{clock-opening}
 use Rattle.evl_kernel.proofs.SchedLaws.{sched-fresh}
 
@@ -134,7 +132,7 @@ module _ {C : Type 0} (declared : C → ℕ) (plan : C → Plan) where
   opening-told board bank r opened = ap (opening board) (told-filled declared plan bank r.bank opened.filled)
 
 -- nobody stands in a queue of a new semaphore
-nobody_stands : (counts : List ℕ) (n thread : ℕ) → option_map_or (λ (q : Semaphore). stands_in (λ w. w.thread) thread q.waiters) (slice_get (map semaphores.opened counts) n) false ≡ false
+pub nobody_stands : (counts : List ℕ) (n thread : ℕ) → option_map_or (λ (q : Semaphore). stands_in (λ w. w.thread) thread q.waiters) (slice_get (map semaphores.opened counts) n) false ≡ false
 nobody_stands [] n thread = refl
 nobody_stands (c ∷ counts) zero thread = refl
 nobody_stands (c ∷ counts) (suc n) thread = nobody_stands counts n thread

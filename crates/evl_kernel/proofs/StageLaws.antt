@@ -1,17 +1,13 @@
 -- Only ticks, steps on threads and waits change the scheduler's record, and none of them changes the stage of a thread but
 -- its own caller's.
-use Rattle.std.proofs.Common.{◌≡◌, ◌≢◌, ℕ, ◌-◌, zero, suc, ◌==◌, nat_le, Bool, true, false, not, ◌≤◌, List, [], ◌∷◌, length, Option, Some, None, Result, Ok, Err, unwrap_or, slice_get, slice_index_or, if◌then◌else◌, refl, sym, ap, ◌∙◌, subst, arith}
+use Rattle.std.proofs.Common.{◌≡◌, ◌≢◌, ℕ, ◌-◌, zero, suc, ◌==◌, nat_le, Bool, true, false, ◌≤◌, List, [], ◌∷◌, length, Option, Some, None, slice_index_or, if◌then◌else◌, refl, ap, ◌∙◌, arith}
 use Rattle.std.specs.Option.{option_map, option_map_or}
 use Rattle.std.proofs.lemmas.Bool.Decides.{nat_tests}
 use Rattle.std.proofs.lemmas.List.{length-replicate, length-set}
-use Rattle.evl_base.specs.declared.call.Call.{Call}
-use Rattle.evl_base.specs.declared.play.Play.{Play}
 use Rattle.evl_base.specs.declared.policy.Policy.{Policy}
 use Rattle.evl_base.specs.declared.policy.Policy.TheVariants.{Fifo, Rr, Quota, Weak}
-use Rattle.evl_base.specs.declared.refusal.Refusal.{Refusal}
-use Rattle.evl_base.specs.declared.reply.Reply.{Reply}
 use Rattle.evl_base.specs.declared.stage.Stage.{Stage}
-use Rattle.evl_base.specs.declared.stage.Stage.TheVariants.{Inband, Oob}
+use Rattle.evl_base.specs.declared.stage.Stage.TheVariants.{Inband}
 use Rattle.evl_sched.specs.declared.seat.Seat.{Seat}
 use Rattle.evl_sched.specs.Threads as threads
 use Rattle.evl_sched.specs.Threads.{Sched, seat_at, stage_of, with_seat}
@@ -23,11 +19,10 @@ use Rattle.evl_sched.specs.Calls.{attach_refusal, set_policy_refusal, stranger_r
 use Rattle.evl_kernel.specs.States.{State}
 use Rattle.evl_kernel.specs.ThreadCalls as thread_call
 use Rattle.evl_kernel.specs.Serving.{answer}
-use Rattle.evl_base.specs.declared.entry.Entry.{Entry}
 use Rattle.evl_base.specs.declared.board.Board.{Board}
 use Rattle.evl_kernel.specs.States.{Handler}
 use Rattle.evl_kernel.specs.Openings.{opening}
-use Rattle.evl_kernel.specs.Histories.{History, Run, Follows, IsLegal, opened}
+use Rattle.evl_kernel.specs.Histories.{History, IsLegal, opened}
 use Rattle.evl_kernel.specs.Laws.{StagesAreTheThreadsOwn}
 use Rattle.evl_kernel.specs.Families.{ThreadStep, attach, detach, set_policy, set_stage, pick, tell_rank, thread_effect}
 use Rattle.evl_kernel.proofs.LeavesLaws.{Leaves, leaves-refused}
@@ -55,7 +50,7 @@ module _ (Q : Sched → Type 0) (pays : (rank : ℕ → ℕ) (q : Sched) (before
   -- where it stays true of this caller's steps on threads, and as the caller goes in-band
   kept_by_own : (s : State) (caller : ℕ) → ((step : ThreadStep) → Holds s → Leaves Holds (thread_effect s caller step)) → ((q : Sched) → Q q → Q (threads.stage_set q caller Inband)) → KeptByOwn Holds s caller
   kept_by_own s caller steps goes = record {
-    threads = steps;
+    threads = λ asked step is passed h. steps step h;
     begun = λ asked on until is passed h. leaves-beginning Holds kept_waiting (timed-by Holds kept_waiting (λ s h. h) (λ s thread until h. h)) s caller on until h;
     ended = λ keep h. leaves-finish Holds kept_waiting s caller keep (λ x hx. goes x.sched hx) h;
   }

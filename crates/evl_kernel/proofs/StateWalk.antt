@@ -1,5 +1,5 @@
 -- What each call, each play and each run keeps, where each kind of change keeps it.
-use Rattle.std.proofs.Common.{◌≡◌, ℕ, ◌==◌, nat_le, Bool, true, false, not, List, [], ◌∷◌, Option, Some, None, Result, Ok, Err, unwrap_or, slice_get, if◌then◌else◌, refl, sym, subst}
+use Rattle.std.proofs.Common.{◌≡◌, ℕ, Bool, true, false, not, List, [], ◌∷◌, Option, Some, None, Result, Ok, Err, unwrap_or, slice_get, if◌then◌else◌, refl, sym, subst}
 use Rattle.std.specs.Option.{option_map_or}
 use Rattle.evl_base.specs.declared.call.Call.{Call}
 use Rattle.evl_base.specs.declared.call.Call.TheVariants as call
@@ -62,7 +62,7 @@ pub record KeptByEach (P : State → Type 0) : Type 0 where
 
 -- and each kind of step that is its caller's own
 pub record KeptByOwn (P : State → Type 0) (s : State) (caller : ℕ) : Type 0 where
-  pub threads : (step : ThreadStep) → P s → Leaves P (thread_effect s caller step)
+  pub threads : (asked : Call) (step : ThreadStep) → task_of asked ≡ on_threads step → general_refusal s caller asked ≡ None → P s → Leaves P (thread_effect s caller step)
   pub begun : (asked : Call) (on : Awaited) (until : Option ℕ) → task_of asked ≡ begins on until → general_refusal s caller asked ≡ None → P s → Leaves P (beginning s caller on until).effect
   pub ended : (keep : Bool) → P s → Leaves P (finish s caller keep)
 
@@ -109,7 +109,7 @@ module _ (P : State → Type 0) (k : KeptByEach P) where
       by : (task : Task) → task_of asked ≡ task → AsksPlainly task → general_refusal s caller asked ≡ None → Leaves P (performing s caller task).effect
       by (on_lines step) is plain passed = holds-line s step h
       by (on_clock step) is plain passed = leaves-clock P kept_by_clock s step h
-      by (on_threads step) is plain passed = own.threads step h
+      by (on_threads step) is plain passed = own.threads asked step is passed h
       by (on_element step) is plain passed = k.asked s (Some caller) step plain h
       by (begins on until) is plain passed = own.begun asked on until is passed h
       by (ends keep) is plain passed = own.ended keep h

@@ -1,5 +1,5 @@
 -- Waits for a semaphore of the records, as they begin and as their deadline falls due.
-use Rattle.std.proofs.Common.{◌≡◌, ◌≢◌, ◌<◌, ◌-◌, ℕ, ◌==◌, ◌⊎◌, inl, inr, Bool, true, false, not, ◌||◌, cond, List, [], ◌∷◌, Option, Some, None, Ok, Err, is_some, slice_get, slice_set, if◌then◌else◌, refl, sym, ap, ◌∙◌, subst, arith}
+use Rattle.std.proofs.Common.{◌≡◌, ◌<◌, ◌-◌, ℕ, ◌==◌, ◌⊎◌, inl, inr, Bool, true, false, not, ◌||◌, cond, List, [], ◌∷◌, Option, Some, None, Ok, is_some, slice_get, slice_set, if◌then◌else◌, refl, sym, ap, ◌∙◌, subst, arith}
 use Rattle.std.specs.Option.{option_map, option_map_or}
 use Rattle.std.proofs.lemmas.Bool.{false≢true}
 use Rattle.std.proofs.lemmas.Bool.Decides.{nat_tests}
@@ -19,18 +19,18 @@ use Rattle.evl_sync.proofs.QueueLaws.{stands-enqueued, away-dropped}
 use Rattle.evl_kernel.specs.declared.waits.Awaited.{Awaited}
 use Rattle.evl_kernel.specs.declared.waits.Awaited.TheVariants.{Sem}
 use Rattle.evl_kernel.specs.declared.waits.Wait.{Wait}
-use Rattle.evl_kernel.specs.States.{State, with_clock, with_sched, with_waits}
+use Rattle.evl_kernel.specs.States.{State, with_clock, with_sched}
 use Rattle.evl_kernel.specs.Effects.{Effect, if_done, refused_by}
 use Rattle.evl_kernel.specs.Semaphores as semaphore
-use Rattle.evl_kernel.specs.Elements.{Elements, on_sem, elements, serves, stepping, stepping_to, with_elements}
-use Rattle.evl_kernel.specs.Waits.{wait_of, wait_at, going_on, ended_by, is_past, begun, blocked, woken}
+use Rattle.evl_kernel.specs.Elements.{elements, serves, stepping, stepping_to, with_elements}
+use Rattle.evl_kernel.specs.Waits.{wait_of, wait_at, going_on, ended_by, is_past, begun, woken}
 use Rattle.evl_kernel.specs.Beginnings.{begin_refusal, begin_step, beginning, inband_refusal, waiter}
 use Rattle.evl_kernel.specs.Endings.{drop_step, leaving_queue}
 use Rattle.evl_kernel.specs.Settling.{deadline_left}
 use Rattle.evl_kernel.specs.ThreadCalls.{rank_of}
 use Rattle.evl_kernel.specs.TimerCalls.{posted_if}
 use Rattle.evl_kernel.specs.Records.{RecordsView, WaitsAreKept, stands_for, state_of}
-use Rattle.evl_kernel.proofs.WaitRecords.{away_now, away_of, idle_away, nobody_comes, nowhere_else, one_comes, set_wait, stepping_is, stepping_unknown, was_in_it, with_sem}
+use Rattle.evl_kernel.proofs.WaitRecords.{away_now, idle_away, nobody_comes, nowhere_else, one_comes, set_wait, stepping_is, stepping_unknown, was_in_it, with_sem}
 
 none_some : {A : Type 0} {x : A} → None ≡ Some x → ⊥
 none_some e = cc
@@ -51,14 +51,14 @@ abbrev sem_number : Awaited → ℕ
 sem_number (Sem id) = id.0
 
 -- what a semaphore with a count is after a wait for it began, and one without
-begun_with : (q p : Semaphore) (w : Waiter) → (true, p) ≡ sem.begin_get w q → p.waiters ≡ q.waiters
+pub begun_with : (q p : Semaphore) (w : Waiter) → (true, p) ≡ sem.begin_get w q → p.waiters ≡ q.waiters
 begun_with q p w = by (q.count == 0)
   where
     by : (b : Bool) → (true, p) ≡ if◌then◌else◌ {A = Bool × Semaphore} b (false, record q { waiters = enqueued (λ v. v.rank) w q.waiters }) (true, record q { count = q.count - 1 }) → p.waiters ≡ q.waiters
     by true is = absurd (false≢true (sym (ap (λ (x : Bool × Semaphore). x.0) is)))
     by false is = ap (λ (x : Bool × Semaphore). x.1.waiters) is
 
-begun_without : (q p : Semaphore) (w : Waiter) → (false, p) ≡ sem.begin_get w q → p.waiters ≡ enqueued (λ v. v.rank) w q.waiters
+pub begun_without : (q p : Semaphore) (w : Waiter) → (false, p) ≡ sem.begin_get w q → p.waiters ≡ enqueued (λ v. v.rank) w q.waiters
 begun_without q p w = by (q.count == 0)
   where
     by : (b : Bool) → (false, p) ≡ if◌then◌else◌ {A = Bool × Semaphore} b (false, record q { waiters = enqueued (λ v. v.rank) w q.waiters }) (true, record q { count = q.count - 1 }) → p.waiters ≡ enqueued (λ v. v.rank) w q.waiters
@@ -66,7 +66,7 @@ begun_without q p w = by (q.count == 0)
     by false is = absurd (false≢true (ap (λ (x : Bool × Semaphore). x.0) is))
 
 -- nobody stands in a queue that left it
-dropped_gone : (thread : ℕ) (ws : List Waiter) → stands_in (λ (w : Waiter). w.thread) thread (dropped (λ w. w.thread) thread ws) ≡ false
+pub dropped_gone : (thread : ℕ) (ws : List Waiter) → stands_in (λ (w : Waiter). w.thread) thread (dropped (λ w. w.thread) thread ws) ≡ false
 dropped_gone thread [] = refl
 dropped_gone thread (w ∷ ws) = by (w.thread == thread) refl (dropped_gone thread ws)
   where

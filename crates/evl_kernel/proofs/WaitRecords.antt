@@ -1,6 +1,6 @@
 -- The waits of the records: what a step of a semaphore is to them, and that whoever stands in a queue waits for that.
-use Rattle.std.proofs.Common.{◌≡◌, ◌≢◌, ◌<◌, ◌≤◌, ◌+◌, ◌-◌, ℕ, zero, suc, ◌==◌, nat_lt, ◌⊎◌, inl, inr, Bool, true, false, not, ◌||◌, List, [], ◌∷◌, length, Option, Some, None, Result, Ok, Err, slice_get, slice_set, slice_index_or, if◌then◌else◌, refl, sym, ap, ◌∙◌, subst, arith}
-use Rattle.std.specs.Option.{option_map, option_map_or}
+use Rattle.std.proofs.Common.{◌≡◌, ◌≢◌, ◌<◌, ◌+◌, ◌-◌, ℕ, zero, suc, ◌==◌, nat_lt, ◌⊎◌, inl, inr, Bool, true, false, ◌||◌, List, [], ◌∷◌, length, Option, Some, None, Result, Ok, Err, slice_get, slice_set, slice_index_or, if◌then◌else◌, refl, sym, ap, ◌∙◌, subst, arith}
+use Rattle.std.specs.Option.{option_map_or}
 use Rattle.std.proofs.lemmas.Bool.{false≢true}
 use Rattle.std.proofs.lemmas.Bool.Decides.{nat_tests}
 use Rattle.std.proofs.lemmas.List.{length-set}
@@ -12,7 +12,7 @@ use Rattle.evl_base.specs.declared.reply.Reply.TheVariants.{Done}
 use Rattle.evl_sync.specs.declared.waiter.Waiter.{Waiter}
 use Rattle.evl_base.specs.declared.numbers.ThreadId.{ThreadId}
 use Rattle.evl_sync.specs.Steps.{stepped}
-use Rattle.evl_sync.specs.Queues.{IsKept, dropped, number_of, stands_in}
+use Rattle.evl_sync.specs.Queues.{IsKept, number_of, stands_in}
 use Rattle.evl_sync.specs.Semaphores as sem
 use Rattle.evl_sync.specs.Semaphores.{Semaphore}
 use Rattle.evl_kernel.specs.declared.waits.Awaited.{Awaited}
@@ -58,14 +58,14 @@ fewer_by : (m n : ℕ) → (suc m == suc n) ≡ false → (m == n) ≡ false
 fewer_by m n e = grind (arith, nat_tests)
 
 -- what stands in another place than the one that was set, and in that place
-index_there : {A : Type 0} (xs : List A) (m n : ℕ) (v d : A) → (m == n) ≡ false → slice_index_or (slice_set xs m v) n d ≡ slice_index_or xs n d
+pub index_there : {A : Type 0} (xs : List A) (m n : ℕ) (v d : A) → (m == n) ≡ false → slice_index_or (slice_set xs m v) n d ≡ slice_index_or xs n d
 index_there [] m n v d e = refl
 index_there (x ∷ xs) zero zero v d e = absurd (false≢true (sym e))
 index_there (x ∷ xs) zero (suc n) v d e = refl
 index_there (x ∷ xs) (suc m) zero v d e = refl
 index_there (x ∷ xs) (suc m) (suc n) v d e = index_there xs m n v d (fewer_by m n e)
 
-index_here : {A : Type 0} (xs : List A) (m : ℕ) (v d : A) → m < length xs → slice_index_or (slice_set xs m v) m d ≡ v
+pub index_here : {A : Type 0} (xs : List A) (m : ℕ) (v d : A) → m < length xs → slice_index_or (slice_set xs m v) m d ≡ v
 index_here [] m v d within = absurd (omega (arith, within))
 index_here (x ∷ xs) zero v d within = refl
 index_here (x ∷ xs) (suc m) v d within = index_here xs m v d (omega (arith, within))
@@ -168,10 +168,10 @@ module _ (threads : ℕ) (sems : List Semaphore) (waits : List (Option Wait)) (k
     after = record { sems = slice_set sems n p }
 
     -- another semaphore stands as it was
-    elsewhere : (id : SemId) (thread : ℕ) → (n == id.0) ≡ false → stands_for after (Sem id) thread ≡ stands_for (record { sems = sems }) (Sem id) thread
+    pub elsewhere : (id : SemId) (thread : ℕ) → (n == id.0) ≡ false → stands_for after (Sem id) thread ≡ stands_for (record { sems = sems }) (Sem id) thread
     elsewhere id thread other = ap (λ (o : Option Semaphore). option_map_or (λ (x : Semaphore). stands_in (λ w. w.thread) thread x.waiters) o false) (set_there sems n id.0 p other)
 
-    in_it : (id : SemId) (thread : ℕ) → (n == id.0) ≡ true → stands_for after (Sem id) thread ≡ stands_in (λ w. w.thread) thread p.waiters
+    pub in_it : (id : SemId) (thread : ℕ) → (n == id.0) ≡ true → stands_for after (Sem id) thread ≡ stands_in (λ w. w.thread) thread p.waiters
     in_it id thread is =
         ap (λ (m : ℕ). option_map_or (λ (x : Semaphore). stands_in (λ w. w.thread) thread x.waiters) (slice_get (slice_set sems n p) m) false) (sym (same_number n id.0 is))
         ∙ ap (λ (o : Option Semaphore). option_map_or (λ (x : Semaphore). stands_in (λ w. w.thread) thread x.waiters) o false) (set_here sems n q p here)

@@ -1,16 +1,13 @@
 -- Rows of waits, by computation: what each call answers and plays.
-use Rattle.std.proofs.Common.{◌≡◌, ℕ, List, [], ◌∷◌, Option, Some, None, Result, Ok, Err, true, false, pos, neg_ℤ, refl}
-use Rattle.evl_base.specs.declared.board.Board.{Board}
+use Rattle.std.proofs.Common.{◌≡◌, ℕ, List, [], ◌∷◌, Some, None, Result, Ok, Err, true, false, pos, neg_ℤ, refl}
 use Rattle.evl_base.specs.declared.numbers.SemId.{SemId}
 use Rattle.evl_base.specs.declared.numbers.ThreadId.{ThreadId}
-use Rattle.evl_base.specs.declared.numbers.TimerId.{TimerId}
-use Rattle.evl_base.specs.declared.numbers.LineNo.{LineNo}
 use Rattle.evl_base.specs.declared.policy.Policy.TheVariants.{Fifo, Quota, Weak}
-use Rattle.evl_base.specs.declared.stage.Stage.TheVariants.{Inband, Oob}
+use Rattle.evl_base.specs.declared.stage.Stage.TheVariants.{Oob}
 use Rattle.evl_base.specs.declared.refusal.Refusal.{Refusal}
 use Rattle.evl_base.specs.declared.refusal.Refusal.TheVariants.{Again, Busy, Invalid, Unknown, WrongStage}
 use Rattle.evl_base.specs.declared.call.Call.{Call}
-use Rattle.evl_base.specs.declared.call.Call.TheVariants.{Attach, Arrive, BeginGet, Finish, NewTimer, Peek, Pick, Put, RankOf, Request, SetPolicy, StartTimer, Tick}
+use Rattle.evl_base.specs.declared.call.Call.TheVariants.{Attach, Arrive, BeginGet, Finish, NewTimer, Peek, Pick, Put, RankOf, Request, StartTimer, Tick}
 use Rattle.evl_base.specs.declared.reply.Reply.{Reply}
 use Rattle.evl_base.specs.declared.reply.Reply.TheVariants.{Begun, Chosen, Count, Done, Number, TimedOut}
 use Rattle.evl_base.specs.declared.play.Play.{Play}

@@ -1,6 +1,6 @@
 -- What holds of every state that steps of elements, waits that begin and end, and deadlines leave: they change elements,
 -- waits, deadlines and the ready list, and nothing else.
-use Rattle.std.proofs.Common.{◌≡◌, ℕ, Bool, true, false, List, [], ◌∷◌, Option, Some, None, Result, Ok, Err, refl}
+use Rattle.std.proofs.Common.{ℕ, Bool, true, false, List, [], ◌∷◌, Option, Some, None, Result, Ok, Err}
 use Rattle.std.specs.Option.{option_map, option_map_or}
 use Rattle.evl_base.specs.declared.refusal.Refusal.{Refusal}
 use Rattle.evl_base.specs.declared.refusal.Refusal.TheVariants.{Invalid}
@@ -13,10 +13,10 @@ use Rattle.evl_kernel.specs.declared.waits.Awaited.{Awaited}
 use Rattle.evl_kernel.specs.declared.waits.Wait.{Wait}
 use Rattle.evl_kernel.specs.States.{State, with_clock, with_sched}
 use Rattle.evl_kernel.specs.Effects.{Answered, lifted, leaving, if_done}
-use Rattle.evl_kernel.specs.Elements.{Elements, ElementStep, elements, with_elements, element, wakes, serves, stepping_to, touched, Told}
-use Rattle.evl_kernel.specs.Waits.{wait_at, with_wait, going_on, ended_by, is_past, suspended, blocked, begun, woken, all_woken}
+use Rattle.evl_kernel.specs.Elements.{Elements, ElementStep, elements, with_elements, element, wakes, serves, stepping_to, touched}
+use Rattle.evl_kernel.specs.Waits.{wait_at, with_wait, going_on, ended_by, is_past, blocked, begun, woken, all_woken}
 use Rattle.evl_kernel.specs.Beginnings.{begin_refusal, begin_step, beginning}
-use Rattle.evl_kernel.specs.Endings.{drop_step, expiring, finish, goes_inband, inband_if, outcome_of}
+use Rattle.evl_kernel.specs.Endings.{drop_step, finish, goes_inband, inband_if, outcome_of}
 use Rattle.evl_kernel.specs.Settling.{deadline_left}
 use Rattle.evl_kernel.specs.TimerCalls.{posted_clock, posted_if}
 use Rattle.evl_kernel.proofs.LeavesLaws.{Leaves, leaves-refused, leaves-if_done}

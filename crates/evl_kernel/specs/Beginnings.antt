@@ -1,6 +1,5 @@
 -- The calls that begin a wait.
 use Rattle.std.specs.Prelude.{ℕ, Bool, ◌∷◌, [], Option, Some, None, is_some, slice_get, if◌then◌else◌}
-use Rattle.evl_base.specs.declared.numbers.SemId.{SemId}
 use Rattle.evl_base.specs.declared.refusal.Refusal.{Refusal}
 use Rattle.evl_base.specs.declared.refusal.Refusal.TheVariants.{Unknown, WrongStage}
 use Rattle.evl_sched.specs.Threads.{is_oob, refused_first, stage_of}

@@ -1,5 +1,5 @@
 -- The end of a wait: by its caller, and by its deadline.
-use Rattle.std.specs.Prelude.{ℕ, Bool, false, not, ◌&&◌, [], Option, Some, None, Result, Ok, Err, if◌then◌else◌}
+use Rattle.std.specs.Prelude.{ℕ, Bool, false, not, ◌&&◌, Option, Some, None, Result, Ok, Err, if◌then◌else◌}
 use Rattle.std.specs.Option.{option_map_or}
 use Rattle.evl_base.specs.declared.refusal.Refusal.{Refusal}
 use Rattle.evl_base.specs.declared.refusal.Refusal.TheVariants.{Invalid, Again}

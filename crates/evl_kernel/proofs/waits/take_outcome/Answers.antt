@@ -1,4 +1,4 @@
-use Rattle.std.proofs.Common.{◌≡◌, ◌<◌, Option, Some, None, length, slice_get, refl, sym, ap, ◌∙◌, arith}
+use Rattle.std.proofs.Common.{◌≡◌, Option, Some, None, refl, sym, ap, ◌∙◌, arith}
 use Rattle.std.proofs.lemmas.Option.{slice_get_read}
 use Rattle.evl_base.specs.declared.reply.Reply.{Reply}
 use Rattle.evl_kernel.specs.declared.waits.Wait.{Wait}

@@ -1,4 +1,4 @@
-use Rattle.std.proofs.Common.{◌≡◌, ◌<◌, ◌≤◌, Some, None, length, slice_get, refl, sym, ap, ◌∙◌, arith}
+use Rattle.std.proofs.Common.{◌≡◌, None, slice_get, refl, arith}
 use Rattle.std.proofs.lemmas.Option.{slice_get_read, slice_get_past}
 use Rattle.evl_kernel.specs.RecordsInside.{records_view}
 use Rattle.evl_kernel.proofs.WaitCalls.{dropped_is, dropped_away, dropped_kept, dropped_nowhere, away_nowhere}

@@ -1,4 +1,3 @@
-use Rattle.std.proofs.Common.{◌∙◌}
 use Rattle.evl_kernel.specs.RecordsInside.{records_view}
 use Rattle.evl_kernel.proofs.SchedLaws.{stranger_answers}
 use Rattle.evl_kernel.proofs.WaitRecords.{may_begin_is}

@@ -1,6 +1,5 @@
-use Rattle.std.proofs.Common.{◌≡◌, ◌<◌, Some, length, slice_get, refl, sym, ap, ◌∙◌, subst, arith}
+use Rattle.std.proofs.Common.{refl, sym, arith}
 use Rattle.std.proofs.lemmas.Option.{slice_get_read}
-use Rattle.evl_sync.specs.Queues.{stands_in}
 use Rattle.evl_kernel.specs.RecordsInside.{records_view}
 use Rattle.evl_kernel.proofs.WaitRecords.{nobody_comes, head_away, rest_old, put_leaves, put_none, put_some, put_nothing, put_raises, sem_same}
 use Rattle.evl_kernel.proofs.records.Records.put.Goals as goal

@@ -1,6 +1,5 @@
-use Rattle.std.proofs.Common.{◌≡◌, ◌<◌, Some, length, slice_get, refl, ap, arith}
+use Rattle.std.proofs.Common.{refl, arith}
 use Rattle.std.proofs.lemmas.Option.{slice_get_read}
-use Rattle.evl_sync.specs.Queues.{stands_in}
 use Rattle.evl_kernel.specs.RecordsInside.{records_view}
 use Rattle.evl_kernel.proofs.WaitRecords.{got, got_nothing, got_waiters, nobody_comes, sem_same}
 use Rattle.evl_kernel.proofs.records.Records.try_get.Goals as goal

@@ -1,0 +1,372 @@
+-- Waits that begin and end, and steps on threads, leave the waits proper; so does each run.
+use Rattle.std.proofs.Common.{◌≡◌, ◌<◌, ◌≤◌, ℕ, zero, suc, ◌==◌, nat_le, Bool, true, false, not, ◌&&◌, ◌||◌, List, [], ◌∷◌, map, replicate, Option, Some, None, Ok, Err, is_none, is_some, slice_get, slice_set, slice_index_or, if◌then◌else◌, refl, sym, ap, ◌∙◌, subst, arith}
+use Rattle.std.specs.Option.{option_map_or}
+use Rattle.std.proofs.lemmas.Bool.{false≢true}
+use Rattle.std.proofs.lemmas.Bool.Decides.{nat_tests}
+use Rattle.std.proofs.lemmas.List.{length-set, length-replicate}
+use Rattle.evl_base.specs.declared.board.Board.{Board}
+use Rattle.evl_base.specs.declared.call.Call.{Call}
+use Rattle.evl_base.specs.declared.numbers.SemId.{SemId}
+use Rattle.evl_base.specs.declared.refusal.Refusal.TheVariants.{Again, Busy, Unknown}
+use Rattle.evl_base.specs.declared.reply.Reply.{Reply}
+use Rattle.evl_base.specs.declared.reply.Reply.TheVariants.{Begun, Done}
+use Rattle.evl_base.specs.declared.stage.Stage.TheVariants.{Inband}
+use Rattle.evl_pipeline.proofs.PortLaws.{at-none}
+use Rattle.evl_clock.specs.Clocks as clocks
+use Rattle.evl_clock.specs.Clocks.{Clock, deadline_at, with_deadline}
+use Rattle.evl_sched.specs.Calls.{attach_refusal, set_policy_refusal, stranger_refusal}
+use Rattle.evl_sched.specs.Threads as threads
+use Rattle.evl_sched.specs.Threads.{Sched, is_oob, is_ready, stage_of, stage_set, unready}
+use Rattle.evl_sched.specs.declared.seat.Seat.{Seat}
+use Rattle.evl_sync.specs.declared.waiter.Waiter.{Waiter}
+use Rattle.evl_sync.specs.Queues.{enqueued, stands_in}
+use Rattle.evl_sync.specs.Semaphores as sem
+use Rattle.evl_sync.specs.Semaphores.{Semaphore, IsSoundSemaphore}
+use Rattle.evl_sync.proofs.QueueLaws.{stands-enqueued}
+use Rattle.evl_kernel.specs.declared.waits.Awaited.{Awaited}
+use Rattle.evl_kernel.specs.declared.waits.Awaited.TheVariants.{Sem}
+use Rattle.evl_kernel.specs.declared.waits.Wait.{Wait}
+use Rattle.evl_kernel.specs.States.{State, Handler, with_sched}
+use Rattle.evl_kernel.specs.Effects.{leaving}
+use Rattle.evl_kernel.specs.Semaphores as semaphore
+use Rattle.evl_kernel.specs.Elements.{elements, serves, stepping_to, with_elements}
+use Rattle.evl_kernel.specs.Waits.{wait_of, wait_at, with_wait, going_on, ended_by, is_past, suspended, begun}
+use Rattle.evl_kernel.specs.Beginnings.{begin_refusal, begin_step, beginning, waiter}
+use Rattle.evl_kernel.specs.Endings.{finish, goes_inband, inband_if, outcome_of}
+use Rattle.evl_kernel.specs.ThreadCalls as thread_call
+use Rattle.evl_kernel.specs.TimerCalls.{posted_if}
+use Rattle.evl_kernel.specs.Families.{ThreadStep, attach, detach, set_policy, set_stage, pick, tell_rank, thread_effect, task_of}
+use Rattle.evl_kernel.specs.Serving.{ends_a_wait, general_refusal}
+use Rattle.evl_kernel.specs.Openings.{opening}
+use Rattle.evl_kernel.specs.Histories.{opened}
+use Rattle.evl_kernel.specs.WaitOrder.{WaitsAreProper, WaitsStayProper, is_blocked}
+use Rattle.evl_kernel.specs.Records.{WaitsAreKept, stands_for}
+use Rattle.evl_kernel.proofs.LeavesLaws.{Leaves, leaves-refused}
+use Rattle.evl_kernel.proofs.OpeningLaws.{nobody_stands, threads_few}
+use Rattle.evl_kernel.proofs.ReadyLaws.{ReadyAnew, anew-attached, anew-detached, anew-policy_set, anew-stage_set, ready-paid, stage-paid, unready-itself, unready-other}
+use Rattle.evl_kernel.proofs.StateWalk.{KeptByEach, KeptByOwn, run_holds}
+use Rattle.evl_kernel.proofs.WaitLaws.{ProperBut, proper_but, proper_freed, over_if, over_set, wait_there}
+use Rattle.evl_kernel.proofs.WaitRecords.{away_of, idle_away, in_it, index_here, index_there, elsewhere, stepping_is, stepping_unknown, was_in_it}
+use Rattle.evl_kernel.proofs.ProperLaws.{IsProper, begin_with_count, begin_without, but, kept_of, leaves, proper_asked, proper_expired, whole}
+
+none_some : {A : Type 0} {x : A} → None ≡ Some x → ⊥
+none_some e = cc
+
+some_none : {A : Type 0} {x : A} → Some x ≡ None → ⊥
+some_none e = cc
+
+some_is : {A : Type 0} {x y : A} → Some x ≡ Some y → x ≡ y
+some_is e = cc
+
+same_number : (m n : ℕ) → (m == n) ≡ true → m ≡ n
+same_number m n e = grind (arith, nat_tests)
+
+is_number : (m n : ℕ) → m ≡ n → (m == n) ≡ true
+is_number m n e = grind (arith, nat_tests)
+
+swapped : (m n : ℕ) → (m == n) ≡ false → (n == m) ≡ false
+swapped m n e = grind (arith, nat_tests)
+
+and_true : (b : Bool) → (b && true) ≡ b
+and_true true = refl
+and_true false = refl
+
+and_false : (b : Bool) → (b && false) ≡ false
+and_false true = refl
+and_false false = refl
+
+first_true : (a b : Bool) → (a && b) ≡ true → a ≡ true
+first_true true b e = refl
+first_true false b e = absurd (false≢true e)
+
+-- A thread whose wait doesn't go on is ready as its stage says, has no deadline, and stands nowhere.
+module _ (n : ℕ) (few : n ≤ 64) (s : State) (h : IsProper n s) (thread : ℕ) (over : over_if (wait_at s thread)) where
+  pub ready_as : is_ready s.sched thread ≡ is_oob (stage_of s.sched thread)
+  ready_as = h.proper.ready thread ∙ (ap (λ (c : Bool). is_oob (stage_of s.sched thread) && not c) over ∙ and_true (is_oob (stage_of s.sched thread)))
+
+  no_date : (date : ℕ) → deadline_at s.clock thread ≡ Some date → ⊥
+  no_date date is = false≢true (sym over ∙ h.proper.dated thread date is)
+
+  pub stands_nowhere : (on : Awaited) → stands_for (elements s) on thread ≡ false
+  stands_nowhere = away_of n s.sems s.waits (kept_of n s few h) thread (λ on is. false≢true (sym over ∙ ap (λ (o : Option Wait). option_map_or (λ (w : Wait). is_none w.outcome) o false) is))
+
+  -- its seat changes
+  pub proper_seat : (sched : Sched) → ReadyAnew s.sched sched thread → IsProper n (with_sched s sched)
+  proper_seat sched anew = record {
+    proper = proper_freed s thread (proper_but s thread h.proper) stands_nowhere s.waits (λ t ne. refl) over sched anew s.clock.deadlines no_date (λ t ne. refl);
+    threads_are = h.threads_are;
+    places = h.places;
+  }
+
+  -- and its wait, to one that doesn't go on either
+  pub proper_wait : (wait : Option Wait) → over_if wait → (sched : Sched) → ReadyAnew s.sched sched thread → IsProper n (with_sched (with_wait s thread wait) sched)
+  proper_wait wait ended sched anew = record {
+    proper = proper_freed s thread (proper_but s thread h.proper) stands_nowhere (slice_set s.waits thread wait) (wait_there s thread wait)
+        (over_set s.waits thread wait ended) sched anew s.clock.deadlines no_date (λ t ne. refl);
+    threads_are = h.threads_are;
+    places = length-set s.waits thread wait ∙ h.places;
+  }
+
+  pub same_seat : ReadyAnew s.sched s.sched thread
+  same_seat = record { itself = ready_as; others = λ t ne. refl; stages = λ t ne. refl }
+
+-- what stands against a call, and what is known where nothing does
+pub record Passed (s : State) (caller : ℕ) : Type 0 where
+  pub idle : wait_at s caller ≡ None
+  pub there : caller < s.threads
+
+passed_all : (s : State) (caller : ℕ) (asked : Call) → ends_a_wait (task_of asked) ≡ false → general_refusal s caller asked ≡ None → Passed s caller
+passed_all s caller asked other = by (ends_a_wait (task_of asked)) other (wait_at s caller) refl (nat_le s.threads caller) refl
+  where
+    below : (a b : ℕ) → nat_le a b ≡ false → b < a
+    below a b e = grind (arith, nat_tests)
+
+    by : (ending : Bool) → ending ≡ false → (o : Option Wait) → wait_at s caller ≡ o → (out : Bool) → nat_le s.threads caller ≡ out
+        → (if not ending && is_some o then Some Busy else (if out then Some Unknown else None)) ≡ None → Passed s caller
+    by true e o its out is h = absurd (false≢true (sym e))
+    by false e (Some w) its out is h = absurd (some_none h)
+    by false e None its true is h = absurd (some_none h)
+    by false e None its false is h = record { idle = its; there = below s.threads caller is }
+
+over_none : (s : State) (thread : ℕ) → wait_at s thread ≡ None → over_if (wait_at s thread)
+over_none s thread none = ap (λ (o : Option Wait). option_map_or (λ (w : Wait). is_none w.outcome) o false) none
+
+module _ (n : ℕ) (few : n ≤ 64) where
+  proper_threads : (s : State) (caller : ℕ) (step : ThreadStep) → wait_at s caller ≡ None → IsProper n s → Leaves (IsProper n) (thread_effect s caller step)
+  proper_threads s caller (attach policy stage) idle h = leaves-refused (IsProper n) (attach_refusal s.sched caller policy) _ (λ passed.
+      proper_seat n few s h caller (over_none s caller idle) _ (anew-attached s.sched caller policy stage))
+  proper_threads s caller detach idle h = leaves-refused (IsProper n) (stranger_refusal s.sched caller) _ (λ passed.
+      proper_seat n few s h caller (over_none s caller idle) _ (anew-detached s.sched caller))
+  proper_threads s caller (set_policy policy) idle h = leaves-refused (IsProper n) (set_policy_refusal s.sched caller policy) _ (λ passed.
+      proper_seat n few s h caller (over_none s caller idle) _ (anew-policy_set s.sched caller policy (ready_as n few s h caller (over_none s caller idle))))
+  proper_threads s caller (set_stage stage) idle h = leaves-refused (IsProper n) (stranger_refusal s.sched caller) _ (λ passed.
+      proper_seat n few s h caller (over_none s caller idle) _ (anew-stage_set s.sched caller stage (ready_as n few s h caller (over_none s caller idle))))
+  proper_threads s caller pick idle h = h
+  proper_threads s caller (tell_rank thread) idle h = leaves-refused (IsProper n) (stranger_refusal s.sched thread) _ (λ passed. h)
+
+  -- a wait is finished
+  proper_finish : (s : State) (caller : ℕ) (keep : Bool) → IsProper n s → Leaves (IsProper n) (finish s caller keep)
+  proper_finish s caller keep h = by (wait_at s caller) refl
+    where
+      free : Bool → State
+      free goes = inband_if goes (with_wait s caller None) caller
+
+      gone : (goes : Bool) → over_if (wait_at s caller) → IsProper n (free goes)
+      gone true over = proper_wait n few s h caller over None refl (stage_set s.sched caller Inband) (anew-stage_set s.sched caller Inband (ready_as n few s h caller over))
+      gone false over = proper_wait n few s h caller over None refl s.sched (same_seat n few s h caller over)
+
+      by_outcome : (w : Wait) → wait_at s caller ≡ Some w → (o : Option Reply) → w.outcome ≡ o → Leaves (IsProper n) (leaving (free (goes_inband s caller keep)) (option_map_or (λ outcome. Ok outcome) o (Err Again)))
+      by_outcome w its None none = tt
+      by_outcome w its (Some outcome) is =
+          gone (goes_inband s caller keep) (ap (λ (o : Option Wait). option_map_or (λ (v : Wait). is_none v.outcome) o false) its ∙ ap (λ (o : Option Reply). is_none o) is)
+
+      by : (o : Option Wait) → wait_at s caller ≡ o → Leaves (IsProper n) (leaving (free (goes_inband s caller keep)) (outcome_of o))
+      by None none = tt
+      by (Some w) its = by_outcome w its w.outcome refl
+
+  -- a wait begins
+  module _ (s : State) (caller : ℕ) (passed : Passed s caller) (h : IsProper n s) (until : Option ℕ) (id : SemId) (q p : Semaphore) (here : slice_get s.sems id.0 ≡ Some q) where
+    abbrev at_once : State
+    at_once = with_elements s (record { sems = slice_set s.sems id.0 p })
+
+    kept : WaitsAreKept n (record { sems = s.sems }) s.waits
+    kept = kept_of n s few h
+
+    nobody : stands_in (λ (w : Waiter). w.thread) caller q.waiters ≡ false
+    nobody = sym (was_in_it n s.sems s.waits kept id.0 q p here id caller (is_number id.0 id.0 refl)) ∙ idle_away n s.sems s.waits kept caller passed.idle (Sem id)
+
+    -- it is served
+    proper_served : (true, p) ≡ sem.begin_get (waiter s caller) q → IsProper n (begun at_once caller (Sem id) until (Some Done))
+    proper_served step =
+        let left = begin_with_count q p (waiter s caller) (h.proper.sound id.0 q here) step in
+        let mid = whole n few s h id.0 q p here left.sound left.same in
+        proper_wait n few at_once mid caller (over_none s caller passed.idle) (Some (ended_by Done (going_on (Sem id)))) refl s.sched (same_seat n few at_once mid caller (over_none s caller passed.idle))
+
+    -- it waits
+    module _ (step : (false, p) ≡ sem.begin_get (waiter s caller) q) where
+      within : caller < 64
+      within = omega (arith, passed.there, h.threads_are, few)
+
+      sound_p : IsSoundSemaphore p
+      sound_p = (begin_without q p (waiter s caller) (h.proper.sound id.0 q here) nobody within step).sound
+
+      waiters_are : p.waiters ≡ enqueued (λ v. v.rank) (waiter s caller) q.waiters
+      waiters_are = (begin_without q p (waiter s caller) (h.proper.sound id.0 q here) nobody within step).same
+
+      stood : (t : ℕ) → stands_in (λ (w : Waiter). w.thread) t p.waiters ≡ ((caller == t) || stands_in (λ (w : Waiter). w.thread) t q.waiters)
+      stood t = ap (stands_in (λ (w : Waiter). w.thread) t) waiters_are ∙ stands-enqueued (λ (w : Waiter). w.thread) (λ w. w.rank) (waiter s caller) q.waiters t
+
+      others : ProperBut at_once caller
+      others = but n few s h id.0 q p here sound_p caller (λ t ne. stood t ∙ ap (λ (c : Bool). c || stands_in (λ (w : Waiter). w.thread) t q.waiters) (swapped t caller ne))
+
+      proper_after : WaitsAreProper (suspended at_once caller (Sem id) until)
+      proper_after = record {
+        sound = others.sound;
+        stands = λ on t is. stands_ on t is (t == caller) refl;
+        waits = λ on t is. waits_ on t is (t == caller) refl;
+        ready = λ t. ready_ t (t == caller) refl;
+        dated = λ t date is. dated_ t date is (t == caller) refl;
+      }
+        where
+          mine : wait_of (slice_set s.waits caller (Some (going_on (Sem id)))) caller ≡ Some (going_on (Sem id))
+          mine = index_here s.waits caller (Some (going_on (Sem id))) None (omega (arith, passed.there, h.threads_are, h.places))
+
+          theirs : (t : ℕ) → (t == caller) ≡ false → wait_of (slice_set s.waits caller (Some (going_on (Sem id)))) t ≡ wait_at s t
+          theirs t ne = wait_there s caller (Some (going_on (Sem id))) t ne
+
+          -- the caller stands for this alone
+          alone : (on : Awaited) → stands_for (elements at_once) on caller ≡ true → Sem id ≡ on
+          alone (Sem other) is = test (id.0 == other.0) refl
+            where
+              test : (b : Bool) → (id.0 == other.0) ≡ b → Sem id ≡ Sem other
+              test true same = ap (λ (m : ℕ). Sem (record { 0 = m })) (same_number id.0 other.0 same)
+              test false apart =
+                  absurd (false≢true (sym (idle_away n s.sems s.waits kept caller passed.idle (Sem other)) ∙ (sym (elsewhere n s.sems s.waits kept id.0 q p here other caller apart) ∙ is)))
+
+          stands_ : (on : Awaited) (t : ℕ) → stands_for (elements at_once) on t ≡ true → (b : Bool) → (t == caller) ≡ b → wait_of (slice_set s.waits caller (Some (going_on (Sem id)))) t ≡ Some (going_on on)
+          stands_ on t is true same =
+              subst (λ (m : ℕ). wait_of (slice_set s.waits caller (Some (going_on (Sem id)))) m ≡ Some (going_on on)) (sym (same_number t caller same))
+              (mine ∙ ap (λ (x : Awaited). Some (going_on x)) (alone on (ap (stands_for (elements at_once) on) (sym (same_number t caller same)) ∙ is)))
+          stands_ on t is false ne = theirs t ne ∙ others.stands on t ne is
+
+          here_now : stands_for (elements at_once) (Sem id) caller ≡ true
+          here_now =
+              in_it n s.sems s.waits kept id.0 q p here id caller (is_number id.0 id.0 refl)
+              ∙ (stood caller ∙ ap (λ (c : Bool). c || stands_in (λ (w : Waiter). w.thread) caller q.waiters) (is_number caller caller refl))
+
+          on_is : (on : Awaited) → wait_of (slice_set s.waits caller (Some (going_on (Sem id)))) caller ≡ Some (going_on on) → Sem id ≡ on
+          on_is on is = ap (λ (w : Wait). w.on) (some_is (sym mine ∙ is))
+
+          waits_ : (on : Awaited) (t : ℕ) → wait_of (slice_set s.waits caller (Some (going_on (Sem id)))) t ≡ Some (going_on on) → (b : Bool) → (t == caller) ≡ b → stands_for (elements at_once) on t ≡ true
+          waits_ on t is true same =
+              subst (λ (m : ℕ). stands_for (elements at_once) on m ≡ true) (sym (same_number t caller same))
+              (ap (λ (x : Awaited). stands_for (elements at_once) x caller) (sym (on_is on (ap (wait_of (slice_set s.waits caller (Some (going_on (Sem id))))) (sym (same_number t caller same)) ∙ is))) ∙ here_now)
+          waits_ on t is false ne = others.waits on t ne (sym (theirs t ne) ∙ is)
+
+          block : Option Wait → Bool
+          block o = option_map_or (λ (w : Wait). is_none w.outcome) o false
+
+          ready_ : (t : ℕ) (b : Bool) → (t == caller) ≡ b → is_ready (unready s.sched caller) t ≡ (is_oob (stage_of s.sched t) && not (block (wait_of (slice_set s.waits caller (Some (going_on (Sem id)))) t)))
+          ready_ t true same =
+              subst (λ (m : ℕ). is_ready (unready s.sched caller) m ≡ (is_oob (stage_of s.sched m) && not (block (wait_of (slice_set s.waits caller (Some (going_on (Sem id)))) m)))) (sym (same_number t caller same))
+              (unready-itself s.sched caller ∙ sym (ap (λ (o : Option Wait). is_oob (stage_of s.sched caller) && not (block o)) mine ∙ and_false (is_oob (stage_of s.sched caller))))
+          ready_ t false ne =
+              unready-other s.sched caller t ne ∙ (others.ready t ne ∙ ap (λ (o : Option Wait). is_oob (stage_of s.sched t) && not (block o)) (sym (theirs t ne)))
+
+          dated_ : (t date : ℕ) → slice_index_or (slice_set s.clock.deadlines caller until) t None ≡ Some date → (b : Bool) → (t == caller) ≡ b
+              → block (wait_of (slice_set s.waits caller (Some (going_on (Sem id)))) t) ≡ true
+          dated_ t date is true same =
+              subst (λ (m : ℕ). block (wait_of (slice_set s.waits caller (Some (going_on (Sem id)))) m) ≡ true) (sym (same_number t caller same)) (ap block mine)
+          dated_ t date is false ne = ap block (theirs t ne) ∙ others.dated t date ne (sym (index_there s.clock.deadlines caller t until None (swapped t caller ne)) ∙ is)
+
+      proper_blocked : IsProper n (begun at_once caller (Sem id) until None)
+      proper_blocked = by (is_past s.clock.now until)
+        where
+          by : (b : Bool) → IsProper n (posted_if b (suspended at_once caller (Sem id) until))
+          by true = record {
+            proper = record { sound = proper_after.sound; stands = proper_after.stands; waits = proper_after.waits; ready = proper_after.ready; dated = proper_after.dated };
+            threads_are = h.threads_are;
+            places = length-set s.waits caller _ ∙ h.places;
+          }
+          by false = record { proper = proper_after; threads_are = h.threads_are; places = length-set s.waits caller _ ∙ h.places }
+
+  proper_beginning : (s : State) (caller : ℕ) (on : Awaited) (until : Option ℕ) → Passed s caller → IsProper n s → Leaves (IsProper n) (beginning s caller on until).effect
+  proper_beginning s caller (Sem id) until passed h = leaves-refused (IsProper n) (begin_refusal s caller (Sem id)) _ (λ none. by (slice_get s.sems id.0) refl)
+    where
+      f : State → State
+      f x = begun x caller (Sem id) until (serves (elements s) (begin_step s caller (Sem id)))
+
+      served : (q p : Semaphore) (b : Bool) → slice_get s.sems id.0 ≡ Some q → (b, p) ≡ sem.begin_get (waiter s caller) q
+          → IsProper n (begun (with_elements s (record { sems = slice_set s.sems id.0 p })) caller (Sem id) until (if b then Some Done else None))
+      served q p true here step = proper_served s caller passed h until id q p here step
+      served q p false here step = proper_blocked s caller passed h until id q p here step
+
+      by : (o : Option Semaphore) → slice_get s.sems id.0 ≡ o
+          → Leaves (IsProper n) (stepping_to (λ x. begun x caller (Sem id) until (serves (elements s) (begin_step s caller (Sem id)))) s (begin_step s caller (Sem id)))
+      by None none = leaves n few _ _ (stepping_unknown (λ x. begun x caller (Sem id) until (serves (elements s) (begin_step s caller (Sem id)))) s id.0 (semaphore.begin (waiter s caller)) none) tt
+      by (Some q) here =
+          let got = sem.begin_get (waiter s caller) q in
+          let p = got.1 in
+          let serving : serves (elements s) (begin_step s caller (Sem id)) ≡ (if got.0 then Some Done else None) =
+          ap (λ (o : Option Semaphore). option_map_or (λ (x : Semaphore). semaphore.sem_serves x (semaphore.begin (waiter s caller))) o None) here in
+          leaves n few _ _ (stepping_is (λ x. begun x caller (Sem id) until (serves (elements s) (begin_step s caller (Sem id)))) s id.0 (semaphore.begin (waiter s caller)) q p Begun here refl
+          ∙ ap (λ (o : Option Reply). Ok (Begun, begun (with_elements s (record { sems = slice_set s.sems id.0 p })) caller (Sem id) until o)) serving)
+          (served q p got.0 here refl)
+
+  kept_by_each : KeptByEach (IsProper n)
+  kept_by_each = record {
+    lined = λ s q h. record { proper = record { sound = h.proper.sound; stands = h.proper.stands; waits = h.proper.waits; ready = h.proper.ready; dated = h.proper.dated }; threads_are = h.threads_are; places = h.places };
+    banked = λ s number home b h. record { proper = record { sound = h.proper.sound; stands = h.proper.stands; waits = h.proper.waits; ready = h.proper.ready; dated = h.proper.dated }; threads_are = h.threads_are; places = h.places };
+    clocked = λ s c same h. record {
+      proper = record {
+        sound = h.proper.sound;
+        stands = h.proper.stands;
+        waits = h.proper.waits;
+        ready = h.proper.ready;
+        dated = λ t date is. h.proper.dated t date (ap (λ (ds : List (Option ℕ)). slice_index_or ds t None) (sym same) ∙ is);
+      };
+      threads_are = h.threads_are;
+      places = h.places;
+    };
+    paid = λ s before delta now h. proper_paid s before delta now h;
+    asked = λ s by step plain h. proper_asked n few s by step plain h;
+    expired = λ s thread h. proper_expired n few s thread h;
+  }
+    where
+      oob : (s : State) → IsProper n s → (t : ℕ) → is_ready s.sched t ≡ true → is_oob (stage_of s.sched t) ≡ true
+      oob s h t ready = first_true (is_oob (stage_of s.sched t)) (not (is_blocked s t)) (sym (h.proper.ready t) ∙ ready)
+
+      proper_paid : (s : State) (before delta now : ℕ) → IsProper n s → IsProper n (thread_call.paid_between s before delta now)
+      proper_paid s before delta now h = record {
+        proper = record {
+          sound = h.proper.sound;
+          stands = h.proper.stands;
+          waits = h.proper.waits;
+          ready = λ t. ready-paid (thread_call.rank_of s) s.sched before delta now t (oob s h)
+              ∙ (h.proper.ready t ∙ ap (λ (v : _). is_oob v && not (is_blocked s t)) (sym (stage-paid (thread_call.rank_of s) s.sched before delta now t)));
+          dated = h.proper.dated;
+        };
+        threads_are = h.threads_are;
+        places = h.places;
+      }
+
+  kept_by_own : (s : State) (caller : ℕ) → KeptByOwn (IsProper n) s caller
+  kept_by_own s caller = record {
+    threads = λ asked step is passed h. proper_threads s caller step (passed_all s caller asked (ap ends_a_wait is) passed).idle h;
+    begun = λ asked on until is passed h. proper_beginning s caller on until (passed_all s caller asked (ap ends_a_wait is) passed) h;
+    ended = λ keep h. proper_finish s caller keep h;
+  }
+
+-- a new kernel
+opened_sound : (counts : List ℕ) (k : ℕ) (q : Semaphore) → slice_get (map sem.opened counts) k ≡ Some q → IsSoundSemaphore q
+opened_sound [] k q e = absurd (none_some e)
+opened_sound (c ∷ counts) zero q e = subst IsSoundSemaphore (some_is e) (record {
+  count = record { rests = λ some. absurd (false≢true (sym some)); few = omega arith };
+  queue = record { ranked = tt; few = λ t e. absurd (false≢true e) };
+})
+opened_sound (c ∷ counts) (suc k) q e = opened_sound counts k q e
+
+proper_opening : (board : Board) (bank : List Handler) → IsProper board.threads (opening board bank)
+unfolding threads.opening clocks.opening
+proper_opening board bank = record {
+  proper = record {
+    sound = λ k q. opened_sound board.sems.items k q;
+    stands = λ on t stands. absurd (false≢true (sym (nobody on t) ∙ stands));
+    waits = λ on t is. absurd (none_some (sym (no_wait t) ∙ is));
+    ready = λ t. sym (ap (λ (o : Option Seat). is_oob (option_map_or (λ (seat : Seat). seat.stage) o Inband) && not (is_blocked (opening board bank) t)) (at-none {A = Seat} board.threads t));
+    dated = λ t date is. absurd (none_some (sym (at-none {A = ℕ} 64 t) ∙ is));
+  };
+  threads_are = refl;
+  places = length-replicate board.threads None;
+}
+  where
+    no_wait : (t : ℕ) → wait_of (replicate board.threads None) t ≡ None
+    no_wait t = at-none {A = Wait} board.threads t
+
+    nobody : (on : Awaited) (t : ℕ) → stands_for (record { sems = map sem.opened board.sems.items }) on t ≡ false
+    nobody (Sem id) t = nobody_stands board.sems.items id.0 t
+
+pub waits_stay : WaitsStayProper
+waits_stay h legal fits =
+    let few = threads_few h.board fits in
+    (run_holds (IsProper h.board.threads) (kept_by_each h.board.threads few) (kept_by_own h.board.threads few) (opened h) h.entries h.plays h.state (proper_opening h.board h.bank) legal).proper

@@ -1,0 +1,138 @@
+-- In every legal history the waits are proper: queues, waits, the ready list and deadlines agree.
+use Rattle.std.proofs.Common.{◌≡◌, ℕ, zero, suc, ◌==◌, ◌⊎◌, inl, inr, Bool, true, false, not, ◌&&◌, List, [], ◌∷◌, Option, Some, None, is_none, slice_get, slice_set, slice_index_or, refl, sym, ap, ◌∙◌, subst, arith}
+use Rattle.std.specs.Option.{option_map, option_map_or}
+use Rattle.std.proofs.lemmas.Bool.{false≢true}
+use Rattle.std.proofs.lemmas.Bool.Decides.{nat_tests}
+use Rattle.evl_base.specs.declared.reply.Reply.{Reply}
+use Rattle.evl_clock.specs.Clocks.{deadline_at}
+use Rattle.evl_sched.specs.Threads.{Sched, is_oob, is_ready, readied, stage_of}
+use Rattle.evl_sched.proofs.ReadyLaws.{ready-other}
+use Rattle.evl_sync.specs.Semaphores.{Semaphore, IsSoundSemaphore}
+use Rattle.evl_kernel.specs.declared.waits.Awaited.{Awaited}
+use Rattle.evl_kernel.specs.declared.waits.Wait.{Wait}
+use Rattle.evl_kernel.specs.States.{State, with_clock, with_sched, with_waits}
+use Rattle.evl_kernel.specs.Elements.{elements}
+use Rattle.evl_kernel.specs.Waits.{wait_of, wait_at, going_on, ended_by, woken}
+use Rattle.evl_kernel.specs.WaitOrder.{WaitsAreProper, is_blocked}
+use Rattle.evl_kernel.specs.Records.{stands_for}
+use Rattle.evl_kernel.proofs.ReadyLaws.{ReadyAnew, ready-as}
+use Rattle.evl_kernel.proofs.WaitRecords.{index_there}
+
+none_some : {A : Type 0} {x : A} → None ≡ Some x → ⊥
+none_some e = cc
+
+some_is : {A : Type 0} {x y : A} → Some x ≡ Some y → x ≡ y
+some_is e = cc
+
+same_number : (m n : ℕ) → (m == n) ≡ true → m ≡ n
+same_number m n e = grind (arith, nat_tests)
+
+swapped : (m n : ℕ) → (m == n) ≡ false → (n == m) ≡ false
+swapped m n e = grind (arith, nat_tests)
+
+-- what stands where something was set: that, or nothing
+pub index_set : {A : Type 0} (xs : List (Option A)) (m : ℕ) (v : Option A) → (slice_index_or (slice_set xs m v) m None ≡ v) ⊎ (slice_index_or (slice_set xs m v) m None ≡ None)
+index_set [] m v = inr refl
+index_set (x ∷ xs) zero v = inl refl
+index_set (x ∷ xs) (suc m) v = index_set xs m v
+
+-- the thread has another wait now, and all others the same
+module _ (s : State) (thread : ℕ) (wait : Option Wait) where
+  pub wait_there : (t : ℕ) → (t == thread) ≡ false → wait_of (slice_set s.waits thread wait) t ≡ wait_at s t
+  wait_there t ne = index_there s.waits thread t wait None (swapped t thread ne)
+
+-- all is proper but for one thread
+pub record ProperBut (s : State) (thread : ℕ) : Type 0 where
+  pub sound : (n : ℕ) (q : Semaphore) → slice_get s.sems n ≡ Some q → IsSoundSemaphore q
+  pub stands : (on : Awaited) (t : ℕ) → (t == thread) ≡ false → stands_for (elements s) on t ≡ true → wait_at s t ≡ Some (going_on on)
+  pub waits : (on : Awaited) (t : ℕ) → (t == thread) ≡ false → wait_at s t ≡ Some (going_on on) → stands_for (elements s) on t ≡ true
+  pub ready : (t : ℕ) → (t == thread) ≡ false → is_ready s.sched t ≡ (is_oob (stage_of s.sched t) && not (is_blocked s t))
+  pub dated : (t date : ℕ) → (t == thread) ≡ false → deadline_at s.clock t ≡ Some date → is_blocked s t ≡ true
+
+pub proper_but : (s : State) (thread : ℕ) → WaitsAreProper s → ProperBut s thread
+proper_but s thread h = record {
+  sound = h.sound;
+  stands = λ on t ne. h.stands on t;
+  waits = λ on t ne. h.waits on t;
+  ready = λ t ne. h.ready t;
+  dated = λ t date ne. h.dated t date;
+}
+
+and_true : (b : Bool) → (b && true) ≡ b
+and_true true = refl
+and_true false = refl
+
+-- Whatever becomes of a thread that stands nowhere, where its wait doesn't go on, it is ready as its stage says, and it has
+-- no deadline.
+module _ (s : State) (thread : ℕ) (h : ProperBut s thread) (away : (on : Awaited) → stands_for (elements s) on thread ≡ false)
+    (waits : List (Option Wait)) (beside : (t : ℕ) → (t == thread) ≡ false → wait_of waits t ≡ wait_at s t)
+    (over : option_map_or (λ (w : Wait). is_none w.outcome) (wait_of waits thread) false ≡ false)
+    (sched : Sched) (anew : ReadyAnew s.sched sched thread) (deadlines : List (Option ℕ))
+    (none : (date : ℕ) → slice_index_or deadlines thread None ≡ Some date → ⊥)
+    (same : (t : ℕ) → (t == thread) ≡ false → slice_index_or deadlines t None ≡ deadline_at s.clock t) where
+  abbrev pub freed : State
+  freed = with_sched (with_clock (with_waits s waits) (record s.clock { deadlines = deadlines })) sched
+
+  blocked_there : (t : ℕ) → (t == thread) ≡ false → is_blocked freed t ≡ is_blocked s t
+  blocked_there t ne = ap (λ (o : Option Wait). option_map_or (λ (w : Wait). is_none w.outcome) o false) (beside t ne)
+
+  pub proper_freed : WaitsAreProper freed
+  proper_freed = record {
+    sound = h.sound;
+    stands = λ on t stands. stood on t stands (t == thread) refl;
+    waits = λ on t is. waited on t is (t == thread) refl;
+    ready = λ t. is_ready_ t (t == thread) refl;
+    dated = λ t date is. is_dated t date is (t == thread) refl;
+  }
+    where
+      stood : (on : Awaited) (t : ℕ) → stands_for (elements s) on t ≡ true → (b : Bool) → (t == thread) ≡ b → wait_of waits t ≡ Some (going_on on)
+      stood on t stands true is = absurd (false≢true (sym (away on) ∙ (ap (λ (m : ℕ). stands_for (elements s) on m) (sym (same_number t thread is)) ∙ stands)))
+      stood on t stands false ne = beside t ne ∙ h.stands on t ne stands
+
+      never : (on : Awaited) → wait_of waits thread ≡ Some (going_on on) → ⊥
+      never on is = false≢true (sym over ∙ ap (λ (o : Option Wait). option_map_or (λ (w : Wait). is_none w.outcome) o false) is)
+
+      waited : (on : Awaited) (t : ℕ) → wait_of waits t ≡ Some (going_on on) → (b : Bool) → (t == thread) ≡ b → stands_for (elements s) on t ≡ true
+      waited on t its true is = absurd (never on (ap (wait_of waits) (sym (same_number t thread is)) ∙ its))
+      waited on t its false ne = h.waits on t ne (sym (beside t ne) ∙ its)
+
+      is_ready_ : (t : ℕ) (b : Bool) → (t == thread) ≡ b → is_ready sched t ≡ (is_oob (stage_of sched t) && not (is_blocked freed t))
+      is_ready_ t true is =
+          subst (λ (m : ℕ). is_ready sched m ≡ (is_oob (stage_of sched m) && not (is_blocked freed m))) (sym (same_number t thread is))
+          (anew.itself ∙ sym (ap (λ (c : Bool). is_oob (stage_of sched thread) && not c) over ∙ and_true (is_oob (stage_of sched thread))))
+      is_ready_ t false ne =
+          anew.others t ne ∙ (h.ready t ne ∙ ((λ i. is_oob (sym (anew.stages t ne) i) && not (sym (blocked_there t ne) i))))
+
+      is_dated : (t date : ℕ) → slice_index_or deadlines t None ≡ Some date → (b : Bool) → (t == thread) ≡ b → is_blocked freed t ≡ true
+      is_dated t date its true is = absurd (none date (ap (λ (m : ℕ). slice_index_or deadlines m None) (sym (same_number t thread is)) ∙ its))
+      is_dated t date its false ne = blocked_there t ne ∙ h.dated t date ne (sym (same t ne) ∙ its)
+
+abbrev pub over_if : Option Wait → Type 0
+over_if o = option_map_or (λ (w : Wait). is_none w.outcome) o false ≡ false
+
+-- what is set is over, and so is what stands there then
+pub over_set : (waits : List (Option Wait)) (thread : ℕ) (wait : Option Wait) → over_if wait → over_if (wait_of (slice_set waits thread wait) thread)
+over_set waits thread wait h = by (index_set waits thread wait)
+  where
+    by : (wait_of (slice_set waits thread wait) thread ≡ wait) ⊎ (wait_of (slice_set waits thread wait) thread ≡ None) → over_if (wait_of (slice_set waits thread wait) thread)
+    by (inl is) = ap (λ (o : Option Wait). option_map_or (λ (w : Wait). is_none w.outcome) o false) is ∙ h
+    by (inr is) = ap (λ (o : Option Wait). option_map_or (λ (w : Wait). is_none w.outcome) o false) is
+
+-- a wait ends
+pub proper_woken : (s : State) (thread : ℕ) (outcome : Reply) → ProperBut s thread → ((on : Awaited) → stands_for (elements s) on thread ≡ false) → WaitsAreProper (woken s thread outcome)
+proper_woken s thread outcome h away =
+    proper_freed s thread h away (slice_set s.waits thread (option_map (ended_by outcome) (wait_at s thread))) (wait_there s thread (option_map (ended_by outcome) (wait_at s thread)))
+    (over_set s.waits thread (option_map (ended_by outcome) (wait_at s thread)) (over_now (wait_at s thread))) (readied s.sched thread)
+    (record { itself = ready-as s.sched thread; others = λ t ne. ready-other s.sched thread t ne; stages = λ t ne. refl })
+    (slice_set s.clock.deadlines thread None) none (λ t ne. index_there s.clock.deadlines thread t None None (swapped t thread ne))
+  where
+    over_now : (o : Option Wait) → over_if (option_map (ended_by outcome) o)
+    over_now None = refl
+    over_now (Some w) = refl
+
+    none : (date : ℕ) → slice_index_or (slice_set s.clock.deadlines thread None) thread None ≡ Some date → ⊥
+    none date is = by (index_set s.clock.deadlines thread None)
+      where
+        by : (slice_index_or (slice_set s.clock.deadlines thread None) thread None ≡ None) ⊎ (slice_index_or (slice_set s.clock.deadlines thread None) thread None ≡ None) → ⊥
+        by (inl nothing) = none_some (sym nothing ∙ is)
+        by (inr nothing) = none_some (sym nothing ∙ is)
