@@ -7,6 +7,7 @@ use Rattle.evl_xbuf.specs.declared.waiters.Reader.{Reader}
 use Rattle.evl_xbuf.specs.declared.waiters.Writer.{Writer}
 use Rattle.evl_xbuf.specs.Streams as streams
 use Rattle.evl_xbuf.specs.Streams.{Stream, Wrote, Got}
+use Rattle.evl_xbuf.specs.Flows.{Write, Read, BeginWrite, BeginRead, Drop, run}
 use Rattle.evl_xbuf.specs.Xbufs as xbufs
 use Rattle.evl_xbuf.specs.Xbufs.{Xbuf}
 
@@ -73,6 +74,9 @@ flags_and_buffers_1-behind = refl
 flags_and_buffers_1-served : xbufs.try_read Oob In 9 (with_writer (0x62 ∷ 0x63 ∷ 0x64 ∷ [])) ≡ Ok ((0x62 ∷ 0x63 ∷ 0x64 ∷ [], Wrote 0 ∷ []), holds (0x65 ∷ 0x66 ∷ 0x67 ∷ 0x68 ∷ []))
 flags_and_buffers_1-served = refl
 
+flags_and_buffers_1-last : xbufs.try_read Oob In 9 (holds (0x65 ∷ 0x66 ∷ 0x67 ∷ 0x68 ∷ [])) ≡ Ok ((0x65 ∷ 0x66 ∷ 0x67 ∷ 0x68 ∷ [], []), holds [])
+flags_and_buffers_1-last = refl
+
 flags_and_buffers_1-range : xbufs.try_read Oob In 257 (holds []) ≡ Err Range
 flags_and_buffers_1-range = refl
 
@@ -95,6 +99,15 @@ order_of_refusals-read = refl
 
 order_of_refusals-write : xbufs.try_write Oob In (0x61 ∷ 0x62 ∷ 0x63 ∷ 0x64 ∷ 0x65 ∷ []) (holds []) ≡ Err WrongStage
 order_of_refusals-write = refl
+
+order_of_refusals-begin_read : xbufs.begin_read 1 Inband In 257 (holds []) ≡ Err Range
+order_of_refusals-begin_read = refl
+
+order_of_refusals-begin_write : xbufs.begin_write 1 Oob In (0x61 ∷ 0x62 ∷ 0x63 ∷ 0x64 ∷ 0x65 ∷ []) (holds []) ≡ Err WrongStage
+order_of_refusals-begin_write = refl
+
+begin_write-too_big : xbufs.begin_write 1 Inband In (0x61 ∷ 0x62 ∷ 0x63 ∷ 0x64 ∷ 0x65 ∷ []) (holds []) ≡ Err TooBig
+begin_write-too_big = refl
 
 -- a write of nothing goes past waiting writers, and serves nobody
 nothing-write : xbufs.try_write Inband In [] (with_writer (0x62 ∷ [])) ≡ Ok ([], with_writer (0x62 ∷ []))
@@ -119,3 +132,13 @@ dropped-stranger = refl
 -- way `Out` has a ring of its own, which is written out-of-band
 other_way : xbufs.try_write Oob Out (0x78 ∷ []) (with_writer (0x62 ∷ [])) ≡ Ok ([], record (with_writer (0x62 ∷ [])) { outbound = record { size = 4; there = 0x78 ∷ []; writers = []; readers = [] } })
 other_way = refl
+
+-- the bytes of a waiting writer are accepted once it is served, and are read last; those of a dropped one never are
+waiting_bytes : run (Write (0x61 ∷ 0x62 ∷ 0x63 ∷ 0x64 ∷ []) ∷ BeginWrite 0 (0x65 ∷ 0x66 ∷ []) ∷ BeginWrite 2 (0x7A ∷ []) ∷ Read 1 ∷ Drop 2 ∷ Write (0x78 ∷ []) ∷ Read 9 ∷ BeginRead 1 1 ∷ []) (streams.empty 4)
+    ≡ record { accepted = 0x61 ∷ 0x62 ∷ 0x63 ∷ 0x64 ∷ 0x65 ∷ 0x66 ∷ []; taken = 0x61 ∷ 0x62 ∷ 0x63 ∷ 0x64 ∷ 0x65 ∷ []; after = record { size = 4; there = 0x66 ∷ []; writers = []; readers = [] } }
+waiting_bytes = refl
+
+-- a waiting reader takes its bytes once it is served
+waiting_reader : run (BeginRead 1 2 ∷ Write (0x61 ∷ 0x62 ∷ 0x63 ∷ []) ∷ []) (streams.empty 4)
+    ≡ record { accepted = 0x61 ∷ 0x62 ∷ 0x63 ∷ []; taken = 0x61 ∷ 0x62 ∷ []; after = record { size = 4; there = 0x63 ∷ []; writers = []; readers = [] } }
+waiting_reader = refl

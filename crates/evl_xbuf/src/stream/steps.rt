@@ -59,8 +59,6 @@ impl<A: Allocator> Stream<A> {
         if self.can_write(bytes) {
             return Ok(Some(self.write(bytes)));
         }
-        // what is kept of a way is known where one of its fields is used
-        let _ = &self.size;
         self.add_writer(thread, bytes);
         Ok(None)
     }
