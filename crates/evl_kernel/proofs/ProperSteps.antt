@@ -4,6 +4,7 @@ use Rattle.std.specs.Option.{option_map_or}
 use Rattle.std.proofs.lemmas.Bool.{false≢true}
 use Rattle.std.proofs.lemmas.Bool.Decides.{nat_tests}
 use Rattle.std.proofs.lemmas.List.{length-set, length-replicate}
+use Rattle.evl_base.specs.Board.{board_fits}
 use Rattle.evl_base.specs.declared.board.Board.{Board}
 use Rattle.evl_base.specs.declared.call.Call.{Call}
 use Rattle.evl_base.specs.declared.numbers.SemId.{SemId}
@@ -38,7 +39,7 @@ use Rattle.evl_kernel.specs.TimerCalls.{posted_if}
 use Rattle.evl_kernel.specs.Families.{ThreadStep, attach, detach, set_policy, set_stage, pick, tell_rank, thread_effect, task_of}
 use Rattle.evl_kernel.specs.Serving.{ends_a_wait, general_refusal}
 use Rattle.evl_kernel.specs.Openings.{opening}
-use Rattle.evl_kernel.specs.Histories.{opened}
+use Rattle.evl_kernel.specs.Histories.{History, IsLegal, opened}
 use Rattle.evl_kernel.specs.WaitOrder.{WaitsAreProper, WaitsStayProper, is_blocked}
 use Rattle.evl_kernel.specs.Records.{WaitsAreKept, stands_for}
 use Rattle.evl_kernel.proofs.LeavesLaws.{Leaves, leaves-refused}
@@ -115,7 +116,7 @@ pub record Passed (s : State) (caller : ℕ) : Type 0 where
   pub idle : wait_at s caller ≡ None
   pub there : caller < s.threads
 
-passed_all : (s : State) (caller : ℕ) (asked : Call) → ends_a_wait (task_of asked) ≡ false → general_refusal s caller asked ≡ None → Passed s caller
+pub passed_all : (s : State) (caller : ℕ) (asked : Call) → ends_a_wait (task_of asked) ≡ false → general_refusal s caller asked ≡ None → Passed s caller
 passed_all s caller asked other = by (ends_a_wait (task_of asked)) other (wait_at s caller) refl (nat_le s.threads caller) refl
   where
     below : (a b : ℕ) → nat_le a b ≡ false → b < a
@@ -128,7 +129,7 @@ passed_all s caller asked other = by (ends_a_wait (task_of asked)) other (wait_a
     by false e None its true is h = absurd (some_none h)
     by false e None its false is h = record { idle = its; there = below s.threads caller is }
 
-over_none : (s : State) (thread : ℕ) → wait_at s thread ≡ None → over_if (wait_at s thread)
+pub over_none : (s : State) (thread : ℕ) → wait_at s thread ≡ None → over_if (wait_at s thread)
 over_none s thread none = ap (λ (o : Option Wait). option_map_or (λ (w : Wait). is_none w.outcome) o false) none
 
 module _ (n : ℕ) (few : n ≤ 64) where
@@ -330,10 +331,10 @@ module _ (n : ℕ) (few : n ≤ 64) where
         places = h.places;
       }
 
-  kept_by_own : (s : State) (caller : ℕ) → KeptByOwn (IsProper n) s caller
-  kept_by_own s caller = record {
-    threads = λ asked step is passed h. proper_threads s caller step (passed_all s caller asked (ap ends_a_wait is) passed).idle h;
-    begun = λ asked on until is passed h. proper_beginning s caller on until (passed_all s caller asked (ap ends_a_wait is) passed) h;
+  kept_by_own : (s : State) (caller : ℕ) (asked : Call) → KeptByOwn (IsProper n) s caller asked
+  kept_by_own s caller asked = record {
+    threads = λ step is passed h. proper_threads s caller step (passed_all s caller asked (ap ends_a_wait is) passed).idle h;
+    begun = λ on until is passed h. proper_beginning s caller on until (passed_all s caller asked (ap ends_a_wait is) passed) h;
     ended = λ keep h. proper_finish s caller keep h;
   }
 
@@ -366,7 +367,10 @@ proper_opening board bank = record {
     nobody : (on : Awaited) (t : ℕ) → stands_for (record { sems = map sem.opened board.sems.items }) on t ≡ false
     nobody (Sem id) t = nobody_stands board.sems.items id.0 t
 
-pub waits_stay : WaitsStayProper
-waits_stay h legal fits =
+pub proper_at : (h : History) → IsLegal h → board_fits h.board ≡ true → IsProper h.board.threads h.state
+proper_at h legal fits =
     let few = threads_few h.board fits in
-    (run_holds (IsProper h.board.threads) (kept_by_each h.board.threads few) (kept_by_own h.board.threads few) (opened h) h.entries h.plays h.state (proper_opening h.board h.bank) legal).proper
+    run_holds (IsProper h.board.threads) (kept_by_each h.board.threads few) (kept_by_own h.board.threads few) (opened h) h.entries h.plays h.state (proper_opening h.board h.bank) legal
+
+pub waits_stay : WaitsStayProper
+waits_stay h legal fits = (proper_at h legal fits).proper

@@ -4,6 +4,7 @@ use Rattle.std.proofs.Common.{◌≡◌, ◌≢◌, ℕ, ◌-◌, zero, suc, ◌
 use Rattle.std.specs.Option.{option_map, option_map_or}
 use Rattle.std.proofs.lemmas.Bool.Decides.{nat_tests}
 use Rattle.std.proofs.lemmas.List.{length-replicate, length-set}
+use Rattle.evl_base.specs.declared.call.Call.{Call}
 use Rattle.evl_base.specs.declared.policy.Policy.{Policy}
 use Rattle.evl_base.specs.declared.policy.Policy.TheVariants.{Fifo, Rr, Quota, Weak}
 use Rattle.evl_base.specs.declared.stage.Stage.{Stage}
@@ -48,10 +49,10 @@ module _ (Q : Sched → Type 0) (pays : (rank : ℕ → ℕ) (q : Sched) (before
   }
 
   -- where it stays true of this caller's steps on threads, and as the caller goes in-band
-  kept_by_own : (s : State) (caller : ℕ) → ((step : ThreadStep) → Holds s → Leaves Holds (thread_effect s caller step)) → ((q : Sched) → Q q → Q (threads.stage_set q caller Inband)) → KeptByOwn Holds s caller
-  kept_by_own s caller steps goes = record {
-    threads = λ asked step is passed h. steps step h;
-    begun = λ asked on until is passed h. leaves-beginning Holds kept_waiting (timed-by Holds kept_waiting (λ s h. h) (λ s thread until h. h)) s caller on until h;
+  kept_by_own : (s : State) (caller : ℕ) (asked : Call) → ((step : ThreadStep) → Holds s → Leaves Holds (thread_effect s caller step)) → ((q : Sched) → Q q → Q (threads.stage_set q caller Inband)) → KeptByOwn Holds s caller asked
+  kept_by_own s caller asked steps goes = record {
+    threads = λ step is passed h. steps step h;
+    begun = λ on until is passed h. leaves-beginning Holds kept_waiting (timed-by Holds kept_waiting (λ s h. h) (λ s thread until h. h)) s caller on until h;
     ended = λ keep h. leaves-finish Holds kept_waiting s caller keep (λ x hx. goes x.sched hx) h;
   }
 
@@ -87,7 +88,7 @@ stages_are old caller asked reply plays new step thread other =
     let each = kept_by_each Q pays queues in
     follows_holds (λ s. Q s.sched) each old (answer old caller asked) reply plays new refl
     (holds-answer (λ s. Q s.sched) each old caller asked
-    (kept_by_own Q pays queues old caller (λ step h. stage-threads thread old caller step (apart thread caller other)) (λ q h. stage-stage_set q caller Inband thread (apart thread caller other) ∙ h)) refl) step
+    (kept_by_own Q pays queues old caller asked (λ step h. stage-threads thread old caller step (apart thread caller other)) (λ q h. stage-stage_set q caller Inband thread (apart thread caller other) ∙ h)) refl) step
 
 -- there are as many seats as the board has threads
 module _ (n : ℕ) where
@@ -155,7 +156,7 @@ seats-opening board bank = length-replicate board.threads None
 pub seats_are : (h : History) → IsLegal h → length h.state.sched.seats ≡ h.board.threads
 seats_are h legal =
     let Q = Seats h.board.threads in let pays = seats-paid h.board.threads in let queues : (q : Sched) (ready : List ℕ) → Q q → Q (record q { ready = ready }) = λ q ready h. h in
-    run_holds (λ s. Q s.sched) (kept_by_each Q pays queues) (λ s caller. kept_by_own Q pays queues s caller (seats-threads h.board.threads s caller) (λ q. seats-switched h.board.threads q caller Inband)) (opened h) h.entries h.plays h.state (seats-opening h.board h.bank) legal
+    run_holds (λ s. Q s.sched) (kept_by_each Q pays queues) (λ s caller asked. kept_by_own Q pays queues s caller asked (seats-threads h.board.threads s caller) (λ q. seats-switched h.board.threads q caller Inband)) (opened h) h.entries h.plays h.state (seats-opening h.board h.bank) legal
 
 -- nobody sits past the last seat
 past_seats : (seats : List (Option Seat)) (thread : ℕ) → length seats ≤ thread → slice_index_or seats thread None ≡ None

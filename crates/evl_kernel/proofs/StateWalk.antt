@@ -61,9 +61,9 @@ pub record KeptByEach (P : State → Type 0) : Type 0 where
   pub expired : (s : State) (thread : ℕ) → P s → P (deadline_left s thread).1
 
 -- and each kind of step that is its caller's own
-pub record KeptByOwn (P : State → Type 0) (s : State) (caller : ℕ) : Type 0 where
-  pub threads : (asked : Call) (step : ThreadStep) → task_of asked ≡ on_threads step → general_refusal s caller asked ≡ None → P s → Leaves P (thread_effect s caller step)
-  pub begun : (asked : Call) (on : Awaited) (until : Option ℕ) → task_of asked ≡ begins on until → general_refusal s caller asked ≡ None → P s → Leaves P (beginning s caller on until).effect
+pub record KeptByOwn (P : State → Type 0) (s : State) (caller : ℕ) (asked : Call) : Type 0 where
+  pub threads : (step : ThreadStep) → task_of asked ≡ on_threads step → general_refusal s caller asked ≡ None → P s → Leaves P (thread_effect s caller step)
+  pub begun : (on : Awaited) (until : Option ℕ) → task_of asked ≡ begins on until → general_refusal s caller asked ≡ None → P s → Leaves P (beginning s caller on until).effect
   pub ended : (keep : Bool) → P s → Leaves P (finish s caller keep)
 
 module _ (P : State → Type 0) (k : KeptByEach P) where
@@ -103,15 +103,15 @@ module _ (P : State → Type 0) (k : KeptByEach P) where
   holds-line s (stall stage) h = k.lined s _ h
   holds-line s (unstall stage) h = k.lined s _ h
 
-  pub holds-answer : (s : State) (caller : ℕ) (asked : Call) → KeptByOwn P s caller → P s → Leaves P (answer s caller asked)
+  pub holds-answer : (s : State) (caller : ℕ) (asked : Call) → KeptByOwn P s caller asked → P s → Leaves P (answer s caller asked)
   holds-answer s caller asked own h = leaves-refused P (general_refusal s caller asked) _ (λ passed. by (task_of asked) refl (asks asked) passed)
     where
       by : (task : Task) → task_of asked ≡ task → AsksPlainly task → general_refusal s caller asked ≡ None → Leaves P (performing s caller task).effect
       by (on_lines step) is plain passed = holds-line s step h
       by (on_clock step) is plain passed = leaves-clock P kept_by_clock s step h
-      by (on_threads step) is plain passed = own.threads asked step is passed h
+      by (on_threads step) is plain passed = own.threads step is passed h
       by (on_element step) is plain passed = k.asked s (Some caller) step plain h
-      by (begins on until) is plain passed = own.begun asked on until is passed h
+      by (begins on until) is plain passed = own.begun on until is passed h
       by (ends keep) is plain passed = own.ended keep h
 
   holds-acted : (s : State) (line : ℕ) (action : Action) → P s → P (acted s line action)
@@ -159,7 +159,7 @@ module _ (P : State → Type 0) (k : KeptByEach P) where
   follows_holds old (Ok (said, changed)) reply plays new h left (is, settles) = subst P (sym settles.left) (along_holds (after_call changed) settles.last plays left settles.played)
 
   -- where every caller's own steps keep it, it holds along a run
-  pub run_holds : ((s : State) (caller : ℕ) → KeptByOwn P s caller) → (old : State) (entries : List Entry) (plays : List Play) (new : State) → P old → Run old entries plays new → P new
+  pub run_holds : ((s : State) (caller : ℕ) (asked : Call) → KeptByOwn P s caller asked) → (old : State) (entries : List Entry) (plays : List Play) (new : State) → P old → Run old entries plays new → P new
   run_holds own old [] plays new h run = subst P (sym run.1) h
   run_holds own old (e ∷ entries) plays new h (mine, rest, mid, split, (counted, step), run) =
-      run_holds own mid entries rest new (follows_holds old (answer old e.caller.0 e.call) e.reply mine mid h (holds-answer old e.caller.0 e.call (own old e.caller.0) h) step) run
+      run_holds own mid entries rest new (follows_holds old (answer old e.caller.0 e.call) e.reply mine mid h (holds-answer old e.caller.0 e.call (own old e.caller.0 e.call) h) step) run

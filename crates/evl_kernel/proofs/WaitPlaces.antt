@@ -2,6 +2,7 @@
 use Rattle.std.proofs.Common.{◌≡◌, ◌≤◌, ℕ, zero, suc, false, List, [], ◌∷◌, length, Option, None, is_some, refl, ap, ◌∙◌, arith}
 use Rattle.std.specs.Option.{option_map_or}
 use Rattle.std.proofs.lemmas.List.{length-replicate, length-set}
+use Rattle.evl_base.specs.declared.call.Call.{Call}
 use Rattle.evl_kernel.specs.declared.waits.Wait.{Wait}
 use Rattle.evl_kernel.specs.States.{State}
 use Rattle.evl_kernel.specs.Waits.{wait_of, is_waiting, has_ended, has_timed_out, is_timeout}
@@ -32,10 +33,10 @@ module _ (n : ℕ) where
     expired = λ s thread h. kept-deadline HasPlaces kept_waiting s thread h;
   }
 
-  kept_by_own : (s : State) (caller : ℕ) → KeptByOwn HasPlaces s caller
-  kept_by_own s caller = record {
-    threads = λ asked step is passed h. leaves-threads HasPlaces (λ s q h. h) s caller step h;
-    begun = λ asked on until is passed h. leaves-beginning HasPlaces kept_waiting (timed-by HasPlaces kept_waiting (λ s h. h) (λ s thread until h. h)) s caller on until h;
+  kept_by_own : (s : State) (caller : ℕ) (asked : Call) → KeptByOwn HasPlaces s caller asked
+  kept_by_own s caller asked = record {
+    threads = λ step is passed h. leaves-threads HasPlaces (λ s q h. h) s caller step h;
+    begun = λ on until is passed h. leaves-beginning HasPlaces kept_waiting (timed-by HasPlaces kept_waiting (λ s h. h) (λ s thread until h. h)) s caller on until h;
     ended = λ keep h. leaves-finish HasPlaces kept_waiting s caller keep (λ x hx. hx) h;
   }
 

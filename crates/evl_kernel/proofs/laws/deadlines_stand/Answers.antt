@@ -1,0 +1,5 @@
+use Rattle.evl_kernel.proofs.DeadlineLaws.{deadlines_are}
+use Rattle.evl_kernel.proofs.laws.deadlines_stand.Goals as goal
+
+pub returns : goal.returns
+returns c = deadlines_are
