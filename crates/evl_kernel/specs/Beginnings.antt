@@ -1,13 +1,10 @@
 -- The calls that begin a wait.
 use Rattle.std.specs.Prelude.{ℕ, Bool, ◌∷◌, [], Option, Some, None, is_some, slice_get, if◌then◌else◌}
 use Rattle.evl_base.specs.declared.refusal.Refusal.{Refusal}
-use Rattle.evl_base.specs.declared.refusal.Refusal.TheVariants.{Unknown, WrongStage}
+use Rattle.evl_base.specs.declared.refusal.Refusal.TheVariants.{Unknown, Invalid, WrongStage}
 use Rattle.evl_sched.specs.Threads.{is_oob, refused_first, stage_of}
 use Rattle.evl_sched.specs.Calls.{stranger_refusal}
-use Rattle.evl_base.specs.declared.take.Take.{Take}
 use Rattle.evl_sync.specs.FlagGroups.{take_refusal}
-use Rattle.evl_sync.specs.declared.flag_waiter.FlagWaiter.{FlagWaiter}
-use Rattle.evl_sync.specs.declared.waiter.Waiter.{Waiter}
 use Rattle.evl_kernel.specs.declared.waits.Awaited.{Awaited}
 use Rattle.evl_kernel.specs.declared.waits.Awaited.TheVariants.{Sem, Flags}
 use Rattle.evl_kernel.specs.declared.waits.Wanted.{Wanted}
@@ -29,6 +26,9 @@ abbrev pub awaited : Wanted → Awaited
 awaited (wanted.Sem id) = Sem id
 awaited (wanted.Flags id kind) = Flags id
 
+abbrev pub allowed_if : Bool → Option Refusal
+allowed_if allowed = if allowed then None else Some Invalid
+
 -- what is wanted isn't allowed in this form
 abbrev pub form_refusal : Wanted → Option Refusal
 form_refusal (wanted.Sem id) = None
@@ -46,18 +46,14 @@ waiter_refusal s thread wanted = refused_first (stranger_refusal s.sched thread)
 abbrev pub begin_refusal : State → ℕ → Wanted → Option Refusal
 begin_refusal s thread wanted = refused_first (if is_there (elements s) (awaited wanted) then None else Some Unknown) (waiter_refusal s thread wanted)
 
--- a thread that begins to wait, with the rank that it has then
-abbrev pub waiter : State → ℕ → Waiter
-waiter s thread = record { thread = thread; rank = rank_of s thread }
+-- the step of the element with which a wait of a thread of this rank begins
+abbrev pub step_of_waiter : ℕ → ℕ → Wanted → ElementStep
+step_of_waiter thread rank (wanted.Sem id) = on_sem id.0 (semaphore.begin (record { thread = thread; rank = rank }))
+step_of_waiter thread rank (wanted.Flags id kind) = on_flags id.0 (group.begin (record { thread = thread; rank = rank; kind = kind }))
 
--- and one that wants bits
-abbrev pub flag_waiter : State → ℕ → Take → FlagWaiter
-flag_waiter s thread kind = record { thread = thread; rank = rank_of s thread; kind = kind }
-
--- the step of the element with which a wait for it begins
+-- with the rank that it has then
 abbrev pub begin_step : State → ℕ → Wanted → ElementStep
-begin_step s thread (wanted.Sem id) = on_sem id.0 (semaphore.begin (waiter s thread))
-begin_step s thread (wanted.Flags id kind) = on_flags id.0 (group.begin (flag_waiter s thread kind))
+begin_step s thread wanted = step_of_waiter thread (rank_of s thread) wanted
 
 -- a wait begins, until the deadline where there is one
 abbrev pub beginning : State → ℕ → Wanted → Option ℕ → Told

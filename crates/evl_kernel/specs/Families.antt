@@ -4,12 +4,13 @@ use Rattle.std.specs.Prelude.{ℕ, Bool, true, false, Option, Some}
 use Rattle.evl_base.specs.declared.stage.Stage.{Stage}
 use Rattle.evl_base.specs.declared.policy.Policy.{Policy}
 use Rattle.evl_base.specs.declared.call.Call.{Call}
-use Rattle.evl_base.specs.declared.call.Call.TheVariants.{Request, Free, Arrive, Post, Stall, Unstall, Tick, Now, NewTimer, StartTimer, StopTimer, DropTimer, Overruns, Attach, Detach, SetPolicy, SetStage, Pick, RankOf, TryGet, Put, Peek, BeginGet, Finish}
-use Rattle.evl_kernel.specs.declared.waits.Awaited.{Awaited}
-use Rattle.evl_kernel.specs.declared.waits.Awaited.TheVariants.{Sem}
+use Rattle.evl_base.specs.declared.call.Call.TheVariants.{Request, Free, Arrive, Post, Stall, Unstall, Tick, Now, NewTimer, StartTimer, StopTimer, DropTimer, Overruns, Attach, Detach, SetPolicy, SetStage, Pick, RankOf, TryGet, Put, Peek, BeginGet, TryTake, PostFlags, PeekFlags, BeginTake, Finish}
+use Rattle.evl_kernel.specs.declared.waits.Wanted.{Wanted}
+use Rattle.evl_kernel.specs.declared.waits.Wanted.TheVariants as wanted
 use Rattle.evl_kernel.specs.States.{State}
 use Rattle.evl_kernel.specs.Effects.{Effect}
 use Rattle.evl_kernel.specs.Semaphores.{get, put, peek}
+use Rattle.evl_kernel.specs.FlagGroups as group
 use Rattle.evl_kernel.specs.Elements.{ElementStep, on_sem, on_flags, Told, touched, untouched}
 use Rattle.evl_kernel.specs.Beginnings.{beginning}
 use Rattle.evl_kernel.specs.Endings.{finish}

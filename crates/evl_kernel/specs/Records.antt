@@ -1,5 +1,5 @@
 -- The kernel's records as contracts see them, and what they mean.
-use Rattle.std.specs.Prelude.{◌≡◌, ◌≤◌, ℕ, Bool, true, false, List, length, map, Option, Some, is_some, slice_get}
+use Rattle.std.specs.Prelude.{◌≡◌, ◌≤◌, ℕ, true, List, length, map, Option, Some, is_some, slice_get}
 use Rattle.std.specs.Option.{option_map_or}
 use Rattle.evl_base.specs.declared.board.Board.{Board}
 use Rattle.evl_base.specs.declared.stage.Stage.{Stage}

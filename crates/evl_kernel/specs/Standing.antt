@@ -1,6 +1,8 @@
 -- Who stands in the queues of the elements.
-use Rattle.std.specs.Prelude.{ℕ, Bool, true, false, ◌≡◌, List, Option, Some, slice_get}
+use Rattle.std.specs.Prelude.{ℕ, Bool, false, ◌≡◌, ◌==◌, List, Some, slice_get}
+use Rattle.std.specs.List.{list_any}
 use Rattle.std.specs.Option.{option_map_or}
+use Rattle.evl_base.specs.declared.reply.Reply.{Reply}
 use Rattle.evl_sync.specs.Queues.{stands_in}
 use Rattle.evl_sync.specs.Semaphores.{Semaphore, IsSoundSemaphore}
 use Rattle.evl_sync.specs.FlagGroups.{FlagGroup, IsSoundGroup}
@@ -22,6 +24,10 @@ stands_at has xs n thread = option_map_or (λ x. has x thread) (slice_get xs n) 
 abbrev pub stands_for : Elements → Awaited → ℕ → Bool
 stands_for e (Sem id) thread = stands_at in_sem e.sems id.0 thread
 stands_for e (Flags id) thread = stands_at in_flags e.flags id.0 thread
+
+-- the thread is among those who are served
+abbrev pub is_served : ℕ → List (ℕ × Reply) → Bool
+is_served thread served = list_any (λ one. one.0 == thread) served
 
 -- what is known of each element
 pub record AreSound (e : Elements) : Type 0 where
