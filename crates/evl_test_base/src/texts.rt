@@ -1,7 +1,7 @@
 //! Texts, numbers and names.
 use evl_base::{
-    Call, FlagId, LineNo, Play, Policy, Refusal, Reply, SemId, Spares, Stage, Take, ThreadId, TimerId,
-    Transfer, Way, put_call, put_play, put_reply,
+    Call, FlagId, LineNo, Play, Policy, Refusal, Reply, SemId, Spares, Stage, Take, ThreadId,
+    TimerId, Transfer, Way, put_call, put_play, put_reply,
 };
 use std::alloc::Global;
 use std::test::*;
