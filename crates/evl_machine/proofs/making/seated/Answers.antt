@@ -1,4 +1,4 @@
-use Rattle.std.proofs.Common.{◌≡◌, [], ◌∷◌, ◌++◌, Some, sym, ap, ◌∙◌, subst}
+use Rattle.std.proofs.Common.{◌≡◌, [], sym, ap, ◌∙◌, subst}
 use Rattle.evl_kernel.specs.Histories.{IsLegal}
 use Rattle.evl_kernel.specs.KernelViews.{KernelView}
 use Rattle.evl_machine.specs.Accounts.{threads_of}
@@ -6,8 +6,8 @@ use Rattle.evl_machine.specs.Known.{first_known}
 use Rattle.evl_machine.proofs.Seating.{opens_as}
 use Rattle.evl_machine.proofs.making.seated.Goals as goal
 
-pub new-requires-2 : goal.new-requires-2
-new-requires-2 g c = opens_as c.args.kernel _ _ c.of-key.ensures (c.in_ok-push.ensures.items ∙ (λ j. c.in_ok-slots.ensures.items j ++ Some (c.in_ok-new.ensures j) ∷ [])) c.requires.new.0 c.requires.new.1
+pub new-requires : goal.new-requires
+new-requires g c = opens_as c.args.kernel _ _ c.of-key.ensures c.in_ok-slots.ensures c.requires.new.0 c.requires.new.1
 
 pub seat_callers-requires-clause-new : goal.seat_callers-requires-clause-new
 seat_callers-requires-clause-new g c =
