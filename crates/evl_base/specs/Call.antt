@@ -2,10 +2,12 @@
 use Rattle.std.specs.Prelude.{ℕ, Bool, true, false, List, ◌++◌, Option, Some, None, codes}
 use Rattle.std.specs.Fmt.{decimal}
 use Rattle.evl_base.specs.declared.call.Call.{Call}
-use Rattle.evl_base.specs.declared.call.Call.TheVariants.{Request, Free, Arrive, Post, Stall, Unstall, Tick, Now, NewTimer, StartTimer, StopTimer, DropTimer, Overruns, Attach, Detach, SetPolicy, SetStage, Pick, RankOf, TryGet, Put, Peek, BeginGet, Finish}
+use Rattle.evl_base.specs.declared.call.Call.TheVariants.{Request, Free, Arrive, Post, Stall, Unstall, Tick, Now, NewTimer, StartTimer, StopTimer, DropTimer, Overruns, Attach, Detach, SetPolicy, SetStage, Pick, RankOf, TryGet, Put, Peek, BeginGet, TryTake, PostFlags, PeekFlags, BeginTake, Finish}
 use Rattle.evl_base.specs.declared.stage.Stage.{Stage}
+use Rattle.evl_base.specs.declared.take.Take.{Take}
 use Rattle.evl_base.specs.Policy.{policy_text}
 use Rattle.evl_base.specs.Stage.{stage_text}
+use Rattle.evl_base.specs.Take.{take_text}
 
 abbrev pub line_and_stage_text : ℕ → Stage → List ℕ
 line_and_stage_text line stage = codes "line=" ++ (decimal line ++ (codes " stage=" ++ stage_text stage))
@@ -15,6 +17,9 @@ stage_and_line_text stage line = codes "stage=" ++ (stage_text stage ++ (codes "
 
 abbrev pub date_and_interval_text : ℕ → ℕ → List ℕ
 date_and_interval_text date interval = codes "date=" ++ (decimal date ++ (codes " interval=" ++ decimal interval))
+
+abbrev pub flags_and_kind_text : ℕ → Take → List ℕ
+flags_and_kind_text flags kind = codes "flags=" ++ (decimal flags ++ (codes " kind=" ++ take_text kind))
 
 -- the date of a deadline, or `none`
 abbrev pub until_text : Option ℕ → List ℕ
@@ -51,4 +56,8 @@ call_text (TryGet sem) = codes "try_get sem=" ++ decimal sem.0
 call_text (Put sem) = codes "put sem=" ++ decimal sem.0
 call_text (Peek sem) = codes "peek sem=" ++ decimal sem.0
 call_text (BeginGet sem until) = codes "begin_get sem=" ++ (decimal sem.0 ++ (codes " until=" ++ until_text until))
+call_text (TryTake flags kind) = codes "try_take " ++ flags_and_kind_text flags.0 kind
+call_text (PostFlags flags bits) = codes "post_flags flags=" ++ (decimal flags.0 ++ (codes " bits=" ++ decimal bits))
+call_text (PeekFlags flags) = codes "peek_flags flags=" ++ decimal flags.0
+call_text (BeginTake flags kind until) = codes "begin_take " ++ (flags_and_kind_text flags.0 kind ++ (codes " until=" ++ until_text until))
 call_text (Finish keep) = codes "finish keep=" ++ truth_text keep

@@ -1,9 +1,10 @@
 //! The calls of the kernel.
 ghost use Rattle.std.specs.Prelude.{◌≡◌};
 
-use crate::numbers::{LineNo, SemId, ThreadId, TimerId};
+use crate::numbers::{FlagId, LineNo, SemId, ThreadId, TimerId};
 use crate::policy::Policy;
 use crate::stage::Stage;
+use crate::take::Take;
 
 /// A call of the kernel (Xenomai 4: EVL elements; the forms are this profile's).
 #[derive(Debug, Drop)]
@@ -104,6 +105,26 @@ pub enum Call {
         sem: SemId,
         until: Option<u64>,
     },
+    /// Takes bits of a flag group.
+    TryTake {
+        flags: FlagId,
+        kind: Take,
+    },
+    /// Posts bits to a flag group.
+    PostFlags {
+        flags: FlagId,
+        bits: u32,
+    },
+    /// Asks for the bits of a flag group.
+    PeekFlags {
+        flags: FlagId,
+    },
+    /// Begins a wait for bits of a flag group, until a date in nanoseconds, or without a deadline.
+    BeginTake {
+        flags: FlagId,
+        kind: Take,
+        until: Option<u64>,
+    },
     /// Asks what ended the caller's wait; a weak thread goes in-band then, unless it keeps its stage.
     Finish {
         keep: bool,
@@ -170,6 +191,20 @@ impl Call {
             Call::Peek { sem } => Call::Peek { sem: *sem },
             Call::BeginGet { sem, until } => Call::BeginGet {
                 sem: *sem,
+                until: *until,
+            },
+            Call::TryTake { flags, kind } => Call::TryTake {
+                flags: *flags,
+                kind: *kind,
+            },
+            Call::PostFlags { flags, bits } => Call::PostFlags {
+                flags: *flags,
+                bits: *bits,
+            },
+            Call::PeekFlags { flags } => Call::PeekFlags { flags: *flags },
+            Call::BeginTake { flags, kind, until } => Call::BeginTake {
+                flags: *flags,
+                kind: *kind,
                 until: *until,
             },
             Call::Finish { keep } => Call::Finish { keep: *keep },

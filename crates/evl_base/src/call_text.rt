@@ -1,9 +1,11 @@
-//! What a call says in a trace, by families: lines, clock, threads, semaphores and waits. A family hands on what isn't its
+//! What a call says in a trace, by families: lines, clock, threads, flag groups, semaphores and waits. A family hands on what isn't its
 //! own, so that a call costs the proof of its family alone.
 ghost use Rattle.std.specs.Prelude.{Some};
 
 use crate::call::Call;
-use crate::keys::{DateAndInterval, LineAndStage, Numbered, StageAndLine, Staged, Until};
+use crate::keys::{
+    DateAndInterval, FlagsAndKind, LineAndStage, Numbered, StageAndLine, Staged, Until,
+};
 use std::fmt;
 
 impl fmt::Display for Call {
@@ -100,6 +102,42 @@ impl<'a> fmt::Display for ThreadText<'a> {
             Call::SetStage { stage } => Staged("set_stage stage=", *stage).fmt(f),
             Call::Pick => write!(f, "pick"),
             Call::RankOf { thread } => Numbered("rank_of thread=", thread.0).fmt(f),
+            _ => FlagText(self.0).fmt(f),
+        }
+    }
+}
+
+/// The text of a call on flag groups, or of one of those below.
+#[derive(Drop)]
+struct FlagText<'a>(&'a Call);
+
+impl<'a> fmt::Display for FlagText<'a> {
+    ghost use Rattle.evl_base.specs.Call.{call_text};
+
+    ghost output = { λ text. Some (call_text text.0.now) };
+
+    fn fmt<W: fmt::Write>(&self, f: &mut fmt::Formatter<W>) -> fmt::Result {
+        match self.0 {
+            Call::TryTake { flags, kind } => {
+                let wanted = FlagsAndKind {
+                    flags: *flags,
+                    kind: *kind,
+                };
+                write!(f, "try_take {wanted}")
+            }
+            Call::PostFlags { flags, bits } => {
+                let flags = flags.0;
+                write!(f, "post_flags flags={flags} bits={bits}")
+            }
+            Call::PeekFlags { flags } => Numbered("peek_flags flags=", flags.0).fmt(f),
+            Call::BeginTake { flags, kind, until } => {
+                let wanted = FlagsAndKind {
+                    flags: *flags,
+                    kind: *kind,
+                };
+                let until = Until(*until);
+                write!(f, "begin_take {wanted} until={until}")
+            }
             _ => WaitText(self.0).fmt(f),
         }
     }
@@ -144,7 +182,11 @@ impl<'a> fmt::Display for WaitText<'a> {
             | Call::SetPolicy { .. }
             | Call::SetStage { .. }
             | Call::Pick
-            | Call::RankOf { .. } => Err(fmt::Error),
+            | Call::RankOf { .. }
+            | Call::TryTake { .. }
+            | Call::PostFlags { .. }
+            | Call::PeekFlags { .. }
+            | Call::BeginTake { .. } => Err(fmt::Error),
         }
     }
 }

@@ -1,8 +1,9 @@
 //! Keys of a call's text with their values.
 ghost use Rattle.std.specs.Prelude.{Some};
 
-use crate::numbers::LineNo;
+use crate::numbers::{FlagId, LineNo};
 use crate::stage::Stage;
+use crate::take::Take;
 use std::fmt;
 
 /// A text that ends in a number.
@@ -93,6 +94,25 @@ impl fmt::Display for DateAndInterval {
         let date = self.date;
         let interval = self.interval;
         write!(f, "date={date} interval={interval}")
+    }
+}
+
+/// The keys of a flag group and of the bits that are wanted of it.
+#[derive(Drop)]
+pub struct FlagsAndKind {
+    pub flags: FlagId,
+    pub kind: Take,
+}
+
+impl fmt::Display for FlagsAndKind {
+    ghost use Rattle.evl_base.specs.Call.{flags_and_kind_text};
+
+    ghost output = { λ wanted. Some (flags_and_kind_text wanted.flags.0 wanted.kind) };
+
+    fn fmt<W: fmt::Write>(&self, f: &mut fmt::Formatter<W>) -> fmt::Result {
+        let flags = self.flags.0;
+        let kind = self.kind;
+        write!(f, "flags={flags} kind={kind}")
     }
 }
 

@@ -10,9 +10,11 @@ use Rattle.evl_base.proofs.Crossing.{board_send, declared_send, entry_send, play
 use Rattle.evl_pipeline.proofs.Crossing.{pipeline_send}
 use Rattle.evl_clock.proofs.Crossing.{clock_send}
 use Rattle.evl_sched.proofs.Crossing.{sched_send}
-use Rattle.evl_sync.proofs.Crossing.{sem_send}
+use Rattle.evl_sync.proofs.Crossing.{flag_group_send, sem_send}
 use Rattle.evl_sync.specs.contracts.sem.Sem as Sem
+use Rattle.evl_sync.specs.contracts.flag_group.FlagGroup as FlagGroup
 use Rattle.std.specs.contracts.option.Option as Option
+use Rattle.evl_kernel.specs.contracts.elements.Elements as Elements
 use Rattle.evl_kernel.specs.contracts.waits.Wait as Wait
 use Rattle.evl_kernel.specs.contracts.bank.BankPlace as BankPlace
 use Rattle.evl_kernel.specs.contracts.bank.Numbered as Numbered
@@ -35,6 +37,14 @@ module _ (C A : RattleType) (g : Ghosts A.Denot) where
   sems_send : IsSend A → Frees g g.dealloc_token → IsSend (Vec.the_row Sem.the_row A g)
   sems_send a f = search (sem_send, crosses, sendable) depth 20
 
+  flags_send : IsSend A → Frees g g.dealloc_token → IsSend (Vec.the_row FlagGroup.the_row A g)
+  flags_send a f = search (flag_group_send, crosses, sendable) depth 20
+
+  elements_send : IsSend A → Frees g g.dealloc_token → IsSend (Elements.the_row A g)
+  elements_send a f =
+      let sems = sems_send a f in let flags = flags_send a f in
+      search (view_send, crosses, sendable) depth 20
+
   waits_send : IsSend A → Frees g g.dealloc_token → IsSend (Vec.the_row (Option.the_row Wait.the_row) A g)
   waits_send a f =
       let wait : IsSend Wait.the_row = search (transfer_send, declared_send, crosses, sendable) depth 40 fits 20000 in
@@ -44,7 +54,7 @@ module _ (C A : RattleType) (g : Ghosts A.Denot) where
   records_send : IsSend C → IsSend A → Frees g g.dealloc_token → IsSend (Records.the_row C A g)
   records_send s a f =
       let places = places_send C A g s a f in let lines = pipeline_send (Numbered.the_row C) A g (numbered_send C A g s) a f in
-      let clock = clock_send (Numbered.the_row C) A g (numbered_send C A g s) a f in let sched = sched_send A g a f in let sems = sems_send C A g a f in let waits = waits_send C A g a f in
+      let clock = clock_send (Numbered.the_row C) A g (numbered_send C A g s) a f in let sched = sched_send A g a f in let elements = elements_send C A g a f in let waits = waits_send C A g a f in
       search (view_send, declared_send, crosses, sendable) depth 20
 
   pub kernel_send : IsSend C → IsSend A → Frees g g.dealloc_token → IsSend (KernelOf.the_row C A g)

@@ -13,12 +13,13 @@ use Rattle.evl_base.specs.declared.reply.Reply.TheVariants.{TimedOut}
 use Rattle.evl_clock.specs.Clocks as clocks
 use Rattle.evl_clock.specs.Clocks.{deadline_at, with_deadline}
 use Rattle.evl_kernel.specs.declared.waits.Awaited.{Awaited}
+use Rattle.evl_kernel.specs.declared.waits.Wanted.{Wanted}
 use Rattle.evl_kernel.specs.declared.waits.Wait.{Wait}
-use Rattle.evl_kernel.specs.States.{State, Handler, with_clock}
+use Rattle.evl_kernel.specs.States.{Elements, State, Handler, with_clock}
 use Rattle.evl_kernel.specs.Effects.{Answered, lifted, leaving, if_done}
-use Rattle.evl_kernel.specs.Elements.{Elements, ElementStep, elements, with_elements, element, wakes, serves, stepping_to, touched}
+use Rattle.evl_kernel.specs.Elements.{ElementStep, elements, with_elements, element, wakes, serves, stepping_to, touched}
 use Rattle.evl_kernel.specs.Waits.{wait_of, wait_at, with_wait, going_on, ended_by, is_past, suspended, begun, woken, all_woken}
-use Rattle.evl_kernel.specs.Beginnings.{begin_refusal, begin_step, beginning}
+use Rattle.evl_kernel.specs.Beginnings.{awaited, begin_refusal, begin_step, beginning}
 use Rattle.evl_kernel.specs.Endings.{drop_step, finish, goes_inband, inband_if, outcome_of}
 use Rattle.evl_kernel.specs.TimerCalls.{posted_if}
 use Rattle.evl_kernel.specs.Families.{begins, task_of}
@@ -166,10 +167,11 @@ module _ (thread : ℕ) (Q : Option ℕ → Type 0) where
   }
 
   -- a wait begins, where what is left holds at once
-  dated_beginning : (s : State) (caller : ℕ) (on : Awaited) (until : Option ℕ) → ((e : Elements) (served : Option Reply) → Dated (begun (with_elements s e) caller on until served)) → Leaves Dated (beginning s caller on until).effect
-  dated_beginning s caller on until kept =
-      let step = begin_step s caller on in
-      leaves-refused Dated (begin_refusal s caller on) _ (λ none. dated_stepping (λ x. begun x caller on until (serves (elements s) step)) s step (λ e. kept e (serves (elements s) step)))
+  dated_beginning : (s : State) (caller : ℕ) (wants : Wanted) (until : Option ℕ) → ((e : Elements) (served : Option Reply) → Dated (begun (with_elements s e) caller (awaited wants) until served))
+      → Leaves Dated (beginning s caller wants until).effect
+  dated_beginning s caller wants until kept =
+      let step = begin_step s caller wants in
+      leaves-refused Dated (begin_refusal s caller wants) _ (λ none. dated_stepping (λ x. begun x caller (awaited wants) until (serves (elements s) step)) s step (λ e. kept e (serves (elements s) step)))
 
   -- of another thread
   begun_by_another : (s : State) (caller : ℕ) (on : Awaited) (until : Option ℕ) (served : Option Reply) → (thread == caller) ≡ false → Dated s → Dated (begun s caller on until served)
@@ -196,7 +198,7 @@ module _ (thread : ℕ) (Q : Option ℕ → Type 0) where
       by false = λ is. set
 
   kept_by_own : (s : State) (caller : ℕ) (asked : Call)
-      → ((on : Awaited) (until : Option ℕ) → task_of asked ≡ begins on until → general_refusal s caller asked ≡ None → Dated s → Leaves Dated (beginning s caller on until).effect)
+      → ((wants : Wanted) (until : Option ℕ) → task_of asked ≡ begins wants until → general_refusal s caller asked ≡ None → Dated s → Leaves Dated (beginning s caller wants until).effect)
       → KeptByOwn Dated s caller asked
   kept_by_own s caller asked begins_so = record {
     threads = λ step is passed h. leaves-threads Dated (λ x q hx. hx) s caller step h;
@@ -206,7 +208,7 @@ module _ (thread : ℕ) (Q : Option ℕ → Type 0) where
 
   -- another thread's call
   kept_by_another : (s : State) (caller : ℕ) (asked : Call) → (thread == caller) ≡ false → KeptByOwn Dated s caller asked
-  kept_by_another s caller asked ne = kept_by_own s caller asked (λ on until is passed h. dated_beginning s caller on until (λ e served. begun_by_another (with_elements s e) caller on until served ne h))
+  kept_by_another s caller asked ne = kept_by_own s caller asked (λ wants until is passed h. dated_beginning s caller wants until (λ e served. begun_by_another (with_elements s e) caller (awaited wants) until served ne h))
 
 pub deadlines_are : DeadlinesStand
 deadlines_are h legal fits caller asked reply plays new step thread is = record { kept = kept; begun = begun_ }
@@ -217,8 +219,8 @@ deadlines_are h legal fits caller asked reply plays new step thread is = record 
     after : (m : ℕ) (Q : Option ℕ → Type 0) → KeptByOwn (Dated m Q) old caller asked → Dated m Q old → Dated m Q new
     after m Q own was = follows_holds (Dated m Q) (kept_by_each m Q) old (answer old caller asked) reply plays new was (holds-answer (Dated m Q) (kept_by_each m Q) old caller asked own was) step
 
-    idle : (on : Awaited) (until : Option ℕ) → task_of asked ≡ begins on until → general_refusal old caller asked ≡ None → is_blocked old caller ≡ false
-    idle on until its passed = over_none old caller (passed_all old caller asked (ap ends_a_wait its) passed).idle
+    idle : (wants : Wanted) (until : Option ℕ) → task_of asked ≡ begins wants until → general_refusal old caller asked ≡ None → is_blocked old caller ≡ false
+    idle wants until its passed = over_none old caller (passed_all old caller asked (ap ends_a_wait its) passed).idle
 
     kept : is_blocked old thread ≡ true → deadline_at new.clock thread ≡ deadline_at old.clock thread
     kept was = after thread Q (by (thread == caller) refl) (λ before. refl) is
@@ -236,8 +238,8 @@ deadlines_are h legal fits caller asked reply plays new step thread is = record 
         Q : Option ℕ → Type 0
         Q date = date ≡ until_of (task_of asked)
 
-        begins_so : (on : Awaited) (until : Option ℕ) → task_of asked ≡ begins on until → general_refusal old caller asked ≡ None → Dated caller Q old → Leaves (Dated caller Q) (beginning old caller on until).effect
-        begins_so on until its passed hx = dated_beginning caller Q old caller on until (λ e served. begun_by_itself caller Q (with_elements old e) on until served within (ap until_of (sym its)))
+        begins_so : (wants : Wanted) (until : Option ℕ) → task_of asked ≡ begins wants until → general_refusal old caller asked ≡ None → Dated caller Q old → Leaves (Dated caller Q) (beginning old caller wants until).effect
+        begins_so wants until its passed hx = dated_beginning caller Q old caller wants until (λ e served. begun_by_itself caller Q (with_elements old e) (awaited wants) until served within (ap until_of (sym its)))
           where
             within : caller < length old.clock.deadlines
             within = omega (arith, (passed_all old caller asked (ap ends_a_wait its) passed).there, (proper_at h legal fits).threads_are, threads_few h.board fits, dates_at h legal)

@@ -1,6 +1,6 @@
 -- The records of a new kernel.
 use Rattle.std.proofs.Common.{◌≡◌, ◌≤◌, ℕ, zero, suc, inl, inr, Bool, true, false, ◌&&◌, nat_le, arith, length, List, [], ◌∷◌, map, replicate, Option, Some, None, is_some, slice_get, refl, sym, ap, ◌∙◌, subst}
-use Rattle.std.specs.Option.{option_map, option_map_or}
+use Rattle.std.specs.Option.{option_map}
 use Rattle.std.specs.List.{list_all}
 use Rattle.std.proofs.lemmas.Bool.Decides.{nat_tests}
 use Rattle.evl_base.specs.Board.{board_fits}
@@ -19,17 +19,19 @@ use Rattle.evl_clock.specs.Clocks as clocks
 use Rattle.evl_pipeline.proofs.PortLaws.{at-none}
 use Rattle.evl_kernel.specs.declared.bank.BankPlace.{BankPlace}
 use Rattle.evl_kernel.specs.declared.bank.Numbered.{Numbered}
-use Rattle.evl_kernel.specs.States.{Handler}
-use Rattle.evl_kernel.specs.Openings.{opening, at_home}
+use Rattle.evl_kernel.specs.States.{Elements, Handler}
+use Rattle.evl_kernel.specs.Openings.{all_opened, opening, at_home}
 use Rattle.evl_kernel.specs.Renamed.{named, renamed, renamed_clock}
 use Rattle.evl_kernel.specs.Callbacks.{Whereabouts, AnswersAsTold, AreFilled, told}
-use Rattle.evl_kernel.specs.Records.{RecordsView, IsOpened, state_of, number_of, banked, AreAllowed, AreTimersAllowed, WaitsAreKept, stands_for}
+use Rattle.evl_kernel.specs.Records.{RecordsView, IsOpened, state_of, number_of, banked, AreAllowed, AreTimersAllowed, WaitsAreKept}
+use Rattle.evl_kernel.specs.Standing.{AreSound, in_flags, in_sem, stands_at, stands_for}
 use Rattle.evl_sched.specs.Ranks.{Ranked, fresh}
 use Rattle.evl_sync.specs.Semaphores as semaphores
-use Rattle.evl_sync.specs.Semaphores.{Semaphore}
-use Rattle.evl_sync.specs.Queues.{stands_in}
+use Rattle.evl_sync.specs.Semaphores.{IsSoundSemaphore}
+use Rattle.evl_sync.specs.FlagGroups as flags
+use Rattle.evl_sync.specs.FlagGroups.{IsSoundGroup}
 use Rattle.evl_kernel.specs.declared.waits.Awaited.{Awaited}
-use Rattle.evl_kernel.specs.declared.waits.Awaited.TheVariants.{Sem}
+use Rattle.evl_kernel.specs.declared.waits.Awaited.TheVariants.{Sem, Flags}
 use Rattle.evl_kernel.specs.declared.waits.Wait.{Wait}
 use Rattle.evl_kernel.proofs.ClockLaws.{clock-opening}
 use Rattle.evl_kernel.proofs.SchedLaws.{sched-fresh}
@@ -97,20 +99,20 @@ module _ {C : Type 0} (declared : C → ℕ) (plan : C → Plan) where
   answers-opening bank w filled nothing no_timers number callback (inr (inl out)) =
       absurd (nothing-opening out.stage out.line out.at (subst (λ (p : lines.Pipeline (Numbered C)). lines.installed_at p out.stage out.line ≡ Some out.at) nothing out.there))
 
-  pub state-opening : (board : Board) (bank : List C) (r : RecordsView C) → r.threads ≡ board.threads → r.sems ≡ map semaphores.opened board.sems.items → r.waits ≡ replicate board.threads None
+  pub state-opening : (board : Board) (bank : List C) (r : RecordsView C) → r.threads ≡ board.threads → r.elements ≡ all_opened board → r.waits ≡ replicate board.threads None
       → AreFilled declared plan bank r.bank → r.lines ≡ lines.opening → r.clock ≡ clocks.opening → r.sched ≡ fresh board.threads board.groups.items
       → state_of r ≡ opening board (map handler_made bank)
-  state-opening board bank r threads sems waits filled nothing no_timers nobody =
+  state-opening board bank r threads opened waits filled nothing no_timers nobody =
       let lines_are : renamed number_of r.lines ≡ lines.opening = ap (renamed number_of) nothing ∙ renamed-opening number_of in
       let clock_is : renamed_clock number_of r.clock ≡ clocks.opening = ap (renamed_clock number_of) no_timers ∙ clock-opening number_of in
       let sched_is = ap (λ (x : Ranked). x.sched) nobody ∙ sched-fresh board.threads board.groups.items in
-      (λ i. record { threads = threads i; sems = sems i; bank = banked-filled bank r.bank filled i; lines = lines_are i; clock = clock_is i; sched = sched_is i; waits = waits i })
+      (λ i. record { threads = threads i; elements = opened i; bank = banked-filled bank r.bank filled i; lines = lines_are i; clock = clock_is i; sched = sched_is i; waits = waits i })
 
-  pub opened_records : (board : Board) (bank : List C) (r : RecordsView C) → r.threads ≡ board.threads → r.sems ≡ map semaphores.opened board.sems.items → r.waits ≡ replicate board.threads None
+  pub opened_records : (board : Board) (bank : List C) (r : RecordsView C) → r.threads ≡ board.threads → r.elements ≡ all_opened board → r.waits ≡ replicate board.threads None
       → AreFilled declared plan bank r.bank → r.lines ≡ lines.opening → r.clock ≡ clocks.opening → r.sched ≡ fresh board.threads board.groups.items
       → IsOpened declared plan board bank r
-  opened_records board bank r threads sems waits filled nothing no_timers nobody =
-      record { filled = filled; nothing_out = nothing; no_timers = no_timers; state = state-opening board bank r threads sems waits filled nothing no_timers nobody }
+  opened_records board bank r threads opened waits filled nothing no_timers nobody =
+      record { filled = filled; nothing_out = nothing; no_timers = no_timers; state = state-opening board bank r threads opened waits filled nothing no_timers nobody }
 
 pub sound_opening : {X : Type 0} → clocks.IsSoundClock {C = X} clocks.opening
 unfolding clocks.opening
@@ -131,22 +133,39 @@ module _ {C : Type 0} (declared : C → ℕ) (plan : C → Plan) where
   pub opening-told : (board : Board) (bank : List C) (r : RecordsView C) → IsOpened declared plan board bank r → opening board (told r.bank) ≡ opening board (map (handler_made declared plan) bank)
   opening-told board bank r opened = ap (opening board) (told-filled declared plan bank r.bank opened.filled)
 
--- nobody stands in a queue of a new semaphore
-pub nobody_stands : (counts : List ℕ) (n thread : ℕ) → option_map_or (λ (q : Semaphore). stands_in (λ w. w.thread) thread q.waiters) (slice_get (map semaphores.opened counts) n) false ≡ false
-nobody_stands [] n thread = refl
-nobody_stands (c ∷ counts) zero thread = refl
-nobody_stands (c ∷ counts) (suc n) thread = nobody_stands counts n thread
+-- nobody stands in a queue of a new element
+nobody_of : {X : Type 0} (opened : ℕ → X) (has : X → ℕ → Bool) → ((c t : ℕ) → has (opened c) t ≡ false) → (counts : List ℕ) (n t : ℕ) → stands_at has (map opened counts) n t ≡ false
+nobody_of opened has none [] n t = refl
+nobody_of opened has none (c ∷ counts) zero t = none c t
+nobody_of opened has none (c ∷ counts) (suc n) t = nobody_of opened has none counts n t
 
-pub waits-new : (threads : ℕ) (counts : List ℕ) (sems : List Semaphore) (waits : List (Option Wait)) → threads ≤ 64 → sems ≡ map semaphores.opened counts → waits ≡ replicate threads None
-    → WaitsAreKept threads (record { sems = sems }) waits
-waits-new threads counts sems waits few opened none = record {
-  few = few;
-  places = ap (λ (ws : List (Option Wait)). length ws) none ∙ length-replicate threads None;
-  going = λ on thread stands. absurd (false≢true (sym (by on thread) ∙ stands));
+pub nobody_stands : (board : Board) (on : Awaited) (t : ℕ) → stands_for (all_opened board) on t ≡ false
+nobody_stands board (Sem id) t = nobody_of semaphores.opened in_sem (λ c t. refl) board.sems.items id.0 t
+nobody_stands board (Flags id) t = nobody_of flags.opened in_flags (λ c t. refl) board.flags.items id.0 t
+
+-- and each is sound
+sound_of : {X : Type 0} (opened : ℕ → X) (P : X → Type 0) → ((c : ℕ) → P (opened c)) → (counts : List ℕ) (n : ℕ) (x : X) → slice_get (map opened counts) n ≡ Some x → P x
+sound_of opened P each [] n x is = absurd (none_some is)
+sound_of opened P each (c ∷ counts) zero x is = subst P (some_is is) (each c)
+sound_of opened P each (c ∷ counts) (suc n) x is = sound_of opened P each counts n x is
+
+pub opened_sound : (board : Board) → AreSound (all_opened board)
+opened_sound board = record {
+  sems = sound_of semaphores.opened IsSoundSemaphore (λ c. record {
+    count = record { rests = λ some. absurd (false≢true (sym some)); few = omega arith };
+    queue = record { ranked = tt; few = λ t e. absurd (false≢true e) };
+  }) board.sems.items;
+  flags = sound_of flags.opened IsSoundGroup (λ c. record { rests = tt; queue = record { ranked = tt; few = λ t e. absurd (false≢true e) } }) board.flags.items;
 }
-  where
-    by : (on : Awaited) (thread : ℕ) → stands_for (record { sems = sems }) on thread ≡ false
-    by (Sem id) thread = ap (λ (qs : List Semaphore). option_map_or (λ (q : Semaphore). stands_in (λ w. w.thread) thread q.waiters) (slice_get qs id.0) false) opened ∙ nobody_stands counts id.0 thread
+
+pub waits-new : (board : Board) (e : Elements) (waits : List (Option Wait)) → board.threads ≤ 64 → e ≡ all_opened board → waits ≡ replicate board.threads None
+    → WaitsAreKept board.threads e waits
+waits-new board e waits few opened none = record {
+  few = few;
+  sound = subst AreSound (sym opened) (opened_sound board);
+  places = ap (λ (ws : List (Option Wait)). length ws) none ∙ length-replicate board.threads None;
+  going = λ on thread stands. absurd (false≢true (sym (ap (λ (x : Elements). stands_for x on thread) opened ∙ nobody_stands board on thread) ∙ stands));
+}
 
 -- a board that fits has few threads
 first_of_six : (a b c d e f : Bool) → (a && b && c && d && e && f) ≡ true → a ≡ true

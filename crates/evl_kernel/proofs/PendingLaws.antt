@@ -34,7 +34,8 @@ use Rattle.evl_clock.proofs.DueLaws.{no_more_due, fewer-stop, fewer-dropped, few
 use Rattle.evl_kernel.specs.Paths.{Along}
 use Rattle.evl_kernel.specs.States.{State, Handler, Banked, with_lines, with_clock, moved, come_home}
 use Rattle.evl_kernel.specs.Effects.{Effect, done, unless}
-use Rattle.evl_kernel.specs.Elements.{on_sem}
+use Rattle.evl_kernel.specs.FlagGroups as group
+use Rattle.evl_kernel.specs.Elements.{on_sem, on_flags}
 use Rattle.evl_kernel.specs.Waits.{is_past}
 use Rattle.evl_kernel.specs.Semaphores.{put}
 use Rattle.evl_kernel.specs.LineCalls as line_call
@@ -288,7 +289,7 @@ held-task s caller (on_lines step) h = held-line s step h
 held-task s caller (on_clock step) h = held-clock s step h
 held-task s caller (on_threads step) h = leaves-threads IsHeld (λ s q h. h) s caller step h
 held-task s caller (on_element step) h = leaves-touched IsHeld held_waiting s (Some caller) step h
-held-task s caller (begins on until) h = leaves-beginning IsHeld held_waiting held-timed s caller on until h
+held-task s caller (begins wants until) h = leaves-beginning IsHeld held_waiting held-timed s caller wants until h
 held-task s caller (ends keep) h = leaves-finish IsHeld held_waiting s caller keep (λ x hx. hx) h
 
 held-answer : (s : State) (caller : ℕ) (asked : Call) → IsHeld s → Leaves IsHeld (answer s caller asked)
@@ -296,7 +297,7 @@ held-answer s caller asked h = leaves-refused IsHeld (general_refusal s caller a
 
 held-acted : (s : State) (line : ℕ) (action : Action) → IsHeld s → IsHeld (acted s line action)
 held-acted s line (PostSem sem) h = leaves-if_done IsHeld s _ h (leaves-touched IsHeld held_waiting s None (on_sem sem.0 put) h)
-held-acted s line (PostFlags flags bits) h = h
+held-acted s line (PostFlags flags bits) h = leaves-if_done IsHeld s _ h (leaves-touched IsHeld held_waiting s None (on_flags flags.0 (group.post bits)) h)
 held-acted s line Propagate h = leaves-if_done IsHeld s _ h (held-post s Inband line h)
 held-acted s line (PostOob other) h = leaves-if_done IsHeld s _ h (held-post s Oob other.0 h)
 held-acted s line (StopTimer timer) h = leaves-if_done IsHeld s _ h (held-stop s timer.0 h)

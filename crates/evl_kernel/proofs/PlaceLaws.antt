@@ -34,7 +34,8 @@ use Rattle.evl_kernel.specs.States.{State, with_sched, Handler, Banked, with_lin
 use Rattle.evl_kernel.specs.Effects.{Effect, done}
 use Rattle.evl_kernel.specs.Paths.{Along}
 use Rattle.evl_kernel.specs.Semaphores.{put}
-use Rattle.evl_kernel.specs.Elements.{on_sem}
+use Rattle.evl_kernel.specs.FlagGroups as group
+use Rattle.evl_kernel.specs.Elements.{on_sem, on_flags}
 use Rattle.evl_kernel.specs.LineCalls as line_call
 use Rattle.evl_kernel.specs.Families.{LineStep, request, free, arrive, post, stall, unstall, line_effect, Task, on_lines, on_clock, on_threads, on_element, begins, ends, performing, task_of}
 use Rattle.evl_kernel.specs.Serving.{general_refusal, answer}
@@ -272,7 +273,7 @@ module _ (size : ℕ) where
   placed-task s caller (on_clock step) h = leaves-clock IsPlaced kept_placed s step h
   placed-task s caller (on_threads step) h = leaves-threads IsPlaced placed-sched s caller step h
   placed-task s caller (on_element step) h = leaves-touched IsPlaced kept_waiting s (Some caller) step h
-  placed-task s caller (begins on until) h = leaves-beginning IsPlaced kept_waiting (timed-by IsPlaced kept_waiting kept_placed.posted placed-dated) s caller on until h
+  placed-task s caller (begins wants until) h = leaves-beginning IsPlaced kept_waiting (timed-by IsPlaced kept_waiting kept_placed.posted placed-dated) s caller wants until h
   placed-task s caller (ends keep) h = leaves-finish IsPlaced kept_waiting s caller keep (λ x hx. placed-sched x _ hx) h
 
   placed-answer : (s : State) (caller : ℕ) (asked : Call) → IsPlaced s → Leaves IsPlaced (answer s caller asked)
@@ -280,7 +281,7 @@ module _ (size : ℕ) where
 
   placed-acted : (s : State) (line : ℕ) (action : Action) → IsPlaced s → IsPlaced (acted s line action)
   placed-acted s line (PostSem sem) h = leaves-if_done IsPlaced s _ h (leaves-touched IsPlaced kept_waiting s None (on_sem sem.0 put) h)
-  placed-acted s line (PostFlags flags bits) h = h
+  placed-acted s line (PostFlags flags bits) h = leaves-if_done IsPlaced s _ h (leaves-touched IsPlaced kept_waiting s None (on_flags flags.0 (group.post bits)) h)
   placed-acted s line Propagate h = leaves-if_done IsPlaced s _ h (placed-post s Inband line h)
   placed-acted s line (PostOob other) h = leaves-if_done IsPlaced s _ h (placed-post s Oob other.0 h)
   placed-acted s line (StopTimer timer) h = leaves-if_done IsPlaced s _ h (leaves-stop IsPlaced kept_placed s timer.0 h)

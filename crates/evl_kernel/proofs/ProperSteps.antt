@@ -1,5 +1,5 @@
 -- Waits that begin and end, and steps on threads, leave the waits proper; so does each run.
-use Rattle.std.proofs.Common.{◌≡◌, ◌<◌, ◌≤◌, ℕ, zero, suc, ◌==◌, nat_le, Bool, true, false, not, ◌&&◌, ◌||◌, List, [], ◌∷◌, map, replicate, Option, Some, None, Ok, Err, is_none, is_some, slice_get, slice_set, slice_index_or, if◌then◌else◌, refl, sym, ap, ◌∙◌, subst, arith}
+use Rattle.std.proofs.Common.{◌≡◌, ◌<◌, ◌≤◌, ℕ, ◌==◌, ◌⊎◌, inl, inr, nat_le, Bool, true, false, not, ◌&&◌, ◌||◌, List, replicate, Option, Some, None, Ok, Err, is_none, is_some, slice_set, slice_index_or, if◌then◌else◌, refl, sym, ap, ◌∙◌, subst, arith}
 use Rattle.std.specs.Option.{option_map_or}
 use Rattle.std.proofs.lemmas.Bool.{false≢true}
 use Rattle.std.proofs.lemmas.Bool.Decides.{nat_tests}
@@ -7,10 +7,8 @@ use Rattle.std.proofs.lemmas.List.{length-set, length-replicate}
 use Rattle.evl_base.specs.Board.{board_fits}
 use Rattle.evl_base.specs.declared.board.Board.{Board}
 use Rattle.evl_base.specs.declared.call.Call.{Call}
-use Rattle.evl_base.specs.declared.numbers.SemId.{SemId}
 use Rattle.evl_base.specs.declared.refusal.Refusal.TheVariants.{Again, Busy, Unknown}
 use Rattle.evl_base.specs.declared.reply.Reply.{Reply}
-use Rattle.evl_base.specs.declared.reply.Reply.TheVariants.{Begun, Done}
 use Rattle.evl_base.specs.declared.stage.Stage.TheVariants.{Inband}
 use Rattle.evl_pipeline.proofs.PortLaws.{at-none}
 use Rattle.evl_clock.specs.Clocks as clocks
@@ -19,36 +17,34 @@ use Rattle.evl_sched.specs.Calls.{attach_refusal, set_policy_refusal, stranger_r
 use Rattle.evl_sched.specs.Threads as threads
 use Rattle.evl_sched.specs.Threads.{Sched, is_oob, is_ready, stage_of, stage_set, unready}
 use Rattle.evl_sched.specs.declared.seat.Seat.{Seat}
-use Rattle.evl_sync.specs.declared.waiter.Waiter.{Waiter}
-use Rattle.evl_sync.specs.Queues.{enqueued, stands_in}
-use Rattle.evl_sync.specs.Semaphores as sem
-use Rattle.evl_sync.specs.Semaphores.{Semaphore, IsSoundSemaphore}
-use Rattle.evl_sync.proofs.QueueLaws.{stands-enqueued}
 use Rattle.evl_kernel.specs.declared.waits.Awaited.{Awaited}
-use Rattle.evl_kernel.specs.declared.waits.Awaited.TheVariants.{Sem}
 use Rattle.evl_kernel.specs.declared.waits.Wait.{Wait}
-use Rattle.evl_kernel.specs.States.{State, Handler, with_sched}
-use Rattle.evl_kernel.specs.Effects.{leaving}
-use Rattle.evl_kernel.specs.Semaphores as semaphore
-use Rattle.evl_kernel.specs.Elements.{elements, serves, stepping_to, with_elements}
-use Rattle.evl_kernel.specs.Waits.{wait_of, wait_at, with_wait, going_on, ended_by, is_past, suspended, begun}
-use Rattle.evl_kernel.specs.Beginnings.{begin_refusal, begin_step, beginning, waiter}
+use Rattle.evl_kernel.specs.declared.waits.Wanted.{Wanted}
+use Rattle.evl_kernel.specs.States.{State, Elements, Handler, with_sched}
+use Rattle.evl_kernel.specs.Effects.{Answered, leaving, lifted}
+use Rattle.evl_kernel.specs.Elements.{ElementStep, element, elements, serves, wakes, with_elements}
+use Rattle.evl_kernel.specs.Waits.{wait_of, wait_at, with_wait, going_on, ended_by, is_past, suspended, begun, all_woken}
+use Rattle.evl_kernel.specs.Beginnings.{awaited, begin_refusal, begin_step, beginning}
 use Rattle.evl_kernel.specs.Endings.{finish, goes_inband, inband_if, outcome_of}
 use Rattle.evl_kernel.specs.ThreadCalls as thread_call
+use Rattle.evl_kernel.specs.ThreadCalls.{rank_of}
 use Rattle.evl_kernel.specs.TimerCalls.{posted_if}
 use Rattle.evl_kernel.specs.Families.{ThreadStep, attach, detach, set_policy, set_stage, pick, tell_rank, thread_effect, task_of}
 use Rattle.evl_kernel.specs.Serving.{ends_a_wait, general_refusal}
-use Rattle.evl_kernel.specs.Openings.{opening}
+use Rattle.evl_kernel.specs.Openings.{all_opened, opening}
 use Rattle.evl_kernel.specs.Histories.{History, IsLegal, opened}
 use Rattle.evl_kernel.specs.WaitOrder.{WaitsAreProper, WaitsStayProper, is_blocked}
-use Rattle.evl_kernel.specs.Records.{WaitsAreKept, stands_for}
+use Rattle.evl_kernel.specs.Records.{WaitsAreKept}
+use Rattle.evl_kernel.specs.Standing.{is_served, stands_for}
 use Rattle.evl_kernel.proofs.LeavesLaws.{Leaves, leaves-refused}
-use Rattle.evl_kernel.proofs.OpeningLaws.{nobody_stands, threads_few}
+use Rattle.evl_kernel.proofs.OpeningLaws.{nobody_stands, opened_sound, threads_few}
 use Rattle.evl_kernel.proofs.ReadyLaws.{ReadyAnew, anew-attached, anew-detached, anew-policy_set, anew-stage_set, ready-paid, stage-paid, unready-itself, unready-other}
+use Rattle.evl_kernel.proofs.QueueSteps.{Comes}
+use Rattle.evl_kernel.proofs.QueueLaws.{Begins, Stepped, begin_goes}
 use Rattle.evl_kernel.proofs.StateWalk.{KeptByEach, KeptByOwn, run_holds}
-use Rattle.evl_kernel.proofs.WaitLaws.{ProperBut, proper_but, proper_freed, over_if, over_set, wait_there}
-use Rattle.evl_kernel.proofs.WaitRecords.{away_of, idle_away, in_it, index_here, index_there, elsewhere, stepping_is, stepping_unknown, was_in_it}
-use Rattle.evl_kernel.proofs.ProperLaws.{IsProper, begin_with_count, begin_without, but, kept_of, leaves, proper_asked, proper_expired, whole}
+use Rattle.evl_kernel.proofs.WaitLaws.{ProperBeside, proper_all, proper_beside, proper_freed, over_if, over_set, wait_there}
+use Rattle.evl_kernel.proofs.WaitRecords.{away_after, away_of, idle_away, index_here, index_there}
+use Rattle.evl_kernel.proofs.ProperLaws.{IsProper, is_woken, kept_of, proper_asked, proper_expired}
 
 none_some : {A : Type 0} {x : A} → None ≡ Some x → ⊥
 none_some e = cc
@@ -89,12 +85,13 @@ module _ (n : ℕ) (few : n ≤ 64) (s : State) (h : IsProper n s) (thread : ℕ
   no_date date is = false≢true (sym over ∙ h.proper.dated thread date is)
 
   pub stands_nowhere : (on : Awaited) → stands_for (elements s) on thread ≡ false
-  stands_nowhere = away_of n s.sems s.waits (kept_of n s few h) thread (λ on is. false≢true (sym over ∙ ap (λ (o : Option Wait). option_map_or (λ (w : Wait). is_none w.outcome) o false) is))
+  stands_nowhere = away_of n (elements s) s.waits (kept_of n s few h) thread (λ on is. false≢true (sym over ∙ ap (λ (o : Option Wait). option_map_or (λ (w : Wait). is_none w.outcome) o false) is))
 
   -- its seat changes
   pub proper_seat : (sched : Sched) → ReadyAnew s.sched sched thread → IsProper n (with_sched s sched)
   proper_seat sched anew = record {
-    proper = proper_freed s thread (proper_but s thread h.proper) stands_nowhere s.waits (λ t ne. refl) over sched anew s.clock.deadlines no_date (λ t ne. refl);
+    proper = proper_all (with_sched s sched)
+        (proper_freed s thread (λ t. false) (proper_beside s (λ t. (thread == t) || false) h.proper) stands_nowhere s.waits (λ t ne. refl) over sched anew s.clock.deadlines no_date (λ t ne. refl));
     threads_are = h.threads_are;
     places = h.places;
   }
@@ -102,8 +99,9 @@ module _ (n : ℕ) (few : n ≤ 64) (s : State) (h : IsProper n s) (thread : ℕ
   -- and its wait, to one that doesn't go on either
   pub proper_wait : (wait : Option Wait) → over_if wait → (sched : Sched) → ReadyAnew s.sched sched thread → IsProper n (with_sched (with_wait s thread wait) sched)
   proper_wait wait ended sched anew = record {
-    proper = proper_freed s thread (proper_but s thread h.proper) stands_nowhere (slice_set s.waits thread wait) (wait_there s thread wait)
-        (over_set s.waits thread wait ended) sched anew s.clock.deadlines no_date (λ t ne. refl);
+    proper = proper_all (with_sched (with_wait s thread wait) sched)
+        (proper_freed s thread (λ t. false) (proper_beside s (λ t. (thread == t) || false) h.proper) stands_nowhere (slice_set s.waits thread wait) (wait_there s thread wait)
+        (over_set s.waits thread wait ended) sched anew s.clock.deadlines no_date (λ t ne. refl));
     threads_are = h.threads_are;
     places = length-set s.waits thread wait ∙ h.places;
   }
@@ -166,104 +164,109 @@ module _ (n : ℕ) (few : n ≤ 64) where
       by (Some w) its = by_outcome w its w.outcome refl
 
   -- a wait begins
-  module _ (s : State) (caller : ℕ) (passed : Passed s caller) (h : IsProper n s) (until : Option ℕ) (id : SemId) (q p : Semaphore) (here : slice_get s.sems id.0 ≡ Some q) where
+  module _ (s : State) (caller : ℕ) (passed : Passed s caller) (h : IsProper n s) (until : Option ℕ) (on : Awaited) (told : Option Reply) (served : List (ℕ × Reply)) (after : Elements)
+      (begins : Begins (elements s) caller on told served after) where
     abbrev at_once : State
-    at_once = with_elements s (record { sems = slice_set s.sems id.0 p })
+    at_once = with_elements s after
 
-    kept : WaitsAreKept n (record { sems = s.sems }) s.waits
+    kept : WaitsAreKept n (elements s) s.waits
     kept = kept_of n s few h
 
-    nobody : stands_in (λ (w : Waiter). w.thread) caller q.waiters ≡ false
-    nobody = sym (was_in_it n s.sems s.waits kept id.0 q p here id caller (is_number id.0 id.0 refl)) ∙ idle_away n s.sems s.waits kept caller passed.idle (Sem id)
+    nowhere : (other : Awaited) → stands_for (elements s) other caller ≡ false
+    nowhere = idle_away n (elements s) s.waits kept caller passed.idle
 
     -- it is served
-    proper_served : (true, p) ≡ sem.begin_get (waiter s caller) q → IsProper n (begun at_once caller (Sem id) until (Some Done))
-    proper_served step =
-        let left = begin_with_count q p (waiter s caller) (h.proper.sound id.0 q here) step in
-        let mid = whole n few s h id.0 q p here left.sound left.same in
-        proper_wait n few at_once mid caller (over_none s caller passed.idle) (Some (ended_by Done (going_on (Sem id)))) refl s.sched (same_seat n few at_once mid caller (over_none s caller passed.idle))
+    proper_served : (outcome : Reply) → told ≡ Some outcome → IsProper n (all_woken (begun at_once caller on until (Some outcome)) served)
+    proper_served outcome is =
+        is_woken n (begun at_once caller on until (Some outcome)) served h.threads_are (length-set s.waits caller _ ∙ h.places)
+        (proper_freed at_once caller (λ t. is_served t served) beside away (slice_set s.waits caller (Some (ended_by outcome (going_on on)))) (wait_there s caller (Some (ended_by outcome (going_on on))))
+        (over_set s.waits caller (Some (ended_by outcome (going_on on))) refl) s.sched (same_seat n few s h caller (over_none s caller passed.idle)) s.clock.deadlines
+        (no_date n few s h caller (over_none s caller passed.idle)) (λ t ne. refl))
+        (away_after n (elements s) s.waits kept served after stepped)
+      where
+        stepped : Stepped (elements s) served after
+        stepped = record { sound = begins.sound; goes = begins.at_once outcome is }
+
+        away : (other : Awaited) → stands_for after other caller ≡ false
+        away other = by (stands_for after other caller) refl
+          where
+            by : (b : Bool) → stands_for after other caller ≡ b → b ≡ false
+            by true stands = absurd (false≢true (sym (nowhere other) ∙ stepped.goes.old other caller stands))
+            by false stands = refl
+
+        both : (a b : Bool) → (a || b) ≡ false → b ≡ false
+        both true b e = absurd (false≢true (sym e))
+        both false b e = e
+
+        beside : ProperBeside at_once (λ t. (caller == t) || is_served t served)
+        beside = record {
+          sound = begins.sound;
+          stands = λ other t ne stands. h.proper.stands other t (sym (stepped.goes.same other t (both (caller == t) (is_served t served) ne)) ∙ stands);
+          waits = λ other t ne its. stepped.goes.same other t (both (caller == t) (is_served t served) ne) ∙ h.proper.waits other t its;
+          ready = λ t ne. h.proper.ready t;
+          dated = λ t date ne. h.proper.dated t date;
+        }
 
     -- it waits
-    module _ (step : (false, p) ≡ sem.begin_get (waiter s caller) q) where
-      within : caller < 64
-      within = omega (arith, passed.there, h.threads_are, few)
+    module _ (nothing : told ≡ None) where
+      comes : Comes (elements s) on caller after
+      comes = begins.waits nothing
 
-      sound_p : IsSoundSemaphore p
-      sound_p = (begin_without q p (waiter s caller) (h.proper.sound id.0 q here) nobody within step).sound
+      mine : wait_of (slice_set s.waits caller (Some (going_on on))) caller ≡ Some (going_on on)
+      mine = index_here s.waits caller (Some (going_on on)) None (omega (arith, passed.there, h.threads_are, h.places))
 
-      waiters_are : p.waiters ≡ enqueued (λ v. v.rank) (waiter s caller) q.waiters
-      waiters_are = (begin_without q p (waiter s caller) (h.proper.sound id.0 q here) nobody within step).same
+      theirs : (t : ℕ) → (t == caller) ≡ false → wait_of (slice_set s.waits caller (Some (going_on on))) t ≡ wait_at s t
+      theirs t ne = wait_there s caller (Some (going_on on)) t ne
 
-      stood : (t : ℕ) → stands_in (λ (w : Waiter). w.thread) t p.waiters ≡ ((caller == t) || stands_in (λ (w : Waiter). w.thread) t q.waiters)
-      stood t = ap (stands_in (λ (w : Waiter). w.thread) t) waiters_are ∙ stands-enqueued (λ (w : Waiter). w.thread) (λ w. w.rank) (waiter s caller) q.waiters t
-
-      others : ProperBut at_once caller
-      others = but n few s h id.0 q p here sound_p caller (λ t ne. stood t ∙ ap (λ (c : Bool). c || stands_in (λ (w : Waiter). w.thread) t q.waiters) (swapped t caller ne))
-
-      proper_after : WaitsAreProper (suspended at_once caller (Sem id) until)
+      proper_after : WaitsAreProper (suspended at_once caller on until)
       proper_after = record {
-        sound = others.sound;
-        stands = λ on t is. stands_ on t is (t == caller) refl;
-        waits = λ on t is. waits_ on t is (t == caller) refl;
+        sound = begins.sound;
+        stands = λ other t is. stands_ other t is (t == caller) refl;
+        waits = λ other t is. waits_ other t is (t == caller) refl;
         ready = λ t. ready_ t (t == caller) refl;
         dated = λ t date is. dated_ t date is (t == caller) refl;
       }
         where
-          mine : wait_of (slice_set s.waits caller (Some (going_on (Sem id)))) caller ≡ Some (going_on (Sem id))
-          mine = index_here s.waits caller (Some (going_on (Sem id))) None (omega (arith, passed.there, h.threads_are, h.places))
-
-          theirs : (t : ℕ) → (t == caller) ≡ false → wait_of (slice_set s.waits caller (Some (going_on (Sem id)))) t ≡ wait_at s t
-          theirs t ne = wait_there s caller (Some (going_on (Sem id))) t ne
-
           -- the caller stands for this alone
-          alone : (on : Awaited) → stands_for (elements at_once) on caller ≡ true → Sem id ≡ on
-          alone (Sem other) is = test (id.0 == other.0) refl
-            where
-              test : (b : Bool) → (id.0 == other.0) ≡ b → Sem id ≡ Sem other
-              test true same = ap (λ (m : ℕ). Sem (record { 0 = m })) (same_number id.0 other.0 same)
-              test false apart =
-                  absurd (false≢true (sym (idle_away n s.sems s.waits kept caller passed.idle (Sem other)) ∙ (sym (elsewhere n s.sems s.waits kept id.0 q p here other caller apart) ∙ is)))
+          alone : (other : Awaited) → (on ≡ other) ⊎ (stands_for (elements s) other caller ≡ true) → on ≡ other
+          alone other (inl same) = same
+          alone other (inr stood) = absurd (false≢true (sym (nowhere other) ∙ stood))
 
-          stands_ : (on : Awaited) (t : ℕ) → stands_for (elements at_once) on t ≡ true → (b : Bool) → (t == caller) ≡ b → wait_of (slice_set s.waits caller (Some (going_on (Sem id)))) t ≡ Some (going_on on)
-          stands_ on t is true same =
-              subst (λ (m : ℕ). wait_of (slice_set s.waits caller (Some (going_on (Sem id)))) m ≡ Some (going_on on)) (sym (same_number t caller same))
-              (mine ∙ ap (λ (x : Awaited). Some (going_on x)) (alone on (ap (stands_for (elements at_once) on) (sym (same_number t caller same)) ∙ is)))
-          stands_ on t is false ne = theirs t ne ∙ others.stands on t ne is
+          stands_ : (other : Awaited) (t : ℕ) → stands_for after other t ≡ true → (b : Bool) → (t == caller) ≡ b → wait_of (slice_set s.waits caller (Some (going_on on))) t ≡ Some (going_on other)
+          stands_ other t is true same =
+              subst (λ (m : ℕ). wait_of (slice_set s.waits caller (Some (going_on on))) m ≡ Some (going_on other)) (sym (same_number t caller same))
+              (mine ∙ ap (λ (x : Awaited). Some (going_on x)) (alone other (comes.alone other (ap (stands_for after other) (sym (same_number t caller same)) ∙ is))))
+          stands_ other t is false ne = theirs t ne ∙ h.proper.stands other t (sym (comes.same other t ne) ∙ is)
 
-          here_now : stands_for (elements at_once) (Sem id) caller ≡ true
-          here_now =
-              in_it n s.sems s.waits kept id.0 q p here id caller (is_number id.0 id.0 refl)
-              ∙ (stood caller ∙ ap (λ (c : Bool). c || stands_in (λ (w : Waiter). w.thread) caller q.waiters) (is_number caller caller refl))
+          on_is : (other : Awaited) → wait_of (slice_set s.waits caller (Some (going_on on))) caller ≡ Some (going_on other) → on ≡ other
+          on_is other is = ap (λ (w : Wait). w.on) (some_is (sym mine ∙ is))
 
-          on_is : (on : Awaited) → wait_of (slice_set s.waits caller (Some (going_on (Sem id)))) caller ≡ Some (going_on on) → Sem id ≡ on
-          on_is on is = ap (λ (w : Wait). w.on) (some_is (sym mine ∙ is))
-
-          waits_ : (on : Awaited) (t : ℕ) → wait_of (slice_set s.waits caller (Some (going_on (Sem id)))) t ≡ Some (going_on on) → (b : Bool) → (t == caller) ≡ b → stands_for (elements at_once) on t ≡ true
-          waits_ on t is true same =
-              subst (λ (m : ℕ). stands_for (elements at_once) on m ≡ true) (sym (same_number t caller same))
-              (ap (λ (x : Awaited). stands_for (elements at_once) x caller) (sym (on_is on (ap (wait_of (slice_set s.waits caller (Some (going_on (Sem id))))) (sym (same_number t caller same)) ∙ is))) ∙ here_now)
-          waits_ on t is false ne = others.waits on t ne (sym (theirs t ne) ∙ is)
+          waits_ : (other : Awaited) (t : ℕ) → wait_of (slice_set s.waits caller (Some (going_on on))) t ≡ Some (going_on other) → (b : Bool) → (t == caller) ≡ b → stands_for after other t ≡ true
+          waits_ other t is true same =
+              subst (λ (m : ℕ). stands_for after other m ≡ true) (sym (same_number t caller same))
+              (ap (λ (x : Awaited). stands_for after x caller) (sym (on_is other (ap (wait_of (slice_set s.waits caller (Some (going_on on)))) (sym (same_number t caller same)) ∙ is))) ∙ comes.there)
+          waits_ other t is false ne = comes.same other t ne ∙ h.proper.waits other t (sym (theirs t ne) ∙ is)
 
           block : Option Wait → Bool
           block o = option_map_or (λ (w : Wait). is_none w.outcome) o false
 
-          ready_ : (t : ℕ) (b : Bool) → (t == caller) ≡ b → is_ready (unready s.sched caller) t ≡ (is_oob (stage_of s.sched t) && not (block (wait_of (slice_set s.waits caller (Some (going_on (Sem id)))) t)))
+          ready_ : (t : ℕ) (b : Bool) → (t == caller) ≡ b → is_ready (unready s.sched caller) t ≡ (is_oob (stage_of s.sched t) && not (block (wait_of (slice_set s.waits caller (Some (going_on on))) t)))
           ready_ t true same =
-              subst (λ (m : ℕ). is_ready (unready s.sched caller) m ≡ (is_oob (stage_of s.sched m) && not (block (wait_of (slice_set s.waits caller (Some (going_on (Sem id)))) m)))) (sym (same_number t caller same))
+              subst (λ (m : ℕ). is_ready (unready s.sched caller) m ≡ (is_oob (stage_of s.sched m) && not (block (wait_of (slice_set s.waits caller (Some (going_on on))) m)))) (sym (same_number t caller same))
               (unready-itself s.sched caller ∙ sym (ap (λ (o : Option Wait). is_oob (stage_of s.sched caller) && not (block o)) mine ∙ and_false (is_oob (stage_of s.sched caller))))
           ready_ t false ne =
-              unready-other s.sched caller t ne ∙ (others.ready t ne ∙ ap (λ (o : Option Wait). is_oob (stage_of s.sched t) && not (block o)) (sym (theirs t ne)))
+              unready-other s.sched caller t ne ∙ (h.proper.ready t ∙ ap (λ (o : Option Wait). is_oob (stage_of s.sched t) && not (block o)) (sym (theirs t ne)))
 
           dated_ : (t date : ℕ) → slice_index_or (slice_set s.clock.deadlines caller until) t None ≡ Some date → (b : Bool) → (t == caller) ≡ b
-              → block (wait_of (slice_set s.waits caller (Some (going_on (Sem id)))) t) ≡ true
+              → block (wait_of (slice_set s.waits caller (Some (going_on on))) t) ≡ true
           dated_ t date is true same =
-              subst (λ (m : ℕ). block (wait_of (slice_set s.waits caller (Some (going_on (Sem id)))) m) ≡ true) (sym (same_number t caller same)) (ap block mine)
-          dated_ t date is false ne = ap block (theirs t ne) ∙ others.dated t date ne (sym (index_there s.clock.deadlines caller t until None (swapped t caller ne)) ∙ is)
+              subst (λ (m : ℕ). block (wait_of (slice_set s.waits caller (Some (going_on on))) m) ≡ true) (sym (same_number t caller same)) (ap block mine)
+          dated_ t date is false ne = ap block (theirs t ne) ∙ h.proper.dated t date (sym (index_there s.clock.deadlines caller t until None (swapped t caller ne)) ∙ is)
 
-      proper_blocked : IsProper n (begun at_once caller (Sem id) until None)
-      proper_blocked = by (is_past s.clock.now until)
+      proper_blocked : IsProper n (all_woken (begun at_once caller on until None) served)
+      proper_blocked = subst (λ (ws : List (ℕ × Reply)). IsProper n (all_woken (begun at_once caller on until None) ws)) (sym (begins.quiet nothing)) (by (is_past s.clock.now until))
         where
-          by : (b : Bool) → IsProper n (posted_if b (suspended at_once caller (Sem id) until))
+          by : (b : Bool) → IsProper n (posted_if b (suspended at_once caller on until))
           by true = record {
             proper = record { sound = proper_after.sound; stands = proper_after.stands; waits = proper_after.waits; ready = proper_after.ready; dated = proper_after.dated };
             threads_are = h.threads_are;
@@ -271,28 +274,23 @@ module _ (n : ℕ) (few : n ≤ 64) where
           }
           by false = record { proper = proper_after; threads_are = h.threads_are; places = length-set s.waits caller _ ∙ h.places }
 
-  proper_beginning : (s : State) (caller : ℕ) (on : Awaited) (until : Option ℕ) → Passed s caller → IsProper n s → Leaves (IsProper n) (beginning s caller on until).effect
-  proper_beginning s caller (Sem id) until passed h = leaves-refused (IsProper n) (begin_refusal s caller (Sem id)) _ (λ none. by (slice_get s.sems id.0) refl)
+    pub proper_begun : (o : Option Reply) → told ≡ o → IsProper n (all_woken (begun at_once caller on until o) served)
+    proper_begun None nothing = proper_blocked nothing
+    proper_begun (Some outcome) is = proper_served outcome is
+
+  proper_beginning : (s : State) (caller : ℕ) (wants : Wanted) (until : Option ℕ) → Passed s caller → IsProper n s → Leaves (IsProper n) (beginning s caller wants until).effect
+  proper_beginning s caller wants until passed h = leaves-refused (IsProper n) (begin_refusal s caller wants) _ (λ none. left (element (elements s) step) refl)
     where
-      f : State → State
-      f x = begun x caller (Sem id) until (serves (elements s) (begin_step s caller (Sem id)))
+      step : ElementStep
+      step = begin_step s caller wants
 
-      served : (q p : Semaphore) (b : Bool) → slice_get s.sems id.0 ≡ Some q → (b, p) ≡ sem.begin_get (waiter s caller) q
-          → IsProper n (begun (with_elements s (record { sems = slice_set s.sems id.0 p })) caller (Sem id) until (if b then Some Done else None))
-      served q p true here step = proper_served s caller passed h until id q p here step
-      served q p false here step = proper_blocked s caller passed h until id q p here step
-
-      by : (o : Option Semaphore) → slice_get s.sems id.0 ≡ o
-          → Leaves (IsProper n) (stepping_to (λ x. begun x caller (Sem id) until (serves (elements s) (begin_step s caller (Sem id)))) s (begin_step s caller (Sem id)))
-      by None none = leaves n few _ _ (stepping_unknown (λ x. begun x caller (Sem id) until (serves (elements s) (begin_step s caller (Sem id)))) s id.0 (semaphore.begin (waiter s caller)) none) tt
-      by (Some q) here =
-          let got = sem.begin_get (waiter s caller) q in
-          let p = got.1 in
-          let serving : serves (elements s) (begin_step s caller (Sem id)) ≡ (if got.0 then Some Done else None) =
-          ap (λ (o : Option Semaphore). option_map_or (λ (x : Semaphore). semaphore.sem_serves x (semaphore.begin (waiter s caller))) o None) here in
-          leaves n few _ _ (stepping_is (λ x. begun x caller (Sem id) until (serves (elements s) (begin_step s caller (Sem id)))) s id.0 (semaphore.begin (waiter s caller)) q p Begun here refl
-          ∙ ap (λ (o : Option Reply). Ok (Begun, begun (with_elements s (record { sems = slice_set s.sems id.0 p })) caller (Sem id) until o)) serving)
-          (served q p got.0 here refl)
+      left : (a : Answered Elements) → element (elements s) step ≡ a
+          → Leaves (IsProper n) (lifted (λ e. all_woken (begun (with_elements s e) caller (awaited wants) until (serves (elements s) step)) (wakes (elements s) step)) a)
+      left (Err refusal) is = tt
+      left (Ok (reply, after)) is =
+          let begins = begin_goes (elements s) h.proper.sound after reply caller (rank_of s caller) (omega (arith, passed.there, h.threads_are, few)) wants
+          (idle_away n (elements s) s.waits (kept_of n s few h) caller passed.idle (awaited wants)) is in
+          proper_begun s caller passed h until (awaited wants) (serves (elements s) step) (wakes (elements s) step) after begins (serves (elements s) step) refl
 
   kept_by_each : KeptByEach (IsProper n)
   kept_by_each = record {
@@ -310,8 +308,8 @@ module _ (n : ℕ) (few : n ≤ 64) where
       places = h.places;
     };
     paid = λ s before delta now h. proper_paid s before delta now h;
-    asked = λ s by step plain h. proper_asked n few s by step plain h;
-    expired = λ s thread h. proper_expired n few s thread h;
+    asked = λ s by step plain h. proper_asked n few s h by step plain;
+    expired = λ s thread h. proper_expired n few s h thread;
   }
     where
       oob : (s : State) → IsProper n s → (t : ℕ) → is_ready s.sched t ≡ true → is_oob (stage_of s.sched t) ≡ true
@@ -334,24 +332,16 @@ module _ (n : ℕ) (few : n ≤ 64) where
   kept_by_own : (s : State) (caller : ℕ) (asked : Call) → KeptByOwn (IsProper n) s caller asked
   kept_by_own s caller asked = record {
     threads = λ step is passed h. proper_threads s caller step (passed_all s caller asked (ap ends_a_wait is) passed).idle h;
-    begun = λ on until is passed h. proper_beginning s caller on until (passed_all s caller asked (ap ends_a_wait is) passed) h;
+    begun = λ wants until is passed h. proper_beginning s caller wants until (passed_all s caller asked (ap ends_a_wait is) passed) h;
     ended = λ keep h. proper_finish s caller keep h;
   }
 
 -- a new kernel
-opened_sound : (counts : List ℕ) (k : ℕ) (q : Semaphore) → slice_get (map sem.opened counts) k ≡ Some q → IsSoundSemaphore q
-opened_sound [] k q e = absurd (none_some e)
-opened_sound (c ∷ counts) zero q e = subst IsSoundSemaphore (some_is e) (record {
-  count = record { rests = λ some. absurd (false≢true (sym some)); few = omega arith };
-  queue = record { ranked = tt; few = λ t e. absurd (false≢true e) };
-})
-opened_sound (c ∷ counts) (suc k) q e = opened_sound counts k q e
-
 proper_opening : (board : Board) (bank : List Handler) → IsProper board.threads (opening board bank)
 unfolding threads.opening clocks.opening
 proper_opening board bank = record {
   proper = record {
-    sound = λ k q. opened_sound board.sems.items k q;
+    sound = opened_sound board;
     stands = λ on t stands. absurd (false≢true (sym (nobody on t) ∙ stands));
     waits = λ on t is. absurd (none_some (sym (no_wait t) ∙ is));
     ready = λ t. sym (ap (λ (o : Option Seat). is_oob (option_map_or (λ (seat : Seat). seat.stage) o Inband) && not (is_blocked (opening board bank) t)) (at-none {A = Seat} board.threads t));
@@ -364,8 +354,8 @@ proper_opening board bank = record {
     no_wait : (t : ℕ) → wait_of (replicate board.threads None) t ≡ None
     no_wait t = at-none {A = Wait} board.threads t
 
-    nobody : (on : Awaited) (t : ℕ) → stands_for (record { sems = map sem.opened board.sems.items }) on t ≡ false
-    nobody (Sem id) t = nobody_stands board.sems.items id.0 t
+    nobody : (on : Awaited) (t : ℕ) → stands_for (all_opened board) on t ≡ false
+    nobody = nobody_stands board
 
 pub proper_at : (h : History) → IsLegal h → board_fits h.board ≡ true → IsProper h.board.threads h.state
 proper_at h legal fits =

@@ -26,6 +26,12 @@ module _ {X : Type 0} where
   set_there (x ∷ xs) (suc m) zero v e = refl
   set_there (x ∷ xs) (suc m) (suc n) v e = set_there xs m n v (fewer m n e)
 
+-- an element that is set as it was
+pub set_same : {A : Type 0} (xs : List A) (n : ℕ) (c : A) → slice_get xs n ≡ Some c → slice_set xs n c ≡ xs
+set_same [] n c has = refl
+set_same {A} (x ∷ xs) zero c has = ap (λ (y : A). y ∷ xs) (some_is (sym has))
+set_same {A} (x ∷ xs) (suc n) c has = ap (λ (ys : List A). x ∷ ys) (set_same xs n c has)
+
 -- an element that was set is set back
 pub set_back : {A : Type 0} (xs : List A) (n : ℕ) (y x : A) → slice_get xs n ≡ Some x → slice_set (slice_set xs n y) n x ≡ xs
 set_back [] n y x has = refl

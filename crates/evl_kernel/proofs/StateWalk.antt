@@ -17,12 +17,13 @@ use Rattle.evl_pipeline.specs.Lines as lines
 use Rattle.evl_clock.specs.Clocks.{Clock}
 use Rattle.evl_clock.specs.Dues.{next_due}
 use Rattle.evl_clock.specs.declared.due.Item.{Item}
-use Rattle.evl_kernel.specs.declared.waits.Awaited.{Awaited}
+use Rattle.evl_kernel.specs.declared.waits.Wanted.{Wanted}
 use Rattle.evl_kernel.specs.Paths.{Along}
 use Rattle.evl_kernel.specs.States.{State, Banked, with_lines, with_clock, moved, come_home}
 use Rattle.evl_kernel.specs.Effects.{Effect, done}
-use Rattle.evl_kernel.specs.Semaphores.{get, put, peek}
-use Rattle.evl_kernel.specs.Elements.{ElementStep, on_sem, touched}
+use Rattle.evl_kernel.specs.Semaphores.{put}
+use Rattle.evl_kernel.specs.FlagGroups as group
+use Rattle.evl_kernel.specs.Elements.{ElementStep, on_sem, on_flags, touched}
 use Rattle.evl_kernel.specs.LineCalls as line_call
 use Rattle.evl_kernel.specs.ThreadCalls as thread_call
 use Rattle.evl_kernel.specs.Beginnings.{beginning}
@@ -32,14 +33,9 @@ use Rattle.evl_kernel.specs.Serving.{general_refusal, answer}
 use Rattle.evl_kernel.specs.Settling.{Settling, next_play, acted, all_acted, answered, deadline_left, given, item_played, played, line_played, clock_played, is_clock, after_call, nothing}
 use Rattle.evl_kernel.specs.Histories.{Run, Follows}
 use Rattle.evl_kernel.proofs.DueLaws.{one_played, item_due}
+use Rattle.evl_kernel.proofs.QueueLaws.{IsAsked, asks_get, asks_put, asks_peek, asks_take, asks_post, asks_bits}
 use Rattle.evl_kernel.proofs.LeavesLaws.{Leaves, leaves-refused, leaves-unless, leaves-known, leaves-if_done}
 use Rattle.evl_kernel.proofs.ClockSteps.{KeptByClock, leaves-clock, leaves-stop, leaves-item}
-
--- a step of an element that calls and callbacks ask for: no wait begins by it, and none ends by its deadline
-pub data IsAsked : ElementStep → Type 0 where
-  asks_get : (n : ℕ) → IsAsked (on_sem n get)
-  asks_put : (n : ℕ) → IsAsked (on_sem n put)
-  asks_peek : (n : ℕ) → IsAsked (on_sem n peek)
 
 abbrev AsksPlainly : Task → Type 0
 AsksPlainly (on_element step) = IsAsked step
@@ -49,6 +45,9 @@ asks : (asked : Call) → AsksPlainly (task_of asked)
 asks (call.TryGet sem) = asks_get sem.0
 asks (call.Put sem) = asks_put sem.0
 asks (call.Peek sem) = asks_peek sem.0
+asks (call.TryTake flags kind) = asks_take flags.0 kind
+asks (call.PostFlags flags bits) = asks_post flags.0 bits
+asks (call.PeekFlags flags) = asks_bits flags.0
 asks _ = tt
 
 -- each kind of change keeps this
@@ -63,7 +62,7 @@ pub record KeptByEach (P : State → Type 0) : Type 0 where
 -- and each kind of step that is its caller's own
 pub record KeptByOwn (P : State → Type 0) (s : State) (caller : ℕ) (asked : Call) : Type 0 where
   pub threads : (step : ThreadStep) → task_of asked ≡ on_threads step → general_refusal s caller asked ≡ None → P s → Leaves P (thread_effect s caller step)
-  pub begun : (on : Awaited) (until : Option ℕ) → task_of asked ≡ begins on until → general_refusal s caller asked ≡ None → P s → Leaves P (beginning s caller on until).effect
+  pub begun : (wants : Wanted) (until : Option ℕ) → task_of asked ≡ begins wants until → general_refusal s caller asked ≡ None → P s → Leaves P (beginning s caller wants until).effect
   pub ended : (keep : Bool) → P s → Leaves P (finish s caller keep)
 
 module _ (P : State → Type 0) (k : KeptByEach P) where
@@ -111,12 +110,12 @@ module _ (P : State → Type 0) (k : KeptByEach P) where
       by (on_clock step) is plain passed = leaves-clock P kept_by_clock s step h
       by (on_threads step) is plain passed = own.threads step is passed h
       by (on_element step) is plain passed = k.asked s (Some caller) step plain h
-      by (begins on until) is plain passed = own.begun on until is passed h
+      by (begins wants until) is plain passed = own.begun wants until is passed h
       by (ends keep) is plain passed = own.ended keep h
 
   holds-acted : (s : State) (line : ℕ) (action : Action) → P s → P (acted s line action)
   holds-acted s line (PostSem sem) h = leaves-if_done P s _ h (k.asked s None (on_sem sem.0 put) (asks_put sem.0) h)
-  holds-acted s line (PostFlags flags bits) h = h
+  holds-acted s line (PostFlags flags bits) h = leaves-if_done P s _ h (k.asked s None (on_flags flags.0 (group.post bits)) (asks_post flags.0 bits) h)
   holds-acted s line Propagate h = leaves-if_done P s _ h (holds-post s Inband line h)
   holds-acted s line (PostOob other) h = leaves-if_done P s _ h (holds-post s Oob other.0 h)
   holds-acted s line (StopTimer timer) h = leaves-if_done P s _ h (leaves-stop P kept_by_clock s timer.0 h)

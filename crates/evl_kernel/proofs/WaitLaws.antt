@@ -1,5 +1,5 @@
 -- In every legal history the waits are proper: queues, waits, the ready list and deadlines agree.
-use Rattle.std.proofs.Common.{◌≡◌, ℕ, zero, suc, ◌==◌, ◌⊎◌, inl, inr, Bool, true, false, not, ◌&&◌, List, [], ◌∷◌, Option, Some, None, is_none, slice_get, slice_set, slice_index_or, refl, sym, ap, ◌∙◌, subst, arith}
+use Rattle.std.proofs.Common.{◌≡◌, ℕ, zero, suc, ◌==◌, ◌⊎◌, inl, inr, Bool, true, false, not, ◌&&◌, ◌||◌, List, [], ◌∷◌, Option, Some, None, is_none, slice_set, slice_index_or, refl, sym, ap, ◌∙◌, subst, arith}
 use Rattle.std.specs.Option.{option_map, option_map_or}
 use Rattle.std.proofs.lemmas.Bool.{false≢true}
 use Rattle.std.proofs.lemmas.Bool.Decides.{nat_tests}
@@ -7,14 +7,13 @@ use Rattle.evl_base.specs.declared.reply.Reply.{Reply}
 use Rattle.evl_clock.specs.Clocks.{deadline_at}
 use Rattle.evl_sched.specs.Threads.{Sched, is_oob, is_ready, readied, stage_of}
 use Rattle.evl_sched.proofs.ReadyLaws.{ready-other}
-use Rattle.evl_sync.specs.Semaphores.{Semaphore, IsSoundSemaphore}
 use Rattle.evl_kernel.specs.declared.waits.Awaited.{Awaited}
 use Rattle.evl_kernel.specs.declared.waits.Wait.{Wait}
 use Rattle.evl_kernel.specs.States.{State, with_clock, with_sched, with_waits}
 use Rattle.evl_kernel.specs.Elements.{elements}
 use Rattle.evl_kernel.specs.Waits.{wait_of, wait_at, going_on, ended_by, woken}
 use Rattle.evl_kernel.specs.WaitOrder.{WaitsAreProper, is_blocked}
-use Rattle.evl_kernel.specs.Records.{stands_for}
+use Rattle.evl_kernel.specs.Standing.{AreSound, stands_for}
 use Rattle.evl_kernel.proofs.ReadyLaws.{ReadyAnew, ready-as}
 use Rattle.evl_kernel.proofs.WaitRecords.{index_there}
 
@@ -41,16 +40,16 @@ module _ (s : State) (thread : ℕ) (wait : Option Wait) where
   pub wait_there : (t : ℕ) → (t == thread) ≡ false → wait_of (slice_set s.waits thread wait) t ≡ wait_at s t
   wait_there t ne = index_there s.waits thread t wait None (swapped t thread ne)
 
--- all is proper but for one thread
-pub record ProperBut (s : State) (thread : ℕ) : Type 0 where
-  pub sound : (n : ℕ) (q : Semaphore) → slice_get s.sems n ≡ Some q → IsSoundSemaphore q
-  pub stands : (on : Awaited) (t : ℕ) → (t == thread) ≡ false → stands_for (elements s) on t ≡ true → wait_at s t ≡ Some (going_on on)
-  pub waits : (on : Awaited) (t : ℕ) → (t == thread) ≡ false → wait_at s t ≡ Some (going_on on) → stands_for (elements s) on t ≡ true
-  pub ready : (t : ℕ) → (t == thread) ≡ false → is_ready s.sched t ≡ (is_oob (stage_of s.sched t) && not (is_blocked s t))
-  pub dated : (t date : ℕ) → (t == thread) ≡ false → deadline_at s.clock t ≡ Some date → is_blocked s t ≡ true
+-- all is proper beside these threads
+pub record ProperBeside (s : State) (others : ℕ → Bool) : Type 0 where
+  pub sound : AreSound (elements s)
+  pub stands : (on : Awaited) (t : ℕ) → others t ≡ false → stands_for (elements s) on t ≡ true → wait_at s t ≡ Some (going_on on)
+  pub waits : (on : Awaited) (t : ℕ) → others t ≡ false → wait_at s t ≡ Some (going_on on) → stands_for (elements s) on t ≡ true
+  pub ready : (t : ℕ) → others t ≡ false → is_ready s.sched t ≡ (is_oob (stage_of s.sched t) && not (is_blocked s t))
+  pub dated : (t date : ℕ) → others t ≡ false → deadline_at s.clock t ≡ Some date → is_blocked s t ≡ true
 
-pub proper_but : (s : State) (thread : ℕ) → WaitsAreProper s → ProperBut s thread
-proper_but s thread h = record {
+pub proper_beside : (s : State) (others : ℕ → Bool) → WaitsAreProper s → ProperBeside s others
+proper_beside s others h = record {
   sound = h.sound;
   stands = λ on t ne. h.stands on t;
   waits = λ on t ne. h.waits on t;
@@ -58,13 +57,27 @@ proper_but s thread h = record {
   dated = λ t date ne. h.dated t date;
 }
 
+-- beside none: all is proper
+pub proper_all : (s : State) → ProperBeside s (λ t. false) → WaitsAreProper s
+proper_all s h = record {
+  sound = h.sound;
+  stands = λ on t. h.stands on t refl;
+  waits = λ on t. h.waits on t refl;
+  ready = λ t. h.ready t refl;
+  dated = λ t date. h.dated t date refl;
+}
+
+neither : (a b : Bool) → a ≡ false → b ≡ false → (a || b) ≡ false
+neither true b e f = absurd (false≢true (sym e))
+neither false b e f = f
+
 and_true : (b : Bool) → (b && true) ≡ b
 and_true true = refl
 and_true false = refl
 
 -- Whatever becomes of a thread that stands nowhere, where its wait doesn't go on, it is ready as its stage says, and it has
 -- no deadline.
-module _ (s : State) (thread : ℕ) (h : ProperBut s thread) (away : (on : Awaited) → stands_for (elements s) on thread ≡ false)
+module _ (s : State) (thread : ℕ) (others : ℕ → Bool) (h : ProperBeside s (λ t. (thread == t) || others t)) (away : (on : Awaited) → stands_for (elements s) on thread ≡ false)
     (waits : List (Option Wait)) (beside : (t : ℕ) → (t == thread) ≡ false → wait_of waits t ≡ wait_at s t)
     (over : option_map_or (λ (w : Wait). is_none w.outcome) (wait_of waits thread) false ≡ false)
     (sched : Sched) (anew : ReadyAnew s.sched sched thread) (deadlines : List (Option ℕ))
@@ -76,36 +89,39 @@ module _ (s : State) (thread : ℕ) (h : ProperBut s thread) (away : (on : Await
   blocked_there : (t : ℕ) → (t == thread) ≡ false → is_blocked freed t ≡ is_blocked s t
   blocked_there t ne = ap (λ (o : Option Wait). option_map_or (λ (w : Wait). is_none w.outcome) o false) (beside t ne)
 
-  pub proper_freed : WaitsAreProper freed
+  apart : (t : ℕ) → (t == thread) ≡ false → others t ≡ false → ((thread == t) || others t) ≡ false
+  apart t ne other = neither (thread == t) (others t) (swapped t thread ne) other
+
+  pub proper_freed : ProperBeside freed others
   proper_freed = record {
     sound = h.sound;
-    stands = λ on t stands. stood on t stands (t == thread) refl;
-    waits = λ on t is. waited on t is (t == thread) refl;
-    ready = λ t. is_ready_ t (t == thread) refl;
-    dated = λ t date is. is_dated t date is (t == thread) refl;
+    stands = λ on t other stands. stood on t other stands (t == thread) refl;
+    waits = λ on t other is. waited on t other is (t == thread) refl;
+    ready = λ t other. is_ready_ t other (t == thread) refl;
+    dated = λ t date other is. is_dated t date other is (t == thread) refl;
   }
     where
-      stood : (on : Awaited) (t : ℕ) → stands_for (elements s) on t ≡ true → (b : Bool) → (t == thread) ≡ b → wait_of waits t ≡ Some (going_on on)
-      stood on t stands true is = absurd (false≢true (sym (away on) ∙ (ap (λ (m : ℕ). stands_for (elements s) on m) (sym (same_number t thread is)) ∙ stands)))
-      stood on t stands false ne = beside t ne ∙ h.stands on t ne stands
+      stood : (on : Awaited) (t : ℕ) → others t ≡ false → stands_for (elements s) on t ≡ true → (b : Bool) → (t == thread) ≡ b → wait_of waits t ≡ Some (going_on on)
+      stood on t other stands true is = absurd (false≢true (sym (away on) ∙ (ap (λ (m : ℕ). stands_for (elements s) on m) (sym (same_number t thread is)) ∙ stands)))
+      stood on t other stands false ne = beside t ne ∙ h.stands on t (apart t ne other) stands
 
       never : (on : Awaited) → wait_of waits thread ≡ Some (going_on on) → ⊥
       never on is = false≢true (sym over ∙ ap (λ (o : Option Wait). option_map_or (λ (w : Wait). is_none w.outcome) o false) is)
 
-      waited : (on : Awaited) (t : ℕ) → wait_of waits t ≡ Some (going_on on) → (b : Bool) → (t == thread) ≡ b → stands_for (elements s) on t ≡ true
-      waited on t its true is = absurd (never on (ap (wait_of waits) (sym (same_number t thread is)) ∙ its))
-      waited on t its false ne = h.waits on t ne (sym (beside t ne) ∙ its)
+      waited : (on : Awaited) (t : ℕ) → others t ≡ false → wait_of waits t ≡ Some (going_on on) → (b : Bool) → (t == thread) ≡ b → stands_for (elements s) on t ≡ true
+      waited on t other its true is = absurd (never on (ap (wait_of waits) (sym (same_number t thread is)) ∙ its))
+      waited on t other its false ne = h.waits on t (apart t ne other) (sym (beside t ne) ∙ its)
 
-      is_ready_ : (t : ℕ) (b : Bool) → (t == thread) ≡ b → is_ready sched t ≡ (is_oob (stage_of sched t) && not (is_blocked freed t))
-      is_ready_ t true is =
+      is_ready_ : (t : ℕ) → others t ≡ false → (b : Bool) → (t == thread) ≡ b → is_ready sched t ≡ (is_oob (stage_of sched t) && not (is_blocked freed t))
+      is_ready_ t other true is =
           subst (λ (m : ℕ). is_ready sched m ≡ (is_oob (stage_of sched m) && not (is_blocked freed m))) (sym (same_number t thread is))
           (anew.itself ∙ sym (ap (λ (c : Bool). is_oob (stage_of sched thread) && not c) over ∙ and_true (is_oob (stage_of sched thread))))
-      is_ready_ t false ne =
-          anew.others t ne ∙ (h.ready t ne ∙ ((λ i. is_oob (sym (anew.stages t ne) i) && not (sym (blocked_there t ne) i))))
+      is_ready_ t other false ne =
+          anew.others t ne ∙ (h.ready t (apart t ne other) ∙ ((λ i. is_oob (sym (anew.stages t ne) i) && not (sym (blocked_there t ne) i))))
 
-      is_dated : (t date : ℕ) → slice_index_or deadlines t None ≡ Some date → (b : Bool) → (t == thread) ≡ b → is_blocked freed t ≡ true
-      is_dated t date its true is = absurd (none date (ap (λ (m : ℕ). slice_index_or deadlines m None) (sym (same_number t thread is)) ∙ its))
-      is_dated t date its false ne = blocked_there t ne ∙ h.dated t date ne (sym (same t ne) ∙ its)
+      is_dated : (t date : ℕ) → others t ≡ false → slice_index_or deadlines t None ≡ Some date → (b : Bool) → (t == thread) ≡ b → is_blocked freed t ≡ true
+      is_dated t date other its true is = absurd (none date (ap (λ (m : ℕ). slice_index_or deadlines m None) (sym (same_number t thread is)) ∙ its))
+      is_dated t date other its false ne = blocked_there t ne ∙ h.dated t date (apart t ne other) (sym (same t ne) ∙ its)
 
 abbrev pub over_if : Option Wait → Type 0
 over_if o = option_map_or (λ (w : Wait). is_none w.outcome) o false ≡ false
@@ -119,9 +135,10 @@ over_set waits thread wait h = by (index_set waits thread wait)
     by (inr is) = ap (λ (o : Option Wait). option_map_or (λ (w : Wait). is_none w.outcome) o false) is
 
 -- a wait ends
-pub proper_woken : (s : State) (thread : ℕ) (outcome : Reply) → ProperBut s thread → ((on : Awaited) → stands_for (elements s) on thread ≡ false) → WaitsAreProper (woken s thread outcome)
-proper_woken s thread outcome h away =
-    proper_freed s thread h away (slice_set s.waits thread (option_map (ended_by outcome) (wait_at s thread))) (wait_there s thread (option_map (ended_by outcome) (wait_at s thread)))
+pub proper_woken : (s : State) (thread : ℕ) (outcome : Reply) (others : ℕ → Bool) → ProperBeside s (λ t. (thread == t) || others t) → ((on : Awaited) → stands_for (elements s) on thread ≡ false)
+    → ProperBeside (woken s thread outcome) others
+proper_woken s thread outcome others h away =
+    proper_freed s thread others h away (slice_set s.waits thread (option_map (ended_by outcome) (wait_at s thread))) (wait_there s thread (option_map (ended_by outcome) (wait_at s thread)))
     (over_set s.waits thread (option_map (ended_by outcome) (wait_at s thread)) (over_now (wait_at s thread))) (readied s.sched thread)
     (record { itself = ready-as s.sched thread; others = λ t ne. ready-other s.sched thread t ne; stages = λ t ne. refl })
     (slice_set s.clock.deadlines thread None) none (λ t ne. index_there s.clock.deadlines thread t None None (swapped t thread ne))

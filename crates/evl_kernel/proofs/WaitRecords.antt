@@ -1,30 +1,13 @@
--- The waits of the records: what a step of a semaphore is to them, and that whoever stands in a queue waits for that.
-use Rattle.std.proofs.Common.{◌≡◌, ◌≢◌, ◌<◌, ◌+◌, ◌-◌, ℕ, zero, suc, ◌==◌, nat_lt, ◌⊎◌, inl, inr, Bool, true, false, ◌||◌, List, [], ◌∷◌, length, Option, Some, None, Result, Ok, Err, slice_get, slice_set, slice_index_or, if◌then◌else◌, refl, sym, ap, ◌∙◌, subst, arith}
-use Rattle.std.specs.Option.{option_map_or}
+-- The waits of the records: whoever stands in a queue waits for that, after each step of an element.
+use Rattle.std.proofs.Common.{◌≡◌, ◌≢◌, ◌<◌, ℕ, zero, suc, ◌==◌, ◌⊎◌, inl, inr, Bool, true, false, ◌||◌, List, [], ◌∷◌, length, Option, Some, None, Ok, Err, slice_set, slice_index_or, if◌then◌else◌, refl, sym, ap, ◌∙◌, subst, arith}
+use Rattle.std.specs.Option.{option_map}
 use Rattle.std.proofs.lemmas.Bool.{false≢true}
 use Rattle.std.proofs.lemmas.Bool.Decides.{nat_tests}
 use Rattle.std.proofs.lemmas.List.{length-set}
-use Rattle.evl_base.specs.declared.numbers.SemId.{SemId}
 use Rattle.evl_base.specs.declared.refusal.Refusal.{Refusal}
-use Rattle.evl_base.specs.declared.refusal.Refusal.TheVariants.{Unknown, Range, Again}
+use Rattle.evl_base.specs.declared.refusal.Refusal.TheVariants.{Unknown, WrongStage}
 use Rattle.evl_base.specs.declared.reply.Reply.{Reply}
-use Rattle.evl_base.specs.declared.reply.Reply.TheVariants.{Done}
-use Rattle.evl_sync.specs.declared.waiter.Waiter.{Waiter}
-use Rattle.evl_base.specs.declared.numbers.ThreadId.{ThreadId}
-use Rattle.evl_sync.specs.Steps.{stepped}
-use Rattle.evl_sync.specs.Queues.{IsKept, number_of, stands_in}
-use Rattle.evl_sync.specs.Semaphores as sem
-use Rattle.evl_sync.specs.Semaphores.{Semaphore}
-use Rattle.evl_kernel.specs.declared.waits.Awaited.{Awaited}
-use Rattle.evl_kernel.specs.declared.waits.Awaited.TheVariants.{Sem}
-use Rattle.evl_kernel.specs.declared.waits.Wait.{Wait}
-use Rattle.evl_kernel.specs.States.{State}
-use Rattle.evl_kernel.specs.Effects.{replied}
-use Rattle.evl_kernel.specs.Semaphores.{SemStep, get, put, semaphore, sem_wakes, head_served}
-use Rattle.evl_kernel.specs.Elements.{Elements, on_sem, with_elements, stepping, stepping_to}
-use Rattle.evl_kernel.specs.Waits.{wait_of, going_on, all_woken, woken}
-use Rattle.evl_kernel.specs.Records.{WaitsAreKept, stands_for}
-use Rattle.evl_base.specs.declared.refusal.Refusal.TheVariants.{WrongStage}
+use Rattle.evl_base.specs.declared.reply.Reply.TheVariants.{Begun, TimedOut}
 use Rattle.evl_base.specs.declared.stage.Stage.{Stage}
 use Rattle.evl_base.specs.declared.stage.Stage.TheVariants.{Oob}
 use Rattle.evl_sched.specs.Calls as calls
@@ -33,26 +16,31 @@ use Rattle.evl_sched.specs.Ranks as ranks
 use Rattle.evl_sched.specs.Ranks.{IsUnboosted, Ranked}
 use Rattle.evl_sched.specs.Threads.{is_oob, refused_first, stage_of}
 use Rattle.evl_sched.proofs.UnboostedLaws.{rank-base}
-use Rattle.evl_kernel.specs.Beginnings.{inband_refusal}
+use Rattle.evl_kernel.specs.declared.waits.Awaited.{Awaited}
+use Rattle.evl_kernel.specs.declared.waits.Wait.{Wait}
+use Rattle.evl_kernel.specs.declared.waits.Wanted.{Wanted}
+use Rattle.evl_kernel.specs.States.{State, Elements}
+use Rattle.evl_kernel.specs.Effects.{Answered, if_done, lifted, refused_by}
+use Rattle.evl_kernel.specs.Elements.{ElementStep, element, elements, serves, stepping, stepping_to, touched, wakes, with_elements}
+use Rattle.evl_kernel.specs.Beginnings.{awaited, begin_refusal, begin_step, beginning, form_refusal, is_there, step_of_waiter, waiter_refusal}
+use Rattle.evl_kernel.specs.Endings.{drop_step, leaving_queue}
+use Rattle.evl_kernel.specs.Settling.{deadline_left}
 use Rattle.evl_kernel.specs.ThreadCalls.{rank_of}
-use Rattle.evl_kernel.specs.Records.{RecordsView, KeepsCallbacks, state_of}
-use Rattle.evl_kernel.proofs.SetLaws.{set_here, set_there}
-use Rattle.evl_kernel.proofs.PeekLaws.{set_same}
-
-none_some : {A : Type 0} {x : A} → None ≡ Some x → ⊥
-none_some e = cc
-
-some_none : {A : Type 0} {x : A} → Some x ≡ None → ⊥
-some_none e = cc
-
-some_is : {A : Type 0} {x y : A} → Some x ≡ Some y → x ≡ y
-some_is e = cc
+use Rattle.evl_kernel.specs.Standing.{is_served, stands_for}
+use Rattle.evl_kernel.specs.Waits.{wait_at, wait_of, going_on, begun, woken, all_woken}
+use Rattle.evl_kernel.specs.Records.{RecordsView, IsSound, KeepsCallbacks, WaitsAreKept, state_of}
+use Rattle.evl_kernel.proofs.ElementSteps.{none_some, some_is, stepping-done, stepping-refused}
+use Rattle.evl_kernel.proofs.QueueSteps.{Comes}
+use Rattle.evl_kernel.proofs.QueueLaws.{Begins, Dropped, IsAsked, Stepped, asked_goes, begin_goes, begin_wakes, drop_wakes}
 
 same_number : (m n : ℕ) → (m == n) ≡ true → m ≡ n
 same_number m n e = grind (arith, nat_tests)
 
 is_number : (m n : ℕ) → m ≡ n → (m == n) ≡ true
 is_number m n e = grind (arith, nat_tests)
+
+swapped : (m n : ℕ) → (m == n) ≡ false → (n == m) ≡ false
+swapped m n e = grind (arith, nat_tests)
 
 fewer_by : (m n : ℕ) → (suc m == suc n) ≡ false → (m == n) ≡ false
 fewer_by m n e = grind (arith, nat_tests)
@@ -70,200 +58,108 @@ index_here [] m v d within = absurd (omega (arith, within))
 index_here (x ∷ xs) zero v d within = refl
 index_here (x ∷ xs) (suc m) v d within = index_here xs m v d (omega (arith, within))
 
--- a step of the n-th semaphore
-module _ (f : State → State) (s : State) (n : ℕ) (step : SemStep) where
-  pub stepping_is : (q p : Semaphore) (reply : Reply) → slice_get s.sems n ≡ Some q → semaphore q step ≡ Ok (reply, p)
-      → stepping_to f s (on_sem n step) ≡ Ok (reply, all_woken (f (with_elements s (record { sems = slice_set s.sems n p }))) (sem_wakes q step))
-  stepping_is q p reply here is = rw (here, is) refl
-
-  pub stepping_refused : (q : Semaphore) (refusal : Refusal) → slice_get s.sems n ≡ Some q → semaphore q step ≡ Err refusal → stepping_to f s (on_sem n step) ≡ Err refusal
-  stepping_refused q refusal here is = rw (here, is) refl
-
-  pub stepping_unknown : slice_get s.sems n ≡ None → stepping_to f s (on_sem n step) ≡ Err Unknown
-  stepping_unknown none = rw none refl
-
--- what a put comes to: whom it releases, it wakes
-abbrev pub served_one : Option ℕ → List (ℕ × Reply)
-served_one o = option_map_or (λ thread. (thread, Done) ∷ []) o []
-
-abbrev Put : Type 0
-Put = Result (Option ℕ × Semaphore) Refusal
-
-ok_is : {x y : Option ℕ × Semaphore} → ◌≡◌ {A = Put} (Ok x) (Ok y) → x ≡ y
-ok_is e = cc
-
-ok_err : {x : Option ℕ × Semaphore} {y : Refusal} → ◌≡◌ {A = Put} (Ok x) (Err y) → ⊥
-ok_err e = cc
-
-abbrev raise : Bool → Semaphore → Put
-raise b q = if b then Ok (None, record q { count = q.count + 1 }) else Err Range
-
-pub put_wakes : (q : Semaphore) (o : Option ℕ) (p : Semaphore) → sem.put q ≡ Ok (o, p) → sem_wakes q put ≡ served_one o
-put_wakes q o p = by q.waiters
-  where
-    raised : (b : Bool) → raise b q ≡ Ok (o, p) → [] ≡ served_one o
-    raised true is = ap (λ (x : Option ℕ × Semaphore). served_one x.0) (ok_is is)
-    raised false is = absurd (ok_err (sym is))
-
-    by : (ws : List Waiter) → sem.put_before q ws ≡ Ok (o, p) → head_served ws ≡ served_one o
-    by [] is = raised (nat_lt q.count 2147483647) is
-    by (w ∷ ws) is = ap (λ (x : Option ℕ × Semaphore). served_one x.0) (ok_is is)
-
--- the waiters that a put leaves
-pub put_leaves : (q : Semaphore) (thread : ℕ) (p : Semaphore) → sem.put q ≡ Ok (Some thread, p) → (w : Waiter) × (ws : List Waiter) × (q.waiters ≡ w ∷ ws) × (w.thread ≡ thread) × (p.waiters ≡ ws)
-put_leaves q thread p = by q.waiters refl
-  where
-    raised : (b : Bool) → raise b q ≡ Ok (Some thread, p) → ⊥
-    raised true is = none_some (ap (λ (x : Option ℕ × Semaphore). x.0) (ok_is is))
-    raised false is = ok_err (sym is)
-
-    by : (ws : List Waiter) → q.waiters ≡ ws → sem.put_before q ws ≡ Ok (Some thread, p) → (w : Waiter) × (others : List Waiter) × (q.waiters ≡ w ∷ others) × (w.thread ≡ thread) × (p.waiters ≡ others)
-    by [] are is = absurd (raised (nat_lt q.count 2147483647) is)
-    by (w ∷ ws) are is =
-        let same = ok_is is in (
-          w,
-          ws,
-          are,
-          some_is (ap (λ (x : Option ℕ × Semaphore). x.0) same),
-          ap (λ (x : Option ℕ × Semaphore). x.1.waiters) (sym same),
-        )
-
-pub put_raises : (q p : Semaphore) → sem.put q ≡ Ok (None, p) → p.waiters ≡ q.waiters
-put_raises q p = by q.waiters refl
-  where
-    raised : (b : Bool) → raise b q ≡ Ok (None, p) → p.waiters ≡ q.waiters
-    raised true is = ap (λ (x : Option ℕ × Semaphore). x.1.waiters) (sym (ok_is is))
-    raised false is = absurd (ok_err (sym is))
-
-    by : (ws : List Waiter) → q.waiters ≡ ws → sem.put_before q ws ≡ Ok (None, p) → p.waiters ≡ q.waiters
-    by [] are is = raised (nat_lt q.count 2147483647) is
-    by (w ∷ ws) are is = absurd (some_none (ap (λ (x : Option ℕ × Semaphore). x.0) (ok_is is)))
-
--- whoever stands in a queue waits for that
-abbrev Stands : ℕ → Semaphore → Type 0
-Stands thread q = stands_in (λ w. w.thread) thread q.waiters ≡ true
-
-module _ (threads : ℕ) (sems : List Semaphore) (waits : List (Option Wait)) (kept : WaitsAreKept threads (record { sems = sems }) waits) where
+module _ (threads : ℕ) (e : Elements) (waits : List (Option Wait)) (kept : WaitsAreKept threads e waits) where
   -- whose wait doesn't go on stands nowhere
-  pub away_of : (thread : ℕ) → ((on : Awaited) → wait_of waits thread ≢ Some (going_on on)) → (on : Awaited) → stands_for (record { sems = sems }) on thread ≡ false
-  away_of thread other on = by (stands_for (record { sems = sems }) on thread) refl
+  pub away_of : (thread : ℕ) → ((on : Awaited) → wait_of waits thread ≢ Some (going_on on)) → (on : Awaited) → stands_for e on thread ≡ false
+  away_of thread other on = by (stands_for e on thread) refl
     where
-      by : (b : Bool) → stands_for (record { sems = sems }) on thread ≡ b → b ≡ false
+      by : (b : Bool) → stands_for e on thread ≡ b → b ≡ false
       by true is = absurd (other on (kept.going on thread is))
       by false is = refl
 
-  pub idle_away : (thread : ℕ) → wait_of waits thread ≡ None → (on : Awaited) → stands_for (record { sems = sems }) on thread ≡ false
+  pub idle_away : (thread : ℕ) → wait_of waits thread ≡ None → (on : Awaited) → stands_for e on thread ≡ false
   idle_away thread none = away_of thread (λ on is. none_some (sym none ∙ is))
 
   -- the wait of a thread that stands nowhere changes
-  pub set_wait : (thread : ℕ) (w : Option Wait) → ((on : Awaited) → stands_for (record { sems = sems }) on thread ≡ false) → WaitsAreKept threads (record { sems = sems }) (slice_set waits thread w)
-  set_wait thread w away = record { few = kept.few; places = length-set waits thread w ∙ kept.places; going = λ on other stands. by on other stands (thread == other) refl }
+  pub set_wait : (thread : ℕ) (w : Option Wait) → ((on : Awaited) → stands_for e on thread ≡ false) → WaitsAreKept threads e (slice_set waits thread w)
+  set_wait thread w away = record { few = kept.few; sound = kept.sound; places = length-set waits thread w ∙ kept.places; going = λ on other stands. by on other stands (thread == other) refl }
     where
-      by : (on : Awaited) (other : ℕ) → stands_for (record { sems = sems }) on other ≡ true → (b : Bool) → (thread == other) ≡ b → wait_of (slice_set waits thread w) other ≡ Some (going_on on)
-      by on other stands true is = absurd (false≢true (sym (away on) ∙ (ap (λ (t : ℕ). stands_for (record { sems = sems }) on t) (same_number thread other is) ∙ stands)))
+      by : (on : Awaited) (other : ℕ) → stands_for e on other ≡ true → (b : Bool) → (thread == other) ≡ b → wait_of (slice_set waits thread w) other ≡ Some (going_on on)
+      by on other stands true is = absurd (false≢true (sym (away on) ∙ (ap (λ (t : ℕ). stands_for e on t) (same_number thread other is) ∙ stands)))
       by on other stands false is = index_there waits thread other w None is ∙ kept.going on other stands
 
-  module _ (n : ℕ) (q p : Semaphore) (here : slice_get sems n ≡ Some q) where
-    abbrev after : Elements
-    after = record { sems = slice_set sems n p }
+  pub waits_set : (thread : ℕ) (w : Option Wait) (changed : List (Option Wait)) → changed ≡ slice_set waits thread w → ((on : Awaited) → stands_for e on thread ≡ false) → WaitsAreKept threads e changed
+  waits_set thread w changed is away = subst (WaitsAreKept threads e) (sym is) (set_wait thread w away)
 
-    -- another semaphore stands as it was
-    pub elsewhere : (id : SemId) (thread : ℕ) → (n == id.0) ≡ false → stands_for after (Sem id) thread ≡ stands_for (record { sems = sems }) (Sem id) thread
-    elsewhere id thread other = ap (λ (o : Option Semaphore). option_map_or (λ (x : Semaphore). stands_in (λ w. w.thread) thread x.waiters) o false) (set_there sems n id.0 p other)
+  -- a thread stands in one queue at most
+  one_queue : (thread : ℕ) (on other : Awaited) → stands_for e on thread ≡ true → stands_for e other thread ≡ true → on ≡ other
+  one_queue thread on other first second = ap (λ (w : Wait). w.on) (some_is (sym (kept.going on thread first) ∙ kept.going other thread second))
 
-    pub in_it : (id : SemId) (thread : ℕ) → (n == id.0) ≡ true → stands_for after (Sem id) thread ≡ stands_in (λ w. w.thread) thread p.waiters
-    in_it id thread is =
-        ap (λ (m : ℕ). option_map_or (λ (x : Semaphore). stands_in (λ w. w.thread) thread x.waiters) (slice_get (slice_set sems n p) m) false) (sym (same_number n id.0 is))
-        ∙ ap (λ (o : Option Semaphore). option_map_or (λ (x : Semaphore). stands_in (λ w. w.thread) thread x.waiters) o false) (set_here sems n q p here)
+  -- a step of an element: some are let go
+  module _ (served : List (ℕ × Reply)) (after : Elements) (stepped : Stepped e served after) where
+    pub kept_after : WaitsAreKept threads after waits
+    kept_after = record { few = kept.few; sound = stepped.sound; places = kept.places; going = λ on t stands. kept.going on t (stepped.goes.old on t stands) }
 
-    pub was_in_it : (id : SemId) (thread : ℕ) → (n == id.0) ≡ true → stands_for (record { sems = sems }) (Sem id) thread ≡ stands_in (λ w. w.thread) thread q.waiters
-    was_in_it id thread is =
-        ap (λ (m : ℕ). option_map_or (λ (x : Semaphore). stands_in (λ w. w.thread) thread x.waiters) (slice_get sems m) false) (sym (same_number n id.0 is))
-        ∙ ap (λ (o : Option Semaphore). option_map_or (λ (x : Semaphore). stands_in (λ w. w.thread) thread x.waiters) o false) here
-
-    -- a semaphore changes, and nobody comes
-    pub nobody_comes : ((thread : ℕ) → Stands thread p → Stands thread q) → WaitsAreKept threads after waits
-    nobody_comes old = record { few = kept.few; places = kept.places; going = going }
+    pub away_after : (t : ℕ) → is_served t served ≡ true → (on : Awaited) → stands_for after on t ≡ false
+    away_after t is on = by (stands_for after on t) refl
       where
-        by : (id : SemId) (thread : ℕ) → stands_for after (Sem id) thread ≡ true → (b : Bool) → (n == id.0) ≡ b → wait_of waits thread ≡ Some (going_on (Sem id))
-        by id thread stands true is = kept.going (Sem id) thread (was_in_it id thread is ∙ old thread (sym (in_it id thread is) ∙ stands))
-        by id thread stands false is = kept.going (Sem id) thread (sym (elsewhere id thread is) ∙ stands)
+        by : (b : Bool) → stands_for after on t ≡ b → b ≡ false
+        by false stands = refl
+        by true stands =
+            let left = stepped.goes.left t is in
+            let same = one_queue t left.on on left.stood (stepped.goes.old on t stands) in
+            sym stands ∙ (ap (λ (x : Awaited). stands_for after x t) (sym same) ∙ left.gone)
 
-        going : (on : Awaited) (thread : ℕ) → stands_for after on thread ≡ true → wait_of waits thread ≡ Some (going_on on)
-        going (Sem id) thread stands = by id thread stands (n == id.0) refl
-
-    -- this thread stands there no more, and stood nowhere else
-    pub away_now : (thread : ℕ) → stands_in (λ w. w.thread) thread p.waiters ≡ false
-        → ((id : SemId) → (n == id.0) ≡ false → stands_for (record { sems = sems }) (Sem id) thread ≡ false) → (on : Awaited) → stands_for after on thread ≡ false
-    away_now thread gone nowhere (Sem id) = by (n == id.0) refl
+  -- a wait begins
+  module _ (thread : ℕ) (on : Awaited) (told : Option Reply) (woken : List (ℕ × Reply)) (after : Elements) (begins : Begins e thread on told woken after) (none : wait_of waits thread ≡ None) where
+    -- it is served at once
+    pub kept_served : (outcome : Reply) → told ≡ Some outcome → (w : Option Wait) (changed : List (Option Wait)) → changed ≡ slice_set waits thread w → WaitsAreKept threads after changed
+    kept_served outcome at_once w changed is =
+        let goes = begins.at_once outcome at_once in
+        let mid : WaitsAreKept threads after waits = record { few = kept.few; sound = begins.sound; places = kept.places; going = λ other t stands. kept.going other t (goes.old other t stands) } in
+        subst (WaitsAreKept threads after) (sym is) (set_away mid)
       where
-        by : (b : Bool) → (n == id.0) ≡ b → stands_for after (Sem id) thread ≡ false
-        by true is = in_it id thread is ∙ gone
-        by false is = elsewhere id thread is ∙ nowhere id is
-
-    -- who waits here stands nowhere else
-    pub nowhere_else : (thread : ℕ) (w : Wait) → wait_of waits thread ≡ Some w → ((id : SemId) → (n == id.0) ≡ false → w.on ≢ Sem id) → (id : SemId) → (n == id.0) ≡ false → stands_for (record { sems = sems }) (Sem id) thread ≡ false
-    nowhere_else thread w its other id apart = by (stands_for (record { sems = sems }) (Sem id) thread) refl
-      where
-        by : (b : Bool) → stands_for (record { sems = sems }) (Sem id) thread ≡ b → b ≡ false
-        by true is = absurd (other id apart (ap (λ (x : Wait). x.on) (some_is (sym its ∙ kept.going (Sem id) thread is))))
-        by false is = refl
-
-    -- the head waiter leaves
-    pub head_away : (w : Waiter) (ws : List Waiter) → q.waiters ≡ w ∷ ws → p.waiters ≡ ws → IsKept (λ (x : Waiter). x.thread) (λ x. x.rank) q.waiters
-        → (on : Awaited) → stands_for after on w.thread ≡ false
-    head_away w ws are left queue =
-        let ranked = (subst (IsKept (λ (x : Waiter). x.thread) (λ x. x.rank)) are queue).ranked in
-        let stands : stands_for (record { sems = sems }) (Sem (record { 0 = n })) w.thread ≡ true =
-        was_in_it (record { 0 = n }) w.thread (is_number n n refl) ∙ (ap (λ (xs : List Waiter). stands_in (λ x. x.thread) w.thread xs) are ∙ ap (λ (b : Bool). b || stands_in (λ x. x.thread) w.thread ws) (is_number w.thread w.thread refl)) in
-        let its = kept.going (Sem (record { 0 = n })) w.thread stands in
-        away_now w.thread (ap (λ (xs : List Waiter). stands_in (λ x. x.thread) w.thread xs) left ∙ ranked.1)
-        (nowhere_else w.thread (going_on (Sem (record { 0 = n }))) its (λ id apart is. false≢true (sym apart ∙ is_number n id.0 (ap sem_number is))))
-      where
-        sem_number : Awaited → ℕ
-        sem_number (Sem id) = id.0
-
-    pub rest_old : (w : Waiter) (ws : List Waiter) → q.waiters ≡ w ∷ ws → p.waiters ≡ ws → (thread : ℕ) → Stands thread p → Stands thread q
-    rest_old w ws are left thread stands =
-        ap (λ (xs : List Waiter). stands_in (λ x. x.thread) thread xs) are
-        ∙ or_true (w.thread == thread) (stands_in (λ x. x.thread) thread ws) (ap (λ (xs : List Waiter). stands_in (λ x. x.thread) thread xs) (sym left) ∙ stands)
-      where
-        or_true : (a b : Bool) → b ≡ true → (a || b) ≡ true
-        or_true true b e = refl
-        or_true false b e = e
-
-    -- a thread begins to wait here
-    pub one_comes : (id : SemId) → id.0 ≡ n → (thread : ℕ) → thread < threads → wait_of waits thread ≡ None → ((other : ℕ) → Stands other p → (thread ≡ other) ⊎ Stands other q)
-        → WaitsAreKept threads after (slice_set waits thread (Some (going_on (Sem id))))
-    one_comes id at thread there none came = record { few = kept.few; places = length-set waits thread _ ∙ kept.places; going = going }
-      where
-        its : wait_of (slice_set waits thread (Some (going_on (Sem id)))) thread ≡ Some (going_on (Sem id))
-        its = index_here waits thread (Some (going_on (Sem id))) None (omega (arith, there, kept.places))
-
-        -- who stood stands elsewhere
-        old : (on : Awaited) (other : ℕ) → stands_for (record { sems = sems }) on other ≡ true → wait_of (slice_set waits thread (Some (going_on (Sem id)))) other ≡ Some (going_on on)
-        old on other stands = by (thread == other) refl
+        set_away : WaitsAreKept threads after waits → WaitsAreKept threads after (slice_set waits thread w)
+        set_away mid = record {
+          few = mid.few;
+          sound = mid.sound;
+          places = length-set waits thread w ∙ mid.places;
+          going = λ other t stands. by other t stands (thread == t) refl;
+        }
           where
-            by : (b : Bool) → (thread == other) ≡ b → wait_of (slice_set waits thread (Some (going_on (Sem id)))) other ≡ Some (going_on on)
-            by true is = absurd (none_some (sym none ∙ (ap (wait_of waits) (same_number thread other is) ∙ kept.going on other stands)))
-            by false is = index_there waits thread other _ None is ∙ kept.going on other stands
+            by : (other : Awaited) (t : ℕ) → stands_for after other t ≡ true → (b : Bool) → (thread == t) ≡ b → wait_of (slice_set waits thread w) t ≡ Some (going_on other)
+            by other t stands true same = absurd (none_some (sym none ∙ (ap (wait_of waits) (same_number thread t same) ∙ mid.going other t stands)))
+            by other t stands false ne = index_there waits thread t w None ne ∙ mid.going other t stands
 
-        new : (at_id : SemId) (other : ℕ) → (n == at_id.0) ≡ true → (thread ≡ other) ⊎ Stands other q → wait_of (slice_set waits thread (Some (going_on (Sem id)))) other ≡ Some (going_on (Sem at_id))
-        new at_id other is (inl same) =
-            ap (wait_of (slice_set waits thread (Some (going_on (Sem id))))) (sym same) ∙ (its ∙ ap (λ (m : ℕ). Some (going_on (Sem (record { 0 = m })))) (at ∙ same_number n at_id.0 is))
-        new at_id other is (inr stood) = old (Sem at_id) other (was_in_it at_id other is ∙ stood)
+    -- it goes on
+    pub kept_waiting : told ≡ None → thread < threads → (changed : List (Option Wait)) → changed ≡ slice_set waits thread (Some (going_on on)) → WaitsAreKept threads after changed
+    kept_waiting nothing there changed is = subst (WaitsAreKept threads after) (sym is) (record {
+      few = kept.few;
+      sound = begins.sound;
+      places = length-set waits thread _ ∙ kept.places;
+      going = λ other t stands. by other t stands (t == thread) refl;
+    })
+      where
+        comes : Comes e on thread after
+        comes = begins.waits nothing
 
-        by : (at_id : SemId) (other : ℕ) → stands_for after (Sem at_id) other ≡ true → (b : Bool) → (n == at_id.0) ≡ b → wait_of (slice_set waits thread (Some (going_on (Sem id)))) other ≡ Some (going_on (Sem at_id))
-        by at_id other stands true is = new at_id other is (came other (sym (in_it at_id other is) ∙ stands))
-        by at_id other stands false is = old (Sem at_id) other (sym (elsewhere at_id other is) ∙ stands)
+        mine : wait_of (slice_set waits thread (Some (going_on on))) thread ≡ Some (going_on on)
+        mine = index_here waits thread (Some (going_on on)) None (omega (arith, there, kept.places))
 
-        going : (on : Awaited) (other : ℕ) → stands_for after on other ≡ true → wait_of (slice_set waits thread (Some (going_on (Sem id)))) other ≡ Some (going_on on)
-        going (Sem at_id) other stands = by at_id other stands (n == at_id.0) refl
+        alone : (other : Awaited) → (on ≡ other) ⊎ (stands_for e other thread ≡ true) → on ≡ other
+        alone other (inl same) = same
+        alone other (inr stood) = absurd (false≢true (sym (idle_away thread none other) ∙ stood))
 
--- the wait of a thread that stands nowhere was changed
-pub waits_set : (threads : ℕ) (sems : List Semaphore) (waits : List (Option Wait)) (kept : WaitsAreKept threads (record { sems = sems }) waits) (thread : ℕ) (w : Option Wait) (changed : List (Option Wait))
-    → changed ≡ slice_set waits thread w → ((on : Awaited) → stands_for (record { sems = sems }) on thread ≡ false) → WaitsAreKept threads (record { sems = sems }) changed
-waits_set threads sems waits kept thread w changed is away = subst (WaitsAreKept threads (record { sems = sems })) (sym is) (set_wait threads sems waits kept thread w away)
+        by : (other : Awaited) (t : ℕ) → stands_for after other t ≡ true → (b : Bool) → (t == thread) ≡ b → wait_of (slice_set waits thread (Some (going_on on))) t ≡ Some (going_on other)
+        by other t stands true same =
+            let is_t = same_number t thread same in
+            ap (wait_of (slice_set waits thread (Some (going_on on)))) is_t
+            ∙ (mine ∙ ap (λ (x : Awaited). Some (going_on x)) (alone other (comes.alone other (ap (stands_for after other) (sym is_t) ∙ stands))))
+        by other t stands false ne = index_there waits thread t _ None (swapped t thread ne) ∙ kept.going other t (sym (comes.same other t ne) ∙ stands)
+
+  -- a thread leaves the queue in which it waits
+  module _ (thread : ℕ) (on : Awaited) (after : Elements) (dropped : Dropped e on thread after) where
+    pub dropped_kept : WaitsAreKept threads after waits
+    dropped_kept = record { few = kept.few; sound = dropped.sound; places = kept.places; going = λ other t stands. kept.going other t (dropped.drops.old other t stands) }
+
+    pub dropped_away : Some on ≡ option_map (λ (w : Wait). w.on) (wait_of waits thread) → (other : Awaited) → stands_for after other thread ≡ false
+    dropped_away its other = by (stands_for after other thread) refl
+      where
+        by : (b : Bool) → stands_for after other thread ≡ b → b ≡ false
+        by false stands = refl
+        by true stands =
+            let same : on ≡ other = some_is (its ∙ ap (option_map (λ (w : Wait). w.on)) (kept.going other thread (dropped.drops.old other thread stands))) in
+            sym stands ∙ (ap (λ (x : Awaited). stands_for after x thread) (sym same) ∙ dropped.drops.gone)
 
 -- who is ready, and who waits, has nothing to do with callbacks
 module _ {C : Type 0} (r : RecordsView C) where
@@ -273,72 +169,110 @@ module _ {C : Type 0} (r : RecordsView C) where
   pub keeps-waits : (waits : List (Option Wait)) → KeepsCallbacks r (record r { waits = waits })
   keeps-waits waits = record { brings = λ number callback stands. stands; told_is = refl }
 
-  pub keeps-sems : (sems : List Semaphore) → KeepsCallbacks r (record r { sems = sems })
-  keeps-sems sems = record { brings = λ number callback stands. stands; told_is = refl }
+  pub keeps-elements : (e : Elements) → KeepsCallbacks r (record r { elements = e })
+  keeps-elements e = record { brings = λ number callback stands. stands; told_is = refl }
 
   -- what a thread that may begin a wait has
-  pub may_begin_is : IsUnboosted r.sched → (thread rank : ℕ) → stranger_refusal r.sched.sched thread ≡ None → rank ≡ ranks.rank_of r.sched thread → Oob ≡ stage_of r.sched.sched thread
-      → (refused_first (stranger_refusal (state_of r).sched thread) (inband_refusal (state_of r) thread) ≡ None) × (rank ≡ rank_of (state_of r) thread)
-  may_begin_is base thread rank passed is oob = (
-    rw passed (ap (λ (v : Stage). if is_oob v then None else Some WrongStage) (sym oob)),
+  pub may_begin_is : IsUnboosted r.sched → (thread rank : ℕ) (wants : Wanted) → stranger_refusal r.sched.sched thread ≡ None → rank ≡ ranks.rank_of r.sched thread → form_refusal wants ≡ None
+      → Oob ≡ stage_of r.sched.sched thread → (waiter_refusal (state_of r) thread wants ≡ None) × (rank ≡ rank_of (state_of r) thread)
+  may_begin_is base thread rank wants passed is form oob = (
+    rw (passed, form) (ap (λ (v : Stage). if is_oob v then None else Some WrongStage) (sym oob)),
     is ∙ rank-base r.sched base thread,
   )
 
--- a step of a semaphore of the records, by what its call did
-module _ {C : Type 0} (r : RecordsView C) (n : ℕ) (q p : Semaphore) (here : slice_get r.sems n ≡ Some q) where
-  abbrev pub with_sem : RecordsView C
-  with_sem = record r { sems = slice_set r.sems n p }
+-- the elements change, and nothing else of the records
+module _ {C : Type 0} (r : RecordsView C) (h : IsSound r) where
+  pub sound_with : (after : Elements) (waits : List (Option Wait)) → WaitsAreKept r.threads after waits → IsSound (record r { elements = after; waits = waits })
+  sound_with after waits kept = record { allowed = h.allowed; timers_allowed = h.timers_allowed; clock_sound = h.clock_sound; ranks = h.ranks; waits = kept }
 
-  pub sem_same : p ≡ q → state_of with_sem ≡ state_of r
-  sem_same same = ap (λ (sems : List Semaphore). state_of (record r { sems = sems })) (ap (slice_set r.sems n) same ∙ set_same r.sems n q here)
+  -- by a step that was asked for
+  module _ (step : ElementStep) (asked : IsAsked step) (reply : Reply) (after : Elements) (made : element r.elements step ≡ Ok (reply, after)) where
+    went : Stepped r.elements (wakes r.elements step) after
+    went = asked_goes r.elements h.waits.sound after reply step asked made
 
-  pub got : stepped (λ (u : Unit {0}). u) (Ok tt) p ≡ sem.try_get q → stepping (state_of r) (on_sem n get) ≡ Ok (Done, state_of with_sem)
-  got is = stepping_is (λ s. s) (state_of r) n get q p Done here (ap (replied (λ u. Done)) (sym is))
+    pub asked_sound : IsSound (record r { elements = after })
+    asked_sound = sound_with after r.waits (kept_after r.threads r.elements r.waits h.waits (wakes r.elements step) after went)
 
-  pub got_waiters : stepped (λ (u : Unit {0}). u) (Ok tt) p ≡ sem.try_get q → p.waiters ≡ q.waiters
-  got_waiters = by (q.count == 0)
-    where
-      by : (b : Bool) → Ok (tt, p) ≡ if◌then◌else◌ {A = Result (Unit {0} × Semaphore) Refusal} b (Err Again) (Ok (tt, record q { count = q.count - 1 })) → p.waiters ≡ q.waiters
-      by true is = absurd (never is)
-        where
-          never : ◌≡◌ {A = Result (Unit {0} × Semaphore) Refusal} (Ok (tt, p)) (Err Again) → ⊥
-          never e = cc
-      by false is = ap (λ (x : Unit {0} × Semaphore). x.1.waiters) (same is)
-        where
-          same : {x y : Unit {0} × Semaphore} → ◌≡◌ {A = Result (Unit {0} × Semaphore) Refusal} (Ok x) (Ok y) → x ≡ y
-          same e = cc
+    pub asked_away : (t : ℕ) → is_served t (wakes r.elements step) ≡ true → (on : Awaited) → stands_for after on t ≡ false
+    asked_away t is on = away_after r.threads r.elements r.waits h.waits (wakes r.elements step) after went t is on
 
-  pub got_nothing : (e : Refusal) → stepped (λ (u : Unit {0}). u) (Err e) p ≡ sem.try_get q → stepping (state_of r) (on_sem n get) ≡ Err Again
-  got_nothing e is = stepping_refused (λ s. s) (state_of r) n get q Again here (ap (replied (λ u. Done)) (by (q.count == 0) is))
-    where
-      by : (b : Bool) → Err e ≡ if◌then◌else◌ {A = Result (Unit {0} × Semaphore) Refusal} b (Err Again) (Ok (tt, record q { count = q.count - 1 }))
-          → if◌then◌else◌ {A = Result (Unit {0} × Semaphore) Refusal} b (Err Again) (Ok (tt, record q { count = q.count - 1 })) ≡ Err Again
-      by true is = refl
-      by false is = absurd (never is)
-        where
-          never : ◌≡◌ {A = Result (Unit {0} × Semaphore) Refusal} (Err e) (Ok (tt, record q { count = q.count - 1 })) → ⊥
-          never e = cc
+    pub asked_done : (served : List (ℕ × Reply)) → wakes r.elements step ≡ served → stepping (state_of r) step ≡ Ok (reply, all_woken (state_of (record r { elements = after })) served)
+    asked_done served is =
+        stepping-done (λ s. s) (state_of r) step reply after made
+        ∙ ap (λ (ws : List (ℕ × Reply)). Ok (reply, all_woken (state_of (record r { elements = after })) ws)) is
 
-  pub put_none : stepped number_of (Ok None) p ≡ sem.put q → stepping (state_of r) (on_sem n put) ≡ Ok (Done, state_of with_sem)
-  put_none is =
-      stepping_is (λ s. s) (state_of r) n put q p Done here (ap (replied (λ u. Done)) (sym is))
-      ∙ ap (λ (served : List (ℕ × Reply)). Ok (Done, all_woken (state_of with_sem) served)) (put_wakes q None p (sym is))
+pub refused_as : {C : Type 0} (r : RecordsView C) (step : ElementStep) (refusal : Refusal) (after : Elements) → (element r.elements step ≡ Err refusal) × (after ≡ r.elements)
+    → (stepping (state_of r) step ≡ Err refusal) × (state_of (record r { elements = after }) ≡ state_of r)
+refused_as r step refusal after (is, same) = (stepping-refused (λ s. s) (state_of r) step refusal is, ap (λ (e : Elements). state_of (record r { elements = e })) same)
 
-  pub put_some : (thread : ThreadId) → stepped number_of (Ok (Some thread)) p ≡ sem.put q → stepping (state_of r) (on_sem n put) ≡ Ok (Done, woken (state_of with_sem) thread.0 Done)
-  put_some thread is =
-      stepping_is (λ s. s) (state_of r) n put q p Done here (ap (replied (λ u. Done)) (sym is))
-      ∙ ap (λ (served : List (ℕ × Reply)). Ok (Done, all_woken (state_of with_sem) served)) (put_wakes q (Some thread.0) p (sym is))
+-- who is alone among the served
+pub alone_served : (t : ℕ) (outcome : Reply) (served : List (ℕ × Reply)) → served ≡ (t, outcome) ∷ [] → is_served t served ≡ true
+alone_served t outcome served is = ap (is_served t) is ∙ ap (λ (b : Bool). b || false) (is_number t t refl)
 
-  pub put_nothing : (e : Refusal) → stepped number_of (Err e) p ≡ sem.put q → stepping (state_of r) (on_sem n put) ≡ Err Range
-  put_nothing e is = stepping_refused (λ s. s) (state_of r) n put q Range here (ap (replied (λ u. Done)) (by q.waiters is))
-    where
-      raised : (b : Bool) → Err e ≡ raise b q → raise b q ≡ Err Range
-      raised true is = absurd (ok_err (sym is))
-      raised false is = refl
+-- a wait begins
+module _ {C : Type 0} (r : RecordsView C) (h : IsSound r) (thread rank : ℕ) (wants : Wanted) (until : Option ℕ) (none : wait_of r.waits thread ≡ None) (there : thread < r.threads)
+    (after : Elements) (made : element r.elements (step_of_waiter thread rank wants) ≡ Ok (Begun, after)) where
+  pub begin_away : stands_for r.elements (awaited wants) thread ≡ false
+  begin_away = idle_away r.threads r.elements r.waits h.waits thread none (awaited wants)
 
-      by : (ws : List Waiter) → Err e ≡ sem.put_before q ws → sem.put_before q ws ≡ Err Range
-      by [] is = raised (nat_lt q.count 2147483647) is
-      by (w ∷ ws) is = absurd (ok_err (sym is))
+  pub begin_few : thread < 64
+  begin_few = omega (arith, there, h.waits.few)
+
+  begins : Begins r.elements thread (awaited wants) (serves r.elements (step_of_waiter thread rank wants)) (wakes r.elements (step_of_waiter thread rank wants)) after
+  begins = begin_goes r.elements h.waits.sound after Begun thread rank begin_few wants begin_away made
+
+  pub sound_served : (outcome : Reply) → serves r.elements (step_of_waiter thread rank wants) ≡ Some outcome → (w : Option Wait) (waits : List (Option Wait)) → waits ≡ slice_set r.waits thread w
+      → IsSound (record r { elements = after; waits = waits })
+  sound_served outcome served w waits is =
+      sound_with r h after waits (kept_served r.threads r.elements r.waits h.waits thread (awaited wants) _ _ after begins none outcome served w waits is)
+
+  pub sound_waiting : serves r.elements (step_of_waiter thread rank wants) ≡ None → (waits : List (Option Wait)) → waits ≡ slice_set r.waits thread (Some (going_on (awaited wants)))
+      → IsSound (record r { elements = after; waits = waits })
+  sound_waiting nothing waits is =
+      sound_with r h after waits (kept_waiting r.threads r.elements r.waits h.waits thread (awaited wants) _ _ after begins none nothing there waits is)
+
+  module _ (has : is_there r.elements (awaited wants) ≡ true) (may : waiter_refusal (state_of r) thread wants ≡ None) (its : rank ≡ rank_of (state_of r) thread) where
+    pub begin_is : (outcome : Option Reply) → serves r.elements (step_of_waiter thread rank wants) ≡ outcome
+        → (beginning (state_of r) thread wants until).effect ≡ Ok (Begun, begun (with_elements (state_of r) after) thread (awaited wants) until outcome)
+    begin_is outcome served =
+        let s = state_of r in
+        let step = begin_step s thread wants in
+        let same : step_of_waiter thread rank wants ≡ step = ap (λ (m : ℕ). step_of_waiter thread m wants) its in
+        let f = λ (x : State). begun x thread (awaited wants) until (serves (elements s) step) in
+        let passed : begin_refusal s thread wants ≡ None = ap (λ (b : Bool). refused_first (if b then None else Some Unknown) (waiter_refusal s thread wants)) has ∙ may in
+        let made_so : element (elements s) step ≡ Ok (Begun, after) = ap (element r.elements) (sym same) ∙ made in
+        let told : serves (elements s) step ≡ outcome = ap (serves r.elements) (sym same) ∙ served in
+        ap (λ (o : Option Refusal). refused_by o (stepping_to f s step)) passed
+        ∙ (stepping-done f s step Begun after made_so
+        ∙ (ap (λ (ws : List (ℕ × Reply)). Ok (Begun, all_woken (f (with_elements s after)) ws)) (begin_wakes (elements s) thread (rank_of s thread) wants)
+        ∙ ap (λ (o : Option Reply). Ok (Begun, begun (with_elements s after) thread (awaited wants) until o)) told))
+
+-- a thread leaves the queue in which it waits
+pub left_as : (s : State) (thread : ℕ) (on : Awaited) (o : Option Wait) → Some on ≡ option_map (λ (w : Wait). w.on) o
+    → with_elements s (if_done (elements s) (element (elements s) (drop_step thread on))) ≡ if_done s (leaving_queue s thread o).effect
+left_as s thread on None its = absurd (none_some (sym its))
+left_as s thread on (Some w) its = subst (λ (x : Awaited). with_elements s (if_done (elements s) (element (elements s) (drop_step thread x))) ≡ if_done s (touched s None (drop_step thread w.on)).effect) (sym (some_is its)) (by (element (elements s) (drop_step thread w.on)))
+  where
+    by : (a : Answered Elements) → with_elements s (if_done (elements s) a) ≡ if_done s (lifted (λ e. all_woken (with_elements s e) (wakes (elements s) (drop_step thread w.on))) a)
+    by (Ok (reply, after)) = sym (ap (all_woken (with_elements s after)) (drop_wakes (elements s) thread w.on))
+    by (Err refusal) = refl
+
+-- it may leave first, and its wait end then
+pub left_first : (s : State) (thread : ℕ) → woken (if_done s (leaving_queue s thread (wait_at s thread)).effect) thread TimedOut ≡ (deadline_left s thread).1
+left_first s thread = by (wait_at s thread)
+  where
+    of : (on : Awaited) (a : Answered Elements)
+        → woken (if_done s (lifted (λ e. all_woken (with_elements s e) []) a)) thread TimedOut ≡ if_done (woken s thread TimedOut) (lifted (λ e. all_woken (with_elements (woken s thread TimedOut) e) []) a)
+    of on (Ok (reply, after)) = refl
+    of on (Err refusal) = refl
+
+    by : (o : Option Wait) → woken (if_done s (leaving_queue s thread o).effect) thread TimedOut ≡ if_done (woken s thread TimedOut) (leaving_queue (woken s thread TimedOut) thread o).effect
+    by None = refl
+    by (Some w) =
+        subst (λ (ws : List (ℕ × Reply)).
+        woken (if_done s (lifted (λ e. all_woken (with_elements s e) ws) (element (elements s) (drop_step thread w.on)))) thread TimedOut
+        ≡ if_done (woken s thread TimedOut) (lifted (λ e. all_woken (with_elements (woken s thread TimedOut) e) ws) (element (elements s) (drop_step thread w.on))))
+        (sym (drop_wakes (elements s) thread w.on)) (of w.on (element (elements s) (drop_step thread w.on)))
 
 -- and neither gives a rank
 pub blocked_unboosted : (q p : Ranked) (thread : ℕ) → p ≡ calls.block q thread → IsUnboosted q → IsUnboosted p

@@ -10,12 +10,13 @@ use Rattle.evl_base.specs.declared.stage.Stage.TheVariants.{Inband}
 use Rattle.evl_clock.specs.Clocks.{with_deadline}
 use Rattle.evl_sched.specs.Threads.{readied, unready, stage_set}
 use Rattle.evl_kernel.specs.declared.waits.Awaited.{Awaited}
+use Rattle.evl_kernel.specs.declared.waits.Wanted.{Wanted}
 use Rattle.evl_kernel.specs.declared.waits.Wait.{Wait}
-use Rattle.evl_kernel.specs.States.{State, with_clock, with_sched}
+use Rattle.evl_kernel.specs.States.{Elements, State, with_clock, with_sched}
 use Rattle.evl_kernel.specs.Effects.{Answered, lifted, leaving, if_done}
-use Rattle.evl_kernel.specs.Elements.{Elements, ElementStep, elements, with_elements, element, wakes, serves, stepping_to, touched}
+use Rattle.evl_kernel.specs.Elements.{ElementStep, elements, with_elements, element, wakes, serves, stepping_to, touched}
 use Rattle.evl_kernel.specs.Waits.{wait_at, with_wait, going_on, ended_by, is_past, blocked, begun, woken, all_woken}
-use Rattle.evl_kernel.specs.Beginnings.{begin_refusal, begin_step, beginning}
+use Rattle.evl_kernel.specs.Beginnings.{awaited, begin_refusal, begin_step, beginning}
 use Rattle.evl_kernel.specs.Endings.{drop_step, finish, goes_inband, inband_if, outcome_of}
 use Rattle.evl_kernel.specs.Settling.{deadline_left}
 use Rattle.evl_kernel.specs.TimerCalls.{posted_clock, posted_if}
@@ -101,8 +102,8 @@ module _ (P : State → Type 0) (k : KeptByWakes P) where
     kept-begun s thread on until None h = kept-blocked s thread on until h
     kept-begun s thread on until (Some outcome) h = k.waiting s thread (Some (ended_by outcome (going_on on))) h
 
-    pub leaves-beginning : (s : State) (thread : ℕ) (on : Awaited) (until : Option ℕ) → P s → Leaves P (beginning s thread on until).effect
-    leaves-beginning s thread on until h =
-        let step = begin_step s thread on in
-        leaves-refused P (begin_refusal s thread on) _ (λ passed.
-        leaves-stepping (λ x. begun x thread on until (serves (elements s) step)) (λ x hx. kept-begun x thread on until (serves (elements s) step) hx) s step h)
+    pub leaves-beginning : (s : State) (thread : ℕ) (wants : Wanted) (until : Option ℕ) → P s → Leaves P (beginning s thread wants until).effect
+    leaves-beginning s thread wants until h =
+        let step = begin_step s thread wants in
+        leaves-refused P (begin_refusal s thread wants) _ (λ passed.
+        leaves-stepping (λ x. begun x thread (awaited wants) until (serves (elements s) step)) (λ x hx. kept-begun x thread (awaited wants) until (serves (elements s) step) hx) s step h)

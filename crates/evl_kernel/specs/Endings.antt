@@ -9,12 +9,13 @@ use Rattle.evl_base.specs.declared.stage.Stage.TheVariants.{Inband}
 use Rattle.evl_sched.specs.Policies.{is_weak}
 use Rattle.evl_sched.specs.Threads.{seat_at, stage_set}
 use Rattle.evl_kernel.specs.declared.waits.Awaited.{Awaited}
-use Rattle.evl_kernel.specs.declared.waits.Awaited.TheVariants.{Sem}
+use Rattle.evl_kernel.specs.declared.waits.Awaited.TheVariants.{Sem, Flags}
 use Rattle.evl_kernel.specs.declared.waits.Wait.{Wait}
 use Rattle.evl_kernel.specs.States.{State, with_sched}
 use Rattle.evl_kernel.specs.Effects.{Effect, leaving}
 use Rattle.evl_kernel.specs.Semaphores as semaphore
-use Rattle.evl_kernel.specs.Elements.{ElementStep, on_sem, Told, touched, untouched}
+use Rattle.evl_kernel.specs.FlagGroups as group
+use Rattle.evl_kernel.specs.Elements.{ElementStep, on_sem, on_flags, Told, touched, untouched}
 use Rattle.evl_kernel.specs.Waits.{wait_at, with_wait, woken}
 
 -- a weak thread goes in-band, where it isn't yet, unless it keeps its stage
@@ -36,6 +37,7 @@ finish s thread keep = leaving (inband_if (goes_inband s thread keep) (with_wait
 -- the step of the element with which a waiter leaves it
 abbrev pub drop_step : ℕ → Awaited → ElementStep
 drop_step thread (Sem id) = on_sem id.0 (semaphore.drop thread)
+drop_step thread (Flags id) = on_flags id.0 (group.drop thread)
 
 -- the thread leaves the queue of this wait
 abbrev pub leaving_queue : State → ℕ → Option Wait → Told

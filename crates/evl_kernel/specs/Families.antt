@@ -4,13 +4,14 @@ use Rattle.std.specs.Prelude.{ℕ, Bool, true, false, Option, Some}
 use Rattle.evl_base.specs.declared.stage.Stage.{Stage}
 use Rattle.evl_base.specs.declared.policy.Policy.{Policy}
 use Rattle.evl_base.specs.declared.call.Call.{Call}
-use Rattle.evl_base.specs.declared.call.Call.TheVariants.{Request, Free, Arrive, Post, Stall, Unstall, Tick, Now, NewTimer, StartTimer, StopTimer, DropTimer, Overruns, Attach, Detach, SetPolicy, SetStage, Pick, RankOf, TryGet, Put, Peek, BeginGet, Finish}
-use Rattle.evl_kernel.specs.declared.waits.Awaited.{Awaited}
-use Rattle.evl_kernel.specs.declared.waits.Awaited.TheVariants.{Sem}
+use Rattle.evl_base.specs.declared.call.Call.TheVariants.{Request, Free, Arrive, Post, Stall, Unstall, Tick, Now, NewTimer, StartTimer, StopTimer, DropTimer, Overruns, Attach, Detach, SetPolicy, SetStage, Pick, RankOf, TryGet, Put, Peek, BeginGet, TryTake, PostFlags, PeekFlags, BeginTake, Finish}
+use Rattle.evl_kernel.specs.declared.waits.Wanted.{Wanted}
+use Rattle.evl_kernel.specs.declared.waits.Wanted.TheVariants as wanted
 use Rattle.evl_kernel.specs.States.{State}
 use Rattle.evl_kernel.specs.Effects.{Effect}
 use Rattle.evl_kernel.specs.Semaphores.{get, put, peek}
-use Rattle.evl_kernel.specs.Elements.{ElementStep, on_sem, Told, touched, untouched}
+use Rattle.evl_kernel.specs.FlagGroups as group
+use Rattle.evl_kernel.specs.Elements.{ElementStep, on_sem, on_flags, Told, touched, untouched}
 use Rattle.evl_kernel.specs.Beginnings.{beginning}
 use Rattle.evl_kernel.specs.Endings.{finish}
 use Rattle.evl_kernel.specs.LineCalls as line_call
@@ -77,8 +78,8 @@ pub data Task : Type 0 where
   on_clock : ClockStep → Task
   on_threads : ThreadStep → Task
   on_element : ElementStep → Task
-  -- for an element, until the deadline where there is one
-  begins : Awaited → Option ℕ → Task
+  -- a wait, until the deadline where there is one
+  begins : Wanted → Option ℕ → Task
   -- whether a weak thread keeps its stage
   ends : Bool → Task
 
@@ -95,7 +96,7 @@ performing s caller (on_lines step) = untouched (line_effect s step)
 performing s caller (on_clock step) = untouched (clock_effect s step)
 performing s caller (on_threads step) = untouched (thread_effect s caller step)
 performing s caller (on_element step) = touched s (Some caller) step
-performing s caller (begins on until) = beginning s caller on until
+performing s caller (begins wanted until) = beginning s caller wanted until
 performing s caller (ends keep) = untouched (finish s caller keep)
 
 -- the table of calls
@@ -122,5 +123,9 @@ task_of (RankOf thread) = on_threads (tell_rank thread.0)
 task_of (TryGet sem) = on_element (on_sem sem.0 get)
 task_of (Put sem) = on_element (on_sem sem.0 put)
 task_of (Peek sem) = on_element (on_sem sem.0 peek)
-task_of (BeginGet sem until) = begins (Sem sem) until
+task_of (BeginGet sem until) = begins (wanted.Sem sem) until
+task_of (TryTake flags kind) = on_element (on_flags flags.0 (group.take kind))
+task_of (PostFlags flags bits) = on_element (on_flags flags.0 (group.post bits))
+task_of (PeekFlags flags) = on_element (on_flags flags.0 group.peek)
+task_of (BeginTake flags kind until) = begins (wanted.Flags flags kind) until
 task_of (Finish keep) = ends keep

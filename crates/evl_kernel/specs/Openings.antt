@@ -7,17 +7,22 @@ use Rattle.evl_pipeline.specs.Lines as lines
 use Rattle.evl_clock.specs.Clocks as clocks
 use Rattle.evl_sched.specs.Threads as threads
 use Rattle.evl_sync.specs.Semaphores as semaphores
+use Rattle.evl_sync.specs.FlagGroups as flags
 use Rattle.evl_kernel.specs.Limits.{callback_limit, history_limit}
-use Rattle.evl_kernel.specs.States.{State, Handler, Banked}
+use Rattle.evl_kernel.specs.States.{State, Elements, Handler, Banked}
 
 abbrev pub at_home : Handler → Banked
 at_home h = record { handler = h; home = true }
+
+-- the elements of a board
+abbrev pub all_opened : Board → Elements
+all_opened board = record { sems = map semaphores.opened board.sems.items; flags = map flags.opened board.flags.items }
 
 -- every callback is in its bank place, no line has anything, there are no timers, no thread is attached, and nobody waits
 abbrev pub opening : Board → List Handler → State
 opening board bank = record {
   threads = board.threads;
-  sems = map semaphores.opened board.sems.items;
+  elements = all_opened board;
   bank = map at_home bank;
   lines = lines.opening;
   clock = clocks.opening;

@@ -1,5 +1,5 @@
 -- The kernel's records as contracts see them, and what they mean.
-use Rattle.std.specs.Prelude.{◌≡◌, ◌≤◌, ℕ, Bool, true, false, List, length, map, Option, Some, is_some, slice_get}
+use Rattle.std.specs.Prelude.{◌≡◌, ◌≤◌, ℕ, true, List, length, map, Option, Some, is_some, slice_get}
 use Rattle.std.specs.Option.{option_map_or}
 use Rattle.evl_base.specs.declared.board.Board.{Board}
 use Rattle.evl_base.specs.declared.stage.Stage.{Stage}
@@ -10,15 +10,12 @@ use Rattle.evl_clock.specs.declared.timer.Timer.{Timer}
 use Rattle.evl_clock.specs.Timers.{is_timer_allowed}
 use Rattle.evl_clock.specs.Clocks as clocks
 use Rattle.evl_sched.specs.Ranks.{IsUnboosted, Ranked}
-use Rattle.evl_sync.specs.Queues.{stands_in}
-use Rattle.evl_sync.specs.Semaphores.{Semaphore}
 use Rattle.evl_kernel.specs.declared.waits.Awaited.{Awaited}
-use Rattle.evl_kernel.specs.declared.waits.Awaited.TheVariants.{Sem}
 use Rattle.evl_kernel.specs.declared.waits.Wait.{Wait}
 use Rattle.evl_kernel.specs.declared.bank.BankPlace.{BankPlace}
 use Rattle.evl_kernel.specs.declared.bank.Numbered.{Numbered}
-use Rattle.evl_kernel.specs.States.{State, Banked}
-use Rattle.evl_kernel.specs.Elements.{Elements}
+use Rattle.evl_kernel.specs.States.{State, Elements, Banked}
+use Rattle.evl_kernel.specs.Standing.{AreSound, stands_for}
 use Rattle.evl_kernel.specs.Waits.{wait_of, going_on}
 use Rattle.evl_kernel.specs.Renamed.{renamed, renamed_clock}
 use Rattle.evl_kernel.specs.Openings.{opening}
@@ -26,7 +23,7 @@ use Rattle.evl_kernel.specs.Callbacks.{Whereabouts, handler_of, told, BringsNone
 
 pub record RecordsView (C : Type 0) : Type 0 where
   pub threads : ℕ
-  pub sems : List Semaphore
+  pub elements : Elements
   pub bank : List (BankPlace C)
   pub lines : lines.Pipeline (Numbered C)
   pub clock : clocks.Clock (Numbered C)
@@ -44,7 +41,7 @@ module _ {C : Type 0} where
   abbrev pub state_of : RecordsView C → State
   state_of r = record {
     threads = r.threads;
-    sems = r.sems;
+    elements = r.elements;
     bank = map banked r.bank;
     lines = renamed number_of r.lines;
     clock = renamed_clock number_of r.clock;
@@ -67,13 +64,10 @@ AreAllowed s = (stage : Stage) (line : ℕ) (at : lines.Installed ℕ) → lines
 abbrev pub AreTimersAllowed : State → Type 0
 AreTimersAllowed s = (timer : ℕ) (at : Timer ℕ) → clocks.timer_at s.clock timer ≡ Some at → is_timer_allowed (kinds_at s at.callback) ≡ true
 
--- the thread stands in the queue of this element
-abbrev pub stands_for : Elements → Awaited → ℕ → Bool
-stands_for e (Sem id) thread = option_map_or (λ q. stands_in (λ w. w.thread) thread q.waiters) (slice_get e.sems id.0) false
-
 -- each thread, at most 64, has a place for its wait, and whoever stands in a queue waits for that, and its wait goes on
 pub record WaitsAreKept (threads : ℕ) (e : Elements) (waits : List (Option Wait)) : Type 0 where
   pub few : threads ≤ 64
+  pub sound : AreSound e
   pub places : length waits ≡ threads
   pub going : (on : Awaited) (thread : ℕ) → stands_for e on thread ≡ true → wait_of waits thread ≡ Some (going_on on)
 
@@ -83,7 +77,7 @@ pub record IsSound {C : Type 0} (r : RecordsView C) : Type 0 where
   pub clock_sound : clocks.IsSoundClock r.clock
   -- nobody inherits a rank yet, so nobody was given one
   pub ranks : IsUnboosted r.sched
-  pub waits : WaitsAreKept r.threads (record { sems = r.sems }) r.waits
+  pub waits : WaitsAreKept r.threads r.elements r.waits
 
 -- the records of a new kernel
 pub record IsOpened {C : Type 0} (declared : C → ℕ) (plan : C → Plan) (board : Board) (bank : List C) (r : RecordsView C) : Type 0 where

@@ -6,6 +6,7 @@ use Rattle.evl_pipeline.specs.Lines.{Pipeline}
 use Rattle.evl_clock.specs.Clocks.{Clock}
 use Rattle.evl_sched.specs.Threads.{Sched}
 use Rattle.evl_sync.specs.Semaphores.{Semaphore}
+use Rattle.evl_sync.specs.FlagGroups.{FlagGroup}
 use Rattle.evl_kernel.specs.declared.waits.Wait.{Wait}
 
 -- what a callback declares, and what it answers
@@ -18,11 +19,15 @@ pub record Banked : Type 0 where
   pub handler : Handler
   pub home : Bool
 
+-- the record of each element, by kind and number
+pub record Elements : Type 0 where
+  pub sems : List Semaphore
+  pub flags : List FlagGroup
+
 pub record State : Type 0 where
   -- how many threads the board has
   pub threads : ℕ
-  -- the semaphores, by number
-  pub sems : List Semaphore
+  pub elements : Elements
   -- the callbacks, by number
   pub bank : List Banked
   -- the lines and the timers; what stands there is named by its number in the bank

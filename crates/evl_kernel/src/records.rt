@@ -1,5 +1,5 @@
 //! The kernel's records: what its calls read and change, apart from its history.
-ghost use Rattle.std.specs.Prelude.{◌≡◌, ◌≤◌, ℕ, None, true, false, IfOk, IfErr, map, option_map, replicate};
+ghost use Rattle.std.specs.Prelude.{◌≡◌, ◌≤◌, ℕ, None, true, false, IfOk, IfErr, option_map, replicate};
 ghost use Rattle.evl_base.specs.Board.{board_fits};
 ghost use Rattle.evl_pipeline.specs.Counts.{count_at};
 ghost use Rattle.evl_pipeline.specs.Limits.{line_count};
@@ -7,13 +7,12 @@ ghost use Rattle.evl_pipeline.specs.Lines.{is_pending, side};
 ghost use Rattle.evl_clock.specs.Clocks.{timer_at};
 ghost use Rattle.evl_clock.specs.Limits.{timer_count};
 ghost use Rattle.evl_sched.specs.Threads.{stage_of};
-ghost use Rattle.evl_sync.specs.Semaphores as semaphores;
 ghost use Rattle.evl_kernel.specs.Callbacks.{AreFilled};
 ghost use Rattle.evl_kernel.specs.Records.{IsOpened, state_of};
 ghost use Rattle.evl_kernel.specs.Waits.{has_ended, has_timed_out, is_waiting};
 
+mod elements;
 mod line_calls;
-mod semaphores;
 mod serving;
 mod settling;
 mod threads;
@@ -21,12 +20,12 @@ mod timers;
 mod waiting;
 
 use crate::bank::{BankPlace, Numbered};
+use crate::elements::Elements;
 use crate::waits::Wait;
 use evl_base::{Board, LineNo, Refusal, Reply, Stage, ThreadId, TimerId};
 use evl_clock::{ClockOf, TimerState};
 use evl_pipeline::{Handler, PipelineOf};
 use evl_sched::SchedOf;
-use evl_sync::Sem;
 use std::alloc::{AllocError, Allocator};
 use std::marker::Model;
 use std::snapshot::Snapshot;
@@ -35,7 +34,7 @@ use std::snapshot::Snapshot;
 #[derive(Drop)]
 pub(crate) struct Records<C, A: Allocator> {
     threads: u16,
-    sems: Vec<Sem, A>,
+    elements: Elements<A>,
     bank: Vec<BankPlace<C>, A>,
     pipeline: PipelineOf<Numbered<C>, A>,
     clock: ClockOf<Numbered<C>, A>,
@@ -66,7 +65,8 @@ impl<C: Handler, A: Allocator> Records<C, A> {
         let for_sems = another(&alloc)?;
         let for_bank = another(&alloc)?;
         let for_waits = another(&alloc)?;
-        let sems = opening_sems(for_sems, board)?;
+        let for_flags = another(&alloc)?;
+        let elements = Elements::new(for_sems, for_flags, board)?;
         let waits = opening_waits(for_waits, board)?;
         let bank = placed(for_bank, bank)?;
         let for_lines = another(&alloc)?;
@@ -76,7 +76,7 @@ impl<C: Handler, A: Allocator> Records<C, A> {
         let sched = SchedOf::new(alloc, board.threads, board.groups.as_slice())?;
         Ok(Records {
             threads: board.threads,
-            sems,
+            elements,
             bank,
             pipeline,
             clock,
@@ -93,31 +93,12 @@ fn another<A: Allocator + Clone>(alloc: &A) -> Result<A, Refusal>
     alloc.clone().map_err(|_| Refusal::NoMemory)
 }
 
-/// The semaphores of a board.
-fn opening_sems<A: Allocator>(alloc: A, board: &Board) -> Result<Vec<Sem, A>, Refusal>
-    ensures sems { IfOk result (λ sems. sems.items ≡ map semaphores.opened board.now.sems.items) }
-    ensures refusal { IfErr result (λ e. e ≡ Refusal.NoMemory) }
-{
-    opened_sems(alloc, board.sems.as_slice()).map_err(|_| Refusal::NoMemory)
-}
-
 /// A place for the wait of each thread of a board; nobody waits.
 fn opening_waits<A: Allocator>(alloc: A, board: &Board) -> Result<Vec<Option<Wait>, A>, Refusal>
     ensures waits { IfOk result (λ waits. waits.items ≡ replicate board.now.threads None) }
     ensures refusal { IfErr result (λ e. e ≡ Refusal.NoMemory) }
 {
     no_waits(alloc, board.threads).map_err(|_| Refusal::NoMemory)
-}
-
-/// A semaphore of each count.
-fn opened_sems<A: Allocator>(alloc: A, counts: &[u32]) -> Result<Vec<Sem, A>, AllocError>
-    ensures sems { IfOk result (λ sems. sems.items ≡ map semaphores.opened counts.now) }
-{
-    let mut sems = Vec::with_capacity(alloc, counts.len())?;
-    for count in counts {
-        sems.push(Sem::new(*count))?;
-    }
-    Ok(sems)
 }
 
 /// Nobody waits.

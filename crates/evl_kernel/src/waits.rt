@@ -1,15 +1,47 @@
 //! Waits of threads.
 ghost use Rattle.std.specs.Prelude.{◌≡◌, IfErr, IfOk, None, Some, option_map, slice_set};
+ghost use Rattle.evl_kernel.specs.Beginnings.{allowed_if, awaited, form_refusal};
 ghost use Rattle.evl_kernel.specs.Endings.{outcome_of};
 ghost use Rattle.evl_kernel.specs.Waits.{ended_by, wait_of};
 
-use evl_base::{Refusal, Reply, SemId, ThreadId};
+use evl_base::{FlagId, Refusal, Reply, SemId, Take, ThreadId};
 use std::alloc::Allocator;
 
 /// What a thread waits for.
 #[derive(Clone, Copy, Drop)]
 pub(crate) enum Awaited {
     Sem(SemId),
+    Flags(FlagId),
+}
+
+/// What a thread wants that begins to wait: a semaphore, or bits of a flag group.
+#[derive(Clone, Copy, Drop)]
+pub(crate) enum Wanted {
+    Sem(SemId),
+    Flags(FlagId, Take),
+}
+
+impl Wanted {
+    /// For what the thread waits, where it isn't served at once.
+    pub(crate) fn awaited(self) -> Awaited
+        ensures on { result ≡ awaited self }
+    {
+        match self {
+            Wanted::Sem(sem) => Awaited::Sem(sem),
+            Wanted::Flags(flags, _) => Awaited::Flags(flags),
+        }
+    }
+
+    /// Whether this may be wanted: a mask has bits.
+    pub(crate) fn is_allowed(self) -> bool
+        ensures allowed { form_refusal self ≡ allowed_if result }
+    {
+        match self {
+            Wanted::Sem(_) => true,
+            Wanted::Flags(_, Take::Any) => true,
+            Wanted::Flags(_, Take::Of(mask)) | Wanted::Flags(_, Take::Exact(mask)) => mask != 0,
+        }
+    }
 }
 
 /// An unfinished wait, and what ended it, once it has ended.

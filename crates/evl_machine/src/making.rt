@@ -1,5 +1,5 @@
 //! Making a machine, with a caller for each thread of its board.
-ghost use Rattle.std.specs.Prelude.{◌≡◌, ◌≤◌, ◌⊎◌, ◌↔◌, [], false, length, IfOk, IfErr};
+ghost use Rattle.std.specs.Prelude.{◌≡◌, ◌≤◌, ◌⊎◌, ◌↔◌, [], ◌∷◌, Some, false, length, IfOk, IfErr};
 ghost use Rattle.evl_kernel.specs.Callbacks.{AnswersAsTold};
 ghost use Rattle.evl_kernel.specs.Histories.{IsLegal};
 ghost use Rattle.evl_kernel.specs.KernelViews.{IsOpened};
@@ -68,13 +68,24 @@ fn seated<C: Drop, A: Allocator + Clone>(
 {
     let key = Snapshot::of(&kernel);
     let mut callers = Vec::with_capacity(alloc.clone()?, usize::from(threads))?;
-    let mut slots = Vec::with_capacity(alloc.clone()?, 1)?;
-    slots.push(Some(KernelBox::new(alloc.clone()?, kernel)?))?;
+    let slots = one_slot(alloc.clone()?, kernel)?;
     let Ok((core, root)) = Table::new(alloc, &[0], slots, &key) else {
         return Err(AllocError);
     };
     seat_callers(&core, root, &mut callers, threads)?;
     Ok((MachineOf { core, threads }, callers))
+}
+
+/// The core's one slot, in which the kernel lies.
+fn one_slot<C: Drop, A: Allocator + Clone>(
+    alloc: A,
+    kernel: KernelOf<C, A>,
+) -> Result<Vec<Option<KernelBox<C, A>>, A>, AllocError>
+    ensures { IfOk result (λ slots. slots.items ≡ Some kernel ∷ []) }
+{
+    let mut slots = Vec::with_capacity(alloc.clone()?, 1)?;
+    slots.push(Some(KernelBox::new(alloc, kernel)?))?;
+    Ok(slots)
 }
 
 /// Gives each thread's account to a caller of its own.

@@ -2,9 +2,11 @@
 use Rattle.std.proofs.Common.{◌≡◌, true, false, Some, None, codes, pos, refl}
 use Rattle.toml.specs.Data.{integer, string, boolean, no_members, member}
 use Rattle.evl_base.specs.declared.call.Call.TheVariants as make
+use Rattle.evl_base.specs.declared.take.Take.TheVariants.{Any}
 use Rattle.evl_scenario.specs.Steps.{call_of}
+use Rattle.evl_scenario.specs.Takes.{take_of}
 use Rattle.evl_scenario.specs.Values.{truth_from, until_from}
-use Rattle.evl_scenario.specs.declared.steps.StepWord.TheVariants.{BeginGet, Finish}
+use Rattle.evl_scenario.specs.declared.steps.StepWord.TheVariants.{BeginGet, PostFlags, BeginTake, Finish}
 
 -- a deadline is a number, or the text that says that there is none; without the key there is none
 until-number : until_from (integer (pos 5)) ≡ Some (Some 5)
@@ -34,3 +36,20 @@ finish-by_itself = refl
 
 finish-keep : call_of Finish (member (codes "keep") (boolean true) no_members) ≡ Some (make.Finish true)
 finish-keep = refl
+
+-- what is taken from a flag group: all bits by their word alone; any other word has a mask behind a space
+take-any : take_of (codes "any") ≡ Some Any
+take-any = refl
+
+take-without_mask : take_of (codes "of") ≡ None
+take-without_mask = refl
+
+take-any_of_a_mask : take_of (codes "any 5") ≡ None
+take-any_of_a_mask = refl
+
+post_flags-both : call_of PostFlags (member (codes "flags") (integer (pos 1)) (member (codes "bits") (integer (pos 6)) no_members)) ≡ Some (make.PostFlags (record { 0 = 1 }) 6)
+post_flags-both = refl
+
+begin_take-without_deadline :
+    call_of BeginTake (member (codes "flags") (integer (pos 1)) (member (codes "kind") (string (codes "any")) no_members)) ≡ Some (make.BeginTake (record { 0 = 1 }) Any None)
+begin_take-without_deadline = refl

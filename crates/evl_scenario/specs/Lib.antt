@@ -6,3 +6,4 @@ pub mod Steps
 pub mod Tables
 pub mod Values
 pub mod Policies
+pub mod Takes

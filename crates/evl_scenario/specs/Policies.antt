@@ -1,18 +1,10 @@
 -- What text a policy has in a scenario: its word, and then its numbers, with one space between two of them.
-use Rattle.std.specs.Prelude.{ℕ, ◌==◌, codes, ◌^◌, List, length, nat_lt, if◌then◌else◌, Option, Some, None, Bool, option_map, option_and_then}
-use Rattle.std.specs.List.{position_or_len, before_first, after_first}
+use Rattle.std.specs.Prelude.{ℕ, codes, ◌^◌, List, if◌then◌else◌, Option, None, option_map, option_and_then}
 use Rattle.std.specs.Str.{bytes_eq}
 use Rattle.toml.specs.Data.{Data, as_str}
 use Rattle.evl_base.specs.declared.policy.Policy.{Policy}
 use Rattle.evl_base.specs.declared.policy.Policy.TheVariants.{Fifo, Rr, Quota, Weak}
-use Rattle.evl_scenario.specs.Values.{text_number, below}
-
-abbrev pub is_space : ℕ → Bool
-is_space byte = byte == 32
-
--- what stands before the first space, and what behind it
-abbrev pub around_space : List ℕ → Option (List ℕ × List ℕ)
-around_space text = if nat_lt (position_or_len is_space text) (length text) then Some (before_first is_space text, after_first is_space text) else None
+use Rattle.evl_scenario.specs.Values.{text_number, below, around_space}
 
 abbrev pub small_number : List ℕ → Option ℕ
 small_number text = below (2 ^ 8) (text_number text)

@@ -5,11 +5,12 @@ use Rattle.toml.specs.Data.{Data, Members, as_table, get_member}
 use Rattle.evl_base.specs.declared.call.Call.{Call}
 use Rattle.evl_base.specs.declared.call.Call.TheVariants as make
 use Rattle.evl_scenario.specs.declared.steps.StepWord.{StepWord}
-use Rattle.evl_scenario.specs.declared.steps.StepWord.TheVariants.{Request, Free, Arrive, Post, Stall, Unstall, Tick, Now, NewTimer, StartTimer, StopTimer, DropTimer, Overruns, Attach, Detach, SetPolicy, SetStage, Pick, RankOf, TryGet, Put, Peek, BeginGet, Finish}
+use Rattle.evl_scenario.specs.declared.steps.StepWord.TheVariants.{Request, Free, Arrive, Post, Stall, Unstall, Tick, Now, NewTimer, StartTimer, StopTimer, DropTimer, Overruns, Attach, Detach, SetPolicy, SetStage, Pick, RankOf, TryGet, Put, Peek, BeginGet, TryTake, PostFlags, PeekFlags, BeginTake, Finish}
 use Rattle.evl_scenario.specs.declared.steps.Step.{Step}
 use Rattle.evl_scenario.specs.Tables.{value_at, value_or, text_at, has_only}
 use Rattle.evl_scenario.specs.Policies.{policy_from}
-use Rattle.evl_scenario.specs.Values.{number_from, word_from, byte_from, thread_from, line_from, sem_from, timer_from, stage_from, truth_from, until_from}
+use Rattle.evl_scenario.specs.Takes.{take_from}
+use Rattle.evl_scenario.specs.Values.{number_from, word_from, byte_from, thread_from, line_from, sem_from, flag_from, timer_from, stage_from, truth_from, until_from}
 
 -- the word that a text is
 abbrev pub word_of : List ℕ → Option StepWord
@@ -37,6 +38,10 @@ word_of text =
     else if bytes_eq text (codes "put") then Some Put
     else if bytes_eq text (codes "peek") then Some Peek
     else if bytes_eq text (codes "begin_get") then Some BeginGet
+    else if bytes_eq text (codes "try_take") then Some TryTake
+    else if bytes_eq text (codes "post_flags") then Some PostFlags
+    else if bytes_eq text (codes "peek_flags") then Some PeekFlags
+    else if bytes_eq text (codes "begin_take") then Some BeginTake
     else if bytes_eq text (codes "finish") then Some Finish
     else None
 
@@ -65,6 +70,10 @@ keys_of TryGet = codes "do" ∷ codes "who" ∷ codes "sem" ∷ []
 keys_of Put = codes "do" ∷ codes "who" ∷ codes "sem" ∷ []
 keys_of Peek = codes "do" ∷ codes "who" ∷ codes "sem" ∷ []
 keys_of BeginGet = codes "do" ∷ codes "who" ∷ codes "sem" ∷ codes "until" ∷ []
+keys_of TryTake = codes "do" ∷ codes "who" ∷ codes "flags" ∷ codes "kind" ∷ []
+keys_of PostFlags = codes "do" ∷ codes "who" ∷ codes "flags" ∷ codes "bits" ∷ []
+keys_of PeekFlags = codes "do" ∷ codes "who" ∷ codes "flags" ∷ []
+keys_of BeginTake = codes "do" ∷ codes "who" ∷ codes "flags" ∷ codes "kind" ∷ codes "until" ∷ []
 keys_of Finish = codes "do" ∷ codes "who" ∷ codes "keep" ∷ []
 
 -- the call that a word and a table make
@@ -105,6 +114,14 @@ call_of Peek table = option_map make.Peek (value_at sem_from (codes "sem") table
 call_of BeginGet table =
     option_and_then (λ sem. option_map (make.BeginGet sem) (value_or until_from None (get_member (codes "until") table)))
     (value_at sem_from (codes "sem") table)
+call_of TryTake table = option_and_then (λ flags. option_map (make.TryTake flags) (value_at take_from (codes "kind") table)) (value_at flag_from (codes "flags") table)
+call_of PostFlags table = option_and_then (λ flags. option_map (make.PostFlags flags) (value_at word_from (codes "bits") table)) (value_at flag_from (codes "flags") table)
+call_of PeekFlags table = option_map make.PeekFlags (value_at flag_from (codes "flags") table)
+call_of BeginTake table =
+    option_and_then (λ flags. option_and_then (λ kind. option_map (make.BeginTake flags kind)
+    (value_or until_from None (get_member (codes "until") table)))
+    (value_at take_from (codes "kind") table))
+    (value_at flag_from (codes "flags") table)
 call_of Finish table = option_map make.Finish (value_or truth_from false (get_member (codes "keep") table))
 
 -- the step with this word

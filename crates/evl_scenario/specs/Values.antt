@@ -1,11 +1,12 @@
 -- What a TOML value stands for in a scenario.
-use Rattle.std.specs.Prelude.{ℕ, nat_eq, codes, drop, ◌^◌, List, length, Bool, ◌&&◌, nat_lt, decimal, if◌then◌else◌, Option, Some, None, option_map, option_and_then, pos}
-use Rattle.std.specs.List.{starts_with}
+use Rattle.std.specs.Prelude.{ℕ, ◌==◌, nat_eq, codes, drop, ◌^◌, List, length, Bool, ◌&&◌, nat_lt, decimal, if◌then◌else◌, Option, Some, None, option_map, option_and_then, pos}
+use Rattle.std.specs.List.{starts_with, position_or_len, before_first, after_first}
 use Rattle.std.specs.Str.{bytes_eq}
 use Rattle.std.specs.Str.Parse.{digits_value}
 use Rattle.toml.specs.Data.{Data, integer, string, Items, no_items, item, as_str, as_bool, as_array}
 use Rattle.evl_base.specs.declared.mutex_kind.MutexKind.{MutexKind}
 use Rattle.evl_base.specs.declared.mutex_kind.MutexKind.TheVariants.{Normal, Recursive, Ceiling}
+use Rattle.evl_base.specs.declared.numbers.FlagId.{FlagId}
 use Rattle.evl_base.specs.declared.numbers.LineNo.{LineNo}
 use Rattle.evl_base.specs.declared.numbers.SemId.{SemId}
 use Rattle.evl_base.specs.declared.numbers.ThreadId.{ThreadId}
@@ -18,6 +19,13 @@ abbrev pub text_number : List ℕ → Option ℕ
 text_number text =
     let n = digits_value 10 text in
     if nat_lt n (2 ^ 64) && bytes_eq (decimal n) text then Some n else None
+
+abbrev pub is_space : ℕ → Bool
+is_space byte = byte == 32
+
+-- what stands before the first space, and what behind it
+abbrev pub around_space : List ℕ → Option (List ℕ × List ℕ)
+around_space text = if nat_lt (position_or_len is_space text) (length text) then Some (before_first is_space text, after_first is_space text) else None
 
 -- an integer that isn't negative, or the text of a number
 abbrev pub number_from : Data → Option ℕ
@@ -46,6 +54,9 @@ line_from value = option_map (λ n. record { 0 = n }) (half_word_from value)
 
 abbrev pub sem_from : Data → Option SemId
 sem_from value = option_map (λ n. record { 0 = n }) (half_word_from value)
+
+abbrev pub flag_from : Data → Option FlagId
+flag_from value = option_map (λ n. record { 0 = n }) (half_word_from value)
 
 abbrev pub timer_from : Data → Option TimerId
 timer_from value = option_map (λ n. record { 0 = n }) (half_word_from value)

@@ -8,6 +8,7 @@ mod policies;
 mod scenarios;
 mod steps;
 mod tables;
+mod takes;
 mod values;
 
 pub use faults::Fault;

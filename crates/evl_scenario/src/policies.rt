@@ -1,20 +1,10 @@
 //! The policies of a scenario, each read from the text that a trace prints.
-ghost use Rattle.std.specs.Prelude.{◌≡◌, option_map};
-ghost use Rattle.evl_scenario.specs.Policies.{around_space, policy_from, policy_of, small_number};
+ghost use Rattle.std.specs.Prelude.{◌≡◌};
+ghost use Rattle.evl_scenario.specs.Policies.{policy_from, policy_of, small_number};
 
-use crate::values::{FromToml, number_of_text};
+use crate::values::{FromToml, number_of_text, parts};
 use evl_base::Policy;
 use toml::Value;
-
-// The two parts of a text around its first space.
-fn parts(text: &str) -> Option<(&str, &str)>
-    ensures { option_map (λ parts. (parts.0.now, parts.1.now)) result ≡ around_space text.now }
-{
-    match text.split_once(' ') {
-        Some(parts) => Some(parts),
-        None => None,
-    }
-}
 
 // A priority.
 fn prio(text: &str) -> Option<u8>

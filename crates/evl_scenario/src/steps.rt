@@ -33,6 +33,10 @@ pub enum StepWord {
     Put,
     Peek,
     BeginGet,
+    TryTake,
+    PostFlags,
+    PeekFlags,
+    BeginTake,
     Finish,
 }
 
@@ -71,6 +75,10 @@ fn read_word(text: &str) -> Option<StepWord>
         "put" => Some(StepWord::Put),
         "peek" => Some(StepWord::Peek),
         "begin_get" => Some(StepWord::BeginGet),
+        "try_take" => Some(StepWord::TryTake),
+        "post_flags" => Some(StepWord::PostFlags),
+        "peek_flags" => Some(StepWord::PeekFlags),
+        "begin_take" => Some(StepWord::BeginTake),
         "finish" => Some(StepWord::Finish),
         _ => None,
     }
@@ -104,6 +112,10 @@ fn step_keys(word: StepWord) -> &'static [&'static str]
         StepWord::Put => &["do", "who", "sem"],
         StepWord::Peek => &["do", "who", "sem"],
         StepWord::BeginGet => &["do", "who", "sem", "until"],
+        StepWord::TryTake => &["do", "who", "flags", "kind"],
+        StepWord::PostFlags => &["do", "who", "flags", "bits"],
+        StepWord::PeekFlags => &["do", "who", "flags"],
+        StepWord::BeginTake => &["do", "who", "flags", "kind", "until"],
         StepWord::Finish => &["do", "who", "keep"],
     }
 }
@@ -187,6 +199,23 @@ fn read_call(word: StepWord, table: &Table) -> Option<Call>
             let sem = at(table, "sem")?;
             let until = at_or(table, "until", None)?;
             Some(Call::BeginGet { sem, until })
+        }
+        StepWord::TryTake => Some(Call::TryTake {
+            flags: at(table, "flags")?,
+            kind: at(table, "kind")?,
+        }),
+        StepWord::PostFlags => Some(Call::PostFlags {
+            flags: at(table, "flags")?,
+            bits: at(table, "bits")?,
+        }),
+        StepWord::PeekFlags => Some(Call::PeekFlags {
+            flags: at(table, "flags")?,
+        }),
+        StepWord::BeginTake => {
+            let flags = at(table, "flags")?;
+            let kind = at(table, "kind")?;
+            let until = at_or(table, "until", None)?;
+            Some(Call::BeginTake { flags, kind, until })
         }
         StepWord::Finish => {
             let keep = at_or(table, "keep", false)?;

@@ -2,9 +2,9 @@
 ghost use Rattle.std.specs.Prelude.{◌≡◌, Option, option_map};
 ghost use Rattle.toml.specs.Data.{Data};
 ghost use Rattle.toml.specs.View.{view, items_view};
-ghost use Rattle.evl_scenario.specs.Values.{number_from, text_number, word_from, half_word_from, byte_from, past_front, two_sizes, mutex_kind_from, ring_sizes_from, thread_from, line_from, sem_from, stage_from, timer_from, truth_from, until_from, until_of};
+ghost use Rattle.evl_scenario.specs.Values.{number_from, text_number, word_from, half_word_from, byte_from, around_space, past_front, two_sizes, mutex_kind_from, ring_sizes_from, thread_from, line_from, sem_from, flag_from, stage_from, timer_from, truth_from, until_from, until_of};
 
-use evl_base::{LineNo, MutexKind, SemId, Stage, ThreadId, TimerId};
+use evl_base::{FlagId, LineNo, MutexKind, SemId, Stage, ThreadId, TimerId};
 use toml::Value;
 
 /// A value that a TOML value may stand for.
@@ -30,6 +30,16 @@ pub(crate) fn number_of_text(text: &str) -> Option<u64>
             }
         }
         Err(_) => None,
+    }
+}
+
+// The two parts of a text around its first space.
+pub(crate) fn parts(text: &str) -> Option<(&str, &str)>
+    ensures { option_map (λ parts. (parts.0.now, parts.1.now)) result ≡ around_space text.now }
+{
+    match text.split_once(' ') {
+        Some(parts) => Some(parts),
+        None => None,
     }
 }
 
@@ -97,6 +107,14 @@ impl FromToml for SemId {
 
     fn from_toml(value: &Value) -> Option<SemId> {
         Some(SemId(u16::try_from(number(value)?).ok()?))
+    }
+}
+
+impl FromToml for FlagId {
+    ghost gives = { flag_from };
+
+    fn from_toml(value: &Value) -> Option<FlagId> {
+        Some(FlagId(u16::try_from(number(value)?).ok()?))
     }
 }
 

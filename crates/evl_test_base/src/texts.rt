@@ -1,7 +1,7 @@
 //! Texts, numbers and names.
 use evl_base::{
-    Call, LineNo, Play, Policy, Refusal, Reply, SemId, Spares, Stage, Take, ThreadId, TimerId,
-    Transfer, Way, put_call, put_play, put_reply,
+    Call, FlagId, LineNo, Play, Policy, Refusal, Reply, SemId, Spares, Stage, Take, ThreadId,
+    TimerId, Transfer, Way, put_call, put_play, put_reply,
 };
 use std::alloc::Global;
 use std::test::*;
@@ -42,6 +42,27 @@ fn waits_have_their_texts(rt: HostRuntime) -> Result<(), Fail> {
     assert_eq!(rt;
         text.as_slice(),
         b"begin_get sem=1 until=nonebegin_get sem=1 until=18446744073709551615finish keep=false".as_slice()
+    );
+    Ok(())
+}
+
+#[test]
+fn flag_calls_have_their_texts(rt: HostRuntime) -> Result<(), Fail> {
+    let mut text = Vec::new(rt.alloc());
+    let flags = FlagId(63);
+    let of = Take::Of(4_294_967_295);
+    put_call(&mut text, &Call::TryTake { flags, kind: of }).map_err(|_| "try_take")?;
+    put_call(&mut text, &Call::PostFlags { flags, bits: 6 }).map_err(|_| "post_flags")?;
+    put_call(&mut text, &Call::PeekFlags { flags }).map_err(|_| "peek_flags")?;
+    let wait = Call::BeginTake {
+        flags,
+        kind: Take::Any,
+        until: Some(9),
+    };
+    put_call(&mut text, &wait).map_err(|_| "begin_take")?;
+    assert_eq!(rt;
+        text.as_slice(),
+        b"try_take flags=63 kind=of 4294967295post_flags flags=63 bits=6peek_flags flags=63begin_take flags=63 kind=any until=9".as_slice()
     );
     Ok(())
 }

@@ -107,8 +107,15 @@ fn word_after(alloc: Global, steps: &[Act]) -> Result<u64, Fail> {
     Ok(gate.close(seats))
 }
 
-fn is_refused(entered: Result<StaxPass, Refusal>, why: Refusal) -> bool {
-    entered.err() == Some(why)
+// Whether the word is the one that is wanted after so many of the steps, each time from the beginning.
+fn words_are(alloc: Global, steps: &[Act], wanted: &[(usize, u64)]) -> Result<bool, Fail> {
+    for (count, word) in wanted {
+        let some = steps.get(..*count).ok_or("no such step")?;
+        if word_after(alloc, some)? != *word {
+            return Ok(false);
+        }
+    }
+    Ok(true)
 }
 
 // Row gate_1, while seats 0 and 1 hold the gate in-band: whom it keeps out.
@@ -122,8 +129,8 @@ fn two_inband_seats_keep_others_out(rt: HostRuntime) -> Result<(), Fail> {
     let other = enter(&gate, &mut seats, 3, Stage::Oob);
     let again = enter(&gate, &mut seats, 0, Stage::Inband);
     assert!(rt; first.is_ok() && second.is_ok());
-    assert!(rt; is_refused(third, Refusal::Limit) && is_refused(other, Refusal::Again));
-    assert!(rt; is_refused(again, Refusal::Busy));
+    assert!(rt; matches!(third, Err(Refusal::Limit)) && matches!(other, Err(Refusal::Again)));
+    assert!(rt; matches!(again, Err(Refusal::Busy)));
     Ok(())
 }
 
@@ -139,11 +146,8 @@ fn the_word_shows_holders_and_stage(rt: HostRuntime) -> Result<(), Fail> {
         Act::Leave(1),
         Act::Enter(0, Stage::Inband),
     ];
-    assert!(rt; word_after(rt.alloc(), &steps[..2])? == 2);
-    assert!(rt; word_after(rt.alloc(), &steps[..4])? == 0);
-    assert!(rt; word_after(rt.alloc(), &steps[..5])? == 1073741825);
-    assert!(rt; word_after(rt.alloc(), &steps[..6])? == 1073741824);
-    assert!(rt; word_after(rt.alloc(), &steps[..7])? == 1);
+    let words = [(2, 2), (4, 0), (5, 1073741825), (6, 1073741824), (7, 1)];
+    assert!(rt; words_are(rt.alloc(), &steps, &words)?);
     Ok(())
 }
 
@@ -171,10 +175,8 @@ fn the_last_to_leave_is_told_of_a_claim(rt: HostRuntime) -> Result<(), Fail> {
     let (gate, mut seats) = made(rt.alloc(), 1, 2)?;
     let mut other = seats.pop().ok_or("1")?;
     let mut seat = seats.pop().ok_or("0")?;
-    assert!(rt;
-        claim_in_between(&gate, &mut seat, &mut other)
-            == Some((Left::Last { claimed: true }, 1, Stage::Oob))
-    );
+    let told = claim_in_between(&gate, &mut seat, &mut other);
+    assert!(rt; matches!(told, Some((Left::Last { claimed: true }, 1, Stage::Oob))));
     Ok(())
 }
 
@@ -188,11 +190,14 @@ fn the_word_shows_the_claim_mark(rt: HostRuntime) -> Result<(), Fail> {
         Act::Enter(1, Stage::Oob),
         Act::Unclaim(1),
     ];
-    assert!(rt; word_after(rt.alloc(), &steps[..1])? == 1);
-    assert!(rt; word_after(rt.alloc(), &steps[..2])? == 2147483649);
-    assert!(rt; word_after(rt.alloc(), &steps[..3])? == 2147483648);
-    assert!(rt; word_after(rt.alloc(), &steps[..4])? == 3221225473);
-    assert!(rt; word_after(rt.alloc(), &steps[..5])? == 1073741825);
+    let words = [
+        (1, 1),
+        (2, 2147483649),
+        (3, 2147483648),
+        (4, 3221225473),
+        (5, 1073741825),
+    ];
+    assert!(rt; words_are(rt.alloc(), &steps, &words)?);
     Ok(())
 }
 

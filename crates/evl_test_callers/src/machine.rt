@@ -60,6 +60,22 @@ fn call_of(machine: &Machine, caller: &mut Caller, call: Call) -> Result<Reply, 
     machine.try_call(caller, call)
 }
 
+// Whether a call is done; of the caller its machine alone is told.
+fn does(machine: &Machine, caller: &mut Caller, call: Call) -> bool
+    requires { caller.old.machine ≡ machine.now.of }
+    ensures { caller.new.machine ≡ caller.old.machine }
+{
+    is_done(&call_of(machine, caller, call))
+}
+
+// Whether a call isn't refused for want of memory; of the caller its machine alone is told.
+fn finds_memory(machine: &Machine, caller: &mut Caller, call: Call) -> bool
+    requires { caller.old.machine ≡ machine.now.of }
+    ensures { caller.new.machine ≡ caller.old.machine }
+{
+    !matches!(call_of(machine, caller, call), Err(Refusal::NoMemory))
+}
+
 fn put() -> Call {
     Call::Put { sem: SemId(0) }
 }
@@ -116,14 +132,13 @@ fn free_row(machine: &Machine, first: &mut Caller, second: &mut Caller) -> bool
     requires { (first.old.machine ≡ machine.now.of) × (second.old.machine ≡ machine.now.of) }
     ensures { (first.new.machine ≡ machine.now.of) × (second.new.machine ≡ machine.now.of) }
 {
-    let got = call_of(machine, second, get());
-    let put_free = call_of(machine, second, put());
-    let got_too = call_of(machine, first, get());
+    let got = does(machine, second, get());
+    let put_free = does(machine, second, put());
+    let got_too = does(machine, first, get());
     let again = call_of(machine, first, get());
     let count = call_of(machine, second, Call::Peek { sem: SemId(0) });
-    is_done(&got)
-        && is_done(&put_free)
-        && is_done(&got_too)
+    got && put_free
+        && got_too
         && matches!(again, Err(Refusal::Again))
         && matches!(count, Ok(Reply::Count(0)))
 }
@@ -177,24 +192,19 @@ fn full_history_behind_the_core(rt: HostRuntime) -> Result<(), Fail> {
     Ok(())
 }
 
-fn is_memory(answer: &Result<Reply, Refusal>) -> bool {
-    matches!(answer, Err(Refusal::NoMemory))
-}
-
 // With ample memory no call of a semaphore or of a stage's stall is refused for want of it.
 #[test]
 fn calls_find_memory(rt: HostRuntime) -> Result<(), Fail> {
     let Ok((machine, mut first, _second)) = two_callers(rt.alloc(), 100) else {
         panic!(rt; "a machine")
     };
-    let put = call_of(&machine, &mut first, put());
-    let count = call_of(&machine, &mut first, Call::Peek { sem: SemId(0) });
-    let got = call_of(&machine, &mut first, get());
+    let put = does(&machine, &mut first, put());
+    let count = finds_memory(&machine, &mut first, Call::Peek { sem: SemId(0) });
+    let got = does(&machine, &mut first, get());
     let stage = Stage::Oob;
-    let stall = call_of(&machine, &mut first, Call::Stall { stage });
-    let unstall = call_of(&machine, &mut first, Call::Unstall { stage });
-    assert!(rt; is_done(&put) && is_done(&got) && is_done(&stall) && is_done(&unstall));
-    assert!(rt; !is_memory(&count));
+    let stall = does(&machine, &mut first, Call::Stall { stage });
+    let unstall = does(&machine, &mut first, Call::Unstall { stage });
+    assert!(rt; put && count && got && stall && unstall);
     Ok(())
 }
 
@@ -211,11 +221,10 @@ fn calls_of_lines_find_memory(rt: HostRuntime) -> Result<(), Fail> {
         callback: 0,
         tag: 0,
     };
-    let request = call_of(&machine, &mut first, request);
-    let free = call_of(&machine, &mut first, Call::Free { line, stage });
-    let post = call_of(&machine, &mut first, Call::Post { stage, line });
-    let arrive = call_of(&machine, &mut first, Call::Arrive { line });
-    assert!(rt; !is_memory(&request) && !is_memory(&free));
-    assert!(rt; !is_memory(&post) && !is_memory(&arrive));
+    let request = finds_memory(&machine, &mut first, request);
+    let free = finds_memory(&machine, &mut first, Call::Free { line, stage });
+    let post = finds_memory(&machine, &mut first, Call::Post { stage, line });
+    let arrive = finds_memory(&machine, &mut first, Call::Arrive { line });
+    assert!(rt; request && free && post && arrive);
     Ok(())
 }

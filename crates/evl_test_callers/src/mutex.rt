@@ -185,6 +185,17 @@ fn word_after(alloc: Global, steps: &[Act]) -> Result<u64, Fail> {
     Ok(word.close(seats))
 }
 
+// Whether the word is the one that is wanted after so many of the steps, each time from the beginning.
+fn words_are(alloc: Global, steps: &[Act], wanted: &[(usize, u64)]) -> Result<bool, Fail> {
+    for (count, word) in wanted {
+        let some = steps.get(..*count).ok_or("no such step")?;
+        if word_after(alloc, some)? != *word {
+            return Ok(false);
+        }
+    }
+    Ok(true)
+}
+
 // Row mutex_word_claim: the words.
 #[test]
 fn a_claim_wins_a_free_mutex(rt: HostRuntime) -> Result<(), Fail> {
@@ -197,9 +208,8 @@ fn a_claim_wins_a_free_mutex(rt: HostRuntime) -> Result<(), Fail> {
         Act::Unlock(1),
         Act::Try(2),
     ];
-    assert!(rt; word_after(rt.alloc(), &steps[..3])? == 2);
-    assert!(rt; word_after(rt.alloc(), &steps[..4])? == 0);
-    assert!(rt; word_after(rt.alloc(), &steps[..5])? == 3);
+    let words = [(3, 2), (4, 0), (5, 3)];
+    assert!(rt; words_are(rt.alloc(), &steps, &words)?);
     Ok(())
 }
 
@@ -218,13 +228,16 @@ fn a_claimed_mutex_is_handed_on(rt: HostRuntime) -> Result<(), Fail> {
         Act::Accept(2),
         Act::Unlock(2),
     ];
-    assert!(rt; word_after(rt.alloc(), &steps[..1])? == 1);
-    assert!(rt; word_after(rt.alloc(), &steps[..3])? == 2147483649);
-    assert!(rt; word_after(rt.alloc(), &steps[..5])? == 3221225474);
-    assert!(rt; word_after(rt.alloc(), &steps[..6])? == 2147483650);
-    assert!(rt; word_after(rt.alloc(), &steps[..8])? == 1073741827);
-    assert!(rt; word_after(rt.alloc(), &steps[..9])? == 3);
-    assert!(rt; word_after(rt.alloc(), &steps[..10])? == 0);
+    let words = [
+        (1, 1),
+        (3, 2147483649),
+        (5, 3221225474),
+        (6, 2147483650),
+        (8, 1073741827),
+        (9, 3),
+        (10, 0),
+    ];
+    assert!(rt; words_are(rt.alloc(), &steps, &words)?);
     Ok(())
 }
 

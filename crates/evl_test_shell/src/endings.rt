@@ -4,7 +4,7 @@ use evl_shell::Over;
 use std::rt::Files;
 
 /// Whether the program ends so on words and a text: its status, what it writes and what it says.
-pub fn ends_by<F: Files + AllocGlobal>(
+pub(crate) fn ends_by<F: Files + AllocGlobal>(
     rt: &F,
     words: &[&str],
     text: &str,
@@ -21,7 +21,7 @@ pub fn ends_by<F: Files + AllocGlobal>(
 }
 
 /// Whether the program ends so on a text, without words.
-pub fn ends<F: Files + AllocGlobal>(
+pub(crate) fn ends<F: Files + AllocGlobal>(
     rt: &F,
     text: &str,
     status: u8,

@@ -136,16 +136,9 @@ fn bad_steps(rt: HostRuntime) -> Result<(), Fail> {
 #[test]
 fn later_bad_steps(rt: HostRuntime) -> Result<(), Fail> {
     let alloc = rt.alloc();
-    let good = "[[step]]\ndo = \"put\"\nwho = 0\nsem = \"0\"\n";
-    let mut steps = String::from_str(alloc, good)?;
+    let mut steps = String::from_str(alloc, "[[step]]\ndo = \"put\"\nwho = 0\nsem = \"0\"\n")?;
     steps.push_str("[[step]]\ndo = \"tick\"\n[[step]]\n")?;
     assert!(rt; is_bad_step(alloc, steps.as_str(), 2)?);
-    let mut many = String::new(alloc);
-    for _ in 0..1233 {
-        many.push_str(good)?;
-    }
-    many.push_str("[[step]]\n")?;
-    assert!(rt; is_bad_step(alloc, many.as_str(), 1234)?);
     Ok(())
 }
 

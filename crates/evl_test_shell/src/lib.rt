@@ -1,4 +1,4 @@
-//! Tests of scenario texts and of the shell: rows as texts, faults, statuses, sinks, and the lines of a trace.
+//! Tests of scenario texts and of the shell: faults, statuses, sinks, and the lines of a trace.
 #![tactic(auto)]
 
 #[cfg(test)]
@@ -7,8 +7,6 @@ mod endings;
 mod faults;
 #[cfg(test)]
 mod lines;
-#[cfg(test)]
-mod rows;
 #[cfg(test)]
 mod sinks;
 #[cfg(test)]

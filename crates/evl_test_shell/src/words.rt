@@ -1,11 +1,13 @@
 //! The program's words: a file, a limit, help, and what is refused.
 use crate::endings::ends_by;
-use crate::rows::FIRST_SEMAPHORE;
 use crate::writers::Narrow;
 use evl_bank::play_program;
 use evl_shell::Over;
 use std::rt::Files;
 use std::test::*;
+
+const FIRST_SEMAPHORE: &str =
+    "limit = 100\n[board]\nthreads = 1\nsems = [0]\n[[step]]\ndo = \"try_get\"\nwho = 0\nsem = 0\n[[step]]\ndo = \"put\"\nwho = 0\nsem = 0\n[[step]]\ndo = \"try_get\"\nwho = 0\nsem = 0\n[[step]]\ndo = \"peek\"\nwho = 0\nsem = 0\n";
 
 const UNDER_THREE: &str =
     "board threads=1 sems=1 flags=0 xbufs=0 mutexes=0 groups=0 limit=3\n1 T0 try_get sem=0 -> Again\n2 T0 put sem=0 -> done\n3 T0 try_get sem=0 -> done\n- T0 peek sem=0 -> HistoryFull\n";

@@ -1,4 +1,6 @@
 //! Writers and readers that take or give little, fail, or tell how they were used.
+ghost use Rattle.std.specs.Prelude.{◌≡◌, []};
+
 use std::alloc::Global;
 use std::io::{self, ErrorKind, Read, Write};
 
@@ -14,7 +16,10 @@ pub struct Narrow {
 
 impl Narrow {
     /// It stops at the write with number `stop`, from 1: by an error where it fails, else by a count of 0.
-    pub fn new(alloc: Global, most: usize, stop: usize, fails: bool) -> Narrow {
+    pub fn new(alloc: Global, most: usize, stop: usize, fails: bool) -> Narrow
+        ensures taken { result.taken.items ≡ [] }
+        ensures writes { result.writes ≡ 0 }
+    {
         Narrow {
             taken: Vec::new(alloc),
             writes: 0,
@@ -56,7 +61,7 @@ pub struct Ended<'a> {
 
 impl<'a> Ended<'a> {
     /// A reader of a text.
-    pub fn new(text: &'a str, ends: usize) -> Ended<'a> {
+    pub(crate) fn new(text: &'a str, ends: usize) -> Ended<'a> {
         Ended {
             rest: text.as_bytes(),
             ends,

@@ -46,7 +46,9 @@ impl<C: Drop, A: Allocator> Records<C, A> {
             Action::StopTimer(timer) => {
                 let _ = self.stop_timer(timer);
             }
-            Action::PostFlags(_, _) => {}
+            Action::PostFlags(flags, bits) => {
+                let _ = self.post_flags(flags, bits);
+            }
         }
     }
 

@@ -1,15 +1,15 @@
 //! Waits: how they begin, and what ends them.
 ghost use Rattle.std.specs.Prelude.{ℕ, ◌≡◌, ◌<◌, None, Some, false, IfErr, IfOk};
-ghost use Rattle.evl_sched.specs.Calls.{stranger_refusal};
-ghost use Rattle.evl_sched.specs.Threads.{refused_first, unready};
+ghost use Rattle.evl_sched.specs.Threads.{unready};
 ghost use Rattle.evl_clock.specs.Clocks.{with_deadline};
-ghost use Rattle.evl_kernel.specs.Beginnings.{beginning, inband_refusal};
+ghost use Rattle.evl_kernel.specs.Beginnings.{beginning, waiter_refusal};
 ghost use Rattle.evl_kernel.specs.Elements.{elements};
 ghost use Rattle.evl_kernel.specs.Effects.{if_done};
 ghost use Rattle.evl_kernel.specs.Endings.{finish, goes_inband, leaving_queue};
 ghost use Rattle.evl_kernel.specs.KernelViews.{Has, IsAnswer};
-ghost use Rattle.evl_kernel.specs.Records.{KeepsCallbacks, stands_for, state_of};
+ghost use Rattle.evl_kernel.specs.Records.{KeepsCallbacks, state_of};
 ghost use Rattle.evl_kernel.specs.Settling.{deadline_left};
+ghost use Rattle.evl_kernel.specs.Standing.{stands_for};
 ghost use Rattle.evl_kernel.specs.States.{with_clock, with_sched};
 ghost use Rattle.evl_kernel.specs.ThreadCalls.{rank_of};
 ghost use Rattle.evl_kernel.specs.TimerCalls.{posted_if};
@@ -17,61 +17,61 @@ ghost use Rattle.evl_kernel.specs.Waits.{is_past, wait_at, woken};
 ghost use Rattle.evl_kernel.specs.declared.waits.Awaited.{Awaited as AwaitedOne};
 
 use super::Records;
-use crate::waits::{self, Awaited};
-use evl_base::{Policy, Refusal, Reply, SemId, Stage, ThreadId};
+use crate::waits::{self, Wanted};
+use evl_base::{Policy, Refusal, Reply, Stage, ThreadId};
 use std::alloc::Allocator;
 
 impl<C, A: Allocator> Records<C, A> {
-    /// Begins a wait for a semaphore, which is served at once where the count allows it; else the thread is blocked, until
-    /// a date where there is one. The first that applies: `Unknown` (no such semaphore), `Invalid` (the thread isn't
-    /// attached), `WrongStage` (it is in-band).
-    pub(super) fn begin_get(
+    /// Begins a wait, which is served at once where it can be; else the thread is blocked, until a date where there is one.
+    /// The first that applies: `Unknown` (no such element), `Invalid` (the thread isn't attached, or a mask has no bits),
+    /// `WrongStage` (it is in-band).
+    pub(super) fn begin_wait(
         &mut self,
         thread: ThreadId,
-        sem: SemId,
+        wanted: Wanted,
         until: Option<u64>,
     ) -> Result<Reply, Refusal>
         requires idle { wait_at (state_of self.old) thread.0 ≡ None }
         requires there { thread.0 < self.old.threads }
         ensures answer { IsAnswer result }
-        ensures served { Has (state_of self.old) (beginning (state_of self.old) thread.0 (Awaited.Sem sem) until).effect result (state_of self.new) }
+        ensures served { Has (state_of self.old) (beginning (state_of self.old) thread.0 wanted until).effect result (state_of self.new) }
         ensures stands { KeepsCallbacks self.old self.new }
     {
-        let place = usize::from(sem.0);
-        if place >= self.sems.len() {
+        let on = wanted.awaited();
+        if !self.elements.has(on) {
             return Err(Refusal::Unknown);
         }
-        let rank = match self.may_begin(thread) {
+        let rank = match self.may_begin(thread, wanted) {
             Ok(rank) => rank,
             Err(refusal) => return Err(refusal),
         };
-        if self.sems[place].begin_get(thread, rank) {
-            waits::begin(
-                &mut self.waits,
-                thread,
-                Awaited::Sem(sem),
-                Some(Reply::Done),
-            );
+        if let Some(outcome) = self.elements.begin(thread, rank, wanted) {
+            waits::begin(&mut self.waits, thread, on, Some(outcome));
             return Ok(Reply::Begun);
         }
-        waits::begin(&mut self.waits, thread, Awaited::Sem(sem), None);
+        waits::begin(&mut self.waits, thread, on, None);
         self.suspend(thread, until);
         Ok(Reply::Begun)
     }
 
-    /// The rank of a thread that may begin a wait. The first that applies: `Unknown` (no such thread), `Invalid` (it isn't
-    /// attached), `WrongStage` (it is in-band).
-    fn may_begin(&self, thread: ThreadId) -> Result<u16, Refusal>
-        ensures ok { IfOk result (λ rank. (refused_first (stranger_refusal (state_of self.now).sched thread.0) (inband_refusal (state_of self.now) thread.0) ≡ None) × (rank ≡ rank_of (state_of self.now) thread.0)) }
-        ensures refused { IfErr result (λ e. refused_first (stranger_refusal (state_of self.now).sched thread.0) (inband_refusal (state_of self.now) thread.0) ≡ Some e) }
+    /// The rank of a thread that may begin this wait. The first that applies: `Unknown` (no such thread), `Invalid` (it isn't
+    /// attached, or a mask has no bits), `WrongStage` (it is in-band).
+    fn may_begin(&self, thread: ThreadId, wanted: Wanted) -> Result<u16, Refusal>
+        ensures ok { IfOk result (λ rank. (waiter_refusal (state_of self.now) thread.0 wanted ≡ None) × (rank ≡ rank_of (state_of self.now) thread.0)) }
+        ensures refused { IfErr result (λ e. waiter_refusal (state_of self.now) thread.0 wanted ≡ Some e) }
         ensures answer { IfErr result (λ e. IsAnswer (Err e)) }
     {
         match self.sched.rank(thread) {
             Err(refusal) => Err(refusal),
-            Ok(rank) => match self.sched.stage(thread) {
-                Stage::Oob => Ok(rank),
-                Stage::Inband => Err(Refusal::WrongStage),
-            },
+            Ok(rank) => {
+                if !wanted.is_allowed() {
+                    return Err(Refusal::Invalid);
+                }
+                match self.sched.stage(thread) {
+                    Stage::Oob => Ok(rank),
+                    Stage::Inband => Err(Refusal::WrongStage),
+                }
+            }
         }
     }
 
@@ -121,7 +121,7 @@ impl<C, A: Allocator> Records<C, A> {
     {
         match waits::awaited_by(&self.waits, thread) {
             None => {}
-            Some(Awaited::Sem(sem)) => self.leave_sem(thread, sem),
+            Some(on) => self.elements.leave(thread, on),
         }
     }
 

@@ -9,7 +9,6 @@ use evl_kernel::Kernel;
 use evl_machine::{Caller, Machine};
 use std::alloc::Global;
 use std::sync::Wait;
-use std::test::Fail;
 use std::thread::Threads;
 
 // What two host threads told, and what they left.
@@ -19,6 +18,13 @@ pub struct Outcome {
     pub second: u32,
     pub count: i64,
     pub kernel: Kernel,
+}
+
+impl Outcome {
+    // Whether the threads were told of so many calls, and the semaphore stands at this count.
+    pub fn tells(&self, told: (u32, u32), count: i64) -> bool {
+        self.first == told.0 && self.second == told.1 && self.count == count
+    }
 }
 
 // The count of the semaphore.
@@ -78,6 +84,16 @@ fn played<R: Threads + Wait + Sync>(
     }
 }
 
+// What is wanted of two host threads: how many calls each was told of, the semaphore's count, how many calls the
+// history has, and how many of them are done puts of each thread.
+#[derive(Clone, Copy)]
+struct Wanted {
+    told: (u32, u32),
+    count: i64,
+    calls: usize,
+    done: (usize, usize),
+}
+
 // How many of these calls were done by a thread.
 fn done_by(history: &[Entry], thread: u16) -> usize {
     history
@@ -86,37 +102,59 @@ fn done_by(history: &[Entry], thread: u16) -> usize {
         .count()
 }
 
+fn is_history(history: &[Entry], wanted: &Wanted) -> bool {
+    history.len() == wanted.calls
+        && done_by(history, 0) == wanted.done.0
+        && done_by(history, 1) == wanted.done.1
+}
+
+// Whether two host threads leave what is wanted.
+fn leaves<R: Threads + Wait + Sync>(
+    rt: &R,
+    alloc: Global,
+    limit: u32,
+    tasks: (Task, Task),
+    wanted: &Wanted,
+) -> bool {
+    match played(rt, alloc, limit, tasks) {
+        Some(left) => left.tells(wanted.told, wanted.count)
+            && is_history(left.kernel.history(), wanted),
+        None => false,
+    }
+}
+
 #[test]
-fn two_threads_put(rt: HostRuntime) -> Result<(), Fail> {
-    let tasks = (Task::Puts(500), Task::Puts(500));
-    let Some(left) = played(&rt, rt.alloc(), 2000, tasks) else {
-        panic!(rt; "both callers")
+fn two_threads_put(rt: HostRuntime) {
+    let wanted = Wanted {
+        told: (500, 500),
+        count: 1000,
+        calls: 1001,
+        done: (500, 500),
     };
-    assert!(rt; left.first == 500 && left.second == 500 && left.count == 1000);
-    let history = left.kernel.history();
-    assert!(rt; history.len() == 1001);
-    assert!(rt; done_by(history, 0) == 500 && done_by(history, 1) == 500);
-    Ok(())
+    let tasks = (Task::Puts(500), Task::Puts(500));
+    assert!(rt; leaves(&rt, rt.alloc(), 2000, tasks, &wanted));
 }
 
 // The first caller goes to another host thread, comes back, and has seen what it did there.
 #[test]
-fn caller_goes_to_another_thread(rt: HostRuntime) -> Result<(), Fail> {
-    let tasks = (Task::Puts(3), Task::Puts(0));
-    let Some(left) = played(&rt, rt.alloc(), 10, tasks) else {
-        panic!(rt; "both callers")
+fn caller_goes_to_another_thread(rt: HostRuntime) {
+    let wanted = Wanted {
+        told: (3, 0),
+        count: 3,
+        calls: 4,
+        done: (3, 0),
     };
-    assert!(rt; left.first == 3 && left.count == 3);
-    assert!(rt; done_by(left.kernel.history(), 0) == 3);
-    Ok(())
+    let tasks = (Task::Puts(3), Task::Puts(0));
+    assert!(rt; leaves(&rt, rt.alloc(), 10, tasks, &wanted));
 }
 
 #[test]
-fn kernel_is_held_on_another_thread(rt: HostRuntime) -> Result<(), Fail> {
-    let Some(left) = played(&rt, rt.alloc(), 10, (Task::Holds, Task::Tries)) else {
-        panic!(rt; "both callers")
+fn kernel_is_held_on_another_thread(rt: HostRuntime) {
+    let wanted = Wanted {
+        told: (1, 3),
+        count: 0,
+        calls: 1,
+        done: (0, 0),
     };
-    assert!(rt; left.first == 1 && left.second == 3 && left.count == 0);
-    assert!(rt; left.kernel.history().len() == 1);
-    Ok(())
+    assert!(rt; leaves(&rt, rt.alloc(), 10, (Task::Holds, Task::Tries), &wanted));
 }

@@ -74,7 +74,6 @@ fn any_thread_calls_the_stored_closure(rt: HostRuntime) -> Result<(), Fail> {
     let Some(left) = arrived(&rt, alloc, bank, 100) else {
         panic!(rt; "both callers");
     };
-    assert!(rt; left.first == 100 && left.second == 100 && left.count == 200);
-    assert!(rt; left.kernel.plays().len() == 200);
+    assert!(rt; left.tells((100, 100), 200) && left.kernel.plays().len() == 200);
     Ok(())
 }

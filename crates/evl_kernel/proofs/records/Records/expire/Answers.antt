@@ -4,7 +4,7 @@ use Rattle.evl_kernel.specs.States.{State}
 use Rattle.evl_kernel.specs.Records.{state_of}
 use Rattle.evl_kernel.specs.Waits.{woken}
 use Rattle.evl_kernel.proofs.CallbackLaws.{keeps-both}
-use Rattle.evl_kernel.proofs.WaitCalls.{left_first}
+use Rattle.evl_kernel.proofs.WaitRecords.{left_first}
 use Rattle.evl_kernel.proofs.records.Records.expire.Goals as goal
 
 pub returns-clause-expired : goal.returns-clause-expired

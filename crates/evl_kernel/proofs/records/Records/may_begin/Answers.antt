@@ -8,4 +8,4 @@ returns-in-Err-clause-answer g c = stranger_answers c.self.inside.sched.sched c.
 
 pub returns-in-Oob-clause-ok : goal.returns-in-Oob-clause-ok
 returns-in-Oob-clause-ok g c =
-    rw (← c.self.view_is) (may_begin_is (records_view c.self.inside) c.self.invariant.ranks c.args.thread.0 c.in-Ok.rank c.in-Ok.ensures.ok.0 c.in-Ok.ensures.ok.1 c.in-Oob.ensures.stage)
+    rw (← c.self.view_is) (may_begin_is (records_view c.self.inside) c.self.invariant.ranks c.args.thread.0 c.in-Ok.rank c.args.wanted c.in-Ok.ensures.ok.0 c.in-Ok.ensures.ok.1 c.if-not-is_allowed.ensures.allowed c.in-Oob.ensures.stage)

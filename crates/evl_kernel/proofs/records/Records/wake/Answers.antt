@@ -13,7 +13,7 @@ invariant_of-self g c = record {
       (subst (OnlyOldTimers c.self.inside.clock) (sym c.clear_deadline.ensures.state) (old-with_deadline c.self.inside.clock c.args.thread.0 None)) c.self.invariant.timers_allowed;
   clock_sound = subst IsSoundClock (sym c.clear_deadline.ensures.state) (sound-with_deadline c.self.inside.clock c.args.thread.0 None c.self.invariant.clock_sound);
   ranks = readied_unboosted c.self.inside.sched c.ready.new.self c.args.thread.0 c.ready.ensures.state c.self.invariant.ranks;
-  waits = waits_set c.self.inside.threads c.self.inside.sems.items c.self.inside.waits.items c.self.invariant.waits c.args.thread.0 _ _ c.end.ensures.ended (rw (← c.self.view_is) at c.requires.away);
+  waits = waits_set c.self.inside.threads c.self.inside.elements c.self.inside.waits.items c.self.invariant.waits c.args.thread.0 _ _ c.end.ensures.ended (rw (← c.self.view_is) at c.requires.away);
 }
 
 pub returns-clause-stands : goal.returns-clause-stands

@@ -1,0 +1,162 @@
+-- A step of the n-th element of a kind: what it comes to, and which refusals there are.
+use Rattle.std.proofs.Common.{◌≡◌, ◌+◌, ◌-◌, ℕ, ◌==◌, nat_lt, Bool, true, false, List, [], ◌∷◌, Option, Some, None, Result, Ok, Err, IfErr, slice_get, slice_set, if◌then◌else◌, refl, sym, ap, ◌∙◌, subst}
+use Rattle.std.specs.Option.{option_map_or}
+use Rattle.evl_base.specs.declared.refusal.Refusal.{Refusal}
+use Rattle.evl_base.specs.declared.refusal.Refusal.TheVariants.{Unknown, Again, Range, Invalid}
+use Rattle.evl_base.specs.declared.reply.Reply.{Reply}
+use Rattle.evl_base.specs.declared.reply.Reply.TheVariants.{Bits, Count, Done}
+use Rattle.evl_sync.specs.Steps.{stepped, unless}
+use Rattle.evl_sync.specs.FlagGroups as flags
+use Rattle.evl_sync.specs.FlagGroups.{FlagGroup, is_empty_mask, post_refusal, taken}
+use Rattle.evl_sync.specs.Semaphores as sem
+use Rattle.evl_sync.specs.Semaphores.{Semaphore}
+use Rattle.evl_sync.specs.declared.waiter.Waiter.{Waiter}
+use Rattle.evl_kernel.specs.States.{State, Elements}
+use Rattle.evl_kernel.specs.Effects.{Answered, known, lifted, replied}
+use Rattle.evl_kernel.specs.Semaphores as semaphore
+use Rattle.evl_kernel.specs.Semaphores.{SemStep, semaphore as sem_machine}
+use Rattle.evl_kernel.specs.FlagGroups as group
+use Rattle.evl_kernel.specs.FlagGroups.{FlagStep, flag_group}
+use Rattle.evl_kernel.specs.Elements.{ElementStep, on_sem, on_flags, at_nth, element, elements, with_elements, stepping_to, wakes}
+use Rattle.evl_kernel.specs.KernelViews.{IsAnswer}
+use Rattle.evl_kernel.specs.Waits.{all_woken}
+use Rattle.evl_kernel.proofs.SetLaws.{set_same}
+
+pub none_some : {A : Type 0} {x : A} → None ≡ Some x → ⊥
+none_some e = cc
+
+pub some_is : {A : Type 0} {x y : A} → Some x ≡ Some y → x ≡ y
+some_is e = cc
+
+pub err_ok : {A B : Type 0} {x : B} {y : A} → ◌≡◌ {A = Result A B} (Err x) (Ok y) → ⊥
+err_ok e = cc
+
+pub ok_err : {A B : Type 0} {x : B} {y : A} → ◌≡◌ {A = Result A B} (Ok y) (Err x) → ⊥
+ok_err e = cc
+
+pub ok_is : {A B : Type 0} {x y : A} → ◌≡◌ {A = Result A B} (Ok x) (Ok y) → x ≡ y
+ok_is e = cc
+
+pub err_is : {A B : Type 0} {x y : B} → ◌≡◌ {A = Result A B} (Err x) (Err y) → x ≡ y
+err_is e = cc
+
+-- by the step of the machine of that one
+module _ {X P : Type 0} (machine : X → P → Answered X) (with_kind : List X → Elements) (xs : List X) (n : ℕ) (step : P) where
+  pub nth-done : (q p : X) (reply : Reply) → slice_get xs n ≡ Some q → machine q step ≡ Ok (reply, p) → at_nth machine with_kind xs n step ≡ Ok (reply, with_kind (slice_set xs n p))
+  nth-done q p reply here is = rw (here, is) refl
+
+  pub nth-refused : (q : X) (refusal : Refusal) → slice_get xs n ≡ Some q → machine q step ≡ Err refusal → at_nth machine with_kind xs n step ≡ Err refusal
+  nth-refused q refusal here is = rw (here, is) refl
+
+  pub nth-unknown : slice_get xs n ≡ None → at_nth machine with_kind xs n step ≡ Err Unknown
+  nth-unknown none = rw none refl
+
+  -- which element it was, and what is left of it
+  pub record NthMade (reply : Reply) (after : Elements) : Type 0 where
+    pub before : X
+    pub left : X
+    pub here : slice_get xs n ≡ Some before
+    pub made : machine before step ≡ Ok (reply, left)
+    pub after_is : with_kind (slice_set xs n left) ≡ after
+
+  pub nth-made : (reply : Reply) (after : Elements) → at_nth machine with_kind xs n step ≡ Ok (reply, after) → NthMade reply after
+  nth-made reply after = found (slice_get xs n) refl
+    where
+      by : (q : X) → slice_get xs n ≡ Some q → (a : Answered X) → machine q step ≡ a → lifted (λ left. with_kind (slice_set xs n left)) a ≡ Ok (reply, after) → NthMade reply after
+      by q here (Err refusal) is e = absurd (err_ok e)
+      by q here (Ok (said, p)) is e = record {
+        before = q;
+        left = p;
+        here = here;
+        made = is ∙ ap (λ (x : Reply × Elements). Ok (x.0, p)) (ok_is e);
+        after_is = ap (λ (x : Reply × Elements). x.1) (ok_is e);
+      }
+
+      found : (o : Option X) → slice_get xs n ≡ o → known o (λ x. lifted (λ left. with_kind (slice_set xs n left)) (machine x step)) ≡ Ok (reply, after) → NthMade reply after
+      found None none e = absurd (err_ok e)
+      found (Some q) here e = by q here (machine q step) refl e
+
+  -- only such refusals as the machine has, and that there is no such element
+  pub nth-refuses : (P : Refusal → Type 0) → P Unknown → ((q : X) (refusal : Refusal) → machine q step ≡ Err refusal → P refusal)
+      → (refusal : Refusal) → at_nth machine with_kind xs n step ≡ Err refusal → P refusal
+  nth-refuses P unknown those refusal = found (slice_get xs n)
+    where
+      by : (q : X) (a : Answered X) → machine q step ≡ a → lifted (λ left. with_kind (slice_set xs n left)) a ≡ Err refusal → P refusal
+      by q (Err r) is e = those q refusal (is ∙ ap Err (err_is e))
+      by q (Ok (said, p)) is e = absurd (ok_err e)
+
+      found : (o : Option X) → known o (λ x. lifted (λ left. with_kind (slice_set xs n left)) (machine x step)) ≡ Err refusal → P refusal
+      found None e = subst P (err_is e) unknown
+      found (Some q) e = by q (machine q step) refl e
+
+-- what a call on that element refused is refused, and nothing changes
+module _ {X P A B : Type 0} (machine : X → P → Answered X) (with_kind : List X → Elements) (xs : List X) (n : ℕ) (step : P) (q p : X) (here : slice_get xs n ≡ Some q) (f : A → B) (said : B → Reply) where
+  pub nth-same : (result : Result A Refusal) → replied said (stepped f result p) ≡ machine q step → IfErr result (λ r. p ≡ q)
+      → IfErr result (λ r. (at_nth machine with_kind xs n step ≡ Err r) × (with_kind (slice_set xs n p) ≡ with_kind xs))
+  nth-same (Ok answer) is same = tt
+  nth-same (Err refusal) is same = (nth-refused machine with_kind xs n step q refusal here (sym is), ap with_kind (ap (slice_set xs n) same ∙ set_same xs n q here))
+
+-- a look changes nothing
+module _ (e : Elements) (n : ℕ) where
+  pub sem_peeked : (q : Semaphore) → slice_get e.sems n ≡ Some q → element e (on_sem n semaphore.peek) ≡ Ok (Count (sem.peek q), e)
+  sem_peeked q here =
+      nth-done sem_machine (λ sems. record e { sems = sems }) e.sems n semaphore.peek q q (Count (sem.peek q)) here refl
+      ∙ ap (λ (sems : List Semaphore). Ok (Count (sem.peek q), record e { sems = sems })) (set_same e.sems n q here)
+
+  pub bits_peeked : (f : FlagGroup) → slice_get e.flags n ≡ Some f → element e (on_flags n group.peek) ≡ Ok (Bits f.bits, e)
+  bits_peeked f here =
+      nth-done flag_group (λ flags. record e { flags = flags }) e.flags n group.peek f f (Bits f.bits) here refl
+      ∙ ap (λ (flags : List FlagGroup). Ok (Bits f.bits, record e { flags = flags })) (set_same e.flags n f here)
+
+-- the refusals of elements make entries
+abbrev Enters : Refusal → Type 0
+Enters refusal = IsAnswer (Err refusal)
+
+pub sem_enters : (q : Semaphore) (step : SemStep) (refusal : Refusal) → sem_machine q step ≡ Err refusal → Enters refusal
+sem_enters q semaphore.get refusal = by (q.count == 0)
+  where
+    by : (b : Bool) → replied (λ (u : Unit {0}). Done) (if b then Err Again else Ok (tt, record q { count = q.count - 1 })) ≡ Err refusal → Enters refusal
+    by true e = subst Enters (err_is e) (refl, tt)
+    by false e = absurd (ok_err e)
+sem_enters q semaphore.put refusal = by q.waiters
+  where
+    raised : (b : Bool) → replied (λ (u : Option ℕ). Done) (if b then Ok (None, record q { count = q.count + 1 }) else Err Range) ≡ Err refusal → Enters refusal
+    raised true e = absurd (ok_err e)
+    raised false e = subst Enters (err_is e) (refl, tt)
+
+    by : (ws : List Waiter) → replied (λ (u : Option ℕ). Done) (sem.put_before q ws) ≡ Err refusal → Enters refusal
+    by [] e = raised (nat_lt q.count 2147483647) e
+    by (w ∷ ws) e = absurd (ok_err e)
+sem_enters q semaphore.peek refusal = λ e. absurd (ok_err e)
+sem_enters q (semaphore.begin w) refusal = λ e. absurd (ok_err e)
+sem_enters q (semaphore.drop thread) refusal = λ e. absurd (ok_err e)
+
+pub flags_enter : (f : FlagGroup) (step : FlagStep) (refusal : Refusal) → flag_group f step ≡ Err refusal → Enters refusal
+flags_enter f (group.take kind) refusal = by (is_empty_mask kind) (taken kind f.bits)
+  where
+    by : (empty : Bool) (got : Option ℕ)
+        → replied (λ (g : ℕ). Bits g) (unless (if empty then Some Invalid else None) (option_map_or (λ (g : ℕ). Ok (g, flags.without_bits f g)) got (Err Again))) ≡ Err refusal → Enters refusal
+    by true got e = subst Enters (err_is e) (refl, tt)
+    by false None e = subst Enters (err_is e) (refl, tt)
+    by false (Some g) e = absurd (ok_err e)
+flags_enter f (group.post bits) refusal = by (bits == 0)
+  where
+    by : (none : Bool) → replied (λ (served : List (ℕ × ℕ)). Done) (unless (if none then Some Invalid else None) (Ok (flags.walked (flags.post bits f)))) ≡ Err refusal → Enters refusal
+    by true e = subst Enters (err_is e) (refl, tt)
+    by false e = absurd (ok_err e)
+flags_enter f group.peek refusal = λ e. absurd (ok_err e)
+flags_enter f (group.begin w) refusal = λ e. absurd (ok_err e)
+flags_enter f (group.drop thread) refusal = λ e. absurd (ok_err e)
+
+pub element_enters : (e : Elements) (step : ElementStep) (refusal : Refusal) → element e step ≡ Err refusal → Enters refusal
+element_enters e (on_sem n step) refusal = nth-refuses sem_machine (λ sems. record e { sems = sems }) e.sems n step Enters (refl, tt) (λ q r. sem_enters q step r) refusal
+element_enters e (on_flags n step) refusal = nth-refuses flag_group (λ flags. record e { flags = flags }) e.flags n step Enters (refl, tt) (λ f r. flags_enter f step r) refusal
+
+-- what a step comes to for the whole
+module _ (then_ : State → State) (s : State) (step : ElementStep) where
+  pub stepping-done : (reply : Reply) (after : Elements) → element (elements s) step ≡ Ok (reply, after)
+      → stepping_to then_ s step ≡ Ok (reply, all_woken (then_ (with_elements s after)) (wakes (elements s) step))
+  stepping-done reply after is = rw is refl
+
+  pub stepping-refused : (refusal : Refusal) → element (elements s) step ≡ Err refusal → stepping_to then_ s step ≡ Err refusal
+  stepping-refused refusal is = rw is refl

@@ -1,0 +1,37 @@
+-- Who stands in the queues of the elements.
+use Rattle.std.specs.Prelude.{ℕ, Bool, false, ◌≡◌, ◌==◌, List, Some, slice_get}
+use Rattle.std.specs.List.{list_any}
+use Rattle.std.specs.Option.{option_map_or}
+use Rattle.evl_base.specs.declared.reply.Reply.{Reply}
+use Rattle.evl_sync.specs.Queues.{stands_in}
+use Rattle.evl_sync.specs.Semaphores.{Semaphore, IsSoundSemaphore}
+use Rattle.evl_sync.specs.FlagGroups.{FlagGroup, IsSoundGroup}
+use Rattle.evl_kernel.specs.declared.waits.Awaited.{Awaited}
+use Rattle.evl_kernel.specs.declared.waits.Awaited.TheVariants.{Sem, Flags}
+use Rattle.evl_kernel.specs.States.{Elements}
+
+abbrev pub in_sem : Semaphore → ℕ → Bool
+in_sem q thread = stands_in (λ w. w.thread) thread q.waiters
+
+abbrev pub in_flags : FlagGroup → ℕ → Bool
+in_flags f thread = stands_in (λ w. w.thread) thread f.waiters
+
+-- of the n-th of a kind
+abbrev pub stands_at : {X : Type 0} → (X → ℕ → Bool) → List X → ℕ → ℕ → Bool
+stands_at has xs n thread = option_map_or (λ x. has x thread) (slice_get xs n) false
+
+-- the thread stands in the queue of this element
+abbrev pub stands_for : Elements → Awaited → ℕ → Bool
+stands_for e (Sem id) thread = stands_at in_sem e.sems id.0 thread
+stands_for e (Flags id) thread = stands_at in_flags e.flags id.0 thread
+
+-- the thread is among those who are served
+abbrev pub is_served : ℕ → List (ℕ × Reply) → Bool
+is_served thread served = list_any (λ one. one.0 == thread) served
+
+-- what is known of each element
+pub record AreSound (e : Elements) : Type 0 where
+  -- a semaphore counts 0 where somebody waits for it; greater ranks stand first in its queue, and no thread stands there twice
+  pub sems : (n : ℕ) (q : Semaphore) → slice_get e.sems n ≡ Some q → IsSoundSemaphore q
+  -- nobody waits for bits that are there; its queue likewise
+  pub flags : (n : ℕ) (f : FlagGroup) → slice_get e.flags n ≡ Some f → IsSoundGroup f

@@ -1,0 +1,109 @@
+//! The calls on semaphores and flag groups.
+ghost use Rattle.std.specs.Prelude.{◌≡◌, true, false};
+ghost use Rattle.evl_sync.specs.FlagGroups.{pairs};
+ghost use Rattle.evl_kernel.specs.Elements.{elements, on_flags, on_sem, stepping};
+ghost use Rattle.evl_kernel.specs.FlagGroups as group;
+ghost use Rattle.evl_kernel.specs.FlagGroups.{all_served};
+ghost use Rattle.evl_kernel.specs.KernelViews.{Has, IsAnswer};
+ghost use Rattle.evl_kernel.specs.Records.{KeepsCallbacks, state_of};
+ghost use Rattle.evl_kernel.specs.Semaphores as semaphore;
+ghost use Rattle.evl_kernel.specs.Standing.{is_served, stands_for};
+ghost use Rattle.evl_kernel.specs.Waits.{all_woken};
+ghost use Rattle.evl_kernel.specs.declared.waits.Awaited.{Awaited as AwaitedOne};
+
+use super::Records;
+use evl_base::{FlagId, Refusal, Reply, SemId, Take};
+use evl_sync::Served;
+use std::alloc::Allocator;
+
+impl<C, A: Allocator> Records<C, A> {
+    /// Lowers a count. `Unknown` where there is no such semaphore, `Again` where its count is 0.
+    pub(super) fn try_get(&mut self, sem: SemId) -> Result<Reply, Refusal>
+        ensures answer { IsAnswer result }
+        ensures served { Has (state_of self.old) (stepping (state_of self.old) (on_sem sem.0 semaphore.get)) result (state_of self.new) }
+        ensures stands { KeepsCallbacks self.old self.new }
+    {
+        match self.elements.try_get(sem) {
+            Err(refusal) => return Err(refusal),
+            Ok(()) => {}
+        }
+        Ok(Reply::Done)
+    }
+
+    /// Ends the wait of the first waiter, or else raises a count. `Unknown` where there is no such semaphore, `Range` where
+    /// nobody waits and its count is the greatest.
+    pub(super) fn put(&mut self, sem: SemId) -> Result<Reply, Refusal>
+        ensures answer { IsAnswer result }
+        ensures served { Has (state_of self.old) (stepping (state_of self.old) (on_sem sem.0 semaphore.put)) result (state_of self.new) }
+        ensures stands { KeepsCallbacks self.old self.new }
+    {
+        match self.elements.put(sem) {
+            Err(refusal) => Err(refusal),
+            Ok(None) => Ok(Reply::Done),
+            Ok(Some(thread)) => {
+                self.wake(thread, Reply::Done);
+                Ok(Reply::Done)
+            }
+        }
+    }
+
+    /// Tells a count, or minus the number of waiters. `Unknown` where there is no such semaphore.
+    pub(super) fn peek(&self, sem: SemId) -> Result<Reply, Refusal>
+        ensures answer { IsAnswer result }
+        ensures served { Has (state_of self.now) (stepping (state_of self.now) (on_sem sem.0 semaphore.peek)) result (state_of self.now) }
+    {
+        self.elements.peek(sem)
+    }
+
+    /// Takes bits, and tells which. The first that applies: `Unknown` (no such flag group), `Invalid` (a mask without
+    /// bits), `Again` (there is nothing to take).
+    pub(super) fn try_take(&mut self, flags: FlagId, kind: Take) -> Result<Reply, Refusal>
+        ensures answer { IsAnswer result }
+        ensures served { Has (state_of self.old) (stepping (state_of self.old) (on_flags flags.0 (group.take kind))) result (state_of self.new) }
+        ensures stands { KeepsCallbacks self.old self.new }
+    {
+        let bits = match self.elements.try_take(flags, kind) {
+            Err(refusal) => return Err(refusal),
+            Ok(bits) => bits,
+        };
+        Ok(Reply::Bits(bits))
+    }
+
+    /// Adds bits, and ends the waits of those who are served by one walk through the waiters. `Unknown` where there is no
+    /// such flag group, `Invalid` where there are no bits to add.
+    pub(super) fn post_flags(&mut self, flags: FlagId, bits: u32) -> Result<Reply, Refusal>
+        ensures answer { IsAnswer result }
+        ensures served { Has (state_of self.old) (stepping (state_of self.old) (on_flags flags.0 (group.post bits))) result (state_of self.new) }
+        ensures stands { KeepsCallbacks self.old self.new }
+    {
+        match self.elements.post(flags, bits) {
+            Err(refusal) => Err(refusal),
+            Ok(served) => {
+                self.wake_all(served.as_slice());
+                Ok(Reply::Done)
+            }
+        }
+    }
+
+    /// Tells the bits of a flag group. `Unknown` where there is no such flag group.
+    pub(super) fn peek_flags(&self, flags: FlagId) -> Result<Reply, Refusal>
+        ensures answer { IsAnswer result }
+        ensures served { Has (state_of self.now) (stepping (state_of self.now) (on_flags flags.0 group.peek)) result (state_of self.now) }
+    {
+        match self.elements.bits(flags) {
+            Err(refusal) => Err(refusal),
+            Ok(bits) => Ok(Reply::Bits(bits)),
+        }
+    }
+
+    /// The waits of those who were served have ended, in this order, each with the bits that it took.
+    fn wake_all(&mut self, served: &[Served])
+        requires away { (thread : _) → is_served thread (all_served (pairs served.now)) ≡ true → (on : AwaitedOne) → stands_for (elements (state_of self.old)) on thread ≡ false }
+        ensures woken { state_of self.new ≡ all_woken (state_of self.old) (all_served (pairs served.now)) }
+        ensures stands { KeepsCallbacks self.old self.new }
+    {
+        for one in served {
+            self.wake(one.thread, Reply::Bits(one.bits));
+        }
+    }
+}
