@@ -31,7 +31,7 @@ pub transfer_send : IsSend Transfer.the_row
 transfer_send = search (view_send, declared_send, heap.crosses, crosses, sendable) depth 20 fits 20000
 
 pub entry_send : IsSend Entry.the_row
-entry_send = declared_send Entry.the_type (search sendable depth 20, (search sendable depth 40 fits 20000, (search (transfer_send, sendable) depth 40 fits 20000, (search sendable depth 20, tt))))
+entry_send = declared_send Entry.the_type (search sendable depth 20, (search (transfer_send, sendable) depth 60 fits 40000, (search (transfer_send, sendable) depth 40 fits 20000, (search sendable depth 20, tt))))
 
 -- boxes that are kept
 module _ (A : RattleType) (g : Ghosts A.Denot) where

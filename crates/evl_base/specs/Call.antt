@@ -2,12 +2,14 @@
 use Rattle.std.specs.Prelude.{ℕ, Bool, true, false, List, ◌++◌, Option, Some, None, codes}
 use Rattle.std.specs.Fmt.{decimal}
 use Rattle.evl_base.specs.declared.call.Call.{Call}
-use Rattle.evl_base.specs.declared.call.Call.TheVariants.{Request, Free, Arrive, Post, Stall, Unstall, Tick, Now, NewTimer, StartTimer, StopTimer, DropTimer, Overruns, Attach, Detach, SetPolicy, SetStage, Pick, RankOf, TryGet, Put, Peek, BeginGet, TryTake, PostFlags, PeekFlags, BeginTake, Finish}
+use Rattle.evl_base.specs.declared.call.Call.TheVariants.{Request, Free, Arrive, Post, Stall, Unstall, Tick, Now, NewTimer, StartTimer, StopTimer, DropTimer, Overruns, Attach, Detach, SetPolicy, SetStage, Pick, RankOf, TryGet, Put, Peek, BeginGet, TryTake, PostFlags, PeekFlags, BeginTake, Write, Read, Room, BeginWrite, BeginRead, Finish}
 use Rattle.evl_base.specs.declared.stage.Stage.{Stage}
 use Rattle.evl_base.specs.declared.take.Take.{Take}
+use Rattle.evl_base.specs.declared.way.Way.{Way}
 use Rattle.evl_base.specs.Policy.{policy_text}
 use Rattle.evl_base.specs.Stage.{stage_text}
 use Rattle.evl_base.specs.Take.{take_text}
+use Rattle.evl_base.specs.Way.{bytes_text, way_text}
 
 abbrev pub line_and_stage_text : ℕ → Stage → List ℕ
 line_and_stage_text line stage = codes "line=" ++ (decimal line ++ (codes " stage=" ++ stage_text stage))
@@ -20,6 +22,12 @@ date_and_interval_text date interval = codes "date=" ++ (decimal date ++ (codes 
 
 abbrev pub flags_and_kind_text : ℕ → Take → List ℕ
 flags_and_kind_text flags kind = codes "flags=" ++ (decimal flags ++ (codes " kind=" ++ take_text kind))
+
+abbrev pub xbuf_and_way_text : ℕ → Way → List ℕ
+xbuf_and_way_text xbuf way = codes "xbuf=" ++ (decimal xbuf ++ (codes " way=" ++ way_text way))
+
+abbrev pub way_and_length_text : ℕ → Way → ℕ → List ℕ
+way_and_length_text xbuf way len = codes "xbuf=" ++ (decimal xbuf ++ (codes " way=" ++ (way_text way ++ (codes " len=" ++ decimal len))))
 
 -- the date of a deadline, or `none`
 abbrev pub until_text : Option ℕ → List ℕ
@@ -60,4 +68,16 @@ call_text (TryTake flags kind) = codes "try_take " ++ flags_and_kind_text flags.
 call_text (PostFlags flags bits) = codes "post_flags flags=" ++ (decimal flags.0 ++ (codes " bits=" ++ decimal bits))
 call_text (PeekFlags flags) = codes "peek_flags flags=" ++ decimal flags.0
 call_text (BeginTake flags kind until) = codes "begin_take " ++ (flags_and_kind_text flags.0 kind ++ (codes " until=" ++ until_text until))
+call_text (Write xbuf way bytes) = codes "write " ++ (xbuf_and_way_text xbuf.0 way ++ (codes " bytes=" ++ bytes_text bytes.items))
+call_text (Read xbuf way len) = codes "read " ++ way_and_length_text xbuf.0 way len
+call_text (Room xbuf way) = codes "room " ++ xbuf_and_way_text xbuf.0 way
+call_text (BeginWrite xbuf way bytes until) =
+    codes "begin_write " ++ (xbuf_and_way_text xbuf.0 way ++ (codes " bytes=" ++ (bytes_text bytes.items ++ (codes " until=" ++ until_text until))))
+call_text (BeginRead xbuf way len until) = codes "begin_read " ++ (way_and_length_text xbuf.0 way len ++ (codes " until=" ++ until_text until))
 call_text (Finish keep) = codes "finish keep=" ++ truth_text keep
+
+-- how many boxes its bytes take
+abbrev pub boxes_in_call : Call → ℕ
+boxes_in_call (Write xbuf way bytes) = 1
+boxes_in_call (BeginWrite xbuf way bytes until) = 1
+boxes_in_call _ = 0

@@ -1,10 +1,14 @@
 //! The calls of the kernel.
-ghost use Rattle.std.specs.Prelude.{◌≡◌};
+ghost use Rattle.std.specs.Prelude.{◌≡◌, ◌≤◌, ◌+◌};
+ghost use Rattle.evl_base.specs.Call.{boxes_in_call};
 
-use crate::numbers::{FlagId, LineNo, SemId, ThreadId, TimerId};
+use crate::numbers::{FlagId, LineNo, SemId, ThreadId, TimerId, XbufId};
 use crate::policy::Policy;
 use crate::stage::Stage;
 use crate::take::Take;
+use crate::transfer::{Spares, Transfer};
+use crate::way::Way;
+use std::alloc::Allocator;
 
 /// A call of the kernel (Xenomai 4: EVL elements; the forms are this profile's).
 #[derive(Debug, Drop)]
@@ -125,6 +129,37 @@ pub enum Call {
         kind: Take,
         until: Option<u64>,
     },
+    /// Writes bytes into a cross-buffer, all of them.
+    Write {
+        xbuf: XbufId,
+        way: Way,
+        bytes: Transfer,
+    },
+    /// Reads so many bytes from a cross-buffer, or as many as are there.
+    Read {
+        xbuf: XbufId,
+        way: Way,
+        len: u16,
+    },
+    /// Asks how many bytes of a cross-buffer's ring are free.
+    Room {
+        xbuf: XbufId,
+        way: Way,
+    },
+    /// Begins a wait to write bytes into a cross-buffer, until a date in nanoseconds, or without a deadline.
+    BeginWrite {
+        xbuf: XbufId,
+        way: Way,
+        bytes: Transfer,
+        until: Option<u64>,
+    },
+    /// Begins a wait to read so many bytes from a cross-buffer, until a date in nanoseconds, or without a deadline.
+    BeginRead {
+        xbuf: XbufId,
+        way: Way,
+        len: u16,
+        until: Option<u64>,
+    },
     /// Asks what ended the caller's wait; a weak thread goes in-band then, unless it keeps its stage.
     Finish {
         keep: bool,
@@ -132,9 +167,12 @@ pub enum Call {
 }
 
 impl Call {
-    /// The same call once more. `Call` isn't `Copy`, as it may carry bytes.
-    pub fn copied(&self) -> Call
-        ensures { result ≡ self.now }
+    /// The same call once more, its bytes, if it carries any, in a box of `spares`. `Call` isn't `Copy`, as it may carry
+    /// bytes (this profile).
+    pub fn copied<A: Allocator>(&self, spares: &mut Spares<A>) -> Call
+        requires { boxes_in_call self.now ≤ spares.old }
+        ensures same { result ≡ self.now }
+        ensures spent { spares.new + boxes_in_call self.now ≡ spares.old }
     {
         match self {
             Call::Request {
@@ -205,6 +243,42 @@ impl Call {
             Call::BeginTake { flags, kind, until } => Call::BeginTake {
                 flags: *flags,
                 kind: *kind,
+                until: *until,
+            },
+            Call::Write { xbuf, way, bytes } => Call::Write {
+                xbuf: *xbuf,
+                way: *way,
+                bytes: spares.take(bytes.as_slice()),
+            },
+            Call::Read { xbuf, way, len } => Call::Read {
+                xbuf: *xbuf,
+                way: *way,
+                len: *len,
+            },
+            Call::Room { xbuf, way } => Call::Room {
+                xbuf: *xbuf,
+                way: *way,
+            },
+            Call::BeginWrite {
+                xbuf,
+                way,
+                bytes,
+                until,
+            } => Call::BeginWrite {
+                xbuf: *xbuf,
+                way: *way,
+                bytes: spares.take(bytes.as_slice()),
+                until: *until,
+            },
+            Call::BeginRead {
+                xbuf,
+                way,
+                len,
+                until,
+            } => Call::BeginRead {
+                xbuf: *xbuf,
+                way: *way,
+                len: *len,
                 until: *until,
             },
             Call::Finish { keep } => Call::Finish { keep: *keep },

@@ -1,11 +1,13 @@
-//! What a call says in a trace, by families: lines, clock, threads, flag groups, semaphores and waits. A family hands on what isn't its
-//! own, so that a call costs the proof of its family alone.
+//! What a call says in a trace, by families: lines, clock, threads, flag groups, cross-buffers, semaphores and
+//! waits. A family hands on what isn't its own, so that a call costs the proof of its family alone.
 ghost use Rattle.std.specs.Prelude.{Some};
 
 use crate::call::Call;
 use crate::keys::{
     DateAndInterval, FlagsAndKind, LineAndStage, Numbered, StageAndLine, Staged, Until,
+    WayAndLength, XbufAndWay,
 };
+use crate::way::Hex;
 use std::fmt;
 
 impl fmt::Display for Call {
@@ -138,6 +140,73 @@ impl<'a> fmt::Display for FlagText<'a> {
                 let until = Until(*until);
                 write!(f, "begin_take {wanted} until={until}")
             }
+            _ => BufferText(self.0).fmt(f),
+        }
+    }
+}
+
+/// The text of a call on cross-buffers, or of one of those below.
+#[derive(Drop)]
+struct BufferText<'a>(&'a Call);
+
+impl<'a> fmt::Display for BufferText<'a> {
+    ghost use Rattle.evl_base.specs.Call.{call_text};
+
+    ghost output = { λ text. Some (call_text text.0.now) };
+
+    fn fmt<W: fmt::Write>(&self, f: &mut fmt::Formatter<W>) -> fmt::Result {
+        match self.0 {
+            Call::Write { xbuf, way, bytes } => {
+                let at = XbufAndWay {
+                    xbuf: *xbuf,
+                    way: *way,
+                };
+                let digits = Hex(bytes.as_slice());
+                write!(f, "write {at} bytes={digits}")
+            }
+            Call::Read { xbuf, way, len } => {
+                let wanted = WayAndLength {
+                    xbuf: *xbuf,
+                    way: *way,
+                    len: *len,
+                };
+                write!(f, "read {wanted}")
+            }
+            Call::Room { xbuf, way } => {
+                let at = XbufAndWay {
+                    xbuf: *xbuf,
+                    way: *way,
+                };
+                write!(f, "room {at}")
+            }
+            Call::BeginWrite {
+                xbuf,
+                way,
+                bytes,
+                until,
+            } => {
+                let at = XbufAndWay {
+                    xbuf: *xbuf,
+                    way: *way,
+                };
+                let digits = Hex(bytes.as_slice());
+                let until = Until(*until);
+                write!(f, "begin_write {at} bytes={digits} until={until}")
+            }
+            Call::BeginRead {
+                xbuf,
+                way,
+                len,
+                until,
+            } => {
+                let wanted = WayAndLength {
+                    xbuf: *xbuf,
+                    way: *way,
+                    len: *len,
+                };
+                let until = Until(*until);
+                write!(f, "begin_read {wanted} until={until}")
+            }
             _ => WaitText(self.0).fmt(f),
         }
     }
@@ -186,7 +255,12 @@ impl<'a> fmt::Display for WaitText<'a> {
             | Call::TryTake { .. }
             | Call::PostFlags { .. }
             | Call::PeekFlags { .. }
-            | Call::BeginTake { .. } => Err(fmt::Error),
+            | Call::BeginTake { .. }
+            | Call::Write { .. }
+            | Call::Read { .. }
+            | Call::Room { .. }
+            | Call::BeginWrite { .. }
+            | Call::BeginRead { .. } => Err(fmt::Error),
         }
     }
 }

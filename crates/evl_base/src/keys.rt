@@ -1,9 +1,10 @@
 //! Keys of a call's text with their values.
 ghost use Rattle.std.specs.Prelude.{Some};
 
-use crate::numbers::{FlagId, LineNo};
+use crate::numbers::{FlagId, LineNo, XbufId};
 use crate::stage::Stage;
 use crate::take::Take;
+use crate::way::Way;
 use std::fmt;
 
 /// A text that ends in a number.
@@ -113,6 +114,46 @@ impl fmt::Display for FlagsAndKind {
         let flags = self.flags.0;
         let kind = self.kind;
         write!(f, "flags={flags} kind={kind}")
+    }
+}
+
+/// The keys of a cross-buffer and of a way through it.
+#[derive(Drop)]
+pub struct XbufAndWay {
+    pub xbuf: XbufId,
+    pub way: Way,
+}
+
+impl fmt::Display for XbufAndWay {
+    ghost use Rattle.evl_base.specs.Call.{xbuf_and_way_text};
+
+    ghost output = { λ at. Some (xbuf_and_way_text at.xbuf.0 at.way) };
+
+    fn fmt<W: fmt::Write>(&self, f: &mut fmt::Formatter<W>) -> fmt::Result {
+        let xbuf = self.xbuf.0;
+        let way = self.way;
+        write!(f, "xbuf={xbuf} way={way}")
+    }
+}
+
+/// The keys of a way through a cross-buffer and of how many bytes are wanted of it.
+#[derive(Drop)]
+pub struct WayAndLength {
+    pub xbuf: XbufId,
+    pub way: Way,
+    pub len: u16,
+}
+
+impl fmt::Display for WayAndLength {
+    ghost use Rattle.evl_base.specs.Call.{way_and_length_text};
+
+    ghost output = { λ wanted. Some (way_and_length_text wanted.xbuf.0 wanted.way wanted.len) };
+
+    fn fmt<W: fmt::Write>(&self, f: &mut fmt::Formatter<W>) -> fmt::Result {
+        let xbuf = self.xbuf.0;
+        let way = self.way;
+        let len = self.len;
+        write!(f, "xbuf={xbuf} way={way} len={len}")
     }
 }
 

@@ -1,5 +1,5 @@
 //! The bytes of one transfer in a box of their own, and boxes that are kept for transfers to come.
-ghost use Rattle.std.specs.Prelude.{◌≡◌, ◌≤◌, ◌<◌, ◌+◌, length, max, OnOk, OnErr, IfErr};
+ghost use Rattle.std.specs.Prelude.{◌≡◌, ◌≤◌, ◌<◌, ◌+◌, length, max, [], OnOk, OnErr, IfOk, IfErr};
 
 use crate::refusal::Refusal;
 use crate::way::Bytes;
@@ -24,9 +24,10 @@ impl Model for Transfer {
 }
 
 impl Transfer {
-    /// No bytes yet. `NoMemory` where the box was refused.
-    fn empty(alloc: Global) -> Result<Transfer, Refusal>
-        ensures { IfErr result (λ e. e ≡ Refusal.NoMemory) }
+    /// No bytes yet. `NoMemory` where the box was refused (this profile).
+    pub fn empty(alloc: Global) -> Result<Transfer, Refusal>
+        ensures none { IfOk result (λ t. t.items ≡ []) }
+        ensures refusal { IfErr result (λ e. e ≡ Refusal.NoMemory) }
     {
         match Box::new(alloc, ArrayVec::new()) {
             Ok(held) => Ok(Transfer { held }),
@@ -42,8 +43,17 @@ impl Transfer {
         self.held.as_slice()
     }
 
-    /// These bytes take the place of the ones that were there.
-    fn set(&mut self, bytes: &[u8])
+    /// The same bytes in a vector of their own (this profile).
+    pub fn to_bytes(&self) -> Bytes
+        ensures items { result.items ≡ self.now.items }
+    {
+        let mut bytes = ArrayVec::new();
+        bytes.try_extend_from_slice(self.as_slice()).unwrap();
+        bytes
+    }
+
+    /// These bytes, at most 256, take the place of the ones that were there; the box stays (this profile).
+    pub fn set(&mut self, bytes: &[u8])
         requires { length bytes.now ≤ 256 }
         ensures { self.new.items ≡ bytes.now }
     {

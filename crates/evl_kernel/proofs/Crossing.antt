@@ -13,8 +13,10 @@ use Rattle.evl_sched.proofs.Crossing.{sched_send}
 use Rattle.evl_sync.proofs.Crossing.{flag_group_send, sem_send}
 use Rattle.evl_sync.specs.contracts.sem.Sem as Sem
 use Rattle.evl_sync.specs.contracts.flag_group.FlagGroup as FlagGroup
-use Rattle.std.specs.contracts.option.Option as Option
+use Rattle.evl_xbuf.proofs.Crossing.{xbuf_send}
+use Rattle.evl_xbuf.specs.contracts.xbuf.XbufOf as XbufOf
 use Rattle.evl_kernel.specs.contracts.elements.Elements as Elements
+use Rattle.evl_kernel.specs.contracts.wait_place.WaitPlace as WaitPlace
 use Rattle.evl_kernel.specs.contracts.waits.Wait as Wait
 use Rattle.evl_kernel.specs.contracts.bank.BankPlace as BankPlace
 use Rattle.evl_kernel.specs.contracts.bank.Numbered as Numbered
@@ -40,14 +42,18 @@ module _ (C A : RattleType) (g : Ghosts A.Denot) where
   flags_send : IsSend A → Frees g g.dealloc_token → IsSend (Vec.the_row FlagGroup.the_row A g)
   flags_send a f = search (flag_group_send, crosses, sendable) depth 20
 
+  xbufs_send : IsSend A → Frees g g.dealloc_token → IsSend (Vec.the_row (XbufOf.the_row A g) A g)
+  xbufs_send a f = let xbuf = xbuf_send A g a f in search (crosses, sendable) depth 20
+
   elements_send : IsSend A → Frees g g.dealloc_token → IsSend (Elements.the_row A g)
   elements_send a f =
-      let sems = sems_send a f in let flags = flags_send a f in
+      let sems = sems_send a f in let flags = flags_send a f in let xbufs = xbufs_send a f in
       search (view_send, crosses, sendable) depth 20
 
-  waits_send : IsSend A → Frees g g.dealloc_token → IsSend (Vec.the_row (Option.the_row Wait.the_row) A g)
+  waits_send : IsSend A → Frees g g.dealloc_token → IsSend (Vec.the_row WaitPlace.the_row A g)
   waits_send a f =
       let wait : IsSend Wait.the_row = search (transfer_send, declared_send, crosses, sendable) depth 40 fits 20000 in
+      let place : IsSend WaitPlace.the_row = search (transfer_send, view_send, declared_send, crosses, sendable) depth 20 fits 20000 in
       search (crosses, sendable) depth 20
 
 module _ (C A : RattleType) (g : Ghosts A.Denot) where

@@ -1,10 +1,11 @@
 -- A step of the n-th element of a kind: what it comes to, and which refusals there are.
-use Rattle.std.proofs.Common.{◌≡◌, ◌+◌, ◌-◌, ℕ, ◌==◌, nat_lt, Bool, true, false, List, [], ◌∷◌, Option, Some, None, Result, Ok, Err, IfErr, slice_get, slice_set, if◌then◌else◌, refl, sym, ap, ◌∙◌, subst}
+use Rattle.std.proofs.Common.{◌≡◌, ◌+◌, ◌-◌, ℕ, ◌==◌, nat_lt, Bool, true, false, List, [], ◌∷◌, Option, Some, None, Result, Ok, Err, IfErr, slice_get, slice_set, if◌then◌else◌, refl, sym, ap, ◌∙◌, subst, length}
 use Rattle.std.specs.Option.{option_map_or}
 use Rattle.evl_base.specs.declared.refusal.Refusal.{Refusal}
-use Rattle.evl_base.specs.declared.refusal.Refusal.TheVariants.{Unknown, Again, Range, Invalid}
+use Rattle.evl_base.specs.declared.refusal.Refusal.TheVariants.{Unknown, Again, Range, Invalid, TooBig, WrongStage}
 use Rattle.evl_base.specs.declared.reply.Reply.{Reply}
-use Rattle.evl_base.specs.declared.reply.Reply.TheVariants.{Bits, Count, Done}
+use Rattle.evl_base.specs.declared.reply.Reply.TheVariants.{Begun, Bits, Count, Done, Number}
+use Rattle.evl_base.specs.declared.way.Way.{Way}
 use Rattle.evl_sync.specs.Steps.{stepped, unless}
 use Rattle.evl_sync.specs.FlagGroups as flags
 use Rattle.evl_sync.specs.FlagGroups.{FlagGroup, is_empty_mask, post_refusal, taken}
@@ -17,7 +18,12 @@ use Rattle.evl_kernel.specs.Semaphores as semaphore
 use Rattle.evl_kernel.specs.Semaphores.{SemStep, semaphore as sem_machine}
 use Rattle.evl_kernel.specs.FlagGroups as group
 use Rattle.evl_kernel.specs.FlagGroups.{FlagStep, flag_group}
-use Rattle.evl_kernel.specs.Elements.{ElementStep, on_sem, on_flags, at_nth, element, elements, with_elements, stepping_to, wakes}
+use Rattle.evl_xbuf.specs.Streams as streams
+use Rattle.evl_xbuf.specs.Streams.{Stream, Service}
+use Rattle.evl_xbuf.specs.Xbufs.{Xbuf, beside, reading_stage, same_stage, stream, unless_refused, writing_stage}
+use Rattle.evl_kernel.specs.CrossBuffers as through
+use Rattle.evl_kernel.specs.CrossBuffers.{XbufStep, bytes_told, cross_buffer}
+use Rattle.evl_kernel.specs.Elements.{ElementStep, on_sem, on_flags, on_xbuf, at_nth, element, elements, with_elements, stepping_to, wakes}
 use Rattle.evl_kernel.specs.KernelViews.{IsAnswer}
 use Rattle.evl_kernel.specs.Waits.{all_woken}
 use Rattle.evl_kernel.proofs.SetLaws.{set_same}
@@ -108,6 +114,11 @@ module _ (e : Elements) (n : ℕ) where
       nth-done flag_group (λ flags. record e { flags = flags }) e.flags n group.peek f f (Bits f.bits) here refl
       ∙ ap (λ (flags : List FlagGroup). Ok (Bits f.bits, record e { flags = flags })) (set_same e.flags n f here)
 
+  pub room_told : (way : Way) (x : Xbuf) → slice_get e.xbufs n ≡ Some x → element e (on_xbuf n (through.room way)) ≡ Ok (Number (streams.room (stream x way)), e)
+  room_told way x here =
+      nth-done cross_buffer (λ xbufs. record e { xbufs = xbufs }) e.xbufs n (through.room way) x x (Number (streams.room (stream x way))) here refl
+      ∙ ap (λ (xbufs : List Xbuf). Ok (Number (streams.room (stream x way)), record e { xbufs = xbufs })) (set_same e.xbufs n x here)
+
 -- the refusals of elements make entries
 abbrev Enters : Refusal → Type 0
 Enters refusal = IsAnswer (Err refusal)
@@ -148,9 +159,56 @@ flags_enter f group.peek refusal = λ e. absurd (ok_err e)
 flags_enter f (group.begin w) refusal = λ e. absurd (ok_err e)
 flags_enter f (group.drop thread) refusal = λ e. absurd (ok_err e)
 
+module _ (x : Xbuf) (way : Way) {A : Type 0} (f : A → Reply) (refusal : Refusal) where
+  -- from the other stage, or as its way refuses
+  way_enters : (right : Bool) (r : Result (A × Stream) Refusal) → ((e : Refusal) → r ≡ Err e → Enters e)
+      → replied f (unless (if right then None else Some WrongStage) (unless_refused x way r)) ≡ Err refusal → Enters refusal
+  way_enters false r each e = subst Enters (err_is e) (refl, tt)
+  way_enters true (Ok step) each e = absurd (ok_err e)
+  way_enters true (Err own) each e = subst Enters (err_is e) (each own refl)
+
+writes_enter : (big can : Bool) {A : Type 0} (step : A × Stream) (refusal : Refusal) → unless (if big then Some TooBig else None) (if can then Ok step else Err Again) ≡ Err refusal → Enters refusal
+writes_enter true can step refusal e = subst Enters (err_is e) (refl, tt)
+writes_enter false true step refusal e = absurd (ok_err e)
+writes_enter false false step refusal e = subst Enters (err_is e) (refl, tt)
+
+reads_enter : (can : Bool) {A : Type 0} (step : A × Stream) (refusal : Refusal) → (if can then Ok step else Err Again) ≡ Err refusal → Enters refusal
+reads_enter true step refusal e = absurd (ok_err e)
+reads_enter false step refusal e = subst Enters (err_is e) (refl, tt)
+
+begins_enter : (big : Bool) {A : Type 0} (step : A × Stream) (refusal : Refusal) → unless (if big then Some TooBig else None) (Ok step) ≡ Err refusal → Enters refusal
+begins_enter true step refusal e = subst Enters (err_is e) (refl, tt)
+begins_enter false step refusal e = absurd (ok_err e)
+
+pub xbufs_enter : (x : Xbuf) (step : XbufStep) (refusal : Refusal) → cross_buffer x step ≡ Err refusal → Enters refusal
+xbufs_enter x (through.write stage way bytes) refusal =
+    let s = stream x way in
+    way_enters x way (λ served. Done) refusal (same_stage (writing_stage way) stage) (streams.try_write bytes s)
+    (λ e. writes_enter (nat_lt s.size (length bytes)) (streams.can_write s bytes) (streams.served (streams.written s bytes)) e)
+xbufs_enter x (through.read stage way len) refusal = by (nat_lt 256 len)
+  where
+    by : (wide : Bool) → replied (λ (got : List ℕ × List Service). bytes_told got.0) (unless (if wide then Some Range else None)
+        (unless (if same_stage (reading_stage way) stage then None else Some WrongStage) (unless_refused x way (streams.try_read len (stream x way))))) ≡ Err refusal → Enters refusal
+    by true = λ e. subst Enters (err_is e) (refl, tt)
+    by false = way_enters x way (λ got. bytes_told got.0) refusal (same_stage (reading_stage way) stage) (streams.try_read len (stream x way))
+        (λ e. reads_enter (streams.can_read (stream x way) len) (streams.with_bytes (streams.given (stream x way) len) (streams.served (streams.read (stream x way) len))) e)
+xbufs_enter x (through.room way) refusal = λ e. absurd (ok_err e)
+xbufs_enter x (through.begin_write thread way bytes) refusal =
+    let s = stream x way in
+    way_enters x way (λ served. Begun) refusal (same_stage (writing_stage way) (writing_stage way)) (streams.begin_write thread bytes s)
+    (λ e. begins_enter (nat_lt s.size (length bytes)) _ e)
+xbufs_enter x (through.begin_read thread way len) refusal = by (nat_lt 256 len)
+  where
+    by : (wide : Bool) → replied (λ (got : Option (List ℕ × List Service)). Begun) (unless (if wide then Some Range else None)
+        (unless (if same_stage (reading_stage way) (reading_stage way) then None else Some WrongStage) (Ok (beside x way (streams.begin_read thread len (stream x way)))))) ≡ Err refusal → Enters refusal
+    by true = λ e. subst Enters (err_is e) (refl, tt)
+    by false = way_enters x way (λ got. Begun) refusal (same_stage (reading_stage way) (reading_stage way)) (Ok (streams.begin_read thread len (stream x way))) (λ e is. absurd (ok_err is))
+xbufs_enter x (through.drop thread way) refusal = λ e. absurd (ok_err e)
+
 pub element_enters : (e : Elements) (step : ElementStep) (refusal : Refusal) → element e step ≡ Err refusal → Enters refusal
 element_enters e (on_sem n step) refusal = nth-refuses sem_machine (λ sems. record e { sems = sems }) e.sems n step Enters (refl, tt) (λ q r. sem_enters q step r) refusal
 element_enters e (on_flags n step) refusal = nth-refuses flag_group (λ flags. record e { flags = flags }) e.flags n step Enters (refl, tt) (λ f r. flags_enter f step r) refusal
+element_enters e (on_xbuf n step) refusal = nth-refuses cross_buffer (λ xbufs. record e { xbufs = xbufs }) e.xbufs n step Enters (refl, tt) (λ x r. xbufs_enter x step r) refusal
 
 -- what a step comes to for the whole
 module _ (then_ : State → State) (s : State) (step : ElementStep) where

@@ -24,14 +24,19 @@ use Rattle.evl_kernel.specs.Openings.{all_opened, opening, at_home}
 use Rattle.evl_kernel.specs.Renamed.{named, renamed, renamed_clock}
 use Rattle.evl_kernel.specs.Callbacks.{Whereabouts, AnswersAsTold, AreFilled, told}
 use Rattle.evl_kernel.specs.Records.{RecordsView, IsOpened, state_of, number_of, banked, AreAllowed, AreTimersAllowed, WaitsAreKept}
-use Rattle.evl_kernel.specs.Standing.{AreSound, in_flags, in_sem, stands_at, stands_for}
+use Rattle.evl_kernel.specs.Standing.{AreSound, in_flags, in_readers, in_sem, in_writers, stands_at, stands_for}
 use Rattle.evl_sched.specs.Ranks.{Ranked, fresh}
 use Rattle.evl_sync.specs.Semaphores as semaphores
 use Rattle.evl_sync.specs.Semaphores.{IsSoundSemaphore}
 use Rattle.evl_sync.specs.FlagGroups as flags
 use Rattle.evl_sync.specs.FlagGroups.{IsSoundGroup}
+use Rattle.evl_base.specs.declared.way.Way.{Way}
+use Rattle.evl_base.specs.declared.way.Way.TheVariants.{In, Out}
+use Rattle.evl_xbuf.specs.Xbufs as xbufs
+use Rattle.evl_xbuf.specs.Xbufs.{IsSoundXbuf, Xbuf}
+use Rattle.evl_xbuf.proofs.SoundLaws.{sound-empty}
 use Rattle.evl_kernel.specs.declared.waits.Awaited.{Awaited}
-use Rattle.evl_kernel.specs.declared.waits.Awaited.TheVariants.{Sem, Flags}
+use Rattle.evl_kernel.specs.declared.waits.Awaited.TheVariants.{Sem, Flags, Writing, Reading}
 use Rattle.evl_kernel.specs.declared.waits.Wait.{Wait}
 use Rattle.evl_kernel.proofs.ClockLaws.{clock-opening}
 use Rattle.evl_kernel.proofs.SchedLaws.{sched-fresh}
@@ -134,43 +139,39 @@ module _ {C : Type 0} (declared : C → ℕ) (plan : C → Plan) where
   opening-told board bank r opened = ap (opening board) (told-filled declared plan bank r.bank opened.filled)
 
 -- nobody stands in a queue of a new element
-nobody_of : {X : Type 0} (opened : ℕ → X) (has : X → ℕ → Bool) → ((c t : ℕ) → has (opened c) t ≡ false) → (counts : List ℕ) (n t : ℕ) → stands_at has (map opened counts) n t ≡ false
+nobody_of : {C X : Type 0} (opened : C → X) (has : X → ℕ → Bool) → ((c : C) (t : ℕ) → has (opened c) t ≡ false) → (counts : List C) (n t : ℕ) → stands_at has (map opened counts) n t ≡ false
 nobody_of opened has none [] n t = refl
 nobody_of opened has none (c ∷ counts) zero t = none c t
 nobody_of opened has none (c ∷ counts) (suc n) t = nobody_of opened has none counts n t
 
+nobody_writes : (way : Way) (sizes : ℕ × ℕ) (t : ℕ) → in_writers way (xbufs.opened sizes.0 sizes.1) t ≡ false
+nobody_writes In sizes t = refl
+nobody_writes Out sizes t = refl
+
+nobody_reads : (way : Way) (sizes : ℕ × ℕ) (t : ℕ) → in_readers way (xbufs.opened sizes.0 sizes.1) t ≡ false
+nobody_reads In sizes t = refl
+nobody_reads Out sizes t = refl
+
 pub nobody_stands : (board : Board) (on : Awaited) (t : ℕ) → stands_for (all_opened board) on t ≡ false
 nobody_stands board (Sem id) t = nobody_of semaphores.opened in_sem (λ c t. refl) board.sems.items id.0 t
 nobody_stands board (Flags id) t = nobody_of flags.opened in_flags (λ c t. refl) board.flags.items id.0 t
+nobody_stands board (Writing id way) t = nobody_of (λ (sizes : ℕ × ℕ). xbufs.opened sizes.0 sizes.1) (in_writers way) (λ sizes t. nobody_writes way sizes t) board.xbufs.items id.0 t
+nobody_stands board (Reading id way) t = nobody_of (λ (sizes : ℕ × ℕ). xbufs.opened sizes.0 sizes.1) (in_readers way) (λ sizes t. nobody_reads way sizes t) board.xbufs.items id.0 t
 
 -- and each is sound
-sound_of : {X : Type 0} (opened : ℕ → X) (P : X → Type 0) → ((c : ℕ) → P (opened c)) → (counts : List ℕ) (n : ℕ) (x : X) → slice_get (map opened counts) n ≡ Some x → P x
+sound_of : {C X : Type 0} (opened : C → X) (P : X → Type 0) → ((c : C) → P (opened c)) → (counts : List C) (n : ℕ) (x : X) → slice_get (map opened counts) n ≡ Some x → P x
 sound_of opened P each [] n x is = absurd (none_some is)
 sound_of opened P each (c ∷ counts) zero x is = subst P (some_is is) (each c)
 sound_of opened P each (c ∷ counts) (suc n) x is = sound_of opened P each counts n x is
-
-pub opened_sound : (board : Board) → AreSound (all_opened board)
-opened_sound board = record {
-  sems = sound_of semaphores.opened IsSoundSemaphore (λ c. record {
-    count = record { rests = λ some. absurd (false≢true (sym some)); few = omega arith };
-    queue = record { ranked = tt; few = λ t e. absurd (false≢true e) };
-  }) board.sems.items;
-  flags = sound_of flags.opened IsSoundGroup (λ c. record { rests = tt; queue = record { ranked = tt; few = λ t e. absurd (false≢true e) } }) board.flags.items;
-}
-
-pub waits-new : (board : Board) (e : Elements) (waits : List (Option Wait)) → board.threads ≤ 64 → e ≡ all_opened board → waits ≡ replicate board.threads None
-    → WaitsAreKept board.threads e waits
-waits-new board e waits few opened none = record {
-  few = few;
-  sound = subst AreSound (sym opened) (opened_sound board);
-  places = ap (λ (ws : List (Option Wait)). length ws) none ∙ length-replicate board.threads None;
-  going = λ on thread stands. absurd (false≢true (sym (ap (λ (x : Elements). stands_for x on thread) opened ∙ nobody_stands board on thread) ∙ stands));
-}
 
 -- a board that fits has few threads
 first_of_six : (a b c d e f : Bool) → (a && b && c && d && e && f) ≡ true → a ≡ true
 first_of_six true b c d e f h = refl
 first_of_six false b c d e f h = absurd (false≢true h)
+
+first_of_two : (a b : Bool) → (a && b) ≡ true → a ≡ true
+first_of_two true b h = refl
+first_of_two false b h = absurd (false≢true h)
 
 second_of_two : (a b : Bool) → (a && b) ≡ true → b ≡ true
 second_of_two true b h = h
@@ -183,3 +184,47 @@ threads_few b fits =
   where
     at_most : nat_le b.threads 64 ≡ true → b.threads ≤ 64
     at_most e = grind (arith, nat_tests)
+
+-- cross-buffers, whose rings are within their limits
+sound_xbufs : (sizes : List (ℕ × ℕ)) → list_all sizes_fit sizes ≡ true → (n : ℕ) (x : Xbuf) → slice_get (map (λ (s : ℕ × ℕ). xbufs.opened s.0 s.1) sizes) n ≡ Some x → IsSoundXbuf x
+sound_xbufs [] fits n x is = absurd (none_some is)
+sound_xbufs (s ∷ sizes) fits zero x is =
+    let both = first_of_two (sizes_fit s) (list_all sizes_fit sizes) fits in
+    subst IsSoundXbuf (some_is is) (record {
+      inbound = sound-empty s.0 (ring (first_of_two (within 1 256 s.0) (within 1 256 s.1) both));
+      outbound = sound-empty s.1 (ring (second_of_two (within 1 256 s.0) (within 1 256 s.1) both));
+    })
+  where
+    at_most : (n : ℕ) → nat_le n 256 ≡ true → n ≤ 256
+    at_most n e = grind (arith, nat_tests)
+
+    ring : {n : ℕ} → within 1 256 n ≡ true → n ≤ 256
+    ring {n} e = at_most n (second_of_two (nat_le 1 n) (nat_le n 256) e)
+sound_xbufs (s ∷ sizes) fits (suc n) x is = sound_xbufs sizes (second_of_two (sizes_fit s) (list_all sizes_fit sizes) fits) n x is
+
+third_of_six : (a b c d e f : Bool) → (a && b && c && d && e && f) ≡ true → c ≡ true
+third_of_six true true true d e f h = refl
+third_of_six true true false d e f h = absurd (false≢true h)
+third_of_six true false c d e f h = absurd (false≢true h)
+third_of_six false b c d e f h = absurd (false≢true h)
+
+pub opened_sound : (board : Board) → board_fits board ≡ true → AreSound (all_opened board)
+opened_sound board fits = record {
+  sems = sound_of semaphores.opened IsSoundSemaphore (λ c. record {
+    count = record { rests = λ some. absurd (false≢true (sym some)); few = omega arith };
+    queue = record { ranked = tt; few = λ t e. absurd (false≢true e) };
+  }) board.sems.items;
+  flags = sound_of flags.opened IsSoundGroup (λ c. record { rests = tt; queue = record { ranked = tt; few = λ t e. absurd (false≢true e) } }) board.flags.items;
+  xbufs = sound_xbufs board.xbufs.items
+      (third_of_six (within 1 64 board.threads) (list_all count_fits board.sems.items) (list_all sizes_fit board.xbufs.items) (list_all kind_fits board.mutexes.items) (list_all percent_fits board.groups.items)
+      (list_all stax_fits board.staxes.items) fits);
+}
+
+pub waits-new : (board : Board) (e : Elements) (waits : List (Option Wait)) → board_fits board ≡ true → e ≡ all_opened board → waits ≡ replicate board.threads None
+    → WaitsAreKept board.threads e waits
+waits-new board e waits fits opened none = record {
+  few = threads_few board fits;
+  sound = subst AreSound (sym opened) (opened_sound board fits);
+  places = ap (λ (ws : List (Option Wait)). length ws) none ∙ length-replicate board.threads None;
+  going = λ on thread stands. absurd (false≢true (sym (ap (λ (x : Elements). stands_for x on thread) opened ∙ nobody_stands board on thread) ∙ stands));
+}

@@ -1,6 +1,6 @@
 -- Each kind of step leaves the waits proper.
 use Rattle.std.proofs.Common.{◌≡◌, ◌≤◌, ℕ, ◌==◌, Bool, true, false, ◌||◌, List, [], ◌∷◌, length, Option, Some, None, Ok, Err, refl, sym, ap, ◌∙◌, subst, arith}
-use Rattle.std.specs.Option.{option_map}
+use Rattle.std.proofs.lemmas.Bool.{false≢true}
 use Rattle.std.proofs.lemmas.Bool.Decides.{nat_tests}
 use Rattle.std.proofs.lemmas.List.{length-set}
 use Rattle.evl_base.specs.declared.reply.Reply.{Reply}
@@ -17,9 +17,10 @@ use Rattle.evl_kernel.specs.WaitOrder.{WaitsAreProper}
 use Rattle.evl_kernel.specs.Records.{WaitsAreKept}
 use Rattle.evl_kernel.specs.Standing.{is_served, stands_for}
 use Rattle.evl_kernel.proofs.LeavesLaws.{Leaves}
-use Rattle.evl_kernel.proofs.QueueLaws.{Dropped, IsAsked, Stepped, asked_goes, drop_goes, drop_wakes}
+use Rattle.evl_kernel.proofs.ElementSteps.{some_is}
+use Rattle.evl_kernel.proofs.QueueLaws.{Dropped, IsAsked, Stepped, asked_goes, drop_goes}
 use Rattle.evl_kernel.proofs.WaitLaws.{ProperBeside, proper_all, proper_beside, proper_woken}
-use Rattle.evl_kernel.proofs.WaitRecords.{away_after, dropped_away, idle_away}
+use Rattle.evl_kernel.proofs.WaitRecords.{away_after, idle_away}
 
 same_number : (m n : ℕ) → (m == n) ≡ true → m ≡ n
 same_number m n e = grind (arith, nat_tests)
@@ -34,9 +35,9 @@ or_true : (a b : Bool) → b ≡ true → (a || b) ≡ true
 or_true true b e = refl
 or_true false b e = e
 
-or_nothing : (a : Bool) → (a || false) ≡ false → a ≡ false
-or_nothing true e = e
-or_nothing false e = refl
+neither : (a b : Bool) → (a || b) ≡ false → (a ≡ false) × (b ≡ false)
+neither true b e = absurd (false≢true (sym e))
+neither false b e = (refl, e)
 
 -- proper, with a place for the wait of each thread
 pub record IsProper (n : ℕ) (s : State) : Type 0 where
@@ -78,6 +79,50 @@ module _ (n : ℕ) (few : n ≤ 64) (s : State) (h : IsProper n s) where
           is_woken n (with_elements s after) (wakes (elements s) step) h.threads_are h.places (beside_after (wakes (elements s) step) after stepped)
           (away_after n (elements s) s.waits (kept_of n s few h) (wakes (elements s) step) after stepped)
 
+  -- A thread's wait ends over these elements, in which it stands nowhere, and then those of whom that served.
+  ends_over : (thread : ℕ) (after : Elements) (served : List (ℕ × Reply)) → ProperBeside (with_elements s after) (λ t. (thread == t) || is_served t served) → ((on : Awaited) → stands_for after on thread ≡ false)
+      → ((t : ℕ) → is_served t served ≡ true → (on : Awaited) → stands_for after on t ≡ false) → IsProper n (all_woken (with_elements (woken s thread TimedOut) after) served)
+  ends_over thread after served beside away others = is_woken n (with_elements s after) ((thread, TimedOut) ∷ served) h.threads_are h.places beside (λ t is on. by t is on (thread == t) refl)
+    where
+      or_second : (a b : Bool) → (a || b) ≡ true → a ≡ false → b ≡ true
+      or_second true b e f = absurd (false≢true (sym f))
+      or_second false b e f = e
+
+      by : (t : ℕ) → ((thread == t) || is_served t served) ≡ true → (on : Awaited) (b : Bool) → (thread == t) ≡ b → stands_for after on t ≡ false
+      by t is on true same = ap (stands_for after on) (sym (same_number thread t same)) ∙ away on
+      by t is on false other = others t (or_second (thread == t) (is_served t served) is other) on
+
+  -- it leaves the queue in which it waited
+  module _ (thread : ℕ) (w : Wait) (its : wait_at s thread ≡ Some w) (served : List (ℕ × Reply)) (after : Elements) (gone : Dropped (elements s) w.on thread served after) where
+    -- who stands there stood in just that queue
+    left_away : (on : Awaited) → stands_for after on thread ≡ false
+    left_away on = test (stands_for after on thread) refl
+      where
+        test : (b : Bool) → stands_for after on thread ≡ b → b ≡ false
+        test false stands = refl
+        test true stands =
+            let same : on ≡ w.on = sym (ap (λ (x : Wait). x.on) (some_is (sym its ∙ h.proper.stands on thread (gone.drops.old on thread stands)))) in
+            sym stands ∙ (ap (λ (x : Awaited). stands_for after x thread) same ∙ gone.drops.gone)
+
+    served_away : (t : ℕ) → is_served t served ≡ true → (on : Awaited) → stands_for after on t ≡ false
+    served_away t is on = test (stands_for after on t) refl
+      where
+        test : (b : Bool) → stands_for after on t ≡ b → b ≡ false
+        test false stands = refl
+        test true stands =
+            let went = gone.drops.left t is in
+            let same : on ≡ went.on = ap (λ (x : Wait). x.on) (some_is (sym (h.proper.stands on t (gone.drops.old on t stands)) ∙ h.proper.stands went.on t went.stood)) in
+            sym stands ∙ (ap (λ (x : Awaited). stands_for after x t) same ∙ went.gone)
+
+    ended : IsProper n (all_woken (with_elements (woken s thread TimedOut) after) served)
+    ended = ends_over thread after served (record {
+      sound = gone.sound;
+      stands = λ on t ne stands. h.proper.stands on t (sym (gone.drops.same on t (swapped thread t (neither (thread == t) (is_served t served) ne).0) (neither (thread == t) (is_served t served) ne).1) ∙ stands);
+      waits = λ on t ne is. gone.drops.same on t (swapped thread t (neither (thread == t) (is_served t served) ne).0) (neither (thread == t) (is_served t served) ne).1 ∙ h.proper.waits on t is;
+      ready = λ t ne. h.proper.ready t;
+      dated = λ t date ne. h.proper.dated t date;
+    }) left_away served_away
+
   -- a deadline
   pub proper_expired : (thread : ℕ) → IsProper n (deadline_left s thread).1
   proper_expired thread = by (wait_at s thread) refl
@@ -85,41 +130,17 @@ module _ (n : ℕ) (few : n ≤ 64) (s : State) (h : IsProper n s) where
       timed : State
       timed = woken s thread TimedOut
 
-      -- its wait ends over these elements, in which it stands nowhere
-      over : (after : Elements) → ProperBeside (with_elements s after) (λ t. (thread == t) || false) → ((on : Awaited) → stands_for after on thread ≡ false) → IsProper n (with_elements timed after)
-      over after beside away =
-          is_woken n (with_elements s after) ((thread, TimedOut) ∷ []) h.threads_are h.places beside (λ t is on. ap (stands_for after on) (sym (same_number thread t (first t is))) ∙ away on)
-        where
-          first : (t : ℕ) → ((thread == t) || false) ≡ true → (thread == t) ≡ true
-          first t is = only (thread == t) is
-            where
-              only : (b : Bool) → (b || false) ≡ true → b ≡ true
-              only true e = refl
-              only false e = e
-
-      on_it : (w : Wait) → wait_at s thread ≡ Some w → (a : Answered Elements) → element (elements s) (drop_step thread w.on) ≡ a
+      left : (w : Wait) → wait_at s thread ≡ Some w → (a : Answered Elements) → element (elements s) (drop_step thread w.on) ≡ a
           → IsProper n (if_done timed (lifted (λ e. all_woken (with_elements timed e) (wakes (elements s) (drop_step thread w.on))) a))
-      on_it w its a is = subst (λ (ws : List (ℕ × Reply)). IsProper n (if_done timed (lifted (λ e. all_woken (with_elements timed e) ws) a))) (sym (drop_wakes (elements s) thread w.on)) (left a is)
-        where
-          dropped : Dropped (elements s) w.on thread (if_done (elements s) (element (elements s) (drop_step thread w.on)))
-          dropped = drop_goes (elements s) h.proper.sound thread w.on
-
-          at : (after : Elements) → if_done (elements s) (element (elements s) (drop_step thread w.on)) ≡ after → IsProper n (with_elements timed after)
-          at after is = ended (subst (Dropped (elements s) w.on thread) is dropped)
-            where
-              ended : Dropped (elements s) w.on thread after → IsProper n (with_elements timed after)
-              ended gone = over after (record {
-                sound = gone.sound;
-                stands = λ on t ne stands. h.proper.stands on t (sym (gone.drops.same on t (swapped thread t (or_nothing (thread == t) ne))) ∙ stands);
-                waits = λ on t ne is. gone.drops.same on t (swapped thread t (or_nothing (thread == t) ne)) ∙ h.proper.waits on t is;
-                ready = λ t ne. h.proper.ready t;
-                dated = λ t date ne. h.proper.dated t date;
-              }) (dropped_away n (elements s) s.waits (kept_of n s few h) thread w.on after gone (sym (ap (option_map (λ (x : Wait). x.on)) its)))
-
-          left : (a : Answered Elements) → element (elements s) (drop_step thread w.on) ≡ a → IsProper n (if_done timed (lifted (λ e. with_elements timed e) a))
-          left (Ok (reply, after)) is = at after (ap (if_done (elements s)) is)
-          left (Err refusal) is = at (elements s) (ap (if_done (elements s)) is)
+      left w its (Ok (reply, after)) is =
+          ended thread w its (wakes (elements s) (drop_step thread w.on)) after
+          (subst (Dropped (elements s) w.on thread (wakes (elements s) (drop_step thread w.on))) (ap (if_done (elements s)) is) (drop_goes (elements s) h.proper.sound thread w.on))
+      left w its (Err refusal) is =
+          ends_over thread (elements s) [] (proper_beside s (λ t. (thread == t) || false) h.proper)
+          (left_away thread w its (wakes (elements s) (drop_step thread w.on)) (elements s)
+          (subst (Dropped (elements s) w.on thread (wakes (elements s) (drop_step thread w.on))) (ap (if_done (elements s)) is) (drop_goes (elements s) h.proper.sound thread w.on)))
+          (λ t is on. absurd (false≢true is))
 
       by : (o : Option Wait) → wait_at s thread ≡ o → IsProper n (if_done timed (leaving_queue timed thread o).effect)
-      by None none = over (elements s) (proper_beside s (λ t. (thread == t) || false) h.proper) (idle_away n (elements s) s.waits (kept_of n s few h) thread none)
-      by (Some w) its = on_it w its (element (elements s) (drop_step thread w.on)) refl
+      by None none = ends_over thread (elements s) [] (proper_beside s (λ t. (thread == t) || false) h.proper) (idle_away n (elements s) s.waits (kept_of n s few h) thread none) (λ t is on. absurd (false≢true is))
+      by (Some w) its = left w its (element (elements s) (drop_step thread w.on)) refl

@@ -337,11 +337,11 @@ module _ (n : ℕ) (few : n ≤ 64) where
   }
 
 -- a new kernel
-proper_opening : (board : Board) (bank : List Handler) → IsProper board.threads (opening board bank)
+proper_opening : (board : Board) (bank : List Handler) → board_fits board ≡ true → IsProper board.threads (opening board bank)
 unfolding threads.opening clocks.opening
-proper_opening board bank = record {
+proper_opening board bank fits = record {
   proper = record {
-    sound = opened_sound board;
+    sound = opened_sound board fits;
     stands = λ on t stands. absurd (false≢true (sym (nobody on t) ∙ stands));
     waits = λ on t is. absurd (none_some (sym (no_wait t) ∙ is));
     ready = λ t. sym (ap (λ (o : Option Seat). is_oob (option_map_or (λ (seat : Seat). seat.stage) o Inband) && not (is_blocked (opening board bank) t)) (at-none {A = Seat} board.threads t));
@@ -360,7 +360,7 @@ proper_opening board bank = record {
 pub proper_at : (h : History) → IsLegal h → board_fits h.board ≡ true → IsProper h.board.threads h.state
 proper_at h legal fits =
     let few = threads_few h.board fits in
-    run_holds (IsProper h.board.threads) (kept_by_each h.board.threads few) (kept_by_own h.board.threads few) (opened h) h.entries h.plays h.state (proper_opening h.board h.bank) legal
+    run_holds (IsProper h.board.threads) (kept_by_each h.board.threads few) (kept_by_own h.board.threads few) (opened h) h.entries h.plays h.state (proper_opening h.board h.bank fits) legal
 
 pub waits_stay : WaitsStayProper
 waits_stay h legal fits = (proper_at h legal fits).proper

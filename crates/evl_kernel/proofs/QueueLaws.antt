@@ -1,8 +1,13 @@
 -- What each step of the elements means for the queues, and that all elements stay sound.
 use Rattle.std.proofs.Common.{◌≡◌, ◌<◌, ℕ, false, List, [], Option, Some, None, Ok, slice_get, slice_set, refl, sym, ap, ◌∙◌, subst}
 use Rattle.std.specs.Option.{option_map_or}
+use Rattle.std.proofs.lemmas.Bool.{false≢true}
+use Rattle.arrayvec.specs.ArrayVec.{ArrayVec as Items}
 use Rattle.evl_base.specs.declared.numbers.FlagId.{FlagId}
 use Rattle.evl_base.specs.declared.numbers.SemId.{SemId}
+use Rattle.evl_base.specs.declared.numbers.XbufId.{XbufId}
+use Rattle.evl_base.specs.declared.stage.Stage.{Stage}
+use Rattle.evl_base.specs.declared.way.Way.{Way}
 use Rattle.evl_base.specs.declared.reply.Reply.{Reply}
 use Rattle.evl_base.specs.declared.reply.Reply.TheVariants.{Done}
 use Rattle.evl_base.specs.declared.take.Take.{Take}
@@ -11,7 +16,7 @@ use Rattle.evl_sync.specs.FlagGroups.{FlagGroup}
 use Rattle.evl_sync.specs.Semaphores as sem
 use Rattle.evl_sync.specs.Semaphores.{Semaphore}
 use Rattle.evl_kernel.specs.declared.waits.Awaited.{Awaited}
-use Rattle.evl_kernel.specs.declared.waits.Awaited.TheVariants.{Sem, Flags}
+use Rattle.evl_kernel.specs.declared.waits.Awaited.TheVariants.{Sem, Flags, Writing, Reading}
 use Rattle.evl_kernel.specs.declared.waits.Wanted.{Wanted}
 use Rattle.evl_kernel.specs.declared.waits.Wanted.TheVariants as wanted
 use Rattle.evl_kernel.specs.States.{Elements}
@@ -20,14 +25,20 @@ use Rattle.evl_kernel.specs.Semaphores as semaphore
 use Rattle.evl_kernel.specs.Semaphores.{semaphore as sem_machine, sem_serves, sem_wakes}
 use Rattle.evl_kernel.specs.FlagGroups as group
 use Rattle.evl_kernel.specs.FlagGroups.{flag_group, flag_serves, flag_wakes}
-use Rattle.evl_kernel.specs.Elements.{ElementStep, on_sem, on_flags, element, serves, wakes}
+use Rattle.evl_xbuf.specs.Xbufs as xbufs
+use Rattle.evl_xbuf.specs.Xbufs.{Xbuf}
+use Rattle.evl_kernel.specs.CrossBuffers as through
+use Rattle.evl_kernel.specs.CrossBuffers.{XbufStep, cross_buffer, xbuf_serves, xbuf_wakes}
+use Rattle.evl_kernel.specs.Elements.{ElementStep, on_sem, on_flags, on_xbuf, element, serves, wakes}
 use Rattle.evl_kernel.specs.Beginnings.{awaited, step_of_waiter}
 use Rattle.evl_kernel.specs.Endings.{drop_step}
-use Rattle.evl_kernel.specs.Standing.{AreSound, in_flags, in_sem, stands_for}
+use Rattle.evl_kernel.specs.Standing.{AreSound, in_flags, in_readers, in_sem, in_writers, stands_for}
 use Rattle.evl_kernel.proofs.ElementSteps.{nth-done, nth-made, nth-unknown}
 use Rattle.evl_kernel.proofs.QueueSteps.{Comes, Drops, LetsGo, flags_come, flags_drop, flags_go, flags_sound, sem_comes, sem_drops, sem_goes, sems_sound, was_at_it}
 use Rattle.evl_kernel.proofs.SemQueues as sems
 use Rattle.evl_kernel.proofs.FlagQueues as flag_queues
+use Rattle.evl_kernel.proofs.XbufQueues as queues
+use Rattle.evl_kernel.proofs.XbufSteps.{of_xbuf, reader_drops, was_there, writer_drops, xbuf_comes, xbuf_goes, xbufs_sound}
 
 -- a step of an element that calls and callbacks ask for: no wait begins by it, and none ends by its deadline
 pub data IsAsked : ElementStep → Type 0 where
@@ -37,6 +48,9 @@ pub data IsAsked : ElementStep → Type 0 where
   asks_take : (n : ℕ) (kind : Take) → IsAsked (on_flags n (group.take kind))
   asks_post : (n bits : ℕ) → IsAsked (on_flags n (group.post bits))
   asks_bits : (n : ℕ) → IsAsked (on_flags n group.peek)
+  asks_write : (n : ℕ) (stage : Stage) (way : Way) (bytes : List ℕ) → IsAsked (on_xbuf n (through.write stage way bytes))
+  asks_read : (n : ℕ) (stage : Stage) (way : Way) (len : ℕ) → IsAsked (on_xbuf n (through.read stage way len))
+  asks_room : (n : ℕ) (way : Way) → IsAsked (on_xbuf n (through.room way))
 
 -- what a step leaves of elements: all sound, and these are let go
 pub record Stepped (e : Elements) (served : List (ℕ × Reply)) (after : Elements) : Type 0 where
@@ -68,6 +82,18 @@ module _ (e : Elements) (h : AreSound e) (after : Elements) (reply : Reply) wher
         goes = subst (λ (ws : List (ℕ × Reply)). LetsGo e ws (record e { flags = slice_set e.flags n made.left })) served (flags_go e n made.before made.left made.here (flag_wakes made.before step) left.goes);
       })
 
+  of_xbuf_step : (n : ℕ) (step : XbufStep) → ((x y : Xbuf) → slice_get e.xbufs n ≡ Some x → cross_buffer x step ≡ Ok (reply, y) → queues.Left x y (xbuf_wakes x step))
+      → element e (on_xbuf n step) ≡ Ok (reply, after) → Stepped e (wakes e (on_xbuf n step)) after
+  of_xbuf_step n step each is =
+      let made = nth-made cross_buffer (λ xs. record e { xbufs = xs }) e.xbufs n step reply after is in
+      let left = each made.before made.left made.here made.made in
+      let served : xbuf_wakes made.before step ≡ wakes e (on_xbuf n step) = sym (ap (λ (o : Option Xbuf). option_map_or (λ (x : Xbuf). xbuf_wakes x step) o []) made.here) in
+      subst (λ (z : Elements). Stepped e (wakes e (on_xbuf n step)) z) made.after_is
+      (record {
+        sound = xbufs_sound e n made.before made.left made.here h left.sound;
+        goes = subst (λ (ws : List (ℕ × Reply)). LetsGo e ws (record e { xbufs = slice_set e.xbufs n made.left })) served (xbuf_goes e n made.before made.left made.here (xbuf_wakes made.before step) left);
+      })
+
   -- a step that was asked for
   pub asked_goes : (step : ElementStep) → IsAsked step → element e step ≡ Ok (reply, after) → Stepped e (wakes e step) after
   asked_goes step (asks_get n) is = of_sem_step n semaphore.get (λ q p here made. sems.get_left q p reply (h.sems n q here) made) is
@@ -75,6 +101,9 @@ module _ (e : Elements) (h : AreSound e) (after : Elements) (reply : Reply) wher
   asked_goes step (asks_peek n) is = of_sem_step n semaphore.peek (λ q p here made. sems.peek_left q p reply (h.sems n q here) made) is
   asked_goes step (asks_take n kind) is = of_flags_step n (group.take kind) (λ f g here made. flag_queues.take_left f g reply kind (h.flags n f here) made) is
   asked_goes step (asks_post n bits) is = of_flags_step n (group.post bits) (λ f g here made. flag_queues.post_left f g reply bits (h.flags n f here) made) is
+  asked_goes step (asks_write n stage way bytes) is = of_xbuf_step n (through.write stage way bytes) (λ x y here made. queues.write_left x y reply (h.xbufs n x here) stage way bytes made) is
+  asked_goes step (asks_read n stage way len) is = of_xbuf_step n (through.read stage way len) (λ x y here made. queues.read_left_of x y reply (h.xbufs n x here) stage way len made) is
+  asked_goes step (asks_room n way) is = of_xbuf_step n (through.room way) (λ x y here made. queues.room_left x y reply (h.xbufs n x here) way made) is
   asked_goes step (asks_bits n) is = of_flags_step n group.peek (λ f g here made. flag_queues.bits_left f g reply (h.flags n f here) made) is
 
 -- what a beginning leaves of them: the thread is served at once, or it comes to the queue
@@ -103,6 +132,24 @@ module _ (e : Elements) (h : AreSound e) (after : Elements) (reply : Reply) (thr
         quiet = λ none. nobody;
       })
 
+  -- a wait at a queue of a cross-buffer
+  of_transfer : (id : XbufId) (queue : queues.Queue) (step : XbufStep) → stands_for e (of_xbuf id.0 queue) thread ≡ false → element e (on_xbuf id.0 step) ≡ Ok (reply, after)
+      → ((x y : Xbuf) → slice_get e.xbufs id.0 ≡ Some x → queues.in_queue queue x thread ≡ false → cross_buffer x step ≡ Ok (reply, y) → queues.Begun x y queue thread (xbuf_serves x step) (xbuf_wakes x step))
+      → Begins e thread (of_xbuf id.0 queue) (serves e (on_xbuf id.0 step)) (wakes e (on_xbuf id.0 step)) after
+  of_transfer id queue step away is each =
+      let made = nth-made cross_buffer (λ xs. record e { xbufs = xs }) e.xbufs id.0 step reply after is in
+      let begun = each made.before made.left made.here (sym (was_there e id.0 made.before made.left made.here queue thread) ∙ away) made.made in
+      let told : serves e (on_xbuf id.0 step) ≡ xbuf_serves made.before step = ap (λ (o : Option Xbuf). option_map_or (λ (x : Xbuf). xbuf_serves x step) o None) made.here in
+      let woken : wakes e (on_xbuf id.0 step) ≡ xbuf_wakes made.before step = ap (λ (o : Option Xbuf). option_map_or (λ (x : Xbuf). xbuf_wakes x step) o []) made.here in
+      subst (λ (z : Elements). Begins e thread (of_xbuf id.0 queue) (serves e (on_xbuf id.0 step)) (wakes e (on_xbuf id.0 step)) z) made.after_is
+      (record {
+        sound = xbufs_sound e id.0 made.before made.left made.here h begun.sound;
+        at_once = λ outcome served. subst (λ (ws : List (ℕ × Reply)). LetsGo e ws (record e { xbufs = slice_set e.xbufs id.0 made.left })) (sym woken)
+            (xbuf_goes e id.0 made.before made.left made.here (xbuf_wakes made.before step) (begun.at_once outcome (sym told ∙ served)));
+        waits = λ none. xbuf_comes e id.0 made.before made.left made.here queue thread (begun.waits (sym told ∙ none));
+        quiet = λ none. woken ∙ begun.quiet (sym told ∙ none);
+      })
+
   of_flags : (id : FlagId) (kind : Take) → stands_for e (Flags id) thread ≡ false → element e (step_of_waiter thread rank (wanted.Flags id kind)) ≡ Ok (reply, after)
       → Begins e thread (Flags id) (serves e (step_of_waiter thread rank (wanted.Flags id kind))) (wakes e (step_of_waiter thread rank (wanted.Flags id kind))) after
   of_flags id kind away is =
@@ -121,75 +168,99 @@ module _ (e : Elements) (h : AreSound e) (after : Elements) (reply : Reply) (thr
         quiet = λ none. nobody;
       })
 
+  of_write : (id : XbufId) (way : Way) (bytes : Items ℕ) → stands_for e (Writing id way) thread ≡ false → element e (step_of_waiter thread rank (wanted.Write id way bytes)) ≡ Ok (reply, after)
+      → Begins e thread (Writing id way) (serves e (step_of_waiter thread rank (wanted.Write id way bytes))) (wakes e (step_of_waiter thread rank (wanted.Write id way bytes))) after
+  of_write id way bytes away is = of_transfer id (queues.writing way) (through.begin_write thread way bytes.items) away is (λ x y here gone made. queues.write_begun x y reply (h.xbufs id.0 x here) thread within way bytes.items gone made)
+
+  of_read : (id : XbufId) (way : Way) (len : ℕ) → stands_for e (Reading id way) thread ≡ false → element e (step_of_waiter thread rank (wanted.Read id way len)) ≡ Ok (reply, after)
+      → Begins e thread (Reading id way) (serves e (step_of_waiter thread rank (wanted.Read id way len))) (wakes e (step_of_waiter thread rank (wanted.Read id way len))) after
+  of_read id way len away is = of_transfer id (queues.reading way) (through.begin_read thread way len) away is (λ x y here gone made. queues.read_begun x y reply (h.xbufs id.0 x here) thread within way len gone made)
+
   pub begin_goes : (wants : Wanted) → stands_for e (awaited wants) thread ≡ false → element e (step_of_waiter thread rank wants) ≡ Ok (reply, after)
       → Begins e thread (awaited wants) (serves e (step_of_waiter thread rank wants)) (wakes e (step_of_waiter thread rank wants)) after
   begin_goes (wanted.Sem id) away is = of_sem id away is
   begin_goes (wanted.Flags id kind) away is = of_flags id kind away is
+  begin_goes (wanted.Write id way bytes) away is = of_write id way bytes away is
+  begin_goes (wanted.Read id way len) away is = of_read id way len away is
 
 -- what a thread leaves that leaves a queue
-pub record Dropped (e : Elements) (on : Awaited) (thread : ℕ) (after : Elements) : Type 0 where
+pub record Dropped (e : Elements) (on : Awaited) (thread : ℕ) (served : List (ℕ × Reply)) (after : Elements) : Type 0 where
   pub sound : AreSound after
-  pub drops : Drops e on thread after
+  pub drops : Drops e on thread served after
 
 module _ (e : Elements) (h : AreSound e) (thread : ℕ) where
   abbrev dropped_from : Awaited → Elements
   dropped_from on = if_done e (element e (drop_step thread on))
 
-  -- where there is no such element nobody stands there
-  nothing_there : (on : Awaited) → stands_for e on thread ≡ false → dropped_from on ≡ e → Dropped e on thread (dropped_from on)
-  nothing_there on none same = subst (λ (x : Elements). Dropped e on thread x) (sym same) (record { sound = h; drops = record { gone = none; same = λ other t ne. refl; old = λ other t is. is } })
+  abbrev woken_by : Awaited → List (ℕ × Reply)
+  woken_by on = wakes e (drop_step thread on)
 
-  from_sem : (id : SemId) (o : Option Semaphore) → slice_get e.sems id.0 ≡ o → Dropped e (Sem id) thread (dropped_from (Sem id))
+  -- it is left as this, by which these are served
+  dropped_as : (on : Awaited) (served : List (ℕ × Reply)) (after : Elements) → woken_by on ≡ served → dropped_from on ≡ after → Dropped e on thread served after → Dropped e on thread (woken_by on) (dropped_from on)
+  dropped_as on served after woken same it = subst (λ (z : Elements). Dropped e on thread (woken_by on) z) (sym same) (subst (λ (ws : List (ℕ × Reply)). Dropped e on thread ws after) (sym woken) it)
+
+  -- where there is no such element nobody stands there
+  nothing_there : (on : Awaited) → stands_for e on thread ≡ false → woken_by on ≡ [] → dropped_from on ≡ e → Dropped e on thread (woken_by on) (dropped_from on)
+  nothing_there on none nobody same = dropped_as on [] e nobody same (record { sound = h; drops = record { gone = none; left = λ t is. absurd (false≢true is); same = λ other t ne is. refl; old = λ other t is. is } })
+
+  from_sem : (id : SemId) (o : Option Semaphore) → slice_get e.sems id.0 ≡ o → Dropped e (Sem id) thread (woken_by (Sem id)) (dropped_from (Sem id))
   from_sem id None none =
       nothing_there (Sem id) (ap (λ (o : Option Semaphore). option_map_or (λ (q : Semaphore). in_sem q thread) o false) none)
+      (ap (λ (o : Option Semaphore). option_map_or (λ (q : Semaphore). sem_wakes q (semaphore.drop thread)) o []) none)
       (ap (if_done e) (nth-unknown sem_machine (λ qs. record e { sems = qs }) e.sems id.0 (semaphore.drop thread) none))
   from_sem id (Some q) here =
-      subst (λ (x : Elements). Dropped e (Sem id) thread x) (sym (ap (if_done e) (nth-done sem_machine (λ qs. record e { sems = qs }) e.sems id.0 (semaphore.drop thread) q (sem.drop_waiter thread q) Done here refl)))
+      dropped_as (Sem id) [] (record e { sems = slice_set e.sems id.0 (sem.drop_waiter thread q) })
+      (ap (λ (o : Option Semaphore). option_map_or (λ (p : Semaphore). sem_wakes p (semaphore.drop thread)) o []) here)
+      (ap (if_done e) (nth-done sem_machine (λ qs. record e { sems = qs }) e.sems id.0 (semaphore.drop thread) q (sem.drop_waiter thread q) Done here refl))
       (record {
         sound = sems_sound e id.0 q (sem.drop_waiter thread q) here h (sems.drop_sound thread q (h.sems id.0 q here));
         drops = sem_drops e id.0 q (sem.drop_waiter thread q) here thread (sems.drop_drops thread q);
       })
 
-  from_flags : (id : FlagId) (o : Option FlagGroup) → slice_get e.flags id.0 ≡ o → Dropped e (Flags id) thread (dropped_from (Flags id))
+  from_flags : (id : FlagId) (o : Option FlagGroup) → slice_get e.flags id.0 ≡ o → Dropped e (Flags id) thread (woken_by (Flags id)) (dropped_from (Flags id))
   from_flags id None none =
       nothing_there (Flags id) (ap (λ (o : Option FlagGroup). option_map_or (λ (f : FlagGroup). in_flags f thread) o false) none)
+      (ap (λ (o : Option FlagGroup). option_map_or (λ (f : FlagGroup). flag_wakes f (group.drop thread)) o []) none)
       (ap (if_done e) (nth-unknown flag_group (λ fs. record e { flags = fs }) e.flags id.0 (group.drop thread) none))
   from_flags id (Some f) here =
-      subst (λ (x : Elements). Dropped e (Flags id) thread x) (sym (ap (if_done e) (nth-done flag_group (λ fs. record e { flags = fs }) e.flags id.0 (group.drop thread) f (flags.drop_waiter thread f) Done here refl)))
+      dropped_as (Flags id) [] (record e { flags = slice_set e.flags id.0 (flags.drop_waiter thread f) })
+      (ap (λ (o : Option FlagGroup). option_map_or (λ (g : FlagGroup). flag_wakes g (group.drop thread)) o []) here)
+      (ap (if_done e) (nth-done flag_group (λ fs. record e { flags = fs }) e.flags id.0 (group.drop thread) f (flags.drop_waiter thread f) Done here refl))
       (record {
         sound = flags_sound e id.0 f (flags.drop_waiter thread f) here h (flag_queues.drop_sound thread f (h.flags id.0 f here));
         drops = flags_drop e id.0 f (flags.drop_waiter thread f) here thread (flag_queues.drop_drops thread f);
       })
 
-  pub drop_goes : (on : Awaited) → Dropped e on thread (dropped_from on)
+  -- of a cross-buffer, from either queue of a way
+  from_xbuf : (id : XbufId) (queue : queues.Queue) (way : Way) → ((x : Xbuf) (here : slice_get e.xbufs id.0 ≡ Some x) → Drops e (of_xbuf id.0 queue) thread (xbuf_wakes x (through.drop thread way)) (record e { xbufs = slice_set e.xbufs id.0 (xbufs.drop_waiter thread way x).1 }))
+      → ((none : slice_get e.xbufs id.0 ≡ None) → stands_for e (of_xbuf id.0 queue) thread ≡ false)
+      → (o : Option Xbuf) → slice_get e.xbufs id.0 ≡ o
+      → Dropped e (of_xbuf id.0 queue) thread (wakes e (on_xbuf id.0 (through.drop thread way))) (if_done e (element e (on_xbuf id.0 (through.drop thread way))))
+  from_xbuf id queue way drops nobody None none =
+      let same = ap (if_done e) (nth-unknown cross_buffer (λ xs. record e { xbufs = xs }) e.xbufs id.0 (through.drop thread way) none) in
+      let woken : wakes e (on_xbuf id.0 (through.drop thread way)) ≡ [] = ap (λ (o : Option Xbuf). option_map_or (λ (x : Xbuf). xbuf_wakes x (through.drop thread way)) o []) none in
+      subst (λ (z : Elements). Dropped e (of_xbuf id.0 queue) thread (wakes e (on_xbuf id.0 (through.drop thread way))) z) (sym same)
+      (subst (λ (ws : List (ℕ × Reply)). Dropped e (of_xbuf id.0 queue) thread ws e) (sym woken)
+      (record { sound = h; drops = record { gone = nobody none; left = λ t is. absurd (false≢true is); same = λ other t ne is. refl; old = λ other t is. is } }))
+  from_xbuf id queue way drops nobody (Some x) here =
+      let same = ap (if_done e) (nth-done cross_buffer (λ xs. record e { xbufs = xs }) e.xbufs id.0 (through.drop thread way) x (xbufs.drop_waiter thread way x).1 Done here refl) in
+      let woken : wakes e (on_xbuf id.0 (through.drop thread way)) ≡ xbuf_wakes x (through.drop thread way) = ap (λ (o : Option Xbuf). option_map_or (λ (v : Xbuf). xbuf_wakes v (through.drop thread way)) o []) here in
+      subst (λ (z : Elements). Dropped e (of_xbuf id.0 queue) thread (wakes e (on_xbuf id.0 (through.drop thread way))) z) (sym same)
+      (subst (λ (ws : List (ℕ × Reply)). Dropped e (of_xbuf id.0 queue) thread ws (record e { xbufs = slice_set e.xbufs id.0 (xbufs.drop_waiter thread way x).1 })) (sym woken)
+      (record {
+        sound = xbufs_sound e id.0 x (xbufs.drop_waiter thread way x).1 here h (queues.drop_left x (h.xbufs id.0 x here) thread way).sound;
+        drops = drops x here;
+      }))
+
+  pub drop_goes : (on : Awaited) → Dropped e on thread (woken_by on) (dropped_from on)
   drop_goes (Sem id) = from_sem id (slice_get e.sems id.0) refl
   drop_goes (Flags id) = from_flags id (slice_get e.flags id.0) refl
-
--- a waiter that leaves wakes nobody
-pub drop_wakes : (e : Elements) (thread : ℕ) (on : Awaited) → wakes e (drop_step thread on) ≡ []
-drop_wakes e thread (Sem id) = by (slice_get e.sems id.0)
-  where
-    by : (o : Option Semaphore) → option_map_or (λ (q : Semaphore). sem_wakes q (semaphore.drop thread)) o [] ≡ []
-    by None = refl
-    by (Some q) = refl
-drop_wakes e thread (Flags id) = by (slice_get e.flags id.0)
-  where
-    by : (o : Option FlagGroup) → option_map_or (λ (f : FlagGroup). flag_wakes f (group.drop thread)) o [] ≡ []
-    by None = refl
-    by (Some f) = refl
-
--- nor does one that comes
-pub begin_wakes : (e : Elements) (thread rank : ℕ) (wants : Wanted) → wakes e (step_of_waiter thread rank wants) ≡ []
-begin_wakes e thread rank (wanted.Sem id) = by (slice_get e.sems id.0)
-  where
-    by : (o : Option Semaphore) → option_map_or (λ (q : Semaphore). sem_wakes q (semaphore.begin (record { thread = thread; rank = rank }))) o [] ≡ []
-    by None = refl
-    by (Some q) = refl
-begin_wakes e thread rank (wanted.Flags id kind) = by (slice_get e.flags id.0)
-  where
-    by : (o : Option FlagGroup) → option_map_or (λ (f : FlagGroup). flag_wakes f (group.begin (record { thread = thread; rank = rank; kind = kind }))) o [] ≡ []
-    by None = refl
-    by (Some f) = refl
+  drop_goes (Writing id way) = from_xbuf id (queues.writing way) way
+      (λ x here. writer_drops e id.0 x (xbufs.drop_waiter thread way x).1 here way thread (xbuf_wakes x (through.drop thread way)) (queues.drop_left x (h.xbufs id.0 x here) thread way))
+      (λ none. ap (λ (o : Option Xbuf). option_map_or (λ (x : Xbuf). in_writers way x thread) o false) none) (slice_get e.xbufs id.0) refl
+  drop_goes (Reading id way) = from_xbuf id (queues.reading way) way
+      (λ x here. reader_drops e id.0 x (xbufs.drop_waiter thread way x).1 here way thread (xbuf_wakes x (through.drop thread way)) (queues.drop_left x (h.xbufs id.0 x here) thread way))
+      (λ none. ap (λ (o : Option Xbuf). option_map_or (λ (x : Xbuf). in_readers way x thread) o false) none) (slice_get e.xbufs id.0) refl
 
 -- a get and a take wake nobody
 pub get_wakes : (e : Elements) (n : ℕ) → wakes e (on_sem n semaphore.get) ≡ []

@@ -9,7 +9,7 @@ use Rattle.evl_sync.specs.Semaphores.{Semaphore, IsSoundSemaphore}
 use Rattle.evl_sync.specs.FlagGroups.{FlagGroup, IsSoundGroup}
 use Rattle.evl_sync.proofs.QueueLaws.{stands-enqueued}
 use Rattle.evl_kernel.specs.declared.waits.Awaited.{Awaited}
-use Rattle.evl_kernel.specs.declared.waits.Awaited.TheVariants.{Sem, Flags}
+use Rattle.evl_kernel.specs.declared.waits.Awaited.TheVariants.{Sem, Flags, Writing, Reading}
 use Rattle.evl_kernel.specs.States.{Elements}
 use Rattle.evl_kernel.specs.Standing.{AreSound, in_flags, in_sem, is_served, stands_at, stands_for}
 use Rattle.evl_kernel.proofs.SetLaws.{set_here, set_there}
@@ -77,10 +77,11 @@ pub record Comes (e : Elements) (on : Awaited) (thread : ℕ) (after : Elements)
   pub alone : (other : Awaited) → stands_for after other thread ≡ true → (on ≡ other) ⊎ (stands_for e other thread ≡ true)
   pub same : (other : Awaited) (t : ℕ) → (t == thread) ≡ false → stands_for after other t ≡ stands_for e other t
 
--- this thread leaves this queue, and all others stand as before
-pub record Drops (e : Elements) (on : Awaited) (thread : ℕ) (after : Elements) : Type 0 where
+-- this thread leaves this queue, by which these are let go, and all others stand as before
+pub record Drops (e : Elements) (on : Awaited) (thread : ℕ) (served : List (ℕ × Reply)) (after : Elements) : Type 0 where
   pub gone : stands_for after on thread ≡ false
-  pub same : (other : Awaited) (t : ℕ) → (t == thread) ≡ false → stands_for after other t ≡ stands_for e other t
+  pub left : (t : ℕ) → is_served t served ≡ true → Gone e t after
+  pub same : (other : Awaited) (t : ℕ) → (t == thread) ≡ false → is_served t served ≡ false → stands_for after other t ≡ stands_for e other t
   pub old : (other : Awaited) (t : ℕ) → stands_for after other t ≡ true → stands_for e other t ≡ true
 
 -- of one queue
@@ -158,10 +159,11 @@ module _ {X : Type 0} (has : X → ℕ → Bool) (xs : List X) (n : ℕ) (q p : 
               (before_is m thread ∙ (sym (at_other has xs n q p here m thread ne) ∙ (sym (after_is m thread) ∙ (ap (λ (x : Awaited). stands_for after x thread) (sym of_m) ∙ is)))))
       alone other is (inr others) = inr (sym (others thread) ∙ is)
 
-  pub drops : (thread : ℕ) → OneDrops (has q) (has p) thread → Drops e (of n) thread after
+  pub drops : (thread : ℕ) → OneDrops (has q) (has p) thread → Drops e (of n) thread [] after
   drops thread one = record {
     gone = after_is n thread ∙ (at_it has xs n q p here thread ∙ one.gone);
-    same = λ other t ne. same_for t (one.same t ne) other;
+    left = λ t is. absurd (false≢true is);
+    same = λ other t ne nobody. same_for t (one.same t ne) other;
     old = λ other t. old_for t (drops_old (has q) (has p) thread one t) other;
   }
 
@@ -180,9 +182,11 @@ module _ (e : Elements) (n : ℕ) (q p : Semaphore) (here : slice_get e.sems n �
   sem_or : (on : Awaited) → ((m : ℕ) × (on ≡ of_sem m)) ⊎ ((t : ℕ) → stands_for sem_set on t ≡ stands_for e on t)
   sem_or (Sem id) = inl (id.0, refl)
   sem_or (Flags id) = inr (λ t. refl)
+  sem_or (Writing id way) = inr (λ t. refl)
+  sem_or (Reading id way) = inr (λ t. refl)
 
   pub sems_sound : AreSound e → IsSoundSemaphore p → AreSound sem_set
-  sems_sound h sound = record { sems = all_at in_sem e.sems n q p here IsSoundSemaphore h.sems sound; flags = h.flags }
+  sems_sound h sound = record { sems = all_at in_sem e.sems n q p here IsSoundSemaphore h.sems sound; flags = h.flags; xbufs = h.xbufs }
 
   pub sem_goes : (served : List (ℕ × Reply)) → OneGoes (in_sem q) (in_sem p) served → LetsGo e served sem_set
   sem_goes served one = goes in_sem e.sems n q p here of_sem e sem_set (λ m t. refl) (λ m t. refl) sem_or served one
@@ -190,7 +194,7 @@ module _ (e : Elements) (n : ℕ) (q p : Semaphore) (here : slice_get e.sems n �
   pub sem_comes : (thread : ℕ) → OneComes (in_sem q) (in_sem p) thread → Comes e (of_sem n) thread sem_set
   sem_comes thread one = comes in_sem e.sems n q p here of_sem e sem_set (λ m t. refl) (λ m t. refl) sem_or thread one
 
-  pub sem_drops : (thread : ℕ) → OneDrops (in_sem q) (in_sem p) thread → Drops e (of_sem n) thread sem_set
+  pub sem_drops : (thread : ℕ) → OneDrops (in_sem q) (in_sem p) thread → Drops e (of_sem n) thread [] sem_set
   sem_drops thread one = drops in_sem e.sems n q p here of_sem e sem_set (λ m t. refl) (λ m t. refl) sem_or thread one
 
 -- a flag group changes
@@ -204,9 +208,11 @@ module _ (e : Elements) (n : ℕ) (q p : FlagGroup) (here : slice_get e.flags n 
   flags_or : (on : Awaited) → ((m : ℕ) × (on ≡ of_flags m)) ⊎ ((t : ℕ) → stands_for flags_set on t ≡ stands_for e on t)
   flags_or (Sem id) = inr (λ t. refl)
   flags_or (Flags id) = inl (id.0, refl)
+  flags_or (Writing id way) = inr (λ t. refl)
+  flags_or (Reading id way) = inr (λ t. refl)
 
   pub flags_sound : AreSound e → IsSoundGroup p → AreSound flags_set
-  flags_sound h sound = record { sems = h.sems; flags = all_at in_flags e.flags n q p here IsSoundGroup h.flags sound }
+  flags_sound h sound = record { sems = h.sems; flags = all_at in_flags e.flags n q p here IsSoundGroup h.flags sound; xbufs = h.xbufs }
 
   pub flags_go : (served : List (ℕ × Reply)) → OneGoes (in_flags q) (in_flags p) served → LetsGo e served flags_set
   flags_go served one = goes in_flags e.flags n q p here of_flags e flags_set (λ m t. refl) (λ m t. refl) flags_or served one
@@ -214,7 +220,7 @@ module _ (e : Elements) (n : ℕ) (q p : FlagGroup) (here : slice_get e.flags n 
   pub flags_come : (thread : ℕ) → OneComes (in_flags q) (in_flags p) thread → Comes e (of_flags n) thread flags_set
   flags_come thread one = comes in_flags e.flags n q p here of_flags e flags_set (λ m t. refl) (λ m t. refl) flags_or thread one
 
-  pub flags_drop : (thread : ℕ) → OneDrops (in_flags q) (in_flags p) thread → Drops e (of_flags n) thread flags_set
+  pub flags_drop : (thread : ℕ) → OneDrops (in_flags q) (in_flags p) thread → Drops e (of_flags n) thread [] flags_set
   flags_drop thread one = drops in_flags e.flags n q p here of_flags e flags_set (λ m t. refl) (λ m t. refl) flags_or thread one
 
 -- where the queue stays as it is, nobody goes
@@ -233,7 +239,7 @@ module _ {A : Type 0} (thread rank : A → ℕ) (ws : List A) where
       stood t = ap (stands_in thread t) is ∙ stands-enqueued thread rank w ws t
 
 module _ {A : Type 0} (thread : A → ℕ) where
-  dropped_gone : (t : ℕ) (ws : List A) → stands_in thread t (dropped thread t ws) ≡ false
+  pub dropped_gone : (t : ℕ) (ws : List A) → stands_in thread t (dropped thread t ws) ≡ false
   dropped_gone t [] = refl
   dropped_gone t (w ∷ ws) = by (thread w == t) refl (dropped_gone t ws)
     where
@@ -241,7 +247,7 @@ module _ {A : Type 0} (thread : A → ℕ) where
       by true is rest = rest
       by false is rest = ap (λ (c : Bool). c || stands_in thread t (dropped thread t ws)) is ∙ rest
 
-  dropped_stays : (gone t : ℕ) → (t == gone) ≡ false → (ws : List A) → stands_in thread t (dropped thread gone ws) ≡ stands_in thread t ws
+  pub dropped_stays : (gone t : ℕ) → (t == gone) ≡ false → (ws : List A) → stands_in thread t (dropped thread gone ws) ≡ stands_in thread t ws
   dropped_stays gone t ne [] = refl
   dropped_stays gone t ne (w ∷ ws) = by (thread w == gone) refl (dropped_stays gone t ne ws)
     where

@@ -28,17 +28,19 @@ use Rattle.evl_kernel.specs.LineCalls as line_call
 use Rattle.evl_kernel.specs.ThreadCalls as thread_call
 use Rattle.evl_kernel.specs.Beginnings.{beginning}
 use Rattle.evl_kernel.specs.Endings.{finish}
-use Rattle.evl_kernel.specs.Families.{LineStep, request, free, arrive, post, stall, unstall, line_effect, ThreadStep, thread_effect, Task, on_lines, on_clock, on_threads, on_element, begins, ends, performing, task_of}
+use Rattle.evl_sched.specs.Threads.{stage_of}
+use Rattle.evl_kernel.specs.Families.{LineStep, request, free, arrive, post, stall, unstall, line_effect, ThreadStep, thread_effect, Task, on_lines, on_clock, on_threads, on_element, on_staged, begins, ends, performing, task_of}
 use Rattle.evl_kernel.specs.Serving.{general_refusal, answer}
 use Rattle.evl_kernel.specs.Settling.{Settling, next_play, acted, all_acted, answered, deadline_left, given, item_played, played, line_played, clock_played, is_clock, after_call, nothing}
 use Rattle.evl_kernel.specs.Histories.{Run, Follows}
 use Rattle.evl_kernel.proofs.DueLaws.{one_played, item_due}
-use Rattle.evl_kernel.proofs.QueueLaws.{IsAsked, asks_get, asks_put, asks_peek, asks_take, asks_post, asks_bits}
+use Rattle.evl_kernel.proofs.QueueLaws.{IsAsked, asks_get, asks_put, asks_peek, asks_take, asks_post, asks_bits, asks_write, asks_read, asks_room}
 use Rattle.evl_kernel.proofs.LeavesLaws.{Leaves, leaves-refused, leaves-unless, leaves-known, leaves-if_done}
 use Rattle.evl_kernel.proofs.ClockSteps.{KeptByClock, leaves-clock, leaves-stop, leaves-item}
 
 abbrev AsksPlainly : Task → Type 0
 AsksPlainly (on_element step) = IsAsked step
+AsksPlainly (on_staged step_from) = (stage : Stage) → IsAsked (step_from stage)
 AsksPlainly _ = Unit {0}
 
 asks : (asked : Call) → AsksPlainly (task_of asked)
@@ -48,6 +50,9 @@ asks (call.Peek sem) = asks_peek sem.0
 asks (call.TryTake flags kind) = asks_take flags.0 kind
 asks (call.PostFlags flags bits) = asks_post flags.0 bits
 asks (call.PeekFlags flags) = asks_bits flags.0
+asks (call.Write xbuf way bytes) = λ stage. asks_write xbuf.0 stage way bytes.items
+asks (call.Read xbuf way len) = λ stage. asks_read xbuf.0 stage way len
+asks (call.Room xbuf way) = asks_room xbuf.0 way
 asks _ = tt
 
 -- each kind of change keeps this
@@ -110,6 +115,7 @@ module _ (P : State → Type 0) (k : KeptByEach P) where
       by (on_clock step) is plain passed = leaves-clock P kept_by_clock s step h
       by (on_threads step) is plain passed = own.threads step is passed h
       by (on_element step) is plain passed = k.asked s (Some caller) step plain h
+      by (on_staged step_from) is plain passed = k.asked s (Some caller) (step_from (stage_of s.sched caller)) (plain (stage_of s.sched caller)) h
       by (begins wants until) is plain passed = own.begun wants until is passed h
       by (ends keep) is plain passed = own.ended keep h
 

@@ -1,42 +1,52 @@
 -- The waits of the records: whoever stands in a queue waits for that, after each step of an element.
-use Rattle.std.proofs.Common.{◌≡◌, ◌≢◌, ◌<◌, ℕ, zero, suc, ◌==◌, ◌⊎◌, inl, inr, Bool, true, false, ◌||◌, List, [], ◌∷◌, length, Option, Some, None, Ok, Err, slice_set, slice_index_or, if◌then◌else◌, refl, sym, ap, ◌∙◌, subst, arith}
-use Rattle.std.specs.Option.{option_map}
+use Rattle.std.proofs.Common.{◌≡◌, ◌≢◌, ◌<◌, ℕ, zero, suc, ◌==◌, ◌⊎◌, inl, inr, Bool, true, false, ◌||◌, List, [], ◌∷◌, length, Option, Some, None, Ok, Err, slice_get, slice_set, slice_index_or, if◌then◌else◌, refl, sym, ap, ◌∙◌, subst, arith}
+use Rattle.std.specs.Option.{option_map, option_map_or}
 use Rattle.std.proofs.lemmas.Bool.{false≢true}
 use Rattle.std.proofs.lemmas.Bool.Decides.{nat_tests}
 use Rattle.std.proofs.lemmas.List.{length-set}
 use Rattle.evl_base.specs.declared.refusal.Refusal.{Refusal}
-use Rattle.evl_base.specs.declared.refusal.Refusal.TheVariants.{Unknown, WrongStage}
+use Rattle.evl_base.specs.declared.refusal.Refusal.TheVariants.{Unknown}
 use Rattle.evl_base.specs.declared.reply.Reply.{Reply}
 use Rattle.evl_base.specs.declared.reply.Reply.TheVariants.{Begun, TimedOut}
 use Rattle.evl_base.specs.declared.stage.Stage.{Stage}
-use Rattle.evl_base.specs.declared.stage.Stage.TheVariants.{Oob}
+use Rattle.evl_base.specs.declared.stage.Stage.TheVariants.{Inband, Oob}
 use Rattle.evl_sched.specs.Calls as calls
 use Rattle.evl_sched.specs.Calls.{stranger_refusal}
 use Rattle.evl_sched.specs.Ranks as ranks
 use Rattle.evl_sched.specs.Ranks.{IsUnboosted, Ranked}
-use Rattle.evl_sched.specs.Threads.{is_oob, refused_first, stage_of}
+use Rattle.evl_sched.specs.Threads.{refused_first, stage_of}
 use Rattle.evl_sched.proofs.UnboostedLaws.{rank-base}
 use Rattle.evl_kernel.specs.declared.waits.Awaited.{Awaited}
+use Rattle.evl_kernel.specs.declared.waits.Awaited.TheVariants.{Sem, Flags, Writing, Reading}
 use Rattle.evl_kernel.specs.declared.waits.Wait.{Wait}
 use Rattle.evl_kernel.specs.declared.waits.Wanted.{Wanted}
 use Rattle.evl_kernel.specs.States.{State, Elements}
-use Rattle.evl_kernel.specs.Effects.{Answered, if_done, lifted, refused_by}
+use Rattle.evl_kernel.specs.Effects.{Answered, if_done, known, lifted, refused_by}
+use Rattle.evl_kernel.specs.Semaphores as sem_step
+use Rattle.evl_kernel.specs.Semaphores.{semaphore, sem_wakes}
+use Rattle.evl_kernel.specs.FlagGroups as flag_step
+use Rattle.evl_kernel.specs.FlagGroups.{flag_group, flag_wakes}
+use Rattle.evl_kernel.specs.CrossBuffers as through
+use Rattle.evl_kernel.specs.CrossBuffers.{cross_buffer, xbuf_wakes}
+use Rattle.evl_sync.specs.Semaphores.{Semaphore}
+use Rattle.evl_sync.specs.FlagGroups.{FlagGroup}
+use Rattle.evl_xbuf.specs.Xbufs.{Xbuf, stage_refusal}
 use Rattle.evl_kernel.specs.Elements.{ElementStep, element, elements, serves, stepping, stepping_to, touched, wakes, with_elements}
-use Rattle.evl_kernel.specs.Beginnings.{awaited, begin_refusal, begin_step, beginning, form_refusal, is_there, step_of_waiter, waiter_refusal}
-use Rattle.evl_kernel.specs.Endings.{drop_step, leaving_queue}
+use Rattle.evl_kernel.specs.Beginnings.{awaited, begin_refusal, begin_step, beginning, form_refusal, is_there, range_refusal, size_refusal, stage_wanted, step_of_waiter, waiter_refusal}
+use Rattle.evl_kernel.specs.Endings.{drop_step, leaving_queue, left_by, served_by_leaving}
 use Rattle.evl_kernel.specs.Settling.{deadline_left}
 use Rattle.evl_kernel.specs.ThreadCalls.{rank_of}
 use Rattle.evl_kernel.specs.Standing.{is_served, stands_for}
 use Rattle.evl_kernel.specs.Waits.{wait_at, wait_of, going_on, begun, woken, all_woken}
 use Rattle.evl_kernel.specs.Records.{RecordsView, IsSound, KeepsCallbacks, WaitsAreKept, state_of}
-use Rattle.evl_kernel.proofs.ElementSteps.{none_some, some_is, stepping-done, stepping-refused}
+use Rattle.evl_kernel.proofs.ElementSteps.{none_some, ok_err, some_is, stepping-done, stepping-refused}
 use Rattle.evl_kernel.proofs.QueueSteps.{Comes}
-use Rattle.evl_kernel.proofs.QueueLaws.{Begins, Dropped, IsAsked, Stepped, asked_goes, begin_goes, begin_wakes, drop_wakes}
+use Rattle.evl_kernel.proofs.QueueLaws.{Begins, Dropped, IsAsked, Stepped, asked_goes, begin_goes}
 
 same_number : (m n : ℕ) → (m == n) ≡ true → m ≡ n
 same_number m n e = grind (arith, nat_tests)
 
-is_number : (m n : ℕ) → m ≡ n → (m == n) ≡ true
+pub is_number : (m n : ℕ) → m ≡ n → (m == n) ≡ true
 is_number m n e = grind (arith, nat_tests)
 
 swapped : (m n : ℕ) → (m == n) ≡ false → (n == m) ≡ false
@@ -148,7 +158,7 @@ module _ (threads : ℕ) (e : Elements) (waits : List (Option Wait)) (kept : Wai
         by other t stands false ne = index_there waits thread t _ None (swapped t thread ne) ∙ kept.going other t (sym (comes.same other t ne) ∙ stands)
 
   -- a thread leaves the queue in which it waits
-  module _ (thread : ℕ) (on : Awaited) (after : Elements) (dropped : Dropped e on thread after) where
+  module _ (thread : ℕ) (on : Awaited) (served : List (ℕ × Reply)) (after : Elements) (dropped : Dropped e on thread served after) where
     pub dropped_kept : WaitsAreKept threads after waits
     dropped_kept = record { few = kept.few; sound = dropped.sound; places = kept.places; going = λ other t stands. kept.going other t (dropped.drops.old other t stands) }
 
@@ -160,6 +170,17 @@ module _ (threads : ℕ) (e : Elements) (waits : List (Option Wait)) (kept : Wai
         by true stands =
             let same : on ≡ other = some_is (its ∙ ap (option_map (λ (w : Wait). w.on)) (kept.going other thread (dropped.drops.old other thread stands))) in
             sym stands ∙ (ap (λ (x : Awaited). stands_for after x thread) (sym same) ∙ dropped.drops.gone)
+
+    -- whoever is served by that stands nowhere then
+    pub dropped_apart : (t : ℕ) → is_served t served ≡ true → (other : Awaited) → stands_for after other t ≡ false
+    dropped_apart t is other = by (stands_for after other t) refl
+      where
+        by : (b : Bool) → stands_for after other t ≡ b → b ≡ false
+        by false stands = refl
+        by true stands =
+            let left = dropped.drops.left t is in
+            let same = one_queue t left.on other left.stood (dropped.drops.old other t stands) in
+            sym stands ∙ (ap (λ (x : Awaited). stands_for after x t) (sym same) ∙ left.gone)
 
 -- who is ready, and who waits, has nothing to do with callbacks
 module _ {C : Type 0} (r : RecordsView C) where
@@ -174,11 +195,15 @@ module _ {C : Type 0} (r : RecordsView C) where
 
   -- what a thread that may begin a wait has
   pub may_begin_is : IsUnboosted r.sched → (thread rank : ℕ) (wants : Wanted) → stranger_refusal r.sched.sched thread ≡ None → rank ≡ ranks.rank_of r.sched thread → form_refusal wants ≡ None
-      → Oob ≡ stage_of r.sched.sched thread → (waiter_refusal (state_of r) thread wants ≡ None) × (rank ≡ rank_of (state_of r) thread)
-  may_begin_is base thread rank wants passed is form oob = (
-    rw (passed, form) (ap (λ (v : Stage). if is_oob v then None else Some WrongStage) (sym oob)),
+      → stage_of r.sched.sched thread ≡ stage_wanted wants → (waiter_refusal (state_of r) thread wants ≡ None) × (rank ≡ rank_of (state_of r) thread)
+  may_begin_is base thread rank wants passed is form same = (
+    rw (passed, form) (ap (stage_refusal (stage_wanted wants)) same ∙ own (stage_wanted wants)),
     is ∙ rank-base r.sched base thread,
   )
+    where
+      own : (stage : Stage) → stage_refusal stage stage ≡ None
+      own Inband = refl
+      own Oob = refl
 
 -- the elements change, and nothing else of the records
 module _ {C : Type 0} (r : RecordsView C) (h : IsSound r) where
@@ -231,48 +256,91 @@ module _ {C : Type 0} (r : RecordsView C) (h : IsSound r) (thread rank : ℕ) (w
   sound_waiting nothing waits is =
       sound_with r h after waits (kept_waiting r.threads r.elements r.waits h.waits thread (awaited wants) _ _ after begins none nothing there waits is)
 
-  module _ (has : is_there r.elements (awaited wants) ≡ true) (may : waiter_refusal (state_of r) thread wants ≡ None) (its : rank ≡ rank_of (state_of r) thread) where
-    pub begin_is : (outcome : Option Reply) → serves r.elements (step_of_waiter thread rank wants) ≡ outcome
-        → (beginning (state_of r) thread wants until).effect ≡ Ok (Begun, begun (with_elements (state_of r) after) thread (awaited wants) until outcome)
-    begin_is outcome served =
+  -- whoever is served as the wait begins stands nowhere then
+  pub begin_freed : (outcome : Reply) → serves r.elements (step_of_waiter thread rank wants) ≡ Some outcome → (t : ℕ) → is_served t (wakes r.elements (step_of_waiter thread rank wants)) ≡ true
+      → (on : Awaited) → stands_for after on t ≡ false
+  begin_freed outcome served t is on =
+      away_after r.threads r.elements r.waits h.waits (wakes r.elements (step_of_waiter thread rank wants)) after (record { sound = begins.sound; goes = begins.at_once outcome served }) t is on
+
+  module _ (may : begin_refusal (state_of r) thread wants ≡ None) (its : rank ≡ rank_of (state_of r) thread) where
+    pub begin_is : (outcome : Option Reply) → serves r.elements (step_of_waiter thread rank wants) ≡ outcome → (others : List (ℕ × Reply)) → wakes r.elements (step_of_waiter thread rank wants) ≡ others
+        → (beginning (state_of r) thread wants until).effect ≡ Ok (Begun, all_woken (begun (with_elements (state_of r) after) thread (awaited wants) until outcome) others)
+    begin_is outcome served others ends =
         let s = state_of r in
         let step = begin_step s thread wants in
         let same : step_of_waiter thread rank wants ≡ step = ap (λ (m : ℕ). step_of_waiter thread m wants) its in
         let f = λ (x : State). begun x thread (awaited wants) until (serves (elements s) step) in
-        let passed : begin_refusal s thread wants ≡ None = ap (λ (b : Bool). refused_first (if b then None else Some Unknown) (waiter_refusal s thread wants)) has ∙ may in
         let made_so : element (elements s) step ≡ Ok (Begun, after) = ap (element r.elements) (sym same) ∙ made in
         let told : serves (elements s) step ≡ outcome = ap (serves r.elements) (sym same) ∙ served in
-        ap (λ (o : Option Refusal). refused_by o (stepping_to f s step)) passed
+        let woken_so : wakes (elements s) step ≡ others = ap (wakes r.elements) (sym same) ∙ ends in
+        ap (λ (o : Option Refusal). refused_by o (stepping_to f s step)) may
         ∙ (stepping-done f s step Begun after made_so
-        ∙ (ap (λ (ws : List (ℕ × Reply)). Ok (Begun, all_woken (f (with_elements s after)) ws)) (begin_wakes (elements s) thread (rank_of s thread) wants)
-        ∙ ap (λ (o : Option Reply). Ok (Begun, begun (with_elements s after) thread (awaited wants) until o)) told))
+        ∙ (λ i. Ok (Begun, all_woken (begun (with_elements s after) thread (awaited wants) until (told i)) (woken_so i))))
 
--- a thread leaves the queue in which it waits
-pub left_as : (s : State) (thread : ℕ) (on : Awaited) (o : Option Wait) → Some on ≡ option_map (λ (w : Wait). w.on) o
-    → with_elements s (if_done (elements s) (element (elements s) (drop_step thread on))) ≡ if_done s (leaving_queue s thread o).effect
-left_as s thread on None its = absurd (none_some (sym its))
-left_as s thread on (Some w) its = subst (λ (x : Awaited). with_elements s (if_done (elements s) (element (elements s) (drop_step thread x))) ≡ if_done s (touched s None (drop_step thread w.on)).effect) (sym (some_is its)) (by (element (elements s) (drop_step thread w.on)))
+-- a beginning that nothing refuses is of an element that is there
+pub there_to_begin : (s : State) (thread : ℕ) (wants : Wanted) → begin_refusal s thread wants ≡ None → is_there (elements s) (awaited wants) ≡ true
+there_to_begin s thread wants = by (is_there (elements s) (awaited wants))
   where
-    by : (a : Answered Elements) → with_elements s (if_done (elements s) a) ≡ if_done s (lifted (λ e. all_woken (with_elements s e) (wakes (elements s) (drop_step thread w.on))) a)
-    by (Ok (reply, after)) = sym (ap (all_woken (with_elements s after)) (drop_wakes (elements s) thread w.on))
-    by (Err refusal) = refl
+    by : (b : Bool) → refused_first (if b then None else Some Unknown) (refused_first (range_refusal wants) (refused_first (waiter_refusal s thread wants) (size_refusal (elements s) wants))) ≡ None → b ≡ true
+    by true none = refl
+    by false none = absurd (none_some (sym none))
 
--- it may leave first, and its wait end then
-pub left_first : (s : State) (thread : ℕ) → woken (if_done s (leaving_queue s thread (wait_at s thread)).effect) thread TimedOut ≡ (deadline_left s thread).1
-left_first s thread = by (wait_at s thread)
+-- a beginning that none of these refuses
+pub may_begin_all : (s : State) (thread : ℕ) (wants : Wanted) → is_there (elements s) (awaited wants) ≡ true → range_refusal wants ≡ None → waiter_refusal s thread wants ≡ None
+    → size_refusal (elements s) wants ≡ None → begin_refusal s thread wants ≡ None
+may_begin_all s thread wants has range may size = rw (has, range, may) size
+
+-- a waiter that leaves an element that there isn't wakes nobody
+nobody_woken : (e : Elements) (thread : ℕ) (on : Awaited) (refusal : Refusal) → element e (drop_step thread on) ≡ Err refusal → wakes e (drop_step thread on) ≡ []
+nobody_woken e thread (Sem id) refusal = by (slice_get e.sems id.0)
   where
-    of : (on : Awaited) (a : Answered Elements)
-        → woken (if_done s (lifted (λ e. all_woken (with_elements s e) []) a)) thread TimedOut ≡ if_done (woken s thread TimedOut) (lifted (λ e. all_woken (with_elements (woken s thread TimedOut) e) []) a)
-    of on (Ok (reply, after)) = refl
-    of on (Err refusal) = refl
+    by : (o : Option Semaphore) → known o (λ q. lifted (λ left. record e { sems = slice_set e.sems id.0 left }) (semaphore q (sem_step.drop thread))) ≡ Err refusal
+        → option_map_or (λ q. sem_wakes q (sem_step.drop thread)) o [] ≡ []
+    by None is = refl
+    by (Some q) is = refl
+nobody_woken e thread (Flags id) refusal = by (slice_get e.flags id.0)
+  where
+    by : (o : Option FlagGroup) → known o (λ f. lifted (λ left. record e { flags = slice_set e.flags id.0 left }) (flag_group f (flag_step.drop thread))) ≡ Err refusal
+        → option_map_or (λ f. flag_wakes f (flag_step.drop thread)) o [] ≡ []
+    by None is = refl
+    by (Some f) is = refl
+nobody_woken e thread (Writing id way) refusal = by (slice_get e.xbufs id.0)
+  where
+    by : (o : Option Xbuf) → known o (λ x. lifted (λ left. record e { xbufs = slice_set e.xbufs id.0 left }) (cross_buffer x (through.drop thread way))) ≡ Err refusal
+        → option_map_or (λ x. xbuf_wakes x (through.drop thread way)) o [] ≡ []
+    by None is = refl
+    by (Some x) is = absurd (ok_err is)
+nobody_woken e thread (Reading id way) refusal = by (slice_get e.xbufs id.0)
+  where
+    by : (o : Option Xbuf) → known o (λ x. lifted (λ left. record e { xbufs = slice_set e.xbufs id.0 left }) (cross_buffer x (through.drop thread way))) ≡ Err refusal
+        → option_map_or (λ x. xbuf_wakes x (through.drop thread way)) o [] ≡ []
+    by None is = refl
+    by (Some x) is = absurd (ok_err is)
 
-    by : (o : Option Wait) → woken (if_done s (leaving_queue s thread o).effect) thread TimedOut ≡ if_done (woken s thread TimedOut) (leaving_queue (woken s thread TimedOut) thread o).effect
+-- a thread may leave its queue first, its wait end then, and last those of whom that serves
+expired_as : (s : State) (thread : ℕ)
+    → all_woken (woken (with_elements s (left_by (elements s) thread (wait_at s thread))) thread TimedOut) (served_by_leaving (elements s) thread (wait_at s thread)) ≡ (deadline_left s thread).1
+expired_as s thread = by (wait_at s thread)
+  where
+    by : (o : Option Wait) → all_woken (woken (with_elements s (left_by (elements s) thread o)) thread TimedOut) (served_by_leaving (elements s) thread o)
+        ≡ if_done (woken s thread TimedOut) (leaving_queue (woken s thread TimedOut) thread o).effect
     by None = refl
-    by (Some w) =
-        subst (λ (ws : List (ℕ × Reply)).
-        woken (if_done s (lifted (λ e. all_woken (with_elements s e) ws) (element (elements s) (drop_step thread w.on)))) thread TimedOut
-        ≡ if_done (woken s thread TimedOut) (lifted (λ e. all_woken (with_elements (woken s thread TimedOut) e) ws) (element (elements s) (drop_step thread w.on))))
-        (sym (drop_wakes (elements s) thread w.on)) (of w.on (element (elements s) (drop_step thread w.on)))
+    by (Some w) = of (element (elements s) (drop_step thread w.on)) refl
+      where
+        of : (a : Answered Elements) → element (elements s) (drop_step thread w.on) ≡ a
+            → all_woken (woken (with_elements s (if_done (elements s) a)) thread TimedOut) (wakes (elements s) (drop_step thread w.on))
+            ≡ if_done (woken s thread TimedOut) (lifted (λ e. all_woken (with_elements (woken s thread TimedOut) e) (wakes (elements s) (drop_step thread w.on))) a)
+        of (Ok (reply, after)) is = refl
+        of (Err refusal) is = ap (all_woken (woken s thread TimedOut)) (nobody_woken (elements s) thread w.on refusal is)
+
+-- step by step
+pub expired_by : (s left woke after : State) (thread : ℕ) (served : List (ℕ × Reply)) → left ≡ with_elements s (left_by (elements s) thread (wait_at s thread))
+    → served_by_leaving (elements s) thread (wait_at s thread) ≡ served → woke ≡ woken left thread TimedOut → after ≡ all_woken woke served → after ≡ (deadline_left s thread).1
+expired_by s left woke after thread served leaves serves ends wakes =
+    let left_is = with_elements s (left_by (elements s) thread (wait_at s thread)) in
+    wakes
+    ∙ (ap (λ (x : State). all_woken x served) (ends ∙ ap (λ (x : State). woken x thread TimedOut) leaves)
+    ∙ (ap (all_woken (woken left_is thread TimedOut)) (sym serves) ∙ expired_as s thread))
 
 -- and neither gives a rank
 pub blocked_unboosted : (q p : Ranked) (thread : ℕ) → p ≡ calls.block q thread → IsUnboosted q → IsUnboosted p

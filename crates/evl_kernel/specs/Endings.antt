@@ -1,5 +1,5 @@
 -- The end of a wait: by its caller, and by its deadline.
-use Rattle.std.specs.Prelude.{ℕ, Bool, false, not, ◌&&◌, Option, Some, None, Result, Ok, Err, if◌then◌else◌}
+use Rattle.std.specs.Prelude.{ℕ, Bool, false, List, [], not, ◌&&◌, Option, Some, None, Result, Ok, Err, if◌then◌else◌}
 use Rattle.std.specs.Option.{option_map_or}
 use Rattle.evl_base.specs.declared.refusal.Refusal.{Refusal}
 use Rattle.evl_base.specs.declared.refusal.Refusal.TheVariants.{Invalid, Again}
@@ -9,13 +9,14 @@ use Rattle.evl_base.specs.declared.stage.Stage.TheVariants.{Inband}
 use Rattle.evl_sched.specs.Policies.{is_weak}
 use Rattle.evl_sched.specs.Threads.{seat_at, stage_set}
 use Rattle.evl_kernel.specs.declared.waits.Awaited.{Awaited}
-use Rattle.evl_kernel.specs.declared.waits.Awaited.TheVariants.{Sem, Flags}
+use Rattle.evl_kernel.specs.declared.waits.Awaited.TheVariants.{Sem, Flags, Writing, Reading}
 use Rattle.evl_kernel.specs.declared.waits.Wait.{Wait}
-use Rattle.evl_kernel.specs.States.{State, with_sched}
-use Rattle.evl_kernel.specs.Effects.{Effect, leaving}
+use Rattle.evl_kernel.specs.States.{State, Elements, with_sched}
+use Rattle.evl_kernel.specs.Effects.{Effect, if_done, leaving}
 use Rattle.evl_kernel.specs.Semaphores as semaphore
 use Rattle.evl_kernel.specs.FlagGroups as group
-use Rattle.evl_kernel.specs.Elements.{ElementStep, on_sem, on_flags, Told, touched, untouched}
+use Rattle.evl_kernel.specs.CrossBuffers as through
+use Rattle.evl_kernel.specs.Elements.{ElementStep, on_sem, on_flags, on_xbuf, element, wakes, Told, touched, untouched}
 use Rattle.evl_kernel.specs.Waits.{wait_at, with_wait, woken}
 
 -- a weak thread goes in-band, where it isn't yet, unless it keeps its stage
@@ -38,6 +39,8 @@ finish s thread keep = leaving (inband_if (goes_inband s thread keep) (with_wait
 abbrev pub drop_step : ℕ → Awaited → ElementStep
 drop_step thread (Sem id) = on_sem id.0 (semaphore.drop thread)
 drop_step thread (Flags id) = on_flags id.0 (group.drop thread)
+drop_step thread (Writing id way) = on_xbuf id.0 (through.drop thread way)
+drop_step thread (Reading id way) = on_xbuf id.0 (through.drop thread way)
 
 -- the thread leaves the queue of this wait
 abbrev pub leaving_queue : State → ℕ → Option Wait → Told
@@ -46,3 +49,10 @@ leaving_queue s thread wait = option_map_or (λ w. touched s None (drop_step thr
 -- A deadline ends its thread's wait as timed out, and the thread leaves the queue in which it waited.
 abbrev pub expiring : State → ℕ → Told
 expiring s thread = leaving_queue (woken s thread TimedOut) thread (wait_at s thread)
+
+-- the elements once the thread has left the queue of this wait, and whose waits that ends
+abbrev pub left_by : Elements → ℕ → Option Wait → Elements
+left_by e thread wait = option_map_or (λ w. if_done e (element e (drop_step thread w.on))) wait e
+
+abbrev pub served_by_leaving : Elements → ℕ → Option Wait → List (ℕ × Reply)
+served_by_leaving e thread wait = option_map_or (λ w. wakes e (drop_step thread w.on)) wait []

@@ -6,8 +6,10 @@ use Rattle.evl_base.specs.declared.reply.Reply.{Reply}
 use Rattle.evl_sync.specs.Queues.{stands_in}
 use Rattle.evl_sync.specs.Semaphores.{Semaphore, IsSoundSemaphore}
 use Rattle.evl_sync.specs.FlagGroups.{FlagGroup, IsSoundGroup}
+use Rattle.evl_base.specs.declared.way.Way.{Way}
+use Rattle.evl_xbuf.specs.Xbufs.{Xbuf, IsSoundXbuf, stream}
 use Rattle.evl_kernel.specs.declared.waits.Awaited.{Awaited}
-use Rattle.evl_kernel.specs.declared.waits.Awaited.TheVariants.{Sem, Flags}
+use Rattle.evl_kernel.specs.declared.waits.Awaited.TheVariants.{Sem, Flags, Writing, Reading}
 use Rattle.evl_kernel.specs.States.{Elements}
 
 abbrev pub in_sem : Semaphore → ℕ → Bool
@@ -15,6 +17,13 @@ in_sem q thread = stands_in (λ w. w.thread) thread q.waiters
 
 abbrev pub in_flags : FlagGroup → ℕ → Bool
 in_flags f thread = stands_in (λ w. w.thread) thread f.waiters
+
+-- to write into a way of a cross-buffer, and to read from it
+abbrev pub in_writers : Way → Xbuf → ℕ → Bool
+in_writers way x thread = stands_in (λ w. w.thread) thread (stream x way).writers
+
+abbrev pub in_readers : Way → Xbuf → ℕ → Bool
+in_readers way x thread = stands_in (λ r. r.thread) thread (stream x way).readers
 
 -- of the n-th of a kind
 abbrev pub stands_at : {X : Type 0} → (X → ℕ → Bool) → List X → ℕ → ℕ → Bool
@@ -24,6 +33,8 @@ stands_at has xs n thread = option_map_or (λ x. has x thread) (slice_get xs n) 
 abbrev pub stands_for : Elements → Awaited → ℕ → Bool
 stands_for e (Sem id) thread = stands_at in_sem e.sems id.0 thread
 stands_for e (Flags id) thread = stands_at in_flags e.flags id.0 thread
+stands_for e (Writing id way) thread = stands_at (in_writers way) e.xbufs id.0 thread
+stands_for e (Reading id way) thread = stands_at (in_readers way) e.xbufs id.0 thread
 
 -- the thread is among those who are served
 abbrev pub is_served : ℕ → List (ℕ × Reply) → Bool
@@ -35,3 +46,5 @@ pub record AreSound (e : Elements) : Type 0 where
   pub sems : (n : ℕ) (q : Semaphore) → slice_get e.sems n ≡ Some q → IsSoundSemaphore q
   -- nobody waits for bits that are there; its queue likewise
   pub flags : (n : ℕ) (f : FlagGroup) → slice_get e.flags n ≡ Some f → IsSoundGroup f
+  -- nobody waits who can be served, and of a way only one queue has anybody
+  pub xbufs : (n : ℕ) (x : Xbuf) → slice_get e.xbufs n ≡ Some x → IsSoundXbuf x

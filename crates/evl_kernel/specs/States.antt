@@ -7,6 +7,7 @@ use Rattle.evl_clock.specs.Clocks.{Clock}
 use Rattle.evl_sched.specs.Threads.{Sched}
 use Rattle.evl_sync.specs.Semaphores.{Semaphore}
 use Rattle.evl_sync.specs.FlagGroups.{FlagGroup}
+use Rattle.evl_xbuf.specs.Xbufs.{Xbuf}
 use Rattle.evl_kernel.specs.declared.waits.Wait.{Wait}
 
 -- what a callback declares, and what it answers
@@ -23,6 +24,7 @@ pub record Banked : Type 0 where
 pub record Elements : Type 0 where
   pub sems : List Semaphore
   pub flags : List FlagGroup
+  pub xbufs : List Xbuf
 
 pub record State : Type 0 where
   -- how many threads the board has

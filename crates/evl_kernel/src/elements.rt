@@ -1,23 +1,30 @@
 //! The elements of a board, by kind and number, and their steps.
-ghost use Rattle.std.specs.Prelude.{◌≡◌, IfErr, IfOk, map};
+ghost use Rattle.std.specs.Prelude.{◌≡◌, IfErr, IfOk, map, true};
+ghost use Rattle.std.specs.List.{list_all};
+ghost use Rattle.evl_base.specs.Board.{board_fits};
 ghost use Rattle.evl_kernel.specs.Openings.{all_opened};
 ghost use Rattle.evl_sync.specs.FlagGroups as flag_groups;
 ghost use Rattle.evl_sync.specs.Semaphores as semaphores;
+ghost use Rattle.evl_xbuf.specs.Xbufs as cross_buffers;
+ghost use Rattle.evl_base.specs.Limits.{sizes_fit};
 
+mod cross_buffers;
 mod flag_groups;
 mod semaphores;
 mod waiting;
 
 use evl_base::{Board, Refusal};
 use evl_sync::{FlagGroup, Sem};
+use evl_xbuf::XbufOf;
 use std::alloc::{AllocError, Allocator};
 use std::marker::Model;
 
-/// The semaphores and flag groups of a board. No step takes memory.
+/// The semaphores, flag groups and cross-buffers of a board. No step takes memory.
 #[derive(Drop)]
 pub(crate) struct Elements<A: Allocator> {
     sems: Vec<Sem, A>,
     flags: Vec<FlagGroup, A>,
+    xbufs: Vec<XbufOf<A>, A>,
 }
 
 impl<A: Allocator> Model for Elements<A> {
@@ -25,19 +32,65 @@ impl<A: Allocator> Model for Elements<A> {
 
     ghost Value = { Elements };
 
-    ghost view = { λ e. record { sems = e.sems.items; flags = e.flags.items } };
+    ghost view = { λ e. record { sems = e.sems.items; flags = e.flags.items; xbufs = e.xbufs.items } };
 }
 
 impl<A: Allocator> Elements<A> {
-    /// The elements of a board, for which nobody waits. `NoMemory` where room was refused.
-    pub(crate) fn new(alloc: A, more: A, board: &Board) -> Result<Elements<A>, Refusal>
+    /// The elements of a board within its limits, for which nobody waits. `NoMemory` where room was refused.
+    pub(crate) fn new(alloc: A, board: &Board) -> Result<Elements<A>, Refusal>
+    where
+        A: Clone,
+        requires fits { board_fits board.now ≡ true }
         ensures opened { IfOk result (λ elements. elements ≡ all_opened board.now) }
         ensures refusal { IfErr result (λ e. e ≡ Refusal.NoMemory) }
     {
-        let sems = opened_sems(alloc, board.sems.as_slice()).map_err(|_| Refusal::NoMemory)?;
-        let flags = opened_flags(more, board.flags.as_slice()).map_err(|_| Refusal::NoMemory)?;
-        Ok(Elements { sems, flags })
+        let for_sems = alloc.clone().map_err(|_| Refusal::NoMemory)?;
+        let for_flags = alloc.clone().map_err(|_| Refusal::NoMemory)?;
+        let sems = match opened_sems(for_sems, board.sems.as_slice()) {
+            Ok(sems) => sems,
+            Err(_) => return Err(Refusal::NoMemory),
+        };
+        let flags = match opened_flags(for_flags, board.flags.as_slice()) {
+            Ok(flags) => flags,
+            Err(_) => return Err(Refusal::NoMemory),
+        };
+        let xbufs = opened_xbufs(alloc, board.xbufs.as_slice())?;
+        Ok(Elements { sems, flags, xbufs })
     }
+}
+
+/// A cross-buffer with rings of each of these sizes.
+fn opened_xbufs<A: Allocator + Clone>(
+    alloc: A,
+    sizes: &[(u16, u16)],
+) -> Result<Vec<XbufOf<A>, A>, Refusal>
+    requires fit { list_all sizes_fit sizes.now ≡ true }
+    ensures xbufs { IfOk result (λ xbufs. xbufs.items ≡ map (λ pair. cross_buffers.opened pair.0 pair.1) sizes.now) }
+    ensures refusal { IfErr result (λ e. e ≡ Refusal.NoMemory) }
+{
+    let for_rings = alloc.clone().map_err(|_| Refusal::NoMemory)?;
+    let mut xbufs = Vec::new(alloc);
+    for pair in sizes {
+        let xbuf = match opened_xbuf(&for_rings, *pair) {
+            Ok(xbuf) => xbuf,
+            Err(refusal) => return Err(refusal),
+        };
+        match xbufs.push(xbuf) {
+            Ok(()) => {}
+            Err(_) => return Err(Refusal::NoMemory),
+        }
+    }
+    Ok(xbufs)
+}
+
+/// A cross-buffer with rings of these sizes.
+fn opened_xbuf<A: Allocator + Clone>(alloc: &A, pair: (u16, u16)) -> Result<XbufOf<A>, Refusal>
+    requires fit { sizes_fit pair ≡ true }
+    ensures xbuf { IfOk result (λ xbuf. xbuf ≡ cross_buffers.opened pair.0 pair.1) }
+    ensures refusal { IfErr result (λ e. e ≡ Refusal.NoMemory) }
+{
+    let rings = alloc.clone().map_err(|_| Refusal::NoMemory)?;
+    XbufOf::new(rings, pair.0, pair.1)
 }
 
 /// A semaphore of each count.

@@ -118,7 +118,7 @@ impl<C: Handler, A: Allocator> KernelOf<C, A> {
         let for_history = alloc.clone().map_err(|_| Refusal::NoMemory)?;
         let for_plays = alloc.clone().map_err(|_| Refusal::NoMemory)?;
         let for_spares = alloc.clone().map_err(|_| Refusal::NoMemory)?;
-        let records = Records::new(alloc, &board, bank)?;
+        let records = Records::new(alloc, boxes, &board, bank)?;
         Ok(KernelOf {
             board,
             records,
@@ -187,7 +187,9 @@ impl<C: Handler, A: Allocator> KernelOf<C, A> {
             .map_err(|_| Refusal::NoMemory)?;
         self.spares.keep(MAX_BOXES)?;
         let before = self.plays.len();
-        let reply = self.records.perform(caller, &call, &mut self.plays);
+        let reply = self
+            .records
+            .perform(caller, &call, &mut self.plays, &mut self.spares);
         let kept = copied_reply(&reply, &mut self.spares);
         self.history.push_reserved(Entry {
             caller,

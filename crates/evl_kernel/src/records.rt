@@ -21,12 +21,13 @@ mod waiting;
 
 use crate::bank::{BankPlace, Numbered};
 use crate::elements::Elements;
+use crate::wait_place::WaitPlace;
 use crate::waits::Wait;
 use evl_base::{Board, LineNo, Refusal, Reply, Stage, ThreadId, TimerId};
 use evl_clock::{ClockOf, TimerState};
 use evl_pipeline::{Handler, PipelineOf};
 use evl_sched::SchedOf;
-use std::alloc::{AllocError, Allocator};
+use std::alloc::{Allocator, Global};
 use std::marker::Model;
 use std::snapshot::Snapshot;
 
@@ -39,7 +40,7 @@ pub(crate) struct Records<C, A: Allocator> {
     pipeline: PipelineOf<Numbered<C>, A>,
     clock: ClockOf<Numbered<C>, A>,
     sched: SchedOf<A>,
-    waits: Vec<Option<Wait>, A>,
+    waits: Vec<WaitPlace, A>,
 }
 
 impl<C, A: Allocator> Model for Records<C, A> {
@@ -54,8 +55,14 @@ impl<C, A: Allocator> Model for Records<C, A> {
 }
 
 impl<C: Handler, A: Allocator> Records<C, A> {
-    /// The records of a board, with every callback in its bank place. `NoMemory` where room was refused.
-    pub(crate) fn new(alloc: A, board: &Board, bank: Vec<C, A>) -> Result<Records<C, A>, Refusal>
+    /// The records of a board, with every callback in its bank place; the boxes of the threads come from
+    /// `boxes`. `NoMemory` where room was refused.
+    pub(crate) fn new(
+        alloc: A,
+        boxes: Global,
+        board: &Board,
+        bank: Vec<C, A>,
+    ) -> Result<Records<C, A>, Refusal>
     where
         A: Clone,
         requires fits { board_fits board.now ≡ true }
@@ -65,9 +72,8 @@ impl<C: Handler, A: Allocator> Records<C, A> {
         let for_sems = another(&alloc)?;
         let for_bank = another(&alloc)?;
         let for_waits = another(&alloc)?;
-        let for_flags = another(&alloc)?;
-        let elements = Elements::new(for_sems, for_flags, board)?;
-        let waits = opening_waits(for_waits, board)?;
+        let elements = Elements::new(for_sems, board)?;
+        let waits = no_waits(for_waits, boxes, board.threads)?;
         let bank = placed(for_bank, bank)?;
         let for_lines = another(&alloc)?;
         let pipeline = PipelineOf::new(for_lines)?;
@@ -93,21 +99,25 @@ fn another<A: Allocator + Clone>(alloc: &A) -> Result<A, Refusal>
     alloc.clone().map_err(|_| Refusal::NoMemory)
 }
 
-/// A place for the wait of each thread of a board; nobody waits.
-fn opening_waits<A: Allocator>(alloc: A, board: &Board) -> Result<Vec<Option<Wait>, A>, Refusal>
-    ensures waits { IfOk result (λ waits. waits.items ≡ replicate board.now.threads None) }
+/// A place for the wait of each of so many threads; nobody waits.
+fn no_waits<A: Allocator>(
+    alloc: A,
+    boxes: Global,
+    threads: u16,
+) -> Result<Vec<WaitPlace, A>, Refusal>
+    ensures waits { IfOk result (λ waits. waits.items ≡ replicate threads None) }
     ensures refusal { IfErr result (λ e. e ≡ Refusal.NoMemory) }
 {
-    no_waits(alloc, board.threads).map_err(|_| Refusal::NoMemory)
-}
-
-/// Nobody waits.
-fn no_waits<A: Allocator>(alloc: A, threads: u16) -> Result<Vec<Option<Wait>, A>, AllocError>
-    ensures waits { IfOk result (λ waits. waits.items ≡ replicate threads None) }
-{
-    let mut waits = Vec::with_capacity(alloc, usize::from(threads))?;
+    let mut waits = Vec::new(alloc);
     for _ in 0..threads {
-        waits.push_reserved(None);
+        let place = match WaitPlace::new(boxes) {
+            Ok(place) => place,
+            Err(refusal) => return Err(refusal),
+        };
+        match waits.push(place) {
+            Ok(()) => {}
+            Err(_) => return Err(Refusal::NoMemory),
+        }
     }
     Ok(waits)
 }
@@ -184,8 +194,8 @@ impl<C, A: Allocator> Records<C, A> {
         ensures waits { result ≡ is_waiting (state_of self.now) thread.0 }
     {
         match self.waits.get(usize::from(thread.0)) {
-            Some(Some(_)) => true,
-            _ => false,
+            Some(place) => place.wait().is_some(),
+            None => false,
         }
     }
 
@@ -194,8 +204,11 @@ impl<C, A: Allocator> Records<C, A> {
         ensures ended { result ≡ has_ended (state_of self.now) thread.0 }
     {
         match self.waits.get(usize::from(thread.0)) {
-            Some(Some(wait)) => wait.outcome.is_some(),
-            _ => false,
+            Some(place) => match place.wait() {
+                Some(wait) => wait.outcome.is_some(),
+                None => false,
+            },
+            None => false,
         }
     }
 
@@ -204,15 +217,16 @@ impl<C, A: Allocator> Records<C, A> {
         ensures ended { result ≡ has_timed_out (state_of self.now) thread.0 }
     {
         match self.waits.get(usize::from(thread.0)) {
-            Some(
+            Some(place) => match place.wait() {
                 Some(
                     Wait {
                         outcome: Some(Reply::TimedOut),
                         ..
                     },
-                ),
-            ) => true,
-            _ => false,
+                ) => true,
+                _ => false,
+            },
+            None => false,
         }
     }
 }

@@ -1,10 +1,12 @@
 //! Waits of threads.
-ghost use Rattle.std.specs.Prelude.{◌≡◌, IfErr, IfOk, None, Some, option_map, slice_set};
-ghost use Rattle.evl_kernel.specs.Beginnings.{allowed_if, awaited, form_refusal};
+ghost use Rattle.std.specs.Prelude.{◌≡◌, ◌≤◌, ◌+◌, IfErr, IfOk, None, Some, option_map, slice_set};
+ghost use Rattle.evl_kernel.specs.Beginnings.{allowed_if, awaited, form_refusal, in_range_if, range_refusal, stage_wanted};
 ghost use Rattle.evl_kernel.specs.Endings.{outcome_of};
+ghost use Rattle.evl_kernel.specs.WaitBoxes.{FitsBox, reply_of};
 ghost use Rattle.evl_kernel.specs.Waits.{ended_by, wait_of};
 
-use evl_base::{FlagId, Refusal, Reply, SemId, Take, ThreadId};
+use crate::wait_place::{Outcome, WaitPlace};
+use evl_base::{Bytes, FlagId, Refusal, Reply, SemId, Spares, Stage, Take, ThreadId, Way, XbufId};
 use std::alloc::Allocator;
 
 /// What a thread waits for.
@@ -12,34 +14,62 @@ use std::alloc::Allocator;
 pub(crate) enum Awaited {
     Sem(SemId),
     Flags(FlagId),
+    /// To write into a way of a cross-buffer.
+    Writing(XbufId, Way),
+    /// To read from it.
+    Reading(XbufId, Way),
 }
 
-/// What a thread wants that begins to wait: a semaphore, or bits of a flag group.
-#[derive(Clone, Copy, Drop)]
+/// What a thread wants that begins to wait: a semaphore, bits of a flag group, to write bytes into a cross-buffer, or to
+/// read so many from it.
+#[derive(Drop)]
 pub(crate) enum Wanted {
     Sem(SemId),
     Flags(FlagId, Take),
+    Write(XbufId, Way, Bytes),
+    Read(XbufId, Way, u16),
 }
 
 impl Wanted {
     /// For what the thread waits, where it isn't served at once.
-    pub(crate) fn awaited(self) -> Awaited
-        ensures on { result ≡ awaited self }
+    pub(crate) fn awaited(&self) -> Awaited
+        ensures on { result ≡ awaited self.now }
     {
         match self {
-            Wanted::Sem(sem) => Awaited::Sem(sem),
-            Wanted::Flags(flags, _) => Awaited::Flags(flags),
+            Wanted::Sem(sem) => Awaited::Sem(*sem),
+            Wanted::Flags(flags, _) => Awaited::Flags(*flags),
+            Wanted::Write(xbuf, way, _) => Awaited::Writing(*xbuf, *way),
+            Wanted::Read(xbuf, way, _) => Awaited::Reading(*xbuf, *way),
+        }
+    }
+
+    /// Whether one transfer carries what is wanted.
+    pub(crate) fn is_in_range(&self) -> bool
+        ensures range { range_refusal self.now ≡ in_range_if result }
+    {
+        match self {
+            Wanted::Read(_, _, len) => *len <= 256,
+            _ => true,
         }
     }
 
     /// Whether this may be wanted: a mask has bits.
-    pub(crate) fn is_allowed(self) -> bool
-        ensures allowed { form_refusal self ≡ allowed_if result }
+    pub(crate) fn is_allowed(&self) -> bool
+        ensures allowed { form_refusal self.now ≡ allowed_if result }
     {
         match self {
-            Wanted::Sem(_) => true,
-            Wanted::Flags(_, Take::Any) => true,
-            Wanted::Flags(_, Take::Of(mask)) | Wanted::Flags(_, Take::Exact(mask)) => mask != 0,
+            Wanted::Flags(_, Take::Of(mask)) | Wanted::Flags(_, Take::Exact(mask)) => *mask != 0,
+            _ => true,
+        }
+    }
+
+    /// The stage on which a thread may wait for this.
+    pub(crate) fn stage(&self) -> Stage
+        ensures stage { result ≡ stage_wanted self.now }
+    {
+        match self {
+            Wanted::Write(_, Way::In, _) | Wanted::Read(_, Way::Out, _) => Stage::Inband,
+            _ => Stage::Oob,
         }
     }
 }
@@ -53,73 +83,64 @@ pub(crate) struct Wait {
 
 /// What a thread waits for or waited for, while its wait is unfinished.
 pub(crate) fn awaited_by<A: Allocator>(
-    waits: &Vec<Option<Wait>, A>,
+    waits: &Vec<WaitPlace, A>,
     thread: ThreadId,
 ) -> Option<Awaited>
     ensures on { result ≡ option_map (λ w. w.on) (wait_of waits.now.items thread.0) }
 {
-    match waits.get(usize::from(thread.0)) {
-        Some(Some(wait)) => Some(wait.on),
-        _ => None,
+    match waits.get(usize::from(thread.0))?.wait() {
+        Some(wait) => Some(wait.on),
+        None => None,
     }
 }
 
 /// A thread's wait begins; where it was served at once, with what.
 pub(crate) fn begin<A: Allocator>(
-    waits: &mut Vec<Option<Wait>, A>,
+    waits: &mut Vec<WaitPlace, A>,
     thread: ThreadId,
     on: Awaited,
-    outcome: Option<Reply>,
+    outcome: Option<Outcome<'_>>,
 )
-    ensures begun { waits.new.items ≡ slice_set waits.old.items thread.0 (Some (record { on = on; outcome = outcome })) }
+    requires fits { FitsBox outcome }
+    ensures begun { waits.new.items ≡ slice_set waits.old.items thread.0 (Some (record { on = on; outcome = option_map reply_of outcome.entry })) }
 {
     let place = usize::from(thread.0);
     if place < waits.len() {
-        waits[place] = Some(Wait { on, outcome });
+        waits[place].begin(on, outcome);
     }
 }
 
 /// A thread's wait has ended, and this ended it; nothing changes where there is no wait.
-#[tactic(auto, using(crate::proofs::SetLaws::set_twice))]
-pub(crate) fn end<A: Allocator>(waits: &mut Vec<Option<Wait>, A>, thread: ThreadId, outcome: Reply)
-    ensures ended { waits.new.items ≡ slice_set waits.old.items thread.0 (option_map (ended_by outcome) (wait_of waits.old.items thread.0)) }
+pub(crate) fn end<A: Allocator>(
+    waits: &mut Vec<WaitPlace, A>,
+    thread: ThreadId,
+    outcome: Outcome<'_>,
+)
+    requires fits { FitsBox (Some outcome) }
+    ensures ended { waits.new.items ≡ slice_set waits.old.items thread.0 (option_map (ended_by (reply_of outcome.entry)) (wait_of waits.old.items thread.0)) }
 {
     let place = usize::from(thread.0);
     if place < waits.len() {
-        if let Some(wait) = waits[place].take() {
-            waits[place] = Some(Wait {
-                on: wait.on,
-                outcome: Some(outcome),
-            });
-        }
+        waits[place].end(outcome);
     }
 }
 
-/// What ended a thread's wait, which is finished then. The first that applies: `Invalid` (there is no wait), `Again` (it
-/// goes on). A refused call changes nothing.
+/// What ended a thread's wait, which is finished then; bytes come in a box of `spares`. The first that applies: `Invalid`
+/// (there is no wait), `Again` (it goes on). A refused call changes nothing.
 pub(crate) fn take_outcome<A: Allocator>(
-    waits: &mut Vec<Option<Wait>, A>,
+    waits: &mut Vec<WaitPlace, A>,
     thread: ThreadId,
+    spares: &mut Spares<A>,
 ) -> Result<Reply, Refusal>
+    requires boxes { 1 ≤ spares.old }
     ensures outcome { result ≡ outcome_of (wait_of waits.old.items thread.0) }
     ensures finished { IfOk result (λ reply. waits.new.items ≡ slice_set waits.old.items thread.0 None) }
     ensures refused { IfErr result (λ e. waits.new.items ≡ waits.old.items) }
+    ensures boxes { spares.old ≤ spares.new + 1 }
 {
     let place = usize::from(thread.0);
     if place >= waits.len() {
         return Err(Refusal::Invalid);
     }
-    match waits[place].take() {
-        None => Err(Refusal::Invalid),
-        Some(wait) => match wait.outcome {
-            Some(outcome) => Ok(outcome),
-            None => {
-                waits[place] = Some(Wait {
-                    on: wait.on,
-                    outcome: None,
-                });
-                Err(Refusal::Again)
-            }
-        },
-    }
+    waits[place].finish(spares)
 }

@@ -81,6 +81,11 @@ pub record Answered (limit : ℕ) (a : Account) (c : Call) (r : Result Reply Ref
   pub full : r ≡ Err HistoryFull → length a'.seen.entries ≡ limit
   pub memory : r ≡ Err NoMemory → (a'.found ≡ a.found ++ 0 ∷ []) × (length a'.seen.entries ≢ limit)
 
+-- the answer of a call that comes back where another caller has the kernel
+abbrev pub answer_of : Result (Result Reply Refusal) Call → Result Reply Refusal
+answer_of (Ok answer) = answer
+answer_of (Err back) = Err CoreBusy
+
 -- a seat has the kernel, which goes on from the history that it took by calls of the seat's one caller
 pub record IsHeld {S : Type 0} {C : Type 0} (me : CoreMe S) (thread : ThreadId) (k : KernelView C) : Type 0 where
   pub holds : me ≡ holding (account_of me)

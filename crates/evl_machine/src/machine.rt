@@ -1,11 +1,12 @@
 //! The machine: the kernel behind the core's lock.
-ghost use Rattle.std.specs.Prelude.{◌≡◌, MatchOption};
+ghost use Rattle.std.specs.Prelude.{◌≡◌, ◌≢◌, Err, IfErr, IfOk, MatchOption};
+ghost use Rattle.evl_base.specs.declared.refusal.Refusal.TheVariants.{CoreBusy};
 ghost use Rattle.evl_kernel.specs.Callbacks.{AnswersAsTold};
 ghost use Rattle.evl_machine.specs.Accounts.{informed};
 ghost use Rattle.evl_machine.specs.Known.{ComesFrom, first_of, past_of, room_of, seen};
 ghost use Rattle.evl_machine.specs.Handles.{Belongs, Continues, IsSameCaller, Taken, account_of, holding, seated};
 ghost use Rattle.evl_machine.specs.Events.{FailsToTake, Gives, Takes};
-ghost use Rattle.evl_machine.specs.Calls.{Answered, Called, IsCaller};
+ghost use Rattle.evl_machine.specs.Calls.{Answered, Called, IsCaller, answer_of};
 
 use crate::caller::{CallerOf, badge_of, seat_of};
 use crate::core_lock::{CoreLock, CoreSeat, Give, Take};
@@ -71,25 +72,47 @@ impl<C: Drop, A: Allocator> MachineOf<C, A> {
 }
 
 impl<C: Handler, A: Allocator> MachineOf<C, A> {
-    /// One call of the kernel at a seat, or `CoreBusy` where another seat has it.
+    /// One call of the kernel at a seat; the call comes back where another seat has it.
     fn call_with(
         &self,
         seat: &mut CoreSeat<C, A>,
         thread: ThreadId,
         call: Call,
-    ) -> Result<Reply, Refusal>
+    ) -> Result<Result<Reply, Refusal>, Call>
         requires caller { (seat.old.table_id ≡ self.now.id) × IsCaller (seen seat.old.me) thread }
         requires answering { AnswersAsTold C.declared C.plan (first_of seat.old.me.0).callbacks }
         ensures same { (seat.new.table_id ≡ seat.old.table_id) × (first_of seat.new.me.0 ≡ first_of seat.old.me.0) }
         ensures rests { IsCaller (seen seat.new.me) thread }
-        ensures called { Answered (first_of seat.old.me.0).limit (account_of (seen seat.old.me)) call result (account_of (seen seat.new.me)) }
+        ensures called { Answered (first_of seat.old.me.0).limit (account_of (seen seat.old.me)) call (answer_of result) (account_of (seen seat.new.me)) }
+        ensures entered { IfOk result (λ answer. answer ≢ Err CoreBusy) }
+        ensures back { IfErr result (λ back. back ≡ call) }
     {
         let Some(mut kernel) = self.take_kernel(seat) else {
-            return Err(Refusal::CoreBusy);
+            return Err(call);
         };
         let reply = kernel.apply(thread, call);
         self.give_kernel(seat, kernel);
-        reply
+        Ok(reply)
+    }
+
+    /// One call of the kernel, by the host thread that makes it; the call comes back where another caller has the kernel.
+    pub(crate) fn attempt(
+        &self,
+        caller: &mut CallerOf<C>,
+        call: Call,
+    ) -> Result<Result<Reply, Refusal>, Call>
+        requires machine { Belongs caller.old self.now }
+        requires answering { AnswersAsTold C.declared C.plan self.now.first.callbacks }
+        ensures machine { IsSameCaller caller.old caller.new }
+        ensures called { Called self.now.first.limit caller.old call (answer_of result) caller.new }
+        ensures entered { IfOk result (λ answer. answer ≢ Err CoreBusy) }
+        ensures back { IfErr result (λ back. back ≡ call) }
+    {
+        let badge = mem::replace(&mut caller.core, Badge::blank());
+        let mut seat = seat_of::<C, A>(badge, caller.actor.thread);
+        let answer = self.call_with(&mut seat, caller.actor.thread, call);
+        caller.core = badge_of(seat, caller.actor.thread);
+        answer
     }
 
     /// One call of the kernel, by the host thread that makes it.
@@ -102,10 +125,9 @@ impl<C: Handler, A: Allocator> MachineOf<C, A> {
         ensures machine { IsSameCaller caller.old caller.new }
         ensures called { Called self.now.first.limit caller.old call result caller.new }
     {
-        let badge = mem::replace(&mut caller.core, Badge::blank());
-        let mut seat = seat_of::<C, A>(badge, caller.actor.thread);
-        let answer = self.call_with(&mut seat, caller.actor.thread, call);
-        caller.core = badge_of(seat, caller.actor.thread);
-        answer
+        match self.attempt(caller, call) {
+            Ok(answer) => answer,
+            Err(_) => Err(Refusal::CoreBusy),
+        }
     }
 }

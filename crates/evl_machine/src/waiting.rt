@@ -15,7 +15,8 @@ use std::sync::Wait;
 use std::thread;
 
 impl<C: Handler, A: Allocator> MachineOf<C, A> {
-    /// One call of the kernel, however long other callers have it: `try_call` until it isn't answered `CoreBusy`.
+    /// One call of the kernel, however long other callers have it: `try_call` until it isn't answered `CoreBusy`. The call is
+    /// handed over once the caller has the kernel, and is never copied.
     ///
     /// Every answer is the kernel's, of which `NoMemory` and `HistoryFull` make no entry (this profile).
     pub fn call<R: Wait>(
@@ -30,10 +31,14 @@ impl<C: Handler, A: Allocator> MachineOf<C, A> {
         ensures called { Called self.now.first.limit caller.old call result caller.new }
         ensures entered { result ≢ Err CoreBusy }
     {
+        let mut waiting = call;
         for _ in rt.forever() {
-            match self.try_call(caller, call.copied()) {
-                Err(Refusal::CoreBusy) => thread::yield_now(),
-                answer => return answer,
+            match self.attempt(caller, waiting) {
+                Ok(answer) => return answer,
+                Err(back) => {
+                    waiting = back;
+                    thread::yield_now();
+                }
             }
         }
         unreachable!()

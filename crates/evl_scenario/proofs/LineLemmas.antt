@@ -1,6 +1,5 @@
 -- Whole lines.
 use Rattle.std.proofs.Common.{◌≡◌, inl, inr, ℕ, List, [], ◌∷◌, ◌++◌, codes, decimal, Option, Result, ◌∙◌, sym, ap, append_assoc, append-nil, refl, subst}
-use Rattle.evl_base.specs.Call.{call_text}
 use Rattle.evl_base.specs.Play.{play_text}
 use Rattle.evl_base.specs.Reply.{outcome_text}
 use Rattle.evl_base.specs.declared.play.Play.{Play}
@@ -8,7 +7,7 @@ use Rattle.evl_base.specs.declared.refusal.Refusal.{Refusal}
 use Rattle.evl_base.specs.declared.reply.Reply.{Reply}
 use Rattle.evl_scenario.specs.declared.lines.BoardLine.{BoardLine}
 use Rattle.evl_scenario.specs.declared.steps.Step.{Step}
-use Rattle.evl_scenario.specs.Lines.{line_feed, EndsLine, AreLines, element_counts_text, owner_counts_text, board_line_text, number_text, line_text, play_line_text, play_lines}
+use Rattle.evl_scenario.specs.Lines.{line_feed, EndsLine, AreLines, element_counts_text, owner_counts_text, board_line_text, number_text, step_text, line_text, play_line_text, play_lines}
 
 feed-ends : EndsLine line_feed
 feed-ends = record { front = []; whole = refl }
@@ -34,8 +33,7 @@ board_line-whole line =
 -- the line of a step is whole
 pub line-whole : (number : Option ℕ) (step : Step) (answer : Result Reply Refusal) → AreLines (line_text number step answer)
 line-whole number step answer =
-    inr (ends-after (number_text number) _ (ends-after (codes " T") _ (ends-after (decimal step.who.0) _ (ends-after (codes " ") _
-    (ends-after (call_text step.call) _ (ends-after (codes " -> ") _ (ends-after (outcome_text answer) _ feed-ends)))))))
+    inr (ends-after (number_text number) _ (ends-after (codes " ") _ (ends-after (step_text step) _ (ends-after (codes " -> ") _ (ends-after (outcome_text answer) _ feed-ends)))))
 
 -- the line of a play is whole
 pub play_line-whole : (play : Play) → AreLines (play_line_text play)

@@ -1,12 +1,15 @@
 -- Worked rows, computed from the definitions.
-use Rattle.std.proofs.Common.{◌≡◌, true, false, Some, None, codes, pos, refl}
+use Rattle.std.proofs.Common.{◌≡◌, true, false, [], ◌∷◌, Some, None, codes, pos, refl}
 use Rattle.toml.specs.Data.{integer, string, boolean, no_members, member}
 use Rattle.evl_base.specs.declared.call.Call.TheVariants as make
 use Rattle.evl_base.specs.declared.take.Take.TheVariants.{Any}
+use Rattle.evl_base.specs.declared.way.Way.TheVariants.{In, Out}
+use Rattle.hex.proofs.OnLiterals.{hex_on_literals}
 use Rattle.evl_scenario.specs.Steps.{call_of}
 use Rattle.evl_scenario.specs.Takes.{take_of}
+use Rattle.evl_scenario.specs.Transfers.{bytes_of, way_of}
 use Rattle.evl_scenario.specs.Values.{truth_from, until_from}
-use Rattle.evl_scenario.specs.declared.steps.StepWord.TheVariants.{BeginGet, PostFlags, BeginTake, Finish}
+use Rattle.evl_scenario.specs.declared.steps.StepWord.TheVariants.{BeginGet, PostFlags, BeginTake, Room, BeginRead, Finish}
 
 -- a deadline is a number, or the text that says that there is none; without the key there is none
 until-number : until_from (integer (pos 5)) ≡ Some (Some 5)
@@ -53,3 +56,38 @@ post_flags-both = refl
 begin_take-without_deadline :
     call_of BeginTake (member (codes "flags") (integer (pos 1)) (member (codes "kind") (string (codes "any")) no_members)) ≡ Some (make.BeginTake (record { 0 = 1 }) Any None)
 begin_take-without_deadline = refl
+
+-- bytes are pairs of digits of either case, and none have no digit; the dash of a trace is no bytes
+bytes-two : bytes_of (codes "0aFF") ≡ Some (record { items = 10 ∷ 255 ∷ [] })
+unfolding hex_on_literals
+bytes-two = refl
+
+bytes-none : bytes_of (codes "") ≡ Some (record { items = [] })
+unfolding hex_on_literals
+bytes-none = refl
+
+bytes-odd : bytes_of (codes "0af") ≡ None
+unfolding hex_on_literals
+bytes-odd = refl
+
+bytes-dash : bytes_of (codes "-") ≡ None
+unfolding hex_on_literals
+bytes-dash = refl
+
+bytes-no_digit : bytes_of (codes "0g") ≡ None
+unfolding hex_on_literals
+bytes-no_digit = refl
+
+way-in : way_of (codes "in") ≡ Some In
+way-in = refl
+
+way-inband : way_of (codes "inband") ≡ None
+way-inband = refl
+
+room-both : call_of Room (member (codes "xbuf") (integer (pos 2)) (member (codes "way") (string (codes "out")) no_members)) ≡ Some (make.Room (record { 0 = 2 }) Out)
+room-both = refl
+
+begin_read-without_deadline :
+    call_of BeginRead (member (codes "xbuf") (integer (pos 2)) (member (codes "way") (string (codes "in")) (member (codes "len") (integer (pos 257)) no_members)))
+    ≡ Some (make.BeginRead (record { 0 = 2 }) In 257 None)
+begin_read-without_deadline = refl

@@ -7,3 +7,4 @@ pub mod Tables
 pub mod Values
 pub mod Policies
 pub mod Takes
+pub mod Transfers

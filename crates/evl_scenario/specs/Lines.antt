@@ -55,10 +55,17 @@ abbrev pub number_text : Option ℕ → List ℕ
 number_text None = codes "-"
 number_text (Some n) = decimal n
 
+-- who makes the call of a step, and the call
+abbrev pub step_text : Step → List ℕ
+step_text step = codes "T" ++ (decimal step.who.0 ++ (codes " " ++ call_text step.call))
+
+-- the line of a step that has this text
+abbrev pub line_around : Option ℕ → List ℕ → Result Reply Refusal → List ℕ
+line_around number step answer = number_text number ++ (codes " " ++ (step ++ (codes " -> " ++ (outcome_text answer ++ line_feed))))
+
 -- the line of a step
 abbrev pub line_text : Option ℕ → Step → Result Reply Refusal → List ℕ
-line_text number step answer =
-    number_text number ++ (codes " T" ++ (decimal step.who.0 ++ (codes " " ++ (call_text step.call ++ (codes " -> " ++ (outcome_text answer ++ line_feed))))))
+line_text number step answer = line_around number (step_text step) answer
 
 -- the line of a play
 abbrev pub play_line_text : Play → List ℕ

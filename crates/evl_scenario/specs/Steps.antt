@@ -5,12 +5,13 @@ use Rattle.toml.specs.Data.{Data, Members, as_table, get_member}
 use Rattle.evl_base.specs.declared.call.Call.{Call}
 use Rattle.evl_base.specs.declared.call.Call.TheVariants as make
 use Rattle.evl_scenario.specs.declared.steps.StepWord.{StepWord}
-use Rattle.evl_scenario.specs.declared.steps.StepWord.TheVariants.{Request, Free, Arrive, Post, Stall, Unstall, Tick, Now, NewTimer, StartTimer, StopTimer, DropTimer, Overruns, Attach, Detach, SetPolicy, SetStage, Pick, RankOf, TryGet, Put, Peek, BeginGet, TryTake, PostFlags, PeekFlags, BeginTake, Finish}
+use Rattle.evl_scenario.specs.declared.steps.StepWord.TheVariants.{Request, Free, Arrive, Post, Stall, Unstall, Tick, Now, NewTimer, StartTimer, StopTimer, DropTimer, Overruns, Attach, Detach, SetPolicy, SetStage, Pick, RankOf, TryGet, Put, Peek, BeginGet, TryTake, PostFlags, PeekFlags, BeginTake, Write, Read, Room, BeginWrite, BeginRead, Finish}
 use Rattle.evl_scenario.specs.declared.steps.Step.{Step}
 use Rattle.evl_scenario.specs.Tables.{value_at, value_or, text_at, has_only}
 use Rattle.evl_scenario.specs.Policies.{policy_from}
 use Rattle.evl_scenario.specs.Takes.{take_from}
-use Rattle.evl_scenario.specs.Values.{number_from, word_from, byte_from, thread_from, line_from, sem_from, flag_from, timer_from, stage_from, truth_from, until_from}
+use Rattle.evl_scenario.specs.Transfers.{bytes_from, way_from}
+use Rattle.evl_scenario.specs.Values.{number_from, word_from, half_word_from, byte_from, thread_from, line_from, sem_from, flag_from, xbuf_from, timer_from, stage_from, truth_from, until_from}
 
 -- the word that a text is
 abbrev pub word_of : List ℕ → Option StepWord
@@ -42,6 +43,11 @@ word_of text =
     else if bytes_eq text (codes "post_flags") then Some PostFlags
     else if bytes_eq text (codes "peek_flags") then Some PeekFlags
     else if bytes_eq text (codes "begin_take") then Some BeginTake
+    else if bytes_eq text (codes "write") then Some Write
+    else if bytes_eq text (codes "read") then Some Read
+    else if bytes_eq text (codes "room") then Some Room
+    else if bytes_eq text (codes "begin_write") then Some BeginWrite
+    else if bytes_eq text (codes "begin_read") then Some BeginRead
     else if bytes_eq text (codes "finish") then Some Finish
     else None
 
@@ -74,6 +80,11 @@ keys_of TryTake = codes "do" ∷ codes "who" ∷ codes "flags" ∷ codes "kind" 
 keys_of PostFlags = codes "do" ∷ codes "who" ∷ codes "flags" ∷ codes "bits" ∷ []
 keys_of PeekFlags = codes "do" ∷ codes "who" ∷ codes "flags" ∷ []
 keys_of BeginTake = codes "do" ∷ codes "who" ∷ codes "flags" ∷ codes "kind" ∷ codes "until" ∷ []
+keys_of Write = codes "do" ∷ codes "who" ∷ codes "xbuf" ∷ codes "way" ∷ codes "bytes" ∷ []
+keys_of Read = codes "do" ∷ codes "who" ∷ codes "xbuf" ∷ codes "way" ∷ codes "len" ∷ []
+keys_of Room = codes "do" ∷ codes "who" ∷ codes "xbuf" ∷ codes "way" ∷ []
+keys_of BeginWrite = codes "do" ∷ codes "who" ∷ codes "xbuf" ∷ codes "way" ∷ codes "bytes" ∷ codes "until" ∷ []
+keys_of BeginRead = codes "do" ∷ codes "who" ∷ codes "xbuf" ∷ codes "way" ∷ codes "len" ∷ codes "until" ∷ []
 keys_of Finish = codes "do" ∷ codes "who" ∷ codes "keep" ∷ []
 
 -- the call that a word and a table make
@@ -122,6 +133,29 @@ call_of BeginTake table =
     (value_or until_from None (get_member (codes "until") table)))
     (value_at take_from (codes "kind") table))
     (value_at flag_from (codes "flags") table)
+call_of Write table =
+    option_and_then (λ xbuf. option_and_then (λ way. option_map (make.Write xbuf way)
+    (value_at bytes_from (codes "bytes") table))
+    (value_at way_from (codes "way") table))
+    (value_at xbuf_from (codes "xbuf") table)
+call_of Read table =
+    option_and_then (λ xbuf. option_and_then (λ way. option_map (make.Read xbuf way)
+    (value_at half_word_from (codes "len") table))
+    (value_at way_from (codes "way") table))
+    (value_at xbuf_from (codes "xbuf") table)
+call_of Room table = option_and_then (λ xbuf. option_map (make.Room xbuf) (value_at way_from (codes "way") table)) (value_at xbuf_from (codes "xbuf") table)
+call_of BeginWrite table =
+    option_and_then (λ xbuf. option_and_then (λ way. option_and_then (λ bytes. option_map (make.BeginWrite xbuf way bytes)
+    (value_or until_from None (get_member (codes "until") table)))
+    (value_at bytes_from (codes "bytes") table))
+    (value_at way_from (codes "way") table))
+    (value_at xbuf_from (codes "xbuf") table)
+call_of BeginRead table =
+    option_and_then (λ xbuf. option_and_then (λ way. option_and_then (λ len. option_map (make.BeginRead xbuf way len)
+    (value_or until_from None (get_member (codes "until") table)))
+    (value_at half_word_from (codes "len") table))
+    (value_at way_from (codes "way") table))
+    (value_at xbuf_from (codes "xbuf") table)
 call_of Finish table = option_map make.Finish (value_or truth_from false (get_member (codes "keep") table))
 
 -- the step with this word

@@ -11,6 +11,7 @@ use Rattle.evl_base.specs.declared.numbers.LineNo.{LineNo}
 use Rattle.evl_base.specs.declared.numbers.SemId.{SemId}
 use Rattle.evl_base.specs.declared.numbers.ThreadId.{ThreadId}
 use Rattle.evl_base.specs.declared.numbers.TimerId.{TimerId}
+use Rattle.evl_base.specs.declared.numbers.XbufId.{XbufId}
 use Rattle.evl_base.specs.declared.stage.Stage.{Stage}
 use Rattle.evl_base.specs.declared.stage.Stage.TheVariants.{Inband, Oob}
 
@@ -57,6 +58,9 @@ sem_from value = option_map (λ n. record { 0 = n }) (half_word_from value)
 
 abbrev pub flag_from : Data → Option FlagId
 flag_from value = option_map (λ n. record { 0 = n }) (half_word_from value)
+
+abbrev pub xbuf_from : Data → Option XbufId
+xbuf_from value = option_map (λ n. record { 0 = n }) (half_word_from value)
 
 abbrev pub timer_from : Data → Option TimerId
 timer_from value = option_map (λ n. record { 0 = n }) (half_word_from value)

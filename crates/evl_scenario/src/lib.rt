@@ -9,6 +9,7 @@ mod scenarios;
 mod steps;
 mod tables;
 mod takes;
+mod transfers;
 mod values;
 
 pub use faults::Fault;

@@ -126,18 +126,30 @@ impl fmt::Display for Answer {
     }
 }
 
-/// The line of a step: the number of its entry, the step, and the answer of its call.
+impl fmt::Display for Step {
+    ghost use Rattle.evl_scenario.specs.Lines.{step_text};
+
+    ghost output = { λ step. Some (step_text step) };
+
+    fn fmt<W: fmt::Write>(&self, f: &mut fmt::Formatter<W>) -> fmt::Result {
+        let who = self.who.0;
+        let call = &self.call;
+        write!(f, "T{who} {call}")
+    }
+}
+
+/// The line of a step: the number of its entry, the step's text, and the answer of its call, which took the step.
 #[derive(Drop)]
 pub struct StepLine<'a> {
     pub number: EntryNumber,
-    pub step: &'a Step,
+    pub step: &'a str,
     pub answer: Answer,
 }
 
 impl<'a> fmt::Display for StepLine<'a> {
-    ghost use Rattle.evl_scenario.specs.Lines.{line_text};
+    ghost use Rattle.evl_scenario.specs.Lines.{line_around};
 
-    ghost output = { λ line. Some (line_text line.number.0 line.step.now line.answer.0) };
+    ghost output = { λ line. Some (line_around line.number.0 line.step.now line.answer.0) };
 
     fn fmt<W: fmt::Write>(&self, f: &mut fmt::Formatter<W>) -> fmt::Result {
         let StepLine {
@@ -145,9 +157,7 @@ impl<'a> fmt::Display for StepLine<'a> {
             step,
             answer,
         } = self;
-        let who = step.who.0;
-        let call = &step.call;
-        write!(f, "{number} T{who} {call} -> {answer}\n")
+        write!(f, "{number} {step} -> {answer}\n")
     }
 }
 

@@ -10,7 +10,7 @@ use crate::boards::{read_board, read_limit};
 use crate::faults::Fault;
 use crate::steps::{Step, read_step};
 use crate::tables::{field, has_only_keys};
-use evl_base::Board;
+use evl_base::{Board, Spares};
 use std::alloc::Global;
 use std::marker::Model;
 use toml::{Table, Value};
@@ -103,12 +103,17 @@ fn read_steps(alloc: Global, values: &[Value]) -> Result<Vec<Step>, Fault>
     ensures err { IfErr result (λ e. (e ≡ Fault.Memory) ⊎ (steps_of 1 (items_view values.now) ≡ Err e)) }
 {
     let mut steps = Vec::new(alloc);
+    let mut spares = Spares::new(alloc, alloc);
     for (i, value) in values.iter().enumerate() {
-        let Some(step) = read_step(value) else {
+        if spares.keep(1).is_err() {
+            return Err(Fault::Memory);
+        }
+        let Some(step) = read_step(value, &mut spares) else {
             return Err(Fault::Step(step_number(i)));
         };
-        if steps.push(step).is_err() {
-            return Err(Fault::Memory);
+        match steps.push(step) {
+            Ok(()) => {}
+            Err(_) => return Err(Fault::Memory),
         }
     }
     Ok(steps)

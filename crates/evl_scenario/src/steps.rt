@@ -1,10 +1,11 @@
 //! The steps of a scenario.
-ghost use Rattle.std.specs.Prelude.{◌≡◌, map};
+ghost use Rattle.std.specs.Prelude.{◌≡◌, ◌≤◌, map};
 ghost use Rattle.toml.specs.View.{view, table_view};
 ghost use Rattle.evl_scenario.specs.Steps.{word_of, keys_of, call_of, step_of};
 
 use crate::tables::{at, at_or, at_text, has_only_keys};
-use evl_base::{Call, ThreadId};
+use evl_base::{Bytes, Call, Spares, ThreadId};
+use std::alloc::Global;
 use toml::{Table, Value};
 
 /// A word that names a call of the kernel (Dovetail: interrupt pipeline; Xenomai 4: EVL elements; the words are this profile's).
@@ -37,6 +38,11 @@ pub enum StepWord {
     PostFlags,
     PeekFlags,
     BeginTake,
+    Write,
+    Read,
+    Room,
+    BeginWrite,
+    BeginRead,
     Finish,
 }
 
@@ -79,6 +85,11 @@ fn read_word(text: &str) -> Option<StepWord>
         "post_flags" => Some(StepWord::PostFlags),
         "peek_flags" => Some(StepWord::PeekFlags),
         "begin_take" => Some(StepWord::BeginTake),
+        "write" => Some(StepWord::Write),
+        "read" => Some(StepWord::Read),
+        "room" => Some(StepWord::Room),
+        "begin_write" => Some(StepWord::BeginWrite),
+        "begin_read" => Some(StepWord::BeginRead),
         "finish" => Some(StepWord::Finish),
         _ => None,
     }
@@ -116,12 +127,18 @@ fn step_keys(word: StepWord) -> &'static [&'static str]
         StepWord::PostFlags => &["do", "who", "flags", "bits"],
         StepWord::PeekFlags => &["do", "who", "flags"],
         StepWord::BeginTake => &["do", "who", "flags", "kind", "until"],
+        StepWord::Write => &["do", "who", "xbuf", "way", "bytes"],
+        StepWord::Read => &["do", "who", "xbuf", "way", "len"],
+        StepWord::Room => &["do", "who", "xbuf", "way"],
+        StepWord::BeginWrite => &["do", "who", "xbuf", "way", "bytes", "until"],
+        StepWord::BeginRead => &["do", "who", "xbuf", "way", "len", "until"],
         StepWord::Finish => &["do", "who", "keep"],
     }
 }
 
-// The call that a word and a table make.
-fn read_call(word: StepWord, table: &Table) -> Option<Call>
+// The call that a word and a table make; its bytes, if it carries any, in a box of `spares`.
+fn read_call(word: StepWord, table: &Table, spares: &mut Spares<Global>) -> Option<Call>
+    requires there { 1 ≤ spares.old }
     ensures { result ≡ call_of word (table_view table.now) }
 {
     match word {
@@ -217,6 +234,49 @@ fn read_call(word: StepWord, table: &Table) -> Option<Call>
             let until = at_or(table, "until", None)?;
             Some(Call::BeginTake { flags, kind, until })
         }
+        StepWord::Write => {
+            let xbuf = at(table, "xbuf")?;
+            let way = at(table, "way")?;
+            let bytes: Bytes = at(table, "bytes")?;
+            Some(Call::Write {
+                xbuf,
+                way,
+                bytes: spares.take(bytes.as_slice()),
+            })
+        }
+        StepWord::Read => Some(Call::Read {
+            xbuf: at(table, "xbuf")?,
+            way: at(table, "way")?,
+            len: at(table, "len")?,
+        }),
+        StepWord::Room => Some(Call::Room {
+            xbuf: at(table, "xbuf")?,
+            way: at(table, "way")?,
+        }),
+        StepWord::BeginWrite => {
+            let xbuf = at(table, "xbuf")?;
+            let way = at(table, "way")?;
+            let bytes: Bytes = at(table, "bytes")?;
+            let until = at_or(table, "until", None)?;
+            Some(Call::BeginWrite {
+                xbuf,
+                way,
+                bytes: spares.take(bytes.as_slice()),
+                until,
+            })
+        }
+        StepWord::BeginRead => {
+            let xbuf = at(table, "xbuf")?;
+            let way = at(table, "way")?;
+            let len = at(table, "len")?;
+            let until = at_or(table, "until", None)?;
+            Some(Call::BeginRead {
+                xbuf,
+                way,
+                len,
+                until,
+            })
+        }
         StepWord::Finish => {
             let keep = at_or(table, "keep", false)?;
             Some(Call::Finish { keep })
@@ -224,8 +284,10 @@ fn read_call(word: StepWord, table: &Table) -> Option<Call>
     }
 }
 
-/// The step that a TOML value stands for: a table with a word, a thread, and just the keys of the word.
-pub fn read_step(value: &Value) -> Option<Step>
+/// The step that a TOML value stands for: a table with a word, a thread, and just the keys of the word. The bytes of its
+/// call, if it carries any, lie in a box of `spares`.
+pub fn read_step(value: &Value, spares: &mut Spares<Global>) -> Option<Step>
+    requires there { 1 ≤ spares.old }
     ensures { result ≡ step_of (view value.now) }
 {
     let table = value.as_table()?;
@@ -234,6 +296,6 @@ pub fn read_step(value: &Value) -> Option<Step>
         return None;
     }
     let who = at(table, "who")?;
-    let call = read_call(word, table)?;
+    let call = read_call(word, table, spares)?;
     Some(Step { who, call })
 }

@@ -1,5 +1,5 @@
 -- The lines of a run, one after the other.
-use Rattle.std.proofs.Common.{◌≡◌, ℕ, ◌+◌, ◌<◌, List, Bool, ◌++◌, length, drop, get_or, Option, Result, ap, sym, subst, ◌∙◌}
+use Rattle.std.proofs.Common.{◌≡◌, ℕ, ◌+◌, ◌<◌, List, [], ◌∷◌, Bool, ◌++◌, length, drop, get_or, Option, Result, ap, refl, sym, subst, ◌∙◌, arith}
 use Rattle.std.proofs.Math.Seq.{drop-append_seam}
 use Rattle.std.proofs.lemmas.List.{drop_more}
 use Rattle.evl_base.specs.declared.board.Board.{Board}
@@ -27,14 +27,19 @@ play_lines-at plays i play done line all e h is =
     ap (λ (s : List ℕ). done ++ (s ++ play_lines (drop (i + 1) plays))) is
     ∙ ap (λ (s : List ℕ). done ++ s) (sym (ap play_lines (drop_more plays i play h))) ∙ e
 
--- the lines of the step at an index, and the lines after them
-pub lines_from-at : (limit : ℕ) (m after : Moment) (same : ℕ) (steps : List Step) (i : ℕ) (step : Step) (done all : List ℕ) → done ++ lines_from limit m (drop i steps) ≡ all
-    → i < length steps → after ≡ (turn limit m (get_or steps i step)).after → same ≡ limit
-    → done ++ (turn_lines (get_or steps i step) (turn limit m (get_or steps i step)) ++ lines_from same after (drop (i + 1) steps)) ≡ all
-lines_from-at limit m after same steps i step done all e h is bound =
-    ap (λ (n : ℕ). done ++ (turn_lines (get_or steps i step) (turn limit m (get_or steps i step)) ++ lines_from n after (drop (i + 1) steps))) bound
-    ∙ ap (λ (t : Moment). done ++ (turn_lines (get_or steps i step) (turn limit m (get_or steps i step)) ++ lines_from limit t (drop (i + 1) steps))) is
-    ∙ ap (λ (t : List ℕ). done ++ t) (sym (ap (lines_from limit m) (drop_more steps i step h))) ∙ e
+-- the lines of the next step, and the lines after them
+pub lines_from-next : (limit : ℕ) (m after : Moment) (same : ℕ) (rest others : List Step) (step : Step) (done all : List ℕ) → done ++ lines_from limit m rest ≡ all
+    → rest ≡ step ∷ others → after ≡ (turn limit m step).after → same ≡ limit
+    → done ++ (turn_lines step (turn limit m step) ++ lines_from same after others) ≡ all
+lines_from-next limit m after same rest others step done all e split is bound =
+    ap (λ (n : ℕ). done ++ (turn_lines step (turn limit m step) ++ lines_from n after others)) bound
+    ∙ ap (λ (t : Moment). done ++ (turn_lines step (turn limit m step) ++ lines_from limit t others)) is
+    ∙ ap (λ (steps : List Step). done ++ lines_from limit m steps) (sym split) ∙ e
+
+-- no steps are left
+pub lines_from-none : (limit : ℕ) (m : Moment) (rest : List Step) → length rest ≡ 0 → lines_from limit m rest ≡ []
+lines_from-none limit m [] none = refl
+lines_from-none limit m (step ∷ others) none = absurd (omega (arith, none))
 
 -- bytes that are whole lines, by another name
 pub lines-same : (shown lines : List ℕ) → shown ≡ lines → AreLines lines → AreLines shown

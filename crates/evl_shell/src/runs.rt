@@ -5,7 +5,7 @@ ghost use Rattle.evl_kernel.specs.Callbacks.{AnswersAsTold};
 ghost use Rattle.evl_shell.specs.Sinks.{Passes};
 ghost use Rattle.evl_scenario.specs.Faults.{IsRefusal};
 ghost use Rattle.evl_shell.specs.Faults.{Stopped, Writes, WritesPart, WritesLines, is_write_fault};
-ghost use Rattle.evl_scenario.specs.Lines.{board_line_of, board_line_text, line_text, play_line_text, play_lines};
+ghost use Rattle.evl_scenario.specs.Lines.{board_line_of, board_line_text, line_around, play_line_text, play_lines, step_text};
 ghost use Rattle.evl_shell.specs.Moments as moments;
 ghost use Rattle.evl_shell.specs.Moments.{moment, Turns, Tells};
 ghost use Rattle.evl_shell.specs.Runs.{turn, turn_lines, lines_from, handlers_of, script_trace, trace_of};
@@ -44,16 +44,27 @@ fn number_after(before: usize, count: usize) -> Option<usize>
     if before < count { Some(count) } else { None }
 }
 
-// Makes the call of a step. `NoMemory` is all that it is refused for, and only where the kernel had no room: any other
+// The text of a step.
+fn text_of(alloc: Global, step: &Step) -> Result<String, Refusal>
+    ensures { IfOk result (λ text. string_bytes text ≡ step_text step.now) }
+{
+    match step.to_string(alloc) {
+        Ok(text) => Ok(text),
+        Err(_) => Err(Refusal::NoMemory),
+    }
+}
+
+// Makes the call of a step, which goes into the kernel's history. `NoMemory` is all that it is refused for, and only where the kernel had no room: any other
 // refusal of the call is told.
-fn make_call<C: Handler>(kernel: &mut KernelOf<C, Global>, step: &Step) -> Result<Called, Refusal>
+fn make_call<C: Handler>(kernel: &mut KernelOf<C, Global>, step: Step) -> Result<Called, Refusal>
     requires answering { AnswersAsTold C.declared C.plan kernel.old.callbacks }
     ensures answering { AnswersAsTold C.declared C.plan kernel.new.callbacks }
     ensures memory { IfErr result (λ e. kernel.old.room ≡ 0) }
-    ensures turn { IfOk result (λ called. Tells kernel.old kernel.new called.number.0 called.answer.0 (turn kernel.old.limit (moment kernel.old) step.now)) }
+    ensures turn { IfOk result (λ called. Tells kernel.old kernel.new called.number.0 called.answer.0 (turn kernel.old.limit (moment kernel.old) step)) }
 {
+    let Step { who, call } = step;
     let before = kernel.history().len();
-    let answer = kernel.apply(step.who, step.call.copied());
+    let answer = kernel.apply(who, call);
     if wants_memory(&answer) {
         return Err(Refusal::NoMemory);
     }
@@ -64,9 +75,9 @@ fn make_call<C: Handler>(kernel: &mut KernelOf<C, Global>, step: &Step) -> Resul
     })
 }
 
-// The line of a step.
-fn step_line(alloc: Global, step: &Step, called: Called) -> Result<String, Refusal>
-    ensures { IfOk result (λ line. string_bytes line ≡ line_text called.number.0 step.now called.answer.0) }
+// The line of a step that has this text.
+fn step_line(alloc: Global, step: &str, called: Called) -> Result<String, Refusal>
+    ensures { IfOk result (λ line. string_bytes line ≡ line_around called.number.0 step.now called.answer.0) }
 {
     let Called { number, answer } = called;
     let line = StepLine {
@@ -121,27 +132,31 @@ fn plays_from<C: Handler>(kernel: &KernelOf<C, Global>, start: usize) -> &[Play]
     kernel.plays().get(start..).unwrap_or(&[])
 }
 
-// Makes the call of a step, and puts its line and those of its plays.
+// Makes the call of a step, and puts its line and those of its plays. The step's text is made first, since its call goes
+// into the history.
 fn play_step<C: Handler, S: Sink>(
     alloc: Global,
     kernel: &mut KernelOf<C, Global>,
-    step: &Step,
+    step: Step,
     chunks: &mut Chunks,
     out: &mut S,
 ) -> Result<(), Fault>
     requires working { S.has_failed out.old ≡ false }
     requires answering { AnswersAsTold C.declared C.plan kernel.old.callbacks }
     ensures answering { AnswersAsTold C.declared C.plan kernel.new.callbacks }
-    ensures ok { OnOk result (Passes (S.told out.old) chunks.old (S.told out.new) chunks.new (turn_lines step.now (turn kernel.old.limit (moment kernel.old) step.now))) }
-    ensures turns { OnOk result (Turns kernel.old kernel.new (turn kernel.old.limit (moment kernel.old) step.now)) }
+    ensures ok { OnOk result (Passes (S.told out.old) chunks.old (S.told out.new) chunks.new (turn_lines step (turn kernel.old.limit (moment kernel.old) step))) }
+    ensures turns { OnOk result (Turns kernel.old kernel.new (turn kernel.old.limit (moment kernel.old) step)) }
     ensures working { OnOk result (S.has_failed out.new ≡ false) }
-    ensures stopped { IfErr result (Stopped (S.told out.old) chunks.old (S.told out.new) (turn_lines step.now (turn kernel.old.limit (moment kernel.old) step.now)) (S.has_failed out.new)) }
+    ensures stopped { IfErr result (Stopped (S.told out.old) chunks.old (S.told out.new) (turn_lines step (turn kernel.old.limit (moment kernel.old) step)) (S.has_failed out.new)) }
 {
     let plays = kernel.plays().len();
+    let Ok(text) = text_of(alloc, &step) else {
+        return Err(chunks.give_up(out));
+    };
     let Ok(called) = make_call(kernel, step) else {
         return Err(chunks.give_up(out));
     };
-    let Ok(line) = step_line(alloc, step, called) else {
+    let Ok(line) = step_line(alloc, text.as_str(), called) else {
         return Err(chunks.give_up(out));
     };
     match chunks.put(line.as_str(), out) {
@@ -158,15 +173,15 @@ fn play_step<C: Handler, S: Sink>(
 fn play_steps<C: Handler, S: Sink>(
     alloc: Global,
     kernel: &mut KernelOf<C, Global>,
-    steps: &[Step],
+    steps: Vec<Step>,
     chunks: &mut Chunks,
     out: &mut S,
 ) -> Result<(), Fault>
     requires working { S.has_failed out.old ≡ false }
     requires answering { AnswersAsTold C.declared C.plan kernel.old.callbacks }
-    ensures ok { OnOk result (Passes (S.told out.old) chunks.old (S.told out.new) chunks.new (lines_from kernel.old.limit (moment kernel.old) steps.now)) }
+    ensures ok { OnOk result (Passes (S.told out.old) chunks.old (S.told out.new) chunks.new (lines_from kernel.old.limit (moment kernel.old) steps.items)) }
     ensures working { OnOk result (S.has_failed out.new ≡ false) }
-    ensures stopped { IfErr result (Stopped (S.told out.old) chunks.old (S.told out.new) (lines_from kernel.old.limit (moment kernel.old) steps.now) (S.has_failed out.new)) }
+    ensures stopped { IfErr result (Stopped (S.told out.old) chunks.old (S.told out.new) (lines_from kernel.old.limit (moment kernel.old) steps.items) (S.has_failed out.new)) }
 {
     for step in steps {
         match play_step(alloc, kernel, step, chunks, out) {
@@ -211,7 +226,7 @@ fn play_scenario<C: Handler, S: Sink>(
         Ok(()) => {}
         Err(fault) => return Err(fault),
     }
-    match play_steps(alloc, &mut kernel, steps.as_slice(), chunks, out) {
+    match play_steps(alloc, &mut kernel, steps, chunks, out) {
         Ok(()) => Ok(()),
         Err(fault) => Err(fault),
     }

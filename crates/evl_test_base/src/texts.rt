@@ -1,7 +1,7 @@
 //! Texts, numbers and names.
 use evl_base::{
     Call, FlagId, LineNo, Play, Policy, Refusal, Reply, SemId, Spares, Stage, Take, ThreadId,
-    TimerId, Transfer, Way, put_call, put_play, put_reply,
+    TimerId, Transfer, Way, XbufId, put_call, put_play, put_reply,
 };
 use std::alloc::Global;
 use std::test::*;
@@ -73,6 +73,63 @@ fn two_transfers(alloc: Global) -> Result<(Transfer, Transfer), Refusal> {
     spares.keep(2)?;
     let three = spares.take(&[0x61, 0x0a, 0xff]);
     Ok((three, spares.take(&[])))
+}
+
+#[test]
+fn buffer_calls_have_their_texts(rt: HostRuntime) -> Result<(), Fail> {
+    let (three, none) = two_transfers(rt.alloc()).map_err(|_| "boxes")?;
+    let xbuf = XbufId(15);
+    let calls = [
+        (
+            Call::Write {
+                xbuf,
+                way: Way::In,
+                bytes: three,
+            },
+            "write xbuf=15 way=in bytes=610aff",
+        ),
+        (
+            Call::Read {
+                xbuf,
+                way: Way::Out,
+                len: 257,
+            },
+            "read xbuf=15 way=out len=257",
+        ),
+        (Call::Room { xbuf, way: Way::In }, "room xbuf=15 way=in"),
+        (
+            Call::BeginWrite {
+                xbuf,
+                way: Way::Out,
+                bytes: none,
+                until: None,
+            },
+            "begin_write xbuf=15 way=out bytes=- until=none",
+        ),
+        (
+            Call::BeginRead {
+                xbuf,
+                way: Way::In,
+                len: 0,
+                until: Some(5),
+            },
+            "begin_read xbuf=15 way=in len=0 until=5",
+        ),
+    ];
+    for (call, expected) in &calls {
+        assert!(rt; is_call_copied(rt.alloc(), call, expected).map_err(|_| "copy")?);
+    }
+    Ok(())
+}
+
+// Whether a call that was copied has this text.
+fn is_call_copied(alloc: Global, call: &Call, wanted: &str) -> Result<bool, Refusal> {
+    let mut spares = Spares::new(alloc, alloc);
+    spares.keep(1)?;
+    let copy = call.copied(&mut spares);
+    let mut text = Vec::new(alloc);
+    put_call(&mut text, &copy)?;
+    Ok(text.as_slice() == wanted.as_bytes())
 }
 
 // Whether a reply that was copied has the same text.

@@ -10,9 +10,10 @@ fn is_named(alloc: Global, refusal: Refusal, name: &str) -> Result<bool, Fail> {
         who: ThreadId(54321),
         call: Call::Peek { sem: SemId(9876) },
     };
+    let text = step.to_string(alloc)?;
     let line = StepLine {
         number: EntryNumber(Some(1_000_000)),
-        step: &step,
+        step: text.as_str(),
         answer: Answer(Err(refusal)),
     };
     let wanted = format!(in alloc; "1000000 T54321 peek sem=9876 -> {name}\n")?;

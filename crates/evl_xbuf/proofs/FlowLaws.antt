@@ -12,7 +12,7 @@ use Rattle.evl_xbuf.specs.Flows.{Call, Write, Read, BeginWrite, BeginRead, Drop,
 use Rattle.evl_xbuf.proofs.ServingLaws.{at_rest, goes_on}
 
 -- what is there, and then what comes, is what goes, and then what is there afterwards
-abbrev Goes : List ℕ → Flow → Type 0
+abbrev pub Goes : List ℕ → Flow → Type 0
 Goes there f = there ++ f.accepted ≡ f.taken ++ f.after.there
 
 -- one service, and then the others
@@ -86,7 +86,7 @@ call-goes (BeginRead thread len) s = by (can_read s len)
     by false = append-nil s.there
 call-goes (Drop thread) s = served-flows (waiting (without s thread)) (without s thread)
 
-run-goes : (calls : List Call) (s : Stream) → Goes s.there (run calls s)
+pub run-goes : (calls : List Call) (s : Stream) → Goes s.there (run calls s)
 run-goes [] s = append-nil s.there
 run-goes (call ∷ calls) s =
     let first = flow call s in let rest = run calls first.after in

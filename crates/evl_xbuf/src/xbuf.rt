@@ -1,5 +1,5 @@
 //! One cross-buffer.
-ghost use Rattle.std.specs.Prelude.{◌≡◌, ◌<◌, ◌≤◌, false, IfOk, IfErr};
+ghost use Rattle.std.specs.Prelude.{◌≡◌, ◌<◌, ◌≤◌, false, length, nat_lt, IfOk, IfErr};
 ghost use Rattle.std.specs.Option.{option_map};
 ghost use Rattle.evl_base.specs.declared.refusal.Refusal.{Refusal};
 ghost use Rattle.evl_sync.specs.Queues.{stands_in};
@@ -159,6 +159,16 @@ impl<A: Allocator> XbufOf<A> {
         match way {
             Way::In => self.inbound.drop_waiter(thread),
             Way::Out => self.outbound.drop_waiter(thread),
+        }
+    }
+
+    /// Whether bytes are longer than this way's ring, so that they can never be written. (this profile)
+    pub fn is_too_big(&self, way: Way, bytes: &[u8]) -> bool
+        ensures too_big { result ≡ nat_lt (stream self.now way).size (length bytes.now) }
+    {
+        match way {
+            Way::In => self.inbound.is_too_big(bytes),
+            Way::Out => self.outbound.is_too_big(bytes),
         }
     }
 

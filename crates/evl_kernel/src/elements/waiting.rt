@@ -1,14 +1,18 @@
 //! How waits for elements begin, and how a waiter leaves.
-ghost use Rattle.std.specs.Prelude.{◌≡◌, ◌<◌, None, Ok, false, true};
-ghost use Rattle.evl_kernel.specs.Beginnings.{awaited, form_refusal, is_there, step_of_waiter};
+ghost use Rattle.std.specs.Prelude.{◌≡◌, ◌<◌, ◌≤◌, None, Some, Ok, false, true, map, if◌then◌else◌};
+ghost use Rattle.std.specs.Option.{option_map};
+ghost use Rattle.evl_kernel.specs.Beginnings.{awaited, form_refusal, is_ranked, is_there, size_refusal, step_of_waiter};
+ghost use Rattle.evl_kernel.specs.CrossBuffers as through;
+ghost use Rattle.evl_kernel.specs.CrossBuffers.{done_at_once, read_at_once, service_told, served_beside, served_in};
 ghost use Rattle.evl_kernel.specs.Effects.{if_done};
-ghost use Rattle.evl_kernel.specs.Elements.{element, serves};
+ghost use Rattle.evl_kernel.specs.Elements.{element, on_xbuf, serves, wakes};
 ghost use Rattle.evl_kernel.specs.Endings.{drop_step};
 ghost use Rattle.evl_kernel.specs.Standing.{stands_for};
 
 use super::Elements;
 use crate::waits::{Awaited, Wanted};
-use evl_base::{FlagId, Reply, SemId, Take, ThreadId};
+use evl_base::{Bytes, FlagId, Refusal, Reply, SemId, Stage, Take, ThreadId, Way, XbufId};
+use evl_xbuf::Served;
 use std::alloc::Allocator;
 
 impl<A: Allocator> Elements<A> {
@@ -19,21 +23,27 @@ impl<A: Allocator> Elements<A> {
         match on {
             Awaited::Sem(sem) => usize::from(sem.0) < self.sems.len(),
             Awaited::Flags(flags) => usize::from(flags.0) < self.flags.len(),
+            Awaited::Writing(xbuf, _) | Awaited::Reading(xbuf, _) => {
+                usize::from(xbuf.0) < self.xbufs.len()
+            }
         }
     }
 
-    /// A thread that waits for nothing begins to wait with its rank, or is served at once; then this is with what.
-    pub(crate) fn begin(&mut self, thread: ThreadId, rank: u16, wanted: Wanted) -> Option<Reply>
-        requires there { is_there self.old (awaited wanted) ≡ true }
-        requires allowed { form_refusal wanted ≡ None }
-        requires away { stands_for self.old (awaited wanted) thread.0 ≡ false }
+    /// A thread that waits for nothing begins to wait with its rank for a semaphore or a flag group, or is served at once;
+    /// then this is with what.
+    pub(crate) fn begin(&mut self, thread: ThreadId, rank: u16, wanted: &Wanted) -> Option<Reply>
+        requires ranked { is_ranked wanted.now ≡ true }
+        requires there { is_there self.old (awaited wanted.now) ≡ true }
+        requires allowed { form_refusal wanted.now ≡ None }
+        requires away { stands_for self.old (awaited wanted.now) thread.0 ≡ false }
         requires few { thread.0 < 64 }
-        ensures step { element self.old (step_of_waiter thread.0 rank wanted) ≡ Ok (Reply.Begun, self.new) }
-        ensures served { result ≡ serves self.old (step_of_waiter thread.0 rank wanted) }
+        ensures step { element self.old (step_of_waiter thread.0 rank wanted.now) ≡ Ok (Reply.Begun, self.new) }
+        ensures served { result ≡ serves self.old (step_of_waiter thread.0 rank wanted.now) }
     {
         match wanted {
-            Wanted::Sem(sem) => self.begin_get(thread, rank, sem),
-            Wanted::Flags(flags, kind) => self.begin_take(thread, rank, flags, kind),
+            Wanted::Sem(sem) => self.begin_get(thread, rank, *sem),
+            Wanted::Flags(flags, kind) => self.begin_take(thread, rank, *flags, *kind),
+            _ => unreachable!(),
         }
     }
 
@@ -70,9 +80,76 @@ impl<A: Allocator> Elements<A> {
         }
     }
 
-    /// A thread leaves the queue of an element. Nothing changes where it doesn't stand there.
-    pub(crate) fn leave(&mut self, thread: ThreadId, on: Awaited)
+    /// Whether the ring is large enough for what is wanted.
+    pub(crate) fn holds(&self, wanted: &Wanted) -> bool
+        ensures size { size_refusal self.now wanted.now ≡ (if result then None else Some Refusal.TooBig) }
+    {
+        match wanted {
+            Wanted::Write(xbuf, way, bytes) => match self.xbufs.get(usize::from(xbuf.0)) {
+                Some(xbuf) => !xbuf.is_too_big(*way, bytes.as_slice()),
+                None => true,
+            },
+            _ => true,
+        }
+    }
+
+    /// A thread that waits for nothing writes at once, which says whom that served, or begins to wait.
+    pub(crate) fn begin_write(
+        &mut self,
+        thread: ThreadId,
+        xbuf: XbufId,
+        way: Way,
+        bytes: &[u8],
+    ) -> Option<Served>
+        requires there { is_there self.old (Awaited.Writing xbuf way) ≡ true }
+        requires fits { size_refusal self.old (Wanted.Write xbuf way (record { items = bytes.now })) ≡ None }
+        requires away { stands_for self.old (Awaited.Writing xbuf way) thread.0 ≡ false }
+        requires few { thread.0 < 64 }
+        ensures step { element self.old (on_xbuf xbuf.0 (through.begin_write thread.0 way bytes.now)) ≡ Ok (Reply.Begun, self.new) }
+        ensures served { serves self.old (on_xbuf xbuf.0 (through.begin_write thread.0 way bytes.now)) ≡ done_at_once result }
+        ensures woken { wakes self.old (on_xbuf xbuf.0 (through.begin_write thread.0 way bytes.now)) ≡ map service_told (served_in result) }
+    {
+        let stage = match way {
+            Way::In => Stage::Inband,
+            Way::Out => Stage::Oob,
+        };
+        match self.xbufs[usize::from(xbuf.0)].begin_write(thread, stage, way, bytes) {
+            Ok(served) => served,
+            Err(_) => None,
+        }
+    }
+
+    /// A thread that waits for nothing reads at once, which says what and whom that served, or begins to wait.
+    pub(crate) fn begin_read(
+        &mut self,
+        thread: ThreadId,
+        xbuf: XbufId,
+        way: Way,
+        len: u16,
+    ) -> Option<(Bytes, Served)>
+        requires there { is_there self.old (Awaited.Reading xbuf way) ≡ true }
+        requires range { len ≤ 256 }
+        requires away { stands_for self.old (Awaited.Reading xbuf way) thread.0 ≡ false }
+        requires few { thread.0 < 64 }
+        ensures step { element self.old (on_xbuf xbuf.0 (through.begin_read thread.0 way len)) ≡ Ok (Reply.Begun, self.new) }
+        ensures served { serves self.old (on_xbuf xbuf.0 (through.begin_read thread.0 way len)) ≡ read_at_once (option_map (λ got. (got.0.items, got.1)) result) }
+        ensures woken { wakes self.old (on_xbuf xbuf.0 (through.begin_read thread.0 way len)) ≡ map service_told (served_beside (option_map (λ got. (got.0.items, got.1)) result)) }
+    {
+        let stage = match way {
+            Way::In => Stage::Oob,
+            Way::Out => Stage::Inband,
+        };
+        match self.xbufs[usize::from(xbuf.0)].begin_read(thread, stage, way, len) {
+            Ok(got) => got,
+            Err(_) => None,
+        }
+    }
+
+    /// A thread leaves the queue of an element; whom that served, where it was a cross-buffer's. Nothing changes where it
+    /// doesn't stand there.
+    pub(crate) fn leave(&mut self, thread: ThreadId, on: Awaited) -> Option<Served>
         ensures left { self.new ≡ if_done self.old (element self.old (drop_step thread.0 on)) }
+        ensures woken { wakes self.old (drop_step thread.0 on) ≡ map service_told (served_in result) }
     {
         match on {
             Awaited::Sem(sem) => {
@@ -80,12 +157,21 @@ impl<A: Allocator> Elements<A> {
                 if place < self.sems.len() {
                     self.sems[place].drop_waiter(thread);
                 }
+                None
             }
             Awaited::Flags(flags) => {
                 let place = usize::from(flags.0);
                 if place < self.flags.len() {
                     self.flags[place].drop_waiter(thread);
                 }
+                None
+            }
+            Awaited::Writing(xbuf, way) | Awaited::Reading(xbuf, way) => {
+                let place = usize::from(xbuf.0);
+                if place >= self.xbufs.len() {
+                    return None;
+                }
+                Some(self.xbufs[place].drop_waiter(thread, way))
             }
         }
     }

@@ -1,7 +1,10 @@
-//! The calls on semaphores and flag groups.
-ghost use Rattle.std.specs.Prelude.{◌≡◌, true, false};
+//! The calls on semaphores, flag groups and cross-buffers.
+ghost use Rattle.std.specs.Prelude.{◌≡◌, ◌≤◌, ◌+◌, true, false, map};
 ghost use Rattle.evl_sync.specs.FlagGroups.{pairs};
-ghost use Rattle.evl_kernel.specs.Elements.{elements, on_flags, on_sem, stepping};
+ghost use Rattle.evl_kernel.specs.Elements.{elements, on_flags, on_sem, on_xbuf, stepping};
+ghost use Rattle.evl_kernel.specs.CrossBuffers as through;
+ghost use Rattle.evl_kernel.specs.CrossBuffers.{service_told};
+ghost use Rattle.evl_sched.specs.Threads.{stage_of};
 ghost use Rattle.evl_kernel.specs.FlagGroups as group;
 ghost use Rattle.evl_kernel.specs.FlagGroups.{all_served};
 ghost use Rattle.evl_kernel.specs.KernelViews.{Has, IsAnswer};
@@ -12,8 +15,10 @@ ghost use Rattle.evl_kernel.specs.Waits.{all_woken};
 ghost use Rattle.evl_kernel.specs.declared.waits.Awaited.{Awaited as AwaitedOne};
 
 use super::Records;
-use evl_base::{FlagId, Refusal, Reply, SemId, Take};
+use crate::wait_place::Outcome;
+use evl_base::{FlagId, Refusal, Reply, SemId, Spares, Take, ThreadId, Way, XbufId};
 use evl_sync::Served;
+use evl_xbuf::{self as xbuf, Service};
 use std::alloc::Allocator;
 
 impl<C, A: Allocator> Records<C, A> {
@@ -41,7 +46,7 @@ impl<C, A: Allocator> Records<C, A> {
             Err(refusal) => Err(refusal),
             Ok(None) => Ok(Reply::Done),
             Ok(Some(thread)) => {
-                self.wake(thread, Reply::Done);
+                self.wake(thread, Outcome::Told(Reply::Done));
                 Ok(Reply::Done)
             }
         }
@@ -96,6 +101,81 @@ impl<C, A: Allocator> Records<C, A> {
         }
     }
 
+    /// Writes bytes from the thread's stage, and ends the waits of those whom that serves. The first that applies: `Unknown`
+    /// (no such cross-buffer), `WrongStage`, `TooBig`, `Again`.
+    pub(super) fn write(
+        &mut self,
+        thread: ThreadId,
+        xbuf: XbufId,
+        way: Way,
+        bytes: &[u8],
+    ) -> Result<Reply, Refusal>
+        ensures answer { IsAnswer result }
+        ensures served { Has (state_of self.old) (stepping (state_of self.old) (on_xbuf xbuf.0 (through.write (stage_of (state_of self.old).sched thread.0) way bytes.now))) result (state_of self.new) }
+        ensures stands { KeepsCallbacks self.old self.new }
+    {
+        let stage = self.sched.stage(thread);
+        match self.elements.write(stage, xbuf, way, bytes) {
+            Err(refusal) => Err(refusal),
+            Ok(served) => {
+                self.wake_served(&served);
+                Ok(Reply::Done)
+            }
+        }
+    }
+
+    /// Reads bytes from the thread's stage into a box of `spares`, and ends the waits of those whom that serves. The first
+    /// that applies: `Unknown` (no such cross-buffer), `Range`, `WrongStage`, `Again`.
+    pub(super) fn read(
+        &mut self,
+        thread: ThreadId,
+        xbuf: XbufId,
+        way: Way,
+        len: u16,
+        spares: &mut Spares<A>,
+    ) -> Result<Reply, Refusal>
+        requires boxes { 1 ≤ spares.old }
+        ensures boxes { spares.old ≤ spares.new + 1 }
+        ensures answer { IsAnswer result }
+        ensures served { Has (state_of self.old) (stepping (state_of self.old) (on_xbuf xbuf.0 (through.read (stage_of (state_of self.old).sched thread.0) way len))) result (state_of self.new) }
+        ensures stands { KeepsCallbacks self.old self.new }
+    {
+        let stage = self.sched.stage(thread);
+        match self.elements.read(stage, xbuf, way, len) {
+            Err(refusal) => Err(refusal),
+            Ok((bytes, served)) => {
+                self.wake_served(&served);
+                Ok(Reply::Bytes(spares.take(bytes.as_slice())))
+            }
+        }
+    }
+
+    /// Tells how many bytes are free. `Unknown` where there is no such cross-buffer.
+    pub(super) fn room(&self, xbuf: XbufId, way: Way) -> Result<Reply, Refusal>
+        ensures answer { IsAnswer result }
+        ensures served { Has (state_of self.now) (stepping (state_of self.now) (on_xbuf xbuf.0 (through.room way))) result (state_of self.now) }
+    {
+        match self.elements.room(xbuf, way) {
+            Err(refusal) => Err(refusal),
+            Ok(free) => Ok(Reply::Number(u64::from(free))),
+        }
+    }
+
+    /// The waits of those whom a cross-buffer served have ended, in this order, each with what it read, if it read.
+    pub(super) fn wake_served(&mut self, served: &xbuf::Served)
+        requires away { (thread : _) → is_served thread (map service_told served.now) ≡ true → (on : AwaitedOne) → stands_for (elements (state_of self.old)) on thread ≡ false }
+        ensures woken { state_of self.new ≡ all_woken (state_of self.old) (map service_told served.now) }
+        ensures stands { KeepsCallbacks self.old self.new }
+    {
+        for place in 0..served.len() {
+            match served.get(place) {
+                Some(Service::Wrote(thread)) => self.wake(thread, Outcome::Told(Reply::Done)),
+                Some(Service::Got(thread, bytes)) => self.wake(thread, Outcome::Read(bytes)),
+                None => {}
+            }
+        }
+    }
+
     /// The waits of those who were served have ended, in this order, each with the bits that it took.
     fn wake_all(&mut self, served: &[Served])
         requires away { (thread : _) → is_served thread (all_served (pairs served.now)) ≡ true → (on : AwaitedOne) → stands_for (elements (state_of self.old)) on thread ≡ false }
@@ -103,7 +183,7 @@ impl<C, A: Allocator> Records<C, A> {
         ensures stands { KeepsCallbacks self.old self.new }
     {
         for one in served {
-            self.wake(one.thread, Reply::Bits(one.bits));
+            self.wake(one.thread, Outcome::Told(Reply::Bits(one.bits)));
         }
     }
 }

@@ -1,30 +1,33 @@
 //! Waits: how they begin, and what ends them.
-ghost use Rattle.std.specs.Prelude.{ℕ, ◌≡◌, ◌<◌, None, Some, false, IfErr, IfOk};
+ghost use Rattle.std.specs.Prelude.{ℕ, ◌≡◌, ◌<◌, ◌≤◌, ◌+◌, None, Some, Ok, Err, true, false, map, IfErr, IfOk};
 ghost use Rattle.evl_sched.specs.Threads.{unready};
 ghost use Rattle.evl_clock.specs.Clocks.{with_deadline};
-ghost use Rattle.evl_kernel.specs.Beginnings.{beginning, waiter_refusal};
-ghost use Rattle.evl_kernel.specs.Elements.{elements};
-ghost use Rattle.evl_kernel.specs.Effects.{if_done};
-ghost use Rattle.evl_kernel.specs.Endings.{finish, goes_inband, leaving_queue};
+ghost use Rattle.evl_kernel.specs.Beginnings.{begin_refusal, beginning, is_ranked, waiter_refusal};
+ghost use Rattle.evl_kernel.specs.CrossBuffers.{service_told, served_in};
+ghost use Rattle.evl_kernel.specs.Elements.{elements, with_elements};
+ghost use Rattle.evl_kernel.specs.Endings.{finish, goes_inband, left_by, served_by_leaving};
 ghost use Rattle.evl_kernel.specs.KernelViews.{Has, IsAnswer};
 ghost use Rattle.evl_kernel.specs.Records.{KeepsCallbacks, state_of};
 ghost use Rattle.evl_kernel.specs.Settling.{deadline_left};
-ghost use Rattle.evl_kernel.specs.Standing.{stands_for};
+ghost use Rattle.evl_kernel.specs.Standing.{is_served, stands_for};
 ghost use Rattle.evl_kernel.specs.States.{with_clock, with_sched};
 ghost use Rattle.evl_kernel.specs.ThreadCalls.{rank_of};
 ghost use Rattle.evl_kernel.specs.TimerCalls.{posted_if};
+ghost use Rattle.evl_kernel.specs.WaitBoxes.{FitsBox, reply_of};
 ghost use Rattle.evl_kernel.specs.Waits.{is_past, wait_at, woken};
 ghost use Rattle.evl_kernel.specs.declared.waits.Awaited.{Awaited as AwaitedOne};
 
 use super::Records;
-use crate::waits::{self, Wanted};
-use evl_base::{Policy, Refusal, Reply, Stage, ThreadId};
+use crate::wait_place::Outcome;
+use crate::waits::{self, Awaited, Wanted};
+use evl_base::{Policy, Refusal, Reply, Spares, Stage, ThreadId, Way, XbufId};
+use evl_xbuf::Served;
 use std::alloc::Allocator;
 
 impl<C, A: Allocator> Records<C, A> {
     /// Begins a wait, which is served at once where it can be; else the thread is blocked, until a date where there is one.
-    /// The first that applies: `Unknown` (no such element), `Invalid` (the thread isn't attached, or a mask has no bits),
-    /// `WrongStage` (it is in-band).
+    /// The first that applies: `Unknown` (no such element), `Range` (more bytes than one transfer carries), `Invalid` (the
+    /// thread isn't attached, or a mask has no bits), `WrongStage`, `TooBig` (more bytes than the ring has).
     pub(super) fn begin_wait(
         &mut self,
         thread: ThreadId,
@@ -41,24 +44,101 @@ impl<C, A: Allocator> Records<C, A> {
         if !self.elements.has(on) {
             return Err(Refusal::Unknown);
         }
-        let rank = match self.may_begin(thread, wanted) {
+        if !wanted.is_in_range() {
+            return Err(Refusal::Range);
+        }
+        let rank = match self.may_begin(thread, &wanted) {
             Ok(rank) => rank,
             Err(refusal) => return Err(refusal),
         };
-        if let Some(outcome) = self.elements.begin(thread, rank, wanted) {
-            waits::begin(&mut self.waits, thread, on, Some(outcome));
-            return Ok(Reply::Begun);
+        if !self.elements.holds(&wanted) {
+            return Err(Refusal::TooBig);
         }
-        waits::begin(&mut self.waits, thread, on, None);
-        self.suspend(thread, until);
+        match wanted {
+            Wanted::Write(xbuf, way, bytes) => {
+                self.begin_write(thread, xbuf, way, bytes.as_slice(), until)
+            }
+            Wanted::Read(xbuf, way, len) => self.begin_read(thread, xbuf, way, len, until),
+            ranked => self.begin_ranked(thread, rank, &ranked, until),
+        }
         Ok(Reply::Begun)
     }
 
+    /// A wait for a semaphore or a flag group begins, with the thread's rank.
+    fn begin_ranked(&mut self, thread: ThreadId, rank: u16, wanted: &Wanted, until: Option<u64>)
+        requires ranked { is_ranked wanted.now ≡ true }
+        requires idle { wait_at (state_of self.old) thread.0 ≡ None }
+        requires there { thread.0 < self.old.threads }
+        requires may { begin_refusal (state_of self.old) thread.0 wanted.now ≡ None }
+        requires rank { rank ≡ rank_of (state_of self.old) thread.0 }
+        ensures begun { (beginning (state_of self.old) thread.0 wanted.now until).effect ≡ Ok (Reply.Begun, state_of self.new) }
+        ensures stands { KeepsCallbacks self.old self.new }
+    {
+        let on = wanted.awaited();
+        if let Some(outcome) = self.elements.begin(thread, rank, wanted) {
+            waits::begin(&mut self.waits, thread, on, Some(Outcome::Told(outcome)));
+            return;
+        }
+        waits::begin(&mut self.waits, thread, on, None);
+        self.suspend(thread, until);
+    }
+
+    /// A wait to write begins; where the bytes are written at once, the waits of those whom that serves end.
+    fn begin_write(
+        &mut self,
+        thread: ThreadId,
+        xbuf: XbufId,
+        way: Way,
+        bytes: &[u8],
+        until: Option<u64>,
+    )
+        requires idle { wait_at (state_of self.old) thread.0 ≡ None }
+        requires there { thread.0 < self.old.threads }
+        requires may { begin_refusal (state_of self.old) thread.0 (Wanted.Write xbuf way (record { items = bytes.now })) ≡ None }
+        ensures begun { (beginning (state_of self.old) thread.0 (Wanted.Write xbuf way (record { items = bytes.now })) until).effect ≡ Ok (Reply.Begun, state_of self.new) }
+        ensures stands { KeepsCallbacks self.old self.new }
+    {
+        let on = Awaited::Writing(xbuf, way);
+        match self.elements.begin_write(thread, xbuf, way, bytes) {
+            Some(served) => {
+                let done = Outcome::Told(Reply::Done);
+                waits::begin(&mut self.waits, thread, on, Some(done));
+                self.wake_served(&served);
+            }
+            None => {
+                waits::begin(&mut self.waits, thread, on, None);
+                self.suspend(thread, until);
+            }
+        }
+    }
+
+    /// A wait to read begins; where something is read at once, the waits of those whom that serves end.
+    fn begin_read(&mut self, thread: ThreadId, xbuf: XbufId, way: Way, len: u16, until: Option<u64>)
+        requires idle { wait_at (state_of self.old) thread.0 ≡ None }
+        requires there { thread.0 < self.old.threads }
+        requires may { begin_refusal (state_of self.old) thread.0 (Wanted.Read xbuf way len) ≡ None }
+        ensures begun { (beginning (state_of self.old) thread.0 (Wanted.Read xbuf way len) until).effect ≡ Ok (Reply.Begun, state_of self.new) }
+        ensures stands { KeepsCallbacks self.old self.new }
+    {
+        let on = Awaited::Reading(xbuf, way);
+        match self.elements.begin_read(thread, xbuf, way, len) {
+            Some((bytes, served)) => {
+                let read = Outcome::Read(bytes.as_slice());
+                waits::begin(&mut self.waits, thread, on, Some(read));
+                self.wake_served(&served);
+            }
+            None => {
+                waits::begin(&mut self.waits, thread, on, None);
+                self.suspend(thread, until);
+            }
+        }
+    }
+
     /// The rank of a thread that may begin this wait. The first that applies: `Unknown` (no such thread), `Invalid` (it isn't
-    /// attached, or a mask has no bits), `WrongStage` (it is in-band).
-    fn may_begin(&self, thread: ThreadId, wanted: Wanted) -> Result<u16, Refusal>
-        ensures ok { IfOk result (λ rank. (waiter_refusal (state_of self.now) thread.0 wanted ≡ None) × (rank ≡ rank_of (state_of self.now) thread.0)) }
-        ensures refused { IfErr result (λ e. waiter_refusal (state_of self.now) thread.0 wanted ≡ Some e) }
+    /// attached, or a mask has no bits), `WrongStage` (it is on the other stage).
+    fn may_begin(&self, thread: ThreadId, wanted: &Wanted) -> Result<u16, Refusal>
+        ensures ok { IfOk result (λ rank. (waiter_refusal (state_of self.now) thread.0 wanted.now ≡ None) × (rank ≡ rank_of (state_of self.now) thread.0)) }
+        ensures refused { IfErr result (λ e. waiter_refusal (state_of self.now) thread.0 wanted.now ≡ Some e) }
         ensures answer { IfErr result (λ e. IsAnswer (Err e)) }
     {
         match self.sched.rank(thread) {
@@ -67,9 +147,9 @@ impl<C, A: Allocator> Records<C, A> {
                 if !wanted.is_allowed() {
                     return Err(Refusal::Invalid);
                 }
-                match self.sched.stage(thread) {
-                    Stage::Oob => Ok(rank),
-                    Stage::Inband => Err(Refusal::WrongStage),
+                match (self.sched.stage(thread), wanted.stage()) {
+                    (Stage::Oob, Stage::Oob) | (Stage::Inband, Stage::Inband) => Ok(rank),
+                    _ => Err(Refusal::WrongStage),
                 }
             }
         }
@@ -94,9 +174,10 @@ impl<C, A: Allocator> Records<C, A> {
 
     /// A wait that went on has ended: its deadline is gone, and its thread goes to the end of the ready list, where it is
     /// out-of-band.
-    pub(super) fn wake(&mut self, thread: ThreadId, outcome: Reply)
+    pub(super) fn wake(&mut self, thread: ThreadId, outcome: Outcome<'_>)
+        requires fits { FitsBox (Some outcome) }
         requires away { (on : AwaitedOne) → stands_for (elements (state_of self.old)) on thread.0 ≡ false }
-        ensures woken { state_of self.new ≡ woken (state_of self.old) thread.0 outcome }
+        ensures woken { state_of self.new ≡ woken (state_of self.old) thread.0 (reply_of outcome.entry) }
         ensures stands { KeepsCallbacks self.old self.new }
     {
         waits::end(&mut self.waits, thread, outcome);
@@ -104,35 +185,46 @@ impl<C, A: Allocator> Records<C, A> {
         self.sched.ready(thread);
     }
 
-    /// A deadline that fell due ends its thread's wait as timed out, and the thread leaves the queue in which it waited.
+    /// A deadline that fell due ends its thread's wait as timed out, and the thread leaves the queue in which it waited;
+    /// then the waits of those end whom that serves.
     pub(super) fn expire(&mut self, thread: ThreadId)
         ensures expired { state_of self.new ≡ (deadline_left (state_of self.old) thread.0).1 }
         ensures stands { KeepsCallbacks self.old self.new }
     {
-        self.leave_queue(thread);
-        self.wake(thread, Reply::TimedOut);
-    }
-
-    /// A thread leaves the queue in which it waits, if it waits in one.
-    fn leave_queue(&mut self, thread: ThreadId)
-        ensures left { state_of self.new ≡ if_done (state_of self.old) (leaving_queue (state_of self.old) thread.0 (wait_at (state_of self.old) thread.0)).effect }
-        ensures away { (on : AwaitedOne) → stands_for (elements (state_of self.new)) on thread.0 ≡ false }
-        ensures stands { KeepsCallbacks self.old self.new }
-    {
-        match waits::awaited_by(&self.waits, thread) {
-            None => {}
-            Some(on) => self.elements.leave(thread, on),
+        let served = self.leave_queue(thread);
+        self.wake(thread, Outcome::Told(Reply::TimedOut));
+        if let Some(served) = served {
+            self.wake_served(&served);
         }
     }
 
-    /// Answers what ended the thread's wait, which is finished then; a weak thread goes in-band, unless it keeps its stage.
+    /// A thread leaves the queue in which it waits, if it waits in one; whom that serves wait on.
+    fn leave_queue(&mut self, thread: ThreadId) -> Option<Served>
+        ensures left { state_of self.new ≡ with_elements (state_of self.old) (left_by (elements (state_of self.old)) thread.0 (wait_at (state_of self.old) thread.0)) }
+        ensures served { served_by_leaving (elements (state_of self.old)) thread.0 (wait_at (state_of self.old) thread.0) ≡ map service_told (served_in result) }
+        ensures away { (on : AwaitedOne) → stands_for (elements (state_of self.new)) on thread.0 ≡ false }
+        ensures apart { (t : ℕ) → is_served t (map service_told (served_in result)) ≡ true → (on : AwaitedOne) → stands_for (elements (state_of self.new)) on t ≡ false }
+        ensures stands { KeepsCallbacks self.old self.new }
+    {
+        let on = waits::awaited_by(&self.waits, thread)?;
+        self.elements.leave(thread, on)
+    }
+
+    /// Answers what ended the thread's wait, which is finished then, bytes in a box of `spares`; a weak thread goes in-band, unless it keeps its stage.
     /// The first that applies: `Invalid` (there is no wait), `Again` (it goes on).
-    pub(super) fn finish(&mut self, thread: ThreadId, keep: bool) -> Result<Reply, Refusal>
+    pub(super) fn finish(
+        &mut self,
+        thread: ThreadId,
+        keep: bool,
+        spares: &mut Spares<A>,
+    ) -> Result<Reply, Refusal>
+        requires boxes { 1 ≤ spares.old }
+        ensures boxes { spares.old ≤ spares.new + 1 }
         ensures answer { IsAnswer result }
         ensures served { Has (state_of self.old) (finish (state_of self.old) thread.0 keep) result (state_of self.new) }
         ensures stands { KeepsCallbacks self.old self.new }
     {
-        match waits::take_outcome(&mut self.waits, thread) {
+        match waits::take_outcome(&mut self.waits, thread, spares) {
             Err(refusal) => Err(refusal),
             Ok(outcome) => {
                 if self.goes_inband(thread, keep) {

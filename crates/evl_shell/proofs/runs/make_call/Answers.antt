@@ -1,4 +1,4 @@
-use Rattle.std.proofs.Common.{◌∙◌, sym, length}
+use Rattle.std.proofs.Common.{◌∙◌, sym, length, refl}
 use Rattle.evl_shell.specs.Moments.{number_after}
 use Rattle.evl_shell.proofs.TurnLemmas.{made, wanted}
 use Rattle.evl_shell.proofs.runs.make_call.Goals as goal
@@ -6,7 +6,7 @@ use Rattle.evl_shell.proofs.runs.make_call.Goals as goal
 pub returns-clause-turn : goal.returns-clause-turn
 returns-clause-turn g c =
     let call = c.apply-answer in
-    let told = made c.args.kernel.now call.new.self c.args.step.now c.copied.result call.result c.copied.ensures
+    let told = made c.args.kernel.now call.new.self c.args.step c.args.step.call call.result refl
     call.ensures.entry call.ensures.none call.ensures.full call.ensures.limit (sym c.wants_memory.ensures ∙ c.if-wants_memory.false) in
     record {
       turns = told.turns;

@@ -1,4 +1,4 @@
-use Rattle.std.proofs.Common.{◌≡◌, false, ℕ, List, ◌++◌, drop}
+use Rattle.std.proofs.Common.{◌≡◌, false, ℕ, List, ◌++◌}
 use Rattle.evl_kernel.specs.Callbacks.{AnswersAsTold}
 use Rattle.evl_scenario.specs.Lines.{AreLines}
 use Rattle.evl_shell.specs.Moments.{moment}
@@ -11,6 +11,6 @@ invariant-loop-step g l =
     AnswersAsTold g.C.Handler.declared g.C.Handler.plan l.kernel.callbacks
     × (g.S.Sink.has_failed l.out ≡ false)
     × (done : List ℕ)
-    × (done ++ lines_from l.kernel.limit (moment l.kernel) (drop l.step-index l.steps) ≡ lines_from l.initial.kernel.limit (moment l.initial.kernel) l.steps)
+    × (done ++ lines_from l.kernel.limit (moment l.kernel) l.step-iterator.rest.items ≡ lines_from l.initial.kernel.limit (moment l.initial.kernel) l.fn.steps.items)
     × AreLines done
     × Passes (g.S.Sink.told l.initial.out) l.initial.chunks (g.S.Sink.told l.out) l.chunks done

@@ -1,14 +1,9 @@
-use Rattle.std.proofs.Common.{sym}
-use Rattle.evl_kernel.specs.RecordsInside.{records_view}
-use Rattle.evl_kernel.proofs.WaitRecords.{sound_served, sound_waiting}
 use Rattle.evl_kernel.proofs.records.Records.begin_wait.Goals as goal
+use Rattle.evl_kernel.proofs.records.Records.begin_wait.Goals.{in-Write, in-Read, in_default}
 
-pub invariant_of-self : goal.invariant_of-self
-invariant_of-self g c =
-    sound_served (records_view c.self.inside) c.self.invariant c.args.thread.0 c.in-Ok.rank c.args.wanted c.args.until (rw (← c.self.view_is) at c.requires.idle) (rw (← c.self.view_is) at c.requires.there)
-    c.begin.new.self c.begin.ensures.step c.in-Some.outcome (sym c.in-Some.ensures.served) _ c.begin-in-Some.new.waits.items c.begin-in-Some.ensures.begun
-
-pub invariant_of-self-2 : goal.invariant_of-self-2
-invariant_of-self-2 g c =
-    sound_waiting (records_view c.self.inside) c.self.invariant c.args.thread.0 c.in-Ok.rank c.args.wanted c.args.until (rw (← c.self.view_is) at c.requires.idle) (rw (← c.self.view_is) at c.requires.there)
-    c.begin.new.self c.begin.ensures.step (sym c.in_default.ensures.served) c.begin-2.new.waits.items (rw c.awaited-on.ensures.on at c.begin-2.ensures.begun)
+pub returns-clause-stands : goal.returns-clause-stands
+returns-clause-stands g c = elim c.match-wanted.branch [
+  | in-Write w ↦ rw w.self-is w.begin_write.ensures.stands
+  | in-Read w ↦ rw w.self-is w.begin_read.ensures.stands
+  | in_default w ↦ rw w.self-is w.begin_ranked.ensures.stands
+]

@@ -21,6 +21,7 @@ invariant_of-self-in-Ok-Some g c = asked_sound (records_view c.self.inside) c.se
 
 pub wake-requires : goal.wake-requires
 wake-requires g c = record {
+  fits = tt;
   away = λ on. asked_away (records_view c.self.inside) c.self.invariant (on_sem c.args.sem.0 semaphore.put) (asks_put c.args.sem.0) Done c.put.new.self c.in-Ok-Some.ensures.step c.in-Ok-Some.thread.0
       (alone_served c.in-Ok-Some.thread.0 Done _ (rw c.in-Ok-Some.field-0-is at c.in-Ok-Some.ensures.served)) on;
 }

@@ -2,4 +2,4 @@ use Rattle.std.proofs.Common.{◌≡◌}
 use Rattle.evl_machine.proofs.machine.MachineOf.call.Given as goal
 
 abbrev pub invariant-loop : goal.invariant-loop
-invariant-loop g l = l.caller ≡ l.fn.caller
+invariant-loop g l = (l.caller ≡ l.fn.caller) × (l.waiting ≡ l.fn.call)

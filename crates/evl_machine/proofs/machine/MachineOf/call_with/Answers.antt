@@ -1,4 +1,5 @@
 use Rattle.std.proofs.Common.{sym, subst}
+use Rattle.evl_kernel.specs.KernelViews.{IsKernelAnswer}
 use Rattle.evl_machine.specs.Known.{ComesFrom}
 use Rattle.evl_machine.proofs.Calling.{may_continue, called, still_caller}
 use Rattle.evl_machine.proofs.Knowing.{answers_still, comes_on}
@@ -22,3 +23,6 @@ returns-clause-rests g c =
 pub returns-clause-called : goal.returns-clause-called
 returns-clause-called g c =
     called _ _ _ _ _ _ _ c.in-Some.kernel c.apply-reply.new.self c.in-Some.ensures.taken.1.limit c.requires.caller.1 c.in-Some.ensures.taken.0 c.apply-reply.ensures c.give_kernel.ensures.given
+
+pub returns-clause-entered : goal.returns-clause-entered
+returns-clause-entered g c = λ e. subst IsKernelAnswer e c.apply-reply.ensures.answers

@@ -3,7 +3,7 @@ use Rattle.evl_kernel.specs.Callbacks.{AnswersAsTold}
 use Rattle.evl_kernel.specs.KernelViews.{KernelView}
 use Rattle.evl_machine.specs.Calls.{first_in}
 use Rattle.evl_machine.specs.Handles.{CallerState, MachineState}
-use Rattle.evl_machine.proofs.machine.MachineOf.try_call.Goals as goal
+use Rattle.evl_machine.proofs.machine.MachineOf.attempt.Goals as goal
 
 pub call_with-answer-requires-clause-answering : goal.call_with-answer-requires-clause-answering
 call_with-answer-requires-clause-answering g c =

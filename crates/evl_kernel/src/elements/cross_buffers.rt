@@ -1,0 +1,66 @@
+//! The steps of cross-buffers.
+ghost use Rattle.std.specs.Prelude.{◌≡◌, Ok, Err, IfErr, IfOk, map};
+ghost use Rattle.evl_kernel.specs.CrossBuffers as through;
+ghost use Rattle.evl_kernel.specs.CrossBuffers.{bytes_told, service_told};
+ghost use Rattle.evl_kernel.specs.Elements.{element, on_xbuf, wakes};
+
+use super::Elements;
+use evl_base::{Bytes, Refusal, Reply, Stage, Way, XbufId};
+use evl_xbuf::Served;
+use std::alloc::Allocator;
+
+impl<A: Allocator> Elements<A> {
+    /// Writes all of the bytes from a stage, and says whom that served. The first that applies: `Unknown` (no such
+    /// cross-buffer), `WrongStage` (the other stage writes this way), `TooBig` (more bytes than the ring has), `Again` (a
+    /// writer waits, or they don't fit).
+    pub(crate) fn write(
+        &mut self,
+        stage: Stage,
+        xbuf: XbufId,
+        way: Way,
+        bytes: &[u8],
+    ) -> Result<Served, Refusal>
+        ensures step { IfOk result (λ served. element self.old (on_xbuf xbuf.0 (through.write stage way bytes.now)) ≡ Ok (Reply.Done, self.new)) }
+        ensures served { IfOk result (λ served. wakes self.old (on_xbuf xbuf.0 (through.write stage way bytes.now)) ≡ map service_told served) }
+        ensures refused { IfErr result (λ e. (element self.old (on_xbuf xbuf.0 (through.write stage way bytes.now)) ≡ Err e) × (self.new ≡ self.old)) }
+    {
+        let place = usize::from(xbuf.0);
+        if place >= self.xbufs.len() {
+            return Err(Refusal::Unknown);
+        }
+        self.xbufs[place].try_write(stage, way, bytes)
+    }
+
+    /// Reads so many bytes from a stage, or as many as are there, and says whom that served. The first that applies:
+    /// `Unknown` (no such cross-buffer), `Range` (more than one transfer carries), `WrongStage` (the other stage reads this
+    /// way), `Again` (nothing is there).
+    pub(crate) fn read(
+        &mut self,
+        stage: Stage,
+        xbuf: XbufId,
+        way: Way,
+        len: u16,
+    ) -> Result<(Bytes, Served), Refusal>
+        ensures step { IfOk result (λ got. element self.old (on_xbuf xbuf.0 (through.read stage way len)) ≡ Ok (bytes_told got.0.items, self.new)) }
+        ensures served { IfOk result (λ got. wakes self.old (on_xbuf xbuf.0 (through.read stage way len)) ≡ map service_told got.1) }
+        ensures refused { IfErr result (λ e. (element self.old (on_xbuf xbuf.0 (through.read stage way len)) ≡ Err e) × (self.new ≡ self.old)) }
+    {
+        let place = usize::from(xbuf.0);
+        if place >= self.xbufs.len() {
+            return Err(Refusal::Unknown);
+        }
+        self.xbufs[place].try_read(stage, way, len)
+    }
+
+    /// How many bytes are free. `Unknown` where there is no such cross-buffer.
+    pub(crate) fn room(&self, xbuf: XbufId, way: Way) -> Result<u16, Refusal>
+        ensures step { IfOk result (λ free. element self.now (on_xbuf xbuf.0 (through.room way)) ≡ Ok (Reply.Number free, self.now)) }
+        ensures refused { IfErr result (λ e. element self.now (on_xbuf xbuf.0 (through.room way)) ≡ Err e) }
+    {
+        let place = usize::from(xbuf.0);
+        if place >= self.xbufs.len() {
+            return Err(Refusal::Unknown);
+        }
+        Ok(self.xbufs[place].room(way))
+    }
+}
