@@ -10,10 +10,10 @@ use Rattle.evl_mutex.specs.Queues.{stands_in, dropped, is_nobody, AreApart, AreR
 use Rattle.evl_mutex.specs.Mutexes as mutex
 use Rattle.evl_mutex.specs.Mutexes.{Mutex, has_ceiling, is_open_to, is_waited_for_by, opened, released, IsSoundMutex}
 use Rattle.evl_mutex.specs.Chains.{waits_for, Follows, IsReached, HasNoRing}
-use Rattle.evl_mutex.specs.Owners.{Owners, IsSound, HasRing, with_mutex, is_waiting, queues_of, one_if, with_base, fresh}
+use Rattle.evl_mutex.specs.Owners.{Owners, IsSound, HasRing, with_mutex, changed, changed_at, is_waiting, queues_of, one_if, with_base, fresh}
 use Rattle.evl_mutex.specs.Owners as owners
 use Rattle.evl_mutex.proofs.ChainLaws.{is_same, same, other, ring-none, ring-closed, ring-shrunk}
-use Rattle.evl_mutex.proofs.QueueLaws.{stands-enqueued, somebody-enqueued, apart-enqueued, apart-dropped, ranked-enqueued, ranked-dropped}
+use Rattle.evl_mutex.proofs.QueueLaws.{stands-enqueued, somebody-enqueued, stands-dropped, apart-enqueued, apart-dropped, ranked-enqueued, ranked-dropped}
 use Rattle.evl_mutex.proofs.MutexLaws.{waits-kept, waits-same, waits-new, waits-none, waits-some, queues-set, queues-dropped, queues-gone, waits-dropped, nowhere, stands-queues}
 
 pub all-set : {X : Type 0} (P : X → Type 0) (xs : List X) (n : ℕ) (y : X) → AllByRecursion P xs → P y → AllByRecursion P (slice_set xs n y)
@@ -36,6 +36,28 @@ no_one (w ∷ ws) t e = cc
 somebody : (ws : List Waiter) (t : ℕ) → stands_in t ws ≡ true → is_nobody ws ≡ false
 somebody [] t e = cc
 somebody (w ∷ ws) t e = refl
+
+-- a mutex without one of its waiters
+pub sound-without : (u : ℕ) (m : Mutex) → IsSoundMutex m → IsSoundMutex (mutex.drop_waiter u m)
+sound-without u m h = record {
+  owned = λ e. owned (is_nobody (dropped u m.waiters)) e (h.owned (was m.waiters e));
+  raised = λ e some. raised (is_nobody (dropped u m.waiters)) (has_ceiling m) e some;
+  apart = apart-dropped u m.waiters h.apart;
+  ranked = ranked-dropped u m.waiters h.ranked;
+}
+  where
+    was : (ws : List Waiter) → is_nobody (dropped u ws) ≡ false → is_nobody ws ≡ false
+    was [] e = e
+    was (w ∷ ws) e = refl
+
+    owned : (b : Bool) → b ≡ false → is_some m.owner ≡ true → is_some (if b && not (has_ceiling m) then None else m.owner) ≡ true
+    owned true e some = absurd (false≢true (sym e))
+    owned false e some = some
+
+    raised : (b c : Bool) → b ≡ true → is_some (if b && not c then None else m.owner) ≡ true → c ≡ true
+    raised true true e some = refl
+    raised true false e some = absurd (false≢true some)
+    raised false c e some = absurd (false≢true e)
 
 module _ (o : Owners) (n : ℕ) (m : Mutex) (at : slice_get o.mutexes n ≡ Some m) (is : IsSound o) where
   here : IsSoundMutex m
@@ -207,6 +229,71 @@ module _ (o : Owners) (n : ℕ) (m : Mutex) (at : slice_get o.mutexes n ≡ Some
           subst P e (sound-idle None (ap is_nobody e) (λ some. absurd (false≢true some)))
       by_queue (w ∷ ws) e = handed w ws e
 
+  -- one thread waits for it no more
+  module _ (u : ℕ) where
+    abbrev left_mutex : Mutex
+    left_mutex = mutex.drop_waiter u m
+
+    left-stands : (t : ℕ) → is_waited_for_by t left_mutex ≡ (not (t == u) && is_waited_for_by t m)
+    left-stands t = stands-dropped u m.waiters t
+
+    left-fewer : (t : ℕ) → queues_of t (slice_set o.mutexes n left_mutex) ≤ queues_of t o.mutexes
+    left-fewer t = omega (arith, queues-set t m left_mutex o.mutexes n at, ap one_if (left-stands t), less (not (t == u)) (is_waited_for_by t m))
+      where
+        less : (a b : Bool) → one_if (a && b) ≤ one_if b
+        less true b = omega arith
+        less false true = omega arith
+        less false false = omega arith
+
+    left-none : is_waited_for_by u left_mutex ≡ false
+    left-none = left-stands u ∙ ap (λ b. not b && is_waited_for_by u m) (same u)
+
+    -- who stood in the queue and isn't this thread waits for the owner as before
+    left-others : (t : ℕ) → (t == u) ≡ false → waits_for (slice_set o.mutexes n left_mutex) t ≡ waits_for o.mutexes t
+    left-others t away = waits-same t m left_mutex alike (λ waits. owner (is_nobody (dropped u m.waiters)) (somebody (dropped u m.waiters) t (alike ∙ waits))) o.mutexes n at
+      where
+        alike : is_waited_for_by t left_mutex ≡ is_waited_for_by t m
+        alike = left-stands t ∙ ap (λ b. not b && is_waited_for_by t m) away
+
+        owner : (b : Bool) → b ≡ false → (if b && not (has_ceiling m) then None else m.owner) ≡ m.owner
+        owner true e = absurd (false≢true (sym e))
+        owner false e = refl
+
+    -- the thread itself waits for nobody now, or it didn't stand in this queue
+    left-itself : (to : ℕ) → waits_for (slice_set o.mutexes n left_mutex) u ≡ Some to → waits_for o.mutexes u ≡ Some to
+    left-itself to e = by_test (is_waited_for_by u m) refl
+      where
+        none_there : waits_for (slice_set o.mutexes n left_mutex) u ≡ None → waits_for (slice_set o.mutexes n left_mutex) u ≡ Some to → ⊥
+        none_there x y = cc
+
+        by_test : (b : Bool) → is_waited_for_by u m ≡ b → waits_for o.mutexes u ≡ Some to
+        by_test true waits =
+            absurd (none_there (waits-none u (slice_set o.mutexes n left_mutex)
+            (omega (arith, queues-set u m left_mutex o.mutexes n at, ap one_if waits, ap one_if left-none, is.once u))) e)
+        by_test false waits = sym (waits-same u m left_mutex (left-none ∙ sym waits) (λ here. absurd (false≢true (sym waits ∙ here))) o.mutexes n at) ∙ e
+
+    left-step : (from to : ℕ) → (b : Bool) → (from == u) ≡ b → waits_for (slice_set o.mutexes n left_mutex) from ≡ Some to → waits_for o.mutexes from ≡ Some to
+    left-step from to true self e =
+        let P : ℕ → Type 0 = λ t. waits_for (slice_set o.mutexes n left_mutex) t ≡ Some to → waits_for o.mutexes t ≡ Some to in
+        subst P (sym (is_same from u self)) (left-itself to) e
+    left-step from to false away e = sym (left-others from away) ∙ e
+
+    left : IsSound (with_mutex o n left_mutex)
+    left = record {
+      once = λ t. omega (arith, left-fewer t, is.once t);
+      low = λ t h. is.low t (omega (arith, left-fewer t, h));
+      each = all-set IsSoundMutex o.mutexes n left_mutex is.each (sound-without u m here);
+      no_ring = ring-shrunk (waits_for o.mutexes) (waits_for (slice_set o.mutexes n left_mutex)) is.no_ring (λ from to e. inl (left-step from to (from == u) refl e));
+    }
+
+-- a thread waits for one mutex no more
+pub sound-left : (o : Owners) (n u : ℕ) → IsSound o → IsSound (changed o n (mutex.drop_waiter u))
+sound-left o n u is = by_mutex (slice_get o.mutexes n) refl
+  where
+    by_mutex : (p : Option Mutex) → slice_get o.mutexes n ≡ p → IsSound (changed_at o n (mutex.drop_waiter u) p)
+    by_mutex None at = is
+    by_mutex (Some m) at = left o n m at is u
+
 -- a thread is let go
 pub sound-dropped : (o : Owners) (u : ℕ) → IsSound o → IsSound (owners.dropped o u)
 sound-dropped o u is = record {
@@ -216,30 +303,9 @@ sound-dropped o u is = record {
   no_ring = ring-shrunk (waits_for o.mutexes) (waits_for (map (mutex.drop_waiter u) o.mutexes)) is.no_ring (λ from to e. step from to e (from == u) refl);
 }
   where
-    one : (m : Mutex) → IsSoundMutex m → IsSoundMutex (mutex.drop_waiter u m)
-    one m h = record {
-      owned = λ e. owned (is_nobody (dropped u m.waiters)) e (h.owned (was m.waiters e));
-      raised = λ e some. raised (is_nobody (dropped u m.waiters)) (has_ceiling m) e some;
-      apart = apart-dropped u m.waiters h.apart;
-      ranked = ranked-dropped u m.waiters h.ranked;
-    }
-      where
-        was : (ws : List Waiter) → is_nobody (dropped u ws) ≡ false → is_nobody ws ≡ false
-        was [] e = e
-        was (w ∷ ws) e = refl
-
-        owned : (b : Bool) → b ≡ false → is_some m.owner ≡ true → is_some (if b && not (has_ceiling m) then None else m.owner) ≡ true
-        owned true e some = absurd (false≢true (sym e))
-        owned false e some = some
-
-        raised : (b c : Bool) → b ≡ true → is_some (if b && not c then None else m.owner) ≡ true → c ≡ true
-        raised true true e some = refl
-        raised true false e some = absurd (false≢true some)
-        raised false c e some = absurd (false≢true e)
-
     all : (ms : List Mutex) → AllByRecursion IsSoundMutex ms → AllByRecursion IsSoundMutex (map (mutex.drop_waiter u) ms)
     all [] h = tt
-    all (m ∷ ms) h = (one m h.0, all ms h.1)
+    all (m ∷ ms) h = (sound-without u m h.0, all ms h.1)
 
     step : (from to : ℕ) → waits_for (map (mutex.drop_waiter u) o.mutexes) from ≡ Some to → (b : Bool) → (from == u) ≡ b
         → (waits_for o.mutexes from ≡ Some to) ⊎ (waits_for (map (mutex.drop_waiter u) o.mutexes) to ≡ None)

@@ -31,6 +31,14 @@ owner_at (Some m) = m.owner
 abbrev pub owner_of : Owners → ℕ → Option ℕ
 owner_of o n = owner_at (slice_get o.mutexes n)
 
+-- the first waiter of a mutex, whom a release hands it to
+abbrev pub next_at : Option Mutex → Option ℕ
+next_at None = None
+next_at (Some m) = (mutex.released m).next
+
+abbrev pub next_of : Owners → ℕ → Option ℕ
+next_of o n = next_at (slice_get o.mutexes n)
+
 abbrev pub with_mutex : Owners → ℕ → Mutex → Owners
 with_mutex o n m = record { base = o.base; mutexes = slice_set o.mutexes n m }
 

@@ -68,6 +68,14 @@ impl<A: Allocator> MutexRecord<A> {
         self.waiters.iter().any(|w| w.thread == thread)
     }
 
+    /// The first waiter.
+    pub fn next(&self) -> Option<u16>
+        ensures next { result ≡ (released (mutex_of self.now)).next }
+    {
+        let first = self.waiters.first()?;
+        Some(first.thread)
+    }
+
     /// The rank of its ceiling, if that is recorded for the thread, or 0.
     pub fn ceiling_for(&self, thread: u16) -> u16
         ensures rank { result ≡ ceiling_for thread (mutex_of self.now) }

@@ -1,8 +1,9 @@
 //! The recorded owners of all mutexes, and the effective ranks of all threads.
 ghost use Rattle.std.specs.Prelude.{◌≡◌, List, ◌<◌, ◌^◌, ℕ, Bool, Option, Some, None, Ok, Err, Result, length, map, slice_get, nat_lt, is_ok, option_map, replicate, IfOk, IfErr, if◌then◌else◌};
+ghost use Rattle.std.specs.List.{list_any};
 ghost use Rattle.evl_base.specs.declared.refusal.Refusal.{Refusal};
-ghost use Rattle.evl_mutex.specs.Mutexes.{raised, lowered, opened};
-ghost use Rattle.evl_mutex.specs.Owners.{IsClaim, IsRelease, IsRingFree, IsSound, base_of, changed, claim_answer, claim_refusal, dropped, fresh, is_thread, lower_refusal, owner_of, raise_refusal, rank_of, unless_refused, with_base};
+ghost use Rattle.evl_mutex.specs.Mutexes.{raised, lowered, opened, is_owned_by, drop_waiter};
+ghost use Rattle.evl_mutex.specs.Owners.{IsClaim, IsRelease, IsRingFree, IsSound, base_of, changed, claim_answer, claim_refusal, dropped, fresh, is_thread, lower_refusal, next_of, owner_of, raise_refusal, rank_of, unless_refused, with_base};
 ghost use Rattle.evl_mutex.specs.Ranks.{IsEffective};
 ghost use Rattle.evl_mutex.specs.Views.{HaveRoom, mutexes_of, numbers_of};
 
@@ -75,6 +76,28 @@ impl<A: Allocator> OwnersOf<A> {
         named(record.owner)
     }
 
+    /// Whether there is such a mutex. (this profile)
+    pub fn has(&self, mutex: MutexId) -> bool
+        ensures has { result ≡ nat_lt mutex.0 (length self.now.mutexes) }
+    {
+        (mutex.0 as usize) < self.mutexes.len()
+    }
+
+    /// Whether the thread is recorded as the owner of a mutex. (Xenomai 4: EVL mutexes)
+    pub fn owns_any(&self, thread: ThreadId) -> bool
+        ensures owns { result ≡ list_any (is_owned_by thread.0) self.now.mutexes }
+    {
+        walks::owns_any(&self.mutexes, thread.0)
+    }
+
+    /// Who waits for a mutex first, to whom a release would hand it; nobody where nobody waits or there is no such mutex.
+    /// (Xenomai 4: EVL mutexes)
+    pub fn next(&self, mutex: MutexId) -> Option<ThreadId>
+        ensures next { option_map (λ thread. thread.0) result ≡ next_of self.now mutex.0 }
+    {
+        named(self.mutexes.get(mutex.0 as usize)?.next())
+    }
+
     /// Sets the base rank of a thread. Its place in a queue is kept. `Unknown` where there is no such thread; nothing
     /// changes then. (Xenomai 4: EVL scheduling policies; this profile)
     pub fn set_base(&mut self, thread: ThreadId, rank: u16) -> Result<(), Refusal>
@@ -94,6 +117,18 @@ impl<A: Allocator> OwnersOf<A> {
         ensures state { self.new ≡ dropped self.old thread.0 }
     {
         walks::drop_waiter(&mut self.mutexes, thread.0);
+    }
+
+    /// Lets a thread wait for this one mutex no more, if it does; where there is no such mutex nothing changes. Where it
+    /// was the last waiter, no owner of the mutex is recorded any more; at a ceiling the owner stays. (Xenomai 4: EVL
+    /// mutexes; this profile)
+    pub fn leave(&mut self, mutex: MutexId, thread: ThreadId)
+        ensures state { self.new ≡ changed self.old mutex.0 (drop_waiter thread.0) }
+    {
+        let place = mutex.0 as usize;
+        if place < self.mutexes.len() {
+            self.mutexes[place].drop_waiter(thread.0);
+        }
     }
 
     /// A thread begins to wait for a mutex, whose owner it names, and that owner is recorded. It stands behind the waiters
