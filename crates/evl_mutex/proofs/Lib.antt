@@ -3,6 +3,7 @@ pub mod QueueLaws
 pub mod MutexLaws
 pub mod SoundLaws
 pub mod RankLaws
+pub mod HandingLaws
 pub mod ListLaws
 pub mod CallLaws
 pub mod Rows
