@@ -2,6 +2,7 @@ pub mod ChainLaws
 pub mod QueueLaws
 pub mod MutexLaws
 pub mod SoundLaws
+pub mod NotedLaws
 pub mod RankLaws
 pub mod HandingLaws
 pub mod ListLaws

@@ -99,10 +99,10 @@ module _ (o : Owners) (n : ℕ) (m : Mutex) (at : slice_get o.mutexes n ≡ Some
         by_test true e = absurd (omega (arith, stands-queues w.thread o.mutexes n m at e, away))
         by_test false e = refl
 
-    joins : is_waited_for_by w.thread m2 ≡ true
+    pub joins : is_waited_for_by w.thread m2 ≡ true
     joins = stands-enqueued w m.waiters w.thread ∙ ap (λ b. b || stands_in w.thread m.waiters) (same w.thread)
 
-    others_alike : (t : ℕ) → t ≢ w.thread → is_waited_for_by t m2 ≡ is_waited_for_by t m
+    pub others_alike : (t : ℕ) → t ≢ w.thread → is_waited_for_by t m2 ≡ is_waited_for_by t m
     others_alike t ne = stands-enqueued w m.waiters t ∙ ap (λ b. b || stands_in t m.waiters) (other w.thread t (λ e. ne (sym e)))
 
     owner_kept : (t : ℕ) → is_waited_for_by t m ≡ true → Some owner ≡ m.owner
@@ -166,7 +166,7 @@ module _ (o : Owners) (n : ℕ) (m : Mutex) (at : slice_get o.mutexes n ≡ Some
     raised true false e some = absurd (false≢true some)
     raised false c e some = absurd (false≢true e)
 
-    stood : (t : ℕ) → is_waited_for_by t m ≡ ((w.thread == t) || stands_in t ws)
+    pub stood : (t : ℕ) → is_waited_for_by t m ≡ ((w.thread == t) || stands_in t ws)
     stood t = ap (stands_in t) is_queue
 
     fewer : (t : ℕ) → queues_of t (slice_set o.mutexes n next_mutex) ≤ queues_of t o.mutexes
@@ -177,7 +177,7 @@ module _ (o : Owners) (n : ℕ) (m : Mutex) (at : slice_get o.mutexes n ≡ Some
         more true false = omega arith
         more false b = omega arith
 
-    gone : queues_of w.thread (slice_set o.mutexes n next_mutex) ≡ 0
+    pub gone : queues_of w.thread (slice_set o.mutexes n next_mutex) ≡ 0
     gone = omega (
       arith,
       queues-set w.thread m next_mutex o.mutexes n at,
@@ -234,7 +234,7 @@ module _ (o : Owners) (n : ℕ) (m : Mutex) (at : slice_get o.mutexes n ≡ Some
     abbrev left_mutex : Mutex
     left_mutex = mutex.drop_waiter u m
 
-    left-stands : (t : ℕ) → is_waited_for_by t left_mutex ≡ (not (t == u) && is_waited_for_by t m)
+    pub left-stands : (t : ℕ) → is_waited_for_by t left_mutex ≡ (not (t == u) && is_waited_for_by t m)
     left-stands t = stands-dropped u m.waiters t
 
     left-fewer : (t : ℕ) → queues_of t (slice_set o.mutexes n left_mutex) ≤ queues_of t o.mutexes
@@ -245,7 +245,7 @@ module _ (o : Owners) (n : ℕ) (m : Mutex) (at : slice_get o.mutexes n ≡ Some
         less false true = omega arith
         less false false = omega arith
 
-    left-none : is_waited_for_by u left_mutex ≡ false
+    pub left-none : is_waited_for_by u left_mutex ≡ false
     left-none = left-stands u ∙ ap (λ b. not b && is_waited_for_by u m) (same u)
 
     -- who stood in the queue and isn't this thread waits for the owner as before

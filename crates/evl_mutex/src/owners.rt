@@ -5,7 +5,7 @@ ghost use Rattle.evl_base.specs.declared.refusal.Refusal.{Refusal};
 ghost use Rattle.evl_mutex.specs.Mutexes.{raised, lowered, opened, is_owned_by, drop_waiter};
 ghost use Rattle.evl_mutex.specs.Owners.{IsClaim, IsRelease, IsRingFree, IsSound, base_of, changed, claim_answer, claim_refusal, dropped, fresh, is_thread, lower_refusal, next_of, owner_of, raise_refusal, rank_of, unless_refused, with_base};
 ghost use Rattle.evl_mutex.specs.Ranks.{IsEffective};
-ghost use Rattle.evl_mutex.specs.Views.{HaveRoom, mutexes_of, numbers_of};
+ghost use Rattle.evl_mutex.specs.Views.{AreNoted, HaveRoom, mutexes_of, numbers_of, unnoted};
 
 use crate::mutex_record::MutexRecord;
 use crate::waiter::Waiter;
@@ -21,6 +21,8 @@ use std::marker::Model;
 pub struct OwnersOf<A: Allocator> {
     base: Vec<u16, A>,
     mutexes: Vec<MutexRecord<A>, A>,
+    // which mutex each thread waits for
+    waits: Vec<Option<u16>, A>,
 }
 
 impl<A: Allocator> Model for OwnersOf<A> {
@@ -31,7 +33,7 @@ impl<A: Allocator> Model for OwnersOf<A> {
 
     ghost view = { λ o. record { base = o.base.items; mutexes = mutexes_of o.mutexes.items } };
 
-    ghost invariant = { λ o. IsKept o.base.items o.mutexes.items };
+    ghost invariant = { λ o. IsKept o.base.items o.mutexes.items o.waits.items };
 }
 
 impl<A: Allocator + Clone> OwnersOf<A> {
@@ -49,8 +51,13 @@ impl<A: Allocator + Clone> OwnersOf<A> {
         ensures fresh { IfOk result (λ o. o ≡ fresh threads kinds.now) }
     {
         let base = zeros(alloc.clone()?, threads as usize)?;
-        let mutexes = opened(alloc, kinds, threads as usize)?;
-        Ok(OwnersOf { base, mutexes })
+        let mutexes = opened(alloc.clone()?, kinds, threads as usize)?;
+        let waits = no_waits(alloc, threads as usize)?;
+        Ok(OwnersOf {
+            base,
+            mutexes,
+            waits,
+        })
     }
 }
 
@@ -64,7 +71,7 @@ impl<A: Allocator> OwnersOf<A> {
         ensures ring_free { IsRingFree self.now }
         ensures sound { IsSound self.now }
     {
-        walks::effective(&self.base, &self.mutexes, thread.0)
+        walks::effective(&self.base, &self.mutexes, &self.waits, thread.0)
     }
 
     /// Who is recorded as the owner of a mutex, if anybody is; nobody where there is no such mutex. (Xenomai 4: EVL
@@ -117,6 +124,7 @@ impl<A: Allocator> OwnersOf<A> {
         ensures state { self.new ≡ dropped self.old thread.0 }
     {
         walks::drop_waiter(&mut self.mutexes, thread.0);
+        unnote(&mut self.waits, Some(thread.0));
     }
 
     /// Lets a thread wait for this one mutex no more, if it does; where there is no such mutex nothing changes. Where it
@@ -127,7 +135,8 @@ impl<A: Allocator> OwnersOf<A> {
     {
         let place = mutex.0 as usize;
         if place < self.mutexes.len() {
-            self.mutexes[place].drop_waiter(thread.0);
+            let gone = self.mutexes[place].drop_waiter(thread.0);
+            unnote(&mut self.waits, gone);
         }
     }
 
@@ -153,11 +162,13 @@ impl<A: Allocator> OwnersOf<A> {
         ) {
             return Err(refusal);
         }
-        if walks::reaches(&self.mutexes, self.base.len(), owner.0, waiter.0) {
+        let threads = self.base.len();
+        if walks::reaches(&self.mutexes, &self.waits, threads, owner.0, waiter.0) {
             return Err(Refusal::Deadlock);
         }
-        let waiting = waiter_of(&self.base, &self.mutexes, waiter.0);
+        let waiting = waiter_of(&self.base, &self.mutexes, &self.waits, waiter.0);
         self.mutexes[mutex.0 as usize].claim(waiting, owner.0);
+        self.waits[waiter.0 as usize] = Some(mutex.0);
         Ok(())
     }
 
@@ -180,6 +191,7 @@ impl<A: Allocator> OwnersOf<A> {
             return Err(Refusal::NotOwner);
         }
         let (next, more) = self.mutexes[place].hand_on();
+        unnote(&mut self.waits, next);
         Ok((named(next), more))
     }
 
@@ -226,6 +238,13 @@ fn zeros<A: Allocator>(alloc: A, threads: usize) -> Result<Vec<u16, A>, AllocErr
     Vec::from_elem(alloc, 0, threads)
 }
 
+// Of no thread it is noted that it waits.
+fn no_waits<A: Allocator>(alloc: A, threads: usize) -> Result<Vec<Option<u16>, A>, AllocError>
+    ensures nobody { IfOk result (λ waits. waits.items ≡ replicate threads None) }
+{
+    Vec::from_elem(alloc, None, threads)
+}
+
 // A mutex of each kind, with room for so many waiters.
 fn opened<A: Allocator + Clone>(
     alloc: A,
@@ -242,18 +261,31 @@ fn opened<A: Allocator + Clone>(
     Ok(mutexes)
 }
 
+// A thread waits no more, if it is one.
+fn unnote<A: Allocator>(waits: &mut Vec<Option<u16>, A>, thread: Option<u16>)
+    ensures unnoted { waits.new.items ≡ unnoted waits.old.items thread }
+{
+    if let Some(number) = thread {
+        if (number as usize) < waits.len() {
+            waits[number as usize] = None;
+        }
+    }
+}
+
 // A thread that begins to wait, with its effective rank.
 fn waiter_of<A: Allocator>(
     base: &Vec<u16, A>,
     mutexes: &Vec<MutexRecord<A>, A>,
+    waits: &Vec<Option<u16>, A>,
     thread: u16,
 ) -> Waiter
-    requires { length base.now.items < 2 ^ 16 }
+    requires few { length base.now.items < 2 ^ 16 }
+    requires noted { AreNoted waits.now.items (mutexes_of mutexes.now.items) }
     ensures waiter { result ≡ (record { thread = thread; rank = rank_of (record { base = base.now.items; mutexes = mutexes_of mutexes.now.items }) thread }) }
 {
     Waiter {
         thread,
-        rank: walks::effective(base, mutexes, thread),
+        rank: walks::effective(base, mutexes, waits, thread),
     }
 }
 
