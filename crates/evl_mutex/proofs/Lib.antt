@@ -4,6 +4,7 @@ pub mod MutexLaws
 pub mod SoundLaws
 pub mod NotedLaws
 pub mod RankLaws
+pub mod RaiseLaws
 pub mod HandingLaws
 pub mod ListLaws
 pub mod CallLaws

@@ -3,6 +3,7 @@
 
 mod mutex_record;
 mod owners;
+mod ranks;
 mod waiter;
 mod walks;
 

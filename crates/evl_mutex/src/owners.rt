@@ -3,13 +3,13 @@ ghost use Rattle.std.specs.Prelude.{◌≡◌, List, ◌<◌, ◌^◌, ℕ, Bool
 ghost use Rattle.std.specs.List.{list_any};
 ghost use Rattle.evl_base.specs.declared.refusal.Refusal.{Refusal};
 ghost use Rattle.evl_mutex.specs.Mutexes.{raised, lowered, opened, is_owned_by, drop_waiter};
-ghost use Rattle.evl_mutex.specs.Owners.{IsClaim, IsRelease, IsRingFree, IsSound, base_of, changed, claim_answer, claim_refusal, dropped, fresh, is_thread, lower_refusal, next_of, owner_of, raise_refusal, rank_of, unless_refused, with_base};
+ghost use Rattle.evl_mutex.specs.Owners.{IsClaim, IsRelease, IsRingFree, IsSound, base_of, changed, claim_answer, claim_refusal, dropped, fresh, is_thread, lower_refusal, next_of, owner_of, raise_refusal, rank_of, ranks_of, unless_refused, with_base};
 ghost use Rattle.evl_mutex.specs.Ranks.{IsEffective};
 ghost use Rattle.evl_mutex.specs.Views.{AreNoted, HaveRoom, mutexes_of, numbers_of, unnoted};
 
 use crate::mutex_record::MutexRecord;
 use crate::waiter::Waiter;
-use crate::walks;
+use crate::{ranks, walks};
 use evl_base::{MutexId, MutexKind, Refusal, ThreadId};
 use std::alloc::{AllocError, Allocator};
 use std::marker::Model;
@@ -72,6 +72,14 @@ impl<A: Allocator> OwnersOf<A> {
         ensures sound { IsSound self.now }
     {
         walks::effective(&self.base, &self.mutexes, &self.waits, thread.0)
+    }
+
+    /// Writes the effective rank of each thread whose number is below the length of `ranks`, as `effective` tells it.
+    /// (Xenomai 4: EVL mutexes, priority inheritance and ceilings)
+    pub fn ranks(&self, ranks: &mut [u16])
+        ensures ranks { ranks.new ≡ ranks_of self.now (length ranks.old) }
+    {
+        ranks::write_all(&self.base, &self.mutexes, &self.waits, ranks);
     }
 
     /// Who is recorded as the owner of a mutex, if anybody is; nobody where there is no such mutex. (Xenomai 4: EVL
