@@ -1,151 +1,181 @@
--- What is noted beside the queues: which mutex each thread waits for.
-use Rattle.std.proofs.Common.{◌≡◌, ◌≢◌, ℕ, zero, suc, ◌+◌, ◌<◌, ◌==◌, Bool, true, false, not, ◌&&◌, ◌||◌, List, [], ◌∷◌, length, map, slice_get, slice_set, slice_index_or, replicate, Option, Some, None, option_and_then, option_map, if◌then◌else◌, refl, sym, ap, ◌∙◌, subst, arith}
+-- What is noted beside the queues: whom each thread waits for.
+use Rattle.std.proofs.Common.{◌≡◌, ◌≢◌, ℕ, zero, suc, max, ◌<◌, ◌==◌, Bool, true, false, not, ◌||◌, List, [], ◌∷◌, length, map, slice_get, slice_set, replicate, Option, Some, None, if◌then◌else◌, refl, sym, ap, ◌∙◌, subst, arith}
+use Rattle.std.specs.Option.{option_map_or}
 use Rattle.std.proofs.lemmas.List.{length-set, get_or-set_same, get_or-set_other}
 use Rattle.std.proofs.lemmas.Bool.{false≢true}
 use Rattle.evl_base.specs.declared.mutex_kind.MutexKind.{MutexKind}
 use Rattle.evl_mutex.specs.declared.waiter.Waiter.{Waiter}
-use Rattle.evl_mutex.specs.Queues.{stands_in}
+use Rattle.evl_mutex.specs.Queues.{stands_in, is_nobody, AreApart}
 use Rattle.evl_mutex.specs.Mutexes as mutex
-use Rattle.evl_mutex.specs.Mutexes.{Mutex, is_open_to, is_waited_for_by, drop_waiter, opened, released}
-use Rattle.evl_mutex.specs.Chains.{waits_for, place_of}
-use Rattle.evl_mutex.specs.Owners.{Owners, IsSound, is_waiting, owner_at, queues_of, one_if}
-use Rattle.evl_mutex.specs.Views.{AreNoted, unnoted}
+use Rattle.evl_mutex.specs.Mutexes.{Mutex, has_ceiling, is_open_to, is_waited_for_by, drop_waiter, opened, released}
+use Rattle.evl_mutex.specs.Chains.{waits_for, reaches}
+use Rattle.evl_mutex.specs.Ranks.{inherited}
+use Rattle.evl_mutex.specs.Owners.{Owners, IsSound, is_waiting, one_if}
+use Rattle.evl_mutex.specs.Views.{AreNoted, ahead_in, unnoted, noted_behind}
 use Rattle.evl_mutex.proofs.ChainLaws.{is_same, same, other}
-use Rattle.evl_mutex.proofs.MutexLaws.{waits-first, first_of, drop-stands, nowhere, queues-set, queues-gone}
-use Rattle.evl_mutex.proofs.SoundLaws.{others_alike, joins, stood, gone, left-stands, left-none}
+use Rattle.evl_mutex.proofs.MutexLaws.{waits-none, waits-same, waits-moved, waits-let_go, queues-set, queues-gone, stands-queues}
+use Rattle.evl_mutex.proofs.SoundLaws.{here, no_one, somebody, others_wait, waits_now, stood, gone, left-none, left-others}
+use Rattle.evl_mutex.proofs.HandingLaws.{waits-unowned, unowned-opened}
 
--- the place of a mutex in whose queue a thread stands
+-- what is computed of one function is computed of another with the same values
 
-pub place-same : (t : ℕ) (m m2 : Mutex) → is_waited_for_by t m2 ≡ is_waited_for_by t m → (ms : List Mutex) (n : ℕ) → slice_get ms n ≡ Some m → place_of (slice_set ms n m2) t ≡ place_of ms t
-place-same t m m2 alike [] n at = refl
-place-same t m m2 alike (x ∷ xs) zero at = ap (λ b. if b then Some 0 else option_map suc (place_of xs t)) (alike ∙ ap (is_waited_for_by t) (sym (x_is at)))
+pub reaches-alike : (f g : ℕ → Option ℕ) → ((t : ℕ) → f t ≡ g t) → (n from to : ℕ) → reaches n f from to ≡ reaches n g from to
+reaches-alike f g h zero from to = refl
+reaches-alike f g h (suc n) from to = ap (λ o. option_map_or (λ mid. (mid == to) || reaches n f mid to) o false) (h from) ∙ by_step (g from) (λ mid. reaches-alike f g h n mid to)
   where
-    x_is : Some x ≡ Some m → x ≡ m
-    x_is e = cc
-place-same t m m2 alike (x ∷ xs) (suc n) at = ap (λ p. if is_waited_for_by t x then Some 0 else option_map suc p) (place-same t m m2 alike xs n at)
+    by_step : (o : Option ℕ) → ((mid : ℕ) → reaches n f mid to ≡ reaches n g mid to)
+        → option_map_or (λ mid. (mid == to) || reaches n f mid to) o false ≡ option_map_or (λ mid. (mid == to) || reaches n g mid to) o false
+    by_step None rest = refl
+    by_step (Some mid) rest = ap (λ b. (mid == to) || b) (rest mid)
 
-pub place-none : (t : ℕ) (ms : List Mutex) → queues_of t ms ≡ 0 → place_of ms t ≡ None
-place-none t [] e = refl
-place-none t (x ∷ xs) e = by_test (is_waited_for_by t x) refl (λ e. place-none t xs e)
-  where
-    by_test : (b : Bool) → is_waited_for_by t x ≡ b → (queues_of t xs ≡ 0 → place_of xs t ≡ None) → (if b then Some 0 else option_map suc (place_of xs t)) ≡ None
-    by_test true b rest = absurd (omega (arith, e, ap one_if b))
-    by_test false b rest = ap (option_map suc) (rest (omega (arith, e, ap one_if b)))
-
-pub place-new : (t : ℕ) (m m2 : Mutex) → is_waited_for_by t m2 ≡ true → (ms : List Mutex) (n : ℕ) → slice_get ms n ≡ Some m → queues_of t ms ≡ 0 → place_of (slice_set ms n m2) t ≡ Some n
-place-new t m m2 joins [] n at none = cc
-place-new t m m2 joins (x ∷ xs) zero at none = ap (λ b. if b then Some 0 else option_map suc (place_of xs t)) joins
-place-new t m m2 joins (x ∷ xs) (suc n) at none =
-    ap (λ b. if b then Some 0 else option_map suc (place_of (slice_set xs n m2) t)) (away (is_waited_for_by t x) none) ∙ ap (option_map suc) (place-new t m m2 joins xs n at (omega arith))
-  where
-    away : (b : Bool) → one_if b + queues_of t xs ≡ 0 → b ≡ false
-    away true e = absurd (omega arith)
-    away false e = refl
-
-place-map : (t : ℕ) (f : Mutex → Mutex) → ((m : Mutex) → is_waited_for_by t (f m) ≡ is_waited_for_by t m) → (ms : List Mutex) → place_of (map f ms) t ≡ place_of ms t
-place-map t f alike [] = refl
-place-map t f alike (x ∷ xs) =
-    ap (λ b. if b then Some 0 else option_map suc (place_of (map f xs) t)) (alike x) ∙ ap (λ p. if is_waited_for_by t x then Some 0 else option_map suc p) (place-map t f alike xs)
-
--- who waits for whom, by these places
-pub waits-place : (ms : List Mutex) (t : ℕ) → waits_for ms t ≡ option_and_then (λ k. owner_at (slice_get ms k)) (place_of ms t)
-waits-place [] t = refl
-waits-place (x ∷ xs) t = waits-first x xs t ∙ by_test (is_waited_for_by t x) (waits-place xs t)
-  where
-    shifted : (p : Option ℕ) → option_and_then (λ k. owner_at (slice_get xs k)) p ≡ option_and_then (λ k. owner_at (slice_get (x ∷ xs) k)) (option_map suc p)
-    shifted None = refl
-    shifted (Some k) = refl
-
-    by_test : (b : Bool) → waits_for xs t ≡ option_and_then (λ k. owner_at (slice_get xs k)) (place_of xs t)
-        → first_of b x.owner xs t ≡ option_and_then (λ k. owner_at (slice_get (x ∷ xs) k)) (if b then Some 0 else option_map suc (place_of xs t))
-    by_test true e = refl
-    by_test false e = e ∙ shifted (place_of xs t)
-
--- by what is noted
-pub waits_noted : (waits : List (Option ℕ)) (ms : List Mutex) (t : ℕ) → AreNoted waits ms → waits_for ms t ≡ option_and_then (λ k. owner_at (slice_get ms k)) (slice_index_or waits t None)
-waits_noted waits ms t was = waits-place ms t ∙ ap (option_and_then (λ k. owner_at (slice_get ms k))) (sym (was t))
+pub inherited-alike : (f g : ℕ → Option ℕ) → ((t : ℕ) → f t ≡ g t) → (n : ℕ) (base : ℕ → ℕ) (t k : ℕ) → inherited n base f t k ≡ inherited n base g t k
+inherited-alike f g h n base t zero = refl
+inherited-alike f g h n base t (suc k) =
+    ap (λ r. max r (if reaches n f k t then base k else 0)) (inherited-alike f g h n base t k) ∙ ap (λ b. max (inherited n base g t k) (if b then base k else 0)) (reaches-alike f g h n k t)
 
 -- one note is changed
 
-not_noted : (waits : List (Option ℕ)) (u : ℕ) → slice_index_or (slice_set waits u None) u None ≡ None
+not_noted : (ahead : List (Option ℕ)) (u : ℕ) → ahead_in (slice_set ahead u None) u ≡ None
 not_noted [] u = refl
 not_noted (w ∷ ws) zero = refl
 not_noted (w ∷ ws) (suc u) = not_noted ws u
 
-noted-set : (waits : List (Option ℕ)) (ms ms2 : List Mutex) (u : ℕ) (v : Option ℕ) → AreNoted waits ms → slice_index_or (slice_set waits u v) u None ≡ place_of ms2 u
-    → ((t : ℕ) → t ≢ u → place_of ms2 t ≡ place_of ms t) → AreNoted (slice_set waits u v) ms2
-noted-set waits ms ms2 u v was here others t = by_test (t == u) refl
+noted-set : (ahead : List (Option ℕ)) (ms ms2 : List Mutex) (u : ℕ) (v : Option ℕ) → AreNoted ahead ms → ahead_in (slice_set ahead u v) u ≡ waits_for ms2 u
+    → ((t : ℕ) → t ≢ u → waits_for ms2 t ≡ waits_for ms t) → AreNoted (slice_set ahead u v) ms2
+noted-set ahead ms ms2 u v was now others t = by_test (t == u) refl
   where
-    by_test : (b : Bool) → (t == u) ≡ b → slice_index_or (slice_set waits u v) t None ≡ place_of ms2 t
-    by_test true e = let P : ℕ → Type 0 = λ k. slice_index_or (slice_set waits u v) k None ≡ place_of ms2 k in subst P (sym (is_same t u e)) here
+    by_test : (b : Bool) → (t == u) ≡ b → ahead_in (slice_set ahead u v) t ≡ waits_for ms2 t
+    by_test true e = let P : ℕ → Type 0 = λ k. ahead_in (slice_set ahead u v) k ≡ waits_for ms2 k in subst P (sym (is_same t u e)) now
     by_test false e =
         let ne : t ≢ u = λ at. false≢true (sym e ∙ ap (λ k. k == u) at ∙ same u) in
-        get_or-set_other waits u t v None ne ∙ was t ∙ sym (others t ne)
+        get_or-set_other ahead u t v None ne ∙ was t ∙ sym (others t ne)
 
--- no thread stands in another queue than before
-pub noted-kept : (waits : List (Option ℕ)) (ms : List Mutex) (n : ℕ) (m m2 : Mutex) → slice_get ms n ≡ Some m → ((t : ℕ) → is_waited_for_by t m2 ≡ is_waited_for_by t m) → AreNoted waits ms → AreNoted waits (slice_set ms n m2)
-noted-kept waits ms n m m2 at alike was t = was t ∙ sym (place-same t m m2 (alike t) ms n at)
+-- several are
+pub behind-at : (ws : List Waiter) (v : Option ℕ) (ahead : List (Option ℕ)) → ((t : ℕ) → stands_in t ws ≡ true → t < length ahead) → (t : ℕ)
+    → ahead_in (noted_behind ws v ahead) t ≡ (if stands_in t ws then v else ahead_in ahead t)
+behind-at [] v ahead low t = refl
+behind-at (w ∷ ws) v ahead low t =
+    behind-at ws v (slice_set ahead w.thread v) (λ q e. omega (arith, length-set ahead w.thread v, low q (later (w.thread == q) e))) t
+    ∙ by_test (stands_in t ws) (w.thread == t) refl
+  where
+    later : (a : Bool) {b : Bool} → b ≡ true → (a || b) ≡ true
+    later true e = refl
+    later false e = e
 
-module _ (o : Owners) (n : ℕ) (m : Mutex) (at : slice_get o.mutexes n ≡ Some m) (is : IsSound o) (waits : List (Option ℕ)) (was : AreNoted waits o.mutexes) where
-  pub noted-claimed : (w : Waiter) (owner : ℕ) → is_waiting o w.thread ≡ false → is_open_to owner m ≡ true → w.thread < length waits
-      → AreNoted (slice_set waits w.thread (Some n)) (slice_set o.mutexes n (mutex.claimed m w owner))
+    by_test : (a b : Bool) → (w.thread == t) ≡ b → (if a then v else ahead_in (slice_set ahead w.thread v) t) ≡ (if b || a then v else ahead_in ahead t)
+    by_test true true e = refl
+    by_test true false e = refl
+    by_test false true e =
+        let P : ℕ → Type 0 = λ k. ahead_in (slice_set ahead w.thread v) k ≡ v in
+        subst P (is_same w.thread t e) (get_or-set_same ahead w.thread v None (low w.thread (ap (λ b. b || stands_in w.thread ws) (same w.thread))))
+    by_test false false e = get_or-set_other ahead w.thread t v None (λ at. false≢true (sym e ∙ ap (λ k. w.thread == k) at ∙ same w.thread))
+
+pub count-behind : (ws : List Waiter) (v : Option ℕ) (ahead : List (Option ℕ)) → length (noted_behind ws v ahead) ≡ length ahead
+count-behind [] v ahead = refl
+count-behind (w ∷ ws) v ahead = count-behind ws v (slice_set ahead w.thread v) ∙ length-set ahead w.thread v
+
+pub count-unnoted : (ahead : List (Option ℕ)) (thread : Option ℕ) → length (unnoted ahead thread) ≡ length ahead
+count-unnoted ahead None = refl
+count-unnoted ahead (Some t) = length-set ahead t None
+
+module _ (o : Owners) (n : ℕ) (m : Mutex) (at : slice_get o.mutexes n ≡ Some m) (is : IsSound o) (ahead : List (Option ℕ)) (was : AreNoted ahead o.mutexes) where
+  -- the owner of a mutex for which nobody waits is changed
+  pub noted-idle : (owner : Option ℕ) → is_nobody m.waiters ≡ true → AreNoted ahead (slice_set o.mutexes n (record { kind = m.kind; owner = owner; waiters = m.waiters }))
+  noted-idle owner idle t =
+      was t ∙ sym (waits-same t m (record { kind = m.kind; owner = owner; waiters = m.waiters }) refl (λ waits. absurd (false≢true (sym (no_one m.waiters t idle) ∙ waits))) o.mutexes n at)
+
+  pub noted-claimed : (w : Waiter) (owner : ℕ) → is_waiting o w.thread ≡ false → is_open_to owner m ≡ true → w.thread < length ahead
+      → AreNoted (slice_set ahead w.thread (Some owner)) (slice_set o.mutexes n (mutex.claimed m w owner))
   noted-claimed w owner free unclaimed below =
-      let new : Mutex = mutex.claimed m w owner in
-      noted-set waits o.mutexes (slice_set o.mutexes n new) w.thread (Some n) was
-      (get_or-set_same waits w.thread (Some n) None below ∙ sym (place-new w.thread m new (joins o n m at is w owner free unclaimed) o.mutexes n at (nowhere w.thread o.mutexes free)))
-      (λ t ne. place-same t m new (others_alike o n m at is w owner free unclaimed t ne) o.mutexes n at)
+      noted-set ahead o.mutexes (slice_set o.mutexes n (mutex.claimed m w owner)) w.thread (Some owner) was
+      (get_or-set_same ahead w.thread (Some owner) None below ∙ sym (waits_now o n m at is w owner free unclaimed))
+      (others_wait o n m at is w owner free unclaimed)
 
-  pub noted-released : AreNoted (unnoted waits (released m).next) (slice_set o.mutexes n (released m).after)
-  noted-released = by_queue m.waiters refl
-    where
-      differs : (w : Waiter) (ws : List Waiter) → m.waiters ≡ w ∷ ws → (t : ℕ) → t ≢ w.thread → is_waited_for_by t (mutex.handed_to m (w ∷ ws)).after ≡ is_waited_for_by t m
-      differs w ws e t ne = sym (stood o n m at is w ws e t ∙ ap (λ b. b || stands_in t ws) (other w.thread t (λ at. ne (sym at))))
-
-      by_queue : (ws : List Waiter) → m.waiters ≡ ws → AreNoted (unnoted waits (mutex.handed_to m ws).next) (slice_set o.mutexes n (mutex.handed_to m ws).after)
-      by_queue [] e = noted-kept waits o.mutexes n m (mutex.handed_to m []).after at (λ t. sym (ap (stands_in t) e)) was
-      by_queue (w ∷ ws) e =
-          let new : Mutex = (mutex.handed_to m (w ∷ ws)).after in
-          noted-set waits o.mutexes (slice_set o.mutexes n new) w.thread None was
-          (not_noted waits w.thread ∙ sym (place-none w.thread (slice_set o.mutexes n new) (gone o n m at is w ws e)))
-          (λ t ne. place-same t m new (differs w ws e t ne) o.mutexes n at)
-
-  pub noted-left : (u : ℕ) → AreNoted (unnoted waits (if is_waited_for_by u m then Some u else None)) (slice_set o.mutexes n (drop_waiter u m))
+  pub noted-left : (u : ℕ) → AreNoted (unnoted ahead (if is_waited_for_by u m then Some u else None)) (slice_set o.mutexes n (drop_waiter u m))
   noted-left u = by_test (is_waited_for_by u m) refl
     where
-      away : (t : ℕ) → (t == u) ≡ false → is_waited_for_by t (drop_waiter u m) ≡ is_waited_for_by t m
-      away t e = left-stands o n m at is u t ∙ ap (λ b. not b && is_waited_for_by t m) e
+      away : (t : ℕ) → t ≢ u → waits_for (slice_set o.mutexes n (drop_waiter u m)) t ≡ waits_for o.mutexes t
+      away t ne = left-others o n m at is u t (other t u ne)
 
-      alike : is_waited_for_by u m ≡ false → (t : ℕ) (b : Bool) → (t == u) ≡ b → is_waited_for_by t (drop_waiter u m) ≡ is_waited_for_by t m
+      itself : is_waited_for_by u m ≡ false → waits_for (slice_set o.mutexes n (drop_waiter u m)) u ≡ waits_for o.mutexes u
+      itself none = waits-same u m (drop_waiter u m) (left-none o n m at is u ∙ sym none) (λ waits. absurd (false≢true (sym none ∙ waits))) o.mutexes n at
+
+      alike : is_waited_for_by u m ≡ false → (t : ℕ) (b : Bool) → (t == u) ≡ b → waits_for (slice_set o.mutexes n (drop_waiter u m)) t ≡ waits_for o.mutexes t
       alike none t true e =
-          let P : ℕ → Type 0 = λ k. is_waited_for_by k (drop_waiter u m) ≡ is_waited_for_by k m in
-          subst P (sym (is_same t u e)) (left-none o n m at is u ∙ sym none)
-      alike none t false e = away t e
+          let P : ℕ → Type 0 = λ k. waits_for (slice_set o.mutexes n (drop_waiter u m)) k ≡ waits_for o.mutexes k in
+          subst P (sym (is_same t u e)) (itself none)
+      alike none t false e = left-others o n m at is u t e
 
-      by_test : (b : Bool) → is_waited_for_by u m ≡ b → AreNoted (unnoted waits (if b then Some u else None)) (slice_set o.mutexes n (drop_waiter u m))
+      by_test : (b : Bool) → is_waited_for_by u m ≡ b → AreNoted (unnoted ahead (if b then Some u else None)) (slice_set o.mutexes n (drop_waiter u m))
       by_test true e =
-          noted-set waits o.mutexes (slice_set o.mutexes n (drop_waiter u m)) u None was
-          (not_noted waits u ∙ sym (place-none u (slice_set o.mutexes n (drop_waiter u m))
+          noted-set ahead o.mutexes (slice_set o.mutexes n (drop_waiter u m)) u None was
+          (not_noted ahead u ∙ sym (waits-none u (slice_set o.mutexes n (drop_waiter u m))
           (omega (arith, queues-set u m (drop_waiter u m) o.mutexes n at, ap one_if e, ap one_if (left-none o n m at is u), is.once u))))
-          (λ t ne. place-same t m (drop_waiter u m) (away t (other t u ne)) o.mutexes n at)
-      by_test false e = noted-kept waits o.mutexes n m (drop_waiter u m) at (λ t. alike e t (t == u) refl) was
+          away
+      by_test false e = λ t. was t ∙ sym (alike e t (t == u) refl)
 
-pub noted-dropped : (waits : List (Option ℕ)) (ms : List Mutex) (u : ℕ) → AreNoted waits ms → AreNoted (slice_set waits u None) (map (drop_waiter u) ms)
-noted-dropped waits ms u was =
-    noted-set waits ms (map (drop_waiter u) ms) u None was (not_noted waits u ∙ sym (place-none u (map (drop_waiter u) ms) (queues-gone u ms)))
-    (λ t ne. place-map t (drop_waiter u) (λ m. drop-stands u m t ∙ ap (λ b. not b && is_waited_for_by t m) (other t u ne)) ms)
+  -- the first waiter waits no more, and the others wait for it
+  module _ (all : length ahead ≡ length o.base) (w : Waiter) (ws : List Waiter) (is_queue : m.waiters ≡ w ∷ ws) where
+    abbrev after : Mutex
+    after = (mutex.handed_to m (w ∷ ws)).after
+
+    stands_alone : stands_in w.thread ws ≡ false
+    stands_alone = (let P : List Waiter → Type 0 = AreApart in subst P is_queue (here o n m at is).apart).0
+
+    low : (t : ℕ) → stands_in t ws ≡ true → t < length (slice_set ahead w.thread None)
+    low t e = omega (arith, length-set ahead w.thread None, all, is.low t (stands-queues t o.mutexes n m at (stood o n m at is w ws is_queue t ∙ or_later (w.thread == t) e)))
+      where
+        or_later : (a : Bool) {b : Bool} → b ≡ true → (a || b) ≡ true
+        or_later true e = refl
+        or_later false e = e
+
+    behind : (t : ℕ) → stands_in t ws ≡ true → waits_for (slice_set o.mutexes n after) t ≡ Some w.thread
+    behind t e = waits-moved t m after (stood o n m at is w ws is_queue t ∙ or_later (w.thread == t) e) e o.mutexes n at (is.once t) ∙ owner (is_nobody ws) (somebody ws t e)
+      where
+        or_later : (a : Bool) {b : Bool} → b ≡ true → (a || b) ≡ true
+        or_later true e = refl
+        or_later false e = e
+
+        owner : (b : Bool) → b ≡ false → (if not b || has_ceiling m then Some w.thread else None) ≡ Some w.thread
+        owner true e = absurd (false≢true (sym e))
+        owner false e = refl
+
+    elsewhere : (t : ℕ) → stands_in t ws ≡ false → (w.thread == t) ≡ false → waits_for (slice_set o.mutexes n after) t ≡ waits_for o.mutexes t
+    elsewhere t e differs =
+        let none : is_waited_for_by t m ≡ false = stood o n m at is w ws is_queue t ∙ ap (λ b. b || stands_in t ws) differs ∙ e in
+        waits-same t m after (e ∙ sym none) (λ waits. absurd (false≢true (sym none ∙ waits))) o.mutexes n at
+
+    handed : AreNoted (noted_behind ws (Some w.thread) (slice_set ahead w.thread None)) (slice_set o.mutexes n after)
+    handed t = behind-at ws (Some w.thread) (slice_set ahead w.thread None) low t ∙ by_test (stands_in t ws) refl (w.thread == t) refl
+      where
+        by_test : (a : Bool) → stands_in t ws ≡ a → (b : Bool) → (w.thread == t) ≡ b
+            → (if a then Some w.thread else ahead_in (slice_set ahead w.thread None) t) ≡ waits_for (slice_set o.mutexes n after) t
+        by_test true e b same_one = sym (behind t e)
+        by_test false e true same_one =
+            let P : ℕ → Type 0 = λ k. ahead_in (slice_set ahead w.thread None) k ≡ waits_for (slice_set o.mutexes n after) k in
+            subst P (is_same w.thread t same_one) (not_noted ahead w.thread ∙ sym (waits-none w.thread (slice_set o.mutexes n after) (gone o n m at is w ws is_queue)))
+        by_test false e false same_one =
+            get_or-set_other ahead w.thread t None None (λ at. false≢true (sym same_one ∙ ap (λ k. w.thread == k) at ∙ same w.thread)) ∙ was t ∙ sym (elsewhere t e same_one)
+
+  pub noted-released : length ahead ≡ length o.base → AreNoted (noted_behind (released m).after.waiters (released m).next (unnoted ahead (released m).next)) (slice_set o.mutexes n (released m).after)
+  noted-released all = by_queue m.waiters refl
+    where
+      by_queue : (ws : List Waiter) → m.waiters ≡ ws
+          → AreNoted (noted_behind (mutex.handed_to m ws).after.waiters (mutex.handed_to m ws).next (unnoted ahead (mutex.handed_to m ws).next)) (slice_set o.mutexes n (mutex.handed_to m ws).after)
+      by_queue [] e =
+          let P : List Waiter → Type 0 = λ ws. AreNoted ahead (slice_set o.mutexes n (record { kind = m.kind; owner = None; waiters = ws })) in
+          subst P e (noted-idle None (ap is_nobody e))
+      by_queue (w ∷ ws) e = handed all w ws e
+
+pub noted-dropped : (ahead : List (Option ℕ)) (ms : List Mutex) (u : ℕ) → AreNoted ahead ms → AreNoted (slice_set ahead u None) (map (drop_waiter u) ms)
+noted-dropped ahead ms u was =
+    noted-set ahead ms (map (drop_waiter u) ms) u None was (not_noted ahead u ∙ sym (waits-none u (map (drop_waiter u) ms) (queues-gone u ms)))
+    (λ t ne. waits-let_go u t (other t u ne) ms)
 
 pub noted-fresh : (threads : ℕ) (kinds : List MutexKind) → AreNoted (replicate threads None) (map opened kinds)
-noted-fresh threads kinds t = nothing threads t ∙ sym (nowhere_yet kinds)
+noted-fresh threads kinds t = nothing threads t ∙ sym (waits-unowned (map opened kinds) (unowned-opened kinds) t)
   where
-    nothing : (n t : ℕ) → slice_index_or {A = Option ℕ} (replicate n None) t None ≡ None
+    nothing : (n t : ℕ) → ahead_in (replicate n None) t ≡ None
     nothing zero t = refl
     nothing (suc n) zero = refl
     nothing (suc n) (suc t) = nothing n t
-
-    nowhere_yet : (kinds : List MutexKind) → place_of (map opened kinds) t ≡ None
-    nowhere_yet [] = refl
-    nowhere_yet (k ∷ ks) = ap (option_map suc) (nowhere_yet ks)
-
-pub count-unnoted : (waits : List (Option ℕ)) (thread : Option ℕ) → length (unnoted waits thread) ≡ length waits
-count-unnoted waits None = refl
-count-unnoted waits (Some t) = length-set waits t None

@@ -2,6 +2,7 @@
 #![tactic(auto)]
 
 mod mutex_record;
+mod notes;
 mod owners;
 mod ranks;
 mod waiter;

@@ -5,11 +5,11 @@ ghost use Rattle.evl_base.specs.declared.refusal.Refusal.{Refusal};
 ghost use Rattle.evl_mutex.specs.Mutexes.{raised, lowered, opened, is_owned_by, drop_waiter};
 ghost use Rattle.evl_mutex.specs.Owners.{IsClaim, IsRelease, IsRingFree, IsSound, base_of, changed, claim_answer, claim_refusal, dropped, fresh, is_thread, lower_refusal, next_of, owner_of, raise_refusal, rank_of, ranks_of, unless_refused, with_base};
 ghost use Rattle.evl_mutex.specs.Ranks.{IsEffective};
-ghost use Rattle.evl_mutex.specs.Views.{AreNoted, HaveRoom, mutexes_of, numbers_of, unnoted};
+ghost use Rattle.evl_mutex.specs.Views.{AreNoted, HaveRoom, mutexes_of, numbers_of};
 
 use crate::mutex_record::MutexRecord;
 use crate::waiter::Waiter;
-use crate::{ranks, walks};
+use crate::{notes, ranks, walks};
 use evl_base::{MutexId, MutexKind, Refusal, ThreadId};
 use std::alloc::{AllocError, Allocator};
 use std::marker::Model;
@@ -21,8 +21,8 @@ use std::marker::Model;
 pub struct OwnersOf<A: Allocator> {
     base: Vec<u16, A>,
     mutexes: Vec<MutexRecord<A>, A>,
-    // which mutex each thread waits for
-    waits: Vec<Option<u16>, A>,
+    // whom each thread waits for
+    ahead: Vec<Option<u16>, A>,
 }
 
 impl<A: Allocator> Model for OwnersOf<A> {
@@ -33,7 +33,7 @@ impl<A: Allocator> Model for OwnersOf<A> {
 
     ghost view = { λ o. record { base = o.base.items; mutexes = mutexes_of o.mutexes.items } };
 
-    ghost invariant = { λ o. IsKept o.base.items o.mutexes.items o.waits.items };
+    ghost invariant = { λ o. IsKept o.base.items o.mutexes.items o.ahead.items };
 }
 
 impl<A: Allocator + Clone> OwnersOf<A> {
@@ -52,11 +52,11 @@ impl<A: Allocator + Clone> OwnersOf<A> {
     {
         let base = zeros(alloc.clone()?, threads as usize)?;
         let mutexes = opened(alloc.clone()?, kinds, threads as usize)?;
-        let waits = no_waits(alloc, threads as usize)?;
+        let ahead = notes::nobody(alloc, threads as usize)?;
         Ok(OwnersOf {
             base,
             mutexes,
-            waits,
+            ahead,
         })
     }
 }
@@ -71,7 +71,7 @@ impl<A: Allocator> OwnersOf<A> {
         ensures ring_free { IsRingFree self.now }
         ensures sound { IsSound self.now }
     {
-        walks::effective(&self.base, &self.mutexes, &self.waits, thread.0)
+        walks::effective(&self.base, &self.mutexes, &self.ahead, thread.0)
     }
 
     /// Writes the effective rank of each thread whose number is below the length of `ranks`, as `effective` tells it.
@@ -79,7 +79,7 @@ impl<A: Allocator> OwnersOf<A> {
     pub fn ranks(&self, ranks: &mut [u16])
         ensures ranks { ranks.new ≡ ranks_of self.now (length ranks.old) }
     {
-        ranks::write_all(&self.base, &self.mutexes, &self.waits, ranks);
+        ranks::write_all(&self.base, &self.mutexes, &self.ahead, ranks);
     }
 
     /// Who is recorded as the owner of a mutex, if anybody is; nobody where there is no such mutex. (Xenomai 4: EVL
@@ -132,7 +132,7 @@ impl<A: Allocator> OwnersOf<A> {
         ensures state { self.new ≡ dropped self.old thread.0 }
     {
         walks::drop_waiter(&mut self.mutexes, thread.0);
-        unnote(&mut self.waits, Some(thread.0));
+        notes::forget(&mut self.ahead, Some(thread.0));
     }
 
     /// Lets a thread wait for this one mutex no more, if it does; where there is no such mutex nothing changes. Where it
@@ -144,7 +144,7 @@ impl<A: Allocator> OwnersOf<A> {
         let place = mutex.0 as usize;
         if place < self.mutexes.len() {
             let gone = self.mutexes[place].drop_waiter(thread.0);
-            unnote(&mut self.waits, gone);
+            notes::forget(&mut self.ahead, gone);
         }
     }
 
@@ -171,12 +171,12 @@ impl<A: Allocator> OwnersOf<A> {
             return Err(refusal);
         }
         let threads = self.base.len();
-        if walks::reaches(&self.mutexes, &self.waits, threads, owner.0, waiter.0) {
+        if walks::reaches(&self.ahead, threads, owner.0, waiter.0) {
             return Err(Refusal::Deadlock);
         }
-        let waiting = waiter_of(&self.base, &self.mutexes, &self.waits, waiter.0);
+        let waiting = waiter_of(&self.base, &self.mutexes, &self.ahead, waiter.0);
         self.mutexes[mutex.0 as usize].claim(waiting, owner.0);
-        self.waits[waiter.0 as usize] = Some(mutex.0);
+        notes::note(&mut self.ahead, waiter.0, Some(owner.0));
         Ok(())
     }
 
@@ -199,7 +199,8 @@ impl<A: Allocator> OwnersOf<A> {
             return Err(Refusal::NotOwner);
         }
         let (next, more) = self.mutexes[place].hand_on();
-        unnote(&mut self.waits, next);
+        notes::forget(&mut self.ahead, next);
+        notes::note_behind(&mut self.ahead, &self.mutexes[place].waiters, next);
         Ok((named(next), more))
     }
 
@@ -246,13 +247,6 @@ fn zeros<A: Allocator>(alloc: A, threads: usize) -> Result<Vec<u16, A>, AllocErr
     Vec::from_elem(alloc, 0, threads)
 }
 
-// Of no thread it is noted that it waits.
-fn no_waits<A: Allocator>(alloc: A, threads: usize) -> Result<Vec<Option<u16>, A>, AllocError>
-    ensures nobody { IfOk result (λ waits. waits.items ≡ replicate threads None) }
-{
-    Vec::from_elem(alloc, None, threads)
-}
-
 // A mutex of each kind, with room for so many waiters.
 fn opened<A: Allocator + Clone>(
     alloc: A,
@@ -269,31 +263,20 @@ fn opened<A: Allocator + Clone>(
     Ok(mutexes)
 }
 
-// A thread waits no more, if it is one.
-fn unnote<A: Allocator>(waits: &mut Vec<Option<u16>, A>, thread: Option<u16>)
-    ensures unnoted { waits.new.items ≡ unnoted waits.old.items thread }
-{
-    if let Some(number) = thread {
-        if (number as usize) < waits.len() {
-            waits[number as usize] = None;
-        }
-    }
-}
-
 // A thread that begins to wait, with its effective rank.
 fn waiter_of<A: Allocator>(
     base: &Vec<u16, A>,
     mutexes: &Vec<MutexRecord<A>, A>,
-    waits: &Vec<Option<u16>, A>,
+    ahead: &Vec<Option<u16>, A>,
     thread: u16,
 ) -> Waiter
     requires few { length base.now.items < 2 ^ 16 }
-    requires noted { AreNoted waits.now.items (mutexes_of mutexes.now.items) }
+    requires noted { AreNoted ahead.now.items (mutexes_of mutexes.now.items) }
     ensures waiter { result ≡ (record { thread = thread; rank = rank_of (record { base = base.now.items; mutexes = mutexes_of mutexes.now.items }) thread }) }
 {
     Waiter {
         thread,
-        rank: walks::effective(base, mutexes, waits, thread),
+        rank: walks::effective(base, mutexes, ahead, thread),
     }
 }
 

@@ -1,29 +1,29 @@
 //! The effective ranks of all threads at once.
 ghost use Rattle.std.specs.Prelude.{◌≡◌, ◌<◌, ◌^◌, ℕ, length, max, slice_index, slice_set, if◌then◌else◌};
-ghost use Rattle.evl_mutex.specs.Chains.{waits_for, reaches};
+ghost use Rattle.evl_mutex.specs.Chains.{reaches};
 ghost use Rattle.evl_mutex.specs.Ranks.{ceilings, inherited, effective};
-ghost use Rattle.evl_mutex.specs.Views.{mutexes_of, AreNoted};
+ghost use Rattle.evl_mutex.specs.Views.{ahead_in, mutexes_of, AreNoted};
 
 use crate::mutex_record::MutexRecord;
-use crate::walks;
+use crate::notes;
 use std::alloc::Allocator;
 
 /// Writes the effective rank of each thread below the length of `ranks`.
 pub fn write_all<A: Allocator, B: Allocator>(
     base: &Vec<u16, B>,
     mutexes: &Vec<MutexRecord<A>, B>,
-    waits: &Vec<Option<u16>, B>,
+    ahead: &Vec<Option<u16>, B>,
     ranks: &mut [u16],
 )
     requires few { length base.now.items < 2 ^ 16 }
-    requires noted { AreNoted waits.now.items (mutexes_of mutexes.now.items) }
+    requires noted { AreNoted ahead.now.items (mutexes_of mutexes.now.items) }
     ensures length { length ranks.new ≡ length ranks.old }
     ensures ranks { (thread : ℕ) → thread < length ranks.new
         → slice_index ranks.new thread ≡ effective (length base.now.items) (slice_index base.now.items) (mutexes_of mutexes.now.items) thread }
 {
     write_base(base, ranks);
     raise_owners(mutexes, ranks);
-    raise_reached(base, mutexes, waits, ranks);
+    raise_reached(base, ahead, ranks);
 }
 
 // Writes the base ranks.
@@ -50,40 +50,32 @@ fn raise_owners<A: Allocator, B: Allocator>(mutexes: &Vec<MutexRecord<A>, B>, ra
 }
 
 // Raises all threads that are reached from others to the base ranks of these.
-fn raise_reached<A: Allocator, B: Allocator>(
-    base: &Vec<u16, B>,
-    mutexes: &Vec<MutexRecord<A>, B>,
-    waits: &Vec<Option<u16>, B>,
-    ranks: &mut [u16],
-)
-    requires few { length base.now.items < 2 ^ 16 }
-    requires noted { AreNoted waits.now.items (mutexes_of mutexes.now.items) }
+fn raise_reached<A: Allocator>(base: &Vec<u16, A>, ahead: &Vec<Option<u16>, A>, ranks: &mut [u16])
+    requires { length base.now.items < 2 ^ 16 }
     ensures length { length ranks.new ≡ length ranks.old }
     ensures ranks { (thread : ℕ) → thread < length ranks.new → slice_index ranks.new thread ≡ max (slice_index ranks.old thread)
-        (inherited (length base.now.items) (slice_index base.now.items) (waits_for (mutexes_of mutexes.now.items)) thread (length base.now.items)) }
+        (inherited (length base.now.items) (slice_index base.now.items) (ahead_in ahead.now.items) thread (length base.now.items)) }
 {
     for from in 0..base.len() {
-        raise_along(mutexes, waits, base.len(), from as u16, base[from], ranks);
+        raise_along(ahead, base.len(), from as u16, base[from], ranks);
     }
 }
 
 // Raises the threads that are met in so many steps from one thread.
-fn raise_along<A: Allocator, B: Allocator>(
-    mutexes: &Vec<MutexRecord<A>, B>,
-    waits: &Vec<Option<u16>, B>,
+fn raise_along<A: Allocator>(
+    ahead: &Vec<Option<u16>, A>,
     steps: usize,
     from: u16,
     rank: u16,
     ranks: &mut [u16],
 )
-    requires { AreNoted waits.now.items (mutexes_of mutexes.now.items) }
     ensures length { length ranks.new ≡ length ranks.old }
     ensures ranks { (thread : ℕ) → thread < length ranks.new → slice_index ranks.new thread
-        ≡ max (slice_index ranks.old thread) (if reaches steps (waits_for (mutexes_of mutexes.now.items)) from thread then rank else 0) }
+        ≡ max (slice_index ranks.old thread) (if reaches steps (ahead_in ahead.now.items) from thread then rank else 0) }
 {
     let mut at = from;
     for _step in 0..steps {
-        match walks::waits_for(mutexes, waits, at) {
+        match notes::ahead_of(ahead, at) {
             Some(owner) => {
                 raise(ranks, owner, rank);
                 at = owner;

@@ -1,6 +1,5 @@
-use Rattle.std.proofs.Common.{◌≡◌, ◌+◌, ◌<◌, ℕ, List, Some, None, max, drop, length, slice_index, slice_index_or, sym, ap, ◌∙◌, arith}
+use Rattle.std.proofs.Common.{◌≡◌, ◌+◌, ◌<◌, ℕ, max, drop, length, slice_index, slice_index_or, sym, ap, ◌∙◌, arith}
 use Rattle.std.proofs.lemmas.List.{length-set, at_drop_more}
-use Rattle.evl_mutex.specs.Mutexes.{Mutex}
 use Rattle.evl_mutex.specs.Ranks.{ceiling_for, ceilings}
 use Rattle.evl_mutex.specs.Views.{mutex_of, mutexes_of}
 use Rattle.evl_mutex.proofs.RaiseLaws.{raised, ceiling-raised, ceiling-nobody}

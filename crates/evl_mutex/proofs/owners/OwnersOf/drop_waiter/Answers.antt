@@ -12,6 +12,6 @@ invariant_of-self g c =
       sound = rw c.drop_waiter.ensures.dropped (sound-dropped (record { base = s.base.items; mutexes = mutexes_of s.mutexes.items }) _ is.sound);
       room = c.drop_waiter.ensures.room (length s.base.items) is.room;
       few = is.few;
-      noted = rw (c.drop_waiter.ensures.dropped, c.unnote.ensures.unnoted) (noted-dropped s.waits.items (mutexes_of s.mutexes.items) c.args.thread.0 is.noted);
-      all = ap length c.unnote.ensures.unnoted ∙ length-set s.waits.items _ _ ∙ is.all;
+      noted = rw (c.drop_waiter.ensures.dropped, c.forget.ensures.unnoted) (noted-dropped s.ahead.items (mutexes_of s.mutexes.items) c.args.thread.0 is.noted);
+      all = ap length c.forget.ensures.unnoted ∙ length-set s.ahead.items _ _ ∙ is.all;
     }
