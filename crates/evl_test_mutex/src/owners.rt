@@ -77,3 +77,15 @@ fn a_mutex_is_left(rt: HostRuntime) -> Result<(), Fail> {
     assert!(rt; owners.next(FIRST).is_none());
     Ok(())
 }
+
+#[test]
+fn all_ranks_at_once(rt: HostRuntime) -> Result<(), Fail> {
+    let mut owners = Owners::new(rt.alloc(), 4, &KINDS)?;
+    assert!(rt; owners.set_base(THREE, 520).is_ok());
+    assert!(rt; owners.raise(FIRST, TWO).is_ok());
+    assert!(rt; owners.claim(SECOND, THREE, ONE).is_ok());
+    let mut ranks = [7; 4];
+    owners.ranks(&mut ranks);
+    assert!(rt; ranks == [0, 520, 562, 520]);
+    Ok(())
+}
