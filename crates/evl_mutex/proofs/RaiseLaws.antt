@@ -8,6 +8,7 @@ use Rattle.std.proofs.lemmas.Bool.{false≢true}
 use Rattle.evl_mutex.specs.Mutexes.{Mutex, ceiling_of}
 use Rattle.evl_mutex.specs.Chains.{reaches}
 use Rattle.evl_mutex.specs.Ranks.{ceiling_for}
+use Rattle.evl_mutex.specs.Owners.{Owners, rank_of, ranks_of}
 use Rattle.evl_mutex.proofs.ChainLaws.{is_same, same}
 
 -- the ranks after one was raised
@@ -97,3 +98,11 @@ pub members-are : (xs : List ℕ) (n : ℕ) (f : ℕ → ℕ) → length xs ≡ 
 members-are xs n f l h =
     same_members xs (map f (range_with_len 0 n)) (omega (arith, l, length-map-range_with_len f 0 n))
     (λ i b. h i b ∙ sym (get_or-map-range_with_len f 0 n i i 0 (omega (arith, l, b)) (omega arith)))
+
+-- the list of all ranks, as a caller reads it
+
+pub rank-at : (o : Owners) (n t : ℕ) → t < n → slice_index (ranks_of o n) t ≡ rank_of o t
+rank-at o n t l = get_or-map-range_with_len (rank_of o) 0 n t t 0 l (omega arith)
+
+pub count-ranks : (o : Owners) (n : ℕ) → length (ranks_of o n) ≡ n
+count-ranks o n = length-map-range_with_len (rank_of o) 0 n
