@@ -2,7 +2,10 @@ pub mod ChainLaws
 pub mod QueueLaws
 pub mod MutexLaws
 pub mod SoundLaws
+pub mod NotedLaws
 pub mod RankLaws
+pub mod RaiseLaws
+pub mod HandingLaws
 pub mod ListLaws
 pub mod CallLaws
 pub mod Rows

@@ -2,7 +2,9 @@
 #![tactic(auto)]
 
 mod mutex_record;
+mod notes;
 mod owners;
+mod ranks;
 mod waiter;
 mod walks;
 

@@ -1,14 +1,15 @@
 //! The recorded owners of all mutexes, and the effective ranks of all threads.
 ghost use Rattle.std.specs.Prelude.{◌≡◌, List, ◌<◌, ◌^◌, ℕ, Bool, Option, Some, None, Ok, Err, Result, length, map, slice_get, nat_lt, is_ok, option_map, replicate, IfOk, IfErr, if◌then◌else◌};
+ghost use Rattle.std.specs.List.{list_any};
 ghost use Rattle.evl_base.specs.declared.refusal.Refusal.{Refusal};
-ghost use Rattle.evl_mutex.specs.Mutexes.{raised, lowered, opened};
-ghost use Rattle.evl_mutex.specs.Owners.{IsClaim, IsRelease, IsRingFree, IsSound, base_of, changed, claim_answer, claim_refusal, dropped, fresh, is_thread, lower_refusal, owner_of, raise_refusal, rank_of, unless_refused, with_base};
+ghost use Rattle.evl_mutex.specs.Mutexes.{raised, lowered, opened, is_owned_by, drop_waiter};
+ghost use Rattle.evl_mutex.specs.Owners.{IsClaim, IsRelease, IsRingFree, IsSound, base_of, changed, claim_answer, claim_refusal, dropped, fresh, is_thread, lower_refusal, next_of, owner_of, raise_refusal, rank_of, ranks_of, unless_refused, with_base};
 ghost use Rattle.evl_mutex.specs.Ranks.{IsEffective};
-ghost use Rattle.evl_mutex.specs.Views.{HaveRoom, mutexes_of, numbers_of};
+ghost use Rattle.evl_mutex.specs.Views.{AreNoted, HaveRoom, mutexes_of, numbers_of};
 
 use crate::mutex_record::MutexRecord;
 use crate::waiter::Waiter;
-use crate::walks;
+use crate::{notes, ranks, walks};
 use evl_base::{MutexId, MutexKind, Refusal, ThreadId};
 use std::alloc::{AllocError, Allocator};
 use std::marker::Model;
@@ -20,6 +21,8 @@ use std::marker::Model;
 pub struct OwnersOf<A: Allocator> {
     base: Vec<u16, A>,
     mutexes: Vec<MutexRecord<A>, A>,
+    // whom each thread waits for
+    ahead: Vec<Option<u16>, A>,
 }
 
 impl<A: Allocator> Model for OwnersOf<A> {
@@ -30,7 +33,7 @@ impl<A: Allocator> Model for OwnersOf<A> {
 
     ghost view = { λ o. record { base = o.base.items; mutexes = mutexes_of o.mutexes.items } };
 
-    ghost invariant = { λ o. IsKept o.base.items o.mutexes.items };
+    ghost invariant = { λ o. IsKept o.base.items o.mutexes.items o.ahead.items };
 }
 
 impl<A: Allocator + Clone> OwnersOf<A> {
@@ -48,8 +51,13 @@ impl<A: Allocator + Clone> OwnersOf<A> {
         ensures fresh { IfOk result (λ o. o ≡ fresh threads kinds.now) }
     {
         let base = zeros(alloc.clone()?, threads as usize)?;
-        let mutexes = opened(alloc, kinds, threads as usize)?;
-        Ok(OwnersOf { base, mutexes })
+        let mutexes = opened(alloc.clone()?, kinds, threads as usize)?;
+        let ahead = notes::nobody(alloc, threads as usize)?;
+        Ok(OwnersOf {
+            base,
+            mutexes,
+            ahead,
+        })
     }
 }
 
@@ -63,7 +71,15 @@ impl<A: Allocator> OwnersOf<A> {
         ensures ring_free { IsRingFree self.now }
         ensures sound { IsSound self.now }
     {
-        walks::effective(&self.base, &self.mutexes, thread.0)
+        walks::effective(&self.base, &self.mutexes, &self.ahead, thread.0)
+    }
+
+    /// Writes the effective rank of each thread whose number is below the length of `ranks`, as `effective` tells it.
+    /// (Xenomai 4: EVL mutexes, priority inheritance and ceilings)
+    pub fn ranks(&self, ranks: &mut [u16])
+        ensures ranks { ranks.new ≡ ranks_of self.now (length ranks.old) }
+    {
+        ranks::write_all(&self.base, &self.mutexes, &self.ahead, ranks);
     }
 
     /// Who is recorded as the owner of a mutex, if anybody is; nobody where there is no such mutex. (Xenomai 4: EVL
@@ -73,6 +89,28 @@ impl<A: Allocator> OwnersOf<A> {
     {
         let record = self.mutexes.get(mutex.0 as usize)?;
         named(record.owner)
+    }
+
+    /// Whether there is such a mutex. (this profile)
+    pub fn has(&self, mutex: MutexId) -> bool
+        ensures has { result ≡ nat_lt mutex.0 (length self.now.mutexes) }
+    {
+        (mutex.0 as usize) < self.mutexes.len()
+    }
+
+    /// Whether the thread is recorded as the owner of a mutex. (Xenomai 4: EVL mutexes)
+    pub fn owns_any(&self, thread: ThreadId) -> bool
+        ensures owns { result ≡ list_any (is_owned_by thread.0) self.now.mutexes }
+    {
+        walks::owns_any(&self.mutexes, thread.0)
+    }
+
+    /// Who waits for a mutex first, to whom a release would hand it; nobody where nobody waits or there is no such mutex.
+    /// (Xenomai 4: EVL mutexes)
+    pub fn next(&self, mutex: MutexId) -> Option<ThreadId>
+        ensures next { option_map (λ thread. thread.0) result ≡ next_of self.now mutex.0 }
+    {
+        named(self.mutexes.get(mutex.0 as usize)?.next())
     }
 
     /// Sets the base rank of a thread. Its place in a queue is kept. `Unknown` where there is no such thread; nothing
@@ -94,6 +132,20 @@ impl<A: Allocator> OwnersOf<A> {
         ensures state { self.new ≡ dropped self.old thread.0 }
     {
         walks::drop_waiter(&mut self.mutexes, thread.0);
+        notes::forget(&mut self.ahead, Some(thread.0));
+    }
+
+    /// Lets a thread wait for this one mutex no more, if it does; where there is no such mutex nothing changes. Where it
+    /// was the last waiter, no owner of the mutex is recorded any more; at a ceiling the owner stays. (Xenomai 4: EVL
+    /// mutexes; this profile)
+    pub fn leave(&mut self, mutex: MutexId, thread: ThreadId)
+        ensures state { self.new ≡ changed self.old mutex.0 (drop_waiter thread.0) }
+    {
+        let place = mutex.0 as usize;
+        if place < self.mutexes.len() {
+            let gone = self.mutexes[place].drop_waiter(thread.0);
+            notes::forget(&mut self.ahead, gone);
+        }
     }
 
     /// A thread begins to wait for a mutex, whose owner it names, and that owner is recorded. It stands behind the waiters
@@ -118,11 +170,13 @@ impl<A: Allocator> OwnersOf<A> {
         ) {
             return Err(refusal);
         }
-        if walks::reaches(&self.mutexes, self.base.len(), owner.0, waiter.0) {
+        let threads = self.base.len();
+        if walks::reaches(&self.ahead, threads, owner.0, waiter.0) {
             return Err(Refusal::Deadlock);
         }
-        let waiting = waiter_of(&self.base, &self.mutexes, waiter.0);
+        let waiting = waiter_of(&self.base, &self.mutexes, &self.ahead, waiter.0);
         self.mutexes[mutex.0 as usize].claim(waiting, owner.0);
+        notes::note(&mut self.ahead, waiter.0, Some(owner.0));
         Ok(())
     }
 
@@ -145,6 +199,8 @@ impl<A: Allocator> OwnersOf<A> {
             return Err(Refusal::NotOwner);
         }
         let (next, more) = self.mutexes[place].hand_on();
+        notes::forget(&mut self.ahead, next);
+        notes::note_behind(&mut self.ahead, &self.mutexes[place].waiters, next);
         Ok((named(next), more))
     }
 
@@ -211,14 +267,16 @@ fn opened<A: Allocator + Clone>(
 fn waiter_of<A: Allocator>(
     base: &Vec<u16, A>,
     mutexes: &Vec<MutexRecord<A>, A>,
+    ahead: &Vec<Option<u16>, A>,
     thread: u16,
 ) -> Waiter
-    requires { length base.now.items < 2 ^ 16 }
+    requires few { length base.now.items < 2 ^ 16 }
+    requires noted { AreNoted ahead.now.items (mutexes_of mutexes.now.items) }
     ensures waiter { result ≡ (record { thread = thread; rank = rank_of (record { base = base.now.items; mutexes = mutexes_of mutexes.now.items }) thread }) }
 {
     Waiter {
         thread,
-        rank: walks::effective(base, mutexes, thread),
+        rank: walks::effective(base, mutexes, ahead, thread),
     }
 }
 

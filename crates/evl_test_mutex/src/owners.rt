@@ -63,3 +63,29 @@ fn a_ceiling_counts_for_its_owner(rt: HostRuntime) -> Result<(), Fail> {
     assert!(rt; owners.lower(FIRST, TWO).is_ok());
     Ok(())
 }
+
+#[test]
+fn a_mutex_is_left(rt: HostRuntime) -> Result<(), Fail> {
+    let mut owners = Owners::new(rt.alloc(), 4, &NORMAL)?;
+    assert!(rt; owners.claim(FIRST, TWO, ONE).is_ok());
+    assert!(rt; owners.has(SECOND) && !owners.has(MutexId(2)));
+    assert!(rt; owners.owns_any(ONE) && !owners.owns_any(TWO));
+    assert!(rt; matches!(owners.next(FIRST), Some(ThreadId(2))));
+    owners.leave(SECOND, TWO);
+    assert!(rt; owners.next(FIRST).is_some());
+    owners.leave(FIRST, TWO);
+    assert!(rt; owners.next(FIRST).is_none());
+    Ok(())
+}
+
+#[test]
+fn all_ranks_at_once(rt: HostRuntime) -> Result<(), Fail> {
+    let mut owners = Owners::new(rt.alloc(), 4, &KINDS)?;
+    assert!(rt; owners.set_base(THREE, 520).is_ok());
+    assert!(rt; owners.raise(FIRST, TWO).is_ok());
+    assert!(rt; owners.claim(SECOND, THREE, ONE).is_ok());
+    let mut ranks = [7; 4];
+    owners.ranks(&mut ranks);
+    assert!(rt; ranks == [0, 520, 562, 520]);
+    Ok(())
+}
