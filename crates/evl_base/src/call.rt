@@ -182,7 +182,7 @@ pub enum Call {
     Raise {
         mutex: MutexId,
     },
-    /// Asks what ended the caller's wait; a weak thread goes in-band then, unless it keeps its stage.
+    /// Asks what ended the caller's wait; a weak thread goes in-band then, unless it keeps its stage or got a mutex.
     Finish {
         keep: bool,
     },
