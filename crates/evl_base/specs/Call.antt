@@ -2,7 +2,7 @@
 use Rattle.std.specs.Prelude.{ℕ, Bool, true, false, List, ◌++◌, Option, Some, None, codes}
 use Rattle.std.specs.Fmt.{decimal}
 use Rattle.evl_base.specs.declared.call.Call.{Call}
-use Rattle.evl_base.specs.declared.call.Call.TheVariants.{Request, Free, Arrive, Post, Stall, Unstall, Tick, Now, NewTimer, StartTimer, StopTimer, DropTimer, Overruns, Attach, Detach, SetPolicy, SetStage, Pick, RankOf, TryGet, Put, Peek, BeginGet, TryTake, PostFlags, PeekFlags, BeginTake, Write, Read, Room, BeginWrite, BeginRead, Finish}
+use Rattle.evl_base.specs.declared.call.Call.TheVariants.{Request, Free, Arrive, Post, Stall, Unstall, Tick, Now, NewTimer, StartTimer, StopTimer, DropTimer, Overruns, Attach, Detach, SetPolicy, SetStage, Pick, RankOf, TryGet, Put, Peek, BeginGet, TryTake, PostFlags, PeekFlags, BeginTake, Write, Read, Room, BeginWrite, BeginRead, Claim, Release, Raise, Finish}
 use Rattle.evl_base.specs.declared.stage.Stage.{Stage}
 use Rattle.evl_base.specs.declared.take.Take.{Take}
 use Rattle.evl_base.specs.declared.way.Way.{Way}
@@ -33,6 +33,9 @@ way_and_length_text xbuf way len = codes "xbuf=" ++ (decimal xbuf ++ (codes " wa
 abbrev pub until_text : Option ℕ → List ℕ
 until_text None = codes "none"
 until_text (Some date) = decimal date
+
+abbrev pub owner_and_until_text : ℕ → Option ℕ → List ℕ
+owner_and_until_text owner until = codes "owner=" ++ (decimal owner ++ (codes " until=" ++ until_text until))
 
 abbrev pub truth_text : Bool → List ℕ
 truth_text true = codes "true"
@@ -74,6 +77,9 @@ call_text (Room xbuf way) = codes "room " ++ xbuf_and_way_text xbuf.0 way
 call_text (BeginWrite xbuf way bytes until) =
     codes "begin_write " ++ (xbuf_and_way_text xbuf.0 way ++ (codes " bytes=" ++ (bytes_text bytes.items ++ (codes " until=" ++ until_text until))))
 call_text (BeginRead xbuf way len until) = codes "begin_read " ++ (way_and_length_text xbuf.0 way len ++ (codes " until=" ++ until_text until))
+call_text (Claim mutex owner until) = codes "claim mutex=" ++ (decimal mutex.0 ++ (codes " " ++ owner_and_until_text owner.0 until))
+call_text (Release mutex) = codes "release mutex=" ++ decimal mutex.0
+call_text (Raise mutex) = codes "raise mutex=" ++ decimal mutex.0
 call_text (Finish keep) = codes "finish keep=" ++ truth_text keep
 
 -- how many boxes its bytes take

@@ -2,7 +2,7 @@
 ghost use Rattle.std.specs.Prelude.{◌≡◌, ◌≤◌, ◌+◌};
 ghost use Rattle.evl_base.specs.Call.{boxes_in_call};
 
-use crate::numbers::{FlagId, LineNo, SemId, ThreadId, TimerId, XbufId};
+use crate::numbers::{FlagId, LineNo, MutexId, SemId, ThreadId, TimerId, XbufId};
 use crate::policy::Policy;
 use crate::stage::Stage;
 use crate::take::Take;
@@ -160,7 +160,29 @@ pub enum Call {
         len: u16,
         until: Option<u64>,
     },
-    /// Asks what ended the caller's wait; a weak thread goes in-band then, unless it keeps its stage.
+    /// Begins a wait for a mutex, until a date in nanoseconds, or without a deadline, and records the thread that the
+    /// caller names as its owner; the owner inherits from who waits. Refused, in this order: `Unknown` where there is no
+    /// such mutex or owner; `Invalid` where the caller or the owner isn't attached, the owner is the caller, or another
+    /// owner is recorded; `WrongStage` where the caller isn't out-of-band; `Deadlock` where the wait would close a ring.
+    /// (Xenomai 4: EVL mutexes, priority inheritance; this profile)
+    Claim {
+        mutex: MutexId,
+        owner: ThreadId,
+        until: Option<u64>,
+    },
+    /// Hands a mutex on to the first of its waiters, if anybody waits, and ends that one's wait; the answer names it, and
+    /// says whether more wait. Anybody may do so where no owner is recorded. Refused, in this order: `Unknown` where there
+    /// is no such mutex; `NotOwner` where another thread is recorded as its owner. (Xenomai 4: EVL mutexes; this profile)
+    Release {
+        mutex: MutexId,
+    },
+    /// Records the caller as the owner of a mutex with a ceiling, so that it has the ceiling's rank. Refused, in this
+    /// order: `Unknown` where there is no such mutex; `Invalid` where it has no ceiling, or the caller isn't attached;
+    /// `Busy` where an owner is recorded, the caller too. (Xenomai 4: EVL mutexes, priority ceilings; this profile)
+    Raise {
+        mutex: MutexId,
+    },
+    /// Asks what ended the caller's wait; a weak thread goes in-band then, unless it keeps its stage or got a mutex.
     Finish {
         keep: bool,
     },
@@ -281,6 +303,17 @@ impl Call {
                 len: *len,
                 until: *until,
             },
+            Call::Claim {
+                mutex,
+                owner,
+                until,
+            } => Call::Claim {
+                mutex: *mutex,
+                owner: *owner,
+                until: *until,
+            },
+            Call::Release { mutex } => Call::Release { mutex: *mutex },
+            Call::Raise { mutex } => Call::Raise { mutex: *mutex },
             Call::Finish { keep } => Call::Finish { keep: *keep },
         }
     }

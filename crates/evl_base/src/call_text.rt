@@ -1,11 +1,11 @@
-//! What a call says in a trace, by families: lines, clock, threads, flag groups, cross-buffers, semaphores and
-//! waits. A family hands on what isn't its own, so that a call costs the proof of its family alone.
+//! What a call says in a trace, by families: lines, clock, threads, flag groups, cross-buffers, mutexes,
+//! semaphores and waits. A family hands on what isn't its own, so that a call costs the proof of its family alone.
 ghost use Rattle.std.specs.Prelude.{Some};
 
 use crate::call::Call;
 use crate::keys::{
-    DateAndInterval, FlagsAndKind, LineAndStage, Numbered, StageAndLine, Staged, Until,
-    WayAndLength, XbufAndWay,
+    DateAndInterval, FlagsAndKind, LineAndStage, Numbered, OwnerAndUntil, StageAndLine, Staged,
+    Until, WayAndLength, XbufAndWay,
 };
 use crate::way::Hex;
 use std::fmt;
@@ -207,6 +207,36 @@ impl<'a> fmt::Display for BufferText<'a> {
                 let until = Until(*until);
                 write!(f, "begin_read {wanted} until={until}")
             }
+            _ => MutexText(self.0).fmt(f),
+        }
+    }
+}
+
+/// The text of a call on mutexes, or of one of those below.
+#[derive(Drop)]
+struct MutexText<'a>(&'a Call);
+
+impl<'a> fmt::Display for MutexText<'a> {
+    ghost use Rattle.evl_base.specs.Call.{call_text};
+
+    ghost output = { λ text. Some (call_text text.0.now) };
+
+    fn fmt<W: fmt::Write>(&self, f: &mut fmt::Formatter<W>) -> fmt::Result {
+        match self.0 {
+            Call::Claim {
+                mutex,
+                owner,
+                until,
+            } => {
+                let mutex = mutex.0;
+                let named = OwnerAndUntil {
+                    owner: *owner,
+                    until: *until,
+                };
+                write!(f, "claim mutex={mutex} {named}")
+            }
+            Call::Release { mutex } => Numbered("release mutex=", mutex.0).fmt(f),
+            Call::Raise { mutex } => Numbered("raise mutex=", mutex.0).fmt(f),
             _ => WaitText(self.0).fmt(f),
         }
     }
@@ -260,7 +290,10 @@ impl<'a> fmt::Display for WaitText<'a> {
             | Call::Read { .. }
             | Call::Room { .. }
             | Call::BeginWrite { .. }
-            | Call::BeginRead { .. } => Err(fmt::Error),
+            | Call::BeginRead { .. }
+            | Call::Claim { .. }
+            | Call::Release { .. }
+            | Call::Raise { .. } => Err(fmt::Error),
         }
     }
 }

@@ -1,7 +1,7 @@
 //! Keys of a call's text with their values.
 ghost use Rattle.std.specs.Prelude.{Some};
 
-use crate::numbers::{FlagId, LineNo, XbufId};
+use crate::numbers::{FlagId, LineNo, ThreadId, XbufId};
 use crate::stage::Stage;
 use crate::take::Take;
 use crate::way::Way;
@@ -171,5 +171,24 @@ impl fmt::Display for Until {
             Some(date) => write!(f, "{date}"),
             None => write!(f, "none"),
         }
+    }
+}
+
+/// The keys of a mutex's owner and of a deadline.
+#[derive(Drop)]
+pub struct OwnerAndUntil {
+    pub owner: ThreadId,
+    pub until: Option<u64>,
+}
+
+impl fmt::Display for OwnerAndUntil {
+    ghost use Rattle.evl_base.specs.Call.{owner_and_until_text};
+
+    ghost output = { λ named. Some (owner_and_until_text named.owner.0 named.until) };
+
+    fn fmt<W: fmt::Write>(&self, f: &mut fmt::Formatter<W>) -> fmt::Result {
+        let owner = self.owner.0;
+        let until = Until(self.until);
+        write!(f, "owner={owner} until={until}")
     }
 }

@@ -5,11 +5,11 @@ use Rattle.evl_base.specs.declared.call.Call.TheVariants as make
 use Rattle.evl_base.specs.declared.take.Take.TheVariants.{Any}
 use Rattle.evl_base.specs.declared.way.Way.TheVariants.{In, Out}
 use Rattle.hex.proofs.OnLiterals.{hex_on_literals}
-use Rattle.evl_scenario.specs.Steps.{call_of}
+use Rattle.evl_scenario.specs.Steps.{call_of, word_of}
 use Rattle.evl_scenario.specs.Takes.{take_of}
 use Rattle.evl_scenario.specs.Transfers.{bytes_of, way_of}
 use Rattle.evl_scenario.specs.Values.{truth_from, until_from}
-use Rattle.evl_scenario.specs.declared.steps.StepWord.TheVariants.{BeginGet, PostFlags, BeginTake, Room, BeginRead, Finish}
+use Rattle.evl_scenario.specs.declared.steps.StepWord.TheVariants.{BeginGet, PostFlags, BeginTake, Room, BeginRead, Claim, Release, Raise, Finish}
 
 -- a deadline is a number, or the text that says that there is none; without the key there is none
 until-number : until_from (integer (pos 5)) ≡ Some (Some 5)
@@ -91,3 +91,33 @@ begin_read-without_deadline :
     call_of BeginRead (member (codes "xbuf") (integer (pos 2)) (member (codes "way") (string (codes "in")) (member (codes "len") (integer (pos 257)) no_members)))
     ≡ Some (make.BeginRead (record { 0 = 2 }) In 257 None)
 begin_read-without_deadline = refl
+
+-- a claim names a mutex and its owner, and may have a deadline; a release and a raise name just a mutex
+claim-word : word_of (codes "claim") ≡ Some Claim
+claim-word = refl
+
+claim-without_deadline : call_of Claim (member (codes "mutex") (integer (pos 2)) (member (codes "owner") (integer (pos 1)) no_members)) ≡ Some (make.Claim (record { 0 = 2 }) (record { 0 = 1 }) None)
+claim-without_deadline = refl
+
+claim-deadline :
+    call_of Claim (member (codes "until") (integer (pos 100)) (member (codes "owner") (integer (pos 63)) (member (codes "mutex") (integer (pos 0)) no_members)))
+    ≡ Some (make.Claim (record { 0 = 0 }) (record { 0 = 63 }) (Some 100))
+claim-deadline = refl
+
+claim-without_owner : call_of Claim (member (codes "mutex") (integer (pos 2)) no_members) ≡ None
+claim-without_owner = refl
+
+release-word : word_of (codes "release") ≡ Some Release
+release-word = refl
+
+release-mutex : call_of Release (member (codes "mutex") (integer (pos 31)) no_members) ≡ Some (make.Release (record { 0 = 31 }))
+release-mutex = refl
+
+raise-word : word_of (codes "raise") ≡ Some Raise
+raise-word = refl
+
+raise-mutex : call_of Raise (member (codes "mutex") (integer (pos 65535)) no_members) ≡ Some (make.Raise (record { 0 = 65535 }))
+raise-mutex = refl
+
+raise-wide_number : call_of Raise (member (codes "mutex") (integer (pos 65536)) no_members) ≡ None
+raise-wide_number = refl

@@ -5,13 +5,13 @@ use Rattle.toml.specs.Data.{Data, Members, as_table, get_member}
 use Rattle.evl_base.specs.declared.call.Call.{Call}
 use Rattle.evl_base.specs.declared.call.Call.TheVariants as make
 use Rattle.evl_scenario.specs.declared.steps.StepWord.{StepWord}
-use Rattle.evl_scenario.specs.declared.steps.StepWord.TheVariants.{Request, Free, Arrive, Post, Stall, Unstall, Tick, Now, NewTimer, StartTimer, StopTimer, DropTimer, Overruns, Attach, Detach, SetPolicy, SetStage, Pick, RankOf, TryGet, Put, Peek, BeginGet, TryTake, PostFlags, PeekFlags, BeginTake, Write, Read, Room, BeginWrite, BeginRead, Finish}
+use Rattle.evl_scenario.specs.declared.steps.StepWord.TheVariants.{Request, Free, Arrive, Post, Stall, Unstall, Tick, Now, NewTimer, StartTimer, StopTimer, DropTimer, Overruns, Attach, Detach, SetPolicy, SetStage, Pick, RankOf, TryGet, Put, Peek, BeginGet, TryTake, PostFlags, PeekFlags, BeginTake, Write, Read, Room, BeginWrite, BeginRead, Claim, Release, Raise, Finish}
 use Rattle.evl_scenario.specs.declared.steps.Step.{Step}
 use Rattle.evl_scenario.specs.Tables.{value_at, value_or, text_at, has_only}
 use Rattle.evl_scenario.specs.Policies.{policy_from}
 use Rattle.evl_scenario.specs.Takes.{take_from}
 use Rattle.evl_scenario.specs.Transfers.{bytes_from, way_from}
-use Rattle.evl_scenario.specs.Values.{number_from, word_from, half_word_from, byte_from, thread_from, line_from, sem_from, flag_from, xbuf_from, timer_from, stage_from, truth_from, until_from}
+use Rattle.evl_scenario.specs.Values.{number_from, word_from, half_word_from, byte_from, thread_from, line_from, sem_from, flag_from, xbuf_from, mutex_from, timer_from, stage_from, truth_from, until_from}
 
 -- the word that a text is
 abbrev pub word_of : List ℕ → Option StepWord
@@ -48,6 +48,9 @@ word_of text =
     else if bytes_eq text (codes "room") then Some Room
     else if bytes_eq text (codes "begin_write") then Some BeginWrite
     else if bytes_eq text (codes "begin_read") then Some BeginRead
+    else if bytes_eq text (codes "claim") then Some Claim
+    else if bytes_eq text (codes "release") then Some Release
+    else if bytes_eq text (codes "raise") then Some Raise
     else if bytes_eq text (codes "finish") then Some Finish
     else None
 
@@ -85,6 +88,9 @@ keys_of Read = codes "do" ∷ codes "who" ∷ codes "xbuf" ∷ codes "way" ∷ c
 keys_of Room = codes "do" ∷ codes "who" ∷ codes "xbuf" ∷ codes "way" ∷ []
 keys_of BeginWrite = codes "do" ∷ codes "who" ∷ codes "xbuf" ∷ codes "way" ∷ codes "bytes" ∷ codes "until" ∷ []
 keys_of BeginRead = codes "do" ∷ codes "who" ∷ codes "xbuf" ∷ codes "way" ∷ codes "len" ∷ codes "until" ∷ []
+keys_of Claim = codes "do" ∷ codes "who" ∷ codes "mutex" ∷ codes "owner" ∷ codes "until" ∷ []
+keys_of Release = codes "do" ∷ codes "who" ∷ codes "mutex" ∷ []
+keys_of Raise = codes "do" ∷ codes "who" ∷ codes "mutex" ∷ []
 keys_of Finish = codes "do" ∷ codes "who" ∷ codes "keep" ∷ []
 
 -- the call that a word and a table make
@@ -156,6 +162,13 @@ call_of BeginRead table =
     (value_at half_word_from (codes "len") table))
     (value_at way_from (codes "way") table))
     (value_at xbuf_from (codes "xbuf") table)
+call_of Claim table =
+    option_and_then (λ mutex. option_and_then (λ owner. option_map (make.Claim mutex owner)
+    (value_or until_from None (get_member (codes "until") table)))
+    (value_at thread_from (codes "owner") table))
+    (value_at mutex_from (codes "mutex") table)
+call_of Release table = option_map make.Release (value_at mutex_from (codes "mutex") table)
+call_of Raise table = option_map make.Raise (value_at mutex_from (codes "mutex") table)
 call_of Finish table = option_map make.Finish (value_or truth_from false (get_member (codes "keep") table))
 
 -- the step with this word

@@ -8,6 +8,7 @@ use Rattle.evl_base.specs.declared.mutex_kind.MutexKind.{MutexKind}
 use Rattle.evl_base.specs.declared.mutex_kind.MutexKind.TheVariants.{Normal, Recursive, Ceiling}
 use Rattle.evl_base.specs.declared.numbers.FlagId.{FlagId}
 use Rattle.evl_base.specs.declared.numbers.LineNo.{LineNo}
+use Rattle.evl_base.specs.declared.numbers.MutexId.{MutexId}
 use Rattle.evl_base.specs.declared.numbers.SemId.{SemId}
 use Rattle.evl_base.specs.declared.numbers.ThreadId.{ThreadId}
 use Rattle.evl_base.specs.declared.numbers.TimerId.{TimerId}
@@ -61,6 +62,9 @@ flag_from value = option_map (λ n. record { 0 = n }) (half_word_from value)
 
 abbrev pub xbuf_from : Data → Option XbufId
 xbuf_from value = option_map (λ n. record { 0 = n }) (half_word_from value)
+
+abbrev pub mutex_from : Data → Option MutexId
+mutex_from value = option_map (λ n. record { 0 = n }) (half_word_from value)
 
 abbrev pub timer_from : Data → Option TimerId
 timer_from value = option_map (λ n. record { 0 = n }) (half_word_from value)

@@ -43,6 +43,9 @@ pub enum StepWord {
     Room,
     BeginWrite,
     BeginRead,
+    Claim,
+    Release,
+    Raise,
     Finish,
 }
 
@@ -90,6 +93,9 @@ fn read_word(text: &str) -> Option<StepWord>
         "room" => Some(StepWord::Room),
         "begin_write" => Some(StepWord::BeginWrite),
         "begin_read" => Some(StepWord::BeginRead),
+        "claim" => Some(StepWord::Claim),
+        "release" => Some(StepWord::Release),
+        "raise" => Some(StepWord::Raise),
         "finish" => Some(StepWord::Finish),
         _ => None,
     }
@@ -132,6 +138,9 @@ fn step_keys(word: StepWord) -> &'static [&'static str]
         StepWord::Room => &["do", "who", "xbuf", "way"],
         StepWord::BeginWrite => &["do", "who", "xbuf", "way", "bytes", "until"],
         StepWord::BeginRead => &["do", "who", "xbuf", "way", "len", "until"],
+        StepWord::Claim => &["do", "who", "mutex", "owner", "until"],
+        StepWord::Release => &["do", "who", "mutex"],
+        StepWord::Raise => &["do", "who", "mutex"],
         StepWord::Finish => &["do", "who", "keep"],
     }
 }
@@ -277,6 +286,22 @@ fn read_call(word: StepWord, table: &Table, spares: &mut Spares<Global>) -> Opti
                 until,
             })
         }
+        StepWord::Claim => {
+            let mutex = at(table, "mutex")?;
+            let owner = at(table, "owner")?;
+            let until = at_or(table, "until", None)?;
+            Some(Call::Claim {
+                mutex,
+                owner,
+                until,
+            })
+        }
+        StepWord::Release => Some(Call::Release {
+            mutex: at(table, "mutex")?,
+        }),
+        StepWord::Raise => Some(Call::Raise {
+            mutex: at(table, "mutex")?,
+        }),
         StepWord::Finish => {
             let keep = at_or(table, "keep", false)?;
             Some(Call::Finish { keep })

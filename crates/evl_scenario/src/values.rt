@@ -2,9 +2,9 @@
 ghost use Rattle.std.specs.Prelude.{◌≡◌, Option, option_map};
 ghost use Rattle.toml.specs.Data.{Data};
 ghost use Rattle.toml.specs.View.{view, items_view};
-ghost use Rattle.evl_scenario.specs.Values.{number_from, text_number, word_from, half_word_from, byte_from, around_space, past_front, two_sizes, mutex_kind_from, ring_sizes_from, thread_from, line_from, sem_from, flag_from, xbuf_from, stage_from, timer_from, truth_from, until_from, until_of};
+ghost use Rattle.evl_scenario.specs.Values.{number_from, text_number, word_from, half_word_from, byte_from, around_space, past_front, two_sizes, mutex_kind_from, ring_sizes_from, thread_from, line_from, sem_from, flag_from, xbuf_from, mutex_from, stage_from, timer_from, truth_from, until_from, until_of};
 
-use evl_base::{FlagId, LineNo, MutexKind, SemId, Stage, ThreadId, TimerId, XbufId};
+use evl_base::{FlagId, LineNo, MutexId, MutexKind, SemId, Stage, ThreadId, TimerId, XbufId};
 use toml::Value;
 
 /// A value that a TOML value may stand for.
@@ -123,6 +123,14 @@ impl FromToml for XbufId {
 
     fn from_toml(value: &Value) -> Option<XbufId> {
         Some(XbufId(u16::try_from(number(value)?).ok()?))
+    }
+}
+
+impl FromToml for MutexId {
+    ghost gives = { mutex_from };
+
+    fn from_toml(value: &Value) -> Option<MutexId> {
+        Some(MutexId(u16::try_from(number(value)?).ok()?))
     }
 }
 

@@ -1,7 +1,7 @@
 //! Texts, numbers and names.
 use evl_base::{
-    Call, FlagId, LineNo, Play, Policy, Refusal, Reply, SemId, Spares, Stage, Take, ThreadId,
-    TimerId, Transfer, Way, XbufId, put_call, put_play, put_reply,
+    Call, FlagId, LineNo, MutexId, Play, Policy, Refusal, Reply, SemId, Spares, Stage, Take,
+    ThreadId, TimerId, Transfer, Way, XbufId, put_call, put_play, put_reply,
 };
 use std::alloc::Global;
 use std::test::*;
@@ -64,6 +64,40 @@ fn flag_calls_have_their_texts(rt: HostRuntime) -> Result<(), Fail> {
         text.as_slice(),
         b"try_take flags=63 kind=of 4294967295post_flags flags=63 bits=6peek_flags flags=63begin_take flags=63 kind=any until=9".as_slice()
     );
+    Ok(())
+}
+
+#[test]
+fn mutex_calls_have_their_texts(rt: HostRuntime) -> Result<(), Fail> {
+    let mutex = MutexId(31);
+    let calls = [
+        (
+            Call::Claim {
+                mutex,
+                owner: ThreadId(63),
+                until: None,
+            },
+            "claim mutex=31 owner=63 until=none",
+        ),
+        (
+            Call::Claim {
+                mutex: MutexId(0),
+                owner: ThreadId(65535),
+                until: Some(100),
+            },
+            "claim mutex=0 owner=65535 until=100",
+        ),
+        (Call::Release { mutex }, "release mutex=31"),
+        (
+            Call::Raise {
+                mutex: MutexId(65535),
+            },
+            "raise mutex=65535",
+        ),
+    ];
+    for (call, expected) in &calls {
+        assert!(rt; is_call_copied(rt.alloc(), call, expected).map_err(|_| "copy")?);
+    }
     Ok(())
 }
 
