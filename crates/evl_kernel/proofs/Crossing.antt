@@ -14,6 +14,7 @@ use Rattle.evl_sync.proofs.Crossing.{flag_group_send, sem_send}
 use Rattle.evl_sync.specs.contracts.sem.Sem as Sem
 use Rattle.evl_sync.specs.contracts.flag_group.FlagGroup as FlagGroup
 use Rattle.evl_xbuf.proofs.Crossing.{xbuf_send}
+use Rattle.evl_mutex.proofs.Crossing.{owners_send}
 use Rattle.evl_xbuf.specs.contracts.xbuf.XbufOf as XbufOf
 use Rattle.evl_kernel.specs.contracts.elements.Elements as Elements
 use Rattle.evl_kernel.specs.contracts.wait_place.WaitPlace as WaitPlace
@@ -47,7 +48,7 @@ module _ (C A : RattleType) (g : Ghosts A.Denot) where
 
   elements_send : IsSend A → Frees g g.dealloc_token → IsSend (Elements.the_row A g)
   elements_send a f =
-      let sems = sems_send a f in let flags = flags_send a f in let xbufs = xbufs_send a f in
+      let sems = sems_send a f in let flags = flags_send a f in let xbufs = xbufs_send a f in let owners = owners_send A g a f in
       search (view_send, crosses, sendable) depth 20
 
   waits_send : IsSend A → Frees g g.dealloc_token → IsSend (Vec.the_row WaitPlace.the_row A g)

@@ -71,7 +71,7 @@ dates_at h legal = run_holds HasDates each own (opened h) h.entries h.plays h.st
       banked = λ s number home b h. h;
       clocked = λ s c same h. ap (λ (ds : List (Option ℕ)). length ds) same ∙ h;
       paid = λ s before delta now h. h;
-      asked = λ s by step plain h. leaves-touched HasDates waiting s by step h;
+      asked = λ s by step plain may h. leaves-touched HasDates waiting s by step h;
       expired = λ s thread h. kept-deadline HasDates waiting s thread h;
     }
 
@@ -162,7 +162,7 @@ module _ (thread : ℕ) (Q : Option ℕ → Type 0) where
     banked = λ s number home b h. h;
     clocked = λ s c same h. as_before s (with_clock s c) refl (ap (λ (ds : List (Option ℕ)). slice_index_or ds thread None) same) h;
     paid = λ s before delta now h. h;
-    asked = λ s by step plain h. dated_touched s by step h;
+    asked = λ s by step plain may h. dated_touched s by step h;
     expired = λ s other h. dated_expired s other h;
   }
 

@@ -1,8 +1,8 @@
 -- A step of the n-th element of a kind: what it comes to, and which refusals there are.
-use Rattle.std.proofs.Common.{◌≡◌, ◌+◌, ◌-◌, ℕ, ◌==◌, nat_lt, Bool, true, false, List, [], ◌∷◌, Option, Some, None, Result, Ok, Err, IfErr, slice_get, slice_set, if◌then◌else◌, refl, sym, ap, ◌∙◌, subst, length}
+use Rattle.std.proofs.Common.{◌≡◌, ◌+◌, ◌-◌, ℕ, ◌==◌, nat_lt, Bool, true, false, List, [], ◌∷◌, Option, Some, None, is_some, Result, Ok, Err, IfErr, slice_get, slice_set, if◌then◌else◌, refl, sym, ap, ◌∙◌, subst, length}
 use Rattle.std.specs.Option.{option_map_or}
 use Rattle.evl_base.specs.declared.refusal.Refusal.{Refusal}
-use Rattle.evl_base.specs.declared.refusal.Refusal.TheVariants.{Unknown, Again, Range, Invalid, TooBig, WrongStage}
+use Rattle.evl_base.specs.declared.refusal.Refusal.TheVariants.{Unknown, Again, Busy, NotOwner, Range, Invalid, TooBig, WrongStage}
 use Rattle.evl_base.specs.declared.reply.Reply.{Reply}
 use Rattle.evl_base.specs.declared.reply.Reply.TheVariants.{Begun, Bits, Count, Done, Number}
 use Rattle.evl_base.specs.declared.way.Way.{Way}
@@ -13,7 +13,7 @@ use Rattle.evl_sync.specs.Semaphores as sem
 use Rattle.evl_sync.specs.Semaphores.{Semaphore}
 use Rattle.evl_sync.specs.declared.waiter.Waiter.{Waiter}
 use Rattle.evl_kernel.specs.States.{State, Elements}
-use Rattle.evl_kernel.specs.Effects.{Answered, known, lifted, replied}
+use Rattle.evl_kernel.specs.Effects.{Answered, done, known, lifted, replied}
 use Rattle.evl_kernel.specs.Semaphores as semaphore
 use Rattle.evl_kernel.specs.Semaphores.{SemStep, semaphore as sem_machine}
 use Rattle.evl_kernel.specs.FlagGroups as group
@@ -23,7 +23,11 @@ use Rattle.evl_xbuf.specs.Streams.{Stream, Service}
 use Rattle.evl_xbuf.specs.Xbufs.{Xbuf, beside, reading_stage, same_stage, stream, unless_refused, writing_stage}
 use Rattle.evl_kernel.specs.CrossBuffers as through
 use Rattle.evl_kernel.specs.CrossBuffers.{XbufStep, bytes_told, cross_buffer}
-use Rattle.evl_kernel.specs.Elements.{ElementStep, on_sem, on_flags, on_xbuf, at_nth, element, elements, with_elements, stepping_to, wakes}
+use Rattle.evl_mutex.specs.Mutexes.{Mutex, has_ceiling, is_open_to, raised, released}
+use Rattle.evl_kernel.specs.Mutexes as recorded
+use Rattle.evl_kernel.specs.Mutexes.{MutexStep, handed_told, mutex as mutex_machine}
+use Rattle.evl_kernel.specs.Elements.{ElementStep, on_sem, on_flags, on_xbuf, on_mutex, at_nth, element, elements, with_elements, stepping_to, wakes}
+use Rattle.evl_kernel.specs.ElementsViews.{ElementsView}
 use Rattle.evl_kernel.specs.KernelViews.{IsAnswer}
 use Rattle.evl_kernel.specs.Waits.{all_woken}
 use Rattle.evl_kernel.proofs.SetLaws.{set_same}
@@ -96,11 +100,11 @@ module _ {X P : Type 0} (machine : X → P → Answered X) (with_kind : List X �
       found (Some q) e = by q (machine q step) refl e
 
 -- what a call on that element refused is refused, and nothing changes
-module _ {X P A B : Type 0} (machine : X → P → Answered X) (with_kind : List X → Elements) (xs : List X) (n : ℕ) (step : P) (q p : X) (here : slice_get xs n ≡ Some q) (f : A → B) (said : B → Reply) where
+module _ {X P A B : Type 0} (machine : X → P → Answered X) (with_kind : List X → ElementsView) (xs : List X) (n : ℕ) (step : P) (q p : X) (here : slice_get xs n ≡ Some q) (f : A → B) (said : B → Reply) where
   pub nth-same : (result : Result A Refusal) → replied said (stepped f result p) ≡ machine q step → IfErr result (λ r. p ≡ q)
-      → IfErr result (λ r. (at_nth machine with_kind xs n step ≡ Err r) × (with_kind (slice_set xs n p) ≡ with_kind xs))
+      → IfErr result (λ r. (at_nth machine (λ ys. (with_kind ys).elements) xs n step ≡ Err r) × (with_kind (slice_set xs n p) ≡ with_kind xs))
   nth-same (Ok answer) is same = tt
-  nth-same (Err refusal) is same = (nth-refused machine with_kind xs n step q refusal here (sym is), ap with_kind (ap (slice_set xs n) same ∙ set_same xs n q here))
+  nth-same (Err refusal) is same = (nth-refused machine (λ ys. (with_kind ys).elements) xs n step q refusal here (sym is), ap with_kind (ap (slice_set xs n) same ∙ set_same xs n q here))
 
 -- a look changes nothing
 module _ (e : Elements) (n : ℕ) where
@@ -205,10 +209,26 @@ xbufs_enter x (through.begin_read thread way len) refusal = by (nat_lt 256 len)
     by false = way_enters x way (λ got. Begun) refusal (same_stage (reading_stage way) (reading_stage way)) (Ok (streams.begin_read thread len (stream x way))) (λ e is. absurd (ok_err is))
 xbufs_enter x (through.drop thread way) refusal = λ e. absurd (ok_err e)
 
+pub mutex_enters : (m : Mutex) (step : MutexStep) (refusal : Refusal) → mutex_machine m step ≡ Err refusal → Enters refusal
+mutex_enters m (recorded.claim w owner) refusal = λ e. absurd (ok_err e)
+mutex_enters m (recorded.release thread) refusal = by (is_open_to thread m)
+  where
+    by : (b : Bool) → if◌then◌else◌ {A = Answered Mutex} b (Ok (handed_told (released m), (released m).after)) (Err NotOwner) ≡ Err refusal → Enters refusal
+    by true e = absurd (ok_err e)
+    by false e = subst Enters (err_is e) (refl, tt)
+mutex_enters m (recorded.raise thread) refusal = by (has_ceiling m) (is_some m.owner)
+  where
+    by : (b c : Bool) → if◌then◌else◌ {A = Answered Mutex} b (if◌then◌else◌ {A = Answered Mutex} c (Err Busy) (done (raised m thread))) (Err Invalid) ≡ Err refusal → Enters refusal
+    by true true e = subst Enters (err_is e) (refl, tt)
+    by true false e = absurd (ok_err e)
+    by false c e = subst Enters (err_is e) (refl, tt)
+mutex_enters m (recorded.drop thread) refusal = λ e. absurd (ok_err e)
+
 pub element_enters : (e : Elements) (step : ElementStep) (refusal : Refusal) → element e step ≡ Err refusal → Enters refusal
 element_enters e (on_sem n step) refusal = nth-refuses sem_machine (λ sems. record e { sems = sems }) e.sems n step Enters (refl, tt) (λ q r. sem_enters q step r) refusal
 element_enters e (on_flags n step) refusal = nth-refuses flag_group (λ flags. record e { flags = flags }) e.flags n step Enters (refl, tt) (λ f r. flags_enter f step r) refusal
 element_enters e (on_xbuf n step) refusal = nth-refuses cross_buffer (λ xbufs. record e { xbufs = xbufs }) e.xbufs n step Enters (refl, tt) (λ x r. xbufs_enter x step r) refusal
+element_enters e (on_mutex n step) refusal = nth-refuses mutex_machine (λ mutexes. record e { mutexes = mutexes }) e.mutexes n step Enters (refl, tt) (λ m r. mutex_enters m step r) refusal
 
 -- what a step comes to for the whole
 module _ (then_ : State → State) (s : State) (step : ElementStep) where

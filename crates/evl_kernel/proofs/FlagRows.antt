@@ -21,6 +21,7 @@ use Rattle.evl_kernel.specs.States.{State, Handler}
 use Rattle.evl_kernel.specs.Openings.{opening}
 use Rattle.evl_kernel.specs.Replays.{stepped}
 use Rattle.evl_kernel.specs.Settling.{next_move}
+use Rattle.evl_kernel.specs.ThreadCalls.{rank_by}
 
 -- the answers and plays of calls, each by its thread
 abbrev replies : State → List (ℕ × Call) → List (Result Reply Refusal × List Play)
@@ -57,12 +58,12 @@ flag_waiters : replies (start (0 ∷ [])) (
     (1, Attach (Fifo 20) Oob) ∷ (2, Attach (Fifo 10) Oob) ∷ (1, BeginTake flags_0 (Exact 6) None) ∷ (2, BeginTake flags_0 (Of 1) None) ∷ (0, PostFlags flags_0 2) ∷ (0, PostFlags flags_0 5)
     ∷ (1, Finish false) ∷ (2, Finish false) ∷ (0, PeekFlags flags_0) ∷ (0, PostFlags flags_0 0) ∷ []
     ) ≡ said Done ∷ said Done ∷ said Begun ∷ said Begun ∷ said Done ∷ said Done ∷ said (Bits 6) ∷ said (Bits 1) ∷ said (Bits 0) ∷ refused Invalid ∷ []
-unfolding next_move lines.opening clocks.opening next_due threads.opening
+unfolding next_move lines.opening clocks.opening next_due threads.opening rank_by
 flag_waiters = refl
 
 takes : replies (start (3 ∷ [])) ((0, TryTake flags_0 (Of 0)) ∷ (0, TryTake flags_0 (Exact 4)) ∷ (0, TryTake flags_0 (Of 2)) ∷ (0, TryTake flags_0 Any) ∷ (0, TryTake flags_0 Any) ∷ [])
     ≡ refused Invalid ∷ refused Again ∷ said (Bits 2) ∷ said (Bits 1) ∷ refused Again ∷ []
-unfolding next_move lines.opening clocks.opening next_due threads.opening
+unfolding next_move lines.opening clocks.opening next_due threads.opening rank_by
 takes = refl
 
 -- a callback's post, while another's call settles
@@ -71,7 +72,7 @@ posted_by_a_callback : replies (start (0 ∷ [])) (
     ∷ (0, Arrive (record { 0 = 9 })) ∷ (0, PeekFlags flags_0) ∷ []
     ) ≡ said Done ∷ said Begun ∷ said Done ∷ (Ok Done, Line (record { 0 = 9 }) Oob 1 true ∷ []) ∷ said (Chosen (Some (record { 0 = 1 }))) ∷ said (Bits 1)
     ∷ (Ok Done, Line (record { 0 = 9 }) Oob 2 true ∷ []) ∷ said (Bits 1) ∷ []
-unfolding next_move lines.opening clocks.opening next_due threads.opening
+unfolding next_move lines.opening clocks.opening next_due threads.opening rank_by
 posted_by_a_callback = refl
 
 -- the middle one of three waiters isn't satisfied; a take goes past waiters
@@ -79,7 +80,7 @@ middle_waiter_stays : replies (start (0 ∷ [])) (
     (1, Attach (Fifo 30) Oob) ∷ (2, Attach (Fifo 20) Oob) ∷ (3, Attach (Fifo 10) Oob) ∷ (1, BeginTake flags_0 (Of 3) None) ∷ (2, BeginTake flags_0 (Exact 12) None) ∷ (3, BeginTake flags_0 Any None)
     ∷ (0, PostFlags flags_0 6) ∷ (1, Finish false) ∷ (2, Finish false) ∷ (3, Finish false) ∷ (0, PostFlags flags_0 8) ∷ (1, BeginTake flags_0 (Of 8) None) ∷ (1, Finish false) ∷ []
     ) ≡ said Done ∷ said Done ∷ said Done ∷ said Begun ∷ said Begun ∷ said Begun ∷ said Done ∷ said (Bits 2) ∷ refused Again ∷ said (Bits 4) ∷ said Done ∷ said Begun ∷ said (Bits 8) ∷ []
-unfolding next_move lines.opening clocks.opening next_due threads.opening
+unfolding next_move lines.opening clocks.opening next_due threads.opening rank_by
 middle_waiter_stays = refl
 
 -- the refusals of a beginning, in order; a deadline ends the wait
@@ -87,5 +88,5 @@ begin_refusals : replies (start (1 ∷ [])) (
     (1, BeginTake (record { 0 = 1 }) (Of 0) None) ∷ (1, BeginTake flags_0 Any None) ∷ (1, Attach (Fifo 10) Inband) ∷ (1, BeginTake flags_0 (Of 0) None) ∷ (1, BeginTake flags_0 Any None)
     ∷ (1, SetStage Oob) ∷ (1, BeginTake flags_0 (Of 2) (Some 5)) ∷ (1, PeekFlags flags_0) ∷ (0, Tick 5) ∷ (1, Finish false) ∷ []
     ) ≡ refused Unknown ∷ refused Invalid ∷ said Done ∷ refused Invalid ∷ refused WrongStage ∷ said Done ∷ said Begun ∷ refused Busy ∷ (Ok Done, Clock ∷ Deadline (record { 0 = 1 }) ∷ []) ∷ said TimedOut ∷ []
-unfolding next_move lines.opening clocks.opening next_due threads.opening
+unfolding next_move lines.opening clocks.opening next_due threads.opening rank_by
 begin_refusals = refl

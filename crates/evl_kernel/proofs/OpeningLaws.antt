@@ -1,6 +1,6 @@
 -- The records of a new kernel.
-use Rattle.std.proofs.Common.{◌≡◌, ◌≤◌, ℕ, zero, suc, inl, inr, Bool, true, false, ◌&&◌, nat_le, arith, length, List, [], ◌∷◌, map, replicate, Option, Some, None, is_some, slice_get, refl, sym, ap, ◌∙◌, subst}
-use Rattle.std.specs.Option.{option_map}
+use Rattle.std.proofs.Common.{◌≡◌, ◌≤◌, ℕ, zero, suc, inl, inr, Bool, true, false, ◌&&◌, nat_le, arith, length, List, [], ◌∷◌, map, replicate, Option, Some, None, is_some, slice_get, slice_index, slice_index_or, refl, sym, ap, ◌∙◌, subst}
+use Rattle.std.specs.Option.{option_map, option_map_or}
 use Rattle.std.specs.List.{list_all}
 use Rattle.std.proofs.lemmas.Bool.Decides.{nat_tests}
 use Rattle.evl_base.specs.Board.{board_fits}
@@ -23,8 +23,8 @@ use Rattle.evl_kernel.specs.States.{Elements, Handler}
 use Rattle.evl_kernel.specs.Openings.{all_opened, opening, at_home}
 use Rattle.evl_kernel.specs.Renamed.{named, renamed, renamed_clock}
 use Rattle.evl_kernel.specs.Callbacks.{Whereabouts, AnswersAsTold, AreFilled, told}
-use Rattle.evl_kernel.specs.Records.{RecordsView, IsOpened, state_of, number_of, banked, AreAllowed, AreTimersAllowed, WaitsAreKept}
-use Rattle.evl_kernel.specs.Standing.{AreSound, in_flags, in_readers, in_sem, in_writers, stands_at, stands_for}
+use Rattle.evl_kernel.specs.Records.{RanksAreKept, RecordsView, IsOpened, state_of, number_of, banked, AreAllowed, AreTimersAllowed, WaitsAreKept}
+use Rattle.evl_kernel.specs.Standing.{AreSound, in_flags, in_mutex, in_readers, in_sem, in_writers, stands_at, stands_for}
 use Rattle.evl_sched.specs.Ranks.{Ranked, fresh}
 use Rattle.evl_sync.specs.Semaphores as semaphores
 use Rattle.evl_sync.specs.Semaphores.{IsSoundSemaphore}
@@ -32,11 +32,19 @@ use Rattle.evl_sync.specs.FlagGroups as flags
 use Rattle.evl_sync.specs.FlagGroups.{IsSoundGroup}
 use Rattle.evl_base.specs.declared.way.Way.{Way}
 use Rattle.evl_base.specs.declared.way.Way.TheVariants.{In, Out}
+use Rattle.evl_mutex.specs.Mutexes as mutexes
+use Rattle.evl_mutex.proofs.SoundLaws.{sound-fresh}
+use Rattle.evl_sched.specs.Threads as threads
+use Rattle.evl_sched.specs.Threads.{Sched, base_of, is_attached}
+use Rattle.evl_sched.specs.declared.seat.Seat.{Seat}
+use Rattle.evl_sched.specs.Policies.{base_rank}
+use Rattle.evl_kernel.specs.Limits.{thread_limit}
+use Rattle.evl_kernel.specs.ElementsViews.{owners_of}
 use Rattle.evl_xbuf.specs.Xbufs as xbufs
 use Rattle.evl_xbuf.specs.Xbufs.{IsSoundXbuf, Xbuf}
 use Rattle.evl_xbuf.proofs.SoundLaws.{sound-empty}
 use Rattle.evl_kernel.specs.declared.waits.Awaited.{Awaited}
-use Rattle.evl_kernel.specs.declared.waits.Awaited.TheVariants.{Sem, Flags, Writing, Reading}
+use Rattle.evl_kernel.specs.declared.waits.Awaited.TheVariants.{Sem, Flags, Writing, Reading, Mutex}
 use Rattle.evl_kernel.specs.declared.waits.Wait.{Wait}
 use Rattle.evl_kernel.proofs.ClockLaws.{clock-opening}
 use Rattle.evl_kernel.proofs.SchedLaws.{sched-fresh}
@@ -104,7 +112,7 @@ module _ {C : Type 0} (declared : C → ℕ) (plan : C → Plan) where
   answers-opening bank w filled nothing no_timers number callback (inr (inl out)) =
       absurd (nothing-opening out.stage out.line out.at (subst (λ (p : lines.Pipeline (Numbered C)). lines.installed_at p out.stage out.line ≡ Some out.at) nothing out.there))
 
-  pub state-opening : (board : Board) (bank : List C) (r : RecordsView C) → r.threads ≡ board.threads → r.elements ≡ all_opened board → r.waits ≡ replicate board.threads None
+  pub state-opening : (board : Board) (bank : List C) (r : RecordsView C) → r.threads ≡ board.threads → r.elements.elements ≡ all_opened board → r.waits ≡ replicate board.threads None
       → AreFilled declared plan bank r.bank → r.lines ≡ lines.opening → r.clock ≡ clocks.opening → r.sched ≡ fresh board.threads board.groups.items
       → state_of r ≡ opening board (map handler_made bank)
   state-opening board bank r threads opened waits filled nothing no_timers nobody =
@@ -113,7 +121,7 @@ module _ {C : Type 0} (declared : C → ℕ) (plan : C → Plan) where
       let sched_is = ap (λ (x : Ranked). x.sched) nobody ∙ sched-fresh board.threads board.groups.items in
       (λ i. record { threads = threads i; elements = opened i; bank = banked-filled bank r.bank filled i; lines = lines_are i; clock = clock_is i; sched = sched_is i; waits = waits i })
 
-  pub opened_records : (board : Board) (bank : List C) (r : RecordsView C) → r.threads ≡ board.threads → r.elements ≡ all_opened board → r.waits ≡ replicate board.threads None
+  pub opened_records : (board : Board) (bank : List C) (r : RecordsView C) → r.threads ≡ board.threads → r.elements.elements ≡ all_opened board → r.waits ≡ replicate board.threads None
       → AreFilled declared plan bank r.bank → r.lines ≡ lines.opening → r.clock ≡ clocks.opening → r.sched ≡ fresh board.threads board.groups.items
       → IsOpened declared plan board bank r
   opened_records board bank r threads opened waits filled nothing no_timers nobody =
@@ -157,9 +165,10 @@ nobody_stands board (Sem id) t = nobody_of semaphores.opened in_sem (λ c t. ref
 nobody_stands board (Flags id) t = nobody_of flags.opened in_flags (λ c t. refl) board.flags.items id.0 t
 nobody_stands board (Writing id way) t = nobody_of (λ (sizes : ℕ × ℕ). xbufs.opened sizes.0 sizes.1) (in_writers way) (λ sizes t. nobody_writes way sizes t) board.xbufs.items id.0 t
 nobody_stands board (Reading id way) t = nobody_of (λ (sizes : ℕ × ℕ). xbufs.opened sizes.0 sizes.1) (in_readers way) (λ sizes t. nobody_reads way sizes t) board.xbufs.items id.0 t
+nobody_stands board (Mutex id) t = nobody_of mutexes.opened in_mutex (λ c t. refl) board.mutexes.items id.0 t
 
 -- and each is sound
-sound_of : {C X : Type 0} (opened : C → X) (P : X → Type 0) → ((c : C) → P (opened c)) → (counts : List C) (n : ℕ) (x : X) → slice_get (map opened counts) n ≡ Some x → P x
+pub sound_of : {C X : Type 0} (opened : C → X) (P : X → Type 0) → ((c : C) → P (opened c)) → (counts : List C) (n : ℕ) (x : X) → slice_get (map opened counts) n ≡ Some x → P x
 sound_of opened P each [] n x is = absurd (none_some is)
 sound_of opened P each (c ∷ counts) zero x is = subst P (some_is is) (each c)
 sound_of opened P each (c ∷ counts) (suc n) x is = sound_of opened P each counts n x is
@@ -218,6 +227,7 @@ opened_sound board fits = record {
   xbufs = sound_xbufs board.xbufs.items
       (third_of_six (within 1 64 board.threads) (list_all count_fits board.sems.items) (list_all sizes_fit board.xbufs.items) (list_all kind_fits board.mutexes.items) (list_all percent_fits board.groups.items)
       (list_all stax_fits board.staxes.items) fits);
+  mutexes = sound-fresh thread_limit board.mutexes.items;
 }
 
 pub waits-new : (board : Board) (e : Elements) (waits : List (Option Wait)) → board_fits board ≡ true → e ≡ all_opened board → waits ≡ replicate board.threads None
@@ -228,3 +238,33 @@ waits-new board e waits fits opened none = record {
   places = ap (λ (ws : List (Option Wait)). length ws) none ∙ length-replicate board.threads None;
   going = λ on thread stands. absurd (false≢true (sym (ap (λ (x : Elements). stands_for x on thread) opened ∙ nobody_stands board on thread) ∙ stands));
 }
+
+-- nobody is attached, and no rank was given
+nobody_seated : (n t : ℕ) → slice_index_or (replicate {A = Option Seat} n None) t None ≡ None
+nobody_seated zero t = refl
+nobody_seated (suc n) zero = refl
+nobody_seated (suc n) (suc t) = nobody_seated n t
+
+no_base : (n t : ℕ) → slice_index (replicate n 0) t ≡ 0
+no_base zero t = refl
+no_base (suc n) zero = refl
+no_base (suc n) (suc t) = no_base n t
+
+no_seats : (count : ℕ) (percents : List ℕ) → (threads.opening count percents).seats ≡ replicate count None
+unfolding threads.opening
+no_seats count percents = refl
+
+pub ranks-new : {C : Type 0} (r : RecordsView C) (board : Board) → board_fits board ≡ true → r.elements.base ≡ replicate thread_limit 0 → r.sched ≡ fresh board.threads board.groups.items
+    → RanksAreKept (owners_of r.elements) r.sched
+ranks-new r board fits none nobody =
+    let s : Sched = r.sched.sched in
+    let seats : s.seats ≡ replicate board.threads None = ap (λ (x : Sched). x.seats) (ap (λ (x : Ranked). x.sched) nobody ∙ sched-fresh board.threads board.groups.items) ∙ no_seats board.threads board.groups.items in
+    let seat : (t : ℕ) → slice_index_or s.seats t None ≡ None = λ t. ap (λ (xs : List (Option Seat)). slice_index_or xs t None) seats ∙ nobody_seated board.threads t in
+    record {
+      told = record {
+        size = ap (λ (b : List ℕ). length b) none ∙ length-replicate {A = ℕ} thread_limit 0;
+        few = subst (λ (n : ℕ). n ≤ thread_limit) (sym (ap (λ (xs : List (Option Seat)). length xs) seats ∙ length-replicate board.threads None)) (threads_few board fits);
+        same = λ t. ap (λ (b : List ℕ). slice_index b t) none ∙ (no_base thread_limit t ∙ sym (ap (λ (o : Option Seat). option_map_or (λ x. base_rank x.policy) o 0) (seat t)));
+      };
+      given = λ t attached. absurd (false≢true (sym (ap (λ (o : Option Seat). is_some o) (seat t)) ∙ attached));
+    }

@@ -41,7 +41,7 @@ use Rattle.evl_kernel.specs.Semaphores.{put}
 use Rattle.evl_kernel.specs.LineCalls as line_call
 use Rattle.evl_kernel.specs.TimerCalls as timer_call
 use Rattle.evl_sched.specs.Threads.{stage_of}
-use Rattle.evl_kernel.specs.Families.{LineStep, request, free, arrive, post, stall, unstall, line_effect, ClockStep, tick, read_date, new_timer, start_timer, stop_timer, drop_timer, overruns, clock_effect, Task, on_lines, on_clock, on_threads, on_element, on_staged, begins, ends, performing, task_of}
+use Rattle.evl_kernel.specs.Families.{LineStep, request, free, arrive, post, stall, unstall, line_effect, ClockStep, tick, read_date, new_timer, start_timer, stop_timer, drop_timer, overruns, clock_effect, Task, on_lines, on_clock, on_threads, on_element, on_staged, begins, ends, performing, task_of, raises}
 use Rattle.evl_kernel.specs.Serving.{served, general_refusal, answer}
 use Rattle.evl_kernel.specs.Settling.{Settling, item_next, next_play, going_on, is_of_clock, item_played, played, line_played, clock_played, acted, all_acted, answered, given, after_call, nothing}
 use Rattle.evl_kernel.specs.Openings.{opening}
@@ -49,7 +49,7 @@ use Rattle.evl_kernel.specs.Histories.{Run, Follows, opened}
 use Rattle.evl_kernel.specs.Laws.{DueMeansPending}
 use Rattle.evl_kernel.proofs.LeavesLaws.{Leaves, leaves-refused, leaves-unless, leaves-known, leaves-if_done}
 use Rattle.evl_kernel.proofs.ThreadSteps.{leaves-threads}
-use Rattle.evl_kernel.proofs.WaitSteps.{KeptByWakes, leaves-touched, leaves-beginning, leaves-finish}
+use Rattle.evl_kernel.proofs.WaitSteps.{KeptByWakes, leaves-touched, leaves-beginning, leaves-finish, leaves-raising}
 use Rattle.evl_kernel.proofs.DueLaws.{one_played, none_played}
 
 none_some : {A : Type 0} {x : A} → None ≡ Some x → ⊥
@@ -290,7 +290,8 @@ held-task s caller (on_lines step) h = held-line s step h
 held-task s caller (on_clock step) h = held-clock s step h
 held-task s caller (on_threads step) h = leaves-threads IsHeld (λ s q h. h) s caller step h
 held-task s caller (on_element step) h = leaves-touched IsHeld held_waiting s (Some caller) step h
-held-task s caller (on_staged step_from) h = leaves-touched IsHeld held_waiting s (Some caller) (step_from (stage_of s.sched caller)) h
+held-task s caller (on_staged step_from) h = leaves-touched IsHeld held_waiting s (Some caller) (step_from caller (stage_of s.sched caller)) h
+held-task s caller (raises n) h = leaves-raising IsHeld held_waiting s caller n h
 held-task s caller (begins wants until) h = leaves-beginning IsHeld held_waiting held-timed s caller wants until h
 held-task s caller (ends keep) h = leaves-finish IsHeld held_waiting s caller keep (λ x hx. hx) h
 

@@ -38,7 +38,7 @@ use Rattle.evl_kernel.specs.FlagGroups as group
 use Rattle.evl_kernel.specs.Elements.{on_sem, on_flags}
 use Rattle.evl_kernel.specs.LineCalls as line_call
 use Rattle.evl_sched.specs.Threads.{stage_of}
-use Rattle.evl_kernel.specs.Families.{LineStep, request, free, arrive, post, stall, unstall, line_effect, Task, on_lines, on_clock, on_threads, on_element, on_staged, begins, ends, performing, task_of}
+use Rattle.evl_kernel.specs.Families.{LineStep, request, free, arrive, post, stall, unstall, line_effect, Task, on_lines, on_clock, on_threads, on_element, on_staged, begins, ends, performing, task_of, raises}
 use Rattle.evl_kernel.specs.Serving.{general_refusal, answer}
 use Rattle.evl_kernel.specs.Settling.{Settling, next_play, item_played, acted, all_acted, answered, given, played, line_played, clock_played, after_call, nothing}
 use Rattle.evl_kernel.specs.Openings.{opening, at_home}
@@ -51,7 +51,7 @@ use Rattle.evl_kernel.proofs.OpeningLaws.{sound_opening}
 use Rattle.evl_kernel.proofs.LeavesLaws.{Leaves, leaves-refused, leaves-known, leaves-if_done}
 use Rattle.evl_kernel.proofs.ClockSteps.{KeptByClock, leaves-clock, leaves-stop, leaves-item}
 use Rattle.evl_kernel.proofs.ThreadSteps.{leaves-threads}
-use Rattle.evl_kernel.proofs.WaitSteps.{KeptByWakes, kept-deadline, leaves-touched, leaves-beginning, leaves-finish, timed-by}
+use Rattle.evl_kernel.proofs.WaitSteps.{KeptByWakes, kept-deadline, leaves-touched, leaves-beginning, leaves-finish, timed-by, leaves-raising}
 use Rattle.evl_kernel.proofs.SilenceLaws.{below_limit, sound-posted, sound-arrived, free-not_clock}
 use Rattle.evl_kernel.proofs.WorldLaws.{chosen, chosen_pends}
 use Rattle.evl_kernel.specs.Limits.{inband_limit}
@@ -274,7 +274,8 @@ module _ (size : ℕ) where
   placed-task s caller (on_clock step) h = leaves-clock IsPlaced kept_placed s step h
   placed-task s caller (on_threads step) h = leaves-threads IsPlaced placed-sched s caller step h
   placed-task s caller (on_element step) h = leaves-touched IsPlaced kept_waiting s (Some caller) step h
-  placed-task s caller (on_staged step_from) h = leaves-touched IsPlaced kept_waiting s (Some caller) (step_from (stage_of s.sched caller)) h
+  placed-task s caller (on_staged step_from) h = leaves-touched IsPlaced kept_waiting s (Some caller) (step_from caller (stage_of s.sched caller)) h
+  placed-task s caller (raises n) h = leaves-raising IsPlaced kept_waiting s caller n h
   placed-task s caller (begins wants until) h = leaves-beginning IsPlaced kept_waiting (timed-by IsPlaced kept_waiting kept_placed.posted placed-dated) s caller wants until h
   placed-task s caller (ends keep) h = leaves-finish IsPlaced kept_waiting s caller keep (λ x hx. placed-sched x _ hx) h
 

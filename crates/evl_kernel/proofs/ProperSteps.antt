@@ -27,7 +27,7 @@ use Rattle.evl_kernel.specs.Waits.{wait_of, wait_at, with_wait, going_on, ended_
 use Rattle.evl_kernel.specs.Beginnings.{awaited, begin_refusal, begin_step, beginning}
 use Rattle.evl_kernel.specs.Endings.{finish, goes_inband, inband_if, outcome_of}
 use Rattle.evl_kernel.specs.ThreadCalls as thread_call
-use Rattle.evl_kernel.specs.ThreadCalls.{rank_of}
+use Rattle.evl_kernel.specs.ThreadCalls.{rank_of, detach_refusal}
 use Rattle.evl_kernel.specs.TimerCalls.{posted_if}
 use Rattle.evl_kernel.specs.Families.{ThreadStep, attach, detach, set_policy, set_stage, pick, tell_rank, thread_effect, task_of}
 use Rattle.evl_kernel.specs.Serving.{ends_a_wait, general_refusal}
@@ -41,6 +41,7 @@ use Rattle.evl_kernel.proofs.OpeningLaws.{nobody_stands, opened_sound, threads_f
 use Rattle.evl_kernel.proofs.ReadyLaws.{ReadyAnew, anew-attached, anew-detached, anew-policy_set, anew-stage_set, ready-paid, stage-paid, unready-itself, unready-other}
 use Rattle.evl_kernel.proofs.QueueSteps.{Comes}
 use Rattle.evl_kernel.proofs.QueueLaws.{Begins, Stepped, begin_goes}
+use Rattle.evl_kernel.proofs.BeginLaws.{free_to_begin}
 use Rattle.evl_kernel.proofs.StateWalk.{KeptByEach, KeptByOwn, run_holds}
 use Rattle.evl_kernel.proofs.WaitLaws.{ProperBeside, proper_all, proper_beside, proper_freed, over_if, over_set, wait_there}
 use Rattle.evl_kernel.proofs.WaitRecords.{away_after, away_of, idle_away, index_here, index_there}
@@ -134,7 +135,7 @@ module _ (n : ℕ) (few : n ≤ 64) where
   proper_threads : (s : State) (caller : ℕ) (step : ThreadStep) → wait_at s caller ≡ None → IsProper n s → Leaves (IsProper n) (thread_effect s caller step)
   proper_threads s caller (attach policy stage) idle h = leaves-refused (IsProper n) (attach_refusal s.sched caller policy) _ (λ passed.
       proper_seat n few s h caller (over_none s caller idle) _ (anew-attached s.sched caller policy stage))
-  proper_threads s caller detach idle h = leaves-refused (IsProper n) (stranger_refusal s.sched caller) _ (λ passed.
+  proper_threads s caller detach idle h = leaves-refused (IsProper n) (detach_refusal s caller) _ (λ passed.
       proper_seat n few s h caller (over_none s caller idle) _ (anew-detached s.sched caller))
   proper_threads s caller (set_policy policy) idle h = leaves-refused (IsProper n) (set_policy_refusal s.sched caller policy) _ (λ passed.
       proper_seat n few s h caller (over_none s caller idle) _ (anew-policy_set s.sched caller policy (ready_as n few s h caller (over_none s caller idle))))
@@ -279,20 +280,20 @@ module _ (n : ℕ) (few : n ≤ 64) where
     proper_begun (Some outcome) is = proper_served outcome is
 
   proper_beginning : (s : State) (caller : ℕ) (wants : Wanted) (until : Option ℕ) → Passed s caller → IsProper n s → Leaves (IsProper n) (beginning s caller wants until).effect
-  proper_beginning s caller wants until passed h = leaves-refused (IsProper n) (begin_refusal s caller wants) _ (λ none. left (element (elements s) step) refl)
+  proper_beginning s caller wants until passed h = leaves-refused (IsProper n) (begin_refusal s caller wants) _ (λ none. left none (element (elements s) step) refl)
     where
       step : ElementStep
       step = begin_step s caller wants
 
-      left : (a : Answered Elements) → element (elements s) step ≡ a
+      left : begin_refusal s caller wants ≡ None → (a : Answered Elements) → element (elements s) step ≡ a
           → Leaves (IsProper n) (lifted (λ e. all_woken (begun (with_elements s e) caller (awaited wants) until (serves (elements s) step)) (wakes (elements s) step)) a)
-      left (Err refusal) is = tt
-      left (Ok (reply, after)) is =
+      left none (Err refusal) is = tt
+      left none (Ok (reply, after)) is =
           let begins = begin_goes (elements s) h.proper.sound after reply caller (rank_of s caller) (omega (arith, passed.there, h.threads_are, few)) wants
-          (idle_away n (elements s) s.waits (kept_of n s few h) caller passed.idle (awaited wants)) is in
+          (λ on. idle_away n (elements s) s.waits (kept_of n s few h) caller passed.idle on) (free_to_begin s caller wants none) is in
           proper_begun s caller passed h until (awaited wants) (serves (elements s) step) (wakes (elements s) step) after begins (serves (elements s) step) refl
 
-  kept_by_each : KeptByEach (IsProper n)
+  pub kept_by_each : KeptByEach (IsProper n)
   kept_by_each = record {
     lined = λ s q h. record { proper = record { sound = h.proper.sound; stands = h.proper.stands; waits = h.proper.waits; ready = h.proper.ready; dated = h.proper.dated }; threads_are = h.threads_are; places = h.places };
     banked = λ s number home b h. record { proper = record { sound = h.proper.sound; stands = h.proper.stands; waits = h.proper.waits; ready = h.proper.ready; dated = h.proper.dated }; threads_are = h.threads_are; places = h.places };
@@ -308,7 +309,7 @@ module _ (n : ℕ) (few : n ≤ 64) where
       places = h.places;
     };
     paid = λ s before delta now h. proper_paid s before delta now h;
-    asked = λ s by step plain h. proper_asked n few s h by step plain;
+    asked = λ s by step plain may h. proper_asked n few s h by step plain;
     expired = λ s thread h. proper_expired n few s h thread;
   }
     where
@@ -329,7 +330,7 @@ module _ (n : ℕ) (few : n ≤ 64) where
         places = h.places;
       }
 
-  kept_by_own : (s : State) (caller : ℕ) (asked : Call) → KeptByOwn (IsProper n) s caller asked
+  pub kept_by_own : (s : State) (caller : ℕ) (asked : Call) → KeptByOwn (IsProper n) s caller asked
   kept_by_own s caller asked = record {
     threads = λ step is passed h. proper_threads s caller step (passed_all s caller asked (ap ends_a_wait is) passed).idle h;
     begun = λ wants until is passed h. proper_beginning s caller wants until (passed_all s caller asked (ap ends_a_wait is) passed) h;
@@ -337,7 +338,7 @@ module _ (n : ℕ) (few : n ≤ 64) where
   }
 
 -- a new kernel
-proper_opening : (board : Board) (bank : List Handler) → board_fits board ≡ true → IsProper board.threads (opening board bank)
+pub proper_opening : (board : Board) (bank : List Handler) → board_fits board ≡ true → IsProper board.threads (opening board bank)
 unfolding threads.opening clocks.opening
 proper_opening board bank fits = record {
   proper = record {

@@ -1,7 +1,8 @@
 -- What each step of the elements means for the queues, and that all elements stay sound.
-use Rattle.std.proofs.Common.{◌≡◌, ◌<◌, ℕ, false, List, [], Option, Some, None, Ok, slice_get, slice_set, refl, sym, ap, ◌∙◌, subst}
+use Rattle.std.proofs.Common.{◌≡◌, ◌≢◌, ◌<◌, ℕ, true, false, arith, List, [], Option, Some, None, Ok, slice_get, slice_set, refl, sym, ap, ◌∙◌, subst}
 use Rattle.std.specs.Option.{option_map_or}
 use Rattle.std.proofs.lemmas.Bool.{false≢true}
+use Rattle.std.proofs.lemmas.List.{length-replicate}
 use Rattle.arrayvec.specs.ArrayVec.{ArrayVec as Items}
 use Rattle.evl_base.specs.declared.numbers.FlagId.{FlagId}
 use Rattle.evl_base.specs.declared.numbers.SemId.{SemId}
@@ -16,7 +17,7 @@ use Rattle.evl_sync.specs.FlagGroups.{FlagGroup}
 use Rattle.evl_sync.specs.Semaphores as sem
 use Rattle.evl_sync.specs.Semaphores.{Semaphore}
 use Rattle.evl_kernel.specs.declared.waits.Awaited.{Awaited}
-use Rattle.evl_kernel.specs.declared.waits.Awaited.TheVariants.{Sem, Flags, Writing, Reading}
+use Rattle.evl_kernel.specs.declared.waits.Awaited.TheVariants.{Sem, Flags, Writing, Reading, Mutex}
 use Rattle.evl_kernel.specs.declared.waits.Wanted.{Wanted}
 use Rattle.evl_kernel.specs.declared.waits.Wanted.TheVariants as wanted
 use Rattle.evl_kernel.specs.States.{Elements}
@@ -25,18 +26,28 @@ use Rattle.evl_kernel.specs.Semaphores as semaphore
 use Rattle.evl_kernel.specs.Semaphores.{semaphore as sem_machine, sem_serves, sem_wakes}
 use Rattle.evl_kernel.specs.FlagGroups as group
 use Rattle.evl_kernel.specs.FlagGroups.{flag_group, flag_serves, flag_wakes}
+use Rattle.evl_base.specs.declared.numbers.MutexId.{MutexId}
+use Rattle.evl_base.specs.declared.numbers.ThreadId.{ThreadId}
+use Rattle.evl_mutex.specs.declared.waiter.Waiter.{Waiter}
+use Rattle.evl_mutex.specs.Mutexes as mutex
+use Rattle.evl_mutex.specs.Mutexes.{Mutex as MutexRecorded, is_open_to}
+use Rattle.evl_mutex.specs.Chains.{reaches, waits_for}
+use Rattle.evl_kernel.specs.Limits.{thread_limit}
+use Rattle.evl_kernel.specs.Mutexes as recorded
+use Rattle.evl_kernel.specs.Mutexes.{mutex as mutex_machine, mutex_wakes}
 use Rattle.evl_xbuf.specs.Xbufs as xbufs
 use Rattle.evl_xbuf.specs.Xbufs.{Xbuf}
 use Rattle.evl_kernel.specs.CrossBuffers as through
 use Rattle.evl_kernel.specs.CrossBuffers.{XbufStep, cross_buffer, xbuf_serves, xbuf_wakes}
-use Rattle.evl_kernel.specs.Elements.{ElementStep, on_sem, on_flags, on_xbuf, element, serves, wakes}
-use Rattle.evl_kernel.specs.Beginnings.{awaited, step_of_waiter}
+use Rattle.evl_kernel.specs.Elements.{ElementStep, on_sem, on_flags, on_xbuf, on_mutex, element, serves, wakes}
+use Rattle.evl_kernel.specs.Beginnings.{awaited, is_open, step_of_waiter, waits_back}
 use Rattle.evl_kernel.specs.Endings.{drop_step}
-use Rattle.evl_kernel.specs.Standing.{AreSound, in_flags, in_readers, in_sem, in_writers, stands_for}
-use Rattle.evl_kernel.proofs.ElementSteps.{nth-done, nth-made, nth-unknown}
-use Rattle.evl_kernel.proofs.QueueSteps.{Comes, Drops, LetsGo, flags_come, flags_drop, flags_go, flags_sound, sem_comes, sem_drops, sem_goes, sems_sound, was_at_it}
+use Rattle.evl_kernel.specs.Standing.{AreSound, in_flags, in_mutex, in_readers, in_sem, in_writers, owners_in, stands_for}
+use Rattle.evl_kernel.proofs.ElementSteps.{none_some, nth-done, nth-made, nth-unknown, ok_is}
+use Rattle.evl_kernel.proofs.QueueSteps.{Comes, Drops, LetsGo, mutex_comes, mutex_drops, mutex_goes, mutexes_sound, flags_come, flags_drop, flags_go, flags_sound, sem_comes, sem_drops, sem_goes, sems_sound, was_at_it}
 use Rattle.evl_kernel.proofs.SemQueues as sems
 use Rattle.evl_kernel.proofs.FlagQueues as flag_queues
+use Rattle.evl_kernel.proofs.MutexQueues as mutexes
 use Rattle.evl_kernel.proofs.XbufQueues as queues
 use Rattle.evl_kernel.proofs.XbufSteps.{of_xbuf, reader_drops, was_there, writer_drops, xbuf_comes, xbuf_goes, xbufs_sound}
 
@@ -51,6 +62,8 @@ pub data IsAsked : ElementStep → Type 0 where
   asks_write : (n : ℕ) (stage : Stage) (way : Way) (bytes : List ℕ) → IsAsked (on_xbuf n (through.write stage way bytes))
   asks_read : (n : ℕ) (stage : Stage) (way : Way) (len : ℕ) → IsAsked (on_xbuf n (through.read stage way len))
   asks_room : (n : ℕ) (way : Way) → IsAsked (on_xbuf n (through.room way))
+  asks_release : (n thread : ℕ) → IsAsked (on_mutex n (recorded.release thread))
+  asks_raise : (n thread : ℕ) → IsAsked (on_mutex n (recorded.raise thread))
 
 -- what a step leaves of elements: all sound, and these are let go
 pub record Stepped (e : Elements) (served : List (ℕ × Reply)) (after : Elements) : Type 0 where
@@ -94,6 +107,18 @@ module _ (e : Elements) (h : AreSound e) (after : Elements) (reply : Reply) wher
         goes = subst (λ (ws : List (ℕ × Reply)). LetsGo e ws (record e { xbufs = slice_set e.xbufs n made.left })) served (xbuf_goes e n made.before made.left made.here (xbuf_wakes made.before step) left);
       })
 
+  of_mutex_step : (n : ℕ) (step : recorded.MutexStep) → ((m p : MutexRecorded) (here : slice_get e.mutexes n ≡ Some m) → mutex_machine m step ≡ Ok (reply, p) → mutexes.Left (owners_in e) n m here h.mutexes p (mutex_wakes m step))
+      → element e (on_mutex n step) ≡ Ok (reply, after) → Stepped e (wakes e (on_mutex n step)) after
+  of_mutex_step n step each is =
+      let made = nth-made mutex_machine (λ ms. record e { mutexes = ms }) e.mutexes n step reply after is in
+      let left = each made.before made.left made.here made.made in
+      let served : mutex_wakes made.before step ≡ wakes e (on_mutex n step) = sym (ap (λ (o : Option MutexRecorded). option_map_or (λ (m : MutexRecorded). mutex_wakes m step) o []) made.here) in
+      subst (λ (x : Elements). Stepped e (wakes e (on_mutex n step)) x) made.after_is
+      (record {
+        sound = mutexes_sound e n made.before made.left made.here h left.sound;
+        goes = subst (λ (ws : List (ℕ × Reply)). LetsGo e ws (record e { mutexes = slice_set e.mutexes n made.left })) served (mutex_goes e n made.before made.left made.here (mutex_wakes made.before step) left.goes);
+      })
+
   -- a step that was asked for
   pub asked_goes : (step : ElementStep) → IsAsked step → element e step ≡ Ok (reply, after) → Stepped e (wakes e step) after
   asked_goes step (asks_get n) is = of_sem_step n semaphore.get (λ q p here made. sems.get_left q p reply (h.sems n q here) made) is
@@ -104,7 +129,15 @@ module _ (e : Elements) (h : AreSound e) (after : Elements) (reply : Reply) wher
   asked_goes step (asks_write n stage way bytes) is = of_xbuf_step n (through.write stage way bytes) (λ x y here made. queues.write_left x y reply (h.xbufs n x here) stage way bytes made) is
   asked_goes step (asks_read n stage way len) is = of_xbuf_step n (through.read stage way len) (λ x y here made. queues.read_left_of x y reply (h.xbufs n x here) stage way len made) is
   asked_goes step (asks_room n way) is = of_xbuf_step n (through.room way) (λ x y here made. queues.room_left x y reply (h.xbufs n x here) way made) is
+  asked_goes step (asks_release n thread) is = of_mutex_step n (recorded.release thread) (λ m p here made. mutexes.release_left (owners_in e) n m here h.mutexes thread p reply made) is
+  asked_goes step (asks_raise n thread) is = of_mutex_step n (recorded.raise thread) (λ m p here made. mutexes.raise_left (owners_in e) n m here h.mutexes thread p reply made) is
   asked_goes step (asks_bits n) is = of_flags_step n group.peek (λ f g here made. flag_queues.bits_left f g reply (h.flags n f here) made) is
+
+-- a thread that waits for a mutex names another one, which is the recorded owner or may be, and waits for itself by that
+-- along no owners
+abbrev pub IsFree : Elements → ℕ → Wanted → Type 0
+IsFree e thread (wanted.Mutex id owner) = (is_open e id.0 owner.0 ≡ true) × (owner.0 ≢ thread) × (waits_back e.mutexes owner.0 thread ≡ false)
+IsFree e thread _ = Unit {0}
 
 -- what a beginning leaves of them: the thread is served at once, or it comes to the queue
 pub record Begins (e : Elements) (thread : ℕ) (on : Awaited) (served : Option Reply) (woken : List (ℕ × Reply)) (after : Elements) : Type 0 where
@@ -176,12 +209,32 @@ module _ (e : Elements) (h : AreSound e) (after : Elements) (reply : Reply) (thr
       → Begins e thread (Reading id way) (serves e (step_of_waiter thread rank (wanted.Read id way len))) (wakes e (step_of_waiter thread rank (wanted.Read id way len))) after
   of_read id way len away is = of_transfer id (queues.reading way) (through.begin_read thread way len) away is (λ x y here gone made. queues.read_begun x y reply (h.xbufs id.0 x here) thread within way len gone made)
 
-  pub begin_goes : (wants : Wanted) → stands_for e (awaited wants) thread ≡ false → element e (step_of_waiter thread rank wants) ≡ Ok (reply, after)
+  of_mutex : (id : MutexId) (owner : ThreadId) → ((on : Awaited) → stands_for e on thread ≡ false) → IsFree e thread (wanted.Mutex id owner) → element e (step_of_waiter thread rank (wanted.Mutex id owner)) ≡ Ok (reply, after)
+      → Begins e thread (Mutex id) None (wakes e (step_of_waiter thread rank (wanted.Mutex id owner))) after
+  of_mutex id owner away (unclaimed, differs, none) is =
+      let w : Waiter = record { thread = thread; rank = rank } in
+      let step = recorded.claim w owner.0 in
+      let made = nth-made mutex_machine (λ ms. record e { mutexes = ms }) e.mutexes id.0 step reply after is in
+      let unclaimed_here : is_open_to owner.0 made.before ≡ true = sym (ap (λ (o : Option MutexRecorded). option_map_or (is_open_to owner.0) o false) made.here) ∙ unclaimed in
+      let claimed_is : mutex.claimed made.before w owner.0 ≡ made.left = ap (λ (x : Reply × MutexRecorded). x.1) (ok_is made.made) in
+      let nobody : wakes e (on_mutex id.0 step) ≡ [] = ap (λ (o : Option MutexRecorded). option_map_or (λ (m : MutexRecorded). mutex_wakes m step) o []) made.here in
+      subst (λ (z : Elements). Begins e thread (Mutex id) None (wakes e (on_mutex id.0 step)) z) (ap (λ (p : MutexRecorded). record e { mutexes = slice_set e.mutexes id.0 p }) claimed_is ∙ made.after_is)
+      (record {
+        sound = mutexes_sound e id.0 made.before (mutex.claimed made.before w owner.0) made.here h
+            (mutexes.claim_sound (owners_in e) id.0 made.before made.here h.mutexes w owner.0 (λ k. away (Mutex (record { 0 = k }))) unclaimed_here (omega (arith, within, length-replicate {A = ℕ} thread_limit 0)) differs
+            (ap (λ (n : ℕ). reaches n (waits_for e.mutexes) owner.0 thread) (length-replicate {A = ℕ} thread_limit 0) ∙ (sym (mutexes.back_is e.mutexes owner.0 thread) ∙ none)));
+        at_once = λ outcome served. absurd (none_some served);
+        waits = λ none. mutex_comes e id.0 made.before (mutex.claimed made.before w owner.0) made.here thread (mutexes.claim_comes made.before w owner.0);
+        quiet = λ none. nobody;
+      })
+
+  pub begin_goes : (wants : Wanted) → ((on : Awaited) → stands_for e on thread ≡ false) → IsFree e thread wants → element e (step_of_waiter thread rank wants) ≡ Ok (reply, after)
       → Begins e thread (awaited wants) (serves e (step_of_waiter thread rank wants)) (wakes e (step_of_waiter thread rank wants)) after
-  begin_goes (wanted.Sem id) away is = of_sem id away is
-  begin_goes (wanted.Flags id kind) away is = of_flags id kind away is
-  begin_goes (wanted.Write id way bytes) away is = of_write id way bytes away is
-  begin_goes (wanted.Read id way len) away is = of_read id way len away is
+  begin_goes (wanted.Sem id) away free is = of_sem id (away (Sem id)) is
+  begin_goes (wanted.Flags id kind) away free is = of_flags id kind (away (Flags id)) is
+  begin_goes (wanted.Write id way bytes) away free is = of_write id way bytes (away (Writing id way)) is
+  begin_goes (wanted.Read id way len) away free is = of_read id way len (away (Reading id way)) is
+  begin_goes (wanted.Mutex id owner) away free is = of_mutex id owner away free is
 
 -- what a thread leaves that leaves a queue
 pub record Dropped (e : Elements) (on : Awaited) (thread : ℕ) (served : List (ℕ × Reply)) (after : Elements) : Type 0 where
@@ -231,6 +284,20 @@ module _ (e : Elements) (h : AreSound e) (thread : ℕ) where
         drops = flags_drop e id.0 f (flags.drop_waiter thread f) here thread (flag_queues.drop_drops thread f);
       })
 
+  from_mutex : (id : MutexId) (o : Option MutexRecorded) → slice_get e.mutexes id.0 ≡ o → Dropped e (Mutex id) thread (woken_by (Mutex id)) (dropped_from (Mutex id))
+  from_mutex id None none =
+      nothing_there (Mutex id) (ap (λ (o : Option MutexRecorded). option_map_or (λ (m : MutexRecorded). in_mutex m thread) o false) none)
+      (ap (λ (o : Option MutexRecorded). option_map_or (λ (m : MutexRecorded). mutex_wakes m (recorded.drop thread)) o []) none)
+      (ap (if_done e) (nth-unknown mutex_machine (λ ms. record e { mutexes = ms }) e.mutexes id.0 (recorded.drop thread) none))
+  from_mutex id (Some m) here =
+      dropped_as (Mutex id) [] (record e { mutexes = slice_set e.mutexes id.0 (mutex.drop_waiter thread m) })
+      (ap (λ (o : Option MutexRecorded). option_map_or (λ (p : MutexRecorded). mutex_wakes p (recorded.drop thread)) o []) here)
+      (ap (if_done e) (nth-done mutex_machine (λ ms. record e { mutexes = ms }) e.mutexes id.0 (recorded.drop thread) m (mutex.drop_waiter thread m) Done here refl))
+      (record {
+        sound = mutexes_sound e id.0 m (mutex.drop_waiter thread m) here h (mutexes.drop_sound (owners_in e) id.0 m here h.mutexes thread);
+        drops = mutex_drops e id.0 m (mutex.drop_waiter thread m) here thread (mutexes.drop_drops thread m);
+      })
+
   -- of a cross-buffer, from either queue of a way
   from_xbuf : (id : XbufId) (queue : queues.Queue) (way : Way) → ((x : Xbuf) (here : slice_get e.xbufs id.0 ≡ Some x) → Drops e (of_xbuf id.0 queue) thread (xbuf_wakes x (through.drop thread way)) (record e { xbufs = slice_set e.xbufs id.0 (xbufs.drop_waiter thread way x).1 }))
       → ((none : slice_get e.xbufs id.0 ≡ None) → stands_for e (of_xbuf id.0 queue) thread ≡ false)
@@ -255,6 +322,7 @@ module _ (e : Elements) (h : AreSound e) (thread : ℕ) where
   pub drop_goes : (on : Awaited) → Dropped e on thread (woken_by on) (dropped_from on)
   drop_goes (Sem id) = from_sem id (slice_get e.sems id.0) refl
   drop_goes (Flags id) = from_flags id (slice_get e.flags id.0) refl
+  drop_goes (Mutex id) = from_mutex id (slice_get e.mutexes id.0) refl
   drop_goes (Writing id way) = from_xbuf id (queues.writing way) way
       (λ x here. writer_drops e id.0 x (xbufs.drop_waiter thread way x).1 here way thread (xbuf_wakes x (through.drop thread way)) (queues.drop_left x (h.xbufs id.0 x here) thread way))
       (λ none. ap (λ (o : Option Xbuf). option_map_or (λ (x : Xbuf). in_writers way x thread) o false) none) (slice_get e.xbufs id.0) refl
@@ -262,7 +330,7 @@ module _ (e : Elements) (h : AreSound e) (thread : ℕ) where
       (λ x here. reader_drops e id.0 x (xbufs.drop_waiter thread way x).1 here way thread (xbuf_wakes x (through.drop thread way)) (queues.drop_left x (h.xbufs id.0 x here) thread way))
       (λ none. ap (λ (o : Option Xbuf). option_map_or (λ (x : Xbuf). in_readers way x thread) o false) none) (slice_get e.xbufs id.0) refl
 
--- a get and a take wake nobody
+-- a get, a take and a claim wake nobody
 pub get_wakes : (e : Elements) (n : ℕ) → wakes e (on_sem n semaphore.get) ≡ []
 get_wakes e n = by (slice_get e.sems n)
   where
@@ -276,3 +344,10 @@ take_wakes e n kind = by (slice_get e.flags n)
     by : (o : Option FlagGroup) → option_map_or (λ (f : FlagGroup). flag_wakes f (group.take kind)) o [] ≡ []
     by None = refl
     by (Some f) = refl
+
+pub claim_wakes : (e : Elements) (n : ℕ) (w : Waiter) (owner : ℕ) → wakes e (on_mutex n (recorded.claim w owner)) ≡ []
+claim_wakes e n w owner = by (slice_get e.mutexes n)
+  where
+    by : (o : Option MutexRecorded) → option_map_or (λ (m : MutexRecorded). mutex_wakes m (recorded.claim w owner)) o [] ≡ []
+    by None = refl
+    by (Some m) = refl

@@ -9,9 +9,11 @@ use Rattle.evl_sync.specs.Semaphores.{Semaphore, IsSoundSemaphore}
 use Rattle.evl_sync.specs.FlagGroups.{FlagGroup, IsSoundGroup}
 use Rattle.evl_sync.proofs.QueueLaws.{stands-enqueued}
 use Rattle.evl_kernel.specs.declared.waits.Awaited.{Awaited}
-use Rattle.evl_kernel.specs.declared.waits.Awaited.TheVariants.{Sem, Flags, Writing, Reading}
+use Rattle.evl_kernel.specs.declared.waits.Awaited.TheVariants.{Sem, Flags, Writing, Reading, Mutex}
 use Rattle.evl_kernel.specs.States.{Elements}
-use Rattle.evl_kernel.specs.Standing.{AreSound, in_flags, in_sem, is_served, stands_at, stands_for}
+use Rattle.evl_mutex.specs.Mutexes.{Mutex as MutexRecorded}
+use Rattle.evl_mutex.specs.Owners.{IsSound}
+use Rattle.evl_kernel.specs.Standing.{AreSound, in_flags, in_sem, is_served, stands_at, stands_for, in_mutex, owners_in}
 use Rattle.evl_kernel.proofs.SetLaws.{set_here, set_there}
 use Rattle.evl_kernel.proofs.ElementSteps.{some_is}
 
@@ -184,9 +186,10 @@ module _ (e : Elements) (n : ℕ) (q p : Semaphore) (here : slice_get e.sems n �
   sem_or (Flags id) = inr (λ t. refl)
   sem_or (Writing id way) = inr (λ t. refl)
   sem_or (Reading id way) = inr (λ t. refl)
+  sem_or (Mutex id) = inr (λ t. refl)
 
   pub sems_sound : AreSound e → IsSoundSemaphore p → AreSound sem_set
-  sems_sound h sound = record { sems = all_at in_sem e.sems n q p here IsSoundSemaphore h.sems sound; flags = h.flags; xbufs = h.xbufs }
+  sems_sound h sound = record { sems = all_at in_sem e.sems n q p here IsSoundSemaphore h.sems sound; flags = h.flags; xbufs = h.xbufs; mutexes = h.mutexes }
 
   pub sem_goes : (served : List (ℕ × Reply)) → OneGoes (in_sem q) (in_sem p) served → LetsGo e served sem_set
   sem_goes served one = goes in_sem e.sems n q p here of_sem e sem_set (λ m t. refl) (λ m t. refl) sem_or served one
@@ -210,9 +213,10 @@ module _ (e : Elements) (n : ℕ) (q p : FlagGroup) (here : slice_get e.flags n 
   flags_or (Flags id) = inl (id.0, refl)
   flags_or (Writing id way) = inr (λ t. refl)
   flags_or (Reading id way) = inr (λ t. refl)
+  flags_or (Mutex id) = inr (λ t. refl)
 
   pub flags_sound : AreSound e → IsSoundGroup p → AreSound flags_set
-  flags_sound h sound = record { sems = h.sems; flags = all_at in_flags e.flags n q p here IsSoundGroup h.flags sound; xbufs = h.xbufs }
+  flags_sound h sound = record { sems = h.sems; flags = all_at in_flags e.flags n q p here IsSoundGroup h.flags sound; xbufs = h.xbufs; mutexes = h.mutexes }
 
   pub flags_go : (served : List (ℕ × Reply)) → OneGoes (in_flags q) (in_flags p) served → LetsGo e served flags_set
   flags_go served one = goes in_flags e.flags n q p here of_flags e flags_set (λ m t. refl) (λ m t. refl) flags_or served one
@@ -222,6 +226,33 @@ module _ (e : Elements) (n : ℕ) (q p : FlagGroup) (here : slice_get e.flags n 
 
   pub flags_drop : (thread : ℕ) → OneDrops (in_flags q) (in_flags p) thread → Drops e (of_flags n) thread [] flags_set
   flags_drop thread one = drops in_flags e.flags n q p here of_flags e flags_set (λ m t. refl) (λ m t. refl) flags_or thread one
+
+-- a mutex changes
+module _ (e : Elements) (n : ℕ) (q p : MutexRecorded) (here : slice_get e.mutexes n ≡ Some q) where
+  abbrev pub mutex_set : Elements
+  mutex_set = record e { mutexes = slice_set e.mutexes n p }
+
+  abbrev pub of_mutex : ℕ → Awaited
+  of_mutex m = Mutex (record { 0 = m })
+
+  mutex_or : (on : Awaited) → ((m : ℕ) × (on ≡ of_mutex m)) ⊎ ((t : ℕ) → stands_for mutex_set on t ≡ stands_for e on t)
+  mutex_or (Sem id) = inr (λ t. refl)
+  mutex_or (Flags id) = inr (λ t. refl)
+  mutex_or (Writing id way) = inr (λ t. refl)
+  mutex_or (Reading id way) = inr (λ t. refl)
+  mutex_or (Mutex id) = inl (id.0, refl)
+
+  pub mutexes_sound : AreSound e → IsSound (owners_in mutex_set) → AreSound mutex_set
+  mutexes_sound h sound = record { sems = h.sems; flags = h.flags; xbufs = h.xbufs; mutexes = sound }
+
+  pub mutex_goes : (served : List (ℕ × Reply)) → OneGoes (in_mutex q) (in_mutex p) served → LetsGo e served mutex_set
+  mutex_goes served one = goes in_mutex e.mutexes n q p here of_mutex e mutex_set (λ m t. refl) (λ m t. refl) mutex_or served one
+
+  pub mutex_comes : (thread : ℕ) → OneComes (in_mutex q) (in_mutex p) thread → Comes e (of_mutex n) thread mutex_set
+  mutex_comes thread one = comes in_mutex e.mutexes n q p here of_mutex e mutex_set (λ m t. refl) (λ m t. refl) mutex_or thread one
+
+  pub mutex_drops : (thread : ℕ) → OneDrops (in_mutex q) (in_mutex p) thread → Drops e (of_mutex n) thread [] mutex_set
+  mutex_drops thread one = drops in_mutex e.mutexes n q p here of_mutex e mutex_set (λ m t. refl) (λ m t. refl) mutex_or thread one
 
 -- where the queue stays as it is, nobody goes
 pub same_queue : {X : Type 0} (has : X → ℕ → Bool) (q p : X) → ((t : ℕ) → has p t ≡ has q t) → OneGoes (has q) (has p) []

@@ -1,12 +1,12 @@
--- Nobody was given a rank, so who is picked and who is charged go by base ranks; and no change of the records gives one.
+-- Who is picked and who is charged go by effective ranks.
 use Rattle.std.proofs.lemmas.Bool.{false≢true}
 use Rattle.std.proofs.lemmas.Bool.Decides.{nat_tests}
 use Rattle.std.proofs.Common.{◌≡◌, ◌≢◌, ◌==◌, ◌/◌, not, arith, ℕ, Bool, true, false, if◌then◌else◌, List, Option, Some, None, Ok, Err, refl, sym, ap, ◌∙◌, subst}
 use Rattle.std.specs.Option.{option_map}
 use Rattle.evl_base.specs.declared.numbers.ThreadId.{ThreadId}
-use Rattle.evl_sched.specs.Threads.{Sched, base_of, opening}
-use Rattle.evl_sched.specs.Ranks.{IsUnboosted, Ranked, fresh, rank_of}
-use Rattle.evl_sched.proofs.UnboostedLaws.{charge-base, picked-base, rank-base}
+use Rattle.evl_sched.specs.Threads.{Sched, opening}
+use Rattle.evl_sched.specs.Ranks.{Ranked, fresh, rank_of}
+use Rattle.evl_sched.proofs.AlikeLaws.{charged-alike, picked-alike}
 use Rattle.evl_sched.specs.Calls as calls
 use Rattle.evl_sched.specs.Calls.{is_thread, attach_refusal, set_policy_refusal, stranger_refusal}
 use Rattle.evl_sched.specs.Groups.{is_known}
@@ -19,9 +19,12 @@ use Rattle.evl_base.specs.declared.refusal.Refusal.TheVariants.{Busy, Invalid, R
 use Rattle.evl_base.specs.declared.reply.Reply.TheVariants.{Number, Chosen}
 use Rattle.evl_sched.specs.Charges.{charged, refilled}
 use Rattle.evl_kernel.specs.States.{with_sched}
-use Rattle.evl_kernel.specs.ThreadCalls.{named, paid_between, pick, tell_rank}
+use Rattle.evl_kernel.specs.ElementsViews.{owners_of}
+use Rattle.evl_kernel.specs.Mutexes.{named}
+use Rattle.evl_kernel.specs.ThreadCalls.{paid_between, pick, tell_rank, rank_of as effective_of}
+use Rattle.evl_kernel.proofs.RankLaws.{attached_of}
 use Rattle.evl_kernel.specs.KernelViews.{IsAnswer}
-use Rattle.evl_kernel.specs.Records.{RecordsView, state_of}
+use Rattle.evl_kernel.specs.Records.{RanksAreKept, RecordsView, state_of}
 
 pub sched-fresh : (threads : ℕ) (percents : List ℕ) → (fresh threads percents).sched ≡ opening threads percents
 unfolding fresh
@@ -50,21 +53,21 @@ agree a b one = by (a == b) refl
         other e = absurd (false≢true (sym is ∙ e))
 
 -- what whoever is picked pays
-module _ {C : Type 0} (r : RecordsView C) (q : Ranked) (before delta now : ℕ) (base : IsUnboosted r.sched) where
-  by_base : charged (rank_of r.sched) r.sched.sched delta ≡ charged (base_of r.sched.sched) r.sched.sched delta
-  by_base = ap (λ (x : Ranked). x.sched) (charge-base r.sched delta base)
+module _ {C : Type 0} (r : RecordsView C) (q : Ranked) (before delta now : ℕ) (kept : RanksAreKept (owners_of r.elements) r.sched) where
+  by_rank : charged (rank_of r.sched) r.sched.sched delta ≡ charged (effective_of (state_of r)) r.sched.sched delta
+  by_rank = charged-alike (rank_of r.sched) (effective_of (state_of r)) r.sched.sched kept.given delta
 
   pub paid_anew : q ≡ calls.refill (calls.charge r.sched delta) → before / 1000000000 ≢ now / 1000000000 → state_of (record r { sched = q }) ≡ paid_between (state_of r) before delta now
   paid_anew is other =
-      let left = charged (base_of r.sched.sched) r.sched.sched delta in
+      let left = charged (effective_of (state_of r)) r.sched.sched delta in
       let anew = differ (before / 1000000000) (now / 1000000000) other in
-      ap (with_sched (state_of r)) (ap (λ (x : Ranked). x.sched) is ∙ (ap refilled by_base ∙ sym (ap (λ (b : Bool). if b then refilled left else left) anew)))
+      ap (with_sched (state_of r)) (ap (λ (x : Ranked). x.sched) is ∙ (ap refilled by_rank ∙ sym (ap (λ (b : Bool). if b then refilled left else left) anew)))
 
   pub paid_within : q ≡ calls.charge r.sched delta → before / 1000000000 ≡ now / 1000000000 → state_of (record r { sched = q }) ≡ paid_between (state_of r) before delta now
   paid_within is one =
-      let left = charged (base_of r.sched.sched) r.sched.sched delta in
+      let left = charged (effective_of (state_of r)) r.sched.sched delta in
       let same = agree (before / 1000000000) (now / 1000000000) one in
-      ap (with_sched (state_of r)) (ap (λ (x : Ranked). x.sched) is ∙ (by_base ∙ sym (ap (λ (b : Bool). if b then refilled left else left) same)))
+      ap (with_sched (state_of r)) (ap (λ (x : Ranked). x.sched) is ∙ (by_rank ∙ sym (ap (λ (b : Bool). if b then refilled left else left) same)))
 
 first_is : {A : Type 0} {x y : A} → Some x ≡ Some y → x ≡ y
 first_is h = cc
@@ -110,10 +113,10 @@ set_policy_answers q thread policy e h = policy_answers (is_thread q thread) (is
     last true r h = absurd (never h)
 
 -- what is told of ranks and of who is picked
-module _ {C : Type 0} (r : RecordsView C) (base : IsUnboosted r.sched) where
+module _ {C : Type 0} (r : RecordsView C) (kept : RanksAreKept (owners_of r.elements) r.sched) where
   pub told_rank : (thread rank : ℕ) → stranger_refusal r.sched.sched thread ≡ None → rank ≡ rank_of r.sched thread → tell_rank (state_of r) thread ≡ Ok (Number rank, state_of r)
-  told_rank thread rank passed is = rw (passed, is, rank-base r.sched base thread) refl
+  told_rank thread rank passed is = rw passed (ap (λ (n : ℕ). Ok (Number n, state_of r)) (sym (is ∙ kept.given thread (attached_of r.sched.sched thread passed))))
 
   pub told_pick : (o : Option ThreadId) → option_map (λ (t : ThreadId). t.0) o ≡ picked (rank_of r.sched) r.sched.sched → pick (state_of r) ≡ Ok (Chosen o, state_of r)
   told_pick o is =
-      ap (λ (x : Option ThreadId). Ok (Chosen x, state_of r)) (ap (option_map named) (sym (is ∙ picked-base r.sched base)) ∙ named-number o)
+      ap (λ (x : Option ThreadId). Ok (Chosen x, state_of r)) (ap (option_map named) (sym (is ∙ picked-alike (rank_of r.sched) (effective_of (state_of r)) r.sched.sched kept.given)) ∙ named-number o)

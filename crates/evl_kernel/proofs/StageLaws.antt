@@ -29,6 +29,7 @@ use Rattle.evl_kernel.specs.Families.{ThreadStep, attach, detach, set_policy, se
 use Rattle.evl_kernel.proofs.LeavesLaws.{Leaves, leaves-refused}
 use Rattle.evl_kernel.proofs.WaitSteps.{KeptByWakes, kept-deadline, leaves-touched, leaves-beginning, leaves-finish, timed-by}
 use Rattle.evl_kernel.proofs.StateWalk.{KeptByEach, KeptByOwn, follows_holds, holds-answer, run_holds}
+use Rattle.evl_kernel.specs.ThreadCalls.{detach_refusal}
 
 -- whatever is said of the scheduler's record alone, and stays true when whoever is picked pays and whoever is ready
 module _ (Q : Sched → Type 0) (pays : (rank : ℕ → ℕ) (q : Sched) (before delta now : ℕ) → Q q → Q (refilled_at before now (charged rank q delta))) (queues : (q : Sched) (ready : List ℕ) → Q q → Q (record q { ready = ready })) where
@@ -44,7 +45,7 @@ module _ (Q : Sched → Type 0) (pays : (rank : ℕ → ℕ) (q : Sched) (before
     banked = λ s number home b h. h;
     clocked = λ s c same h. h;
     paid = λ s before delta now h. pays (thread_call.rank_of s) s.sched before delta now h;
-    asked = λ s by step plain h. leaves-touched Holds kept_waiting s by step h;
+    asked = λ s by step plain may h. leaves-touched Holds kept_waiting s by step h;
     expired = λ s thread h. kept-deadline Holds kept_waiting s thread h;
   }
 
@@ -67,7 +68,7 @@ module _ (thread : ℕ) where
 
   stage-threads : (s : State) (caller : ℕ) (step : ThreadStep) → (thread == caller) ≡ false → Leaves (λ x. stage_of x.sched thread ≡ stage_of s.sched thread) (thread_effect s caller step)
   stage-threads s caller (attach policy stage) other = leaves-refused (λ x. stage_of x.sched thread ≡ stage_of s.sched thread) (attach_refusal s.sched caller policy) _ (λ passed. stage-attached s.sched caller policy stage thread other)
-  stage-threads s caller detach other = leaves-refused (λ x. stage_of x.sched thread ≡ stage_of s.sched thread) (stranger_refusal s.sched caller) _ (λ passed. stage-detached s.sched caller thread other)
+  stage-threads s caller detach other = leaves-refused (λ x. stage_of x.sched thread ≡ stage_of s.sched thread) (detach_refusal s caller) _ (λ passed. stage-detached s.sched caller thread other)
   stage-threads s caller (set_policy policy) other = leaves-refused (λ x. stage_of x.sched thread ≡ stage_of s.sched thread) (set_policy_refusal s.sched caller policy) _ (λ passed. stage-policy_set s.sched caller policy thread)
   stage-threads s caller (set_stage stage) other = leaves-refused (λ x. stage_of x.sched thread ≡ stage_of s.sched thread) (stranger_refusal s.sched caller) _ (λ passed. stage-stage_set s.sched caller stage thread other)
   stage-threads s caller pick other = refl
@@ -142,7 +143,7 @@ module _ (n : ℕ) where
 
   seats-threads : (s : State) (caller : ℕ) (step : ThreadStep) → Seats s.sched → Leaves (λ x. Seats x.sched) (thread_effect s caller step)
   seats-threads s caller (attach policy stage) h = leaves-refused (λ x. Seats x.sched) (attach_refusal s.sched caller policy) _ (λ passed. seats-set s.sched caller (Some (threads.new_seat policy stage)) h)
-  seats-threads s caller detach h = leaves-refused (λ x. Seats x.sched) (stranger_refusal s.sched caller) _ (λ passed. seats-set s.sched caller None h)
+  seats-threads s caller detach h = leaves-refused (λ x. Seats x.sched) (detach_refusal s caller) _ (λ passed. seats-set s.sched caller None h)
   seats-threads s caller (set_policy policy) h = leaves-refused (λ x. Seats x.sched) (set_policy_refusal s.sched caller policy) _ (λ passed.
       seats-set s.sched caller (option_map (threads.new_policy policy) (seat_at s.sched caller)) h)
   seats-threads s caller (set_stage stage) h = leaves-refused (λ x. Seats x.sched) (stranger_refusal s.sched caller) _ (λ passed. seats-switched s.sched caller stage h)

@@ -23,36 +23,48 @@ use Rattle.evl_kernel.specs.States.{State, Banked, with_lines, with_clock, moved
 use Rattle.evl_kernel.specs.Effects.{Effect, done}
 use Rattle.evl_kernel.specs.Semaphores.{put}
 use Rattle.evl_kernel.specs.FlagGroups as group
-use Rattle.evl_kernel.specs.Elements.{ElementStep, on_sem, on_flags, touched}
+use Rattle.evl_kernel.specs.Mutexes as mutex
+use Rattle.evl_kernel.specs.Elements.{ElementStep, on_sem, on_flags, touched, on_mutex}
 use Rattle.evl_kernel.specs.LineCalls as line_call
 use Rattle.evl_kernel.specs.ThreadCalls as thread_call
 use Rattle.evl_kernel.specs.Beginnings.{beginning}
 use Rattle.evl_kernel.specs.Endings.{finish}
 use Rattle.evl_sched.specs.Threads.{stage_of}
-use Rattle.evl_kernel.specs.Families.{LineStep, request, free, arrive, post, stall, unstall, line_effect, ThreadStep, thread_effect, Task, on_lines, on_clock, on_threads, on_element, on_staged, begins, ends, performing, task_of}
+use Rattle.evl_kernel.specs.Families.{LineStep, request, free, arrive, post, stall, unstall, line_effect, ThreadStep, thread_effect, Task, on_lines, on_clock, on_threads, on_element, on_staged, begins, ends, performing, task_of, raises}
 use Rattle.evl_kernel.specs.Serving.{general_refusal, answer}
 use Rattle.evl_kernel.specs.Settling.{Settling, next_play, acted, all_acted, answered, deadline_left, given, item_played, played, line_played, clock_played, is_clock, after_call, nothing}
 use Rattle.evl_kernel.specs.Histories.{Run, Follows}
 use Rattle.evl_kernel.proofs.DueLaws.{one_played, item_due}
-use Rattle.evl_kernel.proofs.QueueLaws.{IsAsked, asks_get, asks_put, asks_peek, asks_take, asks_post, asks_bits, asks_write, asks_read, asks_room}
+use Rattle.evl_kernel.proofs.QueueLaws.{IsAsked, asks_get, asks_put, asks_peek, asks_take, asks_post, asks_bits, asks_write, asks_read, asks_room, asks_raise, asks_release}
 use Rattle.evl_kernel.proofs.LeavesLaws.{Leaves, leaves-refused, leaves-unless, leaves-known, leaves-if_done}
 use Rattle.evl_kernel.proofs.ClockSteps.{KeptByClock, leaves-clock, leaves-stop, leaves-item}
+use Rattle.evl_kernel.specs.OwnerCalls.{raiser_refusal}
+
+-- where the step is a raise, nothing refuses its thread
+abbrev pub MayRaise : State → ElementStep → Type 0
+MayRaise s (on_mutex n (mutex.raise thread)) = raiser_refusal s thread n ≡ None
+MayRaise s _ = Unit {0}
+
+-- a step that is asked for, and is no raise
+abbrev IsPlain : ElementStep → Type 0
+IsPlain step = IsAsked step × ((s : State) → MayRaise s step)
 
 abbrev AsksPlainly : Task → Type 0
-AsksPlainly (on_element step) = IsAsked step
-AsksPlainly (on_staged step_from) = (stage : Stage) → IsAsked (step_from stage)
+AsksPlainly (on_element step) = IsPlain step
+AsksPlainly (on_staged step_from) = (caller : ℕ) (stage : Stage) → IsPlain (step_from caller stage)
 AsksPlainly _ = Unit {0}
 
 asks : (asked : Call) → AsksPlainly (task_of asked)
-asks (call.TryGet sem) = asks_get sem.0
-asks (call.Put sem) = asks_put sem.0
-asks (call.Peek sem) = asks_peek sem.0
-asks (call.TryTake flags kind) = asks_take flags.0 kind
-asks (call.PostFlags flags bits) = asks_post flags.0 bits
-asks (call.PeekFlags flags) = asks_bits flags.0
-asks (call.Write xbuf way bytes) = λ stage. asks_write xbuf.0 stage way bytes.items
-asks (call.Read xbuf way len) = λ stage. asks_read xbuf.0 stage way len
-asks (call.Room xbuf way) = asks_room xbuf.0 way
+asks (call.TryGet sem) = (asks_get sem.0, λ s. tt)
+asks (call.Put sem) = (asks_put sem.0, λ s. tt)
+asks (call.Peek sem) = (asks_peek sem.0, λ s. tt)
+asks (call.TryTake flags kind) = (asks_take flags.0 kind, λ s. tt)
+asks (call.PostFlags flags bits) = (asks_post flags.0 bits, λ s. tt)
+asks (call.PeekFlags flags) = (asks_bits flags.0, λ s. tt)
+asks (call.Write xbuf way bytes) = λ caller stage. (asks_write xbuf.0 stage way bytes.items, λ s. tt)
+asks (call.Read xbuf way len) = λ caller stage. (asks_read xbuf.0 stage way len, λ s. tt)
+asks (call.Room xbuf way) = (asks_room xbuf.0 way, λ s. tt)
+asks (call.Release mutex) = λ caller stage. (asks_release mutex.0 caller, λ s. tt)
 asks _ = tt
 
 -- each kind of change keeps this
@@ -61,7 +73,7 @@ pub record KeptByEach (P : State → Type 0) : Type 0 where
   pub banked : (s : State) (number : ℕ) (home : Bool) (b : Banked) → P s → P (moved s home number b)
   pub clocked : (s : State) (c : Clock ℕ) → c.deadlines ≡ s.clock.deadlines → P s → P (with_clock s c)
   pub paid : (s : State) (before delta now : ℕ) → P s → P (thread_call.paid_between s before delta now)
-  pub asked : (s : State) (by : Option ℕ) (step : ElementStep) → IsAsked step → P s → Leaves P (touched s by step).effect
+  pub asked : (s : State) (by : Option ℕ) (step : ElementStep) → IsAsked step → MayRaise s step → P s → Leaves P (touched s by step).effect
   pub expired : (s : State) (thread : ℕ) → P s → P (deadline_left s thread).1
 
 -- and each kind of step that is its caller's own
@@ -114,14 +126,15 @@ module _ (P : State → Type 0) (k : KeptByEach P) where
       by (on_lines step) is plain passed = holds-line s step h
       by (on_clock step) is plain passed = leaves-clock P kept_by_clock s step h
       by (on_threads step) is plain passed = own.threads step is passed h
-      by (on_element step) is plain passed = k.asked s (Some caller) step plain h
-      by (on_staged step_from) is plain passed = k.asked s (Some caller) (step_from (stage_of s.sched caller)) (plain (stage_of s.sched caller)) h
+      by (on_element step) is plain passed = k.asked s (Some caller) step plain.0 (plain.1 s) h
+      by (on_staged step_from) is plain passed = k.asked s (Some caller) (step_from caller (stage_of s.sched caller)) (plain caller (stage_of s.sched caller)).0 ((plain caller (stage_of s.sched caller)).1 s) h
+      by (raises n) is plain passed = leaves-refused P (raiser_refusal s caller n) _ (λ may. k.asked s (Some caller) (on_mutex n (mutex.raise caller)) (asks_raise n caller) may h)
       by (begins wants until) is plain passed = own.begun wants until is passed h
       by (ends keep) is plain passed = own.ended keep h
 
   holds-acted : (s : State) (line : ℕ) (action : Action) → P s → P (acted s line action)
-  holds-acted s line (PostSem sem) h = leaves-if_done P s _ h (k.asked s None (on_sem sem.0 put) (asks_put sem.0) h)
-  holds-acted s line (PostFlags flags bits) h = leaves-if_done P s _ h (k.asked s None (on_flags flags.0 (group.post bits)) (asks_post flags.0 bits) h)
+  holds-acted s line (PostSem sem) h = leaves-if_done P s _ h (k.asked s None (on_sem sem.0 put) (asks_put sem.0) tt h)
+  holds-acted s line (PostFlags flags bits) h = leaves-if_done P s _ h (k.asked s None (on_flags flags.0 (group.post bits)) (asks_post flags.0 bits) tt h)
   holds-acted s line Propagate h = leaves-if_done P s _ h (holds-post s Inband line h)
   holds-acted s line (PostOob other) h = leaves-if_done P s _ h (holds-post s Oob other.0 h)
   holds-acted s line (StopTimer timer) h = leaves-if_done P s _ h (leaves-stop P kept_by_clock s timer.0 h)

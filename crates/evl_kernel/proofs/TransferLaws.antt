@@ -19,10 +19,9 @@ use Rattle.evl_xbuf.proofs.FlowLaws.{run-goes}
 use Rattle.evl_kernel.specs.Effects.{Made, Runs, if_done, replied}
 use Rattle.evl_kernel.specs.CrossBuffers as through
 use Rattle.evl_kernel.specs.CrossBuffers.{XbufStep, bytes_told, cross_buffer}
-use Rattle.evl_kernel.specs.Elements.{elements, part, its_xbuf}
-use Rattle.evl_kernel.specs.Histories.{History, IsLegal, opened}
+use Rattle.evl_kernel.specs.Elements.{part, its_xbuf}
 use Rattle.evl_kernel.specs.Replays.{touches}
-use Rattle.evl_kernel.specs.Transfers.{GoesThrough, ReadsFollowWritesThere, call_on, calls_on, if_reached, same_way}
+use Rattle.evl_kernel.specs.Transfers.{ReadsFollowWritesThere, call_on, calls_on, if_reached, same_way}
 use Rattle.evl_kernel.proofs.ElementSteps.{none_some, some_is}
 use Rattle.evl_kernel.proofs.OwnRunLaws.{xbufs_by_themselves}
 

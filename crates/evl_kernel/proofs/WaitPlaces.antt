@@ -29,7 +29,7 @@ module _ (n : ℕ) where
     banked = λ s number home b h. h;
     clocked = λ s c same h. h;
     paid = λ s before delta now h. h;
-    asked = λ s by step plain h. leaves-touched HasPlaces kept_waiting s by step h;
+    asked = λ s by step plain may h. leaves-touched HasPlaces kept_waiting s by step h;
     expired = λ s thread h. kept-deadline HasPlaces kept_waiting s thread h;
   }
 

@@ -1,26 +1,26 @@
 -- The waits of the records: whoever stands in a queue waits for that, after each step of an element.
-use Rattle.std.proofs.Common.{◌≡◌, ◌≢◌, ◌<◌, ℕ, zero, suc, ◌==◌, ◌⊎◌, inl, inr, Bool, true, false, ◌||◌, List, [], ◌∷◌, length, Option, Some, None, Ok, Err, slice_get, slice_set, slice_index_or, if◌then◌else◌, refl, sym, ap, ◌∙◌, subst, arith}
+use Rattle.std.proofs.Common.{◌≡◌, ◌≢◌, ◌<◌, ℕ, zero, suc, ◌==◌, ◌⊎◌, inl, inr, Bool, true, false, ◌&&◌, ◌||◌, List, [], ◌∷◌, length, Option, Some, None, Ok, Err, slice_get, slice_set, slice_index_or, if◌then◌else◌, refl, sym, ap, ◌∙◌, subst, arith}
 use Rattle.std.specs.Option.{option_map, option_map_or}
 use Rattle.std.proofs.lemmas.Bool.{false≢true}
 use Rattle.std.proofs.lemmas.Bool.Decides.{nat_tests}
 use Rattle.std.proofs.lemmas.List.{length-set}
 use Rattle.evl_base.specs.declared.refusal.Refusal.{Refusal}
-use Rattle.evl_base.specs.declared.refusal.Refusal.TheVariants.{Unknown}
+use Rattle.evl_base.specs.declared.refusal.Refusal.TheVariants.{Unknown, Deadlock}
 use Rattle.evl_base.specs.declared.reply.Reply.{Reply}
 use Rattle.evl_base.specs.declared.reply.Reply.TheVariants.{Begun, TimedOut}
 use Rattle.evl_base.specs.declared.stage.Stage.{Stage}
 use Rattle.evl_base.specs.declared.stage.Stage.TheVariants.{Inband, Oob}
-use Rattle.evl_sched.specs.Calls as calls
 use Rattle.evl_sched.specs.Calls.{stranger_refusal}
 use Rattle.evl_sched.specs.Ranks as ranks
-use Rattle.evl_sched.specs.Ranks.{IsUnboosted, Ranked}
-use Rattle.evl_sched.specs.Threads.{refused_first, stage_of}
-use Rattle.evl_sched.proofs.UnboostedLaws.{rank-base}
+use Rattle.evl_sched.specs.Ranks.{Ranked}
+use Rattle.evl_mutex.specs.Mutexes.{Mutex as MutexRecorded}
+use Rattle.evl_mutex.specs.Owners.{Owners}
+use Rattle.evl_sched.specs.Threads.{refused_first, stage_of, Sched, unready}
 use Rattle.evl_kernel.specs.declared.waits.Awaited.{Awaited}
-use Rattle.evl_kernel.specs.declared.waits.Awaited.TheVariants.{Sem, Flags, Writing, Reading}
+use Rattle.evl_kernel.specs.declared.waits.Awaited.TheVariants.{Sem, Flags, Writing, Reading, Mutex}
 use Rattle.evl_kernel.specs.declared.waits.Wait.{Wait}
 use Rattle.evl_kernel.specs.declared.waits.Wanted.{Wanted}
-use Rattle.evl_kernel.specs.States.{State, Elements}
+use Rattle.evl_kernel.specs.States.{State, Elements, with_clock, with_sched}
 use Rattle.evl_kernel.specs.Effects.{Answered, if_done, known, lifted, refused_by}
 use Rattle.evl_kernel.specs.Semaphores as sem_step
 use Rattle.evl_kernel.specs.Semaphores.{semaphore, sem_wakes}
@@ -28,20 +28,27 @@ use Rattle.evl_kernel.specs.FlagGroups as flag_step
 use Rattle.evl_kernel.specs.FlagGroups.{flag_group, flag_wakes}
 use Rattle.evl_kernel.specs.CrossBuffers as through
 use Rattle.evl_kernel.specs.CrossBuffers.{cross_buffer, xbuf_wakes}
+use Rattle.evl_kernel.specs.Mutexes as mutex_step
+use Rattle.evl_kernel.specs.Mutexes.{mutex, mutex_wakes}
+use Rattle.evl_kernel.specs.ElementsViews.{ElementsView, owners_of}
 use Rattle.evl_sync.specs.Semaphores.{Semaphore}
 use Rattle.evl_sync.specs.FlagGroups.{FlagGroup}
 use Rattle.evl_xbuf.specs.Xbufs.{Xbuf, stage_refusal}
-use Rattle.evl_kernel.specs.Elements.{ElementStep, element, elements, serves, stepping, stepping_to, touched, wakes, with_elements}
-use Rattle.evl_kernel.specs.Beginnings.{awaited, begin_refusal, begin_step, beginning, form_refusal, is_there, range_refusal, size_refusal, stage_wanted, step_of_waiter, waiter_refusal}
-use Rattle.evl_kernel.specs.Endings.{drop_step, leaving_queue, left_by, served_by_leaving}
+use Rattle.evl_kernel.specs.Elements.{ElementStep, element, elements, serves, stepping, stepping_to, wakes, with_elements}
+use Rattle.evl_kernel.specs.Beginnings.{awaited, begin_refusal, begin_step, beginning, form_refusal, is_named, is_there, may_name, range_refusal, ring_refusal, would_ring, size_refusal, stage_wanted, step_of_waiter, waiter_refusal}
+use Rattle.evl_kernel.specs.Endings.{drop_step, outcome_of, leaving_queue, left_by, served_by_leaving}
 use Rattle.evl_kernel.specs.Settling.{deadline_left}
 use Rattle.evl_kernel.specs.ThreadCalls.{rank_of}
 use Rattle.evl_kernel.specs.Standing.{is_served, stands_for}
-use Rattle.evl_kernel.specs.Waits.{wait_at, wait_of, going_on, begun, woken, all_woken}
-use Rattle.evl_kernel.specs.Records.{RecordsView, IsSound, KeepsCallbacks, WaitsAreKept, state_of}
+use Rattle.evl_kernel.specs.Waits.{wait_at, wait_of, going_on, begun, woken, all_woken, is_past, blocked}
+use Rattle.evl_kernel.specs.Records.{RanksAreKept, RecordsView, IsSound, KeepsCallbacks, WaitsAreKept, state_of}
 use Rattle.evl_kernel.proofs.ElementSteps.{none_some, ok_err, some_is, stepping-done, stepping-refused}
 use Rattle.evl_kernel.proofs.QueueSteps.{Comes}
 use Rattle.evl_kernel.proofs.QueueLaws.{Begins, Dropped, IsAsked, Stepped, asked_goes, begin_goes}
+use Rattle.evl_kernel.proofs.BeginLaws.{free_to_begin}
+use Rattle.evl_kernel.proofs.RankLaws.{attached_of}
+use Rattle.evl_clock.specs.Clocks.{with_deadline}
+use Rattle.evl_kernel.specs.TimerCalls.{posted_if}
 
 same_number : (m n : ℕ) → (m == n) ≡ true → m ≡ n
 same_number m n e = grind (arith, nat_tests)
@@ -90,6 +97,11 @@ module _ (threads : ℕ) (e : Elements) (waits : List (Option Wait)) (kept : Wai
 
   pub waits_set : (thread : ℕ) (w : Option Wait) (changed : List (Option Wait)) → changed ≡ slice_set waits thread w → ((on : Awaited) → stands_for e on thread ≡ false) → WaitsAreKept threads e changed
   waits_set thread w changed is away = subst (WaitsAreKept threads e) (sym is) (set_wait thread w away)
+
+  -- a wait that has ended is finished
+  pub finished_kept : (thread : ℕ) (reply : Reply) → Ok reply ≡ outcome_of (wait_of waits thread) → (changed : List (Option Wait)) → changed ≡ slice_set waits thread None → WaitsAreKept threads e changed
+  finished_kept thread reply ended changed is =
+      waits_set thread None changed is (away_of thread (λ on going. ok_err (ended ∙ ap outcome_of going)))
 
   -- a thread stands in one queue at most
   one_queue : (thread : ℕ) (on other : Awaited) → stands_for e on thread ≡ true → stands_for e other thread ≡ true → on ≡ other
@@ -190,15 +202,18 @@ module _ {C : Type 0} (r : RecordsView C) where
   pub keeps-waits : (waits : List (Option Wait)) → KeepsCallbacks r (record r { waits = waits })
   keeps-waits waits = record { brings = λ number callback stands. stands; told_is = refl }
 
-  pub keeps-elements : (e : Elements) → KeepsCallbacks r (record r { elements = e })
+  pub keeps-elements : (e : ElementsView) → KeepsCallbacks r (record r { elements = e })
   keeps-elements e = record { brings = λ number callback stands. stands; told_is = refl }
 
+  pub keeps-changed : (e : ElementsView) (q : Ranked) (waits : List (Option Wait)) → KeepsCallbacks r (record r { elements = e; sched = q; waits = waits })
+  keeps-changed e q waits = record { brings = λ number callback stands. stands; told_is = refl }
+
   -- what a thread that may begin a wait has
-  pub may_begin_is : IsUnboosted r.sched → (thread rank : ℕ) (wants : Wanted) → stranger_refusal r.sched.sched thread ≡ None → rank ≡ ranks.rank_of r.sched thread → form_refusal wants ≡ None
-      → stage_of r.sched.sched thread ≡ stage_wanted wants → (waiter_refusal (state_of r) thread wants ≡ None) × (rank ≡ rank_of (state_of r) thread)
-  may_begin_is base thread rank wants passed is form same = (
-    rw (passed, form) (ap (stage_refusal (stage_wanted wants)) same ∙ own (stage_wanted wants)),
-    is ∙ rank-base r.sched base thread,
+  pub may_begin_is : RanksAreKept (owners_of r.elements) r.sched → (thread rank : ℕ) (wants : Wanted) → stranger_refusal r.sched.sched thread ≡ None → rank ≡ ranks.rank_of r.sched thread
+      → form_refusal wants ≡ None → may_name (state_of r) thread wants ≡ true → stage_of r.sched.sched thread ≡ stage_wanted wants → (waiter_refusal (state_of r) thread wants ≡ None) × (rank ≡ rank_of (state_of r) thread)
+  may_begin_is kept thread rank wants passed is form may same = (
+    rw (passed, form, may) (ap (stage_refusal (stage_wanted wants)) same ∙ own (stage_wanted wants)),
+    is ∙ kept.given thread (attached_of r.sched.sched thread passed),
   )
     where
       own : (stage : Stage) → stage_refusal stage stage ≡ None
@@ -207,28 +222,37 @@ module _ {C : Type 0} (r : RecordsView C) where
 
 -- the elements change, and nothing else of the records
 module _ {C : Type 0} (r : RecordsView C) (h : IsSound r) where
-  pub sound_with : (after : Elements) (waits : List (Option Wait)) → WaitsAreKept r.threads after waits → IsSound (record r { elements = after; waits = waits })
-  sound_with after waits kept = record { allowed = h.allowed; timers_allowed = h.timers_allowed; clock_sound = h.clock_sound; ranks = h.ranks; waits = kept }
+  pub sound_with : (after : ElementsView) (q : Ranked) (waits : List (Option Wait)) → RanksAreKept (owners_of after) q → WaitsAreKept r.threads after.elements waits
+      → IsSound (record r { elements = after; sched = q; waits = waits })
+  sound_with after q waits ranked kept = record { allowed = h.allowed; timers_allowed = h.timers_allowed; clock_sound = h.clock_sound; ranks = ranked; waits = kept }
+
+  -- where the recorded owners are the same, the ranks are
+  pub ranks_as : (after : ElementsView) → owners_of after ≡ owners_of r.elements → RanksAreKept (owners_of after) r.sched
+  ranks_as after owners = subst (λ (o : Owners). RanksAreKept o r.sched) (sym owners) h.ranks
 
   -- by a step that was asked for
-  module _ (step : ElementStep) (asked : IsAsked step) (reply : Reply) (after : Elements) (made : element r.elements step ≡ Ok (reply, after)) where
-    went : Stepped r.elements (wakes r.elements step) after
-    went = asked_goes r.elements h.waits.sound after reply step asked made
+  module _ (step : ElementStep) (asked : IsAsked step) (reply : Reply) (after : ElementsView) (made : element r.elements.elements step ≡ Ok (reply, after.elements)) where
+    went : Stepped r.elements.elements (wakes r.elements.elements step) after.elements
+    went = asked_goes r.elements.elements h.waits.sound after.elements reply step asked made
 
-    pub asked_sound : IsSound (record r { elements = after })
-    asked_sound = sound_with after r.waits (kept_after r.threads r.elements r.waits h.waits (wakes r.elements step) after went)
+    pub asked_sound : owners_of after ≡ owners_of r.elements → IsSound (record r { elements = after })
+    asked_sound owners = sound_with after r.sched r.waits (ranks_as after owners) (kept_after r.threads r.elements.elements r.waits h.waits (wakes r.elements.elements step) after.elements went)
 
-    pub asked_away : (t : ℕ) → is_served t (wakes r.elements step) ≡ true → (on : Awaited) → stands_for after on t ≡ false
-    asked_away t is on = away_after r.threads r.elements r.waits h.waits (wakes r.elements step) after went t is on
+    -- and the ranks are handed on
+    pub asked_ranked : (q : Ranked) → RanksAreKept (owners_of after) q → IsSound (record r { elements = after; sched = q })
+    asked_ranked q ranked = sound_with after q r.waits ranked (kept_after r.threads r.elements.elements r.waits h.waits (wakes r.elements.elements step) after.elements went)
 
-    pub asked_done : (served : List (ℕ × Reply)) → wakes r.elements step ≡ served → stepping (state_of r) step ≡ Ok (reply, all_woken (state_of (record r { elements = after })) served)
+    pub asked_away : (t : ℕ) → is_served t (wakes r.elements.elements step) ≡ true → (on : Awaited) → stands_for after.elements on t ≡ false
+    asked_away t is on = away_after r.threads r.elements.elements r.waits h.waits (wakes r.elements.elements step) after.elements went t is on
+
+    pub asked_done : (served : List (ℕ × Reply)) → wakes r.elements.elements step ≡ served → stepping (state_of r) step ≡ Ok (reply, all_woken (state_of (record r { elements = after })) served)
     asked_done served is =
-        stepping-done (λ s. s) (state_of r) step reply after made
+        stepping-done (λ s. s) (state_of r) step reply after.elements made
         ∙ ap (λ (ws : List (ℕ × Reply)). Ok (reply, all_woken (state_of (record r { elements = after })) ws)) is
 
-pub refused_as : {C : Type 0} (r : RecordsView C) (step : ElementStep) (refusal : Refusal) (after : Elements) → (element r.elements step ≡ Err refusal) × (after ≡ r.elements)
+pub refused_as : {C : Type 0} (r : RecordsView C) (step : ElementStep) (refusal : Refusal) (after : ElementsView) → (element r.elements.elements step ≡ Err refusal) × (after ≡ r.elements)
     → (stepping (state_of r) step ≡ Err refusal) × (state_of (record r { elements = after }) ≡ state_of r)
-refused_as r step refusal after (is, same) = (stepping-refused (λ s. s) (state_of r) step refusal is, ap (λ (e : Elements). state_of (record r { elements = e })) same)
+refused_as r step refusal after (is, same) = (stepping-refused (λ s. s) (state_of r) step refusal is, ap (λ (e : ElementsView). state_of (record r { elements = e })) same)
 
 -- who is alone among the served
 pub alone_served : (t : ℕ) (outcome : Reply) (served : List (ℕ × Reply)) → served ≡ (t, outcome) ∷ [] → is_served t served ≡ true
@@ -236,59 +260,66 @@ alone_served t outcome served is = ap (is_served t) is ∙ ap (λ (b : Bool). b 
 
 -- a wait begins
 module _ {C : Type 0} (r : RecordsView C) (h : IsSound r) (thread rank : ℕ) (wants : Wanted) (until : Option ℕ) (none : wait_of r.waits thread ≡ None) (there : thread < r.threads)
-    (after : Elements) (made : element r.elements (step_of_waiter thread rank wants) ≡ Ok (Begun, after)) where
-  pub begin_away : stands_for r.elements (awaited wants) thread ≡ false
-  begin_away = idle_away r.threads r.elements r.waits h.waits thread none (awaited wants)
+    (may : begin_refusal (state_of r) thread wants ≡ None) (after : ElementsView) (made : element r.elements.elements (step_of_waiter thread rank wants) ≡ Ok (Begun, after.elements)) where
+  pub begin_away : (on : Awaited) → stands_for r.elements.elements on thread ≡ false
+  begin_away on = idle_away r.threads r.elements.elements r.waits h.waits thread none on
 
   pub begin_few : thread < 64
   begin_few = omega (arith, there, h.waits.few)
 
-  begins : Begins r.elements thread (awaited wants) (serves r.elements (step_of_waiter thread rank wants)) (wakes r.elements (step_of_waiter thread rank wants)) after
-  begins = begin_goes r.elements h.waits.sound after Begun thread rank begin_few wants begin_away made
+  begins : Begins r.elements.elements thread (awaited wants) (serves r.elements.elements (step_of_waiter thread rank wants)) (wakes r.elements.elements (step_of_waiter thread rank wants)) after.elements
+  begins = begin_goes r.elements.elements h.waits.sound after.elements Begun thread rank begin_few wants begin_away (free_to_begin (state_of r) thread wants may) made
 
-  pub sound_served : (outcome : Reply) → serves r.elements (step_of_waiter thread rank wants) ≡ Some outcome → (w : Option Wait) (waits : List (Option Wait)) → waits ≡ slice_set r.waits thread w
-      → IsSound (record r { elements = after; waits = waits })
-  sound_served outcome served w waits is =
-      sound_with r h after waits (kept_served r.threads r.elements r.waits h.waits thread (awaited wants) _ _ after begins none outcome served w waits is)
+  pub sound_served : (outcome : Reply) → serves r.elements.elements (step_of_waiter thread rank wants) ≡ Some outcome → (w : Option Wait) (waits : List (Option Wait)) → waits ≡ slice_set r.waits thread w
+      → owners_of after ≡ owners_of r.elements → IsSound (record r { elements = after; waits = waits })
+  sound_served outcome served w waits is owners =
+      sound_with r h after r.sched waits (ranks_as r h after owners) (kept_served r.threads r.elements.elements r.waits h.waits thread (awaited wants) _ _ after.elements begins none outcome served w waits is)
 
-  pub sound_waiting : serves r.elements (step_of_waiter thread rank wants) ≡ None → (waits : List (Option Wait)) → waits ≡ slice_set r.waits thread (Some (going_on (awaited wants)))
-      → IsSound (record r { elements = after; waits = waits })
-  sound_waiting nothing waits is =
-      sound_with r h after waits (kept_waiting r.threads r.elements r.waits h.waits thread (awaited wants) _ _ after begins none nothing there waits is)
+  pub sound_ranked : serves r.elements.elements (step_of_waiter thread rank wants) ≡ None → (q : Ranked) → RanksAreKept (owners_of after) q
+      → (waits : List (Option Wait)) → waits ≡ slice_set r.waits thread (Some (going_on (awaited wants))) → IsSound (record r { elements = after; sched = q; waits = waits })
+  sound_ranked nothing q ranked waits is =
+      sound_with r h after q waits ranked (kept_waiting r.threads r.elements.elements r.waits h.waits thread (awaited wants) _ _ after.elements begins none nothing there waits is)
+
+  pub sound_waiting : serves r.elements.elements (step_of_waiter thread rank wants) ≡ None → (waits : List (Option Wait)) → waits ≡ slice_set r.waits thread (Some (going_on (awaited wants)))
+      → owners_of after ≡ owners_of r.elements → IsSound (record r { elements = after; waits = waits })
+  sound_waiting nothing waits is owners = sound_ranked nothing r.sched (ranks_as r h after owners) waits is
 
   -- whoever is served as the wait begins stands nowhere then
-  pub begin_freed : (outcome : Reply) → serves r.elements (step_of_waiter thread rank wants) ≡ Some outcome → (t : ℕ) → is_served t (wakes r.elements (step_of_waiter thread rank wants)) ≡ true
-      → (on : Awaited) → stands_for after on t ≡ false
+  pub begin_freed : (outcome : Reply) → serves r.elements.elements (step_of_waiter thread rank wants) ≡ Some outcome → (t : ℕ) → is_served t (wakes r.elements.elements (step_of_waiter thread rank wants)) ≡ true
+      → (on : Awaited) → stands_for after.elements on t ≡ false
   begin_freed outcome served t is on =
-      away_after r.threads r.elements r.waits h.waits (wakes r.elements (step_of_waiter thread rank wants)) after (record { sound = begins.sound; goes = begins.at_once outcome served }) t is on
+      away_after r.threads r.elements.elements r.waits h.waits (wakes r.elements.elements (step_of_waiter thread rank wants)) after.elements (record { sound = begins.sound; goes = begins.at_once outcome served }) t is on
 
-  module _ (may : begin_refusal (state_of r) thread wants ≡ None) (its : rank ≡ rank_of (state_of r) thread) where
-    pub begin_is : (outcome : Option Reply) → serves r.elements (step_of_waiter thread rank wants) ≡ outcome → (others : List (ℕ × Reply)) → wakes r.elements (step_of_waiter thread rank wants) ≡ others
-        → (beginning (state_of r) thread wants until).effect ≡ Ok (Begun, all_woken (begun (with_elements (state_of r) after) thread (awaited wants) until outcome) others)
+  module _ (its : rank ≡ rank_of (state_of r) thread) where
+    pub begin_is : (outcome : Option Reply) → serves r.elements.elements (step_of_waiter thread rank wants) ≡ outcome → (others : List (ℕ × Reply)) → wakes r.elements.elements (step_of_waiter thread rank wants) ≡ others
+        → (beginning (state_of r) thread wants until).effect ≡ Ok (Begun, all_woken (begun (with_elements (state_of r) after.elements) thread (awaited wants) until outcome) others)
     begin_is outcome served others ends =
         let s = state_of r in
         let step = begin_step s thread wants in
         let same : step_of_waiter thread rank wants ≡ step = ap (λ (m : ℕ). step_of_waiter thread m wants) its in
         let f = λ (x : State). begun x thread (awaited wants) until (serves (elements s) step) in
-        let made_so : element (elements s) step ≡ Ok (Begun, after) = ap (element r.elements) (sym same) ∙ made in
-        let told : serves (elements s) step ≡ outcome = ap (serves r.elements) (sym same) ∙ served in
-        let woken_so : wakes (elements s) step ≡ others = ap (wakes r.elements) (sym same) ∙ ends in
+        let made_so : element (elements s) step ≡ Ok (Begun, after.elements) = ap (element r.elements.elements) (sym same) ∙ made in
+        let told : serves (elements s) step ≡ outcome = ap (serves r.elements.elements) (sym same) ∙ served in
+        let woken_so : wakes (elements s) step ≡ others = ap (wakes r.elements.elements) (sym same) ∙ ends in
         ap (λ (o : Option Refusal). refused_by o (stepping_to f s step)) may
-        ∙ (stepping-done f s step Begun after made_so
-        ∙ (λ i. Ok (Begun, all_woken (begun (with_elements s after) thread (awaited wants) until (told i)) (woken_so i))))
+        ∙ (stepping-done f s step Begun after.elements made_so
+        ∙ (λ i. Ok (Begun, all_woken (begun (with_elements s after.elements) thread (awaited wants) until (told i)) (woken_so i))))
 
 -- a beginning that nothing refuses is of an element that is there
+abbrev begin_rest : State → ℕ → Wanted → Option Refusal
+begin_rest s thread wants = refused_first (range_refusal wants) (refused_first (waiter_refusal s thread wants) (refused_first (size_refusal (elements s) wants) (ring_refusal s thread wants)))
+
 pub there_to_begin : (s : State) (thread : ℕ) (wants : Wanted) → begin_refusal s thread wants ≡ None → is_there (elements s) (awaited wants) ≡ true
-there_to_begin s thread wants = by (is_there (elements s) (awaited wants))
+there_to_begin s thread wants = by (is_there (elements s) (awaited wants)) (is_named s wants) (begin_rest s thread wants)
   where
-    by : (b : Bool) → refused_first (if b then None else Some Unknown) (refused_first (range_refusal wants) (refused_first (waiter_refusal s thread wants) (size_refusal (elements s) wants))) ≡ None → b ≡ true
-    by true none = refl
-    by false none = absurd (none_some (sym none))
+    by : (b c : Bool) (others : Option Refusal) → refused_first (if b && c then None else Some Unknown) others ≡ None → b ≡ true
+    by true c others none = refl
+    by false c others none = absurd (none_some (sym none))
 
 -- a beginning that none of these refuses
-pub may_begin_all : (s : State) (thread : ℕ) (wants : Wanted) → is_there (elements s) (awaited wants) ≡ true → range_refusal wants ≡ None → waiter_refusal s thread wants ≡ None
-    → size_refusal (elements s) wants ≡ None → begin_refusal s thread wants ≡ None
-may_begin_all s thread wants has range may size = rw (has, range, may) size
+pub may_begin_all : (s : State) (thread : ℕ) (wants : Wanted) → is_there (elements s) (awaited wants) ≡ true → is_named s wants ≡ true → range_refusal wants ≡ None → waiter_refusal s thread wants ≡ None
+    → size_refusal (elements s) wants ≡ None → would_ring s thread wants ≡ false → begin_refusal s thread wants ≡ None
+may_begin_all s thread wants has names range may size ring = rw (has, names, range, may, size, ring) refl
 
 -- a waiter that leaves an element that there isn't wakes nobody
 nobody_woken : (e : Elements) (thread : ℕ) (on : Awaited) (refusal : Refusal) → element e (drop_step thread on) ≡ Err refusal → wakes e (drop_step thread on) ≡ []
@@ -304,6 +335,12 @@ nobody_woken e thread (Flags id) refusal = by (slice_get e.flags id.0)
         → option_map_or (λ f. flag_wakes f (flag_step.drop thread)) o [] ≡ []
     by None is = refl
     by (Some f) is = refl
+nobody_woken e thread (Mutex id) refusal = by (slice_get e.mutexes id.0)
+  where
+    by : (o : Option MutexRecorded) → known o (λ m. lifted (λ left. record e { mutexes = slice_set e.mutexes id.0 left }) (mutex m (mutex_step.drop thread))) ≡ Err refusal
+        → option_map_or (λ m. mutex_wakes m (mutex_step.drop thread)) o [] ≡ []
+    by None is = refl
+    by (Some m) is = refl
 nobody_woken e thread (Writing id way) refusal = by (slice_get e.xbufs id.0)
   where
     by : (o : Option Xbuf) → known o (λ x. lifted (λ left. record e { xbufs = slice_set e.xbufs id.0 left }) (cross_buffer x (through.drop thread way))) ≡ Err refusal
@@ -342,9 +379,14 @@ expired_by s left woke after thread served leaves serves ends wakes =
     ∙ (ap (λ (x : State). all_woken x served) (ends ∙ ap (λ (x : State). woken x thread TimedOut) leaves)
     ∙ (ap (all_woken (woken left_is thread TimedOut)) (sym serves) ∙ expired_as s thread))
 
--- and neither gives a rank
-pub blocked_unboosted : (q p : Ranked) (thread : ℕ) → p ≡ calls.block q thread → IsUnboosted q → IsUnboosted p
-blocked_unboosted q p thread is base = subst IsUnboosted (sym is) base
+-- a claim that closes a ring
+pub claim_rings : (s : State) (thread : ℕ) (wants : Wanted) (until : Option ℕ) → is_there (elements s) (awaited wants) ≡ true → is_named s wants ≡ true → range_refusal wants ≡ None
+    → waiter_refusal s thread wants ≡ None → size_refusal (elements s) wants ≡ None → would_ring s thread wants ≡ true → (beginning s thread wants until).effect ≡ Err Deadlock
+claim_rings s thread wants until has names range may size ring = rw (has, names, range, may, size, ring) refl
 
-pub readied_unboosted : (q p : Ranked) (thread : ℕ) → p ≡ calls.ready q thread → IsUnboosted q → IsUnboosted p
-readied_unboosted q p thread is base = subst IsUnboosted (sym is) base
+-- the elements and the ranks change, the wait begins, and its thread is blocked
+pub blocked_as : (s : State) (e : Elements) (thread : ℕ) (on : Awaited) (until : Option ℕ) (q : Sched) (waits : List (Option Wait)) (t : State) → q ≡ s.sched → waits ≡ slice_set s.waits thread (Some (going_on on))
+    → t ≡ posted_if (is_past s.clock.now until) (with_sched (with_clock (record s { elements = e; sched = q; waits = waits }) (with_deadline s.clock thread until)) (unready q thread))
+    → t ≡ blocked (with_elements s e) thread on until
+blocked_as s e thread on until q waits t same set is =
+    is ∙ (λ i. posted_if (is_past s.clock.now until) (with_sched (with_clock (record s { elements = e; sched = same i; waits = set i }) (with_deadline s.clock thread until)) (unready (same i) thread)))

@@ -14,13 +14,15 @@ use Rattle.evl_kernel.specs.declared.waits.Wanted.{Wanted}
 use Rattle.evl_kernel.specs.declared.waits.Wait.{Wait}
 use Rattle.evl_kernel.specs.States.{Elements, State, with_clock, with_sched}
 use Rattle.evl_kernel.specs.Effects.{Answered, lifted, leaving, if_done}
-use Rattle.evl_kernel.specs.Elements.{ElementStep, elements, with_elements, element, wakes, serves, stepping_to, touched}
+use Rattle.evl_kernel.specs.Elements.{ElementStep, elements, with_elements, element, wakes, serves, stepping_to, touched, on_mutex}
+use Rattle.evl_kernel.specs.Mutexes as mutex
 use Rattle.evl_kernel.specs.Waits.{wait_at, with_wait, going_on, ended_by, is_past, blocked, begun, woken, all_woken}
 use Rattle.evl_kernel.specs.Beginnings.{awaited, begin_refusal, begin_step, beginning}
 use Rattle.evl_kernel.specs.Endings.{drop_step, finish, goes_inband, inband_if, outcome_of}
 use Rattle.evl_kernel.specs.Settling.{deadline_left}
 use Rattle.evl_kernel.specs.TimerCalls.{posted_clock, posted_if}
 use Rattle.evl_kernel.proofs.LeavesLaws.{Leaves, leaves-refused, leaves-if_done}
+use Rattle.evl_kernel.specs.OwnerCalls.{raiser_refusal, raising}
 
 -- what the end of a wait changes keeps this
 pub record KeptByWakes (P : State → Type 0) : Type 0 where
@@ -49,6 +51,10 @@ module _ (P : State → Type 0) (k : KeptByWakes P) where
 
   pub leaves-touched : (s : State) (by : Option ℕ) (step : ElementStep) → P s → Leaves P (touched s by step).effect
   leaves-touched s by step h = leaves-stepping (λ x. x) (λ x hx. hx) s step h
+
+  -- a ceiling
+  pub leaves-raising : (s : State) (thread n : ℕ) → P s → Leaves P (raising s thread n).effect
+  leaves-raising s thread n h = leaves-refused P (raiser_refusal s thread n) _ (λ passed. leaves-touched s (Some thread) (on_mutex n (mutex.raise thread)) h)
 
   -- a deadline: whatever holds once its thread's wait has ended holds at the end
   pub kept-left : (s : State) (thread : ℕ) → P (woken s thread TimedOut) → P (deadline_left s thread).1

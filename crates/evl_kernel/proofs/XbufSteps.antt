@@ -1,14 +1,14 @@
 -- What a change of one cross-buffer means for the queues of all elements.
-use Rattle.std.proofs.Common.{◌≡◌, ℕ, ◌==◌, ◌⊎◌, inl, inr, Bool, true, false, List, Option, Some, slice_get, slice_set, refl, sym, ap, ◌∙◌, arith}
+use Rattle.std.proofs.Common.{◌≡◌, ℕ, ◌==◌, ◌⊎◌, inl, inr, Bool, true, false, List, Some, slice_get, slice_set, refl, sym, ap, ◌∙◌, arith}
 use Rattle.std.proofs.lemmas.Bool.Decides.{nat_tests}
 use Rattle.evl_base.specs.declared.reply.Reply.{Reply}
 use Rattle.evl_base.specs.declared.way.Way.{Way}
 use Rattle.evl_base.specs.declared.way.Way.TheVariants.{In}
 use Rattle.evl_xbuf.specs.Xbufs.{IsSoundXbuf, Xbuf}
 use Rattle.evl_kernel.specs.declared.waits.Awaited.{Awaited}
-use Rattle.evl_kernel.specs.declared.waits.Awaited.TheVariants.{Sem, Flags, Writing, Reading}
+use Rattle.evl_kernel.specs.declared.waits.Awaited.TheVariants.{Sem, Flags, Writing, Reading, Mutex}
 use Rattle.evl_kernel.specs.States.{Elements}
-use Rattle.evl_kernel.specs.Standing.{AreSound, in_readers, in_writers, is_served, stands_for}
+use Rattle.evl_kernel.specs.Standing.{AreSound, in_readers, in_writers, stands_for}
 use Rattle.evl_kernel.proofs.QueueSteps.{Comes, Drops, Gone, LetsGo, all_at, at_it, at_other, old_at, same_at, was_at_it}
 use Rattle.evl_kernel.proofs.XbufQueues as queues
 use Rattle.evl_kernel.proofs.XbufQueues.{Queue, reading, writing, in_queue}
@@ -26,7 +26,7 @@ module _ (e : Elements) (n : ℕ) (x y : Xbuf) (here : slice_get e.xbufs n ≡ S
   xbuf_set = record e { xbufs = slice_set e.xbufs n y }
 
   pub xbufs_sound : AreSound e → IsSoundXbuf y → AreSound xbuf_set
-  xbufs_sound h sound = record { sems = h.sems; flags = h.flags; xbufs = all_at (in_readers In) e.xbufs n x y here IsSoundXbuf h.xbufs sound }
+  xbufs_sound h sound = record { sems = h.sems; flags = h.flags; xbufs = all_at (in_readers In) e.xbufs n x y here IsSoundXbuf h.xbufs sound; mutexes = h.mutexes }
 
   pub was_there : (q : Queue) (t : ℕ) → stands_for e (of_xbuf n q) t ≡ in_queue q x t
   was_there (reading way) t = was_at_it (in_readers way) e.xbufs n x y here t
@@ -39,12 +39,14 @@ module _ (e : Elements) (n : ℕ) (x y : Xbuf) (here : slice_get e.xbufs n ≡ S
   same_all : (t : ℕ) → ((q : Queue) → in_queue q y t ≡ in_queue q x t) → (on : Awaited) → stands_for xbuf_set on t ≡ stands_for e on t
   same_all t same (Sem id) = refl
   same_all t same (Flags id) = refl
+  same_all t same (Mutex id) = refl
   same_all t same (Writing id way) = same_at (in_writers way) e.xbufs n x y here id.0 t (same (writing way))
   same_all t same (Reading id way) = same_at (in_readers way) e.xbufs n x y here id.0 t (same (reading way))
 
   old_all : (t : ℕ) → ((q : Queue) → in_queue q y t ≡ true → in_queue q x t ≡ true) → (on : Awaited) → stands_for xbuf_set on t ≡ true → stands_for e on t ≡ true
   old_all t old (Sem id) = λ is. is
   old_all t old (Flags id) = λ is. is
+  old_all t old (Mutex id) = λ is. is
   old_all t old (Writing id way) = old_at (in_writers way) e.xbufs n x y here id.0 t (old (writing way))
   old_all t old (Reading id way) = old_at (in_readers way) e.xbufs n x y here id.0 t (old (reading way))
 
@@ -79,6 +81,7 @@ module _ (e : Elements) (n : ℕ) (x y : Xbuf) (here : slice_get e.xbufs n ≡ S
       alone : (other : Awaited) → stands_for xbuf_set other thread ≡ true → (of_xbuf n queue ≡ other) ⊎ (stands_for e other thread ≡ true)
       alone (Sem id) is = inr is
       alone (Flags id) is = inr is
+      alone (Mutex id) is = inr is
       alone (Writing id way) is = at_queue (writing way) id.0 is (λ ne. at_other (in_writers way) e.xbufs n x y here id.0 thread ne)
       alone (Reading id way) is = at_queue (reading way) id.0 is (λ ne. at_other (in_readers way) e.xbufs n x y here id.0 thread ne)
 

@@ -1,27 +1,40 @@
 -- The end of a wait: by its caller, and by its deadline.
-use Rattle.std.specs.Prelude.{ℕ, Bool, false, List, [], not, ◌&&◌, Option, Some, None, Result, Ok, Err, if◌then◌else◌}
+use Rattle.std.specs.Prelude.{ℕ, Bool, true, false, List, [], not, ◌&&◌, Option, Some, None, Result, Ok, Err, if◌then◌else◌}
 use Rattle.std.specs.Option.{option_map_or}
 use Rattle.evl_base.specs.declared.refusal.Refusal.{Refusal}
 use Rattle.evl_base.specs.declared.refusal.Refusal.TheVariants.{Invalid, Again}
 use Rattle.evl_base.specs.declared.reply.Reply.{Reply}
-use Rattle.evl_base.specs.declared.reply.Reply.TheVariants.{TimedOut}
+use Rattle.evl_base.specs.declared.reply.Reply.TheVariants.{Done, TimedOut}
 use Rattle.evl_base.specs.declared.stage.Stage.TheVariants.{Inband}
 use Rattle.evl_sched.specs.Policies.{is_weak}
 use Rattle.evl_sched.specs.Threads.{seat_at, stage_set}
 use Rattle.evl_kernel.specs.declared.waits.Awaited.{Awaited}
-use Rattle.evl_kernel.specs.declared.waits.Awaited.TheVariants.{Sem, Flags, Writing, Reading}
+use Rattle.evl_kernel.specs.declared.waits.Awaited.TheVariants.{Sem, Flags, Writing, Reading, Mutex}
 use Rattle.evl_kernel.specs.declared.waits.Wait.{Wait}
 use Rattle.evl_kernel.specs.States.{State, Elements, with_sched}
 use Rattle.evl_kernel.specs.Effects.{Effect, if_done, leaving}
 use Rattle.evl_kernel.specs.Semaphores as semaphore
 use Rattle.evl_kernel.specs.FlagGroups as group
 use Rattle.evl_kernel.specs.CrossBuffers as through
-use Rattle.evl_kernel.specs.Elements.{ElementStep, on_sem, on_flags, on_xbuf, element, wakes, Told, touched, untouched}
+use Rattle.evl_kernel.specs.Mutexes as mutex
+use Rattle.evl_kernel.specs.Elements.{ElementStep, on_sem, on_flags, on_xbuf, on_mutex, element, wakes, Told, touched, untouched}
 use Rattle.evl_kernel.specs.Waits.{wait_at, with_wait, woken}
 
--- a weak thread goes in-band, where it isn't yet, unless it keeps its stage
+abbrev pub is_of_mutex : Awaited → Bool
+is_of_mutex (Mutex id) = true
+is_of_mutex on = false
+
+-- a wait for a mutex that ended by getting it
+abbrev pub got_mutex : Awaited → Reply → Bool
+got_mutex (Mutex id) Done = true
+got_mutex on outcome = false
+
+abbrev pub has_got_mutex : Option Wait → Bool
+has_got_mutex wait = option_map_or (λ w. option_map_or (got_mutex w.on) w.outcome false) wait false
+
+-- a weak thread goes in-band, where it isn't yet, unless it keeps its stage or got a mutex
 abbrev pub goes_inband : State → ℕ → Bool → Bool
-goes_inband s thread keep = option_map_or (λ seat. is_weak seat.policy) (seat_at s.sched thread) false && not keep
+goes_inband s thread keep = option_map_or (λ seat. is_weak seat.policy) (seat_at s.sched thread) false && not keep && not (has_got_mutex (wait_at s thread))
 
 abbrev pub inband_if : Bool → State → ℕ → State
 inband_if goes s thread = if goes then with_sched s (stage_set s.sched thread Inband) else s
@@ -41,6 +54,7 @@ drop_step thread (Sem id) = on_sem id.0 (semaphore.drop thread)
 drop_step thread (Flags id) = on_flags id.0 (group.drop thread)
 drop_step thread (Writing id way) = on_xbuf id.0 (through.drop thread way)
 drop_step thread (Reading id way) = on_xbuf id.0 (through.drop thread way)
+drop_step thread (Mutex id) = on_mutex id.0 (mutex.drop thread)
 
 -- the thread leaves the queue of this wait
 abbrev pub leaving_queue : State → ℕ → Option Wait → Told

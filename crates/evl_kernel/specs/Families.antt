@@ -4,7 +4,7 @@ use Rattle.std.specs.Prelude.{ℕ, Bool, true, false, Option, Some}
 use Rattle.evl_base.specs.declared.stage.Stage.{Stage}
 use Rattle.evl_base.specs.declared.policy.Policy.{Policy}
 use Rattle.evl_base.specs.declared.call.Call.{Call}
-use Rattle.evl_base.specs.declared.call.Call.TheVariants.{Request, Free, Arrive, Post, Stall, Unstall, Tick, Now, NewTimer, StartTimer, StopTimer, DropTimer, Overruns, Attach, Detach, SetPolicy, SetStage, Pick, RankOf, TryGet, Put, Peek, BeginGet, TryTake, PostFlags, PeekFlags, BeginTake, Write, Read, Room, BeginWrite, BeginRead, Finish}
+use Rattle.evl_base.specs.declared.call.Call.TheVariants.{Request, Free, Arrive, Post, Stall, Unstall, Tick, Now, NewTimer, StartTimer, StopTimer, DropTimer, Overruns, Attach, Detach, SetPolicy, SetStage, Pick, RankOf, TryGet, Put, Peek, BeginGet, TryTake, PostFlags, PeekFlags, BeginTake, Write, Read, Room, BeginWrite, BeginRead, Claim, Release, Raise, Finish}
 use Rattle.evl_sched.specs.Threads.{stage_of}
 use Rattle.evl_kernel.specs.declared.waits.Wanted.{Wanted}
 use Rattle.evl_kernel.specs.declared.waits.Wanted.TheVariants as wanted
@@ -13,7 +13,9 @@ use Rattle.evl_kernel.specs.Effects.{Effect}
 use Rattle.evl_kernel.specs.Semaphores.{get, put, peek}
 use Rattle.evl_kernel.specs.FlagGroups as group
 use Rattle.evl_kernel.specs.CrossBuffers as through
-use Rattle.evl_kernel.specs.Elements.{ElementStep, on_sem, on_flags, on_xbuf, Told, touched, untouched}
+use Rattle.evl_kernel.specs.Mutexes as recorded
+use Rattle.evl_kernel.specs.OwnerCalls.{raising}
+use Rattle.evl_kernel.specs.Elements.{ElementStep, on_sem, on_flags, on_xbuf, on_mutex, Told, touched, untouched}
 use Rattle.evl_kernel.specs.Beginnings.{beginning}
 use Rattle.evl_kernel.specs.Endings.{finish}
 use Rattle.evl_kernel.specs.LineCalls as line_call
@@ -80,8 +82,10 @@ pub data Task : Type 0 where
   on_clock : ClockStep → Task
   on_threads : ThreadStep → Task
   on_element : ElementStep → Task
-  -- one that goes by the stage of its caller
-  on_staged : (Stage → ElementStep) → Task
+  -- one that goes by its caller and that one's stage
+  on_staged : (ℕ → Stage → ElementStep) → Task
+  -- its caller has the ceiling of this mutex
+  raises : ℕ → Task
   -- a wait, until the deadline where there is one
   begins : Wanted → Option ℕ → Task
   -- whether a weak thread keeps its stage
@@ -100,7 +104,8 @@ performing s caller (on_lines step) = untouched (line_effect s step)
 performing s caller (on_clock step) = untouched (clock_effect s step)
 performing s caller (on_threads step) = untouched (thread_effect s caller step)
 performing s caller (on_element step) = touched s (Some caller) step
-performing s caller (on_staged step_from) = touched s (Some caller) (step_from (stage_of s.sched caller))
+performing s caller (on_staged step_from) = touched s (Some caller) (step_from caller (stage_of s.sched caller))
+performing s caller (raises mutex) = raising s caller mutex
 performing s caller (begins wanted until) = beginning s caller wanted until
 performing s caller (ends keep) = untouched (finish s caller keep)
 
@@ -133,9 +138,12 @@ task_of (TryTake flags kind) = on_element (on_flags flags.0 (group.take kind))
 task_of (PostFlags flags bits) = on_element (on_flags flags.0 (group.post bits))
 task_of (PeekFlags flags) = on_element (on_flags flags.0 group.peek)
 task_of (BeginTake flags kind until) = begins (wanted.Flags flags kind) until
-task_of (Write xbuf way bytes) = on_staged (λ stage. on_xbuf xbuf.0 (through.write stage way bytes.items))
-task_of (Read xbuf way len) = on_staged (λ stage. on_xbuf xbuf.0 (through.read stage way len))
+task_of (Write xbuf way bytes) = on_staged (λ caller stage. on_xbuf xbuf.0 (through.write stage way bytes.items))
+task_of (Read xbuf way len) = on_staged (λ caller stage. on_xbuf xbuf.0 (through.read stage way len))
 task_of (Room xbuf way) = on_element (on_xbuf xbuf.0 (through.room way))
 task_of (BeginWrite xbuf way bytes until) = begins (wanted.Write xbuf way bytes) until
 task_of (BeginRead xbuf way len until) = begins (wanted.Read xbuf way len) until
+task_of (Claim mutex owner until) = begins (wanted.Mutex mutex owner) until
+task_of (Release mutex) = on_staged (λ caller stage. on_mutex mutex.0 (recorded.release caller))
+task_of (Raise mutex) = raises mutex.0
 task_of (Finish keep) = ends keep

@@ -9,6 +9,7 @@ use Rattle.evl_sched.specs.Threads as threads
 use Rattle.evl_sync.specs.Semaphores as semaphores
 use Rattle.evl_sync.specs.FlagGroups as flags
 use Rattle.evl_xbuf.specs.Xbufs as xbufs
+use Rattle.evl_mutex.specs.Mutexes as mutexes
 use Rattle.evl_kernel.specs.Limits.{callback_limit, history_limit}
 use Rattle.evl_kernel.specs.States.{State, Elements, Handler, Banked}
 
@@ -17,7 +18,7 @@ at_home h = record { handler = h; home = true }
 
 -- the elements of a board
 abbrev pub all_opened : Board → Elements
-all_opened board = record { sems = map semaphores.opened board.sems.items; flags = map flags.opened board.flags.items; xbufs = map (λ sizes. xbufs.opened sizes.0 sizes.1) board.xbufs.items }
+all_opened board = record { sems = map semaphores.opened board.sems.items; flags = map flags.opened board.flags.items; xbufs = map (λ sizes. xbufs.opened sizes.0 sizes.1) board.xbufs.items; mutexes = map mutexes.opened board.mutexes.items }
 
 -- every callback is in its bank place, no line has anything, there are no timers, no thread is attached, and nobody waits
 abbrev pub opening : Board → List Handler → State

@@ -1,5 +1,5 @@
 -- The kernel's records as contracts see them, and what they mean.
-use Rattle.std.specs.Prelude.{◌≡◌, ◌≤◌, ℕ, true, List, length, map, Option, Some, is_some, slice_get}
+use Rattle.std.specs.Prelude.{◌≡◌, ◌≤◌, ℕ, true, List, length, map, Option, Some, is_some, slice_get, slice_index}
 use Rattle.std.specs.Option.{option_map_or}
 use Rattle.evl_base.specs.declared.board.Board.{Board}
 use Rattle.evl_base.specs.declared.stage.Stage.{Stage}
@@ -9,12 +9,19 @@ use Rattle.evl_pipeline.specs.Lines as lines
 use Rattle.evl_clock.specs.declared.timer.Timer.{Timer}
 use Rattle.evl_clock.specs.Timers.{is_timer_allowed}
 use Rattle.evl_clock.specs.Clocks as clocks
-use Rattle.evl_sched.specs.Ranks.{IsUnboosted, Ranked}
+use Rattle.evl_sched.specs.Ranks as ranks
+use Rattle.evl_sched.specs.Ranks.{Ranked}
+use Rattle.evl_sched.specs.Threads.{Sched, base_of, is_attached}
+use Rattle.evl_mutex.specs.Mutexes.{Mutex}
+use Rattle.evl_mutex.specs.Owners.{Owners}
 use Rattle.evl_kernel.specs.declared.waits.Awaited.{Awaited}
 use Rattle.evl_kernel.specs.declared.waits.Wait.{Wait}
 use Rattle.evl_kernel.specs.declared.bank.BankPlace.{BankPlace}
 use Rattle.evl_kernel.specs.declared.bank.Numbered.{Numbered}
+use Rattle.evl_kernel.specs.Limits.{thread_limit}
 use Rattle.evl_kernel.specs.States.{State, Elements, Banked}
+use Rattle.evl_kernel.specs.ElementsViews.{ElementsView, owners_of}
+use Rattle.evl_kernel.specs.ThreadCalls.{rank_by}
 use Rattle.evl_kernel.specs.Standing.{AreSound, stands_for}
 use Rattle.evl_kernel.specs.Waits.{wait_of, going_on}
 use Rattle.evl_kernel.specs.Renamed.{renamed, renamed_clock}
@@ -23,7 +30,7 @@ use Rattle.evl_kernel.specs.Callbacks.{Whereabouts, handler_of, told, BringsNone
 
 pub record RecordsView (C : Type 0) : Type 0 where
   pub threads : ℕ
-  pub elements : Elements
+  pub elements : ElementsView
   pub bank : List (BankPlace C)
   pub lines : lines.Pipeline (Numbered C)
   pub clock : clocks.Clock (Numbered C)
@@ -41,7 +48,7 @@ module _ {C : Type 0} where
   abbrev pub state_of : RecordsView C → State
   state_of r = record {
     threads = r.threads;
-    elements = r.elements;
+    elements = r.elements.elements;
     bank = map banked r.bank;
     lines = renamed number_of r.lines;
     clock = renamed_clock number_of r.clock;
@@ -71,13 +78,26 @@ pub record WaitsAreKept (threads : ℕ) (e : Elements) (waits : List (Option Wai
   pub places : length waits ≡ threads
   pub going : (on : Awaited) (thread : ℕ) → stands_for e on thread ≡ true → wait_of waits thread ≡ Some (going_on on)
 
+-- the recorded owners were told the base rank of each thread, 0 where it isn't attached
+pub record AreTold (base : List ℕ) (s : Sched) : Type 0 where
+  pub size : length base ≡ thread_limit
+  pub few : length s.seats ≤ thread_limit
+  pub same : (thread : ℕ) → slice_index base thread ≡ base_of s thread
+
+-- each attached thread is picked by its effective rank
+abbrev pub AreGiven : Ranked → List Mutex → Type 0
+AreGiven r mutexes = (thread : ℕ) → is_attached r.sched thread ≡ true → ranks.rank_of r thread ≡ rank_by (base_of r.sched) mutexes thread
+
+pub record RanksAreKept (o : Owners) (r : Ranked) : Type 0 where
+  pub told : AreTold o.base r.sched
+  pub given : AreGiven r o.mutexes
+
 pub record IsSound {C : Type 0} (r : RecordsView C) : Type 0 where
   pub allowed : AreAllowed (state_of r)
   pub timers_allowed : AreTimersAllowed (state_of r)
   pub clock_sound : clocks.IsSoundClock r.clock
-  -- nobody inherits a rank yet, so nobody was given one
-  pub ranks : IsUnboosted r.sched
-  pub waits : WaitsAreKept r.threads r.elements r.waits
+  pub ranks : RanksAreKept (owners_of r.elements) r.sched
+  pub waits : WaitsAreKept r.threads r.elements.elements r.waits
 
 -- the records of a new kernel
 pub record IsOpened {C : Type 0} (declared : C → ℕ) (plan : C → Plan) (board : Board) (bank : List C) (r : RecordsView C) : Type 0 where

@@ -1,5 +1,5 @@
 -- Who stands in the queues of the elements.
-use Rattle.std.specs.Prelude.{ℕ, Bool, false, ◌≡◌, ◌==◌, List, Some, slice_get}
+use Rattle.std.specs.Prelude.{ℕ, Bool, false, ◌≡◌, ◌==◌, List, Some, replicate, slice_get}
 use Rattle.std.specs.List.{list_any}
 use Rattle.std.specs.Option.{option_map_or}
 use Rattle.evl_base.specs.declared.reply.Reply.{Reply}
@@ -8,8 +8,11 @@ use Rattle.evl_sync.specs.Semaphores.{Semaphore, IsSoundSemaphore}
 use Rattle.evl_sync.specs.FlagGroups.{FlagGroup, IsSoundGroup}
 use Rattle.evl_base.specs.declared.way.Way.{Way}
 use Rattle.evl_xbuf.specs.Xbufs.{Xbuf, IsSoundXbuf, stream}
+use Rattle.evl_mutex.specs.Mutexes.{Mutex as MutexRecorded, is_waited_for_by}
+use Rattle.evl_mutex.specs.Owners.{Owners, IsSound}
 use Rattle.evl_kernel.specs.declared.waits.Awaited.{Awaited}
-use Rattle.evl_kernel.specs.declared.waits.Awaited.TheVariants.{Sem, Flags, Writing, Reading}
+use Rattle.evl_kernel.specs.declared.waits.Awaited.TheVariants.{Sem, Flags, Writing, Reading, Mutex}
+use Rattle.evl_kernel.specs.Limits.{thread_limit}
 use Rattle.evl_kernel.specs.States.{Elements}
 
 abbrev pub in_sem : Semaphore → ℕ → Bool
@@ -25,6 +28,9 @@ in_writers way x thread = stands_in (λ w. w.thread) thread (stream x way).write
 abbrev pub in_readers : Way → Xbuf → ℕ → Bool
 in_readers way x thread = stands_in (λ r. r.thread) thread (stream x way).readers
 
+abbrev pub in_mutex : MutexRecorded → ℕ → Bool
+in_mutex m thread = is_waited_for_by thread m
+
 -- of the n-th of a kind
 abbrev pub stands_at : {X : Type 0} → (X → ℕ → Bool) → List X → ℕ → ℕ → Bool
 stands_at has xs n thread = option_map_or (λ x. has x thread) (slice_get xs n) false
@@ -35,10 +41,15 @@ stands_for e (Sem id) thread = stands_at in_sem e.sems id.0 thread
 stands_for e (Flags id) thread = stands_at in_flags e.flags id.0 thread
 stands_for e (Writing id way) thread = stands_at (in_writers way) e.xbufs id.0 thread
 stands_for e (Reading id way) thread = stands_at (in_readers way) e.xbufs id.0 thread
+stands_for e (Mutex id) thread = stands_at in_mutex e.mutexes id.0 thread
 
 -- the thread is among those who are served
 abbrev pub is_served : ℕ → List (ℕ × Reply) → Bool
 is_served thread served = list_any (λ one. one.0 == thread) served
+
+-- the recorded owners; what is known of them speaks of no rank
+abbrev pub owners_in : Elements → Owners
+owners_in e = record { base = replicate thread_limit 0; mutexes = e.mutexes }
 
 -- what is known of each element
 pub record AreSound (e : Elements) : Type 0 where
@@ -48,3 +59,5 @@ pub record AreSound (e : Elements) : Type 0 where
   pub flags : (n : ℕ) (f : FlagGroup) → slice_get e.flags n ≡ Some f → IsSoundGroup f
   -- nobody waits who can be served, and of a way only one queue has anybody
   pub xbufs : (n : ℕ) (x : Xbuf) → slice_get e.xbufs n ≡ Some x → IsSoundXbuf x
+  -- nobody waits for itself along recorded owners; an owner is recorded where somebody waits, and else at a ceiling alone
+  pub mutexes : IsSound (owners_in e)

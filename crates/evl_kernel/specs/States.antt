@@ -8,6 +8,7 @@ use Rattle.evl_sched.specs.Threads.{Sched}
 use Rattle.evl_sync.specs.Semaphores.{Semaphore}
 use Rattle.evl_sync.specs.FlagGroups.{FlagGroup}
 use Rattle.evl_xbuf.specs.Xbufs.{Xbuf}
+use Rattle.evl_mutex.specs.Mutexes.{Mutex}
 use Rattle.evl_kernel.specs.declared.waits.Wait.{Wait}
 
 -- what a callback declares, and what it answers
@@ -25,6 +26,7 @@ pub record Elements : Type 0 where
   pub sems : List Semaphore
   pub flags : List FlagGroup
   pub xbufs : List Xbuf
+  pub mutexes : List Mutex
 
 pub record State : Type 0 where
   -- how many threads the board has

@@ -1,7 +1,8 @@
 //! The elements of a board, by kind and number, and their steps.
-ghost use Rattle.std.specs.Prelude.{◌≡◌, IfErr, IfOk, map, true};
+ghost use Rattle.std.specs.Prelude.{◌≡◌, IfErr, IfOk, map, replicate, true};
 ghost use Rattle.std.specs.List.{list_all};
 ghost use Rattle.evl_base.specs.Board.{board_fits};
+ghost use Rattle.evl_kernel.specs.Limits.{thread_limit};
 ghost use Rattle.evl_kernel.specs.Openings.{all_opened};
 ghost use Rattle.evl_sync.specs.FlagGroups as flag_groups;
 ghost use Rattle.evl_sync.specs.Semaphores as semaphores;
@@ -10,29 +11,35 @@ ghost use Rattle.evl_base.specs.Limits.{sizes_fit};
 
 mod cross_buffers;
 mod flag_groups;
+mod mutexes;
 mod semaphores;
 mod waiting;
 
 use evl_base::{Board, Refusal};
+use evl_mutex::OwnersOf;
 use evl_sync::{FlagGroup, Sem};
 use evl_xbuf::XbufOf;
 use std::alloc::{AllocError, Allocator};
 use std::marker::Model;
 
-/// The semaphores, flag groups and cross-buffers of a board. No step takes memory.
+/// The most threads that a board has.
+const THREADS: u16 = 64;
+
+/// The semaphores, flag groups, cross-buffers and mutexes of a board. No step takes memory.
 #[derive(Drop)]
 pub(crate) struct Elements<A: Allocator> {
     sems: Vec<Sem, A>,
     flags: Vec<FlagGroup, A>,
     xbufs: Vec<XbufOf<A>, A>,
+    owners: OwnersOf<A>,
 }
 
 impl<A: Allocator> Model for Elements<A> {
-    ghost use Rattle.evl_kernel.specs.States.{Elements};
+    ghost use Rattle.evl_kernel.specs.ElementsViews.{ElementsView};
 
-    ghost Value = { Elements };
+    ghost Value = { ElementsView };
 
-    ghost view = { λ e. record { sems = e.sems.items; flags = e.flags.items; xbufs = e.xbufs.items } };
+    ghost view = { λ e. record { elements = record { sems = e.sems.items; flags = e.flags.items; xbufs = e.xbufs.items; mutexes = e.owners.mutexes }; base = e.owners.base } };
 }
 
 impl<A: Allocator> Elements<A> {
@@ -41,7 +48,8 @@ impl<A: Allocator> Elements<A> {
     where
         A: Clone,
         requires fits { board_fits board.now ≡ true }
-        ensures opened { IfOk result (λ elements. elements ≡ all_opened board.now) }
+        ensures opened { IfOk result (λ elements. elements.elements ≡ all_opened board.now) }
+        ensures base { IfOk result (λ elements. elements.base ≡ replicate thread_limit 0) }
         ensures refusal { IfErr result (λ e. e ≡ Refusal.NoMemory) }
     {
         let for_sems = alloc.clone().map_err(|_| Refusal::NoMemory)?;
@@ -54,8 +62,15 @@ impl<A: Allocator> Elements<A> {
             Ok(flags) => flags,
             Err(_) => return Err(Refusal::NoMemory),
         };
+        let for_owners = alloc.clone().map_err(|_| Refusal::NoMemory)?;
         let xbufs = opened_xbufs(alloc, board.xbufs.as_slice())?;
-        Ok(Elements { sems, flags, xbufs })
+        let owners = OwnersOf::new(for_owners, THREADS, board.mutexes.as_slice())?;
+        Ok(Elements {
+            sems,
+            flags,
+            xbufs,
+            owners,
+        })
     }
 }
 

@@ -13,6 +13,7 @@ ghost use Rattle.evl_kernel.specs.Waits.{has_ended, has_timed_out, is_waiting};
 
 mod elements;
 mod line_calls;
+mod mutexes;
 mod serving;
 mod settling;
 mod threads;

@@ -1,12 +1,14 @@
 //! Waits of threads.
 ghost use Rattle.std.specs.Prelude.{◌≡◌, ◌≤◌, ◌+◌, IfErr, IfOk, None, Some, option_map, slice_set};
 ghost use Rattle.evl_kernel.specs.Beginnings.{allowed_if, awaited, form_refusal, in_range_if, range_refusal, stage_wanted};
-ghost use Rattle.evl_kernel.specs.Endings.{outcome_of};
+ghost use Rattle.evl_kernel.specs.Endings.{has_got_mutex, is_of_mutex, outcome_of};
 ghost use Rattle.evl_kernel.specs.WaitBoxes.{FitsBox, reply_of};
 ghost use Rattle.evl_kernel.specs.Waits.{ended_by, wait_of};
 
 use crate::wait_place::{Outcome, WaitPlace};
-use evl_base::{Bytes, FlagId, Refusal, Reply, SemId, Spares, Stage, Take, ThreadId, Way, XbufId};
+use evl_base::{
+    Bytes, FlagId, MutexId, Refusal, Reply, SemId, Spares, Stage, Take, ThreadId, Way, XbufId,
+};
 use std::alloc::Allocator;
 
 /// What a thread waits for.
@@ -18,16 +20,27 @@ pub(crate) enum Awaited {
     Writing(XbufId, Way),
     /// To read from it.
     Reading(XbufId, Way),
+    Mutex(MutexId),
 }
 
-/// What a thread wants that begins to wait: a semaphore, bits of a flag group, to write bytes into a cross-buffer, or to
-/// read so many from it.
+impl Awaited {
+    /// Whether it is a mutex.
+    pub(crate) fn is_of_mutex(&self) -> bool
+        ensures mutex { result ≡ is_of_mutex self.now }
+    {
+        matches!(self, Awaited::Mutex(_))
+    }
+}
+
+/// What a thread wants that begins to wait: a semaphore, bits of a flag group, to write bytes into a cross-buffer, to read
+/// so many from it, or a mutex of this owner.
 #[derive(Drop)]
 pub(crate) enum Wanted {
     Sem(SemId),
     Flags(FlagId, Take),
     Write(XbufId, Way, Bytes),
     Read(XbufId, Way, u16),
+    Mutex(MutexId, ThreadId),
 }
 
 impl Wanted {
@@ -40,6 +53,7 @@ impl Wanted {
             Wanted::Flags(flags, _) => Awaited::Flags(*flags),
             Wanted::Write(xbuf, way, _) => Awaited::Writing(*xbuf, *way),
             Wanted::Read(xbuf, way, _) => Awaited::Reading(*xbuf, *way),
+            Wanted::Mutex(mutex, _) => Awaited::Mutex(*mutex),
         }
     }
 
@@ -91,6 +105,24 @@ pub(crate) fn awaited_by<A: Allocator>(
     match waits.get(usize::from(thread.0))?.wait() {
         Some(wait) => Some(wait.on),
         None => None,
+    }
+}
+
+/// Whether a thread's wait was for a mutex and ended by getting it.
+pub(crate) fn has_got_mutex<A: Allocator>(waits: &Vec<WaitPlace, A>, thread: ThreadId) -> bool
+    ensures got { result ≡ has_got_mutex (wait_of waits.now.items thread.0) }
+{
+    let Some(place) = waits.get(usize::from(thread.0)) else {
+        return false;
+    };
+    match place.wait() {
+        Some(
+            Wait {
+                on: Awaited::Mutex(_),
+                outcome: Some(Reply::Done),
+            },
+        ) => true,
+        _ => false,
     }
 }
 

@@ -3,6 +3,7 @@ pub mod SoundLaws
 pub mod KeptLaws
 pub mod StageLaws
 pub mod ReadyLaws
-pub mod UnboostedLaws
+pub mod AlikeLaws
+pub mod SeatLaws
 pub mod Crossing
 pub mod Rows

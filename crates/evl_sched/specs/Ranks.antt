@@ -19,10 +19,6 @@ given_to r thread = slice_index_or r.given thread None
 abbrev pub rank_of : Ranked → ℕ → ℕ
 rank_of r thread = option_map_or (λ rank. rank) (given_to r thread) (base_of r.sched thread)
 
--- no thread was given a rank
-abbrev pub IsUnboosted : Ranked → Type 0
-IsUnboosted r = (thread : ℕ) → given_to r thread ≡ None
-
 abbrev pub with_sched : Ranked → Sched → Ranked
 with_sched r s = record { sched = s; given = r.given }
 

@@ -102,6 +102,7 @@ impl<A: Allocator> SchedOf<A> {
     pub fn rank(&self, thread: ThreadId) -> Result<u16, Refusal>
         ensures ok { IfOk result (λ rank. (stranger_refusal self.now.sched thread.0 ≡ None) × (rank ≡ rank_of self.now thread.0)) }
         ensures refused { IfErr result (λ e. stranger_refusal self.now.sched thread.0 ≡ Some e) }
+        ensures sound { IfOk result (λ rank. IsSoundSched self.now) }
     {
         let seat = self.seat(thread)?;
         Ok(match search::given_at(&self.given, thread.0) {

@@ -3,6 +3,7 @@ ghost use Rattle.std.specs.Prelude.{◌≡◌, Ok, Err, IfErr, IfOk, map};
 ghost use Rattle.evl_kernel.specs.CrossBuffers as through;
 ghost use Rattle.evl_kernel.specs.CrossBuffers.{bytes_told, service_told};
 ghost use Rattle.evl_kernel.specs.Elements.{element, on_xbuf, wakes};
+ghost use Rattle.evl_kernel.specs.ElementsViews.{owners_of};
 
 use super::Elements;
 use evl_base::{Bytes, Refusal, Reply, Stage, Way, XbufId};
@@ -20,9 +21,10 @@ impl<A: Allocator> Elements<A> {
         way: Way,
         bytes: &[u8],
     ) -> Result<Served, Refusal>
-        ensures step { IfOk result (λ served. element self.old (on_xbuf xbuf.0 (through.write stage way bytes.now)) ≡ Ok (Reply.Done, self.new)) }
-        ensures served { IfOk result (λ served. wakes self.old (on_xbuf xbuf.0 (through.write stage way bytes.now)) ≡ map service_told served) }
-        ensures refused { IfErr result (λ e. (element self.old (on_xbuf xbuf.0 (through.write stage way bytes.now)) ≡ Err e) × (self.new ≡ self.old)) }
+        ensures step { IfOk result (λ served. element self.old.elements (on_xbuf xbuf.0 (through.write stage way bytes.now)) ≡ Ok (Reply.Done, self.new.elements)) }
+        ensures owners { owners_of self.new ≡ owners_of self.old }
+        ensures served { IfOk result (λ served. wakes self.old.elements (on_xbuf xbuf.0 (through.write stage way bytes.now)) ≡ map service_told served) }
+        ensures refused { IfErr result (λ e. (element self.old.elements (on_xbuf xbuf.0 (through.write stage way bytes.now)) ≡ Err e) × (self.new ≡ self.old)) }
     {
         let place = usize::from(xbuf.0);
         if place >= self.xbufs.len() {
@@ -41,9 +43,10 @@ impl<A: Allocator> Elements<A> {
         way: Way,
         len: u16,
     ) -> Result<(Bytes, Served), Refusal>
-        ensures step { IfOk result (λ got. element self.old (on_xbuf xbuf.0 (through.read stage way len)) ≡ Ok (bytes_told got.0.items, self.new)) }
-        ensures served { IfOk result (λ got. wakes self.old (on_xbuf xbuf.0 (through.read stage way len)) ≡ map service_told got.1) }
-        ensures refused { IfErr result (λ e. (element self.old (on_xbuf xbuf.0 (through.read stage way len)) ≡ Err e) × (self.new ≡ self.old)) }
+        ensures step { IfOk result (λ got. element self.old.elements (on_xbuf xbuf.0 (through.read stage way len)) ≡ Ok (bytes_told got.0.items, self.new.elements)) }
+        ensures owners { owners_of self.new ≡ owners_of self.old }
+        ensures served { IfOk result (λ got. wakes self.old.elements (on_xbuf xbuf.0 (through.read stage way len)) ≡ map service_told got.1) }
+        ensures refused { IfErr result (λ e. (element self.old.elements (on_xbuf xbuf.0 (through.read stage way len)) ≡ Err e) × (self.new ≡ self.old)) }
     {
         let place = usize::from(xbuf.0);
         if place >= self.xbufs.len() {
@@ -54,8 +57,8 @@ impl<A: Allocator> Elements<A> {
 
     /// How many bytes are free. `Unknown` where there is no such cross-buffer.
     pub(crate) fn room(&self, xbuf: XbufId, way: Way) -> Result<u16, Refusal>
-        ensures step { IfOk result (λ free. element self.now (on_xbuf xbuf.0 (through.room way)) ≡ Ok (Reply.Number free, self.now)) }
-        ensures refused { IfErr result (λ e. element self.now (on_xbuf xbuf.0 (through.room way)) ≡ Err e) }
+        ensures step { IfOk result (λ free. element self.now.elements (on_xbuf xbuf.0 (through.room way)) ≡ Ok (Reply.Number free, self.now.elements)) }
+        ensures refused { IfErr result (λ e. element self.now.elements (on_xbuf xbuf.0 (through.room way)) ≡ Err e) }
     {
         let place = usize::from(xbuf.0);
         if place >= self.xbufs.len() {

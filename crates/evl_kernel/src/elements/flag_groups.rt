@@ -2,6 +2,7 @@
 ghost use Rattle.std.specs.Prelude.{◌≡◌, Ok, Err, IfErr, IfOk};
 ghost use Rattle.evl_sync.specs.FlagGroups.{pairs};
 ghost use Rattle.evl_kernel.specs.Elements.{element, on_flags, wakes};
+ghost use Rattle.evl_kernel.specs.ElementsViews.{owners_of};
 ghost use Rattle.evl_kernel.specs.FlagGroups as group;
 ghost use Rattle.evl_kernel.specs.FlagGroups.{all_served};
 
@@ -15,8 +16,9 @@ impl<A: Allocator> Elements<A> {
     /// Takes bits, and says which. `Unknown` where there is no such flag group, `Invalid` where the mask has no bits,
     /// `Again` where there is nothing to take.
     pub(crate) fn try_take(&mut self, flags: FlagId, kind: Take) -> Result<u32, Refusal>
-        ensures step { IfOk result (λ got. element self.old (on_flags flags.0 (group.take kind)) ≡ Ok (Reply.Bits got, self.new)) }
-        ensures refused { IfErr result (λ e. (element self.old (on_flags flags.0 (group.take kind)) ≡ Err e) × (self.new ≡ self.old)) }
+        ensures step { IfOk result (λ got. element self.old.elements (on_flags flags.0 (group.take kind)) ≡ Ok (Reply.Bits got, self.new.elements)) }
+        ensures owners { owners_of self.new ≡ owners_of self.old }
+        ensures refused { IfErr result (λ e. (element self.old.elements (on_flags flags.0 (group.take kind)) ≡ Err e) × (self.new ≡ self.old)) }
     {
         let place = usize::from(flags.0);
         if place >= self.flags.len() {
@@ -28,9 +30,10 @@ impl<A: Allocator> Elements<A> {
     /// Adds bits, and says who waits no more, in order, and which bits each took. `Unknown` where there is no such flag
     /// group, `Invalid` where there are no bits to add.
     pub(crate) fn post(&mut self, flags: FlagId, bits: u32) -> Result<ArrayVec<Served, 64>, Refusal>
-        ensures step { IfOk result (λ served. element self.old (on_flags flags.0 (group.post bits)) ≡ Ok (Reply.Done, self.new)) }
-        ensures served { IfOk result (λ served. wakes self.old (on_flags flags.0 (group.post bits)) ≡ all_served (pairs served.items)) }
-        ensures refused { IfErr result (λ e. (element self.old (on_flags flags.0 (group.post bits)) ≡ Err e) × (self.new ≡ self.old)) }
+        ensures step { IfOk result (λ served. element self.old.elements (on_flags flags.0 (group.post bits)) ≡ Ok (Reply.Done, self.new.elements)) }
+        ensures owners { owners_of self.new ≡ owners_of self.old }
+        ensures served { IfOk result (λ served. wakes self.old.elements (on_flags flags.0 (group.post bits)) ≡ all_served (pairs served.items)) }
+        ensures refused { IfErr result (λ e. (element self.old.elements (on_flags flags.0 (group.post bits)) ≡ Err e) × (self.new ≡ self.old)) }
     {
         let place = usize::from(flags.0);
         if place >= self.flags.len() {
@@ -41,8 +44,8 @@ impl<A: Allocator> Elements<A> {
 
     /// The bits that are there. `Unknown` where there is no such flag group.
     pub(crate) fn bits(&self, flags: FlagId) -> Result<u32, Refusal>
-        ensures step { IfOk result (λ bits. element self.now (on_flags flags.0 group.peek) ≡ Ok (Reply.Bits bits, self.now)) }
-        ensures refused { IfErr result (λ e. element self.now (on_flags flags.0 group.peek) ≡ Err e) }
+        ensures step { IfOk result (λ bits. element self.now.elements (on_flags flags.0 group.peek) ≡ Ok (Reply.Bits bits, self.now.elements)) }
+        ensures refused { IfErr result (λ e. element self.now.elements (on_flags flags.0 group.peek) ≡ Err e) }
     {
         let place = usize::from(flags.0);
         if place >= self.flags.len() {

@@ -2,6 +2,7 @@
 ghost use Rattle.std.specs.Prelude.{◌≡◌, Ok, Err, IfErr, IfOk};
 ghost use Rattle.evl_sync.specs.Queues.{number_of};
 ghost use Rattle.evl_kernel.specs.Elements.{element, on_sem, wakes};
+ghost use Rattle.evl_kernel.specs.ElementsViews.{owners_of};
 ghost use Rattle.evl_kernel.specs.Semaphores as semaphore;
 ghost use Rattle.evl_kernel.specs.Semaphores.{one_served};
 
@@ -12,8 +13,9 @@ use std::alloc::Allocator;
 impl<A: Allocator> Elements<A> {
     /// Lowers a count. `Unknown` where there is no such semaphore, `Again` where its count is 0.
     pub(crate) fn try_get(&mut self, sem: SemId) -> Result<(), Refusal>
-        ensures step { IfOk result (λ u. element self.old (on_sem sem.0 semaphore.get) ≡ Ok (Reply.Done, self.new)) }
-        ensures refused { IfErr result (λ e. (element self.old (on_sem sem.0 semaphore.get) ≡ Err e) × (self.new ≡ self.old)) }
+        ensures step { IfOk result (λ u. element self.old.elements (on_sem sem.0 semaphore.get) ≡ Ok (Reply.Done, self.new.elements)) }
+        ensures owners { owners_of self.new ≡ owners_of self.old }
+        ensures refused { IfErr result (λ e. (element self.old.elements (on_sem sem.0 semaphore.get) ≡ Err e) × (self.new ≡ self.old)) }
     {
         let place = usize::from(sem.0);
         if place >= self.sems.len() {
@@ -25,9 +27,10 @@ impl<A: Allocator> Elements<A> {
     /// Lets the first waiter wait no more, and says who that was, or else raises a count. `Unknown` where there is no such
     /// semaphore, `Range` where nobody waits and its count is the greatest.
     pub(crate) fn put(&mut self, sem: SemId) -> Result<Option<ThreadId>, Refusal>
-        ensures step { IfOk result (λ served. element self.old (on_sem sem.0 semaphore.put) ≡ Ok (Reply.Done, self.new)) }
-        ensures served { IfOk result (λ served. wakes self.old (on_sem sem.0 semaphore.put) ≡ one_served (number_of served)) }
-        ensures refused { IfErr result (λ e. (element self.old (on_sem sem.0 semaphore.put) ≡ Err e) × (self.new ≡ self.old)) }
+        ensures step { IfOk result (λ served. element self.old.elements (on_sem sem.0 semaphore.put) ≡ Ok (Reply.Done, self.new.elements)) }
+        ensures owners { owners_of self.new ≡ owners_of self.old }
+        ensures served { IfOk result (λ served. wakes self.old.elements (on_sem sem.0 semaphore.put) ≡ one_served (number_of served)) }
+        ensures refused { IfErr result (λ e. (element self.old.elements (on_sem sem.0 semaphore.put) ≡ Err e) × (self.new ≡ self.old)) }
     {
         let place = usize::from(sem.0);
         if place >= self.sems.len() {
@@ -38,8 +41,8 @@ impl<A: Allocator> Elements<A> {
 
     /// Tells a count, or minus the number of waiters. `Unknown` where there is no such semaphore.
     pub(crate) fn peek(&self, sem: SemId) -> Result<Reply, Refusal>
-        ensures step { IfOk result (λ reply. element self.now (on_sem sem.0 semaphore.peek) ≡ Ok (reply, self.now)) }
-        ensures refused { IfErr result (λ e. element self.now (on_sem sem.0 semaphore.peek) ≡ Err e) }
+        ensures step { IfOk result (λ reply. element self.now.elements (on_sem sem.0 semaphore.peek) ≡ Ok (reply, self.now.elements)) }
+        ensures refused { IfErr result (λ e. element self.now.elements (on_sem sem.0 semaphore.peek) ≡ Err e) }
     {
         let place = usize::from(sem.0);
         if place >= self.sems.len() {

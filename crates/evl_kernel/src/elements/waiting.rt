@@ -6,7 +6,8 @@ ghost use Rattle.evl_kernel.specs.CrossBuffers as through;
 ghost use Rattle.evl_kernel.specs.CrossBuffers.{done_at_once, read_at_once, service_told, served_beside, served_in};
 ghost use Rattle.evl_kernel.specs.Effects.{if_done};
 ghost use Rattle.evl_kernel.specs.Elements.{element, on_xbuf, serves, wakes};
-ghost use Rattle.evl_kernel.specs.Endings.{drop_step};
+ghost use Rattle.evl_kernel.specs.ElementsViews.{owners_of};
+ghost use Rattle.evl_kernel.specs.Endings.{drop_step, is_of_mutex};
 ghost use Rattle.evl_kernel.specs.Standing.{stands_for};
 
 use super::Elements;
@@ -18,7 +19,7 @@ use std::alloc::Allocator;
 impl<A: Allocator> Elements<A> {
     /// Whether there is such an element.
     pub(crate) fn has(&self, on: Awaited) -> bool
-        ensures there { result ≡ is_there self.now on }
+        ensures there { result ≡ is_there self.now.elements on }
     {
         match on {
             Awaited::Sem(sem) => usize::from(sem.0) < self.sems.len(),
@@ -26,6 +27,7 @@ impl<A: Allocator> Elements<A> {
             Awaited::Writing(xbuf, _) | Awaited::Reading(xbuf, _) => {
                 usize::from(xbuf.0) < self.xbufs.len()
             }
+            Awaited::Mutex(mutex) => self.owners.has(mutex),
         }
     }
 
@@ -33,12 +35,13 @@ impl<A: Allocator> Elements<A> {
     /// then this is with what.
     pub(crate) fn begin(&mut self, thread: ThreadId, rank: u16, wanted: &Wanted) -> Option<Reply>
         requires ranked { is_ranked wanted.now ≡ true }
-        requires there { is_there self.old (awaited wanted.now) ≡ true }
+        requires there { is_there self.old.elements (awaited wanted.now) ≡ true }
         requires allowed { form_refusal wanted.now ≡ None }
-        requires away { stands_for self.old (awaited wanted.now) thread.0 ≡ false }
+        requires away { stands_for self.old.elements (awaited wanted.now) thread.0 ≡ false }
         requires few { thread.0 < 64 }
-        ensures step { element self.old (step_of_waiter thread.0 rank wanted.now) ≡ Ok (Reply.Begun, self.new) }
-        ensures served { result ≡ serves self.old (step_of_waiter thread.0 rank wanted.now) }
+        ensures step { element self.old.elements (step_of_waiter thread.0 rank wanted.now) ≡ Ok (Reply.Begun, self.new.elements) }
+        ensures owners { owners_of self.new ≡ owners_of self.old }
+        ensures served { result ≡ serves self.old.elements (step_of_waiter thread.0 rank wanted.now) }
     {
         match wanted {
             Wanted::Sem(sem) => self.begin_get(thread, rank, *sem),
@@ -48,11 +51,12 @@ impl<A: Allocator> Elements<A> {
     }
 
     fn begin_get(&mut self, thread: ThreadId, rank: u16, sem: SemId) -> Option<Reply>
-        requires there { is_there self.old (Awaited.Sem sem) ≡ true }
-        requires away { stands_for self.old (Awaited.Sem sem) thread.0 ≡ false }
+        requires there { is_there self.old.elements (Awaited.Sem sem) ≡ true }
+        requires away { stands_for self.old.elements (Awaited.Sem sem) thread.0 ≡ false }
         requires few { thread.0 < 64 }
-        ensures step { element self.old (step_of_waiter thread.0 rank (Wanted.Sem sem)) ≡ Ok (Reply.Begun, self.new) }
-        ensures served { result ≡ serves self.old (step_of_waiter thread.0 rank (Wanted.Sem sem)) }
+        ensures step { element self.old.elements (step_of_waiter thread.0 rank (Wanted.Sem sem)) ≡ Ok (Reply.Begun, self.new.elements) }
+        ensures owners { owners_of self.new ≡ owners_of self.old }
+        ensures served { result ≡ serves self.old.elements (step_of_waiter thread.0 rank (Wanted.Sem sem)) }
     {
         if self.sems[usize::from(sem.0)].begin_get(thread, rank) {
             return Some(Reply::Done);
@@ -67,12 +71,13 @@ impl<A: Allocator> Elements<A> {
         flags: FlagId,
         kind: Take,
     ) -> Option<Reply>
-        requires there { is_there self.old (Awaited.Flags flags) ≡ true }
+        requires there { is_there self.old.elements (Awaited.Flags flags) ≡ true }
         requires allowed { form_refusal (Wanted.Flags flags kind) ≡ None }
-        requires away { stands_for self.old (Awaited.Flags flags) thread.0 ≡ false }
+        requires away { stands_for self.old.elements (Awaited.Flags flags) thread.0 ≡ false }
         requires few { thread.0 < 64 }
-        ensures step { element self.old (step_of_waiter thread.0 rank (Wanted.Flags flags kind)) ≡ Ok (Reply.Begun, self.new) }
-        ensures served { result ≡ serves self.old (step_of_waiter thread.0 rank (Wanted.Flags flags kind)) }
+        ensures step { element self.old.elements (step_of_waiter thread.0 rank (Wanted.Flags flags kind)) ≡ Ok (Reply.Begun, self.new.elements) }
+        ensures owners { owners_of self.new ≡ owners_of self.old }
+        ensures served { result ≡ serves self.old.elements (step_of_waiter thread.0 rank (Wanted.Flags flags kind)) }
     {
         match self.flags[usize::from(flags.0)].begin_take(thread, rank, kind) {
             Ok(Some(bits)) => Some(Reply::Bits(bits)),
@@ -82,7 +87,7 @@ impl<A: Allocator> Elements<A> {
 
     /// Whether the ring is large enough for what is wanted.
     pub(crate) fn holds(&self, wanted: &Wanted) -> bool
-        ensures size { size_refusal self.now wanted.now ≡ (if result then None else Some Refusal.TooBig) }
+        ensures size { size_refusal self.now.elements wanted.now ≡ (if result then None else Some Refusal.TooBig) }
     {
         match wanted {
             Wanted::Write(xbuf, way, bytes) => match self.xbufs.get(usize::from(xbuf.0)) {
@@ -101,13 +106,14 @@ impl<A: Allocator> Elements<A> {
         way: Way,
         bytes: &[u8],
     ) -> Option<Served>
-        requires there { is_there self.old (Awaited.Writing xbuf way) ≡ true }
-        requires fits { size_refusal self.old (Wanted.Write xbuf way (record { items = bytes.now })) ≡ None }
-        requires away { stands_for self.old (Awaited.Writing xbuf way) thread.0 ≡ false }
+        requires there { is_there self.old.elements (Awaited.Writing xbuf way) ≡ true }
+        requires fits { size_refusal self.old.elements (Wanted.Write xbuf way (record { items = bytes.now })) ≡ None }
+        requires away { stands_for self.old.elements (Awaited.Writing xbuf way) thread.0 ≡ false }
         requires few { thread.0 < 64 }
-        ensures step { element self.old (on_xbuf xbuf.0 (through.begin_write thread.0 way bytes.now)) ≡ Ok (Reply.Begun, self.new) }
-        ensures served { serves self.old (on_xbuf xbuf.0 (through.begin_write thread.0 way bytes.now)) ≡ done_at_once result }
-        ensures woken { wakes self.old (on_xbuf xbuf.0 (through.begin_write thread.0 way bytes.now)) ≡ map service_told (served_in result) }
+        ensures step { element self.old.elements (on_xbuf xbuf.0 (through.begin_write thread.0 way bytes.now)) ≡ Ok (Reply.Begun, self.new.elements) }
+        ensures owners { owners_of self.new ≡ owners_of self.old }
+        ensures served { serves self.old.elements (on_xbuf xbuf.0 (through.begin_write thread.0 way bytes.now)) ≡ done_at_once result }
+        ensures woken { wakes self.old.elements (on_xbuf xbuf.0 (through.begin_write thread.0 way bytes.now)) ≡ map service_told (served_in result) }
     {
         let stage = match way {
             Way::In => Stage::Inband,
@@ -127,13 +133,14 @@ impl<A: Allocator> Elements<A> {
         way: Way,
         len: u16,
     ) -> Option<(Bytes, Served)>
-        requires there { is_there self.old (Awaited.Reading xbuf way) ≡ true }
+        requires there { is_there self.old.elements (Awaited.Reading xbuf way) ≡ true }
         requires range { len ≤ 256 }
-        requires away { stands_for self.old (Awaited.Reading xbuf way) thread.0 ≡ false }
+        requires away { stands_for self.old.elements (Awaited.Reading xbuf way) thread.0 ≡ false }
         requires few { thread.0 < 64 }
-        ensures step { element self.old (on_xbuf xbuf.0 (through.begin_read thread.0 way len)) ≡ Ok (Reply.Begun, self.new) }
-        ensures served { serves self.old (on_xbuf xbuf.0 (through.begin_read thread.0 way len)) ≡ read_at_once (option_map (λ got. (got.0.items, got.1)) result) }
-        ensures woken { wakes self.old (on_xbuf xbuf.0 (through.begin_read thread.0 way len)) ≡ map service_told (served_beside (option_map (λ got. (got.0.items, got.1)) result)) }
+        ensures step { element self.old.elements (on_xbuf xbuf.0 (through.begin_read thread.0 way len)) ≡ Ok (Reply.Begun, self.new.elements) }
+        ensures owners { owners_of self.new ≡ owners_of self.old }
+        ensures served { serves self.old.elements (on_xbuf xbuf.0 (through.begin_read thread.0 way len)) ≡ read_at_once (option_map (λ got. (got.0.items, got.1)) result) }
+        ensures woken { wakes self.old.elements (on_xbuf xbuf.0 (through.begin_read thread.0 way len)) ≡ map service_told (served_beside (option_map (λ got. (got.0.items, got.1)) result)) }
     {
         let stage = match way {
             Way::In => Stage::Oob,
@@ -146,10 +153,12 @@ impl<A: Allocator> Elements<A> {
     }
 
     /// A thread leaves the queue of an element; whom that served, where it was a cross-buffer's. Nothing changes where it
-    /// doesn't stand there.
+    /// doesn't stand there. Ranks may change where it was a mutex's.
     pub(crate) fn leave(&mut self, thread: ThreadId, on: Awaited) -> Option<Served>
-        ensures left { self.new ≡ if_done self.old (element self.old (drop_step thread.0 on)) }
-        ensures woken { wakes self.old (drop_step thread.0 on) ≡ map service_told (served_in result) }
+        ensures left { self.new.elements ≡ if_done self.old.elements (element self.old.elements (drop_step thread.0 on)) }
+        ensures woken { wakes self.old.elements (drop_step thread.0 on) ≡ map service_told (served_in result) }
+        ensures base { self.new.base ≡ self.old.base }
+        ensures owners { is_of_mutex on ≡ false → owners_of self.new ≡ owners_of self.old }
     {
         match on {
             Awaited::Sem(sem) => {
@@ -172,6 +181,10 @@ impl<A: Allocator> Elements<A> {
                     return None;
                 }
                 Some(self.xbufs[place].drop_waiter(thread, way))
+            }
+            Awaited::Mutex(mutex) => {
+                self.owners.leave(mutex, thread);
+                None
             }
         }
     }

@@ -6,6 +6,7 @@ ghost use Rattle.evl_kernel.specs.Records.{KeepsCallbacks, state_of};
 ghost use Rattle.evl_kernel.specs.ThreadCalls as thread_call;
 
 use super::Records;
+use crate::ranks;
 use evl_base::{Policy, Refusal, Reply, Stage, ThreadId};
 use std::alloc::Allocator;
 
@@ -29,16 +30,26 @@ impl<C, A: Allocator> Records<C, A> {
             Ok(()) => {}
             Err(refusal) => return Err(refusal),
         }
+        ranks::base_changed(&mut self.elements, &mut self.sched, thread);
         Ok(Reply::Done)
     }
 
-    /// Takes a thread out of the core. The first that applies: `Unknown` (no such thread), `Invalid` (it isn't attached).
+    /// Takes a thread out of the core. The first that applies: `Unknown` (no such thread), `Invalid` (it isn't attached),
+    /// `Busy` (it is recorded as the owner of a mutex).
     pub(super) fn detach(&mut self, thread: ThreadId) -> Result<Reply, Refusal>
         ensures answer { IsAnswer result }
         ensures served { Has (state_of self.old) (thread_call.detach (state_of self.old) thread.0) result (state_of self.new) }
         ensures stands { KeepsCallbacks self.old self.new }
     {
-        self.sched.detach(thread)?;
+        match self.sched.rank(thread) {
+            Ok(_) => {}
+            Err(refusal) => return Err(refusal),
+        }
+        if self.elements.owns_any(thread) {
+            return Err(Refusal::Busy);
+        }
+        let _ = self.sched.detach(thread);
+        ranks::base_changed(&mut self.elements, &mut self.sched, thread);
         Ok(Reply::Done)
     }
 
@@ -53,6 +64,7 @@ impl<C, A: Allocator> Records<C, A> {
             Ok(()) => {}
             Err(refusal) => return Err(refusal),
         }
+        ranks::base_changed(&mut self.elements, &mut self.sched, thread);
         Ok(Reply::Done)
     }
 

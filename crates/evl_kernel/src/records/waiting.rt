@@ -2,7 +2,7 @@
 ghost use Rattle.std.specs.Prelude.{ℕ, ◌≡◌, ◌<◌, ◌≤◌, ◌+◌, None, Some, Ok, Err, true, false, map, IfErr, IfOk};
 ghost use Rattle.evl_sched.specs.Threads.{unready};
 ghost use Rattle.evl_clock.specs.Clocks.{with_deadline};
-ghost use Rattle.evl_kernel.specs.Beginnings.{begin_refusal, beginning, is_ranked, waiter_refusal};
+ghost use Rattle.evl_kernel.specs.Beginnings.{begin_refusal, beginning, is_named, is_ranked, waiter_refusal};
 ghost use Rattle.evl_kernel.specs.CrossBuffers.{service_told, served_in};
 ghost use Rattle.evl_kernel.specs.Elements.{elements, with_elements};
 ghost use Rattle.evl_kernel.specs.Endings.{finish, goes_inband, left_by, served_by_leaving};
@@ -18,6 +18,7 @@ ghost use Rattle.evl_kernel.specs.Waits.{is_past, wait_at, woken};
 ghost use Rattle.evl_kernel.specs.declared.waits.Awaited.{Awaited as AwaitedOne};
 
 use super::Records;
+use crate::ranks;
 use crate::wait_place::Outcome;
 use crate::waits::{self, Awaited, Wanted};
 use evl_base::{Policy, Refusal, Reply, Spares, Stage, ThreadId, Way, XbufId};
@@ -26,8 +27,9 @@ use std::alloc::Allocator;
 
 impl<C, A: Allocator> Records<C, A> {
     /// Begins a wait, which is served at once where it can be; else the thread is blocked, until a date where there is one.
-    /// The first that applies: `Unknown` (no such element), `Range` (more bytes than one transfer carries), `Invalid` (the
-    /// thread isn't attached, or a mask has no bits), `WrongStage`, `TooBig` (more bytes than the ring has).
+    /// The first that applies: `Unknown` (no such element, or no such owner), `Range` (more bytes than one transfer carries),
+    /// `Invalid` (the thread isn't attached, a mask has no bits, or the owner can't be named), `WrongStage`, `TooBig` (more
+    /// bytes than the ring has), `Deadlock` (the thread would wait for itself).
     pub(super) fn begin_wait(
         &mut self,
         thread: ThreadId,
@@ -41,7 +43,7 @@ impl<C, A: Allocator> Records<C, A> {
         ensures stands { KeepsCallbacks self.old self.new }
     {
         let on = wanted.awaited();
-        if !self.elements.has(on) {
+        if !self.elements.has(on) || !self.is_named(&wanted) {
             return Err(Refusal::Unknown);
         }
         if !wanted.is_in_range() {
@@ -59,6 +61,7 @@ impl<C, A: Allocator> Records<C, A> {
                 self.begin_write(thread, xbuf, way, bytes.as_slice(), until)
             }
             Wanted::Read(xbuf, way, len) => self.begin_read(thread, xbuf, way, len, until),
+            Wanted::Mutex(mutex, owner) => return self.begin_claim(thread, mutex, owner, until),
             ranked => self.begin_ranked(thread, rank, &ranked, until),
         }
         Ok(Reply::Begun)
@@ -134,8 +137,18 @@ impl<C, A: Allocator> Records<C, A> {
         }
     }
 
+    /// Whether a thread of the board is named, where an owner is named.
+    fn is_named(&self, wanted: &Wanted) -> bool
+        ensures named { result ≡ is_named (state_of self.now) wanted.now }
+    {
+        match wanted {
+            Wanted::Mutex(_, owner) => owner.0 < self.threads,
+            _ => true,
+        }
+    }
+
     /// The rank of a thread that may begin this wait. The first that applies: `Unknown` (no such thread), `Invalid` (it isn't
-    /// attached, or a mask has no bits), `WrongStage` (it is on the other stage).
+    /// attached, a mask has no bits, or the owner can't be named), `WrongStage` (it is on the other stage).
     fn may_begin(&self, thread: ThreadId, wanted: &Wanted) -> Result<u16, Refusal>
         ensures ok { IfOk result (λ rank. (waiter_refusal (state_of self.now) thread.0 wanted.now ≡ None) × (rank ≡ rank_of (state_of self.now) thread.0)) }
         ensures refused { IfErr result (λ e. waiter_refusal (state_of self.now) thread.0 wanted.now ≡ Some e) }
@@ -147,6 +160,9 @@ impl<C, A: Allocator> Records<C, A> {
                 if !wanted.is_allowed() {
                     return Err(Refusal::Invalid);
                 }
+                if !self.may_name(thread, wanted) {
+                    return Err(Refusal::Invalid);
+                }
                 match (self.sched.stage(thread), wanted.stage()) {
                     (Stage::Oob, Stage::Oob) | (Stage::Inband, Stage::Inband) => Ok(rank),
                     _ => Err(Refusal::WrongStage),
@@ -156,7 +172,7 @@ impl<C, A: Allocator> Records<C, A> {
     }
 
     /// A thread is blocked, until a date where there is one; a date that isn't after now posts line 0 at once.
-    fn suspend(&mut self, thread: ThreadId, until: Option<u64>)
+    pub(super) fn suspend(&mut self, thread: ThreadId, until: Option<u64>)
         ensures suspended { state_of self.new ≡ posted_if (is_past (state_of self.old).clock.now until)
             (with_sched (with_clock (state_of self.old) (with_deadline (state_of self.old).clock thread.0 until)) (unready (state_of self.old).sched thread.0)) }
         ensures stands { KeepsCallbacks self.old self.new }
@@ -198,7 +214,8 @@ impl<C, A: Allocator> Records<C, A> {
         }
     }
 
-    /// A thread leaves the queue in which it waits, if it waits in one; whom that serves wait on.
+    /// A thread leaves the queue in which it waits, if it waits in one; whom that serves wait on. Where it was a mutex's,
+    /// the ranks are handed on.
     fn leave_queue(&mut self, thread: ThreadId) -> Option<Served>
         ensures left { state_of self.new ≡ with_elements (state_of self.old) (left_by (elements (state_of self.old)) thread.0 (wait_at (state_of self.old) thread.0)) }
         ensures served { served_by_leaving (elements (state_of self.old)) thread.0 (wait_at (state_of self.old) thread.0) ≡ map service_told (served_in result) }
@@ -207,11 +224,15 @@ impl<C, A: Allocator> Records<C, A> {
         ensures stands { KeepsCallbacks self.old self.new }
     {
         let on = waits::awaited_by(&self.waits, thread)?;
-        self.elements.leave(thread, on)
+        let served = self.elements.leave(thread, on);
+        if on.is_of_mutex() {
+            ranks::hand_on(&self.elements, &mut self.sched);
+        }
+        served
     }
 
-    /// Answers what ended the thread's wait, which is finished then, bytes in a box of `spares`; a weak thread goes in-band, unless it keeps its stage.
-    /// The first that applies: `Invalid` (there is no wait), `Again` (it goes on).
+    /// Answers what ended the thread's wait, which is finished then, bytes in a box of `spares`; a weak thread goes in-band,
+    /// unless it keeps its stage or got a mutex. The first that applies: `Invalid` (there is no wait), `Again` (it goes on).
     pub(super) fn finish(
         &mut self,
         thread: ThreadId,
@@ -224,10 +245,11 @@ impl<C, A: Allocator> Records<C, A> {
         ensures served { Has (state_of self.old) (finish (state_of self.old) thread.0 keep) result (state_of self.new) }
         ensures stands { KeepsCallbacks self.old self.new }
     {
+        let goes = self.goes_inband(thread, keep);
         match waits::take_outcome(&mut self.waits, thread, spares) {
             Err(refusal) => Err(refusal),
             Ok(outcome) => {
-                if self.goes_inband(thread, keep) {
+                if goes {
                     let _ = self.sched.set_stage(thread, Stage::Inband);
                 }
                 Ok(outcome)
@@ -240,7 +262,7 @@ impl<C, A: Allocator> Records<C, A> {
         ensures goes { result ≡ goes_inband (state_of self.now) thread.0 keep }
     {
         match self.sched.policy(thread) {
-            Some(Policy::Weak(_)) => !keep,
+            Some(Policy::Weak(_)) => !keep && !waits::has_got_mutex(&self.waits, thread),
             _ => false,
         }
     }

@@ -8,5 +8,5 @@ pub returns-clause-step : goal.returns-clause-step
 returns-clause-step g c =
     let here = slice_get_read c.self.inside.flags.items _ c.from-place.result c.index.result.now refl (omega (arith, c.if-place-len.false, c.len.ensures, c.self.inside.flags.ok.0)) c.index.ensures in
     rw (← c.self.view_is, ← c.from-place.ensures)
-    (bits_peeked (record { sems = c.self.inside.sems.items; flags = c.self.inside.flags.items; xbufs = c.self.inside.xbufs.items }) c.from-place.result c.index.result.now here
-    ∙ ap (λ (told : ℕ). Ok (Bits told, (record { sems = c.self.inside.sems.items; flags = c.self.inside.flags.items; xbufs = c.self.inside.xbufs.items }))) (sym c.peek.ensures.told))
+    (bits_peeked (record { sems = c.self.inside.sems.items; flags = c.self.inside.flags.items; xbufs = c.self.inside.xbufs.items; mutexes = c.self.inside.owners.mutexes }) c.from-place.result c.index.result.now here
+    ∙ ap (λ (told : ℕ). Ok (Bits told, (record { sems = c.self.inside.sems.items; flags = c.self.inside.flags.items; xbufs = c.self.inside.xbufs.items; mutexes = c.self.inside.owners.mutexes }))) (sym c.peek.ensures.told))

@@ -9,5 +9,5 @@ pub returns-clause-step : goal.returns-clause-step
 returns-clause-step g c =
     let here = slice_get_read c.self.inside.sems.items _ c.from-place.result c.index.result.now refl (omega (arith, c.if-place-len.false, c.len.ensures, c.self.inside.sems.ok.0)) c.index.ensures in
     rw (← c.self.view_is, ← c.from-place.ensures)
-    (sem_peeked (record { sems = c.self.inside.sems.items; flags = c.self.inside.flags.items; xbufs = c.self.inside.xbufs.items }) c.from-place.result c.index.result.now here
-    ∙ ap (λ (told : ℤ). Ok (Count told, (record { sems = c.self.inside.sems.items; flags = c.self.inside.flags.items; xbufs = c.self.inside.xbufs.items }))) (sym c.peek.ensures.told ∙ sym (to_z-of_z w64 c.peek.result (search rules))))
+    (sem_peeked (record { sems = c.self.inside.sems.items; flags = c.self.inside.flags.items; xbufs = c.self.inside.xbufs.items; mutexes = c.self.inside.owners.mutexes }) c.from-place.result c.index.result.now here
+    ∙ ap (λ (told : ℤ). Ok (Count told, (record { sems = c.self.inside.sems.items; flags = c.self.inside.flags.items; xbufs = c.self.inside.xbufs.items; mutexes = c.self.inside.owners.mutexes }))) (sym c.peek.ensures.told ∙ sym (to_z-of_z w64 c.peek.result (search rules))))

@@ -1,6 +1,13 @@
 use Rattle.evl_kernel.proofs.records.Records.begin_wait.Goals as goal
 use Rattle.evl_kernel.proofs.records.Records.begin_wait.Goals.{in-Write, in-Read, in_default}
 
+pub returns-clause-served : goal.returns-clause-served
+returns-clause-served g c = elim c.match-wanted.branch [
+  | in-Write w ↦ rw (w.self-is, w.in-Write.is) (rw w.as_slice.ensures.value at w.begin_write.ensures.begun)
+  | in-Read w ↦ rw (w.self-is, w.in-Read.is) w.begin_read.ensures.begun
+  | in_default w ↦ rw w.self-is w.begin_ranked.ensures.begun
+]
+
 pub returns-clause-stands : goal.returns-clause-stands
 returns-clause-stands g c = elim c.match-wanted.branch [
   | in-Write w ↦ rw w.self-is w.begin_write.ensures.stands

@@ -1,24 +1,44 @@
-use Rattle.std.proofs.Common.{sym, subst}
+use Rattle.std.proofs.Common.{sym, ◌∙◌, subst}
 use Rattle.evl_kernel.specs.States.{Elements}
 use Rattle.evl_kernel.specs.Elements.{wakes}
+use Rattle.evl_kernel.specs.ElementsViews.{owners_of}
 use Rattle.evl_kernel.specs.Endings.{drop_step}
 use Rattle.evl_kernel.specs.RecordsInside.{records_view}
 use Rattle.evl_kernel.proofs.QueueLaws.{Dropped, drop_goes}
-use Rattle.evl_kernel.proofs.WaitRecords.{dropped_apart, dropped_away, dropped_kept, sound_with}
+use Rattle.evl_kernel.proofs.RankLaws.{ranks-handed}
+use Rattle.evl_kernel.proofs.WaitRecords.{dropped_apart, dropped_away, dropped_kept, ranks_as, sound_with}
 use Rattle.evl_kernel.proofs.records.Records.leave_queue.Goals as goal
 
 pub invariant_of-self : goal.invariant_of-self
 invariant_of-self g c =
-    sound_with (records_view c.self.inside) c.self.invariant c.leave.new.self c.self.inside.waits.items
-    (dropped_kept c.self.inside.threads c.self.inside.elements c.self.inside.waits.items c.self.invariant.waits c.args.thread.0 c.in_ok-on.on (wakes c.self.inside.elements (drop_step c.args.thread.0 c.in_ok-on.on)) c.leave.new.self
-    (subst (λ (z : Elements). Dropped c.self.inside.elements c.in_ok-on.on c.args.thread.0 (wakes c.self.inside.elements (drop_step c.args.thread.0 c.in_ok-on.on)) z) (sym c.leave.ensures.left) (drop_goes c.self.inside.elements c.self.invariant.waits.sound c.args.thread.0 c.in_ok-on.on)))
+    let e = c.self.inside.elements.elements in
+    let dropped = subst (λ (z : Elements). Dropped e c.in_ok-on.on c.args.thread.0 (wakes e (drop_step c.args.thread.0 c.in_ok-on.on)) z) (sym c.leave-served.ensures.left) (drop_goes e c.self.invariant.waits.sound c.args.thread.0 c.in_ok-on.on) in
+    sound_with (records_view c.self.inside) c.self.invariant c.leave-served.new.self c.hand_on.new.sched c.self.inside.waits.items
+    (ranks-handed (owners_of c.self.inside.elements) c.self.inside.sched c.hand_on.new.sched c.self.invariant.ranks c.leave-served.new.self.base c.leave-served.new.self.elements.mutexes c.leave-served.ensures.base c.hand_on.ensures.kept c.hand_on.ensures.given)
+    (dropped_kept c.self.inside.threads e c.self.inside.waits.items c.self.invariant.waits c.args.thread.0 c.in_ok-on.on (wakes e (drop_step c.args.thread.0 c.in_ok-on.on)) c.leave-served.new.self.elements dropped)
 
-pub returns-clause-away : goal.returns-clause-away
-returns-clause-away g c on =
-    dropped_away c.self.inside.threads c.self.inside.elements c.self.inside.waits.items c.self.invariant.waits c.args.thread.0 c.in_ok-on.on (wakes c.self.inside.elements (drop_step c.args.thread.0 c.in_ok-on.on)) c.leave.new.self
-    (subst (λ (z : Elements). Dropped c.self.inside.elements c.in_ok-on.on c.args.thread.0 (wakes c.self.inside.elements (drop_step c.args.thread.0 c.in_ok-on.on)) z) (sym c.leave.ensures.left) (drop_goes c.self.inside.elements c.self.invariant.waits.sound c.args.thread.0 c.in_ok-on.on)) c.in_ok-on.ensures.on on
+pub invariant_of-self-else-is_of_mutex : goal.invariant_of-self-else-is_of_mutex
+invariant_of-self-else-is_of_mutex g c =
+    let e = c.self.inside.elements.elements in
+    let dropped = subst (λ (z : Elements). Dropped e c.in_ok-on.on c.args.thread.0 (wakes e (drop_step c.args.thread.0 c.in_ok-on.on)) z) (sym c.leave-served.ensures.left) (drop_goes e c.self.invariant.waits.sound c.args.thread.0 c.in_ok-on.on) in
+    sound_with (records_view c.self.inside) c.self.invariant c.leave-served.new.self c.self.inside.sched c.self.inside.waits.items
+    (ranks_as (records_view c.self.inside) c.self.invariant c.leave-served.new.self (c.leave-served.ensures.owners (sym c.is_of_mutex.ensures.mutex ∙ c.if-is_of_mutex.false)))
+    (dropped_kept c.self.inside.threads e c.self.inside.waits.items c.self.invariant.waits c.args.thread.0 c.in_ok-on.on (wakes e (drop_step c.args.thread.0 c.in_ok-on.on)) c.leave-served.new.self.elements dropped)
 
-pub returns-clause-apart : goal.returns-clause-apart
-returns-clause-apart g c t is on =
-    dropped_apart c.self.inside.threads c.self.inside.elements c.self.inside.waits.items c.self.invariant.waits c.args.thread.0 c.in_ok-on.on (wakes c.self.inside.elements (drop_step c.args.thread.0 c.in_ok-on.on)) c.leave.new.self
-    (subst (λ (z : Elements). Dropped c.self.inside.elements c.in_ok-on.on c.args.thread.0 (wakes c.self.inside.elements (drop_step c.args.thread.0 c.in_ok-on.on)) z) (sym c.leave.ensures.left) (drop_goes c.self.inside.elements c.self.invariant.waits.sound c.args.thread.0 c.in_ok-on.on)) t (rw c.leave.ensures.woken is) on
+pub returns-then-is_of_mutex-clause-away : goal.returns-then-is_of_mutex-clause-away
+returns-then-is_of_mutex-clause-away g c on =
+    let e = c.self.inside.elements.elements in
+    let dropped = subst (λ (z : Elements). Dropped e c.in_ok-on.on c.args.thread.0 (wakes e (drop_step c.args.thread.0 c.in_ok-on.on)) z) (sym c.leave-served.ensures.left) (drop_goes e c.self.invariant.waits.sound c.args.thread.0 c.in_ok-on.on) in
+    dropped_away c.self.inside.threads e c.self.inside.waits.items c.self.invariant.waits c.args.thread.0 c.in_ok-on.on (wakes e (drop_step c.args.thread.0 c.in_ok-on.on)) c.leave-served.new.self.elements dropped c.in_ok-on.ensures.on on
+
+pub returns-else-is_of_mutex-clause-away : goal.returns-else-is_of_mutex-clause-away
+returns-else-is_of_mutex-clause-away g c on =
+    let e = c.self.inside.elements.elements in
+    let dropped = subst (λ (z : Elements). Dropped e c.in_ok-on.on c.args.thread.0 (wakes e (drop_step c.args.thread.0 c.in_ok-on.on)) z) (sym c.leave-served.ensures.left) (drop_goes e c.self.invariant.waits.sound c.args.thread.0 c.in_ok-on.on) in
+    dropped_away c.self.inside.threads e c.self.inside.waits.items c.self.invariant.waits c.args.thread.0 c.in_ok-on.on (wakes e (drop_step c.args.thread.0 c.in_ok-on.on)) c.leave-served.new.self.elements dropped c.in_ok-on.ensures.on on
+
+pub returns-else-is_of_mutex-clause-apart : goal.returns-else-is_of_mutex-clause-apart
+returns-else-is_of_mutex-clause-apart g c t is on =
+    let e = c.self.inside.elements.elements in
+    let dropped = subst (λ (z : Elements). Dropped e c.in_ok-on.on c.args.thread.0 (wakes e (drop_step c.args.thread.0 c.in_ok-on.on)) z) (sym c.leave-served.ensures.left) (drop_goes e c.self.invariant.waits.sound c.args.thread.0 c.in_ok-on.on) in
+    dropped_apart c.self.inside.threads e c.self.inside.waits.items c.self.invariant.waits c.args.thread.0 c.in_ok-on.on (wakes e (drop_step c.args.thread.0 c.in_ok-on.on)) c.leave-served.new.self.elements dropped t (rw c.leave-served.ensures.woken is) on

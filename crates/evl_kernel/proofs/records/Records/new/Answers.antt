@@ -1,10 +1,9 @@
-use Rattle.std.proofs.Common.{rules, ◌≡◌, refl, sym, subst}
+use Rattle.std.proofs.Common.{rules, ◌≡◌, refl}
 use Rattle.evl_pipeline.specs.Lines.{opening}
 use Rattle.evl_clock.specs.Clocks as clocks
-use Rattle.evl_kernel.proofs.OpeningLaws.{opened_records, allowed-new, timers_allowed-new, sound-opening_clock, waits-new}
-use Rattle.evl_sched.specs.Ranks.{IsUnboosted, fresh}
+use Rattle.evl_kernel.proofs.OpeningLaws.{opened_records, allowed-new, ranks-new, timers_allowed-new, sound-opening_clock, waits-new}
+use Rattle.evl_sched.specs.Ranks.{fresh}
 use Rattle.evl_kernel.specs.Records.{RecordsView}
-use Rattle.evl_sched.proofs.UnboostedLaws.{unboosted-fresh}
 use Rattle.evl_kernel.proofs.records.Records.new.Goals as goal
 
 pub invariant_of-result : goal.invariant_of-result
@@ -13,7 +12,7 @@ invariant_of-result g c =
     let no_timers : c.in_ok-clock.clock ≡ clocks.opening = search rules in
     let r : RecordsView g.row.C.Denot = record { threads = c.args.board.now.threads; elements = c.in_ok-elements.elements; bank = c.in_ok-bank.bank.items; lines = c.in_ok-pipeline.pipeline; clock = c.in_ok-clock.clock; sched = c.in_ok-sched.sched; waits = c.in_ok-waits.waits.items } in
     let nobody : c.in_ok-sched.sched ≡ fresh c.args.board.now.threads c.args.board.now.groups.items = search rules in
-    record { allowed = allowed-new r nothing; timers_allowed = timers_allowed-new r no_timers; clock_sound = sound-opening_clock r no_timers; ranks = subst IsUnboosted (sym nobody) (unboosted-fresh c.args.board.now.threads c.args.board.now.groups.items); waits = waits-new c.args.board.now c.in_ok-elements.elements c.in_ok-waits.waits.items c.requires.fits c.in_ok-elements.ensures.opened c.in_ok-waits.ensures.waits }
+    record { allowed = allowed-new r nothing; timers_allowed = timers_allowed-new r no_timers; clock_sound = sound-opening_clock r no_timers; ranks = ranks-new r c.args.board.now c.requires.fits c.in_ok-elements.ensures.base nobody; waits = waits-new c.args.board.now c.in_ok-elements.elements.elements c.in_ok-waits.waits.items c.requires.fits c.in_ok-elements.ensures.opened c.in_ok-waits.ensures.waits }
 
 pub returns-clause-opened : goal.returns-clause-opened
 returns-clause-opened g c =

@@ -1,7 +1,10 @@
 use Rattle.std.proofs.Common.{ap, ◌∙◌}
 use Rattle.evl_sched.specs.Calls.{refill}
 use Rattle.evl_kernel.specs.RecordsInside.{records_view}
+use Rattle.evl_kernel.specs.ElementsViews.{owners_of}
+use Rattle.evl_kernel.proofs.RankLaws.{ranks-charged, ranks-refilled}
 use Rattle.evl_kernel.proofs.SchedLaws.{paid_anew, paid_within}
+use Rattle.evl_kernel.proofs.WaitRecords.{sound_with}
 use Rattle.evl_kernel.proofs.records.Records.pay.Goals as goal
 
 pub returns-then-before-now-clause-paid : goal.returns-then-before-now-clause-paid
@@ -12,3 +15,14 @@ returns-then-before-now-clause-paid g c =
 pub returns-else-before-now-clause-paid : goal.returns-else-before-now-clause-paid
 returns-else-before-now-clause-paid g c =
     rw (← c.self.view_is) (paid_within (records_view c.self.inside) c.charge.new.self c.args.before c.args.delta c.args.now c.self.invariant.ranks c.charge.ensures.state c.if-before-now.false)
+
+pub invariant_of-self : goal.invariant_of-self
+invariant_of-self g c =
+    let o = owners_of c.self.inside.elements in
+    sound_with (records_view c.self.inside) c.self.invariant c.self.inside.elements c.refill.new.self c.self.inside.waits.items
+    (ranks-refilled o c.charge.new.self c.refill.new.self (ranks-charged o c.self.inside.sched c.charge.new.self c.self.invariant.ranks c.args.delta c.charge.ensures.state) c.refill.ensures.state) c.self.invariant.waits
+
+pub invariant_of-self-else-before-now : goal.invariant_of-self-else-before-now
+invariant_of-self-else-before-now g c =
+    sound_with (records_view c.self.inside) c.self.invariant c.self.inside.elements c.charge.new.self c.self.inside.waits.items
+    (ranks-charged (owners_of c.self.inside.elements) c.self.inside.sched c.charge.new.self c.self.invariant.ranks c.args.delta c.charge.ensures.state) c.self.invariant.waits

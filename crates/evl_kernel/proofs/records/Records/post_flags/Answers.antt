@@ -10,7 +10,7 @@ pub returns-in-Err-clause-served : goal.returns-in-Err-clause-served
 returns-in-Err-clause-served g c = rw (← c.self.view_is) (refused_as (records_view c.self.inside) (on_flags c.args.flags.0 (group.post c.args.bits)) c.in-Err.refusal c.post.new.self c.in-Err.ensures.refused)
 
 pub invariant_of-self-in-Ok : goal.invariant_of-self-in-Ok
-invariant_of-self-in-Ok g c = asked_sound (records_view c.self.inside) c.self.invariant (on_flags c.args.flags.0 (group.post c.args.bits)) (asks_post c.args.flags.0 c.args.bits) Done c.post.new.self c.in-Ok.ensures.step
+invariant_of-self-in-Ok g c = asked_sound (records_view c.self.inside) c.self.invariant (on_flags c.args.flags.0 (group.post c.args.bits)) (asks_post c.args.flags.0 c.args.bits) Done c.post.new.self c.in-Ok.ensures.step c.post.ensures.owners
 
 pub wake_all-requires : goal.wake_all-requires
 wake_all-requires g c = record {

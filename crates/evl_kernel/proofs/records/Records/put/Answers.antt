@@ -10,14 +10,14 @@ pub returns-in-Err-clause-served : goal.returns-in-Err-clause-served
 returns-in-Err-clause-served g c = rw (← c.self.view_is) (refused_as (records_view c.self.inside) (on_sem c.args.sem.0 semaphore.put) c.in-Err.refusal c.put.new.self c.in-Err.ensures.refused)
 
 pub invariant_of-self-in-Ok-None : goal.invariant_of-self-in-Ok-None
-invariant_of-self-in-Ok-None g c = asked_sound (records_view c.self.inside) c.self.invariant (on_sem c.args.sem.0 semaphore.put) (asks_put c.args.sem.0) Done c.put.new.self c.in-Ok-None.ensures.step
+invariant_of-self-in-Ok-None g c = asked_sound (records_view c.self.inside) c.self.invariant (on_sem c.args.sem.0 semaphore.put) (asks_put c.args.sem.0) Done c.put.new.self c.in-Ok-None.ensures.step c.put.ensures.owners
 
 pub returns-in-Ok-None-clause-served : goal.returns-in-Ok-None-clause-served
 returns-in-Ok-None-clause-served g c =
     rw (← c.self.view_is) (asked_done (records_view c.self.inside) c.self.invariant (on_sem c.args.sem.0 semaphore.put) (asks_put c.args.sem.0) Done c.put.new.self c.in-Ok-None.ensures.step _ (rw c.in-Ok-None.field-0-is at c.in-Ok-None.ensures.served))
 
 pub invariant_of-self-in-Ok-Some : goal.invariant_of-self-in-Ok-Some
-invariant_of-self-in-Ok-Some g c = asked_sound (records_view c.self.inside) c.self.invariant (on_sem c.args.sem.0 semaphore.put) (asks_put c.args.sem.0) Done c.put.new.self c.in-Ok-Some.ensures.step
+invariant_of-self-in-Ok-Some g c = asked_sound (records_view c.self.inside) c.self.invariant (on_sem c.args.sem.0 semaphore.put) (asks_put c.args.sem.0) Done c.put.new.self c.in-Ok-Some.ensures.step c.put.ensures.owners
 
 pub wake-requires : goal.wake-requires
 wake-requires g c = record {

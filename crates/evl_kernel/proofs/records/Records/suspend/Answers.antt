@@ -3,7 +3,9 @@ use Rattle.evl_clock.specs.Clocks.{IsSoundClock}
 use Rattle.evl_kernel.specs.RecordsInside.{records_view}
 use Rattle.evl_kernel.proofs.CallbackLaws.{keeps-both}
 use Rattle.evl_kernel.proofs.TimerLaws.{OnlyOldTimers, keeps-clock, timers_allowed-clock, old-with_deadline, sound-with_deadline}
-use Rattle.evl_kernel.proofs.WaitRecords.{blocked_unboosted, keeps-sched}
+use Rattle.evl_kernel.specs.ElementsViews.{owners_of}
+use Rattle.evl_kernel.proofs.RankLaws.{ranks-blocked}
+use Rattle.evl_kernel.proofs.WaitRecords.{keeps-sched}
 use Rattle.evl_kernel.proofs.records.Records.suspend.Goals as goal
 
 pub invariant_of-self : goal.invariant_of-self
@@ -12,7 +14,7 @@ invariant_of-self g c = record {
   timers_allowed = timers_allowed-clock (records_view c.self.inside) c.clear_deadline.new.self
       (subst (OnlyOldTimers c.self.inside.clock) (sym c.clear_deadline.ensures.state) (old-with_deadline c.self.inside.clock c.args.thread.0 None)) c.self.invariant.timers_allowed;
   clock_sound = subst IsSoundClock (sym c.clear_deadline.ensures.state) (sound-with_deadline c.self.inside.clock c.args.thread.0 None c.self.invariant.clock_sound);
-  ranks = blocked_unboosted c.self.inside.sched c.block.new.self c.args.thread.0 c.block.ensures.state c.self.invariant.ranks;
+  ranks = ranks-blocked (owners_of c.self.inside.elements) c.self.inside.sched c.block.new.self c.self.invariant.ranks c.args.thread.0 c.block.ensures.state;
   waits = c.self.invariant.waits;
 }
 
@@ -22,7 +24,7 @@ invariant_of-self-in-Some g c = record {
   timers_allowed = timers_allowed-clock (records_view c.self.inside) c.set_deadline.new.self
       (subst (OnlyOldTimers c.self.inside.clock) (sym c.set_deadline.ensures.state) (old-with_deadline c.self.inside.clock c.args.thread.0 (Some c.in-Some.date))) c.self.invariant.timers_allowed;
   clock_sound = subst IsSoundClock (sym c.set_deadline.ensures.state) (sound-with_deadline c.self.inside.clock c.args.thread.0 (Some c.in-Some.date) c.self.invariant.clock_sound);
-  ranks = blocked_unboosted c.self.inside.sched c.block.new.self c.args.thread.0 c.block.ensures.state c.self.invariant.ranks;
+  ranks = ranks-blocked (owners_of c.self.inside.elements) c.self.inside.sched c.block.new.self c.self.invariant.ranks c.args.thread.0 c.block.ensures.state;
   waits = c.self.invariant.waits;
 }
 

@@ -11,7 +11,7 @@ pub returns-in-Err-clause-served : goal.returns-in-Err-clause-served
 returns-in-Err-clause-served g c = rw (← c.self.view_is) (refused_as (records_view c.self.inside) (on_sem c.args.sem.0 semaphore.get) c.in-Err.refusal c.try_get.new.self c.in-Err.ensures.refused)
 
 pub invariant_of-self-2 : goal.invariant_of-self-2
-invariant_of-self-2 g c = asked_sound (records_view c.self.inside) c.self.invariant (on_sem c.args.sem.0 semaphore.get) (asks_get c.args.sem.0) Done c.try_get.new.self c.in-Ok.ensures.step
+invariant_of-self-2 g c = asked_sound (records_view c.self.inside) c.self.invariant (on_sem c.args.sem.0 semaphore.get) (asks_get c.args.sem.0) Done c.try_get.new.self c.in-Ok.ensures.step c.try_get.ensures.owners
 
 pub returns-clause-served : goal.returns-clause-served
-returns-clause-served g c = rw (← c.self.view_is) (asked_done (records_view c.self.inside) c.self.invariant (on_sem c.args.sem.0 semaphore.get) (asks_get c.args.sem.0) Done c.try_get.new.self c.in-Ok.ensures.step [] (get_wakes c.self.inside.elements c.args.sem.0))
+returns-clause-served g c = rw (← c.self.view_is) (asked_done (records_view c.self.inside) c.self.invariant (on_sem c.args.sem.0 semaphore.get) (asks_get c.args.sem.0) Done c.try_get.new.self c.in-Ok.ensures.step [] (get_wakes c.self.inside.elements.elements c.args.sem.0))

@@ -1,0 +1,32 @@
+use Rattle.evl_base.specs.declared.reply.Reply.TheVariants.{Done, Handed}
+use Rattle.evl_kernel.specs.Elements.{on_mutex}
+use Rattle.evl_kernel.specs.ElementsViews.{owners_of}
+use Rattle.evl_kernel.specs.Mutexes as mutex
+use Rattle.evl_kernel.specs.RecordsInside.{records_view}
+use Rattle.evl_kernel.proofs.CallbackLaws.{keeps-both}
+use Rattle.evl_kernel.proofs.QueueLaws.{asks_release}
+use Rattle.evl_kernel.proofs.RankLaws.{ranks-handed}
+use Rattle.evl_kernel.proofs.WaitRecords.{alone_served, asked_away, asked_ranked, keeps-changed}
+use Rattle.evl_kernel.proofs.records.Records.release.Goals as goal
+use Rattle.evl_kernel.proofs.records.Records.release.Goals.{in-Some, in_default}
+
+pub invariant_of-self-in-Some : goal.invariant_of-self-in-Some
+invariant_of-self-in-Some g c =
+    asked_ranked (records_view c.self.inside) c.self.invariant (on_mutex c.args.mutex.0 (mutex.release c.args.thread.0)) (asks_release c.args.mutex.0 c.args.thread.0) (Handed c.in-Ok.next c.in-Ok.more) c.release.new.self c.in-Ok.ensures.step c.hand_on.new.sched
+    (ranks-handed (owners_of c.self.inside.elements) c.self.inside.sched c.hand_on.new.sched c.self.invariant.ranks c.release.new.self.base c.release.new.self.elements.mutexes c.release.ensures.base c.hand_on.ensures.kept c.hand_on.ensures.given)
+
+pub wake-requires-clause-away : goal.wake-requires-clause-away
+wake-requires-clause-away g c on =
+    asked_away (records_view c.self.inside) c.self.invariant (on_mutex c.args.mutex.0 (mutex.release c.args.thread.0)) (asks_release c.args.mutex.0 c.args.thread.0) (Handed c.in-Ok.next c.in-Ok.more) c.release.new.self c.in-Ok.ensures.step c.in-Some.waiter.0
+    (alone_served c.in-Some.waiter.0 Done _ (rw c.in-Some.is at c.in-Ok.ensures.served)) on
+
+pub invariant_of-self-in_default : goal.invariant_of-self-in_default
+invariant_of-self-in_default g c =
+    asked_ranked (records_view c.self.inside) c.self.invariant (on_mutex c.args.mutex.0 (mutex.release c.args.thread.0)) (asks_release c.args.mutex.0 c.args.thread.0) (Handed c.in-Ok.next c.in-Ok.more) c.release.new.self c.in-Ok.ensures.step c.hand_on.new.sched
+    (ranks-handed (owners_of c.self.inside.elements) c.self.inside.sched c.hand_on.new.sched c.self.invariant.ranks c.release.new.self.base c.release.new.self.elements.mutexes c.release.ensures.base c.hand_on.ensures.kept c.hand_on.ensures.given)
+
+pub returns-after-next-clause-stands : goal.returns-after-next-clause-stands
+returns-after-next-clause-stands g c = elim c.match-next.branch [
+  | in-Some w ↦ rw w.self-is (keeps-both c.args.self.now _ w.wake.new.self (rw (← c.self.view_is) (keeps-changed (records_view c.self.inside) c.release.new.self c.hand_on.new.sched c.self.inside.waits.items)) w.wake.ensures.stands)
+  | in_default w ↦ rw (w.self-is, ← c.self.view_is) (keeps-changed (records_view c.self.inside) c.release.new.self c.hand_on.new.sched c.self.inside.waits.items)
+]

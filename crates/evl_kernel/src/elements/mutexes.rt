@@ -1,0 +1,99 @@
+//! The steps of mutexes, and the ranks that their recorded owners give.
+ghost use Rattle.std.specs.Prelude.{◌≡◌, ◌≢◌, ◌<◌, ℕ, Ok, Err, IfErr, IfOk, false, true, length, option_map, slice_set};
+ghost use Rattle.evl_kernel.specs.Beginnings.{is_open, is_there, step_of_waiter};
+ghost use Rattle.evl_kernel.specs.Elements.{element, on_mutex, wakes};
+ghost use Rattle.evl_kernel.specs.ElementsViews.{owners_of};
+ghost use Rattle.evl_kernel.specs.Mutexes as recorded;
+ghost use Rattle.evl_kernel.specs.Semaphores.{one_served};
+ghost use Rattle.evl_kernel.specs.Standing.{in_mutex, stands_at};
+ghost use Rattle.evl_kernel.specs.ThreadCalls.{owns_in};
+ghost use Rattle.evl_mutex.specs.Chains.{reaches, waits_for};
+ghost use Rattle.evl_mutex.specs.Owners.{rank_of, ranks_of};
+ghost use Rattle.evl_kernel.specs.declared.waits.Awaited.TheVariants.{Mutex as OnMutex};
+ghost use Rattle.evl_kernel.specs.declared.waits.Wanted.TheVariants.{Mutex as WantsMutex};
+
+use super::Elements;
+use evl_base::{MutexId, Refusal, Reply, ThreadId};
+use std::alloc::Allocator;
+
+impl<A: Allocator> Elements<A> {
+    /// Writes the effective ranks of all threads below the length of the slice.
+    pub(crate) fn ranks(&self, ranks: &mut [u16])
+        ensures ranks { ranks.new ≡ ranks_of (owners_of self.now) (length ranks.old) }
+    {
+        self.owners.ranks(ranks);
+    }
+
+    /// The recorded owners are told the base rank of a thread.
+    pub(crate) fn set_base(&mut self, thread: ThreadId, rank: u16)
+        requires there { thread.0 < length self.old.base }
+        ensures told { self.new.base ≡ slice_set self.old.base thread.0 rank }
+        ensures elements { self.new.elements ≡ self.old.elements }
+    {
+        let _ = self.owners.set_base(thread, rank);
+    }
+
+    /// Whether the thread is recorded as the owner of a mutex.
+    pub(crate) fn owns_any(&self, thread: ThreadId) -> bool
+        ensures owns { result ≡ owns_in self.now.elements.mutexes thread.0 }
+    {
+        self.owners.owns_any(thread)
+    }
+
+    /// Whether there is such a mutex, for which no other owner is recorded.
+    pub(crate) fn is_open_to(&self, mutex: MutexId, owner: ThreadId) -> bool
+        ensures open { result ≡ is_open self.now.elements mutex.0 owner.0 }
+    {
+        if !self.owners.has(mutex) {
+            return false;
+        }
+        match self.owners.owner(mutex) {
+            Some(recorded) => recorded.0 == owner.0,
+            None => true,
+        }
+    }
+
+    /// A thread that waits for nothing begins to wait for a mutex whose owner it names, and this is whether it does: not
+    /// where it would wait for itself along recorded owners.
+    pub(crate) fn claim(&mut self, mutex: MutexId, thread: ThreadId, owner: ThreadId) -> bool
+        requires there { is_there self.old.elements (OnMutex mutex) ≡ true }
+        requires open { is_open self.old.elements mutex.0 owner.0 ≡ true }
+        requires differs { owner.0 ≢ thread.0 }
+        requires few { thread.0 < length self.old.base }
+        requires named { owner.0 < length self.old.base }
+        requires away { (n : ℕ) → stands_at in_mutex self.old.elements.mutexes n thread.0 ≡ false }
+        ensures step { result ≡ true → element self.old.elements (step_of_waiter thread.0 (rank_of (owners_of self.old) thread.0) (WantsMutex mutex owner)) ≡ Ok (Reply.Begun, self.new.elements) }
+        ensures free { result ≡ true → reaches (length self.old.base) (waits_for self.old.elements.mutexes) owner.0 thread.0 ≡ false }
+        ensures ring { result ≡ false → reaches (length self.old.base) (waits_for self.old.elements.mutexes) owner.0 thread.0 ≡ true }
+        ensures unchanged { result ≡ false → self.new ≡ self.old }
+        ensures base { self.new.base ≡ self.old.base }
+    {
+        self.owners.claim(mutex, thread, owner).is_ok()
+    }
+
+    /// Hands a mutex on to the first waiter: who that is, if anybody waits, and whether more do. The first that applies:
+    /// `Unknown` (no such mutex), `NotOwner` (another owner is recorded).
+    pub(crate) fn release(
+        &mut self,
+        mutex: MutexId,
+        thread: ThreadId,
+    ) -> Result<(Option<ThreadId>, bool), Refusal>
+        ensures step { IfOk result (λ handed. element self.old.elements (on_mutex mutex.0 (recorded.release thread.0)) ≡ Ok (Reply.Handed handed.0 handed.1, self.new.elements)) }
+        ensures served { IfOk result (λ handed. wakes self.old.elements (on_mutex mutex.0 (recorded.release thread.0)) ≡ one_served (option_map (λ next. next.0) handed.0)) }
+        ensures refused { IfErr result (λ e. (element self.old.elements (on_mutex mutex.0 (recorded.release thread.0)) ≡ Err e) × (self.new ≡ self.old)) }
+        ensures base { self.new.base ≡ self.old.base }
+    {
+        self.owners.release(mutex, thread)
+    }
+
+    /// A thread has the ceiling of a mutex, of which it is recorded as the owner. The first that applies: `Unknown` (no such
+    /// mutex), `Invalid` (it has no ceiling), `Busy` (an owner is recorded).
+    pub(crate) fn raise(&mut self, mutex: MutexId, thread: ThreadId) -> Result<(), Refusal>
+        requires few { thread.0 < length self.old.base }
+        ensures step { IfOk result (λ u. element self.old.elements (on_mutex mutex.0 (recorded.raise thread.0)) ≡ Ok (Reply.Done, self.new.elements)) }
+        ensures refused { IfErr result (λ e. (element self.old.elements (on_mutex mutex.0 (recorded.raise thread.0)) ≡ Err e) × (self.new ≡ self.old)) }
+        ensures base { self.new.base ≡ self.old.base }
+    {
+        self.owners.raise(mutex, thread)
+    }
+}
