@@ -67,13 +67,17 @@ named_by s thread wants none =
     let name = (passes (form_refusal wants) (refused_first (allowed_if (may_name s thread wants)) (stage_refusal (stage_wanted wants) (stage_of s.sched thread))) form).1 in
     was_allowed (may_name s thread wants) (passes (allowed_if (may_name s thread wants)) (stage_refusal (stage_wanted wants) (stage_of s.sched thread)) name).0
 
--- nothing is said of the thread
-pub waiter_passes : (s : State) (thread : ℕ) (wants : Wanted) → begin_refusal s thread wants ≡ None → waiter_refusal s thread wants ≡ None
-waiter_passes s thread wants none =
+-- nothing is said of the thread, nor of what comes after that
+past_waiter : (s : State) (thread : ℕ) (wants : Wanted) → begin_refusal s thread wants ≡ None
+    → (waiter_refusal s thread wants ≡ None) × (refused_first (size_refusal (elements s) wants) (ring_refusal s thread wants) ≡ None)
+past_waiter s thread wants none =
     let rest = (passes (if is_there (elements s) (awaited wants) && is_named s wants then None else Some Unknown)
     (refused_first (range_refusal wants) (refused_first (waiter_refusal s thread wants) (refused_first (size_refusal (elements s) wants) (ring_refusal s thread wants)))) none).1 in
     let of_thread = (passes (range_refusal wants) (refused_first (waiter_refusal s thread wants) (refused_first (size_refusal (elements s) wants) (ring_refusal s thread wants))) rest).1 in
-    (passes (waiter_refusal s thread wants) (refused_first (size_refusal (elements s) wants) (ring_refusal s thread wants)) of_thread).0
+    passes (waiter_refusal s thread wants) (refused_first (size_refusal (elements s) wants) (ring_refusal s thread wants)) of_thread
+
+pub waiter_passes : (s : State) (thread : ℕ) (wants : Wanted) → begin_refusal s thread wants ≡ None → waiter_refusal s thread wants ≡ None
+waiter_passes s thread wants none = (past_waiter s thread wants none).0
 
 -- it is attached
 pub known_waiter : (s : State) (thread : ℕ) (wants : Wanted) → waiter_refusal s thread wants ≡ None → stranger_refusal s.sched thread ≡ None
@@ -86,9 +90,6 @@ known_owner s thread id owner may = (three (is_attached s.sched owner.0) (not (o
 
 pub free_to_begin : (s : State) (thread : ℕ) (wants : Wanted) → begin_refusal s thread wants ≡ None → IsFree (elements s) thread wants
 free_to_begin s thread wants none =
-    let rest = (passes (if is_there (elements s) (awaited wants) && is_named s wants then None else Some Unknown)
-    (refused_first (range_refusal wants) (refused_first (waiter_refusal s thread wants) (refused_first (size_refusal (elements s) wants) (ring_refusal s thread wants)))) none).1 in
-    let of_thread = (passes (range_refusal wants) (refused_first (waiter_refusal s thread wants) (refused_first (size_refusal (elements s) wants) (ring_refusal s thread wants))) rest).1 in
-    let parts = passes (waiter_refusal s thread wants) (refused_first (size_refusal (elements s) wants) (ring_refusal s thread wants)) of_thread in
+    let parts = past_waiter s thread wants none in
     let ring = (passes (size_refusal (elements s) wants) (ring_refusal s thread wants) parts.1).1 in
     free_as s thread wants (named_by s thread wants parts.0) (no_ring (would_ring s thread wants) ring)
