@@ -97,6 +97,12 @@ is_of_threads (on_lines step) = false
 is_of_threads (on_clock step) = false
 is_of_threads _ = true
 
+-- a task that begins or ends a wait
+abbrev pub is_of_waits : Task → Bool
+is_of_waits (begins wanted until) = true
+is_of_waits (ends keep) = true
+is_of_waits _ = false
+
 -- a step on lines, on the clock or on threads reaches no element, nor does the end of a wait, and one of an element is its
 -- caller's
 abbrev pub performing : State → ℕ → Task → Told
