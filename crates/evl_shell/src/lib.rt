@@ -7,6 +7,7 @@ mod plays;
 mod programs;
 mod runs;
 mod sinks;
+mod texts;
 mod words;
 
 pub use evl_scenario::Fault;

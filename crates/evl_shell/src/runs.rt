@@ -1,31 +1,23 @@
 //! Plays a scenario into a sink.
-ghost use Rattle.std.specs.Prelude.{◌≡◌, ◌≤◌, length, List, ℕ, [], true, false, Ok, Err, OnOk, OnErr, IfOk, IfErr, drop, string_bytes};
+ghost use Rattle.std.specs.Prelude.{◌≡◌, ◌≤◌, length, List, ℕ, [], true, false, Ok, Err, OnOk, OnErr, IfOk, IfErr, drop};
 ghost use Rattle.std.specs.Io.KnownBytes.{Appends};
 ghost use Rattle.evl_kernel.specs.Callbacks.{AnswersAsTold};
 ghost use Rattle.evl_shell.specs.Sinks.{Passes};
 ghost use Rattle.evl_scenario.specs.Faults.{IsRefusal};
 ghost use Rattle.evl_shell.specs.Faults.{Stopped, Writes, WritesPart, WritesLines, is_write_fault};
-ghost use Rattle.evl_scenario.specs.Lines.{board_line_of, board_line_text, line_around, play_line_text, play_lines, step_text};
+ghost use Rattle.evl_scenario.specs.Lines.{play_lines};
 ghost use Rattle.evl_shell.specs.Moments as moments;
 ghost use Rattle.evl_shell.specs.Moments.{moment, Turns, Tells};
 ghost use Rattle.evl_shell.specs.Runs.{turn, turn_lines, lines_from, handlers_of, script_trace, trace_of};
 
 use crate::chunks::Chunks;
 use crate::sinks::{Sink, SinkFailed};
-use evl_base::{Board, Play, Refusal, Reply};
+use crate::texts::{Called, Texts};
+use evl_base::{Play, Refusal, Reply};
 use evl_kernel::KernelOf;
 use evl_pipeline::{Callback, Handler};
-use evl_scenario::{
-    Answer, EntryNumber, Fault, PlayLine, Scenario, Step, StepLine, board_line, read_scenario,
-};
+use evl_scenario::{Answer, EntryNumber, Fault, Scenario, Step, read_scenario};
 use std::alloc::Global;
-
-// What the call of a step was answered, and the number of its entry, where it made one.
-#[derive(Drop)]
-struct Called {
-    number: EntryNumber,
-    answer: Answer,
-}
 
 // Whether an answer stands for want of memory.
 fn wants_memory(answer: &Result<Reply, Refusal>) -> bool
@@ -42,16 +34,6 @@ fn number_after(before: usize, count: usize) -> Option<usize>
     ensures { result ≡ moments.number_after before count }
 {
     if before < count { Some(count) } else { None }
-}
-
-// The text of a step.
-fn text_of(alloc: Global, step: &Step) -> Result<String, Refusal>
-    ensures { IfOk result (λ text. string_bytes text ≡ step_text step.now) }
-{
-    match step.to_string(alloc) {
-        Ok(text) => Ok(text),
-        Err(_) => Err(Refusal::NoMemory),
-    }
 }
 
 // Makes the call of a step, which goes into the kernel's history. `NoMemory` is all that it is refused for, and only where the kernel had no room: any other
@@ -75,35 +57,9 @@ fn make_call<C: Handler>(kernel: &mut KernelOf<C, Global>, step: Step) -> Result
     })
 }
 
-// The line of a step that has this text.
-fn step_line(alloc: Global, step: &str, called: Called) -> Result<String, Refusal>
-    ensures { IfOk result (λ line. string_bytes line ≡ line_around called.number.0 step.now called.answer.0) }
-{
-    let Called { number, answer } = called;
-    let line = StepLine {
-        number,
-        step,
-        answer,
-    };
-    match line.to_string(alloc) {
-        Ok(text) => Ok(text),
-        Err(_) => Err(Refusal::NoMemory),
-    }
-}
-
-// The line of a play.
-fn play_line(alloc: Global, play: Play) -> Result<String, Refusal>
-    ensures { IfOk result (λ line. string_bytes line ≡ play_line_text play) }
-{
-    match PlayLine(play).to_string(alloc) {
-        Ok(text) => Ok(text),
-        Err(_) => Err(Refusal::NoMemory),
-    }
-}
-
 // Puts the lines of some plays.
 fn put_plays<S: Sink>(
-    alloc: Global,
+    texts: &mut Texts,
     plays: &[Play],
     chunks: &mut Chunks,
     out: &mut S,
@@ -114,10 +70,10 @@ fn put_plays<S: Sink>(
     ensures stopped { IfErr result (Stopped (S.told out.old) chunks.old (S.told out.new) (play_lines plays.now) (S.has_failed out.new)) }
 {
     for play in plays {
-        let Ok(line) = play_line(alloc, *play) else {
+        let Ok(()) = texts.write_play(*play) else {
             return Err(chunks.give_up(out));
         };
-        match chunks.put(line.as_str(), out) {
+        match chunks.put(texts.line.as_str(), out) {
             Ok(()) => {}
             Err(fault) => return Err(fault),
         }
@@ -132,10 +88,10 @@ fn plays_from<C: Handler>(kernel: &KernelOf<C, Global>, start: usize) -> &[Play]
     kernel.plays().get(start..).unwrap_or(&[])
 }
 
-// Makes the call of a step, and puts its line and those of its plays. The step's text is made first, since its call goes
-// into the history.
+// Makes the call of a step, and puts its line and those of its plays. The step's text is written first, since its call
+// goes into the history.
 fn play_step<C: Handler, S: Sink>(
-    alloc: Global,
+    texts: &mut Texts,
     kernel: &mut KernelOf<C, Global>,
     step: Step,
     chunks: &mut Chunks,
@@ -150,20 +106,20 @@ fn play_step<C: Handler, S: Sink>(
     ensures stopped { IfErr result (Stopped (S.told out.old) chunks.old (S.told out.new) (turn_lines step (turn kernel.old.limit (moment kernel.old) step)) (S.has_failed out.new)) }
 {
     let plays = kernel.plays().len();
-    let Ok(text) = text_of(alloc, &step) else {
+    let Ok(()) = texts.write_step(&step) else {
         return Err(chunks.give_up(out));
     };
     let Ok(called) = make_call(kernel, step) else {
         return Err(chunks.give_up(out));
     };
-    let Ok(line) = step_line(alloc, text.as_str(), called) else {
+    let Ok(()) = texts.write_answer(called) else {
         return Err(chunks.give_up(out));
     };
-    match chunks.put(line.as_str(), out) {
+    match chunks.put(texts.line.as_str(), out) {
         Ok(()) => {}
         Err(fault) => return Err(fault),
     }
-    match put_plays(alloc, plays_from(kernel, plays), chunks, out) {
+    match put_plays(texts, plays_from(kernel, plays), chunks, out) {
         Ok(()) => Ok(()),
         Err(fault) => Err(fault),
     }
@@ -171,7 +127,7 @@ fn play_step<C: Handler, S: Sink>(
 
 // Plays some steps.
 fn play_steps<C: Handler, S: Sink>(
-    alloc: Global,
+    texts: &mut Texts,
     kernel: &mut KernelOf<C, Global>,
     steps: Vec<Step>,
     chunks: &mut Chunks,
@@ -184,22 +140,12 @@ fn play_steps<C: Handler, S: Sink>(
     ensures stopped { IfErr result (Stopped (S.told out.old) chunks.old (S.told out.new) (lines_from kernel.old.limit (moment kernel.old) steps.items) (S.has_failed out.new)) }
 {
     for step in steps {
-        match play_step(alloc, kernel, step, chunks, out) {
+        match play_step(texts, kernel, step, chunks, out) {
             Ok(()) => {}
             Err(fault) => return Err(fault),
         }
     }
     Ok(())
-}
-
-// The first line.
-fn first_line(alloc: Global, board: &Board, limit: u32) -> Result<String, Refusal>
-    ensures { IfOk result (λ line. string_bytes line ≡ board_line_text (board_line_of board.now limit)) }
-{
-    match board_line(board, limit).to_string(alloc) {
-        Ok(text) => Ok(text),
-        Err(_) => Err(Refusal::NoMemory),
-    }
 }
 
 // Plays a scenario, but for what waits at the end.
@@ -216,17 +162,18 @@ fn play_scenario<C: Handler, S: Sink>(
     ensures stopped { IfErr result (Stopped (S.told out.old) chunks.old (S.told out.new) (script_trace (handlers_of C.declared C.plan bank.items) scenario) (S.has_failed out.new)) }
 {
     let (board, limit, steps) = scenario.into_parts();
-    let Ok(line) = first_line(alloc, &board, limit) else {
+    let mut texts = Texts::new(alloc);
+    let Ok(()) = texts.write_board(&board, limit) else {
         return Err(chunks.give_up(out));
     };
     let Ok(mut kernel) = KernelOf::new(alloc, board, bank, limit) else {
         return Err(chunks.give_up(out));
     };
-    match chunks.put(line.as_str(), out) {
+    match chunks.put(texts.line.as_str(), out) {
         Ok(()) => {}
         Err(fault) => return Err(fault),
     }
-    match play_steps(alloc, &mut kernel, steps, chunks, out) {
+    match play_steps(&mut texts, &mut kernel, steps, chunks, out) {
         Ok(()) => Ok(()),
         Err(fault) => Err(fault),
     }
