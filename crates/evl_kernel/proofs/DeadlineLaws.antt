@@ -79,7 +79,7 @@ dates_at h legal = run_holds HasDates each own (opened h) h.entries h.plays h.st
     own s caller asked = record {
       threads = λ step is passed h. leaves-threads HasDates (λ s q h. h) s caller step h;
       begun = λ on until is passed h. leaves-beginning HasDates waiting (timed-by HasDates waiting (λ s h. h) (λ s thread until h. length-set s.clock.deadlines thread until ∙ h)) s caller on until h;
-      ended = λ keep h. leaves-finish HasDates waiting s caller keep (λ x hx. hx) h;
+      ended = λ keep is h. leaves-finish HasDates waiting s caller keep (λ x hx. hx) h;
     }
 
 -- Where this thread is blocked, something holds of its deadline.
@@ -203,7 +203,7 @@ module _ (thread : ℕ) (Q : Option ℕ → Type 0) where
   kept_by_own s caller asked begins_so = record {
     threads = λ step is passed h. leaves-threads Dated (λ x q hx. hx) s caller step h;
     begun = begins_so;
-    ended = λ keep h. dated_finish s caller keep h;
+    ended = λ keep is h. dated_finish s caller keep h;
   }
 
   -- another thread's call

@@ -280,7 +280,7 @@ module _ (n : ℕ) (few : n ≤ 64) where
         threads = λ step is passed h. both _ (proper.threads step is passed h.0)
             (seated_threads s caller step (stands_nowhere n few s h.0 caller (over_none s caller (passed_all s caller asked (ap ends_a_wait is) passed).idle)) h.1);
         begun = λ wants until is passed h. both _ (proper.begun wants until is passed h.0) (seated_beginning s caller wants until h.1);
-        ended = λ keep h. both _ (proper.ended keep h.0) (seated_finish s caller keep h.1);
+        ended = λ keep is h. both _ (proper.ended keep is h.0) (seated_finish s caller keep h.1);
       }
 
 -- nobody is recorded in a new kernel

@@ -334,7 +334,7 @@ module _ (n : ℕ) (few : n ≤ 64) where
   kept_by_own s caller asked = record {
     threads = λ step is passed h. proper_threads s caller step (passed_all s caller asked (ap ends_a_wait is) passed).idle h;
     begun = λ wants until is passed h. proper_beginning s caller wants until (passed_all s caller asked (ap ends_a_wait is) passed) h;
-    ended = λ keep h. proper_finish s caller keep h;
+    ended = λ keep is h. proper_finish s caller keep h;
   }
 
 -- a new kernel

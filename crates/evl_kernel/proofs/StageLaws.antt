@@ -1,6 +1,6 @@
 -- Only ticks, steps on threads and waits change the scheduler's record, and none of them changes the stage of a thread but
 -- its own caller's.
-use Rattle.std.proofs.Common.{◌≡◌, ◌≢◌, ℕ, ◌-◌, zero, suc, ◌==◌, nat_le, Bool, true, false, ◌≤◌, List, [], ◌∷◌, length, Option, Some, None, slice_index_or, if◌then◌else◌, refl, ap, ◌∙◌, arith}
+use Rattle.std.proofs.Common.{◌≡◌, ◌≢◌, ℕ, ◌-◌, zero, suc, ◌==◌, ◌&&◌, nat_le, not, Bool, true, false, true≢false, ◌≤◌, List, [], ◌∷◌, length, Option, Some, None, slice_index_or, if◌then◌else◌, refl, sym, ap, ◌∙◌, arith}
 use Rattle.std.specs.Option.{option_map, option_map_or}
 use Rattle.std.proofs.lemmas.Bool.Decides.{nat_tests}
 use Rattle.std.proofs.lemmas.List.{length-replicate, length-set}
@@ -24,8 +24,15 @@ use Rattle.evl_base.specs.declared.board.Board.{Board}
 use Rattle.evl_kernel.specs.States.{Handler}
 use Rattle.evl_kernel.specs.Openings.{opening}
 use Rattle.evl_kernel.specs.Histories.{History, IsLegal, opened}
-use Rattle.evl_kernel.specs.Laws.{StagesAreTheThreadsOwn}
-use Rattle.evl_kernel.specs.Families.{ThreadStep, attach, detach, set_policy, set_stage, pick, tell_rank, thread_effect}
+use Rattle.std.specs.Prelude.{Result, Ok, Err}
+use Rattle.evl_base.specs.declared.refusal.Refusal.{Refusal}
+use Rattle.evl_base.specs.declared.reply.Reply.{Reply}
+use Rattle.evl_sched.specs.Policies.{is_weak}
+use Rattle.evl_kernel.specs.Effects.{leaving}
+use Rattle.evl_kernel.specs.Waits.{wait_at, with_wait}
+use Rattle.evl_kernel.specs.Endings.{finish, goes_inband, has_got_mutex, inband_if, outcome_of}
+use Rattle.evl_kernel.specs.Laws.{StagesAreTheThreadsOwn, StagesStayWhereNobodyMoves}
+use Rattle.evl_kernel.specs.Families.{ThreadStep, attach, detach, set_policy, set_stage, pick, tell_rank, thread_effect, ends, moves_caller, on_threads, task_of}
 use Rattle.evl_kernel.proofs.LeavesLaws.{Leaves, leaves-refused}
 use Rattle.evl_kernel.proofs.WaitSteps.{KeptByWakes, kept-deadline, leaves-touched, leaves-beginning, leaves-finish, timed-by}
 use Rattle.evl_kernel.proofs.StateWalk.{KeptByEach, KeptByOwn, follows_holds, holds-answer, run_holds}
@@ -54,7 +61,7 @@ module _ (Q : Sched → Type 0) (pays : (rank : ℕ → ℕ) (q : Sched) (before
   kept_by_own s caller asked steps goes = record {
     threads = λ step is passed h. steps step h;
     begun = λ on until is passed h. leaves-beginning Holds kept_waiting (timed-by Holds kept_waiting (λ s h. h) (λ s thread until h. h)) s caller on until h;
-    ended = λ keep h. leaves-finish Holds kept_waiting s caller keep (λ x hx. goes x.sched hx) h;
+    ended = λ keep is h. leaves-finish Holds kept_waiting s caller keep (λ x hx. goes x.sched hx) h;
   }
 
 -- the stage of a thread that isn't the caller
@@ -90,6 +97,48 @@ stages_are old caller asked reply plays new step thread other =
     follows_holds (λ s. Q s.sched) each old (answer old caller asked) reply plays new refl
     (holds-answer (λ s. Q s.sched) each old caller asked
     (kept_by_own Q pays queues old caller asked (λ step h. stage-threads thread old caller step (apart thread caller other)) (λ q h. stage-stage_set q caller Inband thread (apart thread caller other) ∙ h)) refl) step
+
+-- the stage of every thread, where the caller isn't moved
+module _ (thread : ℕ) (stage : Stage) where
+  abbrev Stays : State → Type 0
+  Stays s = stage_of s.sched thread ≡ stage
+
+  stays-threads : (s : State) (caller : ℕ) (step : ThreadStep) → moves_caller (on_threads step) ≡ false → Stays s → Leaves Stays (thread_effect s caller step)
+  stays-threads s caller (attach policy to) still h = absurd (true≢false still)
+  stays-threads s caller detach still h = absurd (true≢false still)
+  stays-threads s caller (set_policy policy) still h = leaves-refused Stays (set_policy_refusal s.sched caller policy) _ (λ passed. stage-policy_set s.sched caller policy thread ∙ h)
+  stays-threads s caller (set_stage to) still h = absurd (true≢false still)
+  stays-threads s caller pick still h = h
+  stays-threads s caller (tell_rank n) still h = leaves-refused Stays (stranger_refusal s.sched n) _ (λ passed. h)
+
+  -- a wait that is finished by a thread that keeps its stage
+  stays-finish : (s : State) (caller : ℕ) (keep : Bool) → moves_caller (ends keep) ≡ false → Stays s → Leaves Stays (finish s caller keep)
+  stays-finish s caller false still h = absurd (true≢false still)
+  stays-finish s caller true still h = by (outcome_of (wait_at s caller))
+    where
+      if_it_goes : (weak got : Bool) → Stays (inband_if (weak && false && got) (with_wait s caller None) caller)
+      if_it_goes false got = h
+      if_it_goes true got = h
+
+      by : (r : Result Reply Refusal) → Leaves Stays (leaving (inband_if (goes_inband s caller true) (with_wait s caller None) caller) r)
+      by (Ok reply) = if_it_goes (option_map_or (λ (seat : Seat). is_weak seat.policy) (seat_at s.sched caller) false) (not (has_got_mutex (wait_at s caller)))
+      by (Err refusal) = tt
+
+  stays_own : (s : State) (caller : ℕ) (asked : Call) → moves_caller (task_of asked) ≡ false → KeptByOwn Stays s caller asked
+  stays_own s caller asked still =
+      let Q = λ (q : Sched). stage_of q thread ≡ stage in
+      let waiting = kept_waiting Q (stage-paid thread stage) (λ q ready h. h) in record {
+        threads = λ step is passed h. stays-threads s caller step (ap moves_caller (sym is) ∙ still) h;
+        begun = λ on until is passed h. leaves-beginning Stays waiting (timed-by Stays waiting (λ s h. h) (λ s thread until h. h)) s caller on until h;
+        ended = λ keep is h. stays-finish s caller keep (ap moves_caller (sym is) ∙ still) h;
+      }
+
+pub stages_stay : StagesStayWhereNobodyMoves
+stages_stay old caller asked reply plays new step still thread =
+    let stage = stage_of old.sched thread in
+    let Q = λ (q : Sched). stage_of q thread ≡ stage in
+    let each = kept_by_each Q (stage-paid thread stage) (λ q ready h. h) in
+    follows_holds (λ s. Q s.sched) each old (answer old caller asked) reply plays new refl (holds-answer (λ s. Q s.sched) each old caller asked (stays_own thread stage old caller asked still) refl) step
 
 -- there are as many seats as the board has threads
 module _ (n : ℕ) where

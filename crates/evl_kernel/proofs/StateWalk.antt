@@ -80,7 +80,7 @@ pub record KeptByEach (P : State → Type 0) : Type 0 where
 pub record KeptByOwn (P : State → Type 0) (s : State) (caller : ℕ) (asked : Call) : Type 0 where
   pub threads : (step : ThreadStep) → task_of asked ≡ on_threads step → general_refusal s caller asked ≡ None → P s → Leaves P (thread_effect s caller step)
   pub begun : (wants : Wanted) (until : Option ℕ) → task_of asked ≡ begins wants until → general_refusal s caller asked ≡ None → P s → Leaves P (beginning s caller wants until).effect
-  pub ended : (keep : Bool) → P s → Leaves P (finish s caller keep)
+  pub ended : (keep : Bool) → task_of asked ≡ ends keep → P s → Leaves P (finish s caller keep)
 
 module _ (P : State → Type 0) (k : KeptByEach P) where
   holds-home : (s : State) (number : ℕ) → P s → P (come_home s number)
@@ -130,7 +130,7 @@ module _ (P : State → Type 0) (k : KeptByEach P) where
       by (on_staged step_from) is plain passed = k.asked s (Some caller) (step_from caller (stage_of s.sched caller)) (plain caller (stage_of s.sched caller)).0 ((plain caller (stage_of s.sched caller)).1 s) h
       by (raises n) is plain passed = leaves-refused P (raiser_refusal s caller n) _ (λ may. k.asked s (Some caller) (on_mutex n (mutex.raise caller)) (asks_raise n caller) may h)
       by (begins wants until) is plain passed = own.begun wants until is passed h
-      by (ends keep) is plain passed = own.ended keep h
+      by (ends keep) is plain passed = own.ended keep is h
 
   holds-acted : (s : State) (line : ℕ) (action : Action) → P s → P (acted s line action)
   holds-acted s line (PostSem sem) h = leaves-if_done P s _ h (k.asked s None (on_sem sem.0 put) (asks_put sem.0) tt h)

@@ -37,7 +37,7 @@ module _ (n : ℕ) where
   kept_by_own s caller asked = record {
     threads = λ step is passed h. leaves-threads HasPlaces (λ s q h. h) s caller step h;
     begun = λ on until is passed h. leaves-beginning HasPlaces kept_waiting (timed-by HasPlaces kept_waiting (λ s h. h) (λ s thread until h. h)) s caller on until h;
-    ended = λ keep h. leaves-finish HasPlaces kept_waiting s caller keep (λ x hx. hx) h;
+    ended = λ keep is h. leaves-finish HasPlaces kept_waiting s caller keep (λ x hx. hx) h;
   }
 
 pub places_are : (h : History) → IsLegal h → length h.state.waits ≡ h.board.threads

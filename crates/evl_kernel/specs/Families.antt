@@ -1,6 +1,6 @@
 -- What a call asks for, by its family: a step on lines and stages, one on the clock, one on threads, a step of one element,
 -- a wait that begins, or one that ends. A law over all calls goes by these families.
-use Rattle.std.specs.Prelude.{ℕ, Bool, true, false, Option, Some}
+use Rattle.std.specs.Prelude.{ℕ, Bool, true, false, not, Option, Some}
 use Rattle.evl_base.specs.declared.stage.Stage.{Stage}
 use Rattle.evl_base.specs.declared.policy.Policy.{Policy}
 use Rattle.evl_base.specs.declared.call.Call.{Call}
@@ -153,3 +153,11 @@ task_of (Claim mutex owner until) = begins (wanted.Mutex mutex owner) until
 task_of (Release mutex) = on_staged (λ caller stage. on_mutex mutex.0 (recorded.release caller))
 task_of (Raise mutex) = raises mutex.0
 task_of (Finish keep) = ends keep
+
+-- a task by which its caller may come to another stage
+abbrev pub moves_caller : Task → Bool
+moves_caller (on_threads (attach policy stage)) = true
+moves_caller (on_threads detach) = true
+moves_caller (on_threads (set_stage stage)) = true
+moves_caller (ends keep) = not keep
+moves_caller _ = false

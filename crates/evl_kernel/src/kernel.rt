@@ -142,6 +142,8 @@ impl<C: Handler, A: Allocator> KernelOf<C, A> {
         ensures callbacks { self.new.callbacks ≡ self.old.callbacks }
         ensures limit { self.new.limit ≡ self.old.limit }
         ensures keeps { self.old.room ≤ self.new.room }
+        ensures memory { result ≡ Err Refusal.NoMemory → self.old.room < n }
+        ensures within { length self.old.history.entries ≤ self.old.limit }
     {
         if n > self.limit - self.history.len() {
             return Err(Refusal::HistoryFull);

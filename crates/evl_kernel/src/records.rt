@@ -4,10 +4,14 @@ ghost use Rattle.evl_base.specs.Board.{board_fits};
 ghost use Rattle.evl_pipeline.specs.Counts.{count_at};
 ghost use Rattle.evl_pipeline.specs.Limits.{line_count};
 ghost use Rattle.evl_pipeline.specs.Lines.{is_pending, side};
+ghost use Rattle.evl_pipeline.specs.Lines as lines;
+ghost use Rattle.evl_clock.specs.Clocks as clocks;
 ghost use Rattle.evl_clock.specs.Clocks.{timer_at};
 ghost use Rattle.evl_clock.specs.Limits.{timer_count};
 ghost use Rattle.evl_sched.specs.Threads.{stage_of};
 ghost use Rattle.evl_kernel.specs.Callbacks.{AreFilled};
+ghost use Rattle.evl_kernel.specs.Limits.{thread_limit};
+ghost use Rattle.evl_kernel.specs.Openings.{all_opened};
 ghost use Rattle.evl_kernel.specs.Records.{IsOpened, state_of};
 ghost use Rattle.evl_kernel.specs.Waits.{has_ended, has_timed_out, is_waiting};
 
@@ -70,25 +74,18 @@ impl<C: Handler, A: Allocator> Records<C, A> {
         ensures opened { IfOk result (λ r. IsOpened C.declared C.plan board.now bank.items r) }
         ensures refusal { IfErr result (λ e. e ≡ Refusal.NoMemory) }
     {
-        let for_sems = another(&alloc)?;
-        let for_bank = another(&alloc)?;
-        let for_waits = another(&alloc)?;
-        let elements = Elements::new(for_sems, board)?;
-        let waits = no_waits(for_waits, boxes, board.threads)?;
-        let bank = placed(for_bank, bank)?;
-        let for_lines = another(&alloc)?;
-        let pipeline = PipelineOf::new(for_lines)?;
-        let for_clock = another(&alloc)?;
-        let clock = ClockOf::new(for_clock)?;
+        let waiting = waiting_over(&alloc, boxes, board)?;
+        let playing = playing_over(&alloc)?;
+        let bank = placed(&alloc, bank)?;
         let sched = SchedOf::new(alloc, board.threads, board.groups.as_slice())?;
         Ok(Records {
             threads: board.threads,
-            elements,
+            elements: waiting.0,
             bank,
-            pipeline,
-            clock,
+            pipeline: playing.0,
+            clock: playing.1,
             sched,
-            waits,
+            waits: waiting.1,
         })
     }
 }
@@ -100,16 +97,46 @@ fn another<A: Allocator + Clone>(alloc: &A) -> Result<A, Refusal>
     alloc.clone().map_err(|_| Refusal::NoMemory)
 }
 
+/// The elements of a board and its threads' waits, of which there are none.
+fn waiting_over<A: Allocator + Clone>(
+    alloc: &A,
+    boxes: Global,
+    board: &Board,
+) -> Result<(Elements<A>, Vec<WaitPlace, A>), Refusal>
+    requires fits { board_fits board.now ≡ true }
+    ensures opened { IfOk result (λ made. made.0.elements ≡ all_opened board.now) }
+    ensures base { IfOk result (λ made. made.0.base ≡ replicate thread_limit 0) }
+    ensures waits { IfOk result (λ made. made.1.items ≡ replicate board.now.threads None) }
+    ensures refusal { IfErr result (λ e. e ≡ Refusal.NoMemory) }
+{
+    let elements = Elements::new(another(alloc)?, board)?;
+    let waits = no_waits(alloc, boxes, board.threads)?;
+    Ok((elements, waits))
+}
+
+/// The lines and the clock, as they are at the beginning.
+fn playing_over<C: Handler, A: Allocator + Clone>(
+    alloc: &A,
+) -> Result<(PipelineOf<Numbered<C>, A>, ClockOf<Numbered<C>, A>), Refusal>
+    ensures lines { IfOk result (λ made. made.0 ≡ lines.opening) }
+    ensures clock { IfOk result (λ made. made.1 ≡ clocks.opening) }
+    ensures refusal { IfErr result (λ e. e ≡ Refusal.NoMemory) }
+{
+    let pipeline = PipelineOf::new(another(alloc)?)?;
+    let clock = ClockOf::new(another(alloc)?)?;
+    Ok((pipeline, clock))
+}
+
 /// A place for the wait of each of so many threads; nobody waits.
-fn no_waits<A: Allocator>(
-    alloc: A,
+fn no_waits<A: Allocator + Clone>(
+    alloc: &A,
     boxes: Global,
     threads: u16,
 ) -> Result<Vec<WaitPlace, A>, Refusal>
     ensures waits { IfOk result (λ waits. waits.items ≡ replicate threads None) }
     ensures refusal { IfErr result (λ e. e ≡ Refusal.NoMemory) }
 {
-    let mut waits = Vec::new(alloc);
+    let mut waits = Vec::new(another(alloc)?);
     for _ in 0..threads {
         let place = match WaitPlace::new(boxes) {
             Ok(place) => place,
@@ -125,14 +152,14 @@ fn no_waits<A: Allocator>(
 
 /// Every callback in its bank place.
 #[tactic(auto, using(crate::proofs::CallbackLaws::filled_more))]
-fn placed<C: Handler, A: Allocator>(
-    alloc: A,
+fn placed<C: Handler, A: Allocator + Clone>(
+    alloc: &A,
     bank: Vec<C, A>,
 ) -> Result<Vec<BankPlace<C>, A>, Refusal>
     ensures places { IfOk result (λ places. AreFilled C.declared C.plan bank.items places.items) }
     ensures refusal { IfErr result (λ e. e ≡ Refusal.NoMemory) }
 {
-    let mut places = Vec::new(alloc);
+    let mut places = Vec::new(another(alloc)?);
     for callback in bank {
         let place = BankPlace {
             kinds: callback.kinds(),

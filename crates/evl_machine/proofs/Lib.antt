@@ -5,7 +5,16 @@ pub mod Taking
 pub mod QuietCore
 pub mod Calling
 pub mod Knowing
+pub mod SeatLists
+pub mod DealLaws
+pub mod StaxLaws
+pub mod MutexLaws
+pub mod Staying
+pub mod StaxCalls
 pub mod Seating
+pub mod Newcomers
 pub mod Gathering
 pub mod Crossing
 pub mod CoreLaws
+pub mod LockingLaws
+pub mod LockingCalls

@@ -1,5 +1,5 @@
 -- A legal history ends quiet, so what lies in the slot of a free core is quiet.
-use Rattle.std.proofs.Common.{◌≡◌, map, get_or, Option, ◌∙◌, sym, subst, ⊎_elim, arith}
+use Rattle.std.proofs.Common.{◌≡◌, map, get_or, Option, sym, subst, ⊎_elim, arith}
 use Rattle.atomic_table.specs.Table.{State as TableState}
 use Rattle.evl_kernel.specs.Histories.{History, IsLegal}
 use Rattle.evl_kernel.specs.KernelViews.{KernelView}

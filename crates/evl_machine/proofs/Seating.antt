@@ -1,9 +1,7 @@
 -- A new table keeps its rule, and its threads are dealt out to tokens of their own, one after another.
-use Rattle.std.proofs.Common.{◌≡◌, ℕ, ◌+◌, ◌-◌, ◌<◌, List, [], ◌∷◌, ◌++◌, map, Option, Some, refl, sym, ap, ◌∙◌, subst, arith, zero-add}
+use Rattle.std.proofs.Common.{◌≡◌, ℕ, ◌+◌, ◌-◌, ◌<◌, List, [], ◌∷◌, Option, Some, refl, sym, ap, ◌∙◌, subst, arith}
 use Rattle.std.specs.Prelude.{replicate}
-use Rattle.std.proofs.lemmas.List.FromFn.{map-range_with_len_more}
 use Rattle.atomic_table.specs.Table.{opening, Splits}
-use Rattle.atomic_table.specs.Seated.{TableId}
 use Rattle.evl_base.specs.declared.board.Board.{Board}
 use Rattle.evl_base.specs.declared.numbers.ThreadId.{ThreadId}
 use Rattle.evl_base.specs.declared.entry.Entry.{Entry}
@@ -13,13 +11,12 @@ use Rattle.evl_kernel.specs.KernelViews.{KernelView, IsOpened}
 use Rattle.evl_words.specs.Hands.{place, hand_from, rest_of, first_of as first_place}
 use Rattle.evl_words.specs.MutexWorld.{MutexView}
 use Rattle.evl_words.proofs.Dealing.{hand_step}
-use Rattle.evl_machine.specs.declared.views.Account.{Account}
 use Rattle.evl_machine.specs.declared.views.ThreadView.{ThreadView}
 use Rattle.evl_machine.specs.Accounts.{newcomer, calls_by, threads_of}
 use Rattle.evl_machine.specs.ThreadRule.{newcomer_view}
 use Rattle.evl_machine.specs.Seats.{CoreMe}
 use Rattle.evl_machine.specs.Known.{ComesFrom, CoreHand, KernelMe, KeptKnown, first_known, first_of, past_of, room_of, seen, no_tie, mutex_count}
-use Rattle.evl_machine.specs.Handles.{MachineState, CallerState, caller_of, newcomer_of, newcomers_of, seated}
+use Rattle.evl_machine.specs.Handles.{seated}
 use Rattle.evl_machine.specs.Calls.{IsCaller}
 use Rattle.evl_machine.proofs.ThreadSteps.{opens_thread, splits_thread}
 use Rattle.evl_machine.proofs.Calling.{is_caller}
@@ -66,9 +63,3 @@ module _ {C : Type 0} where
   pub new_caller : (h : History) (t : ThreadId) (me : CoreMe (KernelView C)) → t.0 < threads_of h → IsLegal h → h.entries ≡ [] → me ≡ seated (newcomer h t.0) → IsCaller me t
   new_caller h t me member legal none_yet e =
       is_caller (newcomer h t.0) me t e refl (record { legal = legal; member = member; mine = ap (calls_by t.0) none_yet; strangers = λ u far. ap (calls_by u) none_yet })
-
-  -- one caller more
-  pub one_more : (m : MachineState C) (i : ℕ) (items : List (CallerState C)) (id : TableId) (first : KernelView C) (a : Account) → items ≡ newcomers_of m i → id ≡ m.id → first ≡ m.first → a ≡ newcomer m.first.history i
-      → items ++ caller_of (record { id = id; first = first }) a ∷ [] ≡ newcomers_of m (i + 1)
-  one_more m i items id first a was same from at =
-      (λ j. was j ++ caller_of (record { id = same j; first = from j }) (at j) ∷ []) ∙ sym (map-range_with_len_more (newcomer_of m) 0 i i (zero-add i))

@@ -13,7 +13,13 @@ use Rattle.evl_machine.specs.Accounts.{BeginsWith, IsAccount}
 use Rattle.evl_machine.specs.Seats.{CoreMe}
 use Rattle.evl_machine.specs.QuietCore.{IsQuiet}
 use Rattle.evl_machine.specs.Known.{ComesFrom, CoreHand, accounts_in, taken_in, first_of}
-use Rattle.evl_machine.specs.Handles.{CallerState, HeldState, Continues, account_of, first_account, seated, holding, shown}
+use Rattle.evl_base.specs.declared.stage.Stage.{Stage}
+use Rattle.evl_machine.specs.declared.unfinished.Unfinished.{Unfinished}
+use Rattle.evl_machine.specs.Unfinished.{unfinished}
+use Rattle.evl_machine.specs.Actors.{AreHeldAt, call_refusal, stage_in}
+use Rattle.evl_machine.specs.StaxSeats.{holds_stax}
+use Rattle.evl_machine.specs.MutexSeats.{holds_mutex}
+use Rattle.evl_machine.specs.Handles.{CallerState, HeldState, Continues, account_of, first_account, returned, seated, holding, shown}
 
 -- a call of the kernel adds just its entry, or leaves the history: it is full, or no room was made for the call
 pub record Applied {C : Type 0} (old : KernelView C) (thread : ℕ) (c : Call) (r : Result Reply Refusal) (new : KernelView C) : Type 0 where
@@ -61,11 +67,12 @@ abbrev pub completes : Result Reply Refusal → Bool
 completes (Ok reply) = true
 completes (Err refusal) = refusal_completes refusal
 
--- The call was entered at one point of the common history, after all that the caller had seen. The history that it has now seen ends there, and of its own calls this one alone is new
+-- The call was entered at one point of the common history, after all that the caller had seen, up to which nobody changed the stage of its thread. The history that it has now seen ends there, and of its own calls this one alone is new
 pub record Enters (a : Account) (c : Call) (r : Result Reply Refusal) (a' : Account) : Type 0 where
   pub before : History
   pub later : BeginsWith before a.seen
   pub plays : List Play
+  pub stage : stage_in before a.thread ≡ stage_in a.seen a.thread
   pub adds : Adds before a.thread c r plays a'.seen
   pub mine : a'.mine ≡ a.mine ++ entry_of a.thread c r plays ∷ []
 
@@ -92,23 +99,39 @@ pub record IsHeld {S : Type 0} {C : Type 0} (me : CoreMe S) (thread : ThreadId) 
   pub own : (account_of me).thread ≡ thread.0
   pub continues : Continues (account_of me) k.history
 
--- the kernel's history is what the caller has now seen. It is legal, and it begins with all that the caller had seen; of this thread it has just the caller's own calls. At its end a line is pending out-of-band only while the out-of-band stage is stalled
+-- the kernel's history is what the caller has now seen. It is legal, and it begins with all that the caller had seen; of this thread it has just the caller's own calls, and nobody changed the thread's stage. At its end a line is pending out-of-band only while the out-of-band stage is stalled
 pub record TookKernel {C : Type 0} (c : CallerState C) (h : HeldState C) : Type 0 where
   pub caller : h.caller ≡ shown h.kernel.history h.kernel.room c
   pub later : BeginsWith h.kernel.history c.account.seen
   pub just : IsAccount h.caller.account
+  pub stage : stage_in h.kernel.history c.account.thread ≡ stage_in c.account.seen c.account.thread
   pub comes : ComesFrom c.machine.first h.kernel
   pub quiet : IsQuiet h.kernel.history
 
 module _ {C : Type 0} where
-  -- what a caller's call is refused by what the caller has itself, before any step: nothing, as long as callers hold nothing and wait for nothing
+  -- the stage of the caller's thread at the end of what it has seen, and for what it waits
+  abbrev pub stage_of_caller : CallerState C → Stage
+  stage_of_caller c = stage_in c.account.seen c.account.thread
+
+  abbrev pub wait_of_caller : CallerState C → Option Unfinished
+  wait_of_caller c = unfinished c.account.mine
+
+  -- what a caller's call is refused by what the caller has itself, before any step
   abbrev pub own_refusal : CallerState C → Call → Option Refusal
-  own_refusal caller c = None
+  own_refusal caller c = call_refusal (wait_of_caller caller) (holds_stax caller.staxes) (holds_mutex caller.mutexes) c
+
+  -- each stax that the caller holds is held at the stage of its thread
+  abbrev pub HoldsAtItsStage : CallerState C → Type 0
+  HoldsAtItsStage c = AreHeldAt (stage_of_caller c) c.staxes
+
+  -- of the caller only what it knows of the kernel changes
+  abbrev pub KernelCall : ℕ → CallerState C → Call → Result Reply Refusal → CallerState C → Type 0
+  KernelCall limit old c r new = (new ≡ record old { account = new.account }) × Answered limit old.account c r new.account
 
   -- an own answer leaves the caller as it was; every other one is the kernel's
   abbrev pub Called : ℕ → CallerState C → Call → Result Reply Refusal → CallerState C → Type 0
-  Called limit old c r new = MatchOption (own_refusal old c) (Answered limit old.account c r new.account) (λ refusal. (r ≡ Err refusal) × (new ≡ old))
+  Called limit old c r new = MatchOption (own_refusal old c) (KernelCall limit old c r new) (λ refusal. (r ≡ Err refusal) × (new ≡ old))
 
-  -- the same of a caller that has the kernel
+  -- the same of a caller that has the kernel, which goes by what it would know if it gave the kernel back
   abbrev pub CalledHeld : HeldState C → Call → Result Reply Refusal → HeldState C → Type 0
-  CalledHeld old c r new = MatchOption (own_refusal old.caller c) ((new.caller ≡ old.caller) × Applied old.kernel old.caller.account.thread c r new.kernel) (λ refusal. (r ≡ Err refusal) × (new ≡ old))
+  CalledHeld old c r new = MatchOption (own_refusal (returned old.kernel.history old.caller) c) ((new.caller ≡ old.caller) × Applied old.kernel old.caller.account.thread c r new.kernel) (λ refusal. (r ≡ Err refusal) × (new ≡ old))

@@ -7,7 +7,16 @@ pub mod QuietCore
 pub mod ThreadRule
 pub mod Seats
 pub mod Known
+pub mod Homes
+pub mod AtSeats
+pub mod StaxSeats
+pub mod MutexSeats
+pub mod Unfinished
+pub mod Actors
 pub mod Handles
 pub mod Events
 pub mod Calls
+pub mod StaxCalls
+pub mod Makings
 pub mod Closings
+pub mod Locking

@@ -1,5 +1,5 @@
 -- A kernel whose out-of-band stage holds nothing back but by a stall, and that forgets nothing that is due.
-use Rattle.std.specs.Prelude.{ℕ, ◌≡◌, List, [], ◌∷◌, true, Some}
+use Rattle.std.specs.Prelude.{ℕ, ◌≡◌, [], ◌∷◌, true, Some}
 use mathlib.Core.Option.{some}
 use Rattle.evl_base.specs.declared.stage.Stage.TheVariants.{Oob}
 use Rattle.evl_pipeline.specs.Lines.{is_pending}

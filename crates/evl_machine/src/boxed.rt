@@ -1,12 +1,13 @@
 //! The machine of stored callbacks. These types have no `Model`, since they name the callbacks' type; each keeps, as a
 //! fact, that the callbacks answer what is told of them.
-ghost use Rattle.std.specs.Prelude.{◌≡◌, ◌≢◌, ◌⊎◌, ◌↔◌, false, length, All, IfOk, IfErr, MatchResult};
+ghost use Rattle.std.specs.Prelude.{◌≡◌, ◌≢◌, ◌⊎◌, ◌↔◌, false, length, map, All, IfOk, IfErr, MatchResult};
 ghost use Rattle.evl_kernel.specs.Callbacks.{AnswersAsTold};
 ghost use Rattle.evl_kernel.specs.KernelViews.{IsOpened};
 ghost use Rattle.evl_kernel.specs.Openings.{can_open};
 ghost use Rattle.evl_machine.specs.Handles.{Belongs, IsSameCaller, newcomers_of, returned};
+ghost use Rattle.evl_machine.specs.Homes.{AreHomes};
 ghost use Rattle.evl_machine.specs.Events.{FailsToTake, Gives, Takes};
-ghost use Rattle.evl_machine.specs.Calls.{Called, CalledHeld, TookKernel};
+ghost use Rattle.evl_machine.specs.Calls.{Called, CalledHeld, HoldsAtItsStage, TookKernel};
 ghost use Rattle.evl_machine.specs.Closings.{Closes, KeepsOpen};
 
 use crate::caller::CallerOf;
@@ -18,7 +19,7 @@ use evl_pipeline::Callback;
 use std::alloc::Global;
 
 /// A caller of a machine of stored callbacks.
-pub type Caller = CallerOf<Callback>;
+pub type Caller = CallerOf<Callback, Global>;
 
 type MachineCore = MachineOf<Callback, Global>;
 
@@ -53,6 +54,7 @@ impl Machine {
     ) -> Result<(Machine, Vec<Caller>), Refusal>
         ensures opened { IfOk result (λ m. IsOpened (λ c. c.kinds.0) (λ c. c.plan.value) board bank.items limit m.0.of.first) }
         ensures callers { IfOk result (λ m. m.1.items ≡ newcomers_of m.0.of board.threads) }
+        ensures homes { IfOk result (λ m. AreHomes board.staxes.items m.0.of.staxes × AreHomes (map (λ k. board.threads) board.mutexes.items) m.0.of.mutexes) }
         ensures range { (result ≡ Err Refusal.Range) ↔ (can_open board (length bank.items) limit ≡ false) }
         ensures refusals { IfErr result (λ e. (e ≡ Refusal.Range) ⊎ (e ≡ Refusal.NoMemory)) }
     {
@@ -62,12 +64,16 @@ impl Machine {
 
     /// One call of the kernel, by the host thread that makes it.
     ///
-    /// `CoreBusy` only where another caller has the kernel; every other answer is the kernel's, of which `NoMemory` and
-    /// `HistoryFull` make no entry (this profile).
+    /// By what the caller has itself, and with no step: `Invalid` for `Claim`, `Release` and `Raise`, for the `Finish` of a
+    /// wait for a mutex, and for a `Finish` whose `keep` isn't whether the caller holds a stax or a mutex; `HoldsStax` for
+    /// `Attach`, `Detach` and `SetStage` while it holds a stax; `Busy` for `Detach` while it holds a mutex. Then `CoreBusy`
+    /// only where another caller has the kernel; every other answer is the kernel's, of which `NoMemory` and `HistoryFull`
+    /// make no entry (this profile).
     pub fn try_call(&self, caller: &mut Caller, call: Call) -> Result<Reply, Refusal>
         requires { Belongs caller.old self.now.of }
         ensures machine { IsSameCaller caller.old caller.new }
         ensures called { Called self.now.of.first.limit caller.old call result caller.new }
+        ensures stage { HoldsAtItsStage caller.new }
     {
         self.of.try_call(caller, call)
     }
@@ -107,7 +113,8 @@ impl Machine {
 impl<'a> Held<'a> {
     /// One call of the kernel, which is entered among all callers' calls when the kernel is given back.
     ///
-    /// Each answer is the kernel's, of which `NoMemory` and `HistoryFull` make no entry (this profile).
+    /// By what the caller has itself it is refused as `try_call` refuses it; each other answer is the kernel's, of which
+    /// `NoMemory` and `HistoryFull` make no entry (this profile).
     pub fn apply(&mut self, call: Call) -> Result<Reply, Refusal>
         ensures same { self.new.of.caller ≡ self.old.of.caller }
         ensures called { CalledHeld self.old.of call result self.new.of }
@@ -124,6 +131,7 @@ impl<'a> Held<'a> {
 
     /// Puts the kernel back. The caller has then seen its history (this profile).
     pub fn give(self) -> Caller
+        ensures stage { HoldsAtItsStage result }
         ensures given { result ≡ returned self.entry.of.kernel.history self.entry.of.caller }
         ensures event { Gives self.entry.of.caller.machine.first self.entry.of.caller.account self.entry.of.kernel result.account }
     {

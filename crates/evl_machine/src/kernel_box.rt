@@ -2,6 +2,7 @@
 ghost use Rattle.std.specs.Prelude.{◌≡◌, IfOk};
 ghost use Rattle.evl_kernel.specs.Callbacks.{AnswersAsTold};
 ghost use Rattle.evl_machine.specs.Calls.{Applied};
+ghost use Rattle.evl_machine.specs.Locking.{Reserves};
 
 use evl_base::{Call, Refusal, Reply, ThreadId};
 use evl_kernel::KernelOf;
@@ -53,6 +54,13 @@ impl<C, A: Allocator> KernelBox<C, A> {
 }
 
 impl<C: Handler, A: Allocator> KernelBox<C, A> {
+    /// Makes room for one call.
+    pub(crate) fn reserve(&mut self) -> Result<(), Refusal>
+        ensures { Reserves self.old result self.new }
+    {
+        self.kernel.reserve(1)
+    }
+
     /// One call of the kernel.
     pub(crate) fn apply(&mut self, caller: ThreadId, call: Call) -> Result<Reply, Refusal>
         requires { AnswersAsTold C.declared C.plan self.old.callbacks }

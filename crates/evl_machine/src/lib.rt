@@ -1,15 +1,20 @@
 //! The machine: the kernel in a lock of one word and one slot, and the callers that take it in turn.
 #![tactic(auto)]
 
+mod actor;
 mod boxed;
 mod caller;
 mod closing;
 mod core_lock;
+mod elements;
 mod held;
 mod kernel_box;
 pub mod laws;
+mod locking;
 mod machine;
 mod making;
+mod staxes;
+mod unfinished;
 mod views;
 mod waiting;
 
@@ -18,5 +23,7 @@ pub use caller::CallerOf;
 pub use core_lock::{CoreHand, CoreLock, CoreRule, CoreSeat};
 pub use held::HeldOf;
 pub use kernel_box::KernelBox;
+pub use locking::{Begun, Ended};
 pub use machine::MachineOf;
+pub use unfinished::{Unfinished, WaitStep};
 pub use views::{Account, CorePart, CoreView, Made, Past, ThreadView};

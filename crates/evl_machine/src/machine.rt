@@ -6,10 +6,16 @@ ghost use Rattle.evl_machine.specs.Accounts.{informed};
 ghost use Rattle.evl_machine.specs.Known.{ComesFrom, first_of, past_of, room_of, seen};
 ghost use Rattle.evl_machine.specs.Handles.{Belongs, Continues, IsSameCaller, Taken, account_of, holding, seated};
 ghost use Rattle.evl_machine.specs.Events.{FailsToTake, Gives, Takes};
-ghost use Rattle.evl_machine.specs.Calls.{Answered, Called, IsCaller, answer_of};
+ghost use Rattle.std.specs.Prelude.{None, false, true};
+ghost use Rattle.evl_kernel.specs.Families.{moves_caller, task_of};
+ghost use Rattle.evl_machine.specs.Actors.{AreHeldAt, IsSameActor, Suits};
+ghost use Rattle.evl_machine.specs.StaxSeats.{holds_stax};
+ghost use Rattle.evl_machine.specs.Calls.{Answered, Called, HoldsAtItsStage, IsCaller, KernelCall, answer_of, own_refusal};
 
+use crate::actor::Actor;
 use crate::caller::{CallerOf, badge_of, seat_of};
 use crate::core_lock::{CoreLock, CoreSeat, Give, Take};
+use crate::elements::{Gates, MutexWords};
 use crate::kernel_box::KernelBox;
 use atomic_table::Badge;
 use evl_base::{Call, Refusal, Reply, ThreadId};
@@ -24,18 +30,23 @@ use std::mem;
 pub struct MachineOf<C: Drop, A: Allocator> {
     pub(crate) core: CoreLock<C, A>,
     pub(crate) threads: u16,
+    pub(crate) gates: Gates<A>,
+    pub(crate) words: MutexWords<A>,
 }
 
 impl<C: Drop, A: Allocator> Model for MachineOf<C, A> {
     ghost use Rattle.std.specs.Prelude.{◌≡◌};
     ghost use Rattle.evl_machine.specs.Accounts.{threads_of};
+    ghost use Rattle.std.specs.Prelude.{map, true};
+    ghost use Rattle.evl_base.specs.Board.{board_fits};
+    ghost use Rattle.evl_machine.specs.Homes.{gate_home, word_home};
     ghost use Rattle.evl_machine.specs.Handles.{MachineState};
 
     ghost Value = { MachineState C };
 
-    ghost view = { λ m. record { id = m.core.shared.table_id; first = m.core.shared.key.value } };
+    ghost view = { λ m. record { id = m.core.shared.table_id; first = m.core.shared.key.value; staxes = map gate_home m.gates; mutexes = map word_home m.words.words } };
 
-    ghost invariant = { λ m. (m.core.shared.table_id.words ≡ 1) × (m.core.shared.table_id.slots ≡ 1) × (threads_of m.core.shared.key.value.history ≡ m.threads) };
+    ghost invariant = { λ m. (m.core.shared.table_id.words ≡ 1) × (m.core.shared.table_id.slots ≡ 1) × (threads_of m.core.shared.key.value.history ≡ m.threads) × (m.words.kinds ≡ m.core.shared.key.value.history.board.mutexes.items) × (board_fits m.core.shared.key.value.history.board ≡ true) };
 }
 
 impl<C: Drop, A: Allocator> MachineOf<C, A> {
@@ -76,13 +87,18 @@ impl<C: Handler, A: Allocator> MachineOf<C, A> {
     fn call_with(
         &self,
         seat: &mut CoreSeat<C, A>,
-        thread: ThreadId,
+        actor: &mut Actor<A>,
         call: Call,
     ) -> Result<Result<Reply, Refusal>, Call>
-        requires caller { (seat.old.table_id ≡ self.now.id) × IsCaller (seen seat.old.me) thread }
+        requires caller { (seat.old.table_id ≡ self.now.id) × IsCaller (seen seat.old.me) actor.old.thread }
+        requires suits { Suits actor.old (account_of (seen seat.old.me)).seen }
+        requires held { AreHeldAt actor.old.stage actor.old.staxes }
+        requires stays { holds_stax actor.old.staxes ≡ true → moves_caller (task_of call) ≡ false }
         requires answering { AnswersAsTold C.declared C.plan (first_of seat.old.me.0).callbacks }
-        ensures same { (seat.new.table_id ≡ seat.old.table_id) × (first_of seat.new.me.0 ≡ first_of seat.old.me.0) }
-        ensures rests { IsCaller (seen seat.new.me) thread }
+        ensures same { (seat.new.table_id ≡ seat.old.table_id) × (first_of seat.new.me.0 ≡ first_of seat.old.me.0) × IsSameActor actor.old actor.new }
+        ensures rests { IsCaller (seen seat.new.me) actor.new.thread }
+        ensures suits { Suits actor.new (account_of (seen seat.new.me)).seen }
+        ensures held { AreHeldAt actor.new.stage actor.new.staxes }
         ensures called { Answered (first_of seat.old.me.0).limit (account_of (seen seat.old.me)) call (answer_of result) (account_of (seen seat.new.me)) }
         ensures entered { IfOk result (λ answer. answer ≢ Err CoreBusy) }
         ensures back { IfErr result (λ back. back ≡ call) }
@@ -90,41 +106,50 @@ impl<C: Handler, A: Allocator> MachineOf<C, A> {
         let Some(mut kernel) = self.take_kernel(seat) else {
             return Err(call);
         };
-        let reply = kernel.apply(thread, call);
+        let reply = actor.apply(&mut kernel, call);
         self.give_kernel(seat, kernel);
         Ok(reply)
     }
 
-    /// One call of the kernel, by the host thread that makes it; the call comes back where another caller has the kernel.
+    /// One call of the kernel, by the host thread that makes it, which the caller itself doesn't refuse; the call comes back
+    /// where another caller has the kernel.
     pub(crate) fn attempt(
         &self,
-        caller: &mut CallerOf<C>,
+        caller: &mut CallerOf<C, A>,
         call: Call,
     ) -> Result<Result<Reply, Refusal>, Call>
         requires machine { Belongs caller.old self.now }
+        requires free { own_refusal caller.old call ≡ None }
         requires answering { AnswersAsTold C.declared C.plan self.now.first.callbacks }
-        ensures machine { IsSameCaller caller.old caller.new }
-        ensures called { Called self.now.first.limit caller.old call (answer_of result) caller.new }
+        ensures called { KernelCall self.now.first.limit caller.old call (answer_of result) caller.new }
+        ensures stage { HoldsAtItsStage caller.new }
         ensures entered { IfOk result (λ answer. answer ≢ Err CoreBusy) }
         ensures back { IfErr result (λ back. back ≡ call) }
     {
         let badge = mem::replace(&mut caller.core, Badge::blank());
         let mut seat = seat_of::<C, A>(badge, caller.actor.thread);
-        let answer = self.call_with(&mut seat, caller.actor.thread, call);
+        let answer = self.call_with(&mut seat, &mut caller.actor, call);
         caller.core = badge_of(seat, caller.actor.thread);
         answer
     }
 
     /// One call of the kernel, by the host thread that makes it.
     ///
-    /// `CoreBusy` only where another caller has the kernel; every other answer is the kernel's, of which `NoMemory` and
-    /// `HistoryFull` make no entry (this profile).
-    pub fn try_call(&self, caller: &mut CallerOf<C>, call: Call) -> Result<Reply, Refusal>
+    /// By what the caller has itself, and with no step: `Invalid` for `Claim`, `Release` and `Raise`, for the `Finish` of a
+    /// wait for a mutex, and for a `Finish` whose `keep` isn't whether the caller holds a stax or a mutex; `HoldsStax` for
+    /// `Attach`, `Detach` and `SetStage` while it holds a stax; `Busy` for `Detach` while it holds a mutex. Then `CoreBusy`
+    /// only where another caller has the kernel; every other answer is the kernel's, of which `NoMemory` and `HistoryFull`
+    /// make no entry (this profile).
+    pub fn try_call(&self, caller: &mut CallerOf<C, A>, call: Call) -> Result<Reply, Refusal>
         requires machine { Belongs caller.old self.now }
         requires answering { AnswersAsTold C.declared C.plan self.now.first.callbacks }
         ensures machine { IsSameCaller caller.old caller.new }
         ensures called { Called self.now.first.limit caller.old call result caller.new }
+        ensures stage { HoldsAtItsStage caller.new }
     {
+        if let Some(refusal) = caller.actor.refusal(&call) {
+            return Err(refusal);
+        }
         match self.attempt(caller, call) {
             Ok(answer) => answer,
             Err(_) => Err(Refusal::CoreBusy),

@@ -7,9 +7,18 @@ ghost use Rattle.evl_kernel.specs.Openings.{can_open};
 ghost use Rattle.evl_machine.specs.Accounts.{threads_of};
 ghost use Rattle.evl_machine.specs.Known.{first_known};
 ghost use Rattle.evl_machine.specs.Handles.{newcomers_of};
+ghost use Rattle.evl_machine.specs.Makings.{AreMade};
+ghost use Rattle.std.specs.Prelude.{◌<◌, map, true, vec_capacity, vec_len};
+ghost use Rattle.std.specs.List.{range_with_len};
+ghost use Rattle.evl_base.specs.Board.{board_fits};
+ghost use Rattle.evl_machine.specs.Homes.{AreHomes, gate_home, word_home};
+ghost use Rattle.evl_words.specs.GateCalls.{new_seat};
+ghost use Rattle.evl_words.specs.MutexCalls.{new_seat as of_mutex};
 
-use crate::caller::{Actor, CallerOf, badge_of};
+use crate::actor::Actor;
+use crate::caller::{CallerOf, badge_of};
 use crate::core_lock::{CoreLock, CoreSeat};
+use crate::elements::{Elements, Gates, MutexSeats, MutexWords, StaxSeats};
 use crate::kernel_box::KernelBox;
 use crate::machine::MachineOf;
 use atomic_table::Table;
@@ -33,7 +42,7 @@ impl<C: Handler, A: Allocator> MachineOf<C, A> {
         board: Board,
         bank: Vec<C, A>,
         limit: u32,
-    ) -> Result<(MachineOf<C, A>, Vec<CallerOf<C>, A>), Refusal>
+    ) -> Result<(MachineOf<C, A>, Vec<CallerOf<C, A>, A>), Refusal>
     where
         A: Clone,
         ensures opened { IfOk result (λ m. IsOpened C.declared C.plan board bank.items limit m.0.first) }
@@ -41,39 +50,145 @@ impl<C: Handler, A: Allocator> MachineOf<C, A> {
         ensures callers { IfOk result (λ m. m.1.items ≡ newcomers_of m.0 board.threads) }
         ensures range { (result ≡ Err Refusal.Range) ↔ (can_open board (length bank.items) limit ≡ false) }
         ensures refusals { IfErr result (λ e. (e ≡ Refusal.Range) ⊎ (e ≡ Refusal.NoMemory)) }
+        ensures homes { IfOk result (λ m. AreHomes board.staxes.items m.0.staxes × AreHomes (map (λ k. board.threads) board.mutexes.items) m.0.mutexes) }
     {
         let threads = board.threads;
-        let for_machine: Result<A, AllocError> = alloc.clone();
+        let parts: Result<Parts<C, A>, AllocError> = Parts::of(&alloc, &board);
         let kernel = KernelOf::over(alloc, boxes, board, bank, limit)?;
-        let Ok(spare) = for_machine else {
-            return Err(Refusal::NoMemory);
-        };
-        match seated(spare, kernel, threads) {
-            Ok(made) => Ok(made),
+        match parts {
+            Ok(parts) => {
+                let made = joined(kernel, parts, threads)?;
+                Ok(made)
+            }
             Err(_) => Err(Refusal::NoMemory),
         }
     }
 }
 
-/// A machine with this kernel, and a caller for each thread.
-fn seated<C: Drop, A: Allocator + Clone>(
+/// What a machine is made of beside its kernel: the words of its elements with their seats, room for its callers, and
+/// the allocator of its core.
+#[derive(Drop)]
+struct Parts<C, A: Allocator> {
     alloc: A,
+    elements: Elements<A>,
+    callers: Vec<CallerOf<C, A>, A>,
+}
+
+impl<C, A: Allocator + Clone> Parts<C, A> {
+    /// The parts for a board within its limits.
+    fn of(alloc: &A, board: &Board) -> Result<Parts<C, A>, AllocError>
+        ensures fits { IfOk result (λ p. board_fits board.now ≡ true) }
+        ensures room { IfOk result (λ p. (p.callers.items ≡ []) × (board.now.threads ≤ vec_capacity p.callers)) }
+        ensures made { IfOk result (λ p. AreMade board.now p.elements) }
+    {
+        if board.check().is_err() {
+            return Err(AllocError);
+        }
+        let limits = board.staxes.as_slice();
+        let elements = Elements::new(
+            alloc.clone()?,
+            limits,
+            board.mutexes.as_slice(),
+            board.threads,
+        )?;
+        let callers = Vec::with_capacity(alloc.clone()?, usize::from(board.threads))?;
+        Ok(Parts {
+            alloc: alloc.clone()?,
+            elements,
+            callers,
+        })
+    }
+}
+
+/// A machine of this new kernel and these parts, and a caller for each thread.
+fn joined<C: Drop, A: Allocator + Clone>(
     kernel: KernelOf<C, A>,
+    parts: Parts<C, A>,
     threads: u16,
-) -> Result<(MachineOf<C, A>, Vec<CallerOf<C>, A>), AllocError>
+) -> Result<(MachineOf<C, A>, Vec<CallerOf<C, A>, A>), Refusal>
     requires new { IsLegal kernel.history × (kernel.history.entries ≡ []) }
     requires threads { threads_of kernel.history ≡ threads }
+    requires board { board_fits kernel.history.board ≡ true }
+    requires room { (parts.callers.items ≡ []) × (threads ≤ vec_capacity parts.callers) }
+    requires made { AreMade kernel.history.board parts.elements }
     ensures first { IfOk result (λ m. m.0.first ≡ kernel) }
+    ensures homes { IfOk result (λ m. (m.0.staxes ≡ map gate_home parts.elements.gates) × (m.0.mutexes ≡ map word_home parts.elements.words.words)) }
     ensures callers { IfOk result (λ m. m.1.items ≡ newcomers_of m.0 threads) }
+    ensures refusal { IfErr result (λ e. e ≡ Refusal.NoMemory) }
+{
+    let Parts {
+        alloc,
+        elements,
+        callers,
+    } = parts;
+    match core_of(alloc, kernel) {
+        Ok((core, root)) => Ok(seated(core, root, callers, elements, threads)),
+        Err(_) => Err(Refusal::NoMemory),
+    }
+}
+
+/// The core's lock with this kernel in its slot, and the token that acts for all threads.
+fn core_of<C: Drop, A: Allocator + Clone>(
+    alloc: A,
+    kernel: KernelOf<C, A>,
+) -> Result<(CoreLock<C, A>, CoreSeat<C, A>), AllocError>
+    requires new { IsLegal kernel.history × (kernel.history.entries ≡ []) }
+    ensures key { IfOk result (λ m. m.0.shared.key.value ≡ kernel) }
+    ensures table { IfOk result (λ m. (m.0.shared.table_id.words ≡ 1) × (m.0.shared.table_id.slots ≡ 1) × (m.1.table_id ≡ m.0.shared.table_id)) }
+    ensures root { IfOk result (λ m. m.1.me ≡ (first_known m.0.shared.key.value, [])) }
 {
     let key = Snapshot::of(&kernel);
-    let mut callers = Vec::with_capacity(alloc.clone()?, usize::from(threads))?;
     let slots = one_slot(alloc.clone()?, kernel)?;
-    let Ok((core, root)) = Table::new(alloc, &[0], slots, &key) else {
-        return Err(AllocError);
-    };
-    seat_callers(&core, root, &mut callers, threads)?;
-    Ok((MachineOf { core, threads }, callers))
+    match Table::new(alloc, &[0], slots, &key) {
+        Ok(made) => Ok(made),
+        Err(_) => Err(AllocError),
+    }
+}
+
+/// A machine of this core and these elements, and a caller for each thread.
+fn seated<C: Drop, A: Allocator>(
+    core: CoreLock<C, A>,
+    root: CoreSeat<C, A>,
+    mut callers: Vec<CallerOf<C, A>, A>,
+    elements: Elements<A>,
+    threads: u16,
+) -> (MachineOf<C, A>, Vec<CallerOf<C, A>, A>)
+    requires table { (core.shared.table_id.words ≡ 1) × (core.shared.table_id.slots ≡ 1) × (root.table_id ≡ core.shared.table_id) }
+    requires root { root.me ≡ (first_known core.shared.key.value, []) }
+    requires threads { threads_of core.shared.key.value.history ≡ threads }
+    requires new { IsLegal core.shared.key.value.history × (core.shared.key.value.history.entries ≡ []) }
+    requires room { (callers.items ≡ []) × (threads ≤ vec_capacity callers) }
+    requires board { board_fits core.shared.key.value.history.board ≡ true }
+    requires made { AreMade core.shared.key.value.history.board elements }
+    ensures first { result.0.first ≡ core.shared.key.value }
+    ensures homes { (result.0.staxes ≡ map gate_home elements.gates) × (result.0.mutexes ≡ map word_home elements.words.words) }
+    ensures callers { result.1.items ≡ newcomers_of result.0 threads }
+{
+    let Elements {
+        gates,
+        words,
+        staxes,
+        mutexes,
+    } = elements;
+    seat_callers(
+        &core,
+        root,
+        &mut callers,
+        &gates,
+        &words,
+        staxes,
+        mutexes,
+        threads,
+    );
+    (
+        MachineOf {
+            core,
+            threads,
+            gates,
+            words,
+        },
+        callers,
+    )
 }
 
 /// The core's one slot, in which the kernel lies.
@@ -88,28 +203,40 @@ fn one_slot<C: Drop, A: Allocator + Clone>(
     Ok(slots)
 }
 
-/// Gives each thread's account to a caller of its own.
+/// Gives each thread's account, and its seats at the staxes and mutexes, to a caller of its own.
 fn seat_callers<C: Drop, A: Allocator>(
     core: &CoreLock<C, A>,
     root: CoreSeat<C, A>,
-    callers: &mut Vec<CallerOf<C>, A>,
+    callers: &mut Vec<CallerOf<C, A>, A>,
+    gates: &Gates<A>,
+    words: &MutexWords<A>,
+    mut staxes: Vec<StaxSeats<A>, A>,
+    mut mutexes: Vec<MutexSeats<A>, A>,
     threads: u16,
-) -> Result<(), AllocError>
+)
     requires table { (root.table_id ≡ core.now.shared.table_id) × (core.now.shared.table_id.words ≡ 1) }
     requires first { root.me ≡ (first_known core.now.shared.key.value, []) }
     requires threads { threads_of core.now.shared.key.value.history ≡ threads }
     requires new { IsLegal core.now.shared.key.value.history × (core.now.shared.key.value.history.entries ≡ []) }
-    requires empty { callers.old.items ≡ [] }
-    ensures { IfOk result (λ _. callers.new.items ≡ newcomers_of (record { id = core.now.shared.table_id; first = core.now.shared.key.value }) threads) }
+    requires room { (callers.old.items ≡ []) × (threads ≤ vec_capacity callers.old) }
+    requires seats { (staxes.items ≡ map (λ k. map (λ g. new_seat g k) gates.now) (range_with_len 0 threads)) × (mutexes.items ≡ map (λ k. map (λ m. of_mutex m k) words.now.words) (range_with_len 0 threads)) }
+    ensures { callers.new.items ≡ newcomers_of (record { id = core.now.shared.table_id; first = core.now.shared.key.value; staxes = map gate_home gates.now; mutexes = map word_home words.now.words }) threads }
 {
     let mut rest = root;
     for number in 0..threads {
         let others = core.shared.split_seat::<Deal>(&mut rest);
         let thread = ThreadId(number);
         let core = badge_of(rest, thread);
-        let actor = Actor { thread };
-        callers.push(CallerOf { actor, core })?;
+        let actor = Actor::new(thread, first_of(&mut staxes), first_of(&mut mutexes));
+        callers.push_reserved(CallerOf { actor, core });
         rest = others;
     }
-    Ok(())
+}
+
+/// The first of some things is taken away.
+fn first_of<S: Drop, A: Allocator>(things: &mut Vec<S, A>) -> S
+    requires { 0 < vec_len things.old }
+    ensures { things.old.items ≡ result ∷ things.new.items }
+{
+    things.remove(0)
 }

@@ -3,7 +3,7 @@ ghost use Rattle.std.specs.Prelude.{◌≡◌, ◌≢◌, Err};
 ghost use Rattle.evl_kernel.specs.Callbacks.{AnswersAsTold};
 ghost use Rattle.evl_base.specs.declared.refusal.Refusal.TheVariants.{CoreBusy};
 ghost use Rattle.evl_machine.specs.Handles.{Belongs, IsSameCaller};
-ghost use Rattle.evl_machine.specs.Calls.{Called};
+ghost use Rattle.evl_machine.specs.Calls.{Called, HoldsAtItsStage};
 
 use crate::boxed::{Caller, Machine};
 use crate::caller::CallerOf;
@@ -18,19 +18,24 @@ impl<C: Handler, A: Allocator> MachineOf<C, A> {
     /// One call of the kernel, however long other callers have it: `try_call` until it isn't answered `CoreBusy`. The call is
     /// handed over once the caller has the kernel, and is never copied.
     ///
-    /// Every answer is the kernel's, of which `NoMemory` and `HistoryFull` make no entry (this profile).
+    /// It is refused with no step as `try_call` refuses it; every other answer is the kernel's, of which `NoMemory` and
+    /// `HistoryFull` make no entry (this profile).
     pub fn call<R: Wait>(
         &self,
         rt: &R,
-        caller: &mut CallerOf<C>,
+        caller: &mut CallerOf<C, A>,
         call: Call,
     ) -> Result<Reply, Refusal>
         requires machine { Belongs caller.old self.now }
         requires answering { AnswersAsTold C.declared C.plan self.now.first.callbacks }
         ensures machine { IsSameCaller caller.old caller.new }
         ensures called { Called self.now.first.limit caller.old call result caller.new }
+        ensures stage { HoldsAtItsStage caller.new }
         ensures entered { result ≢ Err CoreBusy }
     {
+        if let Some(refusal) = caller.actor.refusal(&call) {
+            return Err(refusal);
+        }
         let mut waiting = call;
         for _ in rt.forever() {
             match self.attempt(caller, waiting) {
@@ -48,11 +53,13 @@ impl<C: Handler, A: Allocator> MachineOf<C, A> {
 impl Machine {
     /// One call of the kernel, however long other callers have it: `try_call` until it isn't answered `CoreBusy`.
     ///
-    /// Every answer is the kernel's, of which `NoMemory` and `HistoryFull` make no entry (this profile).
+    /// It is refused with no step as `try_call` refuses it; every other answer is the kernel's, of which `NoMemory` and
+    /// `HistoryFull` make no entry (this profile).
     pub fn call<R: Wait>(&self, rt: &R, caller: &mut Caller, call: Call) -> Result<Reply, Refusal>
         requires { Belongs caller.old self.now.of }
         ensures machine { IsSameCaller caller.old caller.new }
         ensures called { Called self.now.of.first.limit caller.old call result caller.new }
+        ensures stage { HoldsAtItsStage caller.new }
         ensures entered { result ≢ Err CoreBusy }
     {
         self.of.call(rt, caller, call)

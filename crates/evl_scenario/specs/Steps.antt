@@ -13,7 +13,67 @@ use Rattle.evl_scenario.specs.Takes.{take_from}
 use Rattle.evl_scenario.specs.Transfers.{bytes_from, way_from}
 use Rattle.evl_scenario.specs.Values.{number_from, word_from, half_word_from, byte_from, thread_from, line_from, sem_from, flag_from, xbuf_from, mutex_from, timer_from, stage_from, truth_from, until_from}
 
--- the word that a text is
+-- the word of a step on mutexes, or at the end of a wait
+abbrev pub wait_word : List ℕ → Option StepWord
+wait_word text =
+    if bytes_eq text (codes "claim") then Some Claim
+    else if bytes_eq text (codes "release") then Some Release
+    else if bytes_eq text (codes "raise") then Some Raise
+    else if bytes_eq text (codes "finish") then Some Finish
+    else None
+
+-- the word of a step on cross-buffers, or of one of those above
+abbrev pub buffer_word : List ℕ → Option StepWord
+buffer_word text =
+    if bytes_eq text (codes "write") then Some Write
+    else if bytes_eq text (codes "read") then Some Read
+    else if bytes_eq text (codes "room") then Some Room
+    else if bytes_eq text (codes "begin_write") then Some BeginWrite
+    else if bytes_eq text (codes "begin_read") then Some BeginRead
+    else wait_word text
+
+-- the word of a step on flag groups, or of one of those above
+abbrev pub flag_word : List ℕ → Option StepWord
+flag_word text =
+    if bytes_eq text (codes "try_take") then Some TryTake
+    else if bytes_eq text (codes "post_flags") then Some PostFlags
+    else if bytes_eq text (codes "peek_flags") then Some PeekFlags
+    else if bytes_eq text (codes "begin_take") then Some BeginTake
+    else buffer_word text
+
+-- the word of a step on semaphores, or of one of those above
+abbrev pub sem_word : List ℕ → Option StepWord
+sem_word text =
+    if bytes_eq text (codes "try_get") then Some TryGet
+    else if bytes_eq text (codes "put") then Some Put
+    else if bytes_eq text (codes "peek") then Some Peek
+    else if bytes_eq text (codes "begin_get") then Some BeginGet
+    else flag_word text
+
+-- the word of a step on threads, or of one of those above
+abbrev pub thread_word : List ℕ → Option StepWord
+thread_word text =
+    if bytes_eq text (codes "attach") then Some Attach
+    else if bytes_eq text (codes "detach") then Some Detach
+    else if bytes_eq text (codes "set_policy") then Some SetPolicy
+    else if bytes_eq text (codes "set_stage") then Some SetStage
+    else if bytes_eq text (codes "pick") then Some Pick
+    else if bytes_eq text (codes "rank_of") then Some RankOf
+    else sem_word text
+
+-- the word of a step on the clock and its timers, or of one of those above
+abbrev pub clock_word : List ℕ → Option StepWord
+clock_word text =
+    if bytes_eq text (codes "tick") then Some Tick
+    else if bytes_eq text (codes "now") then Some Now
+    else if bytes_eq text (codes "new_timer") then Some NewTimer
+    else if bytes_eq text (codes "start_timer") then Some StartTimer
+    else if bytes_eq text (codes "stop_timer") then Some StopTimer
+    else if bytes_eq text (codes "drop_timer") then Some DropTimer
+    else if bytes_eq text (codes "overruns") then Some Overruns
+    else thread_word text
+
+-- the word that a text is: that of a step on lines, or of one of those above
 abbrev pub word_of : List ℕ → Option StepWord
 word_of text =
     if bytes_eq text (codes "request") then Some Request
@@ -22,37 +82,7 @@ word_of text =
     else if bytes_eq text (codes "post") then Some Post
     else if bytes_eq text (codes "stall") then Some Stall
     else if bytes_eq text (codes "unstall") then Some Unstall
-    else if bytes_eq text (codes "tick") then Some Tick
-    else if bytes_eq text (codes "now") then Some Now
-    else if bytes_eq text (codes "new_timer") then Some NewTimer
-    else if bytes_eq text (codes "start_timer") then Some StartTimer
-    else if bytes_eq text (codes "stop_timer") then Some StopTimer
-    else if bytes_eq text (codes "drop_timer") then Some DropTimer
-    else if bytes_eq text (codes "overruns") then Some Overruns
-    else if bytes_eq text (codes "attach") then Some Attach
-    else if bytes_eq text (codes "detach") then Some Detach
-    else if bytes_eq text (codes "set_policy") then Some SetPolicy
-    else if bytes_eq text (codes "set_stage") then Some SetStage
-    else if bytes_eq text (codes "pick") then Some Pick
-    else if bytes_eq text (codes "rank_of") then Some RankOf
-    else if bytes_eq text (codes "try_get") then Some TryGet
-    else if bytes_eq text (codes "put") then Some Put
-    else if bytes_eq text (codes "peek") then Some Peek
-    else if bytes_eq text (codes "begin_get") then Some BeginGet
-    else if bytes_eq text (codes "try_take") then Some TryTake
-    else if bytes_eq text (codes "post_flags") then Some PostFlags
-    else if bytes_eq text (codes "peek_flags") then Some PeekFlags
-    else if bytes_eq text (codes "begin_take") then Some BeginTake
-    else if bytes_eq text (codes "write") then Some Write
-    else if bytes_eq text (codes "read") then Some Read
-    else if bytes_eq text (codes "room") then Some Room
-    else if bytes_eq text (codes "begin_write") then Some BeginWrite
-    else if bytes_eq text (codes "begin_read") then Some BeginRead
-    else if bytes_eq text (codes "claim") then Some Claim
-    else if bytes_eq text (codes "release") then Some Release
-    else if bytes_eq text (codes "raise") then Some Raise
-    else if bytes_eq text (codes "finish") then Some Finish
-    else None
+    else clock_word text
 
 -- the keys of a step with this word
 abbrev pub keys_of : StepWord → List (List ℕ)

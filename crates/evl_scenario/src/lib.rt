@@ -2,6 +2,7 @@
 #![tactic(auto)]
 
 mod boards;
+mod calls;
 mod faults;
 mod lines;
 mod policies;

@@ -1,10 +1,11 @@
 //! The steps of a scenario.
 ghost use Rattle.std.specs.Prelude.{◌≡◌, ◌≤◌, map};
 ghost use Rattle.toml.specs.View.{view, table_view};
-ghost use Rattle.evl_scenario.specs.Steps.{word_of, keys_of, call_of, step_of};
+ghost use Rattle.evl_scenario.specs.Steps.{word_of, clock_word, thread_word, sem_word, flag_word, buffer_word, wait_word, keys_of, call_of, step_of};
 
-use crate::tables::{at, at_or, at_text, has_only_keys};
-use evl_base::{Bytes, Call, Spares, ThreadId};
+use crate::calls;
+use crate::tables::{at, at_text, has_only_keys};
+use evl_base::{Call, Spares, ThreadId};
 use std::alloc::Global;
 use toml::{Table, Value};
 
@@ -56,7 +57,7 @@ pub struct Step {
     pub call: Call,
 }
 
-// The word that a text is.
+// The word that a text is: that of a step on lines, or of one of those below.
 fn read_word(text: &str) -> Option<StepWord>
     ensures { result ≡ word_of text.now }
 {
@@ -67,6 +68,15 @@ fn read_word(text: &str) -> Option<StepWord>
         "post" => Some(StepWord::Post),
         "stall" => Some(StepWord::Stall),
         "unstall" => Some(StepWord::Unstall),
+        _ => read_clock_word(text),
+    }
+}
+
+// The word of a step on the clock and its timers, or of one of those below.
+fn read_clock_word(text: &str) -> Option<StepWord>
+    ensures { result ≡ clock_word text.now }
+{
+    match text {
         "tick" => Some(StepWord::Tick),
         "now" => Some(StepWord::Now),
         "new_timer" => Some(StepWord::NewTimer),
@@ -74,25 +84,70 @@ fn read_word(text: &str) -> Option<StepWord>
         "stop_timer" => Some(StepWord::StopTimer),
         "drop_timer" => Some(StepWord::DropTimer),
         "overruns" => Some(StepWord::Overruns),
+        _ => read_thread_word(text),
+    }
+}
+
+// The word of a step on threads, or of one of those below.
+fn read_thread_word(text: &str) -> Option<StepWord>
+    ensures { result ≡ thread_word text.now }
+{
+    match text {
         "attach" => Some(StepWord::Attach),
         "detach" => Some(StepWord::Detach),
         "set_policy" => Some(StepWord::SetPolicy),
         "set_stage" => Some(StepWord::SetStage),
         "pick" => Some(StepWord::Pick),
         "rank_of" => Some(StepWord::RankOf),
+        _ => read_sem_word(text),
+    }
+}
+
+// The word of a step on semaphores, or of one of those below.
+fn read_sem_word(text: &str) -> Option<StepWord>
+    ensures { result ≡ sem_word text.now }
+{
+    match text {
         "try_get" => Some(StepWord::TryGet),
         "put" => Some(StepWord::Put),
         "peek" => Some(StepWord::Peek),
         "begin_get" => Some(StepWord::BeginGet),
+        _ => read_flag_word(text),
+    }
+}
+
+// The word of a step on flag groups, or of one of those below.
+fn read_flag_word(text: &str) -> Option<StepWord>
+    ensures { result ≡ flag_word text.now }
+{
+    match text {
         "try_take" => Some(StepWord::TryTake),
         "post_flags" => Some(StepWord::PostFlags),
         "peek_flags" => Some(StepWord::PeekFlags),
         "begin_take" => Some(StepWord::BeginTake),
+        _ => read_buffer_word(text),
+    }
+}
+
+// The word of a step on cross-buffers, or of one of those below.
+fn read_buffer_word(text: &str) -> Option<StepWord>
+    ensures { result ≡ buffer_word text.now }
+{
+    match text {
         "write" => Some(StepWord::Write),
         "read" => Some(StepWord::Read),
         "room" => Some(StepWord::Room),
         "begin_write" => Some(StepWord::BeginWrite),
         "begin_read" => Some(StepWord::BeginRead),
+        _ => read_wait_word(text),
+    }
+}
+
+// The word of a step on mutexes, or at the end of a wait.
+fn read_wait_word(text: &str) -> Option<StepWord>
+    ensures { result ≡ wait_word text.now }
+{
+    match text {
         "claim" => Some(StepWord::Claim),
         "release" => Some(StepWord::Release),
         "raise" => Some(StepWord::Raise),
@@ -151,161 +206,42 @@ fn read_call(word: StepWord, table: &Table, spares: &mut Spares<Global>) -> Opti
     ensures { result ≡ call_of word (table_view table.now) }
 {
     match word {
-        StepWord::Request => Some(Call::Request {
-            line: at(table, "line")?,
-            stage: at(table, "stage")?,
-            callback: at(table, "callback")?,
-            tag: at_or(table, "tag", 0)?,
-        }),
-        StepWord::Free => Some(Call::Free {
-            line: at(table, "line")?,
-            stage: at(table, "stage")?,
-        }),
-        StepWord::Arrive => Some(Call::Arrive {
-            line: at(table, "line")?,
-        }),
-        StepWord::Post => Some(Call::Post {
-            stage: at(table, "stage")?,
-            line: at(table, "line")?,
-        }),
-        StepWord::Stall => Some(Call::Stall {
-            stage: at(table, "stage")?,
-        }),
-        StepWord::Unstall => Some(Call::Unstall {
-            stage: at(table, "stage")?,
-        }),
-        StepWord::Tick => Some(Call::Tick {
-            delta: at(table, "delta")?,
-        }),
+        StepWord::Request => calls::request(table),
+        StepWord::Free => calls::free(table),
+        StepWord::Arrive => calls::arrive(table),
+        StepWord::Post => calls::post(table),
+        StepWord::Stall => calls::stall(table),
+        StepWord::Unstall => calls::unstall(table),
+        StepWord::Tick => calls::tick(table),
         StepWord::Now => Some(Call::Now),
-        StepWord::NewTimer => {
-            let callback = at(table, "callback")?;
-            let tag = at_or(table, "tag", 0)?;
-            Some(Call::NewTimer { callback, tag })
-        }
-        StepWord::StartTimer => Some(Call::StartTimer {
-            timer: at(table, "timer")?,
-            date: at(table, "date")?,
-            interval: at(table, "interval")?,
-        }),
-        StepWord::StopTimer => Some(Call::StopTimer {
-            timer: at(table, "timer")?,
-        }),
-        StepWord::DropTimer => Some(Call::DropTimer {
-            timer: at(table, "timer")?,
-        }),
-        StepWord::Overruns => Some(Call::Overruns {
-            timer: at(table, "timer")?,
-        }),
-        StepWord::Attach => Some(Call::Attach {
-            policy: at(table, "policy")?,
-            stage: at(table, "stage")?,
-        }),
+        StepWord::NewTimer => calls::new_timer(table),
+        StepWord::StartTimer => calls::start_timer(table),
+        StepWord::StopTimer => calls::stop_timer(table),
+        StepWord::DropTimer => calls::drop_timer(table),
+        StepWord::Overruns => calls::overruns(table),
+        StepWord::Attach => calls::attach(table),
         StepWord::Detach => Some(Call::Detach),
-        StepWord::SetPolicy => Some(Call::SetPolicy {
-            policy: at(table, "policy")?,
-        }),
-        StepWord::SetStage => Some(Call::SetStage {
-            stage: at(table, "stage")?,
-        }),
+        StepWord::SetPolicy => calls::set_policy(table),
+        StepWord::SetStage => calls::set_stage(table),
         StepWord::Pick => Some(Call::Pick),
-        StepWord::RankOf => Some(Call::RankOf {
-            thread: at(table, "thread")?,
-        }),
-        StepWord::TryGet => Some(Call::TryGet {
-            sem: at(table, "sem")?,
-        }),
-        StepWord::Put => Some(Call::Put {
-            sem: at(table, "sem")?,
-        }),
-        StepWord::Peek => Some(Call::Peek {
-            sem: at(table, "sem")?,
-        }),
-        StepWord::BeginGet => {
-            let sem = at(table, "sem")?;
-            let until = at_or(table, "until", None)?;
-            Some(Call::BeginGet { sem, until })
-        }
-        StepWord::TryTake => Some(Call::TryTake {
-            flags: at(table, "flags")?,
-            kind: at(table, "kind")?,
-        }),
-        StepWord::PostFlags => Some(Call::PostFlags {
-            flags: at(table, "flags")?,
-            bits: at(table, "bits")?,
-        }),
-        StepWord::PeekFlags => Some(Call::PeekFlags {
-            flags: at(table, "flags")?,
-        }),
-        StepWord::BeginTake => {
-            let flags = at(table, "flags")?;
-            let kind = at(table, "kind")?;
-            let until = at_or(table, "until", None)?;
-            Some(Call::BeginTake { flags, kind, until })
-        }
-        StepWord::Write => {
-            let xbuf = at(table, "xbuf")?;
-            let way = at(table, "way")?;
-            let bytes: Bytes = at(table, "bytes")?;
-            Some(Call::Write {
-                xbuf,
-                way,
-                bytes: spares.take(bytes.as_slice()),
-            })
-        }
-        StepWord::Read => Some(Call::Read {
-            xbuf: at(table, "xbuf")?,
-            way: at(table, "way")?,
-            len: at(table, "len")?,
-        }),
-        StepWord::Room => Some(Call::Room {
-            xbuf: at(table, "xbuf")?,
-            way: at(table, "way")?,
-        }),
-        StepWord::BeginWrite => {
-            let xbuf = at(table, "xbuf")?;
-            let way = at(table, "way")?;
-            let bytes: Bytes = at(table, "bytes")?;
-            let until = at_or(table, "until", None)?;
-            Some(Call::BeginWrite {
-                xbuf,
-                way,
-                bytes: spares.take(bytes.as_slice()),
-                until,
-            })
-        }
-        StepWord::BeginRead => {
-            let xbuf = at(table, "xbuf")?;
-            let way = at(table, "way")?;
-            let len = at(table, "len")?;
-            let until = at_or(table, "until", None)?;
-            Some(Call::BeginRead {
-                xbuf,
-                way,
-                len,
-                until,
-            })
-        }
-        StepWord::Claim => {
-            let mutex = at(table, "mutex")?;
-            let owner = at(table, "owner")?;
-            let until = at_or(table, "until", None)?;
-            Some(Call::Claim {
-                mutex,
-                owner,
-                until,
-            })
-        }
-        StepWord::Release => Some(Call::Release {
-            mutex: at(table, "mutex")?,
-        }),
-        StepWord::Raise => Some(Call::Raise {
-            mutex: at(table, "mutex")?,
-        }),
-        StepWord::Finish => {
-            let keep = at_or(table, "keep", false)?;
-            Some(Call::Finish { keep })
-        }
+        StepWord::RankOf => calls::rank_of(table),
+        StepWord::TryGet => calls::try_get(table),
+        StepWord::Put => calls::put(table),
+        StepWord::Peek => calls::peek(table),
+        StepWord::BeginGet => calls::begin_get(table),
+        StepWord::TryTake => calls::try_take(table),
+        StepWord::PostFlags => calls::post_flags(table),
+        StepWord::PeekFlags => calls::peek_flags(table),
+        StepWord::BeginTake => calls::begin_take(table),
+        StepWord::Write => calls::write(table, spares),
+        StepWord::Read => calls::read(table),
+        StepWord::Room => calls::room(table),
+        StepWord::BeginWrite => calls::begin_write(table, spares),
+        StepWord::BeginRead => calls::begin_read(table),
+        StepWord::Claim => calls::claim(table),
+        StepWord::Release => calls::release(table),
+        StepWord::Raise => calls::raise(table),
+        StepWord::Finish => calls::finish(table),
     }
 }
 

@@ -4,6 +4,7 @@ ghost use Rattle.std.specs.Prelude.{◌≡◌, IfOk, IfSome, MatchResult};
 mod closing;
 mod growths;
 mod racing;
+mod staxes;
 mod stored;
 mod threads;
 

@@ -1,12 +1,14 @@
 //! Which fires a handler is given, and how often it is called.
 ghost use Rattle.std.specs.Prelude.{◌≡◌, []};
+ghost use Rattle.evl_kernel.specs.Callbacks.{AnswersAsTold};
 ghost use Rattle.evl_pipeline.specs.Plans.{answer_of};
 
-use crate::handlers::{board_of, does, quiet, quiet_plan};
+use crate::handlers::{does, opened, quiet, quiet_plan};
 use bitflags::Flags;
 use evl_base::{ActionKinds, Call, LineNo, Stage};
 use evl_kernel::KernelOf;
 use evl_pipeline::{Answer, Callback, Fire, Handler, Pipeline, PipelineOf, Plan};
+use std::alloc::{Allocator, Global};
 use std::cell::Cell;
 use std::snapshot::Snapshot;
 use std::sync::Arc;
@@ -101,6 +103,45 @@ fn a_pipeline_hands_on_the_fire(rt: HostRuntime) -> Result<(), Fail> {
     Ok(())
 }
 
+// Whether the line's event is given to callback 0, of which it is this fire.
+fn gives_the_fire<C: Handler, A: Allocator>(
+    kernel: &mut KernelOf<C, A>,
+    given: &Cell<Given>,
+    calls: u64,
+) -> bool
+    requires { AnswersAsTold C.declared C.plan kernel.old.callbacks }
+    ensures { AnswersAsTold C.declared C.plan kernel.new.callbacks }
+{
+    does(kernel, Call::Arrive { line: LINE }) && has(given, calls, 0)
+}
+
+// Whether the first two events are given to callback 0.
+fn gives_two_fires<C: Handler, A: Allocator>(
+    kernel: &mut KernelOf<C, A>,
+    given: &Cell<Given>,
+) -> bool
+    requires { AnswersAsTold C.declared C.plan kernel.old.callbacks }
+{
+    let request = Call::Request {
+        line: LINE,
+        stage: STAGE,
+        callback: 0,
+        tag: TAG,
+    };
+    let requested = does(kernel, request);
+    let first = gives_the_fire(kernel, given, 1);
+    let second = gives_the_fire(kernel, given, 2);
+    requested && first && second
+}
+
+// The same of a new kernel.
+fn gives_each_fire<C: Handler>(alloc: Global, bank: Vec<C>, given: &Cell<Given>) -> bool {
+    match opened(alloc, alloc, bank) {
+        Ok(mut kernel) => gives_two_fires(&mut kernel, given),
+        Err(_) => false,
+    }
+}
+
 #[test]
 fn a_kernel_hands_on_the_fire(rt: HostRuntime) -> Result<(), Fail> {
     let given = nothing();
@@ -108,20 +149,7 @@ fn a_kernel_hands_on_the_fire(rt: HostRuntime) -> Result<(), Fail> {
     let Ok(bank) = Vec::from_array(alloc, [keeping(&given)]) else {
         panic!(rt; "bank");
     };
-    let Ok(mut kernel) = KernelOf::new(alloc, board_of(0), bank, 100) else {
-        panic!(rt; "new");
-    };
-    let request = Call::Request {
-        line: LINE,
-        stage: STAGE,
-        callback: 0,
-        tag: TAG,
-    };
-    let requested = does(&mut kernel, request);
-    let arrived = does(&mut kernel, Call::Arrive { line: LINE });
-    assert!(rt; requested && arrived && has(&given, 1, 0));
-    let again = does(&mut kernel, Call::Arrive { line: LINE });
-    assert!(rt; again && has(&given, 2, 0));
+    assert!(rt; gives_each_fire(alloc, bank, &given));
     Ok(())
 }
 

@@ -2,7 +2,9 @@
 ghost use Rattle.std.specs.Prelude.{◌≡◌};
 ghost use Rattle.evl_kernel.specs.Callbacks.{AnswersAsTold};
 
-use crate::handlers::{SEM, apply, asks, board_of, plan, quiet, quiet_plan};
+use crate::handlers::{
+    SEM, apply, asks, entries, makes_room, opened, plan, plays, quiet, quiet_plan, reserve,
+};
 use bitflags::Flags;
 use evl_base::{ActionKinds, Call, LineNo, Refusal, Stage};
 use evl_kernel::KernelOf;
@@ -40,18 +42,26 @@ fn request(line: u16, callback: u8) -> Call {
     }
 }
 
+// Whether a call was done, or refused for memory; none where it was refused otherwise.
+fn is_done<C: Handler, A: Allocator>(kernel: &mut KernelOf<C, A>, call: Call) -> Option<bool>
+    requires { AnswersAsTold C.declared C.plan kernel.old.callbacks }
+    ensures { AnswersAsTold C.declared C.plan kernel.new.callbacks }
+{
+    match apply(kernel, call) {
+        Ok(_) => Some(true),
+        Err(Refusal::NoMemory) => Some(false),
+        Err(_) => None,
+    }
+}
+
 // Whether a call was done and entered; none where it was refused but for memory, or changed something.
 fn step<C: Handler, A: Allocator>(kernel: &mut KernelOf<C, A>, call: Call) -> Option<bool>
     requires { AnswersAsTold C.declared C.plan kernel.old.callbacks }
     ensures { AnswersAsTold C.declared C.plan kernel.new.callbacks }
 {
-    let before = kernel.history().len();
-    let done = match apply(kernel, call) {
-        Ok(_) => true,
-        Err(Refusal::NoMemory) => false,
-        Err(_) => return None,
-    };
-    if kernel.history().len() == before + usize::from(done) {
+    let before = entries(kernel);
+    let done = is_done(kernel, call)?;
+    if entries(kernel) == before.saturating_add(usize::from(done)) {
         Some(done)
     } else {
         None
@@ -71,23 +81,28 @@ fn row<C: Handler, A: Allocator>(kernel: &mut KernelOf<C, A>) -> Option<u8>
     Some(CALLS)
 }
 
-// The same on a new kernel within a heap, which has no plays but the row's.
-fn row_within<'h>(
-    heap: &'h LocalHeap,
-    boxes: Global,
-    bank: Vec<Callback, &'h LocalHeap>,
-) -> Option<u8> {
-    let mut kernel = match KernelOf::over(heap, boxes, board_of(0), bank, 100) {
-        Ok(kernel) => kernel,
-        Err(Refusal::NoMemory) => return Some(0),
-        Err(_) => return None,
-    };
-    let done = row(&mut kernel)?;
-    let plays = if done < 8 { 0 } else { 3 };
-    if kernel.plays().len() == plays {
+// The same, where the kernel has no plays but the row's.
+fn row_alone<C: Handler, A: Allocator>(kernel: &mut KernelOf<C, A>) -> Option<u8>
+    requires { AnswersAsTold C.declared C.plan kernel.old.callbacks }
+{
+    let done = row(kernel)?;
+    if plays(kernel) == if done < 8 { 0 } else { 3 } {
         Some(done)
     } else {
         None
+    }
+}
+
+// The same on a new kernel.
+fn row_anew<C: Handler, A: Allocator + Clone>(
+    alloc: A,
+    boxes: Global,
+    bank: Vec<C, A>,
+) -> Option<u8> {
+    match opened(alloc, boxes, bank) {
+        Ok(mut kernel) => row_alone(&mut kernel),
+        Err(Refusal::NoMemory) => Some(0),
+        Err(_) => None,
     }
 }
 
@@ -115,7 +130,7 @@ fn lowest_line_first_in_short_memory(rt: HostRuntime) -> Result<(), Fail> {
             Box::new(alloc, |_: Fire| quiet()).map_err(|_| "box")?,
         );
         if let Ok(bank) = Vec::from_array(&heap, [first, posts, third]) {
-            let done = row_within(&heap, alloc, bank);
+            let done = row_anew(&heap, alloc, bank);
             assert!(rt; done.is_some());
             if done == Some(CALLS) {
                 whole = whole.saturating_add(1);
@@ -129,18 +144,31 @@ fn lowest_line_first_in_short_memory(rt: HostRuntime) -> Result<(), Fail> {
     Ok(())
 }
 
-// Whether a kernel within a heap, which has room for a few calls, refuses to make room for a hundred, and is as before.
-fn refuses_room<'h>(
-    heap: &'h LocalHeap,
+// Whether room for a hundred calls is refused for want of memory.
+fn has_no_room<C: Handler, A: Allocator>(kernel: &mut KernelOf<C, A>) -> bool
+    requires { AnswersAsTold C.declared C.plan kernel.old.callbacks }
+    ensures { AnswersAsTold C.declared C.plan kernel.new.callbacks }
+{
+    matches!(reserve(kernel, 100), Err(Refusal::NoMemory))
+}
+
+// Whether a kernel without calls refuses to make room for a hundred, and is as before.
+fn stays_as_it_is<C: Handler, A: Allocator>(kernel: &mut KernelOf<C, A>) -> bool
+    requires { AnswersAsTold C.declared C.plan kernel.old.callbacks }
+{
+    has_no_room(kernel) && entries(kernel) == 0 && makes_room(kernel, 1)
+}
+
+// Whether a new kernel, over memory for a few calls, refuses to make room for a hundred, and is as before.
+fn refuses_room<C: Handler, A: Allocator + Clone>(
+    alloc: A,
     boxes: Global,
-    bank: Vec<Callback, &'h LocalHeap>,
+    bank: Vec<C, A>,
 ) -> bool {
-    let Ok(mut kernel) = KernelOf::over(heap, boxes, board_of(0), bank, 100) else {
-        return false;
-    };
-    matches!(kernel.reserve(100), Err(Refusal::NoMemory))
-        && kernel.history().is_empty()
-        && kernel.reserve(1).is_ok()
+    match opened(alloc, boxes, bank) {
+        Ok(mut kernel) => stays_as_it_is(&mut kernel),
+        Err(_) => false,
+    }
 }
 
 #[test]

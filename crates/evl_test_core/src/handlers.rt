@@ -1,12 +1,12 @@
 //! Plans, answers and boards for tests.
-ghost use Rattle.std.specs.Prelude.{◌≡◌, [], ◌∷◌, true};
+ghost use Rattle.std.specs.Prelude.{◌≡◌, [], ◌∷◌, true, IfOk};
 ghost use Rattle.evl_kernel.specs.Callbacks.{AnswersAsTold};
 
 use arrayvec::ArrayVec;
 use evl_base::{Board, Call, Refusal, Reply, SemId, ThreadId};
 use evl_kernel::KernelOf;
 use evl_pipeline::{Action, Answer, Handler, Plan};
-use std::alloc::Allocator;
+use std::alloc::{Allocator, Global};
 
 pub(crate) const SEM: SemId = SemId(0);
 
@@ -83,6 +83,17 @@ pub(crate) fn apply<C: Handler, A: Allocator>(
     kernel.apply(CALLER, call)
 }
 
+/// A kernel over a board of one semaphore at 0, with a history of at most a hundred calls.
+pub(crate) fn opened<C: Handler, A: Allocator + Clone>(
+    alloc: A,
+    boxes: Global,
+    bank: Vec<C, A>,
+) -> Result<KernelOf<C, A>, Refusal>
+    ensures answering { IfOk result (λ kernel. AnswersAsTold C.declared C.plan kernel.callbacks) }
+{
+    KernelOf::over(alloc, boxes, board_of(0), bank, 100)
+}
+
 /// Whether one call of thread 0 is done.
 pub(crate) fn does<C: Handler, A: Allocator>(kernel: &mut KernelOf<C, A>, call: Call) -> bool
     requires answering { AnswersAsTold C.declared C.plan kernel.old.callbacks }
@@ -91,10 +102,31 @@ pub(crate) fn does<C: Handler, A: Allocator>(kernel: &mut KernelOf<C, A>, call: 
     matches!(apply(kernel, call), Ok(Reply::Done))
 }
 
+/// Room for so many calls.
+pub(crate) fn reserve<C: Handler, A: Allocator>(
+    kernel: &mut KernelOf<C, A>,
+    n: usize,
+) -> Result<(), Refusal>
+    requires answering { AnswersAsTold C.declared C.plan kernel.old.callbacks }
+    ensures answering { AnswersAsTold C.declared C.plan kernel.new.callbacks }
+{
+    kernel.reserve(n)
+}
+
 /// Whether room was made for so many calls.
 pub(crate) fn makes_room<C: Handler, A: Allocator>(kernel: &mut KernelOf<C, A>, n: usize) -> bool
     requires answering { AnswersAsTold C.declared C.plan kernel.old.callbacks }
     ensures answering { AnswersAsTold C.declared C.plan kernel.new.callbacks }
 {
-    kernel.reserve(n).is_ok()
+    reserve(kernel, n).is_ok()
+}
+
+/// How many calls the history has.
+pub(crate) fn entries<C, A: Allocator>(kernel: &KernelOf<C, A>) -> usize {
+    kernel.history().len()
+}
+
+/// How many plays the calls made.
+pub(crate) fn plays<C, A: Allocator>(kernel: &KernelOf<C, A>) -> usize {
+    kernel.plays().len()
 }

@@ -1,74 +1,133 @@
 //! Kernels over stored closures.
-use crate::handlers::{SEM, apply, asks, board_of, does, makes_room, plan, quiet, quiet_plan};
+ghost use Rattle.evl_kernel.specs.Callbacks.{AnswersAsTold};
+
+use crate::handlers::{
+    SEM, apply, asks, board_of, does, entries, makes_room, opened, plan, plays, quiet, quiet_plan,
+};
 use bitflags::Flags;
 use evl_base::{ActionKinds, Call, LineNo, Refusal, Reply, Stage};
 use evl_kernel::KernelOf;
-use evl_pipeline::{Action, Callback, Fire};
+use evl_pipeline::{Action, Callback, Fire, Handler};
+use std::alloc::{Allocator, Global};
 use std::test::Fail;
 
 const LINE: LineNo = LineNo(8);
+
+const STAGE: Stage = Stage::Inband;
+
+// Whether a call of thread 0 finds the history full.
+fn finds_it_full<C: Handler, A: Allocator>(kernel: &mut KernelOf<C, A>, call: Call) -> bool
+    requires { AnswersAsTold C.declared C.plan kernel.old.callbacks }
+{
+    matches!(apply(kernel, call), Err(Refusal::HistoryFull))
+}
+
+// Whether room is made for three calls and not for four, and three calls fill the history.
+fn has_three_places<C: Handler, A: Allocator>(kernel: &mut KernelOf<C, A>) -> bool
+    requires { AnswersAsTold C.declared C.plan kernel.old.callbacks }
+{
+    let over = makes_room(kernel, 4);
+    let room = makes_room(kernel, 3);
+    let first = does(kernel, Call::Put { sem: SEM });
+    let second = does(kernel, Call::Put { sem: SEM });
+    let third = does(kernel, Call::Put { sem: SEM });
+    let full = finds_it_full(kernel, Call::Put { sem: SEM });
+    room && !over && first && second && third && full
+}
+
+// The same of a new kernel with a history of three calls, which has them then.
+fn fills_three_places<C: Handler>(alloc: Global, bank: Vec<C>) -> bool {
+    match KernelOf::new(alloc, board_of(0), bank, 3) {
+        Ok(mut kernel) => has_three_places(&mut kernel) && entries(&kernel) == 3,
+        Err(_) => false,
+    }
+}
 
 // Room is made for as many calls as the history has places; the calls that follow find it.
 #[test]
 fn reserve_limits(rt: HostRuntime) -> Result<(), Fail> {
     let alloc = rt.alloc();
-    let callback = Callback::new(
-        ActionKinds::from_bits_retain(0),
-        &quiet_plan(1),
-        Box::new(alloc, |_: Fire| quiet()).map_err(|_| "box")?,
-    );
-    let bank = Vec::from_array(alloc, [callback]).map_err(|_| "bank")?;
-    let Ok(mut kernel) = KernelOf::new(alloc, board_of(0), bank, 3) else {
-        panic!(rt; "new");
+    let Ok(run) = Box::new(alloc, |_: Fire| quiet()) else {
+        panic!(rt; "box");
     };
-    let over = makes_room(&mut kernel, 4);
-    let room = makes_room(&mut kernel, 3);
-    assert!(rt; room && !over);
-    let first = does(&mut kernel, Call::Put { sem: SEM });
-    let second = does(&mut kernel, Call::Put { sem: SEM });
-    let third = does(&mut kernel, Call::Put { sem: SEM });
-    let full = matches!(
-        apply(&mut kernel, Call::Put { sem: SEM }),
-        Err(Refusal::HistoryFull)
-    );
-    assert!(rt; first && second && third && full);
-    assert!(rt; kernel.history().len() == 3);
+    let callback = Callback::new(ActionKinds::from_bits_retain(0), &quiet_plan(1), run);
+    let Ok(bank) = Vec::from_array(alloc, [callback]) else {
+        panic!(rt; "bank");
+    };
+    assert!(rt; fills_three_places(alloc, bank));
     Ok(())
+}
+
+// Whether the semaphore's count is 1.
+fn is_posted<C: Handler, A: Allocator>(kernel: &mut KernelOf<C, A>) -> bool
+    requires { AnswersAsTold C.declared C.plan kernel.old.callbacks }
+{
+    matches!(apply(kernel, Call::Peek { sem: SEM }), Ok(Reply::Count(1)))
+}
+
+// Whether an event of the line is pending on the stalled stage.
+fn is_kept<C, A: Allocator>(kernel: &KernelOf<C, A>) -> bool {
+    kernel.pending(STAGE, LINE) && kernel.stalled(STAGE) && plays(kernel) == 0
+}
+
+// Whether no event of the line was unhandled or spurious.
+fn is_handled<C, A: Allocator>(kernel: &KernelOf<C, A>) -> bool {
+    kernel.unhandled(LINE, STAGE) == 0 && kernel.spurious(LINE) == 0
+}
+
+// Whether the stalled stage keeps an event of the line of callback 0.
+fn keeps_its_line<C: Handler, A: Allocator>(kernel: &mut KernelOf<C, A>) -> bool
+    requires { AnswersAsTold C.declared C.plan kernel.old.callbacks }
+    ensures { AnswersAsTold C.declared C.plan kernel.new.callbacks }
+{
+    let request = Call::Request {
+        line: LINE,
+        stage: STAGE,
+        callback: 0,
+        tag: 0,
+    };
+    let requested = does(kernel, request);
+    let stalled = does(kernel, Call::Stall { stage: STAGE });
+    let arrived = does(kernel, Call::Arrive { line: LINE });
+    requested && stalled && arrived && is_kept(kernel)
+}
+
+// Whether the line is played, and posts the semaphore, once its stage is no more stalled.
+fn posts_its_line<C: Handler, A: Allocator>(kernel: &mut KernelOf<C, A>) -> bool
+    requires { AnswersAsTold C.declared C.plan kernel.old.callbacks }
+{
+    does(kernel, Call::Unstall { stage: STAGE }) && is_posted(kernel) && is_handled(kernel)
+}
+
+// Whether callback 0 of a new kernel posts the semaphore as soon as its stage is no more stalled.
+fn posts_once_unstalled<C: Handler>(alloc: Global, bank: Vec<C>) -> bool {
+    match opened(alloc, alloc, bank) {
+        Ok(mut kernel) => keeps_its_line(&mut kernel) && posts_its_line(&mut kernel),
+        Err(_) => false,
+    }
 }
 
 // A stored closure posts the semaphore, and a stalled in-band stage keeps its line.
 #[test]
 fn a_kernel_calls_its_closures(rt: HostRuntime) -> Result<(), Fail> {
     let alloc = rt.alloc();
-    let posts = Callback::new(
-        ActionKinds::POST_SEM,
-        &plan(Action::PostSem(SEM)),
-        Box::new(alloc, |_: Fire| asks(Action::PostSem(SEM))).map_err(|_| "box")?,
-    );
-    let bank = Vec::from_array(alloc, [posts]).map_err(|_| "bank")?;
-    let Ok(mut kernel) = KernelOf::new(alloc, board_of(0), bank, 100) else {
-        panic!(rt; "new");
+    let Ok(run) = Box::new(alloc, |_: Fire| asks(Action::PostSem(SEM))) else {
+        panic!(rt; "box");
     };
-    let stage = Stage::Inband;
-    let request = Call::Request {
-        line: LINE,
-        stage,
-        callback: 0,
-        tag: 0,
+    let posts = Callback::new(ActionKinds::POST_SEM, &plan(Action::PostSem(SEM)), run);
+    let Ok(bank) = Vec::from_array(alloc, [posts]) else {
+        panic!(rt; "bank");
     };
-    let requested = does(&mut kernel, request);
-    let stalled = does(&mut kernel, Call::Stall { stage });
-    let arrived = does(&mut kernel, Call::Arrive { line: LINE });
-    assert!(rt; requested && stalled && arrived);
-    assert!(rt; kernel.pending(stage, LINE) && kernel.stalled(stage) && kernel.plays().is_empty());
-    let unstalled = does(&mut kernel, Call::Unstall { stage });
-    let counted = matches!(
-        apply(&mut kernel, Call::Peek { sem: SEM }),
-        Ok(Reply::Count(1))
-    );
-    assert!(rt; unstalled && counted);
-    assert!(rt; kernel.unhandled(LINE, stage) == 0 && kernel.spurious(LINE) == 0);
+    assert!(rt; posts_once_unstalled(alloc, bank));
     Ok(())
+}
+
+// Whether no kernel is made with a bank, as it is out of range.
+fn is_out_of_range<C: Handler>(alloc: Global, bank: Vec<C>) -> bool {
+    matches!(
+        KernelOf::new(alloc, board_of(0), bank, 1),
+        Err(Refusal::Range)
+    )
 }
 
 #[test]
@@ -83,10 +142,6 @@ fn a_bank_has_a_range(rt: HostRuntime) -> Result<(), Fail> {
         );
         bank.push(callback)?;
     }
-    let refused = matches!(
-        KernelOf::new(alloc, board_of(0), bank, 1),
-        Err(Refusal::Range)
-    );
-    assert!(rt; refused);
+    assert!(rt; is_out_of_range(alloc, bank));
     Ok(())
 }

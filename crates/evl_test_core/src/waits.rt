@@ -1,63 +1,96 @@
 //! Waits of a kernel, as its readers tell of them.
-use crate::handlers::{SEM, apply, board_of, does, quiet, quiet_plan};
+ghost use Rattle.evl_kernel.specs.Callbacks.{AnswersAsTold};
+
+use crate::handlers::{SEM, apply, board_of, does, plays, quiet, quiet_plan};
 use bitflags::Flags;
 use evl_base::{ActionKinds, Call, Policy, Reply, Stage, ThreadId};
 use evl_kernel::KernelOf;
-use evl_pipeline::{Callback, Fire};
+use evl_pipeline::{Callback, Fire, Handler};
+use std::alloc::{Allocator, Global};
 use std::test::Fail;
 
 const CALLER: ThreadId = ThreadId(0);
 
 const STRANGER: ThreadId = ThreadId(9);
 
-// A wait whose deadline has come, then one that is served at once; of a stranger all readers tell false.
+// Whether these are what the readers tell of a thread: it has a wait, which has ended, and by its deadline.
+fn tells<C, A: Allocator>(kernel: &KernelOf<C, A>, thread: ThreadId, told: [bool; 3]) -> bool {
+    kernel.waits(thread) == told[0]
+        && kernel.finished(thread) == told[1]
+        && kernel.timed_out(thread) == told[2]
+}
+
+// Whether a wait for the semaphore begins, with a deadline that has come.
+fn begins<C: Handler, A: Allocator>(kernel: &mut KernelOf<C, A>) -> bool
+    requires { AnswersAsTold C.declared C.plan kernel.old.callbacks }
+    ensures { AnswersAsTold C.declared C.plan kernel.new.callbacks }
+{
+    let call = Call::BeginGet {
+        sem: SEM,
+        until: Some(0),
+    };
+    matches!(apply(kernel, call), Ok(Reply::Begun))
+}
+
+// Whether thread 0 finishes a wait that has timed out.
+fn finishes_late<C: Handler, A: Allocator>(kernel: &mut KernelOf<C, A>) -> bool
+    requires { AnswersAsTold C.declared C.plan kernel.old.callbacks }
+{
+    matches!(
+        apply(kernel, Call::Finish { keep: false }),
+        Ok(Reply::TimedOut)
+    )
+}
+
+// A wait that is served at once, with no play.
+fn is_served<C: Handler, A: Allocator>(kernel: &mut KernelOf<C, A>) -> bool
+    requires { AnswersAsTold C.declared C.plan kernel.old.callbacks }
+    ensures { AnswersAsTold C.declared C.plan kernel.new.callbacks }
+{
+    let attach = Call::Attach {
+        policy: Policy::Fifo(10),
+        stage: Stage::Oob,
+    };
+    let attached = does(kernel, attach);
+    let begun = begins(kernel);
+    let told = tells(kernel, CALLER, [true, true, false])
+        && tells(kernel, STRANGER, [false, false, false])
+        && plays(kernel) == 0;
+    let served = does(kernel, Call::Finish { keep: false });
+    attached && begun && told && served && tells(kernel, CALLER, [false, false, false])
+}
+
+// A wait whose deadline has come, with two plays.
+fn times_out<C: Handler, A: Allocator>(kernel: &mut KernelOf<C, A>) -> bool
+    requires { AnswersAsTold C.declared C.plan kernel.old.callbacks }
+{
+    begins(kernel)
+        && tells(kernel, CALLER, [true, true, true])
+        && tells(kernel, STRANGER, [false, false, false])
+        && plays(kernel) == 2
+        && finishes_late(kernel)
+        && tells(kernel, CALLER, [false, false, false])
+}
+
+// The same of a new kernel with a semaphore at 1.
+fn tells_of_waits<C: Handler>(alloc: Global, bank: Vec<C>) -> bool {
+    match KernelOf::new(alloc, board_of(1), bank, 10) {
+        Ok(mut kernel) => is_served(&mut kernel) && times_out(&mut kernel),
+        Err(_) => false,
+    }
+}
+
+// A wait that is served at once, then one whose deadline has come; of a stranger all readers tell false.
 #[test]
 fn readers_tell_of_waits(rt: HostRuntime) -> Result<(), Fail> {
     let alloc = rt.alloc();
-    let callback = Callback::new(
-        ActionKinds::from_bits_retain(0),
-        &quiet_plan(1),
-        Box::new(alloc, |_: Fire| quiet()).map_err(|_| "box")?,
-    );
-    let bank = Vec::from_array(alloc, [callback]).map_err(|_| "bank")?;
-    let Ok(mut kernel) = KernelOf::new(alloc, board_of(1), bank, 10) else {
-        panic!(rt; "new");
+    let Ok(run) = Box::new(alloc, |_: Fire| quiet()) else {
+        panic!(rt; "box");
     };
-    let policy = Policy::Fifo(10);
-    let stage = Stage::Oob;
-    let attached = does(&mut kernel, Call::Attach { policy, stage });
-    let begun = matches!(
-        apply(
-            &mut kernel,
-            Call::BeginGet {
-                sem: SEM,
-                until: Some(0)
-            }
-        ),
-        Ok(Reply::Begun)
-    );
-    assert!(rt; attached && begun && kernel.waits(CALLER) && kernel.finished(CALLER));
-    assert!(rt; !kernel.timed_out(CALLER) && !kernel.waits(STRANGER) && kernel.plays().is_empty());
-    let served = does(&mut kernel, Call::Finish { keep: false });
-    assert!(rt; served && !kernel.waits(CALLER) && !kernel.finished(CALLER));
-    let again = matches!(
-        apply(
-            &mut kernel,
-            Call::BeginGet {
-                sem: SEM,
-                until: Some(0)
-            }
-        ),
-        Ok(Reply::Begun)
-    );
-    assert!(rt; again && kernel.finished(CALLER) && kernel.timed_out(CALLER));
-    assert!(rt;
-        kernel.plays().len() == 2 && !kernel.timed_out(STRANGER) && !kernel.finished(STRANGER)
-    );
-    let timed_out = matches!(
-        apply(&mut kernel, Call::Finish { keep: false }),
-        Ok(Reply::TimedOut)
-    );
-    assert!(rt; timed_out && !kernel.waits(CALLER));
+    let callback = Callback::new(ActionKinds::from_bits_retain(0), &quiet_plan(1), run);
+    let Ok(bank) = Vec::from_array(alloc, [callback]) else {
+        panic!(rt; "bank");
+    };
+    assert!(rt; tells_of_waits(alloc, bank));
     Ok(())
 }

@@ -63,7 +63,7 @@ trait Worker<M>: Drop {
         ensures { fits result.0 shared.now };
 }
 
-impl<C: Handler, A: Allocator> Worker<MachineOf<C, A>> for CallerOf<C> {
+impl<C: Handler, A: Allocator> Worker<MachineOf<C, A>> for CallerOf<C, A> {
     ghost use Rattle.std.specs.Prelude.{◌≡◌};
     ghost use Rattle.evl_kernel.specs.Callbacks.{AnswersAsTold};
 
@@ -75,7 +75,7 @@ impl<C: Handler, A: Allocator> Worker<MachineOf<C, A>> for CallerOf<C> {
         shared: &MachineOf<C, A>,
         signs: &Signs,
         task: Task,
-    ) -> (CallerOf<C>, u32) {
+    ) -> (CallerOf<C, A>, u32) {
         match task {
             Task::Puts(times) => called(rt, shared, self, put(), times),
             Task::Arrivals(times, line) => called(rt, shared, self, Call::Arrive { line }, times),
@@ -89,10 +89,10 @@ impl<C: Handler, A: Allocator> Worker<MachineOf<C, A>> for CallerOf<C> {
 fn called<C: Handler, A: Allocator, R: Wait>(
     rt: &R,
     machine: &MachineOf<C, A>,
-    mut caller: CallerOf<C>,
+    mut caller: CallerOf<C, A>,
     call: Call,
     times: u32,
-) -> (CallerOf<C>, u32)
+) -> (CallerOf<C, A>, u32)
     requires machine { caller.machine ≡ machine.now }
     requires answering { AnswersAsTold C.declared C.plan machine.now.first.callbacks }
     ensures machine { result.0.machine ≡ machine.now }
@@ -116,9 +116,9 @@ fn copy_of(call: &Call) -> Call {
 // Has the kernel until the other thread has tried; 1 where it was free.
 fn holds<C: Handler, A: Allocator>(
     machine: &MachineOf<C, A>,
-    caller: CallerOf<C>,
+    caller: CallerOf<C, A>,
     signs: &Signs,
-) -> (CallerOf<C>, u32)
+) -> (CallerOf<C, A>, u32)
     requires { caller.machine ≡ machine.now }
     ensures { result.0.machine ≡ machine.now }
 {
@@ -135,9 +135,9 @@ fn holds<C: Handler, A: Allocator>(
 // How many of three calls were told that the core is busy.
 fn tries<C: Handler, A: Allocator>(
     machine: &MachineOf<C, A>,
-    mut caller: CallerOf<C>,
+    mut caller: CallerOf<C, A>,
     signs: &Signs,
-) -> (CallerOf<C>, u32)
+) -> (CallerOf<C, A>, u32)
     requires machine { caller.machine ≡ machine.now }
     requires answering { AnswersAsTold C.declared C.plan machine.now.first.callbacks }
     ensures machine { result.0.machine ≡ machine.now }
@@ -155,7 +155,7 @@ fn tries<C: Handler, A: Allocator>(
 
 fn is_busy<C: Handler, A: Allocator>(
     machine: &MachineOf<C, A>,
-    caller: &mut CallerOf<C>,
+    caller: &mut CallerOf<C, A>,
     call: Call,
 ) -> bool
     requires machine { caller.old.machine ≡ machine.now }
@@ -194,11 +194,11 @@ fn both_work<M: Sync, W: Worker<M> + Send, R: Threads + Wait + Sync>(
 fn both_call<C: Handler + Send, R: Threads + Wait + Sync>(
     rt: &R,
     machine: &MachineOf<C, Global>,
-    first: CallerOf<C>,
-    second: CallerOf<C>,
+    first: CallerOf<C, Global>,
+    second: CallerOf<C, Global>,
     signs: &Signs,
     tasks: (Task, Task),
-) -> ((CallerOf<C>, u32), (CallerOf<C>, u32))
+) -> ((CallerOf<C, Global>, u32), (CallerOf<C, Global>, u32))
     requires machine { (first.machine ≡ machine.now) × (second.machine ≡ machine.now) }
     requires answering { AnswersAsTold C.declared C.plan machine.now.first.callbacks }
     ensures { (result.0.0.machine ≡ machine.now) × (result.1.0.machine ≡ machine.now) }

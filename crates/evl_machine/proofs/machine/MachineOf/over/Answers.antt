@@ -1,11 +1,15 @@
 use Rattle.std.proofs.Common.{sym, subst}
 use Rattle.evl_kernel.specs.Callbacks.{AnswersAsTold}
 use Rattle.evl_kernel.specs.KernelViews.{KernelView}
-use Rattle.evl_machine.proofs.Seating.{opened_legal}
+use Rattle.evl_machine.specs.Homes.{AreHomes}
+use Rattle.evl_machine.proofs.Newcomers.{gate_homes, mutex_bounds}
 use Rattle.evl_machine.proofs.machine.MachineOf.over.Goals as goal
 
-pub seated-requires-clause-new : goal.seated-requires-clause-new
-seated-requires-clause-new g c = opened_legal _ _ _ _ _ c.in_ok-kernel.kernel c.in_ok-kernel.ensures.opened
+pub returns-in_ok-made-in-Ok-clause-answering : goal.returns-in_ok-made-in-Ok-clause-answering
+returns-in_ok-made-in-Ok-clause-answering g c = subst (λ (k : KernelView _). AnswersAsTold g.C.Handler.declared g.C.Handler.plan k.callbacks) (sym c.in_ok-made-in-Ok.ensures.first) c.in_ok-kernel.ensures.answering
 
-pub returns-in-Ok-seated-clause-answering : goal.returns-in-Ok-seated-clause-answering
-returns-in-Ok-seated-clause-answering g c = subst (λ (k : KernelView _). AnswersAsTold g.C.Handler.declared g.C.Handler.plan k.callbacks) (sym c.in-Ok-seated.ensures.first) c.in_ok-kernel.ensures.answering
+pub returns-in_ok-made-in-Ok-clause-homes : goal.returns-in_ok-made-in-Ok-clause-homes
+returns-in_ok-made-in-Ok-clause-homes g c =
+    let made = c.in-Ok.ensures.made in
+    let homes = c.in_ok-made-in-Ok.ensures.homes in
+    (subst (AreHomes _) (sym homes.0) (gate_homes _ _ _ made.gates), subst (AreHomes _) (sym homes.1) (mutex_bounds _ _ _ made.words))

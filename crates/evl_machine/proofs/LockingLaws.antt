@@ -1,0 +1,190 @@
+-- A caller that has the kernel in hand: what goes along with it, step by step.
+use Rattle.std.proofs.Common.{◌≡◌, ◌↔◌, ◌⊎◌, ◌+◌, ◌≤◌, ◌<◌, ℕ, List, [], true, Result, Ok, Err, IfOk, IfErr, length, map, refl, sym, ap, ◌∙◌, subst, arith, inl, inr, ⊎_elim}
+use Rattle.evl_base.specs.declared.call.Call.{Call}
+use Rattle.evl_base.specs.declared.call.Call.TheVariants.{Raise}
+use Rattle.evl_base.specs.declared.mutex_kind.MutexKind.{MutexKind}
+use Rattle.evl_base.specs.declared.numbers.MutexId.{MutexId}
+use Rattle.evl_base.specs.declared.refusal.Refusal.{Refusal}
+use Rattle.evl_base.specs.declared.refusal.Refusal.TheVariants.{NoMemory, HistoryFull, CoreBusy, Unknown, Invalid, Again, Busy, NotOwner, Deadlock, Limit, Range, TooBig, WrongStage, HoldsStax, Raced}
+use Rattle.evl_base.specs.declared.reply.Reply.{Reply}
+use Rattle.evl_pipeline.specs.declared.plan.Plan.{Plan}
+use Rattle.evl_kernel.specs.Callbacks.{AnswersAsTold, Stands, Whereabouts, told}
+use Rattle.evl_kernel.specs.Histories.{History, IsLegal}
+use Rattle.evl_kernel.specs.KernelViews.{AddsEntry, KernelView, makes_entry}
+use Rattle.evl_words.specs.declared.mutex.MutexPass.{MutexPass}
+use Rattle.evl_words.specs.MutexCalls.{MutexSeatState}
+use Rattle.evl_machine.specs.Accounts.{GoesOn, calls_by, newcomer}
+use Rattle.evl_machine.specs.Actors.{ActorState, AreHeldAt, IsSameActor, Suits, stage_in}
+use Rattle.evl_machine.specs.Calls.{Applied}
+use Rattle.evl_machine.specs.Homes.{mutex_home}
+use Rattle.evl_machine.specs.Known.{ComesFrom}
+use Rattle.evl_machine.specs.Unfinished.{unfinished}
+use Rattle.evl_machine.specs.Locking.{EntersOne, FindsNoRoom, GoesAlong, IsRoomier, LocksRaised, Refuses, Reserves}
+use Rattle.evl_machine.specs.MutexSeats.{TriesMutex}
+use Rattle.evl_machine.proofs.Accounts.{goes_on_none}
+use Rattle.evl_machine.proofs.Calling.{Added, added_by}
+use Rattle.evl_machine.proofs.Knowing.{comes_on}
+
+-- the caller with other seats at the mutexes
+abbrev pub seated_at : ActorState → List MutexSeatState → ActorState
+seated_at a mutexes = record a { mutexes = mutexes }
+
+-- the same seats, by where they belong and by their numbers
+pub record AreTheSame (old new : List MutexSeatState) : Type 0 where
+  pub homes : map mutex_home new ≡ map mutex_home old
+  pub numbers : map (λ (s : MutexSeatState). s.number) new ≡ map (λ (s : MutexSeatState). s.number) old
+
+pub the_same : (seats : List MutexSeatState) → AreTheSame seats seats
+the_same seats = record { homes = refl; numbers = refl }
+
+module _ {C : Type 0} where
+  pub same_kernel : (k : KernelView C) → IsRoomier k k
+  same_kernel k = record { history = refl; callbacks = refl; limit = refl; room = omega arith }
+
+  pub comes_roomier : (k k' : KernelView C) → IsRoomier k k' → ComesFrom k k'
+  comes_roomier k k' same = record {
+    board = ap (λ (h : History). h.board) same.history;
+    bank = ap (λ (h : History). h.bank) same.history;
+    brings = λ number callback stands. subst (λ (w : Whereabouts C). Stands w number callback) same.callbacks stands;
+    told_is = ap (λ (w : Whereabouts C). told w.bank) same.callbacks;
+    limit = same.limit;
+  }
+
+  pub answers_roomier : (declared : C → ℕ) (plan : C → Plan) (k k' : KernelView C) → IsRoomier k k' → AnswersAsTold declared plan k.callbacks → AnswersAsTold declared plan k'.callbacks
+  answers_roomier declared plan k k' same answers = subst (λ (w : Whereabouts C). AnswersAsTold declared plan w) (sym same.callbacks) answers
+
+  -- what the kernel's contract says of a reservation
+  pub reserves : (k : KernelView C) (r : Result (Unit {0}) Refusal) (k' : KernelView C)
+      → IfOk r (λ _. 1 ≤ k'.room) → ((r ≡ Err HistoryFull) ↔ (k.limit < length k.history.entries + 1)) → IfErr r (λ e. (e ≡ HistoryFull) ⊎ (e ≡ NoMemory))
+      → (r ≡ Err NoMemory → k.room < 1) → length k.history.entries ≤ k.limit → IsRoomier k k' → Reserves k r k'
+  reserves k (Ok done) k' room full refusals memory within same = record {
+    same = same;
+    made = (room, λ at. let no : Ok done ≡ Err HistoryFull = full.1 (omega (arith, at)) in absurd (cc));
+    refused = tt;
+  }
+  reserves k (Err refusal) k' room full refusals memory within same = record {
+    same = same;
+    made = tt;
+    refused = ⊎_elim
+        (λ (is : refusal ≡ HistoryFull). subst (FindsNoRoom k) (sym is) (let less = full.0 (ap Err is) in omega (arith, less, within)))
+        (λ (is : refusal ≡ NoMemory). subst (FindsNoRoom k) (sym is) (let less = memory (ap Err is) in omega (arith, less))) refusals;
+  }
+
+  module _ (x a : ActorState) (is : x ≡ a) (k : KernelView C) where
+    -- a step of a word at most, and nothing entered
+    pub along_none : (k1 : KernelView C) (new : List MutexSeatState) → IsRoomier k k1 → AreHeldAt a.stage a.staxes → Suits a k.history → IsLegal k.history → AreTheSame x.mutexes new → GoesAlong a k (seated_at x new) k1
+    along_none k1 new same held suits legal seats = subst (λ (z : ActorState). GoesAlong z k (seated_at x new) k1) is record {
+      thread = refl;
+      staxes = refl;
+      homes = seats.homes;
+      numbers = seats.numbers;
+      held = subst (λ (z : ActorState). AreHeldAt z.stage z.staxes) (sym is) held;
+      suits = record { stage = was.stage ∙ ap (λ (h : History). stage_in h x.thread.0) (sym same.history); wait = was.wait ∙ ap (λ (h : History). unfinished (calls_by x.thread.0 h.entries)) (sym same.history) };
+      added = [];
+      longer = subst (λ (h : History). GoesOn k.history [] h) (sym same.history) (goes_on_none k.history);
+      own = tt;
+      comes = comes_roomier k k1 same;
+      legal = subst IsLegal (sym same.history) legal;
+      room = let r = same.room in omega (arith, r);
+    }
+      where
+        was : Suits x k.history
+        was = subst (λ (z : ActorState). Suits z k.history) (sym is) suits
+
+    -- a step of a word at most, and then a call of the kernel
+    pub along_call : (k1 : KernelView C) (new : List MutexSeatState) (c : Call) (r : Result Reply Refusal) (a2 : ActorState) (k2 : KernelView C) → IsRoomier k k1 → AreTheSame x.mutexes new
+        → Applied k1 x.thread.0 c r k2 → IsSameActor (seated_at x new) a2 → Suits a2 k2.history → AreHeldAt a2.stage a2.staxes → GoesAlong a k a2 k2
+    along_call k1 new c r a2 k2 same seats done actor suits held = subst (λ (z : ActorState). GoesAlong z k a2 k2) is record {
+      thread = actor.thread;
+      staxes = actor.staxes;
+      homes = ap (map mutex_home) actor.mutexes ∙ seats.homes;
+      numbers = ap (map (λ (s : MutexSeatState). s.number)) actor.mutexes ∙ seats.numbers;
+      held = held;
+      suits = suits;
+      added = step.added;
+      longer = subst (λ (h : History). GoesOn h step.added k2.history) same.history step.longer;
+      own = step.own;
+      comes = comes_on k k1 k2 (comes_roomier k k1 same) done.comes;
+      legal = done.legal;
+      room = let r = same.room in let more = done.room in omega (arith, r, more);
+    }
+      where
+        step : Added (newcomer k.history x.thread.0) k1 k2
+        step = added_by (newcomer k.history x.thread.0) c r k1 k2 done (makes_entry r) refl
+
+  -- a step of a word more
+  pub along_word : (a : ActorState) (k : KernelView C) (x a2 : ActorState) (k2 : KernelView C) (new : List MutexSeatState) → x ≡ a2 → GoesAlong a k a2 k2 → AreTheSame x.mutexes new → GoesAlong a k (seated_at x new) k2
+  along_word a k x a2 k2 new is went seats = along (subst (λ (z : ActorState). GoesAlong a k z k2) (sym is) went)
+    where
+      along : GoesAlong a k x k2 → GoesAlong a k (seated_at x new) k2
+      along went = record {
+        thread = went.thread;
+        staxes = went.staxes;
+        homes = seats.homes ∙ went.homes;
+        numbers = seats.numbers ∙ went.numbers;
+        held = went.held;
+        suits = record { stage = went.suits.stage; wait = went.suits.wait };
+        added = went.added;
+        longer = went.longer;
+        own = went.own;
+        comes = went.comes;
+        legal = went.legal;
+        room = went.room;
+      }
+
+  -- a call is entered where room was made for it
+  pub enters_made : (k k1 k2 : KernelView C) (t : ℕ) (c : Call) (r : Result Reply Refusal) (u : Unit {0}) → Reserves k (Ok u) k1 → Applied k1 t c r k2 → EntersOne k t c r k2
+  enters_made k k1 k2 t c r u room done = by r refl
+    where
+      full : r ≡ Err HistoryFull → ⊥
+      full is = room.made.1 (ap (λ (h : History). length h.entries) (sym room.same.history) ∙ done.full is ∙ room.same.limit)
+
+      memory : r ≡ Err NoMemory → ⊥
+      memory is = let none = done.memory is in let some = room.made.0 in omega (arith, none, some)
+
+      entered : makes_entry r ≡ true → EntersOne k t c r k2
+      entered is = (is, subst (λ (h : History). AddsEntry h t c r k2.history) room.same.history (done.entered is))
+
+      by : (s : Result Reply Refusal) → r ≡ s → EntersOne k t c r k2
+      by (Ok reply) is = entered (ap makes_entry is)
+      by (Err NoMemory) is = absurd (memory is)
+      by (Err HistoryFull) is = absurd (full is)
+      by (Err CoreBusy) is = entered (ap makes_entry is)
+      by (Err Unknown) is = entered (ap makes_entry is)
+      by (Err Invalid) is = entered (ap makes_entry is)
+      by (Err Again) is = entered (ap makes_entry is)
+      by (Err Busy) is = entered (ap makes_entry is)
+      by (Err NotOwner) is = entered (ap makes_entry is)
+      by (Err Deadlock) is = entered (ap makes_entry is)
+      by (Err Limit) is = entered (ap makes_entry is)
+      by (Err Range) is = entered (ap makes_entry is)
+      by (Err TooBig) is = entered (ap makes_entry is)
+      by (Err WrongStage) is = entered (ap makes_entry is)
+      by (Err HoldsStax) is = entered (ap makes_entry is)
+      by (Err (Raced first second)) is = entered (ap makes_entry is)
+
+  -- a refused call is entered, or there was no room for it
+  pub refuses : (k k' : KernelView C) (t : ℕ) (c : Call) (refusal : Refusal) → Applied k t c (Err refusal) k' → Refuses k t c refusal k'
+  refuses k k' t c NoMemory done = inr (done.refused refl, done.memory refl)
+  refuses k k' t c HistoryFull done = inr (done.refused refl, done.full refl)
+  refuses k k' t c CoreBusy done = inl (refl, done.entered refl)
+  refuses k k' t c Unknown done = inl (refl, done.entered refl)
+  refuses k k' t c Invalid done = inl (refl, done.entered refl)
+  refuses k k' t c Again done = inl (refl, done.entered refl)
+  refuses k k' t c Busy done = inl (refl, done.entered refl)
+  refuses k k' t c NotOwner done = inl (refl, done.entered refl)
+  refuses k k' t c Deadlock done = inl (refl, done.entered refl)
+  refuses k k' t c Limit done = inl (refl, done.entered refl)
+  refuses k k' t c Range done = inl (refl, done.entered refl)
+  refuses k k' t c TooBig done = inl (refl, done.entered refl)
+  refuses k k' t c WrongStage done = inl (refl, done.entered refl)
+  refuses k k' t c HoldsStax done = inl (refl, done.entered refl)
+  refuses k k' t c (Raced first second) done = inl (refl, done.entered refl)
+
+module _ {C : Type 0} (x a : ActorState) (is : x ≡ a) (k k1 k2 : KernelView C) where
+  -- a try that took a mutex with a ceiling, and its entry
+  pub locks_raised : (kinds : List MutexKind) (m : MutexId) (pass : MutexPass) (new : List MutexSeatState) (r : Result Reply Refusal) (a2 : ActorState) (u : Unit {0}) → TriesMutex kinds x.mutexes m.0 (Ok pass) new
+      → IsSameActor (seated_at x new) a2 → Reserves k (Ok u) k1 → Applied k1 x.thread.0 (Raise m) r k2 → LocksRaised kinds a k m (Ok pass) a2 k2
+  locks_raised kinds m pass new r a2 u tried same room done =
+      subst (λ (z : ActorState). LocksRaised kinds z k m (Ok pass) a2 k2) is
+      (subst (λ seats. TriesMutex kinds x.mutexes m.0 (Ok pass) seats) (sym same.mutexes) tried, (r, enters_made k k1 k2 x.thread.0 (Raise m) r u room done))

@@ -1,0 +1,6 @@
+use Rattle.evl_base.specs.declared.stage.Stage.TheVariants.{Inband}
+use Rattle.evl_machine.proofs.Staying.{free_held}
+use Rattle.evl_machine.proofs.actor.Actor.new.Goals as goal
+
+pub invariant_of-result : goal.invariant_of-result
+invariant_of-result g c = record { held = free_held Inband _ c.requires.free; staxes = c.requires.numbers.0; mutexes = c.requires.numbers.1 }

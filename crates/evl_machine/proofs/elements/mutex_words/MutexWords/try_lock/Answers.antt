@@ -1,0 +1,38 @@
+use Rattle.std.proofs.Common.{ap, ◌∙◌, arith, map, refl}
+use Rattle.std.proofs.lemmas.Option.{slice_get_read}
+use Rattle.evl_words.specs.MutexCalls.{MutexSeatState}
+use Rattle.evl_machine.specs.Homes.{mutex_home}
+use Rattle.evl_machine.specs.MutexSeats.{WordsState, mutex_passes}
+use Rattle.evl_machine.proofs.SeatLists.{count-room, counted-set, map-kept}
+use Rattle.evl_machine.proofs.MutexLaws.{found, home_kept, within_seats, tried, kind_at}
+use Rattle.evl_machine.proofs.elements.mutex_words.MutexWords.try_lock.Goals as goal
+
+pub try_lock-result-requires : goal.try_lock-result-requires
+try_lock-result-requires g c = (found c.seats.inside.seats.items _ c.self.inside.words.items _ c.from-place.result c.index_mut-seat.result.now c.index.result.now c.seats.view_is (ap (λ (m : WordsState). m.words) c.self.view_is) c.requires.homes (within_seats _ c.self.inside.words.items _ c.from-place.result (ap (λ (m : WordsState). m.words) c.self.view_is) c.requires.homes (omega (arith, c.if-place-len.false, c.len.ensures, c.self.inside.words.ok.0))) c.index_mut-seat.ensures.value c.index.ensures).1
+
+pub recounted-seats-inside-requires : goal.recounted-seats-inside-requires
+recounted-seats-inside-requires g c =
+    let there = (found c.seats.inside.seats.items _ c.self.inside.words.items _ c.from-place.result c.index_mut-seat.result.now c.index.result.now c.seats.view_is (ap (λ (m : WordsState). m.words) c.self.view_is) c.requires.homes (within_seats _ c.self.inside.words.items _ c.from-place.result (ap (λ (m : WordsState). m.words) c.self.view_is) c.requires.homes (omega (arith, c.if-place-len.false, c.len.ensures, c.self.inside.words.ok.0))) c.index_mut-seat.ensures.value c.index.ensures).0 in
+    let room = count-room (λ (s : MutexSeatState). s.mutex.0) mutex_passes c.seats.inside.seats.items c.seats.inside.passes c.from-place.result c.index_mut-seat.result.now c.seats.invariant there in
+    record { room = (omega (arith, room.0, c.depth-before.ensures), room.1) }
+
+pub invariant_of-seats : goal.invariant_of-seats
+invariant_of-seats g c =
+    let there = (found c.seats.inside.seats.items _ c.self.inside.words.items _ c.from-place.result c.index_mut-seat.result.now c.index.result.now c.seats.view_is (ap (λ (m : WordsState). m.words) c.self.view_is) c.requires.homes (within_seats _ c.self.inside.words.items _ c.from-place.result (ap (λ (m : WordsState). m.words) c.self.view_is) c.requires.homes (omega (arith, c.if-place-len.false, c.len.ensures, c.self.inside.words.ok.0))) c.index_mut-seat.ensures.value c.index.ensures).0 in
+    counted-set (λ (s : MutexSeatState). s.mutex.0) mutex_passes c.seats.inside.seats.items c.seats.inside.passes c.from-place.result c.index_mut-seat.result.now _ c.try_lock-result.new.seat c.seats.invariant there (ap (λ m. m.0) c.try_lock-result.ensures.seat.mutex) (omega (arith, c.depth.ensures, c.depth.type_inv)) (omega (arith, c.recounted-seats-inside.ensures.count, c.depth-before.ensures, c.depth.ensures))
+
+pub returns-clause-homes : goal.returns-clause-homes
+returns-clause-homes g c =
+    let there = (found c.seats.inside.seats.items _ c.self.inside.words.items _ c.from-place.result c.index_mut-seat.result.now c.index.result.now c.seats.view_is (ap (λ (m : WordsState). m.words) c.self.view_is) c.requires.homes (within_seats _ c.self.inside.words.items _ c.from-place.result (ap (λ (m : WordsState). m.words) c.self.view_is) c.requires.homes (omega (arith, c.if-place-len.false, c.len.ensures, c.self.inside.words.ok.0))) c.index_mut-seat.ensures.value c.index.ensures).0 in
+    map-kept mutex_home c.seats.inside.seats.items c.from-place.result c.index_mut-seat.result.now c.try_lock-result.new.seat there (home_kept c.index_mut-seat.result.now c.try_lock-result.new.seat c.try_lock-result.ensures.seat) ∙ ap (map mutex_home) c.seats.view_is
+
+pub returns-clause-numbers : goal.returns-clause-numbers
+returns-clause-numbers g c =
+    let there = (found c.seats.inside.seats.items _ c.self.inside.words.items _ c.from-place.result c.index_mut-seat.result.now c.index.result.now c.seats.view_is (ap (λ (m : WordsState). m.words) c.self.view_is) c.requires.homes (within_seats _ c.self.inside.words.items _ c.from-place.result (ap (λ (m : WordsState). m.words) c.self.view_is) c.requires.homes (omega (arith, c.if-place-len.false, c.len.ensures, c.self.inside.words.ok.0))) c.index_mut-seat.ensures.value c.index.ensures).0 in
+    map-kept (λ (s : MutexSeatState). s.number) c.seats.inside.seats.items c.from-place.result c.index_mut-seat.result.now c.try_lock-result.new.seat there c.try_lock-result.ensures.seat.number ∙ ap (map (λ (s : MutexSeatState). s.number)) c.seats.view_is
+
+pub returns-clause-tried : goal.returns-clause-tried
+returns-clause-tried g c =
+    let there = (found c.seats.inside.seats.items _ c.self.inside.words.items _ c.from-place.result c.index_mut-seat.result.now c.index.result.now c.seats.view_is (ap (λ (m : WordsState). m.words) c.self.view_is) c.requires.homes (within_seats _ c.self.inside.words.items _ c.from-place.result (ap (λ (m : WordsState). m.words) c.self.view_is) c.requires.homes (omega (arith, c.if-place-len.false, c.len.ensures, c.self.inside.words.ok.0))) c.index_mut-seat.ensures.value c.index.ensures).0 in
+    let beside = kind_at c.self.inside.words.items c.self.inside.kinds.items c.from-place.result c.index.result.now c.self.invariant (slice_get_read c.self.inside.words.items _ c.from-place.result c.index.result.now refl (omega (arith, c.if-place-len.false, c.len.ensures, c.self.inside.words.ok.0)) c.index.ensures) in
+    rw (← c.seats.view_is, ← ap (λ (m : WordsState). m.kinds) c.self.view_is, ← c.from-place.ensures) (tried c.index.result.now beside.0 beside.2 c.index_mut-seat.result.now c.try_lock-result.new.seat c.self.inside.kinds.items c.seats.inside.seats.items c.from-place.result beside.1 there c.try_lock-result.result (c.seats.invariant.placed c.from-place.result c.index_mut-seat.result.now there) c.try_lock-result.ensures.event c.try_lock-result.ensures.ok c.try_lock-result.ensures.err)

@@ -1,0 +1,71 @@
+-- What a caller has beside its seat at the core: its thread, the thread's stage and unfinished wait, and its seats at the staxes and mutexes.
+use Rattle.std.specs.Prelude.{◌≡◌, ℕ, ◌||◌, not, Bool, true, false, List, All, map, Option, Some, None, if◌then◌else◌, slice_get}
+use Rattle.evl_base.specs.declared.call.Call.{Call}
+use Rattle.evl_base.specs.declared.call.Call.TheVariants.{Attach, Detach, SetStage, Claim, Release, Raise, Finish}
+use Rattle.evl_base.specs.declared.numbers.ThreadId.{ThreadId}
+use Rattle.evl_base.specs.declared.refusal.Refusal.{Refusal}
+use Rattle.evl_base.specs.declared.refusal.Refusal.TheVariants.{Invalid, HoldsStax, Busy}
+use Rattle.evl_base.specs.declared.stage.Stage.{Stage}
+use Rattle.evl_sched.specs.Threads.{stage_of}
+use Rattle.evl_kernel.specs.Histories.{History}
+use Rattle.evl_words.specs.GateCalls.{SeatState}
+use Rattle.evl_words.specs.MutexCalls.{MutexSeatState}
+use Rattle.evl_machine.specs.declared.unfinished.Unfinished.{Unfinished}
+use Rattle.evl_machine.specs.declared.unfinished.Unfinished.TheVariants.{Mutex}
+use Rattle.evl_machine.specs.Accounts.{calls_by}
+use Rattle.evl_machine.specs.Unfinished.{unfinished}
+
+-- the stage of a thread at the end of a history
+abbrev pub stage_in : History → ℕ → Stage
+stage_in h thread = stage_of h.state.sched thread
+
+-- each stax that is held is held at this stage
+abbrev pub AreHeldAt : Stage → List SeatState → Type 0
+AreHeldAt stage seats = (i : ℕ) (s : SeatState) (held : Stage) → slice_get seats i ≡ Some s → s.view.held.stage ≡ Some held → held ≡ stage
+
+pub record ActorState : Type 0 where
+  pub thread : ThreadId
+  pub stage : Stage
+  pub wait : Option Unfinished
+  pub staxes : List SeatState
+  pub mutexes : List MutexSeatState
+
+-- its seats are those of its thread, and at its stage it holds staxes
+pub record IsActor (a : ActorState) : Type 0 where
+  pub held : AreHeldAt a.stage a.staxes
+  pub staxes : All (λ n. n ≡ a.thread.0) (map (λ s. s.number) a.staxes)
+  pub mutexes : All (λ n. n ≡ a.thread.0) (map (λ s. s.number) a.mutexes)
+
+-- it acts for the same thread and has the same seats
+pub record IsSameActor (old new : ActorState) : Type 0 where
+  pub thread : new.thread ≡ old.thread
+  pub staxes : new.staxes ≡ old.staxes
+  pub mutexes : new.mutexes ≡ old.mutexes
+
+-- what it keeps of its thread is what a history says
+pub record Suits (a : ActorState) (h : History) : Type 0 where
+  pub stage : a.stage ≡ stage_in h a.thread.0
+  pub wait : a.wait ≡ unfinished (calls_by a.thread.0 h.entries)
+
+abbrev pub waits_for_mutex : Option Unfinished → Bool
+waits_for_mutex (Some (Mutex mutex)) = true
+waits_for_mutex wait = false
+
+-- whether a weak thread keeps its stage when it finishes a wait: where it holds a mutex or a stax
+abbrev pub keeps_stage : Bool → Bool → Bool
+keeps_stage stax mutex = stax || mutex
+
+abbrev pub same_truth : Bool → Bool → Bool
+same_truth true b = b
+same_truth false b = not b
+
+-- What refuses a call by what its caller has itself: by its unfinished wait, by whether it holds a stax, and a mutex. Mutexes are claimed, released and raised, and waits for them finished, by calls of their own; a Finish keeps the stage exactly where something is held; who holds a stax stays on its stage, and who holds a mutex stays attached
+abbrev pub call_refusal : Option Unfinished → Bool → Bool → Call → Option Refusal
+call_refusal wait stax mutex (Claim id owner until) = Some Invalid
+call_refusal wait stax mutex (Release id) = Some Invalid
+call_refusal wait stax mutex (Raise id) = Some Invalid
+call_refusal wait stax mutex (Finish keep) = if waits_for_mutex wait || not (same_truth keep (keeps_stage stax mutex)) then Some Invalid else None
+call_refusal wait stax mutex (Attach policy stage) = if stax then Some HoldsStax else None
+call_refusal wait stax mutex (SetStage stage) = if stax then Some HoldsStax else None
+call_refusal wait stax mutex Detach = if stax then Some HoldsStax else (if mutex then Some Busy else None)
+call_refusal wait stax mutex _ = None

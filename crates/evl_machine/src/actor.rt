@@ -1,0 +1,127 @@
+//! What a caller has beside its seat at the core.
+ghost use Rattle.std.specs.Prelude.{◌≡◌, true, false, Some, None, if◌then◌else◌, All, map};
+ghost use Rattle.evl_base.specs.declared.refusal.Refusal.TheVariants.{Busy, HoldsStax};
+ghost use Rattle.evl_base.specs.declared.stage.Stage.TheVariants.{Inband};
+ghost use Rattle.evl_kernel.specs.Callbacks.{AnswersAsTold};
+ghost use Rattle.evl_kernel.specs.Families.{moves_caller, task_of};
+ghost use Rattle.evl_machine.specs.Actors.{AreHeldAt, IsSameActor, Suits, call_refusal, keeps_stage};
+ghost use Rattle.evl_machine.specs.Calls.{Applied};
+ghost use Rattle.evl_machine.specs.MutexSeats.{holds_mutex};
+ghost use Rattle.evl_machine.specs.StaxSeats.{holds_stax};
+
+use crate::elements::{MutexSeats, StaxSeats};
+use crate::kernel_box::KernelBox;
+use crate::unfinished::{Unfinished, wait_after, wait_step};
+use evl_base::{Call, Refusal, Reply, Stage, ThreadId};
+use evl_pipeline::Handler;
+use std::alloc::Allocator;
+use std::marker::Model;
+
+/// Who acts for a thread of the board, and all that it has beside its seat at the core (this profile). A caller has it
+/// while it is at rest, and while it has the kernel; it goes from one to the other whole.
+#[derive(Drop)]
+pub struct Actor<A: Allocator> {
+    pub(crate) thread: ThreadId,
+    /// That of its thread at the end of what it has seen.
+    pub(crate) stage: Stage,
+    pub(crate) wait: Option<Unfinished>,
+    pub(crate) staxes: StaxSeats<A>,
+    pub(crate) mutexes: MutexSeats<A>,
+}
+
+impl<A: Allocator> Model for Actor<A> {
+    ghost use Rattle.evl_machine.specs.Actors.{ActorState, IsActor};
+
+    ghost Value = { ActorState };
+
+    ghost view = { λ a. record { thread = a.thread; stage = a.stage; wait = a.wait; staxes = a.staxes; mutexes = a.mutexes } };
+
+    ghost invariant = { λ a. IsActor (record { thread = a.thread; stage = a.stage; wait = a.wait; staxes = a.staxes; mutexes = a.mutexes }) };
+}
+
+impl<A: Allocator> Actor<A> {
+    /// Who acts for a thread that has made no call.
+    pub(crate) fn new(thread: ThreadId, staxes: StaxSeats<A>, mutexes: MutexSeats<A>) -> Actor<A>
+        requires free { holds_stax staxes ≡ false }
+        requires numbers { All (λ n. n ≡ thread.0) (map (λ s. s.number) staxes) × All (λ n. n ≡ thread.0) (map (λ s. s.number) mutexes) }
+        ensures { result ≡ record { thread = thread; stage = Inband; wait = None; staxes = staxes; mutexes = mutexes } }
+    {
+        Actor {
+            thread,
+            stage: Stage::Inband,
+            wait: None,
+            staxes,
+            mutexes,
+        }
+    }
+
+    /// What refuses a call of the kernel by what the caller has itself, before any step.
+    pub(crate) fn refusal(&self, call: &Call) -> Option<Refusal>
+        ensures refused { result ≡ call_refusal self.now.wait (holds_stax self.now.staxes) (holds_mutex self.now.mutexes) call.now }
+        ensures held { AreHeldAt self.now.stage self.now.staxes }
+    {
+        match call {
+            Call::Claim { .. } | Call::Release { .. } | Call::Raise { .. } => {
+                Some(Refusal::Invalid)
+            }
+            Call::Finish { keep } => {
+                let for_mutex = matches!(self.wait, Some(Unfinished::Mutex(_)));
+                if for_mutex || *keep != self.keeps_stage() {
+                    Some(Refusal::Invalid)
+                } else {
+                    None
+                }
+            }
+            Call::Attach { .. } | Call::SetStage { .. } => self.stax_refusal(),
+            Call::Detach => self.detach_refusal(),
+            _ => None,
+        }
+    }
+
+    /// Whether its thread keeps its stage when it finishes a wait: where it holds a stax or a mutex.
+    pub(crate) fn keeps_stage(&self) -> bool
+        ensures { result ≡ keeps_stage (holds_stax self.now.staxes) (holds_mutex self.now.mutexes) }
+    {
+        self.staxes.holds_any() || self.mutexes.holds_any()
+    }
+
+    fn stax_refusal(&self) -> Option<Refusal>
+        ensures { result ≡ (if holds_stax self.now.staxes then Some HoldsStax else None) }
+    {
+        if self.staxes.holds_any() {
+            Some(Refusal::HoldsStax)
+        } else {
+            None
+        }
+    }
+
+    fn detach_refusal(&self) -> Option<Refusal>
+        ensures { result ≡ (if holds_stax self.now.staxes then Some HoldsStax else (if holds_mutex self.now.mutexes then Some Busy else None)) }
+    {
+        if self.mutexes.holds_any() && !self.staxes.holds_any() {
+            return Some(Refusal::Busy);
+        }
+        self.stax_refusal()
+    }
+
+    /// One call of the kernel by its thread, after which it knows the thread's stage and unfinished wait anew.
+    pub(crate) fn apply<C: Handler>(
+        &mut self,
+        kernel: &mut KernelBox<C, A>,
+        call: Call,
+    ) -> Result<Reply, Refusal>
+        requires answering { AnswersAsTold C.declared C.plan kernel.old.callbacks }
+        requires suits { Suits self.old kernel.old.history }
+        requires stays { holds_stax self.old.staxes ≡ true → moves_caller (task_of call) ≡ false }
+        ensures applied { Applied kernel.old self.old.thread.0 call result kernel.new }
+        ensures suits { Suits self.new kernel.new.history }
+        ensures same { IsSameActor self.old self.new }
+        ensures held { AreHeldAt self.new.stage self.new.staxes }
+    {
+        let step = wait_step(&call);
+        let answer = kernel.apply(self.thread, call);
+        self.wait = wait_after(self.wait, step, &answer);
+        self.stage = kernel.kernel().stage(self.thread);
+        answer
+    }
+}

@@ -1,0 +1,74 @@
+//! Entering a stax by a seat of a thread, and leaving it.
+ghost use Rattle.std.specs.Prelude.{◌≡◌, map};
+ghost use Rattle.evl_words.specs.GateCalls.{IsSeatOf, IsSameSeat};
+ghost use Rattle.evl_machine.specs.Homes.{gate_home, stax_home};
+ghost use Rattle.evl_machine.specs.StaxSeats.{LeavesBy, LeavesStax, TriesStax};
+
+use super::gates::Gates;
+use super::stax_seats::StaxSeats;
+use evl_base::{Refusal, Stage, StaxId};
+use evl_words::{Left, StaxGate, StaxPass, StaxSeat};
+use std::alloc::Allocator;
+
+impl<A: Allocator> Gates<A> {
+    /// Enters a stax at a stage.
+    pub(crate) fn try_lock(
+        &self,
+        seats: &mut StaxSeats<A>,
+        stax: StaxId,
+        stage: Stage,
+    ) -> Result<StaxPass, Refusal>
+        requires homes { map stax_home seats.old ≡ map gate_home self.now }
+        ensures homes { map stax_home seats.new ≡ map stax_home seats.old }
+        ensures numbers { map (λ s. s.number) seats.new ≡ map (λ s. s.number) seats.old }
+        ensures tried { TriesStax seats.old stax.0 stage result seats.new }
+    {
+        let place = usize::from(stax.0);
+        if place >= self.gates.len() {
+            return Err(Refusal::Unknown);
+        }
+        let result = self.gates[place].try_lock(&mut seats.seats[place], stage);
+        seats.held += u16::from(result.is_ok());
+        result
+    }
+
+    /// Leaves a stax, and answers whether others want in, as the last one to leave sees. The mark is then taken away.
+    pub(crate) fn unlock(
+        &self,
+        seats: &mut StaxSeats<A>,
+        pass: StaxPass,
+    ) -> Result<bool, (Refusal, StaxPass)>
+        requires homes { map stax_home seats.old ≡ map gate_home self.now }
+        ensures homes { map stax_home seats.new ≡ map stax_home seats.old }
+        ensures numbers { map (λ s. s.number) seats.new ≡ map (λ s. s.number) seats.old }
+        ensures left { LeavesStax seats.old pass result seats.new }
+    {
+        let place = usize::from(pass.gate().0);
+        if place >= self.gates.len() {
+            return Err((Refusal::NotOwner, pass));
+        }
+        let result = leave(&self.gates[place], &mut seats.seats[place], pass);
+        seats.held -= u16::from(result.is_ok());
+        result
+    }
+}
+
+/// Leaves a gate, and takes its mark away where the last one to leave found it.
+fn leave<A: Allocator>(
+    gate: &StaxGate<A>,
+    seat: &mut StaxSeat,
+    pass: StaxPass,
+) -> Result<bool, (Refusal, StaxPass)>
+    requires mine { IsSeatOf seat.old gate.now }
+    ensures seat { IsSameSeat seat.old seat.new }
+    ensures left { LeavesBy pass result seat.old seat.new }
+{
+    match gate.unlock(seat, pass) {
+        Ok(Left::Last { claimed: true }) => {
+            gate.unclaim(seat);
+            Ok(true)
+        }
+        Ok(_) => Ok(false),
+        Err(refused) => Err(refused),
+    }
+}
