@@ -1,5 +1,5 @@
 //! The texts of lines, each written over the one before it.
-ghost use Rattle.std.specs.Prelude.{◌≡◌, OnOk, IfSome, string_bytes};
+ghost use Rattle.std.specs.Prelude.{◌≡◌, OnOk, IfSome, [], string_bytes};
 ghost use Rattle.evl_scenario.specs.Lines.{board_line_of, board_line_text, line_around, play_line_text, step_text};
 
 use evl_base::{Board, Play, Refusal};
@@ -35,7 +35,9 @@ fn write_over<D: Display + Drop>(buffer: &mut String, text: D) -> Result<(), Ref
 
 impl Texts {
     /// No text was written.
-    pub fn new(alloc: Global) -> Texts {
+    pub fn new(alloc: Global) -> Texts
+        ensures { (string_bytes result.step ≡ []) × (string_bytes result.line ≡ []) }
+    {
         Texts {
             step: String::new(alloc),
             line: String::new(alloc),
