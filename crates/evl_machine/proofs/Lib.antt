@@ -18,3 +18,9 @@ pub mod Crossing
 pub mod CoreLaws
 pub mod LockingLaws
 pub mod LockingCalls
+pub mod Visits
+pub mod MutexLocks
+pub mod MutexUnlocks
+pub mod WaitingLaws
+pub mod StaxWaitLaws
+pub mod MutexWaitLaws

@@ -29,7 +29,7 @@ use Rattle.evl_machine.specs.MutexSeats.{AcceptsSo, Claims, ForgetsSo, HasOnce, 
 use Rattle.evl_machine.specs.StaxSeats.{holds_stax}
 use Rattle.evl_machine.proofs.LockingLaws.{enters_made, seated_at}
 
-set_there : {S : Type 0} (xs : List S) (i : ℕ) (was is : S) → slice_get xs i ≡ Some was → slice_get (slice_set xs i is) i ≡ Some is
+pub set_there : {S : Type 0} (xs : List S) (i : ℕ) (was is : S) → slice_get xs i ≡ Some was → slice_get (slice_set xs i is) i ≡ Some is
 set_there [] i was is there = absurd (none-some was there)
 set_there (x ∷ xs) zero was is there = refl
 set_there (x ∷ xs) (suc i) was is there = set_there xs i was is there

@@ -75,6 +75,7 @@ left_held stage old new pass result left held = by (leave_refusal old pass) left
 pub actor_at_staxes : (a : ActorState) (new : List SeatState) → IsActor a → AreHeldAt a.stage new → map (λ (s : SeatState). s.number) new ≡ map (λ (s : SeatState). s.number) a.staxes → IsActor (record a { staxes = new })
 actor_at_staxes a new is held same = record {
   held = held;
+  awaits = is.awaits;
   staxes = subst (All (λ n. n ≡ a.thread.0)) (sym same) is.staxes;
   mutexes = is.mutexes;
 }

@@ -1,8 +1,9 @@
 -- The stage and the unfinished wait of a thread, along a history that goes on.
-use Rattle.std.proofs.Common.{◌≡◌, ◌≢◌, ℕ, zero, suc, ◌==◌, ◌||◌, cond, is_some, List, [], ◌∷◌, ◌++◌, Bool, true, false, true≢false, Option, Some, None, Result, Ok, Err, slice_get, refl, sym, ap, ◌∙◌, arith}
+use Rattle.std.proofs.Common.{◌≡◌, ◌≢◌, ℕ, zero, suc, ◌==◌, ◌||◌, cond, is_some, List, [], ◌∷◌, ◌++◌, Bool, true, false, true≢false, Option, Some, None, Result, Ok, Err, slice_get, length, subst, refl, sym, ap, ◌∙◌, arith}
 use Rattle.std.specs.List.{list_any}
 use Rattle.std.proofs.lemmas.Bool.Decides.{nat_tests}
 use Rattle.evl_base.specs.declared.call.Call.{Call}
+use Rattle.evl_base.specs.declared.call.Call.TheVariants.{BeginGet, BeginTake, BeginWrite, BeginRead, Claim, Finish}
 use Rattle.evl_base.specs.declared.entry.Entry.{Entry}
 use Rattle.evl_base.specs.declared.play.Play.{Play}
 use Rattle.evl_base.specs.declared.refusal.Refusal.{Refusal}
@@ -18,7 +19,7 @@ use Rattle.evl_kernel.proofs.StageLaws.{stages_are, stages_stay}
 use Rattle.evl_machine.specs.declared.unfinished.Unfinished.{Unfinished}
 use Rattle.evl_machine.specs.declared.views.Account.{Account}
 use Rattle.evl_machine.specs.Accounts.{BeginsWith, Fits, IsAccount, calls_by}
-use Rattle.evl_machine.specs.Actors.{ActorState, AreHeldAt, IsActor, Suits, stage_in}
+use Rattle.evl_machine.specs.Actors.{ActorState, AreHeldAt, AwaitsOneOf, ClaimsOneOf, IsActor, Suits, call_refusal, stage_in}
 use Rattle.evl_machine.specs.StaxSeats.{holds_stax, is_held}
 use Rattle.evl_machine.specs.Unfinished.{unfinished, unfinished_from, wait_after, wait_step}
 use Rattle.evl_machine.specs.Calls.{Applied}
@@ -100,14 +101,32 @@ held_still old new seats at stays i s held there is = at i s held there is ∙ s
 pub free_held : (stage : Stage) (seats : List SeatState) → holds_stax seats ≡ false → AreHeldAt stage seats
 free_held stage seats free i s held there is = absurd (true≢false (sym (any_at is_held seats i s there (holds_one s held is)) ∙ free))
 
+-- a wait that begins is for a mutex that was claimed
+awaits_after : (count : ℕ) (w : Option Unfinished) (c : Call) (r : Result Reply Refusal) → AwaitsOneOf count w → ClaimsOneOf count c → AwaitsOneOf count (wait_after w (wait_step c) r)
+awaits_after count w c (Err refusal) was claims = was
+awaits_after count w (Claim mutex owner until) (Ok reply) was claims = claims
+awaits_after count w (BeginGet sem until) (Ok reply) was claims = tt
+awaits_after count w (BeginTake flags kind until) (Ok reply) was claims = tt
+awaits_after count w (BeginWrite xbuf way bytes until) (Ok reply) was claims = tt
+awaits_after count w (BeginRead xbuf way len until) (Ok reply) was claims = tt
+awaits_after count w (Finish keep) (Ok reply) was claims = tt
+awaits_after count w _ (Ok reply) was claims = was
+
+-- a call that no caller refuses by itself claims nothing
+pub claims_none : (count : ℕ) (wait : Option Unfinished) (stax mutex : Bool) (c : Call) → call_refusal wait stax mutex c ≡ None → ClaimsOneOf count c
+claims_none count wait stax mutex (Claim id owner until) free = absurd (cc)
+claims_none count wait stax mutex _ free = tt
+
 abbrev pub knowing : ActorState → Stage → Option Unfinished → ActorState
 knowing a stage wait = record a { stage = stage; wait = wait }
 
 module _ {C : Type 0} (k k' : KernelView C) (a : ActorState) (c : Call) (r : Result Reply Refusal) (stage : Stage) (wait : Option Unfinished) where
   -- an actor after a call of the kernel, once it knows its thread's stage and wait anew
-  pub actor_applied : IsActor a → Suits a k.history → (holds_stax a.staxes ≡ true → moves_caller (task_of c) ≡ false) → Applied k a.thread.0 c r k' → stage ≡ stage_in k'.history a.thread.0 → IsActor (knowing a stage wait)
-  actor_applied is suits stays done now = record {
+  pub actor_applied : IsActor a → Suits a k.history → (holds_stax a.staxes ≡ true → moves_caller (task_of c) ≡ false) → Applied k a.thread.0 c r k' → stage ≡ stage_in k'.history a.thread.0
+      → ClaimsOneOf (length a.mutexes) c → wait ≡ wait_after a.wait (wait_step c) r → IsActor (knowing a stage wait)
+  actor_applied is suits stays done now claims after = record {
     held = held_still a.stage stage a.staxes is.held (λ holds. now ∙ (stage_applied k k' a.thread.0 c r done (stays holds) (makes_entry r) refl ∙ sym suits.stage));
+    awaits = subst (AwaitsOneOf (length a.mutexes)) (sym after) (awaits_after (length a.mutexes) a.wait c r is.awaits claims);
     staxes = is.staxes;
     mutexes = is.mutexes;
   }

@@ -1,5 +1,5 @@
 -- What a caller has beside its seat at the core: its thread, the thread's stage and unfinished wait, and its seats at the staxes and mutexes.
-use Rattle.std.specs.Prelude.{◌≡◌, ℕ, ◌||◌, not, Bool, true, false, List, All, map, Option, Some, None, if◌then◌else◌, slice_get}
+use Rattle.std.specs.Prelude.{◌≡◌, ℕ, ◌<◌, ◌||◌, not, Bool, true, false, List, length, All, map, Option, Some, None, if◌then◌else◌, slice_get}
 use Rattle.evl_base.specs.declared.call.Call.{Call}
 use Rattle.evl_base.specs.declared.call.Call.TheVariants.{Attach, Detach, SetStage, Claim, Release, Raise, Finish}
 use Rattle.evl_base.specs.declared.numbers.ThreadId.{ThreadId}
@@ -30,9 +30,19 @@ pub record ActorState : Type 0 where
   pub staxes : List SeatState
   pub mutexes : List MutexSeatState
 
--- its seats are those of its thread, and at its stage it holds staxes
+-- a wait for a mutex is for one of so many, and so is a claim
+abbrev pub AwaitsOneOf : ℕ → Option Unfinished → Type 0
+AwaitsOneOf count (Some (Mutex mutex)) = mutex.0 < count
+AwaitsOneOf count wait = Unit {0}
+
+abbrev pub ClaimsOneOf : ℕ → Call → Type 0
+ClaimsOneOf count (Claim mutex owner until) = mutex.0 < count
+ClaimsOneOf count _ = Unit {0}
+
+-- its seats are those of its thread, it waits for no mutex but one of those, and at its stage it holds staxes
 pub record IsActor (a : ActorState) : Type 0 where
   pub held : AreHeldAt a.stage a.staxes
+  pub awaits : AwaitsOneOf (length a.mutexes) a.wait
   pub staxes : All (λ n. n ≡ a.thread.0) (map (λ s. s.number) a.staxes)
   pub mutexes : All (λ n. n ≡ a.thread.0) (map (λ s. s.number) a.mutexes)
 

@@ -20,3 +20,9 @@ pub mod StaxCalls
 pub mod Makings
 pub mod Closings
 pub mod Locking
+pub mod Sessions
+pub mod Visits
+pub mod MutexLocks
+pub mod Waitings
+pub mod StaxWaits
+pub mod MutexWaits

@@ -1,19 +1,21 @@
 //! What a caller has beside its seat at the core.
-ghost use Rattle.std.specs.Prelude.{◌≡◌, true, false, Some, None, if◌then◌else◌, All, map};
+ghost use Rattle.std.specs.Prelude.{◌≡◌, true, false, Some, None, if◌then◌else◌, All, length, map};
 ghost use Rattle.evl_base.specs.declared.refusal.Refusal.TheVariants.{Busy, HoldsStax};
 ghost use Rattle.evl_base.specs.declared.stage.Stage.TheVariants.{Inband};
 ghost use Rattle.evl_kernel.specs.Callbacks.{AnswersAsTold};
 ghost use Rattle.evl_kernel.specs.Families.{moves_caller, task_of};
-ghost use Rattle.evl_machine.specs.Actors.{AreHeldAt, IsSameActor, Suits, call_refusal, keeps_stage};
+ghost use Rattle.evl_machine.specs.Actors.{AreHeldAt, ClaimsOneOf, IsSameActor, Suits, call_refusal, keeps_stage};
 ghost use Rattle.evl_machine.specs.Calls.{Applied};
-ghost use Rattle.evl_machine.specs.MutexSeats.{holds_mutex};
+ghost use Rattle.evl_machine.specs.MutexLocks.{has_ceiling, is_handed_on, lock_refusal, spend_refusal};
+ghost use Rattle.evl_machine.specs.MutexSeats.{depth_at, holds_mutex, owner_refusal};
 ghost use Rattle.evl_machine.specs.StaxSeats.{holds_stax};
 
 use crate::elements::{MutexSeats, StaxSeats};
 use crate::kernel_box::KernelBox;
 use crate::unfinished::{Unfinished, wait_after, wait_step};
-use evl_base::{Call, Refusal, Reply, Stage, ThreadId};
+use evl_base::{Call, MutexId, MutexKind, Refusal, Reply, Stage, ThreadId};
 use evl_pipeline::Handler;
+use evl_words::MutexPass;
 use std::alloc::Allocator;
 use std::marker::Model;
 
@@ -78,6 +80,32 @@ impl<A: Allocator> Actor<A> {
         }
     }
 
+    /// What refuses to lock a mutex of this kind by what the caller has itself, before any step.
+    pub(crate) fn lock_refusal(&self, kind: Option<MutexKind>, mutex: MutexId) -> Option<Refusal>
+        ensures refused { result ≡ lock_refusal kind self.now.wait self.now.stage (depth_at self.now.mutexes mutex.0) }
+        ensures held { AreHeldAt self.now.stage self.now.staxes }
+    {
+        if self.wait.is_some() {
+            return Some(Refusal::Busy);
+        }
+        match (kind, self.stage) {
+            (None, _) => Some(Refusal::Unknown),
+            (Some(_), Stage::Inband) => Some(Refusal::WrongStage),
+            (Some(kind), Stage::Oob) => owner_refusal(kind, self.mutexes.depth(mutex)),
+        }
+    }
+
+    /// What refuses to spend a pass by what the caller has itself, before any step.
+    pub(crate) fn spend_refusal(&self, pass: &MutexPass) -> Option<Refusal>
+        ensures refused { result ≡ spend_refusal self.now.wait self.now.mutexes pass.now }
+        ensures held { AreHeldAt self.now.stage self.now.staxes }
+    {
+        match self.wait {
+            Some(_) => Some(Refusal::Busy),
+            None => self.mutexes.refusal(pass),
+        }
+    }
+
     /// Whether its thread keeps its stage when it finishes a wait: where it holds a stax or a mutex.
     pub(crate) fn keeps_stage(&self) -> bool
         ensures { result ≡ keeps_stage (holds_stax self.now.staxes) (holds_mutex self.now.mutexes) }
@@ -113,6 +141,7 @@ impl<A: Allocator> Actor<A> {
         requires answering { AnswersAsTold C.declared C.plan kernel.old.callbacks }
         requires suits { Suits self.old kernel.old.history }
         requires stays { holds_stax self.old.staxes ≡ true → moves_caller (task_of call) ≡ false }
+        requires there { ClaimsOneOf (length self.old.mutexes) call }
         ensures applied { Applied kernel.old self.old.thread.0 call result kernel.new }
         ensures suits { Suits self.new kernel.new.history }
         ensures same { IsSameActor self.old self.new }
@@ -124,4 +153,30 @@ impl<A: Allocator> Actor<A> {
         self.stage = kernel.kernel().stage(self.thread);
         answer
     }
+}
+
+/// What refuses who has a mutex of this kind so often, and tries again.
+fn owner_refusal(kind: MutexKind, depth: u8) -> Option<Refusal>
+    ensures { result ≡ owner_refusal kind depth }
+{
+    match (kind, depth) {
+        (_, 0) => None,
+        (MutexKind::Recursive, 255) => Some(Refusal::Limit),
+        (MutexKind::Recursive, _) => None,
+        _ => Some(Refusal::Deadlock),
+    }
+}
+
+/// Whether a mutex has a ceiling.
+pub(crate) fn has_ceiling(kind: Option<MutexKind>) -> bool
+    ensures { result ≡ has_ceiling kind }
+{
+    matches!(kind, Some(MutexKind::Ceiling(_)))
+}
+
+/// Whether a mutex that is held so often is handed on at once when a pass of it is spent: it has a ceiling, and is held once.
+pub(crate) fn is_handed_on(kind: Option<MutexKind>, depth: u8) -> bool
+    ensures { result ≡ is_handed_on kind depth }
+{
+    has_ceiling(kind) && depth == 1
 }

@@ -22,6 +22,7 @@ use evl_words::{Claim, MutexPass};
 use std::alloc::Allocator;
 
 /// How a lock of a mutex began (Xenomai 4: EVL mutex; this profile).
+#[derive(Drop)]
 pub enum Begun {
     /// The caller has it.
     Locked(MutexPass),
@@ -30,6 +31,7 @@ pub enum Begun {
 }
 
 /// How a wait for a mutex ended (Xenomai 4: EVL mutex; this profile).
+#[derive(Drop)]
 pub enum Ended {
     /// The caller has the mutex.
     Locked(MutexPass),

@@ -6,9 +6,9 @@ ghost use Rattle.evl_machine.specs.Accounts.{informed};
 ghost use Rattle.evl_machine.specs.Known.{ComesFrom, first_of, past_of, room_of, seen};
 ghost use Rattle.evl_machine.specs.Handles.{Belongs, Continues, IsSameCaller, Taken, account_of, holding, seated};
 ghost use Rattle.evl_machine.specs.Events.{FailsToTake, Gives, Takes};
-ghost use Rattle.std.specs.Prelude.{None, false, true};
+ghost use Rattle.std.specs.Prelude.{None, false, length, true};
 ghost use Rattle.evl_kernel.specs.Families.{moves_caller, task_of};
-ghost use Rattle.evl_machine.specs.Actors.{AreHeldAt, IsSameActor, Suits};
+ghost use Rattle.evl_machine.specs.Actors.{AreHeldAt, ClaimsOneOf, IsSameActor, Suits};
 ghost use Rattle.evl_machine.specs.StaxSeats.{holds_stax};
 ghost use Rattle.evl_machine.specs.Calls.{Answered, Called, HoldsAtItsStage, IsCaller, KernelCall, answer_of, own_refusal};
 
@@ -46,7 +46,7 @@ impl<C: Drop, A: Allocator> Model for MachineOf<C, A> {
 
     ghost view = { λ m. record { id = m.core.shared.table_id; first = m.core.shared.key.value; staxes = map gate_home m.gates; mutexes = map word_home m.words.words } };
 
-    ghost invariant = { λ m. (m.core.shared.table_id.words ≡ 1) × (m.core.shared.table_id.slots ≡ 1) × (threads_of m.core.shared.key.value.history ≡ m.threads) × (m.words.kinds ≡ m.core.shared.key.value.history.board.mutexes.items) × (board_fits m.core.shared.key.value.history.board ≡ true) };
+    ghost invariant = { λ m. (m.core.shared.table_id.words ≡ 1) × (m.core.shared.table_id.slots ≡ 1) × (threads_of m.core.shared.key.value.history ≡ m.threads) × (m.words.kinds ≡ m.core.shared.key.value.history.board.mutexes.items) × (board_fits m.core.shared.key.value.history.board ≡ true) × (map (λ w. w.seats) m.words.words ≡ map (λ kind. threads_of m.core.shared.key.value.history) m.words.kinds) };
 }
 
 impl<C: Drop, A: Allocator> MachineOf<C, A> {
@@ -94,6 +94,7 @@ impl<C: Handler, A: Allocator> MachineOf<C, A> {
         requires suits { Suits actor.old (account_of (seen seat.old.me)).seen }
         requires held { AreHeldAt actor.old.stage actor.old.staxes }
         requires stays { holds_stax actor.old.staxes ≡ true → moves_caller (task_of call) ≡ false }
+        requires there { ClaimsOneOf (length actor.old.mutexes) call }
         requires answering { AnswersAsTold C.declared C.plan (first_of seat.old.me.0).callbacks }
         ensures same { (seat.new.table_id ≡ seat.old.table_id) × (first_of seat.new.me.0 ≡ first_of seat.old.me.0) × IsSameActor actor.old actor.new }
         ensures rests { IsCaller (seen seat.new.me) actor.new.thread }

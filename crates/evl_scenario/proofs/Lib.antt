@@ -6,3 +6,13 @@ pub mod Rows
 pub mod Sizes
 pub mod StepLemmas
 pub mod Texts
+pub mod PlainTexts
+pub mod TextsRead
+pub mod LinesPrinted
+pub mod NodesRead
+pub mod StepsRead
+pub mod ScenarioRead
+pub mod ScenarioPrinted
+pub mod RoundTrip
+pub mod WritingLemmas
+pub mod WritingRows

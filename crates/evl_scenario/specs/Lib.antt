@@ -8,3 +8,5 @@ pub mod Values
 pub mod Policies
 pub mod Takes
 pub mod Transfers
+pub mod Writings
+pub mod Widths

@@ -36,7 +36,8 @@ pub fn read_board(table: &Table) -> Option<Board>
     Some(board)
 }
 
-fn is_limit_in_range(limit: u32) -> bool
+/// Whether a history may be limited to so many entries: 1 to 1,000,000 (this profile).
+pub fn is_limit_in_range(limit: u32) -> bool
     ensures { result ≡ is_limit limit }
 {
     1 <= limit && limit <= 1_000_000

@@ -1,17 +1,22 @@
-//! Scenarios, read from text: a board, the limit of the history and the steps, with the faults of a text; and the lines of their traces.
+//! Scenarios, read from text and written as text: a board, the limit of the history and the steps, with the faults of a text; and the lines of their traces.
 #![tactic(auto)]
 
 mod boards;
 mod calls;
 mod faults;
 mod lines;
+mod lists;
 mod policies;
 mod scenarios;
+mod step_texts;
 mod steps;
 mod tables;
 mod takes;
 mod transfers;
+mod value_texts;
 mod values;
+mod widths;
+mod writing;
 
 pub use faults::Fault;
 pub use lines::{
@@ -19,3 +24,4 @@ pub use lines::{
 };
 pub use scenarios::{Scenario, read_scenario};
 pub use steps::Step;
+pub use writing::{Unwritten, write_opening, write_scenario, write_step};

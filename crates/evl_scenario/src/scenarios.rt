@@ -16,7 +16,7 @@ use std::marker::Model;
 use toml::{Table, Value};
 
 /// A longer text is no scenario.
-const MOST_BYTES: usize = 1_048_576;
+pub const MOST_BYTES: usize = 1_048_576;
 
 /// What a text asks to be played: a board, the limit of its history, and the steps in order (this profile).
 #[derive(Drop)]

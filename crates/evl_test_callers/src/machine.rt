@@ -3,19 +3,23 @@ ghost use Rattle.std.specs.Prelude.{◌≡◌, IfOk, IfSome, MatchResult};
 
 mod closing;
 mod growths;
+mod mutexes;
 mod racing;
 mod staxes;
 mod stored;
 mod threads;
+mod waits;
 
 use arrayvec::ArrayVec;
-use evl_base::{Board, Call, LineNo, Refusal, Reply, SemId, Stage};
+use evl_base::{
+    Board, Call, LineNo, MutexId, MutexKind, Policy, Refusal, Reply, SemId, Stage, StaxId,
+};
 use evl_machine::{Caller, Held, Machine};
 use evl_pipeline::Callback;
 use std::alloc::Global;
 use std::test::Fail;
 
-// Two threads and a semaphore of count 0.
+// Two threads, a semaphore of count 0, a mutex and a stax.
 fn two_callers(alloc: Global, limit: u32) -> Result<(Machine, Caller, Caller), Refusal>
     ensures { IfOk result (λ m. (m.1.machine ≡ m.0.of) × (m.2.machine ≡ m.0.of)) }
 {
@@ -42,14 +46,18 @@ fn board_of_two() -> Board
 {
     let mut sems = ArrayVec::new();
     sems.push(0);
+    let mut mutexes = ArrayVec::new();
+    mutexes.push(MutexKind::Normal);
+    let mut staxes = ArrayVec::new();
+    staxes.push(1);
     Board {
         threads: 2,
         sems,
         flags: ArrayVec::new(),
         xbufs: ArrayVec::new(),
-        mutexes: ArrayVec::new(),
+        mutexes,
         groups: ArrayVec::new(),
-        staxes: ArrayVec::new(),
+        staxes,
     }
 }
 
@@ -108,8 +116,35 @@ fn is_busy(answer: &Result<Reply, Refusal>) -> bool {
     matches!(answer, Err(Refusal::CoreBusy))
 }
 
-// The first caller has the core for one call, while the second is told that it is busy. None where an answer isn't the
-// one that is wanted.
+// Both callers attach out-of-band.
+fn both_attach(machine: &Machine, first: &mut Caller, second: &mut Caller) -> bool
+    requires { (first.old.machine ≡ machine.now.of) × (second.old.machine ≡ machine.now.of) }
+    ensures { (first.new.machine ≡ machine.now.of) × (second.new.machine ≡ machine.now.of) }
+{
+    let one = does(machine, first, attach());
+    let two = does(machine, second, attach());
+    one && two
+}
+
+fn attach() -> Call {
+    Call::Attach {
+        policy: Policy::Fifo(10),
+        stage: Stage::Oob,
+    }
+}
+
+// Whether a caller gets a stax and a mutex; of the caller its machine alone is told.
+fn passes(machine: &Machine, caller: &mut Caller) -> bool
+    requires { caller.old.machine ≡ machine.now.of }
+    ensures { caller.new.machine ≡ caller.old.machine }
+{
+    let stax = machine.try_lock_stax(caller, StaxId(0));
+    let mutex = machine.try_lock_mutex(caller, MutexId(0));
+    stax.is_ok() && mutex.is_ok()
+}
+
+// The first caller has the core for one call, while the second is told that it is busy, and gets a stax and a mutex. None
+// where an answer isn't the one that is wanted.
 fn held_row(machine: &Machine, first: Caller, second: &mut Caller) -> Option<Caller>
     requires { (first.machine ≡ machine.now.of) × (second.old.machine ≡ machine.now.of) }
     ensures second { second.new.machine ≡ second.old.machine }
@@ -120,8 +155,9 @@ fn held_row(machine: &Machine, first: Caller, second: &mut Caller) -> Option<Cal
     };
     let put_held = held.apply(put());
     let busy = call_of(machine, second, put());
+    let got = passes(machine, second);
     let first = held.give();
-    if is_done(&put_held) && is_busy(&busy) {
+    if is_done(&put_held) && is_busy(&busy) && got {
         Some(first)
     } else {
         None
@@ -147,9 +183,10 @@ fn free_row(machine: &Machine, first: &mut Caller, second: &mut Caller) -> bool
 // Row core_held.
 #[test]
 fn core_held(rt: HostRuntime) -> Result<(), Fail> {
-    let Ok((machine, first, mut second)) = two_callers(rt.alloc(), 100) else {
+    let Ok((machine, mut first, mut second)) = two_callers(rt.alloc(), 100) else {
         panic!(rt; "a machine")
     };
+    assert!(rt; both_attach(&machine, &mut first, &mut second));
     let Some(mut first) = held_row(&machine, first, &mut second) else {
         panic!(rt; "while the core is held")
     };

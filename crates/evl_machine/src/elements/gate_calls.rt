@@ -1,8 +1,10 @@
 //! Entering a stax by a seat of a thread, and leaving it.
-ghost use Rattle.std.specs.Prelude.{◌≡◌, map};
+ghost use Rattle.std.specs.Prelude.{◌≡◌, ◌<◌, length, map};
 ghost use Rattle.evl_words.specs.GateCalls.{IsSeatOf, IsSameSeat};
 ghost use Rattle.evl_machine.specs.Homes.{gate_home, stax_home};
+ghost use Rattle.evl_machine.specs.AtSeats.{AtSeat};
 ghost use Rattle.evl_machine.specs.StaxSeats.{LeavesBy, LeavesStax, TriesStax};
+ghost use Rattle.evl_machine.specs.StaxWaits.{Marks};
 
 use super::gates::Gates;
 use super::stax_seats::StaxSeats;
@@ -30,6 +32,18 @@ impl<A: Allocator> Gates<A> {
         let result = self.gates[place].try_lock(&mut seats.seats[place], stage);
         seats.held += u16::from(result.is_ok());
         result
+    }
+
+    /// Sets the claim mark of a stax, by which the last one to leave sees that others want in.
+    pub(crate) fn claim(&self, seats: &mut StaxSeats<A>, stax: StaxId)
+        requires homes { map stax_home seats.old ≡ map gate_home self.now }
+        requires there { stax.0 < length seats.old }
+        ensures homes { map stax_home seats.new ≡ map stax_home seats.old }
+        ensures numbers { map (λ s. s.number) seats.new ≡ map (λ s. s.number) seats.old }
+        ensures marked { AtSeat stax.0 seats.old seats.new Marks }
+    {
+        let place = usize::from(stax.0);
+        self.gates[place].claim(&mut seats.seats[place]);
     }
 
     /// Leaves a stax, and answers whether others want in, as the last one to leave sees. The mark is then taken away.

@@ -1,9 +1,9 @@
 //! A thread's seats at the mutex words of a machine.
 ghost use Rattle.std.specs.Prelude.{◌≡◌, ◌+◌, ◌≤◌};
-ghost use Rattle.evl_machine.specs.MutexSeats.{AreFresh, depth_at, holds_mutex};
+ghost use Rattle.evl_machine.specs.MutexSeats.{AreFresh, depth_at, holds_mutex, unlock_refusal};
 
-use evl_base::MutexId;
-use evl_words::MutexSeat;
+use evl_base::{MutexId, Refusal};
+use evl_words::{MutexPass, MutexSeat};
 use std::alloc::Allocator;
 use std::marker::Model;
 
@@ -52,6 +52,22 @@ impl<A: Allocator> MutexSeats<A> {
             self.seats[place].depth()
         } else {
             0
+        }
+    }
+
+    /// What refuses to spend a pass with no step: it isn't of the thread's seat, or the thread doesn't have the mutex.
+    pub(crate) fn refusal(&self, pass: &MutexPass) -> Option<Refusal>
+        ensures refused { result ≡ unlock_refusal self.now pass.now }
+    {
+        let place = usize::from(pass.mutex().0);
+        if place >= self.seats.len() {
+            return Some(Refusal::NotOwner);
+        }
+        let seat = &self.seats[place];
+        if seat.mutex() == pass.mutex() && seat.number() == pass.seat() && seat.depth() > 0 {
+            None
+        } else {
+            Some(Refusal::NotOwner)
         }
     }
 }

@@ -1,7 +1,7 @@
 //! Closing a machine of two callers.
 ghost use Rattle.std.specs.Prelude.{◌≡◌, All, IfOk, IfSome};
 
-use super::{call_of, free_row, get, held_row, is_done, put, taken, two_callers};
+use super::{both_attach, call_of, free_row, get, held_row, is_done, put, taken, two_callers};
 use evl_base::{Call, Entry, Refusal, Reply, ThreadId};
 use evl_machine::{Caller, Machine};
 use std::alloc::Global;
@@ -9,10 +9,12 @@ use std::test::Fail;
 
 // Whether these are the row's entries, in their order.
 fn is_row(history: &[Entry]) -> bool {
-    let [held_put, got, put_free, got_too, again, count] = history else {
+    let [one, two, held_put, got, put_free, got_too, again, count] = history else {
         return false;
     };
-    is_put(held_put, 0)
+    is_attach(one, 0)
+        && is_attach(two, 1)
+        && is_put(held_put, 0)
         && is_get(got, 1)
         && is_put(put_free, 1)
         && is_get(got_too, 0)
@@ -20,6 +22,12 @@ fn is_row(history: &[Entry]) -> bool {
         && matches!(again.reply, Err(Refusal::Again))
         && count.caller == ThreadId(1)
         && matches!(count.reply, Ok(Reply::Count(0)))
+}
+
+fn is_attach(entry: &Entry, thread: u16) -> bool {
+    entry.caller == ThreadId(thread)
+        && matches!(entry.call, Call::Attach { .. })
+        && is_done(&entry.reply)
 }
 
 fn is_put(entry: &Entry, thread: u16) -> bool {
@@ -62,9 +70,10 @@ fn refused(machine: Machine, callers: Vec<Caller>, why: Refusal) -> Option<(Mach
 
 #[test]
 fn close_machine(rt: HostRuntime) -> Result<(), Fail> {
-    let Ok((machine, first, mut second)) = two_callers(rt.alloc(), 100) else {
+    let Ok((machine, mut first, mut second)) = two_callers(rt.alloc(), 100) else {
         panic!(rt; "a machine")
     };
+    assert!(rt; both_attach(&machine, &mut first, &mut second));
     let Some(mut first) = held_row(&machine, first, &mut second) else {
         panic!(rt; "the row")
     };

@@ -3,7 +3,7 @@ ghost use Rattle.std.specs.Prelude.{◌≡◌, ◌≤◌};
 ghost use Rattle.evl_kernel.specs.Callbacks.{AnswersAsTold};
 
 use super::{get, put};
-use evl_base::{Call, LineNo, Refusal, Reply, SemId};
+use evl_base::{Call, LineNo, Refusal, Reply, SemId, StaxId};
 use evl_machine::{Caller, CallerOf, Machine, MachineOf};
 use evl_pipeline::Handler;
 use std::alloc::{Allocator, Global};
@@ -51,6 +51,12 @@ pub enum Task {
     Holds,
     // Tries three calls, once the other thread has the kernel.
     Tries,
+    // Waits for the first semaphore, and then puts the second one.
+    GetsThenPuts(SemId, SemId),
+    // Puts the first semaphore, and then waits for the second one.
+    PutsThenGets(SemId, SemId),
+    // Waits for a stax, enters it and leaves it, so often.
+    Enters(u32, StaxId),
 }
 
 // What goes to a host thread and works there on what all threads share.
@@ -81,6 +87,9 @@ impl<C: Handler, A: Allocator> Worker<MachineOf<C, A>> for CallerOf<C, A> {
             Task::Arrivals(times, line) => called(rt, shared, self, Call::Arrive { line }, times),
             Task::Holds => holds(shared, self, signs),
             Task::Tries => tries(shared, self, signs),
+            Task::GetsThenPuts(from, to) => gets_then_puts(rt, shared, self, from, to),
+            Task::PutsThenGets(to, from) => puts_then_gets(rt, shared, self, to, from),
+            Task::Enters(times, stax) => enters(rt, shared, self, stax, times),
         }
     }
 }
@@ -163,6 +172,99 @@ fn is_busy<C: Handler, A: Allocator>(
     ensures { caller.new.machine ≡ caller.old.machine }
 {
     matches!(machine.try_call(caller, call), Err(Refusal::CoreBusy))
+}
+
+// How many of a wait for a semaphore, and a put of another one, were done.
+fn gets_then_puts<C: Handler, A: Allocator, R: Wait>(
+    rt: &R,
+    machine: &MachineOf<C, A>,
+    mut caller: CallerOf<C, A>,
+    from: SemId,
+    to: SemId,
+) -> (CallerOf<C, A>, u32)
+    requires machine { caller.machine ≡ machine.now }
+    requires answering { AnswersAsTold C.declared C.plan machine.now.first.callbacks }
+    ensures machine { result.0.machine ≡ machine.now }
+{
+    let got = gets(rt, machine, &mut caller, from);
+    let put = puts(rt, machine, &mut caller, to);
+    (caller, u32::from(got) + u32::from(put))
+}
+
+// The same, the put first.
+fn puts_then_gets<C: Handler, A: Allocator, R: Wait>(
+    rt: &R,
+    machine: &MachineOf<C, A>,
+    mut caller: CallerOf<C, A>,
+    to: SemId,
+    from: SemId,
+) -> (CallerOf<C, A>, u32)
+    requires machine { caller.machine ≡ machine.now }
+    requires answering { AnswersAsTold C.declared C.plan machine.now.first.callbacks }
+    ensures machine { result.0.machine ≡ machine.now }
+{
+    let put = puts(rt, machine, &mut caller, to);
+    let got = gets(rt, machine, &mut caller, from);
+    (caller, u32::from(put) + u32::from(got))
+}
+
+fn gets<C: Handler, A: Allocator, R: Wait>(
+    rt: &R,
+    machine: &MachineOf<C, A>,
+    caller: &mut CallerOf<C, A>,
+    sem: SemId,
+) -> bool
+    requires machine { caller.old.machine ≡ machine.now }
+    requires answering { AnswersAsTold C.declared C.plan machine.now.first.callbacks }
+    ensures { caller.new.machine ≡ caller.old.machine }
+{
+    matches!(machine.get_sem(rt, caller, sem, None), Ok(Reply::Done))
+}
+
+fn puts<C: Handler, A: Allocator, R: Wait>(
+    rt: &R,
+    machine: &MachineOf<C, A>,
+    caller: &mut CallerOf<C, A>,
+    sem: SemId,
+) -> bool
+    requires machine { caller.old.machine ≡ machine.now }
+    requires answering { AnswersAsTold C.declared C.plan machine.now.first.callbacks }
+    ensures { caller.new.machine ≡ caller.old.machine }
+{
+    matches!(machine.call(rt, caller, Call::Put { sem }), Ok(Reply::Done))
+}
+
+// Enters a stax and leaves it so often, each time however long others keep the caller out, and counts how often it did.
+fn enters<C: Handler, A: Allocator, R: Wait>(
+    rt: &R,
+    machine: &MachineOf<C, A>,
+    mut caller: CallerOf<C, A>,
+    stax: StaxId,
+    times: u32,
+) -> (CallerOf<C, A>, u32)
+    requires machine { caller.machine ≡ machine.now }
+    ensures machine { result.0.machine ≡ machine.now }
+{
+    let mut done = 0;
+    for _ in 0..times {
+        done += u32::from(goes_through(rt, machine, &mut caller, stax));
+    }
+    (caller, done)
+}
+
+fn goes_through<C: Handler, A: Allocator, R: Wait>(
+    rt: &R,
+    machine: &MachineOf<C, A>,
+    caller: &mut CallerOf<C, A>,
+    stax: StaxId,
+) -> bool
+    requires machine { caller.old.machine ≡ machine.now }
+    ensures { caller.new.machine ≡ caller.old.machine }
+{
+    match machine.lock_stax(rt, caller, stax) {
+        Ok(pass) => machine.unlock_stax(caller, pass).is_ok(),
+        Err(_) => false,
+    }
 }
 
 // Both work at once.

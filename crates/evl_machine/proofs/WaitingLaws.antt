@@ -1,0 +1,101 @@
+-- What a caller's looks and the end of its wait come to.
+use Rattle.std.proofs.Common.{◌≡◌, ◌≢◌, ℕ, List, [], ◌∷◌, ◌++◌, not, Bool, true, false, true≢false, Option, Some, None, Result, Ok, Err, MatchOption, if◌then◌else◌, refl, sym, ap, ◌∙◌, subst}
+use Rattle.evl_base.specs.declared.call.Call.{Call}
+use Rattle.evl_base.specs.declared.entry.Entry.{Entry}
+use Rattle.evl_base.specs.declared.numbers.ThreadId.{ThreadId}
+use Rattle.evl_base.specs.declared.refusal.Refusal.{Refusal}
+use Rattle.evl_base.specs.declared.refusal.Refusal.TheVariants.{Again, Invalid}
+use Rattle.evl_base.specs.declared.reply.Reply.{Reply}
+use Rattle.evl_kernel.specs.KernelViews.{KernelView, entry_of}
+use Rattle.evl_kernel.specs.Waits.{has_ended}
+use Rattle.evl_machine.specs.declared.unfinished.Unfinished.{Unfinished}
+use Rattle.evl_machine.specs.declared.unfinished.Unfinished.TheVariants.{Element}
+use Rattle.evl_machine.specs.declared.unfinished.WaitStep.{WaitStep}
+use Rattle.evl_machine.specs.declared.unfinished.WaitStep.TheVariants.{Begins}
+use Rattle.evl_machine.specs.declared.views.Account.{Account}
+use Rattle.evl_machine.specs.Accounts.{informed}
+use Rattle.evl_machine.specs.Actors.{ActorState, call_refusal, keeps_stage, same_truth}
+use Rattle.evl_machine.specs.Calls.{Called, Enters, IsCaller, KernelCall, own_refusal, wait_of_caller}
+use Rattle.evl_machine.specs.Handles.{CallerState, account_of, seated}
+use Rattle.evl_machine.specs.MutexSeats.{holds_mutex}
+use Rattle.evl_machine.specs.Seats.{CoreMe}
+use Rattle.evl_machine.specs.StaxSeats.{holds_stax}
+use Rattle.evl_machine.specs.Unfinished.{unfinished, unfinished_from, wait_after, wait_step}
+use Rattle.evl_machine.specs.Waitings.{Look, Looked, Looks, LooksBy, WaitsOut, begins_wait, finish_of}
+use Rattle.evl_machine.proofs.Calling.{TakenOut, fits_one, takes_hold, took, took_account}
+use Rattle.evl_machine.proofs.Staying.{fits_stage}
+
+looks_by_more : (a : Account) (xs : List Account) (b : Account) (ys : List Account) (c : Account) → LooksBy a xs b → LooksBy b ys c → LooksBy a (xs ++ ys) c
+looks_by_more a [] b ys c same more = subst (λ (x : Account). LooksBy x ys c) same more
+looks_by_more a (x ∷ xs) b ys c (first, rest) more = (first, looks_by_more x xs b ys c rest more)
+
+-- looks, and then looks
+pub looks_more : (a b c : Account) → Looks a b → Looks b c → Looks a c
+looks_more a b c (xs, before) (ys, after) = (xs ++ ys, looks_by_more a xs b ys c before after)
+
+-- looks leave the caller's own calls
+mine_stays : (a : Account) (xs : List Account) (b : Account) → LooksBy a xs b → b.mine ≡ a.mine
+mine_stays a [] b same = ap (λ (x : Account). x.mine) same
+mine_stays a (x ∷ xs) b (first, rest) = mine_stays x xs b rest ∙ ap (λ (y : Account). y.mine) first.now
+
+module _ {C : Type 0} where
+  -- the seat after a take and a give, between which no call was made
+  pub look : (me me' me'' : CoreMe (KernelView C)) (thread : ThreadId) (k : KernelView C) → IsCaller me thread → TakenOut me k me' → has_ended k.history.state thread.0 ≡ false → me'' ≡ seated (informed k.history (account_of me')) → Looks (account_of me) (account_of me'')
+  look me me' me'' thread k is t going now =
+      let a = account_of me in
+      let f = fits_one a k me me' is.rests t in
+      let taken : account_of me' ≡ took k a = ap account_of (takes_hold a k me me' is.rests t) in
+      let same : account_of me'' ≡ took k a = ap account_of now ∙ (ap (informed k.history) taken ∙ (λ i. record (took k a) { mine = f.mine i })) in
+      let one : Look a (took k a) = record {
+        room = k.room;
+        now = refl;
+        later = f.seen;
+        stage = fits_stage a k.history is.account f;
+        goes_on = ap (has_ended k.history.state) is.own ∙ going;
+        account = took_account a k me me' is.rests is.account t;
+      } in
+      subst (Looks a) (sym same) (took k a ∷ [], (one, refl))
+
+  -- what the kernel's reader told of a wait
+  pub goes_on : (k read : KernelView C) (x a : ActorState) (b : Bool) → x ≡ a → read ≡ k → b ≡ has_ended read.history.state x.thread.0 → b ≡ false → has_ended k.history.state a.thread.0 ≡ false
+  goes_on k read x a b are same told is = subst (λ (z : ActorState). has_ended k.history.state z.thread.0 ≡ false) are (ap (λ (k : KernelView C). has_ended k.history.state x.thread.0) (sym same) ∙ (sym told ∙ is))
+
+keeps_as_held : (keep : Bool) → (if not (same_truth keep keep) then Some Invalid else None) ≡ None
+keeps_as_held true = refl
+keeps_as_held false = refl
+
+after_one : (w : Option Unfinished) (xs : List Entry) (e : Entry) → unfinished_from w (xs ++ e ∷ []) ≡ wait_after (unfinished_from w xs) (wait_step e.call) e.reply
+after_one w [] e = refl
+after_one w (x ∷ xs) e = after_one (wait_after w (wait_step x.call) x.reply) xs e
+
+module _ {C : Type 0} where
+  -- a wait for an element may be finished by its caller
+  finish_is_free : (c : CallerState C) → wait_of_caller c ≡ Some Element → own_refusal c (finish_of c) ≡ None
+  finish_is_free c waits = ap (λ w. call_refusal w (holds_stax c.staxes) (holds_mutex c.mutexes) (finish_of c)) waits ∙ keeps_as_held (keeps_stage (holds_stax c.staxes) (holds_mutex c.mutexes))
+
+  finishes : (limit : ℕ) (c : CallerState C) (r : Result Reply Refusal) (new : CallerState C) → wait_of_caller c ≡ Some Element → KernelCall limit c (finish_of c) r new → Called limit c (finish_of c) r new
+  finishes limit c r new waits call = subst (λ o. MatchOption o (KernelCall limit c (finish_of c) r new) (λ refusal. (r ≡ Err refusal) × (new ≡ c))) (sym (finish_is_free c waits)) call
+
+  pub looked_more : (a b c : CallerState C) → Looked a b → Looked b c → Looked a c
+  looked_more a b c (same, before) (still, after) = (still ∙ (λ i. record (same i) { account = c.account }), looks_more a.account b.account c.account before after)
+
+  -- a caller that has looked finishes its wait
+  pub waits_out : (limit : ℕ) (old over : CallerState C) (r : Result Reply Refusal) (new : CallerState C) → wait_of_caller old ≡ Some Element → Looked old over → KernelCall limit over (finish_of over) r new → r ≢ Err Again → WaitsOut limit old r new
+  waits_out limit old over r new waits looked call told = record {
+    over = over;
+    looked = looked;
+    finished = finishes limit over r new (ap unfinished (mine_stays old.account looked.1.0 over.account looked.1.1) ∙ waits) call;
+    told = told;
+  }
+
+  -- what an answer that begins a wait leaves unfinished
+  pub begun_waits : (limit : ℕ) (old : CallerState C) (begin : Call) (r : Result Reply Refusal) (new : CallerState C) → wait_step begin ≡ Begins Element → begins_wait r ≡ true → Called limit old begin r new → wait_of_caller new ≡ Some Element
+  begun_waits limit old begin (Err refusal) new begins is called = absurd (true≢false (sym is))
+  begun_waits limit old begin (Ok reply) new begins is called = by (own_refusal old begin) called
+    where
+      by : (o : Option Refusal) → MatchOption o (KernelCall limit old begin (Ok reply) new) (λ refusal. (◌≡◌ {A = Result Reply Refusal} (Ok reply) (Err refusal)) × (new ≡ old)) → wait_of_caller new ≡ Some Element
+      by None (same, answered) =
+          let e : Enters old.account begin (Ok reply) new.account = answered.entered refl in
+          let entry = entry_of old.account.thread begin (Ok reply) e.plays in
+          ap unfinished e.mine ∙ (after_one None old.account.mine entry ∙ ap (λ (s : WaitStep). wait_after (unfinished old.account.mine) s (Ok reply)) begins)
+      by (Some refusal) (other, same) = absurd (cc)

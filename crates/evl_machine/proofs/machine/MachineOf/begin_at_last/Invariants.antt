@@ -1,0 +1,9 @@
+use Rattle.std.proofs.Common.{◌≡◌, List}
+use Rattle.evl_base.specs.declared.refusal.Refusal.{Refusal}
+use Rattle.evl_machine.specs.Handles.{CallerState}
+use Rattle.evl_machine.specs.MutexLocks.{BeginsToLock}
+use Rattle.evl_machine.specs.MutexWaits.{Repeats}
+use Rattle.evl_machine.proofs.machine.MachineOf.begin_at_last.Given as goal
+
+abbrev pub invariant-loop : goal.invariant-loop
+invariant-loop g l = (l.caller.machine ≡ l.fn.caller.machine) × ((refused : List (Refusal × CallerState _)) × Repeats (λ c r c'. BeginsToLock c l.mutex l.until r c') l.fn.caller refused l.caller)

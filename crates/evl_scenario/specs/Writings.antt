@@ -1,0 +1,220 @@
+-- The text of a scenario: what is written for a board, a limit and steps.
+use Rattle.std.specs.Prelude.{◌≡◌, ℕ, ◌<◌, ◌^◌, ◌==◌, Bool, true, false, ◌&&◌, nat_lt, List, [], ◌∷◌, ◌++◌, length, map, codes, decimal, if◌then◌else◌, Option, Some, None, pos}
+use Rattle.std.specs.Fmt.{signed_decimal}
+use Rattle.hex.specs.Hex.{encode_lower}
+use Rattle.toml.specs.Data.{Data, string, integer, boolean, array, Items, no_items, item}
+use Rattle.toml.specs.View.{items_of}
+use Rattle.evl_base.specs.Board.{board_fits}
+use Rattle.evl_base.specs.Call.{truth_text}
+use Rattle.evl_base.specs.Policy.{policy_text}
+use Rattle.evl_base.specs.Stage.{stage_text}
+use Rattle.evl_base.specs.Take.{take_text}
+use Rattle.evl_base.specs.Way.{way_text}
+use Rattle.evl_base.specs.declared.board.Board.{Board}
+use Rattle.evl_base.specs.declared.call.Call.{Call}
+use Rattle.evl_base.specs.declared.call.Call.TheVariants.{Request, Free, Arrive, Post, Stall, Unstall, Tick, Now, NewTimer, StartTimer, StopTimer, DropTimer, Overruns, Attach, Detach, SetPolicy, SetStage, Pick, RankOf, TryGet, Put, Peek, BeginGet, TryTake, PostFlags, PeekFlags, BeginTake, Write, Read, Room, BeginWrite, BeginRead, Claim, Release, Raise, Finish}
+use Rattle.evl_base.specs.declared.entry.Entry.{Entry}
+use Rattle.evl_base.specs.declared.mutex_kind.MutexKind.{MutexKind}
+use Rattle.evl_base.specs.declared.mutex_kind.MutexKind.TheVariants.{Normal, Recursive, Ceiling}
+use Rattle.evl_base.specs.declared.stage.Stage.{Stage}
+use Rattle.evl_base.specs.declared.way.Way.{Way}
+use Rattle.evl_scenario.specs.Boards.{is_limit}
+use Rattle.evl_scenario.specs.Scenarios.{Script}
+use Rattle.evl_scenario.specs.declared.steps.Step.{Step}
+use Rattle.evl_scenario.specs.declared.writing.Unwritten.{Unwritten}
+use Rattle.evl_scenario.specs.declared.writing.Unwritten.TheVariants as unwritten
+
+-- ---- values
+
+-- a number of at most 63 bits
+abbrev pub whole : ℕ → Data
+whole n = integer (pos n)
+
+-- a number of at most 64 bits: its digits as a text where no integer of TOML is as large
+abbrev pub wide : ℕ → Data
+wide n = if nat_lt n (2 ^ 63) then whole n else string (decimal n)
+
+-- the date of a deadline, or the text `none`
+abbrev pub until_data : Option ℕ → Data
+until_data None = string (codes "none")
+until_data (Some date) = wide date
+
+abbrev pub kind_text : MutexKind → List ℕ
+kind_text Normal = codes "normal"
+kind_text Recursive = codes "recursive"
+kind_text (Ceiling prio) = codes "ceiling " ++ decimal prio
+
+abbrev pub ring_data : ℕ × ℕ → Data
+ring_data sizes = array (item (whole sizes.0) (item (whole sizes.1) no_items))
+
+abbrev pub list_data : {A : Type 0} → (A → Data) → List A → Data
+list_data one xs = array (items_of (map one xs))
+
+-- ---- keys with their values
+
+abbrev pub Pair : Type 0
+Pair = List ℕ × Data
+
+abbrev pub line_pair : ℕ → Pair
+line_pair line = (codes "line", whole line)
+
+abbrev pub stage_pair : Stage → Pair
+stage_pair stage = (codes "stage", string (stage_text stage))
+
+abbrev pub until_pair : Option ℕ → Pair
+until_pair until = (codes "until", until_data until)
+
+abbrev pub xbuf_pairs : ℕ → Way → List Pair → List Pair
+xbuf_pairs xbuf way more = (codes "xbuf", whole xbuf) ∷ (codes "way", string (way_text way)) ∷ more
+
+abbrev pub bytes_pair : List ℕ → Pair
+bytes_pair bytes = (codes "bytes", string (encode_lower bytes))
+
+-- the step word of a call
+abbrev pub call_word : Call → List ℕ
+call_word (Request line stage callback tag) = codes "request"
+call_word (Free line stage) = codes "free"
+call_word (Arrive line) = codes "arrive"
+call_word (Post stage line) = codes "post"
+call_word (Stall stage) = codes "stall"
+call_word (Unstall stage) = codes "unstall"
+call_word (Tick delta) = codes "tick"
+call_word Now = codes "now"
+call_word (NewTimer callback tag) = codes "new_timer"
+call_word (StartTimer timer date interval) = codes "start_timer"
+call_word (StopTimer timer) = codes "stop_timer"
+call_word (DropTimer timer) = codes "drop_timer"
+call_word (Overruns timer) = codes "overruns"
+call_word (Attach policy stage) = codes "attach"
+call_word Detach = codes "detach"
+call_word (SetPolicy policy) = codes "set_policy"
+call_word (SetStage stage) = codes "set_stage"
+call_word Pick = codes "pick"
+call_word (RankOf thread) = codes "rank_of"
+call_word (TryGet sem) = codes "try_get"
+call_word (Put sem) = codes "put"
+call_word (Peek sem) = codes "peek"
+call_word (BeginGet sem until) = codes "begin_get"
+call_word (TryTake flags kind) = codes "try_take"
+call_word (PostFlags flags bits) = codes "post_flags"
+call_word (PeekFlags flags) = codes "peek_flags"
+call_word (BeginTake flags kind until) = codes "begin_take"
+call_word (Write xbuf way bytes) = codes "write"
+call_word (Read xbuf way len) = codes "read"
+call_word (Room xbuf way) = codes "room"
+call_word (BeginWrite xbuf way bytes until) = codes "begin_write"
+call_word (BeginRead xbuf way len until) = codes "begin_read"
+call_word (Claim mutex owner until) = codes "claim"
+call_word (Release mutex) = codes "release"
+call_word (Raise mutex) = codes "raise"
+call_word (Finish keep) = codes "finish"
+
+-- the keys of a call with their values, in the order of a trace
+abbrev pub call_pairs : Call → List Pair
+call_pairs (Request line stage callback tag) =
+    line_pair line.0 ∷ stage_pair stage ∷ (codes "callback", whole callback) ∷ (codes "tag", whole tag) ∷ []
+call_pairs (Free line stage) = line_pair line.0 ∷ stage_pair stage ∷ []
+call_pairs (Arrive line) = line_pair line.0 ∷ []
+call_pairs (Post stage line) = stage_pair stage ∷ line_pair line.0 ∷ []
+call_pairs (Stall stage) = stage_pair stage ∷ []
+call_pairs (Unstall stage) = stage_pair stage ∷ []
+call_pairs (Tick delta) = (codes "delta", wide delta) ∷ []
+call_pairs Now = []
+call_pairs (NewTimer callback tag) = (codes "callback", whole callback) ∷ (codes "tag", whole tag) ∷ []
+call_pairs (StartTimer timer date interval) =
+    (codes "timer", whole timer.0) ∷ (codes "date", wide date) ∷ (codes "interval", wide interval) ∷ []
+call_pairs (StopTimer timer) = (codes "timer", whole timer.0) ∷ []
+call_pairs (DropTimer timer) = (codes "timer", whole timer.0) ∷ []
+call_pairs (Overruns timer) = (codes "timer", whole timer.0) ∷ []
+call_pairs (Attach policy stage) = (codes "policy", string (policy_text policy)) ∷ stage_pair stage ∷ []
+call_pairs Detach = []
+call_pairs (SetPolicy policy) = (codes "policy", string (policy_text policy)) ∷ []
+call_pairs (SetStage stage) = stage_pair stage ∷ []
+call_pairs Pick = []
+call_pairs (RankOf thread) = (codes "thread", whole thread.0) ∷ []
+call_pairs (TryGet sem) = (codes "sem", whole sem.0) ∷ []
+call_pairs (Put sem) = (codes "sem", whole sem.0) ∷ []
+call_pairs (Peek sem) = (codes "sem", whole sem.0) ∷ []
+call_pairs (BeginGet sem until) = (codes "sem", whole sem.0) ∷ until_pair until ∷ []
+call_pairs (TryTake flags kind) = (codes "flags", whole flags.0) ∷ (codes "kind", string (take_text kind)) ∷ []
+call_pairs (PostFlags flags bits) = (codes "flags", whole flags.0) ∷ (codes "bits", whole bits) ∷ []
+call_pairs (PeekFlags flags) = (codes "flags", whole flags.0) ∷ []
+call_pairs (BeginTake flags kind until) =
+    (codes "flags", whole flags.0) ∷ (codes "kind", string (take_text kind)) ∷ until_pair until ∷ []
+call_pairs (Write xbuf way bytes) = xbuf_pairs xbuf.0 way (bytes_pair bytes.items ∷ [])
+call_pairs (Read xbuf way len) = xbuf_pairs xbuf.0 way ((codes "len", whole len) ∷ [])
+call_pairs (Room xbuf way) = xbuf_pairs xbuf.0 way []
+call_pairs (BeginWrite xbuf way bytes until) = xbuf_pairs xbuf.0 way (bytes_pair bytes.items ∷ until_pair until ∷ [])
+call_pairs (BeginRead xbuf way len until) = xbuf_pairs xbuf.0 way ((codes "len", whole len) ∷ until_pair until ∷ [])
+call_pairs (Claim mutex owner until) = (codes "mutex", whole mutex.0) ∷ (codes "owner", whole owner.0) ∷ until_pair until ∷ []
+call_pairs (Release mutex) = (codes "mutex", whole mutex.0) ∷ []
+call_pairs (Raise mutex) = (codes "mutex", whole mutex.0) ∷ []
+call_pairs (Finish keep) = (codes "keep", boolean keep) ∷ []
+
+abbrev pub step_pairs : Step → List Pair
+step_pairs step = (codes "do", string (call_word step.call)) ∷ (codes "who", whole step.who.0) ∷ call_pairs step.call
+
+abbrev pub board_pairs : Board → List Pair
+board_pairs board =
+    (codes "threads", whole board.threads)
+    ∷ (codes "sems", list_data whole board.sems.items)
+    ∷ (codes "flags", list_data whole board.flags.items)
+    ∷ (codes "xbufs", list_data ring_data board.xbufs.items)
+    ∷ (codes "mutexes", list_data (λ kind. string (kind_text kind)) board.mutexes.items)
+    ∷ (codes "groups", list_data whole board.groups.items) ∷ []
+
+-- ---- texts
+
+-- a value behind its key: a text in quotes, and a list in brackets with a comma and a space between two values
+abbrev mutual
+  pub value_text : Data → List ℕ
+  value_text (string s) = codes "\"" ++ (s ++ codes "\"")
+  value_text (integer z) = signed_decimal z
+  value_text (boolean b) = truth_text b
+  value_text (array ds) = codes "[" ++ items_text true ds
+  value_text _ = []
+
+  pub items_text : Bool → Items → List ℕ
+  items_text is_first no_items = codes "]"
+  items_text is_first (item d ds) = (if is_first then [] else codes ", ") ++ (value_text d ++ items_text false ds)
+
+-- each key with its value on a line of its own
+abbrev pub pairs_text : List Pair → List ℕ
+pairs_text [] = []
+pairs_text (p ∷ ps) = p.0 ++ (codes " = " ++ (value_text p.1 ++ (codes "\n" ++ pairs_text ps)))
+
+-- the limit and the board
+abbrev pub opening_text : Board → ℕ → List ℕ
+opening_text board limit = pairs_text ((codes "limit", whole limit) ∷ []) ++ (codes "\n[board]\n" ++ pairs_text (board_pairs board))
+
+-- a step's table
+abbrev pub table_text : Step → List ℕ
+table_text step = codes "\n[[step]]\n" ++ pairs_text (step_pairs step)
+
+abbrev pub tables_text : List Step → List ℕ
+tables_text [] = []
+tables_text (step ∷ rest) = table_text step ++ tables_text rest
+
+-- the text of a scenario: its limit and its board, and then a table for each step, in order
+abbrev pub scenario_text : Script → List ℕ
+scenario_text script = opening_text script.board script.limit ++ tables_text script.steps
+
+-- ---- what is written of a history
+
+-- the step that an entry of a history was
+abbrev pub step_of_entry : Entry → Step
+step_of_entry entry = record { who = entry.caller; call = entry.call }
+
+abbrev pub script_of_history : Board → ℕ → List Entry → Script
+script_of_history board limit entries = record { board = board; limit = limit; steps = map step_of_entry entries }
+
+-- a scenario has keys for all of the board, and takes its numbers
+abbrev pub has_keys : Board → Bool
+has_keys board = board_fits board && (length board.staxes.items == 0)
+
+-- why there is no scenario of a board, a limit and steps
+abbrev pub IsUnwritten : Unwritten → Script → Type 0
+IsUnwritten unwritten.Board script = has_keys script.board ≡ false
+IsUnwritten unwritten.Limit script = is_limit script.limit ≡ false
+IsUnwritten unwritten.TooLong script = 1048576 < length (scenario_text script)
+IsUnwritten unwritten.Memory script = Unit {0}
