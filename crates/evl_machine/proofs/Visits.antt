@@ -19,7 +19,7 @@ use Rattle.evl_machine.specs.Handles.{CallerState, Continues, MachineState, acco
 use Rattle.evl_machine.specs.Homes.{Home, mutex_home, stax_home, word_home}
 use Rattle.evl_machine.specs.Known.{ComesFrom, KernelMe, first_of, seen}
 use Rattle.evl_machine.specs.Locking.{GoesAlong, HaveSeats}
-use Rattle.evl_machine.specs.Sessions.{Opens}
+use Rattle.evl_machine.specs.InHand.{Opens}
 use Rattle.evl_machine.specs.Unfinished.{unfinished}
 use Rattle.evl_machine.specs.Visits.{Visited, actor_of}
 use Rattle.evl_machine.proofs.Accounts.{goes_on_more, made_by-append, saw_account}

@@ -20,7 +20,7 @@ pub mod StaxCalls
 pub mod Makings
 pub mod Closings
 pub mod Locking
-pub mod Sessions
+pub mod InHand
 pub mod Visits
 pub mod MutexLocks
 pub mod Waitings

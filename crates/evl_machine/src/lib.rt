@@ -18,12 +18,12 @@ mod making;
 mod mutex_visits;
 mod mutex_waits;
 mod mutexes;
-mod session;
 mod stax_waits;
 mod staxes;
 mod switches;
 mod unfinished;
 mod views;
+mod visit;
 mod waiting;
 
 pub use boxed::{Caller, Held, Machine};

@@ -32,14 +32,9 @@ impl<C: Handler, A: Allocator> MachineOf<C, A> {
     {
         let thread = caller.actor.thread;
         match self.open(&mut caller.core, thread) {
-            Some(mut session) => {
-                let result = lock_raised(
-                    &self.words,
-                    &mut caller.actor,
-                    &mut session.kernel,
-                    mutex,
-                );
-                self.shut(&mut caller.core, thread, session);
+            Some(mut visit) => {
+                let result = lock_raised(&self.words, &mut caller.actor, &mut visit.kernel, mutex);
+                self.shut(&mut caller.core, thread, visit);
                 result
             }
             None => Err(Refusal::CoreBusy),
@@ -63,16 +58,16 @@ impl<C: Handler, A: Allocator> MachineOf<C, A> {
     {
         let thread = caller.actor.thread;
         match self.open(&mut caller.core, thread) {
-            Some(mut session) => {
+            Some(mut visit) => {
                 let result = begin(
                     &self.words,
                     &mut caller.actor,
-                    &mut session.kernel,
+                    &mut visit.kernel,
                     mutex,
                     ceiling,
                     until,
                 );
-                self.shut(&mut caller.core, thread, session);
+                self.shut(&mut caller.core, thread, visit);
                 result
             }
             None => Err(Refusal::CoreBusy),
@@ -94,9 +89,9 @@ impl<C: Handler, A: Allocator> MachineOf<C, A> {
     {
         let thread = caller.actor.thread;
         match self.open(&mut caller.core, thread) {
-            Some(mut session) => {
-                let result = finish(&self.words, &mut caller.actor, &mut session.kernel, mutex);
-                self.shut(&mut caller.core, thread, session);
+            Some(mut visit) => {
+                let result = finish(&self.words, &mut caller.actor, &mut visit.kernel, mutex);
+                self.shut(&mut caller.core, thread, visit);
                 result
             }
             None => Err(Refusal::CoreBusy),
@@ -118,9 +113,9 @@ impl<C: Handler, A: Allocator> MachineOf<C, A> {
     {
         let thread = caller.actor.thread;
         match self.open(&mut caller.core, thread) {
-            Some(mut session) => {
-                let result = release(&self.words, &mut caller.actor, &mut session.kernel, pass);
-                self.shut(&mut caller.core, thread, session);
+            Some(mut visit) => {
+                let result = release(&self.words, &mut caller.actor, &mut visit.kernel, pass);
+                self.shut(&mut caller.core, thread, visit);
                 result
             }
             None => Err((Refusal::CoreBusy, pass)),
