@@ -9,4 +9,5 @@ pub mod Policies
 pub mod Takes
 pub mod Transfers
 pub mod Writings
+pub mod Traces
 pub mod Widths

@@ -212,6 +212,18 @@ script_of_history board limit entries = record { board = board; limit = limit; s
 abbrev pub has_keys : Board → Bool
 has_keys board = board_fits board && (length board.staxes.items == 0)
 
+-- a board without its stage exclusion locks, of which no call of a history speaks
+abbrev pub without_staxes : Board → Board
+without_staxes board = record {
+  threads = board.threads;
+  sems = board.sems;
+  flags = board.flags;
+  xbufs = board.xbufs;
+  mutexes = board.mutexes;
+  groups = board.groups;
+  staxes = record { items = [] };
+}
+
 -- why there is no scenario of a board, a limit and steps
 abbrev pub IsUnwritten : Unwritten → Script → Type 0
 IsUnwritten unwritten.Board script = has_keys script.board ≡ false

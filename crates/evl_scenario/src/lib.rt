@@ -12,6 +12,7 @@ mod step_texts;
 mod steps;
 mod tables;
 mod takes;
+mod tracing;
 mod transfers;
 mod value_texts;
 mod values;
@@ -24,4 +25,5 @@ pub use lines::{
 };
 pub use scenarios::{Scenario, read_scenario};
 pub use steps::Step;
-pub use writing::{Unwritten, write_opening, write_scenario, write_step};
+pub use tracing::{trace_history, write_board_line, write_entry};
+pub use writing::{Unwritten, without_staxes, write_opening, write_scenario, write_step};

@@ -2,13 +2,14 @@
 ghost use Rattle.std.specs.Prelude.{◌≡◌, ◌++◌, ◌<◌, ◌≤◌, ◌⊎◌, nat_le, length, map, None, Ok, OnOk, IfOk, IfErr, string_bytes};
 ghost use Rattle.evl_scenario.specs.Scenarios.{scenario_of};
 ghost use Rattle.evl_scenario.specs.Widths.{StepFits, StepsFit};
-ghost use Rattle.evl_scenario.specs.Writings.{IsUnwritten, has_keys, opening_text, scenario_text, script_of_history, step_of_entry, table_text, tables_text};
+ghost use Rattle.evl_scenario.specs.Writings.{IsUnwritten, has_keys, opening_text, scenario_text, script_of_history, step_of_entry, table_text, tables_text, without_staxes};
 
 use crate::boards::is_limit_in_range;
 use crate::lists::write_list_pair;
 use crate::scenarios::MOST_BYTES;
 use crate::step_texts::StepTable;
 use crate::widths::{know_board, know_step};
+use arrayvec::ArrayVec;
 use evl_base::{Board, Call, Entry, ThreadId};
 use std::alloc::{AllocError, Allocator};
 
@@ -68,6 +69,31 @@ pub fn write_step<A: Allocator>(
 {
     know_step(who, call);
     text.write(StepTable { who, call })
+}
+
+/// The same board without stage exclusion locks, for which a scenario has no key, and of which no call of a history speaks:
+/// a history over the one is a history over the other (this profile).
+pub fn without_staxes(board: Board) -> Board
+    ensures { result ≡ without_staxes board }
+{
+    let Board {
+        threads,
+        sems,
+        flags,
+        xbufs,
+        mutexes,
+        groups,
+        staxes: _,
+    } = board;
+    Board {
+        threads,
+        sems,
+        flags,
+        xbufs,
+        mutexes,
+        groups,
+        staxes: ArrayVec::new(),
+    }
 }
 
 // Writes a step for each entry of a history, while the text is short enough for a scenario.

@@ -1,8 +1,10 @@
 pub mod EndLemmas
+pub mod HistoryLemmas
 pub mod InputLemmas
 pub mod PassLemmas
 pub mod ProgramLemmas
 pub mod RunLemmas
 pub mod SinkLemmas
+pub mod SoundLemmas
 pub mod TurnLemmas
 pub mod WordLemmas

@@ -1,4 +1,5 @@
 pub mod Faults
+pub mod Histories
 pub mod Moments
 pub mod Plays
 pub mod Programs

@@ -2,6 +2,8 @@
 #![tactic(auto)]
 
 mod chunks;
+mod histories;
+mod laws;
 mod lent;
 mod plays;
 mod programs;
@@ -11,6 +13,8 @@ mod texts;
 mod words;
 
 pub use evl_scenario::Fault;
+pub use histories::{know_bank, trace_kernel};
+pub use laws::{histories_play_again, staxes_leave_no_trace};
 pub use plays::{Stop, stopped};
 pub use programs::play;
 pub use runs::run;

@@ -6,6 +6,8 @@ mod endings;
 #[cfg(test)]
 mod faults;
 #[cfg(test)]
+mod histories;
+#[cfg(test)]
 mod lines;
 #[cfg(test)]
 mod sinks;

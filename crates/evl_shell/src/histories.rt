@@ -1,0 +1,36 @@
+//! The trace of a kernel's history, written without a run.
+ghost use Rattle.std.specs.Prelude.{◌≡◌, ◌≤◌, length, IfOk, IfErr, string_bytes};
+ghost use Rattle.evl_scenario.specs.Traces.{history_trace};
+ghost use Rattle.evl_shell.specs.Histories.{AreSound, IsPlayedAs, PlaysAgain};
+ghost use Rattle.evl_shell.specs.Runs.{handlers_of};
+
+use evl_base::{Board, Refusal};
+use evl_kernel::KernelOf;
+use evl_pipeline::Callback;
+use evl_scenario::trace_history;
+use std::alloc::Allocator;
+
+/// The callbacks of a bank are sound, each by its type: their periods are 1 or more, and their actions are of kinds that they
+/// declare. Nothing is computed here (this profile).
+pub fn know_bank(bank: &[Callback])
+    ensures { AreSound (handlers_of (λ (c : _). c.kinds.0) (λ (c : _). c.plan.value) bank.now) }
+{}
+
+/// The trace of a kernel's history, over a board and a limit that its first line tells: that of a run of its calls, with no
+/// call made again. `NoMemory` where a growth was refused, and nothing else.
+///
+/// Where the board is the kernel's, with or without its stage exclusion locks, the limit no less than the number of entries,
+/// and the callbacks of the bank that the kernel was opened with are sound, a run of the history's scenario over such a bank
+/// writes just this trace (this profile).
+pub fn trace_kernel<C, A: Allocator, B: Allocator>(
+    alloc: B,
+    kernel: &KernelOf<C, A>,
+    board: &Board,
+    limit: u32,
+) -> Result<String<B>, Refusal>
+    ensures trace { IfOk result (λ text. string_bytes text ≡ history_trace board.now limit kernel.now.history.entries kernel.now.history.plays) }
+    ensures plays_again { IfOk result (λ text. AreSound kernel.now.history.bank → IsPlayedAs board.now kernel.now.history.board → length kernel.now.history.entries ≤ limit → PlaysAgain kernel.now.history board.now limit (string_bytes text)) }
+    ensures refused { IfErr result (λ e. e ≡ Refusal.NoMemory) }
+{
+    trace_history(alloc, board, limit, kernel.history(), kernel.plays())
+}

@@ -1,0 +1,190 @@
+//! Traces that are written from the histories of kernels: the program, playing the scenario of such a history, writes just
+//! its trace.
+ghost use Rattle.std.specs.Prelude.{◌≡◌, [], ◌∷◌, true};
+ghost use Rattle.evl_kernel.specs.Callbacks.{AnswersAsTold};
+
+use crate::endings::ends;
+use arrayvec::ArrayVec;
+use bitflags::Flags;
+use evl_base::{ActionKinds, Board, Call, LineNo, SemId, Stage, ThreadId};
+use evl_kernel::KernelOf;
+use evl_pipeline::{Action, Answer, Callback, Fire, Handler, Plan};
+use evl_scenario::{without_staxes, write_scenario};
+use evl_shell::trace_kernel;
+use std::alloc::{Allocator, Global};
+use std::rt::Files;
+use std::test::*;
+
+const LIMIT: u32 = 20;
+
+const SEM: SemId = SemId(0);
+
+const POST: Action = Action::PostSem(SEM);
+
+/// Two threads, a semaphore at 0 and a stage exclusion lock.
+fn board() -> Board {
+    let mut sems = ArrayVec::new();
+    sems.push(0);
+    let mut staxes = ArrayVec::new();
+    staxes.push(5);
+    Board {
+        threads: 2,
+        sems,
+        flags: ArrayVec::new(),
+        xbufs: ArrayVec::new(),
+        mutexes: ArrayVec::new(),
+        groups: ArrayVec::new(),
+        staxes,
+    }
+}
+
+// Handled, and nothing asked for.
+fn quiet() -> Answer
+    ensures handled { result.handled ≡ true }
+    ensures actions { result.actions.items ≡ [] }
+{
+    Answer {
+        handled: true,
+        actions: ArrayVec::new(),
+    }
+}
+
+// Handled, and one action asked for.
+fn asks(action: Action) -> Answer
+    ensures handled { result.handled ≡ true }
+    ensures actions { result.actions.items ≡ action ∷ [] }
+{
+    let mut actions = ArrayVec::new();
+    actions.push(action);
+    Answer {
+        handled: true,
+        actions,
+    }
+}
+
+// The plan that handles each event and asks for nothing.
+fn quiet_plan() -> Plan
+    ensures accepts { result.accepts ≡ 1 }
+    ensures rows { result.rows.items ≡ [] }
+{
+    Plan {
+        accepts: 1,
+        rows: ArrayVec::new(),
+    }
+}
+
+// The plan that handles each event and asks for one action.
+fn plan(action: Action) -> Plan
+    ensures accepts { result.accepts ≡ 1 }
+    ensures rows { result.rows.items ≡ (1, action) ∷ [] }
+{
+    let mut rows = ArrayVec::new();
+    rows.push((1, action));
+    Plan { accepts: 1, rows }
+}
+
+// A thread makes a call, whatever it answers.
+fn make<C: Handler, A: Allocator>(kernel: &mut KernelOf<C, A>, who: u16, call: Call)
+    requires answering { AnswersAsTold C.declared C.plan kernel.old.callbacks }
+    ensures answering { AnswersAsTold C.declared C.plan kernel.new.callbacks }
+{
+    let _answer = kernel.apply(ThreadId(who), call);
+}
+
+// Whether the history of a kernel over the board is traced so, and the program writes the same where it plays its scenario.
+fn is_traced<F: Files + AllocGlobal, C>(
+    rt: &F,
+    kernel: &KernelOf<C, Global>,
+    wanted: &str,
+) -> bool {
+    let alloc = rt.alloc();
+    let written = without_staxes(board());
+    let Ok(scenario) = write_scenario(alloc, &written, LIMIT, kernel.history()) else {
+        return false;
+    };
+    let Ok(trace) = trace_kernel(alloc, kernel, &board(), LIMIT) else {
+        return false;
+    };
+    trace.as_str() == wanted && ends(rt, scenario.as_str(), 0, trace.as_str(), "")
+}
+
+const CALLS: &str = r#"board threads=2 sems=1 flags=0 xbufs=0 mutexes=0 groups=0 limit=20
+1 T0 try_get sem=0 -> Again
+2 T1 put sem=0 -> done
+3 T2 put sem=0 -> Unknown
+4 T0 peek sem=0 -> count 1
+"#;
+
+#[test]
+fn history_is_traced_as_it_is_run(rt: HostRuntime) -> Result<(), Fail> {
+    let alloc = rt.alloc();
+    let none = ActionKinds::from_bits_retain(0);
+    let zero = Callback::new(none, &quiet_plan(), Box::new(alloc, |_: Fire| quiet())?);
+    let bank = vec![in alloc; zero]?;
+    let Ok(mut kernel) = KernelOf::new(alloc, board(), bank, LIMIT) else {
+        panic!(rt; "kernel");
+    };
+    make(&mut kernel, 0, Call::TryGet { sem: SEM });
+    make(&mut kernel, 1, Call::Put { sem: SEM });
+    make(&mut kernel, 2, Call::Put { sem: SEM });
+    make(&mut kernel, 0, Call::Peek { sem: SEM });
+    assert!(rt; is_traced(&rt, &kernel, CALLS));
+    Ok(())
+}
+
+const PLAYS: &str = r#"board threads=2 sems=1 flags=0 xbufs=0 mutexes=0 groups=0 limit=20
+1 T0 request line=9 stage=oob callback=0 tag=0 -> done
+2 T0 request line=5 stage=oob callback=1 tag=40 -> done
+3 T1 arrive line=5 -> done
+  line 5 oob count 1 handled
+4 T0 stall stage=oob -> done
+5 T1 arrive line=9 -> done
+6 T1 arrive line=5 -> done
+7 T0 unstall stage=oob -> done
+  line 5 oob count 2 handled
+  line 9 oob count 1 handled
+8 T1 peek sem=0 -> count 2
+"#;
+
+// Callback 0 on line 9, and callback 1 on line 5.
+fn request<C: Handler, A: Allocator>(kernel: &mut KernelOf<C, A>)
+    requires answering { AnswersAsTold C.declared C.plan kernel.old.callbacks }
+    ensures answering { AnswersAsTold C.declared C.plan kernel.new.callbacks }
+{
+    let quiet = Call::Request {
+        line: LineNo(9),
+        stage: Stage::Oob,
+        callback: 0,
+        tag: 0,
+    };
+    let posting = Call::Request {
+        line: LineNo(5),
+        stage: Stage::Oob,
+        callback: 1,
+        tag: 40,
+    };
+    make(kernel, 0, quiet);
+    make(kernel, 0, posting);
+}
+
+#[test]
+fn plays_are_traced_as_they_are_run(rt: HostRuntime) -> Result<(), Fail> {
+    let alloc = rt.alloc();
+    let none = ActionKinds::from_bits_retain(0);
+    let post = ActionKinds::POST_SEM;
+    let zero = Callback::new(none, &quiet_plan(), Box::new(alloc, |_: Fire| quiet())?);
+    let one = Callback::new(post, &plan(POST), Box::new(alloc, |_: Fire| asks(POST))?);
+    let bank = vec![in alloc; zero, one]?;
+    let Ok(mut kernel) = KernelOf::new(alloc, board(), bank, LIMIT) else {
+        panic!(rt; "kernel");
+    };
+    request(&mut kernel);
+    make(&mut kernel, 1, Call::Arrive { line: LineNo(5) });
+    make(&mut kernel, 0, Call::Stall { stage: Stage::Oob });
+    make(&mut kernel, 1, Call::Arrive { line: LineNo(9) });
+    make(&mut kernel, 1, Call::Arrive { line: LineNo(5) });
+    make(&mut kernel, 0, Call::Unstall { stage: Stage::Oob });
+    make(&mut kernel, 1, Call::Peek { sem: SEM });
+    assert!(rt; is_traced(&rt, &kernel, PLAYS));
+    Ok(())
+}
