@@ -92,7 +92,7 @@ impl<C: Handler, A: Allocator> Worker<MachineOf<C, A>> for Owner<C, A> {
     }
 }
 
-// Both go to host threads: how many passes each of them spent.
+// Both go to host threads, with no other task than their own: how many passes each of them spent.
 fn both_unlock<C: Handler + Send, R: Threads + Wait + Sync>(
     rt: &R,
     machine: &MachineOf<C, Global>,
@@ -103,14 +103,8 @@ fn both_unlock<C: Handler + Send, R: Threads + Wait + Sync>(
     requires answering { AnswersAsTold C.declared C.plan machine.now.first.callbacks }
 {
     let signs = Signs::new();
-    let (one, two) = both_work(
-        rt,
-        machine,
-        first,
-        second,
-        &signs,
-        (Task::Tries, Task::Tries),
-    );
+    let none = (Task::Puts(0), Task::Puts(0));
+    let (one, two) = both_work(rt, machine, first, second, &signs, none);
     (one.1, two.1)
 }
 
