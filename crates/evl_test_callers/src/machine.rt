@@ -3,7 +3,9 @@ ghost use Rattle.std.specs.Prelude.{◌≡◌, IfOk, IfSome, MatchResult};
 
 mod closing;
 mod growths;
+mod holding;
 mod mutexes;
+mod owners;
 mod racing;
 mod staxes;
 mod stored;
@@ -34,7 +36,20 @@ fn two_callers_over(
 ) -> Result<(Machine, Caller, Caller), Refusal>
     ensures { IfOk result (λ m. (m.1.machine ≡ m.0.of) × (m.2.machine ≡ m.0.of)) }
 {
-    let (machine, mut callers) = Machine::new(alloc, board_of_two(), bank, limit)?;
+    machine_over(alloc, board_of_two(), bank, limit)
+}
+
+// A machine over a board of two threads and a bank, with its callers.
+fn machine_over(
+    alloc: Global,
+    board: Board,
+    bank: Vec<Callback>,
+    limit: u32,
+) -> Result<(Machine, Caller, Caller), Refusal>
+    requires { board.threads ≡ 2 }
+    ensures { IfOk result (λ m. (m.1.machine ≡ m.0.of) × (m.2.machine ≡ m.0.of)) }
+{
+    let (machine, mut callers) = Machine::new(alloc, board, bank, limit)?;
     let (Some(second), Some(first)) = (callers.pop(), callers.pop()) else {
         return Err(Refusal::NoMemory);
     };

@@ -24,13 +24,15 @@ fn is_row(history: &[Entry]) -> bool {
         && matches!(count.reply, Ok(Reply::Count(0)))
 }
 
-fn is_attach(entry: &Entry, thread: u16) -> bool {
+// Whether this is the attachment of a thread, and done.
+pub fn is_attach(entry: &Entry, thread: u16) -> bool {
     entry.caller == ThreadId(thread)
         && matches!(entry.call, Call::Attach { .. })
         && is_done(&entry.reply)
 }
 
-fn is_put(entry: &Entry, thread: u16) -> bool {
+// Whether this is a put of a thread, and done.
+pub fn is_put(entry: &Entry, thread: u16) -> bool {
     entry.caller == ThreadId(thread)
         && matches!(entry.call, Call::Put { .. })
         && is_done(&entry.reply)

@@ -14,10 +14,10 @@ use std::thread::Threads;
 
 const LINE: LineNo = LineNo(8);
 
-const SEM: SemId = SemId(0);
+pub const SEM: SemId = SemId(0);
 
 // Handled, and one action asked for.
-fn asks(action: Action) -> Answer
+pub fn asks(action: Action) -> Answer
     ensures handled { result.handled ≡ true }
     ensures actions { result.actions.items ≡ action ∷ [] }
 {
@@ -30,7 +30,7 @@ fn asks(action: Action) -> Answer
 }
 
 // A plan of one row, at every fire.
-fn plan(action: Action) -> Plan
+pub fn plan(action: Action) -> Plan
     ensures accepts { result.accepts ≡ 1 }
     ensures rows { result.rows.items ≡ (1, action) ∷ [] }
 {

@@ -3,8 +3,8 @@ ghost use Rattle.std.specs.Prelude.{◌≡◌, ◌≤◌};
 ghost use Rattle.evl_kernel.specs.Callbacks.{AnswersAsTold};
 
 use super::{get, put};
-use evl_base::{Call, LineNo, Refusal, Reply, SemId, StaxId};
-use evl_machine::{Caller, CallerOf, Machine, MachineOf};
+use evl_base::{Call, LineNo, MutexId, Refusal, Reply, SemId, StaxId};
+use evl_machine::{Caller, CallerOf, Ended, Machine, MachineOf};
 use evl_pipeline::Handler;
 use std::alloc::{Allocator, Global};
 use std::sync::Wait;
@@ -31,13 +31,15 @@ impl Signs {
     }
 }
 
-fn wait_for(sign: &AtomicBool) {
+// Whether the sign came within the turns.
+fn wait_for(sign: &AtomicBool) -> bool {
     for _ in 0..MOST_TURNS {
         if sign.load(Ordering::SeqCst) {
-            return;
+            return true;
         }
         thread::yield_now();
     }
+    false
 }
 
 // What a host thread does with its caller.
@@ -51,16 +53,22 @@ pub enum Task {
     Holds,
     // Tries three calls, once the other thread has the kernel.
     Tries,
+    // Takes the kernel, puts, and gives the kernel back only once the other thread has tried.
+    HoldsAPut,
+    // Tries a put, a stax and a mutex, once the other thread has the kernel.
+    TriesElements(StaxId, MutexId),
     // Waits for the first semaphore, and then puts the second one.
     GetsThenPuts(SemId, SemId),
     // Puts the first semaphore, and then waits for the second one.
     PutsThenGets(SemId, SemId),
     // Waits for a stax, enters it and leaves it, so often.
     Enters(u32, StaxId),
+    // Waits for a mutex, locks it and unlocks it, so often.
+    Locks(u32, MutexId),
 }
 
 // What goes to a host thread and works there on what all threads share.
-trait Worker<M>: Drop {
+pub trait Worker<M>: Drop {
     ghost fits: { Self → M → Type 0 };
 
     // It comes back with the number of its calls that were answered as the task wants.
@@ -87,9 +95,12 @@ impl<C: Handler, A: Allocator> Worker<MachineOf<C, A>> for CallerOf<C, A> {
             Task::Arrivals(times, line) => called(rt, shared, self, Call::Arrive { line }, times),
             Task::Holds => holds(shared, self, signs),
             Task::Tries => tries(shared, self, signs),
+            Task::HoldsAPut => holds_a_put(shared, self, signs),
+            Task::TriesElements(stax, mutex) => tries_elements(shared, self, signs, stax, mutex),
             Task::GetsThenPuts(from, to) => gets_then_puts(rt, shared, self, from, to),
             Task::PutsThenGets(to, from) => puts_then_gets(rt, shared, self, to, from),
             Task::Enters(times, stax) => enters(rt, shared, self, stax, times),
+            Task::Locks(times, mutex) => locks(rt, shared, self, mutex, times),
         }
     }
 }
@@ -135,7 +146,7 @@ fn holds<C: Handler, A: Allocator>(
         Err(caller) => (caller, 0),
         Ok(held) => {
             signs.taken.store(true, Ordering::SeqCst);
-            wait_for(&signs.tried);
+            let _tried = wait_for(&signs.tried);
             (held.give(), 1)
         }
     }
@@ -151,7 +162,7 @@ fn tries<C: Handler, A: Allocator>(
     requires answering { AnswersAsTold C.declared C.plan machine.now.first.callbacks }
     ensures machine { result.0.machine ≡ machine.now }
 {
-    wait_for(&signs.taken);
+    let _taken = wait_for(&signs.taken);
     let put_busy = is_busy(machine, &mut caller, put());
     let get_busy = is_busy(machine, &mut caller, get());
     let peek_busy = is_busy(machine, &mut caller, Call::Peek { sem: SemId(0) });
@@ -172,6 +183,51 @@ fn is_busy<C: Handler, A: Allocator>(
     ensures { caller.new.machine ≡ caller.old.machine }
 {
     matches!(machine.try_call(caller, call), Err(Refusal::CoreBusy))
+}
+
+// Has the kernel for one put, until the other thread has tried; 2 where the put was done and the other thread's sign came.
+fn holds_a_put<C: Handler, A: Allocator>(
+    machine: &MachineOf<C, A>,
+    caller: CallerOf<C, A>,
+    signs: &Signs,
+) -> (CallerOf<C, A>, u32)
+    requires machine { caller.machine ≡ machine.now }
+    requires answering { AnswersAsTold C.declared C.plan machine.now.first.callbacks }
+    ensures machine { result.0.machine ≡ machine.now }
+{
+    match machine.take(caller) {
+        Err(caller) => (caller, 0),
+        Ok(mut held) => {
+            let done = matches!(held.apply(put()), Ok(Reply::Done));
+            signs.taken.store(true, Ordering::SeqCst);
+            let tried = wait_for(&signs.tried);
+            (held.give(), u32::from(done) + u32::from(tried))
+        }
+    }
+}
+
+// How many of three tries were answered as they are while another thread has the kernel: a put is told that it is busy, a
+// stax and a mutex are free.
+fn tries_elements<C: Handler, A: Allocator>(
+    machine: &MachineOf<C, A>,
+    mut caller: CallerOf<C, A>,
+    signs: &Signs,
+    stax: StaxId,
+    mutex: MutexId,
+) -> (CallerOf<C, A>, u32)
+    requires machine { caller.machine ≡ machine.now }
+    requires answering { AnswersAsTold C.declared C.plan machine.now.first.callbacks }
+    ensures machine { result.0.machine ≡ machine.now }
+{
+    let _taken = wait_for(&signs.taken);
+    let busy = is_busy(machine, &mut caller, put());
+    let entered = machine.try_lock_stax(&mut caller, stax).is_ok();
+    let locked = machine.try_lock_mutex(&mut caller, mutex).is_ok();
+    signs.tried.store(true, Ordering::SeqCst);
+    (
+        caller,
+        u32::from(busy) + u32::from(entered) + u32::from(locked),
+    )
 }
 
 // How many of a wait for a semaphore, and a put of another one, were done.
@@ -267,8 +323,43 @@ fn goes_through<C: Handler, A: Allocator, R: Wait>(
     }
 }
 
+// Locks a mutex and unlocks it so often, each time however long another caller has it, and counts how often it did.
+fn locks<C: Handler, A: Allocator, R: Wait>(
+    rt: &R,
+    machine: &MachineOf<C, A>,
+    mut caller: CallerOf<C, A>,
+    mutex: MutexId,
+    times: u32,
+) -> (CallerOf<C, A>, u32)
+    requires machine { caller.machine ≡ machine.now }
+    requires answering { AnswersAsTold C.declared C.plan machine.now.first.callbacks }
+    ensures machine { result.0.machine ≡ machine.now }
+{
+    let mut done = 0;
+    for _ in 0..times {
+        done += u32::from(has_once(rt, machine, &mut caller, mutex));
+    }
+    (caller, done)
+}
+
+fn has_once<C: Handler, A: Allocator, R: Wait>(
+    rt: &R,
+    machine: &MachineOf<C, A>,
+    caller: &mut CallerOf<C, A>,
+    mutex: MutexId,
+) -> bool
+    requires machine { caller.old.machine ≡ machine.now }
+    requires answering { AnswersAsTold C.declared C.plan machine.now.first.callbacks }
+    ensures { caller.new.machine ≡ caller.old.machine }
+{
+    match machine.lock_mutex(rt, caller, mutex, None) {
+        Ok(Ended::Locked(pass)) => machine.unlock_mutex(rt, caller, pass).is_ok(),
+        _ => false,
+    }
+}
+
 // Both work at once.
-fn both_work<M: Sync, W: Worker<M> + Send, R: Threads + Wait + Sync>(
+pub fn both_work<M: Sync, W: Worker<M> + Send, R: Threads + Wait + Sync>(
     rt: &R,
     shared: &M,
     first: W,

@@ -1,13 +1,16 @@
 //! Callers that wait: for elements, for a stax, and for one another.
-ghost use Rattle.std.specs.Prelude.{◌≡◌, IfOk};
+ghost use Rattle.std.specs.Prelude.{◌≡◌};
 
+use super::machine_over;
+use super::stored::{SEM, asks, plan};
 use super::threads::{Task, on_two_threads};
 use arrayvec::ArrayVec;
 use evl_base::{
-    Board, Call, FlagId, MutexKind, Policy, Refusal, Reply, SemId, Stage, StaxId, Take, ThreadId,
-    Transfer, Way, XbufId,
+    ActionKinds, Board, Call, FlagId, MutexId, MutexKind, Policy, Refusal, Reply, SemId, Stage,
+    StaxId, Take, ThreadId, Transfer, Way, XbufId,
 };
-use evl_machine::{Caller, Machine};
+use evl_machine::{Caller, Ended, Machine};
+use evl_pipeline::{Action, Callback, Fire};
 use evl_words::StaxPass;
 use std::alloc::Global;
 use std::sync::Wait;
@@ -60,22 +63,6 @@ fn board_of_two_sems() -> Board
     }
 }
 
-// A machine over such a board with its callers.
-fn machine_over(
-    alloc: Global,
-    board: Board,
-    limit: u32,
-) -> Result<(Machine, Caller, Caller), Refusal>
-    requires { board.threads ≡ 2 }
-    ensures { IfOk result (λ m. (m.1.machine ≡ m.0.of) × (m.2.machine ≡ m.0.of)) }
-{
-    let (machine, mut callers) = Machine::new(alloc, board, Vec::new(alloc), limit)?;
-    let (Some(second), Some(first)) = (callers.pop(), callers.pop()) else {
-        return Err(Refusal::NoMemory);
-    };
-    Ok((machine, first, second))
-}
-
 // Whether a call is done, however long another caller has the core; of the caller its machine alone is told.
 fn does<R: Wait>(rt: &R, machine: &Machine, caller: &mut Caller, call: Call) -> bool
     requires { caller.old.machine ≡ machine.now.of }
@@ -99,14 +86,12 @@ fn goes_inband<R: Wait>(rt: &R, machine: &Machine, caller: &mut Caller) -> Resul
     machine.switch_inband(rt, caller)
 }
 
-// The answer of a caller that waits for the first semaphore, which it puts before.
+// The answer of a caller that waits for the first semaphore.
 fn got<R: Wait>(rt: &R, machine: &Machine, caller: &mut Caller) -> Result<Reply, Refusal>
     requires { caller.old.machine ≡ machine.now.of }
     ensures { caller.new.machine ≡ caller.old.machine }
 {
-    let sem = SemId(0);
-    machine.call(rt, caller, Call::Put { sem })?;
-    machine.get_sem(rt, caller, sem, None)
+    machine.get_sem(rt, caller, SEM, None)
 }
 
 // Whether the caller takes the flags that were posted.
@@ -127,6 +112,17 @@ fn writes<R: Wait>(rt: &R, machine: &Machine, caller: &mut Caller, bytes: Transf
 {
     let written = machine.write_xbuf(rt, caller, XbufId(0), Way::Out, bytes, None);
     matches!(written, Ok(Reply::Done))
+}
+
+// Whether the caller locks the mutex, and unlocks it.
+fn has_mutex<R: Wait>(rt: &R, machine: &Machine, caller: &mut Caller) -> bool
+    requires { caller.old.machine ≡ machine.now.of }
+    ensures { caller.new.machine ≡ caller.old.machine }
+{
+    match machine.lock_mutex(rt, caller, MutexId(0), None) {
+        Ok(Ended::Locked(pass)) => machine.unlock_mutex(rt, caller, pass).is_ok(),
+        _ => false,
+    }
 }
 
 // Whether the caller reads these bytes.
@@ -167,20 +163,37 @@ fn stays_while_it_holds<R: Wait>(rt: &R, machine: &Machine, caller: &mut Caller)
     left && matches!(held, Err(Refusal::HoldsStax)) && matches!(free, Ok(Reply::Done))
 }
 
-// Row machine_1, but for the mutex.
+// Whether the caller goes out-of-band, and each of its waits there is over at once.
+fn waits_oob<R: Wait>(rt: &R, machine: &Machine, caller: &mut Caller, bytes: Transfer) -> bool
+    requires { caller.old.machine ≡ machine.now.of }
+    ensures { caller.new.machine ≡ caller.old.machine }
+{
+    let oob = goes_oob(rt, machine, caller);
+    let put = does(rt, machine, caller, Call::Put { sem: SEM });
+    let got = got(rt, machine, caller);
+    let taken = takes_flags(rt, machine, caller);
+    let written = writes(rt, machine, caller, bytes);
+    let locked = has_mutex(rt, machine, caller);
+    oob && put && matches!(got, Ok(Reply::Done)) && taken && written && locked
+}
+
+// Row machine_1.
 #[test]
 fn machine_1(rt: HostRuntime) -> Result<(), Fail> {
-    let mut bytes = Transfer::empty(rt.alloc()).map_err(|_| "box")?;
+    let alloc = rt.alloc();
+    let posts = Callback::new(
+        ActionKinds::POST_SEM,
+        &plan(Action::PostSem(SEM)),
+        Box::new(alloc, |_: Fire| asks(Action::PostSem(SEM))).map_err(|_| "box")?,
+    );
+    let bank = Vec::from_array(alloc, [posts]).map_err(|_| "bank")?;
+    let mut bytes = Transfer::empty(alloc).map_err(|_| "box")?;
     bytes.set(b"ab");
-    let Ok((machine, mut caller, _second)) = machine_over(rt.alloc(), board_of_all(), 100) else {
+    let Ok((machine, mut caller, _second)) = machine_over(alloc, board_of_all(), bank, 100) else {
         panic!(rt; "a machine")
     };
     assert!(rt; does(&rt, &machine, &mut caller, attach(Stage::Inband)));
-    assert!(rt; goes_oob(&rt, &machine, &mut caller));
-    let got = got(&rt, &machine, &mut caller);
-    assert!(rt; matches!(got, Ok(Reply::Done)));
-    assert!(rt; takes_flags(&rt, &machine, &mut caller));
-    assert!(rt; writes(&rt, &machine, &mut caller, bytes));
+    assert!(rt; waits_oob(&rt, &machine, &mut caller, bytes));
     assert!(rt; stays_while_it_holds(&rt, &machine, &mut caller));
     assert!(rt; reads(&rt, &machine, &mut caller, b"ab"));
     Ok(())
@@ -229,8 +242,12 @@ fn wait_for_one_another<R: Threads + Wait + Sync>(
 // Row machine_3.
 #[test]
 fn machine_3(rt: HostRuntime) -> Result<(), Fail> {
-    let Ok((machine, mut first, mut second)) = machine_over(rt.alloc(), board_of_two_sems(), 100)
-    else {
+    let Ok((machine, mut first, mut second)) = machine_over(
+        rt.alloc(),
+        board_of_two_sems(),
+        Vec::new(rt.alloc()),
+        100,
+    ) else {
         panic!(rt; "a machine")
     };
     assert!(rt; both_attach(&rt, &machine, &mut first, &mut second, Stage::Oob));
@@ -258,8 +275,12 @@ fn take_turns<R: Threads + Wait + Sync>(
 // Row racing_callers_5.
 #[test]
 fn racing_callers_5(rt: HostRuntime) -> Result<(), Fail> {
-    let Ok((machine, mut first, mut second)) = machine_over(rt.alloc(), board_of_two_sems(), 100)
-    else {
+    let Ok((machine, mut first, mut second)) = machine_over(
+        rt.alloc(),
+        board_of_two_sems(),
+        Vec::new(rt.alloc()),
+        100,
+    ) else {
         panic!(rt; "a machine")
     };
     assert!(rt; both_attach(&rt, &machine, &mut first, &mut second, Stage::Inband));
@@ -280,10 +301,16 @@ fn is_unfinished(machine: &Machine, caller: Caller) -> bool
 // The third call, which begins the wait, is the last one that the history has room for.
 #[test]
 fn full_history_leaves_a_wait(rt: HostRuntime) -> Result<(), Fail> {
-    let Ok((machine, mut first, _second)) = machine_over(rt.alloc(), board_of_two_sems(), 3) else {
+    let Ok((machine, mut first, _second)) = machine_over(
+        rt.alloc(),
+        board_of_two_sems(),
+        Vec::new(rt.alloc()),
+        3,
+    ) else {
         panic!(rt; "a machine")
     };
     assert!(rt; does(&rt, &machine, &mut first, attach(Stage::Oob)));
+    assert!(rt; does(&rt, &machine, &mut first, Call::Put { sem: SEM }));
     let full = got(&rt, &machine, &mut first);
     assert!(rt; matches!(full, Err(Refusal::HistoryFull)));
     assert!(rt; is_unfinished(&machine, first));
@@ -293,7 +320,12 @@ fn full_history_leaves_a_wait(rt: HostRuntime) -> Result<(), Fail> {
 // A stax that isn't there, and one that the caller holds.
 #[test]
 fn no_stax_is_waited_for(rt: HostRuntime) -> Result<(), Fail> {
-    let Ok((machine, mut first, _second)) = machine_over(rt.alloc(), board_of_all(), 100) else {
+    let Ok((machine, mut first, _second)) = machine_over(
+        rt.alloc(),
+        board_of_all(),
+        Vec::new(rt.alloc()),
+        100,
+    ) else {
         panic!(rt; "a machine")
     };
     let none = locked(&rt, &machine, &mut first, StaxId(1));
