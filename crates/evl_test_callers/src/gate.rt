@@ -206,13 +206,13 @@ fn the_word_shows_the_claim_mark(rt: HostRuntime) -> Result<(), Fail> {
 fn a_pass_is_its_seats(rt: HostRuntime) -> Result<(), Fail> {
     let (gate, mut seats) = made(rt.alloc(), 3, 2)?;
     assert!(rt; seats.len() == 2);
-    let pass = enter(&gate, &mut seats, 1, Stage::Oob).ok().ok_or("1")?;
-    assert!(rt; pass.gate() == StaxId(0) && pass.seat() == 1);
-    assert!(rt; seats[1].held() == Some(Stage::Oob) && seats[0].held().is_none());
-    let Err((_, pass)) = leave(&gate, &mut seats, 0, pass) else {
+    let pass = enter(&gate, &mut seats, 0, Stage::Oob).ok().ok_or("0")?;
+    assert!(rt; pass.gate() == StaxId(0) && pass.seat() == 0);
+    assert!(rt; seats[0].held() == Some(Stage::Oob) && seats[1].held().is_none());
+    let Err((Refusal::NotOwner, pass)) = leave(&gate, &mut seats, 1, pass) else {
         panic!(rt; "another seat left")
     };
-    assert!(rt; leave(&gate, &mut seats, 1, pass).is_ok());
+    assert!(rt; leave(&gate, &mut seats, 0, pass).is_ok());
     Ok(())
 }
 

@@ -133,6 +133,7 @@ fn quiet_core_is_never_busy(rt: HostRuntime) -> Result<(), Fail> {
     let Ok((machine, mut first, mut second)) = two_callers(rt.alloc(), 10_000) else {
         panic!(rt; "a machine")
     };
+    assert!(rt; both_attach(&machine, &mut first, &mut second));
     assert!(rt; rounds(&machine, &mut first, &mut second));
     Ok(())
 }
