@@ -52,6 +52,17 @@ stalled_next p eligible inband stalled = rw stalled (by (least p.oob.pending) (i
     by (Some n) true true = refl
     by (Some n) true false = refl
 
+-- where nothing pends, nothing is playable
+idle_next : {X : Type 0} (p : lines.Pipeline X) (eligible inband : Bool) → (is_none (least p.oob.pending) && is_none (least p.inband.pending)) ≡ true → lines.next_line p eligible inband ≡ None
+idle_next p eligible inband idle = by (least p.oob.pending) (least p.inband.pending) p.oob.stalled p.inband.stalled idle
+  where
+    by : (o i : Option ℕ) (held other : Bool) → (is_none o && is_none i) ≡ true
+        → (if is_some o && not held then option_map {U = Stage × ℕ} (λ line. (Oob, line)) o
+        else (if is_some i && not other && not held && is_none o && not eligible && inband then option_map {U = Stage × ℕ} (λ line. (Inband, line)) i else None)) ≡ None
+    by None None held other idle = refl
+    by None (Some n) held other idle = absurd (false≢true idle)
+    by (Some n) i held other idle = absurd (false≢true idle)
+
 module _ {C : Type 0} (gives : C → Fire → Answer → Type 0) where
   -- what was called before stood there already
   pub called_before : (v w : Whereabouts C) → BringsNone w v → (s : State) (one : Play) → Called gives v s one → Called gives w s one
@@ -120,6 +131,12 @@ module _ {C : Type 0} (gives : C → Fire → Answer → Type 0) (w : Whereabout
   stalled_settles declared plan r before stalled =
       settled_now r r 0 false before before (plays_on-none (settling r 0 false) before)
       (line_behind r 0 false (λ e. absurd (false≢true e)) ∙ none_next declared plan r 0 (stalled_next r.lines (is_anyone_eligible r.sched.sched) (nat_lt 0 inband_limit) stalled)) (omega arith)
+
+  pub idle_settles : (declared : C → ℕ) (plan : C → Plan) (r : RecordsView C) (before : List Play) → (is_none (least r.lines.oob.pending) && is_none (least r.lines.inband.pending)) ≡ true
+      → Appends gives w before (state_of r) before (state_of r)
+  idle_settles declared plan r before idle =
+      settled_now r r 0 false before before (plays_on-none (settling r 0 false) before)
+      (line_behind r 0 false (λ e. absurd (false≢true e)) ∙ none_next declared plan r 0 (idle_next r.lines (is_anyone_eligible r.sched.sched) (nat_lt 0 inband_limit) idle)) (omega arith)
 
 -- few plays are left after a call
 pub left_at_first : {C : Type 0} (r : RecordsView C) → lines.IsSoundPipeline r.lines → IsSoundClock r.clock → left_after (state_of r) 0 ≤ play_limit

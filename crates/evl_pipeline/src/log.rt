@@ -1,5 +1,5 @@
 //! The pending lines of one stage.
-ghost use Rattle.std.specs.Prelude.{◌≡◌, ℕ, ◌<◌, ◌≤◌, ◌==◌, not, false, [], length, slice_index, IfOk, IfSome};
+ghost use Rattle.std.specs.Prelude.{◌≡◌, ℕ, ◌<◌, ◌≤◌, ◌==◌, not, false, [], is_none, length, slice_index, IfOk, IfSome};
 ghost use Rattle.evl_pipeline.specs.Limits.{line_count};
 ghost use Rattle.evl_pipeline.specs.NumberSet.{contains, insert, remove, least, RisesWithin};
 
@@ -39,6 +39,13 @@ impl<A: Allocator> Log<A> {
         })
     }
 
+    /// Whether the set is empty.
+    pub fn is_empty(&self) -> bool
+        ensures empty { result ≡ is_none (least self.now) }
+    {
+        self.lines.is_empty()
+    }
+
     /// The least line, or none where the set is empty.
     pub fn least(&self) -> Option<u16>
         ensures least { result ≡ least self.now }
@@ -58,6 +65,18 @@ impl<A: Allocator> Log<A> {
 
     /// Adds a line.
     pub fn insert(&mut self, line: u16)
+        requires { line < line_count }
+        ensures added { self.new ≡ insert self.old line }
+    {
+        if self.lines.is_empty() {
+            self.lines.push_reserved(line);
+        } else {
+            self.insert_among(line);
+        }
+    }
+
+    // Adds a line to a set of any size.
+    fn insert_among(&mut self, line: u16)
         requires { line < line_count }
         ensures added { self.new ≡ insert self.old line }
     {

@@ -1,9 +1,10 @@
 //! The interrupt pipeline: the two stages and their lines (Dovetail: interrupt pipeline).
-ghost use Rattle.std.specs.Prelude.{◌≡◌, ◌<◌, ◌≤◌, false, true, None, Some, is_some, option_map, IfOk, IfErr, IfNone, IfSome, OnOk, OnErr};
+ghost use Rattle.std.specs.Prelude.{◌≡◌, ◌<◌, ◌≤◌, ◌&&◌, false, true, None, Some, is_none, is_some, option_map, IfOk, IfErr, IfNone, IfSome, OnOk, OnErr};
 ghost use Rattle.evl_base.specs.declared.refusal.Refusal.{Refusal};
 ghost use Rattle.evl_pipeline.specs.Counts.{count_at};
 ghost use Rattle.evl_pipeline.specs.Limits.{line_count};
 ghost use Rattle.evl_pipeline.specs.Lines.{IsBounded, IsSoundPipeline, Plays, PlaysOn, arrived, cleared, free_refusal, freed, has_callback, installed_at, is_pending, next_line, opening, post_refusal, posted, request_refusal, requested, side, stalled, unstalled, with_side};
+ghost use Rattle.evl_pipeline.specs.NumberSet.{least};
 ghost use Rattle.evl_pipeline.specs.Plans.{allowed};
 
 use crate::answer::Answer;
@@ -214,6 +215,13 @@ impl<C, A: Allocator> PipelineOf<C, A> {
             Stage::Oob => self.oob.is_pending(line.0),
             Stage::Inband => self.inband.is_pending(line.0),
         }
+    }
+
+    /// Whether no event is pending, on either stage: then `next` plays nothing (this profile).
+    pub fn is_idle(&self) -> bool
+        ensures idle { result ≡ (is_none (least self.now.oob.pending) && is_none (least self.now.inband.pending)) }
+    {
+        self.oob.is_idle() && self.inband.is_idle()
     }
 
     /// Whether the stage is stalled.

@@ -1,5 +1,5 @@
 //! One stage: its stall bit, its log and the callbacks on its lines.
-ghost use Rattle.std.specs.Prelude.{◌≡◌, ◌<◌, ◌≤◌, false, length, replicate, None, is_some, if◌then◌else◌, IfOk, IfNone, IfSome};
+ghost use Rattle.std.specs.Prelude.{◌≡◌, ◌<◌, ◌≤◌, false, length, replicate, None, is_none, is_some, if◌then◌else◌, IfOk, IfNone, IfSome};
 ghost use Rattle.evl_pipeline.specs.Counts.{count_at, counted};
 ghost use Rattle.evl_pipeline.specs.Limits.{line_count};
 ghost use Rattle.evl_pipeline.specs.Lines.{PlaysOn, Taken, callback_on, cleared, empty_side, filled, logged};
@@ -85,6 +85,13 @@ impl<C, A: Allocator> SideOf<C, A> {
         ensures range { IfSome result (λ line. line < line_count) }
     {
         self.log.least()
+    }
+
+    /// Whether no line is pending.
+    pub fn is_idle(&self) -> bool
+        ensures idle { result ≡ is_none (least self.now.pending) }
+    {
+        self.log.is_empty()
     }
 
     /// Whether an event of the line is pending.
@@ -173,6 +180,7 @@ fn count_unless<A: Allocator>(counts: &mut Vec<u64, A>, line: u16, handled: bool
 
 impl<C: Handler, A: Allocator> SideOf<C, A> {
     /// Plays a line: its event is gone, and its callback, if one stands there, is called.
+    #[inline(always)]
     pub fn play(&mut self, stage: Stage, line: u16, now: u64) -> Option<(Fire, Answer)>
         ensures none { IfNone result ((callback_on self.old line ≡ None) × (self.new ≡ cleared self.old line)) }
         ensures some { IfSome result (λ ran. PlaysOn C.declared C.plan C.gives self.old stage line now ran.0 ran.1 self.new) }

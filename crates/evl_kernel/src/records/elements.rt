@@ -162,6 +162,7 @@ impl<C, A: Allocator> Records<C, A> {
     }
 
     /// The waits of those whom a cross-buffer served have ended, in this order, each with what it read, if it read.
+    #[inline(never)]
     pub(super) fn wake_served(&mut self, served: &xbuf::Served)
         requires away { (thread : _) → is_served thread (map service_told served.now) ≡ true → (on : AwaitedOne) → stands_for (elements (state_of self.old)) on thread ≡ false }
         ensures woken { state_of self.new ≡ all_woken (state_of self.old) (map service_told served.now) }

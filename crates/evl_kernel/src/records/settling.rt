@@ -29,6 +29,7 @@ impl<C, A: Allocator> Records<C, A> {
 
 impl<C: Drop, A: Allocator> Records<C, A> {
     /// Carries out one action of a callback on a line: what its call does, and nothing where that would be refused.
+    #[inline(never)]
     fn act(&mut self, line: LineNo, action: Action)
         ensures acted { state_of self.new ≡ acted (state_of self.old) line.0 action }
         ensures stands { KeepsCallbacks self.old self.new }
@@ -53,6 +54,7 @@ impl<C: Drop, A: Allocator> Records<C, A> {
     }
 
     /// Carries out the actions of an answer, in order.
+    #[inline(always)]
     fn carry_out(&mut self, line: LineNo, actions: &[Action])
         ensures acted { state_of self.new ≡ all_acted (state_of self.old) line.0 actions.now }
         ensures stands { KeepsCallbacks self.old self.new }
@@ -63,6 +65,7 @@ impl<C: Drop, A: Allocator> Records<C, A> {
     }
 
     /// Carries out what a callback on a line answered; nothing where it didn't handle its fire.
+    #[inline(always)]
     fn respond(&mut self, line: LineNo, answer: &Answer)
         ensures answered { state_of self.new ≡ answered (state_of self.old) line.0 answer.now }
         ensures stands { KeepsCallbacks self.old self.new }
@@ -75,6 +78,7 @@ impl<C: Drop, A: Allocator> Records<C, A> {
 
 impl<C: Handler, A: Allocator> Records<C, A> {
     /// Plays the next due item of the clock, if something is due.
+    #[inline(never)]
     fn play_item(&mut self) -> Option<Play>
         requires answering { AnswersAsTold C.declared C.plan (whereabouts self.old) }
         ensures played { IfSome result (λ play. due_played (state_of self.old) ≡ Some (play, state_of self.new)) }
@@ -154,8 +158,24 @@ impl<C: Handler, A: Allocator> Records<C, A> {
         self.play_line(inband)
     }
 
-    /// Plays until nothing is playable, and appends the plays. A stalled out-of-band stage holds both stages back.
+    /// Plays until nothing is playable, and appends the plays. Where nothing pends, nothing is looked for.
+    #[inline(always)]
     pub(super) fn settle<B: Allocator>(&mut self, plays: &mut Vec<Play, B>)
+        requires answering { AnswersAsTold C.declared C.plan (whereabouts self.old) }
+        requires room { vec_len plays.old + play_limit ≤ vec_capacity plays.old }
+        ensures settled { Appends C.gives (whereabouts self.old) plays.old.items (state_of self.old) plays.new.items (state_of self.new) }
+        ensures capacity { vec_capacity plays.old ≤ vec_capacity plays.new }
+        ensures stands { KeepsCallbacks self.old self.new }
+    {
+        if self.pipeline.is_idle() {
+            return;
+        }
+        self.play_pending(plays);
+    }
+
+    /// Plays until nothing is playable, and appends the plays. A stalled out-of-band stage holds both stages back.
+    #[inline(never)]
+    fn play_pending<B: Allocator>(&mut self, plays: &mut Vec<Play, B>)
         requires answering { AnswersAsTold C.declared C.plan (whereabouts self.old) }
         requires room { vec_len plays.old + play_limit ≤ vec_capacity plays.old }
         ensures settled { Appends C.gives (whereabouts self.old) plays.old.items (state_of self.old) plays.new.items (state_of self.new) }

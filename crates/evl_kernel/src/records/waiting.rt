@@ -190,6 +190,7 @@ impl<C, A: Allocator> Records<C, A> {
 
     /// A wait that went on has ended: its deadline is gone, and its thread goes to the end of the ready list, where it is
     /// out-of-band.
+    #[inline(never)]
     pub(super) fn wake(&mut self, thread: ThreadId, outcome: Outcome<'_>)
         requires fits { FitsBox (Some outcome) }
         requires away { (on : AwaitedOne) → stands_for (elements (state_of self.old)) on thread.0 ≡ false }

@@ -3,7 +3,7 @@ use Rattle.evl_kernel.specs.Limits.{inband_limit, play_limit}
 use Rattle.evl_kernel.specs.Settled.{settling, left_after}
 use Rattle.evl_kernel.specs.Records.{KeepsCallbacks, state_of, whereabouts}
 use Rattle.evl_kernel.proofs.SettlingLaws.{PlaysOn}
-use Rattle.evl_kernel.proofs.records.Records.settle.Given as goal
+use Rattle.evl_kernel.proofs.records.Records.play_pending.Given as goal
 
 abbrev pub invariant-loop-play : goal.invariant-loop-play
 invariant-loop-play g l = record {

@@ -2,7 +2,7 @@ use Rattle.std.proofs.Common.{◌≡◌, ◌<◌, length, is_ok, true, false, if
 use Rattle.std.specs.List as std
 use Rattle.evl_pipeline.specs.NumberSet.{contains, insert}
 use Rattle.evl_pipeline.proofs.NumberSetLaws.{inserted, has_room, rises-insert, insert-member}
-use Rattle.evl_pipeline.proofs.log.Log.insert.Goals as goal
+use Rattle.evl_pipeline.proofs.log.Log.insert_among.Goals as goal
 use Rattle.evl_pipeline.specs.Limits.{line_count}
 
 pub invariant_of-self : goal.invariant_of-self
