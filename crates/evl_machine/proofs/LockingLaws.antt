@@ -67,7 +67,8 @@ module _ {C : Type 0} where
     made = tt;
     refused = ⊎_elim
         (λ (is : refusal ≡ HistoryFull). subst (FindsNoRoom k) (sym is) (let less = full.0 (ap Err is) in omega (arith, less, within)))
-        (λ (is : refusal ≡ NoMemory). subst (FindsNoRoom k) (sym is) (let less = memory (ap Err is) in omega (arith, less))) refusals;
+        (λ (is : refusal ≡ NoMemory). subst (FindsNoRoom k) (sym is) (let less = memory (ap Err is) in
+        (omega (arith, less), λ at. let no : Err refusal ≡ Err HistoryFull = full.1 (omega (arith, at)) in absurd (cc)))) refusals;
   }
 
   module _ (x a : ActorState) (is : x ≡ a) (k : KernelView C) where
@@ -165,7 +166,7 @@ module _ {C : Type 0} where
 
   -- a refused call is entered, or there was no room for it
   pub refuses : (k k' : KernelView C) (t : ℕ) (c : Call) (refusal : Refusal) → Applied k t c (Err refusal) k' → Refuses k t c refusal k'
-  refuses k k' t c NoMemory done = inr (done.refused refl, done.memory refl)
+  refuses k k' t c NoMemory done = inr (done.refused refl, (done.memory refl, λ at. let no : Err NoMemory ≡ Err HistoryFull = done.filled at in absurd (cc)))
   refuses k k' t c HistoryFull done = inr (done.refused refl, done.full refl)
   refuses k k' t c CoreBusy done = inl (refl, done.entered refl)
   refuses k k' t c Unknown done = inl (refl, done.entered refl)

@@ -1,5 +1,5 @@
 -- What one seat does at a mutex, told of the list in which it stands.
-use Rattle.std.proofs.Common.{◌≡◌, ℕ, zero, suc, ◌+◌, ◌≤◌, ◌<◌, ◌==◌, nat_lt, not, if◌then◌else◌, Bool, true, false, List, [], ◌∷◌, ◌++◌, length, get_or, take, length-append, map, Option, Some, None, Result, Ok, Err, IfOk, IfErr, MatchBool, MatchOption, slice_get, slice_set, inl, inr, ◌⊎◌, drop, eqb-true, eq-eqb, ne_eqb, refl, sym, ap, ◌∙◌, subst, arith}
+use Rattle.std.proofs.Common.{◌≡◌, ℕ, zero, suc, ◌+◌, ◌≤◌, ◌<◌, ◌==◌, nat_lt, not, if◌then◌else◌, Bool, true, false, List, [], ◌∷◌, ◌++◌, length, get_or, take, length-append, map, Option, Some, None, Result, Ok, Err, is_ok, IfOk, IfErr, MatchBool, MatchOption, slice_get, slice_set, inl, inr, ◌⊎◌, drop, eqb-true, eq-eqb, ne_eqb, refl, sym, ap, ◌∙◌, subst, arith}
 use Rattle.std.proofs.lemmas.Bool.{false≢true}
 use Rattle.std.specs.List.{range_with_len}
 use Rattle.std.proofs.lemmas.List.{length-map, map-append, take_more}
@@ -19,6 +19,7 @@ use Rattle.evl_machine.specs.Homes.{Home, mutex_home, word_home}
 use Rattle.evl_machine.specs.AtSeats.{AtSeat}
 use Rattle.evl_machine.specs.MutexSeats.{AreFresh, AreWordsOf, WordsState, HasWon, HasOnce, is_recursive, mutex_passes, is_owner, owner_refusal, Tries, TriesMutex, pass_refusal, UnlocksSo, UnlocksBy, UnlocksMutex, AcceptsSo, ForgetsSo}
 use Rattle.evl_machine.proofs.DealLaws.{fresh-counted, range-more}
+use Rattle.evl_machine.proofs.StaxLaws.{passes_of}
 use Rattle.evl_machine.proofs.SeatLists.{set-same, same-place, same-length, at-seat, some-within}
 
 -- the seat that stands at a place, which is the mutex's there
@@ -94,6 +95,35 @@ module _ (mutex : MutexState) (kind : MutexKind) (nests : mutex.recursive ≡ is
             → MatchOption (owner_refusal kind was.depth) (Unit {0} × AtSeat i xs (slice_set xs i is) (Tries (Err refusal))) (λ r. (◌≡◌ {A = Result MutexPass Refusal} (Err refusal) (Err r)) × (slice_set xs i is ≡ xs))
         along (inl h) = at-none (owner_refusal kind was.depth) _ _ h.0 (tt, at-seat (Tries (Err refusal)) xs i was is there h.1)
         along (inr h) = at-some (owner_refusal kind was.depth) _ _ refusal h.0 (refl, ap (slice_set xs i) h.1 ∙ set-same xs i was there)
+
+-- a try that took the mutex has one pass more, and 255 at most
+module _ (mutex : MutexState) (was is : MutexSeatState) where
+  one_more : (free : Bool) → (was.depth == 0) ≡ free → MatchBool free (Calls was Try Passed is Owner 1) ((mutex.recursive ≡ true) × (was.depth < 255) × (is ≡ at_depth (was.depth + 1) was))
+      → (is.depth ≡ was.depth + 1) × (is.depth ≤ 255)
+  one_more true free h = let none = eqb-true was.depth 0 free in (omega (arith, h.depth, none), omega (arith, h.depth))
+  one_more false held h = let same = ap (λ (s : MutexSeatState). s.depth) h.2 in (same, omega (arith, h.1, same))
+
+  none_more : (refusal : Refusal) → FailsToLock mutex was is refusal → is.depth ≡ was.depth
+  none_more NoMemory h = absurd h
+  none_more HistoryFull h = absurd h
+  none_more CoreBusy h = absurd h
+  none_more Unknown h = absurd h
+  none_more Invalid h = absurd h
+  none_more Again h = absurd h
+  none_more Busy h = omega (arith, h.0, h.1.depth)
+  none_more NotOwner h = absurd h
+  none_more Deadlock h = ap (λ (s : MutexSeatState). s.depth) h.2
+  none_more Limit h = ap (λ (s : MutexSeatState). s.depth) h.2
+  none_more Range h = absurd h
+  none_more TooBig h = absurd h
+  none_more WrongStage h = absurd h
+  none_more HoldsStax h = absurd h
+  none_more (Raced first second) h = absurd h
+
+  pub locked_passes : (result : Result MutexPass Refusal) → IfOk result (λ pass. IsPassOf pass was × Locks mutex was is) → IfErr result (λ refusal. FailsToLock mutex was is refusal) → was.depth ≤ 255
+      → (is.depth ≡ was.depth + passes_of (is_ok result)) × (is.depth ≤ 255)
+  locked_passes (Ok pass) ok err few = one_more (was.depth == 0) refl ok.1
+  locked_passes (Err refusal) ok err few = let same = none_more refusal err in (omega (arith, same), omega (arith, same, few))
 
 -- the kind that stands beside a word
 pub kind_at : (words : List MutexState) (kinds : List MutexKind) (i : ℕ) (word : MutexState) → map (λ (m : MutexState). m.recursive) words ≡ map is_recursive kinds → slice_get words i ≡ Some word

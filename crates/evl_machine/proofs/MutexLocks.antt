@@ -117,9 +117,9 @@ module _ {C : Type 0} where
 
   pub finishes_full : (a a' : ActorState) (k k' : KernelView C) (m : MutexId) → Finishes a k m (Err HistoryFull) a' k' → LeavesFull k k'
   finishes_full a a' k k' m (none, inl (again, on, same)) = absurd (cc)
-  finishes_full a a' k k' m (none, inr (inl (full, same))) = leaves_full k k' none full
-  finishes_full a a' k k' m (none, inr (inr (inl (again, late, at)))) = absurd (cc)
-  finishes_full a a' k k' m (none, inr (inr (inr (again, late, at)))) = absurd (cc)
+  finishes_full a a' k k' m (none, inr (over, inl (full, same))) = leaves_full k k' none full
+  finishes_full a a' k k' m (none, inr (over, inr (inl (again, late, at)))) = absurd (cc)
+  finishes_full a a' k k' m (none, inr (over, inr (inr (again, late, at)))) = absurd (cc)
 
   pub releases_full : (a a' : ActorState) (k k' : KernelView C) (pass back : MutexPass) → Releases a k pass (Err (HistoryFull, back)) a' k' → LeavesFull k k'
   releases_full a a' k k' pass back (same, seats, why) = ⊎_elim

@@ -38,10 +38,10 @@ GivesTo (Some next) more was is = Offers next.0 more was is
 GivesTo None more was is = Frees was is
 
 module _ {C : Type 0} where
-  -- why a call of the kernel makes no entry: the history is full, or no room was made
+  -- why a call of the kernel makes no entry: the history is full, or it isn't, and no room was made
   abbrev pub FindsNoRoom : KernelView C → Refusal → Type 0
   FindsNoRoom k HistoryFull = length k.history.entries ≡ k.limit
-  FindsNoRoom k NoMemory = k.room ≡ 0
+  FindsNoRoom k NoMemory = (k.room ≡ 0) × (length k.history.entries ≢ k.limit)
   FindsNoRoom k refusal = ⊥
 
   -- the history has just this call more, or nothing more
@@ -117,13 +117,18 @@ module _ {C : Type 0} where
   abbrev pub EndsWait : ActorState → KernelView C → Reply → ActorState → KernelView C → Type 0
   EndsWait a k ended a' k' = EntersOne k a.thread.0 (Finish (keeps_stage (holds_stax a.staxes) (holds_mutex a'.mutexes))) (Ok ended) k'
 
-  -- Why a wait for a mutex isn't finished: it goes on, there is no room, or the word refuses what the wait ended with. The kernel has no entry of it
+  -- why a wait for a mutex that is over isn't finished: there is no room, or the word refuses what the wait ended with
+  abbrev pub FailsOnceEnded : ActorState → KernelView C → MutexId → Refusal → ActorState → Type 0
+  FailsOnceEnded a k mutex refusal a' =
+      (FindsNoRoom k refusal × (a'.mutexes ≡ a.mutexes))
+      ⊎ ((refusal ≡ Again) × (has_timed_out k.history.state a.thread.0 ≡ false) × AtSeat mutex.0 a.mutexes a'.mutexes (AcceptsSo (Err Again)))
+      ⊎ ((refusal ≡ Again) × (has_timed_out k.history.state a.thread.0 ≡ true) × AtSeat mutex.0 a.mutexes a'.mutexes (ForgetsSo (Err Busy)))
+
+  -- Why a wait for a mutex isn't finished: it goes on, or it is over and fails then. The kernel has no entry of it
   abbrev pub FailsToFinish : ActorState → KernelView C → MutexId → Refusal → ActorState → Type 0
   FailsToFinish a k mutex refusal a' =
       ((refusal ≡ Again) × (has_ended k.history.state a.thread.0 ≡ false) × (a'.mutexes ≡ a.mutexes))
-      ⊎ (FindsNoRoom k refusal × (a'.mutexes ≡ a.mutexes))
-      ⊎ ((refusal ≡ Again) × (has_timed_out k.history.state a.thread.0 ≡ false) × AtSeat mutex.0 a.mutexes a'.mutexes (AcceptsSo (Err Again)))
-      ⊎ ((refusal ≡ Again) × (has_timed_out k.history.state a.thread.0 ≡ true) × AtSeat mutex.0 a.mutexes a'.mutexes (ForgetsSo (Err Busy)))
+      ⊎ ((has_ended k.history.state a.thread.0 ≡ true) × FailsOnceEnded a k mutex refusal a')
 
   -- A wait for a mutex is finished: the word is accepted before the kernel ends it, and where the deadline came first it is forgotten
   abbrev pub Finishes : ActorState → KernelView C → MutexId → Result Ended Refusal → ActorState → KernelView C → Type 0

@@ -58,6 +58,7 @@ impl<A: Allocator> Actor<A> {
     }
 
     /// What refuses a call of the kernel by what the caller has itself, before any step.
+    #[inline(always)]
     pub(crate) fn refusal(&self, call: &Call) -> Option<Refusal>
         ensures refused { result ≡ call_refusal self.now.wait (holds_stax self.now.staxes) (holds_mutex self.now.mutexes) call.now }
         ensures held { AreHeldAt self.now.stage self.now.staxes }
@@ -81,6 +82,7 @@ impl<A: Allocator> Actor<A> {
     }
 
     /// What refuses to lock a mutex of this kind by what the caller has itself, before any step.
+    #[inline(always)]
     pub(crate) fn lock_refusal(&self, kind: Option<MutexKind>, mutex: MutexId) -> Option<Refusal>
         ensures refused { result ≡ lock_refusal kind self.now.wait self.now.stage (depth_at self.now.mutexes mutex.0) }
         ensures held { AreHeldAt self.now.stage self.now.staxes }
@@ -96,6 +98,7 @@ impl<A: Allocator> Actor<A> {
     }
 
     /// What refuses to spend a pass by what the caller has itself, before any step.
+    #[inline(always)]
     pub(crate) fn spend_refusal(&self, pass: &MutexPass) -> Option<Refusal>
         ensures refused { result ≡ spend_refusal self.now.wait self.now.mutexes pass.now }
         ensures held { AreHeldAt self.now.stage self.now.staxes }
@@ -133,6 +136,7 @@ impl<A: Allocator> Actor<A> {
     }
 
     /// One call of the kernel by its thread, after which it knows the thread's stage and unfinished wait anew.
+    #[inline(always)]
     pub(crate) fn apply<C: Handler>(
         &mut self,
         kernel: &mut KernelBox<C, A>,

@@ -69,6 +69,7 @@ impl Machine {
     /// `Attach`, `Detach` and `SetStage` while it holds a stax; `Busy` for `Detach` while it holds a mutex. Then `CoreBusy`
     /// only where another caller has the kernel; every other answer is the kernel's, of which `NoMemory` and `HistoryFull`
     /// make no entry (this profile).
+    #[inline(always)]
     pub fn try_call(&self, caller: &mut Caller, call: Call) -> Result<Reply, Refusal>
         requires { Belongs caller.old self.now.of }
         ensures machine { IsSameCaller caller.old caller.new }

@@ -62,6 +62,7 @@ impl<C: Handler, A: Allocator> KernelBox<C, A> {
     }
 
     /// One call of the kernel.
+    #[inline(always)]
     pub(crate) fn apply(&mut self, caller: ThreadId, call: Call) -> Result<Reply, Refusal>
         requires { AnswersAsTold C.declared C.plan self.old.callbacks }
         ensures { Applied self.old caller.0 call result self.new }

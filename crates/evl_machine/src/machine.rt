@@ -51,6 +51,7 @@ impl<C: Drop, A: Allocator> Model for MachineOf<C, A> {
 
 impl<C: Drop, A: Allocator> MachineOf<C, A> {
     /// Takes the kernel out of the slot, unless a seat has it.
+    #[inline]
     pub(crate) fn take_kernel(&self, seat: &mut CoreSeat<C, A>) -> Option<KernelBox<C, A>>
         requires { (seat.old.table_id ≡ self.now.id) × (seen seat.old.me ≡ seated (account_of (seen seat.old.me))) }
         ensures same { (seat.new.table_id ≡ seat.old.table_id) × (seat.new.id ≡ seat.old.id) × (first_of seat.new.me.0 ≡ first_of seat.old.me.0) }
@@ -65,6 +66,7 @@ impl<C: Drop, A: Allocator> MachineOf<C, A> {
     }
 
     /// Puts the kernel back. It goes on from the one that was taken, by calls of the seat's one caller.
+    #[inline]
     pub(crate) fn give_kernel(&self, seat: &mut CoreSeat<C, A>, kernel: KernelBox<C, A>)
         requires machine { seat.old.table_id ≡ self.now.id }
         requires comes { ComesFrom (first_of seat.old.me.0) kernel }
@@ -84,6 +86,7 @@ impl<C: Drop, A: Allocator> MachineOf<C, A> {
 
 impl<C: Handler, A: Allocator> MachineOf<C, A> {
     /// One call of the kernel at a seat; the call comes back where another seat has it.
+    #[inline(always)]
     fn call_with(
         &self,
         seat: &mut CoreSeat<C, A>,
@@ -114,6 +117,7 @@ impl<C: Handler, A: Allocator> MachineOf<C, A> {
 
     /// One call of the kernel, by the host thread that makes it, which the caller itself doesn't refuse; the call comes back
     /// where another caller has the kernel.
+    #[inline(always)]
     pub(crate) fn attempt(
         &self,
         caller: &mut CallerOf<C, A>,
@@ -141,6 +145,7 @@ impl<C: Handler, A: Allocator> MachineOf<C, A> {
     /// `Attach`, `Detach` and `SetStage` while it holds a stax; `Busy` for `Detach` while it holds a mutex. Then `CoreBusy`
     /// only where another caller has the kernel; every other answer is the kernel's, of which `NoMemory` and `HistoryFull`
     /// make no entry (this profile).
+    #[inline(always)]
     pub fn try_call(&self, caller: &mut CallerOf<C, A>, call: Call) -> Result<Reply, Refusal>
         requires machine { Belongs caller.old self.now }
         requires answering { AnswersAsTold C.declared C.plan self.now.first.callbacks }

@@ -19,6 +19,8 @@ use std::alloc::Allocator;
 
 impl<C: Handler, A: Allocator> MachineOf<C, A> {
     /// Tries for a mutex with a ceiling.
+    #[cold]
+    #[inline(never)]
     pub(crate) fn lock_at_ceiling(
         &self,
         caller: &mut CallerOf<C, A>,
@@ -99,6 +101,7 @@ impl<C: Handler, A: Allocator> MachineOf<C, A> {
     }
 
     /// Has the kernel hand a mutex on that the caller has once.
+    #[inline(never)]
     pub(crate) fn release_with_kernel(
         &self,
         caller: &mut CallerOf<C, A>,

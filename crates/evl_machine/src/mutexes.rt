@@ -25,6 +25,7 @@ impl<C: Handler, A: Allocator> MachineOf<C, A> {
     /// caller has it 255 times. `Busy` where another caller has it. A mutex with a ceiling is tried while the caller has the
     /// kernel: `CoreBusy` where another caller has that, `NoMemory` or `HistoryFull` where there is no room for one call, of
     /// which none makes a step of the mutex; a try that took it is told to the kernel, whatever that answers.
+    #[inline(always)]
     pub fn try_lock_mutex(
         &self,
         caller: &mut CallerOf<C, A>,
@@ -106,6 +107,7 @@ impl<C: Handler, A: Allocator> MachineOf<C, A> {
     /// With no step, and with the pass back: `Busy` while the caller has an unfinished wait, `NotOwner` for a pass of another
     /// caller or of a mutex that the caller doesn't have, and `Busy` for a mutex with a ceiling. `Busy` with the pass back
     /// where others claim the mutex.
+    #[inline(always)]
     pub fn unlock_mutex_fast(
         &self,
         caller: &mut CallerOf<C, A>,
@@ -135,6 +137,7 @@ impl<C: Handler, A: Allocator> MachineOf<C, A> {
     /// With no step, and with the pass back: `Busy` while the caller has an unfinished wait, and `NotOwner` for a pass of
     /// another caller or of a mutex that the caller doesn't have. Where the kernel has to hand the mutex on: `CoreBusy` where
     /// another caller has that, and its own refusals, each with the pass back and the word as it is.
+    #[inline]
     pub fn try_unlock_mutex(
         &self,
         caller: &mut CallerOf<C, A>,
@@ -168,6 +171,7 @@ impl Machine {
     /// caller has it 255 times. `Busy` where another caller has it. A mutex with a ceiling is tried while the caller has the
     /// kernel: `CoreBusy` where another caller has that, `NoMemory` or `HistoryFull` where there is no room for one call, of
     /// which none makes a step of the mutex; a try that took it is told to the kernel, whatever that answers.
+    #[inline(always)]
     pub fn try_lock_mutex(&self, caller: &mut Caller, mutex: MutexId) -> Result<MutexPass, Refusal>
         requires { Belongs caller.old self.now.of }
         ensures machine { IsSameCaller caller.old caller.new }
@@ -223,6 +227,7 @@ impl Machine {
     /// With no step, and with the pass back: `Busy` while the caller has an unfinished wait, `NotOwner` for a pass of another
     /// caller or of a mutex that the caller doesn't have, and `Busy` for a mutex with a ceiling. `Busy` with the pass back
     /// where others claim the mutex.
+    #[inline(always)]
     pub fn unlock_mutex_fast(
         &self,
         caller: &mut Caller,

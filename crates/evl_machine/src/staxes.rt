@@ -18,6 +18,7 @@ impl<C: Drop, A: Allocator> MachineOf<C, A> {
     /// With no step `Unknown` where there is no such stax, and `Busy` where the caller holds it. `Again` where callers of
     /// the other stage hold it, `Limit` where its limit of callers holds it, `Raced` where another step came in between
     /// and the caller would have been let in before it and after it. The core isn't taken (this profile).
+    #[inline(always)]
     pub fn try_lock_stax(
         &self,
         caller: &mut CallerOf<C, A>,
@@ -37,6 +38,7 @@ impl<C: Drop, A: Allocator> MachineOf<C, A> {
     ///
     /// `NotOwner`, with the pass back and no step, for a pass of another caller, of a stax that isn't on the board, or of
     /// one that the caller doesn't hold. The core isn't taken (this profile).
+    #[inline(always)]
     pub fn unlock_stax(
         &self,
         caller: &mut CallerOf<C, A>,
@@ -57,6 +59,7 @@ impl Machine {
     /// With no step `Unknown` where there is no such stax, and `Busy` where the caller holds it. `Again` where callers of
     /// the other stage hold it, `Limit` where its limit of callers holds it, `Raced` where another step came in between
     /// and the caller would have been let in before it and after it. The core isn't taken (this profile).
+    #[inline(always)]
     pub fn try_lock_stax(&self, caller: &mut Caller, stax: StaxId) -> Result<StaxPass, Refusal>
         requires { Belongs caller.old self.now.of }
         ensures machine { IsSameCaller caller.old caller.new }
@@ -71,6 +74,7 @@ impl Machine {
     ///
     /// `NotOwner`, with the pass back and no step, for a pass of another caller, of a stax that isn't on the board, or of
     /// one that the caller doesn't hold. The core isn't taken (this profile).
+    #[inline(always)]
     pub fn unlock_stax(
         &self,
         caller: &mut Caller,

@@ -22,6 +22,7 @@ pub enum WaitStep {
 }
 
 /// What this call does to its caller's wait.
+#[inline(always)]
 pub(crate) fn wait_step(call: &Call) -> WaitStep
     ensures { result ≡ wait_step call.now }
 {
@@ -37,6 +38,7 @@ pub(crate) fn wait_step(call: &Call) -> WaitStep
 }
 
 /// The wait that is unfinished once a call was answered.
+#[inline(always)]
 pub(crate) fn wait_after(
     wait: Option<Unfinished>,
     step: WaitStep,

@@ -20,6 +20,7 @@ impl<C: Handler, A: Allocator> MachineOf<C, A> {
     ///
     /// It is refused with no step as `try_call` refuses it; every other answer is the kernel's, of which `NoMemory` and
     /// `HistoryFull` make no entry (this profile).
+    #[inline(always)]
     pub fn call<R: Wait>(
         &self,
         rt: &R,
@@ -55,6 +56,7 @@ impl Machine {
     ///
     /// It is refused with no step as `try_call` refuses it; every other answer is the kernel's, of which `NoMemory` and
     /// `HistoryFull` make no entry (this profile).
+    #[inline(always)]
     pub fn call<R: Wait>(&self, rt: &R, caller: &mut Caller, call: Call) -> Result<Reply, Refusal>
         requires { Belongs caller.old self.now.of }
         ensures machine { IsSameCaller caller.old caller.new }

@@ -14,6 +14,7 @@ use std::alloc::Allocator;
 
 impl<A: Allocator> Gates<A> {
     /// Enters a stax at a stage.
+    #[inline(always)]
     pub(crate) fn try_lock(
         &self,
         seats: &mut StaxSeats<A>,
@@ -47,6 +48,7 @@ impl<A: Allocator> Gates<A> {
     }
 
     /// Leaves a stax, and answers whether others want in, as the last one to leave sees. The mark is then taken away.
+    #[inline(always)]
     pub(crate) fn unlock(
         &self,
         seats: &mut StaxSeats<A>,
@@ -68,6 +70,7 @@ impl<A: Allocator> Gates<A> {
 }
 
 /// Leaves a gate, and takes its mark away where the last one to leave found it.
+#[inline(always)]
 fn leave<A: Allocator>(
     gate: &StaxGate<A>,
     seat: &mut StaxSeat,

@@ -12,6 +12,7 @@ use std::alloc::Allocator;
 
 impl<A: Allocator> MutexWords<A> {
     /// Takes a mutex, or has it once more.
+    #[inline(always)]
     pub(crate) fn try_lock(
         &self,
         seats: &mut MutexSeats<A>,
@@ -27,13 +28,13 @@ impl<A: Allocator> MutexWords<A> {
             return Err(Refusal::Unknown);
         }
         let seat = &mut seats.seats[place];
-        let before = seat.depth();
         let result = self.words[place].try_lock(seat);
-        seats.passes = recounted(seats.passes, before, seat.depth());
+        seats.passes += u16::from(result.is_ok());
         result
     }
 
     /// Spends a pass. The mutex is held once less, or comes back where others claim it.
+    #[inline(always)]
     pub(crate) fn unlock(
         &self,
         seats: &mut MutexSeats<A>,
@@ -57,6 +58,7 @@ impl<A: Allocator> MutexWords<A> {
 }
 
 /// Spends a pass at a mutex.
+#[inline(always)]
 fn spend<A: Allocator>(
     word: &MutexWord<A>,
     seat: &mut MutexSeat,

@@ -56,6 +56,7 @@ impl<A: Allocator> MutexSeats<A> {
     }
 
     /// What refuses to spend a pass with no step: it isn't of the thread's seat, or the thread doesn't have the mutex.
+    #[inline(always)]
     pub(crate) fn refusal(&self, pass: &MutexPass) -> Option<Refusal>
         ensures refused { result ≡ unlock_refusal self.now pass.now }
     {

@@ -4,22 +4,25 @@ use Rattle.evl_words.specs.MutexCalls.{MutexSeatState}
 use Rattle.evl_machine.specs.Homes.{mutex_home}
 use Rattle.evl_machine.specs.MutexSeats.{WordsState, mutex_passes}
 use Rattle.evl_machine.proofs.SeatLists.{count-room, counted-set, map-kept}
-use Rattle.evl_machine.proofs.MutexLaws.{found, home_kept, within_seats, tried, kind_at}
+use Rattle.evl_machine.proofs.MutexLaws.{found, home_kept, within_seats, tried, kind_at, locked_passes}
+use Rattle.evl_machine.proofs.StaxLaws.{passes_of, byte_passes, one_at_most}
 use Rattle.evl_machine.proofs.elements.mutex_words.MutexWords.try_lock.Goals as goal
 
 pub try_lock-result-requires : goal.try_lock-result-requires
 try_lock-result-requires g c = (found c.seats.inside.seats.items _ c.self.inside.words.items _ c.from-place.result c.index_mut-seat.result.now c.index.result.now c.seats.view_is (ap (λ (m : WordsState). m.words) c.self.view_is) c.requires.homes (within_seats _ c.self.inside.words.items _ c.from-place.result (ap (λ (m : WordsState). m.words) c.self.view_is) c.requires.homes (omega (arith, c.if-place-len.false, c.len.ensures, c.self.inside.words.ok.0))) c.index_mut-seat.ensures.value c.index.ensures).1
 
-pub recounted-seats-inside-requires : goal.recounted-seats-inside-requires
-recounted-seats-inside-requires g c =
+pub overflow_add-seats : goal.overflow_add-seats
+overflow_add-seats g c =
     let there = (found c.seats.inside.seats.items _ c.self.inside.words.items _ c.from-place.result c.index_mut-seat.result.now c.index.result.now c.seats.view_is (ap (λ (m : WordsState). m.words) c.self.view_is) c.requires.homes (within_seats _ c.self.inside.words.items _ c.from-place.result (ap (λ (m : WordsState). m.words) c.self.view_is) c.requires.homes (omega (arith, c.if-place-len.false, c.len.ensures, c.self.inside.words.ok.0))) c.index_mut-seat.ensures.value c.index.ensures).0 in
     let room = count-room (λ (s : MutexSeatState). s.mutex.0) mutex_passes c.seats.inside.seats.items c.seats.inside.passes c.from-place.result c.index_mut-seat.result.now c.seats.invariant there in
-    record { room = (omega (arith, room.0, c.depth-before.ensures), room.1) }
+    let one = one_at_most c.is_ok.result in omega (arith, room.1, c.from.ensures, one)
 
 pub invariant_of-seats : goal.invariant_of-seats
 invariant_of-seats g c =
     let there = (found c.seats.inside.seats.items _ c.self.inside.words.items _ c.from-place.result c.index_mut-seat.result.now c.index.result.now c.seats.view_is (ap (λ (m : WordsState). m.words) c.self.view_is) c.requires.homes (within_seats _ c.self.inside.words.items _ c.from-place.result (ap (λ (m : WordsState). m.words) c.self.view_is) c.requires.homes (omega (arith, c.if-place-len.false, c.len.ensures, c.self.inside.words.ok.0))) c.index_mut-seat.ensures.value c.index.ensures).0 in
-    counted-set (λ (s : MutexSeatState). s.mutex.0) mutex_passes c.seats.inside.seats.items c.seats.inside.passes c.from-place.result c.index_mut-seat.result.now _ c.try_lock-result.new.seat c.seats.invariant there (ap (λ m. m.0) c.try_lock-result.ensures.seat.mutex) (omega (arith, c.depth.ensures, c.depth.type_inv)) (omega (arith, c.recounted-seats-inside.ensures.count, c.depth-before.ensures, c.depth.ensures))
+    let gave = c.from.ensures ∙ byte_passes c.is_ok.result ∙ ap passes_of c.is_ok.ensures.value in
+    let more = locked_passes c.index.result.now c.index_mut-seat.result.now c.try_lock-result.new.seat c.try_lock-result.result c.try_lock-result.ensures.ok c.try_lock-result.ensures.err (c.seats.invariant.bounded c.from-place.result c.index_mut-seat.result.now there) in
+    counted-set (λ (s : MutexSeatState). s.mutex.0) mutex_passes c.seats.inside.seats.items c.seats.inside.passes c.from-place.result c.index_mut-seat.result.now _ c.try_lock-result.new.seat c.seats.invariant there (ap (λ m. m.0) c.try_lock-result.ensures.seat.mutex) more.1 (omega (arith, gave, more.0))
 
 pub returns-clause-homes : goal.returns-clause-homes
 returns-clause-homes g c =
