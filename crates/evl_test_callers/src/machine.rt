@@ -1,64 +1,43 @@
 //! The machine's rows, with two callers.
-ghost use Rattle.std.specs.Prelude.{◌≡◌, IfOk, IfSome, MatchResult};
+ghost use Rattle.std.specs.Prelude.{◌≡◌, All, IfSome};
 
+mod acts;
 mod closing;
 mod growths;
 mod holding;
 mod mutexes;
 mod owners;
 mod racing;
+mod rows;
 mod staxes;
 mod stored;
+mod thread_rows;
 mod threads;
 mod waits;
 
+use acts::{Act, Ask, Passes, Told, call_of, does, told_by};
 use arrayvec::ArrayVec;
-use evl_base::{
-    Board, Call, LineNo, MutexId, MutexKind, Policy, Refusal, Reply, SemId, Stage, StaxId,
-};
-use evl_machine::{Caller, Held, Machine};
-use evl_pipeline::Callback;
-use std::alloc::Global;
-use std::test::Fail;
+use evl_base::{Board, LineNo, MutexId, MutexKind, Policy, Refusal, SemId, Stage, StaxId};
+use evl_machine::{Caller, Machine};
+use rows::{Step, answers, come_back, first_of, held_answers, is_row, last_of, made, taken};
+
+const SEM: SemId = SemId(0);
+
+const FIFO: Policy = Policy::Fifo(10);
+
+const OOB: Ask = Ask::Attach(FIFO, Stage::Oob);
+
+const ATTACH: Act = Act::Call(OOB);
+
+const PUT: Act = Act::Call(Ask::Put(SEM));
+
+const GET: Act = Act::Call(Ask::TryGet(SEM));
+
+// Both callers attach out-of-band.
+const BOTH_ATTACH: [Step; 2] = [(0, ATTACH, Told::Done), (1, ATTACH, Told::Done)];
 
 // Two threads, a semaphore of count 0, a mutex and a stax.
-fn two_callers(alloc: Global, limit: u32) -> Result<(Machine, Caller, Caller), Refusal>
-    ensures { IfOk result (λ m. (m.1.machine ≡ m.0.of) × (m.2.machine ≡ m.0.of)) }
-{
-    two_callers_over(alloc, Vec::new(alloc), limit)
-}
-
-// The same over a bank.
-fn two_callers_over(
-    alloc: Global,
-    bank: Vec<Callback>,
-    limit: u32,
-) -> Result<(Machine, Caller, Caller), Refusal>
-    ensures { IfOk result (λ m. (m.1.machine ≡ m.0.of) × (m.2.machine ≡ m.0.of)) }
-{
-    machine_over(alloc, board_of_two(), bank, limit)
-}
-
-// A machine over a board of two threads and a bank, with its callers.
-fn machine_over(
-    alloc: Global,
-    board: Board,
-    bank: Vec<Callback>,
-    limit: u32,
-) -> Result<(Machine, Caller, Caller), Refusal>
-    requires { board.threads ≡ 2 }
-    ensures { IfOk result (λ m. (m.1.machine ≡ m.0.of) × (m.2.machine ≡ m.0.of)) }
-{
-    let (machine, mut callers) = Machine::new(alloc, board, bank, limit)?;
-    let (Some(second), Some(first)) = (callers.pop(), callers.pop()) else {
-        return Err(Refusal::NoMemory);
-    };
-    Ok((machine, first, second))
-}
-
-fn board_of_two() -> Board
-    ensures { result.threads ≡ 2 }
-{
+fn board_of_two() -> Board {
     let mut sems = ArrayVec::new();
     sems.push(0);
     let mut mutexes = ArrayVec::new();
@@ -76,91 +55,23 @@ fn board_of_two() -> Board
     }
 }
 
-// One call, of which the caller's machine alone is told.
-fn call_of(machine: &Machine, caller: &mut Caller, call: Call) -> Result<Reply, Refusal>
-    requires { caller.old.machine ≡ machine.now.of }
-    ensures { caller.new.machine ≡ caller.old.machine }
-{
-    machine.try_call(caller, call)
-}
+// What both are told once the core is free.
+const ONCE_FREE: [Step; 5] = [
+    (1, GET, Told::Done),
+    (1, PUT, Told::Done),
+    (0, GET, Told::Done),
+    (0, GET, Told::Refused(Refusal::Again)),
+    (1, Act::Call(Ask::Peek(SEM)), Told::Count(0)),
+];
 
-// Whether a call is done; of the caller its machine alone is told.
-fn does(machine: &Machine, caller: &mut Caller, call: Call) -> bool
-    requires { caller.old.machine ≡ machine.now.of }
-    ensures { caller.new.machine ≡ caller.old.machine }
-{
-    is_done(&call_of(machine, caller, call))
-}
-
-// Whether a call isn't refused for want of memory; of the caller its machine alone is told.
-fn finds_memory(machine: &Machine, caller: &mut Caller, call: Call) -> bool
-    requires { caller.old.machine ≡ machine.now.of }
-    ensures { caller.new.machine ≡ caller.old.machine }
-{
-    !matches!(call_of(machine, caller, call), Err(Refusal::NoMemory))
-}
-
-fn put() -> Call {
-    Call::Put { sem: SemId(0) }
-}
-
-fn get() -> Call {
-    Call::TryGet { sem: SemId(0) }
-}
-
-fn is_done(answer: &Result<Reply, Refusal>) -> bool {
-    matches!(answer, Ok(Reply::Done))
-}
-
-// The kernel for a caller, if the core is free; of a caller that comes back its machine alone is told.
-fn taken(machine: &Machine, caller: Caller) -> Result<Held<'_>, Caller>
-    requires { caller.machine ≡ machine.now.of }
-    ensures { MatchResult result (λ held. held.of.caller.machine ≡ machine.now.of) (λ caller. caller.machine ≡ machine.now.of) }
-{
-    machine.take(caller)
-}
-
-// One call of a caller that has the kernel, of which its machine alone is told.
-fn held_call(held: &mut Held<'_>, call: Call) -> Result<Reply, Refusal>
-    ensures { held.new.of.caller.machine ≡ held.old.of.caller.machine }
-{
-    held.apply(call)
-}
-
-fn is_busy(answer: &Result<Reply, Refusal>) -> bool {
-    matches!(answer, Err(Refusal::CoreBusy))
-}
-
-// Both callers attach out-of-band.
-fn both_attach(machine: &Machine, first: &mut Caller, second: &mut Caller) -> bool
-    requires { (first.old.machine ≡ machine.now.of) × (second.old.machine ≡ machine.now.of) }
-    ensures { (first.new.machine ≡ machine.now.of) × (second.new.machine ≡ machine.now.of) }
-{
-    let one = does(machine, first, attach());
-    let two = does(machine, second, attach());
-    one && two
-}
-
-fn attach() -> Call {
-    Call::Attach {
-        policy: Policy::Fifo(10),
-        stage: Stage::Oob,
-    }
-}
-
-// Whether a caller gets a stax and a mutex; of the caller its machine alone is told.
-fn passes(machine: &Machine, caller: &mut Caller) -> bool
-    requires { caller.old.machine ≡ machine.now.of }
-    ensures { caller.new.machine ≡ caller.old.machine }
-{
-    let stax = machine.try_lock_stax(caller, StaxId(0));
-    let mutex = machine.try_lock_mutex(caller, MutexId(0));
-    stax.is_ok() && mutex.is_ok()
-}
-
-// The first caller has the core for one call, while the second is told that it is busy, and gets a stax and a mutex. None
+// The first caller has the core for one put, while the second is told that it is busy, and gets a stax and a mutex. None
 // where an answer isn't the one that is wanted.
-fn held_row(machine: &Machine, first: Caller, second: &mut Caller) -> Option<Caller>
+fn held_row(
+    machine: &Machine,
+    first: Caller,
+    second: &mut Caller,
+    passes: &mut Passes,
+) -> Option<Caller>
     requires { (first.machine ≡ machine.now.of) × (second.old.machine ≡ machine.now.of) }
     ensures second { second.new.machine ≡ second.old.machine }
     ensures first { IfSome result (λ c. c.machine ≡ machine.now.of) }
@@ -168,116 +79,138 @@ fn held_row(machine: &Machine, first: Caller, second: &mut Caller) -> Option<Cal
     let Ok(mut held) = machine.take(first) else {
         return None;
     };
-    let put_held = held.apply(put());
-    let busy = call_of(machine, second, put());
-    let got = passes(machine, second);
+    let put = held.apply(call_of(Ask::Put(SEM)));
+    let busy = does(machine, second, passes, PUT);
+    let stax = does(machine, second, passes, Act::Enter(StaxId(0)));
+    let mutex = does(machine, second, passes, Act::Lock(MutexId(0)));
     let first = held.give();
-    if is_done(&put_held) && is_busy(&busy) && got {
+    let told = told_by(put) == Told::Done && busy == Told::Refused(Refusal::CoreBusy);
+    if told && stax == Told::Passed && mutex == Told::Passed {
         Some(first)
     } else {
         None
     }
 }
 
-// What both are told once the core is free.
-fn free_row(machine: &Machine, first: &mut Caller, second: &mut Caller) -> bool
-    requires { (first.old.machine ≡ machine.now.of) × (second.old.machine ≡ machine.now.of) }
-    ensures { (first.new.machine ≡ machine.now.of) × (second.new.machine ≡ machine.now.of) }
+// Whether both callers are told so.
+fn is_held_row(machine: &Machine, callers: &mut Vec<Caller>, passes: &mut Passes) -> bool
+    requires { All (λ c. c.machine ≡ machine.now.of) callers.old.items }
+    ensures { All (λ c. c.machine ≡ machine.now.of) callers.new.items }
 {
-    let got = does(machine, second, get());
-    let put_free = does(machine, second, put());
-    let got_too = does(machine, first, get());
-    let again = call_of(machine, first, get());
-    let count = call_of(machine, second, Call::Peek { sem: SemId(0) });
-    got && put_free
-        && got_too
-        && matches!(again, Err(Refusal::Again))
-        && matches!(count, Ok(Reply::Count(0)))
+    let Some(mut second) = last_of(machine, callers) else {
+        return false;
+    };
+    let Some(first) = last_of(machine, callers) else {
+        return false;
+    };
+    match held_row(machine, first, &mut second, passes) {
+        Some(first) => come_back(machine, callers, first, second),
+        None => false,
+    }
+}
+
+// The row, until the core is free again.
+fn is_core_row(machine: &Machine, callers: &mut Vec<Caller>, passes: &mut Passes) -> bool
+    requires { All (λ c. c.machine ≡ machine.now.of) callers.old.items }
+    ensures { All (λ c. c.machine ≡ machine.now.of) callers.new.items }
+{
+    let attached = answers(machine, callers, passes, &BOTH_ATTACH);
+    let held = is_held_row(machine, callers, passes);
+    let free = answers(machine, callers, passes, &ONCE_FREE);
+    attached && held && free
 }
 
 // Row core_held.
 #[test]
-fn core_held(rt: HostRuntime) -> Result<(), Fail> {
-    let Ok((machine, mut first, mut second)) = two_callers(rt.alloc(), 100) else {
-        panic!(rt; "a machine")
+fn core_held(rt: HostRuntime) {
+    let alloc = rt.alloc();
+    let told = match made(alloc, board_of_two(), Vec::new(alloc), 100) {
+        Ok((machine, mut callers)) => is_core_row(&machine, &mut callers, &mut Passes::new(alloc)),
+        Err(_) => false,
     };
-    assert!(rt; both_attach(&machine, &mut first, &mut second));
-    let Some(mut first) = held_row(&machine, first, &mut second) else {
-        panic!(rt; "while the core is held")
+    assert!(rt; told);
+}
+
+// The first caller has the core, and the second doesn't get it; nothing is entered.
+fn is_taken_once(machine: &Machine, callers: &mut Vec<Caller>) -> bool
+    requires { All (λ c. c.machine ≡ machine.now.of) callers.old.items }
+{
+    let (Some(first), Some(second)) = (first_of(machine, callers), first_of(machine, callers))
+    else {
+        return false;
     };
-    assert!(rt; free_row(&machine, &mut first, &mut second));
-    Ok(())
+    match taken(machine, first) {
+        Ok(held) => {
+            let free = taken(machine, second).is_ok();
+            !free && held.kernel().history().is_empty()
+        }
+        Err(_) => false,
+    }
 }
 
 #[test]
-fn held_core_is_not_taken(rt: HostRuntime) -> Result<(), Fail> {
-    let Ok((machine, first, second)) = two_callers(rt.alloc(), 100) else {
-        panic!(rt; "a machine")
+fn held_core_is_not_taken(rt: HostRuntime) {
+    let alloc = rt.alloc();
+    let told = match made(alloc, board_of_two(), Vec::new(alloc), 100) {
+        Ok((machine, mut callers)) => is_taken_once(&machine, &mut callers),
+        Err(_) => false,
     };
-    let Ok(held) = taken(&machine, first) else {
-        panic!(rt; "the core is free")
-    };
-    assert!(rt; taken(&machine, second).is_err());
-    assert!(rt; held.kernel().history().is_empty());
-    Ok(())
+    assert!(rt; told);
 }
 
 #[test]
 fn machine_has_a_range(rt: HostRuntime) {
-    assert!(rt; matches!(two_callers(rt.alloc(), 0), Err(Refusal::Range)));
-    assert!(rt; matches!(two_callers(rt.alloc(), 1_000_001), Err(Refusal::Range)));
+    let alloc = rt.alloc();
+    for limit in [0, 1_000_001] {
+        let refusal = made(alloc, board_of_two(), Vec::new(alloc), limit).err();
+        assert!(rt; refusal == Some(Refusal::Range));
+    }
 }
 
+// The second caller's put is the last one that the history has room for, also for a caller that takes the kernel.
 #[test]
-fn full_history_behind_the_core(rt: HostRuntime) -> Result<(), Fail> {
-    let Ok((machine, first, mut second)) = two_callers(rt.alloc(), 1) else {
+fn full_history_behind_the_core(rt: HostRuntime) {
+    let alloc = rt.alloc();
+    let full = Told::Refused(Refusal::HistoryFull);
+    let Ok((machine, mut callers)) = made(alloc, board_of_two(), Vec::new(alloc), 1) else {
         panic!(rt; "a machine")
     };
-    let done = call_of(&machine, &mut second, put());
-    let full = call_of(&machine, &mut second, put());
-    assert!(rt; is_done(&done) && matches!(full, Err(Refusal::HistoryFull)));
+    let steps = [(1, PUT, Told::Done), (1, PUT, full)];
+    assert!(rt; answers(&machine, &mut callers, &mut Passes::new(alloc), &steps));
+    let Some(first) = first_of(&machine, &mut callers) else {
+        panic!(rt; "the first caller")
+    };
     let Ok(mut held) = taken(&machine, first) else {
         panic!(rt; "the core is free")
     };
-    let full = held_call(&mut held, put());
-    assert!(rt; matches!(full, Err(Refusal::HistoryFull)));
+    assert!(rt; held_answers(&mut held, Ask::Put(SEM), full));
     assert!(rt; held.kernel().history().len() == 1);
-    Ok(())
 }
 
 // With ample memory no call of a semaphore or of a stage's stall is refused for want of it.
 #[test]
-fn calls_find_memory(rt: HostRuntime) -> Result<(), Fail> {
-    let Ok((machine, mut first, _second)) = two_callers(rt.alloc(), 100) else {
-        panic!(rt; "a machine")
-    };
-    let put = does(&machine, &mut first, put());
-    let count = finds_memory(&machine, &mut first, Call::Peek { sem: SemId(0) });
-    let got = does(&machine, &mut first, get());
+fn calls_find_memory(rt: HostRuntime) {
     let stage = Stage::Oob;
-    let stall = does(&machine, &mut first, Call::Stall { stage });
-    let unstall = does(&machine, &mut first, Call::Unstall { stage });
-    assert!(rt; put && count && got && stall && unstall);
-    Ok(())
+    let steps = [
+        (0, PUT, Told::Done),
+        (0, Act::Call(Ask::Peek(SEM)), Told::Count(1)),
+        (0, GET, Told::Done),
+        (0, Act::Call(Ask::Stall(stage)), Told::Done),
+        (0, Act::Call(Ask::Unstall(stage)), Told::Done),
+    ];
+    assert!(rt; is_row(rt.alloc(), board_of_two(), 100, &[(1, &steps)]));
 }
 
-// The same of the calls of a line.
+// The same of the calls of a line: there is no callback for it, so nothing stands there to be freed or to be posted.
 #[test]
-fn calls_of_lines_find_memory(rt: HostRuntime) -> Result<(), Fail> {
-    let Ok((machine, mut first, _second)) = two_callers(rt.alloc(), 100) else {
-        panic!(rt; "a machine")
-    };
+fn calls_of_lines_find_memory(rt: HostRuntime) {
     let (line, stage) = (LineNo(8), Stage::Oob);
-    let request = Call::Request {
-        line,
-        stage,
-        callback: 0,
-        tag: 0,
-    };
-    let request = finds_memory(&machine, &mut first, request);
-    let free = finds_memory(&machine, &mut first, Call::Free { line, stage });
-    let post = finds_memory(&machine, &mut first, Call::Post { stage, line });
-    let arrive = finds_memory(&machine, &mut first, Call::Arrive { line });
-    assert!(rt; request && free && post && arrive);
-    Ok(())
+    let unknown = Told::Refused(Refusal::Unknown);
+    let steps = [
+        (0, Act::Call(Ask::Request(line, stage)), unknown),
+        (0, Act::Call(Ask::Free(line, stage)), unknown),
+        (0, Act::Call(Ask::Post(stage, line)), Told::Done),
+        (0, Act::Call(Ask::Arrive(line)), Told::Done),
+    ];
+    assert!(rt; is_row(rt.alloc(), board_of_two(), 100, &[(1, &steps)]));
 }

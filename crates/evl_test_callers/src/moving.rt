@@ -1,7 +1,6 @@
 //! Words are shared by host threads, and seats move from one to another.
 use evl_base::{MutexId, StaxId};
 use evl_words::{MutexSeat, MutexWord, StaxGate, StaxSeat};
-use std::test::Fail;
 
 fn moved<T: Send>(value: T) -> T {
     value
@@ -27,19 +26,36 @@ fn shared_word(word: &MutexWord) -> bool {
     shared(word)
 }
 
+fn stax_seat_moves(seats: &mut Vec<StaxSeat>) -> bool {
+    match seats.pop() {
+        Some(seat) => {
+            let _seat = moved_stax_seat(seat);
+            true
+        }
+        None => false,
+    }
+}
+
+fn mutex_seat_moves(seats: &mut Vec<MutexSeat>) -> bool {
+    match seats.pop() {
+        Some(seat) => {
+            let _seat = moved_mutex_seat(seat);
+            true
+        }
+        None => false,
+    }
+}
+
 #[test]
-fn words_are_shared_and_seats_move(rt: HostRuntime) -> Result<(), Fail> {
-    let Ok((gate, mut seats)) = StaxGate::new(rt.alloc(), StaxId(0), 1, 1) else {
-        panic!(rt; "no gate")
+fn words_are_shared_and_seats_move(rt: HostRuntime) {
+    let of_gate = match StaxGate::new(rt.alloc(), StaxId(0), 1, 1) {
+        Ok((gate, mut seats)) => stax_seat_moves(&mut seats) && shared_gate(&gate),
+        Err(_) => false,
     };
-    let seat = seats.pop().ok_or("no seat")?;
-    let _seat = moved_stax_seat(seat);
-    assert!(rt; shared_gate(&gate));
-    let Ok((word, mut seats)) = MutexWord::new(rt.alloc(), MutexId(0), false, 1) else {
-        panic!(rt; "no mutex word")
+    assert!(rt; of_gate);
+    let of_word = match MutexWord::new(rt.alloc(), MutexId(0), false, 1) {
+        Ok((word, mut seats)) => mutex_seat_moves(&mut seats) && shared_word(&word),
+        Err(_) => false,
     };
-    let seat = seats.pop().ok_or("no seat")?;
-    let _seat = moved_mutex_seat(seat);
-    assert!(rt; shared_word(&word));
-    Ok(())
+    assert!(rt; of_word);
 }

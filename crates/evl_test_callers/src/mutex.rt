@@ -1,5 +1,5 @@
 //! The mutex word's rows.
-ghost use Rattle.std.specs.Prelude.{◌≡◌, ◌<◌, true, All, vec_len, IfOk};
+ghost use Rattle.std.specs.Prelude.{◌≡◌, ◌<◌, true, All, IfOk, IfSome, length};
 ghost use Rattle.evl_words.specs.MutexCalls.{IsPassOf, IsSeatOf, IsSameSeat};
 
 mod making;
@@ -7,52 +7,75 @@ mod making;
 use evl_base::{MutexId, Refusal, ThreadId};
 use evl_words::{Claim, MutexPass, MutexSeat, MutexWord, Unlock};
 use std::alloc::Global;
-use std::test::Fail;
 
-fn made(alloc: Global, recursive: bool, seats: u16) -> Result<(MutexWord, Vec<MutexSeat>), Fail>
+fn made(alloc: Global, recursive: bool, seats: u16) -> Result<(MutexWord, Vec<MutexSeat>), Refusal>
     ensures { IfOk result (λ made. (made.0.seats ≡ seats) × All (λ seat. IsSeatOf seat made.0) made.1.items) }
 {
     match MutexWord::new(alloc, MutexId(0), recursive, seats) {
         Ok(made) => Ok(made),
-        Err(_) => Err("no mutex word")?,
+        Err(refusal) => Err(refusal),
     }
 }
 
-// The last seat that is left.
-fn last_seat(word: &MutexWord, seats: &mut Vec<MutexSeat>) -> Result<MutexSeat, Fail>
-    requires { All (λ seat. IsSeatOf seat word.now) seats.old.items }
-    ensures seat { IfOk result (λ seat. IsSeatOf seat word.now) }
-    ensures rest { All (λ seat. IsSeatOf seat word.now) seats.new.items }
-{
-    match seats.pop() {
-        Some(seat) => Ok(seat),
-        None => Err("no seat")?,
+// What a seat does. The pass that it spends is the one that came last.
+#[derive(Clone, Copy)]
+enum Act {
+    Try,
+    Unlock,
+    Claim,
+    // Claims, and settles at once where it has won.
+    Win,
+    Offer(u16, bool),
+    Free,
+    Accept,
+    Forget,
+    SeeOffer,
+}
+
+// What it is told.
+#[derive(Clone, Copy, PartialEq)]
+enum Told {
+    Passed,
+    Refused(Refusal),
+    Done,
+    Claimed,
+    Found(Claim),
+    Offered(bool),
+    Nothing,
+}
+
+// A step of a row: by which seat, what it does, and what it is told.
+type Step = (u16, Act, Told);
+
+// A pass that came is the last one.
+fn passed(passes: &mut Vec<MutexPass>, answer: Result<MutexPass, Refusal>) -> Told {
+    match answer {
+        Ok(pass) => match passes.push(pass) {
+            Ok(()) => Told::Passed,
+            Err(_) => Told::Nothing,
+        },
+        Err(refusal) => Told::Refused(refusal),
     }
 }
 
-// The owner's unlocking, which gives the mutex up.
-fn unlock(word: &MutexWord, seat: &mut MutexSeat, pass: MutexPass) -> Result<(), Fail>
+fn came_back(passes: &mut Vec<MutexPass>, pass: MutexPass, told: Told) -> Told {
+    match passes.push(pass) {
+        Ok(()) => told,
+        Err(_) => Told::Nothing,
+    }
+}
+
+fn unlock(word: &MutexWord, seat: &mut MutexSeat, passes: &mut Vec<MutexPass>) -> Told
     requires { IsSeatOf seat.old word.now }
     ensures { IsSameSeat seat.old seat.new }
 {
+    let Some(pass) = passes.pop() else {
+        return Told::Nothing;
+    };
     match word.unlock(seat, pass) {
-        Ok(Unlock::Done) => Ok(()),
-        _ => Err("not unlocked")?,
-    }
-}
-
-// The owner's unlocking of a claimed mutex, which it keeps.
-fn unlock_claimed(
-    word: &MutexWord,
-    seat: &mut MutexSeat,
-    pass: MutexPass,
-) -> Result<MutexPass, Fail>
-    requires { IsSeatOf seat.old word.now }
-    ensures { IsSameSeat seat.old seat.new }
-{
-    match word.unlock(seat, pass) {
-        Ok(Unlock::Claimed(pass)) => Ok(pass),
-        _ => Err("not claimed")?,
+        Ok(Unlock::Done) => Told::Done,
+        Ok(Unlock::Claimed(pass)) => came_back(passes, pass, Told::Claimed),
+        Err((refusal, pass)) => came_back(passes, pass, Told::Refused(refusal)),
     }
 }
 
@@ -65,169 +88,240 @@ fn holds_once(seat: &MutexSeat, pass: &MutexPass) -> bool
 
 fn offer(
     word: &MutexWord,
+    count: u16,
     seat: &mut MutexSeat,
-    pass: MutexPass,
+    pass: Option<MutexPass>,
     next: u16,
     more: bool,
-) -> Result<(), Fail>
+) -> Told
     requires mine { IsSeatOf seat.old word.now }
-    requires three { word.now.seats ≡ 3 }
+    requires count { word.now.seats ≡ count }
     ensures { IsSameSeat seat.old seat.new }
 {
-    if next >= 3 || !holds_once(seat, &pass) {
-        Err("no offer")?;
+    match pass {
+        Some(pass) if next < count && holds_once(seat, &pass) => {
+            word.offer(seat, pass, ThreadId(next), more);
+            Told::Done
+        }
+        _ => Told::Nothing,
     }
-    word.offer(seat, pass, ThreadId(next), more);
-    Ok(())
 }
 
-fn free(word: &MutexWord, seat: &mut MutexSeat, pass: MutexPass) -> Result<(), Fail>
+fn free(word: &MutexWord, seat: &mut MutexSeat, pass: Option<MutexPass>) -> Told
     requires { IsSeatOf seat.old word.now }
     ensures { IsSameSeat seat.old seat.new }
 {
-    if !holds_once(seat, &pass) {
-        Err("no owner")?;
+    match pass {
+        Some(pass) if holds_once(seat, &pass) => {
+            word.free(seat, pass);
+            Told::Done
+        }
+        _ => Told::Nothing,
     }
-    word.free(seat, pass);
-    Ok(())
 }
 
-/// A step of a row: by which of three seats.
-#[derive(Clone, Copy)]
-enum Act {
-    Try(usize),
-    Unlock(usize),
-    Keep(usize),
-    Claim(usize),
-    Win(usize),
-    Offer(usize, u16, bool),
-    Free(usize),
-    Accept(usize),
-}
-
-// What one seat does. It has its pass before and after, if it holds the mutex.
-fn one_step(
-    word: &MutexWord,
-    seat: &mut MutexSeat,
-    held: Option<MutexPass>,
-    step: Act,
-) -> Result<Option<MutexPass>, Fail>
-    requires mine { IsSeatOf seat.old word.now }
-    requires three { word.now.seats ≡ 3 }
+fn win(word: &MutexWord, seat: &mut MutexSeat, passes: &mut Vec<MutexPass>) -> Told
+    requires { IsSeatOf seat.old word.now }
     ensures { IsSameSeat seat.old seat.new }
 {
-    match step {
-        Act::Try(_) => Ok(Some(word.try_lock(seat).ok().ok_or("busy")?)),
-        Act::Claim(_) => {
-            let _found = word.claim(seat);
-            Ok(held)
-        }
-        Act::Win(_) => match word.claim(seat) {
-            Claim::Won => Ok(Some(word.settle(seat))),
-            _ => Err("not won")?,
-        },
-        Act::Accept(_) => Ok(Some(word.accept(seat).ok().ok_or("no offer")?)),
-        Act::Unlock(_) => {
-            unlock(word, seat, held.ok_or("no pass")?)?;
-            Ok(None)
-        }
-        Act::Keep(_) => Ok(Some(unlock_claimed(word, seat, held.ok_or("no pass")?)?)),
-        Act::Offer(_, next, more) => {
-            offer(word, seat, held.ok_or("no pass")?, next, more)?;
-            Ok(None)
-        }
-        Act::Free(_) => {
-            free(word, seat, held.ok_or("no pass")?)?;
-            Ok(None)
-        }
+    match word.claim(seat) {
+        Claim::Won => passed(passes, Ok(word.settle(seat))),
+        found => Told::Found(found),
     }
 }
 
-fn make(
+fn forget(word: &MutexWord, seat: &mut MutexSeat) -> Told
+    requires { IsSeatOf seat.old word.now }
+    ensures { IsSameSeat seat.old seat.new }
+{
+    match word.forget(seat) {
+        Ok(()) => Told::Done,
+        Err(refusal) => Told::Refused(refusal),
+    }
+}
+
+// What one seat of so many is told.
+fn one_step(
     word: &MutexWord,
+    count: u16,
+    seat: &mut MutexSeat,
+    passes: &mut Vec<MutexPass>,
+    act: Act,
+) -> Told
+    requires mine { IsSeatOf seat.old word.now }
+    requires count { word.now.seats ≡ count }
+    ensures { IsSameSeat seat.old seat.new }
+{
+    match act {
+        Act::Try => passed(passes, word.try_lock(seat)),
+        Act::Accept => passed(passes, word.accept(seat)),
+        Act::Claim => Told::Found(word.claim(seat)),
+        Act::SeeOffer => Told::Offered(word.seen_offer(seat)),
+        Act::Win => win(word, seat, passes),
+        Act::Forget => forget(word, seat),
+        Act::Unlock => unlock(word, seat, passes),
+        Act::Offer(next, more) => offer(word, count, seat, passes.pop(), next, more),
+        Act::Free => free(word, seat, passes.pop()),
+    }
+}
+
+// Where the seat of this number is.
+fn place_of(seats: &[MutexSeat], number: u16) -> Option<usize>
+    ensures { IfSome result (λ place. place < length seats.now) }
+{
+    seats.iter().position(|seat| seat.number() == number)
+}
+
+// What the seat of this number is told.
+fn answer(
+    word: &MutexWord,
+    count: u16,
     seats: &mut Vec<MutexSeat>,
-    passes: &mut [Option<MutexPass>; 3],
-    step: Act,
-) -> Result<(), Fail>
-    requires three { word.now.seats ≡ 3 }
-    requires len { vec_len seats.old ≡ 3 }
+    passes: &mut Vec<MutexPass>,
+    number: u16,
+    act: Act,
+) -> Told
+    requires count { word.now.seats ≡ count }
     requires mine { All (λ seat. IsSeatOf seat word.now) seats.old.items }
-    ensures len { vec_len seats.new ≡ 3 }
     ensures mine { All (λ seat. IsSeatOf seat word.now) seats.new.items }
 {
-    let (Act::Try(k)
-    | Act::Unlock(k)
-    | Act::Keep(k)
-    | Act::Claim(k)
-    | Act::Win(k)
-    | Act::Offer(k, _, _)
-    | Act::Free(k)
-    | Act::Accept(k)) = step;
-    if k >= 3 {
-        Err("no seat")?;
+    match place_of(seats, number) {
+        Some(place) => one_step(word, count, &mut seats[place], passes, act),
+        None => Told::Nothing,
     }
-    let held = passes[k].take();
-    let seat = &mut seats[k];
-    let done = one_step(word, seat, held, step);
-    passes[k] = done?;
-    Ok(())
 }
 
-// The word at which a mutex of three seats stands once the steps were made.
-fn word_after(alloc: Global, steps: &[Act]) -> Result<u64, Fail> {
-    let (word, mut seats) = made(alloc, false, 3)?;
-    if seats.len() != 3 {
-        Err("no three seats")?;
+// Whether each step is answered as it is wanted.
+fn answers(
+    word: &MutexWord,
+    count: u16,
+    seats: &mut Vec<MutexSeat>,
+    passes: &mut Vec<MutexPass>,
+    steps: &[Step],
+) -> bool
+    requires count { word.now.seats ≡ count }
+    requires mine { All (λ seat. IsSeatOf seat word.now) seats.old.items }
+    ensures mine { All (λ seat. IsSeatOf seat word.now) seats.new.items }
+{
+    for (number, act, wanted) in steps {
+        if answer(word, count, seats, passes, *number, *act) != *wanted {
+            return false;
+        }
     }
-    let mut passes = [None, None, None];
-    for step in steps {
-        make(&word, &mut seats, &mut passes, *step)?;
+    true
+}
+
+// A round of a row: how often its steps are made.
+type Round<'a> = (u16, &'a [Step]);
+
+// The same of the steps so often.
+fn round_answers(
+    word: &MutexWord,
+    count: u16,
+    seats: &mut Vec<MutexSeat>,
+    passes: &mut Vec<MutexPass>,
+    round: &Round<'_>,
+) -> bool
+    requires count { word.now.seats ≡ count }
+    requires mine { All (λ seat. IsSeatOf seat word.now) seats.old.items }
+    ensures mine { All (λ seat. IsSeatOf seat word.now) seats.new.items }
+{
+    for _ in 0..round.0 {
+        if !answers(word, count, seats, passes, round.1) {
+            return false;
+        }
     }
-    Ok(word.close(seats))
+    true
+}
+
+// The same of one round after another.
+fn all_answer(
+    word: &MutexWord,
+    count: u16,
+    seats: &mut Vec<MutexSeat>,
+    passes: &mut Vec<MutexPass>,
+    rounds: &[Round<'_>],
+) -> bool
+    requires count { word.now.seats ≡ count }
+    requires mine { All (λ seat. IsSeatOf seat word.now) seats.old.items }
+    ensures mine { All (λ seat. IsSeatOf seat word.now) seats.new.items }
+{
+    for round in rounds {
+        if !round_answers(word, count, seats, passes, round) {
+            return false;
+        }
+    }
+    true
+}
+
+// The word at which a mutex of so many seats stands once the rounds were made; none where a step isn't answered as it is
+// wanted.
+fn word_after(alloc: Global, recursive: bool, count: u16, rounds: &[Round<'_>]) -> Option<u64> {
+    match made(alloc, recursive, count) {
+        Ok((word, mut seats)) => {
+            if all_answer(&word, count, &mut seats, &mut Vec::new(alloc), rounds) {
+                Some(word.close(seats))
+            } else {
+                None
+            }
+        }
+        Err(_) => None,
+    }
+}
+
+// The same of a mutex of three seats that doesn't nest, whose steps are made once.
+fn word_of_three(alloc: Global, steps: &[Step]) -> Option<u64> {
+    word_after(alloc, false, 3, &[(1, steps)])
 }
 
 // Whether the word is the one that is wanted after so many of the steps, each time from the beginning.
-fn words_are(alloc: Global, steps: &[Act], wanted: &[(usize, u64)]) -> Result<bool, Fail> {
+fn words_are(alloc: Global, steps: &[Step], wanted: &[(usize, u64)]) -> bool {
     for (count, word) in wanted {
-        let some = steps.get(..*count).ok_or("no such step")?;
-        if word_after(alloc, some)? != *word {
-            return Ok(false);
+        let Some(some) = steps.get(..*count) else {
+            return false;
+        };
+        if word_of_three(alloc, some) != Some(*word) {
+            return false;
         }
     }
-    Ok(true)
+    true
 }
 
 // Row mutex_word_claim: the words.
 #[test]
-fn a_claim_wins_a_free_mutex(rt: HostRuntime) -> Result<(), Fail> {
-    let steps = [Act::Try(0), Act::Unlock(0), Act::Claim(1)];
-    assert!(rt; word_after(rt.alloc(), &steps)? == 2147483648);
+fn a_claim_wins_a_free_mutex(rt: HostRuntime) {
     let steps = [
-        Act::Try(0),
-        Act::Unlock(0),
-        Act::Win(1),
-        Act::Unlock(1),
-        Act::Try(2),
+        (0, Act::Try, Told::Passed),
+        (0, Act::Unlock, Told::Done),
+        (1, Act::Claim, Told::Found(Claim::Won)),
+    ];
+    assert!(rt; word_of_three(rt.alloc(), &steps) == Some(2147483648));
+    let steps = [
+        (0, Act::Try, Told::Passed),
+        (0, Act::Unlock, Told::Done),
+        (1, Act::Win, Told::Passed),
+        (1, Act::Unlock, Told::Done),
+        (2, Act::Try, Told::Passed),
     ];
     let words = [(3, 2), (4, 0), (5, 3)];
-    assert!(rt; words_are(rt.alloc(), &steps, &words)?);
-    Ok(())
+    assert!(rt; words_are(rt.alloc(), &steps, &words));
 }
 
 // Row mutex_word_1: the words.
 #[test]
-fn a_claimed_mutex_is_handed_on(rt: HostRuntime) -> Result<(), Fail> {
+fn a_claimed_mutex_is_handed_on(rt: HostRuntime) {
+    let queued = Told::Found(Claim::Queued(ThreadId(0)));
     let steps = [
-        Act::Try(0),
-        Act::Claim(1),
-        Act::Claim(2),
-        Act::Keep(0),
-        Act::Offer(0, 1, true),
-        Act::Accept(1),
-        Act::Keep(1),
-        Act::Offer(1, 2, false),
-        Act::Accept(2),
-        Act::Unlock(2),
+        (0, Act::Try, Told::Passed),
+        (1, Act::Claim, queued),
+        (2, Act::Claim, queued),
+        (0, Act::Unlock, Told::Claimed),
+        (0, Act::Offer(1, true), Told::Done),
+        (1, Act::Accept, Told::Passed),
+        (1, Act::Unlock, Told::Claimed),
+        (1, Act::Offer(2, false), Told::Done),
+        (2, Act::Accept, Told::Passed),
+        (2, Act::Unlock, Told::Done),
     ];
     let words = [
         (1, 1),
@@ -238,239 +332,154 @@ fn a_claimed_mutex_is_handed_on(rt: HostRuntime) -> Result<(), Fail> {
         (9, 3),
         (10, 0),
     ];
-    assert!(rt; words_are(rt.alloc(), &steps, &words)?);
-    Ok(())
+    assert!(rt; words_are(rt.alloc(), &steps, &words));
 }
 
 // Row mutex_word_2: the word.
 #[test]
-fn a_freed_mutex_is_free(rt: HostRuntime) -> Result<(), Fail> {
-    let steps = [Act::Try(0), Act::Claim(1), Act::Keep(0), Act::Free(0)];
-    assert!(rt; word_after(rt.alloc(), &steps)? == 0);
-    Ok(())
+fn a_freed_mutex_is_free(rt: HostRuntime) {
+    let steps = [
+        (0, Act::Try, Told::Passed),
+        (1, Act::Claim, Told::Found(Claim::Queued(ThreadId(0)))),
+        (0, Act::Unlock, Told::Claimed),
+        (0, Act::Free, Told::Done),
+    ];
+    assert!(rt; word_of_three(rt.alloc(), &steps) == Some(0));
 }
 
-// Row mutex_word_claim, from the claim on: seat 1 wins, seat 2 comes too late, and seat 1 settles.
-fn win_and_settle(
-    word: &MutexWord,
-    one: &mut MutexSeat,
-    two: &mut MutexSeat,
-) -> Result<(Option<Refusal>, Claim), Fail>
-    requires one { IsSeatOf one.old word.now }
-    requires two { IsSeatOf two.old word.now }
-    ensures one { IsSameSeat one.old one.new }
-    ensures two { IsSameSeat two.old two.new }
+// Whether there is room for a seat that was away.
+fn comes_back(word: &MutexWord, seats: &mut Vec<MutexSeat>, seat: MutexSeat) -> bool
+    requires mine { All (λ seat. IsSeatOf seat word.now) seats.old.items }
+    requires away { IsSeatOf seat word.now }
+    ensures mine { All (λ seat. IsSeatOf seat word.now) seats.new.items }
 {
-    let Claim::Won = word.claim(one) else {
-        return Ok((None, Claim::Won));
+    seats.push(seat).is_ok()
+}
+
+// A seat claims a free mutex, and settles only once the others' steps are answered as they are wanted.
+fn wins_around(
+    word: &MutexWord,
+    count: u16,
+    seats: &mut Vec<MutexSeat>,
+    passes: &mut Vec<MutexPass>,
+    number: u16,
+    between: &[Step],
+) -> bool
+    requires count { word.now.seats ≡ count }
+    requires mine { All (λ seat. IsSeatOf seat word.now) seats.old.items }
+    ensures mine { All (λ seat. IsSeatOf seat word.now) seats.new.items }
+{
+    let Some(place) = place_of(seats, number) else {
+        return false;
     };
-    let busy = word.try_lock(two).err();
-    let found = word.claim(two);
-    let pass = word.settle(one);
-    unlock(word, one, pass)?;
-    Ok((busy, found))
+    let mut winner = seats.remove(place);
+    match word.claim(&mut winner) {
+        Claim::Won => {
+            let told = answers(word, count, seats, passes, between);
+            let settled = passed(passes, Ok(word.settle(&mut winner)));
+            let back = comes_back(word, seats, winner);
+            told && back && settled == Told::Passed
+        }
+        _ => false,
+    }
 }
 
-// Row mutex_word_claim: what the calls answer.
-fn claim_row(
-    word: &MutexWord,
-    zero: &mut MutexSeat,
-    one: &mut MutexSeat,
-    two: &mut MutexSeat,
-) -> Result<(Option<Refusal>, Option<Refusal>, Claim, bool), Fail>
-    requires zero { IsSeatOf zero.old word.now }
-    requires one { IsSeatOf one.old word.now }
-    requires two { IsSeatOf two.old word.now }
+// Row mutex_word_claim: what the calls answer. Seat 1 wins, and seat 2 comes too late.
+fn claim_row(word: &MutexWord, seats: &mut Vec<MutexSeat>, passes: &mut Vec<MutexPass>) -> bool
+    requires count { word.now.seats ≡ 3 }
+    requires mine { All (λ seat. IsSeatOf seat word.now) seats.old.items }
 {
-    let pass = word.try_lock(zero).ok().ok_or("0")?;
-    let busy = word.try_lock(one).err();
-    unlock(word, zero, pass)?;
-    let (late, found) = win_and_settle(word, one, two)?;
-    let last = word.try_lock(two).is_ok();
-    Ok((busy, late, found, last))
+    let before = [
+        (0, Act::Try, Told::Passed),
+        (1, Act::Try, Told::Refused(Refusal::Busy)),
+        (0, Act::Unlock, Told::Done),
+    ];
+    let between = [
+        (2, Act::Try, Told::Refused(Refusal::Busy)),
+        (2, Act::Claim, Told::Found(Claim::Seizing)),
+    ];
+    let after = [(1, Act::Unlock, Told::Done), (2, Act::Try, Told::Passed)];
+    let free = answers(word, 3, seats, passes, &before);
+    let won = wins_around(word, 3, seats, passes, 1, &between);
+    let late = answers(word, 3, seats, passes, &after);
+    free && won && late
 }
 
 #[test]
-fn a_claim_that_wins_settles(rt: HostRuntime) -> Result<(), Fail> {
-    let (word, mut seats) = made(rt.alloc(), false, 3)?;
-    let mut two = last_seat(&word, &mut seats)?;
-    let mut one = last_seat(&word, &mut seats)?;
-    let mut zero = last_seat(&word, &mut seats)?;
-    let (busy, late, found, last) = claim_row(&word, &mut zero, &mut one, &mut two)?;
-    assert!(rt; busy == Some(Refusal::Busy));
-    assert!(rt; late == Some(Refusal::Busy));
-    assert!(rt; found == Claim::Seizing);
-    assert!(rt; last);
-    Ok(())
+fn a_claim_that_wins_settles(rt: HostRuntime) {
+    let told = match made(rt.alloc(), false, 3) {
+        Ok((word, mut seats)) => claim_row(&word, &mut seats, &mut Vec::new(rt.alloc())),
+        Err(_) => false,
+    };
+    assert!(rt; told);
 }
 
-// Row mutex_word_1, to the first offer: what seats 1 and 2 are told.
-fn queue_row(
-    word: &MutexWord,
-    zero: &mut MutexSeat,
-    one: &mut MutexSeat,
-    two: &mut MutexSeat,
-) -> Result<(Claim, Claim, Option<Refusal>), Fail>
-    requires three { word.now.seats ≡ 3 }
-    requires zero { IsSeatOf zero.old word.now }
-    requires one { IsSeatOf one.old word.now }
-    requires two { IsSeatOf two.old word.now }
-    ensures zero { IsSameSeat zero.old zero.new }
-    ensures one { IsSameSeat one.old one.new }
-    ensures two { IsSameSeat two.old two.new }
-{
-    let pass = word.try_lock(zero).ok().ok_or("0")?;
-    let first = word.claim(one);
-    let second = word.claim(two);
-    let pass = unlock_claimed(word, zero, pass)?;
-    let again = word.accept(one).err();
-    offer(word, zero, pass, 1, true)?;
-    Ok((first, second, again))
-}
-
-// Row mutex_word_1, from the first offer on.
-fn offer_row(
-    word: &MutexWord,
-    one: &mut MutexSeat,
-    two: &mut MutexSeat,
-) -> Result<(bool, bool, Option<Refusal>), Fail>
-    requires three { word.now.seats ≡ 3 }
-    requires one { IsSeatOf one.old word.now }
-    requires two { IsSeatOf two.old word.now }
-{
-    let second = word.seen_offer(two);
-    let first = word.seen_offer(one);
-    let kept = word.forget(one).err();
-    let pass = word.accept(one).ok().ok_or("1")?;
-    let pass = unlock_claimed(word, one, pass)?;
-    offer(word, one, pass, 2, false)?;
-    let pass = word.accept(two).ok().ok_or("2")?;
-    unlock(word, two, pass)?;
-    Ok((second, first, kept))
-}
-
+// Row mutex_word_1: what seats 1 and 2 are told.
 #[test]
-fn an_offer_is_for_one_seat(rt: HostRuntime) -> Result<(), Fail> {
-    let (word, mut seats) = made(rt.alloc(), false, 3)?;
-    let mut two = last_seat(&word, &mut seats)?;
-    let mut one = last_seat(&word, &mut seats)?;
-    let mut zero = last_seat(&word, &mut seats)?;
-    let (first, second, again) = queue_row(&word, &mut zero, &mut one, &mut two)?;
-    assert!(rt; first == Claim::Queued(ThreadId(0)));
-    assert!(rt; second == Claim::Queued(ThreadId(0)));
-    assert!(rt; again == Some(Refusal::Again));
-    let (other, offered, kept) = offer_row(&word, &mut one, &mut two)?;
-    assert!(rt; !other && offered);
-    assert!(rt; kept == Some(Refusal::Busy));
-    Ok(())
+fn an_offer_is_for_one_seat(rt: HostRuntime) {
+    let queued = Told::Found(Claim::Queued(ThreadId(0)));
+    let steps = [
+        (0, Act::Try, Told::Passed),
+        (1, Act::Claim, queued),
+        (2, Act::Claim, queued),
+        (0, Act::Unlock, Told::Claimed),
+        (1, Act::Accept, Told::Refused(Refusal::Again)),
+        (0, Act::Offer(1, true), Told::Done),
+        (2, Act::SeeOffer, Told::Offered(false)),
+        (1, Act::SeeOffer, Told::Offered(true)),
+        (1, Act::Forget, Told::Refused(Refusal::Busy)),
+        (1, Act::Accept, Told::Passed),
+        (1, Act::Unlock, Told::Claimed),
+        (1, Act::Offer(2, false), Told::Done),
+        (2, Act::Accept, Told::Passed),
+        (2, Act::Unlock, Told::Done),
+    ];
+    assert!(rt; word_of_three(rt.alloc(), &steps).is_some());
 }
 
 // Row mutex_word_2: what the calls answer.
-fn forget_row(word: &MutexWord, zero: &mut MutexSeat, one: &mut MutexSeat) -> Result<bool, Fail>
-    requires zero { IsSeatOf zero.old word.now }
-    requires one { IsSeatOf one.old word.now }
-{
-    let pass = word.try_lock(zero).ok().ok_or("0")?;
-    let _found = word.claim(one);
-    let forgot = word.forget(one).is_ok();
-    let pass = unlock_claimed(word, zero, pass)?;
-    free(word, zero, pass)?;
-    Ok(forgot)
-}
-
 #[test]
-fn a_seat_may_wait_no_more(rt: HostRuntime) -> Result<(), Fail> {
-    let (word, mut seats) = made(rt.alloc(), false, 2)?;
-    let mut one = last_seat(&word, &mut seats)?;
-    let mut zero = last_seat(&word, &mut seats)?;
-    assert!(rt; forget_row(&word, &mut zero, &mut one)?);
-    Ok(())
+fn a_seat_may_wait_no_more(rt: HostRuntime) {
+    let steps = [
+        (0, Act::Try, Told::Passed),
+        (1, Act::Claim, Told::Found(Claim::Queued(ThreadId(0)))),
+        (1, Act::Forget, Told::Done),
+        (0, Act::Unlock, Told::Claimed),
+        (0, Act::Free, Told::Done),
+    ];
+    assert!(rt; word_after(rt.alloc(), false, 2, &[(1, &steps)]).is_some());
 }
 
-// Tries until one is refused, with the passes.
-fn nest(
-    word: &MutexWord,
-    seat: &mut MutexSeat,
-    passes: &mut Vec<MutexPass>,
-) -> Result<Option<Refusal>, Fail>
-    requires { IsSeatOf seat.old word.now }
-    ensures { IsSameSeat seat.old seat.new }
-{
-    for _ in 0u16..1000 {
-        match word.try_lock(seat) {
-            Ok(pass) => passes.push(pass)?,
-            Err(refusal) => return Ok(Some(refusal)),
-        }
-    }
-    Ok(None)
-}
+const ONE_TRY: [Step; 1] = [(0, Act::Try, Told::Passed)];
 
-fn unnest(
-    word: &MutexWord,
-    seat: &mut MutexSeat,
-    passes: &mut Vec<MutexPass>,
-    times: u16,
-) -> Result<(), Fail>
-    requires { IsSeatOf seat.old word.now }
-    ensures { IsSameSeat seat.old seat.new }
-{
-    for _ in 0..times {
-        let pass = passes.pop().ok_or("no pass")?;
-        unlock(word, seat, pass)?;
-    }
-    Ok(())
-}
+const ONE_UNLOCKING: [Step; 1] = [(0, Act::Unlock, Told::Done)];
 
 // Row mutex_word_3.
 #[test]
-fn a_recursive_mutex_nests(rt: HostRuntime) -> Result<(), Fail> {
+fn a_recursive_mutex_nests(rt: HostRuntime) {
     for (recursive, want, count) in [(false, Refusal::Deadlock, 1), (true, Refusal::Limit, 255)] {
-        let (word, mut seats) = made(rt.alloc(), recursive, 1)?;
-        let mut seat = last_seat(&word, &mut seats)?;
-        let mut passes = Vec::new(rt.alloc());
-        assert!(rt; nest(&word, &mut seat, &mut passes)? == Some(want));
-        assert!(rt; passes.len() == count);
+        let refused = [(0, Act::Try, Told::Refused(want))];
+        let rounds: [Round<'_>; 2] = [(count, &ONE_TRY), (1, &refused)];
+        assert!(rt; word_after(rt.alloc(), recursive, 1, &rounds).is_some());
     }
-    Ok(())
 }
 
 // Row mutex_word_3: 254 unlockings of 255 leave the word 1.
 #[test]
-fn the_last_unlocking_frees(rt: HostRuntime) -> Result<(), Fail> {
+fn the_last_unlocking_frees(rt: HostRuntime) {
     for (times, want) in [(254, 1), (255, 0)] {
-        let (word, mut seats) = made(rt.alloc(), true, 1)?;
-        let mut seat = last_seat(&word, &mut seats)?;
-        let mut passes = Vec::new(rt.alloc());
-        let _limit = nest(&word, &mut seat, &mut passes)?;
-        unnest(&word, &mut seat, &mut passes, times)?;
-        seats.push(seat)?;
-        assert!(rt; word.close(seats) == want);
+        let rounds: [Round<'_>; 2] = [(255, &ONE_TRY), (times, &ONE_UNLOCKING)];
+        assert!(rt; word_after(rt.alloc(), true, 1, &rounds) == Some(want));
     }
-    Ok(())
 }
 
 // A pass of one seat is no pass of another.
-fn borrowed(
-    word: &MutexWord,
-    zero: &mut MutexSeat,
-    one: &mut MutexSeat,
-) -> Result<(Refusal, bool), Fail>
-    requires zero { IsSeatOf zero.old word.now }
-    requires one { IsSeatOf one.old word.now }
-{
-    let pass = word.try_lock(zero).ok().ok_or("0")?;
-    let Err((refusal, pass)) = word.unlock(one, pass) else {
-        return Ok((Refusal::Busy, false));
-    };
-    let back = word.unlock(zero, pass).is_ok();
-    Ok((refusal, back))
-}
-
 #[test]
-fn a_pass_is_its_seats(rt: HostRuntime) -> Result<(), Fail> {
-    let (word, mut seats) = made(rt.alloc(), false, 2)?;
-    let mut one = last_seat(&word, &mut seats)?;
-    let mut zero = last_seat(&word, &mut seats)?;
-    assert!(rt; borrowed(&word, &mut zero, &mut one)? == (Refusal::NotOwner, true));
-    Ok(())
+fn a_pass_is_its_seats(rt: HostRuntime) {
+    let steps = [
+        (0, Act::Try, Told::Passed),
+        (1, Act::Unlock, Told::Refused(Refusal::NotOwner)),
+        (0, Act::Unlock, Told::Done),
+    ];
+    assert!(rt; word_after(rt.alloc(), false, 2, &[(1, &steps)]).is_some());
 }

@@ -1,27 +1,40 @@
 //! Closing a machine of two callers.
 ghost use Rattle.std.specs.Prelude.{◌≡◌, All, IfOk, IfSome};
 
-use super::{both_attach, call_of, free_row, get, held_row, is_done, put, taken, two_callers};
+use super::acts::{Passes, Told};
+use super::rows::{Round, first_of, is_row, last_of, made, taken};
+use super::{BOTH_ATTACH, GET, PUT, board_of_two, is_core_row};
 use evl_base::{Call, Entry, Refusal, Reply, ThreadId};
 use evl_machine::{Caller, Machine};
 use std::alloc::Global;
-use std::test::Fail;
 
-// Whether these are the row's entries, in their order.
-fn is_row(history: &[Entry]) -> bool {
-    let [one, two, held_put, got, put_free, got_too, again, count] = history else {
+fn is_done(answer: &Result<Reply, Refusal>) -> bool {
+    matches!(answer, Ok(Reply::Done))
+}
+
+// Whether these are the entries of the gets and puts once the core was free.
+fn is_end_of_row(entries: &[Entry]) -> bool {
+    let [got, put_free, got_too, again, count] = entries else {
         return false;
     };
-    is_attach(one, 0)
-        && is_attach(two, 1)
-        && is_put(held_put, 0)
-        && is_get(got, 1)
+    let refused = matches!(again.reply, Err(Refusal::Again));
+    let counted = matches!(count.reply, Ok(Reply::Count(0)));
+    let asked = count.caller == ThreadId(1);
+    is_get(got, 1)
         && is_put(put_free, 1)
         && is_get(got_too, 0)
         && is_get(again, 0)
-        && matches!(again.reply, Err(Refusal::Again))
-        && count.caller == ThreadId(1)
-        && matches!(count.reply, Ok(Reply::Count(0)))
+        && refused
+        && asked
+        && counted
+}
+
+// Whether these are the row's entries, in their order.
+fn is_history_of_row(history: &[Entry]) -> bool {
+    let [one, two, held_put, rest @ ..] = history else {
+        return false;
+    };
+    is_attach(one, 0) && is_attach(two, 1) && is_put(held_put, 0) && is_end_of_row(rest)
 }
 
 // Whether this is the attachment of a thread, and done.
@@ -42,18 +55,6 @@ fn is_get(entry: &Entry, thread: u16) -> bool {
     entry.caller == ThreadId(thread) && matches!(entry.call, Call::TryGet { .. })
 }
 
-// A caller more, if there is room.
-pub fn with(mut callers: Vec<Caller>, machine: &Machine, caller: Caller) -> Option<Vec<Caller>>
-    requires callers { All (λ c. c.machine ≡ machine.now.of) callers.items }
-    requires caller { caller.machine ≡ machine.now.of }
-    ensures { IfSome result (λ r. All (λ c. c.machine ≡ machine.now.of) r.items) }
-{
-    match callers.push(caller) {
-        Ok(()) => Some(callers),
-        Err(_) => None,
-    }
-}
-
 // The machine with its callers, if it isn't closed, and for this reason.
 fn refused(machine: Machine, callers: Vec<Caller>, why: Refusal) -> Option<(Machine, Vec<Caller>)>
     requires { All (λ c. c.machine ≡ machine.of) callers.items }
@@ -70,17 +71,32 @@ fn refused(machine: Machine, callers: Vec<Caller>, why: Refusal) -> Option<(Mach
     }
 }
 
+// A caller more, if there is room.
+fn with(mut callers: Vec<Caller>, machine: &Machine, caller: Caller) -> Option<Vec<Caller>>
+    requires callers { All (λ c. c.machine ≡ machine.now.of) callers.items }
+    requires caller { caller.machine ≡ machine.now.of }
+    ensures { IfSome result (λ r. All (λ c. c.machine ≡ machine.now.of) r.items) }
+{
+    match callers.push(caller) {
+        Ok(()) => Some(callers),
+        Err(_) => None,
+    }
+}
+
 #[test]
-fn close_machine(rt: HostRuntime) -> Result<(), Fail> {
-    let Ok((machine, mut first, mut second)) = two_callers(rt.alloc(), 100) else {
+fn close_machine(rt: HostRuntime) {
+    let alloc = rt.alloc();
+    let Ok((machine, mut callers)) = made(alloc, board_of_two(), Vec::new(alloc), 100) else {
         panic!(rt; "a machine")
     };
-    assert!(rt; both_attach(&machine, &mut first, &mut second));
-    let Some(mut first) = held_row(&machine, first, &mut second) else {
-        panic!(rt; "the row")
+    assert!(rt; is_core_row(&machine, &mut callers, &mut Passes::new(alloc)));
+    let Some(second) = last_of(&machine, &mut callers) else {
+        panic!(rt; "the second caller")
     };
-    assert!(rt; free_row(&machine, &mut first, &mut second));
-    let Some((machine, callers)) = refused(machine, Vec::new(rt.alloc()), Refusal::Invalid) else {
+    let Some(first) = last_of(&machine, &mut callers) else {
+        panic!(rt; "the first caller")
+    };
+    let Some((machine, callers)) = refused(machine, callers, Refusal::Invalid) else {
         panic!(rt; "no caller")
     };
     let Some(callers) = with(callers, &machine, first) else {
@@ -95,45 +111,37 @@ fn close_machine(rt: HostRuntime) -> Result<(), Fail> {
     let Ok(kernel) = machine.close(callers) else {
         panic!(rt; "both callers")
     };
-    assert!(rt; is_row(kernel.history()));
-    Ok(())
+    assert!(rt; is_history_of_row(kernel.history()));
 }
 
-#[test]
-fn close_with_a_dropped_holder(rt: HostRuntime) -> Result<(), Fail> {
-    let Ok((machine, first, second)) = two_callers(rt.alloc(), 100) else {
-        panic!(rt; "a machine")
-    };
-    let Ok(held) = taken(&machine, first) else {
-        panic!(rt; "the core is free")
-    };
-    drop(held);
-    let Some(callers) = with(Vec::new(rt.alloc()), &machine, second) else {
-        panic!(rt; "room")
-    };
-    assert!(rt; refused(machine, callers, Refusal::CoreBusy).is_some());
-    Ok(())
-}
-
-// A thousand rounds of a put by the first and a get by the second; whether all are done.
-fn rounds(machine: &Machine, first: &mut Caller, second: &mut Caller) -> bool
-    requires { (first.old.machine ≡ machine.now.of) × (second.old.machine ≡ machine.now.of) }
+// Whether the first caller gets the kernel, and is dropped with it.
+fn drops_the_kernel(machine: &Machine, callers: &mut Vec<Caller>) -> bool
+    requires { All (λ c. c.machine ≡ machine.now.of) callers.old.items }
+    ensures { All (λ c. c.machine ≡ machine.now.of) callers.new.items }
 {
-    let mut done = true;
-    for _ in 0..1000 {
-        let put = call_of(machine, first, put());
-        let got = call_of(machine, second, get());
-        done = done && is_done(&put) && is_done(&got);
+    match first_of(machine, callers) {
+        Some(first) => taken(machine, first).is_ok(),
+        None => false,
     }
-    done
 }
 
 #[test]
-fn quiet_core_is_never_busy(rt: HostRuntime) -> Result<(), Fail> {
-    let Ok((machine, mut first, mut second)) = two_callers(rt.alloc(), 10_000) else {
-        panic!(rt; "a machine")
+fn close_with_a_dropped_holder(rt: HostRuntime) {
+    let alloc = rt.alloc();
+    let told = match made(alloc, board_of_two(), Vec::new(alloc), 100) {
+        Ok((machine, mut callers)) => {
+            let dropped = drops_the_kernel(&machine, &mut callers);
+            dropped && refused(machine, callers, Refusal::CoreBusy).is_some()
+        }
+        Err(_) => false,
     };
-    assert!(rt; both_attach(&machine, &mut first, &mut second));
-    assert!(rt; rounds(&machine, &mut first, &mut second));
-    Ok(())
+    assert!(rt; told);
+}
+
+// A thousand rounds of a put by the first and a get by the second.
+#[test]
+fn quiet_core_is_never_busy(rt: HostRuntime) {
+    let steps = [(0, PUT, Told::Done), (1, GET, Told::Done)];
+    let rounds: [Round<'_>; 2] = [(1, &BOTH_ATTACH), (1000, &steps)];
+    assert!(rt; is_row(rt.alloc(), board_of_two(), 10_000, &rounds));
 }

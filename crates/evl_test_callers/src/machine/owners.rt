@@ -1,10 +1,13 @@
 //! Mutexes on two host threads: locked in turn, and unlocked on another thread than the one that locked.
-ghost use Rattle.std.specs.Prelude.{◌≡◌, ◌≤◌};
+ghost use Rattle.std.specs.Prelude.{◌≡◌, ◌≤◌, All};
 ghost use Rattle.evl_kernel.specs.Callbacks.{AnswersAsTold};
 
-use super::stored::{SEM, asks, plan};
-use super::threads::{Signs, Task, Worker, both_work, on_two_threads};
-use super::{both_attach, two_callers_over};
+use super::acts::{Act, Passes, Told};
+use super::rows::{answers, last_of, made};
+use super::stored::{asks, plan};
+use super::thread_rows::{Left, ThreadRow, is_left, kernel_of_row};
+use super::threads::{Signs, Task, Worker, both_work};
+use super::{BOTH_ATTACH, SEM, board_of_two};
 use evl_base::{ActionKinds, MutexId};
 use evl_machine::{Caller, CallerOf, Machine, MachineOf};
 use evl_pipeline::{Action, Callback, Fire, Handler};
@@ -16,35 +19,7 @@ use std::thread::Threads;
 
 const MUTEX: MutexId = MutexId(0);
 
-// Whether the caller locks the mutex at its first try, and unlocks it without the kernel.
-fn finds_it_free(machine: &Machine, caller: &mut Caller) -> bool
-    requires { caller.old.machine ≡ machine.now.of }
-    ensures { caller.new.machine ≡ caller.old.machine }
-{
-    match machine.try_lock_mutex(caller, MUTEX) {
-        Ok(pass) => machine.unlock_mutex_fast(caller, pass).is_ok(),
-        Err(_) => false,
-    }
-}
-
-// Whether two host threads lock the mutex and unlock it so often, and leave it free.
-fn lock_in_turn<R: Threads + Wait + Sync>(
-    rt: &R,
-    machine: &Machine,
-    first: Caller,
-    second: Caller,
-    times: u32,
-) -> bool
-    requires { (first.machine ≡ machine.now.of) × (second.machine ≡ machine.now.of) }
-{
-    let locks = Task::Locks(times, MUTEX);
-    let (one, two) = on_two_threads(rt, machine, first, second, (locks, locks));
-    let (mut first, told) = one;
-    let free = finds_it_free(machine, &mut first);
-    told == times && two.1 == times && free
-}
-
-// Row racing_callers_6.
+// Row racing_callers_6: two host threads lock the mutex and unlock it so often, and leave it free.
 #[test]
 fn racing_callers_6(rt: HostRuntime) -> Result<(), Fail> {
     let alloc = rt.alloc();
@@ -54,11 +29,19 @@ fn racing_callers_6(rt: HostRuntime) -> Result<(), Fail> {
         Box::new(alloc, |_: Fire| asks(Action::PostSem(SEM))).map_err(|_| "box")?,
     );
     let bank = Vec::from_array(alloc, [posts]).map_err(|_| "bank")?;
-    let Ok((machine, mut first, mut second)) = two_callers_over(alloc, bank, 10_000) else {
-        panic!(rt; "a machine")
+    let locks = Task::Locks(200, MUTEX);
+    let row = ThreadRow {
+        before: &BOTH_ATTACH,
+        tasks: (locks, locks),
+        told: (200, 200),
+        after: &[
+            (0, Act::Lock(MUTEX), Told::Passed),
+            (0, Act::UnlockFast(MUTEX), Told::Done),
+        ],
+        left: Left::Unasked,
     };
-    assert!(rt; both_attach(&machine, &mut first, &mut second));
-    assert!(rt; lock_in_turn(&rt, &machine, first, second, 200));
+    let kernel = kernel_of_row(&rt, alloc, board_of_two(), bank, 10_000, &row);
+    assert!(rt; is_left(kernel, row.left));
     Ok(())
 }
 
@@ -108,27 +91,52 @@ fn both_unlock<C: Handler + Send, R: Threads + Wait + Sync>(
     (one.1, two.1)
 }
 
-// Whether the first caller locks the mutex here, and unlocks it on another host thread.
-fn is_unlocked_elsewhere<R: Threads + Wait + Sync>(
+// Whether the first caller, which has this pass, unlocks the mutex on another host thread.
+fn is_unlocked_there<R: Threads + Wait + Sync>(
     rt: &R,
     machine: &Machine,
-    mut first: Caller,
+    first: Caller,
     second: Caller,
+    pass: Option<MutexPass>,
 ) -> bool
     requires { (first.machine ≡ machine.now.of) × (second.machine ≡ machine.now.of) }
 {
-    let Ok(pass) = machine.try_lock_mutex(&mut first, MUTEX) else {
-        return false;
-    };
     let one = Owner {
         caller: first,
-        pass: Some(pass),
+        pass,
     };
     let two = Owner {
         caller: second,
         pass: None,
     };
     both_unlock(rt, &machine.of, one, two) == (1, 0)
+}
+
+// Whether the first caller locks the mutex here, and unlocks it on another host thread.
+fn is_unlocked_elsewhere<R: Threads + Wait + Sync>(
+    rt: &R,
+    machine: &Machine,
+    callers: &mut Vec<Caller>,
+    passes: &mut Passes,
+) -> bool
+    requires { All (λ c. c.machine ≡ machine.now.of) callers.old.items }
+{
+    let attached = answers(machine, callers, passes, &BOTH_ATTACH);
+    let locked = answers(
+        machine,
+        callers,
+        passes,
+        &[(0, Act::Lock(MUTEX), Told::Passed)],
+    );
+    let pass = passes.of_mutex(MUTEX);
+    let Some(second) = last_of(machine, callers) else {
+        return false;
+    };
+    let Some(first) = last_of(machine, callers) else {
+        return false;
+    };
+    let told = is_unlocked_there(rt, machine, first, second, pass);
+    attached && locked && told
 }
 
 // Row racing_callers_7.
@@ -141,10 +149,15 @@ fn racing_callers_7(rt: HostRuntime) -> Result<(), Fail> {
         Box::new(alloc, |_: Fire| asks(Action::PostSem(SEM))).map_err(|_| "box")?,
     );
     let bank = Vec::from_array(alloc, [posts]).map_err(|_| "bank")?;
-    let Ok((machine, mut first, mut second)) = two_callers_over(alloc, bank, 100) else {
-        panic!(rt; "a machine")
+    let told = match made(alloc, board_of_two(), bank, 100) {
+        Ok((machine, mut callers)) => is_unlocked_elsewhere(
+            &rt,
+            &machine,
+            &mut callers,
+            &mut Passes::new(alloc),
+        ),
+        Err(_) => false,
     };
-    assert!(rt; both_attach(&machine, &mut first, &mut second));
-    assert!(rt; is_unlocked_elsewhere(&rt, &machine, first, second));
+    assert!(rt; told);
     Ok(())
 }

@@ -1,20 +1,16 @@
 //! Stored closures are called by whichever host thread has the kernel.
 ghost use Rattle.std.specs.Prelude.{◌≡◌, [], ◌∷◌, true};
 
-use super::racing::{Outcome, worked};
+use super::acts::{Act, Ask, Told};
+use super::thread_rows::{Left, ThreadRow, is_left, kernel_of_row};
 use super::threads::Task;
-use super::{call_of, two_callers_over};
+use super::{SEM, board_of_two};
 use arrayvec::ArrayVec;
-use evl_base::{ActionKinds, Call, LineNo, SemId, Stage};
+use evl_base::{ActionKinds, LineNo, Stage};
 use evl_pipeline::{Action, Answer, Callback, Fire, Plan};
-use std::alloc::Global;
-use std::sync::Wait;
 use std::test::Fail;
-use std::thread::Threads;
 
 const LINE: LineNo = LineNo(8);
-
-pub const SEM: SemId = SemId(0);
 
 // Handled, and one action asked for.
 pub fn asks(action: Action) -> Answer
@@ -40,28 +36,6 @@ pub fn plan(action: Action) -> Plan
 }
 
 // The bank's one callback stands on a line, on which events arrive from two host threads.
-fn arrived<R: Threads + Wait + Sync>(
-    rt: &R,
-    alloc: Global,
-    bank: Vec<Callback>,
-    times: u32,
-) -> Option<Outcome> {
-    let Ok((machine, mut first, second)) = two_callers_over(alloc, bank, 2000) else {
-        return None;
-    };
-    let request = Call::Request {
-        line: LINE,
-        stage: Stage::Oob,
-        callback: 0,
-        tag: 0,
-    };
-    if call_of(&machine, &mut first, request).is_err() {
-        return None;
-    }
-    let arrivals = Task::Arrivals(times, LINE);
-    worked(rt, alloc, machine, first, second, (arrivals, arrivals))
-}
-
 #[test]
 fn any_thread_calls_the_stored_closure(rt: HostRuntime) -> Result<(), Fail> {
     let alloc = rt.alloc();
@@ -71,9 +45,15 @@ fn any_thread_calls_the_stored_closure(rt: HostRuntime) -> Result<(), Fail> {
         Box::new(alloc, |_: Fire| asks(Action::PostSem(SEM))).map_err(|_| "box")?,
     );
     let bank = Vec::from_array(alloc, [posts]).map_err(|_| "bank")?;
-    let Some(left) = arrived(&rt, alloc, bank, 100) else {
-        panic!(rt; "both callers");
+    let arrivals = Task::Arrivals(100, LINE);
+    let row = ThreadRow {
+        before: &[(0, Act::Call(Ask::Request(LINE, Stage::Oob)), Told::Done)],
+        tasks: (arrivals, arrivals),
+        told: (100, 100),
+        after: &[(0, Act::Call(Ask::Peek(SEM)), Told::Count(200))],
+        left: Left::Plays(200),
     };
-    assert!(rt; left.tells((100, 100), 200) && left.kernel.plays().len() == 200);
+    let kernel = kernel_of_row(&rt, alloc, board_of_two(), bank, 2000, &row);
+    assert!(rt; is_left(kernel, row.left));
     Ok(())
 }

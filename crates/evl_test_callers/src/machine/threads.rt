@@ -2,7 +2,6 @@
 ghost use Rattle.std.specs.Prelude.{◌≡◌, ◌≤◌};
 ghost use Rattle.evl_kernel.specs.Callbacks.{AnswersAsTold};
 
-use super::{get, put};
 use evl_base::{Call, LineNo, MutexId, Refusal, Reply, SemId, StaxId};
 use evl_machine::{Caller, CallerOf, Ended, Machine, MachineOf};
 use evl_pipeline::Handler;
@@ -124,6 +123,14 @@ fn called<C: Handler, A: Allocator, R: Wait>(
         }
     }
     (caller, done)
+}
+
+fn put() -> Call {
+    Call::Put { sem: SemId(0) }
+}
+
+fn get() -> Call {
+    Call::TryGet { sem: SemId(0) }
 }
 
 fn copy_of(call: &Call) -> Call {

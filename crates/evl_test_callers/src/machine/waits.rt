@@ -1,27 +1,174 @@
 //! Callers that wait: for elements, for a stax, and for one another.
-ghost use Rattle.std.specs.Prelude.{◌≡◌};
+ghost use Rattle.std.specs.Prelude.{◌≡◌, All};
 
-use super::machine_over;
-use super::stored::{SEM, asks, plan};
-use super::threads::{Task, on_two_threads};
+use super::acts::{Act, Ask, Passes, Told, call_of, leaves, told_by};
+use super::rows::{Shown, kernel_shows, made};
+use super::stored::{asks, plan};
+use super::thread_rows::{Left, ThreadRow, is_left, kernel_of_row};
+use super::threads::Task;
+use super::{ATTACH, BOTH_ATTACH, FIFO, OOB, SEM};
 use arrayvec::ArrayVec;
 use evl_base::{
-    ActionKinds, Board, Call, FlagId, MutexId, MutexKind, Policy, Refusal, Reply, SemId, Stage,
-    StaxId, Take, ThreadId, Transfer, Way, XbufId,
+    ActionKinds, Board, FlagId, MutexId, MutexKind, Refusal, Reply, SemId, Stage, StaxId, Take,
+    Transfer, Way, XbufId,
 };
-use evl_machine::{Caller, Ended, Machine};
+use evl_machine::{Caller, Machine};
 use evl_pipeline::{Action, Callback, Fire};
-use evl_words::StaxPass;
-use std::alloc::Global;
 use std::sync::Wait;
 use std::test::Fail;
-use std::thread::Threads;
+
+// What a caller does that may wait for others.
+#[derive(Clone, Copy)]
+pub enum Waits {
+    Call(Ask),
+    Switch(Stage),
+    Get(SemId),
+    TakeFlags(FlagId),
+    Enter(StaxId),
+    Leave(u16),
+    Lock(MutexId),
+    Unlock(MutexId),
+}
+
+// A step of a row: by which caller, what it does, and what it is told.
+type Step = (usize, Waits, Told);
+
+// One call, however long another caller has the core; of the caller its machine alone is told. So are those that follow.
+fn calls<R: Wait>(rt: &R, machine: &Machine, caller: &mut Caller, ask: Ask) -> Told
+    requires { caller.old.machine ≡ machine.now.of }
+    ensures { caller.new.machine ≡ caller.old.machine }
+{
+    told_by(machine.call(rt, caller, call_of(ask)))
+}
+
+fn switches<R: Wait>(rt: &R, machine: &Machine, caller: &mut Caller, stage: Stage) -> Told
+    requires { caller.old.machine ≡ machine.now.of }
+    ensures { caller.new.machine ≡ caller.old.machine }
+{
+    match stage {
+        Stage::Inband => told_by(machine.switch_inband(rt, caller)),
+        Stage::Oob => told_by(machine.switch_oob(rt, caller)),
+    }
+}
+
+fn gets<R: Wait>(rt: &R, machine: &Machine, caller: &mut Caller, sem: SemId) -> Told
+    requires { caller.old.machine ≡ machine.now.of }
+    ensures { caller.new.machine ≡ caller.old.machine }
+{
+    told_by(machine.get_sem(rt, caller, sem, None))
+}
+
+fn takes_flags<R: Wait>(rt: &R, machine: &Machine, caller: &mut Caller, flags: FlagId) -> Told
+    requires { caller.old.machine ≡ machine.now.of }
+    ensures { caller.new.machine ≡ caller.old.machine }
+{
+    told_by(machine.wait_flags(rt, caller, flags, Take::Any, None))
+}
+
+fn enters<R: Wait>(
+    rt: &R,
+    machine: &Machine,
+    caller: &mut Caller,
+    passes: &mut Passes,
+    stax: StaxId,
+) -> Told
+    requires { caller.old.machine ≡ machine.now.of }
+    ensures { caller.new.machine ≡ caller.old.machine }
+{
+    passes.entered(machine.lock_stax(rt, caller, stax))
+}
+
+fn locks<R: Wait>(
+    rt: &R,
+    machine: &Machine,
+    caller: &mut Caller,
+    passes: &mut Passes,
+    mutex: MutexId,
+) -> Told
+    requires { caller.old.machine ≡ machine.now.of }
+    ensures { caller.new.machine ≡ caller.old.machine }
+{
+    passes.ended(machine.lock_mutex(rt, caller, mutex, None))
+}
+
+fn unlocks<R: Wait>(
+    rt: &R,
+    machine: &Machine,
+    caller: &mut Caller,
+    passes: &mut Passes,
+    mutex: MutexId,
+) -> Told
+    requires { caller.old.machine ≡ machine.now.of }
+    ensures { caller.new.machine ≡ caller.old.machine }
+{
+    match passes.of_mutex(mutex) {
+        Some(pass) => passes.unlocked(machine.unlock_mutex(rt, caller, pass)),
+        None => Told::Nothing,
+    }
+}
+
+pub fn awaits<R: Wait>(
+    rt: &R,
+    machine: &Machine,
+    caller: &mut Caller,
+    passes: &mut Passes,
+    act: Waits,
+) -> Told
+    requires { caller.old.machine ≡ machine.now.of }
+    ensures { caller.new.machine ≡ caller.old.machine }
+{
+    match act {
+        Waits::Call(ask) => calls(rt, machine, caller, ask),
+        Waits::Switch(stage) => switches(rt, machine, caller, stage),
+        Waits::Get(sem) => gets(rt, machine, caller, sem),
+        Waits::TakeFlags(flags) => takes_flags(rt, machine, caller, flags),
+        Waits::Enter(stax) => enters(rt, machine, caller, passes, stax),
+        Waits::Leave(number) => leaves(machine, caller, passes, number),
+        Waits::Lock(mutex) => locks(rt, machine, caller, passes, mutex),
+        Waits::Unlock(mutex) => unlocks(rt, machine, caller, passes, mutex),
+    }
+}
+
+// What the caller at this place is told.
+fn wait_answer<R: Wait>(
+    rt: &R,
+    machine: &Machine,
+    callers: &mut Vec<Caller>,
+    passes: &mut Passes,
+    number: usize,
+    act: Waits,
+) -> Told
+    requires { All (λ c. c.machine ≡ machine.now.of) callers.old.items }
+    ensures { All (λ c. c.machine ≡ machine.now.of) callers.new.items }
+{
+    if number >= callers.len() {
+        return Told::Nothing;
+    }
+    awaits(rt, machine, &mut callers[number], passes, act)
+}
+
+// Whether each step is answered as it is wanted.
+fn wait_answers<R: Wait>(
+    rt: &R,
+    machine: &Machine,
+    callers: &mut Vec<Caller>,
+    passes: &mut Passes,
+    steps: &[Step],
+) -> bool
+    requires { All (λ c. c.machine ≡ machine.now.of) callers.old.items }
+    ensures { All (λ c. c.machine ≡ machine.now.of) callers.new.items }
+{
+    for (number, act, wanted) in steps {
+        if wait_answer(rt, machine, callers, passes, *number, *act) != *wanted {
+            return false;
+        }
+    }
+    true
+}
 
 // Two threads, a semaphore of count 0, a flag group, a cross-buffer with rings of 4 bytes, a normal mutex and a stax of
 // limit 1.
-fn board_of_all() -> Board
-    ensures { result.threads ≡ 2 }
-{
+fn board_of_all() -> Board {
     let mut sems = ArrayVec::new();
     sems.push(0);
     let mut flags = ArrayVec::new();
@@ -44,9 +191,7 @@ fn board_of_all() -> Board
 }
 
 // Two threads, two semaphores of count 0 and a stax of limit 2.
-fn board_of_two_sems() -> Board
-    ensures { result.threads ≡ 2 }
-{
+fn board_of_two_sems() -> Board {
     let mut sems = ArrayVec::new();
     sems.push(0);
     sems.push(0);
@@ -63,66 +208,13 @@ fn board_of_two_sems() -> Board
     }
 }
 
-// Whether a call is done, however long another caller has the core; of the caller its machine alone is told.
-fn does<R: Wait>(rt: &R, machine: &Machine, caller: &mut Caller, call: Call) -> bool
-    requires { caller.old.machine ≡ machine.now.of }
-    ensures { caller.new.machine ≡ caller.old.machine }
-{
-    matches!(machine.call(rt, caller, call), Ok(Reply::Done))
-}
-
-// Whether the caller goes out-of-band, and in-band.
-fn goes_oob<R: Wait>(rt: &R, machine: &Machine, caller: &mut Caller) -> bool
-    requires { caller.old.machine ≡ machine.now.of }
-    ensures { caller.new.machine ≡ caller.old.machine }
-{
-    matches!(machine.switch_oob(rt, caller), Ok(Reply::Done))
-}
-
-fn goes_inband<R: Wait>(rt: &R, machine: &Machine, caller: &mut Caller) -> Result<Reply, Refusal>
-    requires { caller.old.machine ≡ machine.now.of }
-    ensures { caller.new.machine ≡ caller.old.machine }
-{
-    machine.switch_inband(rt, caller)
-}
-
-// The answer of a caller that waits for the first semaphore.
-fn got<R: Wait>(rt: &R, machine: &Machine, caller: &mut Caller) -> Result<Reply, Refusal>
-    requires { caller.old.machine ≡ machine.now.of }
-    ensures { caller.new.machine ≡ caller.old.machine }
-{
-    machine.get_sem(rt, caller, SEM, None)
-}
-
-// Whether the caller takes the flags that were posted.
-fn takes_flags<R: Wait>(rt: &R, machine: &Machine, caller: &mut Caller) -> bool
-    requires { caller.old.machine ≡ machine.now.of }
-    ensures { caller.new.machine ≡ caller.old.machine }
-{
-    let flags = FlagId(0);
-    let posted = does(rt, machine, caller, Call::PostFlags { flags, bits: 3 });
-    let taken = machine.wait_flags(rt, caller, flags, Take::Any, None);
-    posted && matches!(taken, Ok(Reply::Bits(3)))
-}
-
-// Whether the caller writes these bytes.
+// Whether the caller writes these bytes, and of the caller its machine alone.
 fn writes<R: Wait>(rt: &R, machine: &Machine, caller: &mut Caller, bytes: Transfer) -> bool
     requires { caller.old.machine ≡ machine.now.of }
     ensures { caller.new.machine ≡ caller.old.machine }
 {
     let written = machine.write_xbuf(rt, caller, XbufId(0), Way::Out, bytes, None);
     matches!(written, Ok(Reply::Done))
-}
-
-// Whether the caller locks the mutex, and unlocks it.
-fn has_mutex<R: Wait>(rt: &R, machine: &Machine, caller: &mut Caller) -> bool
-    requires { caller.old.machine ≡ machine.now.of }
-    ensures { caller.new.machine ≡ caller.old.machine }
-{
-    match machine.lock_mutex(rt, caller, MutexId(0), None) {
-        Ok(Ended::Locked(pass)) => machine.unlock_mutex(rt, caller, pass).is_ok(),
-        _ => false,
-    }
 }
 
 // Whether the caller reads these bytes.
@@ -136,45 +228,86 @@ fn reads<R: Wait>(rt: &R, machine: &Machine, caller: &mut Caller, bytes: &[u8]) 
     }
 }
 
-// What a caller is answered that waits for a stax.
-fn locked<R: Wait>(
+// Whether the first caller writes these bytes.
+fn first_writes<R: Wait>(
     rt: &R,
     machine: &Machine,
-    caller: &mut Caller,
-    stax: StaxId,
-) -> Result<StaxPass, Refusal>
-    requires { caller.old.machine ≡ machine.now.of }
-    ensures { caller.new.machine ≡ caller.old.machine }
+    callers: &mut Vec<Caller>,
+    bytes: Transfer,
+) -> bool
+    requires { All (λ c. c.machine ≡ machine.now.of) callers.old.items }
+    ensures { All (λ c. c.machine ≡ machine.now.of) callers.new.items }
 {
-    machine.lock_stax(rt, caller, stax)
-}
-
-// Whether the caller stays out-of-band while it holds the stax, and goes in-band once it has left it.
-fn stays_while_it_holds<R: Wait>(rt: &R, machine: &Machine, caller: &mut Caller) -> bool
-    requires { caller.old.machine ≡ machine.now.of }
-    ensures { caller.new.machine ≡ caller.old.machine }
-{
-    let Ok(pass) = locked(rt, machine, caller, StaxId(0)) else {
+    if callers.is_empty() {
         return false;
-    };
-    let held = goes_inband(rt, machine, caller);
-    let left = matches!(machine.unlock_stax(caller, pass), Ok(false));
-    let free = goes_inband(rt, machine, caller);
-    left && matches!(held, Err(Refusal::HoldsStax)) && matches!(free, Ok(Reply::Done))
+    }
+    writes(rt, machine, &mut callers[0], bytes)
 }
 
-// Whether the caller goes out-of-band, and each of its waits there is over at once.
-fn waits_oob<R: Wait>(rt: &R, machine: &Machine, caller: &mut Caller, bytes: Transfer) -> bool
-    requires { caller.old.machine ≡ machine.now.of }
-    ensures { caller.new.machine ≡ caller.old.machine }
+// Whether the first caller reads these bytes.
+fn first_reads<R: Wait>(rt: &R, machine: &Machine, callers: &mut Vec<Caller>, bytes: &[u8]) -> bool
+    requires { All (λ c. c.machine ≡ machine.now.of) callers.old.items }
+    ensures { All (λ c. c.machine ≡ machine.now.of) callers.new.items }
 {
-    let oob = goes_oob(rt, machine, caller);
-    let put = does(rt, machine, caller, Call::Put { sem: SEM });
-    let got = got(rt, machine, caller);
-    let taken = takes_flags(rt, machine, caller);
-    let written = writes(rt, machine, caller, bytes);
-    let locked = has_mutex(rt, machine, caller);
-    oob && put && matches!(got, Ok(Reply::Done)) && taken && written && locked
+    if callers.is_empty() {
+        return false;
+    }
+    reads(rt, machine, &mut callers[0], bytes)
+}
+
+// Whether the first caller goes out-of-band, each of its waits there is over at once, and it stays out-of-band while it
+// holds the stax.
+fn waits_for_all<R: Wait>(
+    rt: &R,
+    machine: &Machine,
+    callers: &mut Vec<Caller>,
+    passes: &mut Passes,
+    bytes: Transfer,
+) -> bool
+    requires { All (λ c. c.machine ≡ machine.now.of) callers.old.items }
+    ensures { All (λ c. c.machine ≡ machine.now.of) callers.new.items }
+{
+    let inband = Ask::Attach(FIFO, Stage::Inband);
+    let (flags, mutex) = (FlagId(0), MutexId(0));
+    let before = [
+        (0, Waits::Call(inband), Told::Done),
+        (0, Waits::Switch(Stage::Oob), Told::Done),
+        (0, Waits::Call(Ask::Put(SEM)), Told::Done),
+        (0, Waits::Get(SEM), Told::Done),
+        (0, Waits::Call(Ask::PostFlags(flags, 3)), Told::Done),
+        (0, Waits::TakeFlags(flags), Told::Bits(3)),
+    ];
+    let after = [
+        (0, Waits::Lock(mutex), Told::Passed),
+        (0, Waits::Unlock(mutex), Told::Done),
+        (0, Waits::Enter(StaxId(0)), Told::Passed),
+        (
+            0,
+            Waits::Switch(Stage::Inband),
+            Told::Refused(Refusal::HoldsStax),
+        ),
+        (0, Waits::Leave(0), Told::Left(false)),
+        (0, Waits::Switch(Stage::Inband), Told::Done),
+    ];
+    let waited = wait_answers(rt, machine, callers, passes, &before);
+    let written = first_writes(rt, machine, callers, bytes);
+    let stayed = wait_answers(rt, machine, callers, passes, &after);
+    waited && written && stayed
+}
+
+// The same, and whether it then reads what it wrote.
+fn is_row_of_all<R: Wait>(
+    rt: &R,
+    machine: &Machine,
+    callers: &mut Vec<Caller>,
+    passes: &mut Passes,
+    bytes: Transfer,
+) -> bool
+    requires { All (λ c. c.machine ≡ machine.now.of) callers.old.items }
+{
+    let waited = waits_for_all(rt, machine, callers, passes, bytes);
+    let read = first_reads(rt, machine, callers, b"ab");
+    waited && read
 }
 
 // Row machine_1.
@@ -189,149 +322,107 @@ fn machine_1(rt: HostRuntime) -> Result<(), Fail> {
     let bank = Vec::from_array(alloc, [posts]).map_err(|_| "bank")?;
     let mut bytes = Transfer::empty(alloc).map_err(|_| "box")?;
     bytes.set(b"ab");
-    let Ok((machine, mut caller, _second)) = machine_over(alloc, board_of_all(), bank, 100) else {
-        panic!(rt; "a machine")
-    };
-    assert!(rt; does(&rt, &machine, &mut caller, attach(Stage::Inband)));
-    assert!(rt; waits_oob(&rt, &machine, &mut caller, bytes));
-    assert!(rt; stays_while_it_holds(&rt, &machine, &mut caller));
-    assert!(rt; reads(&rt, &machine, &mut caller, b"ab"));
-    Ok(())
-}
-
-fn attach(stage: Stage) -> Call {
-    Call::Attach {
-        policy: Policy::Fifo(10),
-        stage,
-    }
-}
-
-// Whether both callers are attached, the first at this stage and the second out-of-band.
-fn both_attach<R: Wait>(
-    rt: &R,
-    machine: &Machine,
-    first: &mut Caller,
-    second: &mut Caller,
-    stage: Stage,
-) -> bool
-    requires { (first.old.machine ≡ machine.now.of) × (second.old.machine ≡ machine.now.of) }
-    ensures { (first.new.machine ≡ machine.now.of) × (second.new.machine ≡ machine.now.of) }
-{
-    let one = does(rt, machine, first, attach(stage));
-    let two = does(rt, machine, second, attach(Stage::Oob));
-    one && two
-}
-
-// Whether each of two host threads gets the semaphore that the other one puts.
-fn wait_for_one_another<R: Threads + Wait + Sync>(
-    rt: &R,
-    machine: &Machine,
-    first: Caller,
-    second: Caller,
-) -> bool
-    requires { (first.machine ≡ machine.now.of) × (second.machine ≡ machine.now.of) }
-{
-    let tasks = (
-        Task::GetsThenPuts(SemId(0), SemId(1)),
-        Task::PutsThenGets(SemId(0), SemId(1)),
-    );
-    let (one, two) = on_two_threads(rt, machine, first, second, tasks);
-    one.1 == 2 && two.1 == 2
-}
-
-// Row machine_3.
-#[test]
-fn machine_3(rt: HostRuntime) -> Result<(), Fail> {
-    let Ok((machine, mut first, mut second)) = machine_over(
-        rt.alloc(),
-        board_of_two_sems(),
-        Vec::new(rt.alloc()),
-        100,
-    ) else {
-        panic!(rt; "a machine")
-    };
-    assert!(rt; both_attach(&rt, &machine, &mut first, &mut second, Stage::Oob));
-    assert!(rt; wait_for_one_another(&rt, &machine, first, second));
-    Ok(())
-}
-
-// Whether two host threads go through the stax so often, and leave it free.
-fn take_turns<R: Threads + Wait + Sync>(
-    rt: &R,
-    machine: &Machine,
-    first: Caller,
-    second: Caller,
-    times: u32,
-) -> bool
-    requires { (first.machine ≡ machine.now.of) × (second.machine ≡ machine.now.of) }
-{
-    let enters = Task::Enters(times, StaxId(0));
-    let (one, two) = on_two_threads(rt, machine, first, second, (enters, enters));
-    let (mut first, told) = one;
-    let free = machine.try_lock_stax(&mut first, StaxId(0));
-    told == times && two.1 == times && free.is_ok()
-}
-
-// Row racing_callers_5.
-#[test]
-fn racing_callers_5(rt: HostRuntime) -> Result<(), Fail> {
-    let Ok((machine, mut first, mut second)) = machine_over(
-        rt.alloc(),
-        board_of_two_sems(),
-        Vec::new(rt.alloc()),
-        100,
-    ) else {
-        panic!(rt; "a machine")
-    };
-    assert!(rt; both_attach(&rt, &machine, &mut first, &mut second, Stage::Inband));
-    assert!(rt; take_turns(&rt, &machine, first, second, 500));
-    Ok(())
-}
-
-// Whether the first thread's wait is over and not finished.
-fn is_unfinished(machine: &Machine, caller: Caller) -> bool
-    requires { caller.machine ≡ machine.now.of }
-{
-    match machine.take(caller) {
-        Ok(held) => held.kernel().finished(ThreadId(0)),
+    let told = match made(alloc, board_of_all(), bank, 100) {
+        Ok((machine, mut callers)) => is_row_of_all(
+            &rt,
+            &machine,
+            &mut callers,
+            &mut Passes::new(alloc),
+            bytes,
+        ),
         Err(_) => false,
-    }
+    };
+    assert!(rt; told);
+    Ok(())
+}
+
+// Row machine_3: each of two host threads gets the semaphore that the other one puts.
+#[test]
+fn machine_3(rt: HostRuntime) {
+    let (one, two) = (SemId(0), SemId(1));
+    let row = ThreadRow {
+        before: &BOTH_ATTACH,
+        tasks: (Task::GetsThenPuts(one, two), Task::PutsThenGets(one, two)),
+        told: (2, 2),
+        after: &[],
+        left: Left::Unasked,
+    };
+    let alloc = rt.alloc();
+    let kernel = kernel_of_row(&rt, alloc, board_of_two_sems(), Vec::new(alloc), 100, &row);
+    assert!(rt; is_left(kernel, row.left));
+}
+
+// Row racing_callers_5: two host threads of both stages go through a stax, and leave it free.
+#[test]
+fn racing_callers_5(rt: HostRuntime) {
+    let inband = Act::Call(Ask::Attach(FIFO, Stage::Inband));
+    let before = [(0, inband, Told::Done), (1, ATTACH, Told::Done)];
+    let after = [(0, Act::Enter(StaxId(0)), Told::Passed)];
+    let enters = Task::Enters(500, StaxId(0));
+    let row = ThreadRow {
+        before: &before,
+        tasks: (enters, enters),
+        told: (500, 500),
+        after: &after,
+        left: Left::Unasked,
+    };
+    let alloc = rt.alloc();
+    let kernel = kernel_of_row(&rt, alloc, board_of_two_sems(), Vec::new(alloc), 100, &row);
+    assert!(rt; is_left(kernel, row.left));
 }
 
 // The third call, which begins the wait, is the last one that the history has room for.
+fn leaves_a_wait<R: Wait>(
+    rt: &R,
+    machine: &Machine,
+    callers: &mut Vec<Caller>,
+    passes: &mut Passes,
+) -> bool
+    requires { All (λ c. c.machine ≡ machine.now.of) callers.old.items }
+{
+    let steps = [
+        (0, Waits::Call(OOB), Told::Done),
+        (0, Waits::Call(Ask::Put(SEM)), Told::Done),
+        (0, Waits::Get(SEM), Told::Refused(Refusal::HistoryFull)),
+    ];
+    let told = wait_answers(rt, machine, callers, passes, &steps);
+    let shown = kernel_shows(machine, callers);
+    told && matches!(shown, Some(Shown { finished: true, .. }))
+}
+
 #[test]
-fn full_history_leaves_a_wait(rt: HostRuntime) -> Result<(), Fail> {
-    let Ok((machine, mut first, _second)) = machine_over(
-        rt.alloc(),
-        board_of_two_sems(),
-        Vec::new(rt.alloc()),
-        3,
-    ) else {
-        panic!(rt; "a machine")
+fn full_history_leaves_a_wait(rt: HostRuntime) {
+    let alloc = rt.alloc();
+    let told = match made(alloc, board_of_two_sems(), Vec::new(alloc), 3) {
+        Ok((machine, mut callers)) => leaves_a_wait(
+            &rt,
+            &machine,
+            &mut callers,
+            &mut Passes::new(alloc),
+        ),
+        Err(_) => false,
     };
-    assert!(rt; does(&rt, &machine, &mut first, attach(Stage::Oob)));
-    assert!(rt; does(&rt, &machine, &mut first, Call::Put { sem: SEM }));
-    let full = got(&rt, &machine, &mut first);
-    assert!(rt; matches!(full, Err(Refusal::HistoryFull)));
-    assert!(rt; is_unfinished(&machine, first));
-    Ok(())
+    assert!(rt; told);
 }
 
 // A stax that isn't there, and one that the caller holds.
 #[test]
-fn no_stax_is_waited_for(rt: HostRuntime) -> Result<(), Fail> {
-    let Ok((machine, mut first, _second)) = machine_over(
-        rt.alloc(),
-        board_of_all(),
-        Vec::new(rt.alloc()),
-        100,
-    ) else {
-        panic!(rt; "a machine")
+fn no_stax_is_waited_for(rt: HostRuntime) {
+    let steps = [
+        (0, Waits::Enter(StaxId(1)), Told::Refused(Refusal::Unknown)),
+        (0, Waits::Enter(StaxId(0)), Told::Passed),
+        (0, Waits::Enter(StaxId(0)), Told::Refused(Refusal::Busy)),
+    ];
+    let alloc = rt.alloc();
+    let told = match made(alloc, board_of_all(), Vec::new(alloc), 100) {
+        Ok((machine, mut callers)) => wait_answers(
+            &rt,
+            &machine,
+            &mut callers,
+            &mut Passes::new(alloc),
+            &steps,
+        ),
+        Err(_) => false,
     };
-    let none = locked(&rt, &machine, &mut first, StaxId(1));
-    assert!(rt; matches!(none, Err(Refusal::Unknown)));
-    let pass = locked(&rt, &machine, &mut first, StaxId(0));
-    let twice = locked(&rt, &machine, &mut first, StaxId(0));
-    assert!(rt; pass.is_ok() && matches!(twice, Err(Refusal::Busy)));
-    Ok(())
+    assert!(rt; told);
 }

@@ -1,16 +1,25 @@
 //! Making of mutex words: how many seats there may be, and short memory.
+use super::made;
 use evl_base::{MutexId, Refusal};
 use evl_words::MutexWord;
 use linked_list_allocator::LocalHeap;
 use std::test::Fail;
 
 #[test]
-fn seats_have_a_range(rt: HostRuntime) -> Result<(), Fail> {
+fn seats_have_a_range(rt: HostRuntime) {
     for (seats, fits) in [(1, true), (64, true), (0, false), (65, false)] {
-        let refusal = MutexWord::new(rt.alloc(), MutexId(0), false, seats).err();
+        let refusal = made(rt.alloc(), false, seats).err();
         assert!(rt; refusal == if fits { None } else { Some(Refusal::Range) });
     }
-    Ok(())
+}
+
+// Whether a word is made within this heap; none where it is refused for another reason than memory.
+fn made_within(heap: &LocalHeap) -> Option<bool> {
+    match MutexWord::new(heap, MutexId(0), true, 3) {
+        Ok(_) => Some(true),
+        Err(Refusal::NoMemory) => Some(false),
+        Err(_) => None,
+    }
 }
 
 // A heap of growing size refuses each growth in turn. What was taken before a refusal goes back.
@@ -20,16 +29,11 @@ fn short_memory_is_refused_and_given_back(rt: HostRuntime) -> Result<(), Fail> {
     let mut made = false;
     for size in 0usize..128 {
         let heap = LocalHeap::new(rt.alloc(), size * 16)?;
-        match MutexWord::new(&heap, MutexId(0), true, 3) {
-            Ok(_) => made = true,
-            Err(refusal) => {
-                assert!(rt; refusal == Refusal::NoMemory);
-                refused = true;
-            }
-        }
-        assert!(rt; heap.used() == 0);
+        let done = made_within(&heap);
+        assert!(rt; done.is_some() && heap.used() == 0);
+        made = made || done == Some(true);
+        refused = refused || done == Some(false);
     }
-    assert!(rt; refused);
-    assert!(rt; made);
+    assert!(rt; refused && made);
     Ok(())
 }
