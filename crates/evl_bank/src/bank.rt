@@ -1,10 +1,13 @@
 //! The callbacks of the program, each answering just its plan.
-ghost use Rattle.std.specs.Prelude.{◌≡◌, ◌≤◌, ℕ, [], ◌∷◌, true, false, if◌then◌else◌, length, map, None, OnErr, IfOk, is_some};
+ghost use Rattle.std.specs.Prelude.{◌≡◌, ◌≤◌, ℕ, List, [], ◌∷◌, true, false, if◌then◌else◌, length, map, None, OnErr, IfOk, is_some};
 ghost use Rattle.evl_shell.specs.Words.{file_of};
 ghost use Rattle.evl_pipeline.specs.Plans.{answer_of};
 ghost use Rattle.evl_shell.specs.Plays.{Plays};
 ghost use Rattle.evl_shell.specs.Programs.{Answers};
 ghost use Rattle.evl_bank.specs.Bank.{plan_of, plan_of_none, program_bank};
+ghost use Rattle.evl_kernel.specs.States.{Handler};
+ghost use Rattle.evl_shell.specs.Runs.{handlers_of};
+ghost use denote.Param.Send.{IsSync};
 
 use arrayvec::ArrayVec;
 use bitflags::Flags;
@@ -14,6 +17,8 @@ use evl_shell::{Fault, Sink, Stop, play, stopped};
 use std::alloc::{AllocError, Global};
 use std::io::{Read, Write};
 use std::rt::Files;
+use std::sync::Wait;
+use std::thread::Threads;
 
 const POST: Action = Action::PostSem(SemId(0));
 
@@ -86,6 +91,36 @@ fn plan(accepts: u64, every: u64, action: Action) -> Plan
     Plan { accepts, rows }
 }
 
+// Makes the program's bank, each callback with a closure of its own. A function can't name the closures' types in what it
+// answers, so the bank is made where it is used.
+macro_rules! callbacks {
+    ($alloc:expr) => {{
+        let none = ActionKinds::from_bits_retain(0);
+        let zero = Box::new($alloc, |_: Fire| quiet())?;
+        let one = Box::new($alloc, |_: Fire| asks(POST))?;
+        let two = Box::new($alloc, |fire: Fire| asks_each_second(fire.count, POST))?;
+        let three = Box::new($alloc, |_: Fire| asks(Action::Propagate))?;
+        let four = Box::new($alloc, |_: Fire| asks(POST_LINE))?;
+        let five = Box::new($alloc, |_: Fire| asks(POST_BIT))?;
+        let six = Box::new($alloc, |fire: Fire| handles_each_second(fire.count, STOP))?;
+        let seven = Box::new($alloc, |_: Fire| quiet())?;
+        vec![in $alloc;
+            Callback::new(none, &quiet_plan(), zero),
+            Callback::new(ActionKinds::POST_SEM, &plan(1, 1, POST), one),
+            Callback::new(ActionKinds::POST_SEM, &plan(1, 2, POST), two),
+            Callback::new(
+                ActionKinds::PROPAGATE,
+                &plan(1, 1, Action::Propagate),
+                three
+            ),
+            Callback::new(ActionKinds::POST_OOB, &plan(1, 1, POST_LINE), four),
+            Callback::new(ActionKinds::POST_FLAGS, &plan(1, 1, POST_BIT), five),
+            Callback::new(ActionKinds::STOP_TIMER, &plan(2, 1, STOP), six),
+            Callback::new(none, &quiet_plan(), seven),
+        ]?
+    }};
+}
+
 // Does what the words ask for over the program's bank, where there is memory for the bank.
 fn play_over_bank<F: Files, R: Read, S: Sink, E: Write>(
     rt: &F,
@@ -101,29 +136,7 @@ fn play_over_bank<F: Files, R: Read, S: Sink, E: Write>(
     ensures out { OnErr result (out.new ≡ out.old) }
     ensures err { OnErr result (err.new ≡ err.old) }
 {
-    let none = ActionKinds::from_bits_retain(0);
-    let zero = Box::new(alloc, |_: Fire| quiet())?;
-    let one = Box::new(alloc, |_: Fire| asks(POST))?;
-    let two = Box::new(alloc, |fire: Fire| asks_each_second(fire.count, POST))?;
-    let three = Box::new(alloc, |_: Fire| asks(Action::Propagate))?;
-    let four = Box::new(alloc, |_: Fire| asks(POST_LINE))?;
-    let five = Box::new(alloc, |_: Fire| asks(POST_BIT))?;
-    let six = Box::new(alloc, |fire: Fire| handles_each_second(fire.count, STOP))?;
-    let seven = Box::new(alloc, |_: Fire| quiet())?;
-    let bank = vec![in alloc;
-        Callback::new(none, &quiet_plan(), zero),
-        Callback::new(ActionKinds::POST_SEM, &plan(1, 1, POST), one),
-        Callback::new(ActionKinds::POST_SEM, &plan(1, 2, POST), two),
-        Callback::new(
-            ActionKinds::PROPAGATE,
-            &plan(1, 1, Action::Propagate),
-            three
-        ),
-        Callback::new(ActionKinds::POST_OOB, &plan(1, 1, POST_LINE), four),
-        Callback::new(ActionKinds::POST_FLAGS, &plan(1, 1, POST_BIT), five),
-        Callback::new(ActionKinds::STOP_TIMER, &plan(2, 1, STOP), six),
-        Callback::new(none, &quiet_plan(), seven),
-    ]?;
+    let bank = callbacks!(alloc);
     Ok(play(rt, alloc, words, bank, input, out, err))
 }
 
@@ -145,4 +158,32 @@ pub fn play_program<F: Files, R: Read, S: Sink, E: Write>(
         Ok(status) => status,
         Err(_) => stopped(err, Stop::Broken(Fault::Memory)),
     }
+}
+
+/// What is done with the program's bank, once there is memory for it.
+pub trait BankUser: Drop {
+    /// What it answers.
+    type Output;
+
+    /// What is known of the answer, by what the callbacks declare and answer.
+    ghost makes: { Self → List Handler → Self.Output → Type 0 };
+
+    /// Takes the bank, whose callbacks are eight.
+    fn take<R: Threads + Wait + Sync>(self, rt: &R, bank: Vec<Callback>) -> Self::Output
+        requires few { length bank.items ≤ 64 }
+        requires shared { IsSync R.row }
+        ensures { makes self (handlers_of (λ (c : _). c.kinds.0) (λ (c : _). c.plan.value) bank.items) result };
+}
+
+/// Hands the program's bank over. `AllocError` where there is no memory for it, and then nothing was done (this profile).
+pub fn with_program_bank<U: BankUser, R: Threads + Wait + Sync>(
+    rt: &R,
+    alloc: Global,
+    user: U,
+) -> Result<U::Output, AllocError>
+    requires { IsSync R.row }
+    ensures { IfOk result (λ output. U.makes user program_bank output) }
+{
+    let bank = callbacks!(alloc);
+    Ok(user.take(rt, bank))
 }

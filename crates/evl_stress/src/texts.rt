@@ -1,0 +1,56 @@
+//! A run's history as two texts: its scenario, and its trace.
+ghost use Rattle.std.specs.Prelude.{◌≡◌, IfOk};
+ghost use Rattle.evl_shell.specs.Histories.{AreSound};
+ghost use Rattle.evl_stress.specs.Boards.{shared_board};
+ghost use Rattle.evl_stress.specs.Texts.{IsPlayedSo};
+
+use crate::boards::shared_board;
+use evl_base::Refusal;
+use evl_kernel::KernelOf;
+use evl_scenario::{Unwritten, without_staxes, write_scenario};
+use evl_shell::trace_kernel;
+use std::alloc::{Allocator, Global};
+
+/// A scenario, and the trace that it is played with.
+#[derive(Drop)]
+pub struct Texts {
+    pub scenario: String,
+    pub trace: String,
+}
+
+/// The most entries that a history has.
+pub const LIMIT: u32 = 1_000_000;
+
+/// Why there are no texts of a run.
+#[derive(Clone, Copy, Debug)]
+pub enum Failure {
+    /// The machine wasn't made, or not closed, or there was no memory.
+    Refused(Refusal),
+    /// The scenario wasn't written: it would be longer than a scenario may be, or there was no memory.
+    Unwritten(Unwritten),
+}
+
+/// The texts of a kernel's history, whose board is the shared one.
+pub fn texts_of<C, A: Allocator>(
+    alloc: Global,
+    kernel: &KernelOf<C, A>,
+    threads: u16,
+) -> Result<Texts, Failure>
+    requires board { kernel.now.history.board ≡ shared_board threads }
+    requires sound { AreSound kernel.now.history.bank }
+    ensures { IfOk result (λ texts. IsPlayedSo kernel.now.history.bank texts) }
+{
+    let board = without_staxes(shared_board(threads));
+    let entries = kernel.history();
+    if entries.len() > LIMIT as usize {
+        return Err(Failure::Unwritten(Unwritten::Limit));
+    }
+    let scenario = match write_scenario(alloc, &board, LIMIT, entries) {
+        Ok(text) => text,
+        Err(why) => return Err(Failure::Unwritten(why)),
+    };
+    match trace_kernel(alloc, kernel, &board, LIMIT) {
+        Ok(trace) => Ok(Texts { scenario, trace }),
+        Err(refusal) => Err(Failure::Refused(refusal)),
+    }
+}

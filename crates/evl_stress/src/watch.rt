@@ -1,0 +1,76 @@
+//! How far the host threads of a run are.
+
+use std::sync::Wait;
+use std::sync::atomic::{AtomicU32, Ordering};
+use std::thread;
+
+/// What the host threads tell each other beside the machine: how many wait, how many are done, and how often those who wait
+/// were helped.
+#[derive(Drop)]
+pub struct Watch {
+    threads: u32,
+    waiting: AtomicU32,
+    done: AtomicU32,
+    helps: AtomicU32,
+}
+
+impl Watch {
+    /// So many threads, all of them awake.
+    pub fn new(threads: u32) -> Watch {
+        Watch {
+            threads,
+            waiting: AtomicU32::new(0),
+            done: AtomicU32::new(0),
+            helps: AtomicU32::new(0),
+        }
+    }
+
+    /// A thread begins to wait for others.
+    pub fn falls_asleep(&self) {
+        self.waiting.fetch_add(1, Ordering::SeqCst);
+    }
+
+    /// It goes on.
+    pub fn wakes_up(&self) {
+        self.waiting.fetch_sub(1, Ordering::SeqCst);
+    }
+
+    /// A thread has made all its calls.
+    pub fn is_done(&self) {
+        self.done.fetch_add(1, Ordering::SeqCst);
+    }
+
+    /// Whether all threads have made all their calls.
+    pub fn all_done(&self) -> bool {
+        self.done.load(Ordering::SeqCst) >= self.threads
+    }
+
+    /// Whether nobody goes on by itself.
+    pub fn all_wait(&self) -> bool {
+        let done = self.done.load(Ordering::SeqCst);
+        let waiting = self.waiting.load(Ordering::SeqCst);
+        done.saturating_add(waiting) >= self.threads
+    }
+
+    /// How often those who wait were helped.
+    pub fn helps(&self) -> u32 {
+        self.helps.load(Ordering::SeqCst)
+    }
+
+    /// They were helped once more.
+    pub fn helped(&self) {
+        self.helps.fetch_add(1, Ordering::SeqCst);
+    }
+
+    /// Waits until help came after so many.
+    pub fn sleep<R: Wait>(&self, rt: &R, since: u32) {
+        self.falls_asleep();
+        for _ in rt.forever() {
+            if self.helps() != since {
+                break;
+            }
+            thread::yield_now();
+        }
+        self.wakes_up();
+    }
+}

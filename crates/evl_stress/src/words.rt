@@ -1,0 +1,33 @@
+//! What the words of the program ask for.
+use crate::runs::Order;
+
+/// A run, and whether its texts are told.
+#[derive(Clone, Copy)]
+pub struct Asked {
+    pub order: Order,
+    pub tells: bool,
+}
+
+/// `SEED THREADS CHOICES`, and `tell` behind them where the texts are to be told: 1 to 63 threads. Nothing where the words
+/// are others.
+pub fn read_words(words: &[String]) -> Option<Asked> {
+    let [seed, threads, choices, rest @ ..] = words else {
+        return None;
+    };
+    let order = Order {
+        seed: seed.parse::<u64>().ok()?,
+        threads: threads.parse::<u16>().ok()?,
+        choices: choices.parse::<u32>().ok()?,
+    };
+    if order.threads < 1 || 63 < order.threads {
+        return None;
+    }
+    match rest {
+        [] => Some(Asked {
+            order,
+            tells: false,
+        }),
+        [word] if word.as_str() == "tell" => Some(Asked { order, tells: true }),
+        _ => None,
+    }
+}
