@@ -1,5 +1,6 @@
 //! The callbacks of the program, each answering just its plan.
 ghost use Rattle.std.specs.Prelude.{◌≡◌, ◌≤◌, ℕ, List, [], ◌∷◌, true, false, if◌then◌else◌, length, map, None, OnErr, IfOk, is_some};
+ghost use Rattle.evl_kernel.specs.Limits.{callback_limit};
 ghost use Rattle.evl_shell.specs.Words.{file_of};
 ghost use Rattle.evl_pipeline.specs.Plans.{answer_of};
 ghost use Rattle.evl_shell.specs.Plays.{Plays};
@@ -170,7 +171,7 @@ pub trait BankUser: Drop {
 
     /// Takes the bank, whose callbacks are eight.
     fn take<R: Threads + Wait + Sync>(self, rt: &R, bank: Vec<Callback>) -> Self::Output
-        requires few { length bank.items ≤ 64 }
+        requires few { length bank.items ≤ callback_limit }
         requires shared { IsSync R.row }
         ensures { makes self (handlers_of (λ (c : _). c.kinds.0) (λ (c : _). c.plan.value) bank.items) result };
 }

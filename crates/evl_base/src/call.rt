@@ -188,6 +188,19 @@ pub enum Call {
     },
 }
 
+/// Copies a call, by the list of the calls without bytes and that of the calls with bytes, each with its other fields.
+macro_rules! copied {
+    ($call:expr, $spares:expr, [$($plain:ident { $($field:ident),* })*], [$($carrier:ident { $($key:ident),* })*]) => {
+        match $call {
+            $(Call::$plain { $($field),* } => Call::$plain { $($field: *$field),* },)*
+            $(Call::$carrier { $($key,)* bytes } => Call::$carrier {
+                $($key: *$key,)*
+                bytes: $spares.take(bytes.as_slice()),
+            },)*
+        }
+    };
+}
+
 impl Call {
     /// The same call once more, its bytes, if it carries any, in a box of `spares`. `Call` isn't `Copy`, as it may carry
     /// bytes (this profile).
@@ -196,125 +209,44 @@ impl Call {
         ensures same { result ≡ self.now }
         ensures spent { spares.new + boxes_in_call self.now ≡ spares.old }
     {
-        match self {
-            Call::Request {
-                line,
-                stage,
-                callback,
-                tag,
-            } => Call::Request {
-                line: *line,
-                stage: *stage,
-                callback: *callback,
-                tag: *tag,
-            },
-            Call::Free { line, stage } => Call::Free {
-                line: *line,
-                stage: *stage,
-            },
-            Call::Arrive { line } => Call::Arrive { line: *line },
-            Call::Post { stage, line } => Call::Post {
-                stage: *stage,
-                line: *line,
-            },
-            Call::Stall { stage } => Call::Stall { stage: *stage },
-            Call::Unstall { stage } => Call::Unstall { stage: *stage },
-            Call::Tick { delta } => Call::Tick { delta: *delta },
-            Call::Now => Call::Now,
-            Call::NewTimer { callback, tag } => Call::NewTimer {
-                callback: *callback,
-                tag: *tag,
-            },
-            Call::StartTimer {
-                timer,
-                date,
-                interval,
-            } => Call::StartTimer {
-                timer: *timer,
-                date: *date,
-                interval: *interval,
-            },
-            Call::StopTimer { timer } => Call::StopTimer { timer: *timer },
-            Call::DropTimer { timer } => Call::DropTimer { timer: *timer },
-            Call::Overruns { timer } => Call::Overruns { timer: *timer },
-            Call::Attach { policy, stage } => Call::Attach {
-                policy: *policy,
-                stage: *stage,
-            },
-            Call::Detach => Call::Detach,
-            Call::SetPolicy { policy } => Call::SetPolicy { policy: *policy },
-            Call::SetStage { stage } => Call::SetStage { stage: *stage },
-            Call::Pick => Call::Pick,
-            Call::RankOf { thread } => Call::RankOf { thread: *thread },
-            Call::TryGet { sem } => Call::TryGet { sem: *sem },
-            Call::Put { sem } => Call::Put { sem: *sem },
-            Call::Peek { sem } => Call::Peek { sem: *sem },
-            Call::BeginGet { sem, until } => Call::BeginGet {
-                sem: *sem,
-                until: *until,
-            },
-            Call::TryTake { flags, kind } => Call::TryTake {
-                flags: *flags,
-                kind: *kind,
-            },
-            Call::PostFlags { flags, bits } => Call::PostFlags {
-                flags: *flags,
-                bits: *bits,
-            },
-            Call::PeekFlags { flags } => Call::PeekFlags { flags: *flags },
-            Call::BeginTake { flags, kind, until } => Call::BeginTake {
-                flags: *flags,
-                kind: *kind,
-                until: *until,
-            },
-            Call::Write { xbuf, way, bytes } => Call::Write {
-                xbuf: *xbuf,
-                way: *way,
-                bytes: spares.take(bytes.as_slice()),
-            },
-            Call::Read { xbuf, way, len } => Call::Read {
-                xbuf: *xbuf,
-                way: *way,
-                len: *len,
-            },
-            Call::Room { xbuf, way } => Call::Room {
-                xbuf: *xbuf,
-                way: *way,
-            },
-            Call::BeginWrite {
-                xbuf,
-                way,
-                bytes,
-                until,
-            } => Call::BeginWrite {
-                xbuf: *xbuf,
-                way: *way,
-                bytes: spares.take(bytes.as_slice()),
-                until: *until,
-            },
-            Call::BeginRead {
-                xbuf,
-                way,
-                len,
-                until,
-            } => Call::BeginRead {
-                xbuf: *xbuf,
-                way: *way,
-                len: *len,
-                until: *until,
-            },
-            Call::Claim {
-                mutex,
-                owner,
-                until,
-            } => Call::Claim {
-                mutex: *mutex,
-                owner: *owner,
-                until: *until,
-            },
-            Call::Release { mutex } => Call::Release { mutex: *mutex },
-            Call::Raise { mutex } => Call::Raise { mutex: *mutex },
-            Call::Finish { keep } => Call::Finish { keep: *keep },
-        }
+        copied!(self, spares, [
+            Request { line, stage, callback, tag }
+            Free { line, stage }
+            Arrive { line }
+            Post { stage, line }
+            Stall { stage }
+            Unstall { stage }
+            Tick { delta }
+            Now {}
+            NewTimer { callback, tag }
+            StartTimer { timer, date, interval }
+            StopTimer { timer }
+            DropTimer { timer }
+            Overruns { timer }
+            Attach { policy, stage }
+            Detach {}
+            SetPolicy { policy }
+            SetStage { stage }
+            Pick {}
+            RankOf { thread }
+            TryGet { sem }
+            Put { sem }
+            Peek { sem }
+            BeginGet { sem, until }
+            TryTake { flags, kind }
+            PostFlags { flags, bits }
+            PeekFlags { flags }
+            BeginTake { flags, kind, until }
+            Read { xbuf, way, len }
+            Room { xbuf, way }
+            BeginRead { xbuf, way, len, until }
+            Claim { mutex, owner, until }
+            Release { mutex }
+            Raise { mutex }
+            Finish { keep }
+        ], [
+            Write { xbuf, way }
+            BeginWrite { xbuf, way, until }
+        ])
     }
 }

@@ -1,5 +1,5 @@
 //! What a call says in a trace, by families: lines, clock, threads, flag groups, cross-buffers, mutexes,
-//! semaphores and waits. A family hands on what isn't its own, so that a call costs the proof of its family alone.
+//! semaphores, the end of a wait. A family hands on what isn't its own, so that a call costs the proof of its family alone.
 ghost use Rattle.std.specs.Prelude.{Some};
 
 use crate::call::Call;
@@ -36,6 +36,22 @@ impl fmt::Display for Call {
                 };
                 write!(f, "free {at}")
             }
+            _ => LineText(self).fmt(f),
+        }
+    }
+}
+
+/// The text of a call on a line or a stage that installs nothing, or of one of those below.
+#[derive(Drop)]
+struct LineText<'a>(&'a Call);
+
+impl<'a> fmt::Display for LineText<'a> {
+    ghost use Rattle.evl_base.specs.Call.{call_text};
+
+    ghost output = { λ text. Some (call_text text.0.now) };
+
+    fn fmt<W: fmt::Write>(&self, f: &mut fmt::Formatter<W>) -> fmt::Result {
+        match self.0 {
             Call::Arrive { line } => Numbered("arrive line=", line.0).fmt(f),
             Call::Post { stage, line } => {
                 let at = StageAndLine {
@@ -46,7 +62,7 @@ impl fmt::Display for Call {
             }
             Call::Stall { stage } => Staged("stall stage=", *stage).fmt(f),
             Call::Unstall { stage } => Staged("unstall stage=", *stage).fmt(f),
-            _ => ClockText(self).fmt(f),
+            _ => ClockText(self.0).fmt(f),
         }
     }
 }
@@ -179,6 +195,22 @@ impl<'a> fmt::Display for BufferText<'a> {
                 };
                 write!(f, "room {at}")
             }
+            _ => TransferText(self.0).fmt(f),
+        }
+    }
+}
+
+/// The text of a call that begins a wait for a cross-buffer, or of one of those below.
+#[derive(Drop)]
+struct TransferText<'a>(&'a Call);
+
+impl<'a> fmt::Display for TransferText<'a> {
+    ghost use Rattle.evl_base.specs.Call.{call_text};
+
+    ghost output = { λ text. Some (call_text text.0.now) };
+
+    fn fmt<W: fmt::Write>(&self, f: &mut fmt::Formatter<W>) -> fmt::Result {
+        match self.0 {
             Call::BeginWrite {
                 xbuf,
                 way,
@@ -237,17 +269,16 @@ impl<'a> fmt::Display for MutexText<'a> {
             }
             Call::Release { mutex } => Numbered("release mutex=", mutex.0).fmt(f),
             Call::Raise { mutex } => Numbered("raise mutex=", mutex.0).fmt(f),
-            _ => WaitText(self.0).fmt(f),
+            _ => SemText(self.0).fmt(f),
         }
     }
 }
 
-/// The text of a call on semaphores and waits. The calls of the families above are named, so that a new call is in one of
-/// them or here.
+/// The text of a call on semaphores, or of the one below.
 #[derive(Drop)]
-struct WaitText<'a>(&'a Call);
+struct SemText<'a>(&'a Call);
 
-impl<'a> fmt::Display for WaitText<'a> {
+impl<'a> fmt::Display for SemText<'a> {
     ghost use Rattle.evl_base.specs.Call.{call_text};
 
     ghost output = { λ text. Some (call_text text.0.now) };
@@ -262,6 +293,23 @@ impl<'a> fmt::Display for WaitText<'a> {
                 let until = Until(*until);
                 write!(f, "begin_get sem={sem} until={until}")
             }
+            _ => FinishText(self.0).fmt(f),
+        }
+    }
+}
+
+/// The text of the call that ends a wait. The calls of the families above are named, so that a new call is in one of them
+/// or here.
+#[derive(Drop)]
+struct FinishText<'a>(&'a Call);
+
+impl<'a> fmt::Display for FinishText<'a> {
+    ghost use Rattle.evl_base.specs.Call.{call_text};
+
+    ghost output = { λ text. Some (call_text text.0.now) };
+
+    fn fmt<W: fmt::Write>(&self, f: &mut fmt::Formatter<W>) -> fmt::Result {
+        match self.0 {
             Call::Finish { keep } => write!(f, "finish keep={keep}"),
             Call::Request { .. }
             | Call::Free { .. }
@@ -282,6 +330,10 @@ impl<'a> fmt::Display for WaitText<'a> {
             | Call::SetStage { .. }
             | Call::Pick
             | Call::RankOf { .. }
+            | Call::TryGet { .. }
+            | Call::Put { .. }
+            | Call::Peek { .. }
+            | Call::BeginGet { .. }
             | Call::TryTake { .. }
             | Call::PostFlags { .. }
             | Call::PeekFlags { .. }

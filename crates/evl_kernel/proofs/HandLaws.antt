@@ -8,7 +8,7 @@ use Rattle.evl_mutex.specs.Owners as owners
 use Rattle.evl_sched.specs.Ranks.{Ranked, IsSoundSched, given_to, rank_of, with_given}
 use Rattle.evl_sched.specs.Threads.{Sched, base_of, is_attached}
 use Rattle.evl_kernel.specs.ElementsViews.{ElementsView, owners_of}
-use Rattle.evl_kernel.specs.Limits.{thread_limit}
+use Rattle.evl_base.specs.Limits.{thread_limit}
 use Rattle.evl_kernel.specs.Records.{AreGiven, AreTold}
 use Rattle.evl_kernel.specs.ThreadCalls.{rank_by}
 use Rattle.evl_kernel.proofs.RankLaws.{rank_told}

@@ -18,7 +18,7 @@ use Rattle.evl_mutex.proofs.QueueLaws.{stands-dropped, stands-enqueued}
 use Rattle.evl_mutex.proofs.SoundLaws.{all-at, sound-claimed, sound-idle, sound-left, sound-released}
 use Rattle.evl_kernel.specs.Effects.{Answered, done}
 use Rattle.evl_kernel.specs.Beginnings.{waits_back}
-use Rattle.evl_kernel.specs.Limits.{thread_limit}
+use Rattle.evl_base.specs.Limits.{thread_limit}
 use Rattle.evl_kernel.specs.Mutexes as step
 use Rattle.evl_kernel.specs.Mutexes.{handed_told, mutex as machine, mutex_wakes}
 use Rattle.evl_kernel.specs.Semaphores.{one_served}

@@ -38,7 +38,7 @@ use Rattle.evl_sched.specs.Threads as threads
 use Rattle.evl_sched.specs.Threads.{Sched, base_of, is_attached}
 use Rattle.evl_sched.specs.declared.seat.Seat.{Seat}
 use Rattle.evl_sched.specs.Policies.{base_rank}
-use Rattle.evl_kernel.specs.Limits.{thread_limit}
+use Rattle.evl_base.specs.Limits.{thread_limit}
 use Rattle.evl_kernel.specs.ElementsViews.{owners_of}
 use Rattle.evl_xbuf.specs.Xbufs as xbufs
 use Rattle.evl_xbuf.specs.Xbufs.{IsSoundXbuf, Xbuf}

@@ -33,7 +33,7 @@ use Rattle.evl_kernel.specs.declared.waits.Awaited.TheVariants as awaited_of
 use Rattle.evl_kernel.specs.declared.waits.Wait.{Wait}
 use Rattle.evl_kernel.specs.declared.waits.Wanted.{Wanted}
 use Rattle.evl_kernel.specs.declared.waits.Wanted.TheVariants as wanted
-use Rattle.evl_kernel.specs.Limits.{thread_limit}
+use Rattle.evl_base.specs.Limits.{thread_limit}
 use Rattle.evl_kernel.specs.States.{Elements, Handler, State, with_sched}
 use Rattle.evl_kernel.specs.Effects.{Answered, Effect, if_done, leaving, lifted}
 use Rattle.evl_kernel.specs.Elements.{ElementStep, element, elements, serves, stepping_to, touched, wakes, with_elements}

@@ -32,7 +32,7 @@ use Rattle.evl_mutex.specs.declared.waiter.Waiter.{Waiter}
 use Rattle.evl_mutex.specs.Mutexes as mutex
 use Rattle.evl_mutex.specs.Mutexes.{Mutex as MutexRecorded, is_open_to}
 use Rattle.evl_mutex.specs.Chains.{reaches, waits_for}
-use Rattle.evl_kernel.specs.Limits.{thread_limit}
+use Rattle.evl_base.specs.Limits.{thread_limit}
 use Rattle.evl_kernel.specs.Mutexes as recorded
 use Rattle.evl_kernel.specs.Mutexes.{mutex as mutex_machine, mutex_wakes}
 use Rattle.evl_xbuf.specs.Xbufs as xbufs

@@ -14,7 +14,7 @@ use Rattle.evl_sched.specs.Ranks as ranks
 use Rattle.evl_sched.specs.Ranks.{Ranked, given_to, with_given}
 use Rattle.evl_sched.specs.Threads.{Sched, base_of, is_attached, refused_first}
 use Rattle.evl_sched.proofs.SeatLaws.{SamePolicies, attached-same, base-same, policies-charged, policies-stage_set}
-use Rattle.evl_kernel.specs.Limits.{thread_limit}
+use Rattle.evl_base.specs.Limits.{thread_limit}
 use Rattle.evl_kernel.specs.Records.{AreGiven, AreTold, RanksAreKept}
 use Rattle.evl_kernel.specs.ThreadCalls.{rank_by}
 

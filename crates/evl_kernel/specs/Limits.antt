@@ -1,10 +1,6 @@
 -- How many there are at most.
 use Rattle.std.specs.Prelude.{ℕ}
 
--- the threads of a board
-abbrev pub thread_limit : ℕ
-thread_limit = 64
-
 -- the callbacks of a bank
 abbrev pub callback_limit : ℕ
 callback_limit = 64

@@ -18,7 +18,7 @@ use Rattle.evl_kernel.specs.declared.waits.Awaited.{Awaited}
 use Rattle.evl_kernel.specs.declared.waits.Wait.{Wait}
 use Rattle.evl_kernel.specs.declared.bank.BankPlace.{BankPlace}
 use Rattle.evl_kernel.specs.declared.bank.Numbered.{Numbered}
-use Rattle.evl_kernel.specs.Limits.{thread_limit}
+use Rattle.evl_base.specs.Limits.{thread_limit}
 use Rattle.evl_kernel.specs.States.{State, Elements, Banked}
 use Rattle.evl_kernel.specs.ElementsViews.{ElementsView, owners_of}
 use Rattle.evl_kernel.specs.ThreadCalls.{rank_by}
@@ -71,9 +71,9 @@ AreAllowed s = (stage : Stage) (line : ℕ) (at : lines.Installed ℕ) → lines
 abbrev pub AreTimersAllowed : State → Type 0
 AreTimersAllowed s = (timer : ℕ) (at : Timer ℕ) → clocks.timer_at s.clock timer ≡ Some at → is_timer_allowed (kinds_at s at.callback) ≡ true
 
--- each thread, at most 64, has a place for its wait, and whoever stands in a queue waits for that, and its wait goes on
+-- each thread of a board has a place for its wait, and whoever stands in a queue waits for that, and its wait goes on
 pub record WaitsAreKept (threads : ℕ) (e : Elements) (waits : List (Option Wait)) : Type 0 where
-  pub few : threads ≤ 64
+  pub few : threads ≤ thread_limit
   pub sound : AreSound e
   pub places : length waits ≡ threads
   pub going : (on : Awaited) (thread : ℕ) → stands_for e on thread ≡ true → wait_of waits thread ≡ Some (going_on on)

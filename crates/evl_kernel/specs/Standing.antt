@@ -12,7 +12,7 @@ use Rattle.evl_mutex.specs.Mutexes.{Mutex as MutexRecorded, is_waited_for_by}
 use Rattle.evl_mutex.specs.Owners.{Owners, IsSound}
 use Rattle.evl_kernel.specs.declared.waits.Awaited.{Awaited}
 use Rattle.evl_kernel.specs.declared.waits.Awaited.TheVariants.{Sem, Flags, Writing, Reading, Mutex}
-use Rattle.evl_kernel.specs.Limits.{thread_limit}
+use Rattle.evl_base.specs.Limits.{thread_limit}
 use Rattle.evl_kernel.specs.States.{Elements}
 
 abbrev pub in_sem : Semaphore → ℕ → Bool

@@ -13,7 +13,7 @@ use Rattle.evl_sched.specs.Picks.{picked}
 use Rattle.evl_sched.specs.Charges.{charged, refilled_at}
 use Rattle.evl_mutex.specs.Mutexes.{Mutex, is_owned_by}
 use Rattle.evl_mutex.specs.Ranks.{effective}
-use Rattle.evl_kernel.specs.Limits.{thread_limit}
+use Rattle.evl_base.specs.Limits.{thread_limit}
 use Rattle.evl_kernel.specs.States.{State, with_sched}
 use Rattle.evl_kernel.specs.Effects.{Effect, done, tells, refused_by}
 use Rattle.evl_kernel.specs.Mutexes.{named}

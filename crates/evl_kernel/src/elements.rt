@@ -2,7 +2,7 @@
 ghost use Rattle.std.specs.Prelude.{◌≡◌, IfErr, IfOk, map, replicate, true};
 ghost use Rattle.std.specs.List.{list_all};
 ghost use Rattle.evl_base.specs.Board.{board_fits};
-ghost use Rattle.evl_kernel.specs.Limits.{thread_limit};
+ghost use Rattle.evl_base.specs.Limits.{thread_limit};
 ghost use Rattle.evl_kernel.specs.Openings.{all_opened};
 ghost use Rattle.evl_sync.specs.FlagGroups as flag_groups;
 ghost use Rattle.evl_sync.specs.Semaphores as semaphores;
@@ -15,15 +15,13 @@ mod mutexes;
 mod semaphores;
 mod waiting;
 
+use crate::THREADS;
 use evl_base::{Board, Refusal};
 use evl_mutex::OwnersOf;
 use evl_sync::{FlagGroup, Sem};
 use evl_xbuf::XbufOf;
 use std::alloc::{AllocError, Allocator};
 use std::marker::Model;
-
-/// The most threads that a board has.
-const THREADS: u16 = 64;
 
 /// The semaphores, flag groups, cross-buffers and mutexes of a board. No step takes memory.
 #[derive(Drop)]
@@ -64,7 +62,7 @@ impl<A: Allocator> Elements<A> {
         };
         let for_owners = alloc.clone().map_err(|_| Refusal::NoMemory)?;
         let xbufs = opened_xbufs(alloc, board.xbufs.as_slice())?;
-        let owners = OwnersOf::new(for_owners, THREADS, board.mutexes.as_slice())?;
+        let owners = OwnersOf::new(for_owners, THREADS as u16, board.mutexes.as_slice())?;
         Ok(Elements {
             sems,
             flags,

@@ -1,17 +1,15 @@
 //! Effective ranks, handed on to the scheduler.
 ghost use Rattle.std.specs.Prelude.{◌≡◌, ◌≢◌, ◌≤◌, ◌<◌, ℕ, true, length, slice_index};
-ghost use Rattle.evl_kernel.specs.Limits.{thread_limit};
+ghost use Rattle.evl_base.specs.Limits.{thread_limit};
 ghost use Rattle.evl_kernel.specs.Records.{AreGiven, AreTold};
 ghost use Rattle.evl_sched.specs.Ranks.{given_to, rank_of};
 ghost use Rattle.evl_sched.specs.Threads.{base_of, is_attached};
 
+use crate::THREADS;
 use crate::elements::Elements;
 use evl_base::ThreadId;
 use evl_sched::SchedOf;
 use std::alloc::Allocator;
-
-/// The most threads that a board has.
-const THREADS: u16 = 64;
 
 /// Gives each attached thread its effective rank, where it has another one.
 pub(crate) fn hand_on<A: Allocator>(elements: &Elements<A>, sched: &mut SchedOf<A>)
@@ -19,9 +17,9 @@ pub(crate) fn hand_on<A: Allocator>(elements: &Elements<A>, sched: &mut SchedOf<
     ensures given { AreGiven sched.new elements.now.elements.mutexes }
     ensures kept { sched.new.sched ≡ sched.old.sched }
 {
-    let mut ranks = [0; 64];
+    let mut ranks = [0; THREADS];
     elements.ranks(&mut ranks);
-    for number in 0..THREADS {
+    for number in 0..THREADS as u16 {
         hand_to(sched, ThreadId(number), ranks[usize::from(number)]);
     }
 }

@@ -10,7 +10,7 @@ ghost use Rattle.evl_clock.specs.Clocks.{timer_at};
 ghost use Rattle.evl_clock.specs.Limits.{timer_count};
 ghost use Rattle.evl_sched.specs.Threads.{stage_of};
 ghost use Rattle.evl_kernel.specs.Callbacks.{AreFilled};
-ghost use Rattle.evl_kernel.specs.Limits.{thread_limit};
+ghost use Rattle.evl_base.specs.Limits.{thread_limit};
 ghost use Rattle.evl_kernel.specs.Openings.{all_opened};
 ghost use Rattle.evl_kernel.specs.Records.{IsOpened, state_of};
 ghost use Rattle.evl_kernel.specs.Waits.{has_ended, has_timed_out, is_waiting};

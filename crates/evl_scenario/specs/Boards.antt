@@ -1,6 +1,7 @@
 -- The board and the limit of a scenario.
 use Rattle.std.specs.Prelude.{ℕ, ◌&&◌, Bool, List, [], ◌∷◌, if◌then◌else◌, Option, Some, None, option_map, option_and_then, unwrap_or, codes}
 use Rattle.toml.specs.Data.{Data, Members, get_member}
+use Rattle.evl_base.specs.Limits.{flags_limit, sem_limit}
 use Rattle.evl_base.specs.Board.{board_fits}
 use Rattle.evl_base.specs.Limits.{within}
 use Rattle.evl_base.specs.declared.board.Board.{Board}
@@ -27,8 +28,8 @@ board_with ms =
     (list_of byte_from 16 (get_member (codes "groups") ms)))
     (list_of mutex_kind_from 32 (get_member (codes "mutexes") ms)))
     (list_of ring_sizes_from 16 (get_member (codes "xbufs") ms)))
-    (list_of word_from 64 (get_member (codes "flags") ms)))
-    (list_of word_from 64 (get_member (codes "sems") ms)))
+    (list_of word_from flags_limit (get_member (codes "flags") ms)))
+    (list_of word_from sem_limit (get_member (codes "sems") ms)))
     (value_at half_word_from (codes "threads") ms)
 
 abbrev pub board_keys : List (List ℕ)

@@ -1,6 +1,7 @@
 -- Which numbers the fields of a step and of a board can hold, by their types.
 use Rattle.std.specs.Prelude.{ℕ, ◌<◌, ◌≤◌, ◌^◌, List, [], ◌∷◌, length, slice_index, Option, Some, None}
 use Rattle.hex.specs.Hex.{IsBytes}
+use Rattle.evl_base.specs.Limits.{flags_limit, sem_limit}
 use Rattle.evl_base.specs.declared.board.Board.{Board}
 use Rattle.evl_base.specs.declared.call.Call.{Call}
 use Rattle.evl_base.specs.declared.call.Call.TheVariants.{Request, Free, Arrive, Post, Stall, Unstall, Tick, Now, NewTimer, StartTimer, StopTimer, DropTimer, Overruns, Attach, Detach, SetPolicy, SetStage, Pick, RankOf, TryGet, Put, Peek, BeginGet, TryTake, PostFlags, PeekFlags, BeginTake, Write, Read, Room, BeginWrite, BeginRead, Claim, Release, Raise, Finish}
@@ -80,8 +81,8 @@ AreWords words = (i : ℕ) → slice_index words i < 2 ^ 32
 -- how long a board's lists can be, and the bits of its flag groups
 abbrev pub BoardHolds : Board → Type 0
 BoardHolds board =
-    (length board.sems.items ≤ 64)
-    × (length board.flags.items ≤ 64)
+    (length board.sems.items ≤ sem_limit)
+    × (length board.flags.items ≤ flags_limit)
     × (length board.xbufs.items ≤ 16)
     × (length board.mutexes.items ≤ 32)
     × (length board.groups.items ≤ 16)

@@ -244,6 +244,22 @@ impl<'a> fmt::Display for BufferKeys<'a> {
                 let xbuf = xbuf.0;
                 write!(f, "xbuf = {xbuf}\nway = \"{way}\"\n")
             }
+            _ => TransferKeys(self.0).fmt(f),
+        }
+    }
+}
+
+/// The keys of a call that begins a wait for a cross-buffer, or of one of those below.
+#[derive(Drop)]
+struct TransferKeys<'a>(&'a Call);
+
+impl<'a> fmt::Display for TransferKeys<'a> {
+    ghost use Rattle.evl_scenario.specs.Writings.{call_pairs, pairs_text};
+
+    ghost output = { λ keys. Some (pairs_text (call_pairs keys.0.now)) };
+
+    fn fmt<W: fmt::Write>(&self, f: &mut fmt::Formatter<W>) -> fmt::Result {
+        match self.0 {
             Call::BeginWrite {
                 xbuf,
                 way,
@@ -324,17 +340,16 @@ impl<'a> fmt::Display for MutexKeys<'a> {
                 let mutex = mutex.0;
                 write!(f, "mutex = {mutex}\n")
             }
-            _ => WaitKeys(self.0).fmt(f),
+            _ => SemKeys(self.0).fmt(f),
         }
     }
 }
 
-/// The keys of a call on semaphores and waits. The calls of the families above are named, so that a new call is in one of
-/// them or here.
+/// The keys of a call on semaphores, or of the one below.
 #[derive(Drop)]
-struct WaitKeys<'a>(&'a Call);
+struct SemKeys<'a>(&'a Call);
 
-impl<'a> fmt::Display for WaitKeys<'a> {
+impl<'a> fmt::Display for SemKeys<'a> {
     ghost use Rattle.evl_scenario.specs.Writings.{call_pairs, pairs_text};
 
     ghost output = { λ keys. Some (pairs_text (call_pairs keys.0.now)) };
@@ -358,6 +373,23 @@ impl<'a> fmt::Display for WaitKeys<'a> {
                 let until = Until(*until);
                 write!(f, "sem = {sem}\nuntil = {until}\n")
             }
+            _ => FinishKeys(self.0).fmt(f),
+        }
+    }
+}
+
+/// The keys of the call that ends a wait. The calls of the families above are named, so that a new call is in one of them
+/// or here.
+#[derive(Drop)]
+struct FinishKeys<'a>(&'a Call);
+
+impl<'a> fmt::Display for FinishKeys<'a> {
+    ghost use Rattle.evl_scenario.specs.Writings.{call_pairs, pairs_text};
+
+    ghost output = { λ keys. Some (pairs_text (call_pairs keys.0.now)) };
+
+    fn fmt<W: fmt::Write>(&self, f: &mut fmt::Formatter<W>) -> fmt::Result {
+        match self.0 {
             Call::Finish { keep } => write!(f, "keep = {keep}\n"),
             Call::Request { .. }
             | Call::Free { .. }
@@ -378,6 +410,10 @@ impl<'a> fmt::Display for WaitKeys<'a> {
             | Call::SetStage { .. }
             | Call::Pick
             | Call::RankOf { .. }
+            | Call::TryGet { .. }
+            | Call::Put { .. }
+            | Call::Peek { .. }
+            | Call::BeginGet { .. }
             | Call::TryTake { .. }
             | Call::PostFlags { .. }
             | Call::PeekFlags { .. }

@@ -64,13 +64,6 @@ fn know_until(until: Option<u64>)
     }
 }
 
-// An element, and the date of a deadline.
-fn know_wait(element: u16, until: Option<u64>)
-    ensures { (element < 2 ^ 16) × UntilFits until }
-{
-    know_until(until)
-}
-
 fn know_each(bytes: &[u8])
     ensures { IsBytes bytes.now }
 {
@@ -86,110 +79,57 @@ fn know_bytes(bytes: &Transfer)
     know_each(bytes.as_slice())
 }
 
+/// Knows what is told of each field, by the list of the calls with their fields.
+macro_rules! know {
+    ($call:expr, [$($variant:ident { $($field:ident: $known:expr),* })*]) => {
+        match $call {
+            $(Call::$variant { $($field,)* .. } => { $($known;)* })*
+        }
+    };
+}
+
 // The numbers of a call.
 fn know_call(call: &Call)
     ensures { CallFits call.now }
 {
-    match call {
-        Call::Request {
-            line,
-            stage: _,
-            callback,
-            tag,
-        } => {
-            know_half(line.0);
-            know_byte(*callback);
-            know_word(*tag)
-        }
-        Call::Free { line, stage: _ } => know_half(line.0),
-        Call::Arrive { line } => know_half(line.0),
-        Call::Post { stage: _, line } => know_half(line.0),
-        Call::Stall { stage: _ } => {}
-        Call::Unstall { stage: _ } => {}
-        Call::Tick { delta } => know_moment(*delta),
-        Call::Now => {}
-        Call::NewTimer { callback, tag } => {
-            know_byte(*callback);
-            know_word(*tag)
-        }
-        Call::StartTimer {
-            timer,
-            date,
-            interval,
-        } => {
-            know_half(timer.0);
-            know_moment(*date);
-            know_moment(*interval)
-        }
-        Call::StopTimer { timer } => know_half(timer.0),
-        Call::DropTimer { timer } => know_half(timer.0),
-        Call::Overruns { timer } => know_half(timer.0),
-        Call::Attach { policy, stage: _ } => know_policy(*policy),
-        Call::Detach => {}
-        Call::SetPolicy { policy } => know_policy(*policy),
-        Call::SetStage { stage: _ } => {}
-        Call::Pick => {}
-        Call::RankOf { thread } => know_half(thread.0),
-        Call::TryGet { sem } => know_half(sem.0),
-        Call::Put { sem } => know_half(sem.0),
-        Call::Peek { sem } => know_half(sem.0),
-        Call::BeginGet { sem, until } => know_wait(sem.0, *until),
-        Call::TryTake { flags, kind } => {
-            know_half(flags.0);
-            know_take(*kind)
-        }
-        Call::PostFlags { flags, bits } => {
-            know_half(flags.0);
-            know_word(*bits)
-        }
-        Call::PeekFlags { flags } => know_half(flags.0),
-        Call::BeginTake { flags, kind, until } => {
-            know_take(*kind);
-            know_wait(flags.0, *until)
-        }
-        Call::Write {
-            xbuf,
-            way: _,
-            bytes,
-        } => {
-            know_half(xbuf.0);
-            know_bytes(bytes)
-        }
-        Call::Read { xbuf, way: _, len } => {
-            know_half(xbuf.0);
-            know_half(*len)
-        }
-        Call::Room { xbuf, way: _ } => know_half(xbuf.0),
-        Call::BeginWrite {
-            xbuf,
-            way: _,
-            bytes,
-            until,
-        } => {
-            know_bytes(bytes);
-            know_wait(xbuf.0, *until)
-        }
-        Call::BeginRead {
-            xbuf,
-            way: _,
-            len,
-            until,
-        } => {
-            know_half(*len);
-            know_wait(xbuf.0, *until)
-        }
-        Call::Claim {
-            mutex,
-            owner,
-            until,
-        } => {
-            know_half(owner.0);
-            know_wait(mutex.0, *until)
-        }
-        Call::Release { mutex } => know_half(mutex.0),
-        Call::Raise { mutex } => know_half(mutex.0),
-        Call::Finish { keep: _ } => {}
-    }
+    know!(call, [
+        Request { line: know_half(line.0), callback: know_byte(*callback), tag: know_word(*tag) }
+        Free { line: know_half(line.0) }
+        Arrive { line: know_half(line.0) }
+        Post { line: know_half(line.0) }
+        Stall {}
+        Unstall {}
+        Tick { delta: know_moment(*delta) }
+        Now {}
+        NewTimer { callback: know_byte(*callback), tag: know_word(*tag) }
+        StartTimer { timer: know_half(timer.0), date: know_moment(*date), interval: know_moment(*interval) }
+        StopTimer { timer: know_half(timer.0) }
+        DropTimer { timer: know_half(timer.0) }
+        Overruns { timer: know_half(timer.0) }
+        Attach { policy: know_policy(*policy) }
+        Detach {}
+        SetPolicy { policy: know_policy(*policy) }
+        SetStage {}
+        Pick {}
+        RankOf { thread: know_half(thread.0) }
+        TryGet { sem: know_half(sem.0) }
+        Put { sem: know_half(sem.0) }
+        Peek { sem: know_half(sem.0) }
+        BeginGet { sem: know_half(sem.0), until: know_until(*until) }
+        TryTake { flags: know_half(flags.0), kind: know_take(*kind) }
+        PostFlags { flags: know_half(flags.0), bits: know_word(*bits) }
+        PeekFlags { flags: know_half(flags.0) }
+        BeginTake { flags: know_half(flags.0), kind: know_take(*kind), until: know_until(*until) }
+        Write { xbuf: know_half(xbuf.0), bytes: know_bytes(bytes) }
+        Read { xbuf: know_half(xbuf.0), len: know_half(*len) }
+        Room { xbuf: know_half(xbuf.0) }
+        BeginWrite { xbuf: know_half(xbuf.0), bytes: know_bytes(bytes), until: know_until(*until) }
+        BeginRead { xbuf: know_half(xbuf.0), len: know_half(*len), until: know_until(*until) }
+        Claim { mutex: know_half(mutex.0), owner: know_half(owner.0), until: know_until(*until) }
+        Release { mutex: know_half(mutex.0) }
+        Raise { mutex: know_half(mutex.0) }
+        Finish {}
+    ])
 }
 
 /// The numbers of a step are those of its fields' types (this profile).

@@ -1,5 +1,6 @@
 //! Reads a scenario, plays it, and says why it stopped.
 ghost use Rattle.std.specs.Prelude.{◌≡◌, ◌⊎◌, ◌≤◌, ◌++◌, false, length, decimal, codes, IfOk, IfErr};
+ghost use Rattle.evl_kernel.specs.Limits.{callback_limit};
 ghost use Rattle.evl_scenario.specs.Lines.{line_feed};
 ghost use Rattle.evl_shell.specs.Sinks.{TakesPrefix, Takes};
 ghost use Rattle.evl_shell.specs.Runs.{handlers_of};
@@ -144,7 +145,7 @@ pub fn play_input<R: Read, S: Sink>(
     out: &mut S,
 ) -> Result<(), Stop>
     requires working { S.has_failed out.old ≡ false }
-    requires few { length bank.items ≤ 64 }
+    requires few { length bank.items ≤ callback_limit }
     ensures { Ended (handlers_of (λ (c : _). c.kinds.0) (λ (c : _). c.plan.value) bank.items) limit (R.remaining input.old) (S.told out.old) (S.told out.new) (S.has_failed out.new) result }
 {
     let text = match read_input(alloc, input) {

@@ -1,5 +1,6 @@
 //! The program: what it does with its words.
 ghost use Rattle.std.specs.Prelude.{◌≡◌, ◌≤◌, false, true, length, map, None, is_some, option_map, IfErr};
+ghost use Rattle.evl_kernel.specs.Limits.{callback_limit};
 ghost use Rattle.clap.specs.Words.{kind_of};
 ghost use Rattle.evl_shell.specs.Sinks.{TakesPrefix};
 ghost use Rattle.evl_shell.specs.Runs.{handlers_of};
@@ -43,7 +44,7 @@ fn play_file<F: Files, S: Sink>(
     out: &mut S,
 ) -> Result<(), Stop>
     requires working { S.has_failed out.old ≡ false }
-    requires few { length bank.items ≤ 64 }
+    requires few { length bank.items ≤ callback_limit }
     ensures { Ended (handlers_of (λ (c : _). c.kinds.0) (λ (c : _). c.plan.value) bank.items) limit None (S.told out.old) (S.told out.new) (S.has_failed out.new) result }
 {
     match open_file(rt, path) {
@@ -62,7 +63,7 @@ fn play_asked<F: Files, R: Read, S: Sink>(
     out: &mut S,
 ) -> Result<(), Stop>
     requires working { S.has_failed out.old ≡ false }
-    requires few { length bank.items ≤ 64 }
+    requires few { length bank.items ≤ callback_limit }
     ensures ended { Ended (handlers_of (λ (c : _). c.kinds.0) (λ (c : _). c.plan.value) bank.items) asked.entry.limit (source (option_map (λ s. s.now) asked.entry.file) (R.remaining input.old)) (S.told out.old) (S.told out.new) (S.has_failed out.new) result }
     ensures untouched { is_some asked.entry.file ≡ true → input.new ≡ input.old }
 {
@@ -146,7 +147,7 @@ pub fn play<F: Files, R: Read, S: Sink, E: Write>(
     err: &mut E,
 ) -> u8
     requires working { S.has_failed out.old ≡ false }
-    requires few { length bank.items ≤ 64 }
+    requires few { length bank.items ≤ callback_limit }
     ensures answers { Answers (map (λ s. s.now) words.now) (handlers_of (λ (c : _). c.kinds.0) (λ (c : _). c.plan.value) bank.items) (R.remaining input.old) (S.told out.old) (S.told out.new) (S.has_failed out.new) (E.contents err.old) (E.contents err.new) result }
     ensures untouched { is_some (file_of (map (λ s. s.now) words.now)) ≡ true → input.new ≡ input.old }
     ensures plain { length words.now ≤ 1 → Plays (handlers_of (λ (c : _). c.kinds.0) (λ (c : _). c.plan.value) bank.items) None (R.remaining input.old) (S.told out.old) (S.told out.new) (S.has_failed out.new) (E.contents err.old) (E.contents err.new) result }

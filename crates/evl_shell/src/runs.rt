@@ -1,6 +1,7 @@
 //! Plays a scenario into a sink.
 ghost use Rattle.std.specs.Prelude.{◌≡◌, ◌≤◌, length, List, ℕ, [], true, false, Ok, Err, OnOk, OnErr, IfOk, IfErr, drop};
 ghost use Rattle.std.specs.Io.KnownBytes.{Appends};
+ghost use Rattle.evl_kernel.specs.Limits.{callback_limit};
 ghost use Rattle.evl_kernel.specs.Callbacks.{AnswersAsTold};
 ghost use Rattle.evl_shell.specs.Sinks.{Passes};
 ghost use Rattle.evl_scenario.specs.Faults.{IsRefusal};
@@ -214,7 +215,7 @@ pub fn run<S: Sink>(
     out: &mut S,
 ) -> Result<(), Fault>
     requires working { S.has_failed out.old ≡ false }
-    requires few { length bank.items ≤ 64 }
+    requires few { length bank.items ≤ callback_limit }
 
     // The whole trace, and nothing else.
     ensures done { OnOk result (Writes (S.told out.old) (S.told out.new) (trace_of (handlers_of (λ (c : _). c.kinds.0) (λ (c : _). c.plan.value) bank.items) limit text.now)) }

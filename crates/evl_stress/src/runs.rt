@@ -1,5 +1,6 @@
 //! A run of host threads on one machine, from a seed to the texts of what they did.
 ghost use Rattle.std.specs.Prelude.{◌≡◌, ◌≤◌, All, IfOk, length};
+ghost use Rattle.evl_kernel.specs.Limits.{callback_limit};
 ghost use denote.Param.Send.{IsSync};
 ghost use Rattle.evl_bank.specs.Bank.{program_bank};
 ghost use Rattle.evl_kernel.specs.Callbacks.{AnswersAsTold};
@@ -160,7 +161,7 @@ fn run_over<R: Threads + Wait + Sync>(
     order: Order,
     bank: Vec<Callback>,
 ) -> Result<Texts, Failure>
-    requires few { length bank.items ≤ 64 }
+    requires few { length bank.items ≤ callback_limit }
     requires shared { IsSync R.row }
     ensures { IfOk result (λ texts. IsPlayedSo (handlers_of (λ (c : _). c.kinds.0) (λ (c : _). c.plan.value) bank.items) texts) }
 {

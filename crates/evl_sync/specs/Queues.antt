@@ -1,6 +1,7 @@
 -- Queues of waiting threads.
 use Rattle.std.specs.Prelude.{ℕ, ◌≡◌, ◌≤◌, ◌==◌, nat_lt, not, Bool, true, false, ◌<◌, List, [], ◌∷◌, Option, Some, None, filter, option_map, if◌then◌else◌}
 use Rattle.std.specs.List.{list_any, AllByRecursion}
+use Rattle.evl_base.specs.Limits.{thread_limit}
 use Rattle.evl_base.specs.declared.numbers.ThreadId.{ThreadId}
 
 -- behind those of its rank or a greater one, before the others
@@ -38,4 +39,4 @@ AreRanked thread rank (w ∷ ws) = AllByRecursion (λ v. rank v ≤ rank w) ws �
 -- what is known of a queue of threads below 64
 pub record IsKept {A : Type 0} (thread rank : A → ℕ) (ws : List A) : Type 0 where
   pub ranked : AreRanked thread rank ws
-  pub few : (t : ℕ) → stands_in thread t ws ≡ true → t < 64
+  pub few : (t : ℕ) → stands_in thread t ws ≡ true → t < thread_limit

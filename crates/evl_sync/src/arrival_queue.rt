@@ -1,7 +1,9 @@
 //! Threads that wait, by arrival alone.
 ghost use Rattle.std.specs.Prelude.{◌≡◌, ◌<◌, ◌≤◌, ◌++◌, [], ◌∷◌, false, length};
+ghost use Rattle.evl_base.specs.Limits.{thread_limit};
 ghost use Rattle.evl_sync.specs.Queues.{IsKept, dropped, first_of, number_of, rest_of, stands_in};
 
+use crate::THREADS;
 use arrayvec::ArrayVec;
 use evl_base::ThreadId;
 use std::marker::Model;
@@ -10,7 +12,7 @@ use std::marker::Model;
 /// first one at its head. It has a place for each of the 64 threads and takes no memory.
 #[derive(Drop)]
 pub struct ArrivalQueue {
-    threads: ArrayVec<u16, 64>,
+    threads: ArrayVec<u16, THREADS>,
 }
 
 impl Model for ArrivalQueue {
@@ -37,7 +39,7 @@ impl ArrivalQueue {
     /// A thread, which doesn't wait here yet, begins to wait, behind all others. (this profile)
     pub fn push(&mut self, thread: ThreadId)
         requires away { stands_in (λ t. t) thread.0 self.old ≡ false }
-        requires few { thread.0 < 64 }
+        requires few { thread.0 < thread_limit }
         ensures pushed { self.new ≡ self.old ++ thread.0 ∷ [] }
     {
         self.threads.push(thread.0);
@@ -80,7 +82,7 @@ impl ArrivalQueue {
     /// How many wait, at most 64. (this profile)
     pub fn len(&self) -> usize
         ensures count { result ≡ length self.now }
-        ensures few { result ≤ 64 }
+        ensures few { result ≤ thread_limit }
         ensures kept { IsKept (λ t. t) (λ t. 0) self.now }
     {
         self.threads.len()
@@ -94,8 +96,8 @@ fn stands_in(threads: &[u16], thread: u16) -> bool
 }
 
 // All but this thread.
-fn without(threads: &[u16], thread: u16) -> ArrayVec<u16, 64>
-    requires few { length threads.now ≤ 64 }
+fn without(threads: &[u16], thread: u16) -> ArrayVec<u16, THREADS>
+    requires few { length threads.now ≤ thread_limit }
     ensures dropped { result.items ≡ dropped (λ t. t) thread threads.now }
 {
     let mut kept = ArrayVec::new();

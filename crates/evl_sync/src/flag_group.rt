@@ -1,10 +1,12 @@
 //! One flag group.
 ghost use Rattle.std.specs.Prelude.{◌≡◌, ◌<◌, ◌≤◌, false, nat_lt, length, IfErr, IfSome, Ok};
 ghost use Rattle.std.specs.List.{position, position_or_len};
+ghost use Rattle.evl_base.specs.Limits.{thread_limit};
 ghost use Rattle.evl_sync.specs.Queues.{dropped, stands_in};
 ghost use Rattle.evl_sync.specs.Steps.{stepped, unless};
 ghost use Rattle.evl_sync.specs.FlagGroups.{IsSoundGroup, begin_take, drop_waiter, opened, pairs, post, post_refusal, take_refusal, try_take, walk_of, walked};
 
+use crate::THREADS;
 use crate::flag_waiter::{FlagWaiter, Served};
 use crate::kinds::{is_empty_mask, taken};
 use arrayvec::ArrayVec;
@@ -16,7 +18,7 @@ use std::marker::Model;
 #[derive(Drop)]
 pub struct FlagGroup {
     bits: u32,
-    waiters: ArrayVec<FlagWaiter, 64>,
+    waiters: ArrayVec<FlagWaiter, THREADS>,
 }
 
 impl Model for FlagGroup {
@@ -63,7 +65,7 @@ impl FlagGroup {
     /// Adds bits, and goes once through the waiters in the order of the queue, each of which takes what it wants from what
     /// those before it left; says whom it served with which bits, in that order. Bits that nobody takes stay. `Invalid`
     /// where there are no bits to add; then nothing changes. (Xenomai 4: EVL event flag group; this profile)
-    pub fn post(&mut self, bits: u32) -> Result<ArrayVec<Served, 64>, Refusal>
+    pub fn post(&mut self, bits: u32) -> Result<ArrayVec<Served, THREADS>, Refusal>
         ensures step { stepped (λ served. pairs served.items) result self.new ≡ unless (post_refusal bits) (Ok (walked (post bits self.old))) }
         ensures refused { IfErr result (λ e. self.new ≡ self.old) }
     {
@@ -87,7 +89,7 @@ impl FlagGroup {
         kind: Take,
     ) -> Result<Option<u32>, Refusal>
         requires away { stands_in (λ w. w.thread) thread.0 self.old.waiters ≡ false }
-        requires few { thread.0 < 64 }
+        requires few { thread.0 < thread_limit }
         ensures step { stepped (λ got. got) result self.new
             ≡ unless (take_refusal kind) (Ok (begin_take (record { thread = thread.0; rank = rank; kind = kind }) self.old)) }
         ensures refused { IfErr result (λ e. self.new ≡ self.old) }
@@ -132,8 +134,15 @@ impl FlagGroup {
 }
 
 // One walk through the waiters: whom it serves, who goes on waiting, and which bits are left.
-fn walk(waiters: &[FlagWaiter], bits: u32) -> (ArrayVec<Served, 64>, ArrayVec<FlagWaiter, 64>, u32)
-    requires few { length waiters.now ≤ 64 }
+fn walk(
+    waiters: &[FlagWaiter],
+    bits: u32,
+) -> (
+    ArrayVec<Served, THREADS>,
+    ArrayVec<FlagWaiter, THREADS>,
+    u32,
+)
+    requires few { length waiters.now ≤ thread_limit }
     ensures served { pairs result.0.items ≡ (walk_of waiters.now bits).served }
     ensures waiting { result.1.items ≡ (walk_of waiters.now bits).waiting }
     ensures left { result.2 ≡ (walk_of waiters.now bits).left }
@@ -157,8 +166,8 @@ fn walk(waiters: &[FlagWaiter], bits: u32) -> (ArrayVec<Served, 64>, ArrayVec<Fl
 }
 
 // All but this thread.
-fn without(waiters: &[FlagWaiter], thread: u16) -> ArrayVec<FlagWaiter, 64>
-    requires few { length waiters.now ≤ 64 }
+fn without(waiters: &[FlagWaiter], thread: u16) -> ArrayVec<FlagWaiter, THREADS>
+    requires few { length waiters.now ≤ thread_limit }
     ensures dropped { result.items ≡ dropped (λ w. w.thread) thread waiters.now }
 {
     let mut kept = ArrayVec::new();

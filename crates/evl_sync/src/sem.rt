@@ -1,5 +1,6 @@
 //! One semaphore.
 ghost use Rattle.std.specs.Prelude.{◌≡◌, ◌<◌, ◌≤◌, false, IfErr};
+ghost use Rattle.evl_base.specs.Limits.{thread_limit};
 ghost use Rattle.evl_sync.specs.Queues.{number_of, stands_in};
 ghost use Rattle.evl_sync.specs.Steps.{stepped};
 ghost use Rattle.evl_sync.specs.Semaphores.{IsSoundSemaphore, begin_get, drop_waiter, opened, peek, put, try_get};
@@ -74,7 +75,7 @@ impl Sem {
     /// of its rank or a greater one. Whether it was served at once. (Xenomai 4: EVL semaphore; this profile)
     pub fn begin_get(&mut self, thread: ThreadId, rank: u16) -> bool
         requires away { stands_in (λ w. w.thread) thread.0 self.old.waiters ≡ false }
-        requires few { thread.0 < 64 }
+        requires few { thread.0 < thread_limit }
         ensures step { (result, self.new) ≡ begin_get (record { thread = thread.0; rank = rank }) self.old }
     {
         if self.count > 0 {

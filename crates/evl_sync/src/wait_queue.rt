@@ -1,8 +1,10 @@
 //! Threads that wait, by rank and arrival.
 ghost use Rattle.std.specs.Prelude.{◌≡◌, ◌<◌, ◌≤◌, [], false, nat_lt, length, IfSome};
 ghost use Rattle.std.specs.List.{position, position_or_len};
+ghost use Rattle.evl_base.specs.Limits.{thread_limit};
 ghost use Rattle.evl_sync.specs.Queues.{IsKept, dropped, enqueued, first_of, number_of, rest_of, stands_in};
 
+use crate::THREADS;
 use crate::waiter::Waiter;
 use arrayvec::ArrayVec;
 use evl_base::ThreadId;
@@ -12,7 +14,7 @@ use std::marker::Model;
 /// it is the list of them, the first one at its head. It has a place for each of the 64 threads and takes no memory.
 #[derive(Drop)]
 pub struct WaitQueue {
-    waiters: ArrayVec<Waiter, 64>,
+    waiters: ArrayVec<Waiter, THREADS>,
 }
 
 impl Model for WaitQueue {
@@ -41,7 +43,7 @@ impl WaitQueue {
     /// others. (this profile)
     pub fn push(&mut self, thread: ThreadId, rank: u16)
         requires away { stands_in (λ w. w.thread) thread.0 self.old ≡ false }
-        requires few { thread.0 < 64 }
+        requires few { thread.0 < thread_limit }
         ensures pushed { self.new ≡ enqueued (λ w. w.rank) (record { thread = thread.0; rank = rank }) self.old }
     {
         let place = place_for(self.waiters.as_slice(), rank);
@@ -92,7 +94,7 @@ impl WaitQueue {
     /// How many wait, at most 64. (this profile)
     pub fn len(&self) -> usize
         ensures count { result ≡ length self.now }
-        ensures few { result ≤ 64 }
+        ensures few { result ≤ thread_limit }
         ensures kept { IsKept (λ w. w.thread) (λ w. w.rank) self.now }
     {
         self.waiters.len()
@@ -106,8 +108,8 @@ fn stands_in(waiters: &[Waiter], thread: u16) -> bool
 }
 
 // All but this thread.
-fn without(waiters: &[Waiter], thread: u16) -> ArrayVec<Waiter, 64>
-    requires few { length waiters.now ≤ 64 }
+fn without(waiters: &[Waiter], thread: u16) -> ArrayVec<Waiter, THREADS>
+    requires few { length waiters.now ≤ thread_limit }
     ensures dropped { result.items ≡ dropped (λ w. w.thread) thread waiters.now }
 {
     let mut kept = ArrayVec::new();

@@ -111,7 +111,7 @@ fn two_transfers(alloc: Global) -> Result<(Transfer, Transfer), Refusal> {
 
 #[test]
 fn buffer_calls_have_their_texts(rt: HostRuntime) -> Result<(), Fail> {
-    let (three, none) = two_transfers(rt.alloc()).map_err(|_| "boxes")?;
+    let (three, _) = two_transfers(rt.alloc()).map_err(|_| "boxes")?;
     let xbuf = XbufId(15);
     let calls = [
         (
@@ -131,6 +131,18 @@ fn buffer_calls_have_their_texts(rt: HostRuntime) -> Result<(), Fail> {
             "read xbuf=15 way=out len=257",
         ),
         (Call::Room { xbuf, way: Way::In }, "room xbuf=15 way=in"),
+    ];
+    for (call, expected) in &calls {
+        assert!(rt; is_call_copied(rt.alloc(), call, expected).map_err(|_| "copy")?);
+    }
+    Ok(())
+}
+
+#[test]
+fn buffer_waits_have_their_texts(rt: HostRuntime) -> Result<(), Fail> {
+    let (_, none) = two_transfers(rt.alloc()).map_err(|_| "boxes")?;
+    let xbuf = XbufId(15);
+    let calls = [
         (
             Call::BeginWrite {
                 xbuf,
@@ -194,6 +206,26 @@ fn replies_have_their_texts(rt: HostRuntime) -> Result<(), Fail> {
         (Ok(Reply::Bytes(three)), "bytes 610aff"),
         (Ok(Reply::Bytes(none)), "bytes -"),
         (Ok(Reply::Chosen(None)), "thread none"),
+        (Ok(Reply::Chosen(Some(ThreadId(63)))), "thread 63"),
+        (Ok(Reply::TimedOut), "timed out"),
+        (
+            Err(Refusal::Raced {
+                first: 0,
+                second: 1,
+            }),
+            "Raced",
+        ),
+    ];
+    for (outcome, expected) in &cases {
+        let text = reply_text(rt.alloc(), outcome).map_err(|_| "reply")?;
+        assert_eq!(rt; text.as_slice(), expected.as_bytes());
+    }
+    Ok(())
+}
+
+#[test]
+fn handed_mutexes_have_their_texts(rt: HostRuntime) -> Result<(), Fail> {
+    let cases = [
         (
             Ok(Reply::Handed {
                 next: Some(ThreadId(3)),
@@ -201,7 +233,6 @@ fn replies_have_their_texts(rt: HostRuntime) -> Result<(), Fail> {
             }),
             "next 3 more",
         ),
-        (Ok(Reply::Chosen(Some(ThreadId(63)))), "thread 63"),
         (
             Ok(Reply::Handed {
                 next: Some(ThreadId(0)),
@@ -215,14 +246,6 @@ fn replies_have_their_texts(rt: HostRuntime) -> Result<(), Fail> {
                 more: true,
             }),
             "next none",
-        ),
-        (Ok(Reply::TimedOut), "timed out"),
-        (
-            Err(Refusal::Raced {
-                first: 0,
-                second: 1,
-            }),
-            "Raced",
         ),
     ];
     for (outcome, expected) in &cases {

@@ -3,6 +3,7 @@ use Rattle.std.specs.Prelude.{◌≡◌, ◌⊎◌, ℕ, ◌+◌, ◌<◌, ◌�
 use mathlib.Core.Option.{some}
 use lib.ListN.{get_elem?}
 use prog.Atomic.{either}
+use Rattle.evl_base.specs.Limits.{thread_limit}
 use Rattle.evl_base.specs.declared.refusal.Refusal.TheVariants.{Again, Busy}
 use Rattle.evl_words.specs.declared.history.View.{View}
 use Rattle.evl_words.specs.declared.mutex.MutexHold.{MutexHold}
@@ -66,7 +67,7 @@ NamesBelow n (offered h marked) = h < n
 
 -- The word shows the mutex. Who owns it is its owner, and who has seized it its winner: so at most one seat is either
 pub record MutexTie (found : ℕ) (m : Mutex) (held : List MutexHold) : Type 0 where
-  pub few : length held ≤ 64
+  pub few : length held ≤ thread_limit
   pub word : found ≡ mutex_word m
   pub counted : (seat : ℕ) (h : MutexHold) → get_elem? held seat ≡ some h → h.seats ≡ length held
   pub owner : (seat : ℕ) (h : MutexHold) → get_elem? held seat ≡ some h → is_owner m seat ≡ owns h.role

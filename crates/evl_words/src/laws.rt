@@ -1,5 +1,6 @@
 //! Laws of the definitions that the contracts cite.
 ghost use Rattle.std.specs.Prelude.{◌≡◌, ◌≤◌, ◌↔◌, ℕ, ◌+◌, true, List, map, count_by, replicate, Some, is_some};
+ghost use Rattle.evl_base.specs.Limits.{thread_limit};
 ghost use mathlib.Core.Option.{some};
 ghost use lib.ListN.{get_elem?};
 ghost use Rattle.evl_base.specs.declared.stage.Stage.{Stage};
@@ -45,7 +46,7 @@ pub fn mutex_events_keep_order()
 
 /// From the opening on it holds after any list of atomic steps, among which hands of seats are split and joined.
 pub fn mutex_world_stands()
-    ensures { (seats : ℕ) → seats ≤ 64 → (events : List (DealingEvent MutexKind)) (t : MutexDealing) → Run (DealingStep mutex_steps) (opened (replicate seats (bystander seats))) events t → Holds IsMutexWorld t }
+    ensures { (seats : ℕ) → seats ≤ thread_limit → (events : List (DealingEvent MutexKind)) (t : MutexDealing) → Run (DealingStep mutex_steps) (opened (replicate seats (bystander seats))) events t → Holds IsMutexWorld t }
 {}
 
 /// At most one seat owns a mutex or has won it.

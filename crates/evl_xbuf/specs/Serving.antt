@@ -1,5 +1,6 @@
 -- Serving waiters one by one, as it goes on.
 use Rattle.std.specs.Prelude.{suc, ◌≡◌, ◌≤◌, ◌⊎◌, ◌+◌, List, [], ◌∷◌, ◌++◌, length, Some}
+use Rattle.evl_base.specs.Limits.{thread_limit}
 use Rattle.evl_xbuf.specs.Streams.{HasOneQueue, Stream, Service, next_service, served, waiting}
 use Rattle.evl_xbuf.specs.Served.{read_by}
 
@@ -23,5 +24,5 @@ after_these done (others, end) = (done ++ others, end)
 pub record Serves (start : Stream) (done : List Service) (now : Stream) : Type 0 where
   pub whole : after_these done (served now) ≡ served start
   pub one_queue : HasOneQueue now
-  pub few : length done + waiting now ≤ 64
+  pub few : length done + waiting now ≤ thread_limit
   pub fit : Fit done now

@@ -1,9 +1,11 @@
 //! Whom a call on a cross-buffer served, and with what.
 ghost use Rattle.std.specs.Prelude.{◌≡◌, ◌<◌, ◌≤◌, ◌+◌, [], ◌∷◌, ◌++◌, length, slice_get};
 ghost use Rattle.std.specs.Option.{option_map};
+ghost use Rattle.evl_base.specs.Limits.{thread_limit};
 ghost use Rattle.evl_xbuf.specs.Served.{IsShort, read_by, told_of};
 ghost use Rattle.evl_xbuf.specs.Streams.{Got, Wrote};
 
+use crate::THREADS;
 use arrayvec::ArrayVec;
 use evl_base::{Bytes, ThreadId};
 use std::marker::Model;
@@ -30,7 +32,7 @@ pub struct Turn {
 /// services. It has a place for each of the 64 threads and takes no memory.
 #[derive(Drop)]
 pub struct Served {
-    turns: ArrayVec<Turn, 64>,
+    turns: ArrayVec<Turn, THREADS>,
     bytes: Bytes,
 }
 
@@ -60,7 +62,7 @@ impl Served {
     /// How many were served, at most 64. (this profile)
     pub fn len(&self) -> usize
         ensures count { result ≡ length self.now }
-        ensures few { result ≤ 64 }
+        ensures few { result ≤ thread_limit }
     {
         self.turns.len()
     }
@@ -81,7 +83,7 @@ impl Served {
 
     /// A writer was served.
     pub(crate) fn wrote(&mut self, thread: u16)
-        requires few { length self.old < 64 }
+        requires few { length self.old < thread_limit }
         ensures told { self.new ≡ self.old ++ Wrote thread ∷ [] }
     {
         self.turns.push(Turn {
@@ -94,7 +96,7 @@ impl Served {
 
     /// A reader was served with these bytes.
     pub(crate) fn got(&mut self, thread: u16, bytes: &[u8])
-        requires few { length self.old < 64 }
+        requires few { length self.old < thread_limit }
         requires short { length (read_by self.old) + length bytes.now ≤ 256 }
         ensures told { self.new ≡ self.old ++ Got thread bytes.now ∷ [] }
     {

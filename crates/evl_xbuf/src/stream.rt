@@ -1,20 +1,19 @@
 //! One way of a cross-buffer: the bytes that are there, and who waits.
 ghost use Rattle.std.specs.Prelude.{◌≡◌, ◌<◌, ◌≤◌, ◌+◌, ◌==◌, ◌∷◌, not, true, false, length, nat_lt, take, drop, is_some, vec_capacity, IfOk};
+ghost use Rattle.evl_base.specs.Limits.{thread_limit};
 ghost use Rattle.evl_sync.specs.Queues.{dropped, is_nobody, stands_in};
 ghost use Rattle.evl_xbuf.specs.Streams.{IsKeptStream, can_read, can_write, empty, fits, given, read, reader_served, room, with_reader, with_writer, without, writer_served, written};
 
 mod serving;
 mod steps;
 
+use crate::THREADS;
 use crate::bytes::bytes_of;
 use crate::waiters::{Reader, Writer};
 use arrayvec::ArrayVec;
 use evl_base::{Bytes, ThreadId};
 use std::alloc::{AllocError, Allocator};
 use std::marker::Model;
-
-// How many threads there may be.
-const THREADS: usize = 64;
 
 /// The bytes of one way that were written and not yet read, oldest first, and the threads that wait to write or to read,
 /// each queue by arrival alone. Only `new` takes memory.
@@ -23,11 +22,12 @@ pub struct Stream<A: Allocator> {
     size: u16,
     there: Bytes,
     writers: Vec<Writer, A>,
-    readers: ArrayVec<Reader, 64>,
+    readers: ArrayVec<Reader, THREADS>,
 }
 
 impl<A: Allocator> Model for Stream<A> {
     ghost use Rattle.std.specs.Prelude.{◌≤◌, vec_capacity};
+    ghost use Rattle.evl_base.specs.Limits.{thread_limit};
     ghost use Rattle.evl_xbuf.specs.Streams.{IsKeptStream, Stream};
 
     ghost Value = { Stream };
@@ -35,7 +35,7 @@ impl<A: Allocator> Model for Stream<A> {
     ghost view = { λ s. record { size = s.size; there = s.there.items; writers = s.writers.items; readers = s.readers.items } };
 
     ghost invariant = { λ s. IsKeptStream (record { size = s.size; there = s.there.items; writers = s.writers.items; readers = s.readers.items })
-        × (64 ≤ vec_capacity s.writers) };
+        × (thread_limit ≤ vec_capacity s.writers) };
 }
 
 impl<A: Allocator> Stream<A> {
@@ -109,7 +109,7 @@ impl<A: Allocator> Stream<A> {
     /// A thread begins to wait to write.
     pub fn add_writer(&mut self, thread: ThreadId, bytes: &[u8])
         requires away { stands_in (λ w. w.thread) thread.0 self.old.writers ≡ false }
-        requires few { thread.0 < 64 }
+        requires few { thread.0 < thread_limit }
         requires short { length bytes.now ≤ self.old.size }
         ensures waits { self.new ≡ with_writer self.old thread.0 bytes.now }
     {
@@ -122,7 +122,7 @@ impl<A: Allocator> Stream<A> {
     /// A thread begins to wait to read.
     pub fn add_reader(&mut self, thread: ThreadId, len: u16)
         requires away { stands_in (λ r. r.thread) thread.0 self.old.readers ≡ false }
-        requires few { thread.0 < 64 }
+        requires few { thread.0 < thread_limit }
         ensures waits { self.new ≡ with_reader self.old thread.0 len }
     {
         self.readers.push(Reader {
@@ -201,8 +201,8 @@ fn drop_writer<A: Allocator>(writers: &mut Vec<Writer, A>, thread: u16)
 }
 
 // All but this thread.
-fn other_readers(readers: &[Reader], thread: u16) -> ArrayVec<Reader, 64>
-    requires few { length readers.now ≤ 64 }
+fn other_readers(readers: &[Reader], thread: u16) -> ArrayVec<Reader, THREADS>
+    requires few { length readers.now ≤ thread_limit }
     ensures dropped { result.items ≡ dropped (λ r. r.thread) thread readers.now }
 {
     let mut kept = ArrayVec::new();

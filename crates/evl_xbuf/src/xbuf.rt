@@ -1,6 +1,7 @@
 //! One cross-buffer.
 ghost use Rattle.std.specs.Prelude.{◌≡◌, ◌<◌, ◌≤◌, false, length, nat_lt, IfOk, IfErr};
 ghost use Rattle.std.specs.Option.{option_map};
+ghost use Rattle.evl_base.specs.Limits.{thread_limit};
 ghost use Rattle.evl_base.specs.declared.refusal.Refusal.{Refusal};
 ghost use Rattle.evl_sync.specs.Queues.{stands_in};
 ghost use Rattle.evl_sync.specs.Steps.{stepped};
@@ -110,7 +111,7 @@ impl<A: Allocator> XbufOf<A> {
         bytes: &[u8],
     ) -> Result<Option<Served>, Refusal>
         requires away { stands_in (λ w. w.thread) thread.0 (stream self.old way).writers ≡ false }
-        requires few { thread.0 < 64 }
+        requires few { thread.0 < thread_limit }
         ensures step { stepped (λ served. served) result self.new ≡ begin_write thread.0 stage way bytes.now self.old }
         ensures refused { IfErr result (λ e. self.new ≡ self.old) }
     {
@@ -135,7 +136,7 @@ impl<A: Allocator> XbufOf<A> {
         len: u16,
     ) -> Result<Option<(Bytes, Served)>, Refusal>
         requires away { stands_in (λ r. r.thread) thread.0 (stream self.old way).readers ≡ false }
-        requires few { thread.0 < 64 }
+        requires few { thread.0 < thread_limit }
         ensures step { stepped (λ told. option_map (λ t. (t.0.items, t.1)) told) result self.new ≡ begin_read thread.0 stage way len self.old }
         ensures refused { IfErr result (λ e. self.new ≡ self.old) }
     {

@@ -7,6 +7,7 @@ ghost use Rattle.evl_kernel.specs.FlagGroups as group;
 ghost use Rattle.evl_kernel.specs.FlagGroups.{all_served};
 
 use super::Elements;
+use crate::THREADS;
 use arrayvec::ArrayVec;
 use evl_base::{FlagId, Refusal, Reply, Take};
 use evl_sync::Served;
@@ -29,7 +30,11 @@ impl<A: Allocator> Elements<A> {
 
     /// Adds bits, and says who waits no more, in order, and which bits each took. `Unknown` where there is no such flag
     /// group, `Invalid` where there are no bits to add.
-    pub(crate) fn post(&mut self, flags: FlagId, bits: u32) -> Result<ArrayVec<Served, 64>, Refusal>
+    pub(crate) fn post(
+        &mut self,
+        flags: FlagId,
+        bits: u32,
+    ) -> Result<ArrayVec<Served, THREADS>, Refusal>
         ensures step { IfOk result (λ served. element self.old.elements (on_flags flags.0 (group.post bits)) ≡ Ok (Reply.Done, self.new.elements)) }
         ensures owners { owners_of self.new ≡ owners_of self.old }
         ensures served { IfOk result (λ served. wakes self.old.elements (on_flags flags.0 (group.post bits)) ≡ all_served (pairs served.items)) }

@@ -1,6 +1,7 @@
 //! How waits for elements begin, and how a waiter leaves.
 ghost use Rattle.std.specs.Prelude.{◌≡◌, ◌<◌, ◌≤◌, None, Some, Ok, false, true, map, if◌then◌else◌};
 ghost use Rattle.std.specs.Option.{option_map};
+ghost use Rattle.evl_base.specs.Limits.{thread_limit};
 ghost use Rattle.evl_kernel.specs.Beginnings.{awaited, form_refusal, is_ranked, is_there, size_refusal, step_of_waiter};
 ghost use Rattle.evl_kernel.specs.CrossBuffers as through;
 ghost use Rattle.evl_kernel.specs.CrossBuffers.{done_at_once, read_at_once, service_told, served_beside, served_in};
@@ -38,7 +39,7 @@ impl<A: Allocator> Elements<A> {
         requires there { is_there self.old.elements (awaited wanted.now) ≡ true }
         requires allowed { form_refusal wanted.now ≡ None }
         requires away { stands_for self.old.elements (awaited wanted.now) thread.0 ≡ false }
-        requires few { thread.0 < 64 }
+        requires few { thread.0 < thread_limit }
         ensures step { element self.old.elements (step_of_waiter thread.0 rank wanted.now) ≡ Ok (Reply.Begun, self.new.elements) }
         ensures owners { owners_of self.new ≡ owners_of self.old }
         ensures served { result ≡ serves self.old.elements (step_of_waiter thread.0 rank wanted.now) }
@@ -53,7 +54,7 @@ impl<A: Allocator> Elements<A> {
     fn begin_get(&mut self, thread: ThreadId, rank: u16, sem: SemId) -> Option<Reply>
         requires there { is_there self.old.elements (Awaited.Sem sem) ≡ true }
         requires away { stands_for self.old.elements (Awaited.Sem sem) thread.0 ≡ false }
-        requires few { thread.0 < 64 }
+        requires few { thread.0 < thread_limit }
         ensures step { element self.old.elements (step_of_waiter thread.0 rank (Wanted.Sem sem)) ≡ Ok (Reply.Begun, self.new.elements) }
         ensures owners { owners_of self.new ≡ owners_of self.old }
         ensures served { result ≡ serves self.old.elements (step_of_waiter thread.0 rank (Wanted.Sem sem)) }
@@ -74,7 +75,7 @@ impl<A: Allocator> Elements<A> {
         requires there { is_there self.old.elements (Awaited.Flags flags) ≡ true }
         requires allowed { form_refusal (Wanted.Flags flags kind) ≡ None }
         requires away { stands_for self.old.elements (Awaited.Flags flags) thread.0 ≡ false }
-        requires few { thread.0 < 64 }
+        requires few { thread.0 < thread_limit }
         ensures step { element self.old.elements (step_of_waiter thread.0 rank (Wanted.Flags flags kind)) ≡ Ok (Reply.Begun, self.new.elements) }
         ensures owners { owners_of self.new ≡ owners_of self.old }
         ensures served { result ≡ serves self.old.elements (step_of_waiter thread.0 rank (Wanted.Flags flags kind)) }
@@ -109,7 +110,7 @@ impl<A: Allocator> Elements<A> {
         requires there { is_there self.old.elements (Awaited.Writing xbuf way) ≡ true }
         requires fits { size_refusal self.old.elements (Wanted.Write xbuf way (record { items = bytes.now })) ≡ None }
         requires away { stands_for self.old.elements (Awaited.Writing xbuf way) thread.0 ≡ false }
-        requires few { thread.0 < 64 }
+        requires few { thread.0 < thread_limit }
         ensures step { element self.old.elements (on_xbuf xbuf.0 (through.begin_write thread.0 way bytes.now)) ≡ Ok (Reply.Begun, self.new.elements) }
         ensures owners { owners_of self.new ≡ owners_of self.old }
         ensures served { serves self.old.elements (on_xbuf xbuf.0 (through.begin_write thread.0 way bytes.now)) ≡ done_at_once result }
@@ -136,7 +137,7 @@ impl<A: Allocator> Elements<A> {
         requires there { is_there self.old.elements (Awaited.Reading xbuf way) ≡ true }
         requires range { len ≤ 256 }
         requires away { stands_for self.old.elements (Awaited.Reading xbuf way) thread.0 ≡ false }
-        requires few { thread.0 < 64 }
+        requires few { thread.0 < thread_limit }
         ensures step { element self.old.elements (on_xbuf xbuf.0 (through.begin_read thread.0 way len)) ≡ Ok (Reply.Begun, self.new.elements) }
         ensures owners { owners_of self.new ≡ owners_of self.old }
         ensures served { serves self.old.elements (on_xbuf xbuf.0 (through.begin_read thread.0 way len)) ≡ read_at_once (option_map (λ got. (got.0.items, got.1)) result) }

@@ -1,7 +1,7 @@
 //! The mutex words of a machine, and their making.
 ghost use Rattle.std.specs.Prelude.{◌≡◌, ◌≤◌, ℕ, IfOk, Some, length, map, slice_get, true};
 ghost use Rattle.std.specs.List.{range_with_len};
-ghost use Rattle.evl_base.specs.Limits.{within};
+ghost use Rattle.evl_base.specs.Limits.{thread_limit, within};
 ghost use Rattle.evl_words.specs.MutexCalls.{new_seat};
 ghost use Rattle.evl_machine.specs.MutexSeats.{AreFresh, AreWordsOf, is_recursive};
 
@@ -47,7 +47,7 @@ impl<A: Allocator + Clone> MutexWords<A> {
         threads: u16,
     ) -> Result<(MutexWords<A>, Vec<MutexSeats<A>, A>), AllocError>
         requires few { length kinds.now ≤ 32 }
-        requires threads { within 1 64 threads ≡ true }
+        requires threads { within 1 thread_limit threads ≡ true }
         ensures words { IfOk result (λ made. AreWordsOf kinds.now threads made.0) }
         ensures seats { IfOk result (λ made. made.1.items ≡ map (λ k. map (λ m. new_seat m k) made.0.words) (range_with_len 0 threads)) }
     {
@@ -67,7 +67,7 @@ fn made_words<A: Allocator + Clone>(
     threads: u16,
 ) -> Result<(Vec<MutexWord<A>, A>, Vec<Vec<MutexSeat, A>, A>), AllocError>
     requires few { length kinds.now ≤ 32 }
-    requires threads { within 1 64 threads ≡ true }
+    requires threads { within 1 thread_limit threads ≡ true }
     ensures words { IfOk result (λ made. AreWordsOf kinds.now threads (record { kinds = kinds.now; words = made.0.items })) }
     ensures seats { IfOk result (λ made. map (λ list. list.items) made.1.items ≡ map (λ k. map (λ m. new_seat m k) made.0.items) (range_with_len 0 threads)) }
 {

@@ -1,5 +1,6 @@
 //! Serving those who wait at one way.
 ghost use Rattle.std.specs.Prelude.{◌≡◌, ◌<◌, true, false, length, is_some};
+ghost use Rattle.evl_base.specs.Limits.{thread_limit};
 ghost use Rattle.evl_xbuf.specs.Streams.{HasOneQueue, IsAtRest, next_service, reader_served, served, writer_served};
 ghost use Rattle.evl_xbuf.specs.Serving.{Fit, ServesOne};
 
@@ -33,7 +34,7 @@ impl<A: Allocator> Stream<A> {
     fn serve_one(&mut self, served: &mut Served)
         requires able { is_some (next_service self.old) ≡ true }
         requires one_queue { HasOneQueue self.old }
-        requires few { length served.old < 64 }
+        requires few { length served.old < thread_limit }
         requires fit { Fit served.old self.old }
         ensures one { ServesOne self.old served.old self.new served.new }
     {
@@ -47,7 +48,7 @@ impl<A: Allocator> Stream<A> {
     fn serve_reader(&mut self, served: &mut Served)
         requires able { is_some (reader_served self.old.readers self.old) ≡ true }
         requires one_queue { HasOneQueue self.old }
-        requires few { length served.old < 64 }
+        requires few { length served.old < thread_limit }
         requires fit { Fit served.old self.old }
         ensures one { ServesOne self.old served.old self.new served.new }
     {
@@ -60,7 +61,7 @@ impl<A: Allocator> Stream<A> {
         requires reader { is_some (reader_served self.old.readers self.old) ≡ false }
         requires able { is_some (writer_served self.old.writers self.old) ≡ true }
         requires one_queue { HasOneQueue self.old }
-        requires few { length served.old < 64 }
+        requires few { length served.old < thread_limit }
         ensures one { ServesOne self.old served.old self.new served.new }
     {
         let writer = self.pop_writer();

@@ -1,6 +1,7 @@
 //! The calls on one way of a cross-buffer, each one step of it.
 ghost use Rattle.std.specs.Prelude.{◌≡◌, ◌<◌, ◌≤◌, true, false, length, IfErr, Ok};
 ghost use Rattle.std.specs.Option.{option_map};
+ghost use Rattle.evl_base.specs.Limits.{thread_limit};
 ghost use Rattle.evl_sync.specs.Queues.{stands_in};
 ghost use Rattle.evl_sync.specs.Steps.{stepped};
 ghost use Rattle.evl_xbuf.specs.Streams.{IsAtRest, begin_read, begin_write, can_read, can_write, drop_waiter, given, read, served, try_read, try_write, with_bytes, written};
@@ -48,7 +49,7 @@ impl<A: Allocator> Stream<A> {
     pub fn begin_write(&mut self, thread: ThreadId, bytes: &[u8]) -> Result<Option<Served>, Refusal>
         requires rest { IsAtRest self.old }
         requires away { stands_in (λ w. w.thread) thread.0 self.old.writers ≡ false }
-        requires few { thread.0 < 64 }
+        requires few { thread.0 < thread_limit }
         ensures step { stepped (λ served. served) result self.new ≡ begin_write thread.0 bytes.now self.old }
         ensures refused { IfErr result (λ e. self.new ≡ self.old) }
         ensures rest { IsAtRest self.new }
@@ -68,7 +69,7 @@ impl<A: Allocator> Stream<A> {
     pub fn begin_read(&mut self, thread: ThreadId, len: u16) -> Option<(Bytes, Served)>
         requires rest { IsAtRest self.old }
         requires away { stands_in (λ r. r.thread) thread.0 self.old.readers ≡ false }
-        requires few { thread.0 < 64 }
+        requires few { thread.0 < thread_limit }
         ensures step { (option_map (λ told. (told.0.items, told.1)) result, self.new) ≡ begin_read thread.0 len self.old }
         ensures rest { IsAtRest self.new }
     {

@@ -1,7 +1,7 @@
 use Rattle.std.proofs.Common.{◌≡◌, ◌∙◌, ap, List, slice_index, ℕ, subst, arith}
 use Rattle.evl_mutex.proofs.RaiseLaws.{rank-at}
 use Rattle.evl_kernel.specs.ElementsViews.{owners_of}
-use Rattle.evl_kernel.specs.Limits.{thread_limit}
+use Rattle.evl_base.specs.Limits.{thread_limit}
 use Rattle.evl_kernel.proofs.HandLaws.{GivenBelow, given-all, given-more}
 use Rattle.evl_kernel.proofs.ranks.hand_on.Goals as goal
 
