@@ -17,7 +17,8 @@ use Rattle.evl_kernel.specs.KernelViews.{KernelView}
 use Rattle.evl_machine.specs.declared.views.Account.{Account}
 use Rattle.evl_machine.specs.declared.views.ThreadView.{ThreadView}
 use Rattle.evl_machine.specs.ThreadRule.{ThreadRule, core_of}
-use Rattle.evl_machine.specs.Accounts.{Fits, HasNoStranger, account, calls_by, threads_of}
+use Rattle.evl_machine.specs.Accounts.{Fits, HasNoStranger, account, calls_by, informed, saw, threads_of}
+use Rattle.evl_machine.specs.Events.{FailsToTake, Gives, Takes}
 use Rattle.evl_machine.specs.Seats.{AccountsFit, CoreMe, view}
 use Rattle.evl_machine.specs.CoreRule.{account_at}
 use Rattle.evl_machine.specs.Known.{ComesFrom, CoreHand, IsLive, KeptKnown, KernelMe, accounts_in, taken_in, mutex_count, no_tie, past_of, seen}
@@ -115,8 +116,8 @@ module _ {C : Type 0} where
   none_handed m [] none = (refl, refl)
   none_handed m (x ∷ xs) none = absurd (omega arith)
 
-  pub stays_busy : (m : MachineState C) (xs : List (CallerState C)) (first : CallerState C) (others back : List (CallerState C)) → xs ≡ first ∷ others → back ≡ first ∷ others → KeepsOpen m xs CoreBusy back
-  stays_busy m xs first others back are same = subst (λ (ys : List (CallerState C)). KeepsOpen m ys CoreBusy back) (sym are) (inl (refl, same))
+  pub stays_busy : (m : MachineState C) (xs : List (CallerState C)) (first : CallerState C) (others back : List (CallerState C)) → xs ≡ first ∷ others → back ≡ first ∷ others → FailsToTake m.first first.account first.account → KeepsOpen m xs CoreBusy back
+  stays_busy m xs first others back are same fails = subst (λ (ys : List (CallerState C)). KeepsOpen m ys CoreBusy back) (sym are) (inl (refl, same, fails))
 
   legal_of : (c : CallerState C) (k : HeldState C) → TookKernel c k → IsLegal k.kernel.history
   legal_of c k took = subst (λ (s : CallerState C). IsLegal s.account.seen) took.caller took.just.legal
@@ -136,8 +137,9 @@ module _ {C : Type 0} where
       ap (returned h) took.caller ∙ ap (λ mine. record c { account = account c.account.thread h mine (c.account.found ++ k.kernel.room ∷ []) }) (fits_first c k took).mine
 
   pub stays_open : (m : MachineState C) (xs : List (CallerState C)) (first : CallerState C) (others back : List (CallerState C)) (k : HeldState C) → xs ≡ first ∷ others → length xs < threads_of m.first.history → TookKernel first k
+      → Belongs first m → Takes m.first first.account k.caller.account → Gives k.caller.machine.first k.caller.account k.kernel (informed k.kernel.history k.caller.account)
       → back ≡ returned k.kernel.history k.caller ∷ others → KeepsOpen m xs Invalid back
-  stays_open m xs first others back k are few took now = subst (λ (ys : List (CallerState C)). KeepsOpen m ys Invalid back) (sym are) (inr (
+  stays_open m xs first others back k are few took of takes gives now = subst (λ (ys : List (CallerState C)). KeepsOpen m ys Invalid back) (sym are) (inr (
     refl,
     record {
       few = subst (λ (ys : List (CallerState C)). length ys < threads_of m.first.history) are few;
@@ -147,6 +149,9 @@ module _ {C : Type 0} where
       strangers = strangers_of first k took;
       fits = fits_first first k took;
       back_is = now ∙ ap (λ (c : CallerState C). c ∷ others) (informs_as first k took);
+      takes = subst (λ (s : CallerState C). Takes m.first first.account s.account) took.caller takes;
+      gives = (k.kernel, refl, subst (λ (x : KernelView C). Gives x (saw k.kernel.history k.kernel.room first.account) k.kernel (informed k.kernel.history (saw k.kernel.history k.kernel.room first.account))) (ap (λ (x : MachineState C). x.first) of)
+      (subst (λ (s : CallerState C). Gives s.machine.first s.account k.kernel (informed k.kernel.history s.account)) took.caller gives));
     },
   ))
 
@@ -154,7 +159,7 @@ module _ {C : Type 0} where
   pub back_again : (m : MachineState C) (xs : List (CallerState C)) (refusal : Refusal) (back : List (CallerState C)) → KeepsOpen m xs refusal back → All (λ (c : CallerState C). Belongs c m) xs → All (λ (c : CallerState C). Belongs c m) back
   back_again m [] refusal back (invalid, none) all = subst (λ (ys : List (CallerState C)). All (λ (c : CallerState C). Belongs c m) ys) (sym none) (All-nil _)
   back_again m (x ∷ xs) refusal back kept all = ⊎_elim
-      (λ (busy : (refusal ≡ CoreBusy) × (back ≡ x ∷ xs)). subst (λ (ys : List (CallerState C)). All (λ (c : CallerState C). Belongs c m) ys) (sym busy.1) all)
+      (λ (busy : (refusal ≡ CoreBusy) × (back ≡ x ∷ xs) × FailsToTake m.first x.account x.account). subst (λ (ys : List (CallerState C)). All (λ (c : CallerState C). Belongs c m) ys) (sym busy.1) all)
       (λ (missing : (refusal ≡ Invalid) × LacksCaller m x xs back). subst (λ (ys : List (CallerState C)). All (λ (c : CallerState C). Belongs c m) ys) (sym missing.1.back_is)
       (All-cons (λ (c : CallerState C). Belongs c m) (shown missing.1.history missing.1.room x) xs (All-head (λ (c : CallerState C). Belongs c m) x xs all) (All-tail (λ (c : CallerState C). Belongs c m) x xs all)))
       kept

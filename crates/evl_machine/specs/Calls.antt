@@ -10,6 +10,7 @@ use Rattle.evl_kernel.specs.Histories.{History, IsLegal}
 use Rattle.evl_kernel.specs.KernelViews.{KernelView, IsKernelAnswer, Adds, entry_of, makes_entry, refusal_enters}
 use Rattle.evl_machine.specs.declared.views.Account.{Account}
 use Rattle.evl_machine.specs.Accounts.{BeginsWith, IsAccount}
+use Rattle.evl_machine.specs.Events.{FailsToTake, Gives, Takes}
 use Rattle.evl_machine.specs.Seats.{CoreMe}
 use Rattle.evl_machine.specs.QuietCore.{IsQuiet}
 use Rattle.evl_machine.specs.Known.{ComesFrom, CoreHand, accounts_in, taken_in, first_of}
@@ -88,6 +89,11 @@ pub record Answered (limit : ℕ) (a : Account) (c : Call) (r : Result Reply Ref
   pub full : r ≡ Err HistoryFull → length a'.seen.entries ≡ limit
   pub memory : r ≡ Err NoMemory → (a'.found ≡ a.found ++ 0 ∷ []) × (length a'.seen.entries ≢ limit)
 
+-- What the call did at the core: CoreBusy comes of a take that found it taken, and every other answer of a take that found it free and the give behind it
+pub record ActsOnCore {C : Type 0} (first : KernelView C) (a : Account) (r : Result Reply Refusal) (a' : Account) : Type 0 where
+  pub busy : r ≡ Err CoreBusy → FailsToTake first a a'
+  pub free : r ≢ Err CoreBusy → (held : Account) × (k : KernelView C) × Takes first a held × Gives first held k a'
+
 -- the answer of a call that comes back where another caller has the kernel
 abbrev pub answer_of : Result (Result Reply Refusal) Call → Result Reply Refusal
 answer_of (Ok answer) = answer
@@ -124,9 +130,9 @@ module _ {C : Type 0} where
   abbrev pub HoldsAtItsStage : CallerState C → Type 0
   HoldsAtItsStage c = AreHeldAt (stage_of_caller c) c.staxes
 
-  -- of the caller only what it knows of the kernel changes
+  -- of the caller only what it knows of the kernel changes, by its steps at the core
   abbrev pub KernelCall : ℕ → CallerState C → Call → Result Reply Refusal → CallerState C → Type 0
-  KernelCall limit old c r new = (new ≡ record old { account = new.account }) × Answered limit old.account c r new.account
+  KernelCall limit old c r new = (new ≡ record old { account = new.account }) × Answered limit old.account c r new.account × ActsOnCore old.machine.first old.account r new.account
 
   -- an own answer leaves the caller as it was; every other one is the kernel's
   abbrev pub Called : ℕ → CallerState C → Call → Result Reply Refusal → CallerState C → Type 0

@@ -5,7 +5,7 @@ ghost use Rattle.evl_base.specs.declared.call.Call.TheVariants.{Finish};
 ghost use Rattle.evl_base.specs.declared.refusal.Refusal.TheVariants.{Again, CoreBusy};
 ghost use Rattle.evl_kernel.specs.Callbacks.{AnswersAsTold};
 ghost use Rattle.evl_machine.specs.Actors.{AreHeldAt, IsSameActor, Suits, keeps_stage};
-ghost use Rattle.evl_machine.specs.Calls.{Answered, HoldsAtItsStage, IsCaller, KernelCall};
+ghost use Rattle.evl_machine.specs.Calls.{ActsOnCore, Answered, HoldsAtItsStage, IsCaller, KernelCall};
 ghost use Rattle.evl_machine.specs.Handles.{Belongs, account_of};
 ghost use Rattle.evl_machine.specs.Known.{first_of, seen};
 ghost use Rattle.evl_machine.specs.MutexSeats.{holds_mutex};
@@ -40,6 +40,7 @@ impl<C: Handler, A: Allocator> MachineOf<C, A> {
         ensures suits { Suits actor.new (account_of (seen seat.new.me)).seen }
         ensures held { AreHeldAt actor.new.stage actor.new.staxes }
         ensures looked { MatchOption result (Looks (account_of (seen seat.old.me)) (account_of (seen seat.new.me))) (λ r. Answered (first_of seat.old.me.0).limit (account_of (seen seat.old.me)) (Finish (keeps_stage (holds_stax actor.old.staxes) (holds_mutex actor.old.mutexes))) r (account_of (seen seat.new.me))) }
+        ensures acted { MatchOption result ⊤ (λ r. ActsOnCore (first_of seat.old.me.0) (account_of (seen seat.old.me)) r (account_of (seen seat.new.me))) }
         ensures told { MatchOption result ⊤ (λ r. (r ≢ Err Again) × (r ≢ Err CoreBusy)) }
     {
         let Some(mut kernel) = self.take_kernel(seat) else {

@@ -10,7 +10,7 @@ ghost use Rattle.std.specs.Prelude.{None, false, length, true};
 ghost use Rattle.evl_kernel.specs.Families.{moves_caller, task_of};
 ghost use Rattle.evl_machine.specs.Actors.{AreHeldAt, ClaimsOneOf, IsSameActor, Suits};
 ghost use Rattle.evl_machine.specs.StaxSeats.{holds_stax};
-ghost use Rattle.evl_machine.specs.Calls.{Answered, Called, HoldsAtItsStage, IsCaller, KernelCall, answer_of, own_refusal};
+ghost use Rattle.evl_machine.specs.Calls.{ActsOnCore, Answered, Called, HoldsAtItsStage, IsCaller, KernelCall, answer_of, own_refusal};
 
 use crate::actor::Actor;
 use crate::caller::{CallerOf, badge_of, seat_of};
@@ -104,6 +104,7 @@ impl<C: Handler, A: Allocator> MachineOf<C, A> {
         ensures suits { Suits actor.new (account_of (seen seat.new.me)).seen }
         ensures held { AreHeldAt actor.new.stage actor.new.staxes }
         ensures called { Answered (first_of seat.old.me.0).limit (account_of (seen seat.old.me)) call (answer_of result) (account_of (seen seat.new.me)) }
+        ensures acted { ActsOnCore (first_of seat.old.me.0) (account_of (seen seat.old.me)) (answer_of result) (account_of (seen seat.new.me)) }
         ensures entered { IfOk result (λ answer. answer ≢ Err CoreBusy) }
         ensures back { IfErr result (λ back. back ≡ call) }
     {

@@ -1,7 +1,7 @@
 use Rattle.std.proofs.Common.{sym, subst}
 use Rattle.evl_machine.specs.Known.{ComesFrom, seen}
 use Rattle.evl_machine.specs.Calls.{IsCaller}
-use Rattle.evl_machine.proofs.Calling.{may_continue, called, still_caller, suits_taken}
+use Rattle.evl_machine.proofs.Calling.{found_taken, may_continue, called, still_caller, suits_taken, took_and_gave}
 use Rattle.evl_machine.proofs.Knowing.{answers_still, comes_on}
 use Rattle.evl_machine.proofs.machine.MachineOf.call_with.Goals as goal
 
@@ -27,3 +27,9 @@ returns-clause-rests g c =
 pub returns-clause-called : goal.returns-clause-called
 returns-clause-called g c =
     called _ _ _ _ _ _ _ c.in-Some.kernel c.apply-reply.new.kernel c.in-Some.ensures.taken.1.limit c.requires.caller.1 c.in-Some.ensures.taken.0 c.apply-reply.ensures.applied c.give_kernel.ensures.given
+
+pub returns-in-None-clause-acted : goal.returns-in-None-clause-acted
+returns-in-None-clause-acted g c = found_taken _ _ _ c.in-None.ensures.event
+
+pub returns-clause-acted : goal.returns-clause-acted
+returns-clause-acted g c = took_and_gave _ _ _ _ _ _ _ c.apply-reply.ensures.applied.answers c.in-Some.ensures.event c.in-Some.ensures.same.2 c.give_kernel.ensures.event

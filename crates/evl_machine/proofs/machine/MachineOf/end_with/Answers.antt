@@ -6,7 +6,7 @@ use Rattle.evl_machine.specs.Calls.{Answered, IsCaller}
 use Rattle.evl_machine.specs.Handles.{account_of}
 use Rattle.evl_machine.specs.Known.{ComesFrom, first_of, seen}
 use Rattle.evl_machine.specs.Seats.{CoreMe}
-use Rattle.evl_machine.proofs.Calling.{called, is_held, may_continue, still_caller, suits_taken}
+use Rattle.evl_machine.proofs.Calling.{called, is_held, may_continue, still_caller, suits_taken, took_and_gave}
 use Rattle.evl_machine.proofs.Knowing.{answers_still, comes_on}
 use Rattle.evl_machine.proofs.WaitingLaws.{goes_on, look}
 use Rattle.evl_machine.proofs.machine.MachineOf.end_with.Goals as goal
@@ -45,3 +45,6 @@ pub returns-clause-looked : goal.returns-clause-looked
 returns-clause-looked g c =
     subst (λ keep. Answered (first_of c.args.seat.now.me.0).limit (account_of (seen c.args.seat.now.me)) (Finish keep) c.apply-reply.result (account_of (seen c.give_kernel-2.new.seat.me))) c.keeps_stage-keep.ensures
     (called _ _ _ _ _ _ _ c.in-Some.kernel c.apply-reply.new.kernel c.in-Some.ensures.taken.1.limit c.requires.caller.1 c.in-Some.ensures.taken.0 c.apply-reply.ensures.applied c.give_kernel-2.ensures.given)
+
+pub returns-clause-acted : goal.returns-clause-acted
+returns-clause-acted g c = took_and_gave _ _ _ _ _ _ _ c.apply-reply.ensures.applied.answers c.in-Some.ensures.event c.in-Some.ensures.same.2 c.give_kernel-2.ensures.event
