@@ -150,8 +150,12 @@ module _ {C : Type 0} where
       fits = fits_first first k took;
       back_is = now ∙ ap (λ (c : CallerState C). c ∷ others) (informs_as first k took);
       takes = subst (λ (s : CallerState C). Takes m.first first.account s.account) took.caller takes;
-      gives = (k.kernel, refl, subst (λ (x : KernelView C). Gives x (saw k.kernel.history k.kernel.room first.account) k.kernel (informed k.kernel.history (saw k.kernel.history k.kernel.room first.account))) (ap (λ (x : MachineState C). x.first) of)
-      (subst (λ (s : CallerState C). Gives s.machine.first s.account k.kernel (informed k.kernel.history s.account)) took.caller gives));
+      gives = (
+        k.kernel,
+        refl,
+        subst (λ (x : KernelView C). Gives x (saw k.kernel.history k.kernel.room first.account) k.kernel (informed k.kernel.history (saw k.kernel.history k.kernel.room first.account))) (ap (λ (x : MachineState C). x.first) of)
+            (subst (λ (s : CallerState C). Gives s.machine.first s.account k.kernel (informed k.kernel.history s.account)) took.caller gives),
+      );
     },
   ))
 
