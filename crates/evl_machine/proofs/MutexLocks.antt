@@ -22,7 +22,7 @@ use Rattle.evl_machine.specs.declared.unfinished.Unfinished.{Unfinished}
 use Rattle.evl_machine.specs.Actors.{ActorState}
 use Rattle.evl_machine.specs.AtSeats.{AtSeat}
 use Rattle.evl_machine.specs.Handles.{CallerState, MachineState}
-use Rattle.evl_machine.specs.Locking.{Begins, EntersNone, FindsNoRoom, Finishes, GoesAlong, LocksRaised, Refuses, Releases}
+use Rattle.evl_machine.specs.Locking.{Begins, EntersNone, FindsNoRoom, Finishes, GoesAlong, IsNotFull, LocksRaised, Refuses, Releases}
 use Rattle.evl_machine.specs.MutexLocks.{BeginsToLock, MutexCall, has_ceiling, kind_of, kinds_of, lock_refusal, own_lock_refusal, spend_refusal}
 use Rattle.evl_machine.specs.MutexSeats.{depth_at, Tries, TriesMutex, IsOfMutex, is_owner, is_recursive, mutex_refusal, owner_refusal, pass_refusal, unlock_refusal}
 use Rattle.evl_machine.specs.Visits.{FullOnly, Visited, Visits, actor_of}
@@ -105,7 +105,7 @@ module _ {C : Type 0} where
   pub locks_full : (kinds : List MutexKind) (a a' : ActorState) (k k' : KernelView C) (m : MutexId) → LocksRaised kinds a k m (Err HistoryFull) a' k' → LeavesFull k k'
   locks_full kinds a a' k k' m (none, why) = ⊎_elim
       (λ (w : (a'.mutexes ≡ a.mutexes) × FindsNoRoom k HistoryFull). leaves_full k k' none w.1)
-      (λ (w : TriesMutex kinds a.mutexes m.0 (Err HistoryFull) a'.mutexes). absurd (tries_not_full kinds a.mutexes a'.mutexes m.0 w)) why
+      (λ (w : IsNotFull k × TriesMutex kinds a.mutexes m.0 (Err HistoryFull) a'.mutexes). absurd (tries_not_full kinds a.mutexes a'.mutexes m.0 w.1)) why
 
   pub locks_as : (kinds kinds' : List MutexKind) (a a' : ActorState) (k k' : KernelView C) (m : MutexId) (r : Result MutexPass Refusal) → GoesAlong a k a' k' → kinds ≡ kinds' → LocksRaised kinds a k m r a' k' → LocksRaised kinds' a k m r a' k'
   locks_as kinds kinds' a a' k k' m r went same locked = subst (λ ks. LocksRaised ks a k m r a' k') same locked
@@ -113,13 +113,13 @@ module _ {C : Type 0} where
   pub begins_full : (ceiling : Bool) (a a' : ActorState) (k k' : KernelView C) (m : MutexId) (until : Option ℕ) → Begins ceiling a k m until (Err HistoryFull) a' k' → LeavesFull k k'
   begins_full ceiling a a' k k' m until (inl (none, same, full)) = leaves_full k k' none full
   begins_full ceiling a a' k k' m until (inr (inl (owner, at, entered))) = absurd (true≢false (sym entered.0))
-  begins_full ceiling a a' k k' m until (inr (inr (none, again, at))) = absurd (cc)
+  begins_full ceiling a a' k k' m until (inr (inr (none, room, again, at))) = absurd (cc)
 
   pub finishes_full : (a a' : ActorState) (k k' : KernelView C) (m : MutexId) → Finishes a k m (Err HistoryFull) a' k' → LeavesFull k k'
   finishes_full a a' k k' m (none, inl (again, on, same)) = absurd (cc)
   finishes_full a a' k k' m (none, inr (over, inl (full, same))) = leaves_full k k' none full
-  finishes_full a a' k k' m (none, inr (over, inr (inl (again, late, at)))) = absurd (cc)
-  finishes_full a a' k k' m (none, inr (over, inr (inr (again, late, at)))) = absurd (cc)
+  finishes_full a a' k k' m (none, inr (over, inr (inl (room, again, late, at)))) = absurd (cc)
+  finishes_full a a' k k' m (none, inr (over, inr (inr (room, again, late, at)))) = absurd (cc)
 
   pub releases_full : (a a' : ActorState) (k k' : KernelView C) (pass back : MutexPass) → Releases a k pass (Err (HistoryFull, back)) a' k' → LeavesFull k k'
   releases_full a a' k k' pass back (same, seats, why) = ⊎_elim

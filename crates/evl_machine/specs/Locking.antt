@@ -44,6 +44,10 @@ module _ {C : Type 0} where
   FindsNoRoom k NoMemory = (k.room ≡ 0) × (length k.history.entries ≢ k.limit)
   FindsNoRoom k refusal = ⊥
 
+  -- the history has room for one more entry
+  abbrev pub IsNotFull : KernelView C → Type 0
+  IsNotFull k = length k.history.entries ≢ k.limit
+
   -- the history has just this call more, or nothing more
   abbrev pub EntersOne : KernelView C → ℕ → Call → Result Reply Refusal → KernelView C → Type 0
   EntersOne k thread c r k' = (makes_entry r ≡ true) × AddsEntry k.history thread c r k'.history
@@ -83,10 +87,10 @@ module _ {C : Type 0} where
     pub legal : IsLegal k'.history
     pub room : k.room ≤ k'.room + 1
 
-  -- The try of a mutex with a ceiling. A try that took it is entered, whatever the kernel answers; a refused one isn't
+  -- The try of a mutex with a ceiling. A try that took it is entered, whatever the kernel answers; a refused one isn't. There was room before the word was tried
   abbrev pub LocksRaised : List MutexKind → ActorState → KernelView C → MutexId → Result MutexPass Refusal → ActorState → KernelView C → Type 0
   LocksRaised kinds a k mutex (Ok pass) a' k' = TriesMutex kinds a.mutexes mutex.0 (Ok pass) a'.mutexes × ((raised : Result Reply Refusal) × EntersOne k a.thread.0 (Raise mutex) raised k')
-  LocksRaised kinds a k mutex (Err refusal) a' k' = EntersNone k k' × (((a'.mutexes ≡ a.mutexes) × FindsNoRoom k refusal) ⊎ TriesMutex kinds a.mutexes mutex.0 (Err refusal) a'.mutexes)
+  LocksRaised kinds a k mutex (Err refusal) a' k' = EntersNone k k' × (((a'.mutexes ≡ a.mutexes) × FindsNoRoom k refusal) ⊎ (IsNotFull k × TriesMutex kinds a.mutexes mutex.0 (Err refusal) a'.mutexes))
 
   -- The kernel hands a mutex on, and the word is given to whom it names. Refused, the pass comes back and the word stays
   abbrev pub Releases : ActorState → KernelView C → MutexPass → Result (Unit {0}) (Refusal × MutexPass) → ActorState → KernelView C → Type 0
@@ -98,12 +102,12 @@ module _ {C : Type 0} where
   RaisesIf true k thread mutex k' = (raised : Result Reply Refusal) × EntersOne k thread (Raise mutex) raised k'
   RaisesIf false k thread mutex k' = EntersNone k k'
 
-  -- Why a lock doesn't begin: there is no room, the kernel refuses the wait, and the claim stands, or another claimer has won and not settled yet
+  -- Why a lock doesn't begin: there is no room, the kernel refuses the wait, and the claim stands, or another claimer has won and not settled yet, and there is room
   abbrev pub FailsToBegin : ActorState → KernelView C → MutexId → Option ℕ → Refusal → ActorState → KernelView C → Type 0
   FailsToBegin a k mutex until refusal a' k' =
       (EntersNone k k' × (a'.mutexes ≡ a.mutexes) × FindsNoRoom k refusal)
       ⊎ ((owner : ThreadId) × AtSeat mutex.0 a.mutexes a'.mutexes (Claims (Queued owner)) × EntersOne k a.thread.0 (AsksToWait mutex owner until) (Err refusal) k')
-      ⊎ (EntersNone k k' × (refusal ≡ Again) × AtSeat mutex.0 a.mutexes a'.mutexes (Claims Seizing))
+      ⊎ (EntersNone k k' × IsNotFull k × (refusal ≡ Again) × AtSeat mutex.0 a.mutexes a'.mutexes (Claims Seizing))
 
   -- A lock begins with a claim. Won, it is settled, and raised at a ceiling; queued, the kernel has accepted the wait for the owner that the word named
   abbrev pub Begins : Bool → ActorState → KernelView C → MutexId → Option ℕ → Result Begun Refusal → ActorState → KernelView C → Type 0
@@ -117,12 +121,12 @@ module _ {C : Type 0} where
   abbrev pub EndsWait : ActorState → KernelView C → Reply → ActorState → KernelView C → Type 0
   EndsWait a k ended a' k' = EntersOne k a.thread.0 (Finish (keeps_stage (holds_stax a.staxes) (holds_mutex a'.mutexes))) (Ok ended) k'
 
-  -- why a wait for a mutex that is over isn't finished: there is no room, or the word refuses what the wait ended with
+  -- why a wait for a mutex that is over isn't finished: there is no room, or there is, and the word refuses what the wait ended with
   abbrev pub FailsOnceEnded : ActorState → KernelView C → MutexId → Refusal → ActorState → Type 0
   FailsOnceEnded a k mutex refusal a' =
       (FindsNoRoom k refusal × (a'.mutexes ≡ a.mutexes))
-      ⊎ ((refusal ≡ Again) × (has_timed_out k.history.state a.thread.0 ≡ false) × AtSeat mutex.0 a.mutexes a'.mutexes (AcceptsSo (Err Again)))
-      ⊎ ((refusal ≡ Again) × (has_timed_out k.history.state a.thread.0 ≡ true) × AtSeat mutex.0 a.mutexes a'.mutexes (ForgetsSo (Err Busy)))
+      ⊎ (IsNotFull k × (refusal ≡ Again) × (has_timed_out k.history.state a.thread.0 ≡ false) × AtSeat mutex.0 a.mutexes a'.mutexes (AcceptsSo (Err Again)))
+      ⊎ (IsNotFull k × (refusal ≡ Again) × (has_timed_out k.history.state a.thread.0 ≡ true) × AtSeat mutex.0 a.mutexes a'.mutexes (ForgetsSo (Err Busy)))
 
   -- Why a wait for a mutex isn't finished: it goes on, or it is over and fails then. The kernel has no entry of it
   abbrev pub FailsToFinish : ActorState → KernelView C → MutexId → Refusal → ActorState → Type 0

@@ -1,5 +1,12 @@
 //! Laws of the core. Each is the contract of a function without a body.
-ghost use Rattle.std.specs.Prelude.{◌≡◌, [], List, Option, slice_index};
+ghost use Rattle.std.specs.Prelude.{◌≡◌, ℕ, [], List, Option, Some, slice_get, slice_index};
+ghost use mathlib.Core.Option.{some};
+ghost use lib.ListN.{get_elem?};
+ghost use Rattle.evl_base.specs.declared.stage.Stage.{Stage};
+ghost use Rattle.evl_words.specs.GateCalls.{SeatState};
+ghost use Rattle.evl_words.specs.GateWorld.{GateWorld, IsGateWorld};
+ghost use Rattle.evl_machine.specs.Calls.{HoldsAtItsStage, stage_of_caller};
+ghost use Rattle.evl_machine.specs.Handles.{CallerState};
 ghost use Rattle.atomic_table.specs.Table.{State};
 ghost use Rattle.evl_kernel.specs.Histories.{IsLegal};
 ghost use Rattle.evl_kernel.specs.KernelViews.{KernelView};
@@ -9,6 +16,8 @@ ghost use Rattle.evl_words.specs.Dealings.{DealingEvent};
 ghost use Rattle.evl_machine.specs.CoreWorld.{CoreWorld, CoreDealing, CoreKind, CoreHappens, CoreDealingStep, IsCoreWorld, StandsDealt, opened_core};
 ghost use Rattle.evl_machine.specs.Known.{ComesFrom, CoreHand, KeptKnown, past_of, room_of};
 ghost use Rattle.evl_machine.specs.QuietCore.{LiesQuiet};
+
+use evl_words::laws::holders_agree;
 
 /// What holds of the core's word and slot, and of what its threads know, holds after any list of their atomic steps
 /// (this profile).
@@ -28,3 +37,10 @@ pub fn core_world_stands<C>()
 pub fn free_core_is_quiet<C>()
     ensures { (first : KernelView C) → (s : State (Option (KernelView C)) (CoreHand C)) → KeptKnown first s → slice_index s.words 0 ≡ 0 → LiesQuiet s.homes }
 {}
+
+/// Two callers that hold one stax are on one stage, whatever its seats have done (Dovetail: stage exclusion locks).
+pub fn callers_agree<C>()
+    ensures { (limit : ℕ) (w : GateWorld) → IsGateWorld limit w → (c d : CallerState C) → HoldsAtItsStage c → HoldsAtItsStage d → (i j k : ℕ) (s t : SeatState) → slice_get c.staxes i ≡ Some s → slice_get d.staxes i ≡ Some t → get_elem? w.views j ≡ some s.view → get_elem? w.views k ≡ some t.view → (p q : Stage) → s.view.held.stage ≡ Some p → t.view.held.stage ≡ Some q → stage_of_caller c ≡ stage_of_caller d }
+{
+    holders_agree()
+}
