@@ -94,7 +94,7 @@ module _ {C : Type 0} where
   begun_waits limit old begin (Ok reply) new begins is called = by (own_refusal old begin) called
     where
       by : (o : Option Refusal) → MatchOption o (KernelCall limit old begin (Ok reply) new) (λ refusal. (◌≡◌ {A = Result Reply Refusal} (Ok reply) (Err refusal)) × (new ≡ old)) → wait_of_caller new ≡ Some Element
-      by None (same, answered) =
+      by None (same, answered, acted) =
           let e : Enters old.account begin (Ok reply) new.account = answered.entered refl in
           let entry = entry_of old.account.thread begin (Ok reply) e.plays in
           ap unfinished e.mine ∙ (after_one None old.account.mine entry ∙ ap (λ (s : WaitStep). wait_after (unfinished old.account.mine) s (Ok reply)) begins)

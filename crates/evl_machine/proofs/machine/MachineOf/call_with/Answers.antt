@@ -28,8 +28,8 @@ pub returns-clause-called : goal.returns-clause-called
 returns-clause-called g c =
     called _ _ _ _ _ _ _ c.in-Some.kernel c.apply-reply.new.kernel c.in-Some.ensures.taken.1.limit c.requires.caller.1 c.in-Some.ensures.taken.0 c.apply-reply.ensures.applied c.give_kernel.ensures.given
 
-pub returns-in-None-clause-acted : goal.returns-in-None-clause-acted
-returns-in-None-clause-acted g c = found_taken _ _ _ c.in-None.ensures.event
+pub returns-in_default-clause-acted : goal.returns-in_default-clause-acted
+returns-in_default-clause-acted g c = found_taken _ _ _ c.in_default.ensures.event
 
 pub returns-clause-acted : goal.returns-clause-acted
 returns-clause-acted g c = took_and_gave _ _ _ _ _ _ _ c.apply-reply.ensures.applied.answers c.in-Some.ensures.event c.in-Some.ensures.same.2 c.give_kernel.ensures.event
