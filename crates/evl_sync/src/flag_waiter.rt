@@ -16,6 +16,11 @@ pub struct FlagWaiter {
 }
 
 impl Default for FlagWaiter {
+    ghost use Rattle.std.specs.Prelude.{◌≡◌};
+    ghost use Rattle.evl_base.specs.declared.take.Take.TheVariants.{Any};
+
+    ghost is_default = { λ w. w ≡ record { thread = 0; rank = 0; kind = Any } };
+
     fn default() -> FlagWaiter {
         FlagWaiter {
             thread: 0,
@@ -35,6 +40,10 @@ pub struct Served {
 }
 
 impl Default for Served {
+    ghost use Rattle.std.specs.Prelude.{◌≡◌};
+
+    ghost is_default = { λ s. s ≡ record { thread = record { 0 = 0 }; bits = 0 } };
+
     fn default() -> Served {
         Served {
             thread: ThreadId(0),
