@@ -24,16 +24,27 @@ impl<C, A: Allocator> Model for KernelBox<C, A> {
     ghost view = { λ b. b.kernel.value };
 }
 
+/// This in a box of its own. (What it consists of doesn't matter here, so that dropping it is one step.)
+fn boxed<T: Drop, A: Allocator + Clone>(alloc: &A, value: T) -> Result<Box<T, A>, AllocError>
+    ensures { IfOk result (λ made. made.value ≡ value) }
+{
+    match Box::new(alloc.clone()?, value) {
+        Ok(made) => Ok(made),
+        Err(_) => Err(AllocError),
+    }
+}
+
 impl<C, A: Allocator> KernelBox<C, A> {
     /// This kernel in a box, for which room may be refused. The kernel is then dropped.
-    pub(crate) fn new(alloc: A, kernel: KernelOf<C, A>) -> Result<KernelBox<C, A>, AllocError>
+    pub(crate) fn new(alloc: &A, kernel: KernelOf<C, A>) -> Result<KernelBox<C, A>, AllocError>
     where
         C: Drop,
+        A: Clone,
         ensures { IfOk result (λ b. b ≡ kernel) }
     {
-        match Box::new(alloc, kernel) {
+        match boxed(alloc, kernel) {
             Ok(kernel) => Ok(KernelBox { kernel }),
-            Err(_) => Err(AllocError),
+            Err(error) => Err(error),
         }
     }
 

@@ -138,7 +138,8 @@ fn core_of<C: Drop, A: Allocator + Clone>(
     ensures root { IfOk result (λ m. m.1.me ≡ (first_known m.0.shared.key.value, [])) }
 {
     let key = Snapshot::of(&kernel);
-    let slots = one_slot(alloc.clone()?, kernel)?;
+    let kernel = KernelBox::new(&alloc, kernel)?;
+    let slots = one_slot(&alloc, kernel)?;
     match Table::new(alloc, &[0], slots, &key) {
         Ok(made) => Ok(made),
         Err(_) => Err(AllocError),
@@ -191,15 +192,15 @@ fn seated<C: Drop, A: Allocator>(
     )
 }
 
-/// The core's one slot, in which the kernel lies.
-fn one_slot<C: Drop, A: Allocator + Clone>(
-    alloc: A,
-    kernel: KernelOf<C, A>,
-) -> Result<Vec<Option<KernelBox<C, A>>, A>, AllocError>
-    ensures { IfOk result (λ slots. slots.items ≡ Some kernel ∷ []) }
+/// One slot, in which this lies. (What it consists of doesn't matter here, so that dropping it is one step.)
+fn one_slot<T: Drop, A: Allocator + Clone>(
+    alloc: &A,
+    value: T,
+) -> Result<Vec<Option<T>, A>, AllocError>
+    ensures { IfOk result (λ slots. slots.items ≡ Some value ∷ []) }
 {
     let mut slots = Vec::with_capacity(alloc.clone()?, 1)?;
-    slots.push(Some(KernelBox::new(alloc, kernel)?))?;
+    slots.push_reserved(Some(value));
     Ok(slots)
 }
 
