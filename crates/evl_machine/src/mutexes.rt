@@ -1,9 +1,9 @@
 //! Locking mutexes and unlocking them, without waiting.
-ghost use Rattle.std.specs.Prelude.{◌≡◌, IfErr};
+ghost use Rattle.std.specs.Prelude.{◌≡◌, Err, IfErr, IfOk};
 ghost use Rattle.evl_kernel.specs.Callbacks.{AnswersAsTold};
 ghost use Rattle.evl_machine.specs.Calls.{HoldsAtItsStage};
 ghost use Rattle.evl_machine.specs.Handles.{Belongs, IsSameCaller};
-ghost use Rattle.evl_machine.specs.MutexLocks.{BeginsToLock, FinishesToLock, TriesToLock, TriesToUnlock, UnlocksFast};
+ghost use Rattle.evl_machine.specs.MutexLocks.{BeginsToLock, FastAnswer, FinishesToLock, TriesToLock, TriesToUnlock, UnlocksFast};
 ghost use Rattle.evl_machine.specs.Visits.{FullOnly};
 
 use crate::actor::{has_ceiling, is_handed_on};
@@ -31,6 +31,29 @@ impl<C: Handler, A: Allocator> MachineOf<C, A> {
         caller: &mut CallerOf<C, A>,
         mutex: MutexId,
     ) -> Result<MutexPass, Refusal>
+        requires machine { Belongs caller.old self.now }
+        requires answering { AnswersAsTold C.declared C.plan self.now.first.callbacks }
+        ensures machine { IsSameCaller caller.old caller.new }
+        ensures locked { TriesToLock caller.old mutex result caller.new }
+        ensures full { IfErr result (FullOnly caller.new) }
+        ensures stage { HoldsAtItsStage caller.new }
+    {
+        let kind = self.words.kind(mutex);
+        if caller.actor.lock_refusal(kind, mutex).is_none() {
+            if !has_ceiling(kind) && caller.actor.mutexes.is_free(mutex) {
+                return self.words.try_there(&mut caller.actor.mutexes, mutex);
+            }
+        }
+        match self.lock_rarely(caller, mutex) {
+            Ok(pass) => Ok(pass),
+            Err(refusal) => Err(refusal),
+        }
+    }
+
+    /// Locks a mutex where the caller may have it, or it may have a ceiling, or something refuses it.
+    #[cold]
+    #[inline(never)]
+    fn lock_rarely(&self, caller: &mut CallerOf<C, A>, mutex: MutexId) -> Result<MutexPass, Refusal>
         requires machine { Belongs caller.old self.now }
         requires answering { AnswersAsTold C.declared C.plan self.now.first.callbacks }
         ensures machine { IsSameCaller caller.old caller.new }
@@ -119,16 +142,40 @@ impl<C: Handler, A: Allocator> MachineOf<C, A> {
         ensures full { IfErr result (λ e. FullOnly caller.new e.0) }
         ensures stage { HoldsAtItsStage caller.new }
     {
+        if caller.actor.spend_refusal(&pass).is_none() {
+            let mutex = pass.mutex();
+            let held = caller.actor.mutexes.depth(mutex);
+            if held == 1 && !has_ceiling(self.words.kind(mutex)) {
+                return fast_answer(self.words.unlock_there(&mut caller.actor.mutexes, pass));
+            }
+        }
+        match self.unlock_rarely(caller, pass) {
+            Ok(()) => Ok(()),
+            Err((refusal, back)) => Err((refusal, back)),
+        }
+    }
+
+    /// Spends a pass without the kernel where the caller may have another one, or the mutex a ceiling, or something refuses it.
+    #[cold]
+    #[inline(never)]
+    fn unlock_rarely(
+        &self,
+        caller: &mut CallerOf<C, A>,
+        pass: MutexPass,
+    ) -> Result<(), (Refusal, MutexPass)>
+        requires machine { Belongs caller.old self.now }
+        ensures machine { IsSameCaller caller.old caller.new }
+        ensures unlocked { UnlocksFast caller.old pass result caller.new }
+        ensures full { IfErr result (λ e. FullOnly caller.new e.0) }
+        ensures stage { HoldsAtItsStage caller.new }
+    {
         if let Some(refusal) = caller.actor.spend_refusal(&pass) {
             return Err((refusal, pass));
         }
         if has_ceiling(self.words.kind(pass.mutex())) {
             return Err((Refusal::Busy, pass));
         }
-        match self.words.unlock(&mut caller.actor.mutexes, pass)? {
-            Unlock::Done => Ok(()),
-            Unlock::Claimed(pass) => Err((Refusal::Busy, pass)),
-        }
+        fast_answer(self.words.unlock(&mut caller.actor.mutexes, pass))
     }
 
     /// Spends a pass. A mutex that others claim, or that has a ceiling, is handed on by the kernel, and its word offered to
@@ -160,6 +207,18 @@ impl<C: Handler, A: Allocator> MachineOf<C, A> {
         } else {
             self.unlock_at_word(caller, pass)
         }
+    }
+}
+
+/// What a word answered, as a call without the kernel tells it: a pass comes back where others claim the mutex.
+#[inline(always)]
+fn fast_answer(told: Result<Unlock, (Refusal, MutexPass)>) -> Result<(), (Refusal, MutexPass)>
+    ensures ok { IfOk told (FastAnswer result) }
+    ensures err { IfErr told (λ refused. result ≡ Err refused) }
+{
+    match told? {
+        Unlock::Done => Ok(()),
+        Unlock::Claimed(pass) => Err((Refusal::Busy, pass)),
     }
 }
 

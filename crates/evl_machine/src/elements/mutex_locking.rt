@@ -1,5 +1,5 @@
 //! Locking a mutex by a seat of a thread, and unlocking it.
-ghost use Rattle.std.specs.Prelude.{◌≡◌, map};
+ghost use Rattle.std.specs.Prelude.{◌≡◌, ◌<◌, length, map};
 ghost use Rattle.evl_words.specs.MutexCalls.{IsSeatOf, IsSameSeat};
 ghost use Rattle.evl_machine.specs.Homes.{mutex_home, word_home};
 ghost use Rattle.evl_machine.specs.MutexSeats.{TriesMutex, UnlocksBy, UnlocksMutex};
@@ -23,10 +23,26 @@ impl<A: Allocator> MutexWords<A> {
         ensures numbers { map (λ s. s.number) seats.new ≡ map (λ s. s.number) seats.old }
         ensures tried { TriesMutex self.now.kinds seats.old mutex.0 result seats.new }
     {
-        let place = usize::from(mutex.0);
-        if place >= self.words.len() {
+        if usize::from(mutex.0) >= self.words.len() {
             return Err(Refusal::Unknown);
         }
+        self.try_there(seats, mutex)
+    }
+
+    /// Takes a mutex that is there, or has it once more.
+    #[inline(always)]
+    pub(crate) fn try_there(
+        &self,
+        seats: &mut MutexSeats<A>,
+        mutex: MutexId,
+    ) -> Result<MutexPass, Refusal>
+        requires homes { map mutex_home seats.old ≡ map word_home self.now.words }
+        requires there { mutex.0 < length seats.old }
+        ensures homes { map mutex_home seats.new ≡ map mutex_home seats.old }
+        ensures numbers { map (λ s. s.number) seats.new ≡ map (λ s. s.number) seats.old }
+        ensures tried { TriesMutex self.now.kinds seats.old mutex.0 result seats.new }
+    {
+        let place = usize::from(mutex.0);
         let seat = &mut seats.seats[place];
         let result = self.words[place].try_lock(seat);
         seats.passes += u16::from(result.is_ok());
@@ -45,10 +61,26 @@ impl<A: Allocator> MutexWords<A> {
         ensures numbers { map (λ s. s.number) seats.new ≡ map (λ s. s.number) seats.old }
         ensures unlocked { UnlocksMutex seats.old pass result seats.new }
     {
-        let place = usize::from(pass.mutex().0);
-        if place >= self.words.len() {
+        if usize::from(pass.mutex().0) >= self.words.len() {
             return Err((Refusal::NotOwner, pass));
         }
+        self.unlock_there(seats, pass)
+    }
+
+    /// Spends a pass of a mutex that is there.
+    #[inline(always)]
+    pub(crate) fn unlock_there(
+        &self,
+        seats: &mut MutexSeats<A>,
+        pass: MutexPass,
+    ) -> Result<Unlock, (Refusal, MutexPass)>
+        requires homes { map mutex_home seats.old ≡ map word_home self.now.words }
+        requires there { pass.mutex.0 < length seats.old }
+        ensures homes { map mutex_home seats.new ≡ map mutex_home seats.old }
+        ensures numbers { map (λ s. s.number) seats.new ≡ map (λ s. s.number) seats.old }
+        ensures unlocked { UnlocksMutex seats.old pass result seats.new }
+    {
+        let place = usize::from(pass.mutex().0);
         let seat = &mut seats.seats[place];
         let before = seat.depth();
         let result = spend(&self.words[place], seat, pass);

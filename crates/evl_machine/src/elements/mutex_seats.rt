@@ -1,5 +1,5 @@
 //! A thread's seats at the mutex words of a machine.
-ghost use Rattle.std.specs.Prelude.{◌≡◌, ◌+◌, ◌≤◌};
+ghost use Rattle.std.specs.Prelude.{◌≡◌, ◌+◌, ◌≤◌, ◌==◌, ◌&&◌, length, nat_lt};
 ghost use Rattle.evl_machine.specs.MutexSeats.{AreFresh, depth_at, holds_mutex, unlock_refusal};
 
 use evl_base::{MutexId, Refusal};
@@ -53,6 +53,15 @@ impl<A: Allocator> MutexSeats<A> {
         } else {
             0
         }
+    }
+
+    /// Whether there is such a mutex, and the thread doesn't hold it.
+    #[inline(always)]
+    pub(crate) fn is_free(&self, mutex: MutexId) -> bool
+        ensures free { result ≡ (nat_lt mutex.0 (length self.now) && (depth_at self.now mutex.0 == 0)) }
+    {
+        let place = usize::from(mutex.0);
+        place < self.seats.len() && self.seats[place].depth() == 0
     }
 
     /// What refuses to spend a pass with no step: it isn't of the thread's seat, or the thread doesn't have the mutex.
