@@ -16,34 +16,6 @@ const RR: Policy = Policy::Rr {
 const QUOTA: Policy = Policy::Quota { group: 0, prio: 5 };
 
 #[test]
-fn round_robin(rt: HostRuntime) -> Result<(), Fail> {
-    let mut sched = Sched::new(rt.alloc(), 3, &[])?;
-    assert!(rt; sched.attach(ONE, RR, Stage::Oob).is_ok());
-    assert!(rt; sched.attach(TWO, RR, Stage::Oob).is_ok());
-    assert!(rt; matches!(sched.pick(), Some(ThreadId(1))));
-    sched.charge(99);
-    assert!(rt; matches!(sched.pick(), Some(ThreadId(1))));
-    sched.charge(1);
-    assert!(rt; matches!(sched.pick(), Some(ThreadId(2))));
-    Ok(())
-}
-
-#[test]
-fn quota_refill(rt: HostRuntime) -> Result<(), Fail> {
-    let mut sched = Sched::new(rt.alloc(), 3, &[10])?;
-    let beyond = Policy::Quota { group: 1, prio: 5 };
-    assert!(rt; matches!(sched.attach(ONE, beyond, Stage::Oob), Err(Refusal::Unknown)));
-    assert!(rt; sched.attach(ONE, QUOTA, Stage::Oob).is_ok());
-    assert!(rt; matches!(sched.rank(ONE), Ok(261)));
-    assert!(rt; matches!(sched.pick(), Some(ThreadId(1))));
-    sched.charge(100_000_000);
-    assert!(rt; matches!(sched.pick(), None) && !sched.eligible());
-    sched.refill();
-    assert!(rt; matches!(sched.pick(), Some(ThreadId(1))));
-    Ok(())
-}
-
-#[test]
 fn a_thread_goes_inband_and_back(rt: HostRuntime) -> Result<(), Fail> {
     let mut sched = Sched::new(rt.alloc(), 3, &[])?;
     assert!(rt; sched.attach(ONE, Policy::Fifo(99), Stage::Oob).is_ok());
@@ -62,7 +34,7 @@ fn a_thread_goes_inband_and_back(rt: HostRuntime) -> Result<(), Fail> {
 fn a_blocked_thread_comes_back(rt: HostRuntime) -> Result<(), Fail> {
     let mut sched = Sched::new(rt.alloc(), 3, &[10])?;
     assert!(rt; sched.attach(ONE, Policy::Fifo(10), Stage::Oob).is_ok());
-    assert!(rt; sched.attach(TWO, Policy::Weak(5), Stage::Oob).is_ok());
+    assert!(rt; sched.attach(TWO, QUOTA, Stage::Oob).is_ok());
     sched.block(ONE);
     assert!(rt; matches!(sched.pick(), Some(ThreadId(2))));
     sched.ready(ONE);

@@ -2,6 +2,4 @@
 #![tactic(auto)]
 
 #[cfg(test)]
-mod rows;
-#[cfg(test)]
 mod waiting;
