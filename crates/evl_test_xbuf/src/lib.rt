@@ -1,5 +1,0 @@
-//! Tests of cross-buffers, as a caller uses them.
-#![tactic(auto)]
-
-#[cfg(test)]
-mod waiting;
