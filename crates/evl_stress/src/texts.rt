@@ -1,8 +1,8 @@
 //! A run's history as two texts: its scenario, and its trace.
-ghost use Rattle.std.specs.Prelude.{◌≡◌, IfOk};
+ghost use Rattle.std.specs.Prelude.{◌≡◌, IfErr, IfOk};
 ghost use Rattle.evl_shell.specs.Histories.{AreSound};
 ghost use Rattle.evl_stress.specs.Boards.{shared_board};
-ghost use Rattle.evl_stress.specs.Texts.{IsPlayedSo};
+ghost use Rattle.evl_stress.specs.Texts.{IsPlayedSo, IsUntold};
 
 use crate::boards::shared_board;
 use evl_base::Refusal;
@@ -30,7 +30,8 @@ pub enum Failure {
     Unwritten(Unwritten),
 }
 
-/// The texts of a kernel's history, whose board is the shared one.
+/// The texts of a kernel's history, whose board is the shared one. `Unwritten` where it has more than a million entries or
+/// its scenario would be too long; `NoMemory`, of either kind, where a growth was refused (this profile).
 pub fn texts_of<C, A: Allocator>(
     alloc: Global,
     kernel: &KernelOf<C, A>,
@@ -38,7 +39,8 @@ pub fn texts_of<C, A: Allocator>(
 ) -> Result<Texts, Failure>
     requires board { kernel.now.history.board ≡ shared_board threads }
     requires sound { AreSound kernel.now.history.bank }
-    ensures { IfOk result (λ texts. IsPlayedSo kernel.now.history.bank texts) }
+    ensures told { IfOk result (λ texts. IsPlayedSo kernel.now.history.bank texts) }
+    ensures untold { IfErr result (λ failure. IsUntold kernel.now.history failure) }
 {
     let board = without_staxes(shared_board(threads));
     let entries = kernel.history();
