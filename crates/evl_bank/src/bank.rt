@@ -92,19 +92,36 @@ fn plan(accepts: u64, every: u64, action: Action) -> Plan
     Plan { accepts, rows }
 }
 
+// A box for each of two values, so that what makes the bank holds fewer parts where memory may be short.
+fn boxed<S: Drop, T: Drop>(
+    alloc: Global,
+    one: S,
+    two: T,
+) -> Result<(Box<S, Global>, Box<T, Global>), AllocError>
+    ensures { IfOk result (λ boxes. (boxes.0.value ≡ one) × (boxes.1.value ≡ two)) }
+{
+    let first = Box::new(alloc, one)?;
+    let second = Box::new(alloc, two)?;
+    Ok((first, second))
+}
+
 // Makes the program's bank, each callback with a closure of its own. A function can't name the closures' types in what it
 // answers, so the bank is made where it is used.
 macro_rules! callbacks {
     ($alloc:expr) => {{
         let none = ActionKinds::from_bits_retain(0);
-        let zero = Box::new($alloc, |_: Fire| quiet())?;
-        let one = Box::new($alloc, |_: Fire| asks(POST))?;
-        let two = Box::new($alloc, |fire: Fire| asks_each_second(fire.count, POST))?;
-        let three = Box::new($alloc, |_: Fire| asks(Action::Propagate))?;
-        let four = Box::new($alloc, |_: Fire| asks(POST_LINE))?;
-        let five = Box::new($alloc, |_: Fire| asks(POST_BIT))?;
-        let six = Box::new($alloc, |fire: Fire| handles_each_second(fire.count, STOP))?;
-        let seven = Box::new($alloc, |_: Fire| quiet())?;
+        let (zero, one) = boxed($alloc, |_: Fire| quiet(), |_: Fire| asks(POST))?;
+        let (two, three) = boxed(
+            $alloc,
+            |fire: Fire| asks_each_second(fire.count, POST),
+            |_: Fire| asks(Action::Propagate),
+        )?;
+        let (four, five) = boxed($alloc, |_: Fire| asks(POST_LINE), |_: Fire| asks(POST_BIT))?;
+        let (six, seven) = boxed(
+            $alloc,
+            |fire: Fire| handles_each_second(fire.count, STOP),
+            |_: Fire| quiet(),
+        )?;
         vec![in $alloc;
             Callback::new(none, &quiet_plan(), zero),
             Callback::new(ActionKinds::POST_SEM, &plan(1, 1, POST), one),
