@@ -4,7 +4,6 @@ use evl_base::{
     ThreadId, TimerId, Transfer, Way, XbufId, put_call, put_play, put_reply,
 };
 use std::alloc::Global;
-use std::test::*;
 
 fn reply_text(alloc: Global, outcome: &Result<Reply, Refusal>) -> Result<Vec<u8>, Refusal> {
     let mut text = Vec::new(alloc);
@@ -18,57 +17,71 @@ fn play_text(alloc: Global, play: Play) -> Result<Vec<u8>, Refusal> {
     Ok(text)
 }
 
-#[test]
-fn calls_are_appended(rt: HostRuntime) -> Result<(), Fail> {
-    let mut text = Vec::new(rt.alloc());
-    put_call(&mut text, &Call::TryGet { sem: SemId(0) }).map_err(|_| "try_get")?;
-    put_call(&mut text, &Call::Put { sem: SemId(63) }).map_err(|_| "put")?;
-    put_call(&mut text, &Call::Peek { sem: SemId(65535) }).map_err(|_| "peek")?;
-    assert_eq!(rt;
-        text.as_slice(),
-        b"try_get sem=0put sem=63peek sem=65535".as_slice()
-    );
-    Ok(())
+// The texts of these calls, one behind another.
+fn call_texts(alloc: Global, calls: &[Call]) -> Result<Vec<u8>, Refusal> {
+    let mut text = Vec::new(alloc);
+    for call in calls {
+        put_call(&mut text, call)?;
+    }
+    Ok(text)
+}
+
+// Whether this text was written, and is the one that is wanted.
+fn is_text(written: Result<Vec<u8>, Refusal>, wanted: &str) -> bool {
+    match written {
+        Ok(text) => text.as_slice() == wanted.as_bytes(),
+        Err(_) => false,
+    }
 }
 
 #[test]
-fn waits_have_their_texts(rt: HostRuntime) -> Result<(), Fail> {
-    let mut text = Vec::new(rt.alloc());
+fn calls_are_appended(rt: HostRuntime) {
+    let calls = [
+        Call::TryGet { sem: SemId(0) },
+        Call::Put { sem: SemId(63) },
+        Call::Peek { sem: SemId(65535) },
+    ];
+    let wanted = "try_get sem=0put sem=63peek sem=65535";
+    assert!(rt; is_text(call_texts(rt.alloc(), &calls), wanted));
+}
+
+#[test]
+fn waits_have_their_texts(rt: HostRuntime) {
     let sem = SemId(1);
-    put_call(&mut text, &Call::BeginGet { sem, until: None }).map_err(|_| "no deadline")?;
     let until = Some(18_446_744_073_709_551_615);
-    put_call(&mut text, &Call::BeginGet { sem, until }).map_err(|_| "deadline")?;
-    put_call(&mut text, &Call::Finish { keep: false }).map_err(|_| "finish")?;
-    assert_eq!(rt;
-        text.as_slice(),
-        b"begin_get sem=1 until=nonebegin_get sem=1 until=18446744073709551615finish keep=false".as_slice()
-    );
-    Ok(())
+    let calls = [
+        Call::BeginGet { sem, until: None },
+        Call::BeginGet { sem, until },
+        Call::Finish { keep: false },
+    ];
+    let wanted =
+        "begin_get sem=1 until=nonebegin_get sem=1 until=18446744073709551615finish keep=false";
+    assert!(rt; is_text(call_texts(rt.alloc(), &calls), wanted));
 }
 
 #[test]
-fn flag_calls_have_their_texts(rt: HostRuntime) -> Result<(), Fail> {
-    let mut text = Vec::new(rt.alloc());
+fn flag_calls_have_their_texts(rt: HostRuntime) {
     let flags = FlagId(63);
-    let of = Take::Of(4_294_967_295);
-    put_call(&mut text, &Call::TryTake { flags, kind: of }).map_err(|_| "try_take")?;
-    put_call(&mut text, &Call::PostFlags { flags, bits: 6 }).map_err(|_| "post_flags")?;
-    put_call(&mut text, &Call::PeekFlags { flags }).map_err(|_| "peek_flags")?;
-    let wait = Call::BeginTake {
-        flags,
-        kind: Take::Any,
-        until: Some(9),
-    };
-    put_call(&mut text, &wait).map_err(|_| "begin_take")?;
-    assert_eq!(rt;
-        text.as_slice(),
-        b"try_take flags=63 kind=of 4294967295post_flags flags=63 bits=6peek_flags flags=63begin_take flags=63 kind=any until=9".as_slice()
-    );
-    Ok(())
+    let calls = [
+        Call::TryTake {
+            flags,
+            kind: Take::Of(4_294_967_295),
+        },
+        Call::PostFlags { flags, bits: 6 },
+        Call::PeekFlags { flags },
+        Call::BeginTake {
+            flags,
+            kind: Take::Any,
+            until: Some(9),
+        },
+    ];
+    let wanted =
+        "try_take flags=63 kind=of 4294967295post_flags flags=63 bits=6peek_flags flags=63begin_take flags=63 kind=any until=9";
+    assert!(rt; is_text(call_texts(rt.alloc(), &calls), wanted));
 }
 
 #[test]
-fn mutex_calls_have_their_texts(rt: HostRuntime) -> Result<(), Fail> {
+fn mutex_calls_have_their_texts(rt: HostRuntime) {
     let mutex = MutexId(31);
     let calls = [
         (
@@ -95,10 +108,9 @@ fn mutex_calls_have_their_texts(rt: HostRuntime) -> Result<(), Fail> {
             "raise mutex=65535",
         ),
     ];
-    for (call, expected) in &calls {
-        assert!(rt; is_call_copied(rt.alloc(), call, expected).map_err(|_| "copy")?);
+    for (call, wanted) in &calls {
+        assert!(rt; is_call_copied(rt.alloc(), call, wanted));
     }
-    Ok(())
 }
 
 // Three bytes and none, in boxes that were kept.
@@ -110,8 +122,10 @@ fn two_transfers(alloc: Global) -> Result<(Transfer, Transfer), Refusal> {
 }
 
 #[test]
-fn buffer_calls_have_their_texts(rt: HostRuntime) -> Result<(), Fail> {
-    let (three, _) = two_transfers(rt.alloc()).map_err(|_| "boxes")?;
+fn buffer_calls_have_their_texts(rt: HostRuntime) {
+    let Ok((three, _)) = two_transfers(rt.alloc()) else {
+        panic!(rt; "boxes")
+    };
     let xbuf = XbufId(15);
     let calls = [
         (
@@ -132,15 +146,16 @@ fn buffer_calls_have_their_texts(rt: HostRuntime) -> Result<(), Fail> {
         ),
         (Call::Room { xbuf, way: Way::In }, "room xbuf=15 way=in"),
     ];
-    for (call, expected) in &calls {
-        assert!(rt; is_call_copied(rt.alloc(), call, expected).map_err(|_| "copy")?);
+    for (call, wanted) in &calls {
+        assert!(rt; is_call_copied(rt.alloc(), call, wanted));
     }
-    Ok(())
 }
 
 #[test]
-fn buffer_waits_have_their_texts(rt: HostRuntime) -> Result<(), Fail> {
-    let (_, none) = two_transfers(rt.alloc()).map_err(|_| "boxes")?;
+fn buffer_waits_have_their_texts(rt: HostRuntime) {
+    let Ok((_, none)) = two_transfers(rt.alloc()) else {
+        panic!(rt; "boxes")
+    };
     let xbuf = XbufId(15);
     let calls = [
         (
@@ -162,41 +177,48 @@ fn buffer_waits_have_their_texts(rt: HostRuntime) -> Result<(), Fail> {
             "begin_read xbuf=15 way=in len=0 until=5",
         ),
     ];
-    for (call, expected) in &calls {
-        assert!(rt; is_call_copied(rt.alloc(), call, expected).map_err(|_| "copy")?);
+    for (call, wanted) in &calls {
+        assert!(rt; is_call_copied(rt.alloc(), call, wanted));
     }
-    Ok(())
 }
 
-// Whether a call that was copied has this text.
-fn is_call_copied(alloc: Global, call: &Call, wanted: &str) -> Result<bool, Refusal> {
+// The text of a call that was copied.
+fn copied_call_text(alloc: Global, call: &Call) -> Result<Vec<u8>, Refusal> {
     let mut spares = Spares::new(alloc, alloc);
     spares.keep(1)?;
     let copy = call.copied(&mut spares);
     let mut text = Vec::new(alloc);
     put_call(&mut text, &copy)?;
-    Ok(text.as_slice() == wanted.as_bytes())
+    Ok(text)
 }
 
-// Whether a reply that was copied has the same text.
-fn is_copied(alloc: Global, reply: &Reply, wanted: &str) -> Result<bool, Refusal> {
+// Whether a call that was copied has this text.
+fn is_call_copied(alloc: Global, call: &Call, wanted: &str) -> bool {
+    is_text(copied_call_text(alloc, call), wanted)
+}
+
+// The text of a reply that was copied.
+fn copied_reply_text(alloc: Global, reply: &Reply) -> Result<Vec<u8>, Refusal> {
     let mut spares = Spares::new(alloc, alloc);
     spares.keep(1)?;
     let copy = Ok(reply.copied(&mut spares));
-    Ok(reply_text(alloc, &copy)?.as_slice() == wanted.as_bytes())
+    reply_text(alloc, &copy)
 }
 
 #[test]
-fn bytes_are_copied(rt: HostRuntime) -> Result<(), Fail> {
-    let (three, _) = two_transfers(rt.alloc()).map_err(|_| "boxes")?;
+fn bytes_are_copied(rt: HostRuntime) {
+    let Ok((three, _)) = two_transfers(rt.alloc()) else {
+        panic!(rt; "boxes")
+    };
     let reply = Reply::Bytes(three);
-    assert!(rt; is_copied(rt.alloc(), &reply, "bytes 610aff").map_err(|_| "copy")?);
-    Ok(())
+    assert!(rt; is_text(copied_reply_text(rt.alloc(), &reply), "bytes 610aff"));
 }
 
 #[test]
-fn replies_have_their_texts(rt: HostRuntime) -> Result<(), Fail> {
-    let (three, none) = two_transfers(rt.alloc()).map_err(|_| "boxes")?;
+fn replies_have_their_texts(rt: HostRuntime) {
+    let Ok((three, none)) = two_transfers(rt.alloc()) else {
+        panic!(rt; "boxes")
+    };
     let cases = [
         (Ok(Reply::Done), "done"),
         (Ok(Reply::Begun), "begun"),
@@ -216,15 +238,13 @@ fn replies_have_their_texts(rt: HostRuntime) -> Result<(), Fail> {
             "Raced",
         ),
     ];
-    for (outcome, expected) in &cases {
-        let text = reply_text(rt.alloc(), outcome).map_err(|_| "reply")?;
-        assert_eq!(rt; text.as_slice(), expected.as_bytes());
+    for (outcome, wanted) in &cases {
+        assert!(rt; is_text(reply_text(rt.alloc(), outcome), wanted));
     }
-    Ok(())
 }
 
 #[test]
-fn handed_mutexes_have_their_texts(rt: HostRuntime) -> Result<(), Fail> {
+fn handed_mutexes_have_their_texts(rt: HostRuntime) {
     let cases = [
         (
             Ok(Reply::Handed {
@@ -248,42 +268,43 @@ fn handed_mutexes_have_their_texts(rt: HostRuntime) -> Result<(), Fail> {
             "next none",
         ),
     ];
-    for (outcome, expected) in &cases {
-        let text = reply_text(rt.alloc(), outcome).map_err(|_| "reply")?;
-        assert_eq!(rt; text.as_slice(), expected.as_bytes());
+    for (outcome, wanted) in &cases {
+        assert!(rt; is_text(reply_text(rt.alloc(), outcome), wanted));
     }
-    Ok(())
 }
 
 #[test]
-fn plays_have_their_texts(rt: HostRuntime) -> Result<(), Fail> {
-    let line = Play::Line {
-        line: LineNo(4),
-        stage: Stage::Oob,
-        count: 65,
-        handled: true,
-    };
-    let text = play_text(rt.alloc(), line).map_err(|_| "line")?;
-    assert_eq!(rt; text.as_slice(), b"line 4 oob count 65 handled".as_slice());
-    let timer = Play::Timer {
-        timer: TimerId(0),
-        count: 1,
-        missed: 3,
-        handled: false,
-    };
-    let text = play_text(rt.alloc(), timer).map_err(|_| "timer")?;
-    assert_eq!(rt;
-        text.as_slice(),
-        b"timer 0 count 1 missed 3 none".as_slice()
-    );
-    let text = play_text(rt.alloc(), Play::Clock).map_err(|_| "clock")?;
-    assert_eq!(rt; text.as_slice(), b"clock".as_slice());
-    let deadline = Play::Deadline {
-        thread: ThreadId(2),
-    };
-    let text = play_text(rt.alloc(), deadline).map_err(|_| "deadline")?;
-    assert_eq!(rt; text.as_slice(), b"deadline T2".as_slice());
-    Ok(())
+fn plays_have_their_texts(rt: HostRuntime) {
+    let plays = [
+        (
+            Play::Line {
+                line: LineNo(4),
+                stage: Stage::Oob,
+                count: 65,
+                handled: true,
+            },
+            "line 4 oob count 65 handled",
+        ),
+        (
+            Play::Timer {
+                timer: TimerId(0),
+                count: 1,
+                missed: 3,
+                handled: false,
+            },
+            "timer 0 count 1 missed 3 none",
+        ),
+        (Play::Clock, "clock"),
+        (
+            Play::Deadline {
+                thread: ThreadId(2),
+            },
+            "deadline T2",
+        ),
+    ];
+    for (play, wanted) in plays {
+        assert!(rt; is_text(play_text(rt.alloc(), play), wanted));
+    }
 }
 
 #[test]
@@ -317,8 +338,16 @@ fn refusals_have_their_numbers_and_names(rt: HostRuntime) {
     }
 }
 
+// Whether a value is shown so.
+fn is_shown<T: ToString>(alloc: Global, value: &T, wanted: &str) -> bool {
+    match value.to_string(alloc) {
+        Ok(text) => text.as_str() == wanted,
+        Err(_) => false,
+    }
+}
+
 #[test]
-fn policies_takes_and_ways_have_their_texts(rt: HostRuntime) -> Result<(), Fail> {
+fn policies_have_their_texts(rt: HostRuntime) {
     let policies = [
         (Policy::Fifo(99), "fifo 99"),
         (
@@ -331,22 +360,22 @@ fn policies_takes_and_ways_have_their_texts(rt: HostRuntime) -> Result<(), Fail>
         (Policy::Quota { group: 0, prio: 5 }, "quota 0 5"),
         (Policy::Weak(0), "weak 0"),
     ];
-    for (policy, expected) in policies {
-        let text = policy.to_string(rt.alloc()).map_err(|_| "policy")?;
-        assert!(rt; text.as_str() == expected);
+    for (policy, wanted) in policies {
+        assert!(rt; is_shown(rt.alloc(), &policy, wanted));
     }
+}
+
+#[test]
+fn takes_and_ways_have_their_texts(rt: HostRuntime) {
     let takes = [
         (Take::Any, "any"),
         (Take::Of(1), "of 1"),
         (Take::Exact(6), "exact 6"),
     ];
-    for (take, expected) in takes {
-        let text = take.to_string(rt.alloc()).map_err(|_| "take")?;
-        assert!(rt; text.as_str() == expected);
+    for (take, wanted) in takes {
+        assert!(rt; is_shown(rt.alloc(), &take, wanted));
     }
-    for (way, expected) in [(Way::In, "in"), (Way::Out, "out")] {
-        let text = way.to_string(rt.alloc()).map_err(|_| "way")?;
-        assert!(rt; text.as_str() == expected);
+    for (way, wanted) in [(Way::In, "in"), (Way::Out, "out")] {
+        assert!(rt; is_shown(rt.alloc(), &way, wanted));
     }
-    Ok(())
 }

@@ -3,17 +3,17 @@ ghost use Rattle.std.specs.Prelude.{◌≡◌, []};
 ghost use Rattle.evl_kernel.specs.Callbacks.{AnswersAsTold};
 ghost use Rattle.evl_pipeline.specs.Plans.{answer_of};
 
-use crate::handlers::{does, opened, quiet, quiet_plan};
+use crate::handlers::{does, quiet, quiet_plan};
+use crate::rows::{KernelRow, PipelineRow, on_a_kernel, on_a_pipeline};
 use bitflags::Flags;
 use evl_base::{ActionKinds, Call, LineNo, Stage};
 use evl_kernel::KernelOf;
-use evl_pipeline::{Answer, Callback, Fire, Handler, Pipeline, PipelineOf, Plan};
-use std::alloc::{Allocator, Global};
+use evl_pipeline::{Answer, Callback, Fire, Handler, PipelineOf, Plan};
+use std::alloc::Allocator;
 use std::cell::Cell;
 use std::snapshot::Snapshot;
 use std::sync::Arc;
 use std::sync::atomic::{AtomicU64, Ordering};
-use std::test::Fail;
 
 const LINE: LineNo = LineNo(9);
 
@@ -90,17 +90,31 @@ fn has(given: &Cell<Given>, calls: u64, moment: u64) -> bool {
         && fire.moment == moment
 }
 
-#[test]
-fn a_pipeline_hands_on_the_fire(rt: HostRuntime) -> Result<(), Fail> {
-    let given = nothing();
-    let mut pipeline = PipelineOf::new(rt.alloc())?;
-    assert!(rt; pipeline.request(LINE, STAGE, keeping(&given), TAG).is_ok());
-    for count in 1..3 {
-        assert!(rt; pipeline.arrive(LINE).is_ok());
-        assert!(rt; pipeline.next(true, false, 7).is_some());
-        assert!(rt; has(&given, count, 7));
+// A handler that keeps its fires here.
+#[derive(Drop)]
+struct TwoArrivals<'a> {
+    given: &'a Cell<Given>,
+}
+
+impl<'a> PipelineRow<Keeper<'a>> for TwoArrivals<'a> {
+    // Each of two events is given to the handler.
+    fn ask<A: Allocator>(self, pipeline: &mut PipelineOf<Keeper<'a>, A>) -> bool {
+        let mut told = pipeline
+            .request(LINE, STAGE, keeping(self.given), TAG)
+            .is_ok();
+        for count in 1..3 {
+            let arrived = pipeline.arrive(LINE).is_ok();
+            let played = pipeline.next(true, false, 7).is_some();
+            told = told && arrived && played && has(self.given, count, 7);
+        }
+        told
     }
-    Ok(())
+}
+
+#[test]
+fn a_pipeline_hands_on_the_fire(rt: HostRuntime) {
+    let given = nothing();
+    assert!(rt; on_a_pipeline(rt.alloc(), TwoArrivals { given: &given }) == Ok(true));
 }
 
 // Whether the line's event is given to callback 0, of which it is this fire.
@@ -134,44 +148,71 @@ fn gives_two_fires<C: Handler, A: Allocator>(
     requested && first && second
 }
 
-// The same of a new kernel.
-fn gives_each_fire<C: Handler>(alloc: Global, bank: Vec<C>, given: &Cell<Given>) -> bool {
-    match opened(alloc, alloc, bank) {
-        Ok(mut kernel) => gives_two_fires(&mut kernel, given),
-        Err(_) => false,
+#[derive(Drop)]
+struct TwoFires<'a> {
+    given: &'a Cell<Given>,
+}
+
+impl<'a> KernelRow for TwoFires<'a> {
+    type Told = bool;
+
+    fn ask<C: Handler, A: Allocator>(self, kernel: &mut KernelOf<C, A>) -> bool {
+        gives_two_fires(kernel, self.given)
     }
 }
 
 #[test]
-fn a_kernel_hands_on_the_fire(rt: HostRuntime) -> Result<(), Fail> {
+fn a_kernel_hands_on_the_fire(rt: HostRuntime) {
     let given = nothing();
     let alloc = rt.alloc();
     let Ok(bank) = Vec::from_array(alloc, [keeping(&given)]) else {
         panic!(rt; "bank");
     };
-    assert!(rt; gives_each_fire(alloc, bank, &given));
-    Ok(())
+    let row = TwoFires { given: &given };
+    assert!(rt; on_a_kernel(alloc, alloc, 0, bank, 100, row) == Ok(true));
+}
+
+// A callback that counts its calls here.
+#[derive(Drop)]
+struct Counted<'a, C: Drop> {
+    callback: C,
+    calls: &'a AtomicU64,
+}
+
+impl<'a, C: Handler> PipelineRow<C> for Counted<'a, C> {
+    // Each of two plays calls it once.
+    fn ask<A: Allocator>(self, pipeline: &mut PipelineOf<C, A>) -> bool {
+        let Counted { callback, calls } = self;
+        let mut told = pipeline.request(LINE, STAGE, callback, TAG).is_ok();
+        for count in 1..3 {
+            let posted = pipeline.post(STAGE, LINE).is_ok();
+            let played = pipeline.next(false, true, 0).is_some();
+            told = told && posted && played && calls.load(Ordering::SeqCst) == count;
+        }
+        told
+    }
 }
 
 // A stored closure is called once for each play.
 #[test]
-fn a_play_calls_once(rt: HostRuntime) -> Result<(), Fail> {
-    let calls = Arc::new(rt.alloc(), AtomicU64::new(0))?;
-    let counted = calls.clone()?;
-    let counting = Callback::new(
-        ActionKinds::from_bits_retain(0),
-        &quiet_plan(1),
-        Box::new(rt.alloc(), move |_: Fire| {
-            counted.fetch_add(1, Ordering::SeqCst);
-            quiet()
-        })?,
-    );
-    let mut pipeline = Pipeline::new(rt.alloc())?;
-    assert!(rt; pipeline.request(LINE, STAGE, counting, TAG).is_ok());
-    for count in 1..3 {
-        assert!(rt; pipeline.post(STAGE, LINE).is_ok());
-        assert!(rt; pipeline.next(false, true, 0).is_some());
-        assert!(rt; calls.load(Ordering::SeqCst) == count);
-    }
-    Ok(())
+fn a_play_calls_once(rt: HostRuntime) {
+    let alloc = rt.alloc();
+    let Ok(calls) = Arc::new(alloc, AtomicU64::new(0)) else {
+        panic!(rt; "count");
+    };
+    let Ok(counted) = calls.clone() else {
+        panic!(rt; "count");
+    };
+    let Ok(run) = Box::new(alloc, move |_: Fire| {
+        counted.fetch_add(1, Ordering::SeqCst);
+        quiet()
+    }) else {
+        panic!(rt; "box");
+    };
+    let callback = Callback::new(ActionKinds::from_bits_retain(0), &quiet_plan(1), run);
+    let row = Counted {
+        callback,
+        calls: &calls,
+    };
+    assert!(rt; on_a_pipeline(alloc, row) == Ok(true));
 }

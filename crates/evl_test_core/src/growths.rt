@@ -3,15 +3,15 @@ ghost use Rattle.std.specs.Prelude.{◌≡◌};
 ghost use Rattle.evl_kernel.specs.Callbacks.{AnswersAsTold};
 
 use crate::handlers::{
-    SEM, apply, asks, entries, makes_room, opened, plan, plays, quiet, quiet_plan, reserve,
+    SEM, apply, asks, entries, makes_room, plan, plays, quiet, quiet_plan, reserve,
 };
+use crate::rows::{KernelRow, on_a_kernel};
 use bitflags::Flags;
 use evl_base::{ActionKinds, Call, LineNo, Refusal, Stage};
 use evl_kernel::KernelOf;
 use evl_pipeline::{Action, Callback, Fire, Handler};
 use linked_list_allocator::LocalHeap;
 use std::alloc::{Allocator, Global};
-use std::test::*;
 
 const STAGE: Stage = Stage::Oob;
 
@@ -93,42 +93,52 @@ fn row_alone<C: Handler, A: Allocator>(kernel: &mut KernelOf<C, A>) -> Option<u8
     }
 }
 
+#[derive(Drop)]
+struct LowestFirst;
+
+impl KernelRow for LowestFirst {
+    type Told = Option<u8>;
+
+    fn ask<C: Handler, A: Allocator>(self, kernel: &mut KernelOf<C, A>) -> Option<u8> {
+        row_alone(kernel)
+    }
+}
+
 // The same on a new kernel.
 fn row_anew<C: Handler, A: Allocator + Clone>(
     alloc: A,
     boxes: Global,
     bank: Vec<C, A>,
 ) -> Option<u8> {
-    match opened(alloc, boxes, bank) {
-        Ok(mut kernel) => row_alone(&mut kernel),
+    match on_a_kernel(alloc, boxes, 0, bank, 100, LowestFirst) {
+        Ok(done) => done,
         Err(Refusal::NoMemory) => Some(0),
         Err(_) => None,
     }
 }
 
 #[test]
-fn lowest_line_first_in_short_memory(rt: HostRuntime) -> Result<(), Fail> {
+fn lowest_line_first_in_short_memory(rt: HostRuntime) {
     let alloc = rt.alloc();
     let mut short = 0u32;
     let mut whole = 0u32;
     for size in 1usize..320 {
-        let heap = LocalHeap::new(alloc, size * 4096)?;
+        let Ok(heap) = LocalHeap::new(alloc, size * 4096) else {
+            panic!(rt; "heap");
+        };
+        let Ok(zero) = Box::new(alloc, |_: Fire| quiet()) else {
+            panic!(rt; "box");
+        };
+        let Ok(one) = Box::new(alloc, |_: Fire| asks(Action::PostSem(SEM))) else {
+            panic!(rt; "box");
+        };
+        let Ok(two) = Box::new(alloc, |_: Fire| quiet()) else {
+            panic!(rt; "box");
+        };
         let none = ActionKinds::from_bits_retain(0);
-        let first = Callback::new(
-            none,
-            &quiet_plan(1),
-            Box::new(alloc, |_: Fire| quiet()).map_err(|_| "box")?,
-        );
-        let posts = Callback::new(
-            ActionKinds::POST_SEM,
-            &plan(Action::PostSem(SEM)),
-            Box::new(alloc, |_: Fire| asks(Action::PostSem(SEM))).map_err(|_| "box")?,
-        );
-        let third = Callback::new(
-            none,
-            &quiet_plan(1),
-            Box::new(alloc, |_: Fire| quiet()).map_err(|_| "box")?,
-        );
+        let first = Callback::new(none, &quiet_plan(1), zero);
+        let posts = Callback::new(ActionKinds::POST_SEM, &plan(Action::PostSem(SEM)), one);
+        let third = Callback::new(none, &quiet_plan(1), two);
         if let Ok(bank) = Vec::from_array(&heap, [first, posts, third]) {
             let done = row_anew(&heap, alloc, bank);
             assert!(rt; done.is_some());
@@ -141,7 +151,6 @@ fn lowest_line_first_in_short_memory(rt: HostRuntime) -> Result<(), Fail> {
         assert!(rt; heap.used() == 0);
     }
     assert!(rt; short >= 1 && whole >= 1);
-    Ok(())
 }
 
 // Whether room for a hundred calls is refused for want of memory.
@@ -159,29 +168,30 @@ fn stays_as_it_is<C: Handler, A: Allocator>(kernel: &mut KernelOf<C, A>) -> bool
     has_no_room(kernel) && entries(kernel) == 0 && makes_room(kernel, 1)
 }
 
-// Whether a new kernel, over memory for a few calls, refuses to make room for a hundred, and is as before.
-fn refuses_room<C: Handler, A: Allocator + Clone>(
-    alloc: A,
-    boxes: Global,
-    bank: Vec<C, A>,
-) -> bool {
-    match opened(alloc, boxes, bank) {
-        Ok(mut kernel) => stays_as_it_is(&mut kernel),
-        Err(_) => false,
+#[derive(Drop)]
+struct NoRoom;
+
+impl KernelRow for NoRoom {
+    type Told = bool;
+
+    fn ask<C: Handler, A: Allocator>(self, kernel: &mut KernelOf<C, A>) -> bool {
+        stays_as_it_is(kernel)
     }
 }
 
+// A new kernel, over memory for a few calls.
 #[test]
-fn room_is_refused_in_short_memory(rt: HostRuntime) -> Result<(), Fail> {
-    let heap = LocalHeap::new(rt.alloc(), 320 * 4096)?;
-    let callback = Callback::new(
-        ActionKinds::from_bits_retain(0),
-        &quiet_plan(1),
-        Box::new(rt.alloc(), |_: Fire| quiet()).map_err(|_| "box")?,
-    );
+fn room_is_refused_in_short_memory(rt: HostRuntime) {
+    let alloc = rt.alloc();
+    let Ok(heap) = LocalHeap::new(alloc, 320 * 4096) else {
+        panic!(rt; "heap");
+    };
+    let Ok(run) = Box::new(alloc, |_: Fire| quiet()) else {
+        panic!(rt; "box");
+    };
+    let callback = Callback::new(ActionKinds::from_bits_retain(0), &quiet_plan(1), run);
     if let Ok(bank) = Vec::from_array(&heap, [callback]) {
-        assert!(rt; refuses_room(&heap, rt.alloc(), bank));
+        assert!(rt; on_a_kernel(&heap, alloc, 0, bank, 100, NoRoom) == Ok(true));
     }
     assert!(rt; heap.used() == 0);
-    Ok(())
 }

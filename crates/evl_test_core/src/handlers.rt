@@ -1,12 +1,12 @@
 //! Plans, answers and boards for tests.
-ghost use Rattle.std.specs.Prelude.{◌≡◌, [], ◌∷◌, true, IfOk};
+ghost use Rattle.std.specs.Prelude.{◌≡◌, [], ◌∷◌, true};
 ghost use Rattle.evl_kernel.specs.Callbacks.{AnswersAsTold};
 
 use arrayvec::ArrayVec;
 use evl_base::{Board, Call, Refusal, Reply, SemId, ThreadId};
 use evl_kernel::KernelOf;
 use evl_pipeline::{Action, Answer, Handler, Plan};
-use std::alloc::{Allocator, Global};
+use std::alloc::Allocator;
 
 pub(crate) const SEM: SemId = SemId(0);
 
@@ -81,17 +81,6 @@ pub(crate) fn apply<C: Handler, A: Allocator>(
     ensures answering { AnswersAsTold C.declared C.plan kernel.new.callbacks }
 {
     kernel.apply(CALLER, call)
-}
-
-/// A kernel over a board of one semaphore at 0, with a history of at most a hundred calls.
-pub(crate) fn opened<C: Handler, A: Allocator + Clone>(
-    alloc: A,
-    boxes: Global,
-    bank: Vec<C, A>,
-) -> Result<KernelOf<C, A>, Refusal>
-    ensures answering { IfOk result (λ kernel. AnswersAsTold C.declared C.plan kernel.callbacks) }
-{
-    KernelOf::over(alloc, boxes, board_of(0), bank, 100)
 }
 
 /// Whether one call of thread 0 is done.

@@ -2,14 +2,14 @@
 ghost use Rattle.evl_kernel.specs.Callbacks.{AnswersAsTold};
 
 use crate::handlers::{
-    SEM, apply, asks, board_of, does, entries, makes_room, opened, plan, plays, quiet, quiet_plan,
+    SEM, apply, asks, does, entries, makes_room, plan, plays, quiet, quiet_plan,
 };
+use crate::rows::{KernelRow, on_a_kernel};
 use bitflags::Flags;
 use evl_base::{ActionKinds, Call, LineNo, Refusal, Reply, Stage};
 use evl_kernel::KernelOf;
 use evl_pipeline::{Action, Callback, Fire, Handler};
-use std::alloc::{Allocator, Global};
-use std::test::Fail;
+use std::alloc::Allocator;
 
 const LINE: LineNo = LineNo(8);
 
@@ -35,17 +35,21 @@ fn has_three_places<C: Handler, A: Allocator>(kernel: &mut KernelOf<C, A>) -> bo
     room && !over && first && second && third && full
 }
 
-// The same of a new kernel with a history of three calls, which has them then.
-fn fills_three_places<C: Handler>(alloc: Global, bank: Vec<C>) -> bool {
-    match KernelOf::new(alloc, board_of(0), bank, 3) {
-        Ok(mut kernel) => has_three_places(&mut kernel) && entries(&kernel) == 3,
-        Err(_) => false,
+#[derive(Drop)]
+struct ThreePlaces;
+
+impl KernelRow for ThreePlaces {
+    type Told = bool;
+
+    // The same, and the history has the three calls then.
+    fn ask<C: Handler, A: Allocator>(self, kernel: &mut KernelOf<C, A>) -> bool {
+        has_three_places(kernel) && entries(kernel) == 3
     }
 }
 
 // Room is made for as many calls as the history has places; the calls that follow find it.
 #[test]
-fn reserve_limits(rt: HostRuntime) -> Result<(), Fail> {
+fn reserve_limits(rt: HostRuntime) {
     let alloc = rt.alloc();
     let Ok(run) = Box::new(alloc, |_: Fire| quiet()) else {
         panic!(rt; "box");
@@ -54,8 +58,7 @@ fn reserve_limits(rt: HostRuntime) -> Result<(), Fail> {
     let Ok(bank) = Vec::from_array(alloc, [callback]) else {
         panic!(rt; "bank");
     };
-    assert!(rt; fills_three_places(alloc, bank));
-    Ok(())
+    assert!(rt; on_a_kernel(alloc, alloc, 0, bank, 3, ThreePlaces) == Ok(true));
 }
 
 // Whether the semaphore's count is 1.
@@ -99,17 +102,21 @@ fn posts_its_line<C: Handler, A: Allocator>(kernel: &mut KernelOf<C, A>) -> bool
     does(kernel, Call::Unstall { stage: STAGE }) && is_posted(kernel) && is_handled(kernel)
 }
 
-// Whether callback 0 of a new kernel posts the semaphore as soon as its stage is no more stalled.
-fn posts_once_unstalled<C: Handler>(alloc: Global, bank: Vec<C>) -> bool {
-    match opened(alloc, alloc, bank) {
-        Ok(mut kernel) => keeps_its_line(&mut kernel) && posts_its_line(&mut kernel),
-        Err(_) => false,
+#[derive(Drop)]
+struct StalledLine;
+
+impl KernelRow for StalledLine {
+    type Told = bool;
+
+    // Callback 0 posts the semaphore as soon as its stage is no more stalled.
+    fn ask<C: Handler, A: Allocator>(self, kernel: &mut KernelOf<C, A>) -> bool {
+        keeps_its_line(kernel) && posts_its_line(kernel)
     }
 }
 
 // A stored closure posts the semaphore, and a stalled in-band stage keeps its line.
 #[test]
-fn a_kernel_calls_its_closures(rt: HostRuntime) -> Result<(), Fail> {
+fn a_kernel_calls_its_closures(rt: HostRuntime) {
     let alloc = rt.alloc();
     let Ok(run) = Box::new(alloc, |_: Fire| asks(Action::PostSem(SEM))) else {
         panic!(rt; "box");
@@ -118,30 +125,19 @@ fn a_kernel_calls_its_closures(rt: HostRuntime) -> Result<(), Fail> {
     let Ok(bank) = Vec::from_array(alloc, [posts]) else {
         panic!(rt; "bank");
     };
-    assert!(rt; posts_once_unstalled(alloc, bank));
-    Ok(())
-}
-
-// Whether no kernel is made with a bank, as it is out of range.
-fn is_out_of_range<C: Handler>(alloc: Global, bank: Vec<C>) -> bool {
-    matches!(
-        KernelOf::new(alloc, board_of(0), bank, 1),
-        Err(Refusal::Range)
-    )
+    assert!(rt; on_a_kernel(alloc, alloc, 0, bank, 100, StalledLine) == Ok(true));
 }
 
 #[test]
-fn a_bank_has_a_range(rt: HostRuntime) -> Result<(), Fail> {
+fn a_bank_has_a_range(rt: HostRuntime) {
     let alloc = rt.alloc();
     let mut bank = Vec::new(alloc);
     for _ in 0u8..65 {
-        let callback = Callback::new(
-            ActionKinds::from_bits_retain(0),
-            &quiet_plan(1),
-            Box::new(alloc, |_: Fire| quiet()).map_err(|_| "box")?,
-        );
-        bank.push(callback)?;
+        let Ok(run) = Box::new(alloc, |_: Fire| quiet()) else {
+            panic!(rt; "box");
+        };
+        let callback = Callback::new(ActionKinds::from_bits_retain(0), &quiet_plan(1), run);
+        assert!(rt; bank.push(callback).is_ok());
     }
-    assert!(rt; is_out_of_range(alloc, bank));
-    Ok(())
+    assert!(rt; on_a_kernel(alloc, alloc, 0, bank, 1, ThreePlaces) == Err(Refusal::Range));
 }

@@ -12,4 +12,6 @@ mod kernels;
 #[cfg(test)]
 mod pipelines;
 #[cfg(test)]
+mod rows;
+#[cfg(test)]
 mod waits;

@@ -1,13 +1,13 @@
 //! Waits of a kernel, as its readers tell of them.
 ghost use Rattle.evl_kernel.specs.Callbacks.{AnswersAsTold};
 
-use crate::handlers::{SEM, apply, board_of, does, plays, quiet, quiet_plan};
+use crate::handlers::{SEM, apply, does, plays, quiet, quiet_plan};
+use crate::rows::{KernelRow, on_a_kernel};
 use bitflags::Flags;
 use evl_base::{ActionKinds, Call, Policy, Reply, Stage, ThreadId};
 use evl_kernel::KernelOf;
 use evl_pipeline::{Callback, Fire, Handler};
-use std::alloc::{Allocator, Global};
-use std::test::Fail;
+use std::alloc::Allocator;
 
 const CALLER: ThreadId = ThreadId(0);
 
@@ -72,17 +72,21 @@ fn times_out<C: Handler, A: Allocator>(kernel: &mut KernelOf<C, A>) -> bool
         && tells(kernel, CALLER, [false, false, false])
 }
 
-// The same of a new kernel with a semaphore at 1.
-fn tells_of_waits<C: Handler>(alloc: Global, bank: Vec<C>) -> bool {
-    match KernelOf::new(alloc, board_of(1), bank, 10) {
-        Ok(mut kernel) => is_served(&mut kernel) && times_out(&mut kernel),
-        Err(_) => false,
+#[derive(Drop)]
+struct TwoWaits;
+
+impl KernelRow for TwoWaits {
+    type Told = bool;
+
+    // The first wait is served by the semaphore, which stood at 1.
+    fn ask<C: Handler, A: Allocator>(self, kernel: &mut KernelOf<C, A>) -> bool {
+        is_served(kernel) && times_out(kernel)
     }
 }
 
 // A wait that is served at once, then one whose deadline has come; of a stranger all readers tell false.
 #[test]
-fn readers_tell_of_waits(rt: HostRuntime) -> Result<(), Fail> {
+fn readers_tell_of_waits(rt: HostRuntime) {
     let alloc = rt.alloc();
     let Ok(run) = Box::new(alloc, |_: Fire| quiet()) else {
         panic!(rt; "box");
@@ -91,6 +95,5 @@ fn readers_tell_of_waits(rt: HostRuntime) -> Result<(), Fail> {
     let Ok(bank) = Vec::from_array(alloc, [callback]) else {
         panic!(rt; "bank");
     };
-    assert!(rt; tells_of_waits(alloc, bank));
-    Ok(())
+    assert!(rt; on_a_kernel(alloc, alloc, 1, bank, 10, TwoWaits) == Ok(true));
 }

@@ -2,95 +2,142 @@
 use crate::handlers::{TAG, is_deadline, is_first_fire, is_made, quiet, quiet_plan};
 use bitflags::Flags;
 use evl_base::{ActionKinds, Refusal, ThreadId, TimerId};
-use evl_clock::{Clock, ClockOf, TimerState};
-use evl_pipeline::{Callback, Fire};
+use evl_clock::{ClockOf, TimerState};
+use evl_pipeline::{Callback, Fire, Handler};
 use linked_list_allocator::LocalHeap;
+use std::alloc::{Allocator, Global};
 use std::sync::Arc;
 use std::sync::atomic::{AtomicU64, Ordering};
-use std::test::Fail;
 
 const TIMER: TimerId = TimerId(0);
 
 const THREAD: ThreadId = ThreadId(63);
 
+// Whether a periodic timer fires once, and tells how many periods it missed.
+fn is_late<C: Handler, A: Allocator>(clock: &mut ClockOf<C, A>, callback: C) -> bool {
+    let made = is_made(clock.new_timer(callback, TAG), 0);
+    let started = clock.start(TIMER, 100, 10) == Ok(false);
+    let due = clock.advance(135) == Ok(true);
+    let fired = is_first_fire(clock.next_due(), 135, 3);
+    made && started && due && fired && clock.overruns(TIMER) == Ok(3)
+}
+
+// Whether it does on a new clock.
+fn is_late_on_new<C: Handler>(alloc: Global, callback: C) -> bool {
+    match ClockOf::new(alloc) {
+        Ok(mut clock) => is_late(&mut clock, callback),
+        Err(_) => false,
+    }
+}
+
 // However many periods were missed, the stored closure is called once.
 #[test]
-fn periodic_timer(rt: HostRuntime) -> Result<(), Fail> {
-    let calls = Arc::new(rt.alloc(), AtomicU64::new(0))?;
-    let counted = calls.clone()?;
-    let counting = Callback::new(
-        ActionKinds::STOP_TIMER,
-        &quiet_plan(),
-        Box::new(rt.alloc(), move |_: Fire| {
-            counted.fetch_add(1, Ordering::SeqCst);
-            quiet()
-        })?,
-    );
-    let mut clock = Clock::new(rt.alloc())?;
-    assert!(rt; is_made(clock.new_timer(counting, TAG), 0));
-    assert!(rt; matches!(clock.start(TIMER, 100, 10), Ok(false)));
-    assert!(rt; matches!(clock.advance(135), Ok(true)));
-    assert!(rt; is_first_fire(clock.next_due(), 135, 3));
-    assert!(rt; matches!(clock.overruns(TIMER), Ok(3)));
+fn periodic_timer(rt: HostRuntime) {
+    let Ok(calls) = Arc::new(rt.alloc(), AtomicU64::new(0)) else {
+        panic!(rt; "calls")
+    };
+    let Ok(counted) = calls.clone() else {
+        panic!(rt; "counted")
+    };
+    let counting = move |_: Fire| {
+        counted.fetch_add(1, Ordering::SeqCst);
+        quiet()
+    };
+    let Ok(run) = Box::new(rt.alloc(), counting) else {
+        panic!(rt; "box")
+    };
+    let callback = Callback::new(ActionKinds::STOP_TIMER, &quiet_plan(), run);
+    assert!(rt; is_late_on_new(rt.alloc(), callback));
     assert!(rt; calls.load(Ordering::SeqCst) == 1);
-    Ok(())
+}
+
+// Whether a timer that was started and stopped is idle, and can be dropped.
+fn is_stopped<C: Handler, A: Allocator>(clock: &mut ClockOf<C, A>, callback: C) -> bool {
+    let made = is_made(clock.new_timer(callback, TAG), 0);
+    let started = clock.start(TIMER, 0, 0) == Ok(true);
+    let stopped = clock.stop(TIMER).is_ok();
+    let idle = matches!(clock.state(TIMER), Some(TimerState::Idle));
+    let dropped = clock.drop_timer(TIMER).is_ok();
+    made && started && stopped && idle && dropped
+}
+
+// Whether it is on a new clock.
+fn is_stopped_on_new<C: Handler>(alloc: Global, callback: C) -> bool {
+    match ClockOf::new(alloc) {
+        Ok(mut clock) => is_stopped(&mut clock, callback),
+        Err(_) => false,
+    }
 }
 
 #[test]
-fn a_stopped_timer_is_idle(rt: HostRuntime) -> Result<(), Fail> {
-    let quiet = Callback::new(
-        ActionKinds::from_bits_retain(0),
-        &quiet_plan(),
-        Box::new(rt.alloc(), |_: Fire| quiet())?,
-    );
-    let mut clock = Clock::new(rt.alloc())?;
-    assert!(rt; is_made(clock.new_timer(quiet, TAG), 0));
-    assert!(rt; matches!(clock.start(TIMER, 0, 0), Ok(true)));
-    assert!(rt; clock.stop(TIMER).is_ok());
-    assert!(rt; matches!(clock.state(TIMER), Some(TimerState::Idle)));
-    assert!(rt; clock.drop_timer(TIMER).is_ok());
-    Ok(())
+fn a_stopped_timer_is_idle(rt: HostRuntime) {
+    let Ok(run) = Box::new(rt.alloc(), |_: Fire| quiet()) else {
+        panic!(rt; "box")
+    };
+    let callback = Callback::new(ActionKinds::from_bits_retain(0), &quiet_plan(), run);
+    assert!(rt; is_stopped_on_new(rt.alloc(), callback));
 }
 
-#[test]
-fn a_deadline_falls_due(rt: HostRuntime) -> Result<(), Fail> {
-    let mut clock = Clock::new(rt.alloc())?;
+// Whether the deadline that wasn't cleared falls due.
+fn falls_due<C: Handler, A: Allocator + Clone>(alloc: A) -> bool {
+    let Ok(mut clock) = ClockOf::<C, A>::new(alloc) else {
+        return false;
+    };
     clock.set_deadline(THREAD, 50);
     clock.set_deadline(ThreadId(1), 40);
     clock.clear_deadline(ThreadId(1));
-    assert!(rt; matches!(clock.advance(50), Ok(true)) && clock.now() == 50);
-    assert!(rt; is_deadline(clock.next_due(), THREAD));
-    Ok(())
+    let due = clock.advance(50) == Ok(true);
+    let now = clock.now() == 50;
+    due && now && is_deadline(clock.next_due(), THREAD)
+}
+
+#[test]
+fn a_deadline_falls_due(rt: HostRuntime) {
+    assert!(rt; falls_due::<Callback, Global>(rt.alloc()));
+}
+
+// Whether a clock is refused for want of memory.
+fn is_refused<C: Handler, A: Allocator + Clone>(alloc: A) -> bool {
+    matches!(ClockOf::<C, A>::new(alloc), Err(Refusal::NoMemory))
+}
+
+// Whether a timer is made of this number below 64, or the 65th is refused and its callback comes back.
+fn is_numbered<C: Handler, A: Allocator>(
+    clock: &mut ClockOf<C, A>,
+    callback: C,
+    number: u16,
+) -> bool {
+    match clock.new_timer(callback, TAG) {
+        Ok(id) => number < 64 && id.0 == number,
+        Err((refusal, callback)) => {
+            number == 64
+                && refusal == Refusal::Limit
+                && callback.kinds().bits() == ActionKinds::POST_SEM.bits()
+        }
+    }
 }
 
 // The 65th timer is refused, and its callback comes back. Only a new clock takes memory.
 #[test]
-fn sixty_five_timers(rt: HostRuntime) -> Result<(), Fail> {
-    let heap = LocalHeap::new(rt.alloc(), 65536)?;
-    let mut clock = ClockOf::new(&heap)?;
+fn sixty_five_timers(rt: HostRuntime) {
+    let Ok(short) = LocalHeap::new(rt.alloc(), 64) else {
+        panic!(rt; "short heap")
+    };
+    assert!(rt; is_refused::<Callback, &LocalHeap>(&short));
+    assert!(rt; short.used() == 0);
+    let Ok(heap) = LocalHeap::new(rt.alloc(), 65536) else {
+        panic!(rt; "heap")
+    };
+    let Ok(mut clock) = ClockOf::new(&heap) else {
+        panic!(rt; "clock")
+    };
     let used = heap.used();
     for number in 0u16..65 {
-        let quiet = Callback::new(
-            ActionKinds::POST_SEM,
-            &quiet_plan(),
-            Box::new(rt.alloc(), |_: Fire| quiet())?,
-        );
-        let as_wanted = match clock.new_timer(quiet, TAG) {
-            Ok(id) => number < 64 && id.0 == number,
-            Err((refusal, callback)) => {
-                number == 64
-                    && matches!(refusal, Refusal::Limit)
-                    && callback.kinds.bits() == ActionKinds::POST_SEM.bits()
-            },
+        let Ok(run) = Box::new(rt.alloc(), |_: Fire| quiet()) else {
+            panic!(rt; "box")
         };
-        assert!(rt; as_wanted);
+        let callback = Callback::new(ActionKinds::POST_SEM, &quiet_plan(), run);
+        assert!(rt; is_numbered(&mut clock, callback, number));
     }
     assert!(rt; heap.used() == used);
-    let short = LocalHeap::new(rt.alloc(), 64)?;
-    let refused = matches!(
-        ClockOf::<Callback, &LocalHeap>::new(&short),
-        Err(Refusal::NoMemory)
-    );
-    assert!(rt; refused && short.used() == 0);
-    Ok(())
 }

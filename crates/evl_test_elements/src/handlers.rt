@@ -4,7 +4,7 @@ ghost use Rattle.std.specs.Prelude.{◌≡◌, [], true};
 use arrayvec::ArrayVec;
 use evl_base::{Refusal, Stage, ThreadId, TimerId};
 use evl_clock::Due;
-use evl_pipeline::{Answer, Callback, Plan};
+use evl_pipeline::{Answer, Handler, Plan};
 
 /// The tag of the timers.
 pub(crate) const TAG: u32 = 7;
@@ -59,6 +59,9 @@ pub(crate) fn is_deadline(due: Option<Due>, thread: ThreadId) -> bool {
 }
 
 /// Whether a timer was made, of this number.
-pub(crate) fn is_made(made: Result<TimerId, (Refusal, Callback)>, number: u16) -> bool {
-    matches!(made, Ok(id) if id.0 == number)
+pub(crate) fn is_made<C: Handler>(made: Result<TimerId, (Refusal, C)>, number: u16) -> bool {
+    match made {
+        Ok(id) => id.0 == number,
+        Err(_) => false,
+    }
 }

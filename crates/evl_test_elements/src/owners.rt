@@ -1,8 +1,8 @@
 //! Threads that wait for mutexes, and the ranks that they hand on.
 use evl_base::{MutexId, MutexKind, Refusal, ThreadId};
-use evl_mutex::{Owners, OwnersOf};
+use evl_mutex::OwnersOf;
 use linked_list_allocator::LocalHeap;
-use std::test::Fail;
+use std::alloc::Allocator;
 
 const ONE: ThreadId = ThreadId(1);
 
@@ -18,74 +18,150 @@ const NORMAL: [MutexKind; 2] = [MutexKind::Normal, MutexKind::Normal];
 
 const KINDS: [MutexKind; 2] = [MutexKind::Ceiling(50), MutexKind::Normal];
 
-#[test]
-fn a_rank_goes_along_a_chain(rt: HostRuntime) -> Result<(), Fail> {
-    let mut owners = Owners::new(rt.alloc(), 4, &NORMAL)?;
-    assert!(rt; owners.set_base(THREE, 590).is_ok());
-    assert!(rt; owners.claim(FIRST, TWO, ONE).is_ok());
-    assert!(rt; owners.claim(SECOND, THREE, TWO).is_ok());
-    assert!(rt; owners.effective(ONE) == 590);
-    owners.drop_waiter(THREE);
-    assert!(rt; owners.effective(ONE) == 0);
-    Ok(())
+// What is done, and what it is told.
+#[derive(Clone, Copy)]
+enum Step {
+    SetBase(ThreadId, u16),
+    Claim(MutexId, ThreadId, ThreadId, Result<(), Refusal>),
+    Release(MutexId, ThreadId, Result<(Option<ThreadId>, bool), Refusal>),
+    Raise(MutexId, ThreadId),
+    Lower(MutexId, ThreadId),
+    DropWaiter(ThreadId),
+    Leave(MutexId, ThreadId),
+    Effective(ThreadId, u16),
+    Ranks([u16; 4]),
+    Owner(MutexId, Option<ThreadId>),
+    Next(MutexId, Option<ThreadId>),
+    Has(MutexId, bool),
+    OwnsAny(ThreadId, bool),
 }
 
-#[test]
-fn a_ring_is_refused(rt: HostRuntime) -> Result<(), Fail> {
-    let mut owners = Owners::new(rt.alloc(), 4, &NORMAL)?;
-    assert!(rt; owners.claim(FIRST, TWO, ONE).is_ok());
-    assert!(rt; matches!(owners.claim(SECOND, ONE, TWO), Err(Refusal::Deadlock)));
-    assert!(rt; matches!(owners.claim(SECOND, TWO, ONE), Err(Refusal::Busy)));
-    assert!(rt; matches!(owners.owner(FIRST), Some(ThreadId(1))));
-    assert!(rt; owners.owner(SECOND).is_none());
-    Ok(())
-}
-
-#[test]
-fn the_first_waiter_is_next(rt: HostRuntime) -> Result<(), Fail> {
-    let mut owners = Owners::new(rt.alloc(), 4, &NORMAL)?;
-    assert!(rt; owners.set_base(THREE, 590).is_ok());
-    assert!(rt; owners.claim(FIRST, TWO, ONE).is_ok());
-    assert!(rt; owners.claim(FIRST, THREE, ONE).is_ok());
-    assert!(rt; matches!(owners.release(FIRST, TWO), Err(Refusal::NotOwner)));
-    assert!(rt; matches!(owners.release(FIRST, ONE), Ok((Some(ThreadId(3)), true))));
-    Ok(())
-}
-
-#[test]
-fn a_ceiling_counts_for_its_owner(rt: HostRuntime) -> Result<(), Fail> {
-    let heap = LocalHeap::new(rt.alloc(), 65536)?;
-    let mut owners = OwnersOf::new(&heap, 3, &KINDS)?;
-    assert!(rt; owners.raise(FIRST, TWO).is_ok());
-    assert!(rt; owners.claim(SECOND, TWO, ONE).is_ok());
-    assert!(rt; owners.effective(TWO) == 562);
-    assert!(rt; owners.effective(ONE) == 0);
-    assert!(rt; owners.lower(FIRST, TWO).is_ok());
-    Ok(())
-}
-
-#[test]
-fn a_mutex_is_left(rt: HostRuntime) -> Result<(), Fail> {
-    let mut owners = Owners::new(rt.alloc(), 4, &NORMAL)?;
-    assert!(rt; owners.claim(FIRST, TWO, ONE).is_ok());
-    assert!(rt; owners.has(SECOND) && !owners.has(MutexId(2)));
-    assert!(rt; owners.owns_any(ONE) && !owners.owns_any(TWO));
-    assert!(rt; matches!(owners.next(FIRST), Some(ThreadId(2))));
-    owners.leave(SECOND, TWO);
-    assert!(rt; owners.next(FIRST).is_some());
-    owners.leave(FIRST, TWO);
-    assert!(rt; owners.next(FIRST).is_none());
-    Ok(())
-}
-
-#[test]
-fn all_ranks_at_once(rt: HostRuntime) -> Result<(), Fail> {
-    let mut owners = Owners::new(rt.alloc(), 4, &KINDS)?;
-    assert!(rt; owners.set_base(THREE, 520).is_ok());
-    assert!(rt; owners.raise(FIRST, TWO).is_ok());
-    assert!(rt; owners.claim(SECOND, THREE, ONE).is_ok());
+// Whether these are all ranks.
+fn has_ranks<A: Allocator>(owners: &OwnersOf<A>, wanted: [u16; 4]) -> bool {
     let mut ranks = [7; 4];
     owners.ranks(&mut ranks);
-    assert!(rt; ranks == [0, 520, 562, 520]);
-    Ok(())
+    ranks == wanted
+}
+
+// Whether a step is told what it says.
+fn is_told<A: Allocator>(owners: &mut OwnersOf<A>, step: Step) -> bool {
+    match step {
+        Step::SetBase(thread, rank) => owners.set_base(thread, rank).is_ok(),
+        Step::Claim(mutex, waiter, owner, told) => owners.claim(mutex, waiter, owner) == told,
+        Step::Release(mutex, owner, told) => owners.release(mutex, owner) == told,
+        Step::Raise(mutex, thread) => owners.raise(mutex, thread).is_ok(),
+        Step::Lower(mutex, thread) => owners.lower(mutex, thread).is_ok(),
+        Step::DropWaiter(thread) => {
+            owners.drop_waiter(thread);
+            true
+        }
+        Step::Leave(mutex, thread) => {
+            owners.leave(mutex, thread);
+            true
+        }
+        Step::Effective(thread, rank) => owners.effective(thread) == rank,
+        Step::Ranks(ranks) => has_ranks(owners, ranks),
+        Step::Owner(mutex, owner) => owners.owner(mutex) == owner,
+        Step::Next(mutex, next) => owners.next(mutex) == next,
+        Step::Has(mutex, told) => owners.has(mutex) == told,
+        Step::OwnsAny(thread, told) => owners.owns_any(thread) == told,
+    }
+}
+
+// Whether each step is, of new records of so many threads.
+fn is_row<A: Allocator + Clone>(
+    alloc: A,
+    threads: u16,
+    kinds: &[MutexKind],
+    steps: &[Step],
+) -> bool {
+    let Ok(mut owners) = OwnersOf::new(alloc, threads, kinds) else {
+        return false;
+    };
+    for step in steps {
+        if !is_told(&mut owners, *step) {
+            return false;
+        }
+    }
+    true
+}
+
+#[test]
+fn a_rank_goes_along_a_chain(rt: HostRuntime) {
+    let steps = [
+        Step::SetBase(THREE, 590),
+        Step::Claim(FIRST, TWO, ONE, Ok(())),
+        Step::Claim(SECOND, THREE, TWO, Ok(())),
+        Step::Effective(ONE, 590),
+        Step::DropWaiter(THREE),
+        Step::Effective(ONE, 0),
+    ];
+    assert!(rt; is_row(rt.alloc(), 4, &NORMAL, &steps));
+}
+
+#[test]
+fn a_ring_is_refused(rt: HostRuntime) {
+    let steps = [
+        Step::Claim(FIRST, TWO, ONE, Ok(())),
+        Step::Claim(SECOND, ONE, TWO, Err(Refusal::Deadlock)),
+        Step::Claim(SECOND, TWO, ONE, Err(Refusal::Busy)),
+        Step::Owner(FIRST, Some(ONE)),
+        Step::Owner(SECOND, None),
+    ];
+    assert!(rt; is_row(rt.alloc(), 4, &NORMAL, &steps));
+}
+
+#[test]
+fn the_first_waiter_is_next(rt: HostRuntime) {
+    let steps = [
+        Step::SetBase(THREE, 590),
+        Step::Claim(FIRST, TWO, ONE, Ok(())),
+        Step::Claim(FIRST, THREE, ONE, Ok(())),
+        Step::Release(FIRST, TWO, Err(Refusal::NotOwner)),
+        Step::Release(FIRST, ONE, Ok((Some(THREE), true))),
+    ];
+    assert!(rt; is_row(rt.alloc(), 4, &NORMAL, &steps));
+}
+
+#[test]
+fn a_ceiling_counts_for_its_owner(rt: HostRuntime) {
+    let Ok(heap) = LocalHeap::new(rt.alloc(), 65536) else {
+        panic!(rt; "heap")
+    };
+    let steps = [
+        Step::Raise(FIRST, TWO),
+        Step::Claim(SECOND, TWO, ONE, Ok(())),
+        Step::Effective(TWO, 562),
+        Step::Effective(ONE, 0),
+        Step::Lower(FIRST, TWO),
+    ];
+    assert!(rt; is_row(&heap, 3, &KINDS, &steps));
+}
+
+#[test]
+fn a_mutex_is_left(rt: HostRuntime) {
+    let steps = [
+        Step::Claim(FIRST, TWO, ONE, Ok(())),
+        Step::Has(SECOND, true),
+        Step::Has(MutexId(2), false),
+        Step::OwnsAny(ONE, true),
+        Step::OwnsAny(TWO, false),
+        Step::Next(FIRST, Some(TWO)),
+        Step::Leave(SECOND, TWO),
+        Step::Next(FIRST, Some(TWO)),
+        Step::Leave(FIRST, TWO),
+        Step::Next(FIRST, None),
+    ];
+    assert!(rt; is_row(rt.alloc(), 4, &NORMAL, &steps));
+}
+
+#[test]
+fn all_ranks_at_once(rt: HostRuntime) {
+    let steps = [
+        Step::SetBase(THREE, 520),
+        Step::Raise(FIRST, TWO),
+        Step::Claim(SECOND, THREE, ONE, Ok(())),
+        Step::Ranks([0, 520, 562, 520]),
+    ];
+    assert!(rt; is_row(rt.alloc(), 4, &KINDS, &steps));
 }

@@ -1,8 +1,8 @@
 //! Threads that are attached, charged and picked.
 use evl_base::{Policy, Refusal, Stage, ThreadId};
-use evl_sched::{Sched, SchedOf};
+use evl_sched::SchedOf;
 use linked_list_allocator::LocalHeap;
-use std::test::Fail;
+use std::alloc::Allocator;
 
 const ONE: ThreadId = ThreadId(1);
 
@@ -15,58 +15,154 @@ const RR: Policy = Policy::Rr {
 
 const QUOTA: Policy = Policy::Quota { group: 0, prio: 5 };
 
-#[test]
-fn a_thread_goes_inband_and_back(rt: HostRuntime) -> Result<(), Fail> {
-    let mut sched = Sched::new(rt.alloc(), 3, &[])?;
-    assert!(rt; sched.attach(ONE, Policy::Fifo(99), Stage::Oob).is_ok());
-    assert!(rt; matches!(sched.base(ONE), Ok(611)) && sched.eligible());
-    assert!(rt; sched.set_stage(ONE, Stage::Inband).is_ok());
-    assert!(rt; matches!(sched.stage(ONE), Stage::Inband) && !sched.eligible());
-    assert!(rt; sched.set_stage(ONE, Stage::Oob).is_ok());
-    assert!(rt; sched.set_policy(ONE, Policy::Weak(0)).is_ok());
-    assert!(rt; matches!(sched.pick(), Some(ThreadId(1))));
-    assert!(rt; sched.detach(ONE).is_ok());
-    assert!(rt; matches!(sched.rank(ONE), Err(Refusal::Invalid)));
-    Ok(())
+// What is done, and what it is told.
+#[derive(Clone, Copy)]
+enum Step {
+    Attach(ThreadId, Policy, Result<(), Refusal>),
+    Detach(ThreadId),
+    SetPolicy(ThreadId, Policy),
+    SetStage(ThreadId, Stage),
+    Block(ThreadId),
+    Ready(ThreadId),
+    Boost(ThreadId, u16),
+    Charge(u64),
+    Refill,
+    Pick(ThreadId),
+    Eligible(bool),
+    Base(ThreadId, u16),
+    Rank(ThreadId, Result<u16, Refusal>),
+    Stage(ThreadId, Stage),
+}
+
+// Whether a step is told what it says.
+fn is_told<A: Allocator>(sched: &mut SchedOf<A>, step: Step) -> bool {
+    match step {
+        Step::Attach(thread, policy, told) => sched.attach(thread, policy, Stage::Oob) == told,
+        Step::Detach(thread) => sched.detach(thread).is_ok(),
+        Step::SetPolicy(thread, policy) => sched.set_policy(thread, policy).is_ok(),
+        Step::SetStage(thread, stage) => sched.set_stage(thread, stage).is_ok(),
+        Step::Block(thread) => {
+            sched.block(thread);
+            true
+        }
+        Step::Ready(thread) => {
+            sched.ready(thread);
+            true
+        }
+        Step::Boost(thread, rank) => {
+            sched.boost(thread, rank);
+            true
+        }
+        Step::Charge(delta) => {
+            sched.charge(delta);
+            true
+        }
+        Step::Refill => {
+            sched.refill();
+            true
+        }
+        Step::Pick(thread) => sched.pick() == Some(thread),
+        Step::Eligible(told) => sched.eligible() == told,
+        Step::Base(thread, rank) => sched.base(thread) == Ok(rank),
+        Step::Rank(thread, told) => sched.rank(thread) == told,
+        Step::Stage(thread, stage) => sched.stage(thread) == stage,
+    }
+}
+
+// Whether each step is.
+fn are_told<A: Allocator>(sched: &mut SchedOf<A>, steps: &[Step]) -> bool {
+    for step in steps {
+        if !is_told(sched, *step) {
+            return false;
+        }
+    }
+    true
+}
+
+// Whether they are, of a new scheduler of three threads.
+fn is_row<A: Allocator + Clone>(alloc: A, groups: &[u8], steps: &[Step]) -> bool {
+    match SchedOf::new(alloc, 3, groups) {
+        Ok(mut sched) => are_told(&mut sched, steps),
+        Err(_) => false,
+    }
 }
 
 #[test]
-fn a_blocked_thread_comes_back(rt: HostRuntime) -> Result<(), Fail> {
-    let mut sched = Sched::new(rt.alloc(), 3, &[10])?;
-    assert!(rt; sched.attach(ONE, Policy::Fifo(10), Stage::Oob).is_ok());
-    assert!(rt; sched.attach(TWO, QUOTA, Stage::Oob).is_ok());
-    sched.block(ONE);
-    assert!(rt; matches!(sched.pick(), Some(ThreadId(2))));
-    sched.ready(ONE);
-    assert!(rt; matches!(sched.pick(), Some(ThreadId(1))));
-    sched.boost(TWO, 600);
-    assert!(rt; matches!(sched.rank(TWO), Ok(600)));
-    assert!(rt; matches!(sched.pick(), Some(ThreadId(2))));
-    sched.refill();
-    Ok(())
+fn a_thread_goes_inband_and_back(rt: HostRuntime) {
+    let steps = [
+        Step::Attach(ONE, Policy::Fifo(99), Ok(())),
+        Step::Base(ONE, 611),
+        Step::Eligible(true),
+        Step::SetStage(ONE, Stage::Inband),
+        Step::Stage(ONE, Stage::Inband),
+        Step::Eligible(false),
+        Step::SetStage(ONE, Stage::Oob),
+        Step::SetPolicy(ONE, Policy::Weak(0)),
+        Step::Pick(ONE),
+        Step::Detach(ONE),
+        Step::Rank(ONE, Err(Refusal::Invalid)),
+    ];
+    assert!(rt; is_row(rt.alloc(), &[], &steps));
+}
+
+#[test]
+fn a_blocked_thread_comes_back(rt: HostRuntime) {
+    let steps = [
+        Step::Attach(ONE, Policy::Fifo(10), Ok(())),
+        Step::Attach(TWO, QUOTA, Ok(())),
+        Step::Block(ONE),
+        Step::Pick(TWO),
+        Step::Ready(ONE),
+        Step::Pick(ONE),
+        Step::Boost(TWO, 600),
+        Step::Rank(TWO, Ok(600)),
+        Step::Pick(TWO),
+        Step::Refill,
+    ];
+    assert!(rt; is_row(rt.alloc(), &[10], &steps));
+}
+
+// Whether 64 threads are attached, and no more; the first one is charged, and the next one picked.
+fn is_full<A: Allocator>(sched: &mut SchedOf<A>) -> bool {
+    for number in 0u16..64 {
+        if !is_told(sched, Step::Attach(ThreadId(number), RR, Ok(()))) {
+            return false;
+        }
+    }
+    let steps = [
+        Step::Attach(ThreadId(64), RR, Err(Refusal::Unknown)),
+        Step::Charge(100),
+        Step::Pick(ONE),
+    ];
+    are_told(sched, &steps)
+}
+
+// Whether a scheduler that is full takes no more of its heap than a new one.
+fn only_new_takes<A: Allocator + Clone>(alloc: A, heap: &LocalHeap) -> bool {
+    match SchedOf::new(alloc, 64, &[10, 20]) {
+        Ok(mut sched) => {
+            let used = heap.used();
+            is_full(&mut sched) && heap.used() == used
+        }
+        Err(_) => false,
+    }
+}
+
+// Whether a scheduler is refused for want of memory.
+fn is_refused<A: Allocator + Clone>(alloc: A) -> bool {
+    matches!(SchedOf::new(alloc, 64, &[]), Err(Refusal::NoMemory))
 }
 
 // Only a new scheduler takes memory.
 #[test]
-fn only_new_takes_memory(rt: HostRuntime) -> Result<(), Fail> {
-    let heap = LocalHeap::new(rt.alloc(), 65536)?;
-    let mut sched = SchedOf::new(&heap, 64, &[10, 20])?;
-    let used = heap.used();
-    for number in 0u16..64 {
-        let attached = sched.attach(ThreadId(number), RR, Stage::Oob).is_ok();
-        assert!(rt; attached);
-    }
-    assert!(rt;
-        matches!(
-            sched.attach(ThreadId(64), RR, Stage::Oob),
-            Err(Refusal::Unknown)
-        )
-    );
-    sched.charge(100);
-    assert!(rt; matches!(sched.pick(), Some(ThreadId(1))));
-    assert!(rt; heap.used() == used);
-    let short = LocalHeap::new(rt.alloc(), 64)?;
-    let refused = matches!(SchedOf::new(&short, 64, &[]), Err(Refusal::NoMemory));
-    assert!(rt; refused && short.used() == 0);
-    Ok(())
+fn only_new_takes_memory(rt: HostRuntime) {
+    let Ok(heap) = LocalHeap::new(rt.alloc(), 65536) else {
+        panic!(rt; "heap")
+    };
+    assert!(rt; only_new_takes(&heap, &heap));
+    let Ok(short) = LocalHeap::new(rt.alloc(), 64) else {
+        panic!(rt; "short heap")
+    };
+    assert!(rt; is_refused(&short));
+    assert!(rt; short.used() == 0);
 }

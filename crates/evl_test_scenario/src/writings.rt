@@ -1,8 +1,7 @@
 //! Scenarios that are read, and written again from a history of their steps.
-use evl_base::{Call, Entry, Reply, ThreadId};
-use evl_scenario::{Unwritten, read_scenario, write_scenario};
-use std::alloc::Global;
-use std::test::*;
+use evl_base::{Board, Call, Entry, Reply, ThreadId};
+use evl_scenario::{Step, Unwritten, read_scenario, write_scenario};
+use std::alloc::{AllocError, Global};
 
 /// A scenario with each call, as it is written.
 const EACH_CALL: &str = r#"limit = 1000000
@@ -262,76 +261,107 @@ fn entry(caller: ThreadId, call: Call) -> Entry {
     }
 }
 
-// The scenario of a text is written as this text again.
-fn is_written_again(alloc: Global, text: &str) -> Result<bool, Fail> {
-    let Ok(scenario) = read_scenario(alloc, text.as_bytes(), None) else {
-        return Ok(false);
-    };
-    let (board, limit, steps) = scenario.into_parts();
+// The entries that these steps come to.
+fn entries_of(alloc: Global, steps: Vec<Step>) -> Result<Vec<Entry>, AllocError> {
     let mut entries = Vec::new(alloc);
     for step in steps {
         entries.push(entry(step.who, step.call))?;
     }
-    match write_scenario(alloc, &board, limit, entries.as_slice()) {
-        Ok(again) => Ok(again.as_str() == text),
-        Err(_) => Ok(false),
+    Ok(entries)
+}
+
+// Whether these entries are written as this text.
+fn is_written_so(alloc: Global, board: &Board, limit: u32, entries: &[Entry], text: &str) -> bool {
+    match write_scenario(alloc, board, limit, entries) {
+        Ok(again) => again.as_str() == text,
+        Err(_) => false,
+    }
+}
+
+// The scenario of a text is written as this text again.
+fn is_written_again(alloc: Global, text: &str) -> bool {
+    let Ok(scenario) = read_scenario(alloc, text.as_bytes(), None) else {
+        return false;
+    };
+    let (board, limit, steps) = scenario.into_parts();
+    match entries_of(alloc, steps) {
+        Ok(entries) => is_written_so(alloc, &board, limit, entries.as_slice(), text),
+        Err(_) => false,
     }
 }
 
 #[test]
-fn each_call_is_written(rt: HostRuntime) -> Result<(), Fail> {
-    assert!(rt; is_written_again(rt.alloc(), EACH_CALL)?);
-    Ok(())
+fn each_call_is_written(rt: HostRuntime) {
+    assert!(rt; is_written_again(rt.alloc(), EACH_CALL));
 }
 
 #[test]
-fn no_step_is_written(rt: HostRuntime) -> Result<(), Fail> {
-    assert!(rt; is_written_again(rt.alloc(), NOTHING)?);
-    Ok(())
+fn no_step_is_written(rt: HostRuntime) {
+    assert!(rt; is_written_again(rt.alloc(), NOTHING));
 }
 
-// What comes of writing so many steps of a board of one thread, with this limit and maybe a stage exclusion lock: the
-// length of the text, or why there is none.
+// So many entries of one call.
+fn many_entries(alloc: Global, steps: usize) -> Result<Vec<Entry>, AllocError> {
+    let mut entries = Vec::new(alloc);
+    for _ in 0..steps {
+        entries.push(entry(ThreadId(0), Call::Now))?;
+    }
+    Ok(entries)
+}
+
+// What comes of writing these entries: the length of the text, or why there is none.
+fn length_or_why(
+    alloc: Global,
+    board: &Board,
+    limit: u32,
+    entries: &[Entry],
+) -> Result<usize, Unwritten> {
+    match write_scenario(alloc, board, limit, entries) {
+        Ok(text) => Ok(text.len()),
+        Err(why) => Err(why),
+    }
+}
+
+// What comes of writing so many steps of a board of one thread, with this limit and maybe a stage exclusion lock. None
+// where the board or the entries aren't made.
 fn written(
     alloc: Global,
     has_lock: bool,
     limit: u32,
     steps: usize,
-) -> Result<Option<Result<usize, Unwritten>>, Fail> {
+) -> Option<Result<usize, Unwritten>> {
     let Ok(scenario) = read_scenario(alloc, NOTHING.as_bytes(), None) else {
-        return Ok(None);
+        return None;
     };
     let mut board = scenario.into_parts().0;
     if has_lock && board.staxes.try_push(1).is_err() {
-        return Ok(None);
+        return None;
     }
-    let mut entries = Vec::new(alloc);
-    for _ in 0..steps {
-        entries.push(entry(ThreadId(0), Call::Now))?;
-    }
-    match write_scenario(alloc, &board, limit, entries.as_slice()) {
-        Ok(text) => Ok(Some(Ok(text.len()))),
-        Err(e) => Ok(Some(Err(e))),
+    match many_entries(alloc, steps) {
+        Ok(entries) => Some(length_or_why(alloc, &board, limit, entries.as_slice())),
+        Err(_) => None,
     }
 }
 
 #[test]
-fn limit_is_that_of_a_scenario(rt: HostRuntime) -> Result<(), Fail> {
-    assert!(rt; written(rt.alloc(), false, 0, 0)? == Some(Err(Unwritten::Limit)));
-    assert!(rt; written(rt.alloc(), false, 1_000_000, 0)? == Some(Ok(94)));
-    assert!(rt; written(rt.alloc(), false, 1_000_001, 0)? == Some(Err(Unwritten::Limit)));
-    Ok(())
+fn limit_is_that_of_a_scenario(rt: HostRuntime) {
+    for (limit, wanted) in [
+        (0, Err(Unwritten::Limit)),
+        (1_000_000, Ok(94)),
+        (1_000_001, Err(Unwritten::Limit)),
+    ] {
+        assert!(rt; written(rt.alloc(), false, limit, 0) == Some(wanted));
+    }
 }
 
 #[test]
-fn lock_of_a_board_has_no_key(rt: HostRuntime) -> Result<(), Fail> {
-    assert!(rt; written(rt.alloc(), true, 1, 0)? == Some(Err(Unwritten::Board)));
-    Ok(())
+fn lock_of_a_board_has_no_key(rt: HostRuntime) {
+    assert!(rt; written(rt.alloc(), true, 1, 0) == Some(Err(Unwritten::Board)));
 }
 
 #[test]
-fn text_is_no_longer_than_a_scenario(rt: HostRuntime) -> Result<(), Fail> {
-    assert!(rt; written(rt.alloc(), false, 1, 36_154)? == Some(Ok(1_048_554)));
-    assert!(rt; written(rt.alloc(), false, 1, 36_155)? == Some(Err(Unwritten::TooLong)));
-    Ok(())
+fn text_is_no_longer_than_a_scenario(rt: HostRuntime) {
+    for (steps, wanted) in [(36_154, Ok(1_048_554)), (36_155, Err(Unwritten::TooLong))] {
+        assert!(rt; written(rt.alloc(), false, 1, steps) == Some(wanted));
+    }
 }
