@@ -34,13 +34,19 @@ fn ends<R: Files + AllocGlobal>(
     ended == status && out.into_inner().as_slice() == written && err.as_slice() == said
 }
 
+// What lies in the file of this name with this ending.
+fn read_file<R: Files + AllocGlobal>(rt: &R, name: &str, ending: &str) -> io::Result<Vec<u8>> {
+    let path = format!(in rt.alloc(); "{name}.{ending}")?;
+    fs::read(rt, path)
+}
+
 // Whether the row of this name is played as is wanted.
 fn is_as_wanted<R: Files + AllocGlobal>(rt: &R, name: &str) -> io::Result<bool> {
-    let scenario = fs::read(rt, format!(in rt.alloc(); "{name}.toml")?)?;
-    if let Ok(trace) = fs::read(rt, format!(in rt.alloc(); "{name}.trace")?) {
+    let scenario = read_file(rt, name, "toml")?;
+    if let Ok(trace) = read_file(rt, name, "trace") {
         return Ok(ends(rt, scenario.as_slice(), 0, trace.as_slice(), b""));
     }
-    let fault = fs::read(rt, format!(in rt.alloc(); "{name}.fault")?)?;
+    let fault = read_file(rt, name, "fault")?;
     Ok(ends(rt, scenario.as_slice(), REFUSED, b"", fault.as_slice()))
 }
 

@@ -1,7 +1,6 @@
 //! Texts that are refused: what fault each is, that nothing is written, and which fault goes first.
 use evl_shell::{Fault, Over, run};
-use std::alloc::Global;
-use std::test::*;
+use std::alloc::{AllocError, Global};
 
 const BOARD: &str = "[board]\nthreads = 1\nsems = [0]\n";
 
@@ -24,12 +23,20 @@ fn is_bad_board(alloc: Global, text: &str) -> bool {
     fault_of(alloc, text.as_bytes(), None) == (Some(Fault::Board), true)
 }
 
-// Whether just this step of a board with these steps is refused, with nothing written.
-fn is_bad_step(alloc: Global, steps: &str, number: u32) -> Result<bool, Fail> {
+// The board with these steps.
+fn with_steps(alloc: Global, steps: &str) -> Result<Vec<u8>, AllocError> {
     let mut text = Vec::new(alloc);
     text.extend_from_slice(BOARD.as_bytes())?;
     text.extend_from_slice(steps.as_bytes())?;
-    Ok(fault_of(alloc, text.as_slice(), None) == (Some(Fault::Step(number)), true))
+    Ok(text)
+}
+
+// Whether just this step of a board with these steps is refused, with nothing written.
+fn is_bad_step(alloc: Global, steps: &str, number: u32) -> bool {
+    match with_steps(alloc, steps) {
+        Ok(text) => fault_of(alloc, text.as_slice(), None) == (Some(Fault::Step(number)), true),
+        Err(_) => false,
+    }
 }
 
 // Whether a scenario is played under a limit that is handed in.
@@ -39,11 +46,9 @@ fn is_limit(alloc: Global, limit: u32) -> bool {
 
 #[test]
 fn limits_that_are_handed_in(rt: HostRuntime) {
-    let alloc = rt.alloc();
-    assert!(rt; !is_limit(alloc, 0));
-    assert!(rt; is_limit(alloc, 1));
-    assert!(rt; is_limit(alloc, 1_000_000));
-    assert!(rt; !is_limit(alloc, 1_000_001));
+    for (limit, wanted) in [(0, false), (1, true), (1_000_000, true), (1_000_001, false)] {
+        assert!(rt; is_limit(rt.alloc(), limit) == wanted);
+    }
 }
 
 #[test]
@@ -61,7 +66,7 @@ fn bad_texts(rt: HostRuntime) {
 }
 
 // So many spaces.
-fn spaces(alloc: Global, count: usize) -> Result<String, Fail> {
+fn spaces(alloc: Global, count: usize) -> Result<String, AllocError> {
     let mut text = String::new(alloc);
     for _ in 0..count {
         text.push(' ')?;
@@ -69,12 +74,19 @@ fn spaces(alloc: Global, count: usize) -> Result<String, Fail> {
     Ok(text)
 }
 
+// What is refused of so many spaces; none where there is no memory for them.
+fn fault_of_spaces(alloc: Global, count: usize) -> Option<(Option<Fault>, bool)> {
+    match spaces(alloc, count) {
+        Ok(text) => Some(fault_of(alloc, text.as_bytes(), None)),
+        Err(_) => None,
+    }
+}
+
 #[test]
-fn longest_text(rt: HostRuntime) -> Result<(), Fail> {
-    let alloc = rt.alloc();
-    assert!(rt; is_bad_text(alloc, spaces(alloc, 1_048_577)?.as_bytes()));
-    assert!(rt; is_bad_board(alloc, spaces(alloc, 1_048_576)?.as_str()));
-    Ok(())
+fn longest_text(rt: HostRuntime) {
+    for (count, fault) in [(1_048_577, Fault::Text), (1_048_576, Fault::Board)] {
+        assert!(rt; fault_of_spaces(rt.alloc(), count) == Some((Some(fault), true)));
+    }
 }
 
 #[test]
@@ -105,7 +117,7 @@ fn bad_boards(rt: HostRuntime) {
 }
 
 #[test]
-fn bad_steps(rt: HostRuntime) -> Result<(), Fail> {
+fn bad_steps(rt: HostRuntime) {
     let steps = [
         "[[step]]\ncolour = 1\n",
         "[[step]]\ndo = \"get\"\nwho = 0\nsem = 0\n",
@@ -128,59 +140,74 @@ fn bad_steps(rt: HostRuntime) -> Result<(), Fail> {
         "[[step]]\ndo = \"request\"\nwho = 0\nline = 5\nstage = \"oob\"\ncallback = 0\ntag = 4294967296\n",
     ];
     for step in steps {
-        assert!(rt; is_bad_step(rt.alloc(), step, 1)?, "{step}");
+        assert!(rt; is_bad_step(rt.alloc(), step, 1), "{step}");
     }
-    Ok(())
 }
 
 #[test]
-fn later_bad_steps(rt: HostRuntime) -> Result<(), Fail> {
-    let alloc = rt.alloc();
-    let mut steps = String::from_str(alloc, "[[step]]\ndo = \"put\"\nwho = 0\nsem = \"0\"\n")?;
-    steps.push_str("[[step]]\ndo = \"tick\"\n[[step]]\n")?;
-    assert!(rt; is_bad_step(alloc, steps.as_str(), 2)?);
-    Ok(())
+fn later_bad_steps(rt: HostRuntime) {
+    let steps = "[[step]]\ndo = \"put\"\nwho = 0\nsem = \"0\"\n[[step]]\ndo = \"tick\"\n[[step]]\n";
+    assert!(rt; is_bad_step(rt.alloc(), steps, 2));
 }
 
-// Whether a step by a thread that is written so is a bad one.
-fn is_bad_who(alloc: Global, who: &str) -> Result<bool, Fail> {
-    let mut steps = String::from_str(alloc, "[[step]]\ndo = \"put\"\nsem = 0\nwho = ")?;
-    steps.push_str(who)?;
-    steps.push_str("\n")?;
-    is_bad_step(alloc, steps.as_str(), 1)
+// A step by a thread that is written so.
+fn put_by(alloc: Global, who: &str) -> Result<String, AllocError> {
+    let mut step = String::from_str(alloc, "[[step]]\ndo = \"put\"\nsem = 0\nwho = ")?;
+    step.push_str(who)?;
+    step.push_str("\n")?;
+    Ok(step)
+}
+
+// Whether a step by a thread that is written so is a bad one; none where there is no memory for it.
+fn is_bad_who(alloc: Global, who: &str) -> Option<bool> {
+    match put_by(alloc, who) {
+        Ok(step) => Some(is_bad_step(alloc, step.as_str(), 1)),
+        Err(_) => None,
+    }
 }
 
 #[test]
-fn forms_of_no_number(rt: HostRuntime) -> Result<(), Fail> {
+fn forms_of_no_number(rt: HostRuntime) {
     let alloc = rt.alloc();
-    assert!(rt; !is_bad_who(alloc, "\"0\"")?);
+    assert!(rt; is_bad_who(alloc, "\"0\"") == Some(false));
     let forms = [
         "65536", "-1", "0.0", "\"00\"", "\"+1\"", "\"\"", "\" 0\"", "\"0x0\"", "\"1_0\"", "true",
         "[0]",
     ];
     for form in forms {
-        assert!(rt; is_bad_who(alloc, form)?, "{form}");
+        assert!(rt; is_bad_who(alloc, form) == Some(true), "{form}");
     }
-    Ok(())
 }
 
-// A text whose limit is written so is played, and its first line tells a limit of 10.
-fn is_limit_ten(alloc: Global, limit: &str) -> Result<bool, Fail> {
+// A text whose limit is written so.
+fn limited_by(alloc: Global, limit: &str) -> Result<String, AllocError> {
     let mut text = String::from_str(alloc, "limit = ")?;
     text.push_str(limit)?;
     text.push_str("\n[board]\nthreads = 1\n")?;
+    Ok(text)
+}
+
+// Whether a text is played with this trace.
+fn is_played(alloc: Global, text: &[u8], trace: &str) -> bool {
     let mut out = Over::new(Vec::new(alloc));
-    let done = run(alloc, text.as_bytes(), None, Vec::new(alloc), &mut out).is_ok();
+    let done = run(alloc, text, None, Vec::new(alloc), &mut out).is_ok();
+    done && out.into_inner().as_slice() == trace.as_bytes()
+}
+
+// Whether a text whose limit is written so is played, and its first line tells a limit of 10.
+fn is_limit_ten(alloc: Global, limit: &str) -> bool {
     let trace = "board threads=1 sems=0 flags=0 xbufs=0 mutexes=0 groups=0 limit=10\n";
-    Ok(done && out.into_inner().as_slice() == trace.as_bytes())
+    match limited_by(alloc, limit) {
+        Ok(text) => is_played(alloc, text.as_bytes(), trace),
+        Err(_) => false,
+    }
 }
 
 #[test]
-fn forms_of_numbers(rt: HostRuntime) -> Result<(), Fail> {
+fn forms_of_numbers(rt: HostRuntime) {
     for form in ["+10", "1_0", "0xA", "\"10\""] {
-        assert!(rt; is_limit_ten(rt.alloc(), form)?, "{form}");
+        assert!(rt; is_limit_ten(rt.alloc(), form), "{form}");
     }
-    Ok(())
 }
 
 #[test]

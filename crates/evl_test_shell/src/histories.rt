@@ -13,7 +13,6 @@ use evl_scenario::{without_staxes, write_scenario};
 use evl_shell::trace_kernel;
 use std::alloc::{Allocator, Global};
 use std::rt::Files;
-use std::test::*;
 
 const LIMIT: u32 = 20;
 
@@ -115,21 +114,27 @@ const CALLS: &str = r#"board threads=2 sems=1 flags=0 xbufs=0 mutexes=0 groups=0
 4 T0 peek sem=0 -> count 1
 "#;
 
+// The calls that have no plays.
+fn make_calls<C: Handler, A: Allocator>(kernel: &mut KernelOf<C, A>)
+    requires answering { AnswersAsTold C.declared C.plan kernel.old.callbacks }
+{
+    make(kernel, 0, Call::TryGet { sem: SEM });
+    make(kernel, 1, Call::Put { sem: SEM });
+    make(kernel, 2, Call::Put { sem: SEM });
+    make(kernel, 0, Call::Peek { sem: SEM });
+}
+
 #[test]
-fn history_is_traced_as_it_is_run(rt: HostRuntime) -> Result<(), Fail> {
+fn history_is_traced_as_it_is_run(rt: HostRuntime) {
     let alloc = rt.alloc();
     let none = ActionKinds::from_bits_retain(0);
-    let zero = Callback::new(none, &quiet_plan(), Box::new(alloc, |_: Fire| quiet())?);
-    let bank = vec![in alloc; zero]?;
-    let Ok(mut kernel) = KernelOf::new(alloc, board(), bank, LIMIT) else {
-        panic!(rt; "kernel");
+    let Ok(run) = Box::new(alloc, |_: Fire| quiet()) else {
+        panic!(rt; "box")
     };
-    make(&mut kernel, 0, Call::TryGet { sem: SEM });
-    make(&mut kernel, 1, Call::Put { sem: SEM });
-    make(&mut kernel, 2, Call::Put { sem: SEM });
-    make(&mut kernel, 0, Call::Peek { sem: SEM });
-    assert!(rt; is_traced(&rt, &kernel, CALLS));
-    Ok(())
+    let Ok(bank) = Vec::from_array(alloc, [Callback::new(none, &quiet_plan(), run)]) else {
+        panic!(rt; "bank")
+    };
+    assert!(rt; is_row_traced(&rt, bank, Row::Calls, CALLS));
 }
 
 const PLAYS: &str = r#"board threads=2 sems=1 flags=0 xbufs=0 mutexes=0 groups=0 limit=20
@@ -167,24 +172,65 @@ fn request<C: Handler, A: Allocator>(kernel: &mut KernelOf<C, A>)
     make(kernel, 0, posting);
 }
 
+// The calls that have plays.
+fn make_plays<C: Handler, A: Allocator>(kernel: &mut KernelOf<C, A>)
+    requires answering { AnswersAsTold C.declared C.plan kernel.old.callbacks }
+{
+    request(kernel);
+    make(kernel, 1, Call::Arrive { line: LineNo(5) });
+    make(kernel, 0, Call::Stall { stage: Stage::Oob });
+    make(kernel, 1, Call::Arrive { line: LineNo(9) });
+    make(kernel, 1, Call::Arrive { line: LineNo(5) });
+    make(kernel, 0, Call::Unstall { stage: Stage::Oob });
+    make(kernel, 1, Call::Peek { sem: SEM });
+}
+
+// Which calls are made.
+#[derive(Clone, Copy)]
+enum Row {
+    Calls,
+    Plays,
+}
+
+fn make_row<C: Handler, A: Allocator>(kernel: &mut KernelOf<C, A>, row: Row)
+    requires answering { AnswersAsTold C.declared C.plan kernel.old.callbacks }
+{
+    match row {
+        Row::Calls => make_calls(kernel),
+        Row::Plays => make_plays(kernel),
+    }
+}
+
+// Whether a new kernel with this bank is traced so once the calls are made.
+fn is_row_traced<F: Files + AllocGlobal, C: Handler>(
+    rt: &F,
+    bank: Vec<C>,
+    row: Row,
+    wanted: &str,
+) -> bool {
+    match KernelOf::new(rt.alloc(), board(), bank, LIMIT) {
+        Ok(mut kernel) => {
+            make_row(&mut kernel, row);
+            is_traced(rt, &kernel, wanted)
+        }
+        Err(_) => false,
+    }
+}
+
 #[test]
-fn plays_are_traced_as_they_are_run(rt: HostRuntime) -> Result<(), Fail> {
+fn plays_are_traced_as_they_are_run(rt: HostRuntime) {
     let alloc = rt.alloc();
     let none = ActionKinds::from_bits_retain(0);
-    let post = ActionKinds::POST_SEM;
-    let zero = Callback::new(none, &quiet_plan(), Box::new(alloc, |_: Fire| quiet())?);
-    let one = Callback::new(post, &plan(POST), Box::new(alloc, |_: Fire| asks(POST))?);
-    let bank = vec![in alloc; zero, one]?;
-    let Ok(mut kernel) = KernelOf::new(alloc, board(), bank, LIMIT) else {
-        panic!(rt; "kernel");
+    let Ok(zero) = Box::new(alloc, |_: Fire| quiet()) else {
+        panic!(rt; "box")
     };
-    request(&mut kernel);
-    make(&mut kernel, 1, Call::Arrive { line: LineNo(5) });
-    make(&mut kernel, 0, Call::Stall { stage: Stage::Oob });
-    make(&mut kernel, 1, Call::Arrive { line: LineNo(9) });
-    make(&mut kernel, 1, Call::Arrive { line: LineNo(5) });
-    make(&mut kernel, 0, Call::Unstall { stage: Stage::Oob });
-    make(&mut kernel, 1, Call::Peek { sem: SEM });
-    assert!(rt; is_traced(&rt, &kernel, PLAYS));
-    Ok(())
+    let Ok(one) = Box::new(alloc, |_: Fire| asks(POST)) else {
+        panic!(rt; "box")
+    };
+    let quiet = Callback::new(none, &quiet_plan(), zero);
+    let posts = Callback::new(ActionKinds::POST_SEM, &plan(POST), one);
+    let Ok(bank) = Vec::from_array(alloc, [quiet, posts]) else {
+        panic!(rt; "bank")
+    };
+    assert!(rt; is_row_traced(&rt, bank, Row::Plays, PLAYS));
 }

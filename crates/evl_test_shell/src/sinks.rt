@@ -1,8 +1,7 @@
 //! Runs into sinks that take little, fail, or tell how they were used.
 use crate::writers::Narrow;
 use evl_shell::{Fault, Over, Sink, run};
-use std::alloc::Global;
-use std::test::*;
+use std::alloc::{AllocError, Global};
 
 const TEXT: &str = "[board]\nthreads = 1\nsems = [0]\n[[step]]\ndo = \"put\"\nwho = 0\nsem = 0\n";
 
@@ -50,7 +49,7 @@ fn each_write_fails_once(rt: HostRuntime) {
 }
 
 // A scenario of so many puts.
-fn puts(alloc: Global, count: usize) -> Result<String, Fail> {
+fn puts(alloc: Global, count: usize) -> Result<String, AllocError> {
     let mut text = String::from_str(alloc, "[board]\nthreads = 1\nsems = [0]\n")?;
     for _ in 0..count {
         text.push_str("[[step]]\ndo = \"put\"\nwho = 0\nsem = 0\n")?;
@@ -58,22 +57,23 @@ fn puts(alloc: Global, count: usize) -> Result<String, Fail> {
     Ok(text)
 }
 
-#[test]
-fn writes_in_chunks(rt: HostRuntime) -> Result<(), Fail> {
-    let alloc = rt.alloc();
-    let text = puts(alloc, 1000)?;
-    let wide = Narrow::new(alloc, 1_000_000, 0, false);
-    let (ends, writer) = stops_after(alloc, text.as_str(), wide, false, 24_962);
-    assert!(rt; ends && writer.writes == 7);
-    Ok(())
+// How many writes a thousand puts take, where the run ends so and the sink took just so many bytes; none elsewhere.
+fn writes_of_puts(alloc: Global, out: Narrow, fails: bool, count: usize) -> Option<usize> {
+    let Ok(text) = puts(alloc, 1000) else {
+        return None;
+    };
+    let (ends, writer) = stops_after(alloc, text.as_str(), out, fails, count);
+    if ends { Some(writer.writes) } else { None }
 }
 
 #[test]
-fn fails_after_4096_bytes(rt: HostRuntime) -> Result<(), Fail> {
-    let alloc = rt.alloc();
-    let text = puts(alloc, 1000)?;
-    let narrow = Narrow::new(alloc, 1024, 5, true);
-    let (ends, writer) = stops_after(alloc, text.as_str(), narrow, true, 4096);
-    assert!(rt; ends && writer.writes == 5);
-    Ok(())
+fn writes_in_chunks(rt: HostRuntime) {
+    let wide = Narrow::new(rt.alloc(), 1_000_000, 0, false);
+    assert!(rt; writes_of_puts(rt.alloc(), wide, false, 24_962) == Some(7));
+}
+
+#[test]
+fn fails_after_4096_bytes(rt: HostRuntime) {
+    let narrow = Narrow::new(rt.alloc(), 1024, 5, true);
+    assert!(rt; writes_of_puts(rt.alloc(), narrow, true, 4096) == Some(5));
 }

@@ -3,8 +3,8 @@ use crate::endings::ends;
 use crate::writers::{Ended, Narrow};
 use evl_bank::play_program;
 use evl_shell::Over;
+use std::alloc::{AllocError, Global};
 use std::rt::Files;
-use std::test::*;
 
 const TEXT: &str = "[board]\nthreads = 1\nsems = [0]\n[[step]]\ndo = \"put\"\nwho = 0\nsem = 0\n";
 
@@ -17,24 +17,35 @@ fn ends_done(rt: HostRuntime) {
 }
 
 #[test]
-fn ends_refused(rt: HostRuntime) -> Result<(), Fail> {
-    assert!(rt; ends(&rt, "[board", 2, "", "evl: bad text\n"));
-    assert!(rt; ends(&rt, "", 2, "", "evl: bad board\n"));
-    let step = "[board]\nthreads = 1\n[[step]]\ncolour = 1\n";
-    assert!(rt; ends(&rt, step, 2, "", "evl: bad step 1\n"));
-    Ok(())
+fn ends_refused(rt: HostRuntime) {
+    for (text, line) in [
+        ("[board", "evl: bad text\n"),
+        ("", "evl: bad board\n"),
+        (
+            "[board]\nthreads = 1\n[[step]]\ncolour = 1\n",
+            "evl: bad step 1\n",
+        ),
+    ] {
+        assert!(rt; ends(&rt, text, 2, "", line));
+    }
 }
 
-#[test]
-fn tells_the_whole_number_of_a_step(rt: HostRuntime) -> Result<(), Fail> {
-    let alloc = rt.alloc();
+// A scenario of 1233 steps and a bad one.
+fn late_bad_step(alloc: Global) -> Result<String, AllocError> {
     let mut text = String::from_str(alloc, TEXT)?;
     for _ in 1..1233 {
         text.push_str("[[step]]\ndo = \"put\"\nwho = 0\nsem = 0\n")?;
     }
     text.push_str("[[step]]\n")?;
+    Ok(text)
+}
+
+#[test]
+fn tells_the_whole_number_of_a_step(rt: HostRuntime) {
+    let Ok(text) = late_bad_step(rt.alloc()) else {
+        panic!(rt; "the text")
+    };
     assert!(rt; ends(&rt, text.as_str(), 2, "", "evl: bad step 1234\n"));
-    Ok(())
 }
 
 // Whether the program ends so over a reader that gives a text and then so many ends.
@@ -44,7 +55,7 @@ fn ends_over<F: Files + AllocGlobal>(
     status: u8,
     written: &str,
     said: &str,
-) -> Result<bool, Fail> {
+) -> bool {
     let words = ["evl"];
     let alloc = rt.alloc();
     let mut out = Over::new(Vec::new(alloc));
@@ -52,64 +63,81 @@ fn ends_over<F: Files + AllocGlobal>(
     let mut input = Ended::new(TEXT, given);
     let done = play_program(rt, alloc, words.as_slice(), &mut input, &mut out, &mut err);
     let is_written = out.into_inner().as_slice() == written.as_bytes();
-    Ok(done == status && is_written && err.as_slice() == said.as_bytes())
+    done == status && is_written && err.as_slice() == said.as_bytes()
 }
 
 #[test]
-fn reads_nothing_after_the_end(rt: HostRuntime) -> Result<(), Fail> {
-    assert!(rt; ends_over(&rt, 1, 0, TRACE, "")?);
-    Ok(())
+fn reads_nothing_after_the_end(rt: HostRuntime) {
+    assert!(rt; ends_over(&rt, 1, 0, TRACE, ""));
 }
 
 #[test]
-fn ends_without_a_file(rt: HostRuntime) -> Result<(), Fail> {
-    assert!(rt; ends_over(&rt, 0, 2, "", "evl: no file\n")?);
-    Ok(())
+fn ends_without_a_file(rt: HostRuntime) {
+    assert!(rt; ends_over(&rt, 0, 2, "", "evl: no file\n"));
 }
 
-#[test]
-fn ends_at_a_write_fault(rt: HostRuntime) -> Result<(), Fail> {
+// Whether the program ends at a fault of its output, which took ten bytes of the trace.
+fn ends_broken<F: Files + AllocGlobal>(rt: &F) -> bool {
     let words = ["evl"];
     let alloc = rt.alloc();
     let mut out = Over::new(Narrow::new(alloc, 10, 2, false));
     let mut err = Vec::new(alloc);
     let mut input = TEXT.as_bytes();
-    assert!(rt; play_program(&rt, alloc, words.as_slice(), &mut input, &mut out, &mut err) == 1);
-    assert!(rt; out.into_inner().taken.as_slice() == &TRACE.as_bytes()[..10]);
-    assert!(rt; err.as_slice() == b"evl: write fault\n".as_slice());
-    Ok(())
+    let status = play_program(rt, alloc, words.as_slice(), &mut input, &mut out, &mut err);
+    let is_taken = out.into_inner().taken.as_slice() == &TRACE.as_bytes()[..10];
+    status == 1 && is_taken && err.as_slice() == b"evl: write fault\n".as_slice()
+}
+
+#[test]
+fn ends_at_a_write_fault(rt: HostRuntime) {
+    assert!(rt; ends_broken(&rt));
 }
 
 // Whether the line of a bad board comes so far over a narrow writer.
-fn says<F: Files + AllocGlobal>(rt: &F, err: Narrow, line: &str) -> Result<bool, Fail> {
+fn says<F: Files + AllocGlobal>(rt: &F, err: Narrow, line: &str) -> bool {
     let words = ["evl"];
     let alloc = rt.alloc();
     let mut out = Over::new(Vec::new(alloc));
     let mut said = err;
     let mut input = "".as_bytes();
     let status = play_program(rt, alloc, words.as_slice(), &mut input, &mut out, &mut said);
-    Ok(status == 2 && said.taken.as_slice() == line.as_bytes())
+    status == 2 && said.taken.as_slice() == line.as_bytes()
 }
 
 #[test]
-fn ends_whatever_becomes_of_its_line(rt: HostRuntime) -> Result<(), Fail> {
+fn ends_whatever_becomes_of_its_line(rt: HostRuntime) {
     let alloc = rt.alloc();
-    assert!(rt; says(&rt, Narrow::new(alloc, 1, 5, true), "evl:")?);
-    assert!(rt; says(&rt, Narrow::new(alloc, 3, 0, false), "evl: bad board\n")?);
-    Ok(())
+    assert!(rt; says(&rt, Narrow::new(alloc, 1, 5, true), "evl:"));
+    assert!(rt; says(&rt, Narrow::new(alloc, 3, 0, false), "evl: bad board\n"));
 }
 
-#[test]
-fn reads_no_more_than_a_scenario_may_have(rt: HostRuntime) -> Result<(), Fail> {
-    let alloc = rt.alloc();
+// How many bytes of an input the program leaves unread; none where it doesn't refuse it as a bad text.
+fn left_unread<F: Files + AllocGlobal>(rt: &F, text: &[u8]) -> Option<usize> {
     let words = ["evl"];
-    let mut text = Vec::new(alloc);
-    text.resize(1_048_600, b' ')?;
+    let alloc = rt.alloc();
     let mut out = Over::new(Vec::new(alloc));
     let mut err = Vec::new(alloc);
-    let mut input = text.as_slice();
-    assert!(rt; play_program(&rt, alloc, words.as_slice(), &mut input, &mut out, &mut err) == 2);
-    assert!(rt; input.len() == 23 && out.into_inner().is_empty());
-    assert!(rt; err.as_slice() == b"evl: bad text\n".as_slice());
-    Ok(())
+    let mut input = text;
+    let status = play_program(rt, alloc, words.as_slice(), &mut input, &mut out, &mut err);
+    let is_quiet = out.into_inner().is_empty();
+    if status == 2 && is_quiet && err.as_slice() == b"evl: bad text\n".as_slice() {
+        Some(input.len())
+    } else {
+        None
+    }
+}
+
+// So many spaces.
+fn spaces(alloc: Global, count: usize) -> Result<Vec<u8>, AllocError> {
+    let mut text = Vec::new(alloc);
+    text.resize(count, b' ')?;
+    Ok(text)
+}
+
+#[test]
+fn reads_no_more_than_a_scenario_may_have(rt: HostRuntime) {
+    let Ok(text) = spaces(rt.alloc(), 1_048_600) else {
+        panic!(rt; "the text")
+    };
+    assert!(rt; left_unread(&rt, text.as_slice()) == Some(23));
 }

@@ -4,7 +4,6 @@ use crate::writers::Narrow;
 use evl_bank::play_program;
 use evl_shell::Over;
 use std::rt::Files;
-use std::test::*;
 
 const FIRST_SEMAPHORE: &str =
     "limit = 100\n[board]\nthreads = 1\nsems = [0]\n[[step]]\ndo = \"try_get\"\nwho = 0\nsem = 0\n[[step]]\ndo = \"put\"\nwho = 0\nsem = 0\n[[step]]\ndo = \"try_get\"\nwho = 0\nsem = 0\n[[step]]\ndo = \"peek\"\nwho = 0\nsem = 0\n";
@@ -15,29 +14,16 @@ const UNDER_THREE: &str =
 #[test]
 fn threads_3(rt: HostRuntime) {
     let limited = ["evl", "--limit", "3"];
-    assert!(rt; ends_by(&rt, limited.as_slice(), FIRST_SEMAPHORE, 0, UNDER_THREE, ""));
     let limited_input = ["evl", "-", "--limit=3"];
-    assert!(rt;
-        ends_by(
-            &rt,
-            limited_input.as_slice(),
-            FIRST_SEMAPHORE,
-            0,
-            UNDER_THREE,
-            ""
-        )
-    );
     let absent = ["evl", "there_is_no_such_file.toml"];
-    assert!(rt;
-        ends_by(
-            &rt,
-            absent.as_slice(),
-            FIRST_SEMAPHORE,
-            2,
-            "",
-            "evl: no file\n"
-        )
-    );
+    let ends: [(&[&str], u8, &str, &str); 3] = [
+        (&limited, 0, UNDER_THREE, ""),
+        (&limited_input, 0, UNDER_THREE, ""),
+        (&absent, 2, "", "evl: no file\n"),
+    ];
+    for (words, status, written, said) in ends {
+        assert!(rt; ends_by(&rt, words, FIRST_SEMAPHORE, status, written, said));
+    }
 }
 
 // Whether the program ends with this status on these words, and writes and says something.
@@ -67,22 +53,19 @@ fn refuses_words(rt: HostRuntime) {
     }
 }
 
+// Whether the program tells of a write fault where its help isn't taken whole.
+fn breaks<F: Files + AllocGlobal>(rt: &F, words: &[&str]) -> bool {
+    let alloc = rt.alloc();
+    let mut out = Over::new(Narrow::new(alloc, 10, 2, true));
+    let mut err = Vec::new(alloc);
+    let mut input = "".as_bytes();
+    let status = play_program(rt, alloc, words, &mut input, &mut out, &mut err);
+    status == 1 && err.as_slice() == b"evl: write fault\n".as_slice()
+}
+
 #[test]
 fn tells_help(rt: HostRuntime) {
     let words = ["evl", "--help"];
     assert!(rt; turns_away(&rt, words.as_slice(), 0, true, false));
-    let mut out = Over::new(Narrow::new(rt.alloc(), 10, 2, true));
-    let mut err = Vec::new(rt.alloc());
-    let mut input = "".as_bytes();
-    assert!(rt;
-        play_program(
-            &rt,
-            rt.alloc(),
-            words.as_slice(),
-            &mut input,
-            &mut out,
-            &mut err
-        ) == 1
-    );
-    assert!(rt; err.as_slice() == b"evl: write fault\n".as_slice());
+    assert!(rt; breaks(&rt, words.as_slice()));
 }
