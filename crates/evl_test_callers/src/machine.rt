@@ -19,7 +19,10 @@ use acts::{Act, Ask, Passes, Told, call_of, does, told_by};
 use arrayvec::ArrayVec;
 use evl_base::{Board, LineNo, MutexId, MutexKind, Policy, Refusal, SemId, Stage, StaxId};
 use evl_machine::{Caller, Machine};
-use rows::{Step, answers, come_back, first_of, held_answers, is_row, last_of, made, taken};
+use rows::{
+    Row, Step, answers, come_back, first_of, gets_the_kernel, is_row, is_told, last_of, made, taken,
+};
+use std::alloc::Global;
 
 const SEM: SemId = SemId(0);
 
@@ -120,71 +123,91 @@ fn is_core_row(machine: &Machine, callers: &mut Vec<Caller>, passes: &mut Passes
     attached && held && free
 }
 
+#[derive(Drop)]
+struct CoreRow;
+
+impl Row for CoreRow {
+    fn is_told(self, machine: &Machine, callers: &mut Vec<Caller>, passes: &mut Passes) -> bool {
+        is_core_row(machine, callers, passes)
+    }
+}
+
 // Row core_held.
 #[test]
 fn core_held(rt: HostRuntime) {
-    let alloc = rt.alloc();
-    let told = match made(alloc, board_of_two(), Vec::new(alloc), 100) {
-        Ok((machine, mut callers)) => is_core_row(&machine, &mut callers, &mut Passes::new(alloc)),
-        Err(_) => false,
-    };
-    assert!(rt; told);
+    assert!(rt; is_told(rt.alloc(), board_of_two(), 100, CoreRow));
 }
 
-// The first caller has the core, and the second doesn't get it; nothing is entered.
-fn is_taken_once(machine: &Machine, callers: &mut Vec<Caller>) -> bool
-    requires { All (λ c. c.machine ≡ machine.now.of) callers.old.items }
-{
-    let (Some(first), Some(second)) = (first_of(machine, callers), first_of(machine, callers))
-    else {
-        return false;
-    };
-    match taken(machine, first) {
-        Ok(held) => {
-            let free = taken(machine, second).is_ok();
-            !free && held.kernel().history().is_empty()
+#[derive(Drop)]
+struct TakenOnce;
+
+impl Row for TakenOnce {
+    // The first caller has the core, and the second doesn't get it; nothing is entered.
+    fn is_told(self, machine: &Machine, callers: &mut Vec<Caller>, _passes: &mut Passes) -> bool {
+        let Some(first) = first_of(machine, callers) else {
+            return false;
+        };
+        let Some(second) = first_of(machine, callers) else {
+            return false;
+        };
+        match taken(machine, first) {
+            Ok(held) => {
+                let free = gets_the_kernel(machine, second);
+                !free && held.kernel().history().is_empty()
+            }
+            Err(_) => false,
         }
-        Err(_) => false,
     }
 }
 
 #[test]
 fn held_core_is_not_taken(rt: HostRuntime) {
-    let alloc = rt.alloc();
-    let told = match made(alloc, board_of_two(), Vec::new(alloc), 100) {
-        Ok((machine, mut callers)) => is_taken_once(&machine, &mut callers),
-        Err(_) => false,
-    };
-    assert!(rt; told);
+    assert!(rt; is_told(rt.alloc(), board_of_two(), 100, TakenOnce));
+}
+
+// Why no machine is made with a history of so many calls; none where it is made.
+fn refusal_of(alloc: Global, limit: u32) -> Option<Refusal> {
+    made(alloc, board_of_two(), Vec::new(alloc), limit).err()
 }
 
 #[test]
 fn machine_has_a_range(rt: HostRuntime) {
-    let alloc = rt.alloc();
     for limit in [0, 1_000_001] {
-        let refusal = made(alloc, board_of_two(), Vec::new(alloc), limit).err();
-        assert!(rt; refusal == Some(Refusal::Range));
+        assert!(rt; refusal_of(rt.alloc(), limit) == Some(Refusal::Range));
     }
 }
 
 // The second caller's put is the last one that the history has room for, also for a caller that takes the kernel.
+fn is_full(machine: &Machine, callers: &mut Vec<Caller>, passes: &mut Passes) -> bool
+    requires { All (λ c. c.machine ≡ machine.now.of) callers.old.items }
+{
+    let full = Told::Refused(Refusal::HistoryFull);
+    let steps = [(1, PUT, Told::Done), (1, PUT, full)];
+    let told = answers(machine, callers, passes, &steps);
+    let Some(first) = first_of(machine, callers) else {
+        return false;
+    };
+    match taken(machine, first) {
+        Ok(mut held) => {
+            let put = held.apply(call_of(Ask::Put(SEM)));
+            told && told_by(put) == full && held.kernel().history().len() == 1
+        }
+        Err(_) => false,
+    }
+}
+
+#[derive(Drop)]
+struct FullHistory;
+
+impl Row for FullHistory {
+    fn is_told(self, machine: &Machine, callers: &mut Vec<Caller>, passes: &mut Passes) -> bool {
+        is_full(machine, callers, passes)
+    }
+}
+
 #[test]
 fn full_history_behind_the_core(rt: HostRuntime) {
-    let alloc = rt.alloc();
-    let full = Told::Refused(Refusal::HistoryFull);
-    let Ok((machine, mut callers)) = made(alloc, board_of_two(), Vec::new(alloc), 1) else {
-        panic!(rt; "a machine")
-    };
-    let steps = [(1, PUT, Told::Done), (1, PUT, full)];
-    assert!(rt; answers(&machine, &mut callers, &mut Passes::new(alloc), &steps));
-    let Some(first) = first_of(&machine, &mut callers) else {
-        panic!(rt; "the first caller")
-    };
-    let Ok(mut held) = taken(&machine, first) else {
-        panic!(rt; "the core is free")
-    };
-    assert!(rt; held_answers(&mut held, Ask::Put(SEM), full));
-    assert!(rt; held.kernel().history().len() == 1);
+    assert!(rt; is_told(rt.alloc(), board_of_two(), 1, FullHistory));
 }
 
 // With ample memory no call of a semaphore or of a stage's stall is refused for want of it.

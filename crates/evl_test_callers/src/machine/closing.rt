@@ -2,9 +2,10 @@
 ghost use Rattle.std.specs.Prelude.{◌≡◌, All, IfOk, IfSome};
 
 use super::acts::{Passes, Told};
-use super::rows::{Round, first_of, is_row, last_of, made, taken};
+use super::rows::{Round, first_of, gets_the_kernel, is_row, made};
 use super::{BOTH_ATTACH, GET, PUT, board_of_two, is_core_row};
 use evl_base::{Call, Entry, Refusal, Reply, ThreadId};
+use evl_kernel::Kernel;
 use evl_machine::{Caller, Machine};
 use std::alloc::Global;
 
@@ -71,47 +72,69 @@ fn refused(machine: Machine, callers: Vec<Caller>, why: Refusal) -> Option<(Mach
     }
 }
 
-// A caller more, if there is room.
-fn with(mut callers: Vec<Caller>, machine: &Machine, caller: Caller) -> Option<Vec<Caller>>
-    requires callers { All (λ c. c.machine ≡ machine.now.of) callers.items }
-    requires caller { caller.machine ≡ machine.now.of }
-    ensures { IfSome result (λ r. All (λ c. c.machine ≡ machine.now.of) r.items) }
+// Whether the first of those who are away joins the callers.
+fn joins(machine: &Machine, away: &mut Vec<Caller>, callers: &mut Vec<Caller>) -> bool
+    requires away { All (λ c. c.machine ≡ machine.now.of) away.old.items }
+    requires callers { All (λ c. c.machine ≡ machine.now.of) callers.old.items }
+    ensures away { All (λ c. c.machine ≡ machine.now.of) away.new.items }
+    ensures callers { All (λ c. c.machine ≡ machine.now.of) callers.new.items }
 {
-    match callers.push(caller) {
-        Ok(()) => Some(callers),
-        Err(_) => None,
+    match first_of(machine, away) {
+        Some(caller) => callers.push(caller).is_ok(),
+        None => false,
+    }
+}
+
+// The machine with one caller more, if without that one it isn't closed.
+fn with_one_more(
+    machine: Machine,
+    callers: Vec<Caller>,
+    away: &mut Vec<Caller>,
+) -> Option<(Machine, Vec<Caller>)>
+    requires callers { All (λ c. c.machine ≡ machine.of) callers.items }
+    requires away { All (λ c. c.machine ≡ machine.of) away.old.items }
+    ensures more { IfSome result (λ m. (m.0.of ≡ machine.of) × All (λ c. c.machine ≡ machine.of) m.1.items) }
+    ensures away { All (λ c. c.machine ≡ machine.of) away.new.items }
+{
+    let Some((machine, mut callers)) = refused(machine, callers, Refusal::Invalid) else {
+        return None;
+    };
+    if joins(&machine, away, &mut callers) {
+        Some((machine, callers))
+    } else {
+        None
+    }
+}
+
+// The kernel of a machine of two callers, which is closed only once both are there.
+fn closed_with_both(machine: Machine, none: Vec<Caller>, away: &mut Vec<Caller>) -> Option<Kernel>
+    requires none { All (λ c. c.machine ≡ machine.of) none.items }
+    requires away { All (λ c. c.machine ≡ machine.of) away.old.items }
+{
+    let Some((machine, one)) = with_one_more(machine, none, away) else {
+        return None;
+    };
+    match with_one_more(machine, one, away) {
+        Some((machine, both)) => machine.close(both).ok(),
+        None => None,
+    }
+}
+
+// Whether the machine of the row is closed with both callers alone, and has its history.
+fn is_row_closed(alloc: Global) -> bool {
+    let Ok((machine, mut callers)) = made(alloc, board_of_two(), Vec::new(alloc), 100) else {
+        return false;
+    };
+    let told = is_core_row(&machine, &mut callers, &mut Passes::new(alloc));
+    match closed_with_both(machine, Vec::new(alloc), &mut callers) {
+        Some(kernel) => told && is_history_of_row(kernel.history()),
+        None => false,
     }
 }
 
 #[test]
 fn close_machine(rt: HostRuntime) {
-    let alloc = rt.alloc();
-    let Ok((machine, mut callers)) = made(alloc, board_of_two(), Vec::new(alloc), 100) else {
-        panic!(rt; "a machine")
-    };
-    assert!(rt; is_core_row(&machine, &mut callers, &mut Passes::new(alloc)));
-    let Some(second) = last_of(&machine, &mut callers) else {
-        panic!(rt; "the second caller")
-    };
-    let Some(first) = last_of(&machine, &mut callers) else {
-        panic!(rt; "the first caller")
-    };
-    let Some((machine, callers)) = refused(machine, callers, Refusal::Invalid) else {
-        panic!(rt; "no caller")
-    };
-    let Some(callers) = with(callers, &machine, first) else {
-        panic!(rt; "room")
-    };
-    let Some((machine, callers)) = refused(machine, callers, Refusal::Invalid) else {
-        panic!(rt; "the first caller alone")
-    };
-    let Some(callers) = with(callers, &machine, second) else {
-        panic!(rt; "room")
-    };
-    let Ok(kernel) = machine.close(callers) else {
-        panic!(rt; "both callers")
-    };
-    assert!(rt; is_history_of_row(kernel.history()));
+    assert!(rt; is_row_closed(rt.alloc()));
 }
 
 // Whether the first caller gets the kernel, and is dropped with it.
@@ -120,22 +143,26 @@ fn drops_the_kernel(machine: &Machine, callers: &mut Vec<Caller>) -> bool
     ensures { All (λ c. c.machine ≡ machine.now.of) callers.new.items }
 {
     match first_of(machine, callers) {
-        Some(first) => taken(machine, first).is_ok(),
+        Some(first) => gets_the_kernel(machine, first),
         None => false,
+    }
+}
+
+// Whether a machine isn't closed whose first caller was dropped with the kernel.
+fn stays_busy(alloc: Global) -> bool {
+    match made(alloc, board_of_two(), Vec::new(alloc), 100) {
+        Ok((machine, mut callers)) => {
+            let dropped = drops_the_kernel(&machine, &mut callers);
+            let busy = refused(machine, callers, Refusal::CoreBusy).is_some();
+            dropped && busy
+        }
+        Err(_) => false,
     }
 }
 
 #[test]
 fn close_with_a_dropped_holder(rt: HostRuntime) {
-    let alloc = rt.alloc();
-    let told = match made(alloc, board_of_two(), Vec::new(alloc), 100) {
-        Ok((machine, mut callers)) => {
-            let dropped = drops_the_kernel(&machine, &mut callers);
-            dropped && refused(machine, callers, Refusal::CoreBusy).is_some()
-        }
-        Err(_) => false,
-    };
-    assert!(rt; told);
+    assert!(rt; stays_busy(rt.alloc()));
 }
 
 // A thousand rounds of a put by the first and a get by the second.

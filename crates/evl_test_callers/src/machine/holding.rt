@@ -5,19 +5,19 @@ use super::threads::Task;
 use super::{BOTH_ATTACH, ONCE_FREE, SEM, board_of_two};
 use evl_base::{ActionKinds, MutexId, StaxId};
 use evl_pipeline::{Action, Callback, Fire};
-use std::test::Fail;
 
 // Row machine_4: the first caller has the kernel for one put on a host thread, until the second one's three tries on another
 // are answered, and both are told what they are to be once the core is free.
 #[test]
-fn machine_4(rt: HostRuntime) -> Result<(), Fail> {
+fn machine_4(rt: HostRuntime) {
     let alloc = rt.alloc();
-    let posts = Callback::new(
-        ActionKinds::POST_SEM,
-        &plan(Action::PostSem(SEM)),
-        Box::new(alloc, |_: Fire| asks(Action::PostSem(SEM))).map_err(|_| "box")?,
-    );
-    let bank = Vec::from_array(alloc, [posts]).map_err(|_| "bank")?;
+    let Ok(run) = Box::new(alloc, |_: Fire| asks(Action::PostSem(SEM))) else {
+        panic!(rt; "box")
+    };
+    let posts = Callback::new(ActionKinds::POST_SEM, &plan(Action::PostSem(SEM)), run);
+    let Ok(bank) = Vec::from_array(alloc, [posts]) else {
+        panic!(rt; "bank")
+    };
     let row = ThreadRow {
         before: &BOTH_ATTACH,
         tasks: (Task::HoldsAPut, Task::TriesElements(StaxId(0), MutexId(0))),
@@ -27,5 +27,4 @@ fn machine_4(rt: HostRuntime) -> Result<(), Fail> {
     };
     let kernel = kernel_of_row(&rt, alloc, board_of_two(), bank, 100, &row);
     assert!(rt; is_left(kernel, row.left));
-    Ok(())
 }

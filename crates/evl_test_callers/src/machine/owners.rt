@@ -14,21 +14,21 @@ use evl_pipeline::{Action, Callback, Fire, Handler};
 use evl_words::MutexPass;
 use std::alloc::{Allocator, Global};
 use std::sync::Wait;
-use std::test::Fail;
 use std::thread::Threads;
 
 const MUTEX: MutexId = MutexId(0);
 
 // Row racing_callers_6: two host threads lock the mutex and unlock it so often, and leave it free.
 #[test]
-fn racing_callers_6(rt: HostRuntime) -> Result<(), Fail> {
+fn racing_callers_6(rt: HostRuntime) {
     let alloc = rt.alloc();
-    let posts = Callback::new(
-        ActionKinds::POST_SEM,
-        &plan(Action::PostSem(SEM)),
-        Box::new(alloc, |_: Fire| asks(Action::PostSem(SEM))).map_err(|_| "box")?,
-    );
-    let bank = Vec::from_array(alloc, [posts]).map_err(|_| "bank")?;
+    let Ok(run) = Box::new(alloc, |_: Fire| asks(Action::PostSem(SEM))) else {
+        panic!(rt; "box")
+    };
+    let posts = Callback::new(ActionKinds::POST_SEM, &plan(Action::PostSem(SEM)), run);
+    let Ok(bank) = Vec::from_array(alloc, [posts]) else {
+        panic!(rt; "bank")
+    };
     let locks = Task::Locks(200, MUTEX);
     let row = ThreadRow {
         before: &BOTH_ATTACH,
@@ -42,7 +42,6 @@ fn racing_callers_6(rt: HostRuntime) -> Result<(), Fail> {
     };
     let kernel = kernel_of_row(&rt, alloc, board_of_two(), bank, 10_000, &row);
     assert!(rt; is_left(kernel, row.left));
-    Ok(())
 }
 
 // A caller with its pass of a mutex, if it has it, which go to another host thread together.
@@ -141,14 +140,15 @@ fn is_unlocked_elsewhere<R: Threads + Wait + Sync>(
 
 // Row racing_callers_7.
 #[test]
-fn racing_callers_7(rt: HostRuntime) -> Result<(), Fail> {
+fn racing_callers_7(rt: HostRuntime) {
     let alloc = rt.alloc();
-    let posts = Callback::new(
-        ActionKinds::POST_SEM,
-        &plan(Action::PostSem(SEM)),
-        Box::new(alloc, |_: Fire| asks(Action::PostSem(SEM))).map_err(|_| "box")?,
-    );
-    let bank = Vec::from_array(alloc, [posts]).map_err(|_| "bank")?;
+    let Ok(run) = Box::new(alloc, |_: Fire| asks(Action::PostSem(SEM))) else {
+        panic!(rt; "box")
+    };
+    let posts = Callback::new(ActionKinds::POST_SEM, &plan(Action::PostSem(SEM)), run);
+    let Ok(bank) = Vec::from_array(alloc, [posts]) else {
+        panic!(rt; "bank")
+    };
     let told = match made(alloc, board_of_two(), bank, 100) {
         Ok((machine, mut callers)) => is_unlocked_elsewhere(
             &rt,
@@ -159,5 +159,4 @@ fn racing_callers_7(rt: HostRuntime) -> Result<(), Fail> {
         Err(_) => false,
     };
     assert!(rt; told);
-    Ok(())
 }

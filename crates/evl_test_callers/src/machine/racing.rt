@@ -6,20 +6,20 @@ use super::threads::Task;
 use super::{BOTH_ATTACH, SEM, board_of_two};
 use evl_base::ActionKinds;
 use evl_pipeline::{Action, Callback, Fire};
-use std::test::Fail;
 
 const PEEK: Act = Act::Call(Ask::Peek(SEM));
 
 // Row racing_callers_4: the last of the calls is that for the count.
 #[test]
-fn racing_callers_4(rt: HostRuntime) -> Result<(), Fail> {
+fn racing_callers_4(rt: HostRuntime) {
     let alloc = rt.alloc();
-    let posts = Callback::new(
-        ActionKinds::POST_SEM,
-        &plan(Action::PostSem(SEM)),
-        Box::new(alloc, |_: Fire| asks(Action::PostSem(SEM))).map_err(|_| "box")?,
-    );
-    let bank = Vec::from_array(alloc, [posts]).map_err(|_| "bank")?;
+    let Ok(run) = Box::new(alloc, |_: Fire| asks(Action::PostSem(SEM))) else {
+        panic!(rt; "box")
+    };
+    let posts = Callback::new(ActionKinds::POST_SEM, &plan(Action::PostSem(SEM)), run);
+    let Ok(bank) = Vec::from_array(alloc, [posts]) else {
+        panic!(rt; "bank")
+    };
     let row = ThreadRow {
         before: &BOTH_ATTACH,
         tasks: (Task::Puts(500), Task::Puts(500)),
@@ -29,7 +29,6 @@ fn racing_callers_4(rt: HostRuntime) -> Result<(), Fail> {
     };
     let kernel = kernel_of_row(&rt, alloc, board_of_two(), bank, 2000, &row);
     assert!(rt; is_left(kernel, row.left));
-    Ok(())
 }
 
 // The first caller goes to another host thread, comes back, and has seen what it did there.

@@ -1,7 +1,7 @@
 //! Rows of the machine as data: which caller does what, and what it is told.
 ghost use Rattle.std.specs.Prelude.{◌≡◌, All, IfOk, IfSome, MatchResult};
 
-use super::acts::{Act, Ask, Passes, Told, call_of, does, told_by};
+use super::acts::{Act, Passes, Told, does};
 use evl_base::{Board, Refusal, Stage, ThreadId};
 use evl_kernel::Kernel;
 use evl_machine::{Caller, Held, Machine};
@@ -100,17 +100,40 @@ pub fn all_answer(
     true
 }
 
-// Whether the rounds are answered as they are wanted, by a new machine with no callbacks.
-pub fn is_row(alloc: Global, board: Board, limit: u32, rounds: &[Round<'_>]) -> bool {
+// What is asked of a new machine and its callers.
+pub trait Row: Drop {
+    ghost use Rattle.std.specs.Prelude.{◌≡◌, All};
+
+    // Whether they answer as it is wanted.
+    fn is_told(self, machine: &Machine, callers: &mut Vec<Caller>, passes: &mut Passes) -> bool
+        requires { All (λ c. c.machine ≡ machine.now.of) callers.old.items };
+}
+
+// Whether a new machine with no callbacks and its callers answer as it is wanted.
+pub fn is_told<T: Row>(alloc: Global, board: Board, limit: u32, row: T) -> bool {
     match made(alloc, board, Vec::new(alloc), limit) {
-        Ok((machine, mut callers)) => all_answer(
-            &machine,
-            &mut callers,
-            &mut Passes::new(alloc),
-            rounds,
-        ),
+        Ok((machine, mut callers)) => {
+            row.is_told(&machine, &mut callers, &mut Passes::new(alloc))
+        }
         Err(_) => false,
     }
+}
+
+// Steps that don't wait, in rounds.
+#[derive(Drop)]
+struct Rounds<'a> {
+    rounds: &'a [Round<'a>],
+}
+
+impl<'a> Row for Rounds<'a> {
+    fn is_told(self, machine: &Machine, callers: &mut Vec<Caller>, passes: &mut Passes) -> bool {
+        all_answer(machine, callers, passes, self.rounds)
+    }
+}
+
+// Whether the rounds are answered as they are wanted, by a new machine with no callbacks.
+pub fn is_row(alloc: Global, board: Board, limit: u32, rounds: &[Round<'_>]) -> bool {
+    is_told(alloc, board, limit, Rounds { rounds })
 }
 
 // The first caller, which is taken away.
@@ -158,11 +181,11 @@ pub fn taken(machine: &Machine, caller: Caller) -> Result<Held<'_>, Caller>
     machine.take(caller)
 }
 
-// Whether one call of a caller that has the kernel is answered so.
-pub fn held_answers(held: &mut Held<'_>, ask: Ask, wanted: Told) -> bool
-    ensures { held.new.of.caller.machine ≡ held.old.of.caller.machine }
+// Whether a caller gets the kernel, with which it is dropped.
+pub fn gets_the_kernel(machine: &Machine, caller: Caller) -> bool
+    requires { caller.machine ≡ machine.now.of }
 {
-    told_by(held.apply(call_of(ask))) == wanted
+    taken(machine, caller).is_ok()
 }
 
 // What the kernel shows: how many calls it has, the first thread's stage, and whether that thread's wait is over and not

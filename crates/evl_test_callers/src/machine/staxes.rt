@@ -2,7 +2,7 @@
 ghost use Rattle.std.specs.Prelude.{◌≡◌, All};
 
 use super::acts::{Act, Ask, Passes, Told};
-use super::rows::{Shown, answers, is_row, kernel_shows, made};
+use super::rows::{Row, Shown, answers, is_row, is_told, kernel_shows};
 use super::{ATTACH, SEM};
 use arrayvec::ArrayVec;
 use evl_base::{Board, MutexId, Policy, Refusal, Stage, StaxId};
@@ -79,19 +79,19 @@ fn keeps_its_stage(machine: &Machine, callers: &mut Vec<Caller>, passes: &mut Pa
         })
 }
 
+#[derive(Drop)]
+struct StageRow;
+
+impl Row for StageRow {
+    fn is_told(self, machine: &Machine, callers: &mut Vec<Caller>, passes: &mut Passes) -> bool {
+        keeps_its_stage(machine, callers, passes)
+    }
+}
+
 // Row machine_2.
 #[test]
 fn machine_2(rt: HostRuntime) {
-    let alloc = rt.alloc();
-    let told = match made(alloc, board_of_four(), Vec::new(alloc), 100) {
-        Ok((machine, mut callers)) => keeps_its_stage(
-            &machine,
-            &mut callers,
-            &mut Passes::new(alloc),
-        ),
-        Err(_) => false,
-    };
-    assert!(rt; told);
+    assert!(rt; is_told(rt.alloc(), board_of_four(), 100, StageRow));
 }
 
 // A pass of another caller, and one of a caller that has left, come back.

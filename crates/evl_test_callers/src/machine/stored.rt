@@ -8,7 +8,6 @@ use super::{SEM, board_of_two};
 use arrayvec::ArrayVec;
 use evl_base::{ActionKinds, LineNo, Stage};
 use evl_pipeline::{Action, Answer, Callback, Fire, Plan};
-use std::test::Fail;
 
 const LINE: LineNo = LineNo(8);
 
@@ -37,14 +36,15 @@ pub fn plan(action: Action) -> Plan
 
 // The bank's one callback stands on a line, on which events arrive from two host threads.
 #[test]
-fn any_thread_calls_the_stored_closure(rt: HostRuntime) -> Result<(), Fail> {
+fn any_thread_calls_the_stored_closure(rt: HostRuntime) {
     let alloc = rt.alloc();
-    let posts = Callback::new(
-        ActionKinds::POST_SEM,
-        &plan(Action::PostSem(SEM)),
-        Box::new(alloc, |_: Fire| asks(Action::PostSem(SEM))).map_err(|_| "box")?,
-    );
-    let bank = Vec::from_array(alloc, [posts]).map_err(|_| "bank")?;
+    let Ok(run) = Box::new(alloc, |_: Fire| asks(Action::PostSem(SEM))) else {
+        panic!(rt; "box")
+    };
+    let posts = Callback::new(ActionKinds::POST_SEM, &plan(Action::PostSem(SEM)), run);
+    let Ok(bank) = Vec::from_array(alloc, [posts]) else {
+        panic!(rt; "bank")
+    };
     let arrivals = Task::Arrivals(100, LINE);
     let row = ThreadRow {
         before: &[(0, Act::Call(Ask::Request(LINE, Stage::Oob)), Told::Done)],
@@ -55,5 +55,4 @@ fn any_thread_calls_the_stored_closure(rt: HostRuntime) -> Result<(), Fail> {
     };
     let kernel = kernel_of_row(&rt, alloc, board_of_two(), bank, 2000, &row);
     assert!(rt; is_left(kernel, row.left));
-    Ok(())
 }

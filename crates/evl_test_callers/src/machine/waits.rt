@@ -2,7 +2,7 @@
 ghost use Rattle.std.specs.Prelude.{◌≡◌, All};
 
 use super::acts::{Act, Ask, Passes, Told, call_of, leaves, told_by};
-use super::rows::{Shown, kernel_shows, made};
+use super::rows::{Row, Shown, is_told, kernel_shows, made};
 use super::stored::{asks, plan};
 use super::thread_rows::{Left, ThreadRow, is_left, kernel_of_row};
 use super::threads::Task;
@@ -15,7 +15,6 @@ use evl_base::{
 use evl_machine::{Caller, Machine};
 use evl_pipeline::{Action, Callback, Fire};
 use std::sync::Wait;
-use std::test::Fail;
 
 // What a caller does that may wait for others.
 #[derive(Clone, Copy)]
@@ -312,15 +311,18 @@ fn is_row_of_all<R: Wait>(
 
 // Row machine_1.
 #[test]
-fn machine_1(rt: HostRuntime) -> Result<(), Fail> {
+fn machine_1(rt: HostRuntime) {
     let alloc = rt.alloc();
-    let posts = Callback::new(
-        ActionKinds::POST_SEM,
-        &plan(Action::PostSem(SEM)),
-        Box::new(alloc, |_: Fire| asks(Action::PostSem(SEM))).map_err(|_| "box")?,
-    );
-    let bank = Vec::from_array(alloc, [posts]).map_err(|_| "bank")?;
-    let mut bytes = Transfer::empty(alloc).map_err(|_| "box")?;
+    let Ok(run) = Box::new(alloc, |_: Fire| asks(Action::PostSem(SEM))) else {
+        panic!(rt; "box")
+    };
+    let posts = Callback::new(ActionKinds::POST_SEM, &plan(Action::PostSem(SEM)), run);
+    let Ok(bank) = Vec::from_array(alloc, [posts]) else {
+        panic!(rt; "bank")
+    };
+    let Ok(mut bytes) = Transfer::empty(alloc) else {
+        panic!(rt; "box of bytes")
+    };
     bytes.set(b"ab");
     let told = match made(alloc, board_of_all(), bank, 100) {
         Ok((machine, mut callers)) => is_row_of_all(
@@ -333,7 +335,6 @@ fn machine_1(rt: HostRuntime) -> Result<(), Fail> {
         Err(_) => false,
     };
     assert!(rt; told);
-    Ok(())
 }
 
 // Row machine_3: each of two host threads gets the semaphore that the other one puts.
@@ -390,19 +391,33 @@ fn leaves_a_wait<R: Wait>(
     told && matches!(shown, Some(Shown { finished: true, .. }))
 }
 
+#[derive(Drop)]
+struct LeftWait<'a, R: Wait> {
+    rt: &'a R,
+}
+
+impl<'a, R: Wait> Row for LeftWait<'a, R> {
+    fn is_told(self, machine: &Machine, callers: &mut Vec<Caller>, passes: &mut Passes) -> bool {
+        leaves_a_wait(self.rt, machine, callers, passes)
+    }
+}
+
 #[test]
 fn full_history_leaves_a_wait(rt: HostRuntime) {
-    let alloc = rt.alloc();
-    let told = match made(alloc, board_of_two_sems(), Vec::new(alloc), 3) {
-        Ok((machine, mut callers)) => leaves_a_wait(
-            &rt,
-            &machine,
-            &mut callers,
-            &mut Passes::new(alloc),
-        ),
-        Err(_) => false,
-    };
-    assert!(rt; told);
+    assert!(rt; is_told(rt.alloc(), board_of_two_sems(), 3, LeftWait { rt: &rt }));
+}
+
+// Steps that may wait.
+#[derive(Drop)]
+struct WaitSteps<'a, R: Wait> {
+    rt: &'a R,
+    steps: &'a [Step],
+}
+
+impl<'a, R: Wait> Row for WaitSteps<'a, R> {
+    fn is_told(self, machine: &Machine, callers: &mut Vec<Caller>, passes: &mut Passes) -> bool {
+        wait_answers(self.rt, machine, callers, passes, self.steps)
+    }
 }
 
 // A stax that isn't there, and one that the caller holds.
@@ -413,16 +428,9 @@ fn no_stax_is_waited_for(rt: HostRuntime) {
         (0, Waits::Enter(StaxId(0)), Told::Passed),
         (0, Waits::Enter(StaxId(0)), Told::Refused(Refusal::Busy)),
     ];
-    let alloc = rt.alloc();
-    let told = match made(alloc, board_of_all(), Vec::new(alloc), 100) {
-        Ok((machine, mut callers)) => wait_answers(
-            &rt,
-            &machine,
-            &mut callers,
-            &mut Passes::new(alloc),
-            &steps,
-        ),
-        Err(_) => false,
+    let row = WaitSteps {
+        rt: &rt,
+        steps: &steps,
     };
-    assert!(rt; told);
+    assert!(rt; is_told(rt.alloc(), board_of_all(), 100, row));
 }
