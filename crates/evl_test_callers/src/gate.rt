@@ -2,6 +2,7 @@
 ghost use Rattle.std.specs.Prelude.{◌≡◌, ◌<◌, All, vec_len, IfOk};
 ghost use Rattle.evl_words.specs.GateCalls.{IsSeatOf, IsSameSeat};
 
+use crate::short::{Making, is_made_where_it_fits};
 use evl_base::{Refusal, Stage, StaxId};
 use evl_words::{Left, StaxGate, StaxPass, StaxSeat};
 use linked_list_allocator::LocalHeap;
@@ -311,36 +312,16 @@ fn limits_and_seats_have_a_range(rt: HostRuntime) {
     }
 }
 
-// Whether a gate is made within this heap; none where it is refused for another reason than memory.
-fn made_within(heap: &LocalHeap) -> Option<bool> {
-    match StaxGate::new(heap, StaxId(0), 2, 3) {
-        Ok(_) => Some(true),
-        Err(Refusal::NoMemory) => Some(false),
-        Err(_) => None,
-    }
-}
+struct Gate;
 
-// The same within a heap of this size, to which all that was taken goes back; none where it doesn't.
-fn made_in(alloc: Global, size: usize) -> Option<bool> {
-    match LocalHeap::new(alloc, size) {
-        Ok(heap) => {
-            let made = made_within(&heap);
-            if heap.used() == 0 { made } else { None }
-        }
-        Err(_) => None,
+impl Making for Gate {
+    fn refusal(heap: &LocalHeap, _boxes: Global) -> Option<Refusal> {
+        StaxGate::new(heap, StaxId(0), 2, 3).err()
     }
 }
 
 // A heap of growing size refuses each growth in turn. What was taken before a refusal goes back.
 #[test]
 fn short_memory_is_refused_and_given_back(rt: HostRuntime) {
-    let mut refused = false;
-    let mut made = false;
-    for size in 0usize..128 {
-        let done = made_in(rt.alloc(), size * 16);
-        assert!(rt; done.is_some());
-        made = made || done == Some(true);
-        refused = refused || done == Some(false);
-    }
-    assert!(rt; refused && made);
+    assert!(rt; is_made_where_it_fits::<Gate>(rt.alloc()));
 }

@@ -9,3 +9,5 @@ mod machine;
 mod moving;
 #[cfg(test)]
 mod mutex;
+#[cfg(test)]
+mod short;
