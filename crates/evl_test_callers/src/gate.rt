@@ -186,6 +186,25 @@ fn word_after(alloc: Global, limit: u16, seats: u16, times: u16, steps: &[Step])
     }
 }
 
+// The word at which a gate that both of its seats have entered closes, where only the first ones of them are handed in.
+fn word_with(alloc: Global, handed: usize) -> Option<u64> {
+    let steps = [
+        (0, Act::Enter(Stage::Inband), Told::Entered),
+        (1, Act::Enter(Stage::Inband), Told::Entered),
+    ];
+    match made(alloc, 2, 2) {
+        Ok((gate, mut seats)) => {
+            if all_answer(&gate, &mut seats, 1, &steps) {
+                seats.truncate(handed);
+                Some(gate.close(seats))
+            } else {
+                None
+            }
+        }
+        Err(_) => None,
+    }
+}
+
 // Whether a gate of limit 2 with two seats stands at the word that is wanted after so many of the steps, each time from the
 // beginning.
 fn words_are(alloc: Global, steps: &[Step], wanted: &[(usize, u64)]) -> bool {
@@ -295,6 +314,13 @@ fn stages_take_turns_on_a_quiet_gate(rt: HostRuntime) {
         (1, Act::Leave(1), last),
     ];
     assert!(rt; word_after(rt.alloc(), 3, 2, 500, &steps).is_some());
+}
+
+#[test]
+fn a_gate_closes_as_it_stands_whoever_is_handed_in(rt: HostRuntime) {
+    for handed in [0, 1, 2] {
+        assert!(rt; word_with(rt.alloc(), handed) == Some(2));
+    }
 }
 
 #[test]

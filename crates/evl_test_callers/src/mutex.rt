@@ -2,6 +2,7 @@
 ghost use Rattle.std.specs.Prelude.{◌≡◌, ◌<◌, true, All, IfOk, IfSome, length};
 ghost use Rattle.evl_words.specs.MutexCalls.{IsPassOf, IsSeatOf, IsSameSeat};
 
+mod closing;
 mod making;
 
 use evl_base::{MutexId, Refusal, ThreadId};
