@@ -1,5 +1,5 @@
 //! Host threads that work at once on what they share.
-ghost use Rattle.std.specs.Prelude.{◌≡◌, All, IfOk};
+ghost use Rattle.std.specs.Prelude.{◌≡◌, All, IfOk, length};
 ghost use Rattle.evl_kernel.specs.Callbacks.{AnswersAsTold};
 
 use crate::hand::Hand;
@@ -40,7 +40,8 @@ pub fn all_work<M: Sync, W: Worker<M> + Send, R: Threads + Wait + Sync>(
     workers: Vec<W>,
 ) -> Result<Vec<W>, AllocError>
     requires { All (λ w. W.fits w shared.now) workers.items }
-    ensures { IfOk result (λ back. All (λ w. W.fits w shared.now) back.items) }
+    ensures fits { IfOk result (λ back. All (λ w. W.fits w shared.now) back.items) }
+    ensures all { IfOk result (λ back. length back.items ≡ length workers.items) }
 {
     let work = |worker: W| -> W
         requires { W.fits worker shared.now }

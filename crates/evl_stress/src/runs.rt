@@ -57,7 +57,8 @@ fn hands_of<C: Handler, A: Allocator>(
     callers: Vec<CallerOf<C, A>>,
 ) -> Result<Vec<Hand<C, A>>, AllocError>
     requires { All (λ c. c.machine ≡ machine.now) callers.items }
-    ensures { IfOk result (λ hands. All (λ h. h.caller.machine ≡ machine.now) hands.items) }
+    ensures machine { IfOk result (λ hands. All (λ h. h.caller.machine ≡ machine.now) hands.items) }
+    ensures all { IfOk result (λ hands. length hands.items ≡ length callers.items) }
 {
     let mut hands = Vec::with_capacity(alloc, callers.len())?;
     let mut place = 0u16;
@@ -83,7 +84,8 @@ fn callers_of<C: Handler, A: Allocator>(
     hands: Vec<Hand<C, A>>,
 ) -> Result<Vec<CallerOf<C, A>>, AllocError>
     requires { All (λ h. h.caller.machine ≡ machine.now) hands.items }
-    ensures { IfOk result (λ callers. All (λ c. c.machine ≡ machine.now) callers.items) }
+    ensures machine { IfOk result (λ callers. All (λ c. c.machine ≡ machine.now) callers.items) }
+    ensures all { IfOk result (λ callers. length callers.items ≡ length hands.items) }
 {
     let mut callers = Vec::with_capacity(alloc, hands.len())?;
     for hand in hands {
@@ -107,7 +109,8 @@ fn all_call<C: Handler + Send, R: Threads + Wait + Sync>(
     requires machine { All (λ c. c.machine ≡ machine.now) callers.items }
     requires answering { AnswersAsTold C.declared C.plan machine.now.first.callbacks }
     requires shared { IsSync R.row }
-    ensures { IfOk result (λ back. All (λ c. c.machine ≡ machine.now) back.items) }
+    ensures machine { IfOk result (λ back. All (λ c. c.machine ≡ machine.now) back.items) }
+    ensures all { IfOk result (λ back. length back.items ≡ length callers.items) }
 {
     let watch = Watch::new(u32::from(order.threads));
     let hands = hands_of(alloc, order, machine, callers)?;
