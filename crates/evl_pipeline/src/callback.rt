@@ -24,13 +24,14 @@ pub struct Callback {
 impl Callback {
     /// A callback that answers `plan` by `run`, and declares `kinds`. Its maker has shown that every period of the plan
     /// is 1 or more and every action of a declared kind, and that `run` may be called on every fire whose count is 1 or
-    /// more and answers as the plan says.
+    /// more and answers as the plan says. It keeps just that `run`.
     pub fn new(kinds: ActionKinds, plan: &Plan, run: Box<dyn Fn(Fire) -> Answer + Send>) -> Callback
         requires sound { IsSound kinds.0 plan.now }
         requires callable { (fire : Fire) → IsFire fire → pre run fire }
         requires answers { (fire : Fire) (answer : Answer) → IsFire fire → post run fire answer → answer ≡ answer_of plan.now fire.count }
         ensures kinds { result.kinds ≡ kinds }
         ensures plan { result.plan.value ≡ plan.now }
+        ensures run { result.run ≡ run }
     {
         Callback {
             kinds,
