@@ -16,7 +16,7 @@ fn play_words(rt: &HostRuntime) -> io::Result<u8> {
     let texts: Vec<&str> = words.iter().map(|word| word.as_str()).collect(rt.alloc())?;
     let mut input = rt.stdin();
     let mut out = Over::new(rt.stdout());
-    let mut err = rt.stderr();
+    let mut err = Over::new(rt.stderr());
     Ok(play_program(
         rt,
         rt.alloc(),

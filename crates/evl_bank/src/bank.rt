@@ -3,7 +3,7 @@ ghost use Rattle.std.specs.Prelude.{◌≡◌, ◌≤◌, ℕ, List, [], ◌∷�
 ghost use Rattle.evl_kernel.specs.Limits.{callback_limit};
 ghost use Rattle.evl_shell.specs.Words.{file_of};
 ghost use Rattle.evl_pipeline.specs.Plans.{answer_of};
-ghost use Rattle.evl_shell.specs.Plays.{Plays};
+ghost use Rattle.evl_shell.specs.Plays.{Plays, ReadsFew};
 ghost use Rattle.evl_shell.specs.Programs.{Answers};
 ghost use Rattle.evl_bank.specs.Bank.{plan_of, plan_of_none, program_bank};
 ghost use Rattle.evl_kernel.specs.States.{Handler};
@@ -14,9 +14,9 @@ use arrayvec::ArrayVec;
 use bitflags::Flags;
 use evl_base::{ActionKinds, FlagId, LineNo, SemId, TimerId};
 use evl_pipeline::{Action, Answer, Callback, Fire, Plan};
-use evl_shell::{Fault, Sink, Stop, play, stopped};
+use evl_shell::{Fault, Sink, Stop, conclude, play_into};
 use std::alloc::{AllocError, Global};
-use std::io::{Read, Write};
+use std::io::Read;
 use std::rt::Files;
 use std::sync::Wait;
 use std::thread::Threads;
@@ -140,41 +140,45 @@ macro_rules! callbacks {
 }
 
 // Does what the words ask for over the program's bank, where there is memory for the bank.
-fn play_over_bank<F: Files, R: Read, S: Sink, E: Write>(
+fn play_over_bank<F: Files, R: Read, S: Sink, T: Sink>(
     rt: &F,
     alloc: Global,
     words: &[&str],
     input: &mut R,
     out: &mut S,
-    err: &mut E,
+    err: &mut T,
 ) -> Result<u8, AllocError>
-    requires { S.has_failed out.old ≡ false }
-    ensures answers { IfOk result (λ status. Answers (map (λ s. s.now) words.now) program_bank (R.remaining input.old) (S.told out.old) (S.told out.new) (S.has_failed out.new) (E.contents err.old) (E.contents err.new) status) }
+    requires working { S.has_failed out.old ≡ false }
+    requires speaking { T.has_failed err.old ≡ false }
+    ensures answers { IfOk result (λ status. Answers (map (λ s. s.now) words.now) program_bank (R.remaining input.old) (S.told out.old) (S.told out.new) (S.has_failed out.new) (T.told err.old) (T.told err.new) (T.has_failed err.new) status) }
     ensures untouched { is_some (file_of (map (λ s. s.now) words.now)) ≡ true → input.new ≡ input.old }
+    ensures few { ReadsFew (R.remaining input.old) (R.remaining input.new) }
     ensures out { OnErr result (out.new ≡ out.old) }
     ensures err { OnErr result (err.new ≡ err.old) }
 {
     let bank = callbacks!(alloc);
-    Ok(play(rt, alloc, words, bank, input, out, err))
+    Ok(play_into(rt, alloc, words, bank, input, out, err))
 }
 
-/// Does what the words ask for as `play` does, over the program's bank (this profile).
-pub fn play_program<F: Files, R: Read, S: Sink, E: Write>(
+/// Does what the words ask for as `play_into` does, over the program's bank (this profile).
+pub fn play_program<F: Files, R: Read, S: Sink, T: Sink>(
     rt: &F,
     alloc: Global,
     words: &[&str],
     input: &mut R,
     out: &mut S,
-    err: &mut E,
+    err: &mut T,
 ) -> u8
-    requires { S.has_failed out.old ≡ false }
-    ensures answers { Answers (map (λ s. s.now) words.now) program_bank (R.remaining input.old) (S.told out.old) (S.told out.new) (S.has_failed out.new) (E.contents err.old) (E.contents err.new) result }
+    requires working { S.has_failed out.old ≡ false }
+    requires speaking { T.has_failed err.old ≡ false }
+    ensures answers { Answers (map (λ s. s.now) words.now) program_bank (R.remaining input.old) (S.told out.old) (S.told out.new) (S.has_failed out.new) (T.told err.old) (T.told err.new) (T.has_failed err.new) result }
     ensures untouched { is_some (file_of (map (λ s. s.now) words.now)) ≡ true → input.new ≡ input.old }
-    ensures plain { length words.now ≤ 1 → Plays program_bank None (R.remaining input.old) (S.told out.old) (S.told out.new) (S.has_failed out.new) (E.contents err.old) (E.contents err.new) result }
+    ensures few { ReadsFew (R.remaining input.old) (R.remaining input.new) }
+    ensures plain { length words.now ≤ 1 → Plays program_bank None (R.remaining input.old) (S.told out.old) (S.told out.new) (S.has_failed out.new) (T.told err.old) (T.told err.new) (T.has_failed err.new) result }
 {
     match play_over_bank(rt, alloc, words, input, out, err) {
         Ok(status) => status,
-        Err(_) => stopped(err, Stop::Broken(Fault::Memory)),
+        Err(_) => conclude(err, Stop::Broken(Fault::Memory)),
     }
 }
 

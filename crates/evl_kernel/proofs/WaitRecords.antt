@@ -50,7 +50,7 @@ use Rattle.evl_kernel.proofs.RankLaws.{attached_of}
 use Rattle.evl_clock.specs.Clocks.{with_deadline}
 use Rattle.evl_kernel.specs.TimerCalls.{posted_if}
 
-same_number : (m n : ℕ) → (m == n) ≡ true → m ≡ n
+pub same_number : (m n : ℕ) → (m == n) ≡ true → m ≡ n
 same_number m n e = grind (arith, nat_tests)
 
 pub is_number : (m n : ℕ) → m ≡ n → (m == n) ≡ true

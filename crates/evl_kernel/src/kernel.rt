@@ -1,23 +1,26 @@
 //! The kernel and its history.
 ghost use Rattle.std.specs.Prelude.{◌≡◌, ◌⊎◌, ◌↔◌, ◌+◌, ◌≤◌, ◌<◌, length, true, false, None, option_map, IsTrue, IsFalse, OnOk, IfOk, IfErr};
+ghost use Rattle.std.specs.Option.{option_map_or};
 ghost use Rattle.evl_pipeline.specs.Counts.{count_at};
 ghost use Rattle.evl_pipeline.specs.Limits.{line_count};
 ghost use Rattle.evl_pipeline.specs.Lines as lines;
 ghost use Rattle.evl_clock.specs.Clocks.{timer_at};
 ghost use Rattle.evl_clock.specs.Limits.{timer_count};
+ghost use Rattle.evl_mutex.specs.Owners.{owner_at};
 ghost use Rattle.evl_sched.specs.Threads.{stage_of};
 ghost use Rattle.evl_kernel.specs.Callbacks.{AnswersAsTold, BringsNone, told};
 ghost use Rattle.evl_kernel.specs.Fires.{AddsByCalls};
 ghost use Rattle.evl_kernel.specs.Limits.{history_limit};
 ghost use Rattle.evl_kernel.specs.Openings.{can_open};
 ghost use Rattle.evl_kernel.specs.Histories.{IsLegal};
+ghost use Rattle.evl_kernel.specs.MutexEffects.{record_at};
 ghost use Rattle.evl_kernel.specs.Waits.{has_ended, has_timed_out, is_waiting};
 ghost use Rattle.evl_kernel.specs.Places.{AreInOnePlace};
 ghost use Rattle.evl_kernel.specs.KernelViews.{AddsEntry, IsOpened, IsKernelAnswer, makes_entry};
 
 use crate::records::Records;
 use evl_base::{
-    Board, Call, Entry, LineNo, Play, Refusal, Reply, Spares, Stage, ThreadId, TimerId,
+    Board, Call, Entry, LineNo, MutexId, Play, Refusal, Reply, Spares, Stage, ThreadId, TimerId,
 };
 use evl_clock::TimerState;
 use evl_pipeline::{Callback, Handler};
@@ -306,6 +309,25 @@ impl<C, A: Allocator> KernelOf<C, A> {
         ensures legal { IsLegal self.now.history }
     {
         self.records.timed_out(thread)
+    }
+
+    /// Who is recorded as the owner of a mutex, if anybody is: while somebody waits for it, and at a ceiling also while
+    /// nobody does; nobody where there is no such mutex (Xenomai 4: EVL mutex; this profile).
+    pub fn owner(&self, mutex: MutexId) -> Option<ThreadId>
+        ensures owner { option_map (λ thread. thread.0) result ≡ owner_at (record_at self.now.history.state mutex.0) }
+        ensures outside { length self.now.history.board.mutexes.items ≤ mutex.0 → result ≡ None }
+        ensures legal { IsLegal self.now.history }
+    {
+        self.records.owner(mutex)
+    }
+
+    /// How many threads wait for a mutex; none where there is no such mutex (Xenomai 4: EVL mutex).
+    pub fn waiters(&self, mutex: MutexId) -> usize
+        ensures waiters { result ≡ option_map_or (λ m. length m.waiters) (record_at self.now.history.state mutex.0) 0 }
+        ensures outside { length self.now.history.board.mutexes.items ≤ mutex.0 → result ≡ 0 }
+        ensures legal { IsLegal self.now.history }
+    {
+        self.records.waiters(mutex)
     }
 }
 

@@ -1,5 +1,6 @@
 //! The kernel's records: what its calls read and change, apart from its history.
-ghost use Rattle.std.specs.Prelude.{◌≡◌, ◌≤◌, ℕ, None, true, false, IfOk, IfErr, option_map, replicate};
+ghost use Rattle.std.specs.Prelude.{◌≡◌, ◌≤◌, ℕ, None, true, false, length, IfOk, IfErr, option_map, replicate};
+ghost use Rattle.std.specs.Option.{option_map_or};
 ghost use Rattle.evl_base.specs.Board.{board_fits};
 ghost use Rattle.evl_pipeline.specs.Counts.{count_at};
 ghost use Rattle.evl_pipeline.specs.Limits.{line_count};
@@ -9,10 +10,12 @@ ghost use Rattle.evl_clock.specs.Clocks as clocks;
 ghost use Rattle.evl_clock.specs.Clocks.{timer_at};
 ghost use Rattle.evl_clock.specs.Limits.{timer_count};
 ghost use Rattle.evl_sched.specs.Threads.{stage_of};
+ghost use Rattle.evl_mutex.specs.Owners.{owner_at};
 ghost use Rattle.evl_kernel.specs.Callbacks.{AreFilled};
 ghost use Rattle.evl_base.specs.Limits.{thread_limit};
 ghost use Rattle.evl_kernel.specs.Openings.{all_opened};
 ghost use Rattle.evl_kernel.specs.Records.{IsOpened, state_of};
+ghost use Rattle.evl_kernel.specs.MutexEffects.{record_at};
 ghost use Rattle.evl_kernel.specs.Waits.{has_ended, has_timed_out, is_waiting};
 
 mod elements;
@@ -28,7 +31,7 @@ use crate::bank::{BankPlace, Numbered};
 use crate::elements::Elements;
 use crate::wait_place::WaitPlace;
 use crate::waits::Wait;
-use evl_base::{Board, LineNo, Refusal, Reply, Stage, ThreadId, TimerId};
+use evl_base::{Board, LineNo, MutexId, Refusal, Reply, Stage, ThreadId, TimerId};
 use evl_clock::{ClockOf, TimerState};
 use evl_pipeline::{Handler, PipelineOf};
 use evl_sched::SchedOf;
@@ -256,5 +259,19 @@ impl<C, A: Allocator> Records<C, A> {
             },
             None => false,
         }
+    }
+
+    /// Who is recorded as the owner of a mutex, if anybody is.
+    pub(crate) fn owner(&self, mutex: MutexId) -> Option<ThreadId>
+        ensures owner { option_map (λ thread. thread.0) result ≡ owner_at (record_at (state_of self.now) mutex.0) }
+    {
+        self.elements.owner(mutex)
+    }
+
+    /// How many threads wait for a mutex.
+    pub(crate) fn waiters(&self, mutex: MutexId) -> usize
+        ensures waiters { result ≡ option_map_or (λ m. length m.waiters) (record_at (state_of self.now) mutex.0) 0 }
+    {
+        self.elements.waiters(mutex)
     }
 }

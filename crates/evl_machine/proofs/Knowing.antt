@@ -74,8 +74,8 @@ module _ {C : Type 0} where
       takes_thread past_of room_of ComesFrom no_tie first (mutex_count first) slots id o.number o.thread me o.me_is (λ y cores l at i word t. tt) st
 
   -- what a thread knows of the core is what its account tells, what it has taken, and the kernel as it was made
-  part_is : (k : ℕ) (c : CorePart (KernelView C)) (taken : Option History) (a : Account) (first : KernelView C) → c.taken ≡ taken → account_at k c ≡ a → c.first ≡ first → c ≡ core_part taken a.seen a.mine a.found first
-  part_is k c taken a first t s f = λ i. core_part (t i) (s i).seen (s i).mine (s i).found (f i)
+  part_is : (k : ℕ) (c : CorePart (KernelView C)) (taken : Option History) (a : Account) (first : KernelView C) → c.taken ≡ taken → account_at k c ≡ a → c.first ≡ first → c ≡ core_part taken a.seen a.mine a.found first c.note
+  part_is k c taken a first t s f = λ i. core_part (t i) (s i).seen (s i).mine (s i).found (f i) c.note
 
   event_as : (k k' : ℕ) (c c' : CorePart (KernelView C)) (kind : CoreKind (KernelView C)) (found found' : ℕ) (d d' : CorePart (KernelView C)) → k ≡ k' → c ≡ c' → found ≡ found' → d ≡ d' → KernelEvent k c kind found d → KernelEvent k' c' kind found' d'
   event_as k k' c c' kind found found' d d' e f g h event = subst (λ (z : (ℕ × CorePart (KernelView C)) × (ℕ × CorePart (KernelView C))). KernelEvent z.0.0 z.0.1 kind z.1.0 z.1.1) (λ i. ((e i, f i), (g i, h i))) event
@@ -98,7 +98,7 @@ module _ {C : Type 0} where
       (λ (e : found ≡ 0). ap (λ (x : CorePart (KernelView C) × Slots C). x.0.first) (t.2.0.0 e).1)
       (λ (ne : found ≢ 0). ap (λ (x : CorePart (KernelView C) × Slots C). x.0.first) (t.2.0.1 ne)) in
       let number : k ≡ a.thread = ap (λ (x : Account). x.thread) o.account_is in
-      let from : v.core ≡ at_rest (first_of me.0) a = part_is k v.core None a (first_of me.0) o.taken_is o.account_is (sym before) in
+      let from : v.core ≡ at_rest (first_of me.0) a v.core.note = part_is k v.core None a (first_of me.0) o.taken_is o.account_is (sym before) in
       let account : account_at k t.0.core ≡ account_of (seen me') = sym (ap account_of now) in (
         (λ e.
             let q = t.2.0.0 e in (
@@ -113,14 +113,19 @@ module _ {C : Type 0} where
         after ∙ (stays ∙ sym before),
         (λ e.
             let q = t.2.0.0 e in
-            let taken : t.0.core.taken ≡ Some (account_of (seen me')).seen = ap (λ (x : CorePart (KernelView C) × Slots C). x.0.taken) q.1 ∙ ap (λ (h : History). Some h) (sym (ap (λ (x : CorePart (KernelView C) × Slots C). x.0.seen) q.1) ∙ ap (λ (x : Account). x.seen) account) in
-            event_as k a.thread v.core (at_rest (first_of me.0) a) takes found 0 t.0.core (in_hand (first_of me.0) (account_of (seen me'))) number from e
-            (part_is k t.0.core (Some (account_of (seen me')).seen) (account_of (seen me')) (first_of me.0) taken account (stays ∙ sym before)) t.2.0.2),
+            let taken : t.0.core.taken ≡ Some (account_of (seen me')).seen = ap (λ (x : CorePart (KernelView C) × Slots C). x.0.taken) q.1 ∙ ap (λ (h : History). Some h) (sym (ap (λ (x : CorePart (KernelView C) × Slots C). x.0.seen) q.1) ∙ ap (λ (x : Account). x.seen) account) in (
+              v.core.note,
+              t.0.core.note,
+              event_as k a.thread v.core (at_rest (first_of me.0) a v.core.note) takes found 0 t.0.core (in_hand (first_of me.0) (account_of (seen me')) t.0.core.note) number from e
+                  (part_is k t.0.core (Some (account_of (seen me')).seen) (account_of (seen me')) (first_of me.0) taken account (stays ∙ sym before)) t.2.0.2,
+            )),
         (λ ne.
             let taken : t.0.core.taken ≡ None = ap (λ (x : CorePart (KernelView C) × Slots C). x.0.taken) (t.2.0.1 ne) ∙ o.taken_is in (
               found,
               ne,
-              event_as k a.thread v.core (at_rest (first_of me.0) a) takes found found t.0.core (at_rest (first_of me.0) (account_of (seen me'))) number from refl
+              v.core.note,
+              t.0.core.note,
+              event_as k a.thread v.core (at_rest (first_of me.0) a v.core.note) takes found found t.0.core (at_rest (first_of me.0) (account_of (seen me')) t.0.core.note) number from refl
                   (part_is k t.0.core None (account_of (seen me')) (first_of me.0) taken account (stays ∙ sym before)) t.2.0.2,
             )),
       )
@@ -157,7 +162,9 @@ module _ {C : Type 0} where
         ap first_of t.1 ∙ stays,
         (
           gave.1,
-          event_as o.number a.thread o.thread.core (in_hand (first_of me.0) a) (gives k) gave.1 gave.1 t.0.core (at_rest (first_of me.0) (account_of (seen me'))) (ap (λ (x : Account). x.thread) o.account_is)
+          o.thread.core.note,
+          t.0.core.note,
+          event_as o.number a.thread o.thread.core (in_hand (first_of me.0) a o.thread.core.note) (gives k) gave.1 gave.1 t.0.core (at_rest (first_of me.0) (account_of (seen me')) t.0.core.note) (ap (λ (x : Account). x.thread) o.account_is)
               (part_is o.number o.thread.core (Some a.seen) a (first_of me.0) o.taken_is o.account_is (sym before)) refl
               (part_is o.number t.0.core None (account_of (seen me')) (first_of me.0) (ap (λ (x : CorePart (KernelView C) × Slots C). x.0.taken) gave.0) (sym (ap account_of now)) stays) gave.2,
         ),

@@ -1,13 +1,15 @@
 -- A new table keeps its rule, and its threads are dealt out to tokens of their own, one after another.
-use Rattle.std.proofs.Common.{◌≡◌, ℕ, ◌+◌, ◌-◌, ◌<◌, List, [], ◌∷◌, Option, Some, refl, sym, ap, ◌∙◌, subst, arith}
+use Rattle.std.proofs.Common.{◌≡◌, ℕ, ◌+◌, ◌-◌, ◌<◌, true, List, [], ◌∷◌, Option, Some, refl, sym, ap, ◌∙◌, subst, arith}
 use Rattle.std.specs.Prelude.{replicate}
 use Rattle.atomic_table.specs.Table.{opening, Splits}
+use Rattle.evl_base.specs.Board.{board_fits}
 use Rattle.evl_base.specs.declared.board.Board.{Board}
 use Rattle.evl_base.specs.declared.numbers.ThreadId.{ThreadId}
 use Rattle.evl_base.specs.declared.entry.Entry.{Entry}
 use Rattle.evl_pipeline.specs.declared.plan.Plan.{Plan}
 use Rattle.evl_kernel.specs.Histories.{History, Run, IsLegal, opened}
 use Rattle.evl_kernel.specs.KernelViews.{KernelView, IsOpened}
+use Rattle.evl_kernel.proofs.OpeningLaws.{threads_few}
 use Rattle.evl_words.specs.Hands.{place, hand_from, rest_of, first_of as first_place}
 use Rattle.evl_words.specs.MutexWorld.{MutexView}
 use Rattle.evl_words.proofs.Dealing.{hand_step}
@@ -29,12 +31,13 @@ module _ {C : Type 0} where
   pub comes_itself : (k : KernelView C) → ComesFrom k k
   comes_itself k = record { board = refl; bank = refl; brings = λ number callback stands. stands; told_is = refl; limit = refl }
 
-  pub opens_known : (k : KernelView C) → IsLegal k.history → k.history.entries ≡ [] → KeptKnown k (opening (0 ∷ []) (Some k ∷ []) (first_known k))
-  opens_known k legal none_yet = opens_thread past_of room_of ComesFrom no_tie k (mutex_count k) k (threads_of k.history) refl (λ i lt. absurd (omega arith)) legal none_yet (comes_itself k) (λ i lt. tt) (0 ∷ []) refl
+  pub opens_known : (k : KernelView C) (words : List ℕ) → words ≡ replicate (1 + mutex_count k) 0 → board_fits k.history.board ≡ true → IsLegal k.history → k.history.entries ≡ [] → KeptKnown k (opening words (Some k ∷ []) (first_known k))
+  opens_known k words are fits legal none_yet = opens_thread past_of room_of ComesFrom no_tie k (mutex_count k) k (threads_of k.history) refl (λ i lt. threads_few k.history.board fits) legal none_yet (comes_itself k) (λ i lt. tt) words are
 
-  pub opens_as : (k key : KernelView C) (items : List (Option (KernelView C))) → key ≡ k → items ≡ Some k ∷ [] → IsLegal k.history → k.history.entries ≡ [] → KeptKnown key (opening (0 ∷ []) items (first_known key))
-  opens_as k key items same one legal none_yet =
-      subst (λ (x : KernelView C × List (Option (KernelView C))). KeptKnown x.0 (opening (0 ∷ []) x.1 (first_known x.0))) (λ i. (sym same i, sym one i)) (opens_known k legal none_yet)
+  pub opens_as : (k key : KernelView C) (words : List ℕ) (items : List (Option (KernelView C))) → key ≡ k → words ≡ replicate (1 + mutex_count k) 0 → items ≡ Some k ∷ [] → board_fits k.history.board ≡ true → IsLegal k.history → k.history.entries ≡ []
+      → KeptKnown key (opening words items (first_known key))
+  opens_as k key words items same are one fits legal none_yet =
+      subst (λ (x : KernelView C × List (Option (KernelView C))). KeptKnown x.0 (opening words x.1 (first_known x.0))) (λ i. (sym same i, sym one i)) (opens_known k words are fits legal none_yet)
 
   pub splits_known : (first : KernelView C) (id : ℕ) (hand : CoreHand C) → Splits (KeptKnown first) id hand (first_place hand) (rest_of hand)
   splits_known first id hand = splits_thread past_of room_of ComesFrom no_tie first (mutex_count first) id hand

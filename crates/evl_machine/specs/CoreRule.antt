@@ -7,10 +7,11 @@ use Rattle.evl_base.specs.declared.entry.Entry.{Entry}
 use Rattle.evl_kernel.specs.Histories.{History, IsLegal}
 use Rattle.evl_machine.specs.declared.views.Account.{Account}
 use Rattle.evl_machine.specs.declared.views.CorePart.{CorePart}
+use Rattle.evl_machine.specs.declared.views.Noted.{Noted}
 use Rattle.evl_machine.specs.Accounts.{GoesOn, HasNoStranger, MadeBy, Fits, account, calls_by, threads_of}
 
-abbrev pub core_part : {B : Type 0} → Option History → History → List Entry → List ℕ → B → CorePart B
-core_part taken seen mine found first = record { taken = taken; seen = seen; mine = mine; found = found; first = first }
+abbrev pub core_part : {B : Type 0} → Option History → History → List Entry → List ℕ → B → Option Noted → CorePart B
+core_part taken seen mine found first note = record { taken = taken; seen = seen; mine = mine; found = found; first = first; note = note }
 
 -- what the thread k knows of the calls
 abbrev pub account_at : {B : Type 0} → ℕ → CorePart B → Account
@@ -18,14 +19,14 @@ account_at k c = account k c.seen c.mine c.found
 
 -- a thread that has made no call
 abbrev pub newcomer_part : {B : Type 0} → History → B → CorePart B
-newcomer_part h first = core_part None h [] [] first
+newcomer_part h first = core_part None h [] [] first None
 
 -- what is known once a kernel with this history and this room was taken, and once the thread k gave one back
 abbrev pub after_take : {B : Type 0} → History → ℕ → CorePart B → CorePart B
-after_take h room c = record c { taken = Some h; seen = h; found = c.found ++ room ∷ [] }
+after_take h room c = record c { taken = Some h; seen = h; found = c.found ++ room ∷ []; note = None }
 
 abbrev pub after_give : {B : Type 0} → History → ℕ → CorePart B → CorePart B
-after_give h k c = record c { taken = None; seen = h; mine = calls_by k h.entries }
+after_give h k c = record c { taken = None; seen = h; mine = calls_by k h.entries; note = None }
 
 -- the history that the thread k gives back goes on from the one that it took, by its own calls
 pub record MayGive {B : Type 0} (k : ℕ) (c : CorePart B) (history : History) : Type 0 where

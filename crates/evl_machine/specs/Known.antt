@@ -1,5 +1,5 @@
 -- The rule of the machine's table, and what is read of its tokens.
-use Rattle.std.specs.Prelude.{◌≡◌, ℕ, List, [], ◌∷◌, Option, None}
+use Rattle.std.specs.Prelude.{◌≡◌, ℕ, List, [], ◌∷◌, length, Option, None}
 use Rattle.atomic_table.specs.Table.{State, Me, Step}
 use Rattle.evl_kernel.specs.Histories.{History}
 use Rattle.evl_kernel.specs.KernelViews.{KernelView}
@@ -57,9 +57,9 @@ module _ {C : Type 0} where
   abbrev pub seen : KernelMe C → CoreMe (KernelView C)
   seen m = (view (taken_in m.0) (accounts_in m.0), m.1)
 
-  -- no mutex word stands in the table yet
+  -- a word for each mutex stands in the table behind the lock's
   abbrev pub mutex_count : KernelView C → ℕ
-  mutex_count first = 0
+  mutex_count first = length first.history.board.mutexes.items
 
   abbrev pub no_tie : Tie (KernelView C) (KernelView C)
   no_tie i n homes cores word = Unit {0}

@@ -4,10 +4,10 @@ ghost use Rattle.std.specs.Prelude.{◌≡◌, ◌≢◌, ◌⊎◌, ◌↔◌, 
 ghost use Rattle.evl_kernel.specs.Callbacks.{AnswersAsTold};
 ghost use Rattle.evl_kernel.specs.KernelViews.{IsOpened};
 ghost use Rattle.evl_kernel.specs.Openings.{can_open};
-ghost use Rattle.evl_machine.specs.Handles.{Belongs, IsSameCaller, newcomers_of, returned};
+ghost use Rattle.evl_machine.specs.Handles.{Belongs, newcomers_of, returned};
 ghost use Rattle.evl_machine.specs.Homes.{AreHomes};
 ghost use Rattle.evl_machine.specs.Events.{FailsToTake, Gives, Takes};
-ghost use Rattle.evl_machine.specs.Calls.{Called, CalledHeld, HoldsAtItsStage, TookKernel};
+ghost use Rattle.evl_machine.specs.Calls.{CalledHeld, HoldsAtItsStage, TookKernel};
 ghost use Rattle.evl_machine.specs.Closings.{Closes, KeepsOpen};
 
 use crate::caller::CallerOf;
@@ -17,6 +17,7 @@ use evl_base::{Board, Call, Refusal, Reply};
 use evl_kernel::Kernel;
 use evl_pipeline::Callback;
 use std::alloc::Global;
+use std::ops::Deref;
 
 /// A caller of a machine of stored callbacks.
 pub type Caller = CallerOf<Callback, Global>;
@@ -25,7 +26,8 @@ type MachineCore = MachineOf<Callback, Global>;
 
 type HeldCore<'a> = HeldOf<'a, Callback, Global>;
 
-/// The kernel of stored callbacks behind the core's lock, shared by callers on host threads (this profile).
+/// The kernel of stored callbacks behind the core's lock, shared by callers on host threads (this profile). All calls of
+/// `MachineOf` are its calls: it lends its machine, with the fact that they ask for.
 #[derive(Drop)]
 pub struct Machine {
     pub of: MachineCore,
@@ -37,6 +39,18 @@ pub struct Machine {
 pub struct Held<'a> {
     pub of: HeldCore<'a>,
     ghost answering: { AnswersAsTold (λ c. c.kinds.0) (λ c. c.plan.value) of.caller.machine.first.callbacks },
+}
+
+impl Deref for Machine {
+    type Target = MachineCore;
+
+    ghost deref_gives = { λ machine lent. (lent ≡ machine.of) × AnswersAsTold (λ c. c.kinds.0) (λ c. c.plan.value) lent.first.callbacks };
+
+    /// The machine whose calls are these, and whose callbacks answer what is told of them (this profile).
+    #[inline(always)]
+    fn deref(&self) -> &MachineCore {
+        &self.of
+    }
 }
 
 impl Machine {
@@ -60,23 +74,6 @@ impl Machine {
     {
         let (of, callers) = MachineOf::over(alloc, alloc, board, bank, limit)?;
         Ok((Machine { of }, callers))
-    }
-
-    /// One call of the kernel, by the host thread that makes it.
-    ///
-    /// By what the caller has itself, and with no step: `Invalid` for `Claim`, `Release` and `Raise`, for the `Finish` of a
-    /// wait for a mutex, and for a `Finish` whose `keep` isn't whether the caller holds a stax or a mutex; `HoldsStax` for
-    /// `Attach`, `Detach` and `SetStage` while it holds a stax; `Busy` for `Detach` while it holds a mutex. Then `CoreBusy`
-    /// only where another caller has the kernel; every other answer is the kernel's, of which `NoMemory` and `HistoryFull`
-    /// make no entry (this profile).
-    #[inline(always)]
-    pub fn try_call(&self, caller: &mut Caller, call: Call) -> Result<Reply, Refusal>
-        requires { Belongs caller.old self.now.of }
-        ensures machine { IsSameCaller caller.old caller.new }
-        ensures called { Called self.now.of.first.limit caller.old call result caller.new }
-        ensures stage { HoldsAtItsStage caller.new }
-    {
-        self.of.try_call(caller, call)
     }
 
     /// The kernel with all that its callers did, once they are done with the machine.

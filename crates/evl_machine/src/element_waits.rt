@@ -10,7 +10,6 @@ ghost use Rattle.evl_machine.specs.Handles.{Belongs, IsSameCaller};
 ghost use Rattle.evl_machine.specs.Unfinished.{wait_step};
 ghost use Rattle.evl_machine.specs.Waitings.{Waits, WaitsOut, begins_wait};
 
-use crate::boxed::{Caller, Machine};
 use crate::caller::CallerOf;
 use crate::machine::MachineOf;
 use evl_base::{Call, FlagId, Refusal, Reply, SemId, Take, Transfer, Way, XbufId};
@@ -173,105 +172,6 @@ impl<C: Handler, A: Allocator> MachineOf<C, A> {
             until,
         };
         self.wait_for(rt, caller, begin)
-    }
-}
-
-impl Machine {
-    /// Takes one from a semaphore's count, and waits where it is 0, until a date in nanoseconds, or without a deadline
-    /// (Xenomai 4: EVL semaphores).
-    ///
-    /// It is one `BeginGet`, as by `call`, whose refusal is the answer. Where that is answered `Begun`, it looks at the
-    /// kernel until the wait is over, and makes one `Finish`, whose answer is the answer: `Done`, or `TimedOut` where the
-    /// deadline came first. `NoMemory` and `HistoryFull` make no entry; as the answer of the `Finish` they leave the wait
-    /// unfinished (this profile).
-    pub fn get_sem<R: Wait>(
-        &self,
-        rt: &R,
-        caller: &mut Caller,
-        sem: SemId,
-        until: Option<u64>,
-    ) -> Result<Reply, Refusal>
-        requires { Belongs caller.old self.now.of }
-        ensures machine { IsSameCaller caller.old caller.new }
-        ensures waited { Waits self.now.of.first.limit caller.old (BeginGet sem until) result caller.new }
-        ensures stage { HoldsAtItsStage caller.new }
-        ensures entered { result ≢ Err CoreBusy }
-    {
-        self.of.get_sem(rt, caller, sem, until)
-    }
-
-    /// Takes bits of a flag group, and waits where it can't have them at once, until a date in nanoseconds, or without a
-    /// deadline (Xenomai 4: EVL flag groups).
-    ///
-    /// It is one `BeginTake`, as by `call`, whose refusal is the answer. Where that is answered `Begun`, it looks at the
-    /// kernel until the wait is over, and makes one `Finish`, whose answer is the answer: the `Bits` that were taken, or
-    /// `TimedOut` where the deadline came first. `NoMemory` and `HistoryFull` make no entry; as the answer of the `Finish`
-    /// they leave the wait unfinished (this profile).
-    pub fn wait_flags<R: Wait>(
-        &self,
-        rt: &R,
-        caller: &mut Caller,
-        flags: FlagId,
-        kind: Take,
-        until: Option<u64>,
-    ) -> Result<Reply, Refusal>
-        requires { Belongs caller.old self.now.of }
-        ensures machine { IsSameCaller caller.old caller.new }
-        ensures waited { Waits self.now.of.first.limit caller.old (BeginTake flags kind until) result caller.new }
-        ensures stage { HoldsAtItsStage caller.new }
-        ensures entered { result ≢ Err CoreBusy }
-    {
-        self.of.wait_flags(rt, caller, flags, kind, until)
-    }
-
-    /// Reads up to so many bytes of a way of a cross-buffer, and waits where none are there, until a date in nanoseconds,
-    /// or without a deadline (Xenomai 4: EVL cross-buffers).
-    ///
-    /// It is one `BeginRead`, as by `call`, whose refusal is the answer. Where that is answered `Begun`, it looks at the
-    /// kernel until the wait is over, and makes one `Finish`, whose answer is the answer: the `Bytes` that were read, or
-    /// `TimedOut` where the deadline came first. `NoMemory` and `HistoryFull` make no entry; as the answer of the `Finish`
-    /// they leave the wait unfinished (this profile).
-    pub fn read_xbuf<R: Wait>(
-        &self,
-        rt: &R,
-        caller: &mut Caller,
-        xbuf: XbufId,
-        way: Way,
-        len: u16,
-        until: Option<u64>,
-    ) -> Result<Reply, Refusal>
-        requires { Belongs caller.old self.now.of }
-        ensures machine { IsSameCaller caller.old caller.new }
-        ensures waited { Waits self.now.of.first.limit caller.old (BeginRead xbuf way len until) result caller.new }
-        ensures stage { HoldsAtItsStage caller.new }
-        ensures entered { result ≢ Err CoreBusy }
-    {
-        self.of.read_xbuf(rt, caller, xbuf, way, len, until)
-    }
-
-    /// Writes bytes into a way of a cross-buffer, all of them, and waits where they don't fit yet or others wait to write,
-    /// until a date in nanoseconds, or without a deadline (Xenomai 4: EVL cross-buffers).
-    ///
-    /// It is one `BeginWrite`, as by `call`, whose refusal is the answer. Where that is answered `Begun`, it looks at the
-    /// kernel until the wait is over, and makes one `Finish`, whose answer is the answer: `Done`, or `TimedOut` where the
-    /// deadline came first. `NoMemory` and `HistoryFull` make no entry; as the answer of the `Finish` they leave the wait
-    /// unfinished (this profile).
-    pub fn write_xbuf<R: Wait>(
-        &self,
-        rt: &R,
-        caller: &mut Caller,
-        xbuf: XbufId,
-        way: Way,
-        bytes: Transfer,
-        until: Option<u64>,
-    ) -> Result<Reply, Refusal>
-        requires { Belongs caller.old self.now.of }
-        ensures machine { IsSameCaller caller.old caller.new }
-        ensures waited { Waits self.now.of.first.limit caller.old (BeginWrite xbuf way bytes until) result caller.new }
-        ensures stage { HoldsAtItsStage caller.new }
-        ensures entered { result ≢ Err CoreBusy }
-    {
-        self.of.write_xbuf(rt, caller, xbuf, way, bytes, until)
     }
 }
 

@@ -37,7 +37,7 @@ pub struct MachineOf<C: Drop, A: Allocator> {
 impl<C: Drop, A: Allocator> Model for MachineOf<C, A> {
     ghost use Rattle.std.specs.Prelude.{◌≡◌};
     ghost use Rattle.evl_machine.specs.Accounts.{threads_of};
-    ghost use Rattle.std.specs.Prelude.{map, true};
+    ghost use Rattle.std.specs.Prelude.{◌+◌, length, map, true};
     ghost use Rattle.evl_base.specs.Board.{board_fits};
     ghost use Rattle.evl_machine.specs.Homes.{gate_home, word_home};
     ghost use Rattle.evl_machine.specs.Handles.{MachineState};
@@ -46,7 +46,7 @@ impl<C: Drop, A: Allocator> Model for MachineOf<C, A> {
 
     ghost view = { λ m. record { id = m.core.shared.table_id; first = m.core.shared.key.value; staxes = map gate_home m.gates; mutexes = map word_home m.words.words } };
 
-    ghost invariant = { λ m. (m.core.shared.table_id.words ≡ 1) × (m.core.shared.table_id.slots ≡ 1) × (threads_of m.core.shared.key.value.history ≡ m.threads) × (m.words.kinds ≡ m.core.shared.key.value.history.board.mutexes.items) × (board_fits m.core.shared.key.value.history.board ≡ true) × (map (λ w. w.seats) m.words.words ≡ map (λ kind. threads_of m.core.shared.key.value.history) m.words.kinds) };
+    ghost invariant = { λ m. (m.core.shared.table_id.words ≡ 1 + length m.words.kinds) × (m.core.shared.table_id.slots ≡ 1) × (threads_of m.core.shared.key.value.history ≡ m.threads) × (m.words.kinds ≡ m.core.shared.key.value.history.board.mutexes.items) × (board_fits m.core.shared.key.value.history.board ≡ true) × (map (λ w. w.seats) m.words.words ≡ map (λ kind. threads_of m.core.shared.key.value.history) m.words.kinds) };
 }
 
 impl<C: Drop, A: Allocator> MachineOf<C, A> {

@@ -8,7 +8,7 @@ ghost use Rattle.evl_machine.specs.Accounts.{threads_of};
 ghost use Rattle.evl_machine.specs.Known.{first_known};
 ghost use Rattle.evl_machine.specs.Handles.{newcomers_of};
 ghost use Rattle.evl_machine.specs.Makings.{AreMade};
-ghost use Rattle.std.specs.Prelude.{◌<◌, map, true, vec_capacity, vec_len};
+ghost use Rattle.std.specs.Prelude.{◌<◌, ◌+◌, map, replicate, true, vec_capacity, vec_len};
 ghost use Rattle.std.specs.List.{range_with_len};
 ghost use Rattle.evl_base.specs.Board.{board_fits};
 ghost use Rattle.evl_machine.specs.Homes.{AreHomes, gate_home, word_home};
@@ -121,29 +121,43 @@ fn joined<C: Drop, A: Allocator + Clone>(
         elements,
         callers,
     } = parts;
-    match core_of(alloc, kernel) {
+    let count = elements.words.count();
+    match core_of(alloc, kernel, count) {
         Ok((core, root)) => Ok(seated(core, root, callers, elements, threads)),
         Err(_) => Err(Refusal::NoMemory),
     }
 }
 
-/// The core's lock with this kernel in its slot, and the token that acts for all threads.
+/// The core's lock with this kernel in its slot, the words of so many mutexes, and the token that acts for all threads.
 fn core_of<C: Drop, A: Allocator + Clone>(
     alloc: A,
     kernel: KernelOf<C, A>,
+    mutexes: usize,
 ) -> Result<(CoreLock<C, A>, CoreSeat<C, A>), AllocError>
     requires new { IsLegal kernel.history × (kernel.history.entries ≡ []) }
+    requires board { board_fits kernel.history.board ≡ true }
+    requires mutexes { mutexes ≡ length kernel.history.board.mutexes.items }
     ensures key { IfOk result (λ m. m.0.shared.key.value ≡ kernel) }
-    ensures table { IfOk result (λ m. (m.0.shared.table_id.words ≡ 1) × (m.0.shared.table_id.slots ≡ 1) × (m.1.table_id ≡ m.0.shared.table_id)) }
+    ensures table { IfOk result (λ m. (m.0.shared.table_id.words ≡ 1 + mutexes) × (m.0.shared.table_id.slots ≡ 1) × (m.1.table_id ≡ m.0.shared.table_id)) }
     ensures root { IfOk result (λ m. m.1.me ≡ (first_known m.0.shared.key.value, [])) }
 {
     let key = Snapshot::of(&kernel);
     let kernel = KernelBox::new(&alloc, kernel)?;
     let slots = one_slot(&alloc, kernel)?;
-    match Table::new(alloc, &[0], slots, &key) {
+    let words = zeros(&alloc, mutexes)?;
+    match Table::new(alloc, words.as_slice(), slots, &key) {
         Ok(made) => Ok(made),
         Err(_) => Err(AllocError),
     }
+}
+
+/// A 0 for the lock, and one for each of so many mutexes.
+fn zeros<A: Allocator + Clone>(alloc: &A, mutexes: usize) -> Result<Vec<u64, A>, AllocError>
+    ensures { IfOk result (λ z. z.items ≡ replicate (1 + mutexes) 0) }
+{
+    let mut words = vec![in alloc.clone()?; 0; mutexes]?;
+    words.push(0)?;
+    Ok(words)
 }
 
 /// A machine of this core and these elements, and a caller for each thread.
@@ -154,7 +168,7 @@ fn seated<C: Drop, A: Allocator>(
     elements: Elements<A>,
     threads: u16,
 ) -> (MachineOf<C, A>, Vec<CallerOf<C, A>, A>)
-    requires table { (core.shared.table_id.words ≡ 1) × (core.shared.table_id.slots ≡ 1) × (root.table_id ≡ core.shared.table_id) }
+    requires table { (core.shared.table_id.words ≡ 1 + length core.shared.key.value.history.board.mutexes.items) × (core.shared.table_id.slots ≡ 1) × (root.table_id ≡ core.shared.table_id) }
     requires root { root.me ≡ (first_known core.shared.key.value, []) }
     requires threads { threads_of core.shared.key.value.history ≡ threads }
     requires new { IsLegal core.shared.key.value.history × (core.shared.key.value.history.entries ≡ []) }
@@ -215,7 +229,7 @@ fn seat_callers<C: Drop, A: Allocator>(
     mut mutexes: Vec<MutexSeats<A>, A>,
     threads: u16,
 )
-    requires table { (root.table_id ≡ core.now.shared.table_id) × (core.now.shared.table_id.words ≡ 1) }
+    requires table { (root.table_id ≡ core.now.shared.table_id) × (0 < core.now.shared.table_id.words) }
     requires first { root.me ≡ (first_known core.now.shared.key.value, []) }
     requires threads { threads_of core.now.shared.key.value.history ≡ threads }
     requires new { IsLegal core.now.shared.key.value.history × (core.now.shared.key.value.history.entries ≡ []) }

@@ -6,7 +6,6 @@ ghost use Rattle.evl_machine.specs.Handles.{Belongs, IsSameCaller};
 ghost use Rattle.evl_machine.specs.MutexLocks.{BeginsToLock, FinishesToLock};
 ghost use Rattle.evl_machine.specs.MutexWaits.{Lasts, UnlocksAtLast, WaitsForMutex, passes};
 
-use crate::boxed::{Caller, Machine};
 use crate::caller::CallerOf;
 use crate::locking::{Begun, Ended};
 use crate::machine::MachineOf;
@@ -116,49 +115,6 @@ impl<C: Handler, A: Allocator> MachineOf<C, A> {
             }
         }
         unreachable!()
-    }
-}
-
-impl Machine {
-    /// Locks a mutex, and waits for it where another caller has it, until a date in nanoseconds, or without a deadline
-    /// (Xenomai 4: EVL mutex).
-    ///
-    /// It begins as `begin_lock_mutex` does, again while that answers `CoreBusy` or `Again`; where the caller has to wait, it
-    /// finishes as `finish_lock_mutex` does, again while that answers `CoreBusy` or `Again`, which makes no entry. Every
-    /// other answer of the two is the answer: `Locked` with the pass, `TimedOut` where the deadline came first, or a refusal.
-    /// `NoMemory` and `HistoryFull` of the finish leave the wait unfinished (this profile).
-    pub fn lock_mutex<R: Wait>(
-        &self,
-        rt: &R,
-        caller: &mut Caller,
-        mutex: MutexId,
-        until: Option<u64>,
-    ) -> Result<Ended, Refusal>
-        requires { Belongs caller.old self.now.of }
-        ensures machine { IsSameCaller caller.old caller.new }
-        ensures waited { WaitsForMutex caller.old mutex until result caller.new }
-        ensures lasts { passes result ≡ false }
-        ensures stage { HoldsAtItsStage caller.new }
-    {
-        self.of.lock_mutex(rt, caller, mutex, until)
-    }
-
-    /// Gives a mutex back, however long other callers have the kernel where that has to hand it on (Xenomai 4: EVL mutex).
-    ///
-    /// It spends the pass as `try_unlock_mutex` does, again while that answers `CoreBusy`. Every other answer is the answer,
-    /// with the pass back where it is a refusal (this profile).
-    pub fn unlock_mutex<R: Wait>(
-        &self,
-        rt: &R,
-        caller: &mut Caller,
-        pass: MutexPass,
-    ) -> Result<(), (Refusal, MutexPass)>
-        requires { Belongs caller.old self.now.of }
-        ensures machine { IsSameCaller caller.old caller.new }
-        ensures unlocked { UnlocksAtLast caller.old pass result caller.new }
-        ensures stage { HoldsAtItsStage caller.new }
-    {
-        self.of.unlock_mutex(rt, caller, pass)
     }
 }
 

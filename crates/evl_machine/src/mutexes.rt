@@ -7,7 +7,6 @@ ghost use Rattle.evl_machine.specs.MutexLocks.{BeginsToLock, FastAnswer, Finishe
 ghost use Rattle.evl_machine.specs.Visits.{FullOnly};
 
 use crate::actor::{has_ceiling, is_handed_on};
-use crate::boxed::{Caller, Machine};
 use crate::caller::CallerOf;
 use crate::locking::{Begun, Ended};
 use crate::machine::MachineOf;
@@ -219,105 +218,5 @@ fn fast_answer(told: Result<Unlock, (Refusal, MutexPass)>) -> Result<(), (Refusa
     match told? {
         Unlock::Done => Ok(()),
         Unlock::Claimed(pass) => Err((Refusal::Busy, pass)),
-    }
-}
-
-impl Machine {
-    /// Locks a mutex, or locks it once more (Xenomai 4: EVL mutex; this profile).
-    ///
-    /// With no step `Busy` while the caller has an unfinished wait, `Unknown` where there is no such mutex, `WrongStage`
-    /// where the caller's thread is in-band, `Deadlock` where the caller has it and it doesn't nest, and `Limit` where the
-    /// caller has it 255 times. `Busy` where another caller has it. A mutex with a ceiling is tried while the caller has the
-    /// kernel: `CoreBusy` where another caller has that, `NoMemory` or `HistoryFull` where there is no room for one call, of
-    /// which none makes a step of the mutex; a try that took it is told to the kernel, whatever that answers.
-    #[inline(always)]
-    pub fn try_lock_mutex(&self, caller: &mut Caller, mutex: MutexId) -> Result<MutexPass, Refusal>
-        requires { Belongs caller.old self.now.of }
-        ensures machine { IsSameCaller caller.old caller.new }
-        ensures locked { TriesToLock caller.old mutex result caller.new }
-        ensures full { IfErr result (FullOnly caller.new) }
-        ensures stage { HoldsAtItsStage caller.new }
-    {
-        self.of.try_lock_mutex(caller, mutex)
-    }
-
-    /// Begins to lock a mutex, and answers whether the caller has it or waits for it until this moment (Xenomai 4: EVL mutex;
-    /// this profile).
-    ///
-    /// It is refused with no step as `try_lock_mutex` is, and an owner has the mutex once more with no step. `CoreBusy` where
-    /// another caller has the kernel, and `NoMemory` or `HistoryFull` where there is no room for one call: then the mutex
-    /// isn't claimed. `Again` where another claimer has won it and not settled yet. Where another has it, it is claimed, and
-    /// the answer is the kernel's to the wait: a refused one leaves the claim. A mutex with a ceiling that was won is told to
-    /// the kernel, whatever that answers.
-    pub fn begin_lock_mutex(
-        &self,
-        caller: &mut Caller,
-        mutex: MutexId,
-        until: Option<u64>,
-    ) -> Result<Begun, Refusal>
-        requires { Belongs caller.old self.now.of }
-        ensures machine { IsSameCaller caller.old caller.new }
-        ensures begun { BeginsToLock caller.old mutex until result caller.new }
-        ensures full { IfErr result (FullOnly caller.new) }
-        ensures stage { HoldsAtItsStage caller.new }
-    {
-        self.of.begin_lock_mutex(caller, mutex, until)
-    }
-
-    /// Ends the caller's wait for a mutex, where that is over: the caller has the mutex, or the deadline came first (Xenomai 4:
-    /// EVL mutex; this profile).
-    ///
-    /// With no step `Invalid` where the caller doesn't wait for a mutex. `CoreBusy` where another caller has the kernel,
-    /// `Again` while the wait goes on and where the mutex isn't offered to the caller yet, or is still offered to it after its
-    /// deadline, and `NoMemory` or `HistoryFull` where there is no room for one call: all of them leave the wait to be finished
-    /// later.
-    pub fn finish_lock_mutex(&self, caller: &mut Caller) -> Result<Ended, Refusal>
-        requires { Belongs caller.old self.now.of }
-        ensures machine { IsSameCaller caller.old caller.new }
-        ensures finished { FinishesToLock caller.old result caller.new }
-        ensures full { IfErr result (FullOnly caller.new) }
-        ensures stage { HoldsAtItsStage caller.new }
-    {
-        self.of.finish_lock_mutex(caller)
-    }
-
-    /// Spends a pass without the kernel (Xenomai 4: EVL mutex, fast path; this profile).
-    ///
-    /// With no step, and with the pass back: `Busy` while the caller has an unfinished wait, `NotOwner` for a pass of another
-    /// caller or of a mutex that the caller doesn't have, and `Busy` for a mutex with a ceiling. `Busy` with the pass back
-    /// where others claim the mutex.
-    #[inline(always)]
-    pub fn unlock_mutex_fast(
-        &self,
-        caller: &mut Caller,
-        pass: MutexPass,
-    ) -> Result<(), (Refusal, MutexPass)>
-        requires { Belongs caller.old self.now.of }
-        ensures machine { IsSameCaller caller.old caller.new }
-        ensures unlocked { UnlocksFast caller.old pass result caller.new }
-        ensures full { IfErr result (λ e. FullOnly caller.new e.0) }
-        ensures stage { HoldsAtItsStage caller.new }
-    {
-        self.of.unlock_mutex_fast(caller, pass)
-    }
-
-    /// Spends a pass. A mutex that others claim, or that has a ceiling, is handed on by the kernel, and its word offered to
-    /// whom the kernel names, or freed (Xenomai 4: EVL mutex; this profile).
-    ///
-    /// With no step, and with the pass back: `Busy` while the caller has an unfinished wait, and `NotOwner` for a pass of
-    /// another caller or of a mutex that the caller doesn't have. Where the kernel has to hand the mutex on: `CoreBusy` where
-    /// another caller has that, and its own refusals, each with the pass back and the word as it is.
-    pub fn try_unlock_mutex(
-        &self,
-        caller: &mut Caller,
-        pass: MutexPass,
-    ) -> Result<(), (Refusal, MutexPass)>
-        requires { Belongs caller.old self.now.of }
-        ensures machine { IsSameCaller caller.old caller.new }
-        ensures unlocked { TriesToUnlock caller.old pass result caller.new }
-        ensures full { IfErr result (λ e. FullOnly caller.new e.0) }
-        ensures stage { HoldsAtItsStage caller.new }
-    {
-        self.of.try_unlock_mutex(caller, pass)
     }
 }

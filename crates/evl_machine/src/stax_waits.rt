@@ -7,7 +7,6 @@ ghost use Rattle.evl_machine.specs.StaxCalls.{StaxCall};
 ghost use Rattle.evl_machine.specs.StaxSeats.{TriesStax};
 ghost use Rattle.evl_machine.specs.StaxWaits.{Marks, RetriesOnce, WaitsForStax, is_again, may_pass};
 
-use crate::boxed::{Caller, Machine};
 use crate::caller::CallerOf;
 use crate::machine::MachineOf;
 use evl_base::{Refusal, StaxId};
@@ -83,28 +82,6 @@ impl<C: Drop, A: Allocator> MachineOf<C, A> {
             }
         }
         unreachable!()
-    }
-}
-
-impl Machine {
-    /// Enters a stax at the stage of the caller's thread, however long it takes (Dovetail: stax).
-    ///
-    /// It tries as `try_lock_stax` does until it has a pass, or is refused otherwise than by `Again`, `Limit` or `Raced`:
-    /// with `Unknown` where there is no such stax, and with `Busy` where the caller holds it. After the first `Again` it
-    /// sets the claim mark, by which the last caller to leave is told that others want in. The core isn't taken (this
-    /// profile).
-    pub fn lock_stax<R: Wait>(
-        &self,
-        rt: &R,
-        caller: &mut Caller,
-        stax: StaxId,
-    ) -> Result<StaxPass, Refusal>
-        requires { Belongs caller.old self.now.of }
-        ensures machine { IsSameCaller caller.old caller.new }
-        ensures waited { StaxCall caller.old (λ old new. WaitsForStax stax.0 (stage_of_caller caller.old) old result new) caller.new }
-        ensures stage { HoldsAtItsStage caller.new }
-    {
-        self.of.lock_stax(rt, caller, stax)
     }
 }
 

@@ -5,7 +5,6 @@ ghost use Rattle.evl_machine.specs.Calls.{HoldsAtItsStage, stage_of_caller};
 ghost use Rattle.evl_machine.specs.StaxSeats.{LeavesStax, TriesStax};
 ghost use Rattle.evl_machine.specs.StaxCalls.{StaxCall};
 
-use crate::boxed::{Caller, Machine};
 use crate::caller::CallerOf;
 use crate::machine::MachineOf;
 use evl_base::{Refusal, StaxId};
@@ -50,41 +49,5 @@ impl<C: Drop, A: Allocator> MachineOf<C, A> {
         ensures stage { HoldsAtItsStage caller.new }
     {
         self.gates.unlock(&mut caller.actor.staxes, pass)
-    }
-}
-
-impl Machine {
-    /// Enters a stax at the stage of the caller's thread (Dovetail: stax).
-    ///
-    /// With no step `Unknown` where there is no such stax, and `Busy` where the caller holds it. `Again` where callers of
-    /// the other stage hold it, `Limit` where its limit of callers holds it, `Raced` where another step came in between
-    /// and the caller would have been let in before it and after it. The core isn't taken (this profile).
-    #[inline(always)]
-    pub fn try_lock_stax(&self, caller: &mut Caller, stax: StaxId) -> Result<StaxPass, Refusal>
-        requires { Belongs caller.old self.now.of }
-        ensures machine { IsSameCaller caller.old caller.new }
-        ensures tried { StaxCall caller.old (λ old new. TriesStax old stax.0 (stage_of_caller caller.old) result new) caller.new }
-        ensures stage { HoldsAtItsStage caller.new }
-    {
-        self.of.try_lock_stax(caller, stax)
-    }
-
-    /// Leaves a stax, and answers whether the caller was the last one in it and the claim mark stood, which is then taken
-    /// away (Dovetail: stax).
-    ///
-    /// `NotOwner`, with the pass back and no step, for a pass of another caller, of a stax that isn't on the board, or of
-    /// one that the caller doesn't hold. The core isn't taken (this profile).
-    #[inline(always)]
-    pub fn unlock_stax(
-        &self,
-        caller: &mut Caller,
-        pass: StaxPass,
-    ) -> Result<bool, (Refusal, StaxPass)>
-        requires { Belongs caller.old self.now.of }
-        ensures machine { IsSameCaller caller.old caller.new }
-        ensures left { StaxCall caller.old (λ old new. LeavesStax old pass result new) caller.new }
-        ensures stage { HoldsAtItsStage caller.new }
-    {
-        self.of.unlock_stax(caller, pass)
     }
 }

@@ -7,7 +7,6 @@ ghost use Rattle.evl_kernel.specs.Callbacks.{AnswersAsTold};
 ghost use Rattle.evl_machine.specs.Calls.{Called, HoldsAtItsStage};
 ghost use Rattle.evl_machine.specs.Handles.{Belongs, IsSameCaller};
 
-use crate::boxed::{Caller, Machine};
 use crate::caller::CallerOf;
 use crate::machine::MachineOf;
 use evl_base::{Call, Refusal, Reply, Stage};
@@ -50,35 +49,5 @@ impl<C: Handler, A: Allocator> MachineOf<C, A> {
     {
         let stage = Stage::Inband;
         self.call(rt, caller, Call::SetStage { stage })
-    }
-}
-
-impl Machine {
-    /// Moves the caller's thread to the out-of-band stage (Xenomai 4: EVL threads).
-    ///
-    /// It is one `SetStage`, as by `call`: `HoldsStax`, with no step, while the caller holds a stax; every other answer is
-    /// the kernel's, of which `NoMemory` and `HistoryFull` make no entry (this profile).
-    pub fn switch_oob<R: Wait>(&self, rt: &R, caller: &mut Caller) -> Result<Reply, Refusal>
-        requires { Belongs caller.old self.now.of }
-        ensures machine { IsSameCaller caller.old caller.new }
-        ensures called { Called self.now.of.first.limit caller.old (SetStage Oob) result caller.new }
-        ensures stage { HoldsAtItsStage caller.new }
-        ensures entered { result ≢ Err CoreBusy }
-    {
-        self.of.switch_oob(rt, caller)
-    }
-
-    /// Moves the caller's thread to the in-band stage (Xenomai 4: EVL threads).
-    ///
-    /// It is one `SetStage`, as by `call`: `HoldsStax`, with no step, while the caller holds a stax; every other answer is
-    /// the kernel's, of which `NoMemory` and `HistoryFull` make no entry (this profile).
-    pub fn switch_inband<R: Wait>(&self, rt: &R, caller: &mut Caller) -> Result<Reply, Refusal>
-        requires { Belongs caller.old self.now.of }
-        ensures machine { IsSameCaller caller.old caller.new }
-        ensures called { Called self.now.of.first.limit caller.old (SetStage Inband) result caller.new }
-        ensures stage { HoldsAtItsStage caller.new }
-        ensures entered { result ≢ Err CoreBusy }
-    {
-        self.of.switch_inband(rt, caller)
     }
 }

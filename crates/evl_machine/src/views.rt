@@ -33,6 +33,12 @@ pub struct CoreView {
     pub accounts: LinkedList<Account>,
 }
 
+/// The mutex on whose word a thread made a step since it took the kernel, and the word that it last left there.
+pub struct Noted {
+    pub mutex: u64,
+    pub left: u64,
+}
+
 /// What a thread knows of the core: the history of the kernel that it took, if it has one, the history that it has
 /// seen, its own calls there, for how many calls it found room made in the kernel, at each time that it took it, and
 /// the kernel as it was made.
@@ -42,6 +48,7 @@ pub struct CorePart<F> {
     pub mine: LinkedList<Entry>,
     pub found: LinkedList<u64>,
     pub first: F,
+    pub note: Option<Noted>,
 }
 
 /// What a thread knows: of the core, and of each word beside it.

@@ -5,7 +5,6 @@ ghost use Rattle.evl_base.specs.declared.refusal.Refusal.TheVariants.{CoreBusy};
 ghost use Rattle.evl_machine.specs.Handles.{Belongs, IsSameCaller};
 ghost use Rattle.evl_machine.specs.Calls.{Called, HoldsAtItsStage};
 
-use crate::boxed::{Caller, Machine};
 use crate::caller::CallerOf;
 use crate::machine::MachineOf;
 use evl_base::{Call, Refusal, Reply};
@@ -48,22 +47,5 @@ impl<C: Handler, A: Allocator> MachineOf<C, A> {
             }
         }
         unreachable!()
-    }
-}
-
-impl Machine {
-    /// One call of the kernel, however long other callers have it: `try_call` until it isn't answered `CoreBusy`.
-    ///
-    /// It is refused with no step as `try_call` refuses it; every other answer is the kernel's, of which `NoMemory` and
-    /// `HistoryFull` make no entry (this profile).
-    #[inline(always)]
-    pub fn call<R: Wait>(&self, rt: &R, caller: &mut Caller, call: Call) -> Result<Reply, Refusal>
-        requires { Belongs caller.old self.now.of }
-        ensures machine { IsSameCaller caller.old caller.new }
-        ensures called { Called self.now.of.first.limit caller.old call result caller.new }
-        ensures stage { HoldsAtItsStage caller.new }
-        ensures entered { result ≢ Err CoreBusy }
-    {
-        self.of.call(rt, caller, call)
     }
 }

@@ -4,9 +4,13 @@ pub mod MutexLaws
 pub mod SoundLaws
 pub mod NotedLaws
 pub mod RankLaws
+pub mod LendingLaws
+pub mod LoweringLaws
 pub mod RaiseLaws
 pub mod HandingLaws
 pub mod ListLaws
 pub mod CallLaws
+pub mod CeilingLaws
+pub mod StoredLaws
 pub mod Rows
 pub mod Crossing

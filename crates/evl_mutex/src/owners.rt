@@ -1,15 +1,16 @@
 //! The recorded owners of all mutexes, and the effective ranks of all threads.
-ghost use Rattle.std.specs.Prelude.{◌≡◌, List, ◌<◌, ◌^◌, ℕ, Bool, Option, Some, None, Ok, Err, Result, length, map, slice_get, nat_lt, is_ok, option_map, replicate, IfOk, IfErr, if◌then◌else◌};
+ghost use Rattle.std.specs.Prelude.{◌≡◌, List, ◌<◌, ◌^◌, ℕ, Bool, Option, Some, None, Ok, Err, Result, length, map, slice_get, nat_lt, is_ok, is_some, option_map, replicate, IfOk, IfErr, if◌then◌else◌};
 ghost use Rattle.std.specs.List.{list_any};
+ghost use Rattle.std.specs.Option.{option_map_or};
 ghost use Rattle.evl_base.specs.declared.refusal.Refusal.{Refusal};
-ghost use Rattle.evl_mutex.specs.Mutexes.{raised, lowered, opened, is_owned_by, drop_waiter};
+ghost use Rattle.evl_mutex.specs.Mutexes.{raised, lowered, opened, is_owned_by, is_waited_for_by, drop_waiter};
 ghost use Rattle.evl_mutex.specs.Owners.{IsClaim, IsRelease, IsRingFree, IsSound, base_of, changed, claim_answer, claim_refusal, dropped, fresh, is_thread, lower_refusal, next_of, owner_of, raise_refusal, rank_of, ranks_of, unless_refused, with_base};
 ghost use Rattle.evl_mutex.specs.Ranks.{IsEffective};
-ghost use Rattle.evl_mutex.specs.Views.{AreNoted, HaveRoom, mutexes_of, numbers_of};
+ghost use Rattle.evl_mutex.specs.Views.{HaveRoom, ahead_in, mutexes_of, numbers_of};
 
 use crate::mutex_record::MutexRecord;
 use crate::waiter::Waiter;
-use crate::{notes, ranks, walks};
+use crate::{mending, notes, ranks, walks};
 use evl_base::{MutexId, MutexKind, Refusal, ThreadId};
 use std::alloc::{AllocError, Allocator};
 use std::marker::Model;
@@ -23,17 +24,21 @@ pub struct OwnersOf<A: Allocator> {
     mutexes: Vec<MutexRecord<A>, A>,
     // whom each thread waits for
     ahead: Vec<Option<u16>, A>,
+    // what each thread lends to whom it waits for
+    lent: Vec<u16, A>,
+    // the greatest ceiling that is recorded for each thread
+    ceilings: Vec<u16, A>,
 }
 
 impl<A: Allocator> Model for OwnersOf<A> {
     ghost use Rattle.evl_mutex.specs.Owners.{Owners};
-    ghost use Rattle.evl_mutex.specs.Views.{IsKept, mutexes_of};
+    ghost use Rattle.evl_mutex.specs.Views.{IsWhole, mutexes_of};
 
     ghost Value = { Owners };
 
     ghost view = { λ o. record { base = o.base.items; mutexes = mutexes_of o.mutexes.items } };
 
-    ghost invariant = { λ o. IsKept o.base.items o.mutexes.items o.ahead.items };
+    ghost invariant = { λ o. IsWhole o.base.items o.mutexes.items o.ahead.items o.lent.items o.ceilings.items };
 }
 
 impl<A: Allocator + Clone> OwnersOf<A> {
@@ -52,11 +57,15 @@ impl<A: Allocator + Clone> OwnersOf<A> {
     {
         let base = zeros(alloc.clone()?, threads as usize)?;
         let mutexes = opened(alloc.clone()?, kinds, threads as usize)?;
-        let ahead = notes::nobody(alloc, threads as usize)?;
+        let ahead = notes::nobody(alloc.clone()?, threads as usize)?;
+        let lent = zeros(alloc.clone()?, threads as usize)?;
+        let ceilings = zeros(alloc, threads as usize)?;
         Ok(OwnersOf {
             base,
             mutexes,
             ahead,
+            lent,
+            ceilings,
         })
     }
 }
@@ -71,7 +80,7 @@ impl<A: Allocator> OwnersOf<A> {
         ensures ring_free { IsRingFree self.now }
         ensures sound { IsSound self.now }
     {
-        walks::effective(&self.base, &self.mutexes, &self.ahead, thread.0)
+        ranks::rank_of(&self.lent, &self.ceilings, thread.0)
     }
 
     /// Writes the effective rank of each thread whose number is below the length of `ranks`, as `effective` tells it.
@@ -79,7 +88,7 @@ impl<A: Allocator> OwnersOf<A> {
     pub fn ranks(&self, ranks: &mut [u16])
         ensures ranks { ranks.new ≡ ranks_of self.now (length ranks.old) }
     {
-        ranks::write_all(&self.base, &self.mutexes, &self.ahead, ranks);
+        ranks::write_all(&self.lent, &self.ceilings, ranks);
     }
 
     /// Who is recorded as the owner of a mutex, if anybody is; nobody where there is no such mutex. (Xenomai 4: EVL
@@ -123,6 +132,7 @@ impl<A: Allocator> OwnersOf<A> {
             return Err(Refusal::Unknown);
         }
         self.base[thread.0 as usize] = rank;
+        mending::mend(&self.base, &self.ahead, &mut self.lent, Some(thread.0));
         Ok(())
     }
 
@@ -131,8 +141,10 @@ impl<A: Allocator> OwnersOf<A> {
     pub fn drop_waiter(&mut self, thread: ThreadId)
         ensures state { self.new ≡ dropped self.old thread.0 }
     {
+        let owner = notes::ahead_of(&self.ahead, thread.0);
         walks::drop_waiter(&mut self.mutexes, thread.0);
         notes::forget(&mut self.ahead, Some(thread.0));
+        mending::mend(&self.base, &self.ahead, &mut self.lent, owner);
     }
 
     /// Lets a thread wait for this one mutex no more, if it does; where there is no such mutex nothing changes. Where it
@@ -143,8 +155,10 @@ impl<A: Allocator> OwnersOf<A> {
     {
         let place = mutex.0 as usize;
         if place < self.mutexes.len() {
+            let owner = notes::ahead_of(&self.ahead, thread.0);
             let gone = self.mutexes[place].drop_waiter(thread.0);
             notes::forget(&mut self.ahead, gone);
+            mending::mend(&self.base, &self.ahead, &mut self.lent, gone.and(owner));
         }
     }
 
@@ -164,6 +178,7 @@ impl<A: Allocator> OwnersOf<A> {
         if let Some(refusal) = claim_refusal(
             self.base.len(),
             &self.mutexes,
+            &self.ahead,
             mutex.0,
             waiter.0,
             owner.0,
@@ -174,9 +189,20 @@ impl<A: Allocator> OwnersOf<A> {
         if walks::reaches(&self.ahead, threads, owner.0, waiter.0) {
             return Err(Refusal::Deadlock);
         }
-        let waiting = waiter_of(&self.base, &self.mutexes, &self.ahead, waiter.0);
+        let rank = ranks::rank_of(&self.lent, &self.ceilings, waiter.0);
+        let waiting = Waiter {
+            thread: waiter.0,
+            rank,
+        };
         self.mutexes[mutex.0 as usize].claim(waiting, owner.0);
         notes::note(&mut self.ahead, waiter.0, Some(owner.0));
+        mending::lend(&self.ahead, &mut self.lent, waiter.0, owner.0);
+        ranks::mend_ceiling(
+            &self.mutexes,
+            mutex.0 as usize,
+            &mut self.ceilings,
+            Some(owner.0),
+        );
         Ok(())
     }
 
@@ -198,9 +224,14 @@ impl<A: Allocator> OwnersOf<A> {
         if !self.mutexes[place].is_open_to(owner.0) {
             return Err(Refusal::NotOwner);
         }
+        let before = self.mutexes[place].owner;
         let (next, more) = self.mutexes[place].hand_on();
         notes::forget(&mut self.ahead, next);
         notes::note_behind(&mut self.ahead, &self.mutexes[place].waiters, next);
+        mending::settle(&self.base, &self.ahead, &mut self.lent, next);
+        mending::mend(&self.base, &self.ahead, &mut self.lent, next.and(before));
+        ranks::mend_ceiling(&self.mutexes, place, &mut self.ceilings, before);
+        ranks::mend_ceiling(&self.mutexes, place, &mut self.ceilings, next);
         Ok((named(next), more))
     }
 
@@ -215,6 +246,12 @@ impl<A: Allocator> OwnersOf<A> {
             return Err(refusal);
         }
         self.mutexes[mutex.0 as usize].owner = Some(thread.0);
+        ranks::mend_ceiling(
+            &self.mutexes,
+            mutex.0 as usize,
+            &mut self.ceilings,
+            Some(thread.0),
+        );
         Ok(())
     }
 
@@ -229,7 +266,25 @@ impl<A: Allocator> OwnersOf<A> {
             return Err(refusal);
         }
         self.mutexes[mutex.0 as usize].owner = None;
+        ranks::mend_ceiling(
+            &self.mutexes,
+            mutex.0 as usize,
+            &mut self.ceilings,
+            Some(thread.0),
+        );
         Ok(())
+    }
+}
+
+impl<A: Allocator> OwnersOf<A> {
+    /// How many threads wait for a mutex; none where there is no such mutex. (Xenomai 4: EVL mutexes)
+    pub fn waiters(&self, mutex: MutexId) -> usize
+        ensures waiters { result ≡ option_map_or (λ m. length m.waiters) (slice_get self.now.mutexes mutex.0) 0 }
+    {
+        match self.mutexes.get(mutex.0 as usize) {
+            Some(record) => record.waiters.len(),
+            None => 0,
+        }
     }
 }
 
@@ -263,35 +318,20 @@ fn opened<A: Allocator + Clone>(
     Ok(mutexes)
 }
 
-// A thread that begins to wait, with its effective rank.
-fn waiter_of<A: Allocator>(
-    base: &Vec<u16, A>,
-    mutexes: &Vec<MutexRecord<A>, A>,
-    ahead: &Vec<Option<u16>, A>,
-    thread: u16,
-) -> Waiter
-    requires few { length base.now.items < 2 ^ 16 }
-    requires noted { AreNoted ahead.now.items (mutexes_of mutexes.now.items) }
-    ensures waiter { result ≡ (record { thread = thread; rank = rank_of (record { base = base.now.items; mutexes = mutexes_of mutexes.now.items }) thread }) }
-{
-    Waiter {
-        thread,
-        rank: walks::effective(base, mutexes, ahead, thread),
-    }
-}
-
 // What refuses a claim, but for a ring.
 fn claim_refusal<A: Allocator, B: Allocator>(
     threads: usize,
     mutexes: &Vec<MutexRecord<A>, B>,
+    ahead: &Vec<Option<u16>, B>,
     mutex: u16,
     waiter: u16,
     owner: u16,
 ) -> Option<Refusal>
     ensures refusal { (base : List ℕ) → length base ≡ threads
+        → is_some (ahead_in ahead.now.items waiter) ≡ list_any (is_waited_for_by waiter) (mutexes_of mutexes.now.items)
         → result ≡ claim_refusal (record { base = base; mutexes = mutexes_of mutexes.now.items }) mutex waiter owner }
 {
-    if walks::is_waiting(mutexes, waiter) {
+    if notes::ahead_of(ahead, waiter).is_some() {
         return Some(Refusal::Busy);
     }
     let record = match mutexes.get(mutex as usize) {

@@ -21,7 +21,7 @@ fn ends<R: Files + AllocGlobal>(
 ) -> bool {
     let words = ["evl"];
     let mut out = Over::new(Vec::new(rt.alloc()));
-    let mut err = Vec::new(rt.alloc());
+    let mut err = Over::new(Vec::new(rt.alloc()));
     let mut input = scenario;
     let ended = play_program(
         rt,
@@ -31,7 +31,7 @@ fn ends<R: Files + AllocGlobal>(
         &mut out,
         &mut err,
     );
-    ended == status && out.into_inner().as_slice() == written && err.as_slice() == said
+    ended == status && out.into_inner().as_slice() == written && err.into_inner().as_slice() == said
 }
 
 // What lies in the file of this name with this ending.

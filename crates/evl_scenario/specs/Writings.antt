@@ -224,9 +224,9 @@ without_staxes board = record {
   staxes = record { items = [] };
 }
 
--- why there is no scenario of a board, a limit and steps
+-- why there is no scenario of a board, a limit and steps: the first of these that is so
 abbrev pub IsUnwritten : Unwritten → Script → Type 0
 IsUnwritten unwritten.Board script = has_keys script.board ≡ false
-IsUnwritten unwritten.Limit script = is_limit script.limit ≡ false
-IsUnwritten unwritten.TooLong script = 1048576 < length (scenario_text script)
+IsUnwritten unwritten.Limit script = (has_keys script.board ≡ true) × (is_limit script.limit ≡ false)
+IsUnwritten unwritten.TooLong script = (has_keys script.board ≡ true) × (is_limit script.limit ≡ true) × (1048576 < length (scenario_text script))
 IsUnwritten unwritten.Memory script = Unit {0}

@@ -6,4 +6,15 @@ pub mod ReadyLaws
 pub mod AlikeLaws
 pub mod SeatLaws
 pub mod Crossing
+pub mod QueueLaws
+pub mod RankSetLaws
+pub mod QueueChanges
+pub mod QueuedLaws
+pub mod LastLaws
+pub mod GroupLaws
+pub mod BeforeLaws
+pub mod OrderLaws
+pub mod FirstLaws
+pub mod StampedLaws
+pub mod StoodLaws
 pub mod Rows

@@ -2,7 +2,12 @@
 #![tactic(auto)]
 
 mod group;
+mod guesses;
+mod order;
+mod place;
 mod policies;
+mod queues;
+mod rank_set;
 mod ready;
 mod sched;
 mod search;

@@ -1,61 +1,103 @@
-//! The ready list.
-ghost use Rattle.std.specs.Prelude.{◌≡◌, ◌<◌, ◌++◌, ◌∷◌, [], ◌==◌, length, not, true, vec_capacity};
-ghost use Rattle.std.specs.List.{list_any};
-ghost use Rattle.evl_sched.specs.Threads.{is_oob, moved_to_end, readied, stage_of, without};
+//! Who is ready, and in which queue.
+ghost use Rattle.std.specs.Prelude.{◌≡◌, ◌<◌, ◌==◌, ℕ, length, List, Option, None, false, true, [], if◌then◌else◌};
+ghost use Rattle.evl_sched.specs.Places.{rank_in};
+ghost use Rattle.evl_sched.specs.Threads.{is_oob, is_ready, moved_to_end, readied, stage_of};
+ghost use Rattle.evl_sched.specs.Wanted.{names_group, rank_to_run, wanted};
 
+use crate::group::Group;
+use crate::order::Order;
 use crate::search;
 use crate::seat::Seat;
 use evl_base::Stage;
 use std::alloc::Allocator;
 
-/// Takes a thread out of the list, if it is there.
-pub fn take_out<A: Allocator>(ready: &mut Vec<u16, A>, thread: u16)
-    ensures out { ready.new.items ≡ without ready.old.items thread }
-    ensures room { vec_capacity ready.new ≡ vec_capacity ready.old }
-{
-    ready.retain(
-        |t: &u16| -> bool
-            ensures { result ≡ not (t.now == thread) }
-        { *t != thread },
-    );
-}
-
-// Puts a thread to the end of the list.
-fn put_last<A: Allocator>(ready: &mut Vec<u16, A>, thread: u16)
-    requires { length (without ready.old.items thread) < vec_capacity ready.old }
-    ensures last { ready.new.items ≡ without ready.old.items thread ++ thread ∷ [] }
-    ensures room { vec_capacity ready.new ≡ vec_capacity ready.old }
-{
-    take_out(ready, thread);
-    ready.push_reserved(thread);
-}
-
-/// A thread becomes ready: it goes to the end of the list where it is attached and out-of-band, and else out of it.
-pub fn queue<A: Allocator>(seats: &Vec<Option<Seat>, A>, ready: &mut Vec<u16, A>, thread: u16)
-    requires { is_oob (stage_of (record { seats = seats.now.items; ready = []; groups = [] }) thread) ≡ true → length (without ready.old.items thread) < vec_capacity ready.old }
-    ensures ready { ready.new.items ≡ (readied (record { seats = seats.now.items; ready = ready.old.items; groups = [] }) thread).ready }
-    ensures room { vec_capacity ready.new ≡ vec_capacity ready.old }
+/// A thread becomes ready: it goes to the end of the order where it is attached and out-of-band, and else out of it.
+pub fn queue<A: Allocator>(
+    seats: &Vec<Option<Seat>, A>,
+    groups: &Vec<Group, A>,
+    given: &Vec<Option<u16>, A>,
+    order: &mut Order<A>,
+    thread: u16,
+)
+    requires { length seats.now.items ≡ length order.old.places }
+    ensures ready { order.new.ready ≡ (readied (record { seats = seats.now.items; ready = order.old.ready; groups = [] }) thread).ready }
+    ensures ranks { (t : ℕ) → rank_in order.new.places t ≡ (if t == thread then wanted (record { sched = record { seats = seats.now.items; ready = order.new.ready; groups = groups.now.items }; given = given.now.items }) thread else rank_in order.old.places t) }
+    ensures many { length order.new.places ≡ length order.old.places }
 {
     match search::stage_of(seats, thread) {
-        Stage::Oob => put_last(ready, thread),
-        Stage::Inband => take_out(ready, thread),
+        Stage::Oob => order.come(thread, search::rank_to_run(seats, groups, given, thread)),
+        Stage::Inband => order.leave(thread),
     }
 }
 
-// Whether a thread is in the list.
-fn stands(ready: &[u16], thread: u16) -> bool
-    ensures stands { result ≡ list_any (λ t. t == thread) ready.now }
+/// A thread that is ready goes to the end of the order.
+pub fn move_to_end<A: Allocator>(
+    seats: &Vec<Option<Seat>, A>,
+    groups: &Vec<Group, A>,
+    given: &Vec<Option<u16>, A>,
+    order: &mut Order<A>,
+    thread: u16,
+)
+    requires { length seats.now.items ≡ length order.old.places }
+    ensures ready { order.new.ready ≡ (moved_to_end (record { seats = seats.now.items; ready = order.old.ready; groups = [] }) thread).ready }
+    ensures ranks { (t : ℕ) → rank_in order.new.places t ≡ (if t == thread then wanted (record { sched = record { seats = seats.now.items; ready = order.new.ready; groups = groups.now.items }; given = given.now.items }) thread else rank_in order.old.places t) }
+    ensures many { length order.new.places ≡ length order.old.places }
 {
-    ready.iter().any(|t| *t == thread)
+    if order.is_ready(thread) {
+        queue(seats, groups, given, order, thread);
+    } else {
+        order.leave(thread);
+    }
 }
 
-/// A thread that is ready goes to the end of the list.
-pub fn move_to_end<A: Allocator>(seats: &Vec<Option<Seat>, A>, ready: &mut Vec<u16, A>, thread: u16)
-    requires { is_oob (stage_of (record { seats = seats.now.items; ready = []; groups = [] }) thread) ≡ true → length (without ready.old.items thread) < vec_capacity ready.old }
-    ensures ready { ready.new.items ≡ (moved_to_end (record { seats = seats.now.items; ready = ready.old.items; groups = [] }) thread).ready }
-    ensures room { vec_capacity ready.new ≡ vec_capacity ready.old }
+/// A thread that is ready and may run stands in the queue of its rank, and else in none.
+pub fn stand<A: Allocator>(
+    seats: &Vec<Option<Seat>, A>,
+    groups: &Vec<Group, A>,
+    given: &Vec<Option<u16>, A>,
+    order: &mut Order<A>,
+    thread: u16,
+)
+    ensures ready { order.new.ready ≡ order.old.ready }
+    ensures ranks { (t : ℕ) → rank_in order.new.places t ≡ (if t == thread then wanted (record { sched = record { seats = seats.now.items; ready = order.old.ready; groups = groups.now.items }; given = given.now.items }) thread else rank_in order.old.places t) }
+    ensures many { length order.new.places ≡ length order.old.places }
 {
-    if stands(ready, thread) {
-        queue(seats, ready, thread);
+    order.stand(thread, search::rank_to_run(seats, groups, given, thread));
+}
+
+/// Each thread whose policy names a group does; all others do already.
+pub fn stand_grouped<A: Allocator>(
+    seats: &Vec<Option<Seat>, A>,
+    groups: &Vec<Group, A>,
+    given: &Vec<Option<u16>, A>,
+    order: &mut Order<A>,
+)
+    requires many { length seats.now.items ≡ length order.old.places }
+    requires few { length seats.now.items < 65536 }
+    requires others { (t : ℕ) → names_group seats.now.items t ≡ false → rank_in order.old.places t ≡ wanted (record { sched = record { seats = seats.now.items; ready = order.old.ready; groups = groups.now.items }; given = given.now.items }) t }
+    ensures ready { order.new.ready ≡ order.old.ready }
+    ensures ranks { (t : ℕ) → rank_in order.new.places t ≡ wanted (record { sched = record { seats = seats.now.items; ready = order.old.ready; groups = groups.now.items }; given = given.now.items }) t }
+    ensures many { length order.new.places ≡ length order.old.places }
+{
+    for thread in 0..seats.len() as u16 {
+        stand_if_grouped(seats, groups, given, order, thread);
+    }
+}
+
+// A thread whose policy names a group does; another one does already.
+fn stand_if_grouped<A: Allocator>(
+    seats: &Vec<Option<Seat>, A>,
+    groups: &Vec<Group, A>,
+    given: &Vec<Option<u16>, A>,
+    order: &mut Order<A>,
+    thread: u16,
+)
+    requires { names_group seats.now.items thread ≡ false → rank_in order.old.places thread ≡ wanted (record { sched = record { seats = seats.now.items; ready = order.old.ready; groups = groups.now.items }; given = given.now.items }) thread }
+    ensures ready { order.new.ready ≡ order.old.ready }
+    ensures ranks { (t : ℕ) → rank_in order.new.places t ≡ (if t == thread then wanted (record { sched = record { seats = seats.now.items; ready = order.old.ready; groups = groups.now.items }; given = given.now.items }) thread else rank_in order.old.places t) }
+    ensures many { length order.new.places ≡ length order.old.places }
+{
+    if search::names_group(seats, thread) {
+        stand(seats, groups, given, order, thread);
     }
 }

@@ -1,42 +1,41 @@
 //! The scheduler.
-ghost use Rattle.std.specs.Prelude.{◌≡◌, ◌<◌, false, [], None, Some, filter, map, replicate, option_map, IfOk, IfErr, MatchOption, OnOk, OnErr};
-ghost use Rattle.std.specs.List.{list_any};
+ghost use Rattle.std.specs.Prelude.{◌≡◌, ℕ, nat_lt, Option, false, [], None, Some, map, replicate, option_map, IfOk, IfErr, MatchOption, OnOk, OnErr};
 ghost use Rattle.evl_base.specs.declared.refusal.Refusal.{Refusal};
 ghost use Rattle.evl_sched.specs.Calls as calls;
 ghost use Rattle.evl_sched.specs.Calls.{attach_refusal, set_policy_refusal, stranger_refusal};
 ghost use Rattle.evl_sched.specs.Charges.{slice_charged, thread_charged};
-ghost use Rattle.evl_sched.specs.Groups.{drained, opened, refilled};
-ghost use Rattle.evl_sched.specs.Picks.{IsPicked, eligible, is_anyone_eligible, may_run, picked};
+ghost use Rattle.evl_sched.specs.Groups.{drained, has_budget, opened, refilled};
+ghost use Rattle.evl_sched.specs.Picks.{IsPicked, eligible, is_anyone_eligible, picked};
 ghost use Rattle.evl_sched.specs.Ranks.{IsSoundSched, fresh, rank_of, with_given, with_sched};
-ghost use Rattle.evl_sched.specs.Searching.{highest};
 ghost use Rattle.evl_sched.specs.Threads.{base_of, seat_at, stage_of};
 
 use crate::group::Group;
+use crate::order::Order;
 use crate::seat::Seat;
 use crate::{policies, ready, search};
 use evl_base::{Policy, Refusal, Stage, ThreadId};
 use std::alloc::{AllocError, Allocator};
 use std::marker::Model;
 
-/// The attached threads, the ready list, the quota groups, and the rank that each thread was given. To a contract it is
-/// the record `Ranked` of `specs/Ranks.antt`. Only `new` takes memory.
+/// The attached threads, the order of the ready ones, the quota groups, and the rank that each thread was given. To a
+/// contract it is the record `Ranked` of `specs/Ranks.antt`. Only `new` takes memory.
 #[derive(Drop)]
 pub struct SchedOf<A: Allocator> {
     seats: Vec<Option<Seat>, A>,
-    ready: Vec<u16, A>,
+    order: Order<A>,
     groups: Vec<Group, A>,
     given: Vec<Option<u16>, A>,
 }
 
 impl<A: Allocator> Model for SchedOf<A> {
-    ghost use Rattle.std.specs.Prelude.{vec_capacity};
-    ghost use Rattle.evl_sched.specs.Ranks.{IsKept, Ranked};
+    ghost use Rattle.evl_sched.specs.Ranks.{Ranked};
+    ghost use Rattle.evl_sched.specs.Wanted.{IsStood};
 
     ghost Value = { Ranked };
 
-    ghost view = { λ s. record { sched = record { seats = s.seats.items; ready = s.ready.items; groups = s.groups.items }; given = s.given.items } };
+    ghost view = { λ s. record { sched = record { seats = s.seats.items; ready = s.order.ready; groups = s.groups.items }; given = s.given.items } };
 
-    ghost invariant = { λ s. IsKept (record { sched = record { seats = s.seats.items; ready = s.ready.items; groups = s.groups.items }; given = s.given.items }) (vec_capacity s.ready) };
+    ghost invariant = { λ s. IsStood (record { sched = record { seats = s.seats.items; ready = s.order.ready; groups = s.groups.items }; given = s.given.items }) s.order.places };
 }
 
 impl<A: Allocator + Clone> SchedOf<A> {
@@ -54,12 +53,12 @@ impl<A: Allocator + Clone> SchedOf<A> {
         ensures fresh { IfOk result (λ s. s ≡ fresh threads groups.now) }
     {
         let seats = no_seats(alloc.clone()?, threads as usize)?;
-        let ready = Vec::with_capacity(alloc.clone()?, threads as usize)?;
+        let order = Order::new(alloc.clone()?, threads)?;
         let given = no_ranks(alloc.clone()?, threads as usize)?;
         let groups = opened(alloc, groups)?;
         Ok(SchedOf {
             seats,
-            ready,
+            order,
             groups,
             given,
         })
@@ -74,7 +73,7 @@ impl<A: Allocator> SchedOf<A> {
         ensures rule { MatchOption result (eligible self.now.sched ≡ []) (λ t. IsPicked (rank_of self.now) (eligible self.now.sched) t.0) }
         ensures sound { IsSoundSched self.now }
     {
-        named(highest_of(&self.seats, &self.groups, &self.given, &self.ready))
+        named(self.order.first())
     }
 
     /// Whether some thread is eligible: attached, out-of-band and not blocked, and, where its policy names a quota group,
@@ -83,7 +82,7 @@ impl<A: Allocator> SchedOf<A> {
         ensures eligible { result ≡ is_anyone_eligible self.now.sched }
         ensures nobody { result ≡ false → eligible self.now.sched ≡ [] }
     {
-        anyone_of(&self.seats, &self.groups, &self.ready)
+        self.order.first().is_some()
     }
 
     /// The base rank of a thread, that of its policy: 512 and its priority under `Fifo` and `Rr`, 256 and its priority
@@ -187,7 +186,13 @@ impl<A: Allocator> SchedOf<A> {
         self.may_attach(thread, policy)?;
         self.seats[thread.0 as usize] = Some(Seat::new(policy, stage));
         self.given[thread.0 as usize] = None;
-        ready::queue(&self.seats, &mut self.ready, thread.0);
+        ready::queue(
+            &self.seats,
+            &self.groups,
+            &self.given,
+            &mut self.order,
+            thread.0,
+        );
         Ok(())
     }
 
@@ -202,7 +207,7 @@ impl<A: Allocator> SchedOf<A> {
     {
         self.seat(thread)?;
         self.seats[thread.0 as usize] = None;
-        ready::take_out(&mut self.ready, thread.0);
+        self.order.leave(thread.0);
         Ok(())
     }
 
@@ -217,7 +222,13 @@ impl<A: Allocator> SchedOf<A> {
     {
         let seat = self.seat_for(thread, policy)?;
         self.seats[thread.0 as usize] = Some(seat.with_policy(policy));
-        ready::move_to_end(&self.seats, &mut self.ready, thread.0);
+        ready::move_to_end(
+            &self.seats,
+            &self.groups,
+            &self.given,
+            &mut self.order,
+            thread.0,
+        );
         Ok(())
     }
 
@@ -236,7 +247,13 @@ impl<A: Allocator> SchedOf<A> {
             return Ok(());
         }
         self.seats[thread.0 as usize] = Some(seat.with_stage(stage));
-        ready::queue(&self.seats, &mut self.ready, thread.0);
+        ready::queue(
+            &self.seats,
+            &self.groups,
+            &self.given,
+            &mut self.order,
+            thread.0,
+        );
         Ok(())
     }
 
@@ -244,7 +261,7 @@ impl<A: Allocator> SchedOf<A> {
     pub fn block(&mut self, thread: ThreadId)
         ensures state { self.new ≡ calls.block self.old thread.0 }
     {
-        ready::take_out(&mut self.ready, thread.0);
+        self.order.leave(thread.0);
     }
 
     /// A thread is blocked no more: it goes to the end of the ready list, where it is attached and out-of-band.
@@ -252,7 +269,13 @@ impl<A: Allocator> SchedOf<A> {
     pub fn ready(&mut self, thread: ThreadId)
         ensures state { self.new ≡ calls.ready self.old thread.0 }
     {
-        ready::queue(&self.seats, &mut self.ready, thread.0);
+        ready::queue(
+            &self.seats,
+            &self.groups,
+            &self.given,
+            &mut self.order,
+            thread.0,
+        );
     }
 
     /// Gives a thread a rank, which counts in place of its base rank until it is attached anew. Its place in the ready
@@ -262,6 +285,13 @@ impl<A: Allocator> SchedOf<A> {
     {
         if (thread.0 as usize) < self.given.len() {
             self.given[thread.0 as usize] = Some(rank);
+            ready::stand(
+                &self.seats,
+                &self.groups,
+                &self.given,
+                &mut self.order,
+                thread.0,
+            );
         }
     }
 
@@ -300,56 +330,70 @@ impl<A: Allocator> SchedOf<A> {
             return;
         }
         self.seats[thread.0 as usize] = Some(seat.with_rest(slice));
-        ready::queue(&self.seats, &mut self.ready, thread.0);
+        ready::queue(
+            &self.seats,
+            &self.groups,
+            &self.given,
+            &mut self.order,
+            thread.0,
+        );
     }
 
     // Charges a quota group, if there is such a group.
     fn drain(&mut self, group: u16, delta: u64)
         ensures state { self.new ≡ with_sched self.old (record self.old.sched { groups = drained self.old.sched.groups group delta }) }
     {
-        if (group as usize) < self.groups.len() {
-            self.groups[group as usize] = self.groups[group as usize].drained(delta);
+        if !drain_group(&mut self.groups, group, delta) {
+            return;
         }
+        ready::stand_grouped(&self.seats, &self.groups, &self.given, &mut self.order);
     }
 
     /// A new second begins: each quota group has its whole budget again. (Xenomai 4: EVL scheduling policies)
     pub fn refill(&mut self)
         ensures state { self.new ≡ calls.refill self.old }
     {
-        refill_all(&mut self.groups);
+        if !refill_all(&mut self.groups) {
+            return;
+        }
+        ready::stand_grouped(&self.seats, &self.groups, &self.given, &mut self.order);
     }
 }
 
-// Each group has its whole budget again.
-fn refill_all<A: Allocator>(groups: &mut Vec<Group, A>)
+// Charges a quota group, if there is such a group, and tells whether it ran out of budget.
+fn drain_group<A: Allocator>(groups: &mut Vec<Group, A>, group: u16, delta: u64) -> bool
+    ensures drained { groups.new.items ≡ drained groups.old.items group delta }
+    ensures same { result ≡ false → (other : Option ℕ) → has_budget groups.new.items other ≡ has_budget groups.old.items other }
+{
+    if group as usize >= groups.len() {
+        return false;
+    }
+    let before = groups[group as usize];
+    let after = before.drained(delta);
+    groups[group as usize] = after;
+    0 < before.budget && after.budget == 0
+}
+
+// Each group has its whole budget again; tells whether one of them had none before.
+fn refill_all<A: Allocator>(groups: &mut Vec<Group, A>) -> bool
     ensures refilled { groups.new.items ≡ refilled groups.old.items }
+    ensures same { result ≡ false → (other : Option ℕ) → has_budget groups.new.items other ≡ has_budget groups.old.items other }
 {
+    let mut is_back = false;
     for i in 0..groups.len() {
-        groups[i] = groups[i].refilled();
+        let before = groups[i];
+        let after = before.refilled();
+        groups[i] = after;
+        is_back = is_turned(is_back, before, after);
     }
+    is_back
 }
 
-// The first of the greatest rank of those that may run.
-fn highest_of<A: Allocator>(
-    seats: &Vec<Option<Seat>, A>,
-    groups: &Vec<Group, A>,
-    given: &Vec<Option<u16>, A>,
-    ready: &Vec<u16, A>,
-) -> Option<u16>
-    ensures highest { result ≡ highest (rank_of (record { sched = record { seats = seats.now.items; ready = []; groups = [] }; given = given.now.items })) (filter (may_run (record { seats = seats.now.items; ready = []; groups = groups.now.items })) ready.now.items) }
+// Whether a group has budget now and had none, or the other way round, or another group did before.
+fn is_turned(other: bool, before: Group, after: Group) -> bool
+    ensures same { result ≡ false → (other ≡ false) × (nat_lt 0 after.budget ≡ nat_lt 0 before.budget) }
 {
-    search::highest(seats, groups, given, ready)
-}
-
-// Whether any of them may run.
-fn anyone_of<A: Allocator>(
-    seats: &Vec<Option<Seat>, A>,
-    groups: &Vec<Group, A>,
-    ready: &Vec<u16, A>,
-) -> bool
-    ensures anyone { result ≡ list_any (may_run (record { seats = seats.now.items; ready = []; groups = groups.now.items })) ready.now.items }
-{
-    search::is_anyone(seats, groups, ready)
+    other || (0 < before.budget) != (0 < after.budget)
 }
 
 // A thread by its number.

@@ -1,11 +1,10 @@
-//! Looking at threads, and for who is picked.
-ghost use Rattle.std.specs.Prelude.{◌≡◌, ℕ, filter, [], None, Some, slice_index_or};
-ghost use Rattle.std.specs.List.{list_any};
+//! Looking at threads.
+ghost use Rattle.std.specs.Prelude.{◌≡◌, [], None, slice_index_or};
 ghost use Rattle.evl_sched.specs.Groups.{has_budget};
 ghost use Rattle.evl_sched.specs.Picks.{may_run};
 ghost use Rattle.evl_sched.specs.Ranks.{rank_of};
-ghost use Rattle.evl_sched.specs.Searching.{higher, highest};
 ghost use Rattle.evl_sched.specs.Threads.{base_of, stage_of};
+ghost use Rattle.evl_sched.specs.Wanted.{names_group, rank_to_run};
 
 use crate::group::Group;
 use crate::policies;
@@ -41,6 +40,16 @@ pub fn may_run(seats: &[Option<Seat>], groups: &[Group], thread: u16) -> bool
 {
     match seat_at(seats, thread) {
         Some(seat) => has_budget(groups, policies::group_of(seat.policy)),
+        None => false,
+    }
+}
+
+/// Whether the policy of a thread names a group.
+pub fn names_group(seats: &[Option<Seat>], thread: u16) -> bool
+    ensures names { result ≡ names_group seats.now thread }
+{
+    match seat_at(seats, thread) {
+        Some(seat) => policies::group_of(seat.policy).is_some(),
         None => false,
     }
 }
@@ -85,53 +94,18 @@ pub fn stage_of(seats: &[Option<Seat>], thread: u16) -> Stage
     }
 }
 
-// Of two the one with the greater rank, and the first at equal ranks.
-fn higher(
-    seats: &[Option<Seat>],
-    given: &[Option<u16>],
-    best: Option<u16>,
-    thread: u16,
-) -> Option<u16>
-    ensures higher { result ≡ higher (rank_of (record { sched = record { seats = seats.now; ready = []; groups = [] }; given = given.now })) best (Some thread) }
-{
-    match best {
-        None => Some(thread),
-        Some(first) => {
-            if rank_of(seats, given, thread) <= rank_of(seats, given, first) {
-                Some(first)
-            } else {
-                Some(thread)
-            }
-        },
-    }
-}
-
-/// The first of the greatest rank of those that may run.
-pub fn highest(
+/// The rank of a thread that may run.
+pub fn rank_to_run(
     seats: &[Option<Seat>],
     groups: &[Group],
     given: &[Option<u16>],
-    ready: &[u16],
+    thread: u16,
 ) -> Option<u16>
-    ensures highest { result ≡ highest (rank_of (record { sched = record { seats = seats.now; ready = []; groups = [] }; given = given.now })) (filter (may_run (record { seats = seats.now; ready = []; groups = groups.now })) ready.now) }
+    ensures rank { result ≡ rank_to_run (record { sched = record { seats = seats.now; ready = []; groups = groups.now }; given = given.now }) thread }
 {
-    let mut best = None;
-    for t in ready {
-        if may_run(seats, groups, *t) {
-            best = higher(seats, given, best, *t);
-        }
+    if may_run(seats, groups, thread) {
+        Some(rank_of(seats, given, thread))
+    } else {
+        None
     }
-    best
-}
-
-/// Whether any of them may run.
-pub fn is_anyone(seats: &[Option<Seat>], groups: &[Group], ready: &[u16]) -> bool
-    ensures anyone { result ≡ list_any (may_run (record { seats = seats.now; ready = []; groups = groups.now })) ready.now }
-{
-    for t in ready {
-        if may_run(seats, groups, *t) {
-            return true;
-        }
-    }
-    false
 }

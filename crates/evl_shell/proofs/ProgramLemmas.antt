@@ -1,9 +1,9 @@
 -- What the program does with its words.
-use Rattle.std.proofs.Common.{◌≡◌, ◌⊎◌, ◌≤◌, inl, inr, ℕ, List, [], ◌∷◌, length, map, option_map, is_some, Bool, false, Option, Some, None, Result, Err, refl, sym, subst, arith}
+use Rattle.std.proofs.Common.{◌≡◌, ◌≢◌, ◌⊎◌, ◌≤◌, inl, inr, ℕ, List, [], ◌∷◌, length, map, option_map, is_some, Bool, false, Option, Some, None, Result, Err, refl, sym, subst, arith}
 use Rattle.std.specs.Borrow.{Bor}
 use Rattle.clap.specs.Words.{IsAmong, Kinds, Text, fault_of}
 use Rattle.clap.specs.declared.error.kind.ErrorKind.{ErrorKind}
-use Rattle.clap.specs.declared.error.kind.ErrorKind.TheVariants.{OutOfMemory}
+use Rattle.clap.specs.declared.error.kind.ErrorKind.TheVariants.{DisplayHelp, OutOfMemory}
 use Rattle.clap.proofs.OnLiterals.{clap_on_literals}
 use Rattle.evl_kernel.specs.States.{Handler}
 use Rattle.evl_scenario.specs.declared.faults.Fault.TheVariants.{Memory}
@@ -34,55 +34,62 @@ asked-file (Some named) path bank given known old new failed end is e = e
 
 -- memory ran out before anything was told
 by_memory : (kinds : Kinds) (file : Option Text) (limit : Option ℕ) (bank : List Handler) (known old new : Option (List ℕ)) (failed : Bool)
-    (quiet spoken : Option (List ℕ)) (answer : ℕ) → Declines (stop_line (Broken Memory)) old new failed quiet spoken 4 answer
-    → AnswersBy kinds file limit bank known old new failed quiet spoken answer
-by_memory [] file limit bank known old new failed quiet spoken answer it =
-    let P : Option (List ℕ) → Type 0 = λ told. Plays bank limit (source file known) old told failed quiet spoken answer in
+    (quiet spoken : Option (List ℕ)) (mute : Bool) (answer : ℕ) → Declines (stop_line (Broken Memory)) old new failed quiet spoken mute 4 answer
+    → AnswersBy kinds file limit bank known old new failed quiet spoken mute answer
+by_memory [] file limit bank known old new failed quiet spoken mute answer it =
+    let P : Option (List ℕ) → Type 0 = λ told. Plays bank limit (source file known) old told failed quiet spoken mute answer in
     subst P (sym it.nothing) (record {
       end = Err (Broken Memory);
       ended = ended-unread bank limit (source file known) old failed (Broken Memory) it.working (inr refl);
       status_is = it.status_is;
       says = it.says;
     })
-by_memory (kind ∷ kinds) file limit bank known old new failed quiet spoken answer it = record { kind = OutOfMemory; among = inl refl; turned = it }
+by_memory (kind ∷ kinds) file limit bank known old new failed quiet spoken mute answer it = record { kind = OutOfMemory; among = inl refl; turned = it }
 
-pub answers-memory : (words : List Text) (bank : List Handler) (known old new : Option (List ℕ)) (failed : Bool) (quiet spoken : Option (List ℕ)) (answer : ℕ)
-    → Declines (stop_line (Broken Memory)) old new failed quiet spoken 4 answer → Answers words bank known old new failed quiet spoken answer
-answers-memory words bank known old new failed quiet spoken answer it =
-    by_memory (fault_of grammar words) (file_of words) (limit_of words) bank known old new failed quiet spoken answer it
+pub answers-memory : (words : List Text) (bank : List Handler) (known old new : Option (List ℕ)) (failed : Bool) (quiet spoken : Option (List ℕ)) (mute : Bool) (answer : ℕ)
+    → Declines (stop_line (Broken Memory)) old new failed quiet spoken mute 4 answer → Answers words bank known old new failed quiet spoken mute answer
+answers-memory words bank known old new failed quiet spoken mute answer it =
+    by_memory (fault_of grammar words) (file_of words) (limit_of words) bank known old new failed quiet spoken mute answer it
 
 -- words that ask for no play
 by_kind : (kinds : Kinds) (file : Option Text) (limit : Option ℕ) (bank : List Handler) (known old new : Option (List ℕ)) (failed : Bool)
-    (quiet spoken : Option (List ℕ)) (answer : ℕ) (kind : ErrorKind) → (kind ≡ OutOfMemory) ⊎ IsAmong kind kinds
-    → TurnsAwayFor kind old new failed quiet spoken answer → AnswersBy kinds file limit bank known old new failed quiet spoken answer
-by_kind [] file limit bank known old new failed quiet spoken answer kind (inl memory) it =
-    let P : ErrorKind → Type 0 = λ k. TurnsAwayFor k old new failed quiet spoken answer in
-    by_memory [] file limit bank known old new failed quiet spoken answer (subst P memory it)
-by_kind [] file limit bank known old new failed quiet spoken answer kind (inr none) it = absurd none
-by_kind (first ∷ kinds) file limit bank known old new failed quiet spoken answer kind why it = record { kind = kind; among = why; turned = it }
+    (quiet spoken : Option (List ℕ)) (mute : Bool) (answer : ℕ) (kind : ErrorKind) → (kind ≡ OutOfMemory) ⊎ IsAmong kind kinds
+    → TurnsAwayFor kind old new failed quiet spoken mute answer → AnswersBy kinds file limit bank known old new failed quiet spoken mute answer
+by_kind [] file limit bank known old new failed quiet spoken mute answer kind (inl memory) it =
+    let P : ErrorKind → Type 0 = λ k. TurnsAwayFor k old new failed quiet spoken mute answer in
+    by_memory [] file limit bank known old new failed quiet spoken mute answer (subst P memory it)
+by_kind [] file limit bank known old new failed quiet spoken mute answer kind (inr none) it = absurd none
+by_kind (first ∷ kinds) file limit bank known old new failed quiet spoken mute answer kind why it = record { kind = kind; among = why; turned = it }
 
 pub turned : (kinds : Kinds) (file : Option Text) (limit : Option ℕ) (bank : List Handler) (known old new : Option (List ℕ)) (failed : Bool)
-    (quiet spoken : Option (List ℕ)) (answer : ℕ) (kind : ErrorKind) → (kind ≡ OutOfMemory) ⊎ IsAmong kind kinds
-    → TurnsAway kind old new failed quiet spoken answer → AnswersBy kinds file limit bank known old new failed quiet spoken answer
-turned kinds file limit bank known old new failed quiet spoken answer kind why away = elim away [
-  | inl memory ↦ by_memory kinds file limit bank known old new failed quiet spoken answer memory
-  | inr it ↦ by_kind kinds file limit bank known old new failed quiet spoken answer kind why it
+    (quiet spoken : Option (List ℕ)) (mute : Bool) (answer : ℕ) (kind : ErrorKind) → (kind ≡ OutOfMemory) ⊎ IsAmong kind kinds
+    → TurnsAway kind old new failed quiet spoken mute answer → AnswersBy kinds file limit bank known old new failed quiet spoken mute answer
+turned kinds file limit bank known old new failed quiet spoken mute answer kind why away = elim away [
+  | inl memory ↦ by_memory kinds file limit bank known old new failed quiet spoken mute answer memory
+  | inr it ↦ by_kind kinds file limit bank known old new failed quiet spoken mute answer kind why it
 ]
+
+-- words that are refused for another reason than these two
+pub refused_for : (kind : ErrorKind) (text : Text) (old new : Option (List ℕ)) (failed : Bool) (quiet spoken : Option (List ℕ)) (mute : Bool) (answer : ℕ)
+    → kind ≢ DisplayHelp → kind ≢ OutOfMemory → text ≢ [] → Declines text old new failed quiet spoken mute 3 answer → TurnsAwayFor kind old new failed quiet spoken mute answer
+refused_for DisplayHelp text old new failed quiet spoken mute answer no_help in_memory filled it = absurd (no_help refl)
+refused_for OutOfMemory text old new failed quiet spoken mute answer no_help in_memory filled it = absurd (in_memory refl)
+refused_for kind text old new failed quiet spoken mute answer no_help in_memory filled it = (text, filled, it)
 
 -- words that ask for a play
 pub played : (kinds : Kinds) (file asked : Option Text) (limit given : Option ℕ) (bank : List Handler) (known old new : Option (List ℕ)) (failed : Bool)
-    (quiet spoken : Option (List ℕ)) (answer : ℕ) → kinds ≡ [] → asked ≡ file → given ≡ limit
-    → Plays bank given (source asked known) old new failed quiet spoken answer → AnswersBy kinds file limit bank known old new failed quiet spoken answer
-played [] file asked limit given bank known old new failed quiet spoken answer none named under it =
-    let P : Option Text → Type 0 = λ f. Plays bank given (source f known) old new failed quiet spoken answer in
-    let Q : Option ℕ → Type 0 = λ l. Plays bank l (source file known) old new failed quiet spoken answer in
+    (quiet spoken : Option (List ℕ)) (mute : Bool) (answer : ℕ) → kinds ≡ [] → asked ≡ file → given ≡ limit
+    → Plays bank given (source asked known) old new failed quiet spoken mute answer → AnswersBy kinds file limit bank known old new failed quiet spoken mute answer
+played [] file asked limit given bank known old new failed quiet spoken mute answer none named under it =
+    let P : Option Text → Type 0 = λ f. Plays bank given (source f known) old new failed quiet spoken mute answer in
+    let Q : Option ℕ → Type 0 = λ l. Plays bank l (source file known) old new failed quiet spoken mute answer in
     subst Q under (subst P named it)
-played (kind ∷ kinds) file asked limit given bank known old new failed quiet spoken answer none named under it = cc
+played (kind ∷ kinds) file asked limit given bank known old new failed quiet spoken mute answer none named under it = cc
 
 -- without words behind the program's name the input is played under its own limit
-pub plainly : (words : List (Bor Text)) (bank : List Handler) (known old new : Option (List ℕ)) (failed : Bool) (quiet spoken : Option (List ℕ)) (answer : ℕ)
-    → length words ≤ 1 → Answers (map (λ s. s.now) words) bank known old new failed quiet spoken answer → Plays bank None known old new failed quiet spoken answer
+pub plainly : (words : List (Bor Text)) (bank : List Handler) (known old new : Option (List ℕ)) (failed : Bool) (quiet spoken : Option (List ℕ)) (mute : Bool) (answer : ℕ)
+    → length words ≤ 1 → Answers (map (λ s. s.now) words) bank known old new failed quiet spoken mute answer → Plays bank None known old new failed quiet spoken mute answer
 unfolding clap_on_literals
-plainly [] bank known old new failed quiet spoken answer few it = it
-plainly (name ∷ []) bank known old new failed quiet spoken answer few it = it
-plainly (name ∷ word ∷ rest) bank known old new failed quiet spoken answer few it = absurd (omega (arith, few))
+plainly [] bank known old new failed quiet spoken mute answer few it = it
+plainly (name ∷ []) bank known old new failed quiet spoken mute answer few it = it
+plainly (name ∷ word ∷ rest) bank known old new failed quiet spoken mute answer few it = absurd (omega (arith, few))

@@ -1,5 +1,6 @@
 -- What the program reads, tells and answers.
-use Rattle.std.specs.Prelude.{◌≡◌, ℕ, List, [], ◌++◌, take, decimal, codes, Bool, false, Option, IfSome, Result, Ok, Err}
+use Rattle.std.specs.Prelude.{◌≡◌, ◌≤◌, ℕ, List, [], ◌++◌, length, take, decimal, codes, Bool, false, Option, IfSome, Result, Ok, Err}
+use Rattle.std.specs.Io.KnownBytes.{Consumes}
 use Rattle.evl_kernel.specs.States.{Handler}
 use Rattle.evl_scenario.specs.declared.faults.Fault.{Fault}
 use Rattle.evl_scenario.specs.declared.faults.Fault.TheVariants.{Text, Board, Step, Memory, Write}
@@ -8,11 +9,15 @@ use Rattle.evl_shell.specs.declared.plays.Stop.TheVariants.{NoFile, Broken}
 use Rattle.evl_shell.specs.Faults.{Writes, WritesPart, WritesLines, is_write_fault}
 use Rattle.evl_scenario.specs.Lines.{line_feed}
 use Rattle.evl_shell.specs.Runs.{trace_of}
-use Rattle.evl_shell.specs.Sinks.{TakesPrefix}
+use Rattle.evl_shell.specs.Sinks.{Takes}
 
 -- all of the input where it is known, but for what is past 1,048,577 bytes
 abbrev pub IsInput : Option (List ℕ) → List ℕ → Type 0
 IsInput known text = IfSome known (λ bytes. text ≡ take 1048577 bytes)
+
+-- of the input at most 1,048,577 bytes were read
+abbrev pub ReadsFew : Option (List ℕ) → Option (List ℕ) → Type 0
+ReadsFew known left = (front : List ℕ) × (length front ≤ 1048577) × Consumes known left front
 
 abbrev pub status_of : Stop → ℕ
 status_of NoFile = 2
@@ -68,9 +73,9 @@ abbrev pub said : Result (Unit {0}) Stop → List ℕ
 said (Ok done) = []
 said (Err stop) = stop_line stop
 
--- the program ended somehow, answered the status of that end, and said its line, or a front part where `err` failed
-pub record Plays (bank : List Handler) (given : Option ℕ) (known old new : Option (List ℕ)) (failed : Bool) (quiet spoken : Option (List ℕ)) (answer : ℕ) : Type 0 where
+-- the program ended somehow, answered the status of that end, and said its line whole, or a front part where `err` has failed
+pub record Plays (bank : List Handler) (given : Option ℕ) (known old new : Option (List ℕ)) (failed : Bool) (quiet spoken : Option (List ℕ)) (mute : Bool) (answer : ℕ) : Type 0 where
   pub end : Result (Unit {0}) Stop
   pub ended : Ended bank given known old new failed end
   pub status_is : answer ≡ status end
-  pub says : TakesPrefix quiet spoken (said end)
+  pub says : Takes quiet spoken (said end) mute

@@ -5,7 +5,7 @@ ghost use Rattle.evl_scenario.specs.Lines.{line_feed};
 ghost use Rattle.evl_shell.specs.Sinks.{TakesPrefix, Takes};
 ghost use Rattle.evl_shell.specs.Runs.{handlers_of};
 ghost use Rattle.evl_shell.specs.Plays as plays;
-ghost use Rattle.evl_shell.specs.Plays.{IsInput, Ended, stop_line};
+ghost use Rattle.evl_shell.specs.Plays.{Ended, IsInput, ReadsFew, stop_line};
 
 use crate::lent::OverLent;
 use crate::runs::run;
@@ -34,6 +34,7 @@ pub enum Stop {
 fn read_input<R: Read>(alloc: Global, input: &mut R) -> Result<Vec<u8>, Stop>
     ensures text { IfOk result (λ text. IsInput (R.remaining input.old) text.items) }
     ensures stop { IfErr result (λ e. (e ≡ Stop.NoFile) ⊎ (e ≡ Stop.Broken Fault.Memory)) }
+    ensures few { ReadsFew (R.remaining input.old) (R.remaining input.new) }
 {
     let mut text = Vec::new(alloc);
     let mut buffer = [0u8; PART];
@@ -52,8 +53,8 @@ fn read_input<R: Read>(alloc: Global, input: &mut R) -> Result<Vec<u8>, Stop>
     Ok(text)
 }
 
-// Puts a line whole, or a front part where the sink fails. Its failure is ignored.
-fn put_line<S: Sink>(err: &mut S, line: &[u8])
+// Puts a text whole, or a front part where the sink fails. Its failure is ignored.
+pub(crate) fn put_line<S: Sink>(err: &mut S, line: &[u8])
     requires working { S.has_failed err.old ≡ false }
     ensures takes { Takes (S.told err.old) (S.told err.new) line.now (S.has_failed err.new) }
     ensures place { S.place err.new ≡ S.place err.old }
@@ -146,7 +147,8 @@ pub fn play_input<R: Read, S: Sink>(
 ) -> Result<(), Stop>
     requires working { S.has_failed out.old ≡ false }
     requires few { length bank.items ≤ callback_limit }
-    ensures { Ended (handlers_of (λ (c : _). c.kinds.0) (λ (c : _). c.plan.value) bank.items) limit (R.remaining input.old) (S.told out.old) (S.told out.new) (S.has_failed out.new) result }
+    ensures ended { Ended (handlers_of (λ (c : _). c.kinds.0) (λ (c : _). c.plan.value) bank.items) limit (R.remaining input.old) (S.told out.old) (S.told out.new) (S.has_failed out.new) result }
+    ensures few { ReadsFew (R.remaining input.old) (R.remaining input.new) }
 {
     let text = match read_input(alloc, input) {
         Ok(text) => text,

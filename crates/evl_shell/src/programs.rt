@@ -1,15 +1,15 @@
 //! The program: what it does with its words.
-ghost use Rattle.std.specs.Prelude.{◌≡◌, ◌≤◌, false, true, length, map, None, is_some, option_map, IfErr};
+ghost use Rattle.std.specs.Prelude.{◌≡◌, ◌≢◌, ◌≤◌, [], false, true, length, map, None, is_some, option_map, IfErr};
 ghost use Rattle.evl_kernel.specs.Limits.{callback_limit};
 ghost use Rattle.clap.specs.Words.{kind_of};
-ghost use Rattle.evl_shell.specs.Sinks.{TakesPrefix};
+ghost use Rattle.evl_shell.specs.Sinks.{Takes};
 ghost use Rattle.evl_shell.specs.Runs.{handlers_of};
-ghost use Rattle.evl_shell.specs.Plays.{Ended, Plays, said, status};
-ghost use Rattle.evl_shell.specs.Programs.{Answers, Helps, TurnsAway, source};
+ghost use Rattle.evl_shell.specs.Plays.{Ended, Plays, ReadsFew, said, status};
+ghost use Rattle.evl_shell.specs.Programs.{Answers, AnswersAtLeast, Helps, PlaysAtLeast, TurnsAway, source};
 ghost use Rattle.evl_shell.specs.Words.{file_of};
 
 use crate::lent::OverLent;
-use crate::plays::{Stop, play_input, stopped};
+use crate::plays::{Stop, conclude, play_input, put_line};
 use crate::sinks::{Sink, SinkFailed, put_all};
 use crate::words::{Asked, read_words};
 use clap::Error;
@@ -23,6 +23,12 @@ use std::rt::Files;
 
 // The status of help that was told.
 const DONE: u8 = 0;
+
+// The status of words that are refused.
+const REFUSED: u8 = 3;
+
+// What is told where `clap` has no text.
+const USAGE: &str = "Usage: evl [OPTIONS] [FILE]\n";
 
 // Opens a file to read it.
 fn open_file<F: Files>(rt: &F, path: &str) -> Result<F::File, Stop>
@@ -66,6 +72,7 @@ fn play_asked<F: Files, R: Read, S: Sink>(
     requires few { length bank.items ≤ callback_limit }
     ensures ended { Ended (handlers_of (λ (c : _). c.kinds.0) (λ (c : _). c.plan.value) bank.items) asked.entry.limit (source (option_map (λ s. s.now) asked.entry.file) (R.remaining input.old)) (S.told out.old) (S.told out.new) (S.has_failed out.new) result }
     ensures untouched { is_some asked.entry.file ≡ true → input.new ≡ input.old }
+    ensures few { ReadsFew (R.remaining input.old) (R.remaining input.new) }
 {
     match asked.file {
         None => play_input(alloc, asked.limit, bank, input, out),
@@ -74,58 +81,64 @@ fn play_asked<F: Files, R: Read, S: Sink>(
 }
 
 // Says how a play ended, where it isn't done, and answers the status; a failure of `err` is ignored.
-fn tell_end<E: Write>(err: &mut E, ended: Result<(), Stop>) -> u8
-    ensures says { TakesPrefix (E.contents err.old) (E.contents err.new) (said ended) }
+fn tell_end<T: Sink>(err: &mut T, ended: Result<(), Stop>) -> u8
+    requires speaking { T.has_failed err.old ≡ false }
+    ensures says { Takes (T.told err.old) (T.told err.new) (said ended) (T.has_failed err.new) }
     ensures status { result ≡ status ended }
+    ensures place { T.place err.new ≡ T.place err.old }
 {
     match ended {
-        Ok(()) => 0,
-        Err(stop) => stopped(err, stop),
+        Ok(()) => DONE,
+        Err(stop) => conclude(err, stop),
     }
+}
+
+// The text, or a line in its place where it is empty.
+fn text_or_usage(text: &str) -> &str
+    ensures { result.now ≢ [] }
+{
+    if text.is_empty() { USAGE } else { text }
 }
 
 // Puts the help text, and answers the status.
-fn show_help<S: Sink, E: Write>(text: &str, out: &mut S, err: &mut E) -> u8
+fn show_help<S: Sink, T: Sink>(text: &str, out: &mut S, err: &mut T) -> u8
     requires working { S.has_failed out.old ≡ false }
-    ensures { Helps text.now (S.told out.old) (S.told out.new) (S.has_failed out.new) (E.contents err.old) (E.contents err.new) result }
+    requires speaking { T.has_failed err.old ≡ false }
+    ensures helps { Helps text.now (S.told out.old) (S.told out.new) (S.has_failed out.new) (T.told err.old) (T.told err.new) (T.has_failed err.new) result }
+    ensures place { T.place err.new ≡ T.place err.old }
 {
     match put_all(out, text.as_bytes()) {
         Ok(()) => DONE,
-        Err(SinkFailed) => stopped(err, Stop::Broken(Fault::Write)),
+        Err(SinkFailed) => conclude(err, Stop::Broken(Fault::Write)),
     }
 }
 
-// Writes why the words are refused, and answers the status; a failure of `err` is ignored.
-fn refuse<E: Write>(text: &str, err: &mut E) -> u8
-    ensures says { TakesPrefix (E.contents err.old) (E.contents err.new) text.now }
+// Says why the words are refused, and answers the status; a failure of `err` is ignored.
+fn refuse<T: Sink>(text: &str, err: &mut T) -> u8
+    requires speaking { T.has_failed err.old ≡ false }
+    ensures says { Takes (T.told err.old) (T.told err.new) text.now (T.has_failed err.new) }
     ensures status { result ≡ 3 }
+    ensures place { T.place err.new ≡ T.place err.old }
 {
-    let mut sink = OverLent {
-        writer: err,
-        failed: false,
-    };
-    match put_all(&mut sink, text.as_bytes()) {
-        Ok(()) => {}
-        Err(SinkFailed) => {}
-    }
-
-    // The proof reads what `err` holds from this use of the writer.
-    let _ = &*sink.writer;
-    3
+    put_line(err, text.as_bytes());
+    REFUSED
 }
 
 // Answers words that ask for no play: they are refused, or ask for help.
-fn turn_away<S: Sink, E: Write>(alloc: Global, error: &Error, out: &mut S, err: &mut E) -> u8
+fn turn_away<S: Sink, T: Sink>(alloc: Global, error: &Error, out: &mut S, err: &mut T) -> u8
     requires working { S.has_failed out.old ≡ false }
-    ensures { TurnsAway (kind_of error.now) (S.told out.old) (S.told out.new) (S.has_failed out.new) (E.contents err.old) (E.contents err.new) result }
+    requires speaking { T.has_failed err.old ≡ false }
+    ensures turns { TurnsAway (kind_of error.now) (S.told out.old) (S.told out.new) (S.has_failed out.new) (T.told err.old) (T.told err.new) (T.has_failed err.new) result }
+    ensures place { T.place err.new ≡ T.place err.old }
 {
     let Ok(text) = error.to_string(alloc) else {
-        return stopped(err, Stop::Broken(Fault::Memory));
+        return conclude(err, Stop::Broken(Fault::Memory));
     };
+    let shown = text_or_usage(text.as_str());
     match error.kind() {
-        ErrorKind::OutOfMemory => stopped(err, Stop::Broken(Fault::Memory)),
-        ErrorKind::DisplayHelp => show_help(text.as_str(), out, err),
-        _ => refuse(text.as_str(), err),
+        ErrorKind::OutOfMemory => conclude(err, Stop::Broken(Fault::Memory)),
+        ErrorKind::DisplayHelp => show_help(shown, out, err),
+        _ => refuse(shown, err),
     }
 }
 
@@ -136,7 +149,32 @@ fn turn_away<S: Sink, E: Write>(alloc: Global, error: &Error, out: &mut S, err: 
 ///
 /// The status is 0 where that is done, and for `--help`, whose text goes to the sink; 1 the sink failed; 2 the scenario
 /// was refused, the file couldn't be opened, or a read failed; 3 the words were refused; 4 no memory. Where it isn't 0,
-/// `err` is told why, in one line but for status 3; a failure of `err` is ignored (this profile).
+/// `err` is told why, whole unless it fails, in one line but for status 3 (this profile).
+pub fn play_into<F: Files, R: Read, S: Sink, T: Sink>(
+    rt: &F,
+    alloc: Global,
+    words: &[&str],
+    bank: Vec<Callback>,
+    input: &mut R,
+    out: &mut S,
+    err: &mut T,
+) -> u8
+    requires working { S.has_failed out.old ≡ false }
+    requires speaking { T.has_failed err.old ≡ false }
+    requires few { length bank.items ≤ callback_limit }
+    ensures answers { Answers (map (λ s. s.now) words.now) (handlers_of (λ (c : _). c.kinds.0) (λ (c : _). c.plan.value) bank.items) (R.remaining input.old) (S.told out.old) (S.told out.new) (S.has_failed out.new) (T.told err.old) (T.told err.new) (T.has_failed err.new) result }
+    ensures untouched { is_some (file_of (map (λ s. s.now) words.now)) ≡ true → input.new ≡ input.old }
+    ensures few { ReadsFew (R.remaining input.old) (R.remaining input.new) }
+    ensures plain { length words.now ≤ 1 → Plays (handlers_of (λ (c : _). c.kinds.0) (λ (c : _). c.plan.value) bank.items) None (R.remaining input.old) (S.told out.old) (S.told out.new) (S.has_failed out.new) (T.told err.old) (T.told err.new) (T.has_failed err.new) result }
+    ensures place { T.place err.new ≡ T.place err.old }
+{
+    match read_words(alloc, words) {
+        Ok(asked) => tell_end(err, play_asked(rt, alloc, asked, bank, input, out)),
+        Err(error) => turn_away(alloc, &error, out, err),
+    }
+}
+
+/// The same with a writer for `err`, of which nobody knows whether it has failed (this profile).
 pub fn play<F: Files, R: Read, S: Sink, E: Write>(
     rt: &F,
     alloc: Global,
@@ -148,12 +186,18 @@ pub fn play<F: Files, R: Read, S: Sink, E: Write>(
 ) -> u8
     requires working { S.has_failed out.old ≡ false }
     requires few { length bank.items ≤ callback_limit }
-    ensures answers { Answers (map (λ s. s.now) words.now) (handlers_of (λ (c : _). c.kinds.0) (λ (c : _). c.plan.value) bank.items) (R.remaining input.old) (S.told out.old) (S.told out.new) (S.has_failed out.new) (E.contents err.old) (E.contents err.new) result }
+    ensures answers { AnswersAtLeast (map (λ s. s.now) words.now) (handlers_of (λ (c : _). c.kinds.0) (λ (c : _). c.plan.value) bank.items) (R.remaining input.old) (S.told out.old) (S.told out.new) (S.has_failed out.new) (E.contents err.old) (E.contents err.new) result }
     ensures untouched { is_some (file_of (map (λ s. s.now) words.now)) ≡ true → input.new ≡ input.old }
-    ensures plain { length words.now ≤ 1 → Plays (handlers_of (λ (c : _). c.kinds.0) (λ (c : _). c.plan.value) bank.items) None (R.remaining input.old) (S.told out.old) (S.told out.new) (S.has_failed out.new) (E.contents err.old) (E.contents err.new) result }
+    ensures few { ReadsFew (R.remaining input.old) (R.remaining input.new) }
+    ensures plain { length words.now ≤ 1 → PlaysAtLeast (handlers_of (λ (c : _). c.kinds.0) (λ (c : _). c.plan.value) bank.items) None (R.remaining input.old) (S.told out.old) (S.told out.new) (S.has_failed out.new) (E.contents err.old) (E.contents err.new) result }
 {
-    match read_words(alloc, words) {
-        Ok(asked) => tell_end(err, play_asked(rt, alloc, asked, bank, input, out)),
-        Err(error) => turn_away(alloc, &error, out, err),
-    }
+    let mut sink = OverLent {
+        writer: err,
+        failed: false,
+    };
+    let status = play_into(rt, alloc, words, bank, input, out, &mut sink);
+
+    // The proof reads what `err` holds from this use of the writer.
+    let _ = &*sink.writer;
+    status
 }

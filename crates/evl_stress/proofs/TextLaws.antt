@@ -11,6 +11,6 @@ pub unwritten_is_untold :
     (h : History) (why : Unwritten) → IsUnwritten why (script_of_history (without_staxes h.board) 1000000 h.entries)
     → IsUntold h (failure.Unwritten why)
 unwritten_is_untold h unwritten.Board no_keys = no_keys
-unwritten_is_untold h unwritten.Limit out_of_range = absurd (true≢false out_of_range)
-unwritten_is_untold h unwritten.TooLong long = long
+unwritten_is_untold h unwritten.Limit out_of_range = absurd (true≢false out_of_range.1)
+unwritten_is_untold h unwritten.TooLong long = long.1.1
 unwritten_is_untold h unwritten.Memory short = short

@@ -100,7 +100,7 @@ fn lets_go<C: Handler, A: Allocator, R: Wait>(
     finishes_lock(rt, machine, caller, tools, watch);
     unlocks_all(rt, machine, caller, tools);
     leaves_all(machine, caller, tools);
-    watch.is_done();
+    watch.count_done();
 }
 
 // Lets time pass, and gives what others may wait for.

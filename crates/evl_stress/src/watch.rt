@@ -35,8 +35,8 @@ impl Watch {
         self.waiting.fetch_sub(1, Ordering::SeqCst);
     }
 
-    /// A thread has made all its calls.
-    pub fn is_done(&self) {
+    /// Counts a thread as done: it has made all its calls.
+    pub fn count_done(&self) {
         self.done.fetch_add(1, Ordering::SeqCst);
     }
 

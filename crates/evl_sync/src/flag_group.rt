@@ -1,14 +1,14 @@
 //! One flag group.
-ghost use Rattle.std.specs.Prelude.{◌≡◌, ◌<◌, ◌≤◌, false, nat_lt, length, IfErr, IfSome, Ok};
-ghost use Rattle.std.specs.List.{position, position_or_len};
+ghost use Rattle.std.specs.Prelude.{◌≡◌, ◌<◌, ◌≤◌, false, length, IfErr, Ok};
 ghost use Rattle.evl_base.specs.Limits.{thread_limit};
-ghost use Rattle.evl_sync.specs.Queues.{dropped, stands_in};
+ghost use Rattle.evl_sync.specs.Queues.{stands_in};
 ghost use Rattle.evl_sync.specs.Steps.{stepped, unless};
 ghost use Rattle.evl_sync.specs.FlagGroups.{IsSoundGroup, begin_take, drop_waiter, opened, pairs, post, post_refusal, take_refusal, try_take, walk_of, walked};
 
 use crate::THREADS;
 use crate::flag_waiter::{FlagWaiter, Served};
 use crate::kinds::{is_empty_mask, taken};
+use crate::ranked::{place_for, without};
 use arrayvec::ArrayVec;
 use evl_base::{Refusal, Take, ThreadId};
 use std::marker::Model;
@@ -163,38 +163,4 @@ fn walk(
         }
     }
     (served, waiting, left)
-}
-
-// All but this thread.
-fn without(waiters: &[FlagWaiter], thread: u16) -> ArrayVec<FlagWaiter, THREADS>
-    requires few { length waiters.now ≤ thread_limit }
-    ensures dropped { result.items ≡ dropped (λ w. w.thread) thread waiters.now }
-{
-    let mut kept = ArrayVec::new();
-    for waiter in waiters {
-        if waiter.thread != thread {
-            kept.push(*waiter);
-        }
-    }
-    kept
-}
-
-// The place behind those of this rank or a greater one.
-#[tactic(auto, using(crate::proofs::QueueLaws::place_found, crate::proofs::QueueLaws::place_behind))]
-fn place_for(waiters: &[FlagWaiter], rank: u16) -> usize
-    ensures place { result ≡ position_or_len (λ w. nat_lt w.rank rank) waiters.now }
-    ensures within { result ≤ length waiters.now }
-{
-    match first_below(waiters, rank) {
-        Some(place) => place,
-        None => waiters.len(),
-    }
-}
-
-// The first of a lower rank.
-fn first_below(waiters: &[FlagWaiter], rank: u16) -> Option<usize>
-    ensures first { result ≡ position (λ w. nat_lt w.rank rank) waiters.now }
-    ensures within { IfSome result (λ place. place < length waiters.now) }
-{
-    waiters.iter().position(|waiter| waiter.rank < rank)
 }

@@ -1,6 +1,7 @@
 //! A thread that waits for flags, and one that was served.
 ghost use Rattle.std.specs.Prelude.{◌≡◌};
 
+use crate::ranked::Ranked;
 use evl_base::{Take, ThreadId};
 use std::default::Default;
 
@@ -27,6 +28,20 @@ impl Default for FlagWaiter {
             rank: 0,
             kind: Take::Any,
         }
+    }
+}
+
+impl Ranked for FlagWaiter {
+    ghost thread_of = { λ w. w.thread };
+
+    ghost rank_of = { λ w. w.rank };
+
+    fn thread(&self) -> u16 {
+        self.thread
+    }
+
+    fn rank(&self) -> u16 {
+        self.rank
     }
 }
 

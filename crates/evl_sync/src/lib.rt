@@ -5,6 +5,7 @@ mod arrival_queue;
 mod flag_group;
 mod flag_waiter;
 mod kinds;
+mod ranked;
 mod sem;
 mod wait_queue;
 mod waiter;

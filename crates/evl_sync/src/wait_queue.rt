@@ -1,10 +1,10 @@
 //! Threads that wait, by rank and arrival.
-ghost use Rattle.std.specs.Prelude.{◌≡◌, ◌<◌, ◌≤◌, [], false, nat_lt, length, IfSome};
-ghost use Rattle.std.specs.List.{position, position_or_len};
+ghost use Rattle.std.specs.Prelude.{◌≡◌, ◌<◌, ◌≤◌, [], false, length};
 ghost use Rattle.evl_base.specs.Limits.{thread_limit};
 ghost use Rattle.evl_sync.specs.Queues.{IsKept, dropped, enqueued, first_of, number_of, rest_of, stands_in};
 
 use crate::THREADS;
+use crate::ranked::{place_for, without};
 use crate::waiter::Waiter;
 use arrayvec::ArrayVec;
 use evl_base::ThreadId;
@@ -105,38 +105,4 @@ fn stands_in(waiters: &[Waiter], thread: u16) -> bool
     ensures there { result ≡ stands_in (λ w. w.thread) thread waiters.now }
 {
     waiters.iter().any(|waiter| waiter.thread == thread)
-}
-
-// All but this thread.
-fn without(waiters: &[Waiter], thread: u16) -> ArrayVec<Waiter, THREADS>
-    requires few { length waiters.now ≤ thread_limit }
-    ensures dropped { result.items ≡ dropped (λ w. w.thread) thread waiters.now }
-{
-    let mut kept = ArrayVec::new();
-    for waiter in waiters {
-        if waiter.thread != thread {
-            kept.push(*waiter);
-        }
-    }
-    kept
-}
-
-// The place behind those of this rank or a greater one.
-#[tactic(auto, using(crate::proofs::QueueLaws::place_found, crate::proofs::QueueLaws::place_behind))]
-fn place_for(waiters: &[Waiter], rank: u16) -> usize
-    ensures place { result ≡ position_or_len (λ w. nat_lt w.rank rank) waiters.now }
-    ensures within { result ≤ length waiters.now }
-{
-    match first_below(waiters, rank) {
-        Some(place) => place,
-        None => waiters.len(),
-    }
-}
-
-// The first of a lower rank.
-fn first_below(waiters: &[Waiter], rank: u16) -> Option<usize>
-    ensures first { result ≡ position (λ w. nat_lt w.rank rank) waiters.now }
-    ensures within { IfSome result (λ place. place < length waiters.now) }
-{
-    waiters.iter().position(|waiter| waiter.rank < rank)
 }

@@ -1,4 +1,5 @@
 //! A waiting thread.
+use crate::ranked::Ranked;
 
 /// A waiting thread, with the effective rank that it had when its wait began: a rank that it is given later doesn't move
 /// it (this profile).
@@ -8,4 +9,18 @@ pub struct Waiter {
     pub thread: u16,
     /// Its rank at the beginning of the wait.
     pub rank: u16,
+}
+
+impl Ranked for Waiter {
+    ghost thread_of = { λ w. w.thread };
+
+    ghost rank_of = { λ w. w.rank };
+
+    fn thread(&self) -> u16 {
+        self.thread
+    }
+
+    fn rank(&self) -> u16 {
+        self.rank
+    }
 }

@@ -2,6 +2,8 @@
 ghost use Rattle.std.specs.Prelude.{◌≡◌, ◌<◌, All, vec_len, IfOk};
 ghost use Rattle.evl_words.specs.GateCalls.{IsSeatOf, IsSameSeat};
 
+mod racing;
+
 use crate::short::{Making, is_made_where_it_fits};
 use evl_base::{Refusal, Stage, StaxId};
 use evl_words::{Left, StaxGate, StaxPass, StaxSeat};
@@ -219,7 +221,7 @@ fn words_are(alloc: Global, steps: &[Step], wanted: &[(usize, u64)]) -> bool {
     true
 }
 
-// Row gate_1, while seats 0 and 1 hold the gate in-band: whom it keeps out.
+// Row gate_1, while seats 0 and 1 hold the gate in-band, and once one of them has left: whom it keeps out.
 #[test]
 fn two_inband_seats_keep_others_out(rt: HostRuntime) {
     let steps = [
@@ -228,6 +230,8 @@ fn two_inband_seats_keep_others_out(rt: HostRuntime) {
         (2, Act::Enter(Stage::Inband), Told::Refused(Refusal::Limit)),
         (3, Act::Enter(Stage::Oob), Told::Refused(Refusal::Again)),
         (0, Act::Enter(Stage::Inband), Told::Refused(Refusal::Busy)),
+        (0, Act::Leave(0), Told::Left(Left::Others)),
+        (3, Act::Enter(Stage::Oob), Told::Refused(Refusal::Again)),
     ];
     assert!(rt; word_after(rt.alloc(), 2, 4, 1, &steps).is_some());
 }

@@ -20,7 +20,8 @@ use arrayvec::ArrayVec;
 use evl_base::{Board, LineNo, MutexId, MutexKind, Policy, Refusal, SemId, Stage, StaxId};
 use evl_machine::{Caller, Machine};
 use rows::{
-    Row, Step, answers, come_back, first_of, gets_the_kernel, is_row, is_told, last_of, made, taken,
+    Row, Step, answers, come_back, first_of, gets_the_kernel, is_row, is_told, last_of, made,
+    one_of, taken,
 };
 use std::alloc::Global;
 
@@ -139,12 +140,39 @@ fn core_held(rt: HostRuntime) {
 }
 
 #[derive(Drop)]
-struct TakenOnce;
+struct HeldByTheSecond;
+
+impl Row for HeldByTheSecond {
+    // The second caller has the core, and the first is told that it is busy.
+    fn is_told(self, machine: &Machine, callers: &mut Vec<Caller>, passes: &mut Passes) -> bool {
+        let attached = answers(machine, callers, passes, &BOTH_ATTACH);
+        let Some(mut first) = first_of(machine, callers) else {
+            return false;
+        };
+        let Some(second) = first_of(machine, callers) else {
+            return false;
+        };
+        let held = held_row(machine, second, &mut first, passes).is_some();
+        attached && held
+    }
+}
+
+// Row core_held with the threads' parts exchanged, while one of them has the core.
+#[test]
+fn core_held_by_the_other(rt: HostRuntime) {
+    assert!(rt; is_told(rt.alloc(), board_of_two(), 100, HeldByTheSecond));
+}
+
+#[derive(Drop)]
+struct TakenOnce {
+    // Whether thread 1 takes the core, and not thread 0.
+    by_the_last: bool,
+}
 
 impl Row for TakenOnce {
-    // The first caller has the core, and the second doesn't get it; nothing is entered.
+    // One caller has the core, and the other doesn't get it; nothing is entered.
     fn is_told(self, machine: &Machine, callers: &mut Vec<Caller>, _passes: &mut Passes) -> bool {
-        let Some(first) = first_of(machine, callers) else {
+        let Some(first) = one_of(machine, callers, self.by_the_last) else {
             return false;
         };
         let Some(second) = first_of(machine, callers) else {
@@ -162,7 +190,9 @@ impl Row for TakenOnce {
 
 #[test]
 fn held_core_is_not_taken(rt: HostRuntime) {
-    assert!(rt; is_told(rt.alloc(), board_of_two(), 100, TakenOnce));
+    for by_the_last in [false, true] {
+        assert!(rt; is_told(rt.alloc(), board_of_two(), 100, TakenOnce { by_the_last }));
+    }
 }
 
 // Why no machine is made with a history of so many calls; none where it is made.

@@ -24,8 +24,6 @@ enum Act {
     Try,
     Unlock,
     Claim,
-    // Claims, and settles at once where it has won.
-    Win,
     Offer(u16, bool),
     Free,
     Accept,
@@ -121,16 +119,6 @@ fn free(word: &MutexWord, seat: &mut MutexSeat, pass: Option<MutexPass>) -> Told
     }
 }
 
-fn win(word: &MutexWord, seat: &mut MutexSeat, passes: &mut Vec<MutexPass>) -> Told
-    requires { IsSeatOf seat.old word.now }
-    ensures { IsSameSeat seat.old seat.new }
-{
-    match word.claim(seat) {
-        Claim::Won => passed(passes, Ok(word.settle(seat))),
-        found => Told::Found(found),
-    }
-}
-
 fn forget(word: &MutexWord, seat: &mut MutexSeat) -> Told
     requires { IsSeatOf seat.old word.now }
     ensures { IsSameSeat seat.old seat.new }
@@ -158,7 +146,6 @@ fn one_step(
         Act::Accept => passed(passes, word.accept(seat)),
         Act::Claim => Told::Found(word.claim(seat)),
         Act::SeeOffer => Told::Offered(word.seen_offer(seat)),
-        Act::Win => win(word, seat, passes),
         Act::Forget => forget(word, seat),
         Act::Unlock => unlock(word, seat, passes),
         Act::Offer(next, more) => offer(word, count, seat, passes.pop(), next, more),
@@ -288,24 +275,37 @@ fn words_are(alloc: Global, steps: &[Step], wanted: &[(usize, u64)]) -> bool {
     true
 }
 
+// Row mutex_word_claim, up to the claim.
+const BEFORE_THE_CLAIM: [Step; 3] = [
+    (0, Act::Try, Told::Passed),
+    (1, Act::Try, Told::Refused(Refusal::Busy)),
+    (0, Act::Unlock, Told::Done),
+];
+
+// The word at which the mutex of row mutex_word_claim stands once seat 1 has settled and so many of the steps behind that
+// were made.
+fn word_of_claim_row(alloc: Global, after: usize) -> Option<u64> {
+    match made(alloc, false, 3) {
+        Ok((word, mut seats)) => {
+            if claim_row(&word, &mut seats, &mut Vec::new(alloc), after) {
+                Some(word.close(seats))
+            } else {
+                None
+            }
+        }
+        Err(_) => None,
+    }
+}
+
 // Row mutex_word_claim: the words.
 #[test]
 fn a_claim_wins_a_free_mutex(rt: HostRuntime) {
-    let steps = [
-        (0, Act::Try, Told::Passed),
-        (0, Act::Unlock, Told::Done),
-        (1, Act::Claim, Told::Found(Claim::Won)),
-    ];
-    assert!(rt; word_of_three(rt.alloc(), &steps) == Some(2147483648));
-    let steps = [
-        (0, Act::Try, Told::Passed),
-        (0, Act::Unlock, Told::Done),
-        (1, Act::Win, Told::Passed),
-        (1, Act::Unlock, Told::Done),
-        (2, Act::Try, Told::Passed),
-    ];
-    let words = [(3, 2), (4, 0), (5, 3)];
-    assert!(rt; words_are(rt.alloc(), &steps, &words));
+    let claim = [(1, Act::Claim, Told::Found(Claim::Won))];
+    let rounds: [Round<'_>; 2] = [(1, &BEFORE_THE_CLAIM), (1, &claim)];
+    assert!(rt; word_after(rt.alloc(), false, 3, &rounds) == Some(2147483648));
+    for (after, word) in [(0, 2), (1, 0), (2, 3)] {
+        assert!(rt; word_of_claim_row(rt.alloc(), after) == Some(word));
+    }
 }
 
 // Row mutex_word_1: the words.
@@ -336,12 +336,13 @@ fn a_claimed_mutex_is_handed_on(rt: HostRuntime) {
     assert!(rt; words_are(rt.alloc(), &steps, &words));
 }
 
-// Row mutex_word_2: the word.
+// Row mutex_word_2.
 #[test]
-fn a_freed_mutex_is_free(rt: HostRuntime) {
+fn a_seat_may_wait_no_more(rt: HostRuntime) {
     let steps = [
         (0, Act::Try, Told::Passed),
         (1, Act::Claim, Told::Found(Claim::Queued(ThreadId(0)))),
+        (1, Act::Forget, Told::Done),
         (0, Act::Unlock, Told::Claimed),
         (0, Act::Free, Told::Done),
     ];
@@ -385,34 +386,27 @@ fn wins_around(
     }
 }
 
-// Row mutex_word_claim: what the calls answer. Seat 1 wins, and seat 2 comes too late.
-fn claim_row(word: &MutexWord, seats: &mut Vec<MutexSeat>, passes: &mut Vec<MutexPass>) -> bool
-    requires count { word.now.seats ≡ 3 }
+// Row mutex_word_claim: what the calls answer, up to so many of the steps behind the settling. Seat 1 wins, and seat 2 comes
+// too late.
+fn claim_row(
+    word: &MutexWord,
+    seats: &mut Vec<MutexSeat>,
+    passes: &mut Vec<MutexPass>,
+    count: usize,
+) -> bool
+    requires seats { word.now.seats ≡ 3 }
     requires mine { All (λ seat. IsSeatOf seat word.now) seats.old.items }
+    ensures { All (λ seat. IsSeatOf seat word.now) seats.new.items }
 {
-    let before = [
-        (0, Act::Try, Told::Passed),
-        (1, Act::Try, Told::Refused(Refusal::Busy)),
-        (0, Act::Unlock, Told::Done),
-    ];
     let between = [
         (2, Act::Try, Told::Refused(Refusal::Busy)),
         (2, Act::Claim, Told::Found(Claim::Seizing)),
     ];
     let after = [(1, Act::Unlock, Told::Done), (2, Act::Try, Told::Passed)];
-    let free = answers(word, 3, seats, passes, &before);
+    let free = answers(word, 3, seats, passes, &BEFORE_THE_CLAIM);
     let won = wins_around(word, 3, seats, passes, 1, &between);
-    let late = answers(word, 3, seats, passes, &after);
+    let late = answers(word, 3, seats, passes, after.get(..count).unwrap_or(&after));
     free && won && late
-}
-
-#[test]
-fn a_claim_that_wins_settles(rt: HostRuntime) {
-    let told = match made(rt.alloc(), false, 3) {
-        Ok((word, mut seats)) => claim_row(&word, &mut seats, &mut Vec::new(rt.alloc())),
-        Err(_) => false,
-    };
-    assert!(rt; told);
 }
 
 // Row mutex_word_1: what seats 1 and 2 are told.
@@ -436,19 +430,6 @@ fn an_offer_is_for_one_seat(rt: HostRuntime) {
         (2, Act::Unlock, Told::Done),
     ];
     assert!(rt; word_of_three(rt.alloc(), &steps).is_some());
-}
-
-// Row mutex_word_2: what the calls answer.
-#[test]
-fn a_seat_may_wait_no_more(rt: HostRuntime) {
-    let steps = [
-        (0, Act::Try, Told::Passed),
-        (1, Act::Claim, Told::Found(Claim::Queued(ThreadId(0)))),
-        (1, Act::Forget, Told::Done),
-        (0, Act::Unlock, Told::Claimed),
-        (0, Act::Free, Told::Done),
-    ];
-    assert!(rt; word_after(rt.alloc(), false, 2, &[(1, &steps)]).is_some());
 }
 
 const ONE_TRY: [Step; 1] = [(0, Act::Try, Told::Passed)];

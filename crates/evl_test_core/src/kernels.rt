@@ -2,7 +2,7 @@
 ghost use Rattle.evl_kernel.specs.Callbacks.{AnswersAsTold};
 
 use crate::handlers::{
-    SEM, apply, asks, does, entries, makes_room, plan, plays, quiet, quiet_plan,
+    SEM, apply, asks, does, entries, makes_room, plan, plays, quiet, quiet_plan, reserve,
 };
 use crate::rows::{KernelRow, on_a_kernel};
 use bitflags::Flags;
@@ -22,17 +22,25 @@ fn finds_it_full<C: Handler, A: Allocator>(kernel: &mut KernelOf<C, A>, call: Ca
     matches!(apply(kernel, call), Err(Refusal::HistoryFull))
 }
 
+// Whether no room is made for so many calls, since the history has no place for them.
+fn finds_no_place<C: Handler, A: Allocator>(kernel: &mut KernelOf<C, A>, n: usize) -> bool
+    requires answering { AnswersAsTold C.declared C.plan kernel.old.callbacks }
+    ensures answering { AnswersAsTold C.declared C.plan kernel.new.callbacks }
+{
+    matches!(reserve(kernel, n), Err(Refusal::HistoryFull))
+}
+
 // Whether room is made for three calls and not for four, and three calls fill the history.
 fn has_three_places<C: Handler, A: Allocator>(kernel: &mut KernelOf<C, A>) -> bool
     requires { AnswersAsTold C.declared C.plan kernel.old.callbacks }
 {
-    let over = makes_room(kernel, 4);
+    let over = finds_no_place(kernel, 4);
     let room = makes_room(kernel, 3);
     let first = does(kernel, Call::Put { sem: SEM });
     let second = does(kernel, Call::Put { sem: SEM });
     let third = does(kernel, Call::Put { sem: SEM });
     let full = finds_it_full(kernel, Call::Put { sem: SEM });
-    room && !over && first && second && third && full
+    room && over && first && second && third && full
 }
 
 #[derive(Drop)]

@@ -165,3 +165,33 @@ fn all_ranks_at_once(rt: HostRuntime) {
     ];
     assert!(rt; is_row(rt.alloc(), 4, &KINDS, &steps));
 }
+
+#[test]
+fn one_of_two_mutexes_loses_its_waiters(rt: HostRuntime) {
+    let steps = [
+        Step::SetBase(TWO, 530),
+        Step::SetBase(THREE, 590),
+        Step::Claim(FIRST, TWO, ONE, Ok(())),
+        Step::Claim(SECOND, THREE, ONE, Ok(())),
+        Step::Effective(ONE, 590),
+        Step::Leave(SECOND, THREE),
+        Step::Ranks([0, 530, 530, 590]),
+        Step::Leave(FIRST, TWO),
+        Step::Ranks([0, 0, 530, 590]),
+    ];
+    assert!(rt; is_row(rt.alloc(), 4, &NORMAL, &steps));
+}
+
+#[test]
+fn a_ceiling_in_a_chain_goes_no_further(rt: HostRuntime) {
+    let steps = [
+        Step::SetBase(THREE, 520),
+        Step::Raise(FIRST, TWO),
+        Step::Claim(SECOND, TWO, ONE, Ok(())),
+        Step::Claim(FIRST, THREE, TWO, Ok(())),
+        Step::Ranks([0, 520, 562, 520]),
+        Step::Release(FIRST, TWO, Ok((Some(THREE), false))),
+        Step::Ranks([0, 0, 0, 562]),
+    ];
+    assert!(rt; is_row(rt.alloc(), 4, &KINDS, &steps));
+}

@@ -13,11 +13,11 @@ pub(crate) fn ends_by<F: Files + AllocGlobal>(
     said: &str,
 ) -> bool {
     let mut out = Over::new(Vec::new(rt.alloc()));
-    let mut err = Vec::new(rt.alloc());
+    let mut err = Over::new(Vec::new(rt.alloc()));
     let mut input = text.as_bytes();
     let done = play_program(rt, rt.alloc(), words, &mut input, &mut out, &mut err);
     let is_written = out.into_inner().as_slice() == written.as_bytes();
-    done == status && is_written && err.as_slice() == said.as_bytes()
+    done == status && is_written && err.into_inner().as_slice() == said.as_bytes()
 }
 
 /// Whether the program ends so on a text, without words.

@@ -59,11 +59,11 @@ fn ends_over<F: Files + AllocGlobal>(
     let words = ["evl"];
     let alloc = rt.alloc();
     let mut out = Over::new(Vec::new(alloc));
-    let mut err = Vec::new(alloc);
+    let mut err = Over::new(Vec::new(alloc));
     let mut input = Ended::new(TEXT, given);
     let done = play_program(rt, alloc, words.as_slice(), &mut input, &mut out, &mut err);
     let is_written = out.into_inner().as_slice() == written.as_bytes();
-    done == status && is_written && err.as_slice() == said.as_bytes()
+    done == status && is_written && err.into_inner().as_slice() == said.as_bytes()
 }
 
 #[test]
@@ -81,11 +81,11 @@ fn ends_broken<F: Files + AllocGlobal>(rt: &F) -> bool {
     let words = ["evl"];
     let alloc = rt.alloc();
     let mut out = Over::new(Narrow::new(alloc, 10, 2, false));
-    let mut err = Vec::new(alloc);
+    let mut err = Over::new(Vec::new(alloc));
     let mut input = TEXT.as_bytes();
     let status = play_program(rt, alloc, words.as_slice(), &mut input, &mut out, &mut err);
     let is_taken = out.into_inner().taken.as_slice() == &TRACE.as_bytes()[..10];
-    status == 1 && is_taken && err.as_slice() == b"evl: write fault\n".as_slice()
+    status == 1 && is_taken && err.into_inner().as_slice() == b"evl: write fault\n".as_slice()
 }
 
 #[test]
@@ -98,10 +98,10 @@ fn says<F: Files + AllocGlobal>(rt: &F, err: Narrow, line: &str) -> bool {
     let words = ["evl"];
     let alloc = rt.alloc();
     let mut out = Over::new(Vec::new(alloc));
-    let mut said = err;
+    let mut said = Over::new(err);
     let mut input = "".as_bytes();
     let status = play_program(rt, alloc, words.as_slice(), &mut input, &mut out, &mut said);
-    status == 2 && said.taken.as_slice() == line.as_bytes()
+    status == 2 && said.into_inner().taken.as_slice() == line.as_bytes()
 }
 
 #[test]
@@ -116,11 +116,11 @@ fn left_unread<F: Files + AllocGlobal>(rt: &F, text: &[u8]) -> Option<usize> {
     let words = ["evl"];
     let alloc = rt.alloc();
     let mut out = Over::new(Vec::new(alloc));
-    let mut err = Vec::new(alloc);
+    let mut err = Over::new(Vec::new(alloc));
     let mut input = text;
     let status = play_program(rt, alloc, words.as_slice(), &mut input, &mut out, &mut err);
     let is_quiet = out.into_inner().is_empty();
-    if status == 2 && is_quiet && err.as_slice() == b"evl: bad text\n".as_slice() {
+    if status == 2 && is_quiet && err.into_inner().as_slice() == b"evl: bad text\n".as_slice() {
         Some(input.len())
     } else {
         None

@@ -35,10 +35,10 @@ fn turns_away<F: Files + AllocGlobal>(
     says: bool,
 ) -> bool {
     let mut out = Over::new(Vec::new(rt.alloc()));
-    let mut err = Vec::new(rt.alloc());
+    let mut err = Over::new(Vec::new(rt.alloc()));
     let mut input = FIRST_SEMAPHORE.as_bytes();
     let done = play_program(rt, rt.alloc(), words, &mut input, &mut out, &mut err);
-    done == status && out.into_inner().is_empty() != writes && err.is_empty() != says
+    done == status && out.into_inner().is_empty() != writes && err.into_inner().is_empty() != says
 }
 
 #[test]
@@ -57,10 +57,10 @@ fn refuses_words(rt: HostRuntime) {
 fn breaks<F: Files + AllocGlobal>(rt: &F, words: &[&str]) -> bool {
     let alloc = rt.alloc();
     let mut out = Over::new(Narrow::new(alloc, 10, 2, true));
-    let mut err = Vec::new(alloc);
+    let mut err = Over::new(Vec::new(alloc));
     let mut input = "".as_bytes();
     let status = play_program(rt, alloc, words, &mut input, &mut out, &mut err);
-    status == 1 && err.as_slice() == b"evl: write fault\n".as_slice()
+    status == 1 && err.into_inner().as_slice() == b"evl: write fault\n".as_slice()
 }
 
 #[test]

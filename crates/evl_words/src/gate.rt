@@ -11,8 +11,6 @@ mod ends;
 mod enter;
 mod readers;
 mod steps;
-#[cfg(test)]
-mod tests;
 mod word;
 
 use steps::{GateKey, Gated};

@@ -39,8 +39,8 @@ impl<A: Allocator> Model for XbufOf<A> {
 
 impl<A: Allocator + Clone> XbufOf<A> {
     /// A cross-buffer whose ring of way `In` has `inbound` bytes and whose ring of way `Out` has `outbound`, each at most
-    /// 256. Nothing is in them and nobody waits. `NoMemory` where the room for waiting writers was refused. (Xenomai 4: EVL
-    /// cross-buffer; this profile)
+    /// 256. Nothing is in them and nobody waits. `NoMemory` where the rings or the room for waiting writers were refused.
+    /// (Xenomai 4: EVL cross-buffer; this profile)
     pub fn new(alloc: A, inbound: u16, outbound: u16) -> Result<XbufOf<A>, Refusal>
         requires inbound { inbound ≤ 256 }
         requires outbound { outbound ≤ 256 }

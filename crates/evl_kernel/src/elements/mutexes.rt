@@ -1,5 +1,6 @@
 //! The steps of mutexes, and the ranks that their recorded owners give.
-ghost use Rattle.std.specs.Prelude.{◌≡◌, ◌≢◌, ◌<◌, ℕ, Ok, Err, IfErr, IfOk, false, true, length, option_map, slice_set};
+ghost use Rattle.std.specs.Prelude.{◌≡◌, ◌≢◌, ◌<◌, ℕ, Ok, Err, IfErr, IfOk, false, true, length, option_map, slice_get, slice_set};
+ghost use Rattle.std.specs.Option.{option_map_or};
 ghost use Rattle.evl_kernel.specs.Beginnings.{is_open, is_there, step_of_waiter};
 ghost use Rattle.evl_kernel.specs.Elements.{element, on_mutex, wakes};
 ghost use Rattle.evl_kernel.specs.ElementsViews.{owners_of};
@@ -8,7 +9,7 @@ ghost use Rattle.evl_kernel.specs.Semaphores.{one_served};
 ghost use Rattle.evl_kernel.specs.Standing.{in_mutex, stands_at};
 ghost use Rattle.evl_kernel.specs.ThreadCalls.{owns_in};
 ghost use Rattle.evl_mutex.specs.Chains.{reaches, waits_for};
-ghost use Rattle.evl_mutex.specs.Owners.{rank_of, ranks_of};
+ghost use Rattle.evl_mutex.specs.Owners.{owner_at, rank_of, ranks_of};
 ghost use Rattle.evl_kernel.specs.declared.waits.Awaited.TheVariants.{Mutex as OnMutex};
 ghost use Rattle.evl_kernel.specs.declared.waits.Wanted.TheVariants.{Mutex as WantsMutex};
 
@@ -38,6 +39,20 @@ impl<A: Allocator> Elements<A> {
         ensures owns { result ≡ owns_in self.now.elements.mutexes thread.0 }
     {
         self.owners.owns_any(thread)
+    }
+
+    /// Who is recorded as the owner of a mutex, if anybody is.
+    pub(crate) fn owner(&self, mutex: MutexId) -> Option<ThreadId>
+        ensures owner { option_map (λ thread. thread.0) result ≡ owner_at (slice_get self.now.elements.mutexes mutex.0) }
+    {
+        self.owners.owner(mutex)
+    }
+
+    /// How many threads wait for a mutex.
+    pub(crate) fn waiters(&self, mutex: MutexId) -> usize
+        ensures waiters { result ≡ option_map_or (λ m. length m.waiters) (slice_get self.now.elements.mutexes mutex.0) 0 }
+    {
+        self.owners.waiters(mutex)
     }
 
     /// Whether there is such a mutex, for which no other owner is recorded.

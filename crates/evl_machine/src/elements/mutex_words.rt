@@ -31,6 +31,13 @@ impl<A: Allocator> Model for MutexWords<A> {
 }
 
 impl<A: Allocator> MutexWords<A> {
+    /// How many there are.
+    pub(crate) fn count(&self) -> usize
+        ensures count { result ≡ length self.now.kinds }
+    {
+        self.kinds.len()
+    }
+
     /// The kind of a mutex, if there is such a one.
     pub(crate) fn kind(&self, mutex: MutexId) -> Option<MutexKind>
         ensures kind { result ≡ slice_get self.now.kinds mutex.0 }

@@ -2,7 +2,7 @@
 ghost use Rattle.std.specs.Prelude.{◌≡◌, All, IfOk, IfSome};
 
 use super::acts::{Passes, Told};
-use super::rows::{Round, first_of, gets_the_kernel, is_row, made};
+use super::rows::{Round, gets_the_kernel, is_row, made, one_of};
 use super::{BOTH_ATTACH, GET, PUT, board_of_two, is_core_row};
 use evl_base::{Call, Entry, Refusal, Reply, ThreadId};
 use evl_kernel::Kernel;
@@ -72,14 +72,19 @@ fn refused(machine: Machine, callers: Vec<Caller>, why: Refusal) -> Option<(Mach
     }
 }
 
-// Whether the first of those who are away joins the callers.
-fn joins(machine: &Machine, away: &mut Vec<Caller>, callers: &mut Vec<Caller>) -> bool
+// Whether the first of those who are away, or the last, joins the callers.
+fn joins(
+    machine: &Machine,
+    away: &mut Vec<Caller>,
+    callers: &mut Vec<Caller>,
+    is_last: bool,
+) -> bool
     requires away { All (λ c. c.machine ≡ machine.now.of) away.old.items }
     requires callers { All (λ c. c.machine ≡ machine.now.of) callers.old.items }
     ensures away { All (λ c. c.machine ≡ machine.now.of) away.new.items }
     ensures callers { All (λ c. c.machine ≡ machine.now.of) callers.new.items }
 {
-    match first_of(machine, away) {
+    match one_of(machine, away, is_last) {
         Some(caller) => callers.push(caller).is_ok(),
         None => false,
     }
@@ -90,6 +95,7 @@ fn with_one_more(
     machine: Machine,
     callers: Vec<Caller>,
     away: &mut Vec<Caller>,
+    is_last: bool,
 ) -> Option<(Machine, Vec<Caller>)>
     requires callers { All (λ c. c.machine ≡ machine.of) callers.items }
     requires away { All (λ c. c.machine ≡ machine.of) away.old.items }
@@ -99,34 +105,40 @@ fn with_one_more(
     let Some((machine, mut callers)) = refused(machine, callers, Refusal::Invalid) else {
         return None;
     };
-    if joins(&machine, away, &mut callers) {
+    if joins(&machine, away, &mut callers, is_last) {
         Some((machine, callers))
     } else {
         None
     }
 }
 
-// The kernel of a machine of two callers, which is closed only once both are there.
-fn closed_with_both(machine: Machine, none: Vec<Caller>, away: &mut Vec<Caller>) -> Option<Kernel>
+// The kernel of a machine of two callers, which is closed only once both are there; they come from the first one on, or
+// from the last one on.
+fn closed_with_both(
+    machine: Machine,
+    none: Vec<Caller>,
+    away: &mut Vec<Caller>,
+    is_last: bool,
+) -> Option<Kernel>
     requires none { All (λ c. c.machine ≡ machine.of) none.items }
     requires away { All (λ c. c.machine ≡ machine.of) away.old.items }
 {
-    let Some((machine, one)) = with_one_more(machine, none, away) else {
+    let Some((machine, one)) = with_one_more(machine, none, away, is_last) else {
         return None;
     };
-    match with_one_more(machine, one, away) {
+    match with_one_more(machine, one, away, is_last) {
         Some((machine, both)) => machine.close(both).ok(),
         None => None,
     }
 }
 
-// Whether the machine of the row is closed with both callers alone, and has its history.
-fn is_row_closed(alloc: Global) -> bool {
+// Whether the machine of the row is closed with both callers alone, in either order, and has its history.
+fn is_row_closed(alloc: Global, is_last: bool) -> bool {
     let Ok((machine, mut callers)) = made(alloc, board_of_two(), Vec::new(alloc), 100) else {
         return false;
     };
     let told = is_core_row(&machine, &mut callers, &mut Passes::new(alloc));
-    match closed_with_both(machine, Vec::new(alloc), &mut callers) {
+    match closed_with_both(machine, Vec::new(alloc), &mut callers, is_last) {
         Some(kernel) => told && is_history_of_row(kernel.history()),
         None => false,
     }
@@ -134,25 +146,27 @@ fn is_row_closed(alloc: Global) -> bool {
 
 #[test]
 fn close_machine(rt: HostRuntime) {
-    assert!(rt; is_row_closed(rt.alloc()));
+    for is_last in [false, true] {
+        assert!(rt; is_row_closed(rt.alloc(), is_last));
+    }
 }
 
-// Whether the first caller gets the kernel, and is dropped with it.
-fn drops_the_kernel(machine: &Machine, callers: &mut Vec<Caller>) -> bool
+// Whether the first caller, or the last, gets the kernel, and is dropped with it.
+fn drops_the_kernel(machine: &Machine, callers: &mut Vec<Caller>, is_last: bool) -> bool
     requires { All (λ c. c.machine ≡ machine.now.of) callers.old.items }
     ensures { All (λ c. c.machine ≡ machine.now.of) callers.new.items }
 {
-    match first_of(machine, callers) {
-        Some(first) => gets_the_kernel(machine, first),
+    match one_of(machine, callers, is_last) {
+        Some(caller) => gets_the_kernel(machine, caller),
         None => false,
     }
 }
 
-// Whether a machine isn't closed whose first caller was dropped with the kernel.
-fn stays_busy(alloc: Global) -> bool {
+// Whether a machine isn't closed of which one caller was dropped with the kernel.
+fn stays_busy(alloc: Global, is_last: bool) -> bool {
     match made(alloc, board_of_two(), Vec::new(alloc), 100) {
         Ok((machine, mut callers)) => {
-            let dropped = drops_the_kernel(&machine, &mut callers);
+            let dropped = drops_the_kernel(&machine, &mut callers, is_last);
             let busy = refused(machine, callers, Refusal::CoreBusy).is_some();
             dropped && busy
         }
@@ -162,13 +176,20 @@ fn stays_busy(alloc: Global) -> bool {
 
 #[test]
 fn close_with_a_dropped_holder(rt: HostRuntime) {
-    assert!(rt; stays_busy(rt.alloc()));
+    for is_last in [false, true] {
+        assert!(rt; stays_busy(rt.alloc(), is_last));
+    }
 }
 
-// A thousand rounds of a put by the first and a get by the second.
+// A thousand rounds of a put by the first and a get by the second, and of a put by the second and a get by the first.
 #[test]
 fn quiet_core_is_never_busy(rt: HostRuntime) {
-    let steps = [(0, PUT, Told::Done), (1, GET, Told::Done)];
+    let steps = [
+        (0, PUT, Told::Done),
+        (1, GET, Told::Done),
+        (1, PUT, Told::Done),
+        (0, GET, Told::Done),
+    ];
     let rounds: [Round<'_>; 2] = [(1, &BOTH_ATTACH), (1000, &steps)];
     assert!(rt; is_row(rt.alloc(), board_of_two(), 10_000, &rounds));
 }

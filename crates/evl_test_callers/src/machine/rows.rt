@@ -157,6 +157,19 @@ pub fn last_of(machine: &Machine, callers: &mut Vec<Caller>) -> Option<Caller>
     callers.pop()
 }
 
+// The first caller, or the last one, which is taken away.
+pub fn one_of(machine: &Machine, callers: &mut Vec<Caller>, is_last: bool) -> Option<Caller>
+    requires { All (λ c. c.machine ≡ machine.now.of) callers.old.items }
+    ensures one { IfSome result (λ c. c.machine ≡ machine.now.of) }
+    ensures rest { All (λ c. c.machine ≡ machine.now.of) callers.new.items }
+{
+    if is_last {
+        last_of(machine, callers)
+    } else {
+        first_of(machine, callers)
+    }
+}
+
 // Whether there is room for both callers, which are away.
 pub fn come_back(
     machine: &Machine,

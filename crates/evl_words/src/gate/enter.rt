@@ -75,7 +75,9 @@ impl<A: Allocator> StaxGate<A> {
         }
     }
 
-    pub(super) fn look(&self, seat: &mut StaxSeat, stage: Stage) -> Result<u64, Refusal>
+    /// The first step of `try_lock` by itself: a load of the word, which is given where it would let the seat in. Between it
+    /// and `exchange` others may step. `Again` and `Limit` as by `try_lock` (this profile).
+    pub fn look(&self, seat: &mut StaxSeat, stage: Stage) -> Result<u64, Refusal>
         requires mine { IsSeatOf seat.old self.now }
         requires free { seat.old.view.held.stage ≡ None }
         ensures seat { IsSameSeat seat.old seat.new }
@@ -86,7 +88,9 @@ impl<A: Allocator> StaxGate<A> {
         self.look_as::<Brand>(seat, stage)
     }
 
-    pub(super) fn exchange(
+    /// The second step of `try_lock` by itself: one exchange of the word that `look` gave. Where it finds another word, that
+    /// one decides: `Again`, `Limit`, or `Raced` where it would have let the seat in too (this profile).
+    pub fn exchange(
         &self,
         seat: &mut StaxSeat,
         stage: Stage,

@@ -20,6 +20,6 @@ returns-clause-answers g c =
     let items : c.in_ok-bank.bank.items ≡ c.new.result ∷ c.new-2.result ∷ c.new-3.result ∷ c.new-4.result ∷ c.new-5.result ∷ c.new-6.result ∷ c.new-7.result ∷ c.new-8.result ∷ [] = c.in_ok-bank.ensures.items in
     let told : handlers_of (λ x. x.kinds.0) (λ x. x.plan.value) c.in_ok-bank.bank.items ≡ program_bank =
     ap (handlers_of (λ x. x.kinds.0) (λ x. x.plan.value)) items ∙ (λ i. tells-0 i ∷ tells-1 i ∷ tells-2 i ∷ tells-3 i ∷ tells-4 i ∷ tells-5 i ∷ tells-6 i ∷ tells-7 i ∷ []) in
-    let P : List Handler → Type 0 = λ b. Answers (map (λ s. s.now) c.args.words.now) b (g.R.Read.remaining c.args.input.now) (g.S.Sink.told c.args.out.now) (g.S.Sink.told c.play.new.out)
-    (g.S.Sink.has_failed c.play.new.out) (g.E.Write.contents c.args.err.now) (g.E.Write.contents c.play.new.err) c.play.result in
-    subst P told c.play.ensures.answers
+    let P : List Handler → Type 0 = λ b. Answers (map (λ s. s.now) c.args.words.now) b (g.R.Read.remaining c.args.input.now) (g.S.Sink.told c.args.out.now) (g.S.Sink.told c.play_into.new.out)
+    (g.S.Sink.has_failed c.play_into.new.out) (g.T.Sink.told c.args.err.now) (g.T.Sink.told c.play_into.new.err) (g.T.Sink.has_failed c.play_into.new.err) c.play_into.result in
+    subst P told c.play_into.ensures.answers

@@ -1,4 +1,4 @@
-use Rattle.std.proofs.Common.{map, ap, sym, ◌∙◌}
+use Rattle.std.proofs.Common.{map, length, ◌+◌, ap, sym, ◌∙◌}
 use Rattle.std.specs.List.{range_with_len}
 use Rattle.evl_machine.specs.Accounts.{threads_of}
 use Rattle.evl_machine.proofs.Newcomers.{mutexes_of, staxes_of}
@@ -13,4 +13,4 @@ seat_callers-requires-clause-seats g c = (
 pub invariant_of-result : goal.invariant_of-result
 invariant_of-result g c =
     let made = c.requires.made.words in
-    (c.requires.table.0, c.requires.table.1, c.requires.threads, made.kinds_are, c.requires.board, made.seats ∙ ap (map (λ kind. threads_of c.args.core.shared.key.value.history)) (sym made.kinds_are))
+    (c.requires.table.0 ∙ ap (λ ks. 1 + length ks) (sym made.kinds_are), c.requires.table.1, c.requires.threads, made.kinds_are, c.requires.board, made.seats ∙ ap (map (λ kind. threads_of c.args.core.shared.key.value.history)) (sym made.kinds_are))

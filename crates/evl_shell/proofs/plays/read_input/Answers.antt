@@ -1,5 +1,6 @@
-use Rattle.std.proofs.Common.{rules}
-use Rattle.evl_shell.proofs.InputLemmas.{input-ended, input-full}
+use Rattle.std.proofs.Common.{rules, ◌++◌, take, length-append}
+use Rattle.std.proofs.lemmas.List.{length-take}
+use Rattle.evl_shell.proofs.InputLemmas.{consumes-more, input-ended, input-full}
 use Rattle.evl_shell.proofs.plays.read_input.Goals as goal
 
 pub returns-then-count-eq0-clause-text : goal.returns-then-count-eq0-clause-text
@@ -12,3 +13,12 @@ pub returns-clause-text : goal.returns-clause-text
 returns-clause-text g c =
     let kept = c.reading.invariant in
     input-full _ _ c.reading.text.items (search rules) kept.read
+
+pub returns-then-is_err-clause-few : goal.returns-then-is_err-clause-few
+returns-then-is_err-clause-few g c =
+    let kept = c.reading.invariant in
+    let text = c.reading.text.items in
+    let part = take c.in-Ok.count c.read.new.buf in
+    let both = length-append text part in
+    let cut = length-take c.in-Ok.count c.read.new.buf in
+    (text ++ part, rw (both, cut) (search rules), consumes-more _ _ _ text _ kept.read c.in-Ok.ensures.bytes.0)

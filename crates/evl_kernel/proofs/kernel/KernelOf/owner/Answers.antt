@@ -1,0 +1,6 @@
+use Rattle.evl_kernel.specs.Insides.{kernel_view}
+use Rattle.evl_kernel.proofs.MutexPlaces.{nobody_owns}
+use Rattle.evl_kernel.proofs.kernel.KernelOf.owner.Goals as goal
+
+pub returns-clause-outside : goal.returns-clause-outside
+returns-clause-outside g c = rw (← c.self.view_is) (λ out. nobody_owns (kernel_view c.self.inside).history c.self.invariant.legal c.args.mutex.0 out _ c.owner.ensures.owner)

@@ -1,0 +1,5 @@
+use Rattle.evl_kernel.proofs.MutexDrops.{others_drop}
+use Rattle.evl_kernel.proofs.laws.others_only_drop.Goals as goal
+
+pub returns : goal.returns
+returns c = others_drop

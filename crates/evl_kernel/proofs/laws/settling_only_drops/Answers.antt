@@ -1,0 +1,5 @@
+use Rattle.evl_kernel.proofs.MutexDrops.{settling_drops}
+use Rattle.evl_kernel.proofs.laws.settling_only_drops.Goals as goal
+
+pub returns : goal.returns
+returns c = settling_drops

@@ -1,0 +1,8 @@
+use Rattle.std.proofs.Common.{sym, subst}
+use Rattle.evl_kernel.specs.KernelViews.{KernelView}
+use Rattle.evl_machine.specs.Makings.{AreMade}
+use Rattle.evl_machine.proofs.making.joined.Goals as goal
+
+-- src/making.rt:126:32
+pub seated-requires-clause-made : goal.seated-requires-clause-made
+seated-requires-clause-made g c = subst (λ k. AreMade k.history.board c.args.parts.elements) (sym c.in-Ok.ensures.key) c.requires.made

@@ -1,0 +1,97 @@
+//! Numbers that come and go at random, in a bitmap and in a list in rising order.
+ghost use Rattle.std.specs.Prelude.{◌≡◌, ◌≤◌};
+
+use crate::dice::Dice;
+use evl_bitmap::{Bitmap, Level, Word};
+use std::alloc::{AllocError, Allocator};
+
+const NUMBERS: u16 = 1024;
+
+// The plain program: a list in rising order.
+#[derive(Drop)]
+struct Plain<A: Allocator> {
+    numbers: Vec<u16, A>,
+}
+
+impl<A: Allocator> Plain<A> {
+    // The place of the first number that isn't below this one.
+    fn place_of(&self, number: u16) -> usize {
+        for (place, other) in self.numbers.iter().enumerate() {
+            if *other >= number {
+                return place;
+            }
+        }
+        self.numbers.len()
+    }
+
+    fn insert(&mut self, number: u16) {
+        let place = self.place_of(number).min(self.numbers.len());
+        if self.numbers.get(place) != Some(&number) {
+            let _ = self.numbers.insert(place, number);
+        }
+    }
+
+    fn remove(&mut self, number: u16) {
+        self.numbers
+            .retain(|other: &u16| -> bool { *other != number });
+    }
+
+    // Whether a set has just these ends, and this number or not.
+    fn is_like<L: Level>(&self, set: &L, number: u16) -> bool {
+        set.least() == self.numbers.first().copied()
+            && set.greatest() == self.numbers.last().copied()
+            && set.contains(number) == self.numbers.contains(&number)
+            && set.is_empty() == self.numbers.is_empty()
+    }
+}
+
+// Whether one random call on both leaves them alike: a number comes or goes, or the least or the greatest one goes.
+fn is_alike<L: Level, A: Allocator>(set: &mut L, plain: &mut Plain<A>, dice: &mut Dice) -> bool
+    requires { 1024 ≤ L.limit set.old }
+    ensures { L.limit set.new ≡ L.limit set.old }
+{
+    let number = dice.below(NUMBERS);
+    match dice.below(5) {
+        0 | 1 => {
+            set.insert(number);
+            plain.insert(number);
+        }
+        2 => {
+            set.remove(number);
+            plain.remove(number);
+        }
+        3 => {
+            if let Some(least) = set.least() {
+                set.remove(least);
+                plain.remove(least);
+            }
+        }
+        _ => {
+            if let Some(greatest) = set.greatest() {
+                set.remove(greatest);
+                plain.remove(greatest);
+            }
+        }
+    }
+    plain.is_like(set, number)
+}
+
+// Whether a set and a list stay alike over two thousand random calls.
+fn stays_alike<A: Allocator + Clone>(alloc: A, seed: u64) -> Result<bool, AllocError> {
+    let numbers = Vec::new(alloc.clone()?);
+    let mut plain = Plain { numbers };
+    let mut set = Bitmap::new(alloc, 32, Word::new())?;
+    let mut dice = Dice::new(seed);
+    let mut alike = true;
+    for _ in 0..2000u32 {
+        alike = is_alike(&mut set, &mut plain, &mut dice) && alike;
+    }
+    Ok(alike)
+}
+
+#[test]
+fn a_bitmap_is_a_list_in_rising_order(rt: HostRuntime) {
+    for seed in [1, 2, 3] {
+        assert!(rt; stays_alike(rt.alloc(), seed) == Ok(true));
+    }
+}

@@ -1,0 +1,208 @@
+//! Random calls of the scheduler and of the plain one.
+use crate::plain::Plain;
+use evl_base::{Policy, Stage, ThreadId};
+use evl_sched::Sched;
+use rand_core::utils::NextWord;
+use rand_pcg::Pcg32;
+use std::alloc::Global;
+
+// The two, and where the random numbers come from.
+#[derive(Drop)]
+struct Both {
+    sched: Sched,
+    plain: Plain,
+    words: Pcg32,
+}
+
+impl Both {
+    // A number below `n`.
+    fn below(&mut self, n: u16) -> u16 {
+        match (self.words.next_word() & 0xffff).checked_rem(u32::from(n)) {
+            Some(number) => (number & 0xffff) as u16,
+            None => 0,
+        }
+    }
+
+    // A policy that is allowed where there are three groups.
+    fn policy(&mut self) -> Policy {
+        let prio = (self.below(6) & 7) as u8 + 1;
+        match self.below(4) {
+            0 => Policy::Fifo(prio),
+            1 => Policy::Rr {
+                prio,
+                slice: u64::from(self.below(20)) + 1,
+            },
+            2 => Policy::Weak(prio),
+            _ => Policy::Quota {
+                group: self.below(3),
+                prio,
+            },
+        }
+    }
+
+    // A rank of policies, or a greater one.
+    fn rank(&mut self) -> u16 {
+        match self.below(6) {
+            0 => 260,
+            1 => 515,
+            2 => 517,
+            3 => 522,
+            4 => 611,
+            _ => 700,
+        }
+    }
+
+    fn stage(&mut self) -> Stage {
+        if self.below(4) == 0 {
+            Stage::Inband
+        } else {
+            Stage::Oob
+        }
+    }
+
+    // A random call of what makes threads ready or not; whether both took it.
+    fn move_one(&mut self, thread: u16) -> bool {
+        let named = ThreadId(thread);
+        match self.below(5) {
+            0 => {
+                let stage = self.stage();
+                self.sched.set_stage(named, stage).is_ok() == self.plain.set_stage(thread, stage)
+            }
+            1 | 2 => {
+                self.sched.block(named);
+                self.plain.block(thread);
+                true
+            }
+            _ => {
+                self.sched.ready(named);
+                self.plain.ready(thread);
+                true
+            }
+        }
+    }
+
+    // A random call of what attaches threads and sets their policies; whether both took it.
+    fn seat_one(&mut self, thread: u16) -> bool {
+        let named = ThreadId(thread);
+        let policy = self.policy();
+        match self.below(5) {
+            0 => self.sched.detach(named).is_ok() == self.plain.detach(thread),
+            1 => self.sched.set_policy(named, policy).is_ok()
+                == self.plain.set_policy(thread, policy),
+            _ => {
+                let stage = self.stage();
+                self.sched.attach(named, policy, stage).is_ok()
+                    == self.plain.attach(thread, policy, stage)
+            }
+        }
+    }
+
+    // A random call of what changes ranks, slices and budgets.
+    fn rank_one(&mut self, thread: u16) {
+        match self.below(8) {
+            0 => {
+                self.sched.refill();
+                self.plain.refill();
+            }
+            1 | 2 => {
+                let delta = u64::from(self.below(60)) * 1_000_000;
+                self.sched.charge(delta);
+                self.plain.charge(delta);
+            }
+            3 | 4 => {
+                let delta = u64::from(self.below(30));
+                self.sched.charge(delta);
+                self.plain.charge(delta);
+            }
+            _ => {
+                let rank = self.rank();
+                self.sched.boost(ThreadId(thread), rank);
+                self.plain.boost(thread, rank);
+            }
+        }
+    }
+
+    // Whether both pick the same thread, and know of a thread that may run.
+    fn pick_alike(&self) -> bool {
+        let told = self.plain.pick();
+        self.sched.pick().map(|thread| thread.0) == told && self.sched.eligible() == told.is_some()
+    }
+
+    // Whether all threads have the same ranks.
+    fn rank_alike(&self, threads: u16) -> bool {
+        for thread in 0..threads {
+            if self.sched.rank(ThreadId(thread)).ok() != self.plain.rank(thread) {
+                return false;
+            }
+        }
+        true
+    }
+
+    // Whether so many random calls leave them alike, each.
+    fn run_alike(&mut self, threads: u16, calls: u16) -> bool {
+        for _ in 0..calls {
+            let thread = self.below(threads);
+            let took = match self.below(3) {
+                0 => self.seat_one(thread),
+                1 => self.move_one(thread),
+                _ => {
+                    self.rank_one(thread);
+                    true
+                }
+            };
+            if !(took && self.pick_alike() && self.rank_alike(threads)) {
+                return false;
+            }
+        }
+        true
+    }
+
+    // Whether all who may run are picked in the same order, as each that is picked is blocked.
+    fn end_alike(&mut self, threads: u16) -> bool {
+        for _ in 0..threads {
+            if !self.pick_alike() {
+                return false;
+            }
+            if let Some(thread) = self.plain.pick() {
+                self.sched.block(ThreadId(thread));
+                self.plain.block(thread);
+            }
+        }
+        !self.sched.eligible()
+    }
+}
+
+// Whether a run of so many threads is alike.
+fn is_alike(alloc: Global, seed: u64, threads: u16, calls: u16) -> bool {
+    let percents = [1u8, 2, 3];
+    let budgets = [10_000_000u64, 20_000_000, 30_000_000];
+    let Ok(sched) = Sched::new(alloc, threads, &percents) else {
+        return false;
+    };
+    let Ok(plain) = Plain::new(alloc, threads, &budgets) else {
+        return false;
+    };
+    let words = Pcg32::new(seed, 1);
+    let mut both = Both {
+        sched,
+        plain,
+        words,
+    };
+    both.run_alike(threads, calls) && both.end_alike(threads)
+}
+
+// Whether all of so many runs are, of 1 to 64 threads.
+fn are_alike(alloc: Global, runs: u16, calls: u16) -> bool {
+    for run in 0..runs {
+        let threads = run % 64 + 1;
+        if !is_alike(alloc, u64::from(run), threads, calls) {
+            return false;
+        }
+    }
+    true
+}
+
+#[test]
+fn random_calls_do_as_the_plain_scheduler(rt: HostRuntime) {
+    assert!(rt; are_alike(rt.alloc(), 64, 300));
+}
