@@ -9,9 +9,11 @@ pub mod Crossing
 pub mod QueueLaws
 pub mod RankSetLaws
 pub mod QueueChanges
+pub mod ApartLaws
 pub mod QueuedLaws
 pub mod LastLaws
 pub mod GroupLaws
+pub mod MemberLaws
 pub mod BeforeLaws
 pub mod OrderLaws
 pub mod FirstLaws

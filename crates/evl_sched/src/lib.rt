@@ -1,6 +1,7 @@
 //! Threads, their policies and ranks, the ready list, and who is picked (Xenomai 4: EVL scheduling).
 #![tactic(auto)]
 
+mod contenders;
 mod group;
 mod guesses;
 mod order;
@@ -12,6 +13,7 @@ mod ready;
 mod sched;
 mod search;
 mod seat;
+mod thread_set;
 
 pub use sched::SchedOf;
 use std::alloc::Global;

@@ -6,8 +6,8 @@ ghost use Rattle.evl_sched.specs.Picks.{first_greatest};
 ghost use Rattle.evl_sched.specs.Places.{rank_in, place_of};
 ghost use Rattle.evl_sched.specs.Threads.{without};
 
+use crate::contenders::Contenders;
 use crate::place::Place;
-use crate::queues::Queues;
 use std::alloc::{AllocError, Allocator};
 use std::marker::Model;
 
@@ -18,7 +18,7 @@ pub struct Order<A: Allocator> {
     // The later a thread became ready, the greater its stamp.
     stamps: Vec<Option<u64>, A>,
     next: u64,
-    queues: Queues<A>,
+    queues: Contenders<A>,
 }
 
 impl<A: Allocator> Model for Order<A> {
@@ -37,7 +37,7 @@ impl<A: Allocator + Clone> Order<A> {
         ensures empty { IfOk result (λ o. o ≡ record { ready = []; places = replicate threads None }) }
     {
         let stamps = no_stamps(alloc.clone()?, threads as usize)?;
-        let queues = Queues::new(alloc, threads)?;
+        let queues = Contenders::new(alloc, threads)?;
         Ok(Order {
             stamps,
             next: 0,
@@ -116,7 +116,7 @@ fn stamp_at(stamps: &[Option<u64>], thread: u16) -> Option<u64>
 // ready threads, numbered anew from 0 in their order.
 fn free_stamp<A: Allocator>(
     stamps: &mut Vec<Option<u64>, A>,
-    queues: &mut Queues<A>,
+    queues: &mut Contenders<A>,
     next: u64,
 ) -> u64
     requires { IsStamped stamps.old.items next queues.old }
@@ -207,7 +207,7 @@ fn is_lesser(stamps: &[Option<u64>], stamp: u64, least: Option<u16>) -> bool
 // All who stand in queues have new stamps.
 #[cold]
 #[inline(never)]
-fn stamp_anew<A: Allocator>(stamps: &Vec<Option<u64>, A>, queues: &mut Queues<A>)
+fn stamp_anew<A: Allocator>(stamps: &Vec<Option<u64>, A>, queues: &mut Contenders<A>)
     requires many { length stamps.now.items ≡ length queues.old }
     requires few { length stamps.now.items < 65536 }
     requires ready { (t : ℕ) → is_some (rank_in queues.old t) ≡ true → is_some (stamp_of stamps.now.items t) ≡ true }
@@ -223,7 +223,7 @@ fn stamp_anew<A: Allocator>(stamps: &Vec<Option<u64>, A>, queues: &mut Queues<A>
 }
 
 // The rank of a thread's place, if it has one.
-fn rank_at<A: Allocator>(queues: &Queues<A>, thread: u16) -> Option<u16>
+fn rank_at<A: Allocator>(queues: &Contenders<A>, thread: u16) -> Option<u16>
     ensures rank { result ≡ rank_in queues.now thread }
 {
     match queues.place(thread) {
@@ -234,7 +234,7 @@ fn rank_at<A: Allocator>(queues: &Queues<A>, thread: u16) -> Option<u16>
 
 // A thread that is ready stands in the queue of this rank, if there is one.
 fn stand_at<A: Allocator>(
-    queues: &mut Queues<A>,
+    queues: &mut Contenders<A>,
     thread: u16,
     stamp: Option<u64>,
     rank: Option<u16>,
@@ -250,7 +250,7 @@ fn stand_at<A: Allocator>(
 }
 
 // A thread comes with this stamp to the queue of this rank, if there is one.
-fn come_to<A: Allocator>(queues: &mut Queues<A>, thread: u16, stamp: u64, rank: Option<u16>)
+fn come_to<A: Allocator>(queues: &mut Contenders<A>, thread: u16, stamp: u64, rank: Option<u16>)
     requires { thread < length queues.old }
     ensures stood { queues.new ≡ slice_set queues.old thread (place_by (Some stamp) rank) }
 {
@@ -261,7 +261,7 @@ fn come_to<A: Allocator>(queues: &mut Queues<A>, thread: u16, stamp: u64, rank: 
 }
 
 // A thread leaves its place and gets this one, if there is one.
-fn move_to<A: Allocator>(queues: &mut Queues<A>, thread: u16, place: Option<Place>)
+fn move_to<A: Allocator>(queues: &mut Contenders<A>, thread: u16, place: Option<Place>)
     requires { is_some place ≡ true → thread < length queues.old }
     ensures moved { queues.new ≡ slice_set queues.old thread place }
 {

@@ -77,6 +77,16 @@ impl<A: Allocator> Queues<A> {
         }
     }
 
+    /// Whether nobody has a place.
+    pub fn is_empty(&self) -> bool
+        ensures empty { result ≡ true → (thread : ℕ) → place_of self.now thread ≡ None }
+    {
+        match self.marks.greatest() {
+            None => true,
+            Some(_) => false,
+        }
+    }
+
     /// Gives a thread that has no place this one, in the queue of its rank behind all that don't come after it.
     #[inline(always)]
     pub fn put(&mut self, thread: u16, place: Place)

@@ -1,10 +1,12 @@
 //! The scheduler.
-ghost use Rattle.std.specs.Prelude.{◌≡◌, ℕ, nat_lt, Option, false, [], None, Some, map, replicate, option_map, IfOk, IfErr, MatchOption, OnOk, OnErr};
+ghost use Rattle.std.specs.Prelude.{◌≡◌, ◌<◌, ℕ, nat_lt, Option, false, true, is_some, [], None, Some, map, replicate, option_map, IfOk, IfErr, MatchOption, OnOk, OnErr};
 ghost use Rattle.evl_base.specs.declared.refusal.Refusal.{Refusal};
 ghost use Rattle.evl_sched.specs.Calls as calls;
 ghost use Rattle.evl_sched.specs.Calls.{attach_refusal, set_policy_refusal, stranger_refusal};
 ghost use Rattle.evl_sched.specs.Charges.{slice_charged, thread_charged};
 ghost use Rattle.evl_sched.specs.Groups.{drained, has_budget, opened, refilled};
+ghost use Rattle.evl_bitmap.specs.NumberSet.{contains};
+ghost use Rattle.evl_sched.specs.Policies.{group_of};
 ghost use Rattle.evl_sched.specs.Picks.{IsPicked, eligible, is_anyone_eligible, picked};
 ghost use Rattle.evl_sched.specs.Ranks.{IsSoundSched, fresh, rank_of, with_given, with_sched};
 ghost use Rattle.evl_sched.specs.Threads.{base_of, seat_at, stage_of};
@@ -12,6 +14,7 @@ ghost use Rattle.evl_sched.specs.Threads.{base_of, seat_at, stage_of};
 use crate::group::Group;
 use crate::order::Order;
 use crate::seat::Seat;
+use crate::thread_set::ThreadSet;
 use crate::{policies, ready, search};
 use evl_base::{Policy, Refusal, Stage, ThreadId};
 use std::alloc::{AllocError, Allocator};
@@ -25,9 +28,14 @@ pub struct SchedOf<A: Allocator> {
     order: Order<A>,
     groups: Vec<Group, A>,
     given: Vec<Option<u16>, A>,
+    // The threads whose policies name a group, and maybe others.
+    members: ThreadSet<A>,
+    // No thread; a walk over the members hands them on to it.
+    spare: ThreadSet<A>,
 }
 
 impl<A: Allocator> Model for SchedOf<A> {
+    ghost use Rattle.evl_sched.specs.Members.{AreListed};
     ghost use Rattle.evl_sched.specs.Ranks.{Ranked};
     ghost use Rattle.evl_sched.specs.Wanted.{IsStood};
 
@@ -35,7 +43,7 @@ impl<A: Allocator> Model for SchedOf<A> {
 
     ghost view = { λ s. record { sched = record { seats = s.seats.items; ready = s.order.ready; groups = s.groups.items }; given = s.given.items } };
 
-    ghost invariant = { λ s. IsStood (record { sched = record { seats = s.seats.items; ready = s.order.ready; groups = s.groups.items }; given = s.given.items }) s.order.places };
+    ghost invariant = { λ s. IsStood (record { sched = record { seats = s.seats.items; ready = s.order.ready; groups = s.groups.items }; given = s.given.items }) s.order.places × AreListed s.seats.items s.members s.spare };
 }
 
 impl<A: Allocator + Clone> SchedOf<A> {
@@ -55,12 +63,16 @@ impl<A: Allocator + Clone> SchedOf<A> {
         let seats = no_seats(alloc.clone()?, threads as usize)?;
         let order = Order::new(alloc.clone()?, threads)?;
         let given = no_ranks(alloc.clone()?, threads as usize)?;
+        let members = ThreadSet::new(alloc.clone()?, threads)?;
+        let spare = ThreadSet::new(alloc.clone()?, threads)?;
         let groups = opened(alloc, groups)?;
         Ok(SchedOf {
             seats,
             order,
             groups,
             given,
+            members,
+            spare,
         })
     }
 }
@@ -185,6 +197,7 @@ impl<A: Allocator> SchedOf<A> {
     {
         self.may_attach(thread, policy)?;
         self.seats[thread.0 as usize] = Some(Seat::new(policy, stage));
+        note_member(&mut self.members, thread, policy);
         self.given[thread.0 as usize] = None;
         ready::queue(
             &self.seats,
@@ -222,6 +235,7 @@ impl<A: Allocator> SchedOf<A> {
     {
         let seat = self.seat_for(thread, policy)?;
         self.seats[thread.0 as usize] = Some(seat.with_policy(policy));
+        note_member(&mut self.members, thread, policy);
         ready::move_to_end(
             &self.seats,
             &self.groups,
@@ -346,7 +360,14 @@ impl<A: Allocator> SchedOf<A> {
         if !drain_group(&mut self.groups, group, delta) {
             return;
         }
-        ready::stand_grouped(&self.seats, &self.groups, &self.given, &mut self.order);
+        ready::stand_grouped(
+            &self.seats,
+            &self.groups,
+            &self.given,
+            &mut self.order,
+            &mut self.members,
+            &mut self.spare,
+        );
     }
 
     /// A new second begins: each quota group has its whole budget again. (Xenomai 4: EVL scheduling policies)
@@ -356,7 +377,14 @@ impl<A: Allocator> SchedOf<A> {
         if !refill_all(&mut self.groups) {
             return;
         }
-        ready::stand_grouped(&self.seats, &self.groups, &self.given, &mut self.order);
+        ready::stand_grouped(
+            &self.seats,
+            &self.groups,
+            &self.given,
+            &mut self.order,
+            &mut self.members,
+            &mut self.spare,
+        );
     }
 }
 
@@ -394,6 +422,18 @@ fn is_turned(other: bool, before: Group, after: Group) -> bool
     ensures same { result ≡ false → (other ≡ false) × (nat_lt 0 after.budget ≡ nat_lt 0 before.budget) }
 {
     other || (0 < before.budget) != (0 < after.budget)
+}
+
+// A thread is a member where its policy names a group.
+fn note_member<A: Allocator>(members: &mut ThreadSet<A>, thread: ThreadId, policy: Policy)
+    requires { thread.0 < members.old.limit }
+    ensures member { is_some (group_of policy) ≡ true → contains members.new.members thread.0 ≡ true }
+    ensures others { (t : ℕ) → contains members.old.members t ≡ true → contains members.new.members t ≡ true }
+    ensures limit { members.new.limit ≡ members.old.limit }
+{
+    if policies::group_of(policy).is_some() {
+        members.insert(thread.0);
+    }
 }
 
 // A thread by its number.
