@@ -12,5 +12,5 @@ pub unwritten_is_untold :
     → IsUntold h (failure.Unwritten why)
 unwritten_is_untold h unwritten.Board no_keys = no_keys
 unwritten_is_untold h unwritten.Limit out_of_range = absurd (true≢false out_of_range.1)
-unwritten_is_untold h unwritten.TooLong long = long.1.1
+unwritten_is_untold h unwritten.TooLong long = long.2
 unwritten_is_untold h unwritten.Memory short = short

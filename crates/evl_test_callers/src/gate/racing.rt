@@ -41,6 +41,26 @@ fn enters(gate: &StaxGate, seat: &mut StaxSeat, leaves: bool) -> bool
     }
 }
 
+// Whether there is room for a seat that was away.
+fn comes_back(gate: &StaxGate, seats: &mut Vec<StaxSeat>, seat: StaxSeat) -> bool
+    requires mine { All (λ seat. IsSeatOf seat gate.now) seats.old.items }
+    requires away { IsSeatOf seat gate.now }
+    ensures mine { All (λ seat. IsSeatOf seat gate.now) seats.new.items }
+{
+    seats.push(seat).is_ok()
+}
+
+// Whether the exchange found the second seat's entry where the load had found nobody.
+fn is_race(refusal: Option<Refusal>) -> bool {
+    matches!(
+        refusal,
+        Some(Refusal::Raced {
+            first: 0,
+            second: 1
+        })
+    )
+}
+
 // Whether the first seat loses the race, and enters at its next try.
 fn enters_after_a_race(gate: &StaxGate, seats: &mut Vec<StaxSeat>, leaves: bool) -> bool
     requires mine { All (λ seat. IsSeatOf seat gate.now) seats.old.items }
@@ -52,17 +72,10 @@ fn enters_after_a_race(gate: &StaxGate, seats: &mut Vec<StaxSeat>, leaves: bool)
     let Some(mut first) = seats.pop() else {
         return false;
     };
-    let refusal = refusal_after(gate, &mut first, &mut second, Stage::Inband);
+    let raced = is_race(refusal_after(gate, &mut first, &mut second, Stage::Inband));
     let entered = enters(gate, &mut first, leaves);
-    let one = seats.push(first).is_ok();
-    let two = seats.push(second).is_ok();
-    let raced = matches!(
-        refusal,
-        Some(Refusal::Raced {
-            first: 0,
-            second: 1
-        })
-    );
+    let one = comes_back(gate, seats, first);
+    let two = comes_back(gate, seats, second);
     raced && entered && one && two
 }
 
