@@ -12,7 +12,7 @@ use Rattle.evl_mutex.proofs.NotedLaws.{count-unnoted}
 use Rattle.evl_mutex.proofs.CallLaws.{leave-noted, there, seen-changed, kept-changed}
 use Rattle.evl_mutex.proofs.CeilingLaws.{ceiling-left}
 use Rattle.evl_mutex.proofs.StoredLaws.{and-is, orderly-by, owner-at, right-unnoted, written-same, written-there}
-use Rattle.evl_mutex.proofs.owners.OwnersOf.leave.Goals as goal
+use Rattle.evl_mutex.proofs.owners.OwnersOf.leave_noting.Goals as goal
 
 pub invariant_of-self : goal.invariant_of-self
 invariant_of-self g c =
