@@ -186,16 +186,25 @@ impl<A: Allocator> Elements<A> {
                 None
             }
             Awaited::Writing(xbuf, way) | Awaited::Reading(xbuf, way) => {
-                let place = usize::from(xbuf.0);
-                if place >= self.xbufs.len() {
-                    return None;
-                }
-                Some(self.xbufs[place].drop_waiter(thread, way))
+                self.leave_xbuf(thread, xbuf, way)
             }
             Awaited::Mutex(mutex) => {
                 self.owners.leave_noting(mutex, thread, changes);
                 None
             }
         }
+    }
+
+    /// A thread waits for a cross-buffer no more this way, if it did; whom that served, if there is such a cross-buffer.
+    fn leave_xbuf(&mut self, thread: ThreadId, xbuf: XbufId, way: Way) -> Option<Served>
+        ensures left { self.new.elements ≡ if_done self.old.elements (element self.old.elements (on_xbuf xbuf.0 (through.drop thread.0 way))) }
+        ensures woken { wakes self.old.elements (on_xbuf xbuf.0 (through.drop thread.0 way)) ≡ map service_told (served_in result) }
+        ensures owners { owners_of self.new ≡ owners_of self.old }
+    {
+        let place = usize::from(xbuf.0);
+        if place >= self.xbufs.len() {
+            return None;
+        }
+        Some(self.xbufs[place].drop_waiter(thread, way))
     }
 }

@@ -7,6 +7,8 @@ use Rattle.evl_kernel.proofs.CallbackLaws.{keeps-both}
 use Rattle.evl_kernel.proofs.QueueLaws.{asks_release}
 use Rattle.evl_kernel.proofs.RankLaws.{ranks-handed}
 use Rattle.evl_kernel.proofs.WaitRecords.{alone_served, asked_away, asked_ranked, keeps-changed}
+use Rattle.evl_kernel.specs.ChangedThreads.{is_noted}
+use Rattle.evl_kernel.proofs.ChangedLaws.{given-beside}
 use Rattle.evl_kernel.proofs.records.Records.release.Goals as goal
 use Rattle.evl_kernel.proofs.records.Records.release.Goals.{in-Some, in_default}
 
@@ -30,3 +32,7 @@ returns-after-next-clause-stands g c = elim c.match-next.branch [
   | in-Some w ↦ rw w.self-is (keeps-both c.args.self.now _ w.wake.new.self (rw (← c.self.view_is) (keeps-changed (records_view c.self.inside) c.release.new.self c.hand_on.new.sched c.self.inside.waits.items)) w.wake.ensures.stands)
   | in_default w ↦ rw (w.self-is, ← c.self.view_is) (keeps-changed (records_view c.self.inside) c.release.new.self c.hand_on.new.sched c.self.inside.waits.items)
 ]
+
+pub hand_on-requires-clause-others : goal.hand_on-requires-clause-others
+hand_on-requires-clause-others g c =
+    given-beside (owners_of c.self.inside.elements) (owners_of c.release.new.self) c.self.inside.sched (is_noted c.self.inside.changes) (is_noted c.release.new.changes) c.self.invariant.ranks c.release.ensures.noted
