@@ -73,7 +73,7 @@ module _ (C A : RattleType) (g : Ghosts A.Denot) where
   records_send s a f =
       let places = places_send C A g s a f in let lines = pipeline_send (Numbered.the_row C) A g (numbered_send C A g s) a f in
       let clock = clock_send (Numbered.the_row C) A g (numbered_send C A g s) a f in let sched = sched_send A g a f in let elements = elements_send C A g a f in let changes = changes_send C A g a f in let waits = waits_send C A g a f in
-      search (view_send, declared_send, crosses, sendable) depth 20
+      search (view_send, declared_send, crosses, sendable) depth 40 fits 20000
 
   pub kernel_send : IsSend C → IsSend A → Frees g g.dealloc_token → IsSend (KernelOf.the_row C A g)
   kernel_send s a f =

@@ -146,3 +146,11 @@ module _ (v : ElementsView) (after : Owners) (n waiter owner : ℕ) where
       at (Some m) here e =
           nth-done machine (λ (mutexes : List Mutex). record v.elements { mutexes = mutexes }) v.elements.mutexes n (recorded.claim w owner) m (with_waiter m w owner) Begun here refl
           ∙ ap (λ (x : Owners). Ok (Begun, record v.elements { mutexes = x.mutexes })) (sym (left ∙ ap (changed_at (owners_of v) n (λ m. with_waiter m w owner)) here))
+
+-- a raise ends no wait
+pub raise_wakes : (e : Elements) (n thread : ℕ) → wakes e (on_mutex n (recorded.raise thread)) ≡ []
+raise_wakes e n thread = by (slice_get e.mutexes n)
+  where
+    by : (o : Option Mutex) → option_map_or (λ (m : Mutex). recorded.mutex_wakes m (recorded.raise thread)) o [] ≡ []
+    by None = refl
+    by (Some m) = refl

@@ -148,7 +148,13 @@ impl<A: Allocator> OwnersOf<A> {
             return Err(Refusal::Unknown);
         }
         self.base[thread.0 as usize] = rank;
-        mending::mend(&self.base, &self.ahead, &mut self.lent, changes, Some(thread.0));
+        mending::mend(
+            &self.base,
+            &self.ahead,
+            &mut self.lent,
+            changes,
+            Some(thread.0),
+        );
         Ok(())
     }
 
@@ -160,13 +166,7 @@ impl<A: Allocator> OwnersOf<A> {
         let owner = notes::ahead_of(&self.ahead, thread.0);
         walks::drop_waiter(&mut self.mutexes, thread.0);
         notes::forget(&mut self.ahead, Some(thread.0));
-        mending::mend(
-            &self.base,
-            &self.ahead,
-            &mut self.lent,
-            &mut Unnoted,
-            owner,
-        );
+        mending::mend(&self.base, &self.ahead, &mut self.lent, &mut Unnoted, owner);
     }
 
     /// Lets a thread wait for this one mutex no more, if it does; where there is no such mutex nothing changes. Where it
@@ -180,7 +180,12 @@ impl<A: Allocator> OwnersOf<A> {
 
     /// Lets a thread wait for this one mutex no more as `leave` does, and notes whose effective rank may have changed. (this
     /// profile)
-    pub fn leave_noting<C: RankChanges>(&mut self, mutex: MutexId, thread: ThreadId, changes: &mut C)
+    pub fn leave_noting<C: RankChanges>(
+        &mut self,
+        mutex: MutexId,
+        thread: ThreadId,
+        changes: &mut C,
+    )
         ensures state { self.new ≡ changed self.old mutex.0 (drop_waiter thread.0) }
         ensures noted { ChangesAreNoted (C.is_noted changes.old) (C.is_noted changes.new) (rank_of self.old) (rank_of self.new) }
     {
@@ -189,7 +194,13 @@ impl<A: Allocator> OwnersOf<A> {
             let owner = notes::ahead_of(&self.ahead, thread.0);
             let gone = self.mutexes[place].drop_waiter(thread.0);
             notes::forget(&mut self.ahead, gone);
-            mending::mend(&self.base, &self.ahead, &mut self.lent, changes, gone.and(owner));
+            mending::mend(
+                &self.base,
+                &self.ahead,
+                &mut self.lent,
+                changes,
+                gone.and(owner),
+            );
         }
     }
 
@@ -291,7 +302,13 @@ impl<A: Allocator> OwnersOf<A> {
         notes::forget(&mut self.ahead, next);
         notes::note_behind(&mut self.ahead, &self.mutexes[place].waiters, next);
         mending::settle(&self.base, &self.ahead, &mut self.lent, changes, next);
-        mending::mend(&self.base, &self.ahead, &mut self.lent, changes, next.and(before));
+        mending::mend(
+            &self.base,
+            &self.ahead,
+            &mut self.lent,
+            changes,
+            next.and(before),
+        );
         ranks::mend_ceiling(&self.mutexes, place, &mut self.ceilings, changes, before);
         ranks::mend_ceiling(&self.mutexes, place, &mut self.ceilings, changes, next);
         Ok((named(next), more))

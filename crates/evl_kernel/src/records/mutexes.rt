@@ -51,10 +51,7 @@ impl<C, A: Allocator> Records<C, A> {
         ensures served { Has (state_of self.old) (beginning (state_of self.old) thread.0 (WantsMutex mutex owner) until).effect result (state_of self.new) }
         ensures stands { KeepsCallbacks self.old self.new }
     {
-        if !self
-            .elements
-            .claim(mutex, thread, owner, &mut self.changes)
-        {
+        if !self.elements.claim(mutex, thread, owner, &mut self.changes) {
             return Err(Refusal::Deadlock);
         }
         ranks::hand_on(&self.elements, &mut self.changes, &mut self.sched);
