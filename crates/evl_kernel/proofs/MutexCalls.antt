@@ -1,5 +1,5 @@
 -- What the calls on mutexes come to, as steps of their records.
-use Rattle.std.proofs.Common.{◌≡◌, ◌≢◌, ◌<◌, ℕ, suc, ◌==◌, Bool, true, false, List, [], ◌∷◌, length, Option, Some, None, option_map, Result, Ok, Err, IfOk, IfErr, is_ok, slice_get, refl, sym, ap, ◌∙◌, arith}
+use Rattle.std.proofs.Common.{◌≡◌, ◌≢◌, ◌<◌, ℕ, suc, ◌==◌, Bool, true, false, List, [], ◌∷◌, length, Option, Some, None, option_map, Result, Ok, Err, IfOk, IfErr, is_ok, slice_get, if◌then◌else◌, refl, sym, ap, ◌∙◌, arith}
 use Rattle.std.specs.List.{list_any}
 use Rattle.std.specs.Option.{option_map_or}
 use Rattle.std.proofs.lemmas.Bool.{false≢true}
@@ -7,9 +7,10 @@ use Rattle.std.proofs.lemmas.Bool.Decides.{nat_tests}
 use Rattle.evl_base.specs.declared.numbers.ThreadId.{ThreadId}
 use Rattle.evl_base.specs.declared.refusal.Refusal.{Refusal}
 use Rattle.evl_base.specs.declared.refusal.Refusal.TheVariants.{Unknown, NotOwner}
-use Rattle.evl_base.specs.declared.reply.Reply.TheVariants.{Handed}
-use Rattle.evl_mutex.specs.Mutexes.{Mutex, is_open_to, is_waited_for_by, released}
-use Rattle.evl_mutex.specs.Owners.{Owners, IsRelease, claim_answer, claim_answer_at, claim_refusal, claim_refusal_at, is_thread, is_waiting, with_mutex, would_ring}
+use Rattle.evl_base.specs.declared.reply.Reply.TheVariants.{Begun, Handed}
+use Rattle.evl_mutex.specs.Mutexes.{Mutex, is_open_to, is_waited_for_by, released, claimed as with_waiter}
+use Rattle.evl_mutex.specs.declared.waiter.Waiter.{Waiter}
+use Rattle.evl_mutex.specs.Owners.{Owners, IsClaim, IsRelease, changed_at, claim_answer, claim_answer_at, claim_refusal, claim_refusal_at, claimed, is_thread, is_waiting, rank_of, with_mutex, would_ring}
 use Rattle.evl_mutex.specs.Views.{numbers_of}
 use Rattle.evl_kernel.specs.States.{Elements}
 use Rattle.evl_kernel.specs.Effects.{Answered}
@@ -126,3 +127,30 @@ module _ (o : Owners) (n waiter owner : ℕ) where
       by : (ring : Bool) → is_ok (claim_answer_at ring None) ≡ false → ring ≡ true
       by true e = refl
       by false e = absurd (false≢true (sym e))
+
+-- a claim that isn't refused is a step of the mutex
+module _ (v : ElementsView) (after : Owners) (n waiter owner : ℕ) where
+  abbrev w : Waiter
+  w = record { thread = waiter; rank = rank_of (owners_of v) waiter }
+
+  pub claimed-step : (answer : Result (Unit {0}) Refusal) → IsClaim (owners_of v) n waiter owner answer after → option_map_or (is_open_to owner) (slice_get v.elements.mutexes n) false ≡ true → is_ok answer ≡ true
+      → element v.elements (on_mutex n (recorded.claim w owner)) ≡ Ok (Begun, record v.elements { mutexes = after.mutexes })
+  claimed-step answer is is_open ok = at (slice_get v.elements.mutexes n) refl is_open
+    where
+      left : after ≡ claimed (owners_of v) n waiter owner
+      left = is.after_is ∙ ap (λ (b : Bool). if b then claimed (owners_of v) n waiter owner else owners_of v) ok
+
+      at : (found : Option Mutex) → slice_get v.elements.mutexes n ≡ found → option_map_or (is_open_to owner) found false ≡ true
+          → element v.elements (on_mutex n (recorded.claim w owner)) ≡ Ok (Begun, record v.elements { mutexes = after.mutexes })
+      at None here e = absurd (false≢true e)
+      at (Some m) here e =
+          nth-done machine (λ (mutexes : List Mutex). record v.elements { mutexes = mutexes }) v.elements.mutexes n (recorded.claim w owner) m (with_waiter m w owner) Begun here refl
+          ∙ ap (λ (x : Owners). Ok (Begun, record v.elements { mutexes = x.mutexes })) (sym (left ∙ ap (changed_at (owners_of v) n (λ m. with_waiter m w owner)) here))
+
+-- a raise ends no wait
+pub raise_wakes : (e : Elements) (n thread : ℕ) → wakes e (on_mutex n (recorded.raise thread)) ≡ []
+raise_wakes e n thread = by (slice_get e.mutexes n)
+  where
+    by : (o : Option Mutex) → option_map_or (λ (m : Mutex). recorded.mutex_wakes m (recorded.raise thread)) o [] ≡ []
+    by None = refl
+    by (Some m) = refl

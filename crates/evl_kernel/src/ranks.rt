@@ -1,26 +1,34 @@
 //! Effective ranks, handed on to the scheduler.
-ghost use Rattle.std.specs.Prelude.{◌≡◌, ◌≢◌, ◌≤◌, ◌<◌, ℕ, true, length, slice_index};
+ghost use Rattle.std.specs.Prelude.{◌≡◌, ◌≢◌, ◌≤◌, ◌<◌, ℕ, true, [], length, slice_index};
 ghost use Rattle.evl_base.specs.Limits.{thread_limit};
+ghost use Rattle.evl_kernel.specs.ChangedThreads.{AreGivenBut, is_noted};
+ghost use Rattle.evl_kernel.specs.ElementsViews.{owners_of};
 ghost use Rattle.evl_kernel.specs.Records.{AreGiven, AreTold};
+ghost use Rattle.evl_mutex.specs.Owners as owners;
 ghost use Rattle.evl_sched.specs.Ranks.{given_to, rank_of};
 ghost use Rattle.evl_sched.specs.Threads.{base_of, is_attached};
 
-use crate::THREADS;
+use crate::changed_threads::ChangedThreads;
 use crate::elements::Elements;
 use evl_base::ThreadId;
+use evl_mutex::RankChanges;
 use evl_sched::SchedOf;
 use std::alloc::Allocator;
 
-/// Gives each attached thread its effective rank, where it has another one.
-pub(crate) fn hand_on<A: Allocator>(elements: &Elements<A>, sched: &mut SchedOf<A>)
+/// Gives each attached thread that is noted its effective rank, where it has another one. None is noted then.
+pub(crate) fn hand_on<A: Allocator>(
+    elements: &Elements<A>,
+    changes: &mut ChangedThreads<A>,
+    sched: &mut SchedOf<A>,
+)
     requires told { AreTold elements.now.base sched.old.sched }
+    requires others { AreGivenBut (is_noted changes.old) sched.old (owners_of elements.now) }
     ensures given { AreGiven sched.new elements.now.elements.mutexes }
     ensures kept { sched.new.sched ≡ sched.old.sched }
+    ensures none { changes.new ≡ [] }
 {
-    let mut ranks = [0; THREADS];
-    elements.ranks(&mut ranks);
-    for number in 0..THREADS as u16 {
-        hand_to(sched, ThreadId(number), ranks[usize::from(number)]);
+    while let Some(thread) = changes.take() {
+        hand_to(sched, thread, elements.effective(thread));
     }
 }
 
@@ -40,6 +48,7 @@ fn hand_to<A: Allocator>(sched: &mut SchedOf<A>, thread: ThreadId, rank: u16)
 /// The recorded owners are told the base rank of a thread, which has another one, and the ranks are handed on.
 pub(crate) fn base_changed<A: Allocator>(
     elements: &mut Elements<A>,
+    changes: &mut ChangedThreads<A>,
     sched: &mut SchedOf<A>,
     thread: ThreadId,
 )
@@ -47,14 +56,16 @@ pub(crate) fn base_changed<A: Allocator>(
     requires few { length sched.old.sched.seats ≤ thread_limit }
     requires there { thread.0 < thread_limit }
     requires others { (t : ℕ) → t ≢ thread.0 → slice_index elements.old.base t ≡ base_of sched.old.sched t }
+    requires given { (t : ℕ) → t ≢ thread.0 → is_attached sched.old.sched t ≡ true → rank_of sched.old t ≡ owners.rank_of (owners_of elements.old) t }
     ensures told { AreTold elements.new.base sched.new.sched }
     ensures given { AreGiven sched.new elements.new.elements.mutexes }
     ensures elements { elements.new.elements ≡ elements.old.elements }
     ensures kept { sched.new.sched ≡ sched.old.sched }
 {
     let rank = base_rank(sched, thread);
-    elements.set_base(thread, rank);
-    hand_on(elements, sched);
+    changes.note(thread);
+    elements.set_base(thread, rank, changes);
+    hand_on(elements, changes, sched);
 }
 
 /// The base rank of a thread, or 0 where it isn't attached.

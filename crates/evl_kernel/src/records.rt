@@ -28,6 +28,7 @@ mod timers;
 mod waiting;
 
 use crate::bank::{BankPlace, Numbered};
+use crate::changed_threads::ChangedThreads;
 use crate::elements::Elements;
 use crate::wait_place::WaitPlace;
 use crate::waits::Wait;
@@ -44,6 +45,8 @@ use std::snapshot::Snapshot;
 pub(crate) struct Records<C, A: Allocator> {
     threads: u16,
     elements: Elements<A>,
+    // whose effective rank may be another one than the scheduler was given, within a call
+    changes: ChangedThreads<A>,
     bank: Vec<BankPlace<C>, A>,
     pipeline: PipelineOf<Numbered<C>, A>,
     clock: ClockOf<Numbered<C>, A>,
@@ -80,10 +83,12 @@ impl<C: Handler, A: Allocator> Records<C, A> {
         let waiting = waiting_over(&alloc, boxes, board)?;
         let playing = playing_over(&alloc)?;
         let bank = placed(&alloc, bank)?;
+        let changes = ChangedThreads::new(another(&alloc)?)?;
         let sched = SchedOf::new(alloc, board.threads, board.groups.as_slice())?;
         Ok(Records {
             threads: board.threads,
             elements: waiting.0,
+            changes,
             bank,
             pipeline: playing.0,
             clock: playing.1,

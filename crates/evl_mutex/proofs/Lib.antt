@@ -12,5 +12,6 @@ pub mod ListLaws
 pub mod CallLaws
 pub mod CeilingLaws
 pub mod StoredLaws
+pub mod ChangeLaws
 pub mod Rows
 pub mod Crossing

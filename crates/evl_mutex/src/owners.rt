@@ -3,11 +3,13 @@ ghost use Rattle.std.specs.Prelude.{◌≡◌, List, ◌<◌, ◌^◌, ℕ, Bool
 ghost use Rattle.std.specs.List.{list_any};
 ghost use Rattle.std.specs.Option.{option_map_or};
 ghost use Rattle.evl_base.specs.declared.refusal.Refusal.{Refusal};
+ghost use Rattle.evl_mutex.specs.Changes.{ChangesAreNoted};
 ghost use Rattle.evl_mutex.specs.Mutexes.{raised, lowered, opened, is_owned_by, is_waited_for_by, drop_waiter};
 ghost use Rattle.evl_mutex.specs.Owners.{IsClaim, IsRelease, IsRingFree, IsSound, base_of, changed, claim_answer, claim_refusal, dropped, fresh, is_thread, lower_refusal, next_of, owner_of, raise_refusal, rank_of, ranks_of, unless_refused, with_base};
 ghost use Rattle.evl_mutex.specs.Ranks.{IsEffective};
 ghost use Rattle.evl_mutex.specs.Views.{HaveRoom, ahead_in, mutexes_of, numbers_of};
 
+use crate::changes::{RankChanges, Unnoted};
 use crate::mutex_record::MutexRecord;
 use crate::waiter::Waiter;
 use crate::{mending, notes, ranks, walks};
@@ -128,11 +130,31 @@ impl<A: Allocator> OwnersOf<A> {
         ensures answer { result ≡ (if is_thread self.old thread.0 then Ok tt else Err Refusal.Unknown) }
         ensures state { self.new ≡ (if is_thread self.old thread.0 then with_base self.old thread.0 rank else self.old) }
     {
+        self.set_base_noting(thread, rank, &mut Unnoted)
+    }
+
+    /// Sets the base rank of a thread as `set_base` does, and notes whose effective rank may have changed. (this profile)
+    pub fn set_base_noting<C: RankChanges>(
+        &mut self,
+        thread: ThreadId,
+        rank: u16,
+        changes: &mut C,
+    ) -> Result<(), Refusal>
+        ensures answer { result ≡ (if is_thread self.old thread.0 then Ok tt else Err Refusal.Unknown) }
+        ensures state { self.new ≡ (if is_thread self.old thread.0 then with_base self.old thread.0 rank else self.old) }
+        ensures noted { ChangesAreNoted (C.is_noted changes.old) (C.is_noted changes.new) (rank_of self.old) (rank_of self.new) }
+    {
         if thread.0 as usize >= self.base.len() {
             return Err(Refusal::Unknown);
         }
         self.base[thread.0 as usize] = rank;
-        mending::mend(&self.base, &self.ahead, &mut self.lent, Some(thread.0));
+        mending::mend(
+            &self.base,
+            &self.ahead,
+            &mut self.lent,
+            changes,
+            Some(thread.0),
+        );
         Ok(())
     }
 
@@ -144,7 +166,7 @@ impl<A: Allocator> OwnersOf<A> {
         let owner = notes::ahead_of(&self.ahead, thread.0);
         walks::drop_waiter(&mut self.mutexes, thread.0);
         notes::forget(&mut self.ahead, Some(thread.0));
-        mending::mend(&self.base, &self.ahead, &mut self.lent, owner);
+        mending::mend(&self.base, &self.ahead, &mut self.lent, &mut Unnoted, owner);
     }
 
     /// Lets a thread wait for this one mutex no more, if it does; where there is no such mutex nothing changes. Where it
@@ -153,12 +175,32 @@ impl<A: Allocator> OwnersOf<A> {
     pub fn leave(&mut self, mutex: MutexId, thread: ThreadId)
         ensures state { self.new ≡ changed self.old mutex.0 (drop_waiter thread.0) }
     {
+        self.leave_noting(mutex, thread, &mut Unnoted);
+    }
+
+    /// Lets a thread wait for this one mutex no more as `leave` does, and notes whose effective rank may have changed. (this
+    /// profile)
+    pub fn leave_noting<C: RankChanges>(
+        &mut self,
+        mutex: MutexId,
+        thread: ThreadId,
+        changes: &mut C,
+    )
+        ensures state { self.new ≡ changed self.old mutex.0 (drop_waiter thread.0) }
+        ensures noted { ChangesAreNoted (C.is_noted changes.old) (C.is_noted changes.new) (rank_of self.old) (rank_of self.new) }
+    {
         let place = mutex.0 as usize;
         if place < self.mutexes.len() {
             let owner = notes::ahead_of(&self.ahead, thread.0);
             let gone = self.mutexes[place].drop_waiter(thread.0);
             notes::forget(&mut self.ahead, gone);
-            mending::mend(&self.base, &self.ahead, &mut self.lent, gone.and(owner));
+            mending::mend(
+                &self.base,
+                &self.ahead,
+                &mut self.lent,
+                changes,
+                gone.and(owner),
+            );
         }
     }
 
@@ -174,6 +216,22 @@ impl<A: Allocator> OwnersOf<A> {
     ) -> Result<(), Refusal>
         ensures claim { IsClaim self.old mutex.0 waiter.0 owner.0 result self.new }
         ensures answer { result ≡ claim_answer self.old mutex.0 waiter.0 owner.0 }
+    {
+        self.claim_noting(mutex, waiter, owner, &mut Unnoted)
+    }
+
+    /// A thread begins to wait for a mutex as by `claim`, which refuses the same, and whose effective rank may have changed
+    /// is noted. (this profile)
+    pub fn claim_noting<C: RankChanges>(
+        &mut self,
+        mutex: MutexId,
+        waiter: ThreadId,
+        owner: ThreadId,
+        changes: &mut C,
+    ) -> Result<(), Refusal>
+        ensures claim { IsClaim self.old mutex.0 waiter.0 owner.0 result self.new }
+        ensures answer { result ≡ claim_answer self.old mutex.0 waiter.0 owner.0 }
+        ensures noted { ChangesAreNoted (C.is_noted changes.old) (C.is_noted changes.new) (rank_of self.old) (rank_of self.new) }
     {
         if let Some(refusal) = claim_refusal(
             self.base.len(),
@@ -196,11 +254,12 @@ impl<A: Allocator> OwnersOf<A> {
         };
         self.mutexes[mutex.0 as usize].claim(waiting, owner.0);
         notes::note(&mut self.ahead, waiter.0, Some(owner.0));
-        mending::lend(&self.ahead, &mut self.lent, waiter.0, owner.0);
+        mending::lend(&self.ahead, &mut self.lent, changes, waiter.0, owner.0);
         ranks::mend_ceiling(
             &self.mutexes,
             mutex.0 as usize,
             &mut self.ceilings,
+            changes,
             Some(owner.0),
         );
         Ok(())
@@ -217,6 +276,20 @@ impl<A: Allocator> OwnersOf<A> {
     ) -> Result<(Option<ThreadId>, bool), Refusal>
         ensures release { IsRelease self.old mutex.0 owner.0 (numbers_of result) self.new }
     {
+        self.release_noting(mutex, owner, &mut Unnoted)
+    }
+
+    /// Hands a mutex on as `release` does, which refuses the same, and notes whose effective rank may have changed. (this
+    /// profile)
+    pub fn release_noting<C: RankChanges>(
+        &mut self,
+        mutex: MutexId,
+        owner: ThreadId,
+        changes: &mut C,
+    ) -> Result<(Option<ThreadId>, bool), Refusal>
+        ensures release { IsRelease self.old mutex.0 owner.0 (numbers_of result) self.new }
+        ensures noted { ChangesAreNoted (C.is_noted changes.old) (C.is_noted changes.new) (rank_of self.old) (rank_of self.new) }
+    {
         let place = mutex.0 as usize;
         if place >= self.mutexes.len() {
             return Err(Refusal::Unknown);
@@ -228,10 +301,16 @@ impl<A: Allocator> OwnersOf<A> {
         let (next, more) = self.mutexes[place].hand_on();
         notes::forget(&mut self.ahead, next);
         notes::note_behind(&mut self.ahead, &self.mutexes[place].waiters, next);
-        mending::settle(&self.base, &self.ahead, &mut self.lent, next);
-        mending::mend(&self.base, &self.ahead, &mut self.lent, next.and(before));
-        ranks::mend_ceiling(&self.mutexes, place, &mut self.ceilings, before);
-        ranks::mend_ceiling(&self.mutexes, place, &mut self.ceilings, next);
+        mending::settle(&self.base, &self.ahead, &mut self.lent, changes, next);
+        mending::mend(
+            &self.base,
+            &self.ahead,
+            &mut self.lent,
+            changes,
+            next.and(before),
+        );
+        ranks::mend_ceiling(&self.mutexes, place, &mut self.ceilings, changes, before);
+        ranks::mend_ceiling(&self.mutexes, place, &mut self.ceilings, changes, next);
         Ok((named(next), more))
     }
 
@@ -242,6 +321,21 @@ impl<A: Allocator> OwnersOf<A> {
         ensures answer { result ≡ unless_refused (raise_refusal self.old mutex.0 thread.0) tt }
         ensures state { self.new ≡ (if is_ok result then changed self.old mutex.0 (λ m. raised m thread.0) else self.old) }
     {
+        self.raise_noting(mutex, thread, &mut Unnoted)
+    }
+
+    /// Records a thread as the owner of a mutex with a ceiling as `raise` does, which refuses the same, and notes whose
+    /// effective rank may have changed. (this profile)
+    pub fn raise_noting<C: RankChanges>(
+        &mut self,
+        mutex: MutexId,
+        thread: ThreadId,
+        changes: &mut C,
+    ) -> Result<(), Refusal>
+        ensures answer { result ≡ unless_refused (raise_refusal self.old mutex.0 thread.0) tt }
+        ensures state { self.new ≡ (if is_ok result then changed self.old mutex.0 (λ m. raised m thread.0) else self.old) }
+        ensures noted { ChangesAreNoted (C.is_noted changes.old) (C.is_noted changes.new) (rank_of self.old) (rank_of self.new) }
+    {
         if let Some(refusal) = raise_refusal(self.base.len(), &self.mutexes, mutex.0, thread.0) {
             return Err(refusal);
         }
@@ -250,6 +344,7 @@ impl<A: Allocator> OwnersOf<A> {
             &self.mutexes,
             mutex.0 as usize,
             &mut self.ceilings,
+            changes,
             Some(thread.0),
         );
         Ok(())
@@ -270,6 +365,7 @@ impl<A: Allocator> OwnersOf<A> {
             &self.mutexes,
             mutex.0 as usize,
             &mut self.ceilings,
+            &mut Unnoted,
             Some(thread.0),
         );
         Ok(())

@@ -9,29 +9,32 @@ ghost use Rattle.evl_kernel.specs.Semaphores.{one_served};
 ghost use Rattle.evl_kernel.specs.Standing.{in_mutex, stands_at};
 ghost use Rattle.evl_kernel.specs.ThreadCalls.{owns_in};
 ghost use Rattle.evl_mutex.specs.Chains.{reaches, waits_for};
-ghost use Rattle.evl_mutex.specs.Owners.{owner_at, rank_of, ranks_of};
+ghost use Rattle.evl_mutex.specs.Changes.{ChangesAreNoted};
+ghost use Rattle.evl_mutex.specs.Owners.{owner_at, rank_of};
 ghost use Rattle.evl_kernel.specs.declared.waits.Awaited.TheVariants.{Mutex as OnMutex};
 ghost use Rattle.evl_kernel.specs.declared.waits.Wanted.TheVariants.{Mutex as WantsMutex};
 
 use super::Elements;
 use evl_base::{MutexId, Refusal, Reply, ThreadId};
+use evl_mutex::RankChanges;
 use std::alloc::Allocator;
 
 impl<A: Allocator> Elements<A> {
-    /// Writes the effective ranks of all threads below the length of the slice.
-    pub(crate) fn ranks(&self, ranks: &mut [u16])
-        ensures ranks { ranks.new ≡ ranks_of (owners_of self.now) (length ranks.old) }
+    /// The effective rank of a thread.
+    pub(crate) fn effective(&self, thread: ThreadId) -> u16
+        ensures rank { result ≡ rank_of (owners_of self.now) thread.0 }
     {
-        self.owners.ranks(ranks);
+        self.owners.effective(thread)
     }
 
-    /// The recorded owners are told the base rank of a thread.
-    pub(crate) fn set_base(&mut self, thread: ThreadId, rank: u16)
+    /// The recorded owners are told the base rank of a thread; whose effective rank may have changed is noted.
+    pub(crate) fn set_base<C: RankChanges>(&mut self, thread: ThreadId, rank: u16, changes: &mut C)
         requires there { thread.0 < length self.old.base }
         ensures told { self.new.base ≡ slice_set self.old.base thread.0 rank }
         ensures elements { self.new.elements ≡ self.old.elements }
+        ensures noted { ChangesAreNoted (C.is_noted changes.old) (C.is_noted changes.new) (rank_of (owners_of self.old)) (rank_of (owners_of self.new)) }
     {
-        let _ = self.owners.set_base(thread, rank);
+        let _ = self.owners.set_base_noting(thread, rank, changes);
     }
 
     /// Whether the thread is recorded as the owner of a mutex.
@@ -69,8 +72,14 @@ impl<A: Allocator> Elements<A> {
     }
 
     /// A thread that waits for nothing begins to wait for a mutex whose owner it names, and this is whether it does: not
-    /// where it would wait for itself along recorded owners.
-    pub(crate) fn claim(&mut self, mutex: MutexId, thread: ThreadId, owner: ThreadId) -> bool
+    /// where it would wait for itself along recorded owners. Whose effective rank may have changed is noted.
+    pub(crate) fn claim<C: RankChanges>(
+        &mut self,
+        mutex: MutexId,
+        thread: ThreadId,
+        owner: ThreadId,
+        changes: &mut C,
+    ) -> bool
         requires there { is_there self.old.elements (OnMutex mutex) ≡ true }
         requires open { is_open self.old.elements mutex.0 owner.0 ≡ true }
         requires differs { owner.0 ≢ thread.0 }
@@ -82,33 +91,44 @@ impl<A: Allocator> Elements<A> {
         ensures ring { result ≡ false → reaches (length self.old.base) (waits_for self.old.elements.mutexes) owner.0 thread.0 ≡ true }
         ensures unchanged { result ≡ false → self.new ≡ self.old }
         ensures base { self.new.base ≡ self.old.base }
+        ensures noted { ChangesAreNoted (C.is_noted changes.old) (C.is_noted changes.new) (rank_of (owners_of self.old)) (rank_of (owners_of self.new)) }
     {
-        self.owners.claim(mutex, thread, owner).is_ok()
+        self.owners
+            .claim_noting(mutex, thread, owner, changes)
+            .is_ok()
     }
 
     /// Hands a mutex on to the first waiter: who that is, if anybody waits, and whether more do. The first that applies:
     /// `Unknown` (no such mutex), `NotOwner` (another owner is recorded).
-    pub(crate) fn release(
+    pub(crate) fn release<C: RankChanges>(
         &mut self,
         mutex: MutexId,
         thread: ThreadId,
+        changes: &mut C,
     ) -> Result<(Option<ThreadId>, bool), Refusal>
         ensures step { IfOk result (λ handed. element self.old.elements (on_mutex mutex.0 (recorded.release thread.0)) ≡ Ok (Reply.Handed handed.0 handed.1, self.new.elements)) }
         ensures served { IfOk result (λ handed. wakes self.old.elements (on_mutex mutex.0 (recorded.release thread.0)) ≡ one_served (option_map (λ next. next.0) handed.0)) }
         ensures refused { IfErr result (λ e. (element self.old.elements (on_mutex mutex.0 (recorded.release thread.0)) ≡ Err e) × (self.new ≡ self.old)) }
         ensures base { self.new.base ≡ self.old.base }
+        ensures noted { ChangesAreNoted (C.is_noted changes.old) (C.is_noted changes.new) (rank_of (owners_of self.old)) (rank_of (owners_of self.new)) }
     {
-        self.owners.release(mutex, thread)
+        self.owners.release_noting(mutex, thread, changes)
     }
 
     /// A thread has the ceiling of a mutex, of which it is recorded as the owner. The first that applies: `Unknown` (no such
     /// mutex), `Invalid` (it has no ceiling), `Busy` (an owner is recorded).
-    pub(crate) fn raise(&mut self, mutex: MutexId, thread: ThreadId) -> Result<(), Refusal>
+    pub(crate) fn raise<C: RankChanges>(
+        &mut self,
+        mutex: MutexId,
+        thread: ThreadId,
+        changes: &mut C,
+    ) -> Result<(), Refusal>
         requires few { thread.0 < length self.old.base }
         ensures step { IfOk result (λ u. element self.old.elements (on_mutex mutex.0 (recorded.raise thread.0)) ≡ Ok (Reply.Done, self.new.elements)) }
         ensures refused { IfErr result (λ e. (element self.old.elements (on_mutex mutex.0 (recorded.raise thread.0)) ≡ Err e) × (self.new ≡ self.old)) }
         ensures base { self.new.base ≡ self.old.base }
+        ensures noted { ChangesAreNoted (C.is_noted changes.old) (C.is_noted changes.new) (rank_of (owners_of self.old)) (rank_of (owners_of self.new)) }
     {
-        self.owners.raise(mutex, thread)
+        self.owners.raise_noting(mutex, thread, changes)
     }
 }

@@ -10,10 +10,13 @@ ghost use Rattle.evl_kernel.specs.Elements.{element, on_xbuf, serves, wakes};
 ghost use Rattle.evl_kernel.specs.ElementsViews.{owners_of};
 ghost use Rattle.evl_kernel.specs.Endings.{drop_step, is_of_mutex};
 ghost use Rattle.evl_kernel.specs.Standing.{stands_for};
+ghost use Rattle.evl_mutex.specs.Changes.{ChangesAreNoted};
+ghost use Rattle.evl_mutex.specs.Owners.{rank_of};
 
 use super::Elements;
 use crate::waits::{Awaited, Wanted};
 use evl_base::{Bytes, FlagId, Refusal, Reply, SemId, Stage, Take, ThreadId, Way, XbufId};
+use evl_mutex::RankChanges;
 use evl_xbuf::Served;
 use std::alloc::Allocator;
 
@@ -154,12 +157,18 @@ impl<A: Allocator> Elements<A> {
     }
 
     /// A thread leaves the queue of an element; whom that served, where it was a cross-buffer's. Nothing changes where it
-    /// doesn't stand there. Ranks may change where it was a mutex's.
-    pub(crate) fn leave(&mut self, thread: ThreadId, on: Awaited) -> Option<Served>
+    /// doesn't stand there. Whose effective rank may have changed is noted, which nobody's has where it was no mutex's.
+    pub(crate) fn leave<C: RankChanges>(
+        &mut self,
+        thread: ThreadId,
+        on: Awaited,
+        changes: &mut C,
+    ) -> Option<Served>
         ensures left { self.new.elements ≡ if_done self.old.elements (element self.old.elements (drop_step thread.0 on)) }
         ensures woken { wakes self.old.elements (drop_step thread.0 on) ≡ map service_told (served_in result) }
         ensures base { self.new.base ≡ self.old.base }
         ensures owners { is_of_mutex on ≡ false → owners_of self.new ≡ owners_of self.old }
+        ensures noted { ChangesAreNoted (C.is_noted changes.old) (C.is_noted changes.new) (rank_of (owners_of self.old)) (rank_of (owners_of self.new)) }
     {
         match on {
             Awaited::Sem(sem) => {
@@ -177,16 +186,25 @@ impl<A: Allocator> Elements<A> {
                 None
             }
             Awaited::Writing(xbuf, way) | Awaited::Reading(xbuf, way) => {
-                let place = usize::from(xbuf.0);
-                if place >= self.xbufs.len() {
-                    return None;
-                }
-                Some(self.xbufs[place].drop_waiter(thread, way))
+                self.leave_xbuf(thread, xbuf, way)
             }
             Awaited::Mutex(mutex) => {
-                self.owners.leave(mutex, thread);
+                self.owners.leave_noting(mutex, thread, changes);
                 None
             }
         }
+    }
+
+    /// A thread waits for a cross-buffer no more this way, if it did; whom that served, if there is such a cross-buffer.
+    fn leave_xbuf(&mut self, thread: ThreadId, xbuf: XbufId, way: Way) -> Option<Served>
+        ensures left { self.new.elements ≡ if_done self.old.elements (element self.old.elements (on_xbuf xbuf.0 (through.drop thread.0 way))) }
+        ensures woken { wakes self.old.elements (on_xbuf xbuf.0 (through.drop thread.0 way)) ≡ map service_told (served_in result) }
+        ensures owners { owners_of self.new ≡ owners_of self.old }
+    {
+        let place = usize::from(xbuf.0);
+        if place >= self.xbufs.len() {
+            return None;
+        }
+        Some(self.xbufs[place].drop_waiter(thread, way))
     }
 }

@@ -51,10 +51,10 @@ impl<C, A: Allocator> Records<C, A> {
         ensures served { Has (state_of self.old) (beginning (state_of self.old) thread.0 (WantsMutex mutex owner) until).effect result (state_of self.new) }
         ensures stands { KeepsCallbacks self.old self.new }
     {
-        if !self.elements.claim(mutex, thread, owner) {
+        if !self.elements.claim(mutex, thread, owner, &mut self.changes) {
             return Err(Refusal::Deadlock);
         }
-        ranks::hand_on(&self.elements, &mut self.sched);
+        ranks::hand_on(&self.elements, &mut self.changes, &mut self.sched);
         waits::begin(&mut self.waits, thread, Awaited::Mutex(mutex), None);
         self.suspend(thread, until);
         Ok(Reply::Begun)
@@ -67,10 +67,10 @@ impl<C, A: Allocator> Records<C, A> {
         ensures served { Has (state_of self.old) (stepping (state_of self.old) (on_mutex mutex.0 (mutex_step.release thread.0))) result (state_of self.new) }
         ensures stands { KeepsCallbacks self.old self.new }
     {
-        match self.elements.release(mutex, thread) {
+        match self.elements.release(mutex, thread, &mut self.changes) {
             Err(refusal) => Err(refusal),
             Ok((next, more)) => {
-                ranks::hand_on(&self.elements, &mut self.sched);
+                ranks::hand_on(&self.elements, &mut self.changes, &mut self.sched);
                 if let Some(waiter) = next {
                     self.wake(waiter, Outcome::Told(Reply::Done));
                 }
@@ -93,11 +93,11 @@ impl<C, A: Allocator> Records<C, A> {
             Ok(_) => {}
             Err(refusal) => return Err(refusal),
         }
-        match self.elements.raise(mutex, thread) {
+        match self.elements.raise(mutex, thread, &mut self.changes) {
             Ok(()) => {}
             Err(refusal) => return Err(refusal),
         }
-        ranks::hand_on(&self.elements, &mut self.sched);
+        ranks::hand_on(&self.elements, &mut self.changes, &mut self.sched);
         Ok(Reply::Done)
     }
 }

@@ -30,7 +30,12 @@ impl<C, A: Allocator> Records<C, A> {
             Ok(()) => {}
             Err(refusal) => return Err(refusal),
         }
-        ranks::base_changed(&mut self.elements, &mut self.sched, thread);
+        ranks::base_changed(
+            &mut self.elements,
+            &mut self.changes,
+            &mut self.sched,
+            thread,
+        );
         Ok(Reply::Done)
     }
 
@@ -49,7 +54,12 @@ impl<C, A: Allocator> Records<C, A> {
             return Err(Refusal::Busy);
         }
         let _ = self.sched.detach(thread);
-        ranks::base_changed(&mut self.elements, &mut self.sched, thread);
+        ranks::base_changed(
+            &mut self.elements,
+            &mut self.changes,
+            &mut self.sched,
+            thread,
+        );
         Ok(Reply::Done)
     }
 
@@ -64,7 +74,12 @@ impl<C, A: Allocator> Records<C, A> {
             Ok(()) => {}
             Err(refusal) => return Err(refusal),
         }
-        ranks::base_changed(&mut self.elements, &mut self.sched, thread);
+        ranks::base_changed(
+            &mut self.elements,
+            &mut self.changes,
+            &mut self.sched,
+            thread,
+        );
         Ok(Reply::Done)
     }
 

@@ -225,9 +225,9 @@ impl<C, A: Allocator> Records<C, A> {
         ensures stands { KeepsCallbacks self.old self.new }
     {
         let on = waits::awaited_by(&self.waits, thread)?;
-        let served = self.elements.leave(thread, on);
+        let served = self.elements.leave(thread, on, &mut self.changes);
         if on.is_of_mutex() {
-            ranks::hand_on(&self.elements, &mut self.sched);
+            ranks::hand_on(&self.elements, &mut self.changes, &mut self.sched);
         }
         served
     }

@@ -1,6 +1,19 @@
 use Rattle.std.proofs.Common.{ℕ, slice_set, ap, ◌∙◌}
+use Rattle.evl_kernel.specs.ChangedThreads.{is_noted}
+use Rattle.evl_kernel.specs.ElementsViews.{owners_of}
+use Rattle.evl_kernel.proofs.ChangedLaws.{given-told}
 use Rattle.evl_kernel.proofs.HandLaws.{base-told}
 use Rattle.evl_kernel.proofs.ranks.base_changed.Goals as goal
+
+pub hand_on-requires-clause-told : goal.hand_on-requires-clause-told
+hand_on-requires-clause-told g c =
+    let base = c.set_base.ensures.told ∙ ap (λ (rank : ℕ). slice_set c.args.elements.now.base c.args.thread.0 rank) c.base_rank-rank.ensures.base in
+    rw base (base-told c.args.elements.now.base c.args.sched.now.sched c.args.thread.0 c.requires.size c.requires.few c.requires.there c.requires.others)
+
+pub hand_on-requires-clause-others : goal.hand_on-requires-clause-others
+hand_on-requires-clause-others g c =
+    given-told (owners_of c.args.elements.now) (owners_of c.set_base.new.self) c.args.sched.now c.args.thread.0
+    (is_noted c.args.changes.now) (is_noted c.note.new.self) (is_noted c.set_base.new.changes) c.note.ensures.noted c.requires.given c.set_base.ensures.noted
 
 pub returns-clause-told : goal.returns-clause-told
 returns-clause-told g c =

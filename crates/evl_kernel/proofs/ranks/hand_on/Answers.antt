@@ -1,14 +1,35 @@
-use Rattle.std.proofs.Common.{◌≡◌, ◌∙◌, ap, List, slice_index, ℕ, subst, arith}
-use Rattle.evl_mutex.proofs.RaiseLaws.{rank-at}
+use Rattle.std.proofs.Common.{◌≡◌, ◌<◌, [], length, Some, None, sym, ap, ◌∙◌, subst, arith}
+use Rattle.std.specs.Option.{option_map_or}
+use Rattle.evl_bitmap.specs.NumberSet.{NumberSet, least, remove}
+use Rattle.evl_bitmap.proofs.NumberSetLaws.{least-none, length-remove_least}
+use Rattle.evl_sched.specs.Threads.{Sched}
+use Rattle.evl_kernel.specs.ChangedThreads.{AreGivenBut, is_noted}
 use Rattle.evl_kernel.specs.ElementsViews.{owners_of}
-use Rattle.evl_base.specs.Limits.{thread_limit}
-use Rattle.evl_kernel.proofs.HandLaws.{GivenBelow, given-all, given-more}
+use Rattle.evl_kernel.specs.Records.{AreTold}
+use Rattle.evl_kernel.proofs.ChangedLaws.{given-all, given-more}
 use Rattle.evl_kernel.proofs.ranks.hand_on.Goals as goal
 
-pub loop-number-preserved : goal.loop-number-preserved
-loop-number-preserved g c = given-more c.args.elements.now c.args.sched.now c.loop-number.sched c.hand_to.new.sched c.loop-number.number c.loop-number.invariant c.hand_to.ensures.kept (λ attached. c.hand_to.ensures.given attached ∙ rw c.from.ensures (ap (λ (ranks : List ℕ). slice_index ranks c.loop-number.number) c.ranks.ensures.ranks ∙ rank-at (owners_of c.args.elements.now) thread_limit c.loop-number.number c.loop-number-test.true)) c.hand_to.ensures.others
+pub loop-thread-smaller : goal.loop-thread-smaller
+loop-thread-smaller g c =
+    let set = c.loop-thread.changes in let n = c.in-Some.thread.0 in
+    let first : least set ≡ Some n = sym c.in-Some.ensures.taken in
+    let left : c.take.new.self ≡ remove set n = c.take.ensures.left ∙ ap (λ o. option_map_or (remove set) o set) first in
+    let fewer : length c.take.new.self < length set = omega (arith, ap length left, length-remove_least set n first) in
+    fewer
+
+pub loop-thread-preserved : goal.loop-thread-preserved
+loop-thread-preserved g c =
+    let set = c.loop-thread.changes in let n = c.in-Some.thread.0 in
+    let left : c.take.new.self ≡ remove set n = c.take.ensures.left ∙ ap (λ o. option_map_or (remove set) o set) (sym c.in-Some.ensures.taken) in
+    record {
+      kept = c.hand_to.ensures.kept ∙ c.loop-thread.invariant.kept;
+      given = rw left (given-more set (owners_of c.args.elements.now) c.loop-thread.sched c.hand_to.new.sched n c.loop-thread.invariant.given c.hand_to.ensures.kept
+          (λ attached. c.hand_to.ensures.given attached ∙ c.effective.ensures.rank) c.hand_to.ensures.others);
+    }
 
 pub returns-clause-given : goal.returns-clause-given
 returns-clause-given g c =
-    let all : c.loop-number.number ≡ thread_limit = omega (arith, c.loop-number.auto.number-end, c.loop-number-test.false) in
-    given-all c.args.elements.now c.args.sched.now c.loop-number.sched (subst (λ (n : ℕ). GivenBelow c.args.elements.now c.args.sched.now c.loop-number.sched n) all c.loop-number.invariant) c.requires.told
+    let empty : c.loop-thread.changes ≡ [] = least-none c.loop-thread.changes (sym c.in_default.ensures.taken) in
+    let P : NumberSet → Type 0 = λ set. AreGivenBut (is_noted set) c.loop-thread.sched (owners_of c.args.elements.now) in
+    let Q : Sched → Type 0 = λ s. AreTold c.args.elements.now.base s in
+    given-all c.args.elements.now c.loop-thread.sched (subst P empty c.loop-thread.invariant.given) (subst Q (sym c.loop-thread.invariant.kept) c.requires.told)

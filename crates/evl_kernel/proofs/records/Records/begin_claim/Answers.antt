@@ -13,6 +13,8 @@ use Rattle.evl_kernel.proofs.MutexQueues.{back_is}
 use Rattle.evl_kernel.proofs.QueueLaws.{claim_wakes}
 use Rattle.evl_kernel.proofs.RankLaws.{rank_told, ranks-handed}
 use Rattle.evl_kernel.proofs.WaitRecords.{begin_is, blocked_as, claim_rings, idle_away, keeps-changed, may_begin_all, sound_ranked}
+use Rattle.evl_kernel.specs.ChangedThreads.{is_noted}
+use Rattle.evl_kernel.proofs.ChangedLaws.{given-beside}
 use Rattle.evl_kernel.proofs.records.Records.begin_claim.Goals as goal
 
 pub claim-requires-clause-away : goal.claim-requires-clause-away
@@ -60,3 +62,7 @@ returns-clause-served g c =
 pub returns-clause-stands : goal.returns-clause-stands
 returns-clause-stands g c =
     rw (← c.self.view_is) (keeps-both (records_view c.self.inside) _ c.suspend.new.self (keeps-changed (records_view c.self.inside) c.claim.new.self c.hand_on.new.sched c.begin.new.waits.items) c.suspend.ensures.stands)
+
+pub hand_on-requires-clause-others : goal.hand_on-requires-clause-others
+hand_on-requires-clause-others g c =
+    given-beside (owners_of c.self.inside.elements) (owners_of c.claim.new.self) c.self.inside.sched (is_noted c.self.inside.changes) (is_noted c.claim.new.changes) c.self.invariant.ranks c.claim.ensures.noted

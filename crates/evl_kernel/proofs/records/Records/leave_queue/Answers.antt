@@ -7,6 +7,8 @@ use Rattle.evl_kernel.specs.RecordsInside.{records_view}
 use Rattle.evl_kernel.proofs.QueueLaws.{Dropped, drop_goes}
 use Rattle.evl_kernel.proofs.RankLaws.{ranks-handed}
 use Rattle.evl_kernel.proofs.WaitRecords.{dropped_apart, dropped_away, dropped_kept, ranks_as, sound_with}
+use Rattle.evl_kernel.specs.ChangedThreads.{is_noted}
+use Rattle.evl_kernel.proofs.ChangedLaws.{given-beside}
 use Rattle.evl_kernel.proofs.records.Records.leave_queue.Goals as goal
 
 pub invariant_of-self : goal.invariant_of-self
@@ -42,3 +44,7 @@ returns-else-is_of_mutex-clause-apart g c t is on =
     let e = c.self.inside.elements.elements in
     let dropped = subst (λ (z : Elements). Dropped e c.in_ok-on.on c.args.thread.0 (wakes e (drop_step c.args.thread.0 c.in_ok-on.on)) z) (sym c.leave-served.ensures.left) (drop_goes e c.self.invariant.waits.sound c.args.thread.0 c.in_ok-on.on) in
     dropped_apart c.self.inside.threads e c.self.inside.waits.items c.self.invariant.waits c.args.thread.0 c.in_ok-on.on (wakes e (drop_step c.args.thread.0 c.in_ok-on.on)) c.leave-served.new.self.elements dropped t (rw c.leave-served.ensures.woken is) on
+
+pub hand_on-requires-clause-others : goal.hand_on-requires-clause-others
+hand_on-requires-clause-others g c =
+    given-beside (owners_of c.self.inside.elements) (owners_of c.leave-served.new.self) c.self.inside.sched (is_noted c.self.inside.changes) (is_noted c.leave-served.new.changes) c.self.invariant.ranks c.leave-served.ensures.noted

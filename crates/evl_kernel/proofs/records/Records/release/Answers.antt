@@ -1,12 +1,20 @@
+use Rattle.std.proofs.Common.{Some, None, Ok, sym, ap, ◌∙◌}
 use Rattle.evl_base.specs.declared.reply.Reply.TheVariants.{Done, Handed}
+use Rattle.evl_sched.specs.Threads.{Sched}
+use Rattle.evl_kernel.specs.Effects.{Effect}
 use Rattle.evl_kernel.specs.Elements.{on_mutex}
 use Rattle.evl_kernel.specs.ElementsViews.{owners_of}
 use Rattle.evl_kernel.specs.Mutexes as mutex
+use Rattle.evl_kernel.specs.Records.{state_of}
 use Rattle.evl_kernel.specs.RecordsInside.{records_view}
+use Rattle.evl_kernel.specs.States.{with_sched}
+use Rattle.evl_kernel.specs.Waits.{woken}
 use Rattle.evl_kernel.proofs.CallbackLaws.{keeps-both}
 use Rattle.evl_kernel.proofs.QueueLaws.{asks_release}
 use Rattle.evl_kernel.proofs.RankLaws.{ranks-handed}
-use Rattle.evl_kernel.proofs.WaitRecords.{alone_served, asked_away, asked_ranked, keeps-changed}
+use Rattle.evl_kernel.proofs.WaitRecords.{alone_served, asked_away, asked_done, asked_ranked, keeps-changed}
+use Rattle.evl_kernel.specs.ChangedThreads.{is_noted}
+use Rattle.evl_kernel.proofs.ChangedLaws.{given-beside}
 use Rattle.evl_kernel.proofs.records.Records.release.Goals as goal
 use Rattle.evl_kernel.proofs.records.Records.release.Goals.{in-Some, in_default}
 
@@ -30,3 +38,23 @@ returns-after-next-clause-stands g c = elim c.match-next.branch [
   | in-Some w ↦ rw w.self-is (keeps-both c.args.self.now _ w.wake.new.self (rw (← c.self.view_is) (keeps-changed (records_view c.self.inside) c.release.new.self c.hand_on.new.sched c.self.inside.waits.items)) w.wake.ensures.stands)
   | in_default w ↦ rw (w.self-is, ← c.self.view_is) (keeps-changed (records_view c.self.inside) c.release.new.self c.hand_on.new.sched c.self.inside.waits.items)
 ]
+
+pub hand_on-requires-clause-others : goal.hand_on-requires-clause-others
+hand_on-requires-clause-others g c =
+    given-beside (owners_of c.self.inside.elements) (owners_of c.release.new.self) c.self.inside.sched (is_noted c.self.inside.changes) (is_noted c.release.new.changes) c.self.invariant.ranks c.release.ensures.noted
+
+pub returns-after-next-clause-served : goal.returns-after-next-clause-served
+returns-after-next-clause-served g c =
+    let r = records_view c.self.inside in let step = on_mutex c.args.mutex.0 (mutex.release c.args.thread.0) in let asks = asks_release c.args.mutex.0 c.args.thread.0 in
+    elim c.match-next.branch [
+      | in-Some w ↦ (
+          let reply = Handed (Some w.in-Some.waiter) c.in-Ok.more in
+          let G : Sched → Effect = λ q. Ok (reply, woken (with_sched (state_of (record r { elements = c.release.new.self })) q) w.in-Some.waiter.0 Done) in
+          rw (w.self-is, w.next-is, w.wake.ensures.woken, ← c.self.view_is)
+          (asked_done r c.self.invariant step asks reply c.release.new.self (rw w.in-Some.is at c.in-Ok.ensures.step) _ (rw w.in-Some.is at c.in-Ok.ensures.served) ∙ ap G (sym c.hand_on.ensures.kept)))
+      | in_default w ↦ (
+          let reply = Handed None c.in-Ok.more in
+          let G : Sched → Effect = λ q. Ok (reply, with_sched (state_of (record r { elements = c.release.new.self })) q) in
+          rw (w.self-is, w.next-is, w.in_default.is, ← c.self.view_is)
+          (asked_done r c.self.invariant step asks reply c.release.new.self (rw w.in_default.is at c.in-Ok.ensures.step) _ (rw w.in_default.is at c.in-Ok.ensures.served) ∙ ap G (sym c.hand_on.ensures.kept)))
+    ]

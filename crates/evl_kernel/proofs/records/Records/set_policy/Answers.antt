@@ -1,5 +1,10 @@
 use Rattle.evl_kernel.proofs.SchedLaws.{set_policy_answers}
+use Rattle.evl_kernel.specs.ElementsViews.{owners_of}
+use Rattle.evl_kernel.proofs.ChangedLaws.{given-policy_set}
 use Rattle.evl_kernel.proofs.records.Records.set_policy.Goals as goal
 
 pub returns-in-Err-clause-answer : goal.returns-in-Err-clause-answer
 returns-in-Err-clause-answer g c = set_policy_answers c.self.inside.sched.sched c.args.thread.0 c.args.policy c.in-Err.refusal c.in-Err.ensures.refused
+
+pub base_changed-requires-clause-given : goal.base_changed-requires-clause-given
+base_changed-requires-clause-given g c = given-policy_set (owners_of c.self.inside.elements) c.self.inside.sched c.set_policy.new.self c.args.thread.0 c.self.invariant.ranks c.args.policy c.in-Ok.ensures.state

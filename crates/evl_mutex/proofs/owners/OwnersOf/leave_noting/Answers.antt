@@ -12,7 +12,8 @@ use Rattle.evl_mutex.proofs.NotedLaws.{count-unnoted}
 use Rattle.evl_mutex.proofs.CallLaws.{leave-noted, there, seen-changed, kept-changed}
 use Rattle.evl_mutex.proofs.CeilingLaws.{ceiling-left}
 use Rattle.evl_mutex.proofs.StoredLaws.{and-is, orderly-by, owner-at, right-unnoted, written-same, written-there}
-use Rattle.evl_mutex.proofs.owners.OwnersOf.leave.Goals as goal
+use Rattle.evl_mutex.proofs.ChangeLaws.{noted-none, ranks-noted}
+use Rattle.evl_mutex.proofs.owners.OwnersOf.leave_noting.Goals as goal
 
 pub invariant_of-self : goal.invariant_of-self
 invariant_of-self g c =
@@ -51,8 +52,11 @@ pub returns-then-place-len : goal.returns-then-place-len
 returns-then-place-len g c =
     let s = c.self.inside in let n = c.args.mutex.0 in let thread = c.args.thread.0 in
     let o : Owners = record { base = s.base.items; mutexes = mutexes_of s.mutexes.items } in
-    let inside : n < length s.mutexes.items = omega (arith, c.if-place-len.true, c.len.ensures, s.mutexes.ok.0) in
+    let inside : n < length s.mutexes.items = omega (arith, c.if-place-len.true, c.len.ensures, s.mutexes.ok.0) in let whole = invariant_of-self g c in
     record {
       state = rw (← c.self.view_is)
           (seen-changed s.base.items s.mutexes.items n c.index_mut.result.now c.drop_waiter-gone.new.self c.index_mut.ensures.value inside o (mutex.drop_waiter thread) refl c.drop_waiter-gone.ensures.dropped);
+      noted =
+          rw (← c.self.view_is) (ranks-noted (record { base = s.base.items; mutexes = mutexes_of s.mutexes.items }) (record { base = s.base.items; mutexes = mutexes_of (slice_set s.mutexes.items n c.drop_waiter-gone.new.self) }) s.ahead.items c.forget.new.ahead.items s.lent.items c.mend.new.lent.items s.ceilings.items s.ceilings.items
+          c.self.invariant.kept.sound c.self.invariant.kept.noted c.self.invariant.stored whole.kept.sound whole.kept.noted whole.stored _ _ _ c.mend.ensures.noted (noted-none (λ t. refl)));
     }

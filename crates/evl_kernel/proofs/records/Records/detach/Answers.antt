@@ -1,0 +1,6 @@
+use Rattle.evl_kernel.specs.ElementsViews.{owners_of}
+use Rattle.evl_kernel.proofs.ChangedLaws.{given-detached}
+use Rattle.evl_kernel.proofs.records.Records.detach.Goals as goal
+
+pub base_changed-requires-clause-given : goal.base_changed-requires-clause-given
+base_changed-requires-clause-given g c = given-detached (owners_of c.self.inside.elements) c.self.inside.sched c.detach.new.self c.args.thread.0 c.self.invariant.ranks c.detach.result c.detach.ensures.state c.detach.ensures.unchanged
