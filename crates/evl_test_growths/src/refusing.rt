@@ -2,14 +2,14 @@
 use std::alloc::{AllocError, Allocator};
 use std::cell::Cell;
 
-/// An allocator that hands each request on to another one, but for one request, which it refuses.
+/// An allocator that hands each request on to another one, but for a single request, which it refuses.
 pub struct Refusing<B: Allocator> {
     inner: B,
     left: Cell<u64>,
 }
 
 impl<B: Allocator> Refusing<B> {
-    /// The requests before the refused one: so many are granted first.
+    /// It grants so many requests before it refuses one, and all that follow.
     pub fn after(inner: B, granted: u64) -> Refusing<B> {
         Refusing {
             inner,
@@ -17,9 +17,9 @@ impl<B: Allocator> Refusing<B> {
         }
     }
 
-    /// How many requests are granted before one is refused; what follows it counts down from 2^64 - 1.
-    pub fn left(&self) -> u64 {
-        self.left.get()
+    /// Whether it has refused its request.
+    pub fn has_refused(&self) -> bool {
+        self.left.get() > u64::MAX / 2
     }
 }
 
@@ -29,7 +29,7 @@ impl<B: Allocator> Drop for Refusing<B> {
     }
 }
 
-// Counts a request, and tells whether it is the one to be refused.
+// Counts a request, and tells whether it is the one to be refused: the count goes down past 0, and never comes back to it.
 fn refuses(left: &Cell<u64>) -> bool {
     let granted = left.get();
     left.set(granted.wrapping_sub(1));
