@@ -1,5 +1,5 @@
 //! Traces of several lengths into writers that fail at each write in turn, or take nothing there.
-use crate::lengths::{LONGER, Length, SHORTEST, played};
+use crate::lengths::{ABOUT_A_PART, LONG, Length, SHORTEST, played};
 use crate::writers::Narrow;
 use evl_shell::{Fault, Over, Sink, run};
 use std::alloc::Global;
@@ -66,20 +66,28 @@ fn is_broken_at_each(alloc: Global, length: &Length, most: usize) -> bool {
 }
 
 #[test]
-fn each_write_of_a_trace_fails_once(rt: HostRuntime) {
-    let alloc = rt.alloc();
-    for most in [1, 64, ALL] {
-        assert!(rt; is_broken_at_each(alloc, &SHORTEST, most), "{most}");
+fn each_write_of_a_short_trace_fails_once(rt: HostRuntime) {
+    for most in [1, 5, ALL] {
+        assert!(rt; is_broken_at_each(rt.alloc(), &SHORTEST, most), "{most}");
     }
-    for length in LONGER.as_slice() {
-        for most in [1000, ALL] {
+}
+
+#[test]
+fn each_write_of_a_trace_fails_once(rt: HostRuntime) {
+    for length in ABOUT_A_PART.as_slice() {
+        for most in [500, ALL] {
             assert!(rt;
-                is_broken_at_each(alloc, length, most),
+                is_broken_at_each(rt.alloc(), length, most),
                 "{most} {}",
                 length.bytes
             );
         }
     }
+}
+
+#[test]
+fn each_write_of_a_long_trace_fails_once(rt: HostRuntime) {
+    assert!(rt; is_broken_at_each(rt.alloc(), &LONG, ALL));
 }
 
 // How many writes of one byte take a scenario's trace.
@@ -92,7 +100,8 @@ fn writes_of_one_byte(alloc: Global, length: &Length) -> Option<usize> {
 fn a_trace_goes_by_single_bytes(rt: HostRuntime) {
     let alloc = rt.alloc();
     assert!(rt; writes_of_one_byte(alloc, &SHORTEST) == Some(SHORTEST.bytes));
-    for length in LONGER.as_slice() {
+    assert!(rt; writes_of_one_byte(alloc, &LONG) == Some(LONG.bytes));
+    for length in ABOUT_A_PART.as_slice() {
         assert!(rt;
             writes_of_one_byte(alloc, length) == Some(length.bytes),
             "{}",

@@ -20,8 +20,8 @@ pub(crate) const SHORTEST: Length = Length {
     bytes: 66,
 };
 
-/// Traces about as long as what is handed on at a time, and one of several such parts.
-pub(crate) const LONGER: [Length; 4] = [
+/// Traces about as long as what is handed on at a time.
+pub(crate) const ABOUT_A_PART: [Length; 3] = [
     Length {
         head: BOARD,
         puts: 164,
@@ -40,13 +40,15 @@ pub(crate) const LONGER: [Length; 4] = [
         tail: "[[step]]\ndo = \"tick\"\nwho = 0\ndelta = 123456789\n",
         bytes: 4097,
     },
-    Length {
-        head: BOARD,
-        puts: 800,
-        tail: "[[step]]\ndo = \"tick\"\nwho = 0\ndelta = 123456789012\n",
-        bytes: 20_000,
-    },
 ];
+
+/// A trace that is handed on in several parts.
+pub(crate) const LONG: Length = Length {
+    head: BOARD,
+    puts: 800,
+    tail: "[[step]]\ndo = \"tick\"\nwho = 0\ndelta = 123456789012\n",
+    bytes: 20_000,
+};
 
 // The scenario's text.
 fn text_of(alloc: Global, length: &Length) -> Result<String, AllocError> {

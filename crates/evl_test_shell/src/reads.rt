@@ -1,5 +1,5 @@
 //! Inputs that come in small parts, and fail at each read in turn.
-use crate::lengths::{LONGER, Length, SHORTEST, played};
+use crate::lengths::{ABOUT_A_PART, LONG, Length, SHORTEST, played};
 use crate::writers::Parts;
 use evl_bank::play_program;
 use evl_shell::Over;
@@ -62,7 +62,8 @@ fn is_unread_at_each<F: Files + AllocGlobal>(rt: &F, length: &Length, most: usiz
 #[test]
 fn each_read_of_an_input_fails_once(rt: HostRuntime) {
     assert!(rt; is_unread_at_each(&rt, &SHORTEST, 1));
-    for length in LONGER.as_slice() {
+    assert!(rt; is_unread_at_each(&rt, &LONG, 1_000_000));
+    for length in ABOUT_A_PART.as_slice() {
         for most in [100, 1_000_000] {
             assert!(rt;
                 is_unread_at_each(&rt, length, most),
@@ -91,7 +92,8 @@ fn is_read_by_bytes<F: Files + AllocGlobal>(rt: &F, length: &Length) -> bool {
 #[test]
 fn an_input_comes_by_single_bytes(rt: HostRuntime) {
     assert!(rt; is_read_by_bytes(&rt, &SHORTEST));
-    for length in LONGER.as_slice() {
+    assert!(rt; is_read_by_bytes(&rt, &LONG));
+    for length in ABOUT_A_PART.as_slice() {
         assert!(rt; is_read_by_bytes(&rt, length), "{}", length.bytes);
     }
 }
