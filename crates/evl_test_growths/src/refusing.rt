@@ -17,6 +17,11 @@ impl<B: Allocator> Refusing<B> {
         }
     }
 
+    /// The allocator that it hands requests on to.
+    pub fn inner(&self) -> &B {
+        &self.inner
+    }
+
     /// Whether it has refused its request.
     pub fn has_refused(&self) -> bool {
         self.left.get() > u64::MAX / 2

@@ -1,10 +1,11 @@
 //! The rows over which each request for memory is refused: their scenarios and traces, as they lie in `scenarios/`.
 
-/// A row: its scenario, its trace, and how many requests for memory its opening and its calls make.
+/// A row: its scenario, its trace, and how many requests for memory there are: of its opening, of room for all of its calls,
+/// if that is asked for ahead of them, and else of its calls.
 pub(crate) struct Row {
     pub scenario: &'static str,
     pub trace: &'static str,
-    pub requests: [u32; 2],
+    pub requests: [u32; 3],
 }
 
 /// All of them.
@@ -12,42 +13,42 @@ pub(crate) const ROWS: [Row; 8] = [
     Row {
         scenario: FIRST_SEMAPHORE,
         trace: FIRST_SEMAPHORE_TRACE,
-        requests: [28, 3],
+        requests: [28, 4, 3],
     },
     Row {
         scenario: LOWEST_LINE_FIRST,
         trace: LOWEST_LINE_FIRST_TRACE,
-        requests: [28, 6],
+        requests: [28, 6, 6],
     },
     Row {
         scenario: PERIODIC_TIMER,
         trace: PERIODIC_TIMER_TRACE,
-        requests: [27, 5],
+        requests: [27, 5, 5],
     },
     Row {
         scenario: TIMER_BEFORE_DEADLINE,
         trace: TIMER_BEFORE_DEADLINE_TRACE,
-        requests: [28, 5],
+        requests: [28, 5, 5],
     },
     Row {
         scenario: INHERITANCE_CHAIN,
         trace: INHERITANCE_CHAIN_TRACE,
-        requests: [30, 6],
+        requests: [30, 6, 6],
     },
     Row {
         scenario: CROSS_BUFFER,
         trace: CROSS_BUFFER_TRACE,
-        requests: [32, 5],
+        requests: [32, 6, 5],
     },
     Row {
         scenario: FLAG_WAITERS,
         trace: FLAG_WAITERS_TRACE,
-        requests: [28, 5],
+        requests: [28, 6, 5],
     },
     Row {
         scenario: QUOTA_REFILL,
         trace: QUOTA_REFILL_TRACE,
-        requests: [28, 4],
+        requests: [28, 5, 4],
     },
 ];
 
