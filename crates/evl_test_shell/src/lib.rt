@@ -2,13 +2,21 @@
 #![tactic(auto)]
 
 #[cfg(test)]
+mod breaks;
+#[cfg(test)]
+mod cuts;
+#[cfg(test)]
 mod endings;
 #[cfg(test)]
 mod faults;
 #[cfg(test)]
 mod histories;
 #[cfg(test)]
+mod lengths;
+#[cfg(test)]
 mod lines;
+#[cfg(test)]
+mod reads;
 #[cfg(test)]
 mod sinks;
 #[cfg(test)]

@@ -88,3 +88,38 @@ impl<'a> Read for Ended<'a> {
         }
     }
 }
+
+/// A reader that gives a text in parts of at most so many bytes, and fails at one read.
+#[derive(Drop)]
+pub struct Parts<'a> {
+    pub reads: usize,
+    rest: &'a [u8],
+    most: usize,
+    stop: usize,
+}
+
+impl<'a> Parts<'a> {
+    /// It fails at the read with number `stop`, from 1.
+    pub(crate) fn new(text: &'a str, most: usize, stop: usize) -> Parts<'a> {
+        Parts {
+            reads: 0,
+            rest: text.as_bytes(),
+            most,
+            stop,
+        }
+    }
+}
+
+impl<'a> Read for Parts<'a> {
+    fn read(&mut self, buf: &mut [u8]) -> io::Result<usize> {
+        self.reads = self.reads.saturating_add(1);
+        if self.reads == self.stop {
+            return Err(ErrorKind::Other.into());
+        }
+        let count = self.rest.len().min(self.most).min(buf.len());
+        let (given, rest) = self.rest.split_at(count);
+        buf[..count].copy_from_slice(given);
+        self.rest = rest;
+        Ok(count)
+    }
+}

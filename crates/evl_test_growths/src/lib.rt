@@ -1,0 +1,10 @@
+//! Tests of hostile use: growths that are refused, scenarios that are damaged, writers and readers that fail.
+#![tactic(auto)]
+
+#[cfg(test)]
+mod growths;
+pub mod refusing;
+#[cfg(test)]
+mod rows;
+#[cfg(test)]
+mod shown;

@@ -1,0 +1,111 @@
+//! Traces of several lengths into writers that fail at each write in turn, or take nothing there.
+use crate::lengths::{ABOUT_A_PART, LONG, Length, SHORTEST, played};
+use crate::writers::Narrow;
+use evl_shell::{Fault, Over, Sink, run};
+use std::alloc::Global;
+
+// More than a trace has.
+const ALL: usize = 1_000_000;
+
+// A run of a text into a writer: whether it ends so, and with the sink failed just then; and the writer.
+fn ends(alloc: Global, text: &str, out: Narrow, answer: Result<(), Fault>) -> (bool, Narrow) {
+    let mut out = Over::new(out);
+    let came = run(alloc, text.as_bytes(), None, Vec::new(alloc), &mut out);
+    let is_so = came == answer && out.failed() == answer.is_err();
+    (is_so, out.into_inner())
+}
+
+// How many writes take a trace whole, each at most so many bytes; none where it isn't taken whole.
+fn writes_of(alloc: Global, text: &str, trace: &[u8], most: usize) -> Option<usize> {
+    let (ends, writer) = ends(alloc, text, Narrow::new(alloc, most, 0, false), Ok(()));
+    if ends && writer.taken.as_slice() == trace {
+        Some(writer.writes)
+    } else {
+        None
+    }
+}
+
+// How many bytes a writer has taken where a run ends at this write of its; none where it doesn't, or they aren't the trace's
+// first ones.
+fn taken_at(alloc: Global, text: &str, trace: &[u8], stop: usize, writer: Narrow) -> Option<usize> {
+    let (ends, writer) = ends(alloc, text, writer, Err(Fault::Write));
+    let taken = writer.taken.len();
+    if ends && writer.writes == stop && Some(writer.taken.as_slice()) == trace.get(..taken) {
+        Some(taken)
+    } else {
+        None
+    }
+}
+
+// Whether each write in turn ends the run, by an error and by a count of 0, and each later one with more of the trace taken.
+fn breaks_at_each(alloc: Global, text: &str, trace: &[u8], most: usize) -> bool {
+    let Some(writes) = writes_of(alloc, text, trace, most) else {
+        return false;
+    };
+    let mut least = 0usize;
+    for stop in 1..writes.saturating_add(1) {
+        let failing = Narrow::new(alloc, most, stop, true);
+        let Some(taken) = taken_at(alloc, text, trace, stop, failing) else {
+            return false;
+        };
+        let idle = Narrow::new(alloc, most, stop, false);
+        if taken < least || taken_at(alloc, text, trace, stop, idle) != Some(taken) {
+            return false;
+        }
+        least = taken.saturating_add(1);
+    }
+    writes > 0
+}
+
+// Whether a scenario's run ends at each write, where a writer takes at most so many bytes.
+fn is_broken_at_each(alloc: Global, length: &Length, most: usize) -> bool {
+    match played(alloc, length) {
+        Some((text, trace)) => breaks_at_each(alloc, text.as_str(), trace.as_slice(), most),
+        None => false,
+    }
+}
+
+#[test]
+fn each_write_of_a_short_trace_fails_once(rt: HostRuntime) {
+    for most in [1, 5, ALL] {
+        assert!(rt; is_broken_at_each(rt.alloc(), &SHORTEST, most), "{most}");
+    }
+}
+
+#[test]
+fn each_write_of_a_trace_fails_once(rt: HostRuntime) {
+    for length in ABOUT_A_PART.as_slice() {
+        for most in [500, ALL] {
+            assert!(rt;
+                is_broken_at_each(rt.alloc(), length, most),
+                "{most} {}",
+                length.bytes
+            );
+        }
+    }
+}
+
+#[test]
+fn each_write_of_a_long_trace_fails_once(rt: HostRuntime) {
+    assert!(rt; is_broken_at_each(rt.alloc(), &LONG, ALL));
+}
+
+// How many writes of one byte take a scenario's trace.
+fn writes_of_one_byte(alloc: Global, length: &Length) -> Option<usize> {
+    let (text, trace) = played(alloc, length)?;
+    writes_of(alloc, text.as_str(), trace.as_slice(), 1)
+}
+
+#[test]
+fn a_trace_goes_by_single_bytes(rt: HostRuntime) {
+    let alloc = rt.alloc();
+    assert!(rt; writes_of_one_byte(alloc, &SHORTEST) == Some(SHORTEST.bytes));
+    assert!(rt; writes_of_one_byte(alloc, &LONG) == Some(LONG.bytes));
+    for length in ABOUT_A_PART.as_slice() {
+        assert!(rt;
+            writes_of_one_byte(alloc, length) == Some(length.bytes),
+            "{}",
+            length.bytes
+        );
+    }
+}

@@ -1,0 +1,99 @@
+//! Inputs that come in small parts, and fail at each read in turn.
+use crate::lengths::{ABOUT_A_PART, LONG, Length, SHORTEST, played};
+use crate::writers::Parts;
+use evl_bank::play_program;
+use evl_shell::Over;
+use std::rt::Files;
+
+// Whether the program ends so over an input: its status, what it writes and what it says.
+fn ends_over<F: Files + AllocGlobal>(
+    rt: &F,
+    input: &mut Parts,
+    status: u8,
+    written: &[u8],
+    said: &[u8],
+) -> bool {
+    let words = ["evl"];
+    let alloc = rt.alloc();
+    let mut out = Over::new(Vec::new(alloc));
+    let mut err = Over::new(Vec::new(alloc));
+    let done = play_program(rt, alloc, words.as_slice(), input, &mut out, &mut err);
+    let is_written = out.into_inner().as_slice() == written;
+    done == status && is_written && err.into_inner().as_slice() == said
+}
+
+// How many reads of at most so many bytes give a text whole; none where its trace isn't written.
+fn reads_of<F: Files + AllocGlobal>(
+    rt: &F,
+    text: &str,
+    trace: &[u8],
+    most: usize,
+) -> Option<usize> {
+    let mut input = Parts::new(text, most, 0);
+    if ends_over(rt, &mut input, 0, trace, b"") {
+        Some(input.reads)
+    } else {
+        None
+    }
+}
+
+// Whether each read in turn ends the program, with nothing written.
+fn fails_at_each<F: Files + AllocGlobal>(rt: &F, text: &str, trace: &[u8], most: usize) -> bool {
+    let Some(reads) = reads_of(rt, text, trace, most) else {
+        return false;
+    };
+    for stop in 1..reads.saturating_add(1) {
+        let mut input = Parts::new(text, most, stop);
+        if !ends_over(rt, &mut input, 2, b"", b"evl: no file\n") || input.reads != stop {
+            return false;
+        }
+    }
+    reads > 1
+}
+
+// The same of a scenario.
+fn is_unread_at_each<F: Files + AllocGlobal>(rt: &F, length: &Length, most: usize) -> bool {
+    match played(rt.alloc(), length) {
+        Some((text, trace)) => fails_at_each(rt, text.as_str(), trace.as_slice(), most),
+        None => false,
+    }
+}
+
+#[test]
+fn each_read_of_an_input_fails_once(rt: HostRuntime) {
+    assert!(rt; is_unread_at_each(&rt, &SHORTEST, 1));
+    assert!(rt; is_unread_at_each(&rt, &LONG, 1_000_000));
+    for length in ABOUT_A_PART.as_slice() {
+        for most in [100, 1_000_000] {
+            assert!(rt;
+                is_unread_at_each(&rt, length, most),
+                "{most} {}",
+                length.bytes
+            );
+        }
+    }
+}
+
+// How many reads of one byte give a scenario.
+fn reads_of_one_byte<F: Files + AllocGlobal>(rt: &F, length: &Length) -> Option<(usize, usize)> {
+    let (text, trace) = played(rt.alloc(), length)?;
+    let reads = reads_of(rt, text.as_str(), trace.as_slice(), 1)?;
+    Some((reads, text.len()))
+}
+
+// Whether each byte is read alone, and then the end.
+fn is_read_by_bytes<F: Files + AllocGlobal>(rt: &F, length: &Length) -> bool {
+    match reads_of_one_byte(rt, length) {
+        Some((reads, bytes)) => reads == bytes.saturating_add(1),
+        None => false,
+    }
+}
+
+#[test]
+fn an_input_comes_by_single_bytes(rt: HostRuntime) {
+    assert!(rt; is_read_by_bytes(&rt, &SHORTEST));
+    assert!(rt; is_read_by_bytes(&rt, &LONG));
+    for length in ABOUT_A_PART.as_slice() {
+        assert!(rt; is_read_by_bytes(&rt, length), "{}", length.bytes);
+    }
+}
