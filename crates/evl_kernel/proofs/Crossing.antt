@@ -25,6 +25,7 @@ use Rattle.evl_kernel.specs.contracts.waits.Wait as Wait
 use Rattle.evl_kernel.specs.contracts.bank.BankPlace as BankPlace
 use Rattle.evl_kernel.specs.contracts.bank.Numbered as Numbered
 use Rattle.evl_kernel.specs.contracts.records.Records as Records
+use Rattle.evl_kernel.specs.contracts.records.Records.TheInside as Inside
 use Rattle.evl_kernel.specs.contracts.kernel.KernelOf as KernelOf
 
 module _ (C A : RattleType) (g : Ghosts A.Denot) where
@@ -72,8 +73,9 @@ module _ (C A : RattleType) (g : Ghosts A.Denot) where
   records_send : IsSend C → IsSend A → Frees g g.dealloc_token → IsSend (Records.the_row C A g)
   records_send s a f =
       let places = places_send C A g s a f in let lines = pipeline_send (Numbered.the_row C) A g (numbered_send C A g s) a f in
-      let clock = clock_send (Numbered.the_row C) A g (numbered_send C A g s) a f in let sched = sched_send A g a f in let elements = elements_send C A g a f in let changes = changes_send C A g a f in let waits = waits_send C A g a f in
-      search (view_send, declared_send, crosses, sendable) depth 40 fits 20000
+      let clock = clock_send (Numbered.the_row C) A g (numbered_send C A g s) a f in let sched = sched_send A g a f in let elements = elements_send C A g a f in
+      let changes = changes_send C A g a f in let waits = waits_send C A g a f in
+      view_send _ _ _ _ _ (declared_send (Inside.the_type C A g) (search sendable, elements, places, lines, clock, sched, changes, waits, tt))
 
   pub kernel_send : IsSend C → IsSend A → Frees g g.dealloc_token → IsSend (KernelOf.the_row C A g)
   kernel_send s a f =
