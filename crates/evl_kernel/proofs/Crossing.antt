@@ -75,7 +75,7 @@ module _ (C A : RattleType) (g : Ghosts A.Denot) where
       let places = places_send C A g s a f in let lines = pipeline_send (Numbered.the_row C) A g (numbered_send C A g s) a f in
       let clock = clock_send (Numbered.the_row C) A g (numbered_send C A g s) a f in let sched = sched_send A g a f in let elements = elements_send C A g a f in
       let changes = changes_send C A g a f in let waits = waits_send C A g a f in
-      view_send _ _ _ _ _ (declared_send (Inside.the_type C A g) (search sendable, elements, places, lines, clock, sched, changes, waits, tt))
+      view_send _ _ _ _ _ (declared_send (Inside.the_type C A g) (search sendable, (elements, (changes, (places, (lines, (clock, (sched, (waits, tt)))))))))
 
   pub kernel_send : IsSend C → IsSend A → Frees g g.dealloc_token → IsSend (KernelOf.the_row C A g)
   kernel_send s a f =
