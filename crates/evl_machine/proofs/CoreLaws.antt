@@ -43,7 +43,7 @@ module _ {S B : Type 0} (past : S → History) (room : S → ℕ) (comes : B →
       let longer : GoesOn r.history m.added (past y) = subst (λ (h : History). GoesOn h m.added (past y)) (sym x.1) m.longer in
       given_core past comes first w.word (w.slot ∷ []) w.views k c m.added y r at m.own longer (subst (λ (b : B). comes b y) (r.knows k c at) from) x.2
 
-  step_keeps : (w : CoreWorld S B) → Stands w → (k : ℕ) (c : CorePart B) → get_elem? w.views k ≡ some c → (kind : CoreKind S) → step_may past room comes k c kind → Stands (world_after past room comes w k c kind)
+  pub step_keeps : (w : CoreWorld S B) → Stands w → (k : ℕ) (c : CorePart B) → get_elem? w.views k ≡ some c → (kind : CoreKind S) → step_may past room comes k c kind → Stands (world_after past room comes w k c kind)
   step_keeps w r k c at takes may = take_keeps w r k c at
   step_keeps w r k c at (gives y) (may, from) = give_keeps w r k c at y may from
   step_keeps w r k c at moves_out may = stays w r k c at

@@ -1,5 +1,6 @@
 pub mod Accounts
 pub mod CoreSteps
+pub mod Noting
 pub mod ThreadSteps
 pub mod Taking
 pub mod QuietCore
@@ -16,6 +17,7 @@ pub mod Newcomers
 pub mod Gathering
 pub mod Crossing
 pub mod CoreLaws
+pub mod OneWorldLaws
 pub mod LockingLaws
 pub mod LockingCalls
 pub mod Visits

@@ -21,9 +21,10 @@ use Rattle.evl_machine.specs.declared.locking.Ended.{Ended}
 use Rattle.evl_machine.specs.declared.unfinished.Unfinished.{Unfinished}
 use Rattle.evl_machine.specs.Actors.{ActorState}
 use Rattle.evl_machine.specs.AtSeats.{AtSeat}
+use Rattle.evl_machine.specs.Ceilings.{has_ceiling}
 use Rattle.evl_machine.specs.Handles.{CallerState, MachineState}
 use Rattle.evl_machine.specs.Locking.{Begins, EntersNone, FindsNoRoom, Finishes, GoesAlong, IsNotFull, LocksRaised, Refuses, Releases}
-use Rattle.evl_machine.specs.MutexLocks.{BeginsToLock, MutexCall, has_ceiling, kind_of, kinds_of, lock_refusal, own_lock_refusal, spend_refusal}
+use Rattle.evl_machine.specs.MutexLocks.{BeginsToLock, MutexCall, kind_of, kinds_of, lock_refusal, own_lock_refusal, spend_refusal}
 use Rattle.evl_machine.specs.MutexSeats.{depth_at, Tries, TriesMutex, IsOfMutex, is_owner, is_recursive, mutex_refusal, owner_refusal, pass_refusal, unlock_refusal}
 use Rattle.evl_machine.specs.Visits.{FullOnly, Visited, Visits, actor_of}
 

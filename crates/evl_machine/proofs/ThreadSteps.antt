@@ -76,12 +76,12 @@ module _ {S B : Type 0} (past : S → History) (room : S → ℕ) (comes : B →
   pub splits_thread : (id : ℕ) (hand : Hand (ThreadView B MutexView)) → Splits (MachineRule past comes tie first m) id hand (first_of hand) (rest_of hand)
   splits_thread = dealing.splits (ThreadRule past comes tie first m)
 
-  zeros : (n i : ℕ) → ◌≡◌ {A = ℕ} (get_or (replicate n 0) i 0) 0
+  pub zeros : (n i : ℕ) → ◌≡◌ {A = ℕ} (get_or (replicate n 0) i 0) 0
   zeros zero i = refl
   zeros (suc n) zero = refl
   zeros (suc n) (suc i) = zeros n i
 
-  at_blank : (x d : MutexView) (n i : ℕ) → i < n → get_or (replicate n x) i d ≡ x
+  pub at_blank : (x d : MutexView) (n i : ℕ) → i < n → get_or (replicate n x) i d ≡ x
   at_blank x d zero i lt = absurd (omega arith)
   at_blank x d (suc n) zero lt = refl
   at_blank x d (suc n) (suc i) lt = at_blank x d n i (omega arith)

@@ -28,6 +28,15 @@ after_take h room c = record c { taken = Some h; seen = h; found = c.found ++ ro
 abbrev pub after_give : {B : Type 0} → History → ℕ → CorePart B → CorePart B
 after_give h k c = record c { taken = None; seen = h; mine = calls_by k h.entries; note = None }
 
+-- the thread that has the kernel has left this word at this mutex
+abbrev pub noting : {B : Type 0} → ℕ → ℕ → CorePart B → CorePart B
+noting i left c = record c { note = Some (record { mutex = i; left = left }) }
+
+-- the thread has made no step on a word since its take, or just on that of this mutex
+abbrev pub IsAbout : ℕ → Option Noted → Type 0
+IsAbout i None = Unit {0}
+IsAbout i (Some note) = note.mutex ≡ i
+
 -- the history that the thread k gives back goes on from the one that it took, by its own calls
 pub record MayGive {B : Type 0} (k : ℕ) (c : CorePart B) (history : History) : Type 0 where
   pub before : History

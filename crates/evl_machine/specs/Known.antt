@@ -1,5 +1,5 @@
 -- The rule of the machine's table, and what is read of its tokens.
-use Rattle.std.specs.Prelude.{◌≡◌, ℕ, List, [], ◌∷◌, length, Option, None}
+use Rattle.std.specs.Prelude.{◌≡◌, ℕ, Bool, List, [], ◌∷◌, length, slice_get, Option, None}
 use Rattle.atomic_table.specs.Table.{State, Me, Step}
 use Rattle.evl_kernel.specs.Histories.{History}
 use Rattle.evl_kernel.specs.KernelViews.{KernelView}
@@ -8,6 +8,7 @@ use Rattle.evl_words.specs.Hands.{Hand, Told}
 use Rattle.evl_words.specs.MutexWorld.{MutexView}
 use Rattle.evl_machine.specs.declared.views.Account.{Account}
 use Rattle.evl_machine.specs.declared.views.ThreadView.{ThreadView}
+use Rattle.evl_machine.specs.Ceilings.{has_ceiling}
 use Rattle.evl_machine.specs.Nothing.{no_kernel}
 use Rattle.evl_machine.specs.Accounts.{threads_of}
 use Rattle.evl_machine.specs.Seats.{CoreMe, view}
@@ -60,6 +61,10 @@ module _ {C : Type 0} where
   -- a word for each mutex stands in the table behind the lock's
   abbrev pub mutex_count : KernelView C → ℕ
   mutex_count first = length first.history.board.mutexes.items
+
+  -- which of them have a ceiling
+  abbrev pub ceilings_of : KernelView C → ℕ → Bool
+  ceilings_of first i = has_ceiling (slice_get first.history.board.mutexes.items i)
 
   abbrev pub no_tie : Tie (KernelView C) (KernelView C)
   no_tie i n homes cores word = Unit {0}

@@ -1,10 +1,12 @@
 pub mod Nothing
+pub mod Ceilings
 pub mod Accounts
 pub mod CoreRule
 pub mod CoreWorld
 pub mod CoreTells
 pub mod QuietCore
 pub mod ThreadRule
+pub mod OneWorld
 pub mod Seats
 pub mod Known
 pub mod Homes

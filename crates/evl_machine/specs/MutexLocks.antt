@@ -2,7 +2,6 @@
 use Rattle.std.specs.Prelude.{◌≡◌, ◌⊎◌, ℕ, ◌==◌, ◌&&◌, List, Bool, true, false, not, nat_lt, if◌then◌else◌, Option, Some, None, is_some, Result, Ok, Err, MatchBool, MatchOption, slice_get}
 use Rattle.std.specs.Option.{option_map_or, option_or}
 use Rattle.evl_base.specs.declared.mutex_kind.MutexKind.{MutexKind}
-use Rattle.evl_base.specs.declared.mutex_kind.MutexKind.TheVariants.{Normal, Recursive, Ceiling}
 use Rattle.evl_base.specs.declared.numbers.MutexId.{MutexId}
 use Rattle.evl_base.specs.declared.refusal.Refusal.{Refusal}
 use Rattle.evl_base.specs.declared.refusal.Refusal.TheVariants.{Busy, CoreBusy, Invalid, Unknown, WrongStage}
@@ -18,18 +17,11 @@ use Rattle.evl_machine.specs.declared.locking.Ended.{Ended}
 use Rattle.evl_machine.specs.declared.unfinished.Unfinished.{Unfinished}
 use Rattle.evl_machine.specs.declared.unfinished.Unfinished.TheVariants.{Mutex}
 use Rattle.evl_machine.specs.Calls.{stage_of_caller, wait_of_caller}
+use Rattle.evl_machine.specs.Ceilings.{has_ceiling}
 use Rattle.evl_machine.specs.Handles.{CallerState}
 use Rattle.evl_machine.specs.Locking.{Begins, Finishes, LocksRaised, Releases}
 use Rattle.evl_machine.specs.MutexSeats.{TriesMutex, UnlocksMutex, depth_at, owner_refusal, unlock_refusal}
 use Rattle.evl_machine.specs.Visits.{Visits}
-
-abbrev pub is_ceiling : MutexKind → Bool
-is_ceiling Normal = false
-is_ceiling Recursive = false
-is_ceiling (Ceiling prio) = true
-
-abbrev pub has_ceiling : Option MutexKind → Bool
-has_ceiling kind = option_map_or is_ceiling kind false
 
 -- What refuses a lock by what the caller has itself: a wait that it has not finished, a mutex that isn't on the board, the in-band stage; and an owner that the mutex doesn't nest for, or that has it 255 times
 abbrev pub lock_refusal : Option MutexKind → Option Unfinished → Stage → ℕ → Option Refusal

@@ -6,7 +6,8 @@ ghost use Rattle.evl_kernel.specs.Callbacks.{AnswersAsTold};
 ghost use Rattle.evl_kernel.specs.Families.{moves_caller, task_of};
 ghost use Rattle.evl_machine.specs.Actors.{AreHeldAt, ClaimsOneOf, IsSameActor, Suits, call_refusal, keeps_stage};
 ghost use Rattle.evl_machine.specs.Calls.{Applied};
-ghost use Rattle.evl_machine.specs.MutexLocks.{has_ceiling, is_handed_on, lock_refusal, spend_refusal};
+ghost use Rattle.evl_machine.specs.Ceilings.{has_ceiling};
+ghost use Rattle.evl_machine.specs.MutexLocks.{is_handed_on, lock_refusal, spend_refusal};
 ghost use Rattle.evl_machine.specs.MutexSeats.{depth_at, holds_mutex, owner_refusal};
 ghost use Rattle.evl_machine.specs.StaxSeats.{holds_stax};
 

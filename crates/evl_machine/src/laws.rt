@@ -1,5 +1,6 @@
 //! Laws of the core. Each is the contract of a function without a body.
-ghost use Rattle.std.specs.Prelude.{◌≡◌, ℕ, [], List, Option, Some, slice_get, slice_index};
+ghost use Rattle.std.specs.Prelude.{◌≡◌, ℕ, [], List, Option, Some, slice_get, slice_index, true};
+ghost use Rattle.evl_base.specs.Board.{board_fits};
 ghost use mathlib.Core.Option.{some};
 ghost use lib.ListN.{get_elem?};
 ghost use Rattle.evl_base.specs.declared.stage.Stage.{Stage};
@@ -14,7 +15,8 @@ ghost use Rattle.evl_words.specs.Machine.{Run};
 ghost use Rattle.evl_words.specs.Events.{Event};
 ghost use Rattle.evl_words.specs.Dealings.{DealingEvent};
 ghost use Rattle.evl_machine.specs.CoreWorld.{CoreWorld, CoreDealing, CoreKind, CoreHappens, CoreDealingStep, IsCoreWorld, StandsDealt, opened_core};
-ghost use Rattle.evl_machine.specs.Known.{ComesFrom, CoreHand, KeptKnown, past_of, room_of};
+ghost use Rattle.evl_machine.specs.OneWorld.{OneDealing, OneDealingStep, OneKind, StandsInOne, opened_one};
+ghost use Rattle.evl_machine.specs.Known.{ComesFrom, CoreHand, KeptKnown, ceilings_of, mutex_count, past_of, room_of};
 ghost use Rattle.evl_machine.specs.QuietCore.{LiesQuiet};
 
 use evl_words::laws::holders_agree;
@@ -29,6 +31,14 @@ pub fn core_events_keep_order<C>()
 /// profile).
 pub fn core_world_stands<C>()
     ensures { (first k : KernelView C) → IsLegal k.history → k.history.entries ≡ [] → ComesFrom first k → (events : List (DealingEvent (CoreKind (KernelView C)))) (t : CoreDealing (KernelView C) (KernelView C)) → Run (CoreDealingStep past_of room_of ComesFrom) (opened_core past_of room_of ComesFrom first k) events t → StandsDealt past_of room_of ComesFrom first t }
+{}
+
+/// From the opening of the one table on, its core's word and slot, each mutex's word, and what its threads know keep their
+/// conditions after any list of atomic steps, among which hands of threads are split and joined. Who has the kernel alone
+/// claims, settles, offers, frees, accepts and forgets a mutex, and tries one with a ceiling, which no exchange unlocks
+/// (this profile).
+pub fn one_world_stands<C>()
+    ensures { (first k : KernelView C) → board_fits k.history.board ≡ true → IsLegal k.history → k.history.entries ≡ [] → ComesFrom first k → (events : List (DealingEvent (OneKind (KernelView C)))) (t : OneDealing (KernelView C) (KernelView C)) → Run (OneDealingStep past_of room_of ComesFrom (ceilings_of first) (mutex_count first)) (opened_one past_of room_of ComesFrom (ceilings_of first) (mutex_count first) first k) events t → StandsInOne past_of room_of ComesFrom (ceilings_of first) (mutex_count first) first t }
 {}
 
 /// Whenever the core of a running machine is free, the kernel lies in the slot with a legal history, and a line is

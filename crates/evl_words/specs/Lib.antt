@@ -14,4 +14,5 @@ pub mod Mutex
 pub mod MutexBits
 pub mod MutexWorld
 pub mod MutexRule
+pub mod MutexPlaces
 pub mod MutexCalls

@@ -6,14 +6,16 @@ use std::alloc::{Allocator, Global};
 use std::collections::LinkedList;
 use std::marker::Model;
 
-mod bits;
+pub mod bits;
 mod ends;
 mod handing;
 mod locking;
 mod offering;
+pub mod place;
 mod readers;
-mod steps;
+pub mod steps;
 
+use place::MutexPlace;
 use steps::{MutexKey, Worded};
 
 /// How an unlocking ended (this profile).
@@ -82,13 +84,11 @@ pub struct MutexHold {
 /// The seats that a token of the word's table has, each with its view.
 type Hand = LinkedList<Place<View<WordEntry<MutexCall, MutexReply>, MutexHold>>>;
 
-/// A thread's place at a mutex, and how often it holds it, up to 255 times (this profile).
+/// A thread's place at a mutex, with its token of the mutex's table (this profile).
 #[derive(Drop)]
 pub struct MutexSeat {
     seat: Seat<(), Hand>,
-    mutex: MutexId,
-    number: u16,
-    depth: u8,
+    here: MutexPlace,
 }
 
 impl Model for MutexSeat {
@@ -100,9 +100,9 @@ impl Model for MutexSeat {
 
     ghost Value = { MutexSeatState };
 
-    ghost view = { λ s. record { table = s.seat.table_id; mutex = s.mutex; number = s.number; depth = s.depth; view = view_in s.seat.me.0 } };
+    ghost view = { λ s. record { table = s.seat.table_id; mutex = s.here.mutex; number = s.here.number; depth = s.here.depth; view = view_in s.seat.me.0 } };
 
-    ghost invariant = { λ s. (s.seat.me ≡ (place s.number (view_in s.seat.me.0) ∷ [], [])) × (owns (view_in s.seat.me.0).held.role ≡ nat_lt 0 s.depth) };
+    ghost invariant = { λ s. (s.seat.me ≡ (place s.here.number (view_in s.seat.me.0) ∷ [], [])) × (owns (view_in s.seat.me.0).held.role ≡ nat_lt 0 s.here.depth) };
 }
 
 /// Shows that a seat holds a mutex once, and is spent when the seat gives it up (this profile).

@@ -36,18 +36,20 @@ impl<A: Allocator> MutexWord<A> {
         ensures event { Makes seat.old settles seat.new }
         ensures entry { IsPassOf result seat.old × Calls seat.old Settle Passed seat.new Owner 1 }
     {
-        let number = u64::from(seat.number) + 1;
+        let number = u64::from(seat.here.number()) + 1;
         self.table
             .shared
             .swap::<Settling>(&mut seat.seat, 0, number);
-        seat.depth = 1;
-        MutexPass {
-            mutex: seat.mutex,
-            seat: seat.number,
-        }
+        seat.here.own()
     }
 
-    fn offer_as<H: Handing>(&self, seat: &mut MutexSeat, next: ThreadId, more: bool)
+    fn offer_as<H: Handing>(
+        &self,
+        seat: &mut MutexSeat,
+        pass: MutexPass,
+        next: ThreadId,
+        more: bool,
+    )
         requires mine { IsSeatOf seat.old self.now }
         requires owner { seat.old.depth ≡ 1 }
         requires within { next.0 < self.now.seats }
@@ -60,7 +62,7 @@ impl<A: Allocator> MutexWord<A> {
         self.table
             .shared
             .swap::<Offering<H>>(&mut seat.seat, 0, word);
-        seat.depth = 0;
+        seat.here.spend(pass);
     }
 
     /// The owner, at depth 1, offers the mutex to the seat of a thread, and marks it where more wait (this profile).
@@ -72,8 +74,7 @@ impl<A: Allocator> MutexWord<A> {
         ensures event { Makes seat.old (offers next.0 more) seat.new }
         ensures entry { Calls seat.old (Offer next.0 more) Done seat.new Bystander 0 }
     {
-        let _spent = pass;
-        self.offer_as::<Brand>(seat, next, more)
+        self.offer_as::<Brand>(seat, pass, next, more)
     }
 
     /// The owner, at depth 1, gives the mutex up to nobody, and no mark stays (this profile).
@@ -84,8 +85,7 @@ impl<A: Allocator> MutexWord<A> {
         ensures event { Makes seat.old frees seat.new }
         ensures entry { Calls seat.old Free Done seat.new Bystander 0 }
     {
-        let _spent = pass;
         self.table.shared.swap::<Freeing>(&mut seat.seat, 0, 0);
-        seat.depth = 0;
+        seat.here.spend(pass);
     }
 }

@@ -18,28 +18,23 @@ impl<A: Allocator> MutexWord<A> {
         ensures ok { IfOk result (λ pass. IsPassOf pass seat.old × Locks self.now seat.old seat.new) }
         ensures err { IfErr result (λ refusal. FailsToLock self.now seat.old seat.new refusal) }
     {
-        let pass = MutexPass {
-            mutex: seat.mutex,
-            seat: seat.number,
-        };
-        if seat.depth > 0 {
+        let depth = seat.here.depth();
+        if depth > 0 {
             if !self.recursive {
                 return Err(Refusal::Deadlock);
             }
-            if seat.depth == 255 {
+            if depth == 255 {
                 return Err(Refusal::Limit);
             }
-            seat.depth += 1;
-            return Ok(pass);
+            return Ok(seat.here.nest());
         }
-        let number = u64::from(seat.number) + 1;
+        let number = u64::from(seat.here.number()) + 1;
         let found = self
             .table
             .shared
             .compare_exchange::<Trying>(&mut seat.seat, 0, 0, number);
         if found == 0 {
-            seat.depth = 1;
-            Ok(pass)
+            Ok(seat.here.own())
         } else {
             Err(Refusal::Busy)
         }
@@ -57,20 +52,20 @@ impl<A: Allocator> MutexWord<A> {
         ensures ok { IfOk result (λ done. IsPassOf pass seat.old × (0 < seat.old.depth) × Unlocks seat.old seat.new pass done) }
         ensures err { IfErr result (λ refused. (refused ≡ (NotOwner, pass)) × (seat.new ≡ seat.old) × ¬ (IsPassOf pass seat.old × (0 < seat.old.depth))) }
     {
-        if pass.mutex != seat.mutex || pass.seat != seat.number || seat.depth == 0 {
+        if !seat.here.fits(&pass) {
             return Err((Refusal::NotOwner, pass));
         }
-        if seat.depth > 1 {
-            seat.depth -= 1;
+        if seat.here.depth() > 1 {
+            seat.here.spend(pass);
             return Ok(Unlock::Done);
         }
-        let number = u64::from(seat.number) + 1;
+        let number = u64::from(seat.here.number()) + 1;
         let found = self
             .table
             .shared
             .compare_exchange::<Unlocking>(&mut seat.seat, 0, number, 0);
         if found == number {
-            seat.depth = 0;
+            seat.here.spend(pass);
             Ok(Unlock::Done)
         } else {
             Ok(Unlock::Claimed(pass))

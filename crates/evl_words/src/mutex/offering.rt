@@ -22,7 +22,7 @@ impl<A: Allocator> MutexWord<A> {
         ensures entry { Calls seat.old SeenOffer (Seen result) seat.new seat.old.view.held.role seat.old.depth }
     {
         let word = self.table.shared.load::<Asking>(&mut seat.seat, 0);
-        is_offered_to(word, seat.number)
+        is_offered_to(word, seat.here.number())
     }
 
     /// The seat waits for the mutex no more. Busy where the mutex is offered to it (this profile).
@@ -34,7 +34,7 @@ impl<A: Allocator> MutexWord<A> {
         ensures err { IfErr result (λ refusal. (refusal ≡ Busy) × Calls seat.old Forget (Refused Busy) seat.new seat.old.view.held.role seat.old.depth) }
     {
         let word = self.table.shared.load::<Forgetting>(&mut seat.seat, 0);
-        if is_offered_to(word, seat.number) {
+        if is_offered_to(word, seat.here.number()) {
             Err(Refusal::Busy)
         } else {
             Ok(())
@@ -50,7 +50,7 @@ impl<A: Allocator> MutexWord<A> {
         ensures err { IfErr result (λ refusal. (refusal ≡ Again) × Calls seat.old Accept (Refused Again) seat.new seat.old.view.held.role seat.old.depth) }
     {
         let word = self.table.shared.load::<Awaiting>(&mut seat.seat, 0);
-        if is_offered_to(word, seat.number) {
+        if is_offered_to(word, seat.here.number()) {
             Ok(())
         } else {
             Err(Refusal::Again)
@@ -68,11 +68,7 @@ impl<A: Allocator> MutexWord<A> {
         self.table
             .shared
             .fetch_and::<Accepting>(&mut seat.seat, 0, !OFFERED);
-        seat.depth = 1;
-        MutexPass {
-            mutex: seat.mutex,
-            seat: seat.number,
-        }
+        seat.here.own()
     }
 
     /// Accepts what is offered to the seat, which then owns the mutex. Again without an offer to it (this profile).

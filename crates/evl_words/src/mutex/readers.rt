@@ -25,20 +25,20 @@ impl MutexSeat {
     pub fn mutex(&self) -> MutexId
         ensures { result ≡ self.now.mutex }
     {
-        self.mutex
+        self.here.mutex()
     }
 
     /// Its number among the mutex's seats, from 0 to 63 (this profile).
     pub fn number(&self) -> u16
         ensures { result ≡ self.now.number }
     {
-        self.number
+        self.here.number()
     }
 
     /// How often it holds the mutex, from 0 to 255 (this profile).
     pub fn depth(&self) -> u8
         ensures { result ≡ self.now.depth }
     {
-        self.depth
+        self.here.depth()
     }
 }

@@ -16,5 +16,5 @@ fetch_or-word-requires g c =
     let one : t.table_id.words ≡ 1 = c.self.invariant.0 in (
       ap (λ (z : MutexSeatState). z.table) c.seat.view_is ∙ c.requires.table ∙ sym (ap (λ (z : MutexState). z.table) c.self.view_is),
       omega arith,
-      mutex_allows t.key.seats t.table_id.slots s.seat.id s.number s.seat.me c.seat.invariant.0 claims tt (λ n. bit_or n 2147483648) (λ n. refl) (step t.table_id.slots 0 2147483648 0 none) claimed (λ found u d. ((refl, d), claimed_owns s.number v u found d)),
+      mutex_allows t.key.seats t.table_id.slots s.seat.id s.here.number s.seat.me c.seat.invariant.0 claims tt (λ n. bit_or n 2147483648) (λ n. refl) (step t.table_id.slots 0 2147483648 0 none) claimed (λ found u d. ((refl, d), claimed_owns s.here.number v u found d)),
     )

@@ -15,5 +15,5 @@ load-word-requires g c =
     let one : t.table_id.words ≡ 1 = c.self.invariant.0 in (
       ap (λ (z : MutexSeatState). z.table) c.seat.view_is ∙ c.requires.table ∙ sym (ap (λ (z : MutexState). z.table) c.self.view_is),
       omega arith,
-      mutex_allows t.key.seats t.table_id.slots s.seat.id s.number s.seat.me c.seat.invariant.0 forgets tt (λ n. n) (λ n. refl) (step t.table_id.slots 0 0 0 none) forgot (λ found u d. ((refl, d), forgot_of s.number v u found d)),
+      mutex_allows t.key.seats t.table_id.slots s.seat.id s.here.number s.seat.me c.seat.invariant.0 forgets tt (λ n. n) (λ n. refl) (step t.table_id.slots 0 0 0 none) forgot (λ found u d. ((refl, d), forgot_of s.here.number v u found d)),
     )

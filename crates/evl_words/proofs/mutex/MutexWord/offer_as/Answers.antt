@@ -14,8 +14,8 @@ swap-requires g c =
     let s = c.seat.inside in
     let t = c.self.inside.table.shared in
     let v = view_in s.seat.me.0 in
-    let depth : s.depth ≡ 1 = ap (λ (z : MutexSeatState). z.depth) c.seat.view_is ∙ c.requires.owner in
-    let owner : v.held.role ≡ Owner = owner_at v.held.role s.depth c.seat.invariant.1 (omega arith) in
+    let depth : s.here.depth ≡ 1 = ap (λ (z : MutexSeatState). z.depth) c.seat.view_is ∙ c.requires.owner in
+    let owner : v.held.role ≡ Owner = owner_at v.held.role s.here.depth c.seat.invariant.1 (omega arith) in
     let seats : v.held.seats ≡ c.args.self.now.seats = ap (λ (z : MutexSeatState). z.view.held.seats) c.seat.view_is ∙ c.requires.mine.seats in
     let next : c.args.next.0 ≡ g.H.Handing.next = c.requires.handing.0 in
     let below : c.args.next.0 < c.args.self.now.seats = c.requires.within in
@@ -23,5 +23,5 @@ swap-requires g c =
     let one : t.table_id.words ≡ 1 = c.self.invariant.0 in (
       ap (λ (z : MutexSeatState). z.table) c.seat.view_is ∙ c.requires.mine.table ∙ sym (ap (λ (z : MutexState). z.table) c.self.view_is),
       omega arith,
-      mutex_allows t.key.seats t.table_id.slots s.seat.id s.number s.seat.me c.seat.invariant.0 (offers g.H.Handing.next g.H.Handing.more) (owner, within) (λ _. c.offered_word-word.result) (λ n. (λ i. offer_word (sym c.requires.handing.0 i) (sym c.requires.handing.1 i)) ∙ sym c.offered_word-word.ensures) (step t.table_id.slots 0 c.offered_word-word.result 0 none) (does (offers g.H.Handing.next g.H.Handing.more)) (λ found u d. (refl, d)),
+      mutex_allows t.key.seats t.table_id.slots s.seat.id s.here.number s.seat.me c.seat.invariant.0 (offers g.H.Handing.next g.H.Handing.more) (owner, within) (λ _. c.offered_word-word.result) (λ n. (λ i. offer_word (sym c.requires.handing.0 i) (sym c.requires.handing.1 i)) ∙ sym c.offered_word-word.ensures) (step t.table_id.slots 0 c.offered_word-word.result 0 none) (does (offers g.H.Handing.next g.H.Handing.more)) (λ found u d. (refl, d)),
     )

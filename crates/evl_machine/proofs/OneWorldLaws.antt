@@ -1,0 +1,164 @@
+-- What holds of the one table's world holds after any list of atomic steps, and while hands of threads are split and joined.
+use Rattle.std.proofs.Common.{◌≡◌, ◌≢◌, eq-eqb, ne_eqb, ℕ, zero, suc, ◌<◌, ◌≤◌, ◌==◌, if◌then◌else◌, Bool, true, false, List, [], ◌∷◌, ◌++◌, map, set, get_or, length, refl, sym, ap, ◌∙◌, subst, length-set, get_or-set_same, get_or-set_other, arith}
+use Rattle.std.specs.Prelude.{MatchBool, replicate}
+use Rattle.std.proofs.lemmas.List.{length-replicate}
+use mathlib.Core.Option.{some}
+use mathlib.Core.Logic.{dite}
+use native.Mathlib.Decide.{ℕ_discrete}
+use lib.ListN.{get_elem?}
+use Rattle.atomic_table.proofs.Lists.{at_map, set_again, set_else}
+use Rattle.evl_kernel.specs.Histories.{History, IsLegal}
+use Rattle.evl_words.specs.Machine.{Run}
+use Rattle.evl_words.specs.Events.{Event, seat_after, world_after}
+use Rattle.evl_words.specs.Hands.{place}
+use Rattle.evl_words.specs.Dealings.{DealingEvent, acts, cuts, gathers}
+use Rattle.evl_words.specs.Mutex.{MutexEntry}
+use Rattle.evl_words.specs.MutexWorld as mutex
+use Rattle.evl_words.specs.MutexWorld.{MutexKind, MutexView, IsMutexWorld, mutex_steps, newcomer, tries, unlocks, claims, settles, offers, frees, asks, forgets, awaits, accepts}
+use Rattle.evl_words.proofs.Machines.{run_keeps}
+use Rattle.evl_words.proofs.Sequences.{map-set, map-replicate}
+use Rattle.evl_words.proofs.Dealing.{deals_turn, deals_split, deals_join, deals_opening}
+use Rattle.evl_words.proofs.MutexSteps as steps
+use Rattle.evl_words.proofs.MutexEnds.{mutex_opens}
+use Rattle.evl_machine.specs.declared.views.CorePart.{CorePart}
+use Rattle.evl_machine.specs.declared.views.ThreadView.{ThreadView}
+use Rattle.evl_machine.specs.Accounts.{threads_of}
+use Rattle.evl_machine.specs.CoreRule.{CoreKept, newcomer_part}
+use Rattle.evl_machine.specs.CoreWorld as core
+use Rattle.evl_machine.specs.CoreWorld.{CoreKind}
+use Rattle.evl_machine.specs.ThreadRule.{core_of, put_core, mutex_of, put_mutex, newcomer_view}
+use Rattle.evl_machine.specs.OneWorld.{OneWorld, OneKind, OneHappens, OneDealing, OneDealingStep, IsOneWorld, StandsInOne, HasFor, is_unlocking, mutex_world, noted_if, on_lock, on_word, one_after, one_may, opened_one, view_after}
+use Rattle.evl_machine.proofs.CoreSteps.{opens_core}
+use Rattle.evl_machine.proofs.CoreLaws as core_laws
+use Rattle.evl_machine.proofs.Noting.{noted_core}
+use Rattle.evl_machine.proofs.ThreadSteps.{parts_apart, at_blank, zeros}
+
+module _ {S B : Type 0} (past : S → History) (room : S → ℕ) (comes : B → S → Type 0) (first : B) (ceilings : ℕ → Bool) (m : ℕ) where
+  abbrev pub Stands : OneWorld S B → Type 0
+  Stands = IsOneWorld past room comes ceilings m first
+
+  module _ (w : OneWorld S B) (h : Stands w) (k : ℕ) (v : ThreadView B MutexView) (at : get_elem? w.views k ≡ some v) where
+    core_at : get_elem? (map core_of w.views) k ≡ some (core_of v)
+    core_at = at_map core_of w.views k v at
+
+    -- the parts of a view that has another core
+    parts_stay : (c : CorePart B) (i : ℕ) → map (mutex_of i) (set w.views k (put_core v c)) ≡ map (mutex_of i) w.views
+    parts_stay c i = map-set (mutex_of i) w.views k (put_core v c) ∙ set_again (map (mutex_of i) w.views) k (mutex_of i v) (at_map (mutex_of i) w.views k v at)
+
+    lock_keeps : (kind : CoreKind S) → one_may past room comes ceilings m k v (on_lock kind) → Stands (one_after past room comes ceilings m w k v (on_lock kind))
+    lock_keeps kind may =
+        let c = core.step_part past room comes w.word w.slot k (core_of v) kind in record {
+          count = h.count;
+          locked = subst (λ cs. CoreKept past comes first (core.step_word past room comes w.word kind) (core.step_slot past room comes w.word w.slot kind ∷ []) cs) (sym (map-set core_of w.views k (put_core v c)))
+              (core_laws.step_keeps past room comes first (record { word = w.word; slot = w.slot; views = map core_of w.views }) h.locked k (core_of v) core_at kind may);
+          parts = λ i within. subst (λ vs. IsMutexWorld (record { word = get_or w.mutexes i 0; log = w.logs i; views = vs })) (sym (parts_stay c i)) (h.parts i within);
+        }
+
+    -- a step on a mutex's word
+    module _ (i : ℕ) (within : i < m) (kind : MutexKind) (may : mutex.step_may k (mutex_of i v) kind) where
+      abbrev part : MutexView
+      part = seat_after mutex_steps (get_or w.mutexes i 0) (w.logs i) k (mutex_of i v) kind
+
+      part_now : IsMutexWorld (world_after mutex_steps (mutex_world past room comes ceilings m w i) k (mutex_of i v) kind)
+      part_now = steps.step_keeps (mutex_world past room comes ceilings m w i) (h.parts i within) k (mutex_of i v) (at_map (mutex_of i) w.views k v at) kind may
+
+      -- with the core that the thread has then
+      word_keeps : (c : CorePart B) → CoreKept past comes first w.word (w.slot ∷ []) (set (map core_of w.views) k c)
+          → Stands (record {
+            word = w.word;
+            slot = w.slot;
+            mutexes = set w.mutexes i (mutex.step_word (get_or w.mutexes i 0) k (mutex_of i v) kind);
+            logs = λ j. if j == i then w.logs i ++ mutex.step_entries (get_or w.mutexes i 0) k (mutex_of i v) kind else w.logs j;
+            views = set w.views k (put_core (put_mutex i v part) c);
+          })
+      word_keeps c locked = record {
+        count = length-set w.mutexes i n ∙ h.count;
+        locked = subst (λ cs. CoreKept past comes first w.word (w.slot ∷ []) cs) (sym (map-set core_of w.views k u)) locked;
+        parts = λ j inside. dite (ℕ_discrete j i)
+            (λ (e : j ≡ i). subst (λ (x : ℕ). IsMutexWorld (record { word = get_or (set w.mutexes i n) x 0; log = log_at x; views = map (mutex_of x) (set w.views k u) })) (sym e)
+            (subst (λ (z : (ℕ × List MutexEntry) × List MutexView). IsMutexWorld (record { word = z.0.0; log = z.0.1; views = z.1 })) (λ q. ((sym word_same q, sym log_same q), sym views_same q)) part_now))
+            (λ (ne : j ≢ i). subst (λ (z : (ℕ × List MutexEntry) × List MutexView). IsMutexWorld (record { word = z.0.0; log = z.0.1; views = z.1 })) (λ q. ((sym (word_else j ne) q, sym (log_else j ne) q), sym (views_else j ne) q)) (h.parts j inside));
+      }
+        where
+          n : ℕ
+          n = mutex.step_word (get_or w.mutexes i 0) k (mutex_of i v) kind
+
+          u : ThreadView B MutexView
+          u = put_core (put_mutex i v part) c
+
+          log_at : ℕ → List MutexEntry
+          log_at j = if j == i then w.logs i ++ mutex.step_entries (get_or w.mutexes i 0) k (mutex_of i v) kind else w.logs j
+
+          word_same : get_or (set w.mutexes i n) i 0 ≡ n
+          word_same = get_or-set_same w.mutexes i n 0 (let all = h.count in omega arith)
+
+          word_else : (j : ℕ) → j ≢ i → get_or (set w.mutexes i n) j 0 ≡ get_or w.mutexes j 0
+          word_else j ne = get_or-set_other w.mutexes i j n 0 ne
+
+          log_same : log_at i ≡ w.logs i ++ mutex.step_entries (get_or w.mutexes i 0) k (mutex_of i v) kind
+          log_same = ap (λ b. if b then w.logs i ++ mutex.step_entries (get_or w.mutexes i 0) k (mutex_of i v) kind else w.logs i) (eq-eqb i i refl)
+
+          log_else : (j : ℕ) → j ≢ i → log_at j ≡ w.logs j
+          log_else j ne = ap (λ b. if b then w.logs i ++ mutex.step_entries (get_or w.mutexes i 0) k (mutex_of i v) kind else w.logs j) (ne_eqb j i ne)
+
+          views_same : map (mutex_of i) (set w.views k u) ≡ set (map (mutex_of i) w.views) k part
+          views_same = map-set (mutex_of i) w.views k u ∙ ap (λ p. set (map (mutex_of i) w.views) k p) (parts_apart.part_put i v part)
+
+          views_else : (j : ℕ) → j ≢ i → map (mutex_of j) (set w.views k u) ≡ map (mutex_of j) w.views
+          views_else j ne = map-set (mutex_of j) w.views k u ∙ ap (λ p. set (map (mutex_of j) w.views) k p) (parts_apart.part_else i j v part ne) ∙ set_again (map (mutex_of j) w.views) k (mutex_of j v) (at_map (mutex_of j) w.views k v at)
+
+      -- by the thread that has the kernel, which notes it, and by anybody
+      by_turn : (b : Bool) → Stands (record {
+        word = w.word;
+        slot = w.slot;
+        mutexes = set w.mutexes i (mutex.step_word (get_or w.mutexes i 0) k (mutex_of i v) kind);
+        logs = λ j. if j == i then w.logs i ++ mutex.step_entries (get_or w.mutexes i 0) k (mutex_of i v) kind else w.logs j;
+        views = set w.views k (put_core (put_mutex i v part) (noted_if b i (mutex.step_word (get_or w.mutexes i 0) k (mutex_of i v) kind) (core_of v)));
+      })
+      by_turn true =
+          let n = mutex.step_word (get_or w.mutexes i 0) k (mutex_of i v) kind in
+          word_keeps (noted_if true i n (core_of v)) (noted_core past comes first w.word (w.slot ∷ []) (map core_of w.views) k (core_of v) i n h.locked core_at)
+      by_turn false =
+          word_keeps (core_of v) (subst (λ cs. CoreKept past comes first w.word (w.slot ∷ []) cs) (sym (set_again (map core_of w.views) k (core_of v) core_at)) h.locked)
+
+    pub one_keeps : (kind : OneKind S) → one_may past room comes ceilings m k v kind → Stands (one_after past room comes ceilings m w k v kind)
+    one_keeps (on_lock kind) may = lock_keeps kind may
+    one_keeps (on_word i kind) (within, may, who) = by_turn i within kind may (Rattle.evl_machine.specs.OneWorld.needs_kernel (ceilings i) kind)
+
+  -- after any list of events
+  pub one_events_keep : (w t : OneWorld S B) (events : List (Event (OneKind S))) → Stands w → Run (OneHappens past room comes ceilings m) w events t → Stands t
+  one_events_keep w t events stands run =
+      run_keeps (OneHappens past room comes ceilings m) Stands (λ s e u kept one. subst Stands (sym one.changed) (one_keeps s kept e.by one.view one.at e.kind one.may)) w t events stands run
+
+  view_now : (w : OneWorld S B) (k : ℕ) (v : ThreadView B MutexView) (kind : OneKind S) → (one_after past room comes ceilings m w k v kind).views ≡ set w.views k (view_after past room comes ceilings m w k v kind)
+  view_now w k v (on_lock kind) = refl
+  view_now w k v (on_word i kind) = refl
+
+  dealing_keeps : (d : OneDealing S B) (e : DealingEvent (OneKind S)) (t : OneDealing S B) → StandsInOne past room comes ceilings m first d → OneDealingStep past room comes ceilings m d e t → StandsInOne past room comes ceilings m first t
+  dealing_keeps d (acts id kind) t h (k, v, at, may, changed) =
+      let here = (h.1.same id (place k v ∷ []) at).0 in
+      let u = view_after past room comes ceilings m d.world k v kind in
+      subst (StandsInOne past room comes ceilings m first) (sym changed)
+      (one_keeps d.world h.0 k v here kind may, subst (λ vs. Rattle.evl_words.specs.Hands.Deals vs (set d.hands id (place k u ∷ []))) (sym (view_now d.world k v kind)) (deals_turn d.world.views d.hands id k v u h.1 at))
+  dealing_keeps d (cuts id) t h (hand, at, changed) = subst (StandsInOne past room comes ceilings m first) (sym changed) (h.0, deals_split d.world.views d.hands id hand h.1 at)
+  dealing_keeps d (gathers id other) t h (hand, theirs, at, ne, at', changed) =
+      subst (StandsInOne past room comes ceilings m first) (sym changed) (h.0, deals_join d.world.views d.hands id other hand theirs h.1 at ne (set_else d.hands id other (hand ++ theirs) ne ∙ at'))
+
+  -- at the opening: at most 64 threads, where there are mutexes
+  opens_one : (y : S) → ((i : ℕ) → i < m → threads_of (past y) ≤ 64) → IsLegal (past y) → (past y).entries ≡ [] → comes first y → Stands ((opened_one past room comes ceilings m first y).world)
+  opens_one y few legal none_yet from =
+      let n = threads_of (past y) in
+      let one = newcomer_view (past y) first m n in record {
+        count = length-replicate m 0;
+        locked = subst (λ cs. CoreKept past comes first 0 (some (Rattle.std.proofs.Common.Some y) ∷ []) cs) (sym (map-replicate core_of n one)) (opens_core past comes first y n refl legal none_yet from);
+        parts = λ i lt.
+            let blank : map (mutex_of i) (replicate n one) ≡ replicate n (newcomer n) = map-replicate (mutex_of i) n one ∙ ap (replicate n) (at_blank past room comes (λ _ _ _ _ _. Unit {0}) first m (newcomer n) (newcomer 0) m i lt) in
+            subst (λ (z : ℕ × List MutexView). IsMutexWorld (record { word = z.0; log = []; views = z.1 })) (λ j. (sym (zeros past room comes (λ _ _ _ _ _. Unit {0}) first m m i) j, sym blank j)) (mutex_opens n (few i lt));
+      }
+
+  -- after any list of events from the opening
+  pub one_dealings_keep : (y : S) → ((i : ℕ) → i < m → threads_of (past y) ≤ 64) → IsLegal (past y) → (past y).entries ≡ [] → comes first y → (events : List (DealingEvent (OneKind S))) (t : OneDealing S B)
+      → Run (OneDealingStep past room comes ceilings m) (opened_one past room comes ceilings m first y) events t → StandsInOne past room comes ceilings m first t
+  one_dealings_keep y few legal none_yet from events t run =
+      let d = opened_one past room comes ceilings m first y in
+      run_keeps (OneDealingStep past room comes ceilings m) (StandsInOne past room comes ceilings m first) dealing_keeps d t events (opens_one y few legal none_yet from, deals_opening d.world.views) run
