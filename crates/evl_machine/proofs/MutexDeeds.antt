@@ -1,26 +1,21 @@
 -- What each step on a mutex's word comes to at the seat that made it.
-use Rattle.std.proofs.Common.{◌≡◌, ◌≢◌, ℕ, ◌+◌, ◌<◌, ◌==◌, nat_lt, eqb, eq-eqb, ne_eqb, Bool, true, false, Result, Ok, Err, inr, refl, sym, ap, ◌∙◌, subst, arith}
-use Rattle.std.specs.Prelude.{MatchBool, if◌then◌else◌, List, slice_get, slice_set, Some}
-use Rattle.evl_base.specs.declared.refusal.Refusal.{Refusal}
+use Rattle.std.proofs.Common.{◌≡◌, ◌≢◌, ℕ, ◌+◌, ◌==◌, eqb, eq-eqb, ne_eqb, Bool, true, false, Ok, Err, inr, refl, sym, ap, ◌∙◌, subst}
+use Rattle.std.specs.Prelude.{MatchBool, if◌then◌else◌}
 use Rattle.evl_base.specs.declared.refusal.Refusal.TheVariants.{Again, Busy}
 use Rattle.evl_words.specs.declared.mutex.Claim.{Claim}
 use Rattle.evl_words.specs.declared.mutex.MutexCall.TheVariants.{Accept, Claim as Claimed, Forget, Try, Unlock}
 use Rattle.evl_words.specs.declared.mutex.MutexHold.{MutexHold}
 use Rattle.evl_words.specs.declared.mutex.MutexPass.{MutexPass}
-use Rattle.evl_words.specs.declared.mutex.MutexReply.{MutexReply}
 use Rattle.evl_words.specs.declared.mutex.MutexReply.TheVariants.{Done, Passed, Refused, Claimed as IsClaimed}
 use Rattle.evl_words.specs.declared.mutex.MutexRole.{MutexRole}
 use Rattle.evl_words.specs.declared.mutex.MutexRole.TheVariants.{Bystander, Owner}
 use Rattle.evl_words.specs.declared.mutex.Unlock.TheVariants.{Done as IsDone, Claimed as ComesBack}
 use Rattle.evl_words.specs.MutexBits.{claim_reply, offers_to}
-use Rattle.evl_words.specs.MutexCalls.{Accepts, Calls, IsPassOf, IsSameSeat, Makes, MutexSeatState, SeesOffer, reply_of}
-use Rattle.evl_words.specs.MutexRule.{Awaited}
+use Rattle.evl_words.specs.MutexCalls.{IsPassOf, MutexSeatState, reply_of}
 use Rattle.evl_words.specs.MutexWorld.{MutexAppends, MutexDoes, MutexKind, MutexView, EndsOffered, MutexLooks, accepts, awaits, claims, forgets, forgotten, frees, offers, owns, role_claimed, role_of, settles, step_role, tries, unlocks}
 use Rattle.evl_words.proofs.MutexSeats.{accepts_after, awaited_of}
-use Rattle.evl_machine.specs.AtSeats.{AtSeat}
 use Rattle.evl_machine.specs.MutexSeats.{AcceptsSo, Claims, ForgetsSo, Frees, Offers, Settles, Tries, UnlocksSo}
 use Rattle.evl_machine.specs.MutexTokens.{AwaitsSo, TakesOffer}
-use Rattle.evl_machine.proofs.LockingCalls.{set_there}
 use Rattle.evl_machine.proofs.MutexTokens.{Stepped}
 
 match_true : (b : Bool) (X Y : Type 0) → b ≡ true → X → MatchBool b X Y

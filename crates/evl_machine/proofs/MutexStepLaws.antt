@@ -20,8 +20,7 @@ use Rattle.evl_words.specs.MutexBits.{claim_reply, offers_to}
 use Rattle.evl_words.specs.MutexCalls.{MutexSeatState, reply_of}
 use Rattle.evl_words.specs.MutexPlaces.{IsOfPlace}
 use Rattle.evl_words.specs.MutexRule.{awaited, claimed, does, forgot, tried, unlocked}
-use Rattle.evl_words.specs.MutexWorld.{EndsOffered, MutexDoes, MutexKind, MutexView, accepts, awaits, claims, forgets, forgotten, frees, offers, owns, settles, tries, unlocks}
-use Rattle.evl_words.specs.Parts.{Tells}
+use Rattle.evl_words.specs.MutexWorld.{EndsOffered, MutexKind, MutexView, accepts, awaits, claims, forgets, forgotten, frees, offers, owns, settles, tries, unlocks}
 use Rattle.evl_words.proofs.MutexSteps.{owns-forgotten}
 use Rattle.evl_words.proofs.MutexSeats.{claimed_owns, owner_at}
 use Rattle.evl_machine.specs.AtSeats.{AtSeat}

@@ -1,15 +1,11 @@
 -- A thread's token and places before and after a step on a mutex's word in the core's table.
-use Rattle.std.proofs.Common.{◌≡◌, ◌≢◌, ℕ, zero, suc, ◌+◌, ◌-◌, ◌<◌, nat_lt, List, [], ◌∷◌, length, length-set, map, Option, Some, None, IsSomeAnd, slice_get, slice_set, refl, sym, ap, ◌∙◌, subst, arith}
+use Rattle.std.proofs.Common.{◌≡◌, ◌≢◌, ℕ, zero, suc, ◌+◌, ◌-◌, ◌<◌, nat_lt, List, [], ◌∷◌, length, length-set, map, Option, Some, slice_get, slice_set, refl, sym, ap, ◌∙◌, subst, arith}
 use Rattle.std.specs.Option.{option_map}
 use Rattle.std.proofs.lemmas.Option.{none-some, same_Some, slice_get-map}
-use mathlib.Core.Logic.{dite}
-use native.Mathlib.Decide.{ℕ_discrete}
 use Rattle.atomic_table.specs.Seated.{TableId}
 use Rattle.atomic_table.specs.Table.{Allows, Step}
-use Rattle.evl_kernel.specs.Histories.{History}
 use Rattle.evl_kernel.specs.KernelViews.{KernelView}
 use Rattle.evl_words.specs.declared.mutex.place.MutexPlace.{MutexPlace}
-use Rattle.evl_words.specs.declared.history.Place.{Place}
 use Rattle.evl_words.specs.Hands.{Told, place}
 use Rattle.evl_words.specs.MutexCalls.{MutexSeatState}
 use Rattle.evl_words.specs.MutexWorld.{MutexView, MutexKind, MutexDoes, owns, step_may, step_word}
@@ -17,15 +13,14 @@ use Rattle.evl_words.specs.Parts.{Tells}
 use Rattle.evl_words.proofs.Sequences.{map-set}
 use Rattle.evl_machine.specs.declared.views.Account.{Account}
 use Rattle.evl_machine.specs.declared.views.CorePart.{CorePart}
-use Rattle.evl_machine.specs.declared.views.Noted.{Noted}
 use Rattle.evl_machine.specs.declared.views.ThreadView.{ThreadView}
 use Rattle.evl_machine.specs.AtSeats.{AtSeat}
 use Rattle.evl_machine.specs.CoreRule.{IsAbout, account_at, noting}
-use Rattle.evl_machine.specs.Known.{ComesFrom, CoreHand, KernelMe, KeptKnown, accounts_in, first_of, mutex_count, no_tie, past_of, room_of, seen, taken_in}
-use Rattle.evl_machine.specs.MutexPlaces.{Deepens, deepened}
+use Rattle.evl_machine.specs.Known.{ComesFrom, CoreHand, KernelMe, KeptKnown, accounts_in, first_of, mutex_count, no_tie, past_of, room_of, taken_in}
+use Rattle.evl_machine.specs.MutexPlaces.{Deepens}
 use Rattle.evl_machine.specs.MutexTokens.{AreItsPlaces, HasKernelFor, IsAtTable, TellsTheSame, note_in, part_of, seat_at, seats_at}
 use Rattle.evl_machine.specs.Seats.{view}
-use Rattle.evl_machine.specs.ThreadRule.{core_of, put_core, mutex_of, put_mutex, on_mutex, on_noted}
+use Rattle.evl_machine.specs.ThreadRule.{put_core, mutex_of, put_mutex, on_mutex, on_noted}
 use Rattle.evl_machine.proofs.SeatLists.{each-set, set-same}
 use Rattle.evl_machine.proofs.ThreadSteps.{marks_thread, parts_apart, steps_thread}
 

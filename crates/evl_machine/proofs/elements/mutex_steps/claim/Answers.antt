@@ -1,4 +1,4 @@
-use Rattle.std.proofs.Common.{◌≡◌, ◌+◌, ◌<◌, subst, refl, sym, ap, ◌∙◌, arith}
+use Rattle.std.proofs.Common.{◌+◌, ◌<◌, refl, arith}
 use Rattle.std.specs.Prelude.{bit_or}
 use mathlib.Core.Option.{none}
 use Rattle.atomic_table.specs.Table.{step}

@@ -1,6 +1,5 @@
-use Rattle.std.proofs.Common.{◌≡◌, ◌+◌, ◌<◌, ◌==◌, eqb, false, subst, refl, sym, ap, ◌∙◌, arith, IsSomeAnd, List, length, slice_get}
+use Rattle.std.proofs.Common.{◌≡◌, ◌+◌, ◌<◌, subst, refl, sym, ap, ◌∙◌, arith}
 use mathlib.Core.Option.{none}
-use prog.Atomic.{either}
 use Rattle.atomic_table.specs.Table.{step}
 use Rattle.evl_words.specs.declared.mutex.MutexRole.TheVariants.{Winner}
 use Rattle.evl_words.specs.MutexWorld.{MutexView, settles}

@@ -1,4 +1,4 @@
-use Rattle.std.proofs.Common.{◌≡◌, ◌+◌, ◌<◌, subst, refl, sym, ap, ◌∙◌, arith, length, slice_get}
+use Rattle.std.proofs.Common.{◌+◌, ◌<◌, subst, refl, sym, arith, length}
 use Rattle.std.specs.Prelude.{bit_and}
 use mathlib.Core.Option.{none}
 use Rattle.atomic_table.specs.Table.{step}

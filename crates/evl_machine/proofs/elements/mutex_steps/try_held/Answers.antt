@@ -1,4 +1,4 @@
-use Rattle.std.proofs.Common.{◌≡◌, ◌+◌, ◌<◌, ◌==◌, eqb, false, subst, refl, sym, ap, ◌∙◌, arith, IsSomeAnd, List, length, slice_get}
+use Rattle.std.proofs.Common.{◌≡◌, ◌+◌, ◌<◌, eqb, false, subst, refl, sym, ap, ◌∙◌, arith, length}
 use mathlib.Core.Option.{none}
 use prog.Atomic.{either}
 use Rattle.atomic_table.specs.Table.{step}

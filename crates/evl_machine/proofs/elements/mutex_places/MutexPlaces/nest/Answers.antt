@@ -1,6 +1,6 @@
-use Rattle.std.proofs.Common.{◌≡◌, ◌+◌, ap, ◌∙◌, arith}
+use Rattle.std.proofs.Common.{◌≡◌, ◌+◌, ap, arith}
 use Rattle.evl_words.specs.declared.mutex.place.MutexPlace.{MutexPlace}
-use Rattle.evl_machine.specs.MutexPlaces.{deepened, less, place_passes}
+use Rattle.evl_machine.specs.MutexPlaces.{deepened, place_passes}
 use Rattle.evl_machine.proofs.MutexPlaces.{held_by, place_there}
 use Rattle.evl_machine.proofs.SeatLists.{at-seat, count-room, counted-set, some-within}
 use Rattle.evl_machine.proofs.elements.mutex_places.MutexPlaces.nest.Goals as goal
