@@ -18,8 +18,13 @@ pub mod Gathering
 pub mod Crossing
 pub mod CoreLaws
 pub mod OneWorldLaws
+pub mod MutexPlaces
+pub mod MutexTokens
 pub mod LockingLaws
 pub mod LockingCalls
+pub mod MutexDeeds
+pub mod MutexStepLaws
+pub mod MutexAccepts
 pub mod Visits
 pub mod MutexLocks
 pub mod MutexUnlocks

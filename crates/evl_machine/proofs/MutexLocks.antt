@@ -1,14 +1,12 @@
 -- When a call on a mutex finds the history full.
-use Rattle.std.proofs.Common.{◌≡◌, ◌⊎◌, ℕ, ◌==◌, ◌&&◌, ◌≤◌, arith, nat_lt, not, if◌then◌else◌, List, length, Bool, true, false, true≢false, Option, Some, None, is_some, Result, Ok, Err, IfErr, MatchBool, MatchOption, slice_get, refl, sym, ap, ◌∙◌, subst, inl, inr, ⊎_elim}
+use Rattle.std.proofs.Common.{◌≡◌, ℕ, ◌==◌, ◌&&◌, ◌≤◌, arith, nat_lt, not, if◌then◌else◌, List, length, Bool, true, false, true≢false, Option, Some, None, is_some, Result, Ok, Err, IfErr, MatchBool, MatchOption, slice_get, refl, sym, ap, ◌∙◌, subst, inl, inr, ⊎_elim}
 use Rattle.std.specs.Option.{option_map_or}
 use Rattle.std.proofs.lemmas.Bool.Decides.{nat_tests}
 use Rattle.std.proofs.lemmas.Option.{none-some}
 use Rattle.evl_base.specs.declared.mutex_kind.MutexKind.{MutexKind}
 use Rattle.evl_base.specs.declared.numbers.MutexId.{MutexId}
-use Rattle.evl_base.specs.declared.numbers.ThreadId.{ThreadId}
-use Rattle.evl_base.specs.declared.call.Call.TheVariants.{Claim as AsksToWait, Release}
 use Rattle.evl_base.specs.declared.refusal.Refusal.{Refusal}
-use Rattle.evl_base.specs.declared.refusal.Refusal.TheVariants.{Again, Busy, CoreBusy, Deadlock, HistoryFull, Limit, NotOwner, Unknown, WrongStage}
+use Rattle.evl_base.specs.declared.refusal.Refusal.TheVariants.{Busy, CoreBusy, Deadlock, HistoryFull, Limit, NotOwner, Unknown, WrongStage}
 use Rattle.evl_base.specs.declared.stage.Stage.{Stage}
 use Rattle.evl_sched.specs.Threads.{is_oob}
 use Rattle.evl_kernel.specs.Histories.{History}
@@ -17,16 +15,15 @@ use Rattle.evl_words.specs.MutexCalls.{MutexSeatState}
 use Rattle.evl_words.specs.declared.mutex.MutexPass.{MutexPass}
 use Rattle.evl_machine.specs.declared.locking.Begun.{Begun}
 use Rattle.evl_machine.specs.declared.locking.Begun.TheVariants.{Locked}
-use Rattle.evl_machine.specs.declared.locking.Ended.{Ended}
 use Rattle.evl_machine.specs.declared.unfinished.Unfinished.{Unfinished}
 use Rattle.evl_machine.specs.Actors.{ActorState}
 use Rattle.evl_machine.specs.AtSeats.{AtSeat}
 use Rattle.evl_machine.specs.Ceilings.{has_ceiling}
 use Rattle.evl_machine.specs.Handles.{CallerState, MachineState}
-use Rattle.evl_machine.specs.Locking.{Begins, EntersNone, FindsNoRoom, Finishes, GoesAlong, IsNotFull, LocksRaised, Refuses, Releases}
+use Rattle.evl_machine.specs.Locking.{Begins, EntersNone, FindsNoRoom, Finishes, GoesAlong, IsNotFull, LocksRaised, Releases}
 use Rattle.evl_machine.specs.MutexLocks.{BeginsToLock, MutexCall, kind_of, kinds_of, lock_refusal, own_lock_refusal, spend_refusal}
-use Rattle.evl_machine.specs.MutexSeats.{depth_at, Tries, TriesMutex, IsOfMutex, is_owner, is_recursive, mutex_refusal, owner_refusal, pass_refusal, unlock_refusal}
-use Rattle.evl_machine.specs.Visits.{FullOnly, Visited, Visits, actor_of}
+use Rattle.evl_machine.specs.MutexSeats.{depth_at, Tries, TriesMutex, IsOfMutex, is_owner, is_recursive, mutex_refusal, owner_refusal, pass_refusal}
+use Rattle.evl_machine.specs.Visits.{FullOnly, Visits, actor_of}
 
 pub if_err : {T E : Type 0} (r : Result T E) (P : E → Type 0) → ((e : E) → r ≡ Err e → P e) → IfErr r P
 if_err (Ok x) P all = tt

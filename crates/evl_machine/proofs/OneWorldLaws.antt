@@ -1,6 +1,6 @@
 -- What holds of the one table's world holds after any list of atomic steps, and while hands of threads are split and joined.
 use Rattle.std.proofs.Common.{◌≡◌, ◌≢◌, eq-eqb, ne_eqb, ℕ, zero, suc, ◌<◌, ◌≤◌, ◌==◌, if◌then◌else◌, Bool, true, false, List, [], ◌∷◌, ◌++◌, map, set, get_or, length, refl, sym, ap, ◌∙◌, subst, length-set, get_or-set_same, get_or-set_other, arith}
-use Rattle.std.specs.Prelude.{MatchBool, replicate}
+use Rattle.std.specs.Prelude.{replicate}
 use Rattle.std.proofs.lemmas.List.{length-replicate}
 use mathlib.Core.Option.{some}
 use mathlib.Core.Logic.{dite}
@@ -23,7 +23,7 @@ use Rattle.evl_words.proofs.MutexEnds.{mutex_opens}
 use Rattle.evl_machine.specs.declared.views.CorePart.{CorePart}
 use Rattle.evl_machine.specs.declared.views.ThreadView.{ThreadView}
 use Rattle.evl_machine.specs.Accounts.{threads_of}
-use Rattle.evl_machine.specs.CoreRule.{CoreKept, newcomer_part}
+use Rattle.evl_machine.specs.CoreRule.{CoreKept}
 use Rattle.evl_machine.specs.CoreWorld as core
 use Rattle.evl_machine.specs.CoreWorld.{CoreKind}
 use Rattle.evl_machine.specs.ThreadRule.{core_of, put_core, mutex_of, put_mutex, newcomer_view}

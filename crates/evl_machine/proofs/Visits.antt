@@ -1,5 +1,5 @@
 -- A caller that took the kernel and gave it back: what is told of it, and what it is afterwards.
-use Rattle.std.proofs.Common.{◌≡◌, ◌++◌, ℕ, zero, suc, List, [], ◌∷◌, map, slice_get, refl, sym, ap, ◌∙◌, subst}
+use Rattle.std.proofs.Common.{◌≡◌, ◌++◌, ℕ, zero, suc, List, [], ◌∷◌, map, refl, sym, ap, ◌∙◌, subst}
 use Rattle.std.specs.Prelude.{All}
 use Rattle.std.proofs.lemmas.Option.{none-some}
 use Rattle.atomic_table.specs.Seated.{TableId}
@@ -22,7 +22,7 @@ use Rattle.evl_machine.specs.Locking.{GoesAlong, HaveSeats}
 use Rattle.evl_machine.specs.InHand.{Opens}
 use Rattle.evl_machine.specs.Unfinished.{unfinished}
 use Rattle.evl_machine.specs.Visits.{Visited, actor_of}
-use Rattle.evl_machine.proofs.Accounts.{goes_on_more, made_by-append, saw_account}
+use Rattle.evl_machine.proofs.Accounts.{goes_on_more, made_by-append}
 use Rattle.evl_machine.proofs.Calling.{TakenOut, fits_one, given_account, is_held, mine_after, takes_hold}
 use Rattle.evl_machine.proofs.Knowing.{answers_still, comes_on}
 use Rattle.evl_machine.proofs.QuietCore.{ends_quiet}

@@ -1,11 +1,13 @@
 -- The rule of the machine's table, and what is read of its tokens.
-use Rattle.std.specs.Prelude.{◌≡◌, ℕ, Bool, List, [], ◌∷◌, length, slice_get, Option, None}
+use Rattle.std.specs.Prelude.{◌≡◌, ◌==◌, ℕ, Bool, List, [], ◌∷◌, length, slice_get, Option, None, bit_and, bit_or}
+use prog.Atomic.{either}
 use Rattle.atomic_table.specs.Table.{State, Me, Step}
 use Rattle.evl_kernel.specs.Histories.{History}
 use Rattle.evl_kernel.specs.KernelViews.{KernelView}
 use Rattle.evl_kernel.specs.Callbacks.{BringsNone, told}
 use Rattle.evl_words.specs.Hands.{Hand, Told}
-use Rattle.evl_words.specs.MutexWorld.{MutexView}
+use Rattle.evl_words.specs.MutexWorld.{MutexView, accepts, frees, offers, settles}
+use Rattle.evl_words.specs.MutexRule.{awaited, claimed, does, forgot, tried, unlocked}
 use Rattle.evl_machine.specs.declared.views.Account.{Account}
 use Rattle.evl_machine.specs.declared.views.ThreadView.{ThreadView}
 use Rattle.evl_machine.specs.Ceilings.{has_ceiling}
@@ -14,7 +16,7 @@ use Rattle.evl_machine.specs.Accounts.{threads_of}
 use Rattle.evl_machine.specs.Seats.{CoreMe, view}
 use Rattle.evl_machine.specs.CoreRule.{account_at}
 use Rattle.evl_machine.specs.CoreTells.{took, gave}
-use Rattle.evl_machine.specs.ThreadRule.{Tie, MachineRule, all_threads, on_core}
+use Rattle.evl_machine.specs.ThreadRule.{Tie, MachineRule, all_threads, on_core, on_mutex, on_noted}
 
 -- since the kernel was made no callback came into it, what is told of them is the same, and so are the board and bank that it began with and its limit
 pub record ComesFrom {C : Type 0} (first k : KernelView C) : Type 0 where
@@ -80,3 +82,34 @@ module _ {C : Type 0} where
 
   abbrev pub gave_known : Step (Option (KernelView C)) → KernelMe C → ℕ → KernelMe C → Type 0
   gave_known = Told (on_core (gave past_of room_of ComesFrom))
+
+  -- what the steps on a mutex's word tell: of anybody, and of the thread that has the kernel
+  abbrev pub tried_known : Step (Option (KernelView C)) → KernelMe C → ℕ → KernelMe C → Type 0
+  tried_known = Told (on_mutex tried)
+
+  abbrev pub unlocked_known : Step (Option (KernelView C)) → KernelMe C → ℕ → KernelMe C → Type 0
+  unlocked_known = Told (on_mutex unlocked)
+
+  abbrev pub tried_held_known : Step (Option (KernelView C)) → KernelMe C → ℕ → KernelMe C → Type 0
+  tried_held_known = Told (on_noted (λ st n. either (n == 0) st.second n) tried)
+
+  abbrev pub claimed_known : Step (Option (KernelView C)) → KernelMe C → ℕ → KernelMe C → Type 0
+  claimed_known = Told (on_noted (λ st n. bit_or n st.first) claimed)
+
+  abbrev pub settled_known : Step (Option (KernelView C)) → KernelMe C → ℕ → KernelMe C → Type 0
+  settled_known = Told (on_noted (λ st n. st.first) (does settles))
+
+  abbrev pub offered_known : ℕ → Bool → Step (Option (KernelView C)) → KernelMe C → ℕ → KernelMe C → Type 0
+  offered_known next more = Told (on_noted (λ st n. st.first) (does (offers next more)))
+
+  abbrev pub freed_known : Step (Option (KernelView C)) → KernelMe C → ℕ → KernelMe C → Type 0
+  freed_known = Told (on_noted (λ st n. st.first) (does frees))
+
+  abbrev pub forgot_known : Step (Option (KernelView C)) → KernelMe C → ℕ → KernelMe C → Type 0
+  forgot_known = Told (on_noted (λ st n. n) forgot)
+
+  abbrev pub awaited_known : Step (Option (KernelView C)) → KernelMe C → ℕ → KernelMe C → Type 0
+  awaited_known = Told (on_noted (λ st n. n) awaited)
+
+  abbrev pub accepted_known : Step (Option (KernelView C)) → KernelMe C → ℕ → KernelMe C → Type 0
+  accepted_known = Told (on_noted (λ st n. bit_and n st.first) (does accepts))

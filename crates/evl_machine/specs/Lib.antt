@@ -11,6 +11,8 @@ pub mod Seats
 pub mod Known
 pub mod Homes
 pub mod AtSeats
+pub mod MutexPlaces
+pub mod MutexTokens
 pub mod StaxSeats
 pub mod MutexSeats
 pub mod Unfinished

@@ -1,5 +1,5 @@
 -- What a call on a mutex does to its caller.
-use Rattle.std.specs.Prelude.{◌≡◌, ◌⊎◌, ℕ, ◌==◌, ◌&&◌, List, Bool, true, false, not, nat_lt, if◌then◌else◌, Option, Some, None, is_some, Result, Ok, Err, MatchBool, MatchOption, slice_get}
+use Rattle.std.specs.Prelude.{◌≡◌, ◌⊎◌, ℕ, ◌==◌, ◌&&◌, List, Bool, nat_lt, if◌then◌else◌, Option, Some, None, is_some, Result, Ok, Err, MatchBool, MatchOption, slice_get}
 use Rattle.std.specs.Option.{option_map_or, option_or}
 use Rattle.evl_base.specs.declared.mutex_kind.MutexKind.{MutexKind}
 use Rattle.evl_base.specs.declared.numbers.MutexId.{MutexId}

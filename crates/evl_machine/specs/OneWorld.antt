@@ -1,5 +1,5 @@
 -- The world of the one table: the core's word and slot, each mutex's word with its history, and what each thread knows; and the atomic steps on it.
-use Rattle.std.specs.Prelude.{◌≡◌, ◌≢◌, ℕ, ◌<◌, ◌==◌, if◌then◌else◌, Bool, true, false, List, [], ◌∷◌, ◌++◌, length, map, replicate, slice_index, slice_set, Option, Some, None, MatchBool}
+use Rattle.std.specs.Prelude.{◌≡◌, ◌≢◌, ℕ, ◌<◌, ◌==◌, if◌then◌else◌, Bool, true, false, List, [], ◌∷◌, ◌++◌, length, map, replicate, slice_index, slice_set, Some, MatchBool}
 use mathlib.Core.Option.{some}
 use lib.ListN.{get_elem?}
 use Rattle.evl_kernel.specs.Histories.{History}

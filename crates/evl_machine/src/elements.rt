@@ -6,7 +6,9 @@ mod gates;
 mod making;
 mod mutex_handing;
 mod mutex_locking;
+mod mutex_places;
 mod mutex_seats;
+mod mutex_steps;
 mod mutex_words;
 mod stax_seats;
 

@@ -1,5 +1,4 @@
 use Rattle.std.proofs.Common.{sym, subst}
-use Rattle.evl_kernel.specs.KernelViews.{KernelView}
 use Rattle.evl_machine.specs.Makings.{AreMade}
 use Rattle.evl_machine.proofs.making.joined.Goals as goal
 

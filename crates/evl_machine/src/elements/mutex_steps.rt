@@ -1,0 +1,301 @@
+//! Steps on a mutex's word in the core's table: by anybody for a mutex without a ceiling, else by the thread that has the
+//! kernel.
+ghost use Rattle.std.specs.Prelude.{◌≡◌, ◌<◌, IsSomeAnd, Ok, false, length, slice_get};
+ghost use Rattle.evl_words.specs.declared.mutex.MutexRole.TheVariants.{Winner};
+ghost use Rattle.evl_words.specs.MutexPlaces.{IsOfPlace};
+ghost use Rattle.evl_machine.specs.AtSeats.{AtSeat};
+ghost use Rattle.evl_machine.specs.Known.{ceilings_of};
+ghost use Rattle.evl_machine.specs.MutexSeats.{AcceptsSo, Claims, ForgetsSo, Frees, IsOfMutex, Offers, Settles, Tries, UnlocksSo};
+ghost use Rattle.evl_machine.specs.MutexTokens.{AwaitsSo, HasKernelFor, IsAtTable, SeesOffered, TakesOffer, TellsTheSame, part_of, seats_at};
+
+use super::mutex_places::MutexPlaces;
+use crate::core_lock::{
+    Accepting, Awaiting, Claiming, CoreLock, CoreSeat, Forgetting, Freeing, Offering, Settling,
+    Trying, TryingHeld, Unlocking,
+};
+use evl_base::{MutexId, Refusal, ThreadId};
+use evl_words::{
+    CLAIM_MARK, Claim, Handing, MutexPass, OFFERED, Unlock, claim_on, is_offered_to, offered_word,
+};
+use std::alloc::Allocator;
+use std::marker::Brand;
+
+/// Takes a mutex without a ceiling that the thread doesn't have. `Busy` where another has it.
+#[inline(always)]
+pub(crate) fn try_there<C: Drop, A: Allocator>(
+    core: &CoreLock<C, A>,
+    seat: &mut CoreSeat<C, A>,
+    places: &mut MutexPlaces<A>,
+    mutex: MutexId,
+) -> Result<MutexPass, Refusal>
+    requires table { IsAtTable core.now.shared.table_id core.now.shared.key.value seat.old.table_id seat.old.me.0 places.old }
+    requires plain { ceilings_of core.now.shared.key.value mutex.0 ≡ false }
+    requires free { IsSomeAnd (slice_get places.old mutex.0) (λ p. p.depth ≡ 0) }
+    ensures table { IsAtTable core.now.shared.table_id core.now.shared.key.value seat.new.table_id seat.new.me.0 places.new }
+    ensures core { TellsTheSame seat.old.me seat.new.me }
+    ensures tried { IsOfMutex mutex.0 result × AtSeat mutex.0 (seats_at seat.old.table_id seat.old.me.0 places.old) (seats_at seat.new.table_id seat.new.me.0 places.new) (Tries result) }
+{
+    let word = 1 + usize::from(mutex.0);
+    let number = u64::from(places.number(mutex)) + 1;
+    if core
+        .shared
+        .compare_exchange::<Trying>(seat, word, 0, number)
+        == 0
+    {
+        Ok(places.own(mutex))
+    } else {
+        Err(Refusal::Busy)
+    }
+}
+
+/// Takes a mutex that the thread doesn't have, while it has the kernel. `Busy` where another has it.
+pub(crate) fn try_held<C: Drop, A: Allocator>(
+    core: &CoreLock<C, A>,
+    seat: &mut CoreSeat<C, A>,
+    places: &mut MutexPlaces<A>,
+    mutex: MutexId,
+) -> Result<MutexPass, Refusal>
+    requires table { IsAtTable core.now.shared.table_id core.now.shared.key.value seat.old.table_id seat.old.me.0 places.old }
+    requires holder { HasKernelFor mutex.0 seat.old.me.0 }
+    requires free { IsSomeAnd (slice_get places.old mutex.0) (λ p. p.depth ≡ 0) }
+    ensures table { IsAtTable core.now.shared.table_id core.now.shared.key.value seat.new.table_id seat.new.me.0 places.new }
+    ensures core { TellsTheSame seat.old.me seat.new.me }
+    ensures holder { HasKernelFor mutex.0 seat.new.me.0 }
+    ensures tried { IsOfMutex mutex.0 result × AtSeat mutex.0 (seats_at seat.old.table_id seat.old.me.0 places.old) (seats_at seat.new.table_id seat.new.me.0 places.new) (Tries result) }
+{
+    let word = 1 + usize::from(mutex.0);
+    let number = u64::from(places.number(mutex)) + 1;
+    if core
+        .shared
+        .compare_exchange::<TryingHeld>(seat, word, 0, number)
+        == 0
+    {
+        Ok(places.own(mutex))
+    } else {
+        Err(Refusal::Busy)
+    }
+}
+
+/// Spends the one pass of a mutex without a ceiling, which comes back where others claim the mutex.
+#[inline(always)]
+pub(crate) fn unlock_there<C: Drop, A: Allocator>(
+    core: &CoreLock<C, A>,
+    seat: &mut CoreSeat<C, A>,
+    places: &mut MutexPlaces<A>,
+    pass: MutexPass,
+) -> Unlock
+    requires table { IsAtTable core.now.shared.table_id core.now.shared.key.value seat.old.table_id seat.old.me.0 places.old }
+    requires plain { ceilings_of core.now.shared.key.value pass.mutex.0 ≡ false }
+    requires once { IsSomeAnd (slice_get places.old pass.mutex.0) (λ p. IsOfPlace pass p × (p.depth ≡ 1)) }
+    ensures table { IsAtTable core.now.shared.table_id core.now.shared.key.value seat.new.table_id seat.new.me.0 places.new }
+    ensures core { TellsTheSame seat.old.me seat.new.me }
+    ensures unlocked { AtSeat pass.mutex.0 (seats_at seat.old.table_id seat.old.me.0 places.old) (seats_at seat.new.table_id seat.new.me.0 places.new) (UnlocksSo pass (Ok result)) }
+{
+    let mutex = pass.mutex();
+    let word = 1 + usize::from(mutex.0);
+    let number = u64::from(places.number(mutex)) + 1;
+    if core
+        .shared
+        .compare_exchange::<Unlocking>(seat, word, number, 0)
+        == number
+    {
+        places.spend(pass);
+        Unlock::Done
+    } else {
+        Unlock::Claimed(pass)
+    }
+}
+
+/// Claims a mutex.
+pub(crate) fn claim<C: Drop, A: Allocator>(
+    core: &CoreLock<C, A>,
+    seat: &mut CoreSeat<C, A>,
+    places: &MutexPlaces<A>,
+    mutex: MutexId,
+) -> Claim
+    requires table { IsAtTable core.now.shared.table_id core.now.shared.key.value seat.old.table_id seat.old.me.0 places.now }
+    requires holder { HasKernelFor mutex.0 seat.old.me.0 }
+    requires there { mutex.0 < length places.now }
+    ensures table { IsAtTable core.now.shared.table_id core.now.shared.key.value seat.new.table_id seat.new.me.0 places.now }
+    ensures core { TellsTheSame seat.old.me seat.new.me }
+    ensures holder { HasKernelFor mutex.0 seat.new.me.0 }
+    ensures claimed { AtSeat mutex.0 (seats_at seat.old.table_id seat.old.me.0 places.now) (seats_at seat.new.table_id seat.new.me.0 places.now) (Claims result) }
+{
+    let word = 1 + usize::from(mutex.0);
+    claim_on(core.shared.fetch_or::<Claiming>(seat, word, CLAIM_MARK))
+}
+
+/// Owns a mutex that was won.
+pub(crate) fn settle<C: Drop, A: Allocator>(
+    core: &CoreLock<C, A>,
+    seat: &mut CoreSeat<C, A>,
+    places: &mut MutexPlaces<A>,
+    mutex: MutexId,
+) -> MutexPass
+    requires table { IsAtTable core.now.shared.table_id core.now.shared.key.value seat.old.table_id seat.old.me.0 places.old }
+    requires holder { HasKernelFor mutex.0 seat.old.me.0 }
+    requires there { mutex.0 < length places.old }
+    requires won { (part_of seat.old.me.0 mutex.0).held.role ≡ Winner }
+    ensures table { IsAtTable core.now.shared.table_id core.now.shared.key.value seat.new.table_id seat.new.me.0 places.new }
+    ensures core { TellsTheSame seat.old.me seat.new.me }
+    ensures holder { HasKernelFor mutex.0 seat.new.me.0 }
+    ensures settled { AtSeat mutex.0 (seats_at seat.old.table_id seat.old.me.0 places.old) (seats_at seat.new.table_id seat.new.me.0 places.new) (Settles result) }
+{
+    let word = 1 + usize::from(mutex.0);
+    let number = u64::from(places.number(mutex)) + 1;
+    core.shared.swap::<Settling>(seat, word, number);
+    places.own(mutex)
+}
+
+/// Offers a mutex to a thread, and marks it where more wait.
+pub(crate) fn offer<C: Drop, A: Allocator>(
+    core: &CoreLock<C, A>,
+    seat: &mut CoreSeat<C, A>,
+    places: &mut MutexPlaces<A>,
+    pass: MutexPass,
+    next: ThreadId,
+    more: bool,
+)
+    requires table { IsAtTable core.now.shared.table_id core.now.shared.key.value seat.old.table_id seat.old.me.0 places.old }
+    requires holder { HasKernelFor pass.mutex.0 seat.old.me.0 }
+    requires once { IsSomeAnd (slice_get places.old pass.mutex.0) (λ p. IsOfPlace pass p × (p.depth ≡ 1)) }
+    requires next { next.0 < (part_of seat.old.me.0 pass.mutex.0).held.seats }
+    ensures table { IsAtTable core.now.shared.table_id core.now.shared.key.value seat.new.table_id seat.new.me.0 places.new }
+    ensures core { TellsTheSame seat.old.me seat.new.me }
+    ensures holder { HasKernelFor pass.mutex.0 seat.new.me.0 }
+    ensures offered { AtSeat pass.mutex.0 (seats_at seat.old.table_id seat.old.me.0 places.old) (seats_at seat.new.table_id seat.new.me.0 places.new) (Offers next.0 more) }
+{
+    offer_as::<Brand, C, A>(core, seat, places, pass, next, more)
+}
+
+/// The same, where it is picked to whom.
+fn offer_as<H: Handing, C: Drop, A: Allocator>(
+    core: &CoreLock<C, A>,
+    seat: &mut CoreSeat<C, A>,
+    places: &mut MutexPlaces<A>,
+    pass: MutexPass,
+    next: ThreadId,
+    more: bool,
+)
+    requires table { IsAtTable core.now.shared.table_id core.now.shared.key.value seat.old.table_id seat.old.me.0 places.old }
+    requires holder { HasKernelFor pass.mutex.0 seat.old.me.0 }
+    requires once { IsSomeAnd (slice_get places.old pass.mutex.0) (λ p. IsOfPlace pass p × (p.depth ≡ 1)) }
+    requires next { next.0 < (part_of seat.old.me.0 pass.mutex.0).held.seats }
+    requires handing { (next.0 ≡ H.next) × (more ≡ H.more) }
+    ensures table { IsAtTable core.now.shared.table_id core.now.shared.key.value seat.new.table_id seat.new.me.0 places.new }
+    ensures core { TellsTheSame seat.old.me seat.new.me }
+    ensures holder { HasKernelFor pass.mutex.0 seat.new.me.0 }
+    ensures offered { AtSeat pass.mutex.0 (seats_at seat.old.table_id seat.old.me.0 places.old) (seats_at seat.new.table_id seat.new.me.0 places.new) (Offers next.0 more) }
+{
+    let word = 1 + usize::from(pass.mutex().0);
+    core.shared
+        .swap::<Offering<H>>(seat, word, offered_word(next.0, more));
+    places.spend(pass);
+}
+
+/// Gives a mutex up to nobody.
+pub(crate) fn free<C: Drop, A: Allocator>(
+    core: &CoreLock<C, A>,
+    seat: &mut CoreSeat<C, A>,
+    places: &mut MutexPlaces<A>,
+    pass: MutexPass,
+)
+    requires table { IsAtTable core.now.shared.table_id core.now.shared.key.value seat.old.table_id seat.old.me.0 places.old }
+    requires holder { HasKernelFor pass.mutex.0 seat.old.me.0 }
+    requires once { IsSomeAnd (slice_get places.old pass.mutex.0) (λ p. IsOfPlace pass p × (p.depth ≡ 1)) }
+    ensures table { IsAtTable core.now.shared.table_id core.now.shared.key.value seat.new.table_id seat.new.me.0 places.new }
+    ensures core { TellsTheSame seat.old.me seat.new.me }
+    ensures holder { HasKernelFor pass.mutex.0 seat.new.me.0 }
+    ensures freed { AtSeat pass.mutex.0 (seats_at seat.old.table_id seat.old.me.0 places.old) (seats_at seat.new.table_id seat.new.me.0 places.new) (Frees) }
+{
+    let word = 1 + usize::from(pass.mutex().0);
+    core.shared.swap::<Freeing>(seat, word, 0);
+    places.spend(pass);
+}
+
+/// Waits for a mutex no more. `Busy` where it is offered to the thread.
+pub(crate) fn forget<C: Drop, A: Allocator>(
+    core: &CoreLock<C, A>,
+    seat: &mut CoreSeat<C, A>,
+    places: &MutexPlaces<A>,
+    mutex: MutexId,
+) -> Result<(), Refusal>
+    requires table { IsAtTable core.now.shared.table_id core.now.shared.key.value seat.old.table_id seat.old.me.0 places.now }
+    requires holder { HasKernelFor mutex.0 seat.old.me.0 }
+    requires there { mutex.0 < length places.now }
+    ensures table { IsAtTable core.now.shared.table_id core.now.shared.key.value seat.new.table_id seat.new.me.0 places.now }
+    ensures core { TellsTheSame seat.old.me seat.new.me }
+    ensures holder { HasKernelFor mutex.0 seat.new.me.0 }
+    ensures forgotten { AtSeat mutex.0 (seats_at seat.old.table_id seat.old.me.0 places.now) (seats_at seat.new.table_id seat.new.me.0 places.now) (ForgetsSo result) }
+{
+    let word = 1 + usize::from(mutex.0);
+    let found = core.shared.load::<Forgetting>(seat, word);
+    if is_offered_to(found, places.number(mutex)) {
+        Err(Refusal::Busy)
+    } else {
+        Ok(())
+    }
+}
+
+/// Owns a mutex that is offered to the thread. `Again` where it isn't.
+pub(crate) fn accept<C: Drop, A: Allocator>(
+    core: &CoreLock<C, A>,
+    seat: &mut CoreSeat<C, A>,
+    places: &mut MutexPlaces<A>,
+    mutex: MutexId,
+) -> Result<MutexPass, Refusal>
+    requires table { IsAtTable core.now.shared.table_id core.now.shared.key.value seat.old.table_id seat.old.me.0 places.old }
+    requires holder { HasKernelFor mutex.0 seat.old.me.0 }
+    requires there { mutex.0 < length places.old }
+    ensures table { IsAtTable core.now.shared.table_id core.now.shared.key.value seat.new.table_id seat.new.me.0 places.new }
+    ensures core { TellsTheSame seat.old.me seat.new.me }
+    ensures holder { HasKernelFor mutex.0 seat.new.me.0 }
+    ensures accepted { AtSeat mutex.0 (seats_at seat.old.table_id seat.old.me.0 places.old) (seats_at seat.new.table_id seat.new.me.0 places.new) (AcceptsSo result) }
+{
+    await_offer(core, seat, places, mutex)?;
+    Ok(take_offer(core, seat, places, mutex))
+}
+
+/// The load before an acceptance.
+fn await_offer<C: Drop, A: Allocator>(
+    core: &CoreLock<C, A>,
+    seat: &mut CoreSeat<C, A>,
+    places: &MutexPlaces<A>,
+    mutex: MutexId,
+) -> Result<(), Refusal>
+    requires table { IsAtTable core.now.shared.table_id core.now.shared.key.value seat.old.table_id seat.old.me.0 places.now }
+    requires holder { HasKernelFor mutex.0 seat.old.me.0 }
+    requires there { mutex.0 < length places.now }
+    ensures table { IsAtTable core.now.shared.table_id core.now.shared.key.value seat.new.table_id seat.new.me.0 places.now }
+    ensures core { TellsTheSame seat.old.me seat.new.me }
+    ensures holder { HasKernelFor mutex.0 seat.new.me.0 }
+    ensures awaited { AtSeat mutex.0 (seats_at seat.old.table_id seat.old.me.0 places.now) (seats_at seat.new.table_id seat.new.me.0 places.now) (AwaitsSo result) }
+{
+    let word = 1 + usize::from(mutex.0);
+    let found = core.shared.load::<Awaiting>(seat, word);
+    if is_offered_to(found, places.number(mutex)) {
+        Ok(())
+    } else {
+        Err(Refusal::Again)
+    }
+}
+
+/// Takes what the thread has seen offered to it.
+fn take_offer<C: Drop, A: Allocator>(
+    core: &CoreLock<C, A>,
+    seat: &mut CoreSeat<C, A>,
+    places: &mut MutexPlaces<A>,
+    mutex: MutexId,
+) -> MutexPass
+    requires table { IsAtTable core.now.shared.table_id core.now.shared.key.value seat.old.table_id seat.old.me.0 places.old }
+    requires holder { HasKernelFor mutex.0 seat.old.me.0 }
+    requires offered { SeesOffered (seats_at seat.old.table_id seat.old.me.0 places.old) mutex.0 }
+    ensures table { IsAtTable core.now.shared.table_id core.now.shared.key.value seat.new.table_id seat.new.me.0 places.new }
+    ensures core { TellsTheSame seat.old.me seat.new.me }
+    ensures holder { HasKernelFor mutex.0 seat.new.me.0 }
+    ensures taken { AtSeat mutex.0 (seats_at seat.old.table_id seat.old.me.0 places.old) (seats_at seat.new.table_id seat.new.me.0 places.new) (TakesOffer result) }
+{
+    let word = 1 + usize::from(mutex.0);
+    core.shared.fetch_and::<Accepting>(seat, word, !OFFERED);
+    places.own(mutex)
+}
