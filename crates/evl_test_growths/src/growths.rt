@@ -39,12 +39,23 @@ fn is_refused<C: Handler, A: Allocator>(kernel: &mut KernelOf<C, A>, step: Step)
     matches!(kernel.apply(who, call), Err(Refusal::NoMemory))
 }
 
+// Asks for room for some calls, and tells why it is refused.
+fn refusal_of_room<C: Handler, A: Allocator>(
+    kernel: &mut KernelOf<C, A>,
+    calls: usize,
+) -> Option<Refusal>
+    requires { AnswersAsTold C.declared C.plan kernel.old.callbacks }
+    ensures { AnswersAsTold C.declared C.plan kernel.new.callbacks }
+{
+    kernel.reserve(calls).err()
+}
+
 // Whether room for some calls is refused for memory.
 fn lacks_room<C: Handler, A: Allocator>(kernel: &mut KernelOf<C, A>, calls: usize) -> bool
     requires { AnswersAsTold C.declared C.plan kernel.old.callbacks }
     ensures { AnswersAsTold C.declared C.plan kernel.new.callbacks }
 {
-    matches!(kernel.reserve(calls), Err(Refusal::NoMemory))
+    matches!(refusal_of_room(kernel, calls), Some(Refusal::NoMemory))
 }
 
 // Whether the call of a step is refused for memory, and then is not when it is made once more; none where the refusal changed
