@@ -11,12 +11,15 @@ use Rattle.evl_kernel.specs.Histories.{History}
 use Rattle.evl_kernel.specs.KernelViews.{KernelView}
 use Rattle.evl_kernel.specs.Callbacks.{AnswersAsTold}
 use Rattle.evl_words.specs.Hands.{place}
-use Rattle.evl_words.specs.MutexWorld.{MutexView}
+use Rattle.evl_words.specs.MutexWorld.{MutexView, owns}
+use Rattle.evl_words.specs.declared.mutex.place.MutexPlace.{MutexPlace}
 use Rattle.evl_machine.specs.declared.views.Account.{Account}
 use Rattle.evl_machine.specs.declared.views.CorePart.{CorePart}
 use Rattle.evl_machine.specs.declared.views.ThreadView.{ThreadView}
 use Rattle.evl_machine.specs.Accounts.{Fits, MadeBy, informed}
-use Rattle.evl_machine.specs.CoreRule.{MayGive, account_at, core_part}
+use Rattle.evl_machine.specs.CoreRule.{IsAbout, MayGive, account_at, core_part}
+use Rattle.evl_machine.specs.MutexTokens.{AreItsPlaces, HasKernel, KeepsPlaces, note_in, part_of}
+use Rattle.evl_machine.specs.ThreadRule.{mutex_of, put_core}
 use Rattle.evl_machine.specs.CoreWorld.{CoreKind, takes, gives}
 use Rattle.evl_machine.specs.Events.{FailsToTake, Gives, KernelEvent, Takes, at_rest, in_hand}
 use Rattle.evl_machine.specs.Seats.{CoreMe, AccountsFit, view}
@@ -169,6 +172,56 @@ module _ {C : Type 0} where
               (part_is o.number t.0.core None (account_of (seen me')) (first_of me.0) (ap (λ (x : CorePart (KernelView C) × Slots C). x.0.taken) gave.0) (sym (ap account_of now)) stays) gave.2,
         ),
       )
+
+  abbrev number_in : CoreHand C → ℕ
+  number_in [] = 0
+  number_in (p ∷ ps) = p.number
+
+  -- what a step on the lock leaves of a token: what it knows of each mutex, and its thread's places
+  keeps_places : (k : ℕ) (v w : Thread C) (hand hand' : CoreHand C) → hand ≡ place k v ∷ [] → hand' ≡ place k w ∷ [] → w ≡ put_core v w.core → KeepsPlaces hand hand'
+  keeps_places k v w hand hand' one one' is = record { parts = parts; its = its }
+    where
+      parts : (i : ℕ) → part_of hand' i ≡ part_of hand i
+      parts i = ap (λ (h : CoreHand C). part_of h i) one' ∙ ap (mutex_of i) is ∙ sym (ap (λ (h : CoreHand C). part_of h i) one)
+
+      its : (places : List MutexPlace) → AreItsPlaces hand places → AreItsPlaces hand' places
+      its places old =
+          let number : old.number ≡ k = ap number_in (sym old.one ∙ one) in
+          record {
+            number = k;
+            thread = w;
+            one = one';
+            placed = old.placed;
+            numbers = λ i p there. old.numbers i p there ∙ number;
+            owners = λ i p there. ap (λ (x : MutexView). owns x.held.role) (sym (ap (λ (h : CoreHand C). part_of h i) one') ∙ parts i ∙ ap (λ (h : CoreHand C). part_of h i) old.one) ∙ old.owners i p there;
+          }
+
+  pub took_places : (st : Step (Option (KernelView C))) (found : ℕ) (me me' : KernelMe C) (a : Account) → seen me ≡ seated a → took_known st me found me' → KeepsPlaces me.0 me'.0
+  took_places st found me me' a rests told =
+      let o = is_one me.0 me.1 None a [] rests in
+      let hand = ap (λ (z : KernelMe C). z.0) o.me_is in
+      let t = told o.number o.thread hand in
+      keeps_places o.number o.thread t.0 me.0 me'.0 hand t.1 t.2.1
+
+  -- a take that found the kernel has made no step on a word yet
+  pub took_holds : (st : Step (Option (KernelView C))) (found : ℕ) (me me' : KernelMe C) (a : Account) → seen me ≡ seated a → took_known st me found me' → found ≡ 0 → HasKernel me'.0
+  took_holds st found me me' a rests told free i =
+      let o = is_one me.0 me.1 None a [] rests in
+      let t = told o.number o.thread (ap (λ (z : KernelMe C). z.0) o.me_is) in
+      let q = t.2.0.0 free in
+      let taken : taken_in me'.0 ≡ Some (past_of q.0) = ap taken_in t.1 ∙ ap (λ (x : CorePart (KernelView C) × Slots C). x.0.taken) q.1 in
+      let note : note_in me'.0 ≡ None = ap note_in t.1 ∙ ap (λ (x : CorePart (KernelView C) × Slots C). x.0.note) q.1 in
+      (past_of q.0, taken, subst (IsAbout i) (sym note) tt)
+
+  pub gave_places : (st : Step (Option (KernelView C))) (found : ℕ) (me me' : KernelMe C) (a : Account) (k : KernelView C) → seen me ≡ loaded past_of room_of a k → gave_known st me found me' → KeepsPlaces me.0 me'.0
+  gave_places st found me me' a k is told =
+      let o = is_one me.0 me.1 (Some a.seen) a ((0, Some k) ∷ []) is in
+      let hand = ap (λ (z : KernelMe C). z.0) o.me_is in
+      let t = told o.number o.thread hand in
+      keeps_places o.number o.thread t.0 me.0 me'.0 hand t.1 t.2.1
+
+  abbrev pub hand_in_me : KernelMe C → CoreHand C
+  hand_in_me m = m.0
 
   abbrev pub first_in_me : KernelMe C → KernelView C
   first_in_me m = first_of m.0

@@ -9,7 +9,6 @@ pub mod Knowing
 pub mod SeatLists
 pub mod DealLaws
 pub mod StaxLaws
-pub mod MutexLaws
 pub mod Staying
 pub mod StaxCalls
 pub mod Seating
@@ -20,12 +19,15 @@ pub mod CoreLaws
 pub mod OneWorldLaws
 pub mod MutexPlaces
 pub mod MutexTokens
+pub mod SeatsAt
 pub mod LockingLaws
 pub mod LockingCalls
 pub mod MutexDeeds
 pub mod MutexStepLaws
 pub mod MutexAccepts
 pub mod Visits
+pub mod Opened
+pub mod WordCalls
 pub mod MutexLocks
 pub mod MutexUnlocks
 pub mod WaitingLaws

@@ -1,5 +1,5 @@
 -- What a caller's steps with the kernel in hand come to: a lock that begins, a release, and a wait that is finished.
-use Rattle.std.proofs.Common.{◌≡◌, ◌<◌, ◌≤◌, nat_lt, ℕ, zero, suc, List, [], ◌∷◌, Bool, true, false, true≢false, Option, Some, None, Result, Ok, Err, IsSomeAnd, slice_get, slice_set, refl, sym, ap, ◌∙◌, subst, arith}
+use Rattle.std.proofs.Common.{◌≡◌, ◌<◌, ◌≤◌, nat_lt, ℕ, zero, suc, List, [], ◌∷◌, Bool, true, false, true≢false, Option, Some, None, Result, Ok, Err, IfSome, IsSomeAnd, slice_get, slice_set, refl, sym, ap, ◌∙◌, subst, arith}
 use Rattle.std.specs.Result.{is_err}
 use Rattle.std.proofs.lemmas.Bool.Decides.{nat_tests}
 use Rattle.std.proofs.lemmas.Option.{none-some}
@@ -68,14 +68,14 @@ some_seat n next i seats P have there less = by (slice_get seats i) refl there
     by (Some s) is has = let same = have i s is in omega (arith, same, less)
 
 -- whom the kernel names has a seat at the word
-pub next_has_seat : {C : Type 0} (k k2 : KernelView C) (a x a2 : ActorState) (m : MutexId) (pass : MutexPass) (r : Result Reply Refusal) (next : ThreadId) (more : Bool) → x ≡ a2 → IsSameActor a a2 → IsLegal k.history
-    → board_fits k.history.board ≡ true → HaveSeats (threads_of k.history) a.mutexes → HasOnce a.mutexes pass → Applied k a.thread.0 (Release m) r k2 → r ≡ Ok (Handed (Some next) more) → HasSeat x.mutexes pass.mutex.0 next.0
-next_has_seat {C} k k2 a x a2 m pass r next more is same legal fits have once done told =
+pub next_named : {C : Type 0} (k k2 : KernelView C) (a a2 : ActorState) (m : MutexId) (pass : MutexPass) (r : Result Reply Refusal) (next : Option ThreadId) (more : Bool) → IsSameActor a a2 → IsLegal k.history
+    → board_fits k.history.board ≡ true → HaveSeats (threads_of k.history) a.mutexes → HasOnce a.mutexes pass → Applied k a.thread.0 (Release m) r k2 → r ≡ Ok (Handed next more) → IfSome next (λ n. HasSeat a2.mutexes pass.mutex.0 n.0)
+next_named k k2 a a2 m pass r None more same legal fits have once done told = tt
+next_named {C} k k2 a a2 m pass r (Some next) more same legal fits have once done told =
     let named : Applied k a.thread.0 (Release m) (Ok (Handed (Some next) more)) k2 = subst (λ (r : Result Reply Refusal). Applied k a.thread.0 (Release m) r k2) told done in
     let entered = named.entered refl in
     let less : next.0 < threads_of k.history = next_is_there k.history k2.history.state a.thread.0 m next more entered.0 legal fits entered.1.extends.step.1 in
-    let seats : a.mutexes ≡ x.mutexes = sym (ap (λ (z : ActorState). z.mutexes) is ∙ same.mutexes) in
-    subst (λ (z : List MutexSeatState). HasSeat z pass.mutex.0 next.0) seats (some_seat (threads_of k.history) next.0 pass.mutex.0 a.mutexes (λ s. IsPassOf pass s × (s.depth ≡ 1)) have once less)
+    subst (λ (z : List MutexSeatState). HasSeat z pass.mutex.0 next.0) (sym same.mutexes) (some_seat (threads_of k.history) next.0 pass.mutex.0 a.mutexes (λ s. IsPassOf pass s × (s.depth ≡ 1)) have once less)
 
 is_timed_out : (r : Reply) → is_timeout r ≡ true → r ≡ TimedOut
 is_timed_out TimedOut is = refl

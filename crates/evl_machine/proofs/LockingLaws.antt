@@ -21,6 +21,7 @@ use Rattle.evl_machine.specs.Known.{ComesFrom}
 use Rattle.evl_machine.specs.Unfinished.{unfinished}
 use Rattle.evl_machine.specs.Locking.{EntersOne, FindsNoRoom, GoesAlong, IsRoomier, LocksRaised, Refuses, Reserves}
 use Rattle.evl_machine.specs.MutexSeats.{TriesMutex}
+use Rattle.evl_machine.specs.MutexTokens.{AreTheSame}
 use Rattle.evl_machine.proofs.Accounts.{goes_on_none}
 use Rattle.evl_machine.proofs.Calling.{Added, added_by}
 use Rattle.evl_machine.proofs.Knowing.{comes_on}
@@ -28,11 +29,6 @@ use Rattle.evl_machine.proofs.Knowing.{comes_on}
 -- the caller with other seats at the mutexes
 abbrev pub seated_at : ActorState → List MutexSeatState → ActorState
 seated_at a mutexes = record a { mutexes = mutexes }
-
--- the same seats, by where they belong and by their numbers
-pub record AreTheSame (old new : List MutexSeatState) : Type 0 where
-  pub homes : map mutex_home new ≡ map mutex_home old
-  pub numbers : map (λ (s : MutexSeatState). s.number) new ≡ map (λ (s : MutexSeatState). s.number) old
 
 pub the_same : (seats : List MutexSeatState) → AreTheSame seats seats
 the_same seats = record { homes = refl; numbers = refl }

@@ -12,10 +12,14 @@ use Rattle.evl_words.specs.MutexWorld.{EndsOffered}
 use Rattle.evl_machine.specs.AtSeats.{AtSeat}
 use Rattle.evl_machine.specs.Known.{CoreHand}
 use Rattle.evl_machine.specs.MutexSeats.{AcceptsSo}
-use Rattle.evl_machine.specs.MutexTokens.{AwaitsSo, SeesOffered, TakesOffer, seat_at, seats_at}
+use Rattle.evl_machine.specs.MutexTokens.{AreTheSame, AwaitsSo, SeesOffered, TakesOffer, seat_at, seats_at}
 use Rattle.evl_machine.proofs.LockingCalls.{set_there}
 use Rattle.evl_machine.proofs.MutexDeeds.{accepts_so}
 use Rattle.evl_machine.proofs.MutexStepLaws.{some_place}
+
+-- seats that are the same twice
+pub same_twice : {a b c : List MutexSeatState} → AreTheSame a b → AreTheSame b c → AreTheSame a c
+same_twice one two = record { homes = two.homes ∙ one.homes; numbers = two.numbers ∙ one.numbers }
 
 set_twice : {S : Type 0} (xs : List S) (i : ℕ) (a b : S) → slice_set (slice_set xs i a) i b ≡ slice_set xs i b
 set_twice [] i a b = refl

@@ -16,14 +16,17 @@ use Rattle.evl_words.specs.declared.mutex.MutexPass.{MutexPass}
 use Rattle.evl_machine.specs.declared.locking.Begun.{Begun}
 use Rattle.evl_machine.specs.declared.locking.Begun.TheVariants.{Locked}
 use Rattle.evl_machine.specs.declared.unfinished.Unfinished.{Unfinished}
-use Rattle.evl_machine.specs.Actors.{ActorState}
+use Rattle.evl_machine.specs.Actors.{ActorState, SeatedActor, acting}
+use Rattle.evl_machine.specs.Callers.{IsResting, caller_by, machine_by}
+use Rattle.evl_machine.specs.Known.{seen}
 use Rattle.evl_machine.specs.AtSeats.{AtSeat}
 use Rattle.evl_machine.specs.Ceilings.{has_ceiling}
-use Rattle.evl_machine.specs.Handles.{CallerState, MachineState}
+use Rattle.evl_machine.specs.Handles.{CallerState, MachineState, account_of}
 use Rattle.evl_machine.specs.Locking.{Begins, EntersNone, FindsNoRoom, Finishes, GoesAlong, IsNotFull, LocksRaised, Releases}
 use Rattle.evl_machine.specs.MutexLocks.{BeginsToLock, MutexCall, kind_of, kinds_of, lock_refusal, own_lock_refusal, spend_refusal}
 use Rattle.evl_machine.specs.MutexSeats.{depth_at, Tries, TriesMutex, IsOfMutex, is_owner, is_recursive, mutex_refusal, owner_refusal, pass_refusal}
 use Rattle.evl_machine.specs.Visits.{FullOnly, Visits, actor_of}
+use Rattle.evl_machine.proofs.Visits.{same_actor}
 
 pub if_err : {T E : Type 0} (r : Result T E) (P : E → Type 0) → ((e : E) → r ≡ Err e → P e) → IfErr r P
 if_err (Ok x) P all = tt
@@ -131,6 +134,12 @@ module _ {C : Type 0} where
   visit_full busy old new does refusal apart leaves (inr v) full =
       let same : new.machine ≡ old.machine = ap (λ (c : CallerState C). c.machine) v.back ∙ ap (λ (c : CallerState C). c.machine) v.took.caller in
       ap (λ (c : CallerState C). length c.account.seen.entries) v.back ∙ (leaves _ _ v.held.kernel v.given v.does full ∙ (v.took.comes.limit ∙ ap (λ (m : MachineState C). m.first.limit) (sym same)))
+
+  -- what a caller is refused by what it has itself is what its actor is refused
+  pub own_lock_is : (x : SeatedActor C) (old : CallerState C) (kind : Option MutexKind) (m : MutexId) (o : Option Refusal) → caller_by x ≡ old → IsResting x → kind ≡ kind_of old m → lock_refusal kind x.wait x.stage (depth_at (acting x).mutexes m.0) ≡ o → own_lock_refusal old m ≡ o
+  own_lock_is x old kind m o was rests same is =
+      let actor : actor_of old ≡ acting x = ap actor_of (sym was) ∙ same_actor (machine_by x) (account_of (seen x.me)) (acting x) rests.0.own rests.0.account rests.1 in
+      (λ i. lock_refusal (sym same i) (actor i).wait (actor i).stage (depth_at (actor i).mutexes m.0)) ∙ is
 
   -- a lock that begins with the kernel, where the caller refuses nothing and doesn't have the mutex
   pub begins_by_kernel : (old new : CallerState C) (x : ActorState) (kind : Option MutexKind) (mutex : MutexId) (until : Option ℕ) (r : Result Begun Refusal) (ceiling : Bool) → actor_of old ≡ x → kind ≡ kind_of old mutex

@@ -8,6 +8,7 @@ use Rattle.evl_kernel.specs.KernelViews.{KernelView}
 use Rattle.evl_words.specs.declared.mutex.place.MutexPlace.{MutexPlace}
 use Rattle.evl_words.specs.Hands.{Told, place}
 use Rattle.evl_words.specs.MutexCalls.{MutexSeatState}
+use Rattle.evl_words.specs.declared.mutex.MutexHold.{MutexHold}
 use Rattle.evl_words.specs.MutexWorld.{MutexView, MutexKind, MutexDoes, owns, step_may, step_word}
 use Rattle.evl_words.specs.Parts.{Tells}
 use Rattle.evl_words.proofs.Sequences.{map-set}
@@ -18,10 +19,11 @@ use Rattle.evl_machine.specs.AtSeats.{AtSeat}
 use Rattle.evl_machine.specs.CoreRule.{IsAbout, account_at, noting}
 use Rattle.evl_machine.specs.Known.{ComesFrom, CoreHand, KernelMe, KeptKnown, accounts_in, first_of, mutex_count, no_tie, past_of, room_of, taken_in}
 use Rattle.evl_machine.specs.MutexPlaces.{Deepens}
-use Rattle.evl_machine.specs.MutexTokens.{AreItsPlaces, HasKernelFor, IsAtTable, TellsTheSame, note_in, part_of, seat_at, seats_at}
+use Rattle.evl_machine.specs.Homes.{Home, mutex_home}
+use Rattle.evl_machine.specs.MutexTokens.{AreItsPlaces, AreTheSame, HasKernelFor, IsAtTable, TellsTheSame, note_in, part_of, seat_at, seats_at}
 use Rattle.evl_machine.specs.Seats.{view}
 use Rattle.evl_machine.specs.ThreadRule.{put_core, mutex_of, put_mutex, on_mutex, on_noted}
-use Rattle.evl_machine.proofs.SeatLists.{each-set, set-same}
+use Rattle.evl_machine.proofs.SeatLists.{each-set, map-kept, set-same}
 use Rattle.evl_machine.proofs.ThreadSteps.{marks_thread, parts_apart, steps_thread}
 
 -- what all have alike but at one place, where it is known by itself, stays
@@ -148,6 +150,21 @@ module _ {C : Type 0} where
           alike j p ne there =
               let apart : p.mutex.0 ≢ i = λ e. ne (sym (placed j p there) ∙ e) in
               ap (λ (x : MutexView). record { table = id; mutex = p.mutex; number = p.number; depth = p.depth; view = x }) (part_now p.mutex.0 ∙ went.others p.mutex.0 apart ∙ sym (part_was p.mutex.0))
+
+      -- no seat has moved
+      pub same_seats : AreTheSame (seats_at id me.0 ps) (seats_at id me'.0 ps')
+      unfolding at_seat
+      same_seats =
+          let one = at_seat (λ was is. Unit {0}) tt in
+          let number : at.is.mutex.0 ≡ at.was.mutex.0 = ap (λ (p : MutexPlace). p.mutex.0) at.does in
+          let now : (part_of me'.0 at.is.mutex.0).held.seats ≡ (mutex_of i went.now).held.seats = ap (λ (x : MutexView). x.held.seats) (part_now at.is.mutex.0 ∙ ap (λ j. mutex_of j went.now) is_mutex) in
+          let was : (part_of me.0 at.was.mutex.0).held.seats ≡ (mutex_of i v).held.seats = ap (λ (x : MutexView). x.held.seats) (part_was at.was.mutex.0 ∙ ap (λ j. mutex_of j v) (placed i at.was at.there)) in
+          let bound : (part_of me'.0 at.is.mutex.0).held.seats ≡ (part_of me.0 at.was.mutex.0).held.seats = now ∙ ap (λ (h : MutexHold). h.seats) went.does.held ∙ sym was in
+          let home : mutex_home (seat_at id me'.0 at.is) ≡ mutex_home (seat_at id me.0 at.was) = λ j. record { table = id; number = number j; bound = bound j } in
+          record {
+            homes = ap (map mutex_home) one.changed ∙ map-kept mutex_home (seats_at id me.0 ps) i one.was one.is one.there home;
+            numbers = ap (map (λ (s : MutexSeatState). s.number)) one.changed ∙ map-kept (λ (s : MutexSeatState). s.number) (seats_at id me.0 ps) i one.was one.is one.there (ap (λ (p : MutexPlace). p.number) at.does);
+          }
 
       pub its_after : ((j : ℕ) (p : MutexPlace) → slice_get ps j ≡ Some p → p.number ≡ k) → ((j : ℕ) (p : MutexPlace) → slice_get ps j ≡ Some p → owns (mutex_of j v).held.role ≡ nat_lt 0 p.depth) → owns (mutex_of i went.now).held.role ≡ nat_lt 0 at.is.depth → AreItsPlaces me'.0 ps'
       its_after numbers owners owned = record {

@@ -8,14 +8,11 @@ use Rattle.evl_words.specs.MutexCalls.{IsPassOf, MutexSeatState, Releases, Unloc
 use Rattle.evl_words.specs.declared.mutex.MutexPass.{MutexPass}
 use Rattle.evl_words.specs.declared.mutex.Unlock.{Unlock}
 use Rattle.evl_words.specs.declared.mutex.Unlock.TheVariants.{Claimed, Done}
-use Rattle.atomic_table.specs.Seated.{TableId}
-use Rattle.evl_kernel.specs.KernelViews.{KernelView}
-use Rattle.evl_machine.specs.declared.views.Account.{Account}
-use Rattle.evl_words.specs.GateCalls.{SeatState}
 use Rattle.evl_machine.specs.AtSeats.{AtSeat}
-use Rattle.evl_machine.specs.Handles.{CallerState, caller_of, machine_of}
-use Rattle.evl_machine.specs.Homes.{mutex_home, stax_home}
-use Rattle.evl_machine.specs.MutexLocks.{HandsOn, UnlocksAtWord}
+use Rattle.evl_machine.specs.Handles.{CallerState}
+use Rattle.evl_machine.specs.Homes.{mutex_home}
+use Rattle.evl_machine.specs.MutexLocks.{HandsOn, MutexCall, UnlocksAtWord}
+use Rattle.evl_machine.specs.MutexTokens.{AreTheSame}
 use Rattle.evl_machine.specs.MutexSeats.{HasOnce, UnlocksMutex, UnlocksSo, is_owner, pass_refusal, unlock_refusal}
 use Rattle.evl_machine.proofs.LockingCalls.{set_there}
 use Rattle.evl_machine.proofs.SeatLists.{same-at}
@@ -70,16 +67,16 @@ module _ (old new : List MutexSeatState) (pass back : MutexPass) (own : unlock_r
       let fits : IsPassOf pass at.is = (mine.0 ∙ (λ i. record { 0 = (sym home i).number }), mine.1 ∙ sym number) in
       subst (λ (p : MutexPass). HasOnce new p) (sym once.0) (subst (λ o. IsSomeAnd o (λ s. IsPassOf pass s × (s.depth ≡ 1))) (sym now) (fits, once.1))
 
--- of a caller whose seats at the mutexes changed nothing else does
-pub same_but_mutexes : {C : Type 0} (id : TableId) (first : KernelView C) (a : Account) (staxes : List SeatState) (mutexes new : List MutexSeatState) (old : CallerState C) → caller_of (machine_of id first staxes mutexes) a staxes mutexes ≡ old
-    → map mutex_home new ≡ map mutex_home mutexes → caller_of (machine_of id first staxes new) a staxes new ≡ record old { mutexes = new }
-same_but_mutexes {C} id first a staxes mutexes new old was homes =
-    (λ i. record { machine = record { id = id; first = first; staxes = map stax_home staxes; mutexes = homes i }; account = a; staxes = staxes; mutexes = new }) ∙ ap (λ (s : CallerState C). record s { mutexes = new }) was
-
 -- the word was claimed, and the mutex handed on by the kernel
-pub unlocked_by_kernel : {C : Type 0} (old found new : CallerState C) (pass back : MutexPass) (r : Result (Unit {0}) (Refusal × MutexPass)) (u : Result Unlock (Refusal × MutexPass)) (seats : List MutexSeatState) → unlock_refusal old.mutexes pass ≡ None → seats ≡ old.mutexes
-    → u ≡ was_claimed back → UnlocksMutex seats pass u found.mutexes → found ≡ record old { mutexes = found.mutexes } → HandsOn found back r new → UnlocksAtWord old pass r new
-unlocked_by_kernel old found new pass back r u seats own are told was same handed =
-    let at_seats : UnlocksMutex old.mutexes pass u found.mutexes = subst (λ (ss : List MutexSeatState). UnlocksMutex ss pass u found.mutexes) are was in
-    let is : back ≡ pass = comes_back old.mutexes found.mutexes pass back own u told at_seats in
-    inr (found, (same, subst (λ (p : MutexPass). UnlocksMutex old.mutexes pass (was_claimed p) found.mutexes) is (spent old.mutexes found.mutexes pass back own u told at_seats)), subst (λ (p : MutexPass). HandsOn found p r new) is handed)
+pub unlocked_by_kernel : {C : Type 0} (old found new : CallerState C) (pass back : MutexPass) (r : Result (Unit {0}) (Refusal × MutexPass)) (u : Unlock) → unlock_refusal old.mutexes pass ≡ None → u ≡ Claimed back
+    → MutexCall old (λ was is. UnlocksMutex was pass (Ok u) is) found → HandsOn found back r new → UnlocksAtWord old pass r new
+unlocked_by_kernel old found new pass back r u own told call handed =
+    let at_seats : UnlocksMutex old.mutexes pass (was_claimed back) found.mutexes = subst (λ (u : Unlock). UnlocksMutex old.mutexes pass (Ok u) found.mutexes) told call.1 in
+    let is : back ≡ pass = comes_back old.mutexes found.mutexes pass back own (was_claimed back) refl at_seats in
+    inr (found, (call.0, subst (λ (p : MutexPass). UnlocksMutex old.mutexes pass (was_claimed p) found.mutexes) is at_seats), subst (λ (p : MutexPass). HandsOn found p r new) is handed)
+
+-- a caller still has it once then
+pub still_has : {C : Type 0} (old found : CallerState C) (pass back : MutexPass) (u : Unlock) → unlock_refusal old.mutexes pass ≡ None → u ≡ Claimed back → MutexCall old (λ was is. UnlocksMutex was pass (Ok u) is) found → AreTheSame old.mutexes found.mutexes → HasOnce found.mutexes back
+still_has old found pass back u own told call seats =
+    let at_seats : UnlocksMutex old.mutexes pass (was_claimed back) found.mutexes = subst (λ (u : Unlock). UnlocksMutex old.mutexes pass (Ok u) found.mutexes) told call.1 in
+    claimed_once old.mutexes found.mutexes pass back own (was_claimed back) refl at_seats seats.homes seats.numbers

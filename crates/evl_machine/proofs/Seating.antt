@@ -55,10 +55,10 @@ module _ {C : Type 0} where
   pub rest_goes : (k : KernelView C) (i n : ℕ) (me me' : KernelMe C) → i < n → me ≡ left_from k i n → me' ≡ (rest_of me.0, []) → me' ≡ left_from k (i + 1) n
   rest_goes k i n me me' less was now = now ∙ ap (λ (m : KernelMe C). hand_me (rest_of m.0)) was ∙ ap (λ h. hand_me (rest_of h)) (hand_step i n (new_view k n) less)
 
-  pub seat_comes : (k : KernelView C) (i n : ℕ) (me me' : KernelMe C) → i < n → me ≡ left_from k i n → me' ≡ (first_place me.0, me.1) → (seen me' ≡ seated (newcomer k.history i)) × (first_of me'.0 ≡ k)
-  seat_comes k i n me me' less was now =
+  pub seat_comes : (k : KernelView C) (i n : ℕ) (me me' : KernelMe C) → i < n → threads_of k.history ≡ n → me ≡ left_from k i n → me' ≡ (first_place me.0, me.1) → (seen me' ≡ seated (newcomer k.history i)) × (first_of me'.0 ≡ k) × (me'.0 ≡ place i (new_view k (threads_of k.history)) ∷ [])
+  seat_comes k i n me me' less same was now =
       let is : me' ≡ hand_me (place i (new_view k n) ∷ []) = now ∙ ap (λ (m : KernelMe C). first_me m) was ∙ ap (λ h. hand_me (first_place h)) (hand_step i n (new_view k n) less) in
-      (ap seen is, ap (λ (m : KernelMe C). first_of m.0) is)
+      (ap seen is, ap (λ (m : KernelMe C). first_of m.0) is, ap (λ (m : KernelMe C). m.0) is ∙ ap (λ j. place i (new_view k j) ∷ []) (sym same))
     where
       first_me : KernelMe C → KernelMe C
       first_me m = (first_place m.0, m.1)

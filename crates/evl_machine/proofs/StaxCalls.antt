@@ -7,7 +7,7 @@ use Rattle.evl_base.specs.declared.refusal.Refusal.TheVariants.{NoMemory, Histor
 use Rattle.evl_words.specs.declared.gate.StaxPass.{StaxPass}
 use Rattle.evl_words.specs.declared.gate.GateHold.{GateHold}
 use Rattle.evl_words.specs.GateCalls.{SeatState, FailsToEnter}
-use Rattle.evl_machine.specs.Actors.{ActorState, AreHeldAt, IsActor}
+use Rattle.evl_machine.specs.Actors.{AreHeldAt, IsActor, SeatedActor}
 use Rattle.evl_machine.specs.AtSeats.{AtSeat}
 use Rattle.evl_machine.specs.StaxSeats.{Clears, Enters, Leaves, LeavesSo, LeavesStax, TriesStax, leave_refusal, stax_refusal}
 use Rattle.evl_machine.proofs.SeatLists.{each-set}
@@ -72,10 +72,10 @@ left_held stage old new pass result left held = by (leave_refusal old pass) left
     by (Some refusal) (is, same) = subst (AreHeldAt stage) (sym same) held
 
 -- an actor whose seats at the staxes changed
-pub actor_at_staxes : (a : ActorState) (new : List SeatState) → IsActor a → AreHeldAt a.stage new → map (λ (s : SeatState). s.number) new ≡ map (λ (s : SeatState). s.number) a.staxes → IsActor (record a { staxes = new })
+pub actor_at_staxes : {C : Type 0} (a : SeatedActor C) (new : List SeatState) → IsActor a → AreHeldAt a.stage new → map (λ (s : SeatState). s.number) new ≡ map (λ (s : SeatState). s.number) a.staxes → IsActor (record a { staxes = new })
 actor_at_staxes a new is held same = record {
   held = held;
   awaits = is.awaits;
   staxes = subst (All (λ n. n ≡ a.thread.0)) (sym same) is.staxes;
-  mutexes = is.mutexes;
+  places = is.places;
 }

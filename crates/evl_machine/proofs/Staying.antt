@@ -19,7 +19,7 @@ use Rattle.evl_kernel.proofs.StageLaws.{stages_are, stages_stay}
 use Rattle.evl_machine.specs.declared.unfinished.Unfinished.{Unfinished}
 use Rattle.evl_machine.specs.declared.views.Account.{Account}
 use Rattle.evl_machine.specs.Accounts.{BeginsWith, Fits, IsAccount, calls_by}
-use Rattle.evl_machine.specs.Actors.{ActorState, AreHeldAt, AwaitsOneOf, ClaimsOneOf, IsActor, Suits, call_refusal, stage_in}
+use Rattle.evl_machine.specs.Actors.{ActorState, AreHeldAt, AwaitsOneOf, ClaimsOneOf, IsActor, SeatedActor, Suits, acting, call_refusal, stage_in}
 use Rattle.evl_machine.specs.StaxSeats.{holds_stax, is_held}
 use Rattle.evl_machine.specs.Unfinished.{unfinished, unfinished_from, wait_after, wait_step}
 use Rattle.evl_machine.specs.Calls.{Applied}
@@ -117,21 +117,21 @@ pub claims_none : (count : ℕ) (wait : Option Unfinished) (stax mutex : Bool) (
 claims_none count wait stax mutex (Claim id owner until) free = absurd (cc)
 claims_none count wait stax mutex _ free = tt
 
-abbrev pub knowing : ActorState → Stage → Option Unfinished → ActorState
+abbrev pub knowing : {C : Type 0} → SeatedActor C → Stage → Option Unfinished → SeatedActor C
 knowing a stage wait = record a { stage = stage; wait = wait }
 
-module _ {C : Type 0} (k k' : KernelView C) (a : ActorState) (c : Call) (r : Result Reply Refusal) (stage : Stage) (wait : Option Unfinished) where
+module _ {C : Type 0} (k k' : KernelView C) (a : SeatedActor C) (c : Call) (r : Result Reply Refusal) (stage : Stage) (wait : Option Unfinished) where
   -- an actor after a call of the kernel, once it knows its thread's stage and wait anew
-  pub actor_applied : IsActor a → Suits a k.history → (holds_stax a.staxes ≡ true → moves_caller (task_of c) ≡ false) → Applied k a.thread.0 c r k' → stage ≡ stage_in k'.history a.thread.0
-      → ClaimsOneOf (length a.mutexes) c → wait ≡ wait_after a.wait (wait_step c) r → IsActor (knowing a stage wait)
+  pub actor_applied : IsActor a → Suits (acting a) k.history → (holds_stax a.staxes ≡ true → moves_caller (task_of c) ≡ false) → Applied k a.thread.0 c r k' → stage ≡ stage_in k'.history a.thread.0
+      → ClaimsOneOf (length a.places) c → wait ≡ wait_after a.wait (wait_step c) r → IsActor (knowing a stage wait)
   actor_applied is suits stays done now claims after = record {
     held = held_still a.stage stage a.staxes is.held (λ holds. now ∙ (stage_applied k k' a.thread.0 c r done (stays holds) (makes_entry r) refl ∙ sym suits.stage));
-    awaits = subst (AwaitsOneOf (length a.mutexes)) (sym after) (awaits_after (length a.mutexes) a.wait c r is.awaits claims);
+    awaits = subst (AwaitsOneOf (length a.places)) (sym after) (awaits_after (length a.places) a.wait c r is.awaits claims);
     staxes = is.staxes;
-    mutexes = is.mutexes;
+    places = is.places;
   }
 
-  pub suits_applied : Suits a k.history → Applied k a.thread.0 c r k' → stage ≡ stage_in k'.history a.thread.0 → wait ≡ wait_after a.wait (wait_step c) r → Suits (knowing a stage wait) k'.history
+  pub suits_applied : Suits (acting a) k.history → Applied k a.thread.0 c r k' → stage ≡ stage_in k'.history a.thread.0 → wait ≡ wait_after a.wait (wait_step c) r → Suits (acting (knowing a stage wait)) k'.history
   suits_applied suits done now after = record {
     stage = now;
     wait = after ∙ (ap (λ w. wait_after w (wait_step c) r) suits.wait ∙ sym (wait_applied k k' a.thread.0 c r done (makes_entry r) refl));

@@ -1,32 +1,40 @@
 -- A caller that took the kernel and gave it back: what is told of it, and what it is afterwards.
-use Rattle.std.proofs.Common.{◌≡◌, ◌++◌, ℕ, zero, suc, List, [], ◌∷◌, map, refl, sym, ap, ◌∙◌, subst}
-use Rattle.std.specs.Prelude.{All}
-use Rattle.std.proofs.lemmas.Option.{none-some}
+use Rattle.std.proofs.Common.{◌≡◌, ◌++◌, ℕ, List, [], Result, map, MatchOption, Option, Some, None, slice_get, refl, sym, ap, ◌∙◌, subst}
+use Rattle.std.specs.List.{range_with_len}
+use Rattle.std.specs.Option.{option_map}
+use Rattle.std.proofs.lemmas.Option.{none-some, same_Some, slice_get-map}
 use Rattle.atomic_table.specs.Seated.{TableId}
-use Rattle.evl_base.specs.declared.mutex_kind.MutexKind.{MutexKind}
+use Rattle.evl_base.specs.declared.call.Call.{Call}
 use Rattle.evl_base.specs.declared.numbers.ThreadId.{ThreadId}
+use Rattle.evl_base.specs.declared.refusal.Refusal.{Refusal}
+use Rattle.evl_base.specs.declared.reply.Reply.{Reply}
 use Rattle.evl_pipeline.specs.declared.plan.Plan.{Plan}
 use Rattle.evl_kernel.specs.Callbacks.{AnswersAsTold}
 use Rattle.evl_kernel.specs.Histories.{History, IsLegal}
 use Rattle.evl_kernel.specs.KernelViews.{KernelView}
-use Rattle.evl_words.specs.MutexCalls.{MutexSeatState, MutexState}
+use Rattle.evl_words.specs.MutexCalls.{MutexSeatState}
+use Rattle.evl_words.specs.declared.mutex.place.MutexPlace.{MutexPlace}
 use Rattle.evl_machine.specs.declared.views.Account.{Account}
 use Rattle.evl_machine.specs.Accounts.{Fits, IsAccount, MadeBy, calls_by, informed, saw}
-use Rattle.evl_machine.specs.Actors.{ActorState, AreHeldAt, AwaitsOneOf, IsActor, Suits, stage_in}
-use Rattle.evl_machine.specs.Calls.{IsCaller, IsHeld}
-use Rattle.evl_machine.specs.Events.{Gives, Takes}
-use Rattle.evl_machine.specs.Handles.{CallerState, Continues, MachineState, account_of, caller_of, machine_of, shown}
-use Rattle.evl_machine.specs.Homes.{Home, mutex_home, stax_home, word_home}
-use Rattle.evl_machine.specs.Known.{ComesFrom, KernelMe, first_of, seen}
+use Rattle.evl_machine.specs.Actors.{ActorState, AreHeldAt, AwaitsOneOf, IsActor, IsSameActor, SeatedActor, Suits, acting, stage_in}
+use Rattle.evl_machine.specs.Callers.{HasInHand, IsResting, caller_by, machine_by}
+use Rattle.evl_machine.specs.Calls.{ActsOnCore, Answered, Applied, IsCaller, IsHeld, TookKernel}
+use Rattle.evl_machine.specs.Events.{FailsToTake, Gives, Takes}
+use Rattle.evl_machine.specs.Handles.{CallerState, Continues, HeldState, MachineState, account_of, caller_of, machine_of, returned, shown}
+use Rattle.evl_machine.specs.Homes.{Home, mutex_home, stax_home, word_home, word_homes}
+use Rattle.evl_machine.specs.Known.{ComesFrom, KernelMe, first_of, mutex_count, seen}
 use Rattle.evl_machine.specs.Locking.{GoesAlong, HaveSeats}
 use Rattle.evl_machine.specs.InHand.{Opens}
+use Rattle.evl_machine.specs.MutexTokens.{IsAtTable, KeepsPlaces, TellsTheSame}
+use Rattle.evl_machine.specs.Seats.{CoreMe}
 use Rattle.evl_machine.specs.Unfinished.{unfinished}
-use Rattle.evl_machine.specs.Visits.{Visited, actor_of}
+use Rattle.evl_machine.specs.Visits.{FindsTaken, Visited, actor_of}
 use Rattle.evl_machine.proofs.Accounts.{goes_on_more, made_by-append}
-use Rattle.evl_machine.proofs.Calling.{TakenOut, fits_one, given_account, is_held, mine_after, takes_hold}
+use Rattle.evl_machine.proofs.Calling.{TakenOut, calls, fits_one, given_account, held_applied, is_held, mine_after, takes_hold, took_and_gave}
 use Rattle.evl_machine.proofs.Knowing.{answers_still, comes_on}
+use Rattle.evl_machine.proofs.LockingLaws.{along_call, along_none, same_kernel, the_same}
 use Rattle.evl_machine.proofs.QuietCore.{ends_quiet}
-use Rattle.evl_machine.proofs.SeatLists.{same-length}
+use Rattle.evl_machine.proofs.SeatsAt.{at_own_table, still_at_table}
 use Rattle.evl_machine.proofs.Staying.{at_stage, fits_stage, suits_found}
 
 module _ {C : Type 0} where
@@ -41,6 +49,15 @@ module _ {C : Type 0} where
     fits = subst (Fits k.history) knows (fits_one (account_of (seen me)) k (seen me) (seen me') is.rests taken);
     was = subst IsAccount knows is.account;
   }
+
+  -- what came of a take of an actor at rest
+  pub opens_or_not : (x a : SeatedActor C) (me : KernelMe C) (out : Option (KernelView C)) → x ≡ a → IsCaller (seen a.me) a.thread → MatchOption out (seen me ≡ seen x.me) (λ k. TakenOut (seen x.me) k (seen me) × ComesFrom (first_of x.me.0) k) → first_of me.0 ≡ first_of x.me.0
+      → MatchOption out (seen me ≡ seen a.me) (λ k. Opens (first_of a.me.0) (account_of (seen a.me)) a.thread me k)
+  opens_or_not x a me out is rests took from = subst (λ (z : SeatedActor C). IsCaller (seen z.me) z.thread → MatchOption out (seen me ≡ seen z.me) (λ k. Opens (first_of z.me.0) (account_of (seen z.me)) z.thread me k)) is (by out took) rests
+    where
+      by : (o : Option (KernelView C)) → MatchOption o (seen me ≡ seen x.me) (λ k. TakenOut (seen x.me) k (seen me) × ComesFrom (first_of x.me.0) k) → IsCaller (seen x.me) x.thread → MatchOption o (seen me ≡ seen x.me) (λ k. Opens (first_of x.me.0) (account_of (seen x.me)) x.thread me k)
+      by None same rests = same
+      by (Some k) took rests = opens_by (first_of x.me.0) (account_of (seen x.me)) x.thread x.me me k rests refl refl took.0 took.1 from
 
   pub opened_answers : {declared : C → ℕ} {plan : C → Plan} (first : KernelView C) (a : Account) (thread : ThreadId) (me : KernelMe C) (k : KernelView C) → Opens first a thread me k → AnswersAsTold declared plan first.callbacks → AnswersAsTold declared plan k.callbacks
   opened_answers {declared} {plan} first a thread me k opens answers = answers_still declared plan first k opens.comes answers
@@ -147,29 +164,157 @@ module _ {C : Type 0} where
       pub stage_at : (a' : Account) → a' ≡ informed k'.history (account_of (seen me)) → AreHeldAt (stage_in a'.seen a'.thread) x'.staxes
       stage_at a' is = stage_after a' (is ∙ ap (informed k'.history) opens.account)
 
--- where each word has so many seats, so has each seat that is at home at one of them
-have_seats : (threads : ℕ) (kinds : List MutexKind) (words : List MutexState) (seats : List MutexSeatState) → map mutex_home seats ≡ map word_home words → map (λ (w : MutexState). w.seats) words ≡ map (λ kind. threads) kinds → HaveSeats threads seats
-have_seats threads kinds words [] homes counts i s there = absurd (none-some s there)
-have_seats threads kinds [] (x ∷ xs) homes counts i s there = absurd (cc)
-have_seats threads [] (w ∷ ws) (x ∷ xs) homes counts i s there = absurd (cc)
-have_seats threads (kind ∷ kinds) (w ∷ ws) (x ∷ xs) homes counts zero s there =
-    let first : mutex_home x ≡ word_home w = cc in
-    let count : w.seats ≡ threads = cc in
-    let same : x ≡ s = cc in
-    ap (λ (s : MutexSeatState). s.view.held.seats) (sym same) ∙ (ap (λ (h : Home). h.bound) first ∙ count)
-have_seats threads (kind ∷ kinds) (w ∷ ws) (x ∷ xs) homes counts (suc i) s there =
-    let others : map mutex_home xs ≡ map word_home ws = cc in
-    let rest : map (λ (w : MutexState). w.seats) ws ≡ map (λ kind. threads) kinds = cc in
-    have_seats threads kinds ws xs others rest i s there
+-- each seat at home at words for so many threads is one of so many
+pub have_seats : (table : TableId) (threads count : ℕ) (seats : List MutexSeatState) → map mutex_home seats ≡ word_homes table threads count → HaveSeats threads seats
+have_seats table threads count seats homes i s there =
+    by (slice_get (range_with_len 0 count) i) (sym (ap (option_map mutex_home) there) ∙ sym (slice_get-map mutex_home seats i) ∙ ap (λ (hs : List Home). slice_get hs i) homes ∙ slice_get-map (word_home table threads) (range_with_len 0 count) i)
+  where
+    by : (o : Option ℕ) → Some (mutex_home s) ≡ option_map (word_home table threads) o → s.view.held.seats ≡ threads
+    by None is = absurd (none-some (mutex_home s) (sym is))
+    by (Some j) is = ap (λ (h : Home). h.bound) (same_Some (mutex_home s) (word_home table threads j) is)
 
-pub have_seats_of : (threads now : ℕ) (kinds : List MutexKind) (words : List MutexState) (seats : List MutexSeatState) → threads ≡ now → map mutex_home seats ≡ map word_home words → map (λ (w : MutexState). w.seats) words ≡ map (λ kind. threads) kinds → HaveSeats now seats
-have_seats_of threads now kinds words seats same homes counts = subst (λ n. HaveSeats n seats) same (have_seats threads kinds words seats homes counts)
+-- who acts for a thread: at rest, once it has taken the kernel, once it has done something with it, and at rest again
+module _ {C : Type 0} (x o : SeatedActor C) (k : KernelView C) (opens : Opens (first_of x.me.0) (account_of (seen x.me)) x.thread o.me k) (suits : Suits (acting x) (account_of (seen x.me)).seen) (same : acting o ≡ acting x) where
+  pub suits_opened : Suits (acting o) k.history
+  suits_opened = subst (λ (z : ActorState). Suits z k.history) (sym same) (opened_suits (first_of x.me.0) (account_of (seen x.me)) (acting x) o.me k opens suits)
 
--- seats at the same homes and of the same numbers are an actor's again
-pub actor_at_mutexes : (a : ActorState) (new : List MutexSeatState) → IsActor a → map mutex_home new ≡ map mutex_home a.mutexes → map (λ (s : MutexSeatState). s.number) new ≡ map (λ (s : MutexSeatState). s.number) a.mutexes → IsActor (record a { mutexes = new })
-actor_at_mutexes a new is homes same = record {
+  module _ (x' : SeatedActor C) (k' : KernelView C) (core : TellsTheSame o.me x'.me) (went : GoesAlong (acting o) k (acting x') k') where
+    along : GoesAlong (acting x) k (acting x') k'
+    along = subst (λ (z : ActorState). GoesAlong z k (acting x') k') same went
+
+    pub has_still : IsHeld (seen x'.me) x'.thread k'
+    has_still = subst (λ (z : CoreMe (KernelView C) × ThreadId). IsHeld z.0 z.1 k') (λ i. (sym core.core i, sym along.thread i)) (still_held (first_of x.me.0) (account_of (seen x.me)) (acting x) o.me k opens (acting x') k' along)
+
+    pub comes_still : ComesFrom (first_of x'.me.0) k'
+    comes_still = subst (λ (f : KernelView C). ComesFrom f k') (sym (core.first ∙ opens.first_is)) (still_comes (first_of x.me.0) (account_of (seen x.me)) (acting x) o.me k opens (acting x') k' along)
+
+    module _ (n : SeatedActor C) (given : (n.table ≡ x'.table) × (acting n ≡ acting x') × (first_of n.me.0 ≡ first_of x'.me.0)) (now : account_of (seen n.me) ≡ informed k'.history (account_of (seen x'.me))) where
+      account : account_of (seen n.me) ≡ informed k'.history (account_of (seen o.me))
+      account = now ∙ ap (λ (m : CoreMe (KernelView C)). informed k'.history (account_of m)) core.core
+
+      pub stage_back : AreHeldAt (stage_in (account_of (seen n.me)).seen (account_of (seen n.me)).thread) n.staxes
+      stage_back = subst (λ (z : ActorState). AreHeldAt (stage_in (account_of (seen n.me)).seen (account_of (seen n.me)).thread) z.staxes) (sym given.1)
+          (stage_at (first_of x.me.0) (account_of (seen x.me)) (acting x) o.me k opens (acting x') k' along (account_of (seen n.me)) account)
+
+      pub suits_back : Suits (acting n) (account_of (seen n.me)).seen
+      suits_back = subst (λ (z : ActorState). Suits z (account_of (seen n.me)).seen) (sym given.1)
+          (suits_after (first_of x.me.0) (account_of (seen x.me)) (acting x) o.me k opens (acting x') k' along (account_of (seen n.me)) (account ∙ ap (informed k'.history) opens.account))
+
+      pub visited_by : (does : ActorState → KernelView C → ActorState → KernelView C → Type 0) (old : CallerState C) → caller_by x ≡ old → o.table ≡ x.table → x'.table ≡ o.table → does (acting o) k (acting x') k'
+          → Takes (first_of x.me.0) (account_of (seen x.me)) (account_of (seen o.me)) → Gives (first_of x'.me.0) (account_of (seen x'.me)) k' (account_of (seen n.me)) → Visited old does (caller_by n)
+      visited_by does old was opened stayed did took gave =
+          let a = account_of (seen n.me) in
+          let first : first_of n.me.0 ≡ first_of o.me.0 = given.2 ∙ core.first in
+          let gives : Gives (first_of o.me.0) (account_of (seen o.me)) k' a = subst (λ (z : KernelView C × CoreMe (KernelView C)). Gives z.0 (account_of z.1) k' a) (λ i. (core.first i, core.core i)) gave in
+          subst (λ (z : ActorState). Visited old does (caller_of (machine_of n.table (first_of n.me.0) z.staxes z.mutexes) a z.staxes z.mutexes)) (sym given.1)
+          (visited_at (first_of x.me.0) (account_of (seen x.me)) (acting x) o.me k opens (acting x') k' along x.table n.table (first_of n.me.0) does a old was (given.0 ∙ stayed ∙ opened) first suits account
+          (subst (λ (z : ActorState). does z k (acting x') k') same did) took gives)
+
+-- a caller that didn't find the kernel is as it was
+module _ {C : Type 0} (x n : SeatedActor C) (same : (n.table ≡ x.table) × (acting n ≡ acting x) × (first_of n.me.0 ≡ first_of x.me.0)) (kept : n.thread ≡ x.thread) (knows : seen n.me ≡ seen x.me) where
+  pub caller_same : caller_by n ≡ caller_by x
+  caller_same = λ i. caller_of (machine_of (same.0 i) (same.2 i) (same.1 i).staxes (same.1 i).mutexes) (account_of (knows i)) (same.1 i).staxes (same.1 i).mutexes
+
+  pub suits_same : Suits (acting x) (account_of (seen x.me)).seen → Suits (acting n) (account_of (seen n.me)).seen
+  suits_same suits = subst (λ (z : ActorState × CoreMe (KernelView C)). Suits z.0 (account_of z.1).seen) (λ i. (sym same.1 i, sym knows i)) suits
+
+  pub resting_same : IsResting x → IsResting n
+  resting_same is = (subst (λ (z : CoreMe (KernelView C) × ThreadId). IsCaller z.0 z.1) (λ i. (sym knows i, sym kept i)) is.0, suits_same is.1)
+
+  pub finds_taken : (old : CallerState C) → caller_by x ≡ old → FailsToTake (first_of x.me.0) (account_of (seen x.me)) (account_of (seen n.me)) → FindsTaken old (caller_by n)
+  finds_taken old was fails = subst (λ (z : CallerState C). FindsTaken z (caller_by n)) was (caller_same, fails)
+
+-- held staxes are held at the stage of the caller's thread, where it is at rest
+pub stage_resting : {C : Type 0} (a : SeatedActor C) → AreHeldAt a.stage a.staxes → IsResting a → AreHeldAt (stage_in (account_of (seen a.me)).seen (account_of (seen a.me)).thread) a.staxes
+stage_resting a held rests = at_stage (acting a) (account_of (seen a.me)).seen (account_of (seen a.me)).thread a.staxes held rests.1 rests.0.own
+
+-- a call of the kernel is something that may be done with it
+module _ {C : Type 0} where
+  pub none_along : (o : SeatedActor C) (k : KernelView C) → Suits (acting o) k.history → AreHeldAt o.stage o.staxes → IsLegal k.history → GoesAlong (acting o) k (acting o) k
+  none_along o k suits held legal = along_none (acting o) (acting o) refl k k (acting o).mutexes (same_kernel k) held suits legal (the_same (acting o).mutexes)
+
+  pub call_along : (o x' : SeatedActor C) (k k' : KernelView C) (c : Call) (r : Result Reply Refusal) → Applied k o.thread.0 c r k' → IsSameActor (acting o) (acting x') → Suits (acting x') k'.history → AreHeldAt x'.stage x'.staxes → GoesAlong (acting o) k (acting x') k'
+  call_along o x' k k' c r done same suits held = along_call (acting o) (acting o) refl k k (acting o).mutexes c r (acting x') k' (same_kernel k) (the_same (acting o).mutexes) done same suits held
+
+  pub same_core : (me me' : KernelMe C) → me' ≡ me → TellsTheSame me me'
+  same_core me me' same = record { core = ap seen same; first = ap (λ (m : KernelMe C). first_of m.0) same }
+
+  module _ (first : KernelView C) (a : Account) (thread : ThreadId) (me : KernelMe C) (k : KernelView C) (opens : Opens first a thread me k) (c : Call) (r : Result Reply Refusal) (k' : KernelView C) (done : Applied k thread.0 c r k') where
+    own_call : Applied k a.thread c r k'
+    own_call = subst (λ (t : ℕ). Applied k t c r k') (sym opens.held.own ∙ ap (λ (y : Account). y.thread) opens.account) done
+
+    -- what is told of the call
+    pub called_by : (a' : Account) → a' ≡ informed k'.history (account_of (seen me)) → Answered first.limit a c r a'
+    called_by a' now = subst (λ (y : Account). Answered first.limit a c r y) (sym (now ∙ ap (informed k'.history) opens.account))
+        (calls first.limit a c r k k' opens.comes.limit opens.was opens.fits (subst IsAccount opens.account opens.held.continues.before) own_call)
+
+    pub acted_by : (me' : KernelMe C) (a' : Account) → me' ≡ me → Takes first a (account_of (seen me)) → Gives (first_of me'.0) (account_of (seen me')) k' a' → ActsOnCore first a r a'
+    acted_by me' a' same took gave = took_and_gave first (first_of me'.0) a (account_of (seen me)) a' r k' done.answers took (ap (λ (m : KernelMe C). first_of m.0) same ∙ opens.first_is) (subst (λ (m : KernelMe C). Gives (first_of me'.0) (account_of (seen m)) k' a') same gave)
+
+-- an actor whose token has changed, and keeps its places
+pub actor_kept : {C : Type 0} (a : SeatedActor C) (table : TableId) (me : KernelMe C) → IsActor a → table ≡ a.table → first_of me.0 ≡ first_of a.me.0 → KeepsPlaces a.me.0 me.0 → IsActor (record a { table = table; me = me })
+actor_kept a table me is same from kept = record {
   held = is.held;
-  awaits = subst (λ n. AwaitsOneOf n a.wait) (sym (same-length mutex_home mutex_home new a.mutexes homes)) is.awaits;
+  awaits = is.awaits;
   staxes = is.staxes;
-  mutexes = subst (All (λ n. n ≡ a.thread.0)) (sym same) is.mutexes;
+  places = still_at_table a.table (first_of a.me.0) (first_of me.0) table a.me.0 me.0 a.places same from kept is.places;
 }
+
+-- an actor after a step on a mutex's word
+pub actor_at_mutexes : {C : Type 0} (a : SeatedActor C) (id : TableId) (first : KernelView C) (table : TableId) (me : KernelMe C) (places : List MutexPlace) → IsActor a → a.table ≡ id → first_of a.me.0 ≡ first → TellsTheSame a.me me → IsAtTable id first table me.0 places → IsActor (record a { table = table; me = me; places = places })
+actor_at_mutexes a id first table me places is same from core at = record {
+  held = is.held;
+  awaits = subst (λ n. AwaitsOneOf n a.wait) (is.places.all ∙ ap mutex_count from ∙ sym at.all) is.awaits;
+  staxes = is.staxes;
+  places = at_own_table a id first table me places same (core.first ∙ from) at;
+}
+
+-- an actor that has the kernel, after a call of it
+pub held_call : {C : Type 0} (m : MachineState C) (a a' : SeatedActor C) (k k' : KernelView C) (c : Call) (r : Result Reply Refusal) → HasInHand m a k → (a'.table ≡ a.table) × (a'.me ≡ a.me) × (a'.places ≡ a.places) → IsSameActor (acting a) (acting a')
+    → Applied k a.thread.0 c r k' → Suits (acting a') k'.history → HasInHand m a' k'
+held_call {C} m a a' k k' c r has seat same done suits = (
+  has.0 ∙ (λ i. machine_of (sym seat.0 i) (first_of (sym seat.1 i).0) (sym same.staxes i) (sym same.mutexes i)),
+  subst (λ (z : KernelMe C × ThreadId). IsHeld (seen z.0) z.1 k') (λ i. (sym seat.1 i, sym same.thread i)) (held_applied (seen a.me) a.thread c r k k' has.1 done),
+  subst (λ (z : KernelMe C). ComesFrom (first_of z.0) k') (sym seat.1) (comes_on (first_of a.me.0) k k' has.2 done.comes),
+  suits,
+)
+
+-- and before any call of it
+pub has_taken_it : {C : Type 0} (m : MachineState C) (x o : SeatedActor C) (k : KernelView C) (opens : Opens (first_of x.me.0) (account_of (seen x.me)) x.thread o.me k) → Suits (acting x) (account_of (seen x.me)).seen → (o.table ≡ x.table) × (acting o ≡ acting x) × (first_of o.me.0 ≡ first_of x.me.0) → o.thread ≡ x.thread
+    → machine_by x ≡ m → HasInHand m o k
+has_taken_it {C} m x o k opens suits same kept is = (
+  sym is ∙ (λ i. machine_of (sym same.0 i) (sym same.2 i) (sym same.1 i).staxes (sym same.1 i).mutexes),
+  subst (λ (t : ThreadId). IsHeld (seen o.me) t k) (sym kept) opens.held,
+  subst (λ (f : KernelView C). ComesFrom f k) (sym same.2) opens.comes,
+  suits_opened x o k opens suits same.1,
+)
+
+pub took_it : {C : Type 0} (m : MachineState C) (x o : SeatedActor C) (k : KernelView C) (old : CallerState C) → Opens (first_of x.me.0) (account_of (seen x.me)) x.thread o.me k → acting o ≡ acting x → caller_by x ≡ old → old.machine ≡ m
+    → TookKernel old (record { caller = caller_of m (account_of (seen o.me)) o.staxes (acting o).mutexes; kernel = k })
+took_it {C} m x o k old opens same was is =
+    let a = account_of (seen x.me) in
+    subst (λ (z : CallerState C). TookKernel z (record { caller = caller_of m (account_of (seen o.me)) o.staxes (acting o).mutexes; kernel = k })) was
+    record {
+      caller = λ i. caller_of (sym (ap (λ (s : CallerState C). s.machine) was ∙ is) i) (opens.account i) (same i).staxes (same i).mutexes;
+      later = opens.fits.seen;
+      just = opens.held.continues.before;
+      stage = fits_stage a k.history opens.was opens.fits;
+      comes = opens.comes;
+      quiet = ends_quiet k.history opens.held.continues.legal;
+    }
+
+-- an actor that has given the kernel back
+module _ {C : Type 0} (m : MachineState C) (a n : SeatedActor C) (k : KernelView C) (has : HasInHand m a k) (given : (n.table ≡ a.table) × (acting n ≡ acting a) × (first_of n.me.0 ≡ first_of a.me.0)) (now : account_of (seen n.me) ≡ informed k.history (account_of (seen a.me))) where
+  pub given_suits : Suits (acting n) (account_of (seen n.me)).seen
+  given_suits = subst (λ (z : ActorState × Account). Suits z.0 z.1.seen) (λ i. (sym given.1 i, sym now i)) has.3
+
+  pub given_back : (h : HeldState C) → record { caller = caller_of m (account_of (seen a.me)) a.staxes (acting a).mutexes; kernel = k } ≡ h → caller_by n ≡ returned h.kernel.history h.caller
+  given_back h is =
+      (λ i. caller_of ((machine ∙ sym has.0) i) (now i) (given.1 i).staxes (given.1 i).mutexes) ∙ ap (λ (h : HeldState C). returned h.kernel.history h.caller) is
+    where
+      machine : machine_by n ≡ machine_by a
+      machine = λ i. machine_of (given.0 i) (given.2 i) (given.1 i).staxes (given.1 i).mutexes
+
+  pub given_event : (h : HeldState C) → record { caller = caller_of m (account_of (seen a.me)) a.staxes (acting a).mutexes; kernel = k } ≡ h → Gives (first_of a.me.0) (account_of (seen a.me)) k (account_of (seen n.me)) → Gives h.caller.machine.first h.caller.account h.kernel (account_of (seen n.me))
+  given_event h is gave = subst (λ (h : HeldState C). Gives h.caller.machine.first h.caller.account h.kernel (account_of (seen n.me))) is
+      (subst (λ (f : KernelView C). Gives f (account_of (seen a.me)) k (account_of (seen n.me))) (sym (ap (λ (m : MachineState C). m.first) has.0)) gave)

@@ -13,16 +13,17 @@ use Rattle.evl_machine.specs.declared.unfinished.Unfinished.TheVariants.{Element
 use Rattle.evl_machine.specs.declared.unfinished.WaitStep.{WaitStep}
 use Rattle.evl_machine.specs.declared.unfinished.WaitStep.TheVariants.{Begins}
 use Rattle.evl_machine.specs.declared.views.Account.{Account}
-use Rattle.evl_machine.specs.Accounts.{informed}
-use Rattle.evl_machine.specs.Actors.{ActorState, call_refusal, keeps_stage, same_truth}
-use Rattle.evl_machine.specs.Calls.{Called, Enters, IsCaller, KernelCall, own_refusal, wait_of_caller}
-use Rattle.evl_machine.specs.Handles.{CallerState, account_of, seated}
+use Rattle.evl_machine.specs.Accounts.{IsAccount, informed}
+use Rattle.evl_machine.specs.Actors.{SeatedActor, call_refusal, keeps_stage, same_truth}
+use Rattle.evl_machine.specs.Calls.{Called, Enters, KernelCall, own_refusal, wait_of_caller}
+use Rattle.evl_machine.specs.Handles.{CallerState, account_of}
+use Rattle.evl_machine.specs.InHand.{Opens}
+use Rattle.evl_machine.specs.Known.{KernelMe, seen}
 use Rattle.evl_machine.specs.MutexSeats.{holds_mutex}
-use Rattle.evl_machine.specs.Seats.{CoreMe}
 use Rattle.evl_machine.specs.StaxSeats.{holds_stax}
 use Rattle.evl_machine.specs.Unfinished.{unfinished, unfinished_from, wait_after, wait_step}
 use Rattle.evl_machine.specs.Waitings.{Look, Looked, Looks, LooksBy, WaitsOut, begins_wait, finish_of}
-use Rattle.evl_machine.proofs.Calling.{TakenOut, fits_one, takes_hold, took, took_account}
+use Rattle.evl_machine.proofs.Calling.{took}
 use Rattle.evl_machine.proofs.Staying.{fits_stage}
 
 looks_by_more : (a : Account) (xs : List Account) (b : Account) (ys : List Account) (c : Account) → LooksBy a xs b → LooksBy b ys c → LooksBy a (xs ++ ys) c
@@ -39,26 +40,25 @@ mine_stays a [] b same = ap (λ (x : Account). x.mine) same
 mine_stays a (x ∷ xs) b (first, rest) = mine_stays x xs b rest ∙ ap (λ (y : Account). y.mine) first.now
 
 module _ {C : Type 0} where
-  -- the seat after a take and a give, between which no call was made
-  pub look : (me me' me'' : CoreMe (KernelView C)) (thread : ThreadId) (k : KernelView C) → IsCaller me thread → TakenOut me k me' → has_ended k.history.state thread.0 ≡ false → me'' ≡ seated (informed k.history (account_of me')) → Looks (account_of me) (account_of me'')
-  look me me' me'' thread k is t going now =
-      let a = account_of me in
-      let f = fits_one a k me me' is.rests t in
-      let taken : account_of me' ≡ took k a = ap account_of (takes_hold a k me me' is.rests t) in
-      let same : account_of me'' ≡ took k a = ap account_of now ∙ (ap (informed k.history) taken ∙ (λ i. record (took k a) { mine = f.mine i })) in
+  -- what a caller knows that took the kernel and gave it back, between which no call was made
+  pub look_opened : (first : KernelView C) (a : Account) (thread : ThreadId) (me : KernelMe C) (k : KernelView C) → Opens first a thread me k → has_ended k.history.state thread.0 ≡ false → (a' : Account) → a' ≡ informed k.history (account_of (seen me)) → Looks a a'
+  look_opened first a thread me k opens going a' now =
+      let f = opens.fits in
+      let own : a.thread ≡ thread.0 = sym (ap (λ (y : Account). y.thread) opens.account) ∙ opens.held.own in
+      let same : a' ≡ took k a = now ∙ (ap (informed k.history) opens.account ∙ (λ i. record (took k a) { mine = f.mine i })) in
       let one : Look a (took k a) = record {
         room = k.room;
         now = refl;
         later = f.seen;
-        stage = fits_stage a k.history is.account f;
-        goes_on = ap (has_ended k.history.state) is.own ∙ going;
-        account = took_account a k me me' is.rests is.account t;
+        stage = fits_stage a k.history opens.was f;
+        goes_on = ap (has_ended k.history.state) own ∙ going;
+        account = subst IsAccount opens.account opens.held.continues.before;
       } in
       subst (Looks a) (sym same) (took k a ∷ [], (one, refl))
 
   -- what the kernel's reader told of a wait
-  pub goes_on : (k read : KernelView C) (x a : ActorState) (b : Bool) → x ≡ a → read ≡ k → b ≡ has_ended read.history.state x.thread.0 → b ≡ false → has_ended k.history.state a.thread.0 ≡ false
-  goes_on k read x a b are same told is = subst (λ (z : ActorState). has_ended k.history.state z.thread.0 ≡ false) are (ap (λ (k : KernelView C). has_ended k.history.state x.thread.0) (sym same) ∙ (sym told ∙ is))
+  pub goes_on : (k read : KernelView C) (x a : SeatedActor C) (b : Bool) → x ≡ a → read ≡ k → b ≡ has_ended read.history.state x.thread.0 → b ≡ false → has_ended k.history.state a.thread.0 ≡ false
+  goes_on k read x a b are same told is = subst (λ (z : SeatedActor C). has_ended k.history.state z.thread.0 ≡ false) are (ap (λ (k : KernelView C). has_ended k.history.state x.thread.0) (sym same) ∙ (sym told ∙ is))
 
 keeps_as_held : (keep : Bool) → (if not (same_truth keep keep) then Some Invalid else None) ≡ None
 keeps_as_held true = refl

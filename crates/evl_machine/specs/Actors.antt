@@ -1,4 +1,4 @@
--- What a caller has beside its seat at the core: its thread, the thread's stage and unfinished wait, and its seats at the staxes and mutexes.
+-- Who acts for a thread: its token at the core's table, the thread's stage and unfinished wait, and its seats at the staxes and mutexes.
 use Rattle.std.specs.Prelude.{◌≡◌, ℕ, ◌<◌, ◌||◌, not, Bool, true, false, List, length, All, map, Option, Some, None, if◌then◌else◌, slice_get}
 use Rattle.evl_base.specs.declared.call.Call.{Call}
 use Rattle.evl_base.specs.declared.call.Call.TheVariants.{Attach, Detach, SetStage, Claim, Release, Raise, Finish}
@@ -10,9 +10,13 @@ use Rattle.evl_sched.specs.Threads.{stage_of}
 use Rattle.evl_kernel.specs.Histories.{History}
 use Rattle.evl_words.specs.GateCalls.{SeatState}
 use Rattle.evl_words.specs.MutexCalls.{MutexSeatState}
+use Rattle.evl_words.specs.declared.mutex.place.MutexPlace.{MutexPlace}
+use Rattle.atomic_table.specs.Seated.{TableId}
 use Rattle.evl_machine.specs.declared.unfinished.Unfinished.{Unfinished}
 use Rattle.evl_machine.specs.declared.unfinished.Unfinished.TheVariants.{Mutex}
 use Rattle.evl_machine.specs.Accounts.{calls_by}
+use Rattle.evl_machine.specs.Known.{KernelMe, first_of}
+use Rattle.evl_machine.specs.MutexTokens.{IsAtTable, seats_at}
 use Rattle.evl_machine.specs.Unfinished.{unfinished}
 
 -- the stage of a thread at the end of a history
@@ -39,12 +43,26 @@ abbrev pub ClaimsOneOf : ℕ → Call → Type 0
 ClaimsOneOf count (Claim mutex owner until) = mutex.0 < count
 ClaimsOneOf count _ = Unit {0}
 
--- its seats are those of its thread, it waits for no mutex but one of those, and at its stage it holds staxes
-pub record IsActor (a : ActorState) : Type 0 where
+-- its token at the core's table, and what it has beside it
+pub record SeatedActor (C : Type 0) : Type 0 where
+  pub table : TableId
+  pub me : KernelMe C
+  pub thread : ThreadId
+  pub stage : Stage
+  pub wait : Option Unfinished
+  pub staxes : List SeatState
+  pub places : List MutexPlace
+
+-- what a contract reads of it: its token and its places are its seats at the mutexes
+abbrev pub acting : {C : Type 0} → SeatedActor C → ActorState
+acting a = record { thread = a.thread; stage = a.stage; wait = a.wait; staxes = a.staxes; mutexes = seats_at a.table a.me.0 a.places }
+
+-- its seats are those of its thread, its places those of its token, it waits for no mutex but one of those, and at its stage it holds staxes
+pub record IsActor {C : Type 0} (a : SeatedActor C) : Type 0 where
   pub held : AreHeldAt a.stage a.staxes
-  pub awaits : AwaitsOneOf (length a.mutexes) a.wait
+  pub awaits : AwaitsOneOf (length a.places) a.wait
   pub staxes : All (λ n. n ≡ a.thread.0) (map (λ s. s.number) a.staxes)
-  pub mutexes : All (λ n. n ≡ a.thread.0) (map (λ s. s.number) a.mutexes)
+  pub places : IsAtTable a.table (first_of a.me.0) a.table a.me.0 a.places
 
 -- it acts for the same thread and has the same seats
 pub record IsSameActor (old new : ActorState) : Type 0 where

@@ -13,7 +13,7 @@ use Rattle.evl_machine.specs.Accounts.{BeginsWith, IsAccount}
 use Rattle.evl_machine.specs.Events.{FailsToTake, Gives, Takes}
 use Rattle.evl_machine.specs.Seats.{CoreMe}
 use Rattle.evl_machine.specs.QuietCore.{IsQuiet}
-use Rattle.evl_machine.specs.Known.{ComesFrom, CoreHand, accounts_in, taken_in, first_of}
+use Rattle.evl_machine.specs.Known.{ComesFrom}
 use Rattle.evl_base.specs.declared.stage.Stage.{Stage}
 use Rattle.evl_machine.specs.declared.unfinished.Unfinished.{Unfinished}
 use Rattle.evl_machine.specs.Unfinished.{unfinished}
@@ -39,25 +39,6 @@ pub record IsCaller {S : Type 0} (me : CoreMe S) (thread : ThreadId) : Type 0 wh
   pub rests : me ≡ seated (account_of me)
   pub own : (account_of me).thread ≡ thread.0
   pub account : IsAccount (account_of me)
-
-module _ {C : Type 0} where
-  abbrev pub hand_in : List (CoreHand C) → CoreHand C
-  hand_in [] = []
-  hand_in (h ∷ hs) = h
-
-  abbrev pub account_in : List (CoreHand C) → Account
-  account_in views = first_account (accounts_in (hand_in views))
-
-  abbrev pub first_in : List (CoreHand C) → KernelView C
-  first_in views = first_of (hand_in views)
-
--- a caller's badge is at rest, with the account of its own thread
-pub record IsAtRest {C : Type 0} (views : List (CoreHand C)) (thread : ThreadId) : Type 0 where
-  pub one : views ≡ hand_in views ∷ []
-  pub idle : taken_in (hand_in views) ≡ None
-  pub rests : accounts_in (hand_in views) ≡ account_in views ∷ []
-  pub own : (account_in views).thread ≡ thread.0
-  pub account : IsAccount (account_in views)
 
 -- the answers that have an entry: all but NoMemory, HistoryFull and CoreBusy
 abbrev pub refusal_completes : Refusal → Bool

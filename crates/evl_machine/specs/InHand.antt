@@ -1,19 +1,14 @@
--- What a caller's badge tells, and what it has in hand once it took the kernel.
-use Rattle.std.specs.Prelude.{◌≡◌, List}
+-- What a caller has in hand once it took the kernel.
+use Rattle.std.specs.Prelude.{◌≡◌}
 use Rattle.evl_base.specs.declared.numbers.ThreadId.{ThreadId}
 use Rattle.evl_kernel.specs.KernelViews.{KernelView}
 use Rattle.evl_machine.specs.declared.views.Account.{Account}
 use Rattle.evl_machine.specs.Accounts.{Fits, IsAccount, saw}
-use Rattle.evl_machine.specs.Calls.{IsHeld, account_in, first_in}
+use Rattle.evl_machine.specs.Calls.{IsHeld}
 use Rattle.evl_machine.specs.Handles.{account_of}
-use Rattle.evl_machine.specs.Known.{ComesFrom, CoreHand, KernelMe, first_of, seen}
+use Rattle.evl_machine.specs.Known.{ComesFrom, KernelMe, first_of, seen}
 
 module _ {C : Type 0} where
-  -- another badge that tells the same of the core
-  pub record TellTheSame (old new : List (CoreHand C)) : Type 0 where
-    pub first : first_in new ≡ first_in old
-    pub account : account_in new ≡ account_in old
-
   -- a seat has taken this kernel, whose history fits the account that the seat had
   pub record Opens (first : KernelView C) (a : Account) (thread : ThreadId) (me : KernelMe C) (k : KernelView C) : Type 0 where
     pub held : IsHeld (seen me) thread k

@@ -20,6 +20,7 @@ pub mod Actors
 pub mod Handles
 pub mod Events
 pub mod Calls
+pub mod Callers
 pub mod StaxCalls
 pub mod Makings
 pub mod Closings

@@ -16,11 +16,6 @@ use Rattle.evl_words.specs.MutexWorld.{tries, unlocks, claims, settles, offers, 
 use Rattle.evl_words.specs.MutexCalls.{MutexState, MutexSeatState, IsPassOf, Makes, Accepts, Calls, Unlocks, at_depth, reply_of}
 use Rattle.evl_machine.specs.AtSeats.{AtSeat, AreCounted}
 
--- the mutexes of a machine: the kind of each, and its word
-pub record WordsState : Type 0 where
-  pub kinds : List MutexKind
-  pub words : List MutexState
-
 abbrev pub is_recursive : MutexKind → Bool
 is_recursive Normal = false
 is_recursive Recursive = true
@@ -40,10 +35,6 @@ holds_mutex seats = list_any is_owner seats
 -- how often mutex i is held
 abbrev pub depth_at : List MutexSeatState → ℕ → ℕ
 depth_at seats i = option_map_or mutex_passes (slice_get seats i) 0
-
--- a thread's seats as the words of a machine were made with them
-abbrev pub AreFresh : List MutexSeatState → Type 0
-AreFresh seats = AreCounted (λ s. s.mutex.0) mutex_passes seats 0
 
 -- what refuses an owner that tries again: the mutex doesn't nest, or is held 255 times
 abbrev pub owner_refusal : MutexKind → ℕ → Option Refusal
@@ -120,10 +111,3 @@ AcceptsSo (Err refusal) was is = Accepts was is × (refusal ≡ Again) × Calls 
 abbrev pub ForgetsSo : Result (Unit {0}) Refusal → MutexSeatState → MutexSeatState → Type 0
 ForgetsSo (Ok done) was is = Makes was forgets is × Calls was Forget Done is (forgotten was.view.held.role) was.depth
 ForgetsSo (Err refusal) was is = Makes was forgets is × (refusal ≡ Busy) × Calls was Forget (Refused Busy) is was.view.held.role was.depth
-
--- the words of mutexes of these kinds with so many seats, in the order of their numbers
-pub record AreWordsOf (kinds : List MutexKind) (threads : ℕ) (made : WordsState) : Type 0 where
-  pub kinds_are : made.kinds ≡ kinds
-  pub numbers : map (λ m. m.id.0) made.words ≡ range_with_len 0 (length kinds)
-  pub nesting : map (λ m. m.recursive) made.words ≡ map is_recursive kinds
-  pub seats : map (λ m. m.seats) made.words ≡ map (λ kind. threads) kinds

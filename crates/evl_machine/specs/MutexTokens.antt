@@ -16,6 +16,7 @@ use Rattle.evl_words.specs.MutexWorld.{EndsOffered, MutexView, accepts, awaits, 
 use Rattle.evl_machine.specs.declared.views.Noted.{Noted}
 use Rattle.evl_machine.specs.declared.views.ThreadView.{ThreadView}
 use Rattle.evl_machine.specs.CoreRule.{IsAbout}
+use Rattle.evl_machine.specs.Homes.{mutex_home}
 use Rattle.evl_machine.specs.ThreadRule.{mutex_of}
 use Rattle.evl_machine.specs.Known.{CoreHand, KernelMe, first_of, mutex_count, seen, taken_in}
 
@@ -56,10 +57,24 @@ module _ {C : Type 0} where
     pub all : length places ≡ mutex_count first
     pub its : AreItsPlaces hand places
 
+  -- the token knows the same of each mutex, and its thread has the same places
+  pub record KeepsPlaces (old new : CoreHand C) : Type 0 where
+    pub parts : (i : ℕ) → part_of new i ≡ part_of old i
+    pub its : (places : List MutexPlace) → AreItsPlaces old places → AreItsPlaces new places
+
+  -- the thread has just taken the kernel, and made no step on a word yet
+  abbrev pub HasKernel : CoreHand C → Type 0
+  HasKernel hand = (i : ℕ) → HasKernelFor i hand
+
   -- of the core the token tells the same
   pub record TellsTheSame (old new : KernelMe C) : Type 0 where
     pub core : seen new ≡ seen old
     pub first : first_of new.0 ≡ first_of old.0
+
+-- the same seats, by where they belong and by their numbers
+pub record AreTheSame (old new : List MutexSeatState) : Type 0 where
+  pub homes : map mutex_home new ≡ map mutex_home old
+  pub numbers : map (λ s. s.number) new ≡ map (λ s. s.number) old
 
 -- what a seat does that looks for an offer, and what it does that takes the one that it saw
 abbrev pub AwaitsSo : Result (Unit {0}) Refusal → MutexSeatState → MutexSeatState → Type 0

@@ -1,17 +1,20 @@
-//! What a caller has beside its seat at the core.
-ghost use Rattle.std.specs.Prelude.{◌≡◌, true, false, Some, None, if◌then◌else◌, All, length, map};
+//! Who acts for a thread: its token at the core's table, and what it has beside it.
+ghost use Rattle.std.specs.Prelude.{◌≡◌, ◌==◌, ◌&&◌, nat_lt, true, false, Some, None, if◌then◌else◌, All, length, map};
 ghost use Rattle.evl_base.specs.declared.refusal.Refusal.TheVariants.{Busy, HoldsStax};
 ghost use Rattle.evl_base.specs.declared.stage.Stage.TheVariants.{Inband};
 ghost use Rattle.evl_kernel.specs.Callbacks.{AnswersAsTold};
 ghost use Rattle.evl_kernel.specs.Families.{moves_caller, task_of};
-ghost use Rattle.evl_machine.specs.Actors.{AreHeldAt, ClaimsOneOf, IsSameActor, Suits, call_refusal, keeps_stage};
+ghost use Rattle.evl_machine.specs.Actors.{AreHeldAt, ClaimsOneOf, IsSameActor, Suits, acting, call_refusal, keeps_stage};
 ghost use Rattle.evl_machine.specs.Calls.{Applied};
 ghost use Rattle.evl_machine.specs.Ceilings.{has_ceiling};
+ghost use Rattle.evl_machine.specs.Known.{first_of};
 ghost use Rattle.evl_machine.specs.MutexLocks.{is_handed_on, lock_refusal, spend_refusal};
-ghost use Rattle.evl_machine.specs.MutexSeats.{depth_at, holds_mutex, owner_refusal};
+ghost use Rattle.evl_machine.specs.MutexSeats.{depth_at, holds_mutex, owner_refusal, unlock_refusal};
+ghost use Rattle.evl_machine.specs.MutexTokens.{IsAtTable};
 ghost use Rattle.evl_machine.specs.StaxSeats.{holds_stax};
 
-use crate::elements::{MutexSeats, StaxSeats};
+use crate::core_lock::CoreSeat;
+use crate::elements::{MutexPlaces, StaxSeats};
 use crate::kernel_box::KernelBox;
 use crate::unfinished::{Unfinished, wait_after, wait_step};
 use evl_base::{Call, MutexId, MutexKind, Refusal, Reply, Stage, ThreadId};
@@ -20,48 +23,56 @@ use evl_words::MutexPass;
 use std::alloc::Allocator;
 use std::marker::Model;
 
-/// Who acts for a thread of the board, and all that it has beside its seat at the core (this profile). A caller has it
-/// while it is at rest, and while it has the kernel; it goes from one to the other whole.
+/// Who acts for a thread of the board: its token at the core's table, and all that it has beside it (this profile). A
+/// caller has it while it is at rest, and while it has the kernel; it goes from one to the other whole.
 #[derive(Drop)]
-pub struct Actor<A: Allocator> {
+pub struct Actor<C, A: Allocator> {
+    pub(crate) seat: CoreSeat<C, A>,
     pub(crate) thread: ThreadId,
     /// That of its thread at the end of what it has seen.
     pub(crate) stage: Stage,
     pub(crate) wait: Option<Unfinished>,
     pub(crate) staxes: StaxSeats<A>,
-    pub(crate) mutexes: MutexSeats<A>,
+    pub(crate) places: MutexPlaces<A>,
 }
 
-impl<A: Allocator> Model for Actor<A> {
-    ghost use Rattle.evl_machine.specs.Actors.{ActorState, IsActor};
+impl<C, A: Allocator> Model for Actor<C, A> {
+    ghost use Rattle.evl_machine.specs.Actors.{IsActor, SeatedActor};
 
-    ghost Value = { ActorState };
+    ghost Value = { SeatedActor C };
 
-    ghost view = { λ a. record { thread = a.thread; stage = a.stage; wait = a.wait; staxes = a.staxes; mutexes = a.mutexes } };
+    ghost view = { λ a. record { table = a.seat.table_id; me = a.seat.me; thread = a.thread; stage = a.stage; wait = a.wait; staxes = a.staxes; places = a.places } };
 
-    ghost invariant = { λ a. IsActor (record { thread = a.thread; stage = a.stage; wait = a.wait; staxes = a.staxes; mutexes = a.mutexes }) };
+    ghost invariant = { λ a. IsActor (record { table = a.seat.table_id; me = a.seat.me; thread = a.thread; stage = a.stage; wait = a.wait; staxes = a.staxes; places = a.places }) };
 }
 
-impl<A: Allocator> Actor<A> {
+impl<C, A: Allocator> Actor<C, A> {
     /// Who acts for a thread that has made no call.
-    pub(crate) fn new(thread: ThreadId, staxes: StaxSeats<A>, mutexes: MutexSeats<A>) -> Actor<A>
+    pub(crate) fn new(
+        seat: CoreSeat<C, A>,
+        thread: ThreadId,
+        staxes: StaxSeats<A>,
+        places: MutexPlaces<A>,
+    ) -> Actor<C, A>
         requires free { holds_stax staxes ≡ false }
-        requires numbers { All (λ n. n ≡ thread.0) (map (λ s. s.number) staxes) × All (λ n. n ≡ thread.0) (map (λ s. s.number) mutexes) }
-        ensures { result ≡ record { thread = thread; stage = Inband; wait = None; staxes = staxes; mutexes = mutexes } }
+        requires numbers { All (λ n. n ≡ thread.0) (map (λ s. s.number) staxes) }
+        requires places { IsAtTable seat.table_id (first_of seat.me.0) seat.table_id seat.me.0 places }
+        ensures { result ≡ record { table = seat.table_id; me = seat.me; thread = thread; stage = Inband; wait = None; staxes = staxes; places = places } }
     {
         Actor {
+            seat,
             thread,
             stage: Stage::Inband,
             wait: None,
             staxes,
-            mutexes,
+            places,
         }
     }
 
     /// What refuses a call of the kernel by what the caller has itself, before any step.
     #[inline(always)]
     pub(crate) fn refusal(&self, call: &Call) -> Option<Refusal>
-        ensures refused { result ≡ call_refusal self.now.wait (holds_stax self.now.staxes) (holds_mutex self.now.mutexes) call.now }
+        ensures refused { result ≡ call_refusal self.now.wait (holds_stax self.now.staxes) (holds_mutex (acting self.now).mutexes) call.now }
         ensures held { AreHeldAt self.now.stage self.now.staxes }
     {
         match call {
@@ -85,7 +96,7 @@ impl<A: Allocator> Actor<A> {
     /// What refuses to lock a mutex of this kind by what the caller has itself, before any step.
     #[inline(always)]
     pub(crate) fn lock_refusal(&self, kind: Option<MutexKind>, mutex: MutexId) -> Option<Refusal>
-        ensures refused { result ≡ lock_refusal kind self.now.wait self.now.stage (depth_at self.now.mutexes mutex.0) }
+        ensures refused { result ≡ lock_refusal kind self.now.wait self.now.stage (depth_at (acting self.now).mutexes mutex.0) }
         ensures held { AreHeldAt self.now.stage self.now.staxes }
     {
         if self.wait.is_some() {
@@ -94,27 +105,59 @@ impl<A: Allocator> Actor<A> {
         match (kind, self.stage) {
             (None, _) => Some(Refusal::Unknown),
             (Some(_), Stage::Inband) => Some(Refusal::WrongStage),
-            (Some(kind), Stage::Oob) => owner_refusal(kind, self.mutexes.depth(mutex)),
+            (Some(kind), Stage::Oob) => owner_refusal(kind, self.depth(mutex)),
         }
     }
 
     /// What refuses to spend a pass by what the caller has itself, before any step.
     #[inline(always)]
     pub(crate) fn spend_refusal(&self, pass: &MutexPass) -> Option<Refusal>
-        ensures refused { result ≡ spend_refusal self.now.wait self.now.mutexes pass.now }
+        ensures refused { result ≡ spend_refusal self.now.wait (acting self.now).mutexes pass.now }
         ensures held { AreHeldAt self.now.stage self.now.staxes }
     {
         match self.wait {
             Some(_) => Some(Refusal::Busy),
-            None => self.mutexes.refusal(pass),
+            None => self.pass_refusal(pass),
         }
     }
 
     /// Whether its thread keeps its stage when it finishes a wait: where it holds a stax or a mutex.
     pub(crate) fn keeps_stage(&self) -> bool
-        ensures { result ≡ keeps_stage (holds_stax self.now.staxes) (holds_mutex self.now.mutexes) }
+        ensures { result ≡ keeps_stage (holds_stax self.now.staxes) (holds_mutex (acting self.now).mutexes) }
     {
-        self.staxes.holds_any() || self.mutexes.holds_any()
+        self.staxes.holds_any() || self.holds_mutex()
+    }
+
+    /// Whether it holds a mutex.
+    #[inline(always)]
+    pub(crate) fn holds_mutex(&self) -> bool
+        ensures holds { result ≡ holds_mutex (acting self.now).mutexes }
+    {
+        self.places.holds_any()
+    }
+
+    /// How often it holds a mutex, and 0 where there is no such mutex.
+    #[inline(always)]
+    pub(crate) fn depth(&self, mutex: MutexId) -> u8
+        ensures depth { result ≡ depth_at (acting self.now).mutexes mutex.0 }
+    {
+        self.places.depth(mutex)
+    }
+
+    /// Whether there is such a mutex, and it doesn't hold it.
+    #[inline(always)]
+    pub(crate) fn is_free(&self, mutex: MutexId) -> bool
+        ensures free { result ≡ (nat_lt mutex.0 (length (acting self.now).mutexes) && (depth_at (acting self.now).mutexes mutex.0 == 0)) }
+    {
+        self.places.is_free(mutex)
+    }
+
+    /// What refuses to spend a pass with no step: it isn't its own, or it doesn't have the mutex.
+    #[inline(always)]
+    fn pass_refusal(&self, pass: &MutexPass) -> Option<Refusal>
+        ensures refused { result ≡ unlock_refusal (acting self.now).mutexes pass.now }
+    {
+        self.places.refusal(pass)
     }
 
     fn stax_refusal(&self) -> Option<Refusal>
@@ -128,28 +171,31 @@ impl<A: Allocator> Actor<A> {
     }
 
     fn detach_refusal(&self) -> Option<Refusal>
-        ensures { result ≡ (if holds_stax self.now.staxes then Some HoldsStax else (if holds_mutex self.now.mutexes then Some Busy else None)) }
+        ensures { result ≡ (if holds_stax self.now.staxes then Some HoldsStax else (if holds_mutex (acting self.now).mutexes then Some Busy else None)) }
     {
-        if self.mutexes.holds_any() && !self.staxes.holds_any() {
+        if self.holds_mutex() && !self.staxes.holds_any() {
             return Some(Refusal::Busy);
         }
         self.stax_refusal()
     }
+}
 
+impl<C: Handler, A: Allocator> Actor<C, A> {
     /// One call of the kernel by its thread, after which it knows the thread's stage and unfinished wait anew.
     #[inline(always)]
-    pub(crate) fn apply<C: Handler>(
+    pub(crate) fn apply(
         &mut self,
         kernel: &mut KernelBox<C, A>,
         call: Call,
     ) -> Result<Reply, Refusal>
         requires answering { AnswersAsTold C.declared C.plan kernel.old.callbacks }
-        requires suits { Suits self.old kernel.old.history }
+        requires suits { Suits (acting self.old) kernel.old.history }
         requires stays { holds_stax self.old.staxes ≡ true → moves_caller (task_of call) ≡ false }
-        requires there { ClaimsOneOf (length self.old.mutexes) call }
+        requires there { ClaimsOneOf (length self.old.places) call }
         ensures applied { Applied kernel.old self.old.thread.0 call result kernel.new }
-        ensures suits { Suits self.new kernel.new.history }
-        ensures same { IsSameActor self.old self.new }
+        ensures suits { Suits (acting self.new) kernel.new.history }
+        ensures same { IsSameActor (acting self.old) (acting self.new) }
+        ensures seat { (self.new.table ≡ self.old.table) × (self.new.me ≡ self.old.me) × (self.new.places ≡ self.old.places) }
         ensures held { AreHeldAt self.new.stage self.new.staxes }
     {
         let step = wait_step(&call);

@@ -17,6 +17,7 @@ mod machine;
 mod making;
 mod mutex_visits;
 mod mutex_waits;
+mod mutex_words;
 mod mutexes;
 mod stax_waits;
 mod staxes;

@@ -1,22 +1,25 @@
 //! What a caller does with a mutex while it has the kernel: steps of the mutex's word, and the calls of the kernel that go
 //! with them. No step of the core's lock is among them. All growths come before the first step of a word.
-ghost use Rattle.std.specs.Prelude.{◌≡◌, ◌<◌, length, map, true};
+ghost use Rattle.std.specs.Prelude.{◌≡◌, ◌<◌, IfSome, IsSomeAnd, None, length, slice_get, true};
 ghost use Rattle.evl_base.specs.Board.{board_fits};
 ghost use Rattle.evl_base.specs.declared.call.Call.TheVariants.{Finish};
 ghost use Rattle.evl_kernel.specs.Callbacks.{AnswersAsTold};
 ghost use Rattle.evl_kernel.specs.Histories.{IsLegal};
 ghost use Rattle.evl_machine.specs.Accounts.{threads_of};
-ghost use Rattle.evl_machine.specs.Actors.{AreHeldAt, IsSameActor, Suits, keeps_stage};
+ghost use Rattle.evl_machine.specs.Actors.{AreHeldAt, IsSameActor, Suits, acting, keeps_stage};
+ghost use Rattle.evl_machine.specs.AtSeats.{AtSeat};
 ghost use Rattle.evl_machine.specs.Calls.{Applied};
-ghost use Rattle.evl_machine.specs.Homes.{mutex_home, word_home};
-ghost use Rattle.evl_machine.specs.Locking.{Begins, Finishes, GoesAlong, HaveSeats, LocksRaised, Releases};
-ghost use Rattle.evl_machine.specs.MutexSeats.{HasOnce, holds_mutex};
+ghost use Rattle.evl_machine.specs.Known.{first_of};
+ghost use Rattle.evl_machine.specs.Locking.{Begins, Finishes, GivesTo, GoesAlong, HaveSeats, LocksRaised, Releases};
+ghost use Rattle.evl_machine.specs.MutexSeats.{HasOnce, HasSeat, holds_mutex, mutex_refusal};
+ghost use Rattle.evl_machine.specs.MutexTokens.{AreTheSame, HasKernel, TellsTheSame};
 ghost use Rattle.evl_machine.specs.StaxSeats.{holds_stax};
 
 use crate::actor::Actor;
-use crate::elements::MutexWords;
+use crate::core_lock::CoreLock;
+use crate::elements::mutex_steps;
 use crate::kernel_box::KernelBox;
-use evl_base::{Call, MutexId, Refusal, Reply};
+use evl_base::{Call, MutexId, Refusal, Reply, ThreadId};
 use evl_pipeline::Handler;
 use evl_words::{Claim, MutexPass};
 use std::alloc::Allocator;
@@ -39,24 +42,28 @@ pub enum Ended {
     TimedOut,
 }
 
-/// Tries for a mutex with a ceiling, and tells the kernel of a try that took it. The pass is answered whatever the kernel
-/// answers.
+/// Tries for a mutex with a ceiling that the caller may lock, and tells the kernel of a try that took it. The pass is
+/// answered whatever the kernel answers.
 pub(crate) fn lock_raised<C: Handler, A: Allocator>(
-    words: &MutexWords<A>,
-    actor: &mut Actor<A>,
+    core: &CoreLock<C, A>,
+    actor: &mut Actor<C, A>,
     kernel: &mut KernelBox<C, A>,
     mutex: MutexId,
 ) -> Result<MutexPass, Refusal>
+    requires table { (actor.old.table ≡ core.now.shared.table_id) × (first_of actor.old.me.0 ≡ core.now.shared.key.value) }
+    requires holder { HasKernel actor.old.me.0 }
     requires answering { AnswersAsTold C.declared C.plan kernel.old.callbacks }
     requires legal { IsLegal kernel.old.history }
-    requires suits { Suits actor.old kernel.old.history }
+    requires suits { Suits (acting actor.old) kernel.old.history }
     requires held { AreHeldAt actor.old.stage actor.old.staxes }
-    requires homes { map mutex_home actor.old.mutexes ≡ map word_home words.now.words }
-    ensures along { GoesAlong actor.old kernel.old actor.new kernel.new }
-    ensures locked { LocksRaised words.now.kinds actor.old kernel.old mutex result actor.new kernel.new }
+    requires unrefused { mutex_refusal core.now.shared.key.value.history.board.mutexes.items (acting actor.old).mutexes mutex.0 ≡ None }
+    requires free { IsSomeAnd (slice_get actor.old.places mutex.0) (λ p. p.depth ≡ 0) }
+    ensures core { TellsTheSame actor.old.me actor.new.me × (actor.new.table ≡ actor.old.table) }
+    ensures along { GoesAlong (acting actor.old) kernel.old (acting actor.new) kernel.new }
+    ensures locked { LocksRaised core.now.shared.key.value.history.board.mutexes.items (acting actor.old) kernel.old mutex result (acting actor.new) kernel.new }
 {
     kernel.reserve()?;
-    let pass = words.try_lock(&mut actor.mutexes, mutex)?;
+    let pass = mutex_steps::try_held(core, &mut actor.seat, &mut actor.places, mutex)?;
     let _raised = actor.apply(kernel, Call::Raise { mutex });
     Ok(pass)
 }
@@ -64,29 +71,28 @@ pub(crate) fn lock_raised<C: Handler, A: Allocator>(
 /// Has the kernel hand a mutex on, and offers it to the next owner, or frees it where there is none. A refusal comes back
 /// with the pass, and the word stays as it is.
 pub(crate) fn release<C: Handler, A: Allocator>(
-    words: &MutexWords<A>,
-    actor: &mut Actor<A>,
+    core: &CoreLock<C, A>,
+    actor: &mut Actor<C, A>,
     kernel: &mut KernelBox<C, A>,
     pass: MutexPass,
 ) -> Result<(), (Refusal, MutexPass)>
+    requires table { (actor.old.table ≡ core.now.shared.table_id) × (first_of actor.old.me.0 ≡ core.now.shared.key.value) }
+    requires holder { HasKernel actor.old.me.0 }
     requires answering { AnswersAsTold C.declared C.plan kernel.old.callbacks }
     requires legal { IsLegal kernel.old.history }
     requires board { board_fits kernel.old.history.board ≡ true }
-    requires suits { Suits actor.old kernel.old.history }
+    requires suits { Suits (acting actor.old) kernel.old.history }
     requires held { AreHeldAt actor.old.stage actor.old.staxes }
-    requires homes { map mutex_home actor.old.mutexes ≡ map word_home words.now.words }
-    requires seats { HaveSeats (threads_of kernel.old.history) actor.old.mutexes }
-    requires once { HasOnce actor.old.mutexes pass }
-    ensures along { GoesAlong actor.old kernel.old actor.new kernel.new }
-    ensures released { Releases actor.old kernel.old pass result actor.new kernel.new }
+    requires seats { HaveSeats (threads_of kernel.old.history) (acting actor.old).mutexes }
+    requires once { HasOnce (acting actor.old).mutexes pass }
+    ensures core { TellsTheSame actor.old.me actor.new.me × (actor.new.table ≡ actor.old.table) }
+    ensures along { GoesAlong (acting actor.old) kernel.old (acting actor.new) kernel.new }
+    ensures released { Releases (acting actor.old) kernel.old pass result (acting actor.new) kernel.new }
 {
     let mutex = pass.mutex();
     match actor.apply(kernel, Call::Release { mutex }) {
         Ok(Reply::Handed { next, more }) => {
-            match next {
-                Some(next) => words.offer(&mut actor.mutexes, pass, next, more),
-                None => words.free(&mut actor.mutexes, pass),
-            }
+            hand_on(core, actor, pass, next, more);
             Ok(())
         }
         Ok(_) => unreachable!(),
@@ -94,29 +100,56 @@ pub(crate) fn release<C: Handler, A: Allocator>(
     }
 }
 
+/// Offers a mutex to its next owner, or frees it where there is none.
+fn hand_on<C: Drop, A: Allocator>(
+    core: &CoreLock<C, A>,
+    actor: &mut Actor<C, A>,
+    pass: MutexPass,
+    next: Option<ThreadId>,
+    more: bool,
+)
+    requires table { (actor.old.table ≡ core.now.shared.table_id) × (first_of actor.old.me.0 ≡ core.now.shared.key.value) }
+    requires holder { HasKernel actor.old.me.0 }
+    requires once { HasOnce (acting actor.old).mutexes pass }
+    requires next { IfSome next (λ n. HasSeat (acting actor.old).mutexes pass.mutex.0 n.0) }
+    ensures core { TellsTheSame actor.old.me actor.new.me × (actor.new.table ≡ actor.old.table) }
+    ensures same { acting actor.new ≡ record (acting actor.old) { mutexes = (acting actor.new).mutexes } }
+    ensures seats { AreTheSame (acting actor.old).mutexes (acting actor.new).mutexes }
+    ensures given { AtSeat pass.mutex.0 (acting actor.old).mutexes (acting actor.new).mutexes (GivesTo next more) }
+{
+    match next {
+        Some(next) => {
+            mutex_steps::offer(core, &mut actor.seat, &mut actor.places, pass, next, more);
+        }
+        None => mutex_steps::free(core, &mut actor.seat, &mut actor.places, pass),
+    }
+}
+
 /// Claims a mutex that the caller doesn't hold, and waits for it where another has it. Where it was won, and has a ceiling,
 /// the kernel is told; the pass is answered whatever it answers.
 pub(crate) fn begin<C: Handler, A: Allocator>(
-    words: &MutexWords<A>,
-    actor: &mut Actor<A>,
+    core: &CoreLock<C, A>,
+    actor: &mut Actor<C, A>,
     kernel: &mut KernelBox<C, A>,
     mutex: MutexId,
     ceiling: bool,
     until: Option<u64>,
 ) -> Result<Begun, Refusal>
+    requires table { (actor.old.table ≡ core.now.shared.table_id) × (first_of actor.old.me.0 ≡ core.now.shared.key.value) }
+    requires holder { HasKernel actor.old.me.0 }
     requires answering { AnswersAsTold C.declared C.plan kernel.old.callbacks }
     requires legal { IsLegal kernel.old.history }
-    requires suits { Suits actor.old kernel.old.history }
+    requires suits { Suits (acting actor.old) kernel.old.history }
     requires held { AreHeldAt actor.old.stage actor.old.staxes }
-    requires homes { map mutex_home actor.old.mutexes ≡ map word_home words.now.words }
-    requires there { mutex.0 < length actor.old.mutexes }
-    ensures along { GoesAlong actor.old kernel.old actor.new kernel.new }
-    ensures begun { Begins ceiling actor.old kernel.old mutex until result actor.new kernel.new }
+    requires there { mutex.0 < length actor.old.places }
+    ensures core { TellsTheSame actor.old.me actor.new.me × (actor.new.table ≡ actor.old.table) }
+    ensures along { GoesAlong (acting actor.old) kernel.old (acting actor.new) kernel.new }
+    ensures begun { Begins ceiling (acting actor.old) kernel.old mutex until result (acting actor.new) kernel.new }
 {
     kernel.reserve()?;
-    match words.claim(&mut actor.mutexes, mutex) {
+    match mutex_steps::claim(core, &mut actor.seat, &actor.places, mutex) {
         Claim::Won => {
-            let pass = words.settle(&mut actor.mutexes, mutex);
+            let pass = mutex_steps::settle(core, &mut actor.seat, &mut actor.places, mutex);
             if ceiling {
                 let _raised = actor.apply(kernel, Call::Raise { mutex });
             }
@@ -138,47 +171,51 @@ pub(crate) fn begin<C: Handler, A: Allocator>(
 /// Ends the caller's wait for a mutex, which is over to the kernel: it takes the mutex that was offered to it, or waits for
 /// it no more where the deadline came first.
 pub(crate) fn finish<C: Handler, A: Allocator>(
-    words: &MutexWords<A>,
-    actor: &mut Actor<A>,
+    core: &CoreLock<C, A>,
+    actor: &mut Actor<C, A>,
     kernel: &mut KernelBox<C, A>,
     mutex: MutexId,
 ) -> Result<Ended, Refusal>
+    requires table { (actor.old.table ≡ core.now.shared.table_id) × (first_of actor.old.me.0 ≡ core.now.shared.key.value) }
+    requires holder { HasKernel actor.old.me.0 }
     requires answering { AnswersAsTold C.declared C.plan kernel.old.callbacks }
     requires legal { IsLegal kernel.old.history }
     requires board { board_fits kernel.old.history.board ≡ true }
-    requires suits { Suits actor.old kernel.old.history }
+    requires suits { Suits (acting actor.old) kernel.old.history }
     requires held { AreHeldAt actor.old.stage actor.old.staxes }
-    requires homes { map mutex_home actor.old.mutexes ≡ map word_home words.now.words }
-    requires there { mutex.0 < length actor.old.mutexes }
-    ensures along { GoesAlong actor.old kernel.old actor.new kernel.new }
-    ensures finished { Finishes actor.old kernel.old mutex result actor.new kernel.new }
+    requires there { mutex.0 < length actor.old.places }
+    ensures core { TellsTheSame actor.old.me actor.new.me × (actor.new.table ≡ actor.old.table) }
+    ensures along { GoesAlong (acting actor.old) kernel.old (acting actor.new) kernel.new }
+    ensures finished { Finishes (acting actor.old) kernel.old mutex result (acting actor.new) kernel.new }
 {
     if !kernel.kernel().finished(actor.thread) {
         return Err(Refusal::Again);
     }
     kernel.reserve()?;
     if kernel.kernel().timed_out(actor.thread) {
-        if words.forget(&mut actor.mutexes, mutex).is_err() {
+        let forgotten = mutex_steps::forget(core, &mut actor.seat, &actor.places, mutex);
+        if forgotten.is_err() {
             return Err(Refusal::Again);
         }
         let _ended = end_wait(actor, kernel);
         return Ok(Ended::TimedOut);
     }
-    let pass = words.accept(&mut actor.mutexes, mutex)?;
+    let pass = mutex_steps::accept(core, &mut actor.seat, &mut actor.places, mutex)?;
     let _over = end_wait(actor, kernel);
     Ok(Ended::Locked(pass))
 }
 
 /// Has the kernel end the thread's wait. The thread keeps its stage where it holds a stax or a mutex.
 fn end_wait<C: Handler, A: Allocator>(
-    actor: &mut Actor<A>,
+    actor: &mut Actor<C, A>,
     kernel: &mut KernelBox<C, A>,
 ) -> Result<Reply, Refusal>
     requires answering { AnswersAsTold C.declared C.plan kernel.old.callbacks }
-    requires suits { Suits actor.old kernel.old.history }
-    ensures applied { Applied kernel.old actor.old.thread.0 (Finish (keeps_stage (holds_stax actor.old.staxes) (holds_mutex actor.old.mutexes))) result kernel.new }
-    ensures suits { Suits actor.new kernel.new.history }
-    ensures same { IsSameActor actor.old actor.new }
+    requires suits { Suits (acting actor.old) kernel.old.history }
+    ensures applied { Applied kernel.old actor.old.thread.0 (Finish (keeps_stage (holds_stax actor.old.staxes) (holds_mutex (acting actor.old).mutexes))) result kernel.new }
+    ensures suits { Suits (acting actor.new) kernel.new.history }
+    ensures same { IsSameActor (acting actor.old) (acting actor.new) }
+    ensures seat { (actor.new.table ≡ actor.old.table) × (actor.new.me ≡ actor.old.me) × (actor.new.places ≡ actor.old.places) }
     ensures held { AreHeldAt actor.new.stage actor.new.staxes }
 {
     let keep = actor.keeps_stage();

@@ -4,7 +4,7 @@ ghost use Rattle.evl_base.specs.Board.{board_fits};
 ghost use Rattle.evl_base.specs.declared.call.Call.TheVariants.{Finish};
 ghost use Rattle.evl_base.specs.declared.refusal.Refusal.TheVariants.{Again, CoreBusy};
 ghost use Rattle.evl_kernel.specs.Callbacks.{AnswersAsTold};
-ghost use Rattle.evl_machine.specs.Actors.{AreHeldAt, IsSameActor, Suits, keeps_stage};
+ghost use Rattle.evl_machine.specs.Actors.{AreHeldAt, IsSameActor, Suits, acting, keeps_stage};
 ghost use Rattle.evl_machine.specs.Calls.{ActsOnCore, Answered, HoldsAtItsStage, IsCaller, KernelCall};
 ghost use Rattle.evl_machine.specs.Handles.{Belongs, account_of};
 ghost use Rattle.evl_machine.specs.Known.{first_of, seen};
@@ -13,46 +13,38 @@ ghost use Rattle.evl_machine.specs.StaxSeats.{holds_stax};
 ghost use Rattle.evl_machine.specs.Waitings.{Looked, Looks, finish_of};
 
 use crate::actor::Actor;
-use crate::caller::{CallerOf, badge_of, seat_of};
-use crate::core_lock::CoreSeat;
+use crate::caller::CallerOf;
 use crate::machine::MachineOf;
-use atomic_table::Badge;
 use evl_base::{Call, Refusal, Reply};
 use evl_pipeline::Handler;
 use std::alloc::Allocator;
-use std::mem;
 
 impl<C: Handler, A: Allocator> MachineOf<C, A> {
-    /// Finishes the wait of a seat's thread where it is over, in the take in which that is seen; none where it goes on, or
-    /// where another seat has the kernel.
-    fn end_with(
-        &self,
-        seat: &mut CoreSeat<C, A>,
-        actor: &mut Actor<A>,
-    ) -> Option<Result<Reply, Refusal>>
-        requires caller { (seat.old.table_id ≡ self.now.id) × IsCaller (seen seat.old.me) actor.old.thread }
-        requires suits { Suits actor.old (account_of (seen seat.old.me)).seen }
-        requires held { AreHeldAt actor.old.stage actor.old.staxes }
-        requires board { board_fits (first_of seat.old.me.0).history.board ≡ true }
-        requires answering { AnswersAsTold C.declared C.plan (first_of seat.old.me.0).callbacks }
-        ensures same { (seat.new.table_id ≡ seat.old.table_id) × (first_of seat.new.me.0 ≡ first_of seat.old.me.0) × IsSameActor actor.old actor.new }
-        ensures rests { IsCaller (seen seat.new.me) actor.new.thread }
-        ensures suits { Suits actor.new (account_of (seen seat.new.me)).seen }
+    /// Finishes the wait of an actor's thread where it is over, in the take in which that is seen; none where it goes on, or
+    /// where another one has the kernel.
+    fn end_with(&self, actor: &mut Actor<C, A>) -> Option<Result<Reply, Refusal>>
+        requires caller { (actor.old.table ≡ self.now.id) × IsCaller (seen actor.old.me) actor.old.thread }
+        requires suits { Suits (acting actor.old) (account_of (seen actor.old.me)).seen }
+        requires board { board_fits (first_of actor.old.me.0).history.board ≡ true }
+        requires answering { AnswersAsTold C.declared C.plan (first_of actor.old.me.0).callbacks }
+        ensures same { (actor.new.table ≡ actor.old.table) × (first_of actor.new.me.0 ≡ first_of actor.old.me.0) × IsSameActor (acting actor.old) (acting actor.new) }
+        ensures rests { IsCaller (seen actor.new.me) actor.new.thread }
+        ensures suits { Suits (acting actor.new) (account_of (seen actor.new.me)).seen }
         ensures held { AreHeldAt actor.new.stage actor.new.staxes }
-        ensures looked { MatchOption result (Looks (account_of (seen seat.old.me)) (account_of (seen seat.new.me))) (λ r. Answered (first_of seat.old.me.0).limit (account_of (seen seat.old.me)) (Finish (keeps_stage (holds_stax actor.old.staxes) (holds_mutex actor.old.mutexes))) r (account_of (seen seat.new.me))) }
-        ensures acted { MatchOption result ⊤ (λ r. ActsOnCore (first_of seat.old.me.0) (account_of (seen seat.old.me)) r (account_of (seen seat.new.me))) }
+        ensures looked { MatchOption result (Looks (account_of (seen actor.old.me)) (account_of (seen actor.new.me))) (λ r. Answered (first_of actor.old.me.0).limit (account_of (seen actor.old.me)) (Finish (keeps_stage (holds_stax actor.old.staxes) (holds_mutex (acting actor.old).mutexes))) r (account_of (seen actor.new.me))) }
+        ensures acted { MatchOption result ⊤ (λ r. ActsOnCore (first_of actor.old.me.0) (account_of (seen actor.old.me)) r (account_of (seen actor.new.me))) }
         ensures told { MatchOption result ⊤ (λ r. (r ≢ Err Again) × (r ≢ Err CoreBusy)) }
     {
-        let Some(mut kernel) = self.take_kernel(seat) else {
+        let Some(mut kernel) = self.open(actor) else {
             return None;
         };
         if !kernel.kernel().finished(actor.thread) {
-            self.give_kernel(seat, kernel);
+            self.shut(actor, kernel);
             return None;
         }
         let keep = actor.keeps_stage();
         let reply = actor.apply(&mut kernel, Call::Finish { keep });
-        self.give_kernel(seat, kernel);
+        self.shut(actor, kernel);
         Some(reply)
     }
 
@@ -65,10 +57,6 @@ impl<C: Handler, A: Allocator> MachineOf<C, A> {
         ensures stage { HoldsAtItsStage caller.new }
     {
         let _ = &self.core;
-        let badge = mem::replace(&mut caller.core, Badge::blank());
-        let mut seat = seat_of::<C, A>(badge, caller.actor.thread);
-        let answer = self.end_with(&mut seat, &mut caller.actor);
-        caller.core = badge_of(seat, caller.actor.thread);
-        answer
+        self.end_with(&mut caller.actor)
     }
 }

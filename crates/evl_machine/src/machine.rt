@@ -6,23 +6,22 @@ ghost use Rattle.evl_machine.specs.Accounts.{informed};
 ghost use Rattle.evl_machine.specs.Known.{ComesFrom, first_of, past_of, room_of, seen};
 ghost use Rattle.evl_machine.specs.Handles.{Belongs, Continues, IsSameCaller, Taken, account_of, holding, seated};
 ghost use Rattle.evl_machine.specs.Events.{FailsToTake, Gives, Takes};
-ghost use Rattle.std.specs.Prelude.{None, false, length, true};
+ghost use Rattle.std.specs.Prelude.{⊤, None, false, length, slice_get, true};
 ghost use Rattle.evl_kernel.specs.Families.{moves_caller, task_of};
-ghost use Rattle.evl_machine.specs.Actors.{AreHeldAt, ClaimsOneOf, IsSameActor, Suits};
+ghost use Rattle.evl_machine.specs.Actors.{AreHeldAt, ClaimsOneOf, IsSameActor, Suits, acting};
+ghost use Rattle.evl_machine.specs.MutexTokens.{HasKernel, KeepsPlaces};
 ghost use Rattle.evl_machine.specs.StaxSeats.{holds_stax};
 ghost use Rattle.evl_machine.specs.Calls.{ActsOnCore, Answered, Called, HoldsAtItsStage, IsCaller, KernelCall, answer_of, own_refusal};
 
 use crate::actor::Actor;
-use crate::caller::{CallerOf, badge_of, seat_of};
+use crate::caller::CallerOf;
 use crate::core_lock::{CoreLock, CoreSeat, Give, Take};
-use crate::elements::{Gates, MutexWords};
+use crate::elements::Gates;
 use crate::kernel_box::KernelBox;
-use atomic_table::Badge;
-use evl_base::{Call, Refusal, Reply, ThreadId};
+use evl_base::{Call, MutexId, MutexKind, Refusal, Reply};
 use evl_pipeline::Handler;
 use std::alloc::Allocator;
 use std::marker::Model;
-use std::mem;
 
 /// The kernel, in a lock of one word and one slot (this profile). To a contract it is its table, and the kernel as it
 /// was made.
@@ -31,7 +30,7 @@ pub struct MachineOf<C: Drop, A: Allocator> {
     pub(crate) core: CoreLock<C, A>,
     pub(crate) threads: u16,
     pub(crate) gates: Gates<A>,
-    pub(crate) words: MutexWords<A>,
+    pub(crate) kinds: Vec<MutexKind, A>,
 }
 
 impl<C: Drop, A: Allocator> Model for MachineOf<C, A> {
@@ -39,14 +38,14 @@ impl<C: Drop, A: Allocator> Model for MachineOf<C, A> {
     ghost use Rattle.evl_machine.specs.Accounts.{threads_of};
     ghost use Rattle.std.specs.Prelude.{◌+◌, length, map, true};
     ghost use Rattle.evl_base.specs.Board.{board_fits};
-    ghost use Rattle.evl_machine.specs.Homes.{gate_home, word_home};
+    ghost use Rattle.evl_machine.specs.Homes.{gate_home, word_homes};
     ghost use Rattle.evl_machine.specs.Handles.{MachineState};
 
     ghost Value = { MachineState C };
 
-    ghost view = { λ m. record { id = m.core.shared.table_id; first = m.core.shared.key.value; staxes = map gate_home m.gates; mutexes = map word_home m.words.words } };
+    ghost view = { λ m. record { id = m.core.shared.table_id; first = m.core.shared.key.value; staxes = map gate_home m.gates; mutexes = word_homes m.core.shared.table_id (threads_of m.core.shared.key.value.history) (length m.kinds.items) } };
 
-    ghost invariant = { λ m. (m.core.shared.table_id.words ≡ 1 + length m.words.kinds) × (m.core.shared.table_id.slots ≡ 1) × (threads_of m.core.shared.key.value.history ≡ m.threads) × (m.words.kinds ≡ m.core.shared.key.value.history.board.mutexes.items) × (board_fits m.core.shared.key.value.history.board ≡ true) × (map (λ w. w.seats) m.words.words ≡ map (λ kind. threads_of m.core.shared.key.value.history) m.words.kinds) };
+    ghost invariant = { λ m. (m.core.shared.table_id.words ≡ 1 + length m.kinds.items) × (m.core.shared.table_id.slots ≡ 1) × (threads_of m.core.shared.key.value.history ≡ m.threads) × (m.kinds.items ≡ m.core.shared.key.value.history.board.mutexes.items) × (board_fits m.core.shared.key.value.history.board ≡ true) };
 }
 
 impl<C: Drop, A: Allocator> MachineOf<C, A> {
@@ -57,6 +56,8 @@ impl<C: Drop, A: Allocator> MachineOf<C, A> {
         ensures same { (seat.new.table_id ≡ seat.old.table_id) × (seat.new.id ≡ seat.old.id) × (first_of seat.new.me.0 ≡ first_of seat.old.me.0) }
         ensures event { MatchOption result (FailsToTake (first_of seat.old.me.0) (account_of (seen seat.old.me)) (account_of (seen seat.new.me))) (λ _. Takes (first_of seat.old.me.0) (account_of (seen seat.old.me)) (account_of (seen seat.new.me))) }
         ensures taken { MatchOption result (seen seat.new.me ≡ seen seat.old.me) (λ k. Taken past_of room_of (seen seat.old.me) k (seen seat.new.me) × ComesFrom (first_of seat.old.me.0) k) }
+        ensures places { KeepsPlaces seat.old.me.0 seat.new.me.0 }
+        ensures holder { MatchOption result ⊤ (λ _. HasKernel seat.new.me.0) }
     {
         let table = &self.core.shared;
         if table.compare_exchange::<Take>(seat, 0, 0, 1) != 0 {
@@ -74,6 +75,7 @@ impl<C: Drop, A: Allocator> MachineOf<C, A> {
         ensures same { (seat.new.table_id ≡ seat.old.table_id) × (seat.new.id ≡ seat.old.id) × (first_of seat.new.me.0 ≡ first_of seat.old.me.0) }
         ensures event { Gives (first_of seat.old.me.0) (account_of (seen seat.old.me)) kernel (account_of (seen seat.new.me)) }
         ensures given { seen seat.new.me ≡ seated (informed kernel.history (account_of (seen seat.old.me))) }
+        ensures places { KeepsPlaces seat.old.me.0 seat.new.me.0 }
     {
         let table = &self.core.shared;
         match table.exchange(seat, 0, Some(kernel)) {
@@ -84,35 +86,39 @@ impl<C: Drop, A: Allocator> MachineOf<C, A> {
     }
 }
 
-impl<C: Handler, A: Allocator> MachineOf<C, A> {
-    /// One call of the kernel at a seat; the call comes back where another seat has it.
+impl<C: Drop, A: Allocator> MachineOf<C, A> {
+    /// The kind of a mutex, if there is such a one.
     #[inline(always)]
-    fn call_with(
-        &self,
-        seat: &mut CoreSeat<C, A>,
-        actor: &mut Actor<A>,
-        call: Call,
-    ) -> Result<Result<Reply, Refusal>, Call>
-        requires caller { (seat.old.table_id ≡ self.now.id) × IsCaller (seen seat.old.me) actor.old.thread }
-        requires suits { Suits actor.old (account_of (seen seat.old.me)).seen }
-        requires held { AreHeldAt actor.old.stage actor.old.staxes }
+    pub(crate) fn kind(&self, mutex: MutexId) -> Option<MutexKind>
+        ensures kind { result ≡ slice_get self.now.first.history.board.mutexes.items mutex.0 }
+    {
+        self.kinds.get(usize::from(mutex.0)).copied()
+    }
+}
+
+impl<C: Handler, A: Allocator> MachineOf<C, A> {
+    /// One call of the kernel by an actor; the call comes back where another one has it.
+    #[inline(always)]
+    fn call_with(&self, actor: &mut Actor<C, A>, call: Call) -> Result<Result<Reply, Refusal>, Call>
+        requires caller { (actor.old.table ≡ self.now.id) × IsCaller (seen actor.old.me) actor.old.thread }
+        requires suits { Suits (acting actor.old) (account_of (seen actor.old.me)).seen }
         requires stays { holds_stax actor.old.staxes ≡ true → moves_caller (task_of call) ≡ false }
-        requires there { ClaimsOneOf (length actor.old.mutexes) call }
-        requires answering { AnswersAsTold C.declared C.plan (first_of seat.old.me.0).callbacks }
-        ensures same { (seat.new.table_id ≡ seat.old.table_id) × (first_of seat.new.me.0 ≡ first_of seat.old.me.0) × IsSameActor actor.old actor.new }
-        ensures rests { IsCaller (seen seat.new.me) actor.new.thread }
-        ensures suits { Suits actor.new (account_of (seen seat.new.me)).seen }
+        requires there { ClaimsOneOf (length actor.old.places) call }
+        requires answering { AnswersAsTold C.declared C.plan (first_of actor.old.me.0).callbacks }
+        ensures same { (actor.new.table ≡ actor.old.table) × (first_of actor.new.me.0 ≡ first_of actor.old.me.0) × IsSameActor (acting actor.old) (acting actor.new) }
+        ensures rests { IsCaller (seen actor.new.me) actor.new.thread }
+        ensures suits { Suits (acting actor.new) (account_of (seen actor.new.me)).seen }
         ensures held { AreHeldAt actor.new.stage actor.new.staxes }
-        ensures called { Answered (first_of seat.old.me.0).limit (account_of (seen seat.old.me)) call (answer_of result) (account_of (seen seat.new.me)) }
-        ensures acted { ActsOnCore (first_of seat.old.me.0) (account_of (seen seat.old.me)) (answer_of result) (account_of (seen seat.new.me)) }
+        ensures called { Answered (first_of actor.old.me.0).limit (account_of (seen actor.old.me)) call (answer_of result) (account_of (seen actor.new.me)) }
+        ensures acted { ActsOnCore (first_of actor.old.me.0) (account_of (seen actor.old.me)) (answer_of result) (account_of (seen actor.new.me)) }
         ensures entered { IfOk result (λ answer. answer ≢ Err CoreBusy) }
         ensures back { IfErr result (λ back. back ≡ call) }
     {
-        let Some(mut kernel) = self.take_kernel(seat) else {
+        let Some(mut kernel) = self.open(actor) else {
             return Err(call);
         };
         let reply = actor.apply(&mut kernel, call);
-        self.give_kernel(seat, kernel);
+        self.shut(actor, kernel);
         Ok(reply)
     }
 
@@ -132,11 +138,7 @@ impl<C: Handler, A: Allocator> MachineOf<C, A> {
         ensures entered { IfOk result (λ answer. answer ≢ Err CoreBusy) }
         ensures back { IfErr result (λ back. back ≡ call) }
     {
-        let badge = mem::replace(&mut caller.core, Badge::blank());
-        let mut seat = seat_of::<C, A>(badge, caller.actor.thread);
-        let answer = self.call_with(&mut seat, &mut caller.actor, call);
-        caller.core = badge_of(seat, caller.actor.thread);
-        answer
+        self.call_with(&mut caller.actor, call)
     }
 
     /// One call of the kernel, by the host thread that makes it.

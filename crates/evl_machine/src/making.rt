@@ -5,20 +5,20 @@ ghost use Rattle.evl_kernel.specs.Histories.{IsLegal};
 ghost use Rattle.evl_kernel.specs.KernelViews.{IsOpened};
 ghost use Rattle.evl_kernel.specs.Openings.{can_open};
 ghost use Rattle.evl_machine.specs.Accounts.{threads_of};
-ghost use Rattle.evl_machine.specs.Known.{first_known};
+ghost use Rattle.evl_machine.specs.Known.{first_known, mutex_count};
 ghost use Rattle.evl_machine.specs.Handles.{newcomers_of};
 ghost use Rattle.evl_machine.specs.Makings.{AreMade};
 ghost use Rattle.std.specs.Prelude.{◌<◌, ◌+◌, map, replicate, true, vec_capacity, vec_len};
 ghost use Rattle.std.specs.List.{range_with_len};
 ghost use Rattle.evl_base.specs.Board.{board_fits};
-ghost use Rattle.evl_machine.specs.Homes.{AreHomes, gate_home, word_home};
+ghost use Rattle.evl_machine.specs.Homes.{AreHomes, gate_home, word_homes};
+ghost use Rattle.evl_machine.specs.Makings.{new_places};
 ghost use Rattle.evl_words.specs.GateCalls.{new_seat};
-ghost use Rattle.evl_words.specs.MutexCalls.{new_seat as of_mutex};
 
 use crate::actor::Actor;
-use crate::caller::{CallerOf, badge_of};
+use crate::caller::CallerOf;
 use crate::core_lock::{CoreLock, CoreSeat};
-use crate::elements::{Elements, Gates, MutexSeats, MutexWords, StaxSeats};
+use crate::elements::{Elements, Gates, MutexPlaces, StaxSeats};
 use crate::kernel_box::KernelBox;
 use crate::machine::MachineOf;
 use atomic_table::Table;
@@ -65,8 +65,8 @@ impl<C: Handler, A: Allocator> MachineOf<C, A> {
     }
 }
 
-/// What a machine is made of beside its kernel: the words of its elements with their seats, room for its callers, and
-/// the allocator of its core.
+/// What a machine is made of beside its kernel: its elements with each thread's seats and places, room for its callers,
+/// and the allocator of its core.
 #[derive(Drop)]
 struct Parts<C, A: Allocator> {
     alloc: A,
@@ -112,7 +112,7 @@ fn joined<C: Drop, A: Allocator + Clone>(
     requires room { (parts.callers.items ≡ []) × (threads ≤ vec_capacity parts.callers) }
     requires made { AreMade kernel.history.board parts.elements }
     ensures first { IfOk result (λ m. m.0.first ≡ kernel) }
-    ensures homes { IfOk result (λ m. (m.0.staxes ≡ map gate_home parts.elements.gates) × (m.0.mutexes ≡ map word_home parts.elements.words.words)) }
+    ensures homes { IfOk result (λ m. (m.0.staxes ≡ map gate_home parts.elements.gates) × (m.0.mutexes ≡ word_homes m.0.id threads (length parts.elements.kinds.items))) }
     ensures callers { IfOk result (λ m. m.1.items ≡ newcomers_of m.0 threads) }
     ensures refusal { IfErr result (λ e. e ≡ Refusal.NoMemory) }
 {
@@ -121,7 +121,7 @@ fn joined<C: Drop, A: Allocator + Clone>(
         elements,
         callers,
     } = parts;
-    let count = elements.words.count();
+    let count = elements.kinds.len();
     match core_of(alloc, kernel, count) {
         Ok((core, root)) => Ok(seated(core, root, callers, elements, threads)),
         Err(_) => Err(Refusal::NoMemory),
@@ -176,31 +176,22 @@ fn seated<C: Drop, A: Allocator>(
     requires board { board_fits core.shared.key.value.history.board ≡ true }
     requires made { AreMade core.shared.key.value.history.board elements }
     ensures first { result.0.first ≡ core.shared.key.value }
-    ensures homes { (result.0.staxes ≡ map gate_home elements.gates) × (result.0.mutexes ≡ map word_home elements.words.words) }
+    ensures homes { (result.0.staxes ≡ map gate_home elements.gates) × (result.0.mutexes ≡ word_homes result.0.id threads (length elements.kinds.items)) }
     ensures callers { result.1.items ≡ newcomers_of result.0 threads }
 {
     let Elements {
         gates,
-        words,
+        kinds,
         staxes,
-        mutexes,
+        places,
     } = elements;
-    seat_callers(
-        &core,
-        root,
-        &mut callers,
-        &gates,
-        &words,
-        staxes,
-        mutexes,
-        threads,
-    );
+    seat_callers(&core, root, &mut callers, &gates, staxes, places, threads);
     (
         MachineOf {
             core,
             threads,
             gates,
-            words,
+            kinds,
         },
         callers,
     )
@@ -218,32 +209,30 @@ fn one_slot<T: Drop, A: Allocator + Clone>(
     Ok(slots)
 }
 
-/// Gives each thread's account, and its seats at the staxes and mutexes, to a caller of its own.
+/// Gives each thread's token, and its seats at the staxes and places at the mutexes, to a caller of its own.
 fn seat_callers<C: Drop, A: Allocator>(
     core: &CoreLock<C, A>,
     root: CoreSeat<C, A>,
     callers: &mut Vec<CallerOf<C, A>, A>,
     gates: &Gates<A>,
-    words: &MutexWords<A>,
     mut staxes: Vec<StaxSeats<A>, A>,
-    mut mutexes: Vec<MutexSeats<A>, A>,
+    mut places: Vec<MutexPlaces<A>, A>,
     threads: u16,
 )
-    requires table { (root.table_id ≡ core.now.shared.table_id) × (0 < core.now.shared.table_id.words) }
+    requires table { (root.table_id ≡ core.now.shared.table_id) × (core.now.shared.table_id.words ≡ 1 + mutex_count core.now.shared.key.value) }
     requires first { root.me ≡ (first_known core.now.shared.key.value, []) }
     requires threads { threads_of core.now.shared.key.value.history ≡ threads }
     requires new { IsLegal core.now.shared.key.value.history × (core.now.shared.key.value.history.entries ≡ []) }
     requires room { (callers.old.items ≡ []) × (threads ≤ vec_capacity callers.old) }
-    requires seats { (staxes.items ≡ map (λ k. map (λ g. new_seat g k) gates.now) (range_with_len 0 threads)) × (mutexes.items ≡ map (λ k. map (λ m. of_mutex m k) words.now.words) (range_with_len 0 threads)) }
-    ensures { callers.new.items ≡ newcomers_of (record { id = core.now.shared.table_id; first = core.now.shared.key.value; staxes = map gate_home gates.now; mutexes = map word_home words.now.words }) threads }
+    requires seats { (staxes.items ≡ map (λ k. map (λ g. new_seat g k) gates.now) (range_with_len 0 threads)) × (places.items ≡ map (new_places (mutex_count core.now.shared.key.value)) (range_with_len 0 threads)) }
+    ensures { callers.new.items ≡ newcomers_of (record { id = core.now.shared.table_id; first = core.now.shared.key.value; staxes = map gate_home gates.now; mutexes = word_homes core.now.shared.table_id threads (mutex_count core.now.shared.key.value) }) threads }
 {
     let mut rest = root;
     for number in 0..threads {
         let others = core.shared.split_seat::<Deal>(&mut rest);
         let thread = ThreadId(number);
-        let core = badge_of(rest, thread);
-        let actor = Actor::new(thread, first_of(&mut staxes), first_of(&mut mutexes));
-        callers.push_reserved(CallerOf { actor, core });
+        let actor = Actor::new(rest, thread, first_of(&mut staxes), first_of(&mut places));
+        callers.push_reserved(CallerOf { actor });
         rest = others;
     }
 }

@@ -1,12 +1,13 @@
 //! What a caller does with a mutex by the kernel: it takes the kernel once, and gives it back.
-ghost use Rattle.std.specs.Prelude.{◌≡◌, ◌<◌, Err, None, length};
+ghost use Rattle.std.specs.Prelude.{◌≡◌, ◌<◌, Err, None, length, true};
 ghost use Rattle.evl_base.specs.declared.refusal.Refusal.TheVariants.{CoreBusy};
 ghost use Rattle.evl_kernel.specs.Callbacks.{AnswersAsTold};
 ghost use Rattle.evl_machine.specs.Calls.{HoldsAtItsStage};
+ghost use Rattle.evl_machine.specs.Ceilings.{has_ceiling};
 ghost use Rattle.evl_machine.specs.Handles.{Belongs, IsSameCaller};
 ghost use Rattle.evl_machine.specs.Locking.{Begins, Finishes, LocksRaised};
-ghost use Rattle.evl_machine.specs.MutexLocks.{HandsOn, UnlocksAtWord, kinds_of};
-ghost use Rattle.evl_machine.specs.MutexSeats.{HasOnce, unlock_refusal};
+ghost use Rattle.evl_machine.specs.MutexLocks.{HandsOn, kind_of, kinds_of, own_lock_refusal};
+ghost use Rattle.evl_machine.specs.MutexSeats.{HasOnce};
 ghost use Rattle.evl_machine.specs.Visits.{Visits};
 
 use crate::caller::CallerOf;
@@ -14,7 +15,7 @@ use crate::locking::{Begun, Ended, begin, finish, lock_raised, release};
 use crate::machine::MachineOf;
 use evl_base::{MutexId, Refusal};
 use evl_pipeline::Handler;
-use evl_words::{MutexPass, Unlock};
+use evl_words::MutexPass;
 use std::alloc::Allocator;
 
 impl<C: Handler, A: Allocator> MachineOf<C, A> {
@@ -27,16 +28,17 @@ impl<C: Handler, A: Allocator> MachineOf<C, A> {
         mutex: MutexId,
     ) -> Result<MutexPass, Refusal>
         requires machine { Belongs caller.old self.now }
+        requires unrefused { own_lock_refusal caller.old mutex ≡ None }
+        requires ceiling { has_ceiling (kind_of caller.old mutex) ≡ true }
         requires answering { AnswersAsTold C.declared C.plan self.now.first.callbacks }
         ensures machine { IsSameCaller caller.old caller.new }
         ensures visits { Visits (result ≡ Err CoreBusy) caller.old (λ a k a' k'. LocksRaised (kinds_of caller.old) a k mutex result a' k') caller.new }
         ensures stage { HoldsAtItsStage caller.new }
     {
-        let thread = caller.actor.thread;
-        match self.open(&mut caller.core, thread) {
-            Some(mut visit) => {
-                let result = lock_raised(&self.words, &mut caller.actor, &mut visit.kernel, mutex);
-                self.shut(&mut caller.core, thread, visit);
+        match self.open(&mut caller.actor) {
+            Some(mut kernel) => {
+                let result = lock_raised(&self.core, &mut caller.actor, &mut kernel, mutex);
+                self.shut(&mut caller.actor, kernel);
                 result
             }
             None => Err(Refusal::CoreBusy),
@@ -52,24 +54,17 @@ impl<C: Handler, A: Allocator> MachineOf<C, A> {
         until: Option<u64>,
     ) -> Result<Begun, Refusal>
         requires machine { Belongs caller.old self.now }
-        requires there { mutex.0 < length caller.old.mutexes }
+        requires unrefused { own_lock_refusal caller.old mutex ≡ None }
         requires answering { AnswersAsTold C.declared C.plan self.now.first.callbacks }
         ensures machine { IsSameCaller caller.old caller.new }
         ensures visits { Visits (result ≡ Err CoreBusy) caller.old (λ a k a' k'. Begins ceiling a k mutex until result a' k') caller.new }
         ensures stage { HoldsAtItsStage caller.new }
     {
-        let thread = caller.actor.thread;
-        match self.open(&mut caller.core, thread) {
-            Some(mut visit) => {
-                let result = begin(
-                    &self.words,
-                    &mut caller.actor,
-                    &mut visit.kernel,
-                    mutex,
-                    ceiling,
-                    until,
-                );
-                self.shut(&mut caller.core, thread, visit);
+        match self.open(&mut caller.actor) {
+            Some(mut kernel) => {
+                let actor = &mut caller.actor;
+                let result = begin(&self.core, actor, &mut kernel, mutex, ceiling, until);
+                self.shut(&mut caller.actor, kernel);
                 result
             }
             None => Err(Refusal::CoreBusy),
@@ -89,11 +84,10 @@ impl<C: Handler, A: Allocator> MachineOf<C, A> {
         ensures visits { Visits (result ≡ Err CoreBusy) caller.old (λ a k a' k'. Finishes a k mutex result a' k') caller.new }
         ensures stage { HoldsAtItsStage caller.new }
     {
-        let thread = caller.actor.thread;
-        match self.open(&mut caller.core, thread) {
-            Some(mut visit) => {
-                let result = finish(&self.words, &mut caller.actor, &mut visit.kernel, mutex);
-                self.shut(&mut caller.core, thread, visit);
+        match self.open(&mut caller.actor) {
+            Some(mut kernel) => {
+                let result = finish(&self.core, &mut caller.actor, &mut kernel, mutex);
+                self.shut(&mut caller.actor, kernel);
                 result
             }
             None => Err(Refusal::CoreBusy),
@@ -114,34 +108,13 @@ impl<C: Handler, A: Allocator> MachineOf<C, A> {
         ensures visits { HandsOn caller.old pass result caller.new }
         ensures stage { HoldsAtItsStage caller.new }
     {
-        let thread = caller.actor.thread;
-        match self.open(&mut caller.core, thread) {
-            Some(mut visit) => {
-                let result = release(&self.words, &mut caller.actor, &mut visit.kernel, pass);
-                self.shut(&mut caller.core, thread, visit);
+        match self.open(&mut caller.actor) {
+            Some(mut kernel) => {
+                let result = release(&self.core, &mut caller.actor, &mut kernel, pass);
+                self.shut(&mut caller.actor, kernel);
                 result
             }
             None => Err((Refusal::CoreBusy, pass)),
-        }
-    }
-
-    /// Spends a pass of the caller at the word. A mutex that others claim is handed on.
-    pub(crate) fn unlock_at_word(
-        &self,
-        caller: &mut CallerOf<C, A>,
-        pass: MutexPass,
-    ) -> Result<(), (Refusal, MutexPass)>
-        requires machine { Belongs caller.old self.now }
-        requires own { unlock_refusal caller.old.mutexes pass ≡ None }
-        requires answering { AnswersAsTold C.declared C.plan self.now.first.callbacks }
-        ensures machine { IsSameCaller caller.old caller.new }
-        ensures unlocked { UnlocksAtWord caller.old pass result caller.new }
-        ensures stage { HoldsAtItsStage caller.new }
-    {
-        match self.words.unlock(&mut caller.actor.mutexes, pass) {
-            Ok(Unlock::Done) => Ok(()),
-            Ok(Unlock::Claimed(pass)) => self.release_with_kernel(caller, pass),
-            Err(refused) => Err(refused),
         }
     }
 }

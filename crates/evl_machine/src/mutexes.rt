@@ -1,5 +1,5 @@
 //! Locking mutexes and unlocking them, without waiting.
-ghost use Rattle.std.specs.Prelude.{◌≡◌, Err, IfErr, IfOk};
+ghost use Rattle.std.specs.Prelude.{IfErr};
 ghost use Rattle.evl_kernel.specs.Callbacks.{AnswersAsTold};
 ghost use Rattle.evl_machine.specs.Calls.{HoldsAtItsStage};
 ghost use Rattle.evl_machine.specs.Handles.{Belongs, IsSameCaller};
@@ -37,10 +37,10 @@ impl<C: Handler, A: Allocator> MachineOf<C, A> {
         ensures full { IfErr result (FullOnly caller.new) }
         ensures stage { HoldsAtItsStage caller.new }
     {
-        let kind = self.words.kind(mutex);
+        let kind = self.kind(mutex);
         if caller.actor.lock_refusal(kind, mutex).is_none() {
-            if !has_ceiling(kind) && caller.actor.mutexes.is_free(mutex) {
-                return self.words.try_there(&mut caller.actor.mutexes, mutex);
+            if !has_ceiling(kind) && caller.actor.is_free(mutex) {
+                return self.try_at_word(caller, mutex);
             }
         }
         match self.lock_rarely(caller, mutex) {
@@ -60,14 +60,16 @@ impl<C: Handler, A: Allocator> MachineOf<C, A> {
         ensures full { IfErr result (FullOnly caller.new) }
         ensures stage { HoldsAtItsStage caller.new }
     {
-        let kind = self.words.kind(mutex);
+        let kind = self.kind(mutex);
         if let Some(refusal) = caller.actor.lock_refusal(kind, mutex) {
             return Err(refusal);
         }
         if has_ceiling(kind) {
             self.lock_at_ceiling(caller, mutex)
+        } else if caller.actor.depth(mutex) > 0 {
+            Ok(self.nest(caller, mutex))
         } else {
-            self.words.try_lock(&mut caller.actor.mutexes, mutex)
+            self.try_at_word(caller, mutex)
         }
     }
 
@@ -92,13 +94,12 @@ impl<C: Handler, A: Allocator> MachineOf<C, A> {
         ensures full { IfErr result (FullOnly caller.new) }
         ensures stage { HoldsAtItsStage caller.new }
     {
-        let kind = self.words.kind(mutex);
+        let kind = self.kind(mutex);
         if let Some(refusal) = caller.actor.lock_refusal(kind, mutex) {
             return Err(refusal);
         }
-        if caller.actor.mutexes.depth(mutex) > 0 {
-            let pass = self.words.try_lock(&mut caller.actor.mutexes, mutex)?;
-            return Ok(Begun::Locked(pass));
+        if caller.actor.depth(mutex) > 0 {
+            return Ok(Begun::Locked(self.nest(caller, mutex)));
         }
         self.begin_with_kernel(caller, mutex, has_ceiling(kind), until)
     }
@@ -143,9 +144,9 @@ impl<C: Handler, A: Allocator> MachineOf<C, A> {
     {
         if caller.actor.spend_refusal(&pass).is_none() {
             let mutex = pass.mutex();
-            let held = caller.actor.mutexes.depth(mutex);
-            if held == 1 && !has_ceiling(self.words.kind(mutex)) {
-                return fast_answer(self.words.unlock_there(&mut caller.actor.mutexes, pass));
+            let held = caller.actor.depth(mutex);
+            if held == 1 && !has_ceiling(self.kind(mutex)) {
+                return fast_answer(self.unlock_last(caller, pass));
             }
         }
         match self.unlock_rarely(caller, pass) {
@@ -171,10 +172,10 @@ impl<C: Handler, A: Allocator> MachineOf<C, A> {
         if let Some(refusal) = caller.actor.spend_refusal(&pass) {
             return Err((refusal, pass));
         }
-        if has_ceiling(self.words.kind(pass.mutex())) {
+        if has_ceiling(self.kind(pass.mutex())) {
             return Err((Refusal::Busy, pass));
         }
-        fast_answer(self.words.unlock(&mut caller.actor.mutexes, pass))
+        fast_answer(self.unlock_word(caller, pass))
     }
 
     /// Spends a pass. A mutex that others claim, or that has a ceiling, is handed on by the kernel, and its word offered to
@@ -200,8 +201,8 @@ impl<C: Handler, A: Allocator> MachineOf<C, A> {
             return Err((refusal, pass));
         }
         let mutex = pass.mutex();
-        let kind = self.words.kind(mutex);
-        if is_handed_on(kind, caller.actor.mutexes.depth(mutex)) {
+        let kind = self.kind(mutex);
+        if is_handed_on(kind, caller.actor.depth(mutex)) {
             self.release_with_kernel(caller, pass)
         } else {
             self.unlock_at_word(caller, pass)
@@ -211,11 +212,10 @@ impl<C: Handler, A: Allocator> MachineOf<C, A> {
 
 /// What a word answered, as a call without the kernel tells it: a pass comes back where others claim the mutex.
 #[inline(always)]
-fn fast_answer(told: Result<Unlock, (Refusal, MutexPass)>) -> Result<(), (Refusal, MutexPass)>
-    ensures ok { IfOk told (FastAnswer result) }
-    ensures err { IfErr told (λ refused. result ≡ Err refused) }
+fn fast_answer(told: Unlock) -> Result<(), (Refusal, MutexPass)>
+    ensures { FastAnswer result told }
 {
-    match told? {
+    match told {
         Unlock::Done => Ok(()),
         Unlock::Claimed(pass) => Err((Refusal::Busy, pass)),
     }

@@ -1,23 +1,22 @@
-//! All elements of a machine that are words of their own, with each thread's seats at them.
+//! The elements of a machine that stand beside the kernel, and what each thread has at them.
 ghost use Rattle.std.specs.Prelude.{◌≡◌, ◌≤◌, IfOk, length, map, true};
 ghost use Rattle.std.specs.List.{list_all, range_with_len};
 ghost use Rattle.evl_base.specs.Limits.{thread_limit, stax_fits, within};
 ghost use Rattle.evl_words.specs.GateCalls.{new_seat};
-ghost use Rattle.evl_words.specs.MutexCalls.{new_seat as of_mutex};
-ghost use Rattle.evl_machine.specs.MutexSeats.{AreWordsOf};
+ghost use Rattle.evl_machine.specs.Makings.{new_places};
 ghost use Rattle.evl_machine.specs.StaxSeats.{AreGatesOf};
 
-use super::{Gates, MutexSeats, MutexWords, StaxSeats};
+use super::{Gates, MutexPlaces, StaxSeats};
 use evl_base::MutexKind;
 use std::alloc::{AllocError, Allocator};
 
-/// The staxes and mutex words of a machine, and the seats of each thread.
+/// The staxes of a machine and the kinds of its mutexes, and what each thread has at them.
 #[derive(Drop)]
 pub(crate) struct Elements<A: Allocator> {
     pub(crate) gates: Gates<A>,
-    pub(crate) words: MutexWords<A>,
+    pub(crate) kinds: Vec<MutexKind, A>,
     pub(crate) staxes: Vec<StaxSeats<A>, A>,
-    pub(crate) mutexes: Vec<MutexSeats<A>, A>,
+    pub(crate) places: Vec<MutexPlaces<A>, A>,
 }
 
 impl<A: Allocator + Clone> Elements<A> {
@@ -32,17 +31,35 @@ impl<A: Allocator + Clone> Elements<A> {
         requires limits { list_all stax_fits limits.now ≡ true }
         requires threads { within 1 thread_limit threads ≡ true }
         ensures gates { IfOk result (λ e. AreGatesOf limits.now threads e.gates) }
-        ensures words { IfOk result (λ e. AreWordsOf kinds.now threads e.words) }
+        ensures kinds { IfOk result (λ e. e.kinds.items ≡ kinds.now) }
         ensures staxes { IfOk result (λ e. e.staxes.items ≡ map (λ k. map (λ g. new_seat g k) e.gates) (range_with_len 0 threads)) }
-        ensures mutexes { IfOk result (λ e. e.mutexes.items ≡ map (λ k. map (λ m. of_mutex m k) e.words.words) (range_with_len 0 threads)) }
+        ensures places { IfOk result (λ e. e.places.items ≡ map (new_places (length kinds.now)) (range_with_len 0 threads)) }
     {
         let (gates, staxes) = Gates::new(alloc.clone()?, limits, threads)?;
-        let (words, mutexes) = MutexWords::new(alloc, kinds, threads)?;
+        let places = all_places(&alloc, kinds.len() as u16, threads)?;
+        let kinds = kinds.to_vec(alloc)?;
         Ok(Elements {
             gates,
-            words,
+            kinds,
             staxes,
-            mutexes,
+            places,
         })
     }
+}
+
+/// The places of each thread at so many mutexes.
+fn all_places<A: Allocator + Clone>(
+    alloc: &A,
+    mutexes: u16,
+    threads: u16,
+) -> Result<Vec<MutexPlaces<A>, A>, AllocError>
+    requires few { mutexes ≤ 32 }
+    ensures { IfOk result (λ all. all.items ≡ map (new_places mutexes) (range_with_len 0 threads)) }
+{
+    let mut all = Vec::with_capacity(alloc.clone()?, usize::from(threads))?;
+    for thread in 0..threads {
+        let places = MutexPlaces::of(alloc.clone()?, mutexes, thread)?;
+        all.push(places)?;
+    }
+    Ok(all)
 }

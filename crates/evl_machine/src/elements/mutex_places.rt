@@ -1,11 +1,11 @@
 //! A thread's places at the mutexes of a machine.
-ghost use Rattle.std.specs.Prelude.{◌≡◌, ◌<◌, ◌+◌, ◌==◌, ◌&&◌, length, nat_lt, IsSomeAnd, slice_get};
-ghost use Rattle.evl_machine.specs.MutexPlaces.{AreUnheld, Deepens, HoldsBy, depth_in, holds_place, less, spend_refusal_in};
+ghost use Rattle.std.specs.Prelude.{◌≡◌, ◌≢◌, ◌<◌, ◌≤◌, ◌+◌, ◌==◌, ◌&&◌, IfOk, length, nat_lt, IsSomeAnd, slice_get};
+ghost use Rattle.evl_machine.specs.Makings.{new_places};
+ghost use Rattle.evl_machine.specs.MutexPlaces.{Deepens, HoldsBy, depth_in, holds_place, less, spend_refusal_in};
 
-use super::mutex_seats::recounted;
 use evl_base::{MutexId, Refusal};
 use evl_words::{MutexPass, MutexPlace};
-use std::alloc::Allocator;
+use std::alloc::{AllocError, Allocator};
 use std::marker::Model;
 
 /// A thread's places, the k-th at mutex k, and how many passes they have together.
@@ -28,12 +28,16 @@ impl<A: Allocator> Model for MutexPlaces<A> {
 }
 
 impl<A: Allocator> MutexPlaces<A> {
-    /// Places that hold nothing.
-    pub(crate) fn new(places: Vec<MutexPlace, A>) -> MutexPlaces<A>
-        requires { AreUnheld places.items }
-        ensures { result ≡ places.items }
+    /// The places of a thread at so many mutexes, at which it holds nothing.
+    pub(crate) fn of(alloc: A, mutexes: u16, thread: u16) -> Result<MutexPlaces<A>, AllocError>
+        requires few { mutexes ≤ 32 }
+        ensures { IfOk result (λ places. places ≡ new_places mutexes thread) }
     {
-        MutexPlaces { places, passes: 0 }
+        let mut places = Vec::with_capacity(alloc, usize::from(mutexes))?;
+        for mutex in 0..mutexes {
+            places.push(MutexPlace::new(MutexId(mutex), thread))?;
+        }
+        Ok(MutexPlaces { places, passes: 0 })
     }
 
     /// Whether the thread holds a mutex.
@@ -100,7 +104,7 @@ impl<A: Allocator> MutexPlaces<A> {
 
     /// Holds a mutex once more.
     pub(crate) fn nest(&mut self, mutex: MutexId) -> MutexPass
-        requires there { IsSomeAnd (slice_get self.old mutex.0) (λ p. p.depth < 255) }
+        requires there { IsSomeAnd (slice_get self.old mutex.0) (λ p. p.depth ≢ 255) }
         ensures nested { Deepens mutex.0 (λ d. d + 1) self.old self.new }
         ensures pass { HoldsBy result mutex.0 self.old }
     {
@@ -121,4 +125,12 @@ impl<A: Allocator> MutexPlaces<A> {
         place.spend(pass);
         self.passes = recounted(self.passes, before, place.depth());
     }
+}
+
+/// The number of passes, once one place's has changed.
+fn recounted(passes: u16, before: u8, after: u8) -> u16
+    requires room { (before ≤ passes) × (passes ≤ 8160) }
+    ensures count { result + before ≡ passes + after }
+{
+    passes - u16::from(before) + u16::from(after)
 }

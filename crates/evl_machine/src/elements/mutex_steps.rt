@@ -6,7 +6,7 @@ ghost use Rattle.evl_words.specs.MutexPlaces.{IsOfPlace};
 ghost use Rattle.evl_machine.specs.AtSeats.{AtSeat};
 ghost use Rattle.evl_machine.specs.Known.{ceilings_of};
 ghost use Rattle.evl_machine.specs.MutexSeats.{AcceptsSo, Claims, ForgetsSo, Frees, IsOfMutex, Offers, Settles, Tries, UnlocksSo};
-ghost use Rattle.evl_machine.specs.MutexTokens.{AwaitsSo, HasKernelFor, IsAtTable, SeesOffered, TakesOffer, TellsTheSame, part_of, seats_at};
+ghost use Rattle.evl_machine.specs.MutexTokens.{AreTheSame, AwaitsSo, HasKernelFor, IsAtTable, SeesOffered, TakesOffer, TellsTheSame, part_of, seats_at};
 
 use super::mutex_places::MutexPlaces;
 use crate::core_lock::{
@@ -33,6 +33,7 @@ pub(crate) fn try_there<C: Drop, A: Allocator>(
     requires free { IsSomeAnd (slice_get places.old mutex.0) (λ p. p.depth ≡ 0) }
     ensures table { IsAtTable core.now.shared.table_id core.now.shared.key.value seat.new.table_id seat.new.me.0 places.new }
     ensures core { TellsTheSame seat.old.me seat.new.me }
+    ensures seats { AreTheSame (seats_at seat.old.table_id seat.old.me.0 places.old) (seats_at seat.new.table_id seat.new.me.0 places.new) }
     ensures tried { IsOfMutex mutex.0 result × AtSeat mutex.0 (seats_at seat.old.table_id seat.old.me.0 places.old) (seats_at seat.new.table_id seat.new.me.0 places.new) (Tries result) }
 {
     let word = 1 + usize::from(mutex.0);
@@ -60,6 +61,7 @@ pub(crate) fn try_held<C: Drop, A: Allocator>(
     requires free { IsSomeAnd (slice_get places.old mutex.0) (λ p. p.depth ≡ 0) }
     ensures table { IsAtTable core.now.shared.table_id core.now.shared.key.value seat.new.table_id seat.new.me.0 places.new }
     ensures core { TellsTheSame seat.old.me seat.new.me }
+    ensures seats { AreTheSame (seats_at seat.old.table_id seat.old.me.0 places.old) (seats_at seat.new.table_id seat.new.me.0 places.new) }
     ensures holder { HasKernelFor mutex.0 seat.new.me.0 }
     ensures tried { IsOfMutex mutex.0 result × AtSeat mutex.0 (seats_at seat.old.table_id seat.old.me.0 places.old) (seats_at seat.new.table_id seat.new.me.0 places.new) (Tries result) }
 {
@@ -89,6 +91,7 @@ pub(crate) fn unlock_there<C: Drop, A: Allocator>(
     requires once { IsSomeAnd (slice_get places.old pass.mutex.0) (λ p. IsOfPlace pass p × (p.depth ≡ 1)) }
     ensures table { IsAtTable core.now.shared.table_id core.now.shared.key.value seat.new.table_id seat.new.me.0 places.new }
     ensures core { TellsTheSame seat.old.me seat.new.me }
+    ensures seats { AreTheSame (seats_at seat.old.table_id seat.old.me.0 places.old) (seats_at seat.new.table_id seat.new.me.0 places.new) }
     ensures unlocked { AtSeat pass.mutex.0 (seats_at seat.old.table_id seat.old.me.0 places.old) (seats_at seat.new.table_id seat.new.me.0 places.new) (UnlocksSo pass (Ok result)) }
 {
     let mutex = pass.mutex();
@@ -118,6 +121,7 @@ pub(crate) fn claim<C: Drop, A: Allocator>(
     requires there { mutex.0 < length places.now }
     ensures table { IsAtTable core.now.shared.table_id core.now.shared.key.value seat.new.table_id seat.new.me.0 places.now }
     ensures core { TellsTheSame seat.old.me seat.new.me }
+    ensures seats { AreTheSame (seats_at seat.old.table_id seat.old.me.0 places.now) (seats_at seat.new.table_id seat.new.me.0 places.now) }
     ensures holder { HasKernelFor mutex.0 seat.new.me.0 }
     ensures claimed { AtSeat mutex.0 (seats_at seat.old.table_id seat.old.me.0 places.now) (seats_at seat.new.table_id seat.new.me.0 places.now) (Claims result) }
 {
@@ -138,6 +142,7 @@ pub(crate) fn settle<C: Drop, A: Allocator>(
     requires won { (part_of seat.old.me.0 mutex.0).held.role ≡ Winner }
     ensures table { IsAtTable core.now.shared.table_id core.now.shared.key.value seat.new.table_id seat.new.me.0 places.new }
     ensures core { TellsTheSame seat.old.me seat.new.me }
+    ensures seats { AreTheSame (seats_at seat.old.table_id seat.old.me.0 places.old) (seats_at seat.new.table_id seat.new.me.0 places.new) }
     ensures holder { HasKernelFor mutex.0 seat.new.me.0 }
     ensures settled { AtSeat mutex.0 (seats_at seat.old.table_id seat.old.me.0 places.old) (seats_at seat.new.table_id seat.new.me.0 places.new) (Settles result) }
 {
@@ -162,6 +167,7 @@ pub(crate) fn offer<C: Drop, A: Allocator>(
     requires next { next.0 < (part_of seat.old.me.0 pass.mutex.0).held.seats }
     ensures table { IsAtTable core.now.shared.table_id core.now.shared.key.value seat.new.table_id seat.new.me.0 places.new }
     ensures core { TellsTheSame seat.old.me seat.new.me }
+    ensures seats { AreTheSame (seats_at seat.old.table_id seat.old.me.0 places.old) (seats_at seat.new.table_id seat.new.me.0 places.new) }
     ensures holder { HasKernelFor pass.mutex.0 seat.new.me.0 }
     ensures offered { AtSeat pass.mutex.0 (seats_at seat.old.table_id seat.old.me.0 places.old) (seats_at seat.new.table_id seat.new.me.0 places.new) (Offers next.0 more) }
 {
@@ -184,6 +190,7 @@ fn offer_as<H: Handing, C: Drop, A: Allocator>(
     requires handing { (next.0 ≡ H.next) × (more ≡ H.more) }
     ensures table { IsAtTable core.now.shared.table_id core.now.shared.key.value seat.new.table_id seat.new.me.0 places.new }
     ensures core { TellsTheSame seat.old.me seat.new.me }
+    ensures seats { AreTheSame (seats_at seat.old.table_id seat.old.me.0 places.old) (seats_at seat.new.table_id seat.new.me.0 places.new) }
     ensures holder { HasKernelFor pass.mutex.0 seat.new.me.0 }
     ensures offered { AtSeat pass.mutex.0 (seats_at seat.old.table_id seat.old.me.0 places.old) (seats_at seat.new.table_id seat.new.me.0 places.new) (Offers next.0 more) }
 {
@@ -205,6 +212,7 @@ pub(crate) fn free<C: Drop, A: Allocator>(
     requires once { IsSomeAnd (slice_get places.old pass.mutex.0) (λ p. IsOfPlace pass p × (p.depth ≡ 1)) }
     ensures table { IsAtTable core.now.shared.table_id core.now.shared.key.value seat.new.table_id seat.new.me.0 places.new }
     ensures core { TellsTheSame seat.old.me seat.new.me }
+    ensures seats { AreTheSame (seats_at seat.old.table_id seat.old.me.0 places.old) (seats_at seat.new.table_id seat.new.me.0 places.new) }
     ensures holder { HasKernelFor pass.mutex.0 seat.new.me.0 }
     ensures freed { AtSeat pass.mutex.0 (seats_at seat.old.table_id seat.old.me.0 places.old) (seats_at seat.new.table_id seat.new.me.0 places.new) (Frees) }
 {
@@ -225,6 +233,7 @@ pub(crate) fn forget<C: Drop, A: Allocator>(
     requires there { mutex.0 < length places.now }
     ensures table { IsAtTable core.now.shared.table_id core.now.shared.key.value seat.new.table_id seat.new.me.0 places.now }
     ensures core { TellsTheSame seat.old.me seat.new.me }
+    ensures seats { AreTheSame (seats_at seat.old.table_id seat.old.me.0 places.now) (seats_at seat.new.table_id seat.new.me.0 places.now) }
     ensures holder { HasKernelFor mutex.0 seat.new.me.0 }
     ensures forgotten { AtSeat mutex.0 (seats_at seat.old.table_id seat.old.me.0 places.now) (seats_at seat.new.table_id seat.new.me.0 places.now) (ForgetsSo result) }
 {
@@ -249,6 +258,7 @@ pub(crate) fn accept<C: Drop, A: Allocator>(
     requires there { mutex.0 < length places.old }
     ensures table { IsAtTable core.now.shared.table_id core.now.shared.key.value seat.new.table_id seat.new.me.0 places.new }
     ensures core { TellsTheSame seat.old.me seat.new.me }
+    ensures seats { AreTheSame (seats_at seat.old.table_id seat.old.me.0 places.old) (seats_at seat.new.table_id seat.new.me.0 places.new) }
     ensures holder { HasKernelFor mutex.0 seat.new.me.0 }
     ensures accepted { AtSeat mutex.0 (seats_at seat.old.table_id seat.old.me.0 places.old) (seats_at seat.new.table_id seat.new.me.0 places.new) (AcceptsSo result) }
 {
@@ -268,6 +278,7 @@ fn await_offer<C: Drop, A: Allocator>(
     requires there { mutex.0 < length places.now }
     ensures table { IsAtTable core.now.shared.table_id core.now.shared.key.value seat.new.table_id seat.new.me.0 places.now }
     ensures core { TellsTheSame seat.old.me seat.new.me }
+    ensures seats { AreTheSame (seats_at seat.old.table_id seat.old.me.0 places.now) (seats_at seat.new.table_id seat.new.me.0 places.now) }
     ensures holder { HasKernelFor mutex.0 seat.new.me.0 }
     ensures awaited { AtSeat mutex.0 (seats_at seat.old.table_id seat.old.me.0 places.now) (seats_at seat.new.table_id seat.new.me.0 places.now) (AwaitsSo result) }
 {
@@ -292,6 +303,7 @@ fn take_offer<C: Drop, A: Allocator>(
     requires offered { SeesOffered (seats_at seat.old.table_id seat.old.me.0 places.old) mutex.0 }
     ensures table { IsAtTable core.now.shared.table_id core.now.shared.key.value seat.new.table_id seat.new.me.0 places.new }
     ensures core { TellsTheSame seat.old.me seat.new.me }
+    ensures seats { AreTheSame (seats_at seat.old.table_id seat.old.me.0 places.old) (seats_at seat.new.table_id seat.new.me.0 places.new) }
     ensures holder { HasKernelFor mutex.0 seat.new.me.0 }
     ensures taken { AtSeat mutex.0 (seats_at seat.old.table_id seat.old.me.0 places.old) (seats_at seat.new.table_id seat.new.me.0 places.new) (TakesOffer result) }
 {

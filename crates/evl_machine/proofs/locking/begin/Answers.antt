@@ -1,13 +1,27 @@
-use Rattle.std.proofs.Common.{refl, ◌∙◌}
+use Rattle.std.proofs.Common.{refl, ap, sym, ◌∙◌, subst}
+use Rattle.evl_machine.specs.Actors.{SeatedActor, acting}
+use Rattle.evl_machine.specs.Known.{first_of}
 use Rattle.evl_machine.proofs.LockingLaws.{along_call, along_none, answers_roomier, the_same}
 use Rattle.evl_machine.proofs.LockingCalls.{begins_raised, begins_waiting, won_there}
+use Rattle.evl_machine.proofs.MutexAccepts.{same_twice}
+use Rattle.evl_machine.proofs.SeatsAt.{at_table_of, core_of_step, core_twice, holds_for, won_at}
+use Rattle.evl_machine.proofs.Visits.{actor_at_mutexes}
 use Rattle.evl_machine.proofs.locking.begin.Goals as goal
 
 pub returns-in_err-reserve-clause-along : goal.returns-in_err-reserve-clause-along
 returns-in_err-reserve-clause-along g c = along_none _ _ refl _ _ _ c.reserve.ensures.same c.requires.held c.requires.suits c.requires.legal (the_same _)
 
+pub claim-requires-clause-table : goal.claim-requires-clause-table
+claim-requires-clause-table g c = (at_table_of _ _ c.actor.view_is _ _ c.actor.invariant c.requires.table)
+
+pub claim-requires-clause-holder : goal.claim-requires-clause-holder
+claim-requires-clause-holder g c = holds_for _ _ c.actor.view_is c.args.core.now.shared.table_id c.args.core.now.shared.key.value c.requires.holder c.args.mutex.0
+
 pub settle-pass-requires-clause-won : goal.settle-pass-requires-clause-won
-settle-pass-requires-clause-won g c = won_there _ _ _ c.in-Won.ensures.claimed
+settle-pass-requires-clause-won g c = won_at _ _ _ c.args.mutex.0 c.claim.ensures.table.its.placed (won_there _ _ _ c.in-Won.ensures.claimed)
+
+pub invariant_of-actor : goal.invariant_of-actor
+invariant_of-actor g c = actor_at_mutexes _ _ _ _ _ _ c.actor.invariant (ap (λ (a : SeatedActor _). a.table) c.actor.view_is ∙ c.requires.table.0) (ap (λ (a : SeatedActor _). first_of a.me.0) c.actor.view_is ∙ c.requires.table.1) (core_twice c.claim.ensures.core c.settle-pass.ensures.core) c.settle-pass.ensures.table
 
 pub apply-raised-requires-clause-answering : goal.apply-raised-requires-clause-answering
 apply-raised-requires-clause-answering g c = answers_roomier _ _ _ _ c.reserve.ensures.same c.requires.answering
@@ -17,29 +31,29 @@ apply-requires-clause-answering g c = answers_roomier _ _ _ _ c.reserve.ensures.
 
 pub returns-in_err-apply-in-Queued-clause-along : goal.returns-in_err-apply-in-Queued-clause-along
 returns-in_err-apply-in-Queued-clause-along g c =
-    along_call _ _ c.actor.view_is _ _ _ _ _ _ _ c.reserve.ensures.same (record { homes = c.claim.ensures.homes; numbers = c.claim.ensures.numbers }) c.apply.ensures.applied c.apply.ensures.same c.apply.ensures.suits c.apply.ensures.held
+    along_call _ _ (ap acting c.actor.view_is) _ _ _ _ _ _ _ c.reserve.ensures.same c.claim.ensures.seats c.apply.ensures.applied c.apply.ensures.same c.apply.ensures.suits c.apply.ensures.held
 
 pub returns-then-ceiling-clause-along : goal.returns-then-ceiling-clause-along
 returns-then-ceiling-clause-along g c =
-    along_call _ _ c.actor.view_is _ _ _ _ _ _ _ c.reserve.ensures.same (record { homes = c.settle-pass.ensures.homes ∙ c.claim.ensures.homes; numbers = c.settle-pass.ensures.numbers ∙ c.claim.ensures.numbers })
+    along_call _ _ (ap acting c.actor.view_is) _ _ _ _ _ _ _ c.reserve.ensures.same (same_twice c.claim.ensures.seats c.settle-pass.ensures.seats)
     c.apply-raised.ensures.applied c.apply-raised.ensures.same c.apply-raised.ensures.suits c.apply-raised.ensures.held
 
 pub returns-then-ceiling-clause-begun : goal.returns-then-ceiling-clause-begun
 returns-then-ceiling-clause-begun g c =
-    begins_raised _ _ c.actor.view_is _ _ _ _ _ c.args.until _ _ c.apply-raised.ensures.same _ c.in_ok-reserve.ensures _ _ _ c.if-ceiling.true c.in-Won.ensures.claimed c.settle-pass.ensures.settled c.apply-raised.ensures.applied
+    begins_raised _ _ (ap acting c.actor.view_is) _ _ _ _ _ c.args.until _ _ c.apply-raised.ensures.same _ c.in_ok-reserve.ensures _ _ _ c.if-ceiling.true c.in-Won.ensures.claimed c.settle-pass.ensures.settled c.apply-raised.ensures.applied
 
 pub returns-else-ceiling-clause-along : goal.returns-else-ceiling-clause-along
 returns-else-ceiling-clause-along g c =
-    along_none _ _ c.actor.view_is _ _ _ c.reserve.ensures.same c.requires.held c.requires.suits c.requires.legal (record { homes = c.settle-pass.ensures.homes ∙ c.claim.ensures.homes; numbers = c.settle-pass.ensures.numbers ∙ c.claim.ensures.numbers })
+    along_none _ _ (ap acting c.actor.view_is) _ _ _ c.reserve.ensures.same c.requires.held c.requires.suits c.requires.legal (same_twice c.claim.ensures.seats c.settle-pass.ensures.seats)
 
 pub returns-in_ok-apply-in-Queued-clause-along : goal.returns-in_ok-apply-in-Queued-clause-along
 returns-in_ok-apply-in-Queued-clause-along g c =
-    along_call _ _ c.actor.view_is _ _ _ _ _ _ _ c.reserve.ensures.same (record { homes = c.claim.ensures.homes; numbers = c.claim.ensures.numbers }) c.apply.ensures.applied c.apply.ensures.same c.apply.ensures.suits c.apply.ensures.held
+    along_call _ _ (ap acting c.actor.view_is) _ _ _ _ _ _ _ c.reserve.ensures.same c.claim.ensures.seats c.apply.ensures.applied c.apply.ensures.same c.apply.ensures.suits c.apply.ensures.held
 
 pub returns-in_ok-apply-in-Queued-clause-begun : goal.returns-in_ok-apply-in-Queued-clause-begun
 returns-in_ok-apply-in-Queued-clause-begun g c =
-    begins_waiting _ _ c.actor.view_is _ _ _ c.args.ceiling _ _ _ _ c.apply.ensures.same _ c.in_ok-reserve.ensures c.in-Queued.owner _ c.in-Queued.ensures.claimed c.in_ok-apply-in-Queued.ensures.applied
+    begins_waiting _ _ (ap acting c.actor.view_is) _ _ _ c.args.ceiling _ _ _ _ c.apply.ensures.same _ c.in_ok-reserve.ensures c.in-Queued.owner _ c.in-Queued.ensures.claimed c.in_ok-apply-in-Queued.ensures.applied
 
 pub returns-in-Seizing-clause-along : goal.returns-in-Seizing-clause-along
 returns-in-Seizing-clause-along g c =
-    along_none _ _ c.actor.view_is _ _ _ c.reserve.ensures.same c.requires.held c.requires.suits c.requires.legal (record { homes = c.claim.ensures.homes; numbers = c.claim.ensures.numbers })
+    along_none _ _ (ap acting c.actor.view_is) _ _ _ c.reserve.ensures.same c.requires.held c.requires.suits c.requires.legal c.claim.ensures.seats

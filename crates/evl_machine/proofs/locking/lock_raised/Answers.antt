@@ -1,22 +1,42 @@
-use Rattle.std.proofs.Common.{refl}
+use Rattle.std.proofs.Common.{Ok, refl, ap, sym, ◌∙◌}
+use Rattle.evl_machine.specs.Actors.{SeatedActor, acting}
 use Rattle.evl_machine.proofs.LockingLaws.{along_call, along_none, answers_roomier, locks_raised, the_same}
+use Rattle.evl_machine.proofs.SeatsAt.{at_table_of, core_of_step, core_twice, holds_for}
+use Rattle.evl_machine.specs.MutexSeats.{mutex_refusal}
+use Rattle.evl_machine.specs.MutexTokens.{seats_at}
+use Rattle.evl_machine.proofs.Visits.{actor_at_mutexes, same_core}
+use Rattle.evl_machine.proofs.WordCalls.{tries_so}
 use Rattle.evl_machine.proofs.locking.lock_raised.Goals as goal
 
 pub returns-in_err-reserve-clause-along : goal.returns-in_err-reserve-clause-along
 returns-in_err-reserve-clause-along g c = along_none _ _ refl _ _ _ c.reserve.ensures.same c.requires.held c.requires.suits c.requires.legal (the_same _)
 
+pub try_held-requires-clause-table : goal.try_held-requires-clause-table
+try_held-requires-clause-table g c = (at_table_of _ _ c.actor.view_is _ _ c.actor.invariant c.requires.table)
+
+pub try_held-requires-clause-holder : goal.try_held-requires-clause-holder
+try_held-requires-clause-holder g c = (holds_for _ _ c.actor.view_is c.args.core.now.shared.table_id c.args.core.now.shared.key.value c.requires.holder c.args.mutex.0)
+
+pub invariant_of-actor : goal.invariant_of-actor
+invariant_of-actor g c = actor_at_mutexes _ _ _ _ _ _ c.actor.invariant (ap (λ a. a.table) c.actor.view_is ∙ c.requires.table.0) (ap (λ a. Rattle.evl_machine.specs.Known.first_of a.me.0) c.actor.view_is ∙ c.requires.table.1) c.try_held.ensures.core c.try_held.ensures.table
+
 pub returns-in_err-pass-clause-along : goal.returns-in_err-pass-clause-along
 returns-in_err-pass-clause-along g c =
-    along_none _ _ c.actor.view_is _ _ _ c.reserve.ensures.same c.requires.held c.requires.suits c.requires.legal (record { homes = c.try_lock.ensures.homes; numbers = c.try_lock.ensures.numbers })
+    along_none _ _ (ap acting c.actor.view_is) _ _ _ c.reserve.ensures.same c.requires.held c.requires.suits c.requires.legal c.try_held.ensures.seats
 
 pub apply-raised-requires-clause-answering : goal.apply-raised-requires-clause-answering
 apply-raised-requires-clause-answering g c = answers_roomier _ _ _ _ c.reserve.ensures.same c.requires.answering
 
+pub returns-clause-core : goal.returns-clause-core
+returns-clause-core g c =
+    let one = core_of_step _ _ c.actor.view_is _ _ _ _ _ c.requires.table c.try_held.ensures.core c.try_held.ensures.table in
+    (core_twice one.0 (same_core _ _ c.apply-raised.ensures.seat.1), c.apply-raised.ensures.seat.0 ∙ one.1)
+
 pub returns-clause-along : goal.returns-clause-along
 returns-clause-along g c =
-    along_call _ _ c.actor.view_is _ _ _ _ _ _ _ c.reserve.ensures.same (record { homes = c.try_lock.ensures.homes; numbers = c.try_lock.ensures.numbers })
+    along_call _ _ (ap acting c.actor.view_is) _ _ _ _ _ _ _ c.reserve.ensures.same c.try_held.ensures.seats
     c.apply-raised.ensures.applied c.apply-raised.ensures.same c.apply-raised.ensures.suits c.apply-raised.ensures.held
 
 pub returns-clause-locked : goal.returns-clause-locked
 returns-clause-locked g c =
-    locks_raised _ _ c.actor.view_is _ _ _ _ _ _ _ _ _ _ c.in_ok-pass.ensures.tried c.apply-raised.ensures.same c.in_ok-reserve.ensures c.apply-raised.ensures.applied
+    locks_raised _ _ (ap acting c.actor.view_is) _ _ _ c.args.core.now.shared.key.value.history.board.mutexes.items c.args.mutex c.in_ok-pass.pass (seats_at c.try_held.new.seat.table_id c.try_held.new.seat.me.0 c.try_held.new.places) _ _ _ (tries_so c.args.core.now.shared.key.value.history.board.mutexes.items (seats_at c.actor.inside.seat.table_id c.actor.inside.seat.me.0 c.actor.inside.places) (seats_at c.try_held.new.seat.table_id c.try_held.new.seat.me.0 c.try_held.new.places) c.args.mutex.0 (Ok c.in_ok-pass.pass) (ap (λ (a : SeatedActor _). mutex_refusal c.args.core.now.shared.key.value.history.board.mutexes.items (acting a).mutexes c.args.mutex.0) c.actor.view_is ∙ c.requires.unrefused) c.in_ok-pass.ensures.tried) c.apply-raised.ensures.same c.in_ok-reserve.ensures c.apply-raised.ensures.applied

@@ -1,24 +1,40 @@
-use Rattle.std.proofs.Common.{ap, refl, sym, ◌∙◌, subst, Ok}
-use Rattle.evl_base.specs.declared.reply.Reply.TheVariants.{Handed}
-use Rattle.evl_machine.specs.Actors.{ActorState}
+use Rattle.std.proofs.Common.{◌≡◌, ap, refl, sym, ◌∙◌, subst, Ok}
 use Rattle.evl_machine.specs.Locking.{GoesAlong}
+use Rattle.evl_base.specs.declared.reply.Reply.TheVariants.{Handed}
+use Rattle.evl_machine.specs.Actors.{ActorState, SeatedActor, acting}
+use Rattle.evl_machine.specs.Known.{first_of}
+use Rattle.evl_machine.specs.MutexSeats.{HasOnce}
+use Rattle.evl_machine.specs.MutexTokens.{HasKernel, TellsTheSame}
 use Rattle.evl_machine.proofs.LockingLaws.{along_call, along_word, same_kernel, the_same}
-use Rattle.evl_machine.proofs.LockingCalls.{next_has_seat}
+use Rattle.evl_machine.proofs.LockingCalls.{next_named}
+use Rattle.evl_machine.proofs.SeatsAt.{core_twice}
+use Rattle.evl_machine.proofs.Visits.{same_core}
 use Rattle.evl_machine.proofs.locking.release.Goals as goal
-use Rattle.evl_machine.proofs.locking.release.Goals.{in-Ok-Handed+in-Some, in-Ok-Handed+in-None, in-Err}
+use Rattle.evl_machine.proofs.locking.release.Goals.{in-Ok-Handed, in-Err}
 
-pub offer-requires-clause-next : goal.offer-requires-clause-next
-offer-requires-clause-next g c =
-    next_has_seat _ _ _ _ _ _ _ _ _ c.in-Ok-Handed.more c.actor.view_is c.apply.ensures.same c.requires.legal c.requires.board c.requires.seats c.requires.once c.apply.ensures.applied
-    (c.in-Ok-Handed.is ∙ ap Ok (c.in-Ok-Handed.field-0-is ∙ ap (λ o. Handed o c.in-Ok-Handed.more) c.in-Some.is))
+pub hand_on-requires-clause-table : goal.hand_on-requires-clause-table
+hand_on-requires-clause-table g c = (c.apply.ensures.seat.0 ∙ c.requires.table.0, ap (λ m. first_of m.0) c.apply.ensures.seat.1 ∙ c.requires.table.1)
+
+pub hand_on-requires-clause-holder : goal.hand_on-requires-clause-holder
+hand_on-requires-clause-holder g c = subst (λ m. HasKernel m.0) (sym c.apply.ensures.seat.1) c.requires.holder
+
+pub hand_on-requires-clause-once : goal.hand_on-requires-clause-once
+hand_on-requires-clause-once g c = subst (λ seats. HasOnce seats c.args.pass) (sym c.apply.ensures.same.mutexes) c.requires.once
+
+pub hand_on-requires-clause-next : goal.hand_on-requires-clause-next
+hand_on-requires-clause-next g c = next_named _ _ _ _ _ _ _ c.in-Ok-Handed.next c.in-Ok-Handed.more c.apply.ensures.same c.requires.legal c.requires.board c.requires.seats c.requires.once c.apply.ensures.applied (c.in-Ok-Handed.is ∙ ap Ok c.in-Ok-Handed.field-0-is)
+
+pub returns-clause-core : goal.returns-clause-core
+returns-clause-core g c = elim c.match-apply.branch [
+  | in-Ok-Handed w ↦ subst (λ (z : SeatedActor _). TellsTheSame c.args.actor.now.me z.me × (z.table ≡ c.args.actor.now.table)) (sym w.actor-is) (core_twice (same_core _ _ c.apply.ensures.seat.1) w.hand_on.ensures.core.0, w.hand_on.ensures.core.1 ∙ c.apply.ensures.seat.0)
+  | in-Err w ↦ subst (λ (z : SeatedActor _). TellsTheSame c.args.actor.now.me z.me × (z.table ≡ c.args.actor.now.table)) (sym w.actor-is) (same_core _ _ c.apply.ensures.seat.1, c.apply.ensures.seat.0)
+]
 
 pub returns-clause-along : goal.returns-clause-along
 returns-clause-along g c =
     let went = along_call _ _ refl _ _ _ _ _ _ _ (same_kernel _) (the_same _) c.apply.ensures.applied c.apply.ensures.same c.apply.ensures.suits c.apply.ensures.held in
     elim c.match-apply.branch [
-      | in-Ok-Handed+in-Some w ↦ subst (λ (z : ActorState). GoesAlong c.args.actor.now c.args.kernel.now z c.apply.new.kernel) (sym w.actor-is)
-          (along_word _ _ _ _ _ _ c.actor.view_is went (record { homes = w.offer.ensures.homes; numbers = w.offer.ensures.numbers }))
-      | in-Ok-Handed+in-None w ↦ subst (λ (z : ActorState). GoesAlong c.args.actor.now c.args.kernel.now z c.apply.new.kernel) (sym w.actor-is)
-          (along_word _ _ _ _ _ _ c.actor.view_is went (record { homes = w.free.ensures.homes; numbers = w.free.ensures.numbers }))
-      | in-Err w ↦ subst (λ (z : ActorState). GoesAlong c.args.actor.now c.args.kernel.now z c.apply.new.kernel) (sym w.actor-is) went
+      | in-Ok-Handed w ↦ subst (λ (z : SeatedActor _). GoesAlong (acting c.args.actor.now) c.args.kernel.now (acting z) c.apply.new.kernel) (sym w.actor-is)
+          (subst (λ (z : ActorState). GoesAlong (acting c.args.actor.now) c.args.kernel.now z c.apply.new.kernel) (sym w.hand_on.ensures.same) (along_word _ _ _ _ _ _ refl went w.hand_on.ensures.seats))
+      | in-Err w ↦ subst (λ (z : SeatedActor _). GoesAlong (acting c.args.actor.now) c.args.kernel.now (acting z) c.apply.new.kernel) (sym w.actor-is) went
     ]

@@ -3,4 +3,4 @@ use Rattle.evl_machine.proofs.Staying.{free_held}
 use Rattle.evl_machine.proofs.actor.Actor.new.Goals as goal
 
 pub invariant_of-result : goal.invariant_of-result
-invariant_of-result g c = record { held = free_held Inband _ c.requires.free; awaits = tt; staxes = c.requires.numbers.0; mutexes = c.requires.numbers.1 }
+invariant_of-result g c = record { held = free_held Inband _ c.requires.free; awaits = tt; staxes = c.requires.numbers; places = c.requires.places }

@@ -29,3 +29,6 @@ returns-clause-table g c = (claim_made _ _ _ _ _ _ _ _ c.requires.table c.fetch_
 
 pub returns-clause-claimed : goal.returns-clause-claimed
 returns-clause-claimed g c = (claim_made _ _ _ _ _ _ _ _ c.requires.table c.fetch_or.ensures.0 c.args.core.now.shared.table_id.slots c.from-word.result 2147483648 0 c.fetch_or.result c.from-word.ensures _ c.requires.there c.fetch_or.ensures.2 c.claim_on.ensures).at
+
+pub returns-clause-seats : goal.returns-clause-seats
+returns-clause-seats g c = (claim_made _ _ _ _ _ _ _ _ c.requires.table c.fetch_or.ensures.0 c.args.core.now.shared.table_id.slots c.from-word.result 2147483648 0 c.fetch_or.result c.from-word.ensures _ c.requires.there c.fetch_or.ensures.2 c.claim_on.ensures).seats

@@ -36,3 +36,9 @@ returns-else-is_offered_to-clause-table g c = (forget_made _ _ _ _ _ _ _ _ c.req
 
 pub returns-else-is_offered_to-clause-forgotten : goal.returns-else-is_offered_to-clause-forgotten
 returns-else-is_offered_to-clause-forgotten g c = (forget_made _ _ _ _ _ _ _ _ c.requires.table c.load-found.ensures.0 c.args.core.now.shared.table_id.slots c.from-word.result 0 0 c.load-found.result c.from-word.ensures c.number.result false c.number.ensures.number (sym c.if-is_offered_to.false ∙ c.is_offered_to.ensures) c.load-found.ensures.2).at
+
+pub returns-then-is_offered_to-clause-seats : goal.returns-then-is_offered_to-clause-seats
+returns-then-is_offered_to-clause-seats g c = (forget_made _ _ _ _ _ _ _ _ c.requires.table c.load-found.ensures.0 c.args.core.now.shared.table_id.slots c.from-word.result 0 0 c.load-found.result c.from-word.ensures c.number.result true c.number.ensures.number (sym c.if-is_offered_to.true ∙ c.is_offered_to.ensures) c.load-found.ensures.2).seats
+
+pub returns-else-is_offered_to-clause-seats : goal.returns-else-is_offered_to-clause-seats
+returns-else-is_offered_to-clause-seats g c = (forget_made _ _ _ _ _ _ _ _ c.requires.table c.load-found.ensures.0 c.args.core.now.shared.table_id.slots c.from-word.result 0 0 c.load-found.result c.from-word.ensures c.number.result false c.number.ensures.number (sym c.if-is_offered_to.false ∙ c.is_offered_to.ensures) c.load-found.ensures.2).seats

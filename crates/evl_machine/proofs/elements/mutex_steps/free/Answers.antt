@@ -31,3 +31,6 @@ returns-clause-table g c = (free_made _ _ _ _ _ _ _ _ c.requires.table c.swap.en
 
 pub returns-clause-freed : goal.returns-clause-freed
 returns-clause-freed g c = (free_made _ _ _ _ _ _ _ _ c.requires.table c.swap.ensures.0 c.args.core.now.shared.table_id.slots c.from-word.result 0 0 c.swap.result (c.from-word.ensures ∙ ap (λ m. m.0) c.mutex.ensures) c.args.pass c.spend.new.self c.swap.ensures.2 c.requires.once c.spend.ensures.spent).at
+
+pub returns-clause-seats : goal.returns-clause-seats
+returns-clause-seats g c = (free_made _ _ _ _ _ _ _ _ c.requires.table c.swap.ensures.0 c.args.core.now.shared.table_id.slots c.from-word.result 0 0 c.swap.result (c.from-word.ensures ∙ ap (λ m. m.0) c.mutex.ensures) c.args.pass c.spend.new.self c.swap.ensures.2 c.requires.once c.spend.ensures.spent).seats

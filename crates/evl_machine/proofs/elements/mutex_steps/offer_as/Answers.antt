@@ -35,3 +35,6 @@ returns-clause-table g c = (offer_made _ _ _ _ _ _ _ _ c.requires.table c.swap.e
 
 pub returns-clause-offered : goal.returns-clause-offered
 returns-clause-offered g c = rw (c.requires.handing.0, c.requires.handing.1) (offer_made _ _ _ _ _ _ _ _ c.requires.table c.swap.ensures.0 c.args.core.now.shared.table_id.slots c.from-word.result c.offered_word.result 0 c.swap.result (c.from-word.ensures ∙ ap (λ m. m.0) c.mutex.ensures) c.args.pass g.H.Handing.next g.H.Handing.more c.spend.new.self c.swap.ensures.2 c.requires.once c.spend.ensures.spent).at
+
+pub returns-clause-seats : goal.returns-clause-seats
+returns-clause-seats g c = (offer_made _ _ _ _ _ _ _ _ c.requires.table c.swap.ensures.0 c.args.core.now.shared.table_id.slots c.from-word.result c.offered_word.result 0 c.swap.result (c.from-word.ensures ∙ ap (λ m. m.0) c.mutex.ensures) c.args.pass g.H.Handing.next g.H.Handing.more c.spend.new.self c.swap.ensures.2 c.requires.once c.spend.ensures.spent).seats

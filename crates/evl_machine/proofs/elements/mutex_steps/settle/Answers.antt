@@ -30,3 +30,6 @@ returns-clause-table g c = (settle_made _ _ _ _ _ _ _ _ c.requires.table c.swap.
 
 pub returns-clause-settled : goal.returns-clause-settled
 returns-clause-settled g c = (settle_made _ _ _ _ _ _ _ _ c.requires.table c.swap.ensures.0 c.args.core.now.shared.table_id.slots c.from-word.result (c.from-number.result + 1) 0 c.swap.result c.from-word.ensures c.own.result c.own.new.self c.swap.ensures.2 c.own.ensures.pass c.own.ensures.owned).at
+
+pub returns-clause-seats : goal.returns-clause-seats
+returns-clause-seats g c = (settle_made _ _ _ _ _ _ _ _ c.requires.table c.swap.ensures.0 c.args.core.now.shared.table_id.slots c.from-word.result (c.from-number.result + 1) 0 c.swap.result c.from-word.ensures c.own.result c.own.new.self c.swap.ensures.2 c.own.ensures.pass c.own.ensures.owned).seats

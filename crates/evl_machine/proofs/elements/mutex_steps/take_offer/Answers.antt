@@ -33,3 +33,6 @@ returns-clause-table g c = (take_made _ _ _ _ _ _ _ _ c.requires.table c.fetch_a
 
 pub returns-clause-taken : goal.returns-clause-taken
 returns-clause-taken g c = (take_made _ _ _ _ _ _ _ _ c.requires.table c.fetch_and.ensures.0 c.args.core.now.shared.table_id.slots c.from-word.result 18446744072635809791 0 c.fetch_and.result c.from-word.ensures c.own.result c.own.new.self c.fetch_and.ensures.2 c.own.ensures.pass c.own.ensures.owned).at
+
+pub returns-clause-seats : goal.returns-clause-seats
+returns-clause-seats g c = (take_made _ _ _ _ _ _ _ _ c.requires.table c.fetch_and.ensures.0 c.args.core.now.shared.table_id.slots c.from-word.result 18446744072635809791 0 c.fetch_and.result c.from-word.ensures c.own.result c.own.new.self c.fetch_and.ensures.2 c.own.ensures.pass c.own.ensures.owned).seats

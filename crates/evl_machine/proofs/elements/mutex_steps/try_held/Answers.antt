@@ -42,3 +42,9 @@ returns-else-compare_exchange-eq0-clause-table g c = (lose_held_made _ _ _ _ _ _
 
 pub returns-else-compare_exchange-eq0-clause-tried : goal.returns-else-compare_exchange-eq0-clause-tried
 returns-else-compare_exchange-eq0-clause-tried g c = (tt, (lose_held_made _ _ _ _ _ _ _ _ c.requires.table c.compare_exchange.ensures.0 c.args.core.now.shared.table_id.slots c.from-word.result 0 (c.from-number.result + 1) c.compare_exchange.result c.from-word.ensures c.compare_exchange.ensures.2 c.if-compare_exchange-eq0.false c.requires.free).at)
+
+pub returns-then-compare_exchange-eq0-clause-seats : goal.returns-then-compare_exchange-eq0-clause-seats
+returns-then-compare_exchange-eq0-clause-seats g c = (win_held_made _ _ _ _ _ _ _ _ c.requires.table c.compare_exchange.ensures.0 c.args.core.now.shared.table_id.slots c.from-word.result 0 (c.from-number.result + 1) c.compare_exchange.result c.from-word.ensures c.own.result c.own.new.self c.compare_exchange.ensures.2 c.if-compare_exchange-eq0.true c.requires.free c.own.ensures.pass c.own.ensures.owned).seats
+
+pub returns-else-compare_exchange-eq0-clause-seats : goal.returns-else-compare_exchange-eq0-clause-seats
+returns-else-compare_exchange-eq0-clause-seats g c = (lose_held_made _ _ _ _ _ _ _ _ c.requires.table c.compare_exchange.ensures.0 c.args.core.now.shared.table_id.slots c.from-word.result 0 (c.from-number.result + 1) c.compare_exchange.result c.from-word.ensures c.compare_exchange.ensures.2 c.if-compare_exchange-eq0.false c.requires.free).seats

@@ -1,35 +1,86 @@
-use Rattle.std.proofs.Common.{sym, subst}
-use Rattle.evl_machine.specs.Known.{ComesFrom, seen}
-use Rattle.evl_machine.specs.Calls.{IsCaller}
-use Rattle.evl_machine.proofs.Calling.{found_taken, may_continue, called, still_caller, suits_taken, took_and_gave}
-use Rattle.evl_machine.proofs.Knowing.{answers_still, comes_on}
+use Rattle.std.proofs.Common.{length, refl, ap, sym, ◌∙◌, subst}
+use Rattle.evl_base.specs.declared.numbers.ThreadId.{ThreadId}
+use Rattle.evl_kernel.specs.KernelViews.{KernelView}
+use Rattle.evl_machine.specs.Actors.{ActorState, AreHeldAt, ClaimsOneOf, Suits, acting}
+use Rattle.evl_machine.specs.Calls.{Applied, IsCaller}
+use Rattle.evl_machine.specs.Handles.{account_of}
+use Rattle.evl_machine.specs.Known.{first_of, seen}
+use Rattle.evl_machine.specs.Seats.{CoreMe}
+use Rattle.evl_machine.specs.StaxSeats.{holds_stax}
+use Rattle.evl_machine.proofs.Calling.{found_taken, called_none}
+use Rattle.evl_machine.proofs.Knowing.{answers_still, first_in_me}
+use Rattle.evl_machine.proofs.Visits.{acted_by, call_along, called_by, comes_still, has_still, same_core, suits_back, suits_opened, suits_same}
 use Rattle.evl_machine.proofs.machine.MachineOf.call_with.Goals as goal
 
-pub apply-reply-requires-clause-answering : goal.apply-reply-requires-clause-answering
-apply-reply-requires-clause-answering g c = answers_still _ _ _ _ c.in-Some.ensures.taken.1 c.requires.answering
+pub returns-in_default-clause-rests : goal.returns-in_default-clause-rests
+returns-in_default-clause-rests g c = subst (λ (z : CoreMe (KernelView _) × ThreadId). IsCaller z.0 z.1) (λ i. (sym c.in_default.ensures.opened i, sym c.in_default.ensures.kept.0 i)) c.requires.caller.1
 
-pub apply-reply-requires-clause-suits : goal.apply-reply-requires-clause-suits
-apply-reply-requires-clause-suits g c = suits_taken _ _ _ c.in-Some.kernel c.requires.caller.1 c.in-Some.ensures.taken.0 c.requires.suits
+pub returns-in_default-clause-suits : goal.returns-in_default-clause-suits
+returns-in_default-clause-suits g c = suits_same c.args.actor.now c.open.new.actor c.in_default.ensures.same c.in_default.ensures.kept.0 c.in_default.ensures.opened c.requires.suits
 
-pub give_kernel-requires-clause-comes : goal.give_kernel-requires-clause-comes
-give_kernel-requires-clause-comes g c =
-    subst (λ first. ComesFrom first c.apply-reply.new.kernel) (sym c.in-Some.ensures.same.2) (comes_on _ c.in-Some.kernel _ c.in-Some.ensures.taken.1 c.apply-reply.ensures.applied.comes)
+pub returns-in_default-clause-held : goal.returns-in_default-clause-held
+returns-in_default-clause-held g c = c.in_default.ensures.held
 
-pub give_kernel-requires-clause-kernel : goal.give_kernel-requires-clause-kernel
-give_kernel-requires-clause-kernel g c =
-    may_continue _ _ _ _ _ c.in-Some.kernel c.apply-reply.new.kernel c.requires.caller.1 c.in-Some.ensures.taken.0 c.apply-reply.ensures.applied
-
-pub returns-clause-rests : goal.returns-clause-rests
-returns-clause-rests g c =
-    subst (λ thread. IsCaller (seen c.give_kernel.new.seat.me) thread) (sym c.apply-reply.ensures.same.thread)
-    (still_caller _ _ _ _ _ _ c.in-Some.kernel c.apply-reply.new.kernel c.requires.caller.1 c.in-Some.ensures.taken.0 c.apply-reply.ensures.applied c.give_kernel.ensures.given)
-
-pub returns-clause-called : goal.returns-clause-called
-returns-clause-called g c =
-    called _ _ _ _ _ _ _ c.in-Some.kernel c.apply-reply.new.kernel c.in-Some.ensures.taken.1.limit c.requires.caller.1 c.in-Some.ensures.taken.0 c.apply-reply.ensures.applied c.give_kernel.ensures.given
+pub returns-in_default-clause-called : goal.returns-in_default-clause-called
+returns-in_default-clause-called g c = called_none _ _ _ _ c.args.call c.requires.caller.1 c.in_default.ensures.opened
 
 pub returns-in_default-clause-acted : goal.returns-in_default-clause-acted
 returns-in_default-clause-acted g c = found_taken _ _ _ c.in_default.ensures.event
 
+pub apply-reply-requires-clause-answering : goal.apply-reply-requires-clause-answering
+apply-reply-requires-clause-answering g c = answers_still _ _ _ _ c.in-Some.ensures.opened.comes c.requires.answering
+
+pub apply-reply-requires-clause-suits : goal.apply-reply-requires-clause-suits
+apply-reply-requires-clause-suits g c = suits_opened c.args.actor.now c.open.new.actor c.in-Some.kernel c.in-Some.ensures.opened c.requires.suits c.in-Some.ensures.same.1
+
+pub apply-reply-requires-clause-stays : goal.apply-reply-requires-clause-stays
+apply-reply-requires-clause-stays g c holds = c.requires.stays (ap (λ (a : ActorState). holds_stax a.staxes) (sym c.in-Some.ensures.same.1) ∙ holds)
+
+pub apply-reply-requires-clause-there : goal.apply-reply-requires-clause-there
+apply-reply-requires-clause-there g c = subst (λ ps. ClaimsOneOf (length ps) c.args.call) (sym c.in-Some.ensures.kept.1) c.requires.there
+
+pub shut-requires-clause-machine : goal.shut-requires-clause-machine
+shut-requires-clause-machine g c = c.apply-reply.ensures.seat.0 ∙ c.in-Some.ensures.same.0 ∙ c.requires.caller.0
+
+pub shut-requires-clause-comes : goal.shut-requires-clause-comes
+shut-requires-clause-comes g c =
+    let e = c.apply-reply.ensures in
+    comes_still c.args.actor.now c.open.new.actor c.in-Some.kernel c.in-Some.ensures.opened c.requires.suits c.in-Some.ensures.same.1 c.apply-reply.new.self c.apply-reply.new.kernel (same_core c.open.new.actor.me c.apply-reply.new.self.me e.seat.1) (call_along c.open.new.actor c.apply-reply.new.self c.in-Some.kernel c.apply-reply.new.kernel c.args.call _ e.applied e.same e.suits e.held)
+
+pub shut-requires-clause-held : goal.shut-requires-clause-held
+shut-requires-clause-held g c =
+    let e = c.apply-reply.ensures in
+    has_still c.args.actor.now c.open.new.actor c.in-Some.kernel c.in-Some.ensures.opened c.requires.suits c.in-Some.ensures.same.1 c.apply-reply.new.self c.apply-reply.new.kernel (same_core c.open.new.actor.me c.apply-reply.new.self.me e.seat.1) (call_along c.open.new.actor c.apply-reply.new.self c.in-Some.kernel c.apply-reply.new.kernel c.args.call _ e.applied e.same e.suits e.held)
+
+pub returns-clause-same : goal.returns-clause-same
+returns-clause-same g c =
+    let e = c.apply-reply.ensures in
+    let s = c.shut.ensures.same in
+    let o = c.in-Some.ensures.same in (
+      s.0 ∙ e.seat.0 ∙ o.0,
+      s.2 ∙ ap first_in_me e.seat.1 ∙ o.2,
+      record {
+        thread = ap (λ (a : ActorState). a.thread) s.1 ∙ e.same.thread ∙ ap (λ (a : ActorState). a.thread) o.1;
+        staxes = ap (λ (a : ActorState). a.staxes) s.1 ∙ e.same.staxes ∙ ap (λ (a : ActorState). a.staxes) o.1;
+        mutexes = ap (λ (a : ActorState). a.mutexes) s.1 ∙ e.same.mutexes ∙ ap (λ (a : ActorState). a.mutexes) o.1;
+      },
+    )
+
+pub returns-clause-suits : goal.returns-clause-suits
+returns-clause-suits g c =
+    let e = c.apply-reply.ensures in
+    suits_back c.args.actor.now c.open.new.actor c.in-Some.kernel c.in-Some.ensures.opened c.requires.suits c.in-Some.ensures.same.1 c.apply-reply.new.self c.apply-reply.new.kernel (same_core c.open.new.actor.me c.apply-reply.new.self.me e.seat.1) (call_along c.open.new.actor c.apply-reply.new.self c.in-Some.kernel c.apply-reply.new.kernel c.args.call _ e.applied e.same e.suits e.held) c.shut.new.actor c.shut.ensures.same c.shut.ensures.account
+
+pub returns-clause-held : goal.returns-clause-held
+returns-clause-held g c = subst (λ (z : ActorState). AreHeldAt z.stage z.staxes) (sym c.shut.ensures.same.1) c.apply-reply.ensures.held
+
+pub returns-clause-called : goal.returns-clause-called
+returns-clause-called g c =
+    let e = c.apply-reply.ensures in
+    let now = c.shut.ensures.account ∙ ap (λ (m : CoreMe (KernelView _)). Rattle.evl_machine.specs.Accounts.informed c.apply-reply.new.kernel.history (account_of m)) (ap seen e.seat.1) in
+    called_by _ _ _ c.open.new.actor.me c.in-Some.kernel c.in-Some.ensures.opened c.args.call _ _ (subst (λ (t : ThreadId). Applied c.in-Some.kernel t.0 c.args.call c.apply-reply.result c.apply-reply.new.kernel) c.in-Some.ensures.kept.0 e.applied) _ now
+
 pub returns-clause-acted : goal.returns-clause-acted
-returns-clause-acted g c = took_and_gave _ _ _ _ _ _ _ c.apply-reply.ensures.applied.answers c.in-Some.ensures.event c.in-Some.ensures.same.2 c.give_kernel.ensures.event
+returns-clause-acted g c =
+    let e = c.apply-reply.ensures in
+    acted_by _ _ _ c.open.new.actor.me c.in-Some.kernel c.in-Some.ensures.opened c.args.call _ _ (subst (λ (t : ThreadId). Applied c.in-Some.kernel t.0 c.args.call c.apply-reply.result c.apply-reply.new.kernel) c.in-Some.ensures.kept.0 e.applied) c.apply-reply.new.self.me _ e.seat.1 c.in-Some.ensures.event c.shut.ensures.event

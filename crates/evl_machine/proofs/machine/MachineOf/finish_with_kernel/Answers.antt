@@ -1,34 +1,57 @@
-use Rattle.std.proofs.Common.{ap, inr, sym, ◌∙◌, subst}
+use Rattle.std.proofs.Common.{◌≡◌, length, map, refl, ap, inl, inr, sym, ◌∙◌, subst}
 use Rattle.evl_kernel.specs.Callbacks.{AnswersAsTold}
 use Rattle.evl_kernel.specs.KernelViews.{KernelView}
-use Rattle.evl_machine.specs.Actors.{Suits}
-use Rattle.evl_machine.specs.Calls.{IsAtRest, account_in, first_in}
-use Rattle.evl_machine.specs.Handles.{CallerState, MachineState, caller_of, machine_of}
-use Rattle.evl_machine.specs.Known.{ComesFrom}
-use Rattle.evl_machine.specs.declared.caller.CallerOf.TheInside.{Inside}
-use Rattle.evl_machine.proofs.Visits.{opened_answers, opened_suits, stage_at, still_comes, visited_at}
+use Rattle.evl_machine.specs.Actors.{ActorState, acting}
+use Rattle.evl_machine.specs.Handles.{CallerState, MachineState}
+use Rattle.evl_machine.proofs.Visits.{comes_still, finds_taken, has_still, opened_answers, resting_same, stage_back, stage_resting, suits_back, suits_opened, visited_by}
+use Rattle.evl_machine.proofs.Opened.{opened_fits, places_there}
 use Rattle.evl_machine.proofs.machine.MachineOf.finish_with_kernel.Goals as goal
+
+pub open-requires-clause-machine : goal.open-requires-clause-machine
+open-requires-clause-machine g c = ap (λ (s : CallerState _). s.machine.id) c.caller.view_is ∙ ap (λ (m : MachineState _). m.id) c.requires.machine
+
+pub finish-result-requires-clause-table : goal.finish-result-requires-clause-table
+finish-result-requires-clause-table g c =
+    let machine = ap (λ (s : CallerState _). s.machine) c.caller.view_is ∙ c.requires.machine ∙ sym c.self.view_is in
+    (c.in-Some.ensures.same.0 ∙ ap (λ (m : MachineState _). m.id) machine, c.in-Some.ensures.same.2 ∙ ap (λ (m : MachineState _). m.first) machine)
 
 pub finish-result-requires-clause-answering : goal.finish-result-requires-clause-answering
 finish-result-requires-clause-answering g c =
-    let same = ap (λ (x : Inside _ _). first_in x.core.views) c.caller-inside.view_is ∙ ap (λ (s : CallerState _). s.machine.first) c.caller.view_is ∙ ap (λ (m : MachineState _). m.first) c.requires.machine in
-    opened_answers _ _ _ _ _ c.in-Some.ensures.opened (subst (λ (first : KernelView _). AnswersAsTold g.C.Handler.declared g.C.Handler.plan first.callbacks) (sym same) c.requires.answering)
+    let same = ap (λ (s : CallerState _). s.machine.first) c.caller.view_is ∙ ap (λ (m : MachineState _). m.first) c.requires.machine in
+    opened_answers _ _ _ c.open.new.actor.me c.in-Some.kernel c.in-Some.ensures.opened (subst (λ (first : KernelView _). AnswersAsTold g.C.Handler.declared g.C.Handler.plan first.callbacks) (sym same) c.requires.answering)
 
 pub finish-result-requires-clause-suits : goal.finish-result-requires-clause-suits
-finish-result-requires-clause-suits g c =
-    let inv = subst (λ (x : Inside _ _). IsAtRest x.core.views x.actor.thread × Suits x.actor (account_in x.core.views).seen) (sym c.caller-inside.view_is) c.caller.invariant in
-    opened_suits _ _ _ _ _ c.in-Some.ensures.opened inv.1
+finish-result-requires-clause-suits g c = suits_opened c.caller.inside.actor c.open.new.actor c.in-Some.kernel c.in-Some.ensures.opened c.caller.invariant.1 c.in-Some.ensures.same.1
+
+pub finish-result-requires-clause-there : goal.finish-result-requires-clause-there
+finish-result-requires-clause-there g c = places_there c.caller.inside.actor c.open.new.actor c.args.caller.now _ c.caller.view_is c.in-Some.ensures.kept.1 c.requires.there
+
+pub finish-result-requires-clause-board : goal.finish-result-requires-clause-board
+finish-result-requires-clause-board g c =
+    let machine = ap (λ (s : CallerState _). s.machine) c.caller.view_is ∙ c.requires.machine ∙ sym c.self.view_is in
+    opened_fits _ _ _ c.open.new.actor.me c.in-Some.kernel c.in-Some.ensures.opened (ap (λ (m : MachineState _). m.first) machine) c.self.invariant.4
+
+pub shut-requires-clause-machine : goal.shut-requires-clause-machine
+shut-requires-clause-machine g c = c.finish-result.ensures.core.1 ∙ c.in-Some.ensures.same.0 ∙ ap (λ (s : CallerState _). s.machine.id) c.caller.view_is ∙ ap (λ (m : MachineState _). m.id) c.requires.machine
 
 pub shut-requires-clause-comes : goal.shut-requires-clause-comes
-shut-requires-clause-comes g c =
-    let opened = c.in-Some.ensures.opened in
-    subst (λ (first : KernelView _). ComesFrom first c.finish-result.new.kernel) (sym opened.first_is) (still_comes _ _ _ _ _ opened _ _ c.finish-result.ensures.along)
+shut-requires-clause-comes g c = comes_still c.caller.inside.actor c.open.new.actor c.in-Some.kernel c.in-Some.ensures.opened c.caller.invariant.1 c.in-Some.ensures.same.1 c.finish-result.new.actor c.finish-result.new.kernel c.finish-result.ensures.core.0 c.finish-result.ensures.along
+
+pub shut-requires-clause-held : goal.shut-requires-clause-held
+shut-requires-clause-held g c = has_still c.caller.inside.actor c.open.new.actor c.in-Some.kernel c.in-Some.ensures.opened c.caller.invariant.1 c.in-Some.ensures.same.1 c.finish-result.new.actor c.finish-result.new.kernel c.finish-result.ensures.core.0 c.finish-result.ensures.along
+
+pub invariant_of-caller : goal.invariant_of-caller
+invariant_of-caller g c = (c.shut.ensures.rests, suits_back c.caller.inside.actor c.open.new.actor c.in-Some.kernel c.in-Some.ensures.opened c.caller.invariant.1 c.in-Some.ensures.same.1 c.finish-result.new.actor c.finish-result.new.kernel c.finish-result.ensures.core.0 c.finish-result.ensures.along c.shut.new.actor c.shut.ensures.same c.shut.ensures.account)
 
 pub returns-in-Some-clause-visits : goal.returns-in-Some-clause-visits
 returns-in-Some-clause-visits g c =
-    let inv = subst (λ (x : Inside _ _). IsAtRest x.core.views x.actor.thread × Suits x.actor (account_in x.core.views).seen) (sym c.caller-inside.view_is) c.caller.invariant in
-    let was = ap (λ (x : Inside _ _). caller_of (machine_of x.core.table_id (first_in x.core.views) x.actor.staxes x.actor.mutexes) (account_in x.core.views) x.actor.staxes x.actor.mutexes) c.caller-inside.view_is ∙ c.caller.view_is in
-    inr (visited_at _ _ _ _ _ c.in-Some.ensures.opened _ _ c.finish-result.ensures.along _ _ _ _ _ _ was (c.shut.ensures.table ∙ c.in-Some.ensures.back) c.shut.ensures.first inv.1 c.shut.ensures.account c.finish-result.ensures.finished c.in-Some.ensures.event c.shut.ensures.event)
+    inr (visited_by c.caller.inside.actor c.open.new.actor c.in-Some.kernel c.in-Some.ensures.opened c.caller.invariant.1 c.in-Some.ensures.same.1 c.finish-result.new.actor c.finish-result.new.kernel c.finish-result.ensures.core.0 c.finish-result.ensures.along c.shut.new.actor c.shut.ensures.same c.shut.ensures.account _ _ c.caller.view_is c.in-Some.ensures.same.0 c.finish-result.ensures.core.1 c.finish-result.ensures.finished c.in-Some.ensures.event c.shut.ensures.event)
 
 pub returns-in-Some-clause-stage : goal.returns-in-Some-clause-stage
-returns-in-Some-clause-stage g c = stage_at _ _ _ _ _ c.in-Some.ensures.opened _ _ c.finish-result.ensures.along _ c.shut.ensures.account
+returns-in-Some-clause-stage g c = stage_back c.caller.inside.actor c.open.new.actor c.in-Some.kernel c.in-Some.ensures.opened c.caller.invariant.1 c.in-Some.ensures.same.1 c.finish-result.new.actor c.finish-result.new.kernel c.finish-result.ensures.core.0 c.finish-result.ensures.along c.shut.new.actor c.shut.ensures.same c.shut.ensures.account
+
+pub returns-in-None-clause-visits : goal.returns-in-None-clause-visits
+returns-in-None-clause-visits g c = inl (refl, finds_taken c.caller.inside.actor c.open.new.actor c.in-None.ensures.same c.in-None.ensures.kept.0 c.in-None.ensures.opened _ c.caller.view_is c.in-None.ensures.event)
+
+pub returns-in-None-clause-stage : goal.returns-in-None-clause-stage
+returns-in-None-clause-stage g c = stage_resting c.open.new.actor c.in-None.ensures.held (resting_same c.caller.inside.actor c.open.new.actor c.in-None.ensures.same c.in-None.ensures.kept.0 c.in-None.ensures.opened c.caller.invariant)

@@ -5,7 +5,8 @@ use Rattle.evl_kernel.specs.KernelViews.{KernelView}
 use Rattle.evl_machine.specs.Events.{Gives}
 use Rattle.evl_machine.specs.Handles.{MachineState, account_of}
 use Rattle.evl_machine.specs.Known.{ComesFrom, past_of, room_of, seen}
-use Rattle.evl_machine.proofs.Knowing.{gives_known, gave_seen, first_in_me}
+use Rattle.evl_machine.specs.MutexTokens.{KeepsPlaces}
+use Rattle.evl_machine.proofs.Knowing.{gives_known, gave_places, gave_seen, first_in_me, hand_in_me}
 use Rattle.evl_machine.proofs.Taking.{is_loaded}
 use Rattle.evl_machine.proofs.machine.MachineOf.give_kernel.Goals as goal
 
@@ -33,3 +34,8 @@ pub returns-clause-given : goal.returns-clause-given
 returns-clause-given g c =
     let is = is_loaded past_of room_of (account_of (seen c.args.seat.now.me)) c.args.kernel (seen c.args.seat.now.me) (seen c.exchange.new.seat.me) c.requires.kernel.0 (ap seen c.exchange.ensures.3) in
     (gave_seen (step 0 0 0 0 none) 0 _ _ _ c.args.kernel is c.store.ensures.2).0
+
+pub returns-clause-places : goal.returns-clause-places
+returns-clause-places g c =
+    let is = is_loaded past_of room_of (account_of (seen c.args.seat.now.me)) c.args.kernel (seen c.args.seat.now.me) (seen c.exchange.new.seat.me) c.requires.kernel.0 (ap seen c.exchange.ensures.3) in
+    subst (λ hand. KeepsPlaces hand c.store.new.seat.me.0) (ap hand_in_me c.exchange.ensures.3) (gave_places (step 0 0 0 0 none) 0 _ _ _ c.args.kernel is c.store.ensures.2)

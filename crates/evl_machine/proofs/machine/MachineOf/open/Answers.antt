@@ -1,11 +1,24 @@
-use Rattle.std.proofs.Common.{ap, ◌∙◌}
-use Rattle.evl_machine.specs.Calls.{account_in, first_in}
-use Rattle.evl_machine.proofs.Visits.{opens_by}
+use Rattle.std.proofs.Common.{◌≡◌, MatchOption, refl, ap, sym, ◌∙◌, subst}
+use Rattle.evl_machine.specs.Actors.{SeatedActor, acting}
+use Rattle.evl_machine.specs.Handles.{account_of}
+use Rattle.evl_machine.specs.InHand.{Opens}
+use Rattle.evl_machine.specs.Known.{first_of, seen}
+use Rattle.evl_machine.proofs.SeatsAt.{acting_kept}
+use Rattle.evl_machine.proofs.Visits.{actor_kept, opens_or_not}
 use Rattle.evl_machine.proofs.machine.MachineOf.open.Goals as goal
 
-pub returns-in-Some-clause-opened : goal.returns-in-Some-clause-opened
-returns-in-Some-clause-opened g c =
-    let seat = c.seat_of-seat.ensures in
-    let took = c.in-Some.ensures in
-    let badge = c.replace-badge.ensures.value in
-    opens_by _ _ _ _ _ c.in-Some.kernel seat.caller (seat.first ∙ ap (λ b. first_in b.views) badge) (seat.account ∙ ap (λ b. account_in b.views) badge) took.taken.0 took.taken.1 took.same.2
+pub invariant_of-actor : goal.invariant_of-actor
+invariant_of-actor g c =
+    let took = c.take_kernel.ensures in
+    actor_kept _ _ _ c.actor.invariant took.same.0 took.same.2 took.places
+
+pub returns-clause-same : goal.returns-clause-same
+returns-clause-same g c =
+    let took = c.take_kernel.ensures in
+    let was = c.actor.view_is in
+    (took.same.0 ∙ ap (λ (a : SeatedActor _). a.table) was, acting_kept (record { table = c.actor.inside.seat.table_id; me = c.actor.inside.seat.me; thread = c.actor.inside.thread; stage = c.actor.inside.stage; wait = c.actor.inside.wait; staxes = c.actor.inside.staxes; places = c.actor.inside.places }) c.take_kernel.new.seat.table_id c.take_kernel.new.seat.me took.same.0 took.places ∙ ap acting was, took.same.2 ∙ ap (λ (a : SeatedActor _). first_of a.me.0) was)
+
+pub returns-clause-opened : goal.returns-clause-opened
+returns-clause-opened g c =
+    let took = c.take_kernel.ensures in
+    opens_or_not (record { table = c.actor.inside.seat.table_id; me = c.actor.inside.seat.me; thread = c.actor.inside.thread; stage = c.actor.inside.stage; wait = c.actor.inside.wait; staxes = c.actor.inside.staxes; places = c.actor.inside.places }) c.args.actor.now c.take_kernel.new.seat.me _ c.actor.view_is c.requires.rests took.taken took.same.2

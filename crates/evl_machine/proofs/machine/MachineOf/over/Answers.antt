@@ -2,7 +2,7 @@ use Rattle.std.proofs.Common.{sym, subst}
 use Rattle.evl_kernel.specs.Callbacks.{AnswersAsTold}
 use Rattle.evl_kernel.specs.KernelViews.{KernelView}
 use Rattle.evl_machine.specs.Homes.{AreHomes}
-use Rattle.evl_machine.proofs.Newcomers.{gate_homes, mutex_bounds}
+use Rattle.evl_machine.proofs.Newcomers.{gate_homes, made_bounds}
 use Rattle.evl_machine.proofs.machine.MachineOf.over.Goals as goal
 
 pub returns-in_ok-made-in-Ok-clause-answering : goal.returns-in_ok-made-in-Ok-clause-answering
@@ -12,4 +12,4 @@ pub returns-in_ok-made-in-Ok-clause-homes : goal.returns-in_ok-made-in-Ok-clause
 returns-in_ok-made-in-Ok-clause-homes g c =
     let made = c.in-Ok.ensures.made in
     let homes = c.in_ok-made-in-Ok.ensures.homes in
-    (subst (AreHomes _) (sym homes.0) (gate_homes _ _ _ made.gates), subst (AreHomes _) (sym homes.1) (mutex_bounds _ _ _ made.words))
+    (subst (AreHomes _) (sym homes.0) (gate_homes _ _ _ made.gates), made_bounds _ _ _ _ _ homes.1 made.kinds)

@@ -6,7 +6,8 @@ use Rattle.evl_machine.specs.Handles.{MachineState, account_of}
 use Rattle.evl_machine.specs.declared.views.Account.{Account}
 use Rattle.evl_machine.specs.Events.{Takes}
 use Rattle.evl_machine.specs.Known.{first_of, past_of, room_of, seen}
-use Rattle.evl_machine.proofs.Knowing.{takes_known, took_seen, first_in_me}
+use Rattle.evl_machine.specs.MutexTokens.{HasKernel, KeepsPlaces}
+use Rattle.evl_machine.proofs.Knowing.{takes_known, took_holds, took_places, took_seen, first_in_me, hand_in_me}
 use Rattle.evl_machine.proofs.Taking.{one_slot, takes_out, comes_out}
 use Rattle.evl_machine.proofs.machine.MachineOf.take_kernel.Goals as goal
 
@@ -54,3 +55,16 @@ returns-then-compare_exchange-ne0-clause-same g c =
 pub returns-then-compare_exchange-ne0-clause-taken : goal.returns-then-compare_exchange-ne0-clause-taken
 returns-then-compare_exchange-ne0-clause-taken g c =
     (took_seen (step 0 0 0 1 none) _ _ _ _ c.requires.1 c.compare_exchange.ensures.2).1 c.if-compare_exchange-ne0.true
+
+pub returns-clause-places : goal.returns-clause-places
+returns-clause-places g c = subst (λ hand. KeepsPlaces c.args.seat.now.me.0 hand) (sym (ap hand_in_me c.exchange.ensures.3)) (took_places (step 0 0 0 1 none) _ _ _ _ c.requires.1 c.compare_exchange.ensures.2)
+
+pub returns-then-compare_exchange-ne0-clause-places : goal.returns-then-compare_exchange-ne0-clause-places
+returns-then-compare_exchange-ne0-clause-places g c = took_places (step 0 0 0 1 none) _ _ _ _ c.requires.1 c.compare_exchange.ensures.2
+
+pub returns-clause-holder : goal.returns-clause-holder
+returns-clause-holder g c =
+    let told = took_seen (step 0 0 0 1 none) _ _ _ _ c.requires.1 c.compare_exchange.ensures.2 in
+    let found = c.if-compare_exchange-ne0.false in
+    comes_out past_of room_of _ (seen c.args.seat.now.me) (seen c.compare_exchange.new.seat.me) _ _ _ (told.0 found) c.exchange.ensures.2
+    (subst HasKernel (sym (ap hand_in_me c.exchange.ensures.3)) (took_holds (step 0 0 0 1 none) _ _ _ _ c.requires.1 c.compare_exchange.ensures.2 found))

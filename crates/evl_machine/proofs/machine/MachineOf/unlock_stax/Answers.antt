@@ -1,6 +1,5 @@
 use Rattle.std.proofs.Common.{sym, subst}
-use Rattle.evl_machine.specs.Actors.{Suits}
-use Rattle.evl_machine.specs.Calls.{IsAtRest, account_in}
+use Rattle.evl_machine.specs.Callers.{IsResting}
 use Rattle.evl_machine.specs.declared.caller.CallerOf.TheInside.{Inside}
 use Rattle.evl_machine.proofs.Staying.{at_stage}
 use Rattle.evl_machine.proofs.StaxCalls.{actor_at_staxes, left_held}
@@ -11,5 +10,5 @@ invariant_of-caller-inside g c = actor_at_staxes _ _ c.caller-inside.invariant (
 
 pub returns-clause-stage : goal.returns-clause-stage
 returns-clause-stage g c =
-    let inv = subst (λ (x : Inside _ _). IsAtRest x.core.views x.actor.thread × Suits x.actor (account_in x.core.views).seen) (sym c.caller-inside.view_is) c.caller.invariant in
+    let inv = subst (λ (x : Inside _ _). IsResting x.actor) (sym c.caller-inside.view_is) c.caller.invariant in
     at_stage _ _ _ _ (left_held _ _ _ _ _ c.unlock.ensures.left c.caller-inside.invariant.held) inv.1 inv.0.own

@@ -1,8 +1,8 @@
-use Rattle.std.proofs.Common.{◌≡◌, ◌+◌, ap, arith}
+use Rattle.std.proofs.Common.{◌≡◌, ◌≢◌, ◌+◌, ap, arith}
 use Rattle.evl_words.specs.declared.mutex.place.MutexPlace.{MutexPlace}
 use Rattle.evl_machine.specs.MutexPlaces.{deepened, place_passes}
 use Rattle.evl_machine.proofs.MutexPlaces.{held_by, place_there}
-use Rattle.evl_machine.proofs.SeatLists.{at-seat, count-room, counted-set, some-within}
+use Rattle.evl_machine.proofs.SeatLists.{at-seat, count-room, counted-set, some-here, some-within}
 use Rattle.evl_machine.proofs.elements.mutex_places.MutexPlaces.nest.Goals as goal
 
 pub recounted-self-inside-requires : goal.recounted-self-inside-requires
@@ -25,3 +25,10 @@ pub returns-clause-pass : goal.returns-clause-pass
 returns-clause-pass g c =
     let there = place_there c.self.inside.places.items _ c.from.result _ c.index_mut-place.result.now c.self.view_is c.from.ensures (some-within _ _ _ c.requires.there) c.index_mut-place.ensures.value in
     rw (← c.self.view_is, ← c.from.ensures) (held_by _ c.self.inside.places.items c.from.result c.index_mut-place.result.now there c.nest-pass.ensures.pass)
+
+pub nest-pass-requires : goal.nest-pass-requires
+nest-pass-requires g c =
+    let there = place_there c.self.inside.places.items _ c.from.result _ c.index_mut-place.result.now c.self.view_is c.from.ensures (some-within _ _ _ c.requires.there) c.index_mut-place.ensures.value in
+    let few = c.self.invariant.bounded c.from.result c.index_mut-place.result.now there in
+    let other = some-here (λ (p : MutexPlace). p.depth ≢ 255) _ _ _ _ c.index_mut-place.result.now c.self.view_is c.from.ensures there c.requires.there in
+    omega (arith, few, other)

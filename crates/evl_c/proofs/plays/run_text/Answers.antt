@@ -1,0 +1,14 @@
+use Rattle.std.proofs.Common.{◌≡◌, ◌∙◌, List, map, take_all, ap, arith}
+use Rattle.evl_kernel.specs.States.{Handler}
+use Rattle.evl_shell.specs.Runs.{trace_of}
+use Rattle.evl_shell.specs.Runs.{handlers_of}
+use Rattle.evl_c.specs.Forms.{handler_of}
+use Rattle.evl_c.specs.declared.forms.PlanForm.{PlanForm}
+use Rattle.evl_c.proofs.PlayLemmas.{runs}
+use Rattle.evl_c.proofs.plays.run_text.Goals as goal
+
+pub returns : goal.returns
+returns c =
+    let same : handlers_of (λ b. b.kinds.0) (λ b. b.plan.value) c.loop-form.bank.items ≡ map handler_of c.args.plans.now =
+    c.loop-form.invariant ∙ ap (λ (forms : List PlanForm). map handler_of forms) (take_all _ _ (omega arith)) in
+    runs (λ (b : List Handler). trace_of b c.args.limit c.args.text.now) _ _ same _ _ _ c.requires.empty c.run.result c.run.ensures.done c.run.ensures.refused

@@ -1,0 +1,3 @@
+pub mod Forms
+pub mod Plays
+pub mod Windows

@@ -1,0 +1,62 @@
+-- How a play for C ends.
+use Rattle.std.specs.Prelude.{◌≡◌, ℕ, List, length, Option, Some, None, if◌then◌else◌, nat_eq, Result, Ok, Err}
+use Rattle.evl_scenario.specs.declared.faults.Fault.{Fault}
+use Rattle.evl_scenario.specs.declared.faults.Fault.TheVariants.{Text, Board, Step, Memory, Write}
+use Rattle.evl_c.specs.Windows.{window}
+
+-- the limit that a number hands in: at 0 the text's own stays
+abbrev pub limit_given : ℕ → Option ℕ
+limit_given limit = if nat_eq limit 0 then None else Some limit
+
+-- what a run into an empty list left there, by its end
+abbrev pub Runs : Result (List ℕ) Fault → List ℕ → Result (Unit {0}) Fault → Type 0
+Runs trace told (Ok done) = trace ≡ Ok told
+Runs trace told (Err Text) = trace ≡ Err Text
+Runs trace told (Err Board) = trace ≡ Err Board
+Runs trace told (Err (Step n)) = trace ≡ Err (Step n)
+Runs trace told (Err Memory) = Unit {0}
+Runs trace told (Err Write) = Unit {0}
+
+-- a fault for which a text is refused; for want of memory any text may be, and no sink is there that fails
+abbrev pub Refuses : Result (List ℕ) Fault → Fault → Type 0
+Refuses trace Text = trace ≡ Err Text
+Refuses trace Board = trace ≡ Err Board
+Refuses trace (Step n) = trace ≡ Err (Step n)
+Refuses trace Memory = Unit {0}
+Refuses trace Write = ⊥
+
+-- the end of a play, whose `Ok` is the trace's length, and what stands in the buffer then
+abbrev pub Ends : Result (List ℕ) Fault → ℕ → List ℕ → List ℕ → Result ℕ Fault → Type 0
+Ends trace start old new (Ok count) = (text : List ℕ) × (trace ≡ Ok text) × (count ≡ length text) × (new ≡ window text start old)
+Ends trace start old new (Err fault) = Refuses trace fault × (new ≡ old)
+
+-- the number of an end
+abbrev pub status_of : Result ℕ Fault → ℕ
+status_of (Ok count) = 0
+status_of (Err Text) = 1
+status_of (Err Board) = 2
+status_of (Err (Step n)) = 3
+status_of (Err Memory) = 4
+status_of (Err Write) = 4
+
+-- the length that an end tells
+abbrev pub length_of : Result ℕ Fault → ℕ
+length_of (Ok count) = count
+length_of (Err fault) = 0
+
+-- the step that an end tells, from 1
+abbrev pub step_of : Result ℕ Fault → ℕ
+step_of (Ok count) = 0
+step_of (Err Text) = 0
+step_of (Err Board) = 0
+step_of (Err (Step n)) = n
+step_of (Err Memory) = 0
+step_of (Err Write) = 0
+
+-- a play ended somehow, and told its end
+pub record Plays (trace : Result (List ℕ) Fault) (start : ℕ) (old new : List ℕ) (count step status : ℕ) : Type 0 where
+  pub end : Result ℕ Fault
+  pub ends : Ends trace start old new end
+  pub count_is : count ≡ length_of end
+  pub step_is : step ≡ step_of end
+  pub status_is : status ≡ status_of end

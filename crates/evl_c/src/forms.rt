@@ -1,0 +1,162 @@
+//! Plans as C gives them.
+ghost use Rattle.std.specs.Prelude.{◌≡◌, ◌≤◌, length, map, true};
+ghost use Rattle.std.specs.List.{list_all};
+ghost use Rattle.evl_pipeline.specs.Plans.{kind_of};
+ghost use Rattle.evl_c.specs.Forms.{action_of, are_plans, handler_of, has_action, has_rows, is_plan, is_sound_row, period_of, used_rows};
+
+use crate::answers::Planned;
+use arrayvec::ArrayVec;
+use bitflags::Flags;
+use evl_base::{ActionKinds, FlagId, LineNo, SemId, TimerId};
+use evl_pipeline::{Action, Plan};
+
+/// A row of a plan (include/evl.h: `evl_row`).
+#[repr(C)]
+#[derive(Clone, Copy)]
+pub struct RowForm {
+    /// The period, 1 or more.
+    pub every: u64,
+    /// The action: 0 to 4.
+    pub action: u8,
+    /// The element of the action: a semaphore, flag group, line or timer.
+    pub element: u16,
+    /// The bits that are posted to a flag group.
+    pub bits: u32,
+}
+
+/// A plan (include/evl.h: `evl_plan`).
+#[repr(C)]
+#[derive(Clone, Copy)]
+pub struct PlanForm {
+    /// Handled are the counts that this divides: 1 or more.
+    pub accepts: u64,
+    /// The kinds of action that it declares, as bits.
+    pub kinds: u8,
+    /// How many of the rows there are, 0 to 4.
+    pub count: u8,
+    /// The rows, of which those behind `count` aren't looked at.
+    pub rows: [RowForm; 4],
+}
+
+// The action of a row.
+fn action_of(row: &RowForm) -> Action
+    ensures { result ≡ action_of row.now }
+{
+    match row.action {
+        0 => Action::PostSem(SemId(row.element)),
+        1 => Action::PostFlags(FlagId(row.element), row.bits),
+        2 => Action::Propagate,
+        3 => Action::PostOob(LineNo(row.element)),
+        _ => Action::StopTimer(TimerId(row.element)),
+    }
+}
+
+// The kind of an action, as a bit.
+fn kind_of(action: Action) -> u8
+    ensures { result ≡ kind_of action }
+{
+    match action {
+        Action::PostSem(_) => 1,
+        Action::PostFlags(_, _) => 2,
+        Action::Propagate => 4,
+        Action::PostOob(_) => 8,
+        Action::StopTimer(_) => 16,
+    }
+}
+
+// Whether each row has an action.
+fn have_actions(rows: &[RowForm]) -> bool
+    ensures { result ≡ list_all has_action rows.now }
+{
+    rows.iter().all(|row| row.action <= 4)
+}
+
+// Whether a period is 1 or more, and these kinds have its action's.
+fn is_sound_row(kinds: u8, row: &(u64, Action)) -> bool
+    ensures { result ≡ is_sound_row kinds row.now }
+{
+    let kind = kind_of(row.1);
+    1 <= row.0 && kinds & kind == kind
+}
+
+// The same of each row.
+fn are_sound_rows(kinds: u8, rows: &[(u64, Action)]) -> bool
+    ensures { result ≡ list_all (is_sound_row kinds) rows.now }
+{
+    for row in rows {
+        if !is_sound_row(kinds, row) {
+            return false;
+        }
+    }
+    true
+}
+
+// The rows that there are.
+fn used_rows(form: &PlanForm) -> &[RowForm]
+    requires { form.now.count ≤ 4 }
+    ensures { result.now ≡ used_rows form.now }
+{
+    &form.rows[..form.count as usize]
+}
+
+// The rows of a plan.
+fn read_rows(rows: &[RowForm]) -> ArrayVec<(u64, Action), 4>
+    requires { length rows.now ≤ 4 }
+    ensures { result.items ≡ map period_of rows.now }
+{
+    let mut read = ArrayVec::new();
+    for row in rows {
+        read.push((row.every, action_of(row)));
+    }
+    read
+}
+
+// Whether the rows that there are can be a plan's.
+fn has_rows(form: &PlanForm) -> bool
+    requires { form.now.count ≤ 4 }
+    ensures { result ≡ has_rows form.now }
+{
+    let rows = used_rows(form);
+    have_actions(rows) && are_sound_rows(form.kinds, read_rows(rows).as_slice())
+}
+
+// Whether a form is a plan: its numbers are in their ranges, and it declares the kinds of its rows.
+fn is_plan(form: &PlanForm) -> bool
+    ensures { result ≡ is_plan form.now }
+{
+    1 <= form.accepts && form.count <= 4 && has_rows(form)
+}
+
+// Whether each form is a plan.
+fn is_each_plan(forms: &[PlanForm]) -> bool
+    ensures { result ≡ list_all is_plan forms.now }
+{
+    for form in forms {
+        if !is_plan(form) {
+            return false;
+        }
+    }
+    true
+}
+
+/// Whether forms are plans, and no more than a bank holds.
+pub fn are_plans(forms: &[PlanForm]) -> bool
+    ensures { result ≡ are_plans forms.now }
+{
+    forms.len() <= 64 && is_each_plan(forms)
+}
+
+/// The callback that a form stands for.
+pub fn read_plan(form: &PlanForm) -> Planned
+    requires { is_plan form.now ≡ true }
+    ensures kinds { result.kinds.0 ≡ (handler_of form.now).kinds }
+    ensures plan { result.plan ≡ (handler_of form.now).plan }
+{
+    Planned::new(
+        ActionKinds::from_bits_retain(form.kinds),
+        Plan {
+            accepts: form.accepts,
+            rows: read_rows(used_rows(form)),
+        },
+    )
+}

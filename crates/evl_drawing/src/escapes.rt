@@ -1,0 +1,38 @@
+//! Texts in XML.
+ghost use Rattle.std.specs.Prelude.{◌≡◌, ◌++◌, IfOk, OnOk};
+ghost use Rattle.evl_drawing.specs.Titles.{escaped, escaped_byte, title_text};
+
+use std::alloc::{AllocError, Global};
+
+// Appends a byte as XML has it in a text.
+fn put_byte(text: &mut Vec<u8>, byte: u8) -> Result<(), AllocError>
+    ensures { OnOk result (text.new.items ≡ text.old.items ++ escaped_byte byte) }
+{
+    match byte {
+        b'&' => text.extend_from_slice(b"&amp;"),
+        b'<' => text.extend_from_slice(b"&lt;"),
+        b'>' => text.extend_from_slice(b"&gt;"),
+        _ => Ok(text.push(byte)?),
+    }
+}
+
+/// Appends a text as XML has it. `AllocError` where the buffer couldn't grow; what it holds then isn't known.
+pub fn put_escaped(buffer: &mut Vec<u8>, text: &[u8]) -> Result<(), AllocError>
+    ensures { OnOk result (buffer.new.items ≡ buffer.old.items ++ escaped text.now) }
+{
+    for byte in text {
+        put_byte(buffer, *byte)?;
+    }
+    Ok(())
+}
+
+/// The title element of the mark of a line.
+pub fn title(alloc: Global, line: &str) -> Result<Vec<u8>, AllocError>
+    ensures { IfOk result (λ text. text.items ≡ title_text line.now) }
+{
+    let mut text = Vec::new(alloc);
+    text.extend_from_slice(b"<title>")?;
+    put_escaped(&mut text, line.as_bytes())?;
+    text.extend_from_slice(b"</title>")?;
+    Ok(text)
+}

@@ -1,0 +1,177 @@
+//! The sheet that marks are drawn on: bands of lanes, one below the other.
+use crate::lanes::{Lane, add_lane, index_of};
+use crate::marks::{Mark, Shape};
+use std::alloc::{AllocError, Global};
+
+/// How many marks stand side by side in a band.
+pub const COLUMNS: usize = 60;
+
+// The room for the names of lanes, left of the first column.
+const LEFT: usize = 104;
+
+// How wide a column is, and how high a lane.
+const COLUMN: usize = 16;
+
+const LANE: usize = 24;
+
+// The room for the legend, and the space between two bands.
+const TOP: usize = 44;
+
+const BETWEEN: usize = 20;
+
+// How many characters of a line are shown at most, and how wide one is.
+const MOST_SHOWN: usize = 72;
+
+const CHARACTER: usize = 6;
+
+/// How a picture is laid out: its lanes from the top, the characters that are shown of a line, and how many marks it has.
+#[derive(Drop)]
+pub struct Sheet {
+    pub lanes: Vec<Lane>,
+    pub shown: usize,
+    count: usize,
+}
+
+// So many steps from a place.
+fn steps(from: usize, step: usize, count: usize) -> usize {
+    from.saturating_add(step.saturating_mul(count))
+}
+
+impl Sheet {
+    /// The sheet for some marks. `AllocError` where its list couldn't grow.
+    pub fn of(alloc: Global, marks: &[Mark<'_>]) -> Result<Sheet, AllocError> {
+        let mut lanes = Vec::new(alloc);
+        let mut shown = 0;
+        for mark in marks {
+            add_lane(&mut lanes, mark.lane)?;
+            if let Some(lane) = mark.names {
+                add_lane(&mut lanes, lane)?;
+            }
+            shown = mark.line.len().max(shown).min(MOST_SHOWN);
+        }
+        Ok(Sheet {
+            lanes,
+            shown,
+            count: marks.len(),
+        })
+    }
+
+    // How high the lanes of a band are.
+    fn depth(&self) -> usize {
+        steps(LANE / 2, LANE, self.lanes.len())
+    }
+
+    // How high a band is, with the lines below it.
+    fn height(&self) -> usize {
+        steps(self.depth().saturating_add(BETWEEN), CHARACTER, self.shown)
+    }
+
+    // Where the band of a column begins.
+    fn band_top(&self, column: usize) -> usize {
+        steps(TOP, self.height(), column / COLUMNS)
+    }
+
+    /// Where a column stands, from the left.
+    pub fn across(&self, column: usize) -> usize {
+        steps(LEFT + COLUMN / 2, COLUMN, column % COLUMNS)
+    }
+
+    /// Where a lane stands in the band of a column, from the top.
+    pub fn down(&self, column: usize, lane: Lane) -> usize {
+        let index = index_of(self.lanes.as_slice(), lane).unwrap_or(0);
+        steps(self.band_top(column).saturating_add(LANE), LANE, index)
+    }
+
+    /// How far the lines below a band are below a lane.
+    pub fn below(&self, column: usize, lane: Lane) -> usize {
+        let foot = self.band_top(column).saturating_add(self.depth());
+        foot.saturating_sub(self.down(column, lane))
+    }
+
+    // How many columns the widest band has.
+    fn columns(&self) -> usize {
+        self.count.min(COLUMNS)
+    }
+
+    // How wide the picture is: a legend has its place in it, however few marks there are.
+    fn width(&self) -> usize {
+        steps(LEFT + BETWEEN, COLUMN, self.columns().max(38))
+    }
+
+    // How many bands there are.
+    fn bands(&self) -> usize {
+        self.count / COLUMNS + if self.count % COLUMNS == 0 { 0 } else { 1 }
+    }
+
+    /// The beginning of the picture, up to its legend.
+    pub fn head(&self, alloc: Global) -> Result<String, AllocError> {
+        let width = self.width();
+        let height = steps(TOP, self.height(), self.bands());
+        let mut text = format!(in alloc;
+            "<svg xmlns=\"http://www.w3.org/2000/svg\" width=\"{width}\" height=\"{height}\" viewBox=\"0 0 {width} {height}\" font-family=\"DejaVu Sans Mono, monospace\" font-size=\"9\">\n<rect width=\"100%\" height=\"100%\" fill=\"#ffffff\"/>\n"
+        )?;
+        let shapes = [
+            (Shape::Answered, "answered"),
+            (Shape::Begun, "a wait begins"),
+            (Shape::Ended, "a wait ends"),
+            (Shape::Refused, "refused"),
+            (Shape::Played, "played"),
+            (Shape::Unhandled, "not handled"),
+        ];
+        let mut at: usize = 16;
+        for (shape, word) in shapes {
+            let drawn = shape_text(shape);
+            write!(
+                text,
+                "<g transform=\"translate({at},18)\">{drawn}<text x=\"10\" y=\"3\">{word}</text></g>\n"
+            )?;
+            at = steps(at.saturating_add(32), CHARACTER, word.len());
+        }
+        Ok(text)
+    }
+
+    /// The lanes of the band that begins at a column.
+    pub fn frame(&self, alloc: Global, column: usize) -> Result<String, AllocError> {
+        let mut text = String::new(alloc);
+        let end = steps(LEFT, COLUMN, self.count.saturating_sub(column).min(COLUMNS));
+        for lane in &self.lanes {
+            let y = self.down(column, *lane);
+            let base = y.saturating_add(3);
+            let ink = lane_ink(*lane);
+            write!(
+                text,
+                "<path d=\"M{LEFT} {y}H{end}\" stroke=\"{ink}\"/><text x=\"8\" y=\"{base}\" font-size=\"11\">{lane}</text>\n"
+            )?;
+        }
+        Ok(text)
+    }
+}
+
+// The colour of the line of a lane.
+fn lane_ink(lane: Lane) -> &'static str {
+    match lane {
+        Lane::Thread(_) => "#b8c4d6",
+        Lane::Stage(_) => "#d8c48c",
+        _ => "#dcdcdc",
+    }
+}
+
+/// The drawing of a shape, around the place where it stands.
+pub fn shape_text(shape: Shape) -> &'static str {
+    match shape {
+        Shape::Answered => "<circle r=\"5\" fill=\"#1f5fa8\"/>",
+        Shape::Begun => {
+            "<circle r=\"4.5\" fill=\"#ffffff\" stroke=\"#1f5fa8\" stroke-width=\"2\"/>"
+        }
+        Shape::Ended => "<path d=\"M-5 -6L6 0L-5 6Z\" fill=\"#1f5fa8\"/>",
+        Shape::Refused => {
+            "<path d=\"M-5 -5L5 5M5 -5L-5 5\" fill=\"none\" stroke=\"#b3261e\" stroke-width=\"3\"/>"
+        }
+        Shape::Played => {
+            "<rect x=\"-5\" y=\"-9\" width=\"10\" height=\"18\" fill=\"#f0b400\" stroke=\"#5c4300\"/>"
+        }
+        Shape::Unhandled => {
+            "<rect x=\"-5\" y=\"-9\" width=\"10\" height=\"18\" fill=\"#ffffff\" stroke=\"#5c4300\" stroke-dasharray=\"3 2\"/>"
+        }
+    }
+}

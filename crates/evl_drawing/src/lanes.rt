@@ -1,0 +1,89 @@
+//! The lanes of a picture.
+ghost use Rattle.std.specs.Prelude.{◌≤◌, length};
+
+use evl_base::Stage;
+use std::alloc::{AllocError, Global};
+use std::fmt;
+
+/// What a lane of a picture is of.
+#[derive(Clone, Copy, PartialEq, Eq, Debug)]
+pub enum Lane {
+    Thread(u16),
+    Mutex(u16),
+    Sem(u16),
+    Flags(u16),
+    Xbuf(u16),
+    Timer(u16),
+    Clock,
+    Stage(Stage),
+}
+
+impl fmt::Display for Lane {
+    fn fmt<W: fmt::Write>(&self, f: &mut fmt::Formatter<W>) -> fmt::Result {
+        match *self {
+            Lane::Thread(number) => write!(f, "T{number}"),
+            Lane::Mutex(number) => write!(f, "mutex {number}"),
+            Lane::Sem(number) => write!(f, "sem {number}"),
+            Lane::Flags(number) => write!(f, "flags {number}"),
+            Lane::Xbuf(number) => write!(f, "xbuf {number}"),
+            Lane::Timer(number) => write!(f, "timer {number}"),
+            Lane::Clock => write!(f, "clock"),
+            Lane::Stage(Stage::Oob) => write!(f, "out-of-band"),
+            Lane::Stage(Stage::Inband) => write!(f, "in-band"),
+        }
+    }
+}
+
+// Where a lane stands among the lanes of a picture, from the top.
+fn place(lane: Lane) -> (u8, u16) {
+    match lane {
+        Lane::Thread(number) => (0, number),
+        Lane::Mutex(number) => (1, number),
+        Lane::Sem(number) => (2, number),
+        Lane::Flags(number) => (3, number),
+        Lane::Xbuf(number) => (4, number),
+        Lane::Timer(number) => (5, number),
+        Lane::Clock => (6, 0),
+        Lane::Stage(Stage::Oob) => (7, 0),
+        Lane::Stage(Stage::Inband) => (8, 0),
+    }
+}
+
+// Which of two kinds of lanes with a number goes first.
+fn is_before(one: Lane, other: Lane) -> bool {
+    let (kind, number) = place(one);
+    let (other_kind, other_number) = place(other);
+    kind < other_kind || (kind == other_kind && number < other_number)
+}
+
+// The index at which a lane stands in a sorted list, or is to be put.
+fn index_for(lanes: &[Lane], lane: Lane) -> usize
+    ensures { result ≤ length lanes.now }
+{
+    for (i, other) in lanes.iter().enumerate() {
+        if !is_before(*other, lane) {
+            return i;
+        }
+    }
+    lanes.len()
+}
+
+/// Puts a lane into a sorted list, where it isn't there yet. `AllocError` where the list couldn't grow.
+pub fn add_lane(lanes: &mut Vec<Lane>, lane: Lane) -> Result<(), AllocError> {
+    let at = index_for(lanes.as_slice(), lane);
+    if lanes.get(at).copied() == Some(lane) {
+        return Ok(());
+    }
+    lanes.insert(at, lane)?;
+    Ok(())
+}
+
+/// The index of a lane in a list, where it is there.
+pub fn index_of(lanes: &[Lane], lane: Lane) -> Option<usize> {
+    lanes.iter().position(|other| *other == lane)
+}
+
+/// A copy of a list with a note for each lane that nothing is open there.
+pub fn closed(alloc: Global, lanes: &[Lane]) -> Result<Vec<bool>, AllocError> {
+    vec![in alloc; false; lanes.len()]
+}

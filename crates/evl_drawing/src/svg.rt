@@ -1,0 +1,192 @@
+//! A picture as SVG.
+ghost use Rattle.std.specs.Prelude.{◌≡◌, map, IfOk, OnOk};
+ghost use Rattle.evl_drawing.specs.Marks.{line_of};
+ghost use Rattle.evl_drawing.specs.Titles.{Adds, AddsTitle, Holds, HoldsTitles, title_text};
+
+use crate::escapes::{put_escaped, title};
+use crate::frames::{COLUMNS, Sheet, shape_text};
+use crate::lanes::{Lane, closed, index_of};
+use crate::marks::{Mark, Shape};
+use std::alloc::{AllocError, Global};
+
+// What is shown of a line.
+fn label(alloc: Global, line: &str, most: usize) -> Result<Vec<u8>, AllocError> {
+    let mut text = Vec::new(alloc);
+    let shown = line.trim_start();
+    if shown.len() <= most {
+        put_escaped(&mut text, shown.as_bytes())?;
+        return Ok(text);
+    }
+    let front: String = shown.chars().take(most.saturating_sub(1)).collect(alloc)?;
+    put_escaped(&mut text, front.as_str().as_bytes())?;
+    text.extend_from_slice("…".as_bytes())?;
+    Ok(text)
+}
+
+// The tie of a mark to the lane of what its call names.
+fn tie(alloc: Global, sheet: &Sheet, column: usize, mark: &Mark<'_>) -> Result<String, AllocError> {
+    match mark.names {
+        None => Ok(String::new(alloc)),
+        Some(lane) => {
+            let down = sheet
+                .down(column, lane)
+                .saturating_sub(sheet.down(column, mark.lane));
+            format!(in alloc;
+                "<path d=\"M0 0V{down}\" stroke=\"#1f5fa8\"/><path d=\"M-4 {down}l4 -4l4 4l-4 4Z\" fill=\"#ffffff\" stroke=\"#1f5fa8\"/>"
+            )
+        }
+    }
+}
+
+// The drawing of a mark, behind its title: the tie, the shape, and the line below the band.
+fn body(
+    alloc: Global,
+    sheet: &Sheet,
+    column: usize,
+    mark: &Mark<'_>,
+) -> Result<Vec<u8>, AllocError> {
+    let below = sheet.below(column, mark.lane);
+    let tied = tie(alloc, sheet, column, mark)?;
+    let drawn = shape_text(mark.shape);
+    let ink = if mark.shape == Shape::Refused {
+        "#b3261e"
+    } else {
+        "#202020"
+    };
+    let opening = format!(in alloc;
+        "<path d=\"M0 0V{below}\" stroke=\"#e4e4e4\" stroke-dasharray=\"1 3\"/>{tied}{drawn}<text transform=\"translate(-3,{below}) rotate(90)\" fill=\"{ink}\">"
+    )?;
+    let shown = label(alloc, mark.line, sheet.shown)?;
+    let mut text = Vec::new(alloc);
+    text.extend_from_slice(opening.as_str().as_bytes())?;
+    text.extend_from_slice(shown.as_slice())?;
+    text.extend_from_slice(b"</text></g>\n")?;
+    Ok(text)
+}
+
+// A mark, with the line that it stands for as its title.
+fn mark_text(
+    alloc: Global,
+    sheet: &Sheet,
+    column: usize,
+    mark: &Mark<'_>,
+) -> Result<Vec<u8>, AllocError>
+    ensures { IfOk result (λ text. Holds (title_text mark.now.line.now) text.items) }
+{
+    let x = sheet.across(column);
+    let y = sheet.down(column, mark.lane);
+    let opening = format!(in alloc; "<g transform=\"translate({x},{y})\">")?;
+    let titled = title(alloc, mark.line)?;
+    let drawn = body(alloc, sheet, column, mark)?;
+    let mut text = Vec::new(alloc);
+    text.extend_from_slice(opening.as_str().as_bytes())?;
+    text.extend_from_slice(titled.as_slice())?;
+    text.extend_from_slice(drawn.as_slice())?;
+    Ok(text)
+}
+
+// The waits that go on in a column.
+fn waits(alloc: Global, sheet: &Sheet, column: usize, open: &[bool]) -> Result<String, AllocError> {
+    let mut text = String::new(alloc);
+    let left = sheet.across(column).saturating_sub(8);
+    for (lane, is_open) in sheet.lanes.iter().zip(open) {
+        if *is_open {
+            let top = sheet.down(column, *lane).saturating_sub(3);
+            write!(
+                text,
+                "<rect x=\"{left}\" y=\"{top}\" width=\"16\" height=\"6\" fill=\"#c9d9f0\"/>\n"
+            )?;
+        }
+    }
+    Ok(text)
+}
+
+// Notes whether a wait goes on in the lane of a mark.
+fn note(open: &mut [bool], lanes: &[Lane], mark: &Mark<'_>) {
+    let goes_on = match mark.shape {
+        Shape::Begun => true,
+        Shape::Ended => false,
+        _ => return,
+    };
+    if let Some(index) = index_of(lanes, mark.lane)
+        && index < open.len()
+    {
+        open[index] = goes_on;
+    }
+}
+
+// What stands before the mark of a column: the lanes of its band, where it is the first one there, and the waits.
+fn background(
+    alloc: Global,
+    sheet: &Sheet,
+    column: usize,
+    open: &[bool],
+) -> Result<String, AllocError> {
+    let going_on = waits(alloc, sheet, column, open)?;
+    if column % COLUMNS != 0 {
+        return Ok(going_on);
+    }
+    let mut text = sheet.frame(alloc, column)?;
+    text.push_str(going_on.as_str())?;
+    Ok(text)
+}
+
+// Appends what stands before the mark of a column.
+fn put_background(
+    alloc: Global,
+    sheet: &Sheet,
+    column: usize,
+    open: &[bool],
+    text: &mut Vec<u8>,
+) -> Result<(), AllocError>
+    ensures { OnOk result (Adds text.old.items text.new.items) }
+{
+    let behind = background(alloc, sheet, column, open)?;
+    text.extend_from_slice(behind.as_str().as_bytes())
+}
+
+// Appends the mark of a column.
+fn put_mark(
+    alloc: Global,
+    sheet: &Sheet,
+    column: usize,
+    mark: &Mark<'_>,
+    text: &mut Vec<u8>,
+) -> Result<(), AllocError>
+    ensures { OnOk result (AddsTitle mark.now.line.now text.old.items text.new.items) }
+{
+    let drawn = mark_text(alloc, sheet, column, mark)?;
+    text.extend_from_slice(drawn.as_slice())
+}
+
+// Appends all marks, each behind what stands before it.
+fn put_marks(
+    alloc: Global,
+    sheet: &Sheet,
+    marks: &[Mark<'_>],
+    text: &mut Vec<u8>,
+) -> Result<(), AllocError>
+    ensures { OnOk result (HoldsTitles (map line_of marks.now) text.new.items) }
+{
+    let mut open = closed(alloc, sheet.lanes.as_slice())?;
+    for (column, mark) in marks.iter().enumerate() {
+        put_background(alloc, sheet, column, open.as_slice(), text)?;
+        put_mark(alloc, sheet, column, mark, text)?;
+        note(open.as_mut_slice(), sheet.lanes.as_slice(), mark);
+    }
+    Ok(())
+}
+
+/// The picture of some marks as SVG: a band of lanes for each 60 of them, with the title of each mark, in order.
+/// `AllocError` where memory couldn't grow (this profile).
+pub fn write_svg(alloc: Global, marks: &[Mark<'_>]) -> Result<Vec<u8>, AllocError>
+    ensures { IfOk result (λ text. HoldsTitles (map line_of marks.now) text.items) }
+{
+    let sheet = Sheet::of(alloc, marks)?;
+    let head = sheet.head(alloc)?;
+    let mut text = Vec::new(alloc);
+    text.extend_from_slice(head.as_str().as_bytes())?;
+    put_marks(alloc, &sheet, marks, &mut text)?;
+    text.extend_from_slice(b"</svg>\n")?;
+    Ok(text)
+}

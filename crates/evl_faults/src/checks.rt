@@ -1,0 +1,110 @@
+//! The faults of a text: told exactly where it can't be played.
+ghost use Rattle.std.specs.Prelude.{◌≡◌, true, None, Some, IfOk};
+ghost use Rattle.evl_scenario.specs.Scenarios.{scenario_of};
+ghost use Rattle.evl_faults.specs.Faults.{first_fault, refusal_in};
+
+use crate::boards::check_board;
+use crate::found::{Finding, Found, Place};
+use crate::items::items_of;
+use crate::steps::check_steps;
+use evl_scenario::{Fault, read_scenario};
+use std::alloc::{AllocError, Global};
+
+// Where a text is no TOML document, and why.
+fn syntax(alloc: Global, text: &[u8]) -> Result<(usize, String), AllocError> {
+    if text.len() > 1_048_576 {
+        let words = format!(in alloc; "the text has more than 1048576 bytes")?;
+        return Ok((1_048_576, words));
+    }
+    match toml::table_from_slice(alloc, text) {
+        Ok(_) => Ok((0, format!(in alloc; "the text can't be read")?)),
+        Err(error) => {
+            let at = match error.span() {
+                Some(span) => span.start,
+                None => 0,
+            };
+            let why = error.message();
+            Ok((at, format!(in alloc; "no TOML in UTF-8: {why}")?))
+        }
+    }
+}
+
+// What is said of a fault that nothing else is known of.
+fn plainly(alloc: Global, fault: Fault) -> Result<String, AllocError> {
+    match fault {
+        Fault::Text => format!(in alloc; "the text can't be read"),
+        Fault::Board => format!(in alloc; "the board, or what stands beside it, can't be read"),
+        Fault::Step(number) => format!(in alloc; "step {number} can't be read"),
+        Fault::Memory => format!(in alloc; "no memory"),
+        Fault::Write => format!(in alloc; "the output failed"),
+    }
+}
+
+// All faults that are found in a text that was refused for this one.
+fn all_found(alloc: Global, text: &[u8], fault: Fault) -> Result<Vec<Found>, AllocError> {
+    let mut finding = Finding {
+        text,
+        found: Vec::new(alloc),
+    };
+    if fault == Fault::Text {
+        let (at, words) = syntax(alloc, text)?;
+        finding.note(Fault::Text, at, words)?;
+    } else {
+        let items = items_of(alloc, text)?;
+        check_board(alloc, &mut finding, &items)?;
+        check_steps(alloc, &mut finding, &items)?;
+    }
+    let Finding { text: _, found } = finding;
+    Ok(found)
+}
+
+// Whether the first of some faults is this one.
+fn begins_with(found: &[Found], fault: Fault) -> bool
+    ensures { result ≡ true → first_fault found.now ≡ Some fault }
+{
+    match found {
+        [] => false,
+        [first, ..] => first.fault == fault,
+    }
+}
+
+// A fault in front of others.
+fn in_front(fault: Fault, words: String, others: Vec<Found>) -> Result<Vec<Found>, AllocError>
+    ensures { IfOk result (λ found. first_fault found.items ≡ Some fault) }
+{
+    let mut found = others;
+    found.insert(
+        0,
+        Found {
+            fault,
+            place: Place { line: 1, column: 1 },
+            words,
+        },
+    )?;
+    Ok(found)
+}
+
+// The faults of a text that was refused for this one, which is the first of them.
+fn explain(alloc: Global, text: &[u8], fault: Fault) -> Result<Vec<Found>, AllocError>
+    ensures { IfOk result (λ found. first_fault found.items ≡ Some fault) }
+{
+    let found = all_found(alloc, text, fault)?;
+    if begins_with(found.as_slice(), fault) {
+        return Ok(found);
+    }
+    let words = plainly(alloc, fault)?;
+    in_front(fault, words, found)
+}
+
+/// The faults of a scenario's text, each with its place and what was wanted. There is one exactly where the text can't be
+/// played, and the first is the one that it is refused for: of the text, of the board, or of the first step that can't be
+/// read. `AllocError` where memory couldn't grow (this profile).
+pub fn check(alloc: Global, text: &[u8]) -> Result<Vec<Found>, AllocError>
+    ensures { IfOk result (λ found. first_fault found.items ≡ refusal_in (scenario_of None text.now)) }
+{
+    match read_scenario(alloc, text, None) {
+        Ok(_) => Ok(Vec::new(alloc)),
+        Err(Fault::Memory) => Err(AllocError),
+        Err(fault) => explain(alloc, text, fault),
+    }
+}

@@ -1,0 +1,62 @@
+//! A fault that was found.
+use evl_scenario::Fault;
+use std::alloc::AllocError;
+use std::fmt;
+
+/// A place in a text: the line, from 1, and the byte in it, from 1.
+#[derive(Clone, Copy, PartialEq, Eq, Debug)]
+pub struct Place {
+    pub line: usize,
+    pub column: usize,
+}
+
+impl fmt::Display for Place {
+    fn fmt<W: fmt::Write>(&self, f: &mut fmt::Formatter<W>) -> fmt::Result {
+        let Place { line, column } = *self;
+        write!(f, "{line}:{column}")
+    }
+}
+
+/// A fault of a scenario's text: of which kind it is, where it stands, and what is said of it.
+#[derive(Debug, Drop)]
+pub struct Found {
+    pub fault: Fault,
+    pub place: Place,
+    pub words: String,
+}
+
+/// The place of a byte of a text.
+pub fn place_of(text: &[u8], at: usize) -> Place {
+    let mut place = Place { line: 1, column: 1 };
+    for byte in text.iter().take(at) {
+        if *byte == b'\n' {
+            place = Place {
+                line: place.line.saturating_add(1),
+                column: 1,
+            };
+        } else {
+            place.column = place.column.saturating_add(1);
+        }
+    }
+    place
+}
+
+/// The faults that were found so far, and the text that they are found in.
+#[derive(Drop)]
+pub struct Finding<'a> {
+    pub text: &'a [u8],
+    pub found: Vec<Found>,
+}
+
+impl<'a> Finding<'a> {
+    /// Notes a fault at a byte. `AllocError` where the list couldn't grow.
+    pub fn note(&mut self, fault: Fault, at: usize, words: String) -> Result<(), AllocError> {
+        let place = place_of(self.text, at);
+        self.found.push(Found {
+            fault,
+            place,
+            words,
+        })?;
+        Ok(())
+    }
+}

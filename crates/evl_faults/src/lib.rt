@@ -1,0 +1,17 @@
+//! The faults of a scenario's text, each with its place, what was wanted, and a near word.
+#![tactic(auto)]
+
+mod boards;
+mod checks;
+mod found;
+mod items;
+mod judges;
+mod near;
+mod reports;
+mod steps;
+mod tokens;
+mod words;
+
+pub use checks::check;
+pub use found::{Found, Place};
+pub use reports::report;

@@ -1,0 +1,225 @@
+//! The faults of steps.
+use crate::found::Finding;
+use crate::items::{Item, Items, Section, slice};
+use crate::judges::{fits_step, is_step};
+use crate::near::near_text;
+use crate::words::{WORDS, is_optional, keys_of, wanted};
+use evl_scenario::Fault;
+use std::alloc::{AllocError, Global};
+use std::str;
+
+/// The text between two bytes, as far as it is text.
+pub fn shown(text: &[u8], range: (usize, usize)) -> &str {
+    str::from_utf8(slice(text, range)).unwrap_or("")
+}
+
+/// A text without the quotes around it.
+pub fn bare(text: &str) -> &str {
+    match text.strip_prefix('"') {
+        Some(rest) => rest.strip_suffix('"').unwrap_or(rest),
+        None => match text.strip_prefix('\'') {
+            Some(rest) => rest.strip_suffix('\'').unwrap_or(rest),
+            None => text,
+        },
+    }
+}
+
+// The fault of a step.
+fn fault_of(number: usize) -> Fault {
+    Fault::Step(u32::try_from(number).unwrap_or(u32::MAX))
+}
+
+// The item of a step at a key.
+fn item_at(text: &[u8], items: &[Item], key: &str) -> Option<Item> {
+    for item in items {
+        if bare(shown(text, item.key)) == key {
+            return Some(*item);
+        }
+    }
+    None
+}
+
+// The names of keys, with a comma between two of them.
+fn listed(alloc: Global, keys: &[&str]) -> Result<String, AllocError> {
+    let mut text = String::new(alloc);
+    for key in keys {
+        if !text.is_empty() {
+            text.push_str(", ")?;
+        }
+        text.push_str(key)?;
+    }
+    if text.is_empty() {
+        text.push_str("none but do and who")?;
+    }
+    Ok(text)
+}
+
+// Whether a key is one of these.
+fn is_among(keys: &[&str], key: &str) -> bool {
+    keys.iter().any(|known| key == *known)
+}
+
+// Notes the keys that a step's word doesn't have, and answers how many there are.
+fn note_unknown(
+    alloc: Global,
+    finding: &mut Finding<'_>,
+    number: usize,
+    items: &[Item],
+    word: &str,
+    keys: &[&str],
+) -> Result<usize, AllocError> {
+    let mut count: usize = 0;
+    for item in items {
+        let key = bare(shown(finding.text, item.key));
+        if key == "do" || key == "who" || is_among(keys, key) {
+            continue;
+        }
+        let hint = near_text(alloc, key, keys)?;
+        let names = listed(alloc, keys)?;
+        let words = format!(in alloc;
+            "step {number}: {word} has no key \"{key}\"{hint} (keys: {names})"
+        )?;
+        finding.note(fault_of(number), item.key.0, words)?;
+        count = count.saturating_add(1);
+    }
+    Ok(count)
+}
+
+// Notes a key that is missing, unless it may be.
+fn note_missing(
+    alloc: Global,
+    finding: &mut Finding<'_>,
+    number: usize,
+    items: &[Item],
+    at: usize,
+    word: &str,
+    key: &str,
+) -> Result<(), AllocError> {
+    if is_optional(key) || item_at(finding.text, items, key).is_some() {
+        return Ok(());
+    }
+    let want = wanted(key);
+    let words = format!(in alloc;
+        "step {number}: {word} needs a key \"{key}\": {want} is wanted there"
+    )?;
+    finding.note(fault_of(number), at, words)
+}
+
+// Notes the values that can't stand where they do.
+fn note_values(
+    alloc: Global,
+    finding: &mut Finding<'_>,
+    number: usize,
+    items: &[Item],
+    word: &str,
+    keys: &[&str],
+) -> Result<(), AllocError> {
+    for item in items {
+        let key = bare(shown(finding.text, item.key));
+        let value = shown(finding.text, item.value);
+        if key != "who" && !is_among(keys, key) {
+            continue;
+        }
+        if !fits_step(alloc, word, key, value.as_bytes())? {
+            let want = wanted(key);
+            let words = format!(in alloc; "step {number}: {key} = {value}: {want} is wanted")?;
+            finding.note(fault_of(number), item.value.0, words)?;
+        }
+    }
+    Ok(())
+}
+
+// Notes the faults of a step whose word is known.
+fn note_keys(
+    alloc: Global,
+    finding: &mut Finding<'_>,
+    number: usize,
+    items: &[Item],
+    word: &str,
+    keys: &[&str],
+    at: usize,
+) -> Result<(), AllocError> {
+    let unknown = note_unknown(alloc, finding, number, items, word, keys)?;
+    if unknown == 0 {
+        note_missing(alloc, finding, number, items, at, word, "who")?;
+        for key in keys {
+            note_missing(alloc, finding, number, items, at, word, key)?;
+        }
+    }
+    note_values(alloc, finding, number, items, word, keys)
+}
+
+// Notes the faults of a step that can't be read.
+fn note_step(
+    alloc: Global,
+    finding: &mut Finding<'_>,
+    number: usize,
+    items: &[Item],
+    at: usize,
+) -> Result<(), AllocError> {
+    let Some(call) = item_at(finding.text, items, "do") else {
+        let words = format!(in alloc; "step {number}: there is no key \"do\"")?;
+        return finding.note(fault_of(number), at, words);
+    };
+    let word = bare(shown(finding.text, call.value));
+    match keys_of(word) {
+        Some(keys) => note_keys(alloc, finding, number, items, word, keys, call.key.0),
+        None => {
+            let hint = near_text(alloc, word, WORDS.as_slice())?;
+            let words = format!(in alloc; "step {number}: there is no call \"{word}\"{hint}")?;
+            finding.note(fault_of(number), call.value.0, words)
+        }
+    }
+}
+
+// Notes the faults of a step, where it can't be read.
+fn check_step(
+    alloc: Global,
+    finding: &mut Finding<'_>,
+    number: usize,
+    items: &[Item],
+) -> Result<(), AllocError> {
+    let mut pairs = Vec::new(alloc);
+    for item in items {
+        pairs.push((
+            slice(finding.text, item.key),
+            slice(finding.text, item.value),
+        ))?;
+    }
+    if is_step(alloc, pairs.as_slice())? {
+        return Ok(());
+    }
+    let before = finding.found.len();
+    let at = match items.first() {
+        Some(item) => item.key.0,
+        None => 0,
+    };
+    note_step(alloc, finding, number, items, at)?;
+    if finding.found.len() == before {
+        let words = format!(in alloc; "step {number} can't be read")?;
+        finding.note(fault_of(number), at, words)?;
+    }
+    Ok(())
+}
+
+/// Notes the faults of all steps. `AllocError` where memory couldn't grow.
+pub fn check_steps(
+    alloc: Global,
+    finding: &mut Finding<'_>,
+    items: &Items,
+) -> Result<(), AllocError> {
+    let mut from = 0usize;
+    for (index, item) in items.items.iter().enumerate() {
+        let behind = index.saturating_add(1);
+        let next = items.items.get(behind).map(|item| item.section);
+        if next == Some(item.section) {
+            continue;
+        }
+        if let Section::Step(number) = item.section {
+            let own = items.items.as_slice().get(from..behind).unwrap_or(&[]);
+            check_step(alloc, finding, number, own)?;
+        }
+        from = behind;
+    }
+    Ok(())
+}

@@ -1,0 +1,73 @@
+"""Plays scenarios from Python: PYTHONPATH=python pytest examples, or python3 examples/test_play.py."""
+import glob
+import os
+
+import evl
+
+TOP = os.path.dirname(os.path.dirname(os.path.abspath(__file__)))
+BOARD = "[board]\nthreads = 1\nsems = [0]\n"
+PUT = '[[step]]\ndo = "put"\nwho = 0\nsem = 0\n'
+
+
+def text_of(name):
+    with open(name, encoding="utf-8") as file:
+        return file.read()
+
+
+def test_each_stored_trace():
+    traces = glob.glob(f"{TOP}/scenarios/**/*.trace", recursive=True)
+    assert traces
+    for trace in traces:
+        assert evl.play(text_of(trace[:-6] + ".toml")) == text_of(trace), trace
+
+
+def test_step_at_fault():
+    try:
+        evl.play(BOARD + PUT + '[[step]]\ndo = "push"\nwho = 0\n')
+    except evl.BadStep as refused:
+        assert refused.step == 2
+    else:
+        raise AssertionError("a step that can't be read was played")
+
+
+def test_limit():
+    assert evl.play(BOARD + PUT + PUT, limit=1).endswith("- T0 put sem=0 -> HistoryFull\n")
+
+
+def test_ranks_along_a_chain():
+    kernel = evl.Kernel(threads=4, mutexes=["normal", "normal"])
+    for who, prio in ((1, 8), (2, 28), (3, 78)):
+        assert kernel.attach(who, policy=f"fifo {prio}", stage="oob").text == "done"
+    assert kernel.claim(2, mutex=0, owner=1).text == "begun"
+    assert kernel.claim(3, mutex=1, owner=2, until=100).text == "begun"
+    assert kernel.rank_of(0, thread=1).text == "number 590"
+    assert kernel.tick(0, delta=100) == ("done", ["clock", "deadline T3"])
+    assert kernel.rank_of(0, thread=1).text == "number 540"
+    assert kernel.put(0, sem=0).refusal == "Unknown"
+    assert evl.play(kernel.scenario()) == kernel.trace()
+
+
+def test_callbacks():
+    bank = [evl.Plan(1, (3, "post_sem", 1), (1, "post_flags", 0, 6))]
+    kernel = evl.Kernel(threads=1, sems=[0, 0], flags=[0], bank=bank)
+    assert kernel.request(0, line=9, stage="oob", callback=0).text == "done"
+    for count in range(1, 8):
+        assert kernel.arrive(0, line=9).plays == [f"line 9 oob count {count} handled"]
+    assert kernel.peek(0, sem=1).text == "count 2"
+    assert kernel.peek_flags(0, flags=0).text == "bits 6"
+
+
+def test_all_values():
+    kernel = evl.Kernel(threads=2, xbufs=[(16, 16)], limit=9)
+    assert kernel.attach(0, policy="fifo 1", stage="oob").text == "done"
+    assert kernel.write(1, xbuf=0, way="in", bytes=b"\x00\xff").text == "done"
+    assert kernel.read(0, xbuf=0, way="in", len=8).text == "bytes 00ff"
+    assert kernel.finish(0, keep=True).refusal == "Invalid"
+    assert kernel.tick(0, delta=2**64 - 1).text == "done"
+    assert kernel.now(1).text == f"number {2**64 - 1}"
+
+
+if __name__ == "__main__":
+    for test in [it for name, it in sorted(globals().items()) if name.startswith("test_")]:
+        test()
+        print(test.__name__, "passed")
