@@ -2,6 +2,16 @@ pub mod Accounts
 pub mod CoreSteps
 pub mod Noting
 pub mod ThreadSteps
+pub mod TieWords
+pub mod TieSteps
+pub mod TieRecords
+pub mod TieRule
+pub mod TableTies
+pub mod TieOpens
+pub mod TieVisits
+pub mod TieFinds
+pub mod AwaitedCalls
+pub mod FoundWords
 pub mod Taking
 pub mod QuietCore
 pub mod Calling
@@ -19,6 +29,7 @@ pub mod CoreLaws
 pub mod OneWorldLaws
 pub mod MutexPlaces
 pub mod MutexTokens
+pub mod Settling
 pub mod SeatsAt
 pub mod LockingLaws
 pub mod LockingCalls
@@ -27,6 +38,7 @@ pub mod MutexStepLaws
 pub mod MutexAccepts
 pub mod Visits
 pub mod Opened
+pub mod LockingTies
 pub mod WordCalls
 pub mod MutexLocks
 pub mod MutexUnlocks

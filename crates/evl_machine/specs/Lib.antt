@@ -6,6 +6,8 @@ pub mod CoreWorld
 pub mod CoreTells
 pub mod QuietCore
 pub mod ThreadRule
+pub mod Ties
+pub mod TieTells
 pub mod OneWorld
 pub mod Seats
 pub mod Known
@@ -13,10 +15,12 @@ pub mod Homes
 pub mod AtSeats
 pub mod MutexPlaces
 pub mod MutexTokens
+pub mod Noted
 pub mod StaxSeats
 pub mod MutexSeats
 pub mod Unfinished
 pub mod Actors
+pub mod JustTaken
 pub mod Handles
 pub mod Events
 pub mod Calls
