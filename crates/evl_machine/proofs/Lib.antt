@@ -35,6 +35,7 @@ pub mod LockingLaws
 pub mod LockingCalls
 pub mod MutexDeeds
 pub mod MutexStepLaws
+pub mod StepNotes
 pub mod MutexAccepts
 pub mod Visits
 pub mod Opened

@@ -1,6 +1,5 @@
 -- What a caller's steps with the kernel in hand come to: a lock that begins, a release, and a wait that is finished.
 use Rattle.std.proofs.Common.{◌≡◌, ◌<◌, ◌≤◌, nat_lt, ℕ, zero, suc, List, [], ◌∷◌, Bool, true, false, true≢false, Option, Some, None, Result, Ok, Err, IfSome, IsSomeAnd, slice_get, slice_set, refl, sym, ap, ◌∙◌, subst, arith}
-use Rattle.std.specs.Result.{is_err}
 use Rattle.std.proofs.lemmas.Bool.Decides.{nat_tests}
 use Rattle.std.proofs.lemmas.Option.{none-some}
 use Rattle.evl_base.specs.Board.{board_fits}
@@ -44,9 +43,9 @@ won_there i old new at =
 module _ {C : Type 0} (x a : ActorState) (is : x ≡ a) (k k1 k2 : KernelView C) (ceiling : Bool) (m : MutexId) (until : Option ℕ) (new : List MutexSeatState) (a2 : ActorState) (same : IsSameActor (seated_at x new) a2) (u : Unit {0}) (room : Reserves k (Ok u) k1) where
   -- a lock that was won at a ceiling
   pub begins_raised : (pass : MutexPass) (won : List MutexSeatState) (r : Result Reply Refusal) → ceiling ≡ true → AtSeat m.0 x.mutexes won (Claims Won) → AtSeat m.0 won new (Settles pass)
-      → Applied k1 x.thread.0 (Raise m) r k2 → Begins ceiling a k m until (Ok (begun.Locked pass)) a2 k2
-  begins_raised pass won r raises claimed settled done = subst (λ (z : ActorState). Begins ceiling z k m until (Ok (begun.Locked pass)) a2 k2) is
-      (won, claimed, subst (λ seats. AtSeat m.0 won seats (Settles pass)) (sym same.mutexes) settled, subst (λ b. RaisesIf b k x.thread.0 m k2) (sym raises) (r, enters_made k k1 k2 x.thread.0 (Raise m) r u room done))
+      → EntersOne k x.thread.0 (Raise m) r k2 → (reply : Reply) × (r ≡ Ok reply) → Begins ceiling a k m until (Ok (begun.Locked pass)) a2 k2
+  begins_raised pass won r raises claimed settled entered accepted = subst (λ (z : ActorState). Begins ceiling z k m until (Ok (begun.Locked pass)) a2 k2) is
+      (won, claimed, subst (λ seats. AtSeat m.0 won seats (Settles pass)) (sym same.mutexes) settled, subst (λ b. RaisesIf b k x.thread.0 m k2) (sym raises) (accepted.0, subst (λ (r : Result Reply Refusal). EntersOne k x.thread.0 (Raise m) r k2) accepted.1 entered))
 
   -- a lock that waits
   pub begins_waiting : (owner : ThreadId) (reply : Reply) → AtSeat m.0 x.mutexes new (Claims (Queued owner)) → Applied k1 x.thread.0 (AsksToWait m owner until) (Ok reply) k2
@@ -118,9 +117,8 @@ module _ {C : Type 0} (x a : ActorState) (is : x ≡ a) (k k1 k2 : KernelView C)
       (subst (λ (r : Result Reply Refusal). EntersOne k x.thread.0 (Finish keeps) r k2) told entered)
 
   -- a wait whose deadline came first
-  pub finishes_late : (forgot : Result (Unit {0}) Refusal) → AtSeat m.0 x.mutexes new (ForgetsSo forgot) → false ≡ is_err forgot → has_timed_out k.history.state x.thread.0 ≡ true → Finishes a k m (Ok ended.TimedOut) a2 k2
-  finishes_late (Err refusal) forgets kept timed = absurd (true≢false (sym kept))
-  finishes_late (Ok done) forgets kept timed = subst (λ (z : ActorState). Finishes z k m (Ok ended.TimedOut) a2 k2) is
+  pub finishes_late : AtSeat m.0 x.mutexes new (ForgetsSo (Ok tt)) → has_timed_out k.history.state x.thread.0 ≡ true → Finishes a k m (Ok ended.TimedOut) a2 k2
+  finishes_late forgets timed = subst (λ (z : ActorState). Finishes z k m (Ok ended.TimedOut) a2 k2) is
       (subst (λ seats. AtSeat m.0 x.mutexes seats (ForgetsSo (Ok tt))) (sym same.mutexes) forgets, ends TimedOut (tells.1 ∙ ap Ok (is_timed_out tells.0 (sym tells.2 ∙ timed))))
 
   -- a wait that ended with the mutex

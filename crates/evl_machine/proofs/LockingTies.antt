@@ -48,7 +48,7 @@ use Rattle.evl_machine.specs.declared.unfinished.Unfinished.{Unfinished}
 use Rattle.evl_machine.specs.declared.unfinished.Unfinished.TheVariants.{Mutex as of_mutex, Element}
 use Rattle.evl_machine.specs.declared.views.Noted.{Noted as Note}
 use Rattle.evl_machine.specs.Accounts.{threads_of}
-use Rattle.evl_machine.specs.Actors.{SeatedActor, call_refusal, same_truth, keeps_stage, waits_for_mutex}
+use Rattle.evl_machine.specs.Actors.{IsActor, SeatedActor, call_refusal, same_truth, keeps_stage, waits_for_mutex}
 use Rattle.evl_machine.specs.Calls.{Applied}
 use Rattle.evl_machine.specs.JustTaken.{HasJustTaken}
 use Rattle.evl_machine.specs.Known.{CoreHand, ceilings_of, first_of, mutex_count, taken_in}
@@ -176,6 +176,30 @@ module _ {C : Type 0} where
           (touches_none k.history.state t stax mutex c (ap (λ (w : Option Unfinished). call_refusal w stax mutex c) (sym (is ∙ unfinished_is k.history legal fits t)) ∙ free))
       by false none = stay_same ceilings k.history.state k'.history.state (ap (λ (h : History). h.state) (done.refused none))
 
+  -- a mutex with a ceiling, and a thread that may raise it: it is out-of-band and waits for nothing
+  pub record MayRaise (a : SeatedActor C) (id : MutexId) : Type 0 where
+    pub less : id.0 < mutex_count (first_of a.me.0)
+    pub ceiling : ceilings_in a.me.0 id.0 ≡ true
+    pub free : a.wait ≡ None
+    pub oob : a.stage ≡ Oob
+
+  -- the same of an actor that a function was lent
+  module _ (x a : SeatedActor C) (is : x ≡ a) where
+    pub just_as : (k : KernelView C) → HasJustTaken a k → HasJustTaken x k
+    just_as k just = subst (λ (z : SeatedActor C). HasJustTaken z k) (sym is) just
+
+    pub idle_as : a.wait ≡ None → x.wait ≡ None
+    idle_as free = ap (λ (z : SeatedActor C). z.wait) is ∙ free
+
+    pub count_as : (i : ℕ) → IsActor x → i < length a.places → i < mutex_count (first_of x.me.0)
+    count_as i own less = subst (λ n. i < n) own.places.all (subst (λ (z : SeatedActor C). i < length z.places) (sym is) less)
+
+    pub ceiling_as : (key : KernelView C) (i : ℕ) (b : Bool) → first_of a.me.0 ≡ key → ceilings_of key i ≡ b → ceilings_in x.me.0 i ≡ b
+    ceiling_as key i b from told = ap (λ (z : SeatedActor C). ceilings_in z.me.0 i) is ∙ ap (λ (f : KernelView C). ceilings_of f i) from ∙ told
+
+    pub may_raise : (key : KernelView C) (id : MutexId) → IsActor x → id.0 < length a.places → first_of a.me.0 ≡ key → ceilings_of key id.0 ≡ true → (a.wait ≡ None) × (a.stage ≡ Oob) → MayRaise x id
+    may_raise key id own less from told may = record { less = count_as id.0 own less; ceiling = ceiling_as key id.0 true from told; free = idle_as may.0; oob = ap (λ (z : SeatedActor C). z.stage) is ∙ may.1 }
+
   -- what was settled stays so over calls that leave the ties
   pub still_settled : (hand : CoreHand C) (s t : State) → TiesStay (ceilings_in hand) s t → IsSettled hand s → IsSettled hand t
   still_settled hand s t stay settled h is i word stands = stay i word (settled h is i word stands)
@@ -233,31 +257,30 @@ module _ {C : Type 0} where
         (others_same i k' same)
 
     -- the kernel accepts a raise of what was free
-    pub raise_accepted : (id : MutexId) (k' : KernelView C) (r : Result Reply Refusal) → id.0 < mutex_count (first_of a.me.0) → ceilings id.0 ≡ true → a.wait ≡ None → a.stage ≡ Oob → AreTied ceilings k.history.state id.0 0
+    pub raise_accepted : (id : MutexId) (k' : KernelView C) (r : Result Reply Refusal) → MayRaise a id → AreTied ceilings k.history.state id.0 0
         → EntersOne k thread (Raise id) r k' → (reply : Reply) × (r ≡ Ok reply)
-    raise_accepted id k' r less ceiling free oob tied entered =
-        let m = on_record id.0 less in
-        raise_passes ceilings k.history.state thread there (idle free) id m.0 r entered.1.0 k'.history.state m.1 ceiling tied (sym just.suits.stage ∙ oob) entered.1.1.extends.step.1
+    raise_accepted id k' r may tied entered =
+        let m = on_record id.0 may.less in
+        raise_passes ceilings k.history.state thread there (idle may.free) id m.0 r entered.1.0 k'.history.state m.1 may.ceiling tied (sym just.suits.stage ∙ may.oob) entered.1.1.extends.step.1
 
-    raised_stays : (id : MutexId) (k' : KernelView C) (r : Result Reply Refusal) → id.0 < mutex_count (first_of a.me.0) → ceilings id.0 ≡ true → a.wait ≡ None → a.stage ≡ Oob → AreTied ceilings k.history.state id.0 0
+    raised_stays : (id : MutexId) (k' : KernelView C) (r : Result Reply Refusal) → MayRaise a id → AreTied ceilings k.history.state id.0 0
         → EntersOne k thread (Raise id) r k' → AreTied ceilings k'.history.state id.0 (thread + 1) × OthersStay ceilings id.0 k.history.state k'.history.state
-    raised_stays id k' r less ceiling free oob tied entered =
-        let ok = raise_accepted id k' r less ceiling free oob tied entered in
+    raised_stays id k' r may tied entered =
+        let ok = raise_accepted id k' r may tied entered in
         raise_stays ceilings k.history just.legal just.fits thread entered.1.0 k'.history.state id ok.0
         (subst (λ (x : Result Reply Refusal). Step k.history.state thread (Raise id) x entered.1.0 k'.history.state) ok.1 entered.1.1.extends.step.1) near tied
 
     -- a try at a ceiling that took the mutex
-    module _ (new : CoreHand C) (id : MutexId) (pass : MutexPass) (k' : KernelView C) (r : Result Reply Refusal) (n : Notes id.0 tries (FoundTried (Ok pass)) a.me.0 new) (less : id.0 < mutex_count (first_of a.me.0))
-        (ceiling : ceilings id.0 ≡ true) (free : a.wait ≡ None) (oob : a.stage ≡ Oob) (entered : EntersOne k thread (Raise id) r k') where
+    module _ (new : CoreHand C) (id : MutexId) (pass : MutexPass) (k' : KernelView C) (r : Result Reply Refusal) (n : Notes id.0 tries (FoundTried (Ok pass)) a.me.0 new) (may : MayRaise a id) (entered : EntersOne k thread (Raise id) r k') where
       was_free : AreTied ceilings k.history.state id.0 0
       was_free = subst (λ w. AreTied ceilings k.history.state id.0 w) n.found_so (stood new id.0 tries (FoundTried (Ok pass)) n)
 
       pub won_accepted : (reply : Reply) × (r ≡ Ok reply)
-      won_accepted = raise_accepted id k' r less ceiling free oob was_free entered
+      won_accepted = raise_accepted id k' r may was_free entered
 
       pub won_settled : IsSettled new k'.history.state
       won_settled =
-          let both = raised_stays id k' r less ceiling free oob was_free entered in
+          let both = raised_stays id k' r may was_free entered in
           let left : step_word n.found (number_of a.me.0) (part_of a.me.0 id.0) tries ≡ thread + 1 = λ j. either (eqb (n.found_so j) 0) (just.taken.number j + 1) (n.found_so j) in
           settled_by new k'.history.state id.0 tries (FoundTried (Ok pass)) n (subst (λ w. AreTied ceilings k'.history.state id.0 w) (sym left) both.0) both.1
 
@@ -304,11 +327,11 @@ module _ {C : Type 0} where
           (subst (λ (z : (ℕ → Bool) × ℕ). AreTied z.0 after id.0 z.1) (λ j. (sym first j, sym (one.number ∙ just.taken.number) j + 1)) tied)
           (subst (λ (f : ℕ → Bool). OthersStay f id.0 k.history.state after) (sym first) others)
 
-      pub begun_accepted : (k' : KernelView C) (r : Result Reply Refusal) → id.0 < mutex_count (first_of a.me.0) → ceilings id.0 ≡ true → a.wait ≡ None → a.stage ≡ Oob → EntersOne k thread (Raise id) r k' → (reply : Reply) × (r ≡ Ok reply)
-      begun_accepted k' r less ceiling free oob entered = raise_accepted id k' r less ceiling free oob nobody entered
+      pub begun_accepted : (k' : KernelView C) (r : Result Reply Refusal) → MayRaise a id → EntersOne k thread (Raise id) r k' → (reply : Reply) × (r ≡ Ok reply)
+      begun_accepted k' r may entered = raise_accepted id k' r may nobody entered
 
-      pub begun_settled : (k' : KernelView C) (r : Result Reply Refusal) → id.0 < mutex_count (first_of a.me.0) → ceilings id.0 ≡ true → a.wait ≡ None → a.stage ≡ Oob → EntersOne k thread (Raise id) r k' → IsSettled new k'.history.state
-      begun_settled k' r less ceiling free oob entered = let both = raised_stays id k' r less ceiling free oob nobody entered in mine_now k'.history.state both.0 both.1
+      pub begun_settled : (k' : KernelView C) (r : Result Reply Refusal) → MayRaise a id → EntersOne k thread (Raise id) r k' → IsSettled new k'.history.state
+      begun_settled k' r may entered = let both = raised_stays id k' r may nobody entered in mine_now k'.history.state both.0 both.1
 
       pub plain_settled : (k' : KernelView C) → ceilings id.0 ≡ false → k'.history ≡ k.history → IsSettled new k'.history.state
       plain_settled k' plain same =

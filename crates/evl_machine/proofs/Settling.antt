@@ -4,9 +4,10 @@ use Rattle.evl_kernel.specs.States.{State}
 use Rattle.evl_kernel.specs.Histories.{History}
 use Rattle.evl_words.specs.MutexWorld.{MutexKind, step_word}
 use Rattle.evl_machine.specs.declared.views.Noted.{Noted}
+use Rattle.evl_machine.specs.CoreRule.{IsAbout}
 use Rattle.evl_machine.specs.Known.{CoreHand, taken_in, first_of, ceilings_of}
-use Rattle.evl_machine.specs.MutexTokens.{note_in, part_of}
-use Rattle.evl_machine.specs.Noted.{Found, IsSettled, Notes, ceilings_in, number_of}
+use Rattle.evl_machine.specs.MutexTokens.{HasKernel, note_in, part_of}
+use Rattle.evl_machine.specs.Noted.{Found, HasTaken, IsSettled, Notes, ceilings_in, number_of}
 use Rattle.evl_machine.specs.Ties.{AreTied, StandsNoted}
 use Rattle.evl_machine.proofs.TieRule.{noted}
 use Rattle.evl_machine.proofs.TieVisits.{OthersStay, TiesStay, settled_none, settled_noted}
@@ -17,6 +18,10 @@ same_history x y e = cc
 -- the ties stay where the records do
 pub stay_same : (ceilings : ℕ → Bool) (s t : State) → t ≡ s → TiesStay ceilings s t
 stay_same ceilings s t same j word tied = subst (λ (x : State). AreTied ceilings x j word) (sym same) tied
+
+-- who has just taken the kernel may step on any mutex's word
+pub taken_holds : {C : Type 0} (thread : ℕ) (h : History) (hand : CoreHand C) → HasTaken thread h hand → HasKernel hand
+taken_holds thread h hand just i = (h, just.taken, subst (IsAbout i) (sym just.fresh) tt)
 
 module _ {C : Type 0} (h : History) where
   -- no step on a word was made

@@ -106,11 +106,12 @@ module _ {S B : Type 0} (past : S → History) (room : S → ℕ) (comes : B →
       (allows_of (ThreadRule past comes (mutex_tie past ceilings) first m) slots id k v (place k v ∷ [], []) refl 0 (λ n. either (eqb n 0) 1 n) st (with_owned count_of (took past room comes)) turns)
 
   -- a give
-  pub gives_tied : (slots id k : ℕ) (v : ThreadView B MutexView) (y : S) (before : History) (me : Seat) → me ≡ (place k v ∷ [], (0, Some y) ∷ []) → v.core.taken ≡ Some before → Settled ceilings v.core before (past y).state
+  pub gives_tied : (slots id k : ℕ) (v : ThreadView B MutexView) (y : S) (before : History) (me : Seat) → me ≡ (place k v ∷ [], (0, Some y) ∷ []) → v.core.taken ≡ Some before → Settled (ceilings_of v.core.first) v.core before (past y).state
       → MayGive k v.core (past y) → comes v.core.first y → (st : Step (Option S))
       → Allows OneTable slots id me 0 (λ _. 0) (λ _. Told (on_core (gave past room comes)) st me 0)
   gives_tied slots id k v y before me one has settled may from st =
-      gives_thread past room comes (mutex_tie past ceilings) first m slots id k v y me one (tie_giving past comes first ceilings k v.core y before has settled) may from st
+      gives_thread past room comes (mutex_tie past ceilings) first m slots id k v y me one
+      (λ cores lock at i word tied. tie_giving past comes first ceilings k v.core y before has (subst (λ (b : B). Settled (ceilings_of b) v.core before (past y).state) (lock.knows k v.core at) settled) cores lock at i word tied) may from st
 
   -- a try and an unlocking by anybody, of a mutex without a ceiling
   module _ (slots id k : ℕ) (v : ThreadView B MutexView) (me : Seat) (one : me.0 ≡ place k v ∷ []) (i : ℕ) (within : i < m) (free_of : ceilings i ≡ false) (f : ℕ → ℕ) (st : Step (Option S)) (at_word : st.word ≡ 1 + i) (tells : Tells (Option S) MutexView) where

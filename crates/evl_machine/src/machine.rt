@@ -9,7 +9,8 @@ ghost use Rattle.evl_machine.specs.Events.{FailsToTake, Gives, Takes};
 ghost use Rattle.std.specs.Prelude.{⊤, None, false, length, slice_get, true};
 ghost use Rattle.evl_kernel.specs.Families.{moves_caller, task_of};
 ghost use Rattle.evl_machine.specs.Actors.{AreHeldAt, ClaimsOneOf, IsSameActor, Suits, acting};
-ghost use Rattle.evl_machine.specs.MutexTokens.{HasKernel, KeepsPlaces};
+ghost use Rattle.evl_machine.specs.MutexTokens.{KeepsPlaces};
+ghost use Rattle.evl_machine.specs.Noted.{HasTaken, IsSettled};
 ghost use Rattle.evl_machine.specs.StaxSeats.{holds_stax};
 ghost use Rattle.evl_machine.specs.Calls.{ActsOnCore, Answered, Called, HoldsAtItsStage, IsCaller, KernelCall, answer_of, own_refusal};
 
@@ -57,7 +58,7 @@ impl<C: Drop, A: Allocator> MachineOf<C, A> {
         ensures event { MatchOption result (FailsToTake (first_of seat.old.me.0) (account_of (seen seat.old.me)) (account_of (seen seat.new.me))) (λ _. Takes (first_of seat.old.me.0) (account_of (seen seat.old.me)) (account_of (seen seat.new.me))) }
         ensures taken { MatchOption result (seen seat.new.me ≡ seen seat.old.me) (λ k. Taken past_of room_of (seen seat.old.me) k (seen seat.new.me) × ComesFrom (first_of seat.old.me.0) k) }
         ensures places { KeepsPlaces seat.old.me.0 seat.new.me.0 }
-        ensures holder { MatchOption result ⊤ (λ _. HasKernel seat.new.me.0) }
+        ensures holder { MatchOption result ⊤ (λ k. HasTaken (account_of (seen seat.old.me)).thread k.history seat.new.me.0) }
     {
         let table = &self.core.shared;
         if table.compare_exchange::<Take>(seat, 0, 0, 1) != 0 {
@@ -66,12 +67,14 @@ impl<C: Drop, A: Allocator> MachineOf<C, A> {
         table.exchange(seat, 0, None)
     }
 
-    /// Puts the kernel back. It goes on from the one that was taken, by calls of the seat's one caller.
+    /// Puts the kernel back. It goes on from the one that was taken, by calls of the seat's one caller, and what stands of
+    /// each mutex's word is tied to what it records.
     #[inline]
     pub(crate) fn give_kernel(&self, seat: &mut CoreSeat<C, A>, kernel: KernelBox<C, A>)
         requires machine { seat.old.table_id ≡ self.now.id }
         requires comes { ComesFrom (first_of seat.old.me.0) kernel }
         requires kernel { (seen seat.old.me ≡ holding (account_of (seen seat.old.me))) × Continues (account_of (seen seat.old.me)) kernel.history }
+        requires settled { IsSettled seat.old.me.0 kernel.history.state }
         ensures same { (seat.new.table_id ≡ seat.old.table_id) × (seat.new.id ≡ seat.old.id) × (first_of seat.new.me.0 ≡ first_of seat.old.me.0) }
         ensures event { Gives (first_of seat.old.me.0) (account_of (seen seat.old.me)) kernel (account_of (seen seat.new.me)) }
         ensures given { seen seat.new.me ≡ seated (informed kernel.history (account_of (seen seat.old.me))) }

@@ -6,16 +6,17 @@ use Rattle.evl_machine.proofs.LockingCalls.{begins_raised, begins_waiting, won_t
 use Rattle.evl_machine.proofs.MutexAccepts.{same_twice}
 use Rattle.evl_machine.proofs.SeatsAt.{at_table_of, core_of_step, core_twice, holds_for, won_at}
 use Rattle.evl_machine.proofs.Visits.{actor_at_mutexes}
+use Rattle.evl_machine.proofs.Settling.{taken_holds}
 use Rattle.evl_machine.proofs.locking.begin.Goals as goal
 
 pub returns-in_err-reserve-clause-along : goal.returns-in_err-reserve-clause-along
-returns-in_err-reserve-clause-along g c = along_none _ _ refl _ _ _ c.reserve.ensures.same c.requires.held c.requires.suits c.requires.legal (the_same _)
+returns-in_err-reserve-clause-along g c = along_none _ _ refl _ _ _ c.reserve.ensures.same c.requires.held c.requires.taken.suits c.requires.taken.legal (the_same _)
 
 pub claim-requires-clause-table : goal.claim-requires-clause-table
 claim-requires-clause-table g c = (at_table_of _ _ c.actor.view_is _ _ c.actor.invariant c.requires.table)
 
 pub claim-requires-clause-holder : goal.claim-requires-clause-holder
-claim-requires-clause-holder g c = holds_for _ _ c.actor.view_is c.args.core.now.shared.table_id c.args.core.now.shared.key.value c.requires.holder c.args.mutex.0
+claim-requires-clause-holder g c = holds_for _ _ c.actor.view_is c.args.core.now.shared.table_id c.args.core.now.shared.key.value (taken_holds _ _ _ c.requires.taken.taken) c.args.mutex.0
 
 pub settle-pass-requires-clause-won : goal.settle-pass-requires-clause-won
 settle-pass-requires-clause-won g c = won_at _ _ _ c.args.mutex.0 c.claim.ensures.table.its.placed (won_there _ _ _ c.in-Won.ensures.claimed)
@@ -44,7 +45,7 @@ returns-then-ceiling-clause-begun g c =
 
 pub returns-else-ceiling-clause-along : goal.returns-else-ceiling-clause-along
 returns-else-ceiling-clause-along g c =
-    along_none _ _ (ap acting c.actor.view_is) _ _ _ c.reserve.ensures.same c.requires.held c.requires.suits c.requires.legal (same_twice c.claim.ensures.seats c.settle-pass.ensures.seats)
+    along_none _ _ (ap acting c.actor.view_is) _ _ _ c.reserve.ensures.same c.requires.held c.requires.taken.suits c.requires.taken.legal (same_twice c.claim.ensures.seats c.settle-pass.ensures.seats)
 
 pub returns-in_ok-apply-in-Queued-clause-along : goal.returns-in_ok-apply-in-Queued-clause-along
 returns-in_ok-apply-in-Queued-clause-along g c =
@@ -56,4 +57,4 @@ returns-in_ok-apply-in-Queued-clause-begun g c =
 
 pub returns-in-Seizing-clause-along : goal.returns-in-Seizing-clause-along
 returns-in-Seizing-clause-along g c =
-    along_none _ _ (ap acting c.actor.view_is) _ _ _ c.reserve.ensures.same c.requires.held c.requires.suits c.requires.legal c.claim.ensures.seats
+    along_none _ _ (ap acting c.actor.view_is) _ _ _ c.reserve.ensures.same c.requires.held c.requires.taken.suits c.requires.taken.legal c.claim.ensures.seats

@@ -9,6 +9,7 @@ use Rattle.evl_machine.proofs.LockingLaws.{along_call, along_word, same_kernel, 
 use Rattle.evl_machine.proofs.LockingCalls.{next_named}
 use Rattle.evl_machine.proofs.SeatsAt.{core_twice}
 use Rattle.evl_machine.proofs.Visits.{same_core}
+use Rattle.evl_machine.proofs.Settling.{taken_holds}
 use Rattle.evl_machine.proofs.locking.release.Goals as goal
 use Rattle.evl_machine.proofs.locking.release.Goals.{in-Ok-Handed, in-Err}
 
@@ -16,13 +17,13 @@ pub hand_on-requires-clause-table : goal.hand_on-requires-clause-table
 hand_on-requires-clause-table g c = (c.apply.ensures.seat.0 ∙ c.requires.table.0, ap (λ m. first_of m.0) c.apply.ensures.seat.1 ∙ c.requires.table.1)
 
 pub hand_on-requires-clause-holder : goal.hand_on-requires-clause-holder
-hand_on-requires-clause-holder g c = subst (λ m. HasKernel m.0) (sym c.apply.ensures.seat.1) c.requires.holder
+hand_on-requires-clause-holder g c = subst (λ m. HasKernel m.0) (sym c.apply.ensures.seat.1) (taken_holds _ _ _ c.requires.taken.taken)
 
 pub hand_on-requires-clause-once : goal.hand_on-requires-clause-once
 hand_on-requires-clause-once g c = subst (λ seats. HasOnce seats c.args.pass) (sym c.apply.ensures.same.mutexes) c.requires.once
 
 pub hand_on-requires-clause-next : goal.hand_on-requires-clause-next
-hand_on-requires-clause-next g c = next_named _ _ _ _ _ _ _ c.in-Ok-Handed.next c.in-Ok-Handed.more c.apply.ensures.same c.requires.legal c.requires.board c.requires.seats c.requires.once c.apply.ensures.applied (c.in-Ok-Handed.is ∙ ap Ok c.in-Ok-Handed.field-0-is)
+hand_on-requires-clause-next g c = next_named _ _ _ _ _ _ _ c.in-Ok-Handed.next c.in-Ok-Handed.more c.apply.ensures.same c.requires.taken.legal c.requires.taken.fits c.requires.seats c.requires.once c.apply.ensures.applied (c.in-Ok-Handed.is ∙ ap Ok c.in-Ok-Handed.field-0-is)
 
 pub returns-clause-core : goal.returns-clause-core
 returns-clause-core g c = elim c.match-apply.branch [
