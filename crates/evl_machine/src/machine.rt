@@ -8,9 +8,11 @@ ghost use Rattle.evl_machine.specs.Handles.{Belongs, Continues, IsSameCaller, Ta
 ghost use Rattle.evl_machine.specs.Events.{FailsToTake, Gives, Takes};
 ghost use Rattle.std.specs.Prelude.{⊤, None, false, length, slice_get, true};
 ghost use Rattle.evl_kernel.specs.Families.{moves_caller, task_of};
-ghost use Rattle.evl_machine.specs.Actors.{AreHeldAt, ClaimsOneOf, IsSameActor, Suits, acting};
+ghost use Rattle.evl_base.specs.Board.{board_fits};
+ghost use Rattle.evl_machine.specs.Actors.{AreHeldAt, ClaimsOneOf, IsSameActor, Suits, acting, call_refusal};
 ghost use Rattle.evl_machine.specs.MutexTokens.{KeepsPlaces};
 ghost use Rattle.evl_machine.specs.Noted.{HasTaken, IsSettled};
+ghost use Rattle.evl_machine.specs.MutexSeats.{holds_mutex};
 ghost use Rattle.evl_machine.specs.StaxSeats.{holds_stax};
 ghost use Rattle.evl_machine.specs.Calls.{ActsOnCore, Answered, Called, HoldsAtItsStage, IsCaller, KernelCall, answer_of, own_refusal};
 
@@ -107,6 +109,8 @@ impl<C: Handler, A: Allocator> MachineOf<C, A> {
         requires suits { Suits (acting actor.old) (account_of (seen actor.old.me)).seen }
         requires stays { holds_stax actor.old.staxes ≡ true → moves_caller (task_of call) ≡ false }
         requires there { ClaimsOneOf (length actor.old.places) call }
+        requires free { call_refusal actor.old.wait (holds_stax actor.old.staxes) (holds_mutex (acting actor.old).mutexes) call ≡ None }
+        requires board { board_fits (first_of actor.old.me.0).history.board ≡ true }
         requires answering { AnswersAsTold C.declared C.plan (first_of actor.old.me.0).callbacks }
         ensures same { (actor.new.table ≡ actor.old.table) × (first_of actor.new.me.0 ≡ first_of actor.old.me.0) × IsSameActor (acting actor.old) (acting actor.new) }
         ensures rests { IsCaller (seen actor.new.me) actor.new.thread }
