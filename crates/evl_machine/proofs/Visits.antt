@@ -1,9 +1,10 @@
 -- A caller that took the kernel and gave it back: what is told of it, and what it is afterwards.
-use Rattle.std.proofs.Common.{◌≡◌, ◌++◌, ℕ, List, [], Result, map, MatchOption, Option, Some, None, slice_get, refl, sym, ap, ◌∙◌, subst}
+use Rattle.std.proofs.Common.{◌≡◌, ◌++◌, ℕ, List, [], Result, map, MatchOption, Option, Some, None, true, slice_get, refl, sym, ap, ◌∙◌, subst}
 use Rattle.std.specs.List.{range_with_len}
 use Rattle.std.specs.Option.{option_map}
 use Rattle.std.proofs.lemmas.Option.{none-some, same_Some, slice_get-map}
 use Rattle.atomic_table.specs.Seated.{TableId}
+use Rattle.evl_base.specs.Board.{board_fits}
 use Rattle.evl_base.specs.declared.call.Call.{Call}
 use Rattle.evl_base.specs.declared.numbers.ThreadId.{ThreadId}
 use Rattle.evl_base.specs.declared.refusal.Refusal.{Refusal}
@@ -16,7 +17,7 @@ use Rattle.evl_words.specs.MutexCalls.{MutexSeatState}
 use Rattle.evl_words.specs.declared.mutex.place.MutexPlace.{MutexPlace}
 use Rattle.evl_machine.specs.declared.views.Account.{Account}
 use Rattle.evl_machine.specs.Accounts.{Fits, IsAccount, MadeBy, calls_by, informed, saw}
-use Rattle.evl_machine.specs.Actors.{ActorState, AreHeldAt, AwaitsOneOf, IsActor, IsSameActor, SeatedActor, Suits, acting, stage_in}
+use Rattle.evl_machine.specs.Actors.{ActorState, AreHeldAt, AwaitsOneOf, IsActor, IsSameActor, SeatedActor, Suits, acting, call_refusal, stage_in}
 use Rattle.evl_machine.specs.Callers.{HasInHand, IsResting, caller_by, machine_by}
 use Rattle.evl_machine.specs.Calls.{ActsOnCore, Answered, Applied, IsCaller, IsHeld, TookKernel}
 use Rattle.evl_machine.specs.Events.{FailsToTake, Gives, Takes}
@@ -26,15 +27,20 @@ use Rattle.evl_machine.specs.Known.{ComesFrom, KernelMe, first_of, mutex_count, 
 use Rattle.evl_machine.specs.Locking.{GoesAlong, HaveSeats}
 use Rattle.evl_machine.specs.InHand.{Opens}
 use Rattle.evl_machine.specs.MutexTokens.{IsAtTable, KeepsPlaces, TellsTheSame}
+use Rattle.evl_machine.specs.MutexSeats.{holds_mutex}
+use Rattle.evl_machine.specs.Noted.{HasTaken, IsSettled, ceilings_in}
 use Rattle.evl_machine.specs.Seats.{CoreMe}
+use Rattle.evl_machine.specs.StaxSeats.{holds_stax}
 use Rattle.evl_machine.specs.Unfinished.{unfinished}
 use Rattle.evl_machine.specs.Visits.{FindsTaken, Visited, actor_of}
 use Rattle.evl_machine.proofs.Accounts.{goes_on_more, made_by-append}
 use Rattle.evl_machine.proofs.Calling.{TakenOut, calls, fits_one, given_account, held_applied, is_held, mine_after, takes_hold, took_and_gave}
 use Rattle.evl_machine.proofs.Knowing.{answers_still, comes_on}
 use Rattle.evl_machine.proofs.LockingLaws.{along_call, along_none, same_kernel, the_same}
+use Rattle.evl_machine.proofs.LockingTies.{other_call_stays, still_settled}
 use Rattle.evl_machine.proofs.QuietCore.{ends_quiet}
 use Rattle.evl_machine.proofs.SeatsAt.{at_own_table, still_at_table}
+use Rattle.evl_machine.proofs.Settling.{settled_fresh, stay_same}
 use Rattle.evl_machine.proofs.Staying.{at_stage, fits_stage, suits_found}
 
 module _ {C : Type 0} where
@@ -269,24 +275,29 @@ actor_at_mutexes a id first table me places is same from core at = record {
   places = at_own_table a id first table me places same (core.first ∙ from) at;
 }
 
--- an actor that has the kernel, after a call of it
+-- an actor that has the kernel, after a call of it that the actor doesn't refuse by itself
 pub held_call : {C : Type 0} (m : MachineState C) (a a' : SeatedActor C) (k k' : KernelView C) (c : Call) (r : Result Reply Refusal) → HasInHand m a k → (a'.table ≡ a.table) × (a'.me ≡ a.me) × (a'.places ≡ a.places) → IsSameActor (acting a) (acting a')
-    → Applied k a.thread.0 c r k' → Suits (acting a') k'.history → HasInHand m a' k'
-held_call {C} m a a' k k' c r has seat same done suits = (
+    → call_refusal a.wait (holds_stax a.staxes) (holds_mutex (acting a).mutexes) c ≡ None → Applied k a.thread.0 c r k' → Suits (acting a') k'.history → HasInHand m a' k'
+held_call {C} m a a' k k' c r has seat same free done suits = (
   has.0 ∙ (λ i. machine_of (sym seat.0 i) (first_of (sym seat.1 i).0) (sym same.staxes i) (sym same.mutexes i)),
   subst (λ (z : KernelMe C × ThreadId). IsHeld (seen z.0) z.1 k') (λ i. (sym seat.1 i, sym same.thread i)) (held_applied (seen a.me) a.thread c r k k' has.1 done),
   subst (λ (z : KernelMe C). ComesFrom (first_of z.0) k') (sym seat.1) (comes_on (first_of a.me.0) k k' has.2 done.comes),
   suits,
+  subst (λ (z : KernelMe C). IsSettled z.0 k'.history.state) (sym seat.1)
+      (still_settled a.me.0 k.history.state k'.history.state (other_call_stays (ceilings_in a.me.0) k k' a.thread.0 c r a.wait (holds_stax a.staxes) (holds_mutex (acting a).mutexes) has.1.continues.legal has.5 has.3.wait free done) has.4),
+  ap board_fits done.comes.board ∙ has.5,
 )
 
 -- and before any call of it
 pub has_taken_it : {C : Type 0} (m : MachineState C) (x o : SeatedActor C) (k : KernelView C) (opens : Opens (first_of x.me.0) (account_of (seen x.me)) x.thread o.me k) → Suits (acting x) (account_of (seen x.me)).seen → (o.table ≡ x.table) × (acting o ≡ acting x) × (first_of o.me.0 ≡ first_of x.me.0) → o.thread ≡ x.thread
-    → machine_by x ≡ m → HasInHand m o k
-has_taken_it {C} m x o k opens suits same kept is = (
+    → machine_by x ≡ m → HasTaken (account_of (seen x.me)).thread k.history o.me.0 → board_fits m.first.history.board ≡ true → HasInHand m o k
+has_taken_it {C} m x o k opens suits same kept is holder fits = (
   sym is ∙ (λ i. machine_of (sym same.0 i) (sym same.2 i) (sym same.1 i).staxes (sym same.1 i).mutexes),
   subst (λ (t : ThreadId). IsHeld (seen o.me) t k) (sym kept) opens.held,
   subst (λ (f : KernelView C). ComesFrom f k) (sym same.2) opens.comes,
   suits_opened x o k opens suits same.1,
+  settled_fresh k.history o.me.0 k.history.state holder.taken holder.fresh (stay_same (ceilings_in o.me.0) k.history.state k.history.state refl),
+  ap board_fits (opens.comes.board ∙ ap (λ (s : MachineState C). s.first.history.board) is) ∙ fits,
 )
 
 pub took_it : {C : Type 0} (m : MachineState C) (x o : SeatedActor C) (k : KernelView C) (old : CallerState C) → Opens (first_of x.me.0) (account_of (seen x.me)) x.thread o.me k → acting o ≡ acting x → caller_by x ≡ old → old.machine ≡ m

@@ -12,7 +12,7 @@ open-requires-clause-machine g c = ap (λ (s : CallerState _). s.machine.id) c.c
 
 pub invariant_of-result : goal.invariant_of-result
 invariant_of-result g c =
-    has_taken_it c.args.self.now c.caller.inside.actor c.open.new.actor c.in-Some.kernel c.in-Some.ensures.opened c.caller.invariant.1 c.in-Some.ensures.same c.in-Some.ensures.kept.0 (ap (λ (s : CallerState _). s.machine) c.caller.view_is ∙ c.requires)
+    has_taken_it c.args.self.now c.caller.inside.actor c.open.new.actor c.in-Some.kernel c.in-Some.ensures.opened c.caller.invariant.1 c.in-Some.ensures.same c.in-Some.ensures.kept.0 (ap (λ (s : CallerState _). s.machine) c.caller.view_is ∙ c.requires) c.in-Some.ensures.holder (ap (λ (s : MachineState _). board_fits s.first.history.board) (sym c.self.view_is) ∙ c.self.invariant.4)
 
 pub returns-in-Some-clause-taken : goal.returns-in-Some-clause-taken
 returns-in-Some-clause-taken g c = took_it c.args.self.now c.caller.inside.actor c.open.new.actor c.in-Some.kernel c.args.caller c.in-Some.ensures.opened c.in-Some.ensures.same.1 c.caller.view_is c.requires
