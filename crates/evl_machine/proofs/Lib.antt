@@ -14,6 +14,7 @@ pub mod AwaitedCalls
 pub mod FoundWords
 pub mod Taking
 pub mod QuietCore
+pub mod TiedCore
 pub mod Calling
 pub mod Knowing
 pub mod SeatLists

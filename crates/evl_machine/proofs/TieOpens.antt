@@ -2,6 +2,7 @@
 use Rattle.std.proofs.Common.{◌≡◌, ℕ, zero, suc, false, List, [], ◌∷◌, map, replicate, Option, Some, None, is_some, slice_get, refl, sym, ap, ◌∙◌, subst, arith, ◌+◌}
 use Rattle.std.proofs.lemmas.Bool.{false≢true}
 use mathlib.Core.Option.{some}
+use Rattle.evl_base.specs.declared.board.Board.{Board}
 use Rattle.evl_base.specs.declared.mutex_kind.MutexKind.{MutexKind}
 use Rattle.evl_base.specs.declared.mutex_kind.MutexKind.TheVariants.{Normal, Recursive, Ceiling}
 use Rattle.evl_base.specs.declared.entry.Entry.{Entry}
@@ -11,12 +12,15 @@ use Rattle.evl_mutex.specs.Mutexes.{Mutex, ceiling_of, has_ceiling, opened as op
 use Rattle.evl_words.proofs.Sequences.{at_replicate}
 use Rattle.evl_kernel.specs.declared.waits.Wait.{Wait}
 use Rattle.evl_kernel.specs.States.{State}
+use Rattle.evl_kernel.specs.KernelViews.{KernelView}
 use Rattle.evl_kernel.specs.Openings.{opening}
 use Rattle.evl_kernel.specs.Histories.{History, IsLegal, Run, opened}
 use Rattle.evl_kernel.specs.MutexRests.{got_it}
 use Rattle.evl_kernel.specs.MutexEffects.{record_at, has_got}
 use Rattle.evl_machine.specs.declared.views.CorePart.{CorePart}
+use Rattle.evl_machine.specs.Accounts.{threads_of}
 use Rattle.evl_machine.specs.CoreRule.{newcomer_part}
+use Rattle.evl_machine.specs.Known.{ComesFrom, ceilings_of, past_of}
 use Rattle.evl_machine.specs.Ceilings.{has_ceiling as is_ceiled, is_ceiling}
 use Rattle.evl_machine.specs.Ties.{AreTied, MutexTied}
 use Rattle.evl_machine.proofs.CoreSteps.{none_some}
@@ -69,3 +73,10 @@ opens_ties {S} {B} past first y n legal none_yet i = record {
   free = λ z e. subst (λ (x : S). AreTied (λ j. is_ceiled (slice_get (past y).board.mutexes.items j)) (past x).state i 0) (slot_is y z e) (opens_tied (past y) legal none_yet i);
   taken = λ k c h at has. absurd (none_some h c.taken has (sym (ap (λ (u : CorePart B). u.taken) (at_replicate n k (newcomer_part (past y) first) c at))));
 }
+
+-- the same of a kernel that has come from the first one
+pub opens_as_first : {C : Type 0} (k first : KernelView C) → ComesFrom first k → IsLegal k.history → k.history.entries ≡ [] → (i : ℕ)
+    → MutexTied past_of (ceilings_of first) i 0 (some (Some k) ∷ []) (replicate (threads_of k.history) (newcomer_part k.history first)) 0
+opens_as_first {C} k first from legal none_yet i =
+    subst (λ (b : Board). MutexTied past_of (λ j. is_ceiled (slice_get b.mutexes.items j)) i 0 (some (Some k) ∷ []) (replicate (threads_of k.history) (newcomer_part k.history first)) 0) from.board
+    (opens_ties past_of first k (threads_of k.history) legal none_yet i)

@@ -11,6 +11,7 @@ pub mod TieTells
 pub mod OneWorld
 pub mod Seats
 pub mod Known
+pub mod TiedCore
 pub mod Homes
 pub mod AtSeats
 pub mod MutexPlaces
