@@ -1,4 +1,5 @@
 use Rattle.std.proofs.Common.{◌≡◌, slice_get, length, map, refl, ap, inl, inr, sym, ◌∙◌, subst}
+use Rattle.evl_base.specs.declared.numbers.ThreadId.{ThreadId}
 use Rattle.evl_kernel.specs.Callbacks.{AnswersAsTold}
 use Rattle.evl_kernel.specs.KernelViews.{KernelView}
 use Rattle.evl_machine.specs.Actors.{ActorState, acting}
@@ -6,7 +7,7 @@ use Rattle.evl_machine.specs.Ceilings.{has_ceiling}
 use Rattle.evl_machine.specs.Handles.{CallerState, MachineState}
 use Rattle.evl_machine.proofs.Visits.{comes_still, finds_taken, has_still, opened_answers, resting_same, stage_back, stage_resting, suits_back, visited_by}
 use Rattle.evl_machine.specs.Locking.{LocksRaised}
-use Rattle.evl_machine.proofs.Opened.{free_at_ceiling, just_took, lock_open, opened_may}
+use Rattle.evl_machine.proofs.Opened.{free_at_ceiling, just_took, lock_open, opened_may, own_thread, owned_seats}
 use Rattle.evl_machine.proofs.machine.MachineOf.lock_at_ceiling.Goals as goal
 
 pub open-requires-clause-machine : goal.open-requires-clause-machine
@@ -61,7 +62,7 @@ invariant_of-caller g c = (c.shut.ensures.rests, suits_back c.caller.inside.acto
 pub returns-in-Some-clause-visits : goal.returns-in-Some-clause-visits
 returns-in-Some-clause-visits g c =
     let kinds = ap (λ (m : MachineState _). m.first.history.board.mutexes.items) (c.self.view_is ∙ sym c.requires.machine) in
-    inr (visited_by c.caller.inside.actor c.open.new.actor c.in-Some.kernel c.in-Some.ensures.opened c.caller.invariant.1 c.in-Some.ensures.same.1 c.lock_raised-result.new.actor c.lock_raised-result.new.kernel c.lock_raised-result.ensures.core.0 c.lock_raised-result.ensures.along c.shut.new.actor c.shut.ensures.same c.shut.ensures.account _ _ c.caller.view_is c.in-Some.ensures.same.0 c.lock_raised-result.ensures.core.1 (subst (λ ks. LocksRaised ks (acting c.open.new.actor) c.in-Some.kernel c.args.mutex c.lock_raised-result.result (acting c.lock_raised-result.new.actor) c.lock_raised-result.new.kernel) kinds c.lock_raised-result.ensures.locked) c.in-Some.ensures.event c.shut.ensures.event)
+    inr (visited_by c.caller.inside.actor c.open.new.actor c.in-Some.kernel c.in-Some.ensures.opened c.caller.invariant.1 c.in-Some.ensures.same.1 c.lock_raised-result.new.actor c.lock_raised-result.new.kernel c.lock_raised-result.ensures.core.0 c.lock_raised-result.ensures.along c.shut.new.actor c.shut.ensures.same c.shut.ensures.account _ _ c.caller.view_is c.in-Some.ensures.same.0 c.lock_raised-result.ensures.core.1 (owned_seats c.open.new.actor c.in-Some.kernel _ c.in-Some.ensures.own (own_thread _ _ _ _ _ c.in-Some.ensures.opened (ap (λ (t : ThreadId). t.0) (sym c.in-Some.ensures.kept.0))) c.in-Some.ensures.holder) (subst (λ ks. LocksRaised ks (acting c.open.new.actor) c.in-Some.kernel c.args.mutex c.lock_raised-result.result (acting c.lock_raised-result.new.actor) c.lock_raised-result.new.kernel) kinds c.lock_raised-result.ensures.locked) c.in-Some.ensures.event c.shut.ensures.event)
 
 pub returns-in-Some-clause-stage : goal.returns-in-Some-clause-stage
 returns-in-Some-clause-stage g c = stage_back c.caller.inside.actor c.open.new.actor c.in-Some.kernel c.in-Some.ensures.opened c.caller.invariant.1 c.in-Some.ensures.same.1 c.lock_raised-result.new.actor c.lock_raised-result.new.kernel c.lock_raised-result.ensures.core.0 c.lock_raised-result.ensures.along c.shut.new.actor c.shut.ensures.same c.shut.ensures.account

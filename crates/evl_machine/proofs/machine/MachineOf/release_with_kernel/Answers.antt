@@ -1,10 +1,11 @@
 use Rattle.std.proofs.Common.{◌≡◌, length, map, refl, ap, inl, inr, sym, ◌∙◌, subst}
+use Rattle.evl_base.specs.declared.numbers.ThreadId.{ThreadId}
 use Rattle.evl_kernel.specs.Callbacks.{AnswersAsTold}
 use Rattle.evl_kernel.specs.KernelViews.{KernelView}
 use Rattle.evl_machine.specs.Actors.{ActorState, acting}
 use Rattle.evl_machine.specs.Handles.{CallerState, MachineState}
 use Rattle.evl_machine.proofs.Visits.{comes_still, finds_taken, has_still, opened_answers, resting_same, stage_back, stage_resting, suits_back, visited_by}
-use Rattle.evl_machine.proofs.Opened.{just_took, opened_seats, opened_wait}
+use Rattle.evl_machine.proofs.Opened.{just_took, opened_seats, opened_wait, own_thread, owned_seats}
 use Rattle.evl_machine.specs.MutexSeats.{HasOnce}
 use Rattle.evl_machine.proofs.machine.MachineOf.release_with_kernel.Goals as goal
 
@@ -54,7 +55,7 @@ invariant_of-caller g c = (c.shut.ensures.rests, suits_back c.caller.inside.acto
 
 pub returns-in-Some-clause-visits : goal.returns-in-Some-clause-visits
 returns-in-Some-clause-visits g c =
-    inr (visited_by c.caller.inside.actor c.open.new.actor c.in-Some.kernel c.in-Some.ensures.opened c.caller.invariant.1 c.in-Some.ensures.same.1 c.release-result.new.actor c.release-result.new.kernel c.release-result.ensures.core.0 c.release-result.ensures.along c.shut.new.actor c.shut.ensures.same c.shut.ensures.account _ _ c.caller.view_is c.in-Some.ensures.same.0 c.release-result.ensures.core.1 c.release-result.ensures.released c.in-Some.ensures.event c.shut.ensures.event)
+    inr (visited_by c.caller.inside.actor c.open.new.actor c.in-Some.kernel c.in-Some.ensures.opened c.caller.invariant.1 c.in-Some.ensures.same.1 c.release-result.new.actor c.release-result.new.kernel c.release-result.ensures.core.0 c.release-result.ensures.along c.shut.new.actor c.shut.ensures.same c.shut.ensures.account _ _ c.caller.view_is c.in-Some.ensures.same.0 c.release-result.ensures.core.1 (owned_seats c.open.new.actor c.in-Some.kernel _ c.in-Some.ensures.own (own_thread _ _ _ _ _ c.in-Some.ensures.opened (ap (λ (t : ThreadId). t.0) (sym c.in-Some.ensures.kept.0))) c.in-Some.ensures.holder) c.release-result.ensures.released c.in-Some.ensures.event c.shut.ensures.event)
 
 pub returns-in-Some-clause-stage : goal.returns-in-Some-clause-stage
 returns-in-Some-clause-stage g c = stage_back c.caller.inside.actor c.open.new.actor c.in-Some.kernel c.in-Some.ensures.opened c.caller.invariant.1 c.in-Some.ensures.same.1 c.release-result.new.actor c.release-result.new.kernel c.release-result.ensures.core.0 c.release-result.ensures.along c.shut.new.actor c.shut.ensures.same c.shut.ensures.account
