@@ -31,7 +31,7 @@ use Rattle.evl_kernel.specs.MutexRests.{got_it, is_for, touches_mutex}
 use Rattle.evl_kernel.specs.States.{State}
 use Rattle.evl_kernel.specs.WaitOwners.{awaited_at}
 use Rattle.evl_kernel.specs.Waits.{has_ended, has_timed_out, wait_at}
-use Rattle.evl_kernel.proofs.AnswerLaws.{next_is_there}
+use Rattle.evl_kernel.proofs.AnswerLaws.{finish_tells, next_is_there}
 use Rattle.evl_kernel.proofs.MutexEnds.{waits_end_rightly}
 use Rattle.evl_kernel.proofs.OpeningLaws.{threads_few}
 use Rattle.evl_kernel.proofs.OwnRunLaws.{mutexes_by_themselves}
@@ -373,13 +373,20 @@ module _ {C : Type 0} where
           let m = on_record id.0 less in
           ap (offers_to n.found) just.taken.number ∙ over_finds ceilings k.history just.legal just.fits thread id m.0 n.found m.1 (stood new id.0 kind so n) (waits_on id waits) over
 
+      -- the kernel ends it, where there is room
+      ended : (k' : KernelView C) (keep : Bool) (r : Result Reply Refusal) → EntersOne k thread (Finish keep) r k' → (reply : Reply) × EntersOne k thread (Finish keep) (Ok reply) k'
+      ended k' keep r entered =
+          let t = finish_tells k.history k'.history.state thread keep r entered.1.0 just.legal just.fits just.member over entered.1.1.extends.step.1 in
+          (t.0, subst (λ (x : Result Reply Refusal). EntersOne k thread (Finish keep) x k') t.1 entered)
+
       -- whose deadline came first isn't offered the mutex
       pub late_forgets : (new : CoreHand C) → has_timed_out k.history.state thread ≡ true → Notes id.0 forgets (FoundOffered true) a.me.0 new → ⊥
       late_forgets new late n = true≢false (sym n.found_so ∙ finds new forgets (FoundOffered true) n ∙ ap not late)
 
-      pub late_settled : (new : CoreHand C) (k' : KernelView C) (keep : Bool) (reply : Reply) → has_timed_out k.history.state thread ≡ true → Notes id.0 forgets (FoundOffered false) a.me.0 new → EntersOne k thread (Finish keep) (Ok reply) k' → IsSettled new k'.history.state
-      late_settled new k' keep reply late n entered =
-          let stay = finish_stays ceilings k.history just.legal just.fits thread entered.1.0 k'.history.state keep reply entered.1.1.extends.step.1 none in
+      pub late_settled : (new : CoreHand C) (k' : KernelView C) (keep : Bool) (r : Result Reply Refusal) → has_timed_out k.history.state thread ≡ true → Notes id.0 forgets (FoundOffered false) a.me.0 new → EntersOne k thread (Finish keep) r k' → IsSettled new k'.history.state
+      late_settled new k' keep r late n entered =
+          let e = ended k' keep r entered in
+          let stay = finish_stays ceilings k.history just.legal just.fits thread e.1.1.0 k'.history.state keep e.0 e.1.1.1.extends.step.1 none in
           settled_by new k'.history.state id.0 forgets (FoundOffered false) n (stay id.0 n.found (stood new id.0 forgets (FoundOffered false) n)) (λ j w ne t. stay j w t)
         where
           none : (j : ℕ) → has_got k.history.state j thread ≡ false
@@ -391,8 +398,9 @@ module _ {C : Type 0} where
       pub got_accepts : (new : CoreHand C) → has_timed_out k.history.state thread ≡ false → Notes id.0 awaits (FoundOffered false) a.me.0 new → ⊥
       got_accepts new got n = true≢false (ap not (sym got) ∙ sym (finds new awaits (FoundOffered false) n) ∙ n.found_so)
 
-      pub got_settled : (mid new : CoreHand C) (k' : KernelView C) (keep : Bool) (reply : Reply) → Notes id.0 awaits (FoundOffered true) a.me.0 mid → Notes id.0 accepts FoundAny mid new → EntersOne k thread (Finish keep) (Ok reply) k' → IsSettled new k'.history.state
-      got_settled mid new k' keep reply one two entered =
+      pub got_settled : (mid new : CoreHand C) (k' : KernelView C) (keep : Bool) (r : Result Reply Refusal) → Notes id.0 awaits (FoundOffered true) a.me.0 mid → Notes id.0 accepts FoundAny mid new → EntersOne k thread (Finish keep) r k' → IsSettled new k'.history.state
+      got_settled mid new k' keep r one two entered =
+          let e = ended k' keep r entered in
           let offer = offer_found (number_of a.me.0) (part_of a.me.0 id.0) (part_of mid id.0) awaits one.found one.does one.found_so in
           let marked = offer.0 in
           let first : ceilings_in mid ≡ ceilings = ap (λ f. ceilings_of f) one.first in
@@ -400,7 +408,7 @@ module _ {C : Type 0} where
           let stands = subst (λ (o : Option Note). StandsNoted (ceilings_in mid) k.history.state id.0 o two.found) one.note (two.stood k.history (one.taken ∙ just.taken.taken)) in
           let left = from_true (id.0 == id.0) (IsLeft (ceilings_in mid id.0) one.found two.found) (AreTied (ceilings_in mid) k.history.state id.0 two.found) (Rattle.std.proofs.Common.eq-eqb id.0 id.0 refl) stands in
           let still : two.found ≡ offer_word thread marked = left_offered (ceilings_in mid) (ceilings_in mid id.0) thread marked two.found (subst (λ w. IsLeft (ceilings_in mid id.0) w two.found) found left) in
-          let both = accept_stays ceilings k.history just.legal just.fits thread entered.1.0 k'.history.state id keep reply entered.1.1.extends.step.1 marked near (got_elsewhere k.history.state thread id (waits_on id waits))
+          let both = accept_stays ceilings k.history just.legal just.fits thread e.1.1.0 k'.history.state id keep e.0 e.1.1.1.extends.step.1 marked near (got_elsewhere k.history.state thread id (waits_on id waits))
           (subst (λ w. AreTied ceilings k.history.state id.0 w) found (stood mid id.0 awaits (FoundOffered true) one)) in
           let now : step_word two.found (number_of mid) (part_of mid id.0) accepts ≡ mutex_word (owned thread marked) = ap (λ w. bit_and w 18446744072635809791) still ∙ accept-word thread marked near in
           settled_noting k.history mid new k'.history.state id.0 accepts FoundAny (one.taken ∙ just.taken.taken) two
