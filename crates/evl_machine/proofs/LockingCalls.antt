@@ -10,7 +10,7 @@ use Rattle.evl_base.specs.declared.refusal.Refusal.{Refusal}
 use Rattle.evl_base.specs.declared.reply.Reply.{Reply}
 use Rattle.evl_base.specs.declared.reply.Reply.TheVariants.{Begun, Handed, TimedOut}
 use Rattle.evl_kernel.specs.Histories.{History, IsLegal}
-use Rattle.evl_kernel.specs.KernelViews.{KernelView}
+use Rattle.evl_kernel.specs.KernelViews.{KernelView, makes_entry}
 use Rattle.evl_kernel.specs.Waits.{has_ended, has_timed_out, is_timeout}
 use Rattle.evl_kernel.proofs.AnswerLaws.{claim_begins, finish_tells, next_is_there}
 use Rattle.evl_words.specs.declared.mutex.Claim.TheVariants.{Won, Queued}
@@ -23,10 +23,10 @@ use Rattle.evl_machine.specs.Accounts.{threads_of}
 use Rattle.evl_machine.specs.Actors.{ActorState, IsSameActor, keeps_stage}
 use Rattle.evl_machine.specs.AtSeats.{AtSeat}
 use Rattle.evl_machine.specs.Calls.{Applied}
-use Rattle.evl_machine.specs.Locking.{Begins, EndsWait, EntersOne, Finishes, HaveSeats, IsRoomier, RaisesIf, Reserves}
+use Rattle.evl_machine.specs.Locking.{Begins, EndsWait, EntersNone, EntersOne, FindsNoRoom, Finishes, GivesTo, HaveSeats, IsRoomier, RaisesIf, Releases, Reserves}
 use Rattle.evl_machine.specs.MutexSeats.{AcceptsSo, Claims, ForgetsSo, HasOnce, HasSeat, HasWon, Settles, holds_mutex}
 use Rattle.evl_machine.specs.StaxSeats.{holds_stax}
-use Rattle.evl_machine.proofs.LockingLaws.{enters_made, seated_at}
+use Rattle.evl_machine.proofs.LockingLaws.{enters_made, no_room, seated_at}
 
 pub set_there : {S : Type 0} (xs : List S) (i : ℕ) (was is : S) → slice_get xs i ≡ Some was → slice_get (slice_set xs i is) i ≡ Some is
 set_there [] i was is there = absurd (none-some was there)
@@ -125,3 +125,19 @@ module _ {C : Type 0} (x a : ActorState) (is : x ≡ a) (k k1 k2 : KernelView C)
   pub finishes_locked : (pass : MutexPass) → AtSeat m.0 x.mutexes new (AcceptsSo (Ok pass)) → has_timed_out k.history.state x.thread.0 ≡ false → Finishes a k m (Ok (ended.Locked pass)) a2 k2
   finishes_locked pass accepts timed = subst (λ (z : ActorState). Finishes z k m (Ok (ended.Locked pass)) a2 k2) is
       (subst (λ seats. AtSeat m.0 x.mutexes seats (AcceptsSo (Ok pass))) (sym same.mutexes) accepts, (tells.0, sym tells.2 ∙ timed, ends tells.0 tells.1))
+
+module _ {C : Type 0} (a a1 : ActorState) (same : IsSameActor a a1) (k k' : KernelView C) (pass : MutexPass) (m : MutexId) (is : m ≡ pass.mutex) (r : Result Reply Refusal) (done : Applied k a.thread.0 (Release m) r k') where
+  -- a release that was entered
+  pub release_entered : (s : Result Reply Refusal) → r ≡ s → makes_entry s ≡ true → EntersOne k a.thread.0 (Release pass.mutex) s k'
+  release_entered s told entry =
+      let d : Applied k a.thread.0 (Release pass.mutex) s k' = subst (λ (z : MutexId × Result Reply Refusal). Applied k a.thread.0 (Release z.0) z.1 k') (λ i. (is i, told i)) done in
+      (entry, d.entered entry)
+
+  -- and behind which the word was given
+  pub releases_on : (next : Option ThreadId) (more : Bool) (a2 : ActorState) → r ≡ Ok (Handed next more) → AtSeat pass.mutex.0 a1.mutexes a2.mutexes (GivesTo next more) → Releases a k pass (Ok tt) a2 k'
+  releases_on next more a2 told at = (next, more, release_entered (Ok (Handed next more)) told refl, subst (λ seats. AtSeat pass.mutex.0 seats a2.mutexes (GivesTo next more)) same.mutexes at)
+
+  -- one that is never refused with an entry
+  pub releases_not : (refusal : Refusal) → r ≡ Err refusal → (EntersOne k a.thread.0 (Release pass.mutex) (Err refusal) k' → ⊥) → EntersNone k k' × FindsNoRoom k refusal
+  releases_not refusal told never =
+      no_room k k' a.thread.0 (Release pass.mutex) refusal never (subst (λ (z : MutexId × Result Reply Refusal). Applied k a.thread.0 (Release z.0) z.1 k') (λ i. (is i, told i)) done)

@@ -42,22 +42,26 @@ use Rattle.evl_words.specs.declared.mutex.MutexRole.TheVariants.{Owner}
 use Rattle.evl_words.specs.Mutex as word
 use Rattle.evl_words.specs.Mutex.{owned, offered, claimed}
 use Rattle.evl_words.specs.MutexBits.{mutex_word, offer_word, offers_to}
-use Rattle.evl_words.specs.MutexWorld.{MutexKind as Kind, accepts, awaits, claims, forgets, frees, offers, owns, settles, step_word, tries}
+use Rattle.evl_words.specs.MutexWorld.{MutexKind as Kind, MutexView, accepts, awaits, claims, forgets, frees, offers, owns, settles, step_word, tries}
 use Rattle.evl_words.proofs.MutexWords.{accept-word, mark-word}
 use Rattle.evl_machine.specs.declared.unfinished.Unfinished.{Unfinished}
 use Rattle.evl_machine.specs.declared.unfinished.Unfinished.TheVariants.{Mutex as of_mutex, Element}
 use Rattle.evl_machine.specs.declared.views.Noted.{Noted as Note}
 use Rattle.evl_machine.specs.Accounts.{threads_of}
-use Rattle.evl_machine.specs.Actors.{IsActor, SeatedActor, call_refusal, same_truth, keeps_stage, waits_for_mutex}
+use Rattle.evl_machine.specs.Actors.{IsActor, SeatedActor, acting, call_refusal, same_truth, keeps_stage, waits_for_mutex}
 use Rattle.evl_machine.specs.Calls.{Applied}
 use Rattle.evl_machine.specs.JustTaken.{HasJustTaken}
 use Rattle.evl_machine.specs.Known.{CoreHand, ceilings_of, first_of, mutex_count, taken_in}
 use Rattle.evl_machine.specs.Locking.{EntersOne}
+use Rattle.evl_machine.specs.MutexSeats.{HasOnce}
 use Rattle.evl_machine.specs.MutexTokens.{note_in, part_of}
 use Rattle.evl_machine.specs.Noted.{Found, FoundAny, FoundClaimed, FoundOffered, FoundTried, IsSettled, Notes, NotesAccept, NotesGiven, ceilings_in, number_of}
 use Rattle.evl_machine.specs.Ties.{AreTied, IsLeft, StandsNoted}
 use Rattle.evl_machine.proofs.AwaitedCalls.{kept, kept_of, mutex_awaited, none_awaited, unfinished_is}
 use Rattle.evl_machine.proofs.FoundWords.{Shown, is_near, offer_found, owned_found, queued_found, seizing_found, shown, won_found}
+use Rattle.evl_machine.proofs.MutexStepLaws.{owner_is, part_is}
+use Rattle.evl_machine.proofs.SeatLists.{some-within}
+use Rattle.evl_machine.proofs.SeatsAt.{once_at}
 use Rattle.evl_machine.proofs.Settling.{settled_fresh, settled_noting, stay_same, stood_fresh}
 use Rattle.evl_machine.proofs.TieFinds.{over_finds, raise_passes, release_passes}
 use Rattle.evl_machine.proofs.TieRecords.{tied_refused}
@@ -183,6 +187,16 @@ module _ {C : Type 0} where
     pub free : a.wait ≡ None
     pub oob : a.stage ≡ Oob
 
+  -- a mutex that an actor has once is one of the board, and its own in its word
+  pub owner_once : (a : SeatedActor C) (pass : MutexPass) → IsActor a → HasOnce (acting a).mutexes pass → (pass.mutex.0 < mutex_count (first_of a.me.0)) × (owns (part_of a.me.0 pass.mutex.0).held.role ≡ true)
+  owner_once a pass own once =
+      let i = pass.mutex.0 in
+      let there = once_at a.table a.me.0 a.places pass once in
+      let its = own.places.its in (
+        subst (λ n. i < n) own.places.all (some-within _ a.places i there),
+        ap (λ (x : MutexView). owns x.held.role) (part_is a.me.0 a.places i its) ∙ ap owns (owner_is a.me.0 a.places i its pass there),
+      )
+
   -- the same of an actor that a function was lent
   module _ (x a : SeatedActor C) (is : x ≡ a) where
     pub just_as : (k : KernelView C) → HasJustTaken a k → HasJustTaken x k
@@ -205,9 +219,6 @@ module _ {C : Type 0} where
   still_settled hand s t stay settled h is i word stands = stay i word (settled h is i word stands)
 
   module _ (a : SeatedActor C) (k : KernelView C) (just : HasJustTaken a k) where
-    abbrev hand : CoreHand C
-    hand = a.me.0
-
     abbrev thread : ℕ
     thread = a.thread.0
 

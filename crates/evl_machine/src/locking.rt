@@ -5,7 +5,7 @@ ghost use Rattle.evl_base.specs.declared.call.Call.TheVariants.{Finish};
 ghost use Rattle.evl_base.specs.declared.stage.Stage.TheVariants.{Oob};
 ghost use Rattle.evl_kernel.specs.Callbacks.{AnswersAsTold};
 ghost use Rattle.evl_machine.specs.Accounts.{threads_of};
-ghost use Rattle.evl_machine.specs.Actors.{AreHeldAt, IsSameActor, Suits, acting, keeps_stage};
+ghost use Rattle.evl_machine.specs.Actors.{AreHeldAt, IsActor, IsSameActor, Suits, acting, keeps_stage};
 ghost use Rattle.evl_machine.specs.AtSeats.{AtSeat};
 ghost use Rattle.evl_machine.specs.Calls.{Applied};
 ghost use Rattle.evl_machine.specs.declared.unfinished.Unfinished.TheVariants.{Mutex};
@@ -83,6 +83,7 @@ pub(crate) fn release<C: Handler, A: Allocator>(
     requires answering { AnswersAsTold C.declared C.plan kernel.old.callbacks }
     requires held { AreHeldAt actor.old.stage actor.old.staxes }
     requires seats { HaveSeats (threads_of kernel.old.history) (acting actor.old).mutexes }
+    requires own { IsActor actor.old }
     requires once { HasOnce (acting actor.old).mutexes pass }
     requires idle { actor.old.wait ≡ None }
     ensures core { TellsTheSame actor.old.me actor.new.me × (actor.new.table ≡ actor.old.table) }

@@ -38,6 +38,9 @@ release-result-requires-clause-taken g c =
 pub release-result-requires-clause-idle : goal.release-result-requires-clause-idle
 release-result-requires-clause-idle g c = opened_wait c.caller.inside.actor c.open.new.actor c.args.caller.now _ c.caller.view_is c.caller.invariant c.in-Some.ensures.same.1 c.requires.idle
 
+pub release-result-requires-clause-own : goal.release-result-requires-clause-own
+release-result-requires-clause-own g c = c.in-Some.ensures.own
+
 pub shut-requires-clause-settled : goal.shut-requires-clause-settled
 shut-requires-clause-settled g c = c.release-result.ensures.settled
 
