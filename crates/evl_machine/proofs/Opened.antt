@@ -21,6 +21,7 @@ use Rattle.evl_kernel.specs.KernelViews.{KernelView}
 use Rattle.evl_mutex.specs.Mutexes.{is_open_to}
 use Rattle.evl_words.specs.MutexCalls.{MutexSeatState}
 use Rattle.evl_words.specs.MutexWorld.{MutexView, owns}
+use Rattle.evl_words.specs.declared.mutex.MutexPass.{MutexPass}
 use Rattle.evl_words.specs.declared.mutex.place.MutexPlace.{MutexPlace}
 use Rattle.evl_machine.specs.declared.unfinished.Unfinished.{Unfinished}
 use Rattle.evl_machine.specs.declared.views.Account.{Account}
@@ -35,7 +36,7 @@ use Rattle.evl_machine.specs.InHand.{Opens}
 use Rattle.evl_machine.specs.JustTaken.{HasJustTaken}
 use Rattle.evl_machine.specs.Known.{ComesFrom, CoreHand, KernelMe, first_of, mutex_count, seen}
 use Rattle.evl_machine.specs.Locking.{HaveSeats}
-use Rattle.evl_machine.specs.MutexLocks.{kind_of, lock_refusal, own_lock_refusal}
+use Rattle.evl_machine.specs.MutexLocks.{kind_of, lock_refusal, own_lock_refusal, spend_refusal}
 use Rattle.evl_machine.specs.MutexPlaces.{depth_in, place_passes}
 use Rattle.evl_machine.specs.MutexSeats.{depth_at, is_owner, is_recursive, mutex_passes, mutex_refusal, owner_refusal}
 use Rattle.evl_machine.specs.MutexTokens.{part_of, seat_at, seats_at}
@@ -103,6 +104,11 @@ may_now kind None stage depth none = (refl, at kind stage none)
     at (Some k) Oob none = refl
     at (Some k) Inband none = absurd (none-some WrongStage (sym none))
 may_now kind (Some w) stage depth none = absurd (none-some Busy (sym none))
+
+-- who may spend a pass waits for nothing
+pub spends_idle : (wait : Option Unfinished) (seats : List MutexSeatState) (pass : MutexPass) → spend_refusal wait seats pass ≡ None → wait ≡ None
+spends_idle None seats pass none = refl
+spends_idle (Some w) seats pass none = absurd (none-some Busy (sym none))
 
 -- a place that isn't held
 pub place_free : (ps : List MutexPlace) (i : ℕ) → i < length ps → depth_in ps i ≡ 0 → IsSomeAnd (slice_get ps i) (λ p. p.depth ≡ 0)
@@ -174,6 +180,9 @@ module _ {C : Type 0} where
 
   pub opened_wait : (x o : SeatedActor C) (old : CallerState C) (wait : Option Unfinished) → caller_by x ≡ old → IsResting x → acting o ≡ acting x → wait_of_caller old ≡ wait → o.wait ≡ wait
   opened_wait x o old wait was rests same is = ap (λ (a : ActorState). a.wait) (opened_actor x o old was rests same) ∙ is
+
+  pub own_wait : (x : SeatedActor C) (old : CallerState C) (wait : Option Unfinished) → caller_by x ≡ old → IsResting x → x.wait ≡ wait → wait_of_caller old ≡ wait
+  own_wait x old wait was rests is = ap (λ (a : ActorState). a.wait) (sym (opened_actor x x old was rests refl)) ∙ is
 
   -- who may lock a mutex waits for nothing, out-of-band
   pub opened_may : (x o : SeatedActor C) (old : CallerState C) (m : MutexId) → caller_by x ≡ old → IsResting x → acting o ≡ acting x → own_lock_refusal old m ≡ None → (o.wait ≡ None) × (o.stage ≡ Oob)
