@@ -1,5 +1,5 @@
 -- What each step on a mutex's word by the thread that has the kernel notes, and how it found the word.
-use Rattle.std.proofs.Common.{◌≡◌, ◌≢◌, ◌==◌, eqb, ℕ, ◌+◌, Bool, true, false, Option, IsSomeAnd, Ok, Err, slice_get, refl, sym, ap, ◌∙◌}
+use Rattle.std.proofs.Common.{◌≡◌, ◌≢◌, ◌==◌, eqb, ℕ, ◌+◌, Bool, true, false, List, Option, IsSomeAnd, Ok, Err, slice_get, refl, sym, ap, ◌∙◌}
 use Rattle.std.specs.Prelude.{bit_and, bit_or}
 use mathlib.Core.Option.{none}
 use prog.Atomic.{either}
