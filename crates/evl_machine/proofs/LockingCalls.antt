@@ -1,5 +1,5 @@
 -- What a caller's steps with the kernel in hand come to: a lock that begins, a release, and a wait that is finished.
-use Rattle.std.proofs.Common.{◌≡◌, ◌<◌, ◌≤◌, nat_lt, ℕ, zero, suc, List, [], ◌∷◌, Bool, true, false, true≢false, Option, Some, None, Result, Ok, Err, IfSome, IsSomeAnd, slice_get, slice_set, refl, sym, ap, ◌∙◌, subst, arith}
+use Rattle.std.proofs.Common.{◌≡◌, ◌<◌, ◌≤◌, nat_lt, ℕ, zero, suc, List, [], ◌∷◌, Bool, true, false, true≢false, Option, Some, None, Result, Ok, Err, IsErrAnd, IfSome, IsSomeAnd, inr, slice_get, slice_set, refl, sym, ap, ◌∙◌, subst, arith}
 use Rattle.std.proofs.lemmas.Bool.Decides.{nat_tests}
 use Rattle.std.proofs.lemmas.Option.{none-some}
 use Rattle.evl_base.specs.Board.{board_fits}
@@ -17,6 +17,7 @@ use Rattle.evl_words.specs.declared.mutex.Claim.TheVariants.{Won, Queued}
 use Rattle.evl_words.specs.declared.mutex.MutexPass.{MutexPass}
 use Rattle.evl_words.specs.MutexCalls.{IsPassOf, MutexSeatState}
 use Rattle.evl_words.specs.declared.mutex.MutexHold.{MutexHold}
+use Rattle.evl_machine.specs.declared.locking.Begun.{Begun as LockBegun}
 use Rattle.evl_machine.specs.declared.locking.Begun.TheVariants as begun
 use Rattle.evl_machine.specs.declared.locking.Ended.TheVariants as ended
 use Rattle.evl_machine.specs.Accounts.{threads_of}
@@ -58,6 +59,13 @@ module _ {C : Type 0} (x a : ActorState) (is : x ≡ a) (k k1 k2 : KernelView C)
 
       answered : reply ≡ Begun
       answered = claim_begins k.history.state k2.history.state x.thread.0 m owner until reply entered.1.0 entered.1.1.extends.step.1
+
+  -- a wait that the kernel refused
+  pub begins_refused : (owner : ThreadId) (refusal : Refusal) (r : Result LockBegun Refusal) → IsErrAnd r (λ f. f ≡ refusal) → AtSeat m.0 x.mutexes new (Claims (Queued owner)) → Applied k1 x.thread.0 (AsksToWait m owner until) (Err refusal) k2
+      → Begins ceiling a k m until r a2 k2
+  begins_refused owner refusal (Ok z) is_err claimed done = absurd is_err
+  begins_refused owner refusal (Err why) is_err claimed done = subst (λ (z : ActorState × Refusal). Begins ceiling z.0 k m until (Err z.1) a2 k2) (λ i. (is i, sym is_err i))
+      (inr (owner, subst (λ seats. AtSeat m.0 x.mutexes seats (Claims (Queued owner))) (sym same.mutexes) claimed, enters_made k k1 k2 x.thread.0 (AsksToWait m owner until) (Err refusal) u room done))
 
 some_seat : (n next i : ℕ) (seats : List MutexSeatState) (P : MutexSeatState → Type 0) → HaveSeats n seats → IsSomeAnd (slice_get seats i) P → next < n → HasSeat seats i next
 some_seat n next i seats P have there less = by (slice_get seats i) refl there

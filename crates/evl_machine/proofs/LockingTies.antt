@@ -55,7 +55,7 @@ use Rattle.evl_machine.specs.Known.{CoreHand, ceilings_of, first_of, mutex_count
 use Rattle.evl_machine.specs.Locking.{EntersOne}
 use Rattle.evl_machine.specs.MutexSeats.{HasOnce}
 use Rattle.evl_machine.specs.MutexTokens.{note_in, part_of}
-use Rattle.evl_machine.specs.Noted.{Found, FoundAny, FoundClaimed, FoundOffered, FoundTried, IsSettled, Notes, NotesAccept, NotesGiven, ceilings_in, number_of}
+use Rattle.evl_machine.specs.Noted.{Found, FoundAny, FoundClaimed, FoundFree, FoundOffered, FoundTaken, IsSettled, Notes, NotesAccept, NotesGiven, ceilings_in, number_of}
 use Rattle.evl_machine.specs.Ties.{AreTied, IsLeft, StandsNoted}
 use Rattle.evl_machine.proofs.AwaitedCalls.{kept, kept_of, mutex_awaited, none_awaited, unfinished_is}
 use Rattle.evl_machine.proofs.FoundWords.{Shown, is_near, offer_found, owned_found, queued_found, seizing_found, shown, won_found}
@@ -241,8 +241,8 @@ module _ {C : Type 0} where
     on_record i less = recorded k.history just.legal i (subst (λ (b : Board). i < length b.mutexes.items) (sym just.comes.board) less)
 
     -- nothing was entered, and no step made on a word
-    pub same_settled : (k' : KernelView C) → k'.history ≡ k.history → IsSettled a.me.0 k'.history.state
-    same_settled k' same = settled_fresh k.history a.me.0 k'.history.state just.taken.taken just.taken.fresh (stay_same ceilings k.history.state k'.history.state (ap (λ (h : History). h.state) same))
+    pub same_settled : (h : History) → h ≡ k.history → IsSettled a.me.0 h.state
+    same_settled h same = settled_fresh k.history a.me.0 h.state just.taken.taken just.taken.fresh (stay_same ceilings k.history.state h.state (ap (λ (h : History). h.state) same))
 
     -- a call that is about no mutex
     pub other_settled : (k' : KernelView C) (c : Call) (r : Result Reply Refusal) (stax mutex : Bool) → call_refusal a.wait stax mutex c ≡ None → Applied k thread c r k' → IsSettled a.me.0 k'.history.state
@@ -256,16 +256,16 @@ module _ {C : Type 0} where
     settled_by : (new : CoreHand C) (after : State) (i : ℕ) (kind : Kind) (so : Found) → (n : Notes i kind so a.me.0 new) → AreTied ceilings after i (step_word n.found (number_of a.me.0) (part_of a.me.0 i) kind) → OthersStay ceilings i k.history.state after → IsSettled new after
     settled_by new after i kind so n mine others = settled_noting k.history a.me.0 new after i kind so just.taken.taken n mine others
 
-    others_same : (i : ℕ) (k' : KernelView C) → k'.history ≡ k.history → OthersStay ceilings i k.history.state k'.history.state
-    others_same i k' same j word ne tied = stay_same ceilings k.history.state k'.history.state (ap (λ (h : History). h.state) same) j word tied
+    others_same : (i : ℕ) (h : History) → h ≡ k.history → OthersStay ceilings i k.history.state h.state
+    others_same i h same j word ne tied = stay_same ceilings k.history.state h.state (ap (λ (h : History). h.state) same) j word tied
 
     -- a try at a ceiling that found the mutex taken
-    pub lost_settled : (new : CoreHand C) (i : ℕ) (refusal : Refusal) (k' : KernelView C) → Notes i tries (FoundTried (Err refusal)) a.me.0 new → k'.history ≡ k.history → IsSettled new k'.history.state
-    lost_settled new i refusal k' n same =
+    pub lost_settled : (new : CoreHand C) (i : ℕ) (h : History) → Notes i tries FoundTaken a.me.0 new → h ≡ k.history → IsSettled new h.state
+    lost_settled new i h n same =
         let left : step_word n.found (number_of a.me.0) (part_of a.me.0 i) tries ≡ n.found = ap (λ b. either b (number_of a.me.0 + 1) n.found) (ne_eqb n.found 0 n.found_so) in
-        settled_by new k'.history.state i tries (FoundTried (Err refusal)) n
-        (subst (λ w. AreTied ceilings k'.history.state i w) (sym left) (stay_same ceilings k.history.state k'.history.state (ap (λ (h : History). h.state) same) i n.found (stood new i tries (FoundTried (Err refusal)) n)))
-        (others_same i k' same)
+        settled_by new h.state i tries FoundTaken n
+        (subst (λ w. AreTied ceilings h.state i w) (sym left) (stay_same ceilings k.history.state h.state (ap (λ (h : History). h.state) same) i n.found (stood new i tries FoundTaken n)))
+        (others_same i h same)
 
     -- the kernel accepts a raise of what was free
     pub raise_accepted : (id : MutexId) (k' : KernelView C) (r : Result Reply Refusal) → MayRaise a id → AreTied ceilings k.history.state id.0 0
@@ -282,9 +282,9 @@ module _ {C : Type 0} where
         (subst (λ (x : Result Reply Refusal). Step k.history.state thread (Raise id) x entered.1.0 k'.history.state) ok.1 entered.1.1.extends.step.1) near tied
 
     -- a try at a ceiling that took the mutex
-    module _ (new : CoreHand C) (id : MutexId) (pass : MutexPass) (k' : KernelView C) (r : Result Reply Refusal) (n : Notes id.0 tries (FoundTried (Ok pass)) a.me.0 new) (may : MayRaise a id) (entered : EntersOne k thread (Raise id) r k') where
+    module _ (new : CoreHand C) (id : MutexId) (k' : KernelView C) (r : Result Reply Refusal) (n : Notes id.0 tries FoundFree a.me.0 new) (may : MayRaise a id) (entered : EntersOne k thread (Raise id) r k') where
       was_free : AreTied ceilings k.history.state id.0 0
-      was_free = subst (λ w. AreTied ceilings k.history.state id.0 w) n.found_so (stood new id.0 tries (FoundTried (Ok pass)) n)
+      was_free = subst (λ w. AreTied ceilings k.history.state id.0 w) n.found_so (stood new id.0 tries FoundFree n)
 
       pub won_accepted : (reply : Reply) × (r ≡ Ok reply)
       won_accepted = raise_accepted id k' r may was_free entered
@@ -293,7 +293,7 @@ module _ {C : Type 0} where
       won_settled =
           let both = raised_stays id k' r may was_free entered in
           let left : step_word n.found (number_of a.me.0) (part_of a.me.0 id.0) tries ≡ thread + 1 = λ j. either (eqb (n.found_so j) 0) (just.taken.number j + 1) (n.found_so j) in
-          settled_by new k'.history.state id.0 tries (FoundTried (Ok pass)) n (subst (λ w. AreTied ceilings k'.history.state id.0 w) (sym left) both.0) both.1
+          settled_by new k'.history.state id.0 tries FoundFree n (subst (λ w. AreTied ceilings k'.history.state id.0 w) (sym left) both.0) both.1
 
     -- the kernel accepts a release by the owner
     pub release_accepted : (id : MutexId) (k' : KernelView C) (r : Result Reply Refusal) → id.0 < mutex_count (first_of a.me.0) → owns (part_of a.me.0 id.0).held.role ≡ true → a.wait ≡ None
@@ -344,13 +344,13 @@ module _ {C : Type 0} where
       pub begun_settled : (k' : KernelView C) (r : Result Reply Refusal) → MayRaise a id → EntersOne k thread (Raise id) r k' → IsSettled new k'.history.state
       begun_settled k' r may entered = let both = raised_stays id k' r may nobody entered in mine_now k'.history.state both.0 both.1
 
-      pub plain_settled : (k' : KernelView C) → ceilings id.0 ≡ false → k'.history ≡ k.history → IsSettled new k'.history.state
-      plain_settled k' plain same =
+      pub plain_settled : (h : History) → ceilings id.0 ≡ false → h ≡ k.history → IsSettled new h.state
+      plain_settled h plain same =
           let small = near in
-          let state : k'.history.state ≡ k.history.state = ap (λ (h : History). h.state) same in
-          mine_now k'.history.state
+          let state : h.state ≡ k.history.state = ap (λ (h : History). h.state) same in
+          mine_now h.state
           (subst (λ (s : State). AreTied ceilings s id.0 (thread + 1)) (sym state) (tied_plain ceilings k.history.state id.0 0 (thread + 1) (omega arith) (omega (arith, small)) plain nobody))
-          (others_same id.0 k' same)
+          (others_same id.0 h same)
 
     -- a claim that queued, and the kernel's answer to the wait
     pub queued_settled : (new : CoreHand C) (id : MutexId) (owner : ThreadId) (until : Option ℕ) (k' : KernelView C) (r : Result Reply Refusal) → Notes id.0 claims (FoundClaimed (Queued owner)) a.me.0 new → EntersOne k thread (Claim id owner until) r k' → IsSettled new k'.history.state

@@ -22,9 +22,15 @@ Found = ℕ → ℕ → Type 0
 abbrev pub FoundAny : Found
 FoundAny k word = Unit {0}
 
+abbrev pub FoundFree : Found
+FoundFree k word = word ≡ 0
+
+abbrev pub FoundTaken : Found
+FoundTaken k word = word ≢ 0
+
 abbrev pub FoundTried : Result MutexPass Refusal → Found
-FoundTried (Ok pass) k word = word ≡ 0
-FoundTried (Err refusal) k word = word ≢ 0
+FoundTried (Ok pass) = FoundFree
+FoundTried (Err refusal) = FoundTaken
 
 abbrev pub FoundClaimed : Claim → Found
 FoundClaimed told k word = reply_of told ≡ claim_reply word

@@ -4,7 +4,7 @@ use Rattle.evl_machine.specs.Known.{KernelMe, first_of}
 use Rattle.evl_machine.specs.Noted.{IsSettled}
 use Rattle.evl_machine.proofs.LockingLaws.{along_call, along_none, answers_roomier, enters_made, the_same}
 use Rattle.evl_machine.proofs.LockingTies.{begun_accepted, begun_settled, ceiling_as, count_as, just_as, may_raise, never_seizing, plain_settled, queued_settled, same_settled}
-use Rattle.evl_machine.proofs.LockingCalls.{begins_raised, begins_waiting, won_there}
+use Rattle.evl_machine.proofs.LockingCalls.{begins_raised, begins_refused, begins_waiting, won_there}
 use Rattle.evl_machine.proofs.MutexAccepts.{same_twice}
 use Rattle.evl_machine.proofs.SeatsAt.{at_table_of, core_of_step, core_twice, holds_for, won_at}
 use Rattle.evl_machine.proofs.Visits.{actor_at_mutexes}
@@ -45,16 +45,16 @@ pub returns-then-ceiling-clause-begun : goal.returns-then-ceiling-clause-begun
 returns-then-ceiling-clause-begun g c =
     let just = just_as _ _ c.actor.view_is _ c.requires.taken in
     let may = may_raise _ _ c.actor.view_is c.args.core.now.shared.key.value c.args.mutex c.actor.invariant c.requires.there c.requires.table.1 (c.requires.kind ∙ c.if-ceiling.true) c.requires.may in
-    let entered = enters_made _ _ _ _ _ _ _ c.in_ok-reserve.ensures c.apply-raised.ensures.applied in
+    let entered = enters_made _ _ c.apply-raised.new.kernel _ _ _ _ c.in_ok-reserve.ensures c.apply-raised.ensures.applied in
     begins_raised _ _ (ap acting c.actor.view_is) _ _ _ _ _ c.args.until _ _ c.apply-raised.ensures.same _ c.in_ok-reserve.ensures _ _ _ c.if-ceiling.true c.in-Won.ensures.claimed c.settle-pass.ensures.settled entered
-    (begun_accepted _ _ just _ _ c.args.mutex c.in-Won.ensures.noted c.settle-pass.ensures.noted _ _ may entered)
+    (begun_accepted _ _ just _ _ c.args.mutex c.in-Won.ensures.noted c.settle-pass.ensures.noted c.apply-raised.new.kernel _ may entered)
 
 pub returns-then-ceiling-clause-settled : goal.returns-then-ceiling-clause-settled
 returns-then-ceiling-clause-settled g c =
     let just = just_as _ _ c.actor.view_is _ c.requires.taken in
     let may = may_raise _ _ c.actor.view_is c.args.core.now.shared.key.value c.args.mutex c.actor.invariant c.requires.there c.requires.table.1 (c.requires.kind ∙ c.if-ceiling.true) c.requires.may in
-    let entered = enters_made _ _ _ _ _ _ _ c.in_ok-reserve.ensures c.apply-raised.ensures.applied in
-    subst (λ (m : KernelMe _). IsSettled m.0 c.apply-raised.new.kernel.history.state) (sym c.apply-raised.ensures.seat.1) (begun_settled _ _ just _ _ c.args.mutex c.in-Won.ensures.noted c.settle-pass.ensures.noted _ _ may entered)
+    let entered = enters_made _ _ c.apply-raised.new.kernel _ _ _ _ c.in_ok-reserve.ensures c.apply-raised.ensures.applied in
+    subst (λ (m : KernelMe _). IsSettled m.0 c.apply-raised.new.kernel.history.state) (sym c.apply-raised.ensures.seat.1) (begun_settled _ _ just _ _ c.args.mutex c.in-Won.ensures.noted c.settle-pass.ensures.noted c.apply-raised.new.kernel _ may entered)
 
 pub returns-else-ceiling-clause-settled : goal.returns-else-ceiling-clause-settled
 returns-else-ceiling-clause-settled g c =
@@ -68,14 +68,14 @@ returns-in_err-reserve-clause-settled g c = same_settled _ _ c.requires.taken _ 
 pub returns-in_err-apply-in-Queued-clause-settled : goal.returns-in_err-apply-in-Queued-clause-settled
 returns-in_err-apply-in-Queued-clause-settled g c =
     let just = just_as _ _ c.actor.view_is _ c.requires.taken in
-    let entered = enters_made _ _ _ _ _ _ _ c.in_ok-reserve.ensures c.apply.ensures.applied in
-    subst (λ (m : KernelMe _). IsSettled m.0 c.apply.new.kernel.history.state) (sym c.apply.ensures.seat.1) (queued_settled _ _ just _ c.args.mutex c.in-Queued.owner c.args.until _ _ c.in-Queued.ensures.noted entered)
+    let entered = enters_made _ _ c.apply.new.kernel _ _ _ _ c.in_ok-reserve.ensures c.apply.ensures.applied in
+    subst (λ (m : KernelMe _). IsSettled m.0 c.apply.new.kernel.history.state) (sym c.apply.ensures.seat.1) (queued_settled _ _ just _ c.args.mutex c.in-Queued.owner c.args.until c.apply.new.kernel _ c.in-Queued.ensures.noted entered)
 
 pub returns-in_ok-apply-in-Queued-clause-settled : goal.returns-in_ok-apply-in-Queued-clause-settled
 returns-in_ok-apply-in-Queued-clause-settled g c =
     let just = just_as _ _ c.actor.view_is _ c.requires.taken in
-    let entered = enters_made _ _ _ _ _ _ _ c.in_ok-reserve.ensures c.apply.ensures.applied in
-    subst (λ (m : KernelMe _). IsSettled m.0 c.apply.new.kernel.history.state) (sym c.apply.ensures.seat.1) (queued_settled _ _ just _ c.args.mutex c.in-Queued.owner c.args.until _ _ c.in-Queued.ensures.noted entered)
+    let entered = enters_made _ _ c.apply.new.kernel _ _ _ _ c.in_ok-reserve.ensures c.apply.ensures.applied in
+    subst (λ (m : KernelMe _). IsSettled m.0 c.apply.new.kernel.history.state) (sym c.apply.ensures.seat.1) (queued_settled _ _ just _ c.args.mutex c.in-Queued.owner c.args.until c.apply.new.kernel _ c.in-Queued.ensures.noted entered)
 
 pub unreachable-requires : goal.unreachable-requires
 unreachable-requires g c =
@@ -93,3 +93,7 @@ returns-in_ok-apply-in-Queued-clause-along g c =
 pub returns-in_ok-apply-in-Queued-clause-begun : goal.returns-in_ok-apply-in-Queued-clause-begun
 returns-in_ok-apply-in-Queued-clause-begun g c =
     begins_waiting _ _ (ap acting c.actor.view_is) _ _ _ c.args.ceiling _ _ _ _ c.apply.ensures.same _ c.in_ok-reserve.ensures c.in-Queued.owner _ c.in-Queued.ensures.claimed c.in_ok-apply-in-Queued.ensures.applied
+
+pub returns-in_err-apply-in-Queued-clause-begun : goal.returns-in_err-apply-in-Queued-clause-begun
+returns-in_err-apply-in-Queued-clause-begun g c =
+    begins_refused _ _ (ap acting c.actor.view_is) _ _ _ c.args.ceiling _ _ _ _ c.apply.ensures.same _ c.in_ok-reserve.ensures c.in-Queued.owner _ _ c.from_residual-in_err-apply-in-Queued.ensures.1 c.in-Queued.ensures.claimed c.in_err-apply-in-Queued.ensures.applied

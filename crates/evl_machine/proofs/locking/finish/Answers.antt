@@ -60,7 +60,7 @@ pub returns-clause-finished : goal.returns-clause-finished
 returns-clause-finished g c =
     finishes_locked _ _ (ap acting c.actor.view_is) _ _ _ _ _ _ c.end_wait-over.ensures.same _ c.in_ok-reserve.ensures c.requires.taken.legal c.requires.taken.fits
     (on_board _ _ _ _ c.kernel.ensures c.if-not-finished.false c.finished.ensures.outside) (is_ended _ _ _ _ c.kernel.ensures c.finished.ensures.ended c.if-not-finished.false)
-    _ c.end_wait-over.ensures.applied _ c.in-Ok-pass.ensures.accepted (is_timed _ _ _ _ _ _ c.reserve.ensures.same c.kernel-2.ensures c.timed_out.ensures.ended c.if-timed_out.false)
+    _ c.end_wait-over.ensures.applied _ c.in-Ok-accept.ensures.accepted (is_timed _ _ _ _ _ _ c.reserve.ensures.same c.kernel-2.ensures c.timed_out.ensures.ended c.if-timed_out.false)
 
 pub returns-then-not-finished-clause-settled : goal.returns-then-not-finished-clause-settled
 returns-then-not-finished-clause-settled g c = same_settled _ _ c.requires.taken _ refl
@@ -73,21 +73,21 @@ unreachable-requires g c =
     let just = just_as _ _ c.actor.view_is _ c.requires.taken in
     late_forgets _ _ just c.args.mutex (count_as _ _ c.actor.view_is c.args.mutex.0 c.actor.invariant c.requires.there) (ap (λ (a : SeatedActor _). a.wait) c.actor.view_is ∙ c.requires.waits) (is_ended _ _ _ _ c.kernel.ensures c.finished.ensures.ended c.if-not-finished.false) _ (is_timed _ _ _ _ _ _ c.reserve.ensures.same c.kernel-2.ensures c.timed_out.ensures.ended c.if-timed_out.true) c.in_default.ensures.noted
 
-pub unreachable-requires-2 : goal.unreachable-requires-2
-unreachable-requires-2 g c =
+pub unreachable-requires-in_default-accept : goal.unreachable-requires-in_default-accept
+unreachable-requires-in_default-accept g c =
     let just = just_as _ _ c.actor.view_is _ c.requires.taken in
-    got_accepts _ _ just c.args.mutex (count_as _ _ c.actor.view_is c.args.mutex.0 c.actor.invariant c.requires.there) (ap (λ (a : SeatedActor _). a.wait) c.actor.view_is ∙ c.requires.waits) (is_ended _ _ _ _ c.kernel.ensures c.finished.ensures.ended c.if-not-finished.false) _ (is_timed _ _ _ _ _ _ c.reserve.ensures.same c.kernel-2.ensures c.timed_out.ensures.ended c.if-timed_out.false) c.in_default.ensures.noted
+    got_accepts _ _ just c.args.mutex (count_as _ _ c.actor.view_is c.args.mutex.0 c.actor.invariant c.requires.there) (ap (λ (a : SeatedActor _). a.wait) c.actor.view_is ∙ c.requires.waits) (is_ended _ _ _ _ c.kernel.ensures c.finished.ensures.ended c.if-not-finished.false) _ (is_timed _ _ _ _ _ _ c.reserve.ensures.same c.kernel-2.ensures c.timed_out.ensures.ended c.if-timed_out.false) c.in_default-accept.ensures.noted
 
 pub returns-then-timed_out-clause-settled : goal.returns-then-timed_out-clause-settled
 returns-then-timed_out-clause-settled g c =
     let just = just_as _ _ c.actor.view_is _ c.requires.taken in
-    let entered = enters_made _ _ _ _ _ _ _ c.in_ok-reserve.ensures c.end_wait-ended.ensures.applied in
+    let entered = enters_made _ _ c.end_wait-ended.new.kernel _ _ _ _ c.in_ok-reserve.ensures c.end_wait-ended.ensures.applied in
     subst (λ (m : KernelMe _). IsSettled m.0 c.end_wait-ended.new.kernel.history.state) (sym c.end_wait-ended.ensures.seat.1)
-    (late_settled _ _ just c.args.mutex (count_as _ _ c.actor.view_is c.args.mutex.0 c.actor.invariant c.requires.there) (ap (λ (a : SeatedActor _). a.wait) c.actor.view_is ∙ c.requires.waits) (is_ended _ _ _ _ c.kernel.ensures c.finished.ensures.ended c.if-not-finished.false) _ _ _ _ (is_timed _ _ _ _ _ _ c.reserve.ensures.same c.kernel-2.ensures c.timed_out.ensures.ended c.if-timed_out.true) c.in-Ok.ensures.noted entered)
+    (late_settled _ _ just c.args.mutex (count_as _ _ c.actor.view_is c.args.mutex.0 c.actor.invariant c.requires.there) (ap (λ (a : SeatedActor _). a.wait) c.actor.view_is ∙ c.requires.waits) (is_ended _ _ _ _ c.kernel.ensures c.finished.ensures.ended c.if-not-finished.false) _ c.end_wait-ended.new.kernel _ _ (is_timed _ _ _ _ _ _ c.reserve.ensures.same c.kernel-2.ensures c.timed_out.ensures.ended c.if-timed_out.true) c.in-Ok.ensures.noted entered)
 
 pub returns-clause-settled : goal.returns-clause-settled
 returns-clause-settled g c =
     let just = just_as _ _ c.actor.view_is _ c.requires.taken in
-    let entered = enters_made _ _ _ _ _ _ _ c.in_ok-reserve.ensures c.end_wait-over.ensures.applied in
+    let entered = enters_made _ _ c.end_wait-over.new.kernel _ _ _ _ c.in_ok-reserve.ensures c.end_wait-over.ensures.applied in
     subst (λ (m : KernelMe _). IsSettled m.0 c.end_wait-over.new.kernel.history.state) (sym c.end_wait-over.ensures.seat.1)
-    (got_settled _ _ just c.args.mutex (count_as _ _ c.actor.view_is c.args.mutex.0 c.actor.invariant c.requires.there) (ap (λ (a : SeatedActor _). a.wait) c.actor.view_is ∙ c.requires.waits) (is_ended _ _ _ _ c.kernel.ensures c.finished.ensures.ended c.if-not-finished.false) _ _ _ _ _ c.in-Ok-pass.ensures.noted.1 c.in-Ok-pass.ensures.noted.2 entered)
+    (got_settled _ _ just c.args.mutex (count_as _ _ c.actor.view_is c.args.mutex.0 c.actor.invariant c.requires.there) (ap (λ (a : SeatedActor _). a.wait) c.actor.view_is ∙ c.requires.waits) (is_ended _ _ _ _ c.kernel.ensures c.finished.ensures.ended c.if-not-finished.false) _ _ c.end_wait-over.new.kernel _ _ c.in-Ok-accept.ensures.noted.1 c.in-Ok-accept.ensures.noted.2 entered)

@@ -46,19 +46,19 @@ pub returns-clause-locked : goal.returns-clause-locked
 returns-clause-locked g c =
     let just = just_as _ _ c.actor.view_is _ c.requires.taken in
     let may = may_raise _ _ c.actor.view_is c.args.core.now.shared.key.value c.args.mutex c.actor.invariant (some-within _ _ _ c.requires.free) c.requires.table.1 c.requires.ceiling c.requires.may in
-    let entered = enters_made _ _ _ _ _ _ _ c.in_ok-reserve.ensures c.apply-raised.ensures.applied in
-    let accepted = won_accepted _ _ just _ c.args.mutex _ _ _ c.in_ok-pass.ensures.noted may entered in
-    locks_raised _ _ (ap acting c.actor.view_is) _ _ c.args.core.now.shared.key.value.history.board.mutexes.items c.args.mutex c.in_ok-pass.pass (seats_at c.try_held.new.seat.table_id c.try_held.new.seat.me.0 c.try_held.new.places) _ _ (tries_so c.args.core.now.shared.key.value.history.board.mutexes.items (seats_at c.actor.inside.seat.table_id c.actor.inside.seat.me.0 c.actor.inside.places) (seats_at c.try_held.new.seat.table_id c.try_held.new.seat.me.0 c.try_held.new.places) c.args.mutex.0 (Ok c.in_ok-pass.pass) (ap (λ (a : SeatedActor _). mutex_refusal c.args.core.now.shared.key.value.history.board.mutexes.items (acting a).mutexes c.args.mutex.0) c.actor.view_is ∙ c.requires.unrefused) c.in_ok-pass.ensures.tried) c.apply-raised.ensures.same entered accepted
+    let entered = enters_made _ _ c.apply-raised.new.kernel _ _ _ _ c.in_ok-reserve.ensures c.apply-raised.ensures.applied in
+    let accepted = won_accepted _ _ just _ c.args.mutex c.apply-raised.new.kernel _ c.in_ok-pass.ensures.noted may entered in
+    locks_raised {C = g.row.C.Denot} _ _ (ap acting c.actor.view_is) c.args.kernel.now c.apply-raised.new.kernel c.args.core.now.shared.key.value.history.board.mutexes.items c.args.mutex c.in_ok-pass.pass (seats_at c.try_held.new.seat.table_id c.try_held.new.seat.me.0 c.try_held.new.places) _ _ (tries_so c.args.core.now.shared.key.value.history.board.mutexes.items (seats_at c.actor.inside.seat.table_id c.actor.inside.seat.me.0 c.actor.inside.places) (seats_at c.try_held.new.seat.table_id c.try_held.new.seat.me.0 c.try_held.new.places) c.args.mutex.0 (Ok c.in_ok-pass.pass) (ap (λ (a : SeatedActor _). mutex_refusal c.args.core.now.shared.key.value.history.board.mutexes.items (acting a).mutexes c.args.mutex.0) c.actor.view_is ∙ c.requires.unrefused) c.in_ok-pass.ensures.tried) c.apply-raised.ensures.same entered accepted
 
 pub returns-clause-settled : goal.returns-clause-settled
 returns-clause-settled g c =
     let just = just_as _ _ c.actor.view_is _ c.requires.taken in
     let may = may_raise _ _ c.actor.view_is c.args.core.now.shared.key.value c.args.mutex c.actor.invariant (some-within _ _ _ c.requires.free) c.requires.table.1 c.requires.ceiling c.requires.may in
-    let entered = enters_made _ _ _ _ _ _ _ c.in_ok-reserve.ensures c.apply-raised.ensures.applied in
-    subst (λ (m : KernelMe _). IsSettled m.0 c.apply-raised.new.kernel.history.state) (sym c.apply-raised.ensures.seat.1) (won_settled _ _ just _ c.args.mutex _ _ _ c.in_ok-pass.ensures.noted may entered)
+    let entered = enters_made _ _ c.apply-raised.new.kernel _ _ _ _ c.in_ok-reserve.ensures c.apply-raised.ensures.applied in
+    subst (λ (m : KernelMe _). IsSettled m.0 c.apply-raised.new.kernel.history.state) (sym c.apply-raised.ensures.seat.1) (won_settled _ _ just _ c.args.mutex c.apply-raised.new.kernel _ c.in_ok-pass.ensures.noted may entered)
 
 pub returns-in_err-reserve-clause-settled : goal.returns-in_err-reserve-clause-settled
 returns-in_err-reserve-clause-settled g c = same_settled _ _ c.requires.taken _ c.reserve.ensures.same.history
 
 pub returns-in_err-pass-clause-settled : goal.returns-in_err-pass-clause-settled
-returns-in_err-pass-clause-settled g c = lost_settled _ _ (just_as _ _ c.actor.view_is _ c.requires.taken) _ _ _ _ c.in_err-pass.ensures.noted c.reserve.ensures.same.history
+returns-in_err-pass-clause-settled g c = lost_settled _ _ (just_as _ _ c.actor.view_is _ c.requires.taken) _ _ _ c.in_err-pass.ensures.noted c.reserve.ensures.same.history

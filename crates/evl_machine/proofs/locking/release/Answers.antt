@@ -49,18 +49,18 @@ returns-clause-along g c =
 
 pub returns-clause-released : goal.returns-clause-released
 returns-clause-released g c = elim c.match-apply.branch [
-  | in-Ok-Handed w ↦ subst (λ (z : Answer × SeatedActor _). Releases (acting c.args.actor.now) c.args.kernel.now c.args.pass z.0 (acting z.1) c.apply.new.kernel) (λ i. (sym w.result-is i, sym w.actor-is i))
-      (releases_on _ _ c.apply.ensures.same _ _ c.args.pass _ c.mutex-mutex.ensures _ c.apply.ensures.applied w.next w.more _ (w.is ∙ ap Ok w.field-0-is) w.hand_on.ensures.given)
-  | in-Err w ↦ subst (λ (z : Answer × SeatedActor _). Releases (acting c.args.actor.now) c.args.kernel.now c.args.pass z.0 (acting z.1) c.apply.new.kernel) (λ i. (sym w.result-is i, sym w.actor-is i))
-      (let none = releases_not _ _ c.apply.ensures.same _ _ c.args.pass _ c.mutex-mutex.ensures _ c.apply.ensures.applied w.refusal w.is (λ entered. let both = owner_once _ c.args.pass c.requires.own c.requires.once in let accepted = release_accepted _ _ c.requires.taken c.args.pass.mutex _ _ both.0 both.1 c.requires.idle entered in absurd (let e = accepted.1 in cc)) in (refl, c.apply.ensures.same.mutexes, none.0, none.1))
+  | in-Ok-Handed w ↦ subst (λ (z : Answer × SeatedActor g.row.C.Denot). Releases (acting c.args.actor.now) c.args.kernel.now c.args.pass z.0 (acting z.1) c.apply.new.kernel) (λ i. (sym w.result-is i, sym w.actor-is i))
+      (releases_on _ _ c.apply.ensures.same _ _ c.args.pass _ c.mutex-mutex.ensures _ c.apply.ensures.applied w.in-Ok-Handed.next w.in-Ok-Handed.more (acting w.hand_on.new.actor) (w.in-Ok-Handed.is ∙ ap Ok w.in-Ok-Handed.field-0-is) w.hand_on.ensures.given)
+  | in-Err w ↦ subst (λ (z : Answer × SeatedActor g.row.C.Denot). Releases (acting c.args.actor.now) c.args.kernel.now c.args.pass z.0 (acting z.1) c.apply.new.kernel) (λ i. (sym w.result-is i, sym w.actor-is i))
+      (let none = releases_not _ _ c.apply.ensures.same _ _ c.args.pass _ c.mutex-mutex.ensures _ c.apply.ensures.applied w.in-Err.refusal w.in-Err.is (λ entered. let both = owner_once _ c.args.pass c.requires.own c.requires.once in let accepted = release_accepted _ _ c.requires.taken c.args.pass.mutex c.apply.new.kernel _ both.0 both.1 c.requires.idle entered in absurd (let e = accepted.1 in cc)) in (refl, c.apply.ensures.same.mutexes, none.0, none.1))
 ]
 
 pub returns-clause-settled : goal.returns-clause-settled
 returns-clause-settled g c = elim c.match-apply.branch [
   | in-Ok-Handed w ↦ subst (λ (z : SeatedActor _). IsSettled z.me.0 c.apply.new.kernel.history.state) (sym w.actor-is)
-      (given_settled _ _ c.requires.taken _ c.args.pass.mutex w.next w.more _ (subst (λ (m : KernelMe _). NotesGiven c.args.pass.mutex.0 w.next w.more m.0 w.hand_on.new.actor.me.0) c.apply.ensures.seat.1 w.hand_on.ensures.noted)
-      (release_entered _ _ c.apply.ensures.same _ _ c.args.pass _ c.mutex-mutex.ensures _ c.apply.ensures.applied _ (w.is ∙ ap Ok w.field-0-is) refl))
+      (given_settled _ _ c.requires.taken _ c.args.pass.mutex w.in-Ok-Handed.next w.in-Ok-Handed.more c.apply.new.kernel (subst (λ (m : KernelMe _). NotesGiven c.args.pass.mutex.0 w.in-Ok-Handed.next w.in-Ok-Handed.more m.0 w.hand_on.new.actor.me.0) c.apply.ensures.seat.1 w.hand_on.ensures.noted)
+      (release_entered _ _ c.apply.ensures.same _ _ c.args.pass _ c.mutex-mutex.ensures _ c.apply.ensures.applied _ (w.in-Ok-Handed.is ∙ ap Ok w.in-Ok-Handed.field-0-is) refl))
   | in-Err w ↦ subst (λ (z : SeatedActor _). IsSettled z.me.0 c.apply.new.kernel.history.state) (sym w.actor-is)
       (subst (λ (m : KernelMe _). IsSettled m.0 c.apply.new.kernel.history.state) (sym c.apply.ensures.seat.1)
-      (same_settled _ _ c.requires.taken _ (releases_not _ _ c.apply.ensures.same _ _ c.args.pass _ c.mutex-mutex.ensures _ c.apply.ensures.applied w.refusal w.is (λ entered. let both = owner_once _ c.args.pass c.requires.own c.requires.once in let accepted = release_accepted _ _ c.requires.taken c.args.pass.mutex _ _ both.0 both.1 c.requires.idle entered in absurd (let e = accepted.1 in cc))).0))
+      (same_settled _ _ c.requires.taken _ (releases_not _ _ c.apply.ensures.same _ _ c.args.pass _ c.mutex-mutex.ensures _ c.apply.ensures.applied w.in-Err.refusal w.in-Err.is (λ entered. let both = owner_once _ c.args.pass c.requires.own c.requires.once in let accepted = release_accepted _ _ c.requires.taken c.args.pass.mutex c.apply.new.kernel _ both.0 both.1 c.requires.idle entered in absurd (let e = accepted.1 in cc))).0))
 ]

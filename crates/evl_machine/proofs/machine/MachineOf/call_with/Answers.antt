@@ -48,7 +48,7 @@ shut-requires-clause-settled g c =
     let o = c.in-Some.ensures.same.1 in
     let just = just_took c.args.actor.now c.open.new.actor c.in-Some.kernel c.in-Some.ensures.opened c.requires.suits c.in-Some.ensures.same c.in-Some.ensures.kept.0 c.in-Some.ensures.holder refl c.requires.board in
     let free = ap (λ (a : ActorState). call_refusal a.wait (holds_stax a.staxes) (holds_mutex a.mutexes) c.args.call) o ∙ c.requires.free in
-    subst (λ (m : KernelMe _). IsSettled m.0 c.apply-reply.new.kernel.history.state) (sym c.apply-reply.ensures.seat.1) (other_settled _ _ just _ c.args.call _ _ _ free c.apply-reply.ensures.applied)
+    subst (λ (m : KernelMe _). IsSettled m.0 c.apply-reply.new.kernel.history.state) (sym c.apply-reply.ensures.seat.1) (other_settled _ _ just c.apply-reply.new.kernel c.args.call _ _ _ free c.apply-reply.ensures.applied)
 
 pub shut-requires-clause-machine : goal.shut-requires-clause-machine
 shut-requires-clause-machine g c = c.apply-reply.ensures.seat.0 ∙ c.in-Some.ensures.same.0 ∙ c.requires.caller.0

@@ -1,4 +1,5 @@
-use Rattle.std.proofs.Common.{◌≡◌, ⊤, MatchOption, refl, ap, sym, ◌∙◌, subst}
+use Rattle.std.proofs.Common.{◌≡◌, MatchOption, refl, ap, sym, ◌∙◌, subst}
+use Rattle.std.specs.Bool.{⊤}
 use Rattle.evl_machine.specs.Actors.{SeatedActor, acting}
 use Rattle.evl_machine.specs.Handles.{account_of}
 use Rattle.evl_machine.specs.InHand.{Opens}
