@@ -145,6 +145,7 @@ impl<C: Handler, A: Allocator> MachineOf<C, A> {
         ensures entered { IfOk result (λ answer. answer ≢ Err CoreBusy) }
         ensures back { IfErr result (λ back. back ≡ call) }
     {
+        let _ = &self.core;
         self.call_with(&mut caller.actor, call)
     }
 

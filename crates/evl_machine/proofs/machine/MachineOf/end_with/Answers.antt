@@ -79,7 +79,7 @@ shut-requires-2-clause-settled g c =
     let just = just_took c.args.actor.now c.open.new.actor c.in-Some.kernel c.in-Some.ensures.opened c.requires.suits c.in-Some.ensures.same c.in-Some.ensures.kept.0 c.in-Some.ensures.holder refl c.requires.board in
     let waits = ap (λ (a : ActorState). a.wait) c.in-Some.ensures.same.1 ∙ c.requires.waits in
     subst (λ (m : KernelMe _). IsSettled m.0 c.apply-reply.new.kernel.history.state) (sym c.apply-reply.ensures.seat.1)
-    (other_settled _ _ just c.apply-reply.new.kernel (Finish c.keeps_stage-keep.result) _ _ _ (may_finish _ _ _ _ waits c.keeps_stage-keep.ensures) c.apply-reply.ensures.applied)
+    (other_settled _ _ just c.apply-reply.new.kernel (Finish c.keeps_stage-keep.result) _ (holds_stax c.open.new.actor.staxes) (holds_mutex (acting c.open.new.actor).mutexes) (may_finish _ (holds_stax c.open.new.actor.staxes) (holds_mutex (acting c.open.new.actor).mutexes) _ waits c.keeps_stage-keep.ensures) c.apply-reply.ensures.applied)
 
 pub shut-requires-2-clause-machine : goal.shut-requires-2-clause-machine
 shut-requires-2-clause-machine g c = c.apply-reply.ensures.seat.0 ∙ c.in-Some.ensures.same.0 ∙ c.requires.caller.0
