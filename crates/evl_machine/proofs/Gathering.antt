@@ -21,7 +21,8 @@ use Rattle.evl_machine.specs.Accounts.{Fits, HasNoStranger, account, calls_by, i
 use Rattle.evl_machine.specs.Events.{FailsToTake, Gives, Takes}
 use Rattle.evl_machine.specs.Seats.{AccountsFit, CoreMe, view}
 use Rattle.evl_machine.specs.CoreRule.{account_at}
-use Rattle.evl_machine.specs.Known.{ComesFrom, CoreHand, IsLive, KeptKnown, KernelMe, accounts_in, taken_in, mutex_count, no_tie, past_of, seen}
+use Rattle.evl_machine.specs.Known.{ComesFrom, CoreHand, IsLive, KeptKnown, KernelMe, accounts_in, ceilings_of, taken_in, mutex_count, past_of, seen}
+use Rattle.evl_machine.specs.Ties.{mutex_tie}
 use Rattle.evl_machine.specs.Handles.{Belongs, MachineState, CallerState, HeldState, holding, returned, shown}
 use Rattle.evl_machine.specs.Calls.{TookKernel}
 use Rattle.evl_machine.specs.Closings.{Closes, KeepsOpen, LacksCaller, accounts_back, gathered}
@@ -58,7 +59,7 @@ still_live xs more now l e = (l.0, l.1 ++ more, e ∙ ap (λ (ys : List Account)
 module _ {C : Type 0} where
   -- a token takes in the threads of another
   pub joins_known : (first : KernelView C) (id : ℕ) (v : CoreHand C) (other : ℕ) (w : CoreHand C) → Joins (KeptKnown first) id v other w (v ++ w) []
-  joins_known first id v other w = joins (ThreadRule past_of ComesFrom no_tie first (mutex_count first)) id v other w
+  joins_known first id v other w = joins (ThreadRule past_of ComesFrom (mutex_tie past_of (ceilings_of first)) first (mutex_count first)) id v other w
 
   accounts_in-append : (v w : CoreHand C) → accounts_in (v ++ w) ≡ accounts_in v ++ accounts_in w
   accounts_in-append [] w = refl

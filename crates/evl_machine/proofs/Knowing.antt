@@ -1,5 +1,5 @@
 -- What the steps of a token owe and tell, as contracts read the token.
-use Rattle.std.proofs.Common.{◌≡◌, ◌≢◌, eqb, ℕ, zero, suc, List, [], ◌∷◌, Option, Some, None, refl, sym, ap, ◌∙◌, subst, slice_get}
+use Rattle.std.proofs.Common.{◌≡◌, ◌≢◌, ◌<◌, eqb, ℕ, zero, suc, true, List, [], ◌∷◌, Option, Some, None, refl, sym, ap, ◌∙◌, subst, slice_get}
 use mathlib.Core.Option.{some-injective, some-ne-none}
 use mathlib.Core.Logic.{dite}
 use native.Mathlib.Decide.{ℕ_discrete}
@@ -9,6 +9,7 @@ use Rattle.evl_pipeline.specs.declared.plan.Plan.{Plan}
 use Rattle.evl_kernel.specs.States.{Handler}
 use Rattle.evl_kernel.specs.Histories.{History}
 use Rattle.evl_kernel.specs.KernelViews.{KernelView}
+use Rattle.evl_mutex.specs.Mutexes.{is_open_to}
 use Rattle.evl_kernel.specs.Callbacks.{AnswersAsTold}
 use Rattle.evl_words.specs.Hands.{place}
 use Rattle.evl_words.specs.MutexWorld.{MutexView, owns}
@@ -17,16 +18,17 @@ use Rattle.evl_machine.specs.declared.views.Account.{Account}
 use Rattle.evl_machine.specs.declared.views.CorePart.{CorePart}
 use Rattle.evl_machine.specs.declared.views.ThreadView.{ThreadView}
 use Rattle.evl_machine.specs.Accounts.{Fits, MadeBy, informed}
-use Rattle.evl_machine.specs.CoreRule.{IsAbout, MayGive, account_at, core_part}
-use Rattle.evl_machine.specs.MutexTokens.{AreItsPlaces, HasKernel, KeepsPlaces, note_in, part_of}
+use Rattle.evl_machine.specs.CoreRule.{MayGive, account_at, core_part}
+use Rattle.evl_machine.specs.MutexTokens.{AreItsPlaces, KeepsPlaces, note_in, part_of}
+use Rattle.evl_machine.specs.Noted.{HasTaken, IsSettled, number_of}
 use Rattle.evl_machine.specs.ThreadRule.{mutex_of, put_core}
 use Rattle.evl_machine.specs.CoreWorld.{CoreKind, takes, gives}
 use Rattle.evl_machine.specs.Events.{FailsToTake, Gives, KernelEvent, Takes, at_rest, in_hand}
 use Rattle.evl_machine.specs.Seats.{CoreMe, AccountsFit, view}
 use Rattle.evl_machine.specs.Handles.{MachineState, Continues, account_of, seated}
-use Rattle.evl_machine.specs.Known.{ComesFrom, CoreHand, KernelMe, accounts_in, taken_in, first_of, past_of, room_of, seen, no_tie, mutex_count, KeptKnown, took_known, gave_known}
+use Rattle.evl_machine.specs.Known.{ComesFrom, CoreHand, KernelMe, accounts_in, taken_in, first_of, past_of, room_of, seen, ceilings_of, mutex_count, KeptKnown, took_known, gave_known}
 use Rattle.evl_machine.proofs.Taking.{Took, loaded}
-use Rattle.evl_machine.proofs.ThreadSteps.{takes_thread, gives_thread}
+use Rattle.evl_machine.proofs.TableTies.{takes_tied, gives_tied}
 
 fit_one : (h : History) (b : Account) (xs : List Account) → xs ≡ b ∷ [] → Fits h b → AccountsFit h xs
 fit_one h b xs one f = subst (AccountsFit h) (sym one) at
@@ -74,7 +76,7 @@ module _ {C : Type 0} where
   pub takes_known : (first : KernelView C) (slots id : ℕ) (me : KernelMe C) (a : Account) → seen me ≡ seated a → (st : Step (Option (KernelView C))) → Allows (KeptKnown first) slots id me 0 (λ n. either (eqb n 0) 1 n) (took_known st me)
   takes_known first slots id me a rests st =
       let o = is_one me.0 me.1 None a [] rests in
-      takes_thread past_of room_of ComesFrom no_tie first (mutex_count first) slots id o.number o.thread me o.me_is (λ y cores l at i word t. tt) st
+      takes_tied past_of room_of ComesFrom first ceilings_of mutex_count slots id o.number o.thread me o.me_is st
 
   -- what a thread knows of the core is what its account tells, what it has taken, and the kernel as it was made
   part_is : (k : ℕ) (c : CorePart (KernelView C)) (taken : Option History) (a : Account) (first : KernelView C) → c.taken ≡ taken → account_at k c ≡ a → c.first ≡ first → c ≡ core_part taken a.seen a.mine a.found first c.note
@@ -98,13 +100,13 @@ module _ {C : Type 0} where
       let before : first_of me.0 ≡ v.core.first = ap first_of hand in
       let after : first_of me'.0 ≡ t.0.core.first = ap first_of t.1 in
       let stays : t.0.core.first ≡ v.core.first = dite (ℕ_discrete found 0)
-      (λ (e : found ≡ 0). ap (λ (x : CorePart (KernelView C) × Slots C). x.0.first) (t.2.0.0 e).1)
-      (λ (ne : found ≢ 0). ap (λ (x : CorePart (KernelView C) × Slots C). x.0.first) (t.2.0.1 ne)) in
+      (λ (e : found ≡ 0). ap (λ (x : CorePart (KernelView C) × Slots C). x.0.first) (t.2.0.0.0 e).1)
+      (λ (ne : found ≢ 0). ap (λ (x : CorePart (KernelView C) × Slots C). x.0.first) (t.2.0.0.1 ne)) in
       let number : k ≡ a.thread = ap (λ (x : Account). x.thread) o.account_is in
       let from : v.core ≡ at_rest (first_of me.0) a v.core.note = part_is k v.core None a (first_of me.0) o.taken_is o.account_is (sym before) in
       let account : account_at k t.0.core ≡ account_of (seen me') = sym (ap account_of now) in (
         (λ e.
-            let q = t.2.0.0 e in (
+            let q = t.2.0.0.0 e in (
               q.0,
               now ∙ (ap (seen_at k) q.1 ∙ ap (λ (m : CoreMe (KernelView C)). taken_at q.0 m) (sym was)),
               q.2,
@@ -112,33 +114,33 @@ module _ {C : Type 0} where
               fit_one (past_of q.0) (account_at k v.core) (seen me).0.accounts (ap (λ (m : CoreMe (KernelView C)). m.0.accounts) was) q.4,
               subst (λ (first : KernelView C). ComesFrom first q.0) (sym before) q.5,
             )),
-        (λ ne. now ∙ (ap (seen_at k) (t.2.0.1 ne) ∙ sym was)),
+        (λ ne. now ∙ (ap (seen_at k) (t.2.0.0.1 ne) ∙ sym was)),
         after ∙ (stays ∙ sym before),
         (λ e.
-            let q = t.2.0.0 e in
+            let q = t.2.0.0.0 e in
             let taken : t.0.core.taken ≡ Some (account_of (seen me')).seen = ap (λ (x : CorePart (KernelView C) × Slots C). x.0.taken) q.1 ∙ ap (λ (h : History). Some h) (sym (ap (λ (x : CorePart (KernelView C) × Slots C). x.0.seen) q.1) ∙ ap (λ (x : Account). x.seen) account) in (
               v.core.note,
               t.0.core.note,
               event_as k a.thread v.core (at_rest (first_of me.0) a v.core.note) takes found 0 t.0.core (in_hand (first_of me.0) (account_of (seen me')) t.0.core.note) number from e
-                  (part_is k t.0.core (Some (account_of (seen me')).seen) (account_of (seen me')) (first_of me.0) taken account (stays ∙ sym before)) t.2.0.2,
+                  (part_is k t.0.core (Some (account_of (seen me')).seen) (account_of (seen me')) (first_of me.0) taken account (stays ∙ sym before)) t.2.0.0.2,
             )),
         (λ ne.
-            let taken : t.0.core.taken ≡ None = ap (λ (x : CorePart (KernelView C) × Slots C). x.0.taken) (t.2.0.1 ne) ∙ o.taken_is in (
+            let taken : t.0.core.taken ≡ None = ap (λ (x : CorePart (KernelView C) × Slots C). x.0.taken) (t.2.0.0.1 ne) ∙ o.taken_is in (
               found,
               ne,
               v.core.note,
               t.0.core.note,
               event_as k a.thread v.core (at_rest (first_of me.0) a v.core.note) takes found found t.0.core (at_rest (first_of me.0) (account_of (seen me')) t.0.core.note) number from refl
-                  (part_is k t.0.core None (account_of (seen me')) (first_of me.0) taken account (stays ∙ sym before)) t.2.0.2,
+                  (part_is k t.0.core None (account_of (seen me')) (first_of me.0) taken account (stays ∙ sym before)) t.2.0.0.2,
             )),
       )
     where
       taken_at : KernelView C → CoreMe (KernelView C) → CoreMe (KernelView C)
       taken_at y m = (Rattle.evl_machine.specs.Seats.after_take (past_of y) (room_of y) m.0, (0, Some y) ∷ [])
 
-  pub gives_known : (first : KernelView C) (slots id : ℕ) (me : KernelMe C) (a : Account) (k : KernelView C) → seen me ≡ loaded past_of room_of a k → ComesFrom (first_of me.0) k → Continues a k.history → (st : Step (Option (KernelView C)))
+  pub gives_known : (first : KernelView C) (slots id : ℕ) (me : KernelMe C) (a : Account) (k : KernelView C) → seen me ≡ loaded past_of room_of a k → ComesFrom (first_of me.0) k → Continues a k.history → IsSettled me.0 k.history.state → (st : Step (Option (KernelView C)))
       → Allows (KeptKnown first) slots id me 0 (λ _. 0) (λ _. gave_known st me 0)
-  gives_known first slots id me a k is comes c st =
+  gives_known first slots id me a k is comes c settled st =
       let o = is_one me.0 me.1 (Some a.seen) a ((0, Some k) ∷ []) is in
       let may : MayGive o.number o.thread.core k.history = record {
         before = a.seen;
@@ -147,7 +149,7 @@ module _ {C : Type 0} where
         longer = c.longer;
         own = subst (λ t. MadeBy t c.added) (sym (ap (λ (x : Account). x.thread) o.account_is)) c.own;
       } in
-      gives_thread past_of room_of ComesFrom no_tie first (mutex_count first) slots id o.number o.thread k me o.me_is (λ cores l at i word t. tt) may
+      gives_tied past_of room_of ComesFrom first ceilings_of mutex_count slots id o.number o.thread k a.seen me o.me_is o.taken_is (subst (λ (z : KernelMe C). IsSettled z.0 k.history.state) o.me_is settled a.seen o.taken_is) may
       (subst (λ (z : KernelMe C). ComesFrom (first_of z.0) k) o.me_is comes) st
 
   -- what a give tells
@@ -201,17 +203,27 @@ module _ {C : Type 0} where
       let o = is_one me.0 me.1 None a [] rests in
       let hand = ap (λ (z : KernelMe C). z.0) o.me_is in
       let t = told o.number o.thread hand in
-      keeps_places o.number o.thread t.0 me.0 me'.0 hand t.1 t.2.1
+      keeps_places o.number o.thread t.0 me.0 me'.0 hand t.1 t.2.0.1
 
-  -- a take that found the kernel has made no step on a word yet
-  pub took_holds : (st : Step (Option (KernelView C))) (found : ℕ) (me me' : KernelMe C) (a : Account) → seen me ≡ seated a → took_known st me found me' → found ≡ 0 → HasKernel me'.0
-  took_holds st found me me' a rests told free i =
+  -- a take that found a kernel has it in the slot, and has made no step on a word yet
+  pub took_holds : (st : Step (Option (KernelView C))) (found : ℕ) (me me' : KernelMe C) (a : Account) → seen me ≡ seated a → took_known st me found me' → found ≡ 0 → (y : KernelView C) × (me'.1 ≡ (0, Some y) ∷ []) × HasTaken a.thread y.history me'.0
+  took_holds st found me me' a rests told free =
       let o = is_one me.0 me.1 None a [] rests in
       let t = told o.number o.thread (ap (λ (z : KernelMe C). z.0) o.me_is) in
-      let q = t.2.0.0 free in
-      let taken : taken_in me'.0 ≡ Some (past_of q.0) = ap taken_in t.1 ∙ ap (λ (x : CorePart (KernelView C) × Slots C). x.0.taken) q.1 in
-      let note : note_in me'.0 ≡ None = ap note_in t.1 ∙ ap (λ (x : CorePart (KernelView C) × Slots C). x.0.note) q.1 in
-      (past_of q.0, taken, subst (IsAbout i) (sym note) tt)
+      let q = t.2.0.0.0 free in
+      let number : o.number ≡ a.thread = ap (λ (x : Account). x.thread) o.account_is in
+      let taken : t.0.core.taken ≡ Some (past_of q.0) = ap (λ (x : CorePart (KernelView C) × Slots C). x.0.taken) q.1 in
+      let note : t.0.core.note ≡ None = ap (λ (x : CorePart (KernelView C) × Slots C). x.0.note) q.1 in (
+        q.0,
+        ap (λ (x : CorePart (KernelView C) × Slots C). x.1) q.1,
+        record {
+          number = ap number_of t.1 ∙ number;
+          taken = ap taken_in t.1 ∙ taken;
+          fresh = ap note_in t.1 ∙ note;
+          owned = λ i less owner m at. subst (λ n. is_open_to n m ≡ true) number
+              (t.2.1 (past_of q.0) taken note i (subst (λ (hand : CoreHand C). i < mutex_count (first_of hand)) t.1 less) (subst (λ (hand : CoreHand C). owns (part_of hand i).held.role ≡ true) t.1 owner) m at);
+        },
+      )
 
   pub gave_places : (st : Step (Option (KernelView C))) (found : ℕ) (me me' : KernelMe C) (a : Account) (k : KernelView C) → seen me ≡ loaded past_of room_of a k → gave_known st me found me' → KeepsPlaces me.0 me'.0
   gave_places st found me me' a k is told =

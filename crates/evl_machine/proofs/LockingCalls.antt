@@ -1,6 +1,5 @@
 -- What a caller's steps with the kernel in hand come to: a lock that begins, a release, and a wait that is finished.
-use Rattle.std.proofs.Common.{◌≡◌, ◌<◌, ◌≤◌, nat_lt, ℕ, zero, suc, List, [], ◌∷◌, Bool, true, false, true≢false, Option, Some, None, Result, Ok, Err, IfSome, IsSomeAnd, slice_get, slice_set, refl, sym, ap, ◌∙◌, subst, arith}
-use Rattle.std.specs.Result.{is_err}
+use Rattle.std.proofs.Common.{◌≡◌, ◌<◌, ◌≤◌, nat_lt, ℕ, zero, suc, List, [], ◌∷◌, Bool, true, false, true≢false, Option, Some, None, Result, Ok, Err, IsErrAnd, IfSome, IsSomeAnd, inr, slice_get, slice_set, refl, sym, ap, ◌∙◌, subst, arith}
 use Rattle.std.proofs.lemmas.Bool.Decides.{nat_tests}
 use Rattle.std.proofs.lemmas.Option.{none-some}
 use Rattle.evl_base.specs.Board.{board_fits}
@@ -11,23 +10,24 @@ use Rattle.evl_base.specs.declared.refusal.Refusal.{Refusal}
 use Rattle.evl_base.specs.declared.reply.Reply.{Reply}
 use Rattle.evl_base.specs.declared.reply.Reply.TheVariants.{Begun, Handed, TimedOut}
 use Rattle.evl_kernel.specs.Histories.{History, IsLegal}
-use Rattle.evl_kernel.specs.KernelViews.{KernelView}
+use Rattle.evl_kernel.specs.KernelViews.{KernelView, makes_entry}
 use Rattle.evl_kernel.specs.Waits.{has_ended, has_timed_out, is_timeout}
 use Rattle.evl_kernel.proofs.AnswerLaws.{claim_begins, finish_tells, next_is_there}
 use Rattle.evl_words.specs.declared.mutex.Claim.TheVariants.{Won, Queued}
 use Rattle.evl_words.specs.declared.mutex.MutexPass.{MutexPass}
 use Rattle.evl_words.specs.MutexCalls.{IsPassOf, MutexSeatState}
 use Rattle.evl_words.specs.declared.mutex.MutexHold.{MutexHold}
+use Rattle.evl_machine.specs.declared.locking.Begun.{Begun as LockBegun}
 use Rattle.evl_machine.specs.declared.locking.Begun.TheVariants as begun
 use Rattle.evl_machine.specs.declared.locking.Ended.TheVariants as ended
 use Rattle.evl_machine.specs.Accounts.{threads_of}
 use Rattle.evl_machine.specs.Actors.{ActorState, IsSameActor, keeps_stage}
 use Rattle.evl_machine.specs.AtSeats.{AtSeat}
 use Rattle.evl_machine.specs.Calls.{Applied}
-use Rattle.evl_machine.specs.Locking.{Begins, EndsWait, EntersOne, Finishes, HaveSeats, IsRoomier, RaisesIf, Reserves}
+use Rattle.evl_machine.specs.Locking.{Begins, EndsWait, EntersNone, EntersOne, FindsNoRoom, Finishes, GivesTo, HaveSeats, IsRoomier, RaisesIf, Releases, Reserves}
 use Rattle.evl_machine.specs.MutexSeats.{AcceptsSo, Claims, ForgetsSo, HasOnce, HasSeat, HasWon, Settles, holds_mutex}
 use Rattle.evl_machine.specs.StaxSeats.{holds_stax}
-use Rattle.evl_machine.proofs.LockingLaws.{enters_made, seated_at}
+use Rattle.evl_machine.proofs.LockingLaws.{enters_made, no_room, seated_at}
 
 pub set_there : {S : Type 0} (xs : List S) (i : ℕ) (was is : S) → slice_get xs i ≡ Some was → slice_get (slice_set xs i is) i ≡ Some is
 set_there [] i was is there = absurd (none-some was there)
@@ -44,9 +44,9 @@ won_there i old new at =
 module _ {C : Type 0} (x a : ActorState) (is : x ≡ a) (k k1 k2 : KernelView C) (ceiling : Bool) (m : MutexId) (until : Option ℕ) (new : List MutexSeatState) (a2 : ActorState) (same : IsSameActor (seated_at x new) a2) (u : Unit {0}) (room : Reserves k (Ok u) k1) where
   -- a lock that was won at a ceiling
   pub begins_raised : (pass : MutexPass) (won : List MutexSeatState) (r : Result Reply Refusal) → ceiling ≡ true → AtSeat m.0 x.mutexes won (Claims Won) → AtSeat m.0 won new (Settles pass)
-      → Applied k1 x.thread.0 (Raise m) r k2 → Begins ceiling a k m until (Ok (begun.Locked pass)) a2 k2
-  begins_raised pass won r raises claimed settled done = subst (λ (z : ActorState). Begins ceiling z k m until (Ok (begun.Locked pass)) a2 k2) is
-      (won, claimed, subst (λ seats. AtSeat m.0 won seats (Settles pass)) (sym same.mutexes) settled, subst (λ b. RaisesIf b k x.thread.0 m k2) (sym raises) (r, enters_made k k1 k2 x.thread.0 (Raise m) r u room done))
+      → EntersOne k x.thread.0 (Raise m) r k2 → (reply : Reply) × (r ≡ Ok reply) → Begins ceiling a k m until (Ok (begun.Locked pass)) a2 k2
+  begins_raised pass won r raises claimed settled entered accepted = subst (λ (z : ActorState). Begins ceiling z k m until (Ok (begun.Locked pass)) a2 k2) is
+      (won, claimed, subst (λ seats. AtSeat m.0 won seats (Settles pass)) (sym same.mutexes) settled, subst (λ b. RaisesIf b k x.thread.0 m k2) (sym raises) (accepted.0, subst (λ (r : Result Reply Refusal). EntersOne k x.thread.0 (Raise m) r k2) accepted.1 entered))
 
   -- a lock that waits
   pub begins_waiting : (owner : ThreadId) (reply : Reply) → AtSeat m.0 x.mutexes new (Claims (Queued owner)) → Applied k1 x.thread.0 (AsksToWait m owner until) (Ok reply) k2
@@ -59,6 +59,13 @@ module _ {C : Type 0} (x a : ActorState) (is : x ≡ a) (k k1 k2 : KernelView C)
 
       answered : reply ≡ Begun
       answered = claim_begins k.history.state k2.history.state x.thread.0 m owner until reply entered.1.0 entered.1.1.extends.step.1
+
+  -- a wait that the kernel refused
+  pub begins_refused : (owner : ThreadId) (refusal : Refusal) (r : Result LockBegun Refusal) → IsErrAnd r (λ f. f ≡ refusal) → AtSeat m.0 x.mutexes new (Claims (Queued owner)) → Applied k1 x.thread.0 (AsksToWait m owner until) (Err refusal) k2
+      → Begins ceiling a k m until r a2 k2
+  begins_refused owner refusal (Ok z) is_err claimed done = absurd is_err
+  begins_refused owner refusal (Err why) is_err claimed done = subst (λ (z : ActorState × Refusal). Begins ceiling z.0 k m until (Err z.1) a2 k2) (λ i. (is i, sym is_err i))
+      (inr (owner, subst (λ seats. AtSeat m.0 x.mutexes seats (Claims (Queued owner))) (sym same.mutexes) claimed, enters_made k k1 k2 x.thread.0 (AsksToWait m owner until) (Err refusal) u room done))
 
 some_seat : (n next i : ℕ) (seats : List MutexSeatState) (P : MutexSeatState → Type 0) → HaveSeats n seats → IsSomeAnd (slice_get seats i) P → next < n → HasSeat seats i next
 some_seat n next i seats P have there less = by (slice_get seats i) refl there
@@ -118,12 +125,27 @@ module _ {C : Type 0} (x a : ActorState) (is : x ≡ a) (k k1 k2 : KernelView C)
       (subst (λ (r : Result Reply Refusal). EntersOne k x.thread.0 (Finish keeps) r k2) told entered)
 
   -- a wait whose deadline came first
-  pub finishes_late : (forgot : Result (Unit {0}) Refusal) → AtSeat m.0 x.mutexes new (ForgetsSo forgot) → false ≡ is_err forgot → has_timed_out k.history.state x.thread.0 ≡ true → Finishes a k m (Ok ended.TimedOut) a2 k2
-  finishes_late (Err refusal) forgets kept timed = absurd (true≢false (sym kept))
-  finishes_late (Ok done) forgets kept timed = subst (λ (z : ActorState). Finishes z k m (Ok ended.TimedOut) a2 k2) is
+  pub finishes_late : AtSeat m.0 x.mutexes new (ForgetsSo (Ok tt)) → has_timed_out k.history.state x.thread.0 ≡ true → Finishes a k m (Ok ended.TimedOut) a2 k2
+  finishes_late forgets timed = subst (λ (z : ActorState). Finishes z k m (Ok ended.TimedOut) a2 k2) is
       (subst (λ seats. AtSeat m.0 x.mutexes seats (ForgetsSo (Ok tt))) (sym same.mutexes) forgets, ends TimedOut (tells.1 ∙ ap Ok (is_timed_out tells.0 (sym tells.2 ∙ timed))))
 
   -- a wait that ended with the mutex
   pub finishes_locked : (pass : MutexPass) → AtSeat m.0 x.mutexes new (AcceptsSo (Ok pass)) → has_timed_out k.history.state x.thread.0 ≡ false → Finishes a k m (Ok (ended.Locked pass)) a2 k2
   finishes_locked pass accepts timed = subst (λ (z : ActorState). Finishes z k m (Ok (ended.Locked pass)) a2 k2) is
       (subst (λ seats. AtSeat m.0 x.mutexes seats (AcceptsSo (Ok pass))) (sym same.mutexes) accepts, (tells.0, sym tells.2 ∙ timed, ends tells.0 tells.1))
+
+module _ {C : Type 0} (a a1 : ActorState) (same : IsSameActor a a1) (k k' : KernelView C) (pass : MutexPass) (m : MutexId) (is : m ≡ pass.mutex) (r : Result Reply Refusal) (done : Applied k a.thread.0 (Release m) r k') where
+  -- a release that was entered
+  pub release_entered : (s : Result Reply Refusal) → r ≡ s → makes_entry s ≡ true → EntersOne k a.thread.0 (Release pass.mutex) s k'
+  release_entered s told entry =
+      let d : Applied k a.thread.0 (Release pass.mutex) s k' = subst (λ (z : MutexId × Result Reply Refusal). Applied k a.thread.0 (Release z.0) z.1 k') (λ i. (is i, told i)) done in
+      (entry, d.entered entry)
+
+  -- and behind which the word was given
+  pub releases_on : (next : Option ThreadId) (more : Bool) (a2 : ActorState) → r ≡ Ok (Handed next more) → AtSeat pass.mutex.0 a1.mutexes a2.mutexes (GivesTo next more) → Releases a k pass (Ok tt) a2 k'
+  releases_on next more a2 told at = (next, more, release_entered (Ok (Handed next more)) told refl, subst (λ seats. AtSeat pass.mutex.0 seats a2.mutexes (GivesTo next more)) same.mutexes at)
+
+  -- one that is never refused with an entry
+  pub releases_not : (refusal : Refusal) → r ≡ Err refusal → (EntersOne k a.thread.0 (Release pass.mutex) (Err refusal) k' → ⊥) → EntersNone k k' × FindsNoRoom k refusal
+  releases_not refusal told never =
+      no_room k k' a.thread.0 (Release pass.mutex) refusal never (subst (λ (z : MutexId × Result Reply Refusal). Applied k a.thread.0 (Release z.0) z.1 k') (λ i. (is i, told i)) done)

@@ -19,7 +19,7 @@ use Rattle.evl_machine.specs.Calls.{Applied}
 use Rattle.evl_machine.specs.Homes.{mutex_home}
 use Rattle.evl_machine.specs.Known.{ComesFrom}
 use Rattle.evl_machine.specs.Unfinished.{unfinished}
-use Rattle.evl_machine.specs.Locking.{EntersOne, FindsNoRoom, GoesAlong, IsRoomier, LocksRaised, Refuses, Reserves}
+use Rattle.evl_machine.specs.Locking.{EntersNone, EntersOne, FindsNoRoom, GoesAlong, IsRoomier, LocksRaised, Reserves}
 use Rattle.evl_machine.specs.MutexSeats.{TriesMutex}
 use Rattle.evl_machine.specs.MutexTokens.{AreTheSame}
 use Rattle.evl_machine.proofs.Accounts.{goes_on_none}
@@ -160,28 +160,28 @@ module _ {C : Type 0} where
       by (Err HoldsStax) is = entered (ap makes_entry is)
       by (Err (Raced first second)) is = entered (ap makes_entry is)
 
-  -- a refused call is entered, or there was no room for it
-  pub refuses : (k k' : KernelView C) (t : ℕ) (c : Call) (refusal : Refusal) → Applied k t c (Err refusal) k' → Refuses k t c refusal k'
-  refuses k k' t c NoMemory done = inr (done.refused refl, (done.memory refl, λ at. let no : Err NoMemory ≡ Err HistoryFull = done.filled at in absurd (cc)))
-  refuses k k' t c HistoryFull done = inr (done.refused refl, done.full refl)
-  refuses k k' t c CoreBusy done = inl (refl, done.entered refl)
-  refuses k k' t c Unknown done = inl (refl, done.entered refl)
-  refuses k k' t c Invalid done = inl (refl, done.entered refl)
-  refuses k k' t c Again done = inl (refl, done.entered refl)
-  refuses k k' t c Busy done = inl (refl, done.entered refl)
-  refuses k k' t c NotOwner done = inl (refl, done.entered refl)
-  refuses k k' t c Deadlock done = inl (refl, done.entered refl)
-  refuses k k' t c Limit done = inl (refl, done.entered refl)
-  refuses k k' t c Range done = inl (refl, done.entered refl)
-  refuses k k' t c TooBig done = inl (refl, done.entered refl)
-  refuses k k' t c WrongStage done = inl (refl, done.entered refl)
-  refuses k k' t c HoldsStax done = inl (refl, done.entered refl)
-  refuses k k' t c (Raced first second) done = inl (refl, done.entered refl)
+  -- a call that is never refused with an entry is refused for want of room
+  pub no_room : (k k' : KernelView C) (t : ℕ) (c : Call) (refusal : Refusal) → (EntersOne k t c (Err refusal) k' → ⊥) → Applied k t c (Err refusal) k' → EntersNone k k' × FindsNoRoom k refusal
+  no_room k k' t c NoMemory never done = (done.refused refl, (done.memory refl, λ at. let no : Err NoMemory ≡ Err HistoryFull = done.filled at in absurd (cc)))
+  no_room k k' t c HistoryFull never done = (done.refused refl, done.full refl)
+  no_room k k' t c CoreBusy never done = absurd (never (refl, done.entered refl))
+  no_room k k' t c Unknown never done = absurd (never (refl, done.entered refl))
+  no_room k k' t c Invalid never done = absurd (never (refl, done.entered refl))
+  no_room k k' t c Again never done = absurd (never (refl, done.entered refl))
+  no_room k k' t c Busy never done = absurd (never (refl, done.entered refl))
+  no_room k k' t c NotOwner never done = absurd (never (refl, done.entered refl))
+  no_room k k' t c Deadlock never done = absurd (never (refl, done.entered refl))
+  no_room k k' t c Limit never done = absurd (never (refl, done.entered refl))
+  no_room k k' t c Range never done = absurd (never (refl, done.entered refl))
+  no_room k k' t c TooBig never done = absurd (never (refl, done.entered refl))
+  no_room k k' t c WrongStage never done = absurd (never (refl, done.entered refl))
+  no_room k k' t c HoldsStax never done = absurd (never (refl, done.entered refl))
+  no_room k k' t c (Raced first second) never done = absurd (never (refl, done.entered refl))
 
-module _ {C : Type 0} (x a : ActorState) (is : x ≡ a) (k k1 k2 : KernelView C) where
-  -- a try that took a mutex with a ceiling, and its entry
-  pub locks_raised : (kinds : List MutexKind) (m : MutexId) (pass : MutexPass) (new : List MutexSeatState) (r : Result Reply Refusal) (a2 : ActorState) (u : Unit {0}) → TriesMutex kinds x.mutexes m.0 (Ok pass) new
-      → IsSameActor (seated_at x new) a2 → Reserves k (Ok u) k1 → Applied k1 x.thread.0 (Raise m) r k2 → LocksRaised kinds a k m (Ok pass) a2 k2
-  locks_raised kinds m pass new r a2 u tried same room done =
+module _ {C : Type 0} (x a : ActorState) (is : x ≡ a) (k k2 : KernelView C) where
+  -- a try that took a mutex with a ceiling, and its entry, which the kernel accepted
+  pub locks_raised : (kinds : List MutexKind) (m : MutexId) (pass : MutexPass) (new : List MutexSeatState) (r : Result Reply Refusal) (a2 : ActorState) → TriesMutex kinds x.mutexes m.0 (Ok pass) new
+      → IsSameActor (seated_at x new) a2 → EntersOne k x.thread.0 (Raise m) r k2 → (reply : Reply) × (r ≡ Ok reply) → LocksRaised kinds a k m (Ok pass) a2 k2
+  locks_raised kinds m pass new r a2 tried same entered accepted =
       subst (λ (z : ActorState). LocksRaised kinds z k m (Ok pass) a2 k2) is
-      (subst (λ seats. TriesMutex kinds x.mutexes m.0 (Ok pass) seats) (sym same.mutexes) tried, (r, enters_made k k1 k2 x.thread.0 (Raise m) r u room done))
+      (subst (λ seats. TriesMutex kinds x.mutexes m.0 (Ok pass) seats) (sym same.mutexes) tried, (accepted.0, subst (λ (r : Result Reply Refusal). EntersOne k x.thread.0 (Raise m) r k2) accepted.1 entered))

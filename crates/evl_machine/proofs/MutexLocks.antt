@@ -113,19 +113,14 @@ module _ {C : Type 0} where
 
   pub begins_full : (ceiling : Bool) (a a' : ActorState) (k k' : KernelView C) (m : MutexId) (until : Option ℕ) → Begins ceiling a k m until (Err HistoryFull) a' k' → LeavesFull k k'
   begins_full ceiling a a' k k' m until (inl (none, same, full)) = leaves_full k k' none full
-  begins_full ceiling a a' k k' m until (inr (inl (owner, at, entered))) = absurd (true≢false (sym entered.0))
-  begins_full ceiling a a' k k' m until (inr (inr (none, room, again, at))) = absurd (cc)
+  begins_full ceiling a a' k k' m until (inr (owner, at, entered)) = absurd (true≢false (sym entered.0))
 
   pub finishes_full : (a a' : ActorState) (k k' : KernelView C) (m : MutexId) → Finishes a k m (Err HistoryFull) a' k' → LeavesFull k k'
-  finishes_full a a' k k' m (none, inl (again, on, same)) = absurd (cc)
-  finishes_full a a' k k' m (none, inr (over, inl (full, same))) = leaves_full k k' none full
-  finishes_full a a' k k' m (none, inr (over, inr (inl (room, again, late, at)))) = absurd (cc)
-  finishes_full a a' k k' m (none, inr (over, inr (inr (room, again, late, at)))) = absurd (cc)
+  finishes_full a a' k k' m (none, (same, inl (again, on))) = absurd (cc)
+  finishes_full a a' k k' m (none, (same, inr (over, full))) = leaves_full k k' none full
 
   pub releases_full : (a a' : ActorState) (k k' : KernelView C) (pass back : MutexPass) → Releases a k pass (Err (HistoryFull, back)) a' k' → LeavesFull k k'
-  releases_full a a' k k' pass back (same, seats, why) = ⊎_elim
-      (λ entered. absurd (true≢false (sym entered.0)))
-      (λ (w : EntersNone k k' × FindsNoRoom k HistoryFull). leaves_full k k' w.0 w.1) why
+  releases_full a a' k k' pass back (same, seats, none, full) = leaves_full k k' none full
 
   -- what a caller that visited the kernel has seen then is full
   pub visit_full : (busy : Type 0) (old new : CallerState C) (does : ActorState → KernelView C → ActorState → KernelView C → Type 0) (refusal : Refusal) → (busy → refusal ≡ HistoryFull → ⊥)

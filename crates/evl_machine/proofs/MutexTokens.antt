@@ -1,5 +1,5 @@
 -- A thread's token and places before and after a step on a mutex's word in the core's table.
-use Rattle.std.proofs.Common.{◌≡◌, ◌≢◌, ℕ, zero, suc, ◌+◌, ◌-◌, ◌<◌, nat_lt, List, [], ◌∷◌, length, length-set, map, Option, Some, slice_get, slice_set, refl, sym, ap, ◌∙◌, subst, arith}
+use Rattle.std.proofs.Common.{◌≡◌, ◌≢◌, ℕ, zero, suc, ◌+◌, ◌-◌, ◌<◌, nat_lt, false, List, [], ◌∷◌, length, length-set, map, Option, Some, slice_get, slice_set, refl, sym, ap, ◌∙◌, subst, arith}
 use Rattle.std.specs.Option.{option_map}
 use Rattle.std.proofs.lemmas.Option.{none-some, same_Some, slice_get-map}
 use Rattle.atomic_table.specs.Seated.{TableId}
@@ -9,7 +9,9 @@ use Rattle.evl_words.specs.declared.mutex.place.MutexPlace.{MutexPlace}
 use Rattle.evl_words.specs.Hands.{Told, place}
 use Rattle.evl_words.specs.MutexCalls.{MutexSeatState}
 use Rattle.evl_words.specs.declared.mutex.MutexHold.{MutexHold}
-use Rattle.evl_words.specs.MutexWorld.{MutexView, MutexKind, MutexDoes, owns, step_may, step_word}
+use Rattle.evl_words.specs.MutexRule.{tried, unlocked}
+use Rattle.evl_words.specs.MutexWorld.{MutexView, MutexKind, MutexDoes, owns, step_may, step_word, tries, unlocks}
+use Rattle.evl_words.proofs.MutexSeats.{tried_of, unlocked_of}
 use Rattle.evl_words.specs.Parts.{Tells}
 use Rattle.evl_words.proofs.Sequences.{map-set}
 use Rattle.evl_machine.specs.declared.views.Account.{Account}
@@ -17,14 +19,18 @@ use Rattle.evl_machine.specs.declared.views.CorePart.{CorePart}
 use Rattle.evl_machine.specs.declared.views.ThreadView.{ThreadView}
 use Rattle.evl_machine.specs.AtSeats.{AtSeat}
 use Rattle.evl_machine.specs.CoreRule.{IsAbout, account_at, noting}
-use Rattle.evl_machine.specs.Known.{ComesFrom, CoreHand, KernelMe, KeptKnown, accounts_in, first_of, mutex_count, no_tie, past_of, room_of, taken_in}
+use Rattle.evl_machine.specs.Known.{ComesFrom, CoreHand, KernelMe, KeptKnown, accounts_in, ceilings_of, first_of, mutex_count, past_of, room_of, taken_in, tried_known, unlocked_known}
+use Rattle.evl_machine.specs.Noted.{Found, Notes, number_of}
+use Rattle.evl_machine.specs.Ties.{StandsNoted}
+use Rattle.evl_machine.specs.TieTells.{on_noted}
 use Rattle.evl_machine.specs.MutexPlaces.{Deepens}
 use Rattle.evl_machine.specs.Homes.{Home, mutex_home}
 use Rattle.evl_machine.specs.MutexTokens.{AreItsPlaces, AreTheSame, HasKernelFor, IsAtTable, TellsTheSame, note_in, part_of, seat_at, seats_at}
 use Rattle.evl_machine.specs.Seats.{view}
-use Rattle.evl_machine.specs.ThreadRule.{put_core, mutex_of, put_mutex, on_mutex, on_noted}
+use Rattle.evl_machine.specs.ThreadRule.{put_core, mutex_of, put_mutex, on_mutex}
 use Rattle.evl_machine.proofs.SeatLists.{each-set, map-kept, set-same}
-use Rattle.evl_machine.proofs.ThreadSteps.{marks_thread, parts_apart, steps_thread}
+use Rattle.evl_machine.proofs.TableTies.{marks_tied, tries_tied, unlocks_tied}
+use Rattle.evl_machine.proofs.ThreadSteps.{parts_apart}
 
 -- what all have alike but at one place, where it is known by itself, stays
 each-but : {S : Type 0} (P : ℕ → S → Type 0) (xs : List S) (i : ℕ) (is : S) → ((k : ℕ) (s : S) → k ≢ i → slice_get xs k ≡ Some s → P k s) → P i is
@@ -96,20 +102,42 @@ module _ {C : Type 0} where
         moved_to i k v kind found me me' v.core t.0 j (omega (arith, at)) t.1 t.2.1 refl refl refl d.0 d.1
 
     -- by the thread that has the kernel
-    pub moved_held : (f : Step (Option (KernelView C)) → ℕ → ℕ) → Told (on_noted f tells) st me found me' → Moved i k v kind found me me'
+    pub moved_held : (f : Step (Option (KernelView C)) → ℕ → ℕ) → Told (on_noted ceilings_of f tells) st me found me' → Moved i k v kind found me me'
     moved_held f told =
         let t = told k v one in
         let j = st.word - 1 in
         let d = says st (mutex_of j v) (mutex_of j t.0) me.1 me'.1 found t.2.0 in
-        moved_to i k v kind found me me' (noting j (f st found) v.core) t.0 j (omega (arith, at)) t.1 t.2.1 refl refl refl d.0 d.1
+        moved_to i k v kind found me me' (noting j (f st found) v.core) t.0 j (omega (arith, at)) t.1 t.2.2 refl refl refl d.0 d.1
 
     -- which is about this mutex then
-    pub still_about : (f : Step (Option (KernelView C)) → ℕ → ℕ) → Told (on_noted f tells) st me found me' → HasKernelFor i me.0 → HasKernelFor i me'.0
+    pub still_about : (f : Step (Option (KernelView C)) → ℕ → ℕ) → Told (on_noted ceilings_of f tells) st me found me' → HasKernelFor i me.0 → HasKernelFor i me'.0
     still_about f told (h, taken, about) =
         let t = told k v one in
         let j = st.word - 1 in
-        let note : note_in me'.0 ≡ Some (record { mutex = j; left = f st found }) = ap note_in t.1 ∙ ap (λ (x : Thread C). x.core.note) t.2.1 in
-        (h, ap taken_in t.1 ∙ ap (λ (x : Thread C). x.core.taken) t.2.1 ∙ sym (ap taken_in one) ∙ taken, subst (IsAbout i) (sym note) (omega (arith, at)))
+        let note : note_in me'.0 ≡ Some (record { mutex = j; left = f st found }) = ap note_in t.1 ∙ ap (λ (x : Thread C). x.core.note) t.2.2 in
+        (h, ap taken_in t.1 ∙ ap (λ (x : Thread C). x.core.taken) t.2.2 ∙ sym (ap taken_in one) ∙ taken, subst (IsAbout i) (sym note) (omega (arith, at)))
+
+    -- and found it so
+    pub notes : (f : Step (Option (KernelView C)) → ℕ → ℕ) → ((n : ℕ) → step_word n k (mutex_of i v) kind ≡ f st n) → Told (on_noted ceilings_of f tells) st me found me' → (so : Found) → so k found → Notes i kind so me.0 me'.0
+    notes f same told so is =
+        let t = told k v one in
+        let j = st.word - 1 in
+        let e : j ≡ i = omega (arith, at) in
+        let d = says st (mutex_of j v) (mutex_of j t.0) me.1 me'.1 found t.2.0 in
+        let number : number_of me.0 ≡ k = ap number_of one in
+        let was : part_of me.0 i ≡ mutex_of i v = ap (λ (h : CoreHand C). part_of h i) one in
+        let now : part_of me'.0 i ≡ mutex_of i t.0 = ap (λ (h : CoreHand C). part_of h i) t.1 in
+        let left : f st found ≡ step_word found (number_of me.0) (part_of me.0 i) kind = sym (same found) ∙ (λ q. step_word found (sym number q) (sym was q) kind) in
+        record {
+          found = found;
+          does = subst (λ (z : (ℕ × MutexView) × MutexView). MutexDoes z.0.0 z.0.1 kind found z.1) (λ q. ((sym number q, sym was q), sym now q)) (subst (λ n. MutexDoes k (mutex_of n v) kind found (mutex_of n t.0)) e d.1);
+          found_so = subst (λ n. so n found) (sym number) is;
+          stood = λ h has. subst (λ (z : CoreHand C × ℕ). StandsNoted (ceilings_of (first_of z.0)) h.state z.1 (note_in z.0) found) (λ q. (sym one q, e q)) (t.2.1 h (sym (ap taken_in one) ∙ has));
+          number = ap number_of t.1 ∙ sym number;
+          taken = ap taken_in t.1 ∙ ap (λ (x : Thread C). x.core.taken) t.2.2 ∙ sym (ap taken_in one);
+          first = ap first_of t.1 ∙ ap (λ (x : Thread C). x.core.first) t.2.2 ∙ sym (ap first_of one);
+          note = ap note_in t.1 ∙ ap (λ (x : Thread C). x.core.note) t.2.2 ∙ (λ q. Some (record { mutex = e q; left = left q }));
+        }
 
   module _ (i k : ℕ) (v : Thread C) (kind : MutexKind) (found : ℕ) (me me' : KernelMe C) (one : me.0 ≡ place k v ∷ []) (went : Moved i k v kind found me me') where
     pub tells_same : TellsTheSame me me'
@@ -182,11 +210,18 @@ module _ {C : Type 0} where
           let long : length ps' ≡ length ps = ap length at.changed ∙ length-set ps i at.is in
           record { same = same; words = words ∙ ap (λ n. 1 + n) (sym long); all = long ∙ all; its = its }
 
-  module _ (first : KernelView C) (slots id k : ℕ) (v : Thread C) (me : KernelMe C) (one : me.0 ≡ place k v ∷ []) (i : ℕ) (within : i < mutex_count first) (kind : MutexKind) (may : step_may k (mutex_of i v) kind)
-      (st : Step (Option (KernelView C))) (at : st.word ≡ 1 + i) (tells : Tells (Option (KernelView C)) MutexView) (weaker : (found : ℕ) (u : MutexView) → MutexDoes k (mutex_of i v) kind found u → tells st k (mutex_of i v, me.1) found (u, me.1)) where
-    -- what a step owes: of anybody, and of the thread that has the kernel
-    pub steps_known : (f : ℕ → ℕ) → ((n : ℕ) → step_word n k (mutex_of i v) kind ≡ f n) → Allows (KeptKnown first) slots id me (1 + i) f (Told (on_mutex tells) st me)
-    steps_known f same = steps_thread past_of room_of ComesFrom no_tie first (mutex_count first) slots id k v me one i within kind may f same st at tells weaker (λ n homes cores found u lock there told tied. tt)
+  module _ (first : KernelView C) (slots id k : ℕ) (v : Thread C) (me : KernelMe C) (one : me.0 ≡ place k v ∷ []) (i : ℕ) (within : i < mutex_count first) where
+    -- what a try and an unlocking by anybody owe, of a mutex without a ceiling
+    module _ (plain : ceilings_of first i ≡ false) (f : ℕ → ℕ) (st : Step (Option (KernelView C))) (at : st.word ≡ 1 + i) where
+      pub tries_known : step_may k (mutex_of i v) tries → ((n : ℕ) → step_word n k (mutex_of i v) tries ≡ f n) → Allows (KeptKnown first) slots id me (1 + i) f (tried_known st me)
+      tries_known may same = tries_tied past_of room_of ComesFrom first ceilings_of mutex_count slots id k v me one i within plain f st at tried may same (λ found u d. ((refl, d), tried_of k (mutex_of i v) u found d)) (λ found u x. x.0.1)
 
-    pub marks_known : (f : Step (Option (KernelView C)) → ℕ → ℕ) → ((n : ℕ) → step_word n k (mutex_of i v) kind ≡ f st n) → Allows (KeptKnown first) slots id me (1 + i) (f st) (Told (on_noted f tells) st me)
-    marks_known f same = marks_thread past_of room_of ComesFrom no_tie first (mutex_count first) slots id k v me one i within kind may st at f same tells weaker (λ n homes cores found lock there. (λ tied. tt, λ j word ne tied. tt))
+      pub unlocks_known : step_may k (mutex_of i v) unlocks → ((n : ℕ) → step_word n k (mutex_of i v) unlocks ≡ f n) → Allows (KeptKnown first) slots id me (1 + i) f (unlocked_known st me)
+      unlocks_known may same = unlocks_tied past_of room_of ComesFrom first ceilings_of mutex_count slots id k v me one i within plain f st at unlocked may same (λ found u d. ((refl, d), unlocked_of k (mutex_of i v) u found d)) (λ found u x. x.0.1)
+
+    -- what a step by the thread that has the kernel owes
+    pub marks_held : HasKernelFor i me.0 → (kind : MutexKind) → step_may k (mutex_of i v) kind → (st : Step (Option (KernelView C))) → st.word ≡ 1 + i → (tells : Tells (Option (KernelView C)) MutexView)
+        → ((found : ℕ) (u : MutexView) → MutexDoes k (mutex_of i v) kind found u → tells st k (mutex_of i v, me.1) found (u, me.1))
+        → (f : Step (Option (KernelView C)) → ℕ → ℕ) → ((n : ℕ) → step_word n k (mutex_of i v) kind ≡ f st n) → Allows (KeptKnown first) slots id me (1 + i) (f st) (Told (on_noted ceilings_of f tells) st me)
+    marks_held (h, taken, about) kind may st at tells weaker f same =
+        marks_tied past_of room_of ComesFrom first ceilings_of mutex_count slots id k v me one h (sym (ap taken_in one) ∙ taken) i within (subst (λ (hand : CoreHand C). IsAbout i (note_in hand)) one about) kind may st at f same tells weaker

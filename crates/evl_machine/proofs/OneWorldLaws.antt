@@ -1,8 +1,8 @@
 -- What holds of the one table's world holds after any list of atomic steps, and while hands of threads are split and joined.
-use Rattle.std.proofs.Common.{◌≡◌, ◌≢◌, eq-eqb, ne_eqb, ℕ, zero, suc, ◌<◌, ◌≤◌, ◌==◌, if◌then◌else◌, Bool, true, false, List, [], ◌∷◌, ◌++◌, map, set, get_or, length, refl, sym, ap, ◌∙◌, subst, length-set, get_or-set_same, get_or-set_other, arith}
-use Rattle.std.specs.Prelude.{replicate}
+use Rattle.std.proofs.Common.{◌≡◌, ◌≢◌, ⊎_elim, Some, eq-eqb, ne_eqb, ℕ, zero, suc, ◌<◌, ◌≤◌, ◌==◌, if◌then◌else◌, Bool, true, false, List, [], ◌∷◌, ◌++◌, map, set, get_or, length, refl, sym, ap, ◌∙◌, subst, length-set, get_or-set_same, get_or-set_other, arith}
+use Rattle.std.specs.Prelude.{MatchBool, replicate}
 use Rattle.std.proofs.lemmas.List.{length-replicate}
-use mathlib.Core.Option.{some}
+use mathlib.Core.Option.{some, none}
 use mathlib.Core.Logic.{dite}
 use native.Mathlib.Decide.{ℕ_discrete}
 use lib.ListN.{get_elem?}
@@ -16,28 +16,36 @@ use Rattle.evl_words.specs.Mutex.{MutexEntry}
 use Rattle.evl_words.specs.MutexWorld as mutex
 use Rattle.evl_words.specs.MutexWorld.{MutexKind, MutexView, IsMutexWorld, mutex_steps, newcomer, tries, unlocks, claims, settles, offers, frees, asks, forgets, awaits, accepts}
 use Rattle.evl_words.proofs.Machines.{run_keeps}
-use Rattle.evl_words.proofs.Sequences.{map-set, map-replicate}
+use Rattle.evl_words.proofs.Sequences.{at_below, map-set, map-replicate}
 use Rattle.evl_words.proofs.Dealing.{deals_turn, deals_split, deals_join, deals_opening}
 use Rattle.evl_words.proofs.MutexSteps as steps
 use Rattle.evl_words.proofs.MutexEnds.{mutex_opens}
 use Rattle.evl_machine.specs.declared.views.CorePart.{CorePart}
 use Rattle.evl_machine.specs.declared.views.ThreadView.{ThreadView}
 use Rattle.evl_machine.specs.Accounts.{threads_of}
-use Rattle.evl_machine.specs.CoreRule.{CoreKept}
+use Rattle.evl_machine.specs.CoreRule.{CoreKept, IsFree, IsTaken, newcomer_part}
 use Rattle.evl_machine.specs.CoreWorld as core
-use Rattle.evl_machine.specs.CoreWorld.{CoreKind}
+use Rattle.evl_machine.specs.CoreWorld.{CoreKind, Slot, takes, gives, moves_out, moves_in}
 use Rattle.evl_machine.specs.ThreadRule.{core_of, put_core, mutex_of, put_mutex, newcomer_view}
 use Rattle.evl_machine.specs.OneWorld.{OneWorld, OneKind, OneHappens, OneDealing, OneDealingStep, IsOneWorld, StandsInOne, HasFor, is_unlocking, mutex_world, noted_if, on_lock, on_word, one_after, one_may, opened_one, view_after}
-use Rattle.evl_machine.proofs.CoreSteps.{opens_core}
+use Rattle.evl_machine.specs.Ties.{MutexTied}
+use Rattle.evl_machine.proofs.CoreSteps.{holder_is, only_slot, opens_core}
 use Rattle.evl_machine.proofs.CoreLaws as core_laws
-use Rattle.evl_machine.proofs.Noting.{noted_core}
 use Rattle.evl_machine.proofs.ThreadSteps.{parts_apart, at_blank, zeros}
+use Rattle.evl_machine.proofs.TieRule.{lock_marked, tie_giving, tie_marking, tie_stepping, tie_taking, ties_beside}
+use Rattle.evl_machine.proofs.TieSteps.{StaysPlain, try_stays, unlock_stays}
 
 module _ {S B : Type 0} (past : S → History) (room : S → ℕ) (comes : B → S → Type 0) (first : B) (ceilings : ℕ → Bool) (m : ℕ) where
   abbrev pub Stands : OneWorld S B → Type 0
   Stands = IsOneWorld past room comes ceilings m first
 
+  abbrev TieOf : ℕ → ℕ → List (Slot S) → List (CorePart B) → ℕ → Type 0
+  TieOf = MutexTied past ceilings
+
   module _ (w : OneWorld S B) (h : Stands w) (k : ℕ) (v : ThreadView B MutexView) (at : get_elem? w.views k ≡ some v) where
+    cores : List (CorePart B)
+    cores = map core_of w.views
+
     core_at : get_elem? (map core_of w.views) k ≡ some (core_of v)
     core_at = at_map core_of w.views k v at
 
@@ -45,39 +53,82 @@ module _ {S B : Type 0} (past : S → History) (room : S → ℕ) (comes : B →
     parts_stay : (c : CorePart B) (i : ℕ) → map (mutex_of i) (set w.views k (put_core v c)) ≡ map (mutex_of i) w.views
     parts_stay c i = map-set (mutex_of i) w.views k (put_core v c) ∙ set_again (map (mutex_of i) w.views) k (mutex_of i v) (at_map (mutex_of i) w.views k v at)
 
+    cores_now : (c : CorePart B) → map core_of (set w.views k (put_core v c)) ≡ set (map core_of w.views) k c
+    cores_now c = map-set core_of w.views k (put_core v c)
+
+    -- the ties after a step on the lock
+    lock_ties : (kind : CoreKind S) → one_may past room comes ceilings m k v (on_lock kind) → (i word : ℕ) → TieOf i w.word (w.slot ∷ []) (map core_of w.views) word
+        → TieOf i (core.step_word past room comes w.word kind) (core.step_slot past room comes w.word w.slot kind ∷ []) (set (map core_of w.views) k (core.step_part past room comes w.word w.slot k (core_of v) kind)) word
+    lock_ties takes may i word tied = ⊎_elim
+        (λ (f : IsFree past comes first h.locked.history w.word (w.slot ∷ []) (map core_of w.views)).
+        let slot : w.slot ≡ some (Some f.kernel) = only_slot w.slot (some (Some f.kernel)) f.slot_is in
+        let now = tie_taking past comes first ceilings room k (core_of v) f.kernel (map core_of w.views) (subst (λ (z : ℕ × Slot S). CoreKept past comes first z.0 (z.1 ∷ []) (map core_of w.views)) (λ j. (f.word_is j, slot j)) h.locked) core_at i word
+        (subst (λ (z : ℕ × Slot S). TieOf i z.0 (z.1 ∷ []) (map core_of w.views) word) (λ j. (f.word_is j, slot j)) tied) in
+        subst (λ (z : ℕ × Slot S). TieOf i (core.step_word past room comes z.0 takes) (core.step_slot past room comes z.0 z.1 takes ∷ []) (set (map core_of w.views) k (core.step_part past room comes z.0 z.1 k (core_of v) takes)) word) (λ j. (sym f.word_is j, sym slot j)) now)
+        (λ (t : IsTaken h.locked.history w.word (w.slot ∷ []) (map core_of w.views)).
+        let same : TieOf i w.word (w.slot ∷ []) (set (map core_of w.views) k (core_of v)) word = subst (λ cs. TieOf i w.word (w.slot ∷ []) cs word) (sym (set_again (map core_of w.views) k (core_of v) core_at)) tied in
+        let one : TieOf i 1 (w.slot ∷ []) (set (map core_of w.views) k (core_of v)) word = subst (λ n. TieOf i n (w.slot ∷ []) (set (map core_of w.views) k (core_of v)) word) t.word_is same in
+        subst (λ n. TieOf i (core.step_word past room comes n takes) (core.step_slot past room comes n w.slot takes ∷ []) (set (map core_of w.views) k (core.step_part past room comes n w.slot k (core_of v) takes)) word) (sym t.word_is) one)
+        h.locked.who
+    lock_ties (gives y) ((may, from), settled) i word tied =
+        let x = holder_is past comes first w.word (w.slot ∷ []) (map core_of w.views) k (core_of v) may.before h.locked core_at may.taken in
+        let slot : w.slot ≡ none = only_slot w.slot none x.0.slot_is in
+        tie_giving past comes first ceilings k (core_of v) y may.before may.taken (settled may.before may.taken) (map core_of w.views) (subst (λ (z : ℕ × Slot S). CoreKept past comes first z.0 (z.1 ∷ []) (map core_of w.views)) (λ j. (x.0.word_is j, slot j)) h.locked) core_at i word
+        (subst (λ (z : ℕ × Slot S). TieOf i z.0 (z.1 ∷ []) (map core_of w.views) word) (λ j. (x.0.word_is j, slot j)) tied)
+    lock_ties moves_out may i word tied = subst (λ cs. TieOf i w.word (w.slot ∷ []) cs word) (sym (set_again (map core_of w.views) k (core_of v) core_at)) tied
+    lock_ties moves_in may i word tied = subst (λ cs. TieOf i w.word (w.slot ∷ []) cs word) (sym (set_again (map core_of w.views) k (core_of v) core_at)) tied
+
     lock_keeps : (kind : CoreKind S) → one_may past room comes ceilings m k v (on_lock kind) → Stands (one_after past room comes ceilings m w k v (on_lock kind))
     lock_keeps kind may =
         let c = core.step_part past room comes w.word w.slot k (core_of v) kind in record {
           count = h.count;
-          locked = subst (λ cs. CoreKept past comes first (core.step_word past room comes w.word kind) (core.step_slot past room comes w.word w.slot kind ∷ []) cs) (sym (map-set core_of w.views k (put_core v c)))
-              (core_laws.step_keeps past room comes first (record { word = w.word; slot = w.slot; views = map core_of w.views }) h.locked k (core_of v) core_at kind may);
+          locked = subst (λ cs. CoreKept past comes first (core.step_word past room comes w.word kind) (core.step_slot past room comes w.word w.slot kind ∷ []) cs) (sym (cores_now c))
+              (core_laws.step_keeps past room comes first (record { word = w.word; slot = w.slot; views = map core_of w.views }) h.locked k (core_of v) core_at kind may.0);
           parts = λ i within. subst (λ vs. IsMutexWorld (record { word = get_or w.mutexes i 0; log = w.logs i; views = vs })) (sym (parts_stay c i)) (h.parts i within);
+          ties = λ i within. subst (λ cs. TieOf i (core.step_word past room comes w.word kind) (core.step_slot past room comes w.word w.slot kind ∷ []) cs (get_or w.mutexes i 0)) (sym (cores_now c)) (lock_ties kind may i (get_or w.mutexes i 0) (h.ties i within));
         }
 
     -- a step on a mutex's word
     module _ (i : ℕ) (within : i < m) (kind : MutexKind) (may : mutex.step_may k (mutex_of i v) kind) where
+      found : ℕ
+      found = get_or w.mutexes i 0
+
+      left : ℕ
+      left = mutex.step_word (get_or w.mutexes i 0) k (mutex_of i v) kind
+
       abbrev part : MutexView
       part = seat_after mutex_steps (get_or w.mutexes i 0) (w.logs i) k (mutex_of i v) kind
 
-      part_now : IsMutexWorld (world_after mutex_steps (mutex_world past room comes ceilings m w i) k (mutex_of i v) kind)
-      part_now = steps.step_keeps (mutex_world past room comes ceilings m w i) (h.parts i within) k (mutex_of i v) (at_map (mutex_of i) w.views k v at) kind may
+      part_at : get_elem? (map (mutex_of i) w.views) k ≡ some (mutex_of i v)
+      part_at = at_map (mutex_of i) w.views k v at
 
-      -- with the core that the thread has then
+      part_now : IsMutexWorld (world_after mutex_steps (mutex_world past room comes ceilings m w i) k (mutex_of i v) kind)
+      part_now = steps.step_keeps (mutex_world past room comes ceilings m w i) (h.parts i within) k (mutex_of i v) part_at kind may
+
+      near : k < 64
+      near =
+          let few = (h.parts i within).history.tied.few in
+          let held = map (λ (x : MutexView). x.held) (map (mutex_of i) w.views) in
+          let here = at_below held k (mutex_of i v).held (at_map (λ (x : MutexView). x.held) (map (mutex_of i) w.views) k (mutex_of i v) part_at) in
+          omega arith
+
+      -- with the core that the thread has then, where the lock and the ties stand over it
       word_keeps : (c : CorePart B) → CoreKept past comes first w.word (w.slot ∷ []) (set (map core_of w.views) k c)
-          → Stands (record {
-            word = w.word;
-            slot = w.slot;
-            mutexes = set w.mutexes i (mutex.step_word (get_or w.mutexes i 0) k (mutex_of i v) kind);
-            logs = λ j. if j == i then w.logs i ++ mutex.step_entries (get_or w.mutexes i 0) k (mutex_of i v) kind else w.logs j;
-            views = set w.views k (put_core (put_mutex i v part) c);
-          })
-      word_keeps c locked = record {
+          → TieOf i w.word (w.slot ∷ []) (set (map core_of w.views) k c) (mutex.step_word (get_or w.mutexes i 0) k (mutex_of i v) kind)
+          → ((j word : ℕ) → j ≢ i → TieOf j w.word (w.slot ∷ []) (map core_of w.views) word → TieOf j w.word (w.slot ∷ []) (set (map core_of w.views) k c) word)
+          → Stands (record { word = w.word; slot = w.slot; mutexes = set w.mutexes i (mutex.step_word (get_or w.mutexes i 0) k (mutex_of i v) kind);
+            logs = λ j. if j == i then w.logs i ++ mutex.step_entries (get_or w.mutexes i 0) k (mutex_of i v) kind else w.logs j; views = set w.views k (put_core (put_mutex i v part) c) })
+      word_keeps c locked mine others = record {
         count = length-set w.mutexes i n ∙ h.count;
-        locked = subst (λ cs. CoreKept past comes first w.word (w.slot ∷ []) cs) (sym (map-set core_of w.views k u)) locked;
+        locked = subst (λ cs. CoreKept past comes first w.word (w.slot ∷ []) cs) (sym cores_are) locked;
         parts = λ j inside. dite (ℕ_discrete j i)
             (λ (e : j ≡ i). subst (λ (x : ℕ). IsMutexWorld (record { word = get_or (set w.mutexes i n) x 0; log = log_at x; views = map (mutex_of x) (set w.views k u) })) (sym e)
             (subst (λ (z : (ℕ × List MutexEntry) × List MutexView). IsMutexWorld (record { word = z.0.0; log = z.0.1; views = z.1 })) (λ q. ((sym word_same q, sym log_same q), sym views_same q)) part_now))
             (λ (ne : j ≢ i). subst (λ (z : (ℕ × List MutexEntry) × List MutexView). IsMutexWorld (record { word = z.0.0; log = z.0.1; views = z.1 })) (λ q. ((sym (word_else j ne) q, sym (log_else j ne) q), sym (views_else j ne) q)) (h.parts j inside));
+        ties = λ j inside. dite (ℕ_discrete j i)
+            (λ (e : j ≡ i). subst (λ (x : ℕ). TieOf x w.word (w.slot ∷ []) (map core_of (set w.views k u)) (get_or (set w.mutexes i n) x 0)) (sym e)
+            (subst (λ (z : List (CorePart B) × ℕ). TieOf i w.word (w.slot ∷ []) z.0 z.1) (λ q. (sym cores_are q, sym word_same q)) mine))
+            (λ (ne : j ≢ i). subst (λ (z : List (CorePart B) × ℕ). TieOf j w.word (w.slot ∷ []) z.0 z.1) (λ q. (sym cores_are q, sym (word_else j ne) q)) (others j (get_or w.mutexes j 0) ne (h.ties j inside)));
       }
         where
           n : ℕ
@@ -88,6 +139,9 @@ module _ {S B : Type 0} (past : S → History) (room : S → ℕ) (comes : B →
 
           log_at : ℕ → List MutexEntry
           log_at j = if j == i then w.logs i ++ mutex.step_entries (get_or w.mutexes i 0) k (mutex_of i v) kind else w.logs j
+
+          cores_are : map core_of (set w.views k u) ≡ set (map core_of w.views) k c
+          cores_are = map-set core_of w.views k u
 
           word_same : get_or (set w.mutexes i n) i 0 ≡ n
           word_same = get_or-set_same w.mutexes i n 0 (let all = h.count in omega arith)
@@ -107,23 +161,52 @@ module _ {S B : Type 0} (past : S → History) (room : S → ℕ) (comes : B →
           views_else : (j : ℕ) → j ≢ i → map (mutex_of j) (set w.views k u) ≡ map (mutex_of j) w.views
           views_else j ne = map-set (mutex_of j) w.views k u ∙ ap (λ p. set (map (mutex_of j) w.views) k p) (parts_apart.part_else i j v part ne) ∙ set_again (map (mutex_of j) w.views) k (mutex_of j v) (at_map (mutex_of j) w.views k v at)
 
-      -- by the thread that has the kernel, which notes it, and by anybody
-      by_turn : (b : Bool) → Stands (record {
-        word = w.word;
-        slot = w.slot;
-        mutexes = set w.mutexes i (mutex.step_word (get_or w.mutexes i 0) k (mutex_of i v) kind);
-        logs = λ j. if j == i then w.logs i ++ mutex.step_entries (get_or w.mutexes i 0) k (mutex_of i v) kind else w.logs j;
-        views = set w.views k (put_core (put_mutex i v part) (noted_if b i (mutex.step_word (get_or w.mutexes i 0) k (mutex_of i v) kind) (core_of v)));
-      })
-      by_turn true =
+      again : set (map core_of w.views) k (core_of v) ≡ map core_of w.views
+      again = set_again (map core_of w.views) k (core_of v) core_at
+
+      -- by the thread that has the kernel
+      by_holder : HasFor i (core_of v) → Stands (record { word = w.word; slot = w.slot; mutexes = set w.mutexes i (mutex.step_word (get_or w.mutexes i 0) k (mutex_of i v) kind);
+        logs = λ j. if j == i then w.logs i ++ mutex.step_entries (get_or w.mutexes i 0) k (mutex_of i v) kind else w.logs j; views = set w.views k (put_core (put_mutex i v part) (noted_if true i (mutex.step_word (get_or w.mutexes i 0) k (mutex_of i v) kind) (core_of v))) })
+      by_holder (g, has, about) =
           let n = mutex.step_word (get_or w.mutexes i 0) k (mutex_of i v) kind in
-          word_keeps (noted_if true i n (core_of v)) (noted_core past comes first w.word (w.slot ∷ []) (map core_of w.views) k (core_of v) i n h.locked core_at)
-      by_turn false =
-          word_keeps (core_of v) (subst (λ cs. CoreKept past comes first w.word (w.slot ∷ []) cs) (sym (set_again (map core_of w.views) k (core_of v) core_at)) h.locked)
+          word_keeps (noted_if true i n (core_of v))
+          (lock_marked past comes first ceilings i k (core_of v) g has about w.word (w.slot ∷ []) (map core_of w.views) h.locked core_at n)
+          (tie_marking past comes first ceilings i k (core_of v) g has about w.word (w.slot ∷ []) (map core_of w.views) h.locked core_at n)
+          (λ j word ne tied. ties_beside past comes first ceilings i k (core_of v) g has about w.word (w.slot ∷ []) (map core_of w.views) h.locked core_at n j word ne tied)
+
+      -- by anybody, where the tie stands over the word that is left
+      by_anybody : TieOf i w.word (w.slot ∷ []) (map core_of w.views) (mutex.step_word (get_or w.mutexes i 0) k (mutex_of i v) kind) → Stands (record { word = w.word; slot = w.slot; mutexes = set w.mutexes i (mutex.step_word (get_or w.mutexes i 0) k (mutex_of i v) kind);
+        logs = λ j. if j == i then w.logs i ++ mutex.step_entries (get_or w.mutexes i 0) k (mutex_of i v) kind else w.logs j; views = set w.views k (put_core (put_mutex i v part) (core_of v)) })
+      by_anybody mine =
+          word_keeps (core_of v) (subst (λ cs. CoreKept past comes first w.word (w.slot ∷ []) cs) (sym again) h.locked)
+          (subst (λ cs. TieOf i w.word (w.slot ∷ []) cs (mutex.step_word (get_or w.mutexes i 0) k (mutex_of i v) kind)) (sym again) mine)
+          (λ j word ne tied. subst (λ cs. TieOf j w.word (w.slot ∷ []) cs word) (sym again) tied)
+
+      stepping : ceilings i ≡ false → StaysPlain (get_or w.mutexes i 0) (mutex.step_word (get_or w.mutexes i 0) k (mutex_of i v) kind) → TieOf i w.word (w.slot ∷ []) (map core_of w.views) (mutex.step_word (get_or w.mutexes i 0) k (mutex_of i v) kind)
+      stepping free_of plain = tie_stepping past comes first ceilings i w.word (w.slot ∷ []) (map core_of w.views) (get_or w.mutexes i 0) (mutex.step_word (get_or w.mutexes i 0) k (mutex_of i v) kind) free_of plain (h.ties i within)
+
+    word_step : (i : ℕ) (kind : MutexKind) → one_may past room comes ceilings m k v (on_word i kind) → Stands (one_after past room comes ceilings m w k v (on_word i kind))
+    word_step i claims (within, may, who) = by_holder i within claims may who
+    word_step i settles (within, may, who) = by_holder i within settles may who
+    word_step i (offers next more) (within, may, who) = by_holder i within (offers next more) may who
+    word_step i frees (within, may, who) = by_holder i within frees may who
+    word_step i forgets (within, may, who) = by_holder i within forgets may who
+    word_step i awaits (within, may, who) = by_holder i within awaits may who
+    word_step i accepts (within, may, who) = by_holder i within accepts may who
+    word_step i asks (within, may, who) = by_anybody i within asks may (h.ties i within)
+    word_step i unlocks (within, may, who) = by_anybody i within unlocks may (stepping i within unlocks may (who refl) (unlock_stays (get_or w.mutexes i 0) k (near i within unlocks may)))
+    word_step i tries (within, may, who) = by (ceilings i) refl who
+      where
+        by : (b : Bool) → ceilings i ≡ b → MatchBool b (HasFor i (core_of v)) (is_unlocking tries ≡ true → ceilings i ≡ false)
+            → Stands (record { word = w.word; slot = w.slot; mutexes = set w.mutexes i (mutex.step_word (get_or w.mutexes i 0) k (mutex_of i v) tries);
+              logs = λ j. if j == i then w.logs i ++ mutex.step_entries (get_or w.mutexes i 0) k (mutex_of i v) tries else w.logs j;
+              views = set w.views k (put_core (put_mutex i v (seat_after mutex_steps (get_or w.mutexes i 0) (w.logs i) k (mutex_of i v) tries)) (noted_if b i (mutex.step_word (get_or w.mutexes i 0) k (mutex_of i v) tries) (core_of v))) })
+        by true e who = by_holder i within tries may who
+        by false e who = by_anybody i within tries may (stepping i within tries may e (try_stays (get_or w.mutexes i 0) k (near i within tries may)))
 
     pub one_keeps : (kind : OneKind S) → one_may past room comes ceilings m k v kind → Stands (one_after past room comes ceilings m w k v kind)
     one_keeps (on_lock kind) may = lock_keeps kind may
-    one_keeps (on_word i kind) (within, may, who) = by_turn i within kind may (Rattle.evl_machine.specs.OneWorld.needs_kernel (ceilings i) kind)
+    one_keeps (on_word i kind) may = word_step i kind may
 
   -- after any list of events
   pub one_events_keep : (w t : OneWorld S B) (events : List (Event (OneKind S))) → Stands w → Run (OneHappens past room comes ceilings m) w events t → Stands t
@@ -144,21 +227,26 @@ module _ {S B : Type 0} (past : S → History) (room : S → ℕ) (comes : B →
   dealing_keeps d (gathers id other) t h (hand, theirs, at, ne, at', changed) =
       subst (StandsInOne past room comes ceilings m first) (sym changed) (h.0, deals_join d.world.views d.hands id other hand theirs h.1 at ne (set_else d.hands id other (hand ++ theirs) ne ∙ at'))
 
-  -- at the opening: at most 64 threads, where there are mutexes
-  opens_one : (y : S) → ((i : ℕ) → i < m → threads_of (past y) ≤ 64) → IsLegal (past y) → (past y).entries ≡ [] → comes first y → Stands ((opened_one past room comes ceilings m first y).world)
-  opens_one y few legal none_yet from =
+  -- at the opening each word is tied to what is recorded
+  abbrev pub OpensTied : S → Type 0
+  OpensTied y = (i : ℕ) → i < m → TieOf i 0 (some (Some y) ∷ []) (replicate (threads_of (past y)) (newcomer_part (past y) first)) 0
+
+  -- there are at most 64 threads, where there are mutexes
+  opens_one : (y : S) → ((i : ℕ) → i < m → threads_of (past y) ≤ 64) → IsLegal (past y) → (past y).entries ≡ [] → comes first y → OpensTied y → Stands ((opened_one past room comes ceilings m first y).world)
+  opens_one y few legal none_yet from tied =
       let n = threads_of (past y) in
       let one = newcomer_view (past y) first m n in record {
         count = length-replicate m 0;
-        locked = subst (λ cs. CoreKept past comes first 0 (some (Rattle.std.proofs.Common.Some y) ∷ []) cs) (sym (map-replicate core_of n one)) (opens_core past comes first y n refl legal none_yet from);
+        locked = subst (λ cs. CoreKept past comes first 0 (some (Some y) ∷ []) cs) (sym (map-replicate core_of n one)) (opens_core past comes first y n refl legal none_yet from);
         parts = λ i lt.
             let blank : map (mutex_of i) (replicate n one) ≡ replicate n (newcomer n) = map-replicate (mutex_of i) n one ∙ ap (replicate n) (at_blank past room comes (λ _ _ _ _ _. Unit {0}) first m (newcomer n) (newcomer 0) m i lt) in
             subst (λ (z : ℕ × List MutexView). IsMutexWorld (record { word = z.0; log = []; views = z.1 })) (λ j. (sym (zeros past room comes (λ _ _ _ _ _. Unit {0}) first m m i) j, sym blank j)) (mutex_opens n (few i lt));
+        ties = λ i lt. subst (λ (z : List (CorePart B) × ℕ). TieOf i 0 (some (Some y) ∷ []) z.0 z.1) (λ j. (sym (map-replicate core_of n one) j, sym (zeros past room comes (λ _ _ _ _ _. Unit {0}) first m m i) j)) (tied i lt);
       }
 
   -- after any list of events from the opening
-  pub one_dealings_keep : (y : S) → ((i : ℕ) → i < m → threads_of (past y) ≤ 64) → IsLegal (past y) → (past y).entries ≡ [] → comes first y → (events : List (DealingEvent (OneKind S))) (t : OneDealing S B)
+  pub one_dealings_keep : (y : S) → ((i : ℕ) → i < m → threads_of (past y) ≤ 64) → IsLegal (past y) → (past y).entries ≡ [] → comes first y → OpensTied y → (events : List (DealingEvent (OneKind S))) (t : OneDealing S B)
       → Run (OneDealingStep past room comes ceilings m) (opened_one past room comes ceilings m first y) events t → StandsInOne past room comes ceilings m first t
-  one_dealings_keep y few legal none_yet from events t run =
+  one_dealings_keep y few legal none_yet from tied events t run =
       let d = opened_one past room comes ceilings m first y in
-      run_keeps (OneDealingStep past room comes ceilings m) (StandsInOne past room comes ceilings m first) dealing_keeps d t events (opens_one y few legal none_yet from, deals_opening d.world.views) run
+      run_keeps (OneDealingStep past room comes ceilings m) (StandsInOne past room comes ceilings m first) dealing_keeps d t events (opens_one y few legal none_yet from tied, deals_opening d.world.views) run

@@ -4,7 +4,7 @@ use Rattle.std.specs.List.{range_with_len}
 use Rattle.std.specs.Option.{option_map, option_map_or}
 use Rattle.std.proofs.lemmas.List.{length-map}
 use Rattle.std.proofs.lemmas.List.FromFn.{length-range_with_len}
-use Rattle.std.proofs.lemmas.Option.{none-some, slice_get-map, slice_get_within}
+use Rattle.std.proofs.lemmas.Option.{none-some, same_Some, slice_get-map, slice_get_within}
 use Rattle.atomic_table.specs.Seated.{TableId}
 use Rattle.evl_base.specs.Board.{board_fits}
 use Rattle.evl_base.specs.declared.board.Board.{Board}
@@ -15,27 +15,35 @@ use Rattle.evl_base.specs.declared.numbers.ThreadId.{ThreadId}
 use Rattle.evl_base.specs.declared.refusal.Refusal.{Refusal}
 use Rattle.evl_base.specs.declared.refusal.Refusal.TheVariants.{Busy, Deadlock, Limit, Unknown, WrongStage}
 use Rattle.evl_base.specs.declared.stage.Stage.{Stage}
+use Rattle.evl_base.specs.declared.stage.Stage.TheVariants.{Inband, Oob}
 use Rattle.evl_sched.specs.Threads.{is_oob}
 use Rattle.evl_kernel.specs.KernelViews.{KernelView}
+use Rattle.evl_mutex.specs.Mutexes.{is_open_to}
 use Rattle.evl_words.specs.MutexCalls.{MutexSeatState}
+use Rattle.evl_words.specs.MutexWorld.{MutexView, owns}
+use Rattle.evl_words.specs.declared.mutex.MutexPass.{MutexPass}
 use Rattle.evl_words.specs.declared.mutex.place.MutexPlace.{MutexPlace}
 use Rattle.evl_machine.specs.declared.unfinished.Unfinished.{Unfinished}
 use Rattle.evl_machine.specs.declared.views.Account.{Account}
-use Rattle.evl_machine.specs.Accounts.{threads_of}
-use Rattle.evl_machine.specs.Actors.{ActorState, SeatedActor, acting}
-use Rattle.evl_machine.specs.Callers.{caller_by}
+use Rattle.evl_machine.specs.Accounts.{IsAccount, saw, threads_of}
+use Rattle.evl_machine.specs.Actors.{ActorState, IsActor, SeatedActor, Suits, acting}
+use Rattle.evl_machine.specs.Callers.{IsResting, caller_by, machine_by}
+use Rattle.evl_machine.specs.Calls.{AreOwnedAsRecorded, stage_of_caller, wait_of_caller}
 use Rattle.evl_machine.specs.Ceilings.{has_ceiling}
 use Rattle.evl_machine.specs.Handles.{CallerState, account_of}
 use Rattle.evl_machine.specs.Homes.{Home, mutex_home, word_home, word_homes}
 use Rattle.evl_machine.specs.InHand.{Opens}
-use Rattle.evl_machine.specs.Known.{KernelMe, first_of, seen}
+use Rattle.evl_machine.specs.JustTaken.{HasJustTaken}
+use Rattle.evl_machine.specs.Known.{ComesFrom, CoreHand, KernelMe, first_of, mutex_count, seen}
 use Rattle.evl_machine.specs.Locking.{HaveSeats}
-use Rattle.evl_machine.specs.MutexLocks.{kind_of, lock_refusal, own_lock_refusal}
+use Rattle.evl_machine.specs.MutexLocks.{kind_of, lock_refusal, own_lock_refusal, spend_refusal}
 use Rattle.evl_machine.specs.MutexPlaces.{depth_in, place_passes}
-use Rattle.evl_machine.specs.MutexSeats.{depth_at, is_recursive, mutex_passes, mutex_refusal, owner_refusal}
-use Rattle.evl_machine.specs.MutexTokens.{seat_at, seats_at}
+use Rattle.evl_machine.specs.MutexSeats.{depth_at, is_owner, is_recursive, mutex_passes, mutex_refusal, owner_refusal}
+use Rattle.evl_machine.specs.MutexTokens.{part_of, seat_at, seats_at}
+use Rattle.evl_machine.specs.Noted.{HasTaken}
+use Rattle.evl_machine.specs.Visits.{actor_of}
 use Rattle.evl_machine.proofs.SeatsAt.{depth_there, long_as}
-use Rattle.evl_machine.proofs.Visits.{have_seats}
+use Rattle.evl_machine.proofs.Visits.{have_seats, same_actor, suits_opened}
 
 -- what stands at a place
 at_place : {S : Type 0} (xs : List S) (i : ℕ) → i < length xs → (x : S) × (slice_get xs i ≡ Some x)
@@ -87,6 +95,21 @@ module _ (kinds : List MutexKind) (seats : List MutexSeatState) (i : ℕ) (wait 
 as_many : (table : TableId) (threads count : ℕ) (seats : List MutexSeatState) → map mutex_home seats ≡ word_homes table threads count → length seats ≡ count
 as_many table threads count seats homes = sym (length-map seats mutex_home) ∙ ap length homes ∙ length-map (range_with_len 0 count) (word_home table threads) ∙ length-range_with_len 0 count
 
+-- whom nothing refuses to lock waits for nothing, out-of-band
+may_now : (kind : Option MutexKind) (wait : Option Unfinished) (stage : Stage) (depth : ℕ) → lock_refusal kind wait stage depth ≡ None → (wait ≡ None) × (stage ≡ Oob)
+may_now kind None stage depth none = (refl, at kind stage none)
+  where
+    at : (kind : Option MutexKind) (stage : Stage) → option_map_or (λ k. if is_oob stage then owner_refusal k depth else Some WrongStage) kind (Some Unknown) ≡ None → stage ≡ Oob
+    at None stage none = absurd (none-some Unknown (sym none))
+    at (Some k) Oob none = refl
+    at (Some k) Inband none = absurd (none-some WrongStage (sym none))
+may_now kind (Some w) stage depth none = absurd (none-some Busy (sym none))
+
+-- who may spend a pass waits for nothing
+pub spends_idle : (wait : Option Unfinished) (seats : List MutexSeatState) (pass : MutexPass) → spend_refusal wait seats pass ≡ None → wait ≡ None
+spends_idle None seats pass none = refl
+spends_idle (Some w) seats pass none = absurd (none-some Busy (sym none))
+
 -- a place that isn't held
 pub place_free : (ps : List MutexPlace) (i : ℕ) → i < length ps → depth_in ps i ≡ 0 → IsSomeAnd (slice_get ps i) (λ p. p.depth ≡ 0)
 place_free ps i less free =
@@ -117,6 +140,56 @@ module _ {C : Type 0} where
   opened_seats x o k opens same table count key homes from =
       let threads : threads_of key.history ≡ threads_of k.history = sym (ap (λ (b : Board). b.threads) (opens.comes.board ∙ ap (λ (f : KernelView C). f.history.board) from)) in
       subst (λ (z : ℕ × ActorState). HaveSeats z.0 z.1.mutexes) (λ i. (threads i, sym same i)) (have_seats table (threads_of key.history) count (acting x).mutexes homes)
+
+  -- an account is its thread's
+  pub own_thread : (first : KernelView C) (a : Account) (thread : ThreadId) (me : KernelMe C) (k : KernelView C) → Opens first a thread me k → {t : ℕ} → thread.0 ≡ t → a.thread ≡ t
+  own_thread first a thread me k opens same = sym (ap (λ (y : Account). y.thread) opens.account) ∙ opens.held.own ∙ same
+
+  -- what an actor knows just after its take
+  pub just_took : (x o : SeatedActor C) (k : KernelView C) → Opens (first_of x.me.0) (account_of (seen x.me)) x.thread o.me k → Suits (acting x) (account_of (seen x.me)).seen → (o.table ≡ x.table) × (acting o ≡ acting x) × (first_of o.me.0 ≡ first_of x.me.0) → o.thread ≡ x.thread
+      → HasTaken (account_of (seen x.me)).thread k.history o.me.0 → {key : KernelView C} → first_of x.me.0 ≡ key → board_fits key.history.board ≡ true → HasJustTaken o k
+  just_took x o k opens suits same kept has from fits =
+      let a = account_of (seen x.me) in
+      let own : a.thread ≡ o.thread.0 = own_thread (first_of x.me.0) a x.thread o.me k opens (ap (λ (t : ThreadId). t.0) (sym kept)) in
+      let after : IsAccount (saw k.history k.room a) = subst IsAccount opens.account opens.held.continues.before in
+      record {
+        taken = subst (λ n. HasTaken n k.history o.me.0) own has;
+        comes = subst (λ (f : KernelView C). ComesFrom f k) (sym same.2) opens.comes;
+        member = subst (λ n. n < threads_of k.history) own after.member;
+        legal = opens.held.continues.legal;
+        fits = opened_fits (first_of x.me.0) a x.thread o.me k opens from fits;
+        suits = suits_opened x o k opens suits same.1;
+      }
+
+  -- of a mutex that its seats hold no other owner is recorded
+  pub owned_seats : (o : SeatedActor C) (k : KernelView C) (t : ℕ) → IsActor o → t ≡ o.thread.0 → HasTaken t k.history o.me.0 → AreOwnedAsRecorded (acting o).thread.0 (acting o).mutexes k.history
+  owned_seats o k t own same has i s m there owner at = by (slice_get o.places i) refl (sym there ∙ slice_get-map (seat_at o.table o.me.0) o.places i)
+    where
+      by : (p : Option MutexPlace) → slice_get o.places i ≡ p → Some s ≡ option_map (seat_at o.table o.me.0) p → is_open_to o.thread.0 m ≡ true
+      by None is seat = absurd (none-some s (sym seat))
+      by (Some p) is seat =
+          let depth : nat_lt 0 p.depth ≡ true = ap is_owner (same_Some (seat_at o.table o.me.0 p) s (sym seat)) ∙ owner in
+          let within = slice_get_within o.places i p is in
+          let less : i < mutex_count (first_of o.me.0) = subst (λ n. i < n) own.places.all within in
+          let mine : owns (part_of o.me.0 i).held.role ≡ true = ap (λ (x : MutexView). owns x.held.role) (ap (λ (h : CoreHand C). part_of h i) own.places.its.one) ∙ own.places.its.owners i p is ∙ depth in
+          subst (λ n. is_open_to n m ≡ true) same (has.owned i less mine m at)
+
+  -- a caller's own stage and wait are its actor's
+  pub opened_actor : (x o : SeatedActor C) (old : CallerState C) → caller_by x ≡ old → IsResting x → acting o ≡ acting x → acting o ≡ actor_of old
+  opened_actor x o old was rests same = same ∙ sym (ap actor_of (sym was) ∙ same_actor (machine_by x) (account_of (seen x.me)) (acting x) rests.0.own rests.0.account rests.1)
+
+  pub opened_wait : (x o : SeatedActor C) (old : CallerState C) (wait : Option Unfinished) → caller_by x ≡ old → IsResting x → acting o ≡ acting x → wait_of_caller old ≡ wait → o.wait ≡ wait
+  opened_wait x o old wait was rests same is = ap (λ (a : ActorState). a.wait) (opened_actor x o old was rests same) ∙ is
+
+  pub own_wait : (x : SeatedActor C) (old : CallerState C) (wait : Option Unfinished) → caller_by x ≡ old → IsResting x → x.wait ≡ wait → wait_of_caller old ≡ wait
+  own_wait x old wait was rests is = ap (λ (a : ActorState). a.wait) (sym (opened_actor x x old was rests refl)) ∙ is
+
+  -- who may lock a mutex waits for nothing, out-of-band
+  pub opened_may : (x o : SeatedActor C) (old : CallerState C) (m : MutexId) → caller_by x ≡ old → IsResting x → acting o ≡ acting x → own_lock_refusal old m ≡ None → (o.wait ≡ None) × (o.stage ≡ Oob)
+  opened_may x o old m was rests same none =
+      let is = opened_actor x o old was rests same in
+      let may = may_now (kind_of old m) (wait_of_caller old) (stage_of_caller old) (depth_at old.mutexes m.0) none in
+      (ap (λ (a : ActorState). a.wait) is ∙ may.0, ap (λ (a : ActorState). a.stage) is ∙ may.1)
 
   module _ (x o : SeatedActor C) (old : CallerState C) (m : MutexId) (was : caller_by x ≡ old) where
     abbrev kinds_at : List MutexKind

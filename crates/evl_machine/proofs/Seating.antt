@@ -17,10 +17,12 @@ use Rattle.evl_machine.specs.declared.views.ThreadView.{ThreadView}
 use Rattle.evl_machine.specs.Accounts.{newcomer, calls_by, threads_of}
 use Rattle.evl_machine.specs.ThreadRule.{newcomer_view}
 use Rattle.evl_machine.specs.Seats.{CoreMe}
-use Rattle.evl_machine.specs.Known.{ComesFrom, CoreHand, KernelMe, KeptKnown, first_known, first_of, past_of, room_of, seen, no_tie, mutex_count}
+use Rattle.evl_machine.specs.Known.{ComesFrom, CoreHand, KernelMe, KeptKnown, first_known, first_of, past_of, room_of, seen, ceilings_of, mutex_count}
+use Rattle.evl_machine.specs.Ties.{mutex_tie}
 use Rattle.evl_machine.specs.Handles.{seated}
 use Rattle.evl_machine.specs.Calls.{IsCaller}
 use Rattle.evl_machine.proofs.ThreadSteps.{opens_thread, splits_thread}
+use Rattle.evl_machine.proofs.TieOpens.{opens_ties}
 use Rattle.evl_machine.proofs.Calling.{is_caller}
 
 module _ {C : Type 0} where
@@ -32,7 +34,8 @@ module _ {C : Type 0} where
   comes_itself k = record { board = refl; bank = refl; brings = λ number callback stands. stands; told_is = refl; limit = refl }
 
   pub opens_known : (k : KernelView C) (words : List ℕ) → words ≡ replicate (1 + mutex_count k) 0 → board_fits k.history.board ≡ true → IsLegal k.history → k.history.entries ≡ [] → KeptKnown k (opening words (Some k ∷ []) (first_known k))
-  opens_known k words are fits legal none_yet = opens_thread past_of room_of ComesFrom no_tie k (mutex_count k) k (threads_of k.history) refl (λ i lt. threads_few k.history.board fits) legal none_yet (comes_itself k) (λ i lt. tt) words are
+  opens_known k words are fits legal none_yet = opens_thread past_of room_of ComesFrom (mutex_tie past_of (ceilings_of k)) k (mutex_count k) k (threads_of k.history) refl (λ i lt. threads_few k.history.board fits) legal none_yet (comes_itself k)
+      (λ i lt. opens_ties past_of k k (threads_of k.history) legal none_yet i) words are
 
   pub opens_as : (k key : KernelView C) (words : List ℕ) (items : List (Option (KernelView C))) → key ≡ k → words ≡ replicate (1 + mutex_count k) 0 → items ≡ Some k ∷ [] → board_fits k.history.board ≡ true → IsLegal k.history → k.history.entries ≡ []
       → KeptKnown key (opening words items (first_known key))
@@ -40,7 +43,7 @@ module _ {C : Type 0} where
       subst (λ (x : KernelView C × List (Option (KernelView C))). KeptKnown x.0 (opening words x.1 (first_known x.0))) (λ i. (sym same i, sym one i)) (opens_known k words are fits legal none_yet)
 
   pub splits_known : (first : KernelView C) (id : ℕ) (hand : CoreHand C) → Splits (KeptKnown first) id hand (first_place hand) (rest_of hand)
-  splits_known first id hand = splits_thread past_of room_of ComesFrom no_tie first (mutex_count first) id hand
+  splits_known first id hand = splits_thread past_of room_of ComesFrom (mutex_tie past_of (ceilings_of first)) first (mutex_count first) id hand
 
   abbrev new_view : KernelView C → ℕ → ThreadView (KernelView C) MutexView
   new_view k n = newcomer_view k.history k (mutex_count k) n

@@ -54,6 +54,10 @@ module _ {S : Type 0} (past : S → History) (room : S → ℕ) where
       let is : me'.1 ≡ slot_with (Some t.0) = ap (λ (m : CoreMe S). m.1) t.1 in
       subst (λ (x : Option S). MatchOption x None' (λ _. Some')) (ap first_slot (sym is ∙ slot)) e
 
+  -- what comes out of a slot is what was in it
+  pub out_as : (cs : Slots) (y : S) (out : Option S) (None' : Type 0) (P : S → Type 0) → cs ≡ slot_with (Some y) → cs ≡ put_first out cs → P y → MatchOption out None' P
+  out_as cs y out None' P is slot p = subst (λ (x : Option S). MatchOption x None' P) (ap first_slot (sym is ∙ slot)) p
+
   -- a seat that has put the kernel back into the slot, and has yet to give the slot
   abbrev pub loaded : Account → S → CoreMe S
   loaded a k = (view (Some a.seen) (a ∷ []), slot_with (Some k))

@@ -14,16 +14,15 @@ use Rattle.evl_words.specs.MutexRule.{MutexPart}
 use Rattle.evl_words.proofs.Sequences.{map-replicate}
 use Rattle.evl_words.proofs.Dealing.{allows_of, deals_opening}
 use Rattle.evl_words.proofs.Dealing as dealing
-use Rattle.evl_words.proofs.Parts.{lock_turns, part_turns, part_turns_alone, part_in-put, part_in-else}
+use Rattle.evl_words.proofs.Parts.{lock_turns, part_turns_alone, part_in-put, part_in-else}
 use Rattle.evl_words.proofs.MutexSeats.{mutex_turns}
 use Rattle.evl_words.proofs.MutexEnds.{mutex_opens}
 use Rattle.evl_machine.specs.declared.views.CorePart.{CorePart}
 use Rattle.evl_machine.specs.declared.views.ThreadView.{ThreadView}
-use Rattle.evl_machine.specs.CoreRule.{CoreKept, Homes, MayGive, newcomer_part, noting}
+use Rattle.evl_machine.specs.CoreRule.{CoreKept, Homes, MayGive, newcomer_part}
 use Rattle.evl_machine.specs.CoreTells.{took, gave}
 use Rattle.evl_machine.specs.Accounts.{threads_of}
-use Rattle.evl_machine.specs.ThreadRule.{Tie, MutexParts, ThreadRule, MachineRule, core_of, put_core, mutex_of, put_mutex, newcomer_view, all_threads, on_core, on_mutex, on_noted}
-use Rattle.evl_machine.proofs.Noting.{noted_core}
+use Rattle.evl_machine.specs.ThreadRule.{Tie, MutexParts, ThreadRule, MachineRule, core_of, put_core, mutex_of, put_mutex, newcomer_view, all_threads, on_core, on_mutex}
 use Rattle.evl_machine.proofs.CoreSteps.{Taking, Giving, takes_core, gives_core, opens_core}
 
 pub parts_apart : {B : Type 0} → AreParts {V = ThreadView B MutexView} core_of put_core mutex_of put_mutex
@@ -72,27 +71,6 @@ module _ {S B : Type 0} (past : S → History) (room : S → ℕ) (comes : B →
       (mutex_turns k (mutex_of i v) me.1 kind may f same st tells weaker) ties in
       allows_of (ThreadRule past comes tie first m) slots id k v me one (1 + i) f st (on_mutex tells)
       (subst (λ j. Turns (ThreadRule past comes tie first m) slots k (v, me.1) (1 + i) f (Within (mutex_of j) (put_mutex j) tells st k (v, me.1))) e turns)
-
-  -- A step of this kind by the thread that has the kernel, which notes it. Beside it the tie of i is owed, and those of the others
-  pub marks_thread : (slots id k : ℕ) (v : ThreadView B MutexView) (me : Seat) → me.0 ≡ place k v ∷ [] → (i : ℕ) → i < m → (kind : MutexKind) → step_may k (mutex_of i v) kind
-      → (st : Step (Option S)) → st.word ≡ 1 + i → (f : Step (Option S) → ℕ → ℕ) → ((n : ℕ) → step_word n k (mutex_of i v) kind ≡ f st n) → (tells : Tells (Option S) MutexView)
-      → ((found : ℕ) (u : MutexView) → MutexDoes k (mutex_of i v) kind found u → tells st k (mutex_of i v, me.1) found (u, me.1))
-      → ((n : ℕ) (homes : Homes S) (cores : List (CorePart B)) (found : ℕ) → CoreKept past comes first n homes cores → get_elem? cores k ≡ some v.core
-      → (tie i n homes cores found → tie i n homes (set cores k (noting i (f st found) v.core)) (f st found))
-      × ((j word : ℕ) → j ≢ i → tie j n homes cores word → tie j n homes (set cores k (noting i (f st found) v.core)) word))
-      → Allows (MachineRule past comes tie first m) slots id me (1 + i) (f st) (Told (on_noted f tells) st me)
-  marks_thread slots id k v me one i within kind may st at_word f same tells weaker ties =
-      let e : i ≡ st.word - 1 = omega arith in
-      let turns = part_turns (CoreKept past comes first) MutexParts tie core_of put_core mutex_of put_mutex parts_apart m slots k v me.1 i within (f st) (λ found. noting i (f st found)) (tells st k (mutex_of i v, me.1))
-      (mutex_turns k (mutex_of i v) me.1 kind may (f st) same st tells weaker)
-      (λ n homes cores found p lock at t tied. (
-        noted_core past comes first n homes cores k v.core i (f st found) lock at,
-        (ties n homes cores found lock at).0 tied,
-        (ties n homes cores found lock at).1,
-      )) in
-      allows_of (ThreadRule past comes tie first m) slots id k v me one (1 + i) (f st) st (on_noted f tells)
-      (subst (λ j. Turns (ThreadRule past comes tie first m) slots k (v, me.1) (1 + i) (f st)
-      (λ found w. tells st k (mutex_of j v, me.1) found (mutex_of j w.0, w.1) × (w.0 ≡ put_core (put_mutex j v (mutex_of j w.0)) (noting j (f st found) v.core)))) e turns)
 
   -- splitting and joining are those of every hand
   pub splits_thread : (id : ℕ) (hand : Hand (ThreadView B MutexView)) → Splits (MachineRule past comes tie first m) id hand (first_of hand) (rest_of hand)

@@ -1,9 +1,10 @@
 -- A caller that took the kernel and gave it back: what is told of it, and what it is afterwards.
-use Rattle.std.proofs.Common.{◌≡◌, ◌++◌, ℕ, List, [], Result, map, MatchOption, Option, Some, None, slice_get, refl, sym, ap, ◌∙◌, subst}
+use Rattle.std.proofs.Common.{◌≡◌, ◌++◌, ℕ, List, [], Result, map, MatchOption, Option, Some, None, true, slice_get, refl, sym, ap, ◌∙◌, subst}
 use Rattle.std.specs.List.{range_with_len}
 use Rattle.std.specs.Option.{option_map}
 use Rattle.std.proofs.lemmas.Option.{none-some, same_Some, slice_get-map}
 use Rattle.atomic_table.specs.Seated.{TableId}
+use Rattle.evl_base.specs.Board.{board_fits}
 use Rattle.evl_base.specs.declared.call.Call.{Call}
 use Rattle.evl_base.specs.declared.numbers.ThreadId.{ThreadId}
 use Rattle.evl_base.specs.declared.refusal.Refusal.{Refusal}
@@ -16,9 +17,9 @@ use Rattle.evl_words.specs.MutexCalls.{MutexSeatState}
 use Rattle.evl_words.specs.declared.mutex.place.MutexPlace.{MutexPlace}
 use Rattle.evl_machine.specs.declared.views.Account.{Account}
 use Rattle.evl_machine.specs.Accounts.{Fits, IsAccount, MadeBy, calls_by, informed, saw}
-use Rattle.evl_machine.specs.Actors.{ActorState, AreHeldAt, AwaitsOneOf, IsActor, IsSameActor, SeatedActor, Suits, acting, stage_in}
+use Rattle.evl_machine.specs.Actors.{ActorState, AreHeldAt, AwaitsOneOf, IsActor, IsSameActor, SeatedActor, Suits, acting, call_refusal, stage_in}
 use Rattle.evl_machine.specs.Callers.{HasInHand, IsResting, caller_by, machine_by}
-use Rattle.evl_machine.specs.Calls.{ActsOnCore, Answered, Applied, IsCaller, IsHeld, TookKernel}
+use Rattle.evl_machine.specs.Calls.{ActsOnCore, Answered, Applied, AreOwnedAsRecorded, IsCaller, IsHeld, TookKernel}
 use Rattle.evl_machine.specs.Events.{FailsToTake, Gives, Takes}
 use Rattle.evl_machine.specs.Handles.{CallerState, Continues, HeldState, MachineState, account_of, caller_of, machine_of, returned, shown}
 use Rattle.evl_machine.specs.Homes.{Home, mutex_home, stax_home, word_home, word_homes}
@@ -26,15 +27,20 @@ use Rattle.evl_machine.specs.Known.{ComesFrom, KernelMe, first_of, mutex_count, 
 use Rattle.evl_machine.specs.Locking.{GoesAlong, HaveSeats}
 use Rattle.evl_machine.specs.InHand.{Opens}
 use Rattle.evl_machine.specs.MutexTokens.{IsAtTable, KeepsPlaces, TellsTheSame}
+use Rattle.evl_machine.specs.MutexSeats.{holds_mutex}
+use Rattle.evl_machine.specs.Noted.{HasTaken, IsSettled, ceilings_in}
 use Rattle.evl_machine.specs.Seats.{CoreMe}
+use Rattle.evl_machine.specs.StaxSeats.{holds_stax}
 use Rattle.evl_machine.specs.Unfinished.{unfinished}
 use Rattle.evl_machine.specs.Visits.{FindsTaken, Visited, actor_of}
 use Rattle.evl_machine.proofs.Accounts.{goes_on_more, made_by-append}
 use Rattle.evl_machine.proofs.Calling.{TakenOut, calls, fits_one, given_account, held_applied, is_held, mine_after, takes_hold, took_and_gave}
 use Rattle.evl_machine.proofs.Knowing.{answers_still, comes_on}
 use Rattle.evl_machine.proofs.LockingLaws.{along_call, along_none, same_kernel, the_same}
+use Rattle.evl_machine.proofs.LockingTies.{other_call_stays, still_settled}
 use Rattle.evl_machine.proofs.QuietCore.{ends_quiet}
 use Rattle.evl_machine.proofs.SeatsAt.{at_own_table, still_at_table}
+use Rattle.evl_machine.proofs.Settling.{settled_fresh, stay_same}
 use Rattle.evl_machine.proofs.Staying.{at_stage, fits_stage, suits_found}
 
 module _ {C : Type 0} where
@@ -115,9 +121,9 @@ module _ {C : Type 0} where
       told_after = given_account (saw k.history k.room a) k'.history continues
 
       -- what is told of the whole visit
-      pub visited : (m : MachineState C) (does : ActorState → KernelView C → ActorState → KernelView C → Type 0) (a' : Account) → m.first ≡ first → Suits x a.seen → a' ≡ after → does x k x' k'
+      pub visited : (m : MachineState C) (does : ActorState → KernelView C → ActorState → KernelView C → Type 0) (a' : Account) → m.first ≡ first → Suits x a.seen → AreOwnedAsRecorded x.thread.0 x.mutexes k.history → a' ≡ after → does x k x' k'
           → Takes first a (account_of (seen me)) → Gives first (account_of (seen me)) k' a' → Visited (caller_of m a x.staxes x.mutexes) does (caller_of m a' x'.staxes x'.mutexes)
-      visited m does a' from suits is did took gave = record {
+      visited m does a' from suits owned is did took gave = record {
         held = record { caller = shown k.history k.room (caller_of m a x.staxes x.mutexes); kernel = k };
         took = record {
           caller = refl;
@@ -126,6 +132,7 @@ module _ {C : Type 0} where
           stage = fits_stage a k.history opens.was opens.fits;
           comes = subst (λ (f : KernelView C). ComesFrom f k) (sym from) opens.comes;
           quiet = ends_quiet k.history opened_legal;
+          owned = subst (λ n. AreOwnedAsRecorded n x.mutexes k.history) (sym own) owned;
         };
         given = k';
         added = went.added;
@@ -153,13 +160,13 @@ module _ {C : Type 0} where
       stage_after a' is = at_stage x' a'.seen a'.thread x'.staxes went.held (suits_after a' is) (ap (λ (y : Account). y.thread) is ∙ (own ∙ ap (λ (t : ThreadId). t.0) (sym went.thread)))
 
       -- the same of a caller whose machine is told by where its seats belong
-      pub visited_at : (id id' : TableId) (first' : KernelView C) (does : ActorState → KernelView C → ActorState → KernelView C → Type 0) (a' : Account) (old : CallerState C) → caller_of (machine_of id first x.staxes x.mutexes) a x.staxes x.mutexes ≡ old → id' ≡ id → first' ≡ first_of me.0 → Suits x a.seen
+      pub visited_at : (id id' : TableId) (first' : KernelView C) (does : ActorState → KernelView C → ActorState → KernelView C → Type 0) (a' : Account) (old : CallerState C) → caller_of (machine_of id first x.staxes x.mutexes) a x.staxes x.mutexes ≡ old → id' ≡ id → first' ≡ first_of me.0 → Suits x a.seen → AreOwnedAsRecorded x.thread.0 x.mutexes k.history
           → a' ≡ informed k'.history (account_of (seen me)) → does x k x' k' → Takes first a (account_of (seen me)) → Gives (first_of me.0) (account_of (seen me)) k' a'
           → Visited old does (caller_of (machine_of id' first' x'.staxes x'.mutexes) a' x'.staxes x'.mutexes)
-      visited_at id id' first' does a' old was same from suits is did took gave =
+      visited_at id id' first' does a' old was same from suits owned is did took gave =
           let machine : machine_of id' first' x'.staxes x'.mutexes ≡ machine_of id first x.staxes x.mutexes = λ i. record { id = same i; first = (from ∙ opens.first_is) i; staxes = map stax_home (went.staxes i); mutexes = went.homes i } in
           subst (λ (z : CallerState C × MachineState C). Visited z.0 does (caller_of z.1 a' x'.staxes x'.mutexes)) (λ i. (was i, sym machine i))
-          (visited (machine_of id first x.staxes x.mutexes) does a' refl suits (is ∙ ap (informed k'.history) opens.account) did took (subst (λ (f : KernelView C). Gives f (account_of (seen me)) k' a') opens.first_is gave))
+          (visited (machine_of id first x.staxes x.mutexes) does a' refl suits owned (is ∙ ap (informed k'.history) opens.account) did took (subst (λ (f : KernelView C). Gives f (account_of (seen me)) k' a') opens.first_is gave))
 
       pub stage_at : (a' : Account) → a' ≡ informed k'.history (account_of (seen me)) → AreHeldAt (stage_in a'.seen a'.thread) x'.staxes
       stage_at a' is = stage_after a' (is ∙ ap (informed k'.history) opens.account)
@@ -200,14 +207,14 @@ module _ {C : Type 0} (x o : SeatedActor C) (k : KernelView C) (opens : Opens (f
       suits_back = subst (λ (z : ActorState). Suits z (account_of (seen n.me)).seen) (sym given.1)
           (suits_after (first_of x.me.0) (account_of (seen x.me)) (acting x) o.me k opens (acting x') k' along (account_of (seen n.me)) (account ∙ ap (informed k'.history) opens.account))
 
-      pub visited_by : (does : ActorState → KernelView C → ActorState → KernelView C → Type 0) (old : CallerState C) → caller_by x ≡ old → o.table ≡ x.table → x'.table ≡ o.table → does (acting o) k (acting x') k'
+      pub visited_by : (does : ActorState → KernelView C → ActorState → KernelView C → Type 0) (old : CallerState C) → caller_by x ≡ old → o.table ≡ x.table → x'.table ≡ o.table → AreOwnedAsRecorded (acting o).thread.0 (acting o).mutexes k.history → does (acting o) k (acting x') k'
           → Takes (first_of x.me.0) (account_of (seen x.me)) (account_of (seen o.me)) → Gives (first_of x'.me.0) (account_of (seen x'.me)) k' (account_of (seen n.me)) → Visited old does (caller_by n)
-      visited_by does old was opened stayed did took gave =
+      visited_by does old was opened stayed owned did took gave =
           let a = account_of (seen n.me) in
           let first : first_of n.me.0 ≡ first_of o.me.0 = given.2 ∙ core.first in
           let gives : Gives (first_of o.me.0) (account_of (seen o.me)) k' a = subst (λ (z : KernelView C × CoreMe (KernelView C)). Gives z.0 (account_of z.1) k' a) (λ i. (core.first i, core.core i)) gave in
           subst (λ (z : ActorState). Visited old does (caller_of (machine_of n.table (first_of n.me.0) z.staxes z.mutexes) a z.staxes z.mutexes)) (sym given.1)
-          (visited_at (first_of x.me.0) (account_of (seen x.me)) (acting x) o.me k opens (acting x') k' along x.table n.table (first_of n.me.0) does a old was (given.0 ∙ stayed ∙ opened) first suits account
+          (visited_at (first_of x.me.0) (account_of (seen x.me)) (acting x) o.me k opens (acting x') k' along x.table n.table (first_of n.me.0) does a old was (given.0 ∙ stayed ∙ opened) first suits (subst (λ (z : ActorState). AreOwnedAsRecorded z.thread.0 z.mutexes k.history) same owned) account
           (subst (λ (z : ActorState). does z k (acting x') k') same did) took gives)
 
 -- a caller that didn't find the kernel is as it was
@@ -269,29 +276,34 @@ actor_at_mutexes a id first table me places is same from core at = record {
   places = at_own_table a id first table me places same (core.first ∙ from) at;
 }
 
--- an actor that has the kernel, after a call of it
+-- an actor that has the kernel, after a call of it that the actor doesn't refuse by itself
 pub held_call : {C : Type 0} (m : MachineState C) (a a' : SeatedActor C) (k k' : KernelView C) (c : Call) (r : Result Reply Refusal) → HasInHand m a k → (a'.table ≡ a.table) × (a'.me ≡ a.me) × (a'.places ≡ a.places) → IsSameActor (acting a) (acting a')
-    → Applied k a.thread.0 c r k' → Suits (acting a') k'.history → HasInHand m a' k'
-held_call {C} m a a' k k' c r has seat same done suits = (
+    → call_refusal a.wait (holds_stax a.staxes) (holds_mutex (acting a).mutexes) c ≡ None → Applied k a.thread.0 c r k' → Suits (acting a') k'.history → HasInHand m a' k'
+held_call {C} m a a' k k' c r has seat same free done suits = (
   has.0 ∙ (λ i. machine_of (sym seat.0 i) (first_of (sym seat.1 i).0) (sym same.staxes i) (sym same.mutexes i)),
   subst (λ (z : KernelMe C × ThreadId). IsHeld (seen z.0) z.1 k') (λ i. (sym seat.1 i, sym same.thread i)) (held_applied (seen a.me) a.thread c r k k' has.1 done),
   subst (λ (z : KernelMe C). ComesFrom (first_of z.0) k') (sym seat.1) (comes_on (first_of a.me.0) k k' has.2 done.comes),
   suits,
+  subst (λ (z : KernelMe C). IsSettled z.0 k'.history.state) (sym seat.1)
+      (still_settled a.me.0 k.history.state k'.history.state (other_call_stays (ceilings_in a.me.0) k k' a.thread.0 c r a.wait (holds_stax a.staxes) (holds_mutex (acting a).mutexes) has.1.continues.legal has.5 has.3.wait free done) has.4),
+  ap board_fits done.comes.board ∙ has.5,
 )
 
 -- and before any call of it
 pub has_taken_it : {C : Type 0} (m : MachineState C) (x o : SeatedActor C) (k : KernelView C) (opens : Opens (first_of x.me.0) (account_of (seen x.me)) x.thread o.me k) → Suits (acting x) (account_of (seen x.me)).seen → (o.table ≡ x.table) × (acting o ≡ acting x) × (first_of o.me.0 ≡ first_of x.me.0) → o.thread ≡ x.thread
-    → machine_by x ≡ m → HasInHand m o k
-has_taken_it {C} m x o k opens suits same kept is = (
+    → machine_by x ≡ m → HasTaken (account_of (seen x.me)).thread k.history o.me.0 → board_fits m.first.history.board ≡ true → HasInHand m o k
+has_taken_it {C} m x o k opens suits same kept is holder fits = (
   sym is ∙ (λ i. machine_of (sym same.0 i) (sym same.2 i) (sym same.1 i).staxes (sym same.1 i).mutexes),
   subst (λ (t : ThreadId). IsHeld (seen o.me) t k) (sym kept) opens.held,
   subst (λ (f : KernelView C). ComesFrom f k) (sym same.2) opens.comes,
   suits_opened x o k opens suits same.1,
+  settled_fresh k.history o.me.0 k.history.state holder.taken holder.fresh (stay_same (ceilings_in o.me.0) k.history.state k.history.state refl),
+  ap board_fits (opens.comes.board ∙ ap (λ (s : MachineState C). s.first.history.board) is) ∙ fits,
 )
 
-pub took_it : {C : Type 0} (m : MachineState C) (x o : SeatedActor C) (k : KernelView C) (old : CallerState C) → Opens (first_of x.me.0) (account_of (seen x.me)) x.thread o.me k → acting o ≡ acting x → caller_by x ≡ old → old.machine ≡ m
+pub took_it : {C : Type 0} (m : MachineState C) (x o : SeatedActor C) (k : KernelView C) (old : CallerState C) → Opens (first_of x.me.0) (account_of (seen x.me)) x.thread o.me k → acting o ≡ acting x → caller_by x ≡ old → old.machine ≡ m → AreOwnedAsRecorded (acting o).thread.0 (acting o).mutexes k.history
     → TookKernel old (record { caller = caller_of m (account_of (seen o.me)) o.staxes (acting o).mutexes; kernel = k })
-took_it {C} m x o k old opens same was is =
+took_it {C} m x o k old opens same was is owned =
     let a = account_of (seen x.me) in
     subst (λ (z : CallerState C). TookKernel z (record { caller = caller_of m (account_of (seen o.me)) o.staxes (acting o).mutexes; kernel = k })) was
     record {
@@ -301,6 +313,7 @@ took_it {C} m x o k old opens same was is =
       stage = fits_stage a k.history opens.was opens.fits;
       comes = opens.comes;
       quiet = ends_quiet k.history opens.held.continues.legal;
+      owned = subst (λ (z : ℕ × List MutexSeatState). AreOwnedAsRecorded z.0 z.1 k.history) (λ i. ((ap (λ (z : ActorState). z.thread.0) same ∙ sym (sym (ap (λ (y : Account). y.thread) opens.account) ∙ opens.held.own)) i, (same i).mutexes)) owned;
     }
 
 -- an actor that has given the kernel back

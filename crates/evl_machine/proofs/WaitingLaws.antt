@@ -1,6 +1,7 @@
 -- What a caller's looks and the end of its wait come to.
 use Rattle.std.proofs.Common.{◌≡◌, ◌≢◌, ℕ, List, [], ◌∷◌, ◌++◌, not, Bool, true, false, true≢false, Option, Some, None, Result, Ok, Err, MatchOption, if◌then◌else◌, refl, sym, ap, ◌∙◌, subst}
 use Rattle.evl_base.specs.declared.call.Call.{Call}
+use Rattle.evl_base.specs.declared.call.Call.TheVariants.{Finish}
 use Rattle.evl_base.specs.declared.entry.Entry.{Entry}
 use Rattle.evl_base.specs.declared.numbers.ThreadId.{ThreadId}
 use Rattle.evl_base.specs.declared.refusal.Refusal.{Refusal}
@@ -64,6 +65,10 @@ keeps_as_held : (keep : Bool) → (if not (same_truth keep keep) then Some Inval
 keeps_as_held true = refl
 keeps_as_held false = refl
 
+-- who waits for an element finishes its wait as it keeps its stage
+pub may_finish : (wait : Option Unfinished) (stax mutex keep : Bool) → wait ≡ Some Element → keep ≡ keeps_stage stax mutex → call_refusal wait stax mutex (Finish keep) ≡ None
+may_finish wait stax mutex keep waits is = (λ i. call_refusal (waits i) stax mutex (Finish (is i))) ∙ keeps_as_held (keeps_stage stax mutex)
+
 after_one : (w : Option Unfinished) (xs : List Entry) (e : Entry) → unfinished_from w (xs ++ e ∷ []) ≡ wait_after (unfinished_from w xs) (wait_step e.call) e.reply
 after_one w [] e = refl
 after_one w (x ∷ xs) e = after_one (wait_after w (wait_step x.call) x.reply) xs e
@@ -79,12 +84,16 @@ module _ {C : Type 0} where
   pub looked_more : (a b c : CallerState C) → Looked a b → Looked b c → Looked a c
   looked_more a b c (same, before) (still, after) = (still ∙ (λ i. record (same i) { account = c.account }), looks_more a.account b.account c.account before after)
 
+  -- a caller that has looked waits for what it waited for
+  pub still_waits : (old over : CallerState C) → wait_of_caller old ≡ Some Element → Looked old over → wait_of_caller over ≡ Some Element
+  still_waits old over waits looked = ap unfinished (mine_stays old.account looked.1.0 over.account looked.1.1) ∙ waits
+
   -- a caller that has looked finishes its wait
   pub waits_out : (limit : ℕ) (old over : CallerState C) (r : Result Reply Refusal) (new : CallerState C) → wait_of_caller old ≡ Some Element → Looked old over → KernelCall limit over (finish_of over) r new → r ≢ Err Again → WaitsOut limit old r new
   waits_out limit old over r new waits looked call told = record {
     over = over;
     looked = looked;
-    finished = finishes limit over r new (ap unfinished (mine_stays old.account looked.1.0 over.account looked.1.1) ∙ waits) call;
+    finished = finishes limit over r new (still_waits old over waits looked) call;
     told = told;
   }
 

@@ -1,10 +1,12 @@
 -- What a contract reads of who acts for a thread, at rest and while it has the kernel.
-use Rattle.std.specs.Prelude.{◌≡◌}
+use Rattle.std.specs.Prelude.{◌≡◌, true}
+use Rattle.evl_base.specs.Board.{board_fits}
 use Rattle.evl_kernel.specs.KernelViews.{KernelView}
 use Rattle.evl_machine.specs.Actors.{SeatedActor, Suits, acting}
 use Rattle.evl_machine.specs.Calls.{IsCaller, IsHeld}
 use Rattle.evl_machine.specs.Handles.{CallerState, MachineState, account_of, caller_of, machine_of}
 use Rattle.evl_machine.specs.Known.{ComesFrom, first_of, seen}
+use Rattle.evl_machine.specs.Noted.{IsSettled}
 
 module _ {C : Type 0} where
   -- the machine to which its seats belong
@@ -19,6 +21,6 @@ module _ {C : Type 0} where
   abbrev pub IsResting : SeatedActor C → Type 0
   IsResting a = IsCaller (seen a.me) a.thread × Suits (acting a) (account_of (seen a.me)).seen
 
-  -- it has a kernel of this machine, and knows its thread's stage and wait there
+  -- it has a kernel of this machine, whose board is within its limits, and knows its thread's stage and wait there; and what stands of each mutex's word is tied to what the kernel records
   abbrev pub HasInHand : MachineState C → SeatedActor C → KernelView C → Type 0
-  HasInHand machine a k = (machine ≡ machine_by a) × IsHeld (seen a.me) a.thread k × ComesFrom (first_of a.me.0) k × Suits (acting a) k.history
+  HasInHand machine a k = (machine ≡ machine_by a) × IsHeld (seen a.me) a.thread k × ComesFrom (first_of a.me.0) k × Suits (acting a) k.history × IsSettled a.me.0 k.history.state × (board_fits k.history.board ≡ true)

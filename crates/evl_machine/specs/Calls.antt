@@ -1,5 +1,5 @@
 -- What one call of the kernel tells its caller.
-use Rattle.std.specs.Prelude.{◌≡◌, ◌≢◌, ◌+◌, ◌≤◌, ℕ, List, [], ◌∷◌, ◌++◌, Bool, true, false, length, Result, Ok, Err, Option, None, MatchOption}
+use Rattle.std.specs.Prelude.{◌≡◌, ◌≢◌, ◌+◌, ◌≤◌, ℕ, List, [], ◌∷◌, ◌++◌, Bool, true, false, length, Result, Ok, Err, Option, Some, None, MatchOption, slice_get}
 use Rattle.evl_base.specs.declared.numbers.ThreadId.{ThreadId}
 use Rattle.evl_base.specs.declared.call.Call.{Call}
 use Rattle.evl_base.specs.declared.reply.Reply.{Reply}
@@ -7,6 +7,9 @@ use Rattle.evl_base.specs.declared.refusal.Refusal.{Refusal}
 use Rattle.evl_base.specs.declared.refusal.Refusal.TheVariants.{NoMemory, CoreBusy, HistoryFull}
 use Rattle.evl_base.specs.declared.play.Play.{Play}
 use Rattle.evl_kernel.specs.Histories.{History, IsLegal}
+use Rattle.evl_kernel.specs.MutexEffects.{record_at}
+use Rattle.evl_mutex.specs.Mutexes.{Mutex, is_open_to}
+use Rattle.evl_words.specs.MutexCalls.{MutexSeatState}
 use Rattle.evl_kernel.specs.KernelViews.{KernelView, IsKernelAnswer, Adds, entry_of, makes_entry, refusal_enters}
 use Rattle.evl_machine.specs.declared.views.Account.{Account}
 use Rattle.evl_machine.specs.Accounts.{BeginsWith, IsAccount}
@@ -19,7 +22,7 @@ use Rattle.evl_machine.specs.declared.unfinished.Unfinished.{Unfinished}
 use Rattle.evl_machine.specs.Unfinished.{unfinished}
 use Rattle.evl_machine.specs.Actors.{AreHeldAt, call_refusal, stage_in}
 use Rattle.evl_machine.specs.StaxSeats.{holds_stax}
-use Rattle.evl_machine.specs.MutexSeats.{holds_mutex}
+use Rattle.evl_machine.specs.MutexSeats.{holds_mutex, is_owner}
 use Rattle.evl_machine.specs.Handles.{CallerState, HeldState, Continues, account_of, first_account, returned, seated, holding, shown}
 
 -- a call of the kernel adds just its entry, or leaves the history: it is full, or no room was made for the call
@@ -86,7 +89,11 @@ pub record IsHeld {S : Type 0} {C : Type 0} (me : CoreMe S) (thread : ThreadId) 
   pub own : (account_of me).thread ≡ thread.0
   pub continues : Continues (account_of me) k.history
 
--- the kernel's history is what the caller has now seen. It is legal, and it begins with all that the caller had seen; of this thread it has just the caller's own calls, and nobody changed the thread's stage. At its end a line is pending out-of-band only while the out-of-band stage is stalled
+-- of each mutex that these seats of a thread hold, a history's end records no other owner
+abbrev pub AreOwnedAsRecorded : ℕ → List MutexSeatState → History → Type 0
+AreOwnedAsRecorded thread seats h = (i : ℕ) (s : MutexSeatState) (m : Mutex) → slice_get seats i ≡ Some s → is_owner s ≡ true → record_at h.state i ≡ Some m → is_open_to thread m ≡ true
+
+-- the kernel's history is what the caller has now seen. It is legal, and it begins with all that the caller had seen; of this thread it has just the caller's own calls, and nobody changed the thread's stage. At its end a line is pending out-of-band only while the out-of-band stage is stalled, and no other owner is recorded of a mutex that the caller holds
 pub record TookKernel {C : Type 0} (c : CallerState C) (h : HeldState C) : Type 0 where
   pub caller : h.caller ≡ shown h.kernel.history h.kernel.room c
   pub later : BeginsWith h.kernel.history c.account.seen
@@ -94,6 +101,7 @@ pub record TookKernel {C : Type 0} (c : CallerState C) (h : HeldState C) : Type 
   pub stage : stage_in h.kernel.history c.account.thread ≡ stage_in c.account.seen c.account.thread
   pub comes : ComesFrom c.machine.first h.kernel
   pub quiet : IsQuiet h.kernel.history
+  pub owned : AreOwnedAsRecorded c.account.thread c.mutexes h.kernel.history
 
 module _ {C : Type 0} where
   -- the stage of the caller's thread at the end of what it has seen, and for what it waits

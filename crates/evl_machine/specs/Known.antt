@@ -16,7 +16,9 @@ use Rattle.evl_machine.specs.Accounts.{threads_of}
 use Rattle.evl_machine.specs.Seats.{CoreMe, view}
 use Rattle.evl_machine.specs.CoreRule.{account_at}
 use Rattle.evl_machine.specs.CoreTells.{took, gave}
-use Rattle.evl_machine.specs.ThreadRule.{Tie, MachineRule, all_threads, on_core, on_mutex, on_noted}
+use Rattle.evl_machine.specs.ThreadRule.{MachineRule, all_threads, on_core, on_mutex}
+use Rattle.evl_machine.specs.Ties.{mutex_tie}
+use Rattle.evl_machine.specs.TieTells.{on_noted, with_owned}
 
 -- since the kernel was made no callback came into it, what is told of them is the same, and so are the board and bank that it began with and its limit
 pub record ComesFrom {C : Type 0} (first k : KernelView C) : Type 0 where
@@ -68,17 +70,14 @@ module _ {C : Type 0} where
   abbrev pub ceilings_of : KernelView C → ℕ → Bool
   ceilings_of first i = has_ceiling (slice_get first.history.board.mutexes.items i)
 
-  abbrev pub no_tie : Tie (KernelView C) (KernelView C)
-  no_tie i n homes cores word = Unit {0}
-
   abbrev pub KeptKnown : KernelView C → State (Option (KernelView C)) (CoreHand C) → Type 0
-  KeptKnown first = MachineRule past_of ComesFrom no_tie first (mutex_count first)
+  KeptKnown first = MachineRule past_of ComesFrom (mutex_tie past_of (ceilings_of first)) first (mutex_count first)
 
   abbrev pub first_known : KernelView C → CoreHand C
   first_known first = all_threads first.history first (mutex_count first) (threads_of first.history)
 
   abbrev pub took_known : Step (Option (KernelView C)) → KernelMe C → ℕ → KernelMe C → Type 0
-  took_known = Told (on_core (took past_of room_of ComesFrom))
+  took_known = Told (with_owned mutex_count (took past_of room_of ComesFrom))
 
   abbrev pub gave_known : Step (Option (KernelView C)) → KernelMe C → ℕ → KernelMe C → Type 0
   gave_known = Told (on_core (gave past_of room_of ComesFrom))
@@ -91,25 +90,25 @@ module _ {C : Type 0} where
   unlocked_known = Told (on_mutex unlocked)
 
   abbrev pub tried_held_known : Step (Option (KernelView C)) → KernelMe C → ℕ → KernelMe C → Type 0
-  tried_held_known = Told (on_noted (λ st n. either (n == 0) st.second n) tried)
+  tried_held_known = Told (on_noted ceilings_of (λ st n. either (n == 0) st.second n) tried)
 
   abbrev pub claimed_known : Step (Option (KernelView C)) → KernelMe C → ℕ → KernelMe C → Type 0
-  claimed_known = Told (on_noted (λ st n. bit_or n st.first) claimed)
+  claimed_known = Told (on_noted ceilings_of (λ st n. bit_or n st.first) claimed)
 
   abbrev pub settled_known : Step (Option (KernelView C)) → KernelMe C → ℕ → KernelMe C → Type 0
-  settled_known = Told (on_noted (λ st n. st.first) (does settles))
+  settled_known = Told (on_noted ceilings_of (λ st n. st.first) (does settles))
 
   abbrev pub offered_known : ℕ → Bool → Step (Option (KernelView C)) → KernelMe C → ℕ → KernelMe C → Type 0
-  offered_known next more = Told (on_noted (λ st n. st.first) (does (offers next more)))
+  offered_known next more = Told (on_noted ceilings_of (λ st n. st.first) (does (offers next more)))
 
   abbrev pub freed_known : Step (Option (KernelView C)) → KernelMe C → ℕ → KernelMe C → Type 0
-  freed_known = Told (on_noted (λ st n. st.first) (does frees))
+  freed_known = Told (on_noted ceilings_of (λ st n. st.first) (does frees))
 
   abbrev pub forgot_known : Step (Option (KernelView C)) → KernelMe C → ℕ → KernelMe C → Type 0
-  forgot_known = Told (on_noted (λ st n. n) forgot)
+  forgot_known = Told (on_noted ceilings_of (λ st n. n) forgot)
 
   abbrev pub awaited_known : Step (Option (KernelView C)) → KernelMe C → ℕ → KernelMe C → Type 0
-  awaited_known = Told (on_noted (λ st n. n) awaited)
+  awaited_known = Told (on_noted ceilings_of (λ st n. n) awaited)
 
   abbrev pub accepted_known : Step (Option (KernelView C)) → KernelMe C → ℕ → KernelMe C → Type 0
-  accepted_known = Told (on_noted (λ st n. bit_and n st.first) (does accepts))
+  accepted_known = Told (on_noted ceilings_of (λ st n. bit_and n st.first) (does accepts))

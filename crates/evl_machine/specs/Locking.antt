@@ -7,13 +7,13 @@ use Rattle.evl_base.specs.declared.mutex_kind.MutexKind.{MutexKind}
 use Rattle.evl_base.specs.declared.numbers.MutexId.{MutexId}
 use Rattle.evl_base.specs.declared.numbers.ThreadId.{ThreadId}
 use Rattle.evl_base.specs.declared.refusal.Refusal.{Refusal}
-use Rattle.evl_base.specs.declared.refusal.Refusal.TheVariants.{Again, Busy, HistoryFull, NoMemory}
+use Rattle.evl_base.specs.declared.refusal.Refusal.TheVariants.{Again, HistoryFull, NoMemory}
 use Rattle.evl_base.specs.declared.reply.Reply.{Reply}
 use Rattle.evl_base.specs.declared.reply.Reply.TheVariants.{Begun as Began, Handed, TimedOut as DeadlineCame}
 use Rattle.evl_kernel.specs.Histories.{IsLegal}
 use Rattle.evl_kernel.specs.KernelViews.{KernelView, AddsEntry, makes_entry}
-use Rattle.evl_kernel.specs.Waits.{has_ended, has_timed_out, is_timeout}
-use Rattle.evl_words.specs.declared.mutex.Claim.TheVariants.{Won, Queued, Seizing}
+use Rattle.evl_kernel.specs.Waits.{has_ended, is_timeout}
+use Rattle.evl_words.specs.declared.mutex.Claim.TheVariants.{Won, Queued}
 use Rattle.evl_words.specs.declared.mutex.MutexPass.{MutexPass}
 use Rattle.evl_words.specs.MutexCalls.{MutexSeatState}
 use Rattle.evl_machine.specs.declared.locking.Begun.{Begun}
@@ -55,10 +55,6 @@ module _ {C : Type 0} where
   abbrev pub EntersNone : KernelView C → KernelView C → Type 0
   EntersNone k k' = k'.history ≡ k.history
 
-  -- the kernel refuses a call, with an entry or for want of room
-  abbrev pub Refuses : KernelView C → ℕ → Call → Refusal → KernelView C → Type 0
-  Refuses k thread c refusal k' = EntersOne k thread c (Err refusal) k' ⊎ (EntersNone k k' × FindsNoRoom k refusal)
-
   -- the kernel is as it was, with no less room
   pub record IsRoomier (k k' : KernelView C) : Type 0 where
     pub history : k'.history ≡ k.history
@@ -87,27 +83,30 @@ module _ {C : Type 0} where
     pub legal : IsLegal k'.history
     pub room : k.room ≤ k'.room + 1
 
-  -- The try of a mutex with a ceiling. A try that took it is entered, whatever the kernel answers; a refused one isn't. There was room before the word was tried
+  -- the kernel accepts a call
+  abbrev pub Accepts : KernelView C → ℕ → Call → KernelView C → Type 0
+  Accepts k thread c k' = (reply : Reply) × EntersOne k thread c (Ok reply) k'
+
+  -- The try of a mutex with a ceiling. Of a try that took it the kernel is told, and accepts that; a refused one isn't entered. There was room before the word was tried
   abbrev pub LocksRaised : List MutexKind → ActorState → KernelView C → MutexId → Result MutexPass Refusal → ActorState → KernelView C → Type 0
-  LocksRaised kinds a k mutex (Ok pass) a' k' = TriesMutex kinds a.mutexes mutex.0 (Ok pass) a'.mutexes × ((raised : Result Reply Refusal) × EntersOne k a.thread.0 (Raise mutex) raised k')
+  LocksRaised kinds a k mutex (Ok pass) a' k' = TriesMutex kinds a.mutexes mutex.0 (Ok pass) a'.mutexes × Accepts k a.thread.0 (Raise mutex) k'
   LocksRaised kinds a k mutex (Err refusal) a' k' = EntersNone k k' × (((a'.mutexes ≡ a.mutexes) × FindsNoRoom k refusal) ⊎ (IsNotFull k × TriesMutex kinds a.mutexes mutex.0 (Err refusal) a'.mutexes))
 
-  -- The kernel hands a mutex on, and the word is given to whom it names. Refused, the pass comes back and the word stays
+  -- The kernel hands a mutex on, and the word is given to whom it names. It refuses that for want of room alone: then the pass comes back and the word stays
   abbrev pub Releases : ActorState → KernelView C → MutexPass → Result (Unit {0}) (Refusal × MutexPass) → ActorState → KernelView C → Type 0
   Releases a k pass (Ok done) a' k' = (next : Option ThreadId) × (more : Bool) × EntersOne k a.thread.0 (Release pass.mutex) (Ok (Handed next more)) k' × AtSeat pass.mutex.0 a.mutexes a'.mutexes (GivesTo next more)
-  Releases a k pass (Err (refusal, back)) a' k' = (back ≡ pass) × (a'.mutexes ≡ a.mutexes) × Refuses k a.thread.0 (Release pass.mutex) refusal k'
+  Releases a k pass (Err (refusal, back)) a' k' = (back ≡ pass) × (a'.mutexes ≡ a.mutexes) × EntersNone k k' × FindsNoRoom k refusal
 
-  -- a mutex that was won is raised where it has a ceiling, whatever the kernel answers
+  -- a mutex that was won is raised where it has a ceiling, which the kernel accepts
   abbrev pub RaisesIf : Bool → KernelView C → ℕ → MutexId → KernelView C → Type 0
-  RaisesIf true k thread mutex k' = (raised : Result Reply Refusal) × EntersOne k thread (Raise mutex) raised k'
+  RaisesIf true k thread mutex k' = Accepts k thread (Raise mutex) k'
   RaisesIf false k thread mutex k' = EntersNone k k'
 
-  -- Why a lock doesn't begin: there is no room, the kernel refuses the wait, and the claim stands, or another claimer has won and not settled yet, and there is room
+  -- Why a lock doesn't begin: there is no room, or the kernel refuses the wait, and the claim stands
   abbrev pub FailsToBegin : ActorState → KernelView C → MutexId → Option ℕ → Refusal → ActorState → KernelView C → Type 0
   FailsToBegin a k mutex until refusal a' k' =
       (EntersNone k k' × (a'.mutexes ≡ a.mutexes) × FindsNoRoom k refusal)
       ⊎ ((owner : ThreadId) × AtSeat mutex.0 a.mutexes a'.mutexes (Claims (Queued owner)) × EntersOne k a.thread.0 (AsksToWait mutex owner until) (Err refusal) k')
-      ⊎ (EntersNone k k' × IsNotFull k × (refusal ≡ Again) × AtSeat mutex.0 a.mutexes a'.mutexes (Claims Seizing))
 
   -- A lock begins with a claim. Won, it is settled, and raised at a ceiling; queued, the kernel has accepted the wait for the owner that the word named
   abbrev pub Begins : Bool → ActorState → KernelView C → MutexId → Option ℕ → Result Begun Refusal → ActorState → KernelView C → Type 0
@@ -121,21 +120,14 @@ module _ {C : Type 0} where
   abbrev pub EndsWait : ActorState → KernelView C → Reply → ActorState → KernelView C → Type 0
   EndsWait a k ended a' k' = EntersOne k a.thread.0 (Finish (keeps_stage (holds_stax a.staxes) (holds_mutex a'.mutexes))) (Ok ended) k'
 
-  -- why a wait for a mutex that is over isn't finished: there is no room, or there is, and the word refuses what the wait ended with
-  abbrev pub FailsOnceEnded : ActorState → KernelView C → MutexId → Refusal → ActorState → Type 0
-  FailsOnceEnded a k mutex refusal a' =
-      (FindsNoRoom k refusal × (a'.mutexes ≡ a.mutexes))
-      ⊎ (IsNotFull k × (refusal ≡ Again) × (has_timed_out k.history.state a.thread.0 ≡ false) × AtSeat mutex.0 a.mutexes a'.mutexes (AcceptsSo (Err Again)))
-      ⊎ (IsNotFull k × (refusal ≡ Again) × (has_timed_out k.history.state a.thread.0 ≡ true) × AtSeat mutex.0 a.mutexes a'.mutexes (ForgetsSo (Err Busy)))
-
-  -- Why a wait for a mutex isn't finished: it goes on, or it is over and fails then. The kernel has no entry of it
-  abbrev pub FailsToFinish : ActorState → KernelView C → MutexId → Refusal → ActorState → Type 0
-  FailsToFinish a k mutex refusal a' =
-      ((refusal ≡ Again) × (has_ended k.history.state a.thread.0 ≡ false) × (a'.mutexes ≡ a.mutexes))
-      ⊎ ((has_ended k.history.state a.thread.0 ≡ true) × FailsOnceEnded a k mutex refusal a')
+  -- Why a wait for a mutex isn't finished: it goes on, or it is over and there is no room. The word stays, and the kernel has no entry of it
+  abbrev pub FailsToFinish : ActorState → KernelView C → Refusal → ActorState → Type 0
+  FailsToFinish a k refusal a' =
+      (a'.mutexes ≡ a.mutexes)
+      × (((refusal ≡ Again) × (has_ended k.history.state a.thread.0 ≡ false)) ⊎ ((has_ended k.history.state a.thread.0 ≡ true) × FindsNoRoom k refusal))
 
   -- A wait for a mutex is finished: the word is accepted before the kernel ends it, and where the deadline came first it is forgotten
   abbrev pub Finishes : ActorState → KernelView C → MutexId → Result Ended Refusal → ActorState → KernelView C → Type 0
   Finishes a k mutex (Ok (ended.Locked pass)) a' k' = AtSeat mutex.0 a.mutexes a'.mutexes (AcceptsSo (Ok pass)) × ((reply : Reply) × (is_timeout reply ≡ false) × EndsWait a k reply a' k')
   Finishes a k mutex (Ok ended.TimedOut) a' k' = AtSeat mutex.0 a.mutexes a'.mutexes (ForgetsSo (Ok tt)) × EndsWait a k DeadlineCame a' k'
-  Finishes a k mutex (Err refusal) a' k' = EntersNone k k' × FailsToFinish a k mutex refusal a'
+  Finishes a k mutex (Err refusal) a' k' = EntersNone k k' × FailsToFinish a k refusal a'

@@ -14,8 +14,9 @@ use Rattle.evl_machine.specs.declared.views.ThreadView.{ThreadView}
 use Rattle.evl_machine.specs.Accounts.{threads_of}
 use Rattle.evl_machine.specs.CoreRule.{CoreKept, IsAbout, noting}
 use Rattle.evl_machine.specs.CoreWorld as core
-use Rattle.evl_machine.specs.CoreWorld.{CoreKind, Slot}
+use Rattle.evl_machine.specs.CoreWorld.{CoreKind, Slot, gives}
 use Rattle.evl_machine.specs.ThreadRule.{core_of, put_core, mutex_of, put_mutex, newcomer_view}
+use Rattle.evl_machine.specs.Ties.{MutexTied, Settled}
 
 pub record OneWorld (S B : Type 0) : Type 0 where
   pub word : ℕ
@@ -55,8 +56,13 @@ noted_if true i left c = noting i left c
 noted_if false i left c = c
 
 module _ {S B : Type 0} (past : S → History) (room : S → ℕ) (comes : B → S → Type 0) (ceilings : ℕ → Bool) (m : ℕ) where
+  -- what a give owes of the ties
+  abbrev pub ties_may : CorePart B → CoreKind S → Type 0
+  ties_may c (gives y) = (h : History) → c.taken ≡ Some h → Settled ceilings c h (past y).state
+  ties_may c _ = Unit {0}
+
   abbrev pub one_may : ℕ → ThreadView B MutexView → OneKind S → Type 0
-  one_may k v (on_lock kind) = core.step_may past room comes k (core_of v) kind
+  one_may k v (on_lock kind) = core.step_may past room comes k (core_of v) kind × ties_may (core_of v) kind
   one_may k v (on_word i kind) = (i < m) × mutex.step_may k (mutex_of i v) kind × MatchBool (needs_kernel (ceilings i) kind) (HasFor i (core_of v)) (is_unlocking kind ≡ true → ceilings i ≡ false)
 
   -- what a thread knows after a step on a mutex's word
@@ -96,11 +102,12 @@ module _ {S B : Type 0} (past : S → History) (room : S → ℕ) (comes : B →
   abbrev pub mutex_world : OneWorld S B → ℕ → MutexWorld
   mutex_world w i = record { word = slice_index w.mutexes i; log = w.logs i; views = map (mutex_of i) w.views }
 
-  -- what holds of it at each moment: the core's condition, and that of each mutex
+  -- what holds of it at each moment: the core's condition, that of each mutex, and what ties each mutex's word to what the kernel records
   pub record IsOneWorld (first : B) (w : OneWorld S B) : Type 0 where
     pub count : length w.mutexes ≡ m
     pub locked : CoreKept past comes first w.word (w.slot ∷ []) (map core_of w.views)
     pub parts : (i : ℕ) → i < m → IsMutexWorld (mutex_world w i)
+    pub ties : (i : ℕ) → i < m → MutexTied past ceilings i w.word (w.slot ∷ []) (map core_of w.views) (slice_index w.mutexes i)
 
 -- the world with the threads that each token acts for
 pub record OneDealing (S B : Type 0) : Type 0 where

@@ -1,6 +1,6 @@
 -- The rule of the table in which the core's lock and the mutex words stand, over one view for each thread.
-use Rattle.std.specs.Prelude.{◌≡◌, ℕ, ◌-◌, List, replicate, Option}
-use Rattle.atomic_table.specs.Table.{State, Step}
+use Rattle.std.specs.Prelude.{ℕ, ◌-◌, List, replicate, Option}
+use Rattle.atomic_table.specs.Table.{State}
 use Rattle.evl_kernel.specs.Histories.{History}
 use Rattle.evl_words.specs.Hands.{Hand, Dealt, hand_from}
 use Rattle.evl_words.specs.Parts.{Tells, Within, Tabled, part_in, put_in}
@@ -8,7 +8,7 @@ use Rattle.evl_words.specs.MutexWorld.{MutexView, newcomer}
 use Rattle.evl_words.specs.MutexRule.{MutexPart}
 use Rattle.evl_machine.specs.declared.views.CorePart.{CorePart}
 use Rattle.evl_machine.specs.declared.views.ThreadView.{ThreadView}
-use Rattle.evl_machine.specs.CoreRule.{CoreKept, Homes, newcomer_part, noting}
+use Rattle.evl_machine.specs.CoreRule.{CoreKept, Homes, newcomer_part}
 
 module _ {B : Type 0} where
   abbrev pub thread_view : CorePart B → List MutexView → ThreadView B MutexView
@@ -56,9 +56,3 @@ module _ {S B : Type 0} where
 
   abbrev pub on_mutex : Tells (Option S) MutexView → Tells (Option S) (ThreadView B MutexView)
   on_mutex tells st = Within (mutex_of (st.word - 1)) (put_mutex (st.word - 1)) tells st
-
-  -- A step on a mutex's word by the thread that has the kernel notes what it left there, which is f of the step and of what it found
-  abbrev pub on_noted : (Step (Option S) → ℕ → ℕ) → Tells (Option S) MutexView → Tells (Option S) (ThreadView B MutexView)
-  on_noted f tells st k m found n =
-      tells st k (mutex_of (st.word - 1) m.0, m.1) found (mutex_of (st.word - 1) n.0, n.1)
-      × (n.0 ≡ put_core (put_mutex (st.word - 1) m.0 (mutex_of (st.word - 1) n.0)) (noting (st.word - 1) (f st found) (core_of m.0)))

@@ -18,6 +18,7 @@ ghost use Rattle.evl_machine.specs.CoreWorld.{CoreWorld, CoreDealing, CoreKind, 
 ghost use Rattle.evl_machine.specs.OneWorld.{OneDealing, OneDealingStep, OneKind, StandsInOne, opened_one};
 ghost use Rattle.evl_machine.specs.Known.{ComesFrom, CoreHand, KeptKnown, ceilings_of, mutex_count, past_of, room_of};
 ghost use Rattle.evl_machine.specs.QuietCore.{LiesQuiet};
+ghost use Rattle.evl_machine.specs.TiedCore.{LiesTied};
 
 use evl_words::laws::holders_agree;
 
@@ -46,6 +47,14 @@ pub fn one_world_stands<C>()
 /// is (Dovetail: interrupt pipeline).
 pub fn free_core_is_quiet<C>()
     ensures { (first : KernelView C) → (s : State (Option (KernelView C)) (CoreHand C)) → KeptKnown first s → slice_index s.words 0 ≡ 0 → LiesQuiet s.homes }
+{}
+
+/// Whenever the core of a running machine is free, the recorded owner of a mutex, if there is one, is the owner in its word,
+/// owning or offered; a mutex with waiters has its mark set, and one without has a recorded owner only at a ceiling, where
+/// whoever is in the word is recorded; the mark never stands alone; and the word offers the mutex to just the thread whose
+/// unfinished wait ended with it (Xenomai 4: EVL mutex; this profile).
+pub fn free_core_is_tied<C>()
+    ensures { (first : KernelView C) → (s : State (Option (KernelView C)) (CoreHand C)) → KeptKnown first s → slice_index s.words 0 ≡ 0 → LiesTied first s.words s.homes }
 {}
 
 /// Two callers that hold one stax are on one stage, whatever its seats have done (Dovetail: stage exclusion locks).

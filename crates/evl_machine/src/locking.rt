@@ -1,18 +1,20 @@
 //! What a caller does with a mutex while it has the kernel: steps of the mutex's word, and the calls of the kernel that go
 //! with them. No step of the core's lock is among them. All growths come before the first step of a word.
-ghost use Rattle.std.specs.Prelude.{◌≡◌, ◌<◌, IfSome, IsSomeAnd, None, length, slice_get, true};
-ghost use Rattle.evl_base.specs.Board.{board_fits};
+ghost use Rattle.std.specs.Prelude.{◌≡◌, ◌<◌, IfSome, IsSomeAnd, None, Some, length, slice_get, true};
 ghost use Rattle.evl_base.specs.declared.call.Call.TheVariants.{Finish};
+ghost use Rattle.evl_base.specs.declared.stage.Stage.TheVariants.{Oob};
 ghost use Rattle.evl_kernel.specs.Callbacks.{AnswersAsTold};
-ghost use Rattle.evl_kernel.specs.Histories.{IsLegal};
 ghost use Rattle.evl_machine.specs.Accounts.{threads_of};
-ghost use Rattle.evl_machine.specs.Actors.{AreHeldAt, IsSameActor, Suits, acting, keeps_stage};
+ghost use Rattle.evl_machine.specs.Actors.{AreHeldAt, IsActor, IsSameActor, Suits, acting, keeps_stage};
 ghost use Rattle.evl_machine.specs.AtSeats.{AtSeat};
 ghost use Rattle.evl_machine.specs.Calls.{Applied};
-ghost use Rattle.evl_machine.specs.Known.{first_of};
+ghost use Rattle.evl_machine.specs.declared.unfinished.Unfinished.TheVariants.{Mutex};
+ghost use Rattle.evl_machine.specs.JustTaken.{HasJustTaken};
+ghost use Rattle.evl_machine.specs.Known.{ceilings_of, first_of};
 ghost use Rattle.evl_machine.specs.Locking.{Begins, Finishes, GivesTo, GoesAlong, HaveSeats, LocksRaised, Releases};
 ghost use Rattle.evl_machine.specs.MutexSeats.{HasOnce, HasSeat, holds_mutex, mutex_refusal};
 ghost use Rattle.evl_machine.specs.MutexTokens.{AreTheSame, HasKernel, TellsTheSame};
+ghost use Rattle.evl_machine.specs.Noted.{IsSettled, NotesGiven};
 ghost use Rattle.evl_machine.specs.StaxSeats.{holds_stax};
 
 use crate::actor::Actor;
@@ -42,8 +44,7 @@ pub enum Ended {
     TimedOut,
 }
 
-/// Tries for a mutex with a ceiling that the caller may lock, and tells the kernel of a try that took it. The pass is
-/// answered whatever the kernel answers.
+/// Tries for a mutex with a ceiling that the caller may lock, and tells the kernel of a try that took it.
 pub(crate) fn lock_raised<C: Handler, A: Allocator>(
     core: &CoreLock<C, A>,
     actor: &mut Actor<C, A>,
@@ -51,16 +52,17 @@ pub(crate) fn lock_raised<C: Handler, A: Allocator>(
     mutex: MutexId,
 ) -> Result<MutexPass, Refusal>
     requires table { (actor.old.table ≡ core.now.shared.table_id) × (first_of actor.old.me.0 ≡ core.now.shared.key.value) }
-    requires holder { HasKernel actor.old.me.0 }
+    requires taken { HasJustTaken actor.old kernel.old }
     requires answering { AnswersAsTold C.declared C.plan kernel.old.callbacks }
-    requires legal { IsLegal kernel.old.history }
-    requires suits { Suits (acting actor.old) kernel.old.history }
     requires held { AreHeldAt actor.old.stage actor.old.staxes }
     requires unrefused { mutex_refusal core.now.shared.key.value.history.board.mutexes.items (acting actor.old).mutexes mutex.0 ≡ None }
     requires free { IsSomeAnd (slice_get actor.old.places mutex.0) (λ p. p.depth ≡ 0) }
+    requires ceiling { ceilings_of core.now.shared.key.value mutex.0 ≡ true }
+    requires may { (actor.old.wait ≡ None) × (actor.old.stage ≡ Oob) }
     ensures core { TellsTheSame actor.old.me actor.new.me × (actor.new.table ≡ actor.old.table) }
     ensures along { GoesAlong (acting actor.old) kernel.old (acting actor.new) kernel.new }
     ensures locked { LocksRaised core.now.shared.key.value.history.board.mutexes.items (acting actor.old) kernel.old mutex result (acting actor.new) kernel.new }
+    ensures settled { IsSettled actor.new.me.0 kernel.new.history.state }
 {
     kernel.reserve()?;
     let pass = mutex_steps::try_held(core, &mut actor.seat, &mut actor.places, mutex)?;
@@ -68,8 +70,8 @@ pub(crate) fn lock_raised<C: Handler, A: Allocator>(
     Ok(pass)
 }
 
-/// Has the kernel hand a mutex on, and offers it to the next owner, or frees it where there is none. A refusal comes back
-/// with the pass, and the word stays as it is.
+/// Has the kernel hand a mutex on, and offers it to the next owner, or frees it where there is none. Where there is no room
+/// for the call the pass comes back, and the word stays as it is.
 pub(crate) fn release<C: Handler, A: Allocator>(
     core: &CoreLock<C, A>,
     actor: &mut Actor<C, A>,
@@ -77,17 +79,17 @@ pub(crate) fn release<C: Handler, A: Allocator>(
     pass: MutexPass,
 ) -> Result<(), (Refusal, MutexPass)>
     requires table { (actor.old.table ≡ core.now.shared.table_id) × (first_of actor.old.me.0 ≡ core.now.shared.key.value) }
-    requires holder { HasKernel actor.old.me.0 }
+    requires taken { HasJustTaken actor.old kernel.old }
     requires answering { AnswersAsTold C.declared C.plan kernel.old.callbacks }
-    requires legal { IsLegal kernel.old.history }
-    requires board { board_fits kernel.old.history.board ≡ true }
-    requires suits { Suits (acting actor.old) kernel.old.history }
     requires held { AreHeldAt actor.old.stage actor.old.staxes }
     requires seats { HaveSeats (threads_of kernel.old.history) (acting actor.old).mutexes }
+    requires own { IsActor actor.old }
     requires once { HasOnce (acting actor.old).mutexes pass }
+    requires idle { actor.old.wait ≡ None }
     ensures core { TellsTheSame actor.old.me actor.new.me × (actor.new.table ≡ actor.old.table) }
     ensures along { GoesAlong (acting actor.old) kernel.old (acting actor.new) kernel.new }
     ensures released { Releases (acting actor.old) kernel.old pass result (acting actor.new) kernel.new }
+    ensures settled { IsSettled actor.new.me.0 kernel.new.history.state }
 {
     let mutex = pass.mutex();
     match actor.apply(kernel, Call::Release { mutex }) {
@@ -116,6 +118,7 @@ fn hand_on<C: Drop, A: Allocator>(
     ensures same { acting actor.new ≡ record (acting actor.old) { mutexes = (acting actor.new).mutexes } }
     ensures seats { AreTheSame (acting actor.old).mutexes (acting actor.new).mutexes }
     ensures given { AtSeat pass.mutex.0 (acting actor.old).mutexes (acting actor.new).mutexes (GivesTo next more) }
+    ensures noted { NotesGiven pass.mutex.0 next more actor.old.me.0 actor.new.me.0 }
 {
     match next {
         Some(next) => {
@@ -126,7 +129,7 @@ fn hand_on<C: Drop, A: Allocator>(
 }
 
 /// Claims a mutex that the caller doesn't hold, and waits for it where another has it. Where it was won, and has a ceiling,
-/// the kernel is told; the pass is answered whatever it answers.
+/// the kernel is told. All claims are made with the kernel, so nobody else has won it and not settled yet.
 pub(crate) fn begin<C: Handler, A: Allocator>(
     core: &CoreLock<C, A>,
     actor: &mut Actor<C, A>,
@@ -136,15 +139,16 @@ pub(crate) fn begin<C: Handler, A: Allocator>(
     until: Option<u64>,
 ) -> Result<Begun, Refusal>
     requires table { (actor.old.table ≡ core.now.shared.table_id) × (first_of actor.old.me.0 ≡ core.now.shared.key.value) }
-    requires holder { HasKernel actor.old.me.0 }
+    requires taken { HasJustTaken actor.old kernel.old }
     requires answering { AnswersAsTold C.declared C.plan kernel.old.callbacks }
-    requires legal { IsLegal kernel.old.history }
-    requires suits { Suits (acting actor.old) kernel.old.history }
     requires held { AreHeldAt actor.old.stage actor.old.staxes }
     requires there { mutex.0 < length actor.old.places }
+    requires kind { ceilings_of core.now.shared.key.value mutex.0 ≡ ceiling }
+    requires may { (actor.old.wait ≡ None) × (actor.old.stage ≡ Oob) }
     ensures core { TellsTheSame actor.old.me actor.new.me × (actor.new.table ≡ actor.old.table) }
     ensures along { GoesAlong (acting actor.old) kernel.old (acting actor.new) kernel.new }
     ensures begun { Begins ceiling (acting actor.old) kernel.old mutex until result (acting actor.new) kernel.new }
+    ensures settled { IsSettled actor.new.me.0 kernel.new.history.state }
 {
     kernel.reserve()?;
     match mutex_steps::claim(core, &mut actor.seat, &actor.places, mutex) {
@@ -164,12 +168,12 @@ pub(crate) fn begin<C: Handler, A: Allocator>(
             actor.apply(kernel, call)?;
             Ok(Begun::Waiting)
         }
-        Claim::Seizing => Err(Refusal::Again),
+        Claim::Seizing => unreachable!(),
     }
 }
 
-/// Ends the caller's wait for a mutex, which is over to the kernel: it takes the mutex that was offered to it, or waits for
-/// it no more where the deadline came first.
+/// Ends the caller's wait for a mutex, where it is over to the kernel: it takes the mutex that was offered to it, or waits for
+/// it no more where the deadline came first. The word offers it to just those whose wait ended with it.
 pub(crate) fn finish<C: Handler, A: Allocator>(
     core: &CoreLock<C, A>,
     actor: &mut Actor<C, A>,
@@ -177,30 +181,30 @@ pub(crate) fn finish<C: Handler, A: Allocator>(
     mutex: MutexId,
 ) -> Result<Ended, Refusal>
     requires table { (actor.old.table ≡ core.now.shared.table_id) × (first_of actor.old.me.0 ≡ core.now.shared.key.value) }
-    requires holder { HasKernel actor.old.me.0 }
+    requires taken { HasJustTaken actor.old kernel.old }
     requires answering { AnswersAsTold C.declared C.plan kernel.old.callbacks }
-    requires legal { IsLegal kernel.old.history }
-    requires board { board_fits kernel.old.history.board ≡ true }
-    requires suits { Suits (acting actor.old) kernel.old.history }
     requires held { AreHeldAt actor.old.stage actor.old.staxes }
     requires there { mutex.0 < length actor.old.places }
+    requires waits { actor.old.wait ≡ Some (Mutex mutex) }
     ensures core { TellsTheSame actor.old.me actor.new.me × (actor.new.table ≡ actor.old.table) }
     ensures along { GoesAlong (acting actor.old) kernel.old (acting actor.new) kernel.new }
     ensures finished { Finishes (acting actor.old) kernel.old mutex result (acting actor.new) kernel.new }
+    ensures settled { IsSettled actor.new.me.0 kernel.new.history.state }
 {
     if !kernel.kernel().finished(actor.thread) {
         return Err(Refusal::Again);
     }
     kernel.reserve()?;
     if kernel.kernel().timed_out(actor.thread) {
-        let forgotten = mutex_steps::forget(core, &mut actor.seat, &actor.places, mutex);
-        if forgotten.is_err() {
-            return Err(Refusal::Again);
-        }
+        let Ok(()) = mutex_steps::forget(core, &mut actor.seat, &actor.places, mutex) else {
+            unreachable!()
+        };
         let _ended = end_wait(actor, kernel);
         return Ok(Ended::TimedOut);
     }
-    let pass = mutex_steps::accept(core, &mut actor.seat, &mut actor.places, mutex)?;
+    let Ok(pass) = mutex_steps::accept(core, &mut actor.seat, &mut actor.places, mutex) else {
+        unreachable!()
+    };
     let _over = end_wait(actor, kernel);
     Ok(Ended::Locked(pass))
 }

@@ -1,11 +1,12 @@
 //! A caller's look at its wait, which finishes it where it is over.
-ghost use Rattle.std.specs.Prelude.{◌≡◌, ◌≢◌, ⊤, Err, MatchOption, true};
+ghost use Rattle.std.specs.Prelude.{◌≡◌, ◌≢◌, ⊤, Err, MatchOption, Some, true};
 ghost use Rattle.evl_base.specs.Board.{board_fits};
 ghost use Rattle.evl_base.specs.declared.call.Call.TheVariants.{Finish};
 ghost use Rattle.evl_base.specs.declared.refusal.Refusal.TheVariants.{Again, CoreBusy};
 ghost use Rattle.evl_kernel.specs.Callbacks.{AnswersAsTold};
 ghost use Rattle.evl_machine.specs.Actors.{AreHeldAt, IsSameActor, Suits, acting, keeps_stage};
-ghost use Rattle.evl_machine.specs.Calls.{ActsOnCore, Answered, HoldsAtItsStage, IsCaller, KernelCall};
+ghost use Rattle.evl_machine.specs.Calls.{ActsOnCore, Answered, HoldsAtItsStage, IsCaller, KernelCall, wait_of_caller};
+ghost use Rattle.evl_machine.specs.declared.unfinished.Unfinished.TheVariants.{Element};
 ghost use Rattle.evl_machine.specs.Handles.{Belongs, account_of};
 ghost use Rattle.evl_machine.specs.Known.{first_of, seen};
 ghost use Rattle.evl_machine.specs.MutexSeats.{holds_mutex};
@@ -25,6 +26,7 @@ impl<C: Handler, A: Allocator> MachineOf<C, A> {
     fn end_with(&self, actor: &mut Actor<C, A>) -> Option<Result<Reply, Refusal>>
         requires caller { (actor.old.table ≡ self.now.id) × IsCaller (seen actor.old.me) actor.old.thread }
         requires suits { Suits (acting actor.old) (account_of (seen actor.old.me)).seen }
+        requires waits { actor.old.wait ≡ Some Element }
         requires board { board_fits (first_of actor.old.me.0).history.board ≡ true }
         requires answering { AnswersAsTold C.declared C.plan (first_of actor.old.me.0).callbacks }
         ensures same { (actor.new.table ≡ actor.old.table) × (first_of actor.new.me.0 ≡ first_of actor.old.me.0) × IsSameActor (acting actor.old) (acting actor.new) }
@@ -51,6 +53,7 @@ impl<C: Handler, A: Allocator> MachineOf<C, A> {
     /// Finishes a caller's wait where it is over; none where it goes on, or where another caller has the kernel.
     pub(crate) fn end_wait(&self, caller: &mut CallerOf<C, A>) -> Option<Result<Reply, Refusal>>
         requires machine { Belongs caller.old self.now }
+        requires waits { wait_of_caller caller.old ≡ Some Element }
         requires answering { AnswersAsTold C.declared C.plan self.now.first.callbacks }
         ensures looked { MatchOption result (Looked caller.old caller.new) (λ r. KernelCall self.now.first.limit caller.old (finish_of caller.old) r caller.new) }
         ensures told { MatchOption result ⊤ (λ r. (r ≢ Err Again) × (r ≢ Err CoreBusy)) }

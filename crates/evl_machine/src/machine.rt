@@ -8,8 +8,11 @@ ghost use Rattle.evl_machine.specs.Handles.{Belongs, Continues, IsSameCaller, Ta
 ghost use Rattle.evl_machine.specs.Events.{FailsToTake, Gives, Takes};
 ghost use Rattle.std.specs.Prelude.{⊤, None, false, length, slice_get, true};
 ghost use Rattle.evl_kernel.specs.Families.{moves_caller, task_of};
-ghost use Rattle.evl_machine.specs.Actors.{AreHeldAt, ClaimsOneOf, IsSameActor, Suits, acting};
-ghost use Rattle.evl_machine.specs.MutexTokens.{HasKernel, KeepsPlaces};
+ghost use Rattle.evl_base.specs.Board.{board_fits};
+ghost use Rattle.evl_machine.specs.Actors.{AreHeldAt, ClaimsOneOf, IsSameActor, Suits, acting, call_refusal};
+ghost use Rattle.evl_machine.specs.MutexTokens.{KeepsPlaces};
+ghost use Rattle.evl_machine.specs.Noted.{HasTaken, IsSettled};
+ghost use Rattle.evl_machine.specs.MutexSeats.{holds_mutex};
 ghost use Rattle.evl_machine.specs.StaxSeats.{holds_stax};
 ghost use Rattle.evl_machine.specs.Calls.{ActsOnCore, Answered, Called, HoldsAtItsStage, IsCaller, KernelCall, answer_of, own_refusal};
 
@@ -57,7 +60,7 @@ impl<C: Drop, A: Allocator> MachineOf<C, A> {
         ensures event { MatchOption result (FailsToTake (first_of seat.old.me.0) (account_of (seen seat.old.me)) (account_of (seen seat.new.me))) (λ _. Takes (first_of seat.old.me.0) (account_of (seen seat.old.me)) (account_of (seen seat.new.me))) }
         ensures taken { MatchOption result (seen seat.new.me ≡ seen seat.old.me) (λ k. Taken past_of room_of (seen seat.old.me) k (seen seat.new.me) × ComesFrom (first_of seat.old.me.0) k) }
         ensures places { KeepsPlaces seat.old.me.0 seat.new.me.0 }
-        ensures holder { MatchOption result ⊤ (λ _. HasKernel seat.new.me.0) }
+        ensures holder { MatchOption result ⊤ (λ k. HasTaken (account_of (seen seat.old.me)).thread k.history seat.new.me.0) }
     {
         let table = &self.core.shared;
         if table.compare_exchange::<Take>(seat, 0, 0, 1) != 0 {
@@ -66,12 +69,14 @@ impl<C: Drop, A: Allocator> MachineOf<C, A> {
         table.exchange(seat, 0, None)
     }
 
-    /// Puts the kernel back. It goes on from the one that was taken, by calls of the seat's one caller.
+    /// Puts the kernel back. It goes on from the one that was taken, by calls of the seat's one caller, and what stands of
+    /// each mutex's word is tied to what it records.
     #[inline]
     pub(crate) fn give_kernel(&self, seat: &mut CoreSeat<C, A>, kernel: KernelBox<C, A>)
         requires machine { seat.old.table_id ≡ self.now.id }
         requires comes { ComesFrom (first_of seat.old.me.0) kernel }
         requires kernel { (seen seat.old.me ≡ holding (account_of (seen seat.old.me))) × Continues (account_of (seen seat.old.me)) kernel.history }
+        requires settled { IsSettled seat.old.me.0 kernel.history.state }
         ensures same { (seat.new.table_id ≡ seat.old.table_id) × (seat.new.id ≡ seat.old.id) × (first_of seat.new.me.0 ≡ first_of seat.old.me.0) }
         ensures event { Gives (first_of seat.old.me.0) (account_of (seen seat.old.me)) kernel (account_of (seen seat.new.me)) }
         ensures given { seen seat.new.me ≡ seated (informed kernel.history (account_of (seen seat.old.me))) }
@@ -104,6 +109,8 @@ impl<C: Handler, A: Allocator> MachineOf<C, A> {
         requires suits { Suits (acting actor.old) (account_of (seen actor.old.me)).seen }
         requires stays { holds_stax actor.old.staxes ≡ true → moves_caller (task_of call) ≡ false }
         requires there { ClaimsOneOf (length actor.old.places) call }
+        requires free { call_refusal actor.old.wait (holds_stax actor.old.staxes) (holds_mutex (acting actor.old).mutexes) call ≡ None }
+        requires board { board_fits (first_of actor.old.me.0).history.board ≡ true }
         requires answering { AnswersAsTold C.declared C.plan (first_of actor.old.me.0).callbacks }
         ensures same { (actor.new.table ≡ actor.old.table) × (first_of actor.new.me.0 ≡ first_of actor.old.me.0) × IsSameActor (acting actor.old) (acting actor.new) }
         ensures rests { IsCaller (seen actor.new.me) actor.new.thread }
@@ -138,6 +145,7 @@ impl<C: Handler, A: Allocator> MachineOf<C, A> {
         ensures entered { IfOk result (λ answer. answer ≢ Err CoreBusy) }
         ensures back { IfErr result (λ back. back ≡ call) }
     {
+        let _ = &self.core;
         self.call_with(&mut caller.actor, call)
     }
 

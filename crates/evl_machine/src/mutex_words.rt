@@ -2,7 +2,7 @@
 ghost use Rattle.std.specs.Prelude.{◌≡◌, ◌≢◌, ◌<◌, None, Ok, false};
 ghost use Rattle.evl_kernel.specs.Callbacks.{AnswersAsTold};
 ghost use Rattle.evl_words.specs.declared.mutex.Unlock.TheVariants.{Done};
-ghost use Rattle.evl_machine.specs.Calls.{HoldsAtItsStage};
+ghost use Rattle.evl_machine.specs.Calls.{HoldsAtItsStage, wait_of_caller};
 ghost use Rattle.evl_machine.specs.Ceilings.{has_ceiling};
 ghost use Rattle.evl_machine.specs.Handles.{Belongs, IsSameCaller};
 ghost use Rattle.evl_machine.specs.MutexLocks.{MutexCall, UnlocksAtWord, is_handed_on, kind_of, kinds_of, own_lock_refusal};
@@ -115,6 +115,7 @@ impl<C: Handler, A: Allocator> MachineOf<C, A> {
         pass: MutexPass,
     ) -> Result<(), (Refusal, MutexPass)>
         requires machine { Belongs caller.old self.now }
+        requires idle { wait_of_caller caller.old ≡ None }
         requires own { unlock_refusal caller.old.mutexes pass ≡ None }
         requires stays { is_handed_on (kind_of caller.old pass.mutex) (depth_at caller.old.mutexes pass.mutex.0) ≡ false }
         requires answering { AnswersAsTold C.declared C.plan self.now.first.callbacks }

@@ -23,7 +23,7 @@ impl<C: Handler, A: Allocator> MachineOf<C, A> {
     /// where the caller's thread is in-band, `Deadlock` where the caller has it and it doesn't nest, and `Limit` where the
     /// caller has it 255 times. `Busy` where another caller has it. A mutex with a ceiling is tried while the caller has the
     /// kernel: `CoreBusy` where another caller has that, `NoMemory` or `HistoryFull` where there is no room for one call, of
-    /// which none makes a step of the mutex; a try that took it is told to the kernel, whatever that answers.
+    /// which none makes a step of the mutex; a try that took it is told to the kernel, which accepts that.
     #[inline(always)]
     pub fn try_lock_mutex(
         &self,
@@ -78,9 +78,8 @@ impl<C: Handler, A: Allocator> MachineOf<C, A> {
     ///
     /// It is refused with no step as `try_lock_mutex` is, and an owner has the mutex once more with no step. `CoreBusy` where
     /// another caller has the kernel, and `NoMemory` or `HistoryFull` where there is no room for one call: then the mutex
-    /// isn't claimed. `Again` where another claimer has won it and not settled yet. Where another has it, it is claimed, and
-    /// the answer is the kernel's to the wait: a refused one leaves the claim. A mutex with a ceiling that was won is told to
-    /// the kernel, whatever that answers.
+    /// isn't claimed. Where another has it, it is claimed, and the answer is the kernel's to the wait: a refused one leaves
+    /// the claim. A mutex with a ceiling that was won is told to the kernel, which accepts that.
     pub fn begin_lock_mutex(
         &self,
         caller: &mut CallerOf<C, A>,
@@ -108,9 +107,8 @@ impl<C: Handler, A: Allocator> MachineOf<C, A> {
     /// EVL mutex; this profile).
     ///
     /// With no step `Invalid` where the caller doesn't wait for a mutex. `CoreBusy` where another caller has the kernel,
-    /// `Again` while the wait goes on and where the mutex isn't offered to the caller yet, or is still offered to it after its
-    /// deadline, and `NoMemory` or `HistoryFull` where there is no room for one call: all of them leave the wait to be finished
-    /// later.
+    /// `Again` while the wait goes on, and `NoMemory` or `HistoryFull` where there is no room for one call: all of them leave
+    /// the wait to be finished later.
     pub fn finish_lock_mutex(&self, caller: &mut CallerOf<C, A>) -> Result<Ended, Refusal>
         requires machine { Belongs caller.old self.now }
         requires answering { AnswersAsTold C.declared C.plan self.now.first.callbacks }
@@ -183,7 +181,8 @@ impl<C: Handler, A: Allocator> MachineOf<C, A> {
     ///
     /// With no step, and with the pass back: `Busy` while the caller has an unfinished wait, and `NotOwner` for a pass of
     /// another caller or of a mutex that the caller doesn't have. Where the kernel has to hand the mutex on: `CoreBusy` where
-    /// another caller has that, and its own refusals, each with the pass back and the word as it is.
+    /// another caller has that, and `NoMemory` or `HistoryFull` where there is no room for one call, each with the pass back
+    /// and the word as it is.
     #[inline]
     pub fn try_unlock_mutex(
         &self,

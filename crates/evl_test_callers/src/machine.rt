@@ -6,6 +6,7 @@ mod closing;
 mod growths;
 mod holding;
 mod mutexes;
+mod one_table;
 mod owners;
 mod racing;
 mod rows;

@@ -3,9 +3,11 @@
 ghost use Rattle.std.specs.Prelude.{◌≡◌, ◌<◌, IsSomeAnd, Ok, false, length, slice_get};
 ghost use Rattle.evl_words.specs.declared.mutex.MutexRole.TheVariants.{Winner};
 ghost use Rattle.evl_words.specs.MutexPlaces.{IsOfPlace};
+ghost use Rattle.evl_words.specs.MutexWorld.{accepts, awaits, claims, forgets, frees, offers, settles, tries};
 ghost use Rattle.evl_machine.specs.AtSeats.{AtSeat};
 ghost use Rattle.evl_machine.specs.Known.{ceilings_of};
 ghost use Rattle.evl_machine.specs.MutexSeats.{AcceptsSo, Claims, ForgetsSo, Frees, IsOfMutex, Offers, Settles, Tries, UnlocksSo};
+ghost use Rattle.evl_machine.specs.Noted.{FoundAny, FoundClaimed, FoundOffered, FoundTried, Notes, NotesAccept, is_done, is_refused};
 ghost use Rattle.evl_machine.specs.MutexTokens.{AreTheSame, AwaitsSo, HasKernelFor, IsAtTable, SeesOffered, TakesOffer, TellsTheSame, part_of, seats_at};
 
 use super::mutex_places::MutexPlaces;
@@ -64,6 +66,7 @@ pub(crate) fn try_held<C: Drop, A: Allocator>(
     ensures seats { AreTheSame (seats_at seat.old.table_id seat.old.me.0 places.old) (seats_at seat.new.table_id seat.new.me.0 places.new) }
     ensures holder { HasKernelFor mutex.0 seat.new.me.0 }
     ensures tried { IsOfMutex mutex.0 result × AtSeat mutex.0 (seats_at seat.old.table_id seat.old.me.0 places.old) (seats_at seat.new.table_id seat.new.me.0 places.new) (Tries result) }
+    ensures noted { Notes mutex.0 tries (FoundTried result) seat.old.me.0 seat.new.me.0 }
 {
     let word = 1 + usize::from(mutex.0);
     let number = u64::from(places.number(mutex)) + 1;
@@ -124,6 +127,7 @@ pub(crate) fn claim<C: Drop, A: Allocator>(
     ensures seats { AreTheSame (seats_at seat.old.table_id seat.old.me.0 places.now) (seats_at seat.new.table_id seat.new.me.0 places.now) }
     ensures holder { HasKernelFor mutex.0 seat.new.me.0 }
     ensures claimed { AtSeat mutex.0 (seats_at seat.old.table_id seat.old.me.0 places.now) (seats_at seat.new.table_id seat.new.me.0 places.now) (Claims result) }
+    ensures noted { Notes mutex.0 claims (FoundClaimed result) seat.old.me.0 seat.new.me.0 }
 {
     let word = 1 + usize::from(mutex.0);
     claim_on(core.shared.fetch_or::<Claiming>(seat, word, CLAIM_MARK))
@@ -145,6 +149,7 @@ pub(crate) fn settle<C: Drop, A: Allocator>(
     ensures seats { AreTheSame (seats_at seat.old.table_id seat.old.me.0 places.old) (seats_at seat.new.table_id seat.new.me.0 places.new) }
     ensures holder { HasKernelFor mutex.0 seat.new.me.0 }
     ensures settled { AtSeat mutex.0 (seats_at seat.old.table_id seat.old.me.0 places.old) (seats_at seat.new.table_id seat.new.me.0 places.new) (Settles result) }
+    ensures noted { Notes mutex.0 settles FoundAny seat.old.me.0 seat.new.me.0 }
 {
     let word = 1 + usize::from(mutex.0);
     let number = u64::from(places.number(mutex)) + 1;
@@ -170,6 +175,7 @@ pub(crate) fn offer<C: Drop, A: Allocator>(
     ensures seats { AreTheSame (seats_at seat.old.table_id seat.old.me.0 places.old) (seats_at seat.new.table_id seat.new.me.0 places.new) }
     ensures holder { HasKernelFor pass.mutex.0 seat.new.me.0 }
     ensures offered { AtSeat pass.mutex.0 (seats_at seat.old.table_id seat.old.me.0 places.old) (seats_at seat.new.table_id seat.new.me.0 places.new) (Offers next.0 more) }
+    ensures noted { Notes pass.mutex.0 (offers next.0 more) FoundAny seat.old.me.0 seat.new.me.0 }
 {
     offer_as::<Brand, C, A>(core, seat, places, pass, next, more)
 }
@@ -193,6 +199,7 @@ fn offer_as<H: Handing, C: Drop, A: Allocator>(
     ensures seats { AreTheSame (seats_at seat.old.table_id seat.old.me.0 places.old) (seats_at seat.new.table_id seat.new.me.0 places.new) }
     ensures holder { HasKernelFor pass.mutex.0 seat.new.me.0 }
     ensures offered { AtSeat pass.mutex.0 (seats_at seat.old.table_id seat.old.me.0 places.old) (seats_at seat.new.table_id seat.new.me.0 places.new) (Offers next.0 more) }
+    ensures noted { Notes pass.mutex.0 (offers next.0 more) FoundAny seat.old.me.0 seat.new.me.0 }
 {
     let word = 1 + usize::from(pass.mutex().0);
     core.shared
@@ -215,6 +222,7 @@ pub(crate) fn free<C: Drop, A: Allocator>(
     ensures seats { AreTheSame (seats_at seat.old.table_id seat.old.me.0 places.old) (seats_at seat.new.table_id seat.new.me.0 places.new) }
     ensures holder { HasKernelFor pass.mutex.0 seat.new.me.0 }
     ensures freed { AtSeat pass.mutex.0 (seats_at seat.old.table_id seat.old.me.0 places.old) (seats_at seat.new.table_id seat.new.me.0 places.new) (Frees) }
+    ensures noted { Notes pass.mutex.0 frees FoundAny seat.old.me.0 seat.new.me.0 }
 {
     let word = 1 + usize::from(pass.mutex().0);
     core.shared.swap::<Freeing>(seat, word, 0);
@@ -236,6 +244,7 @@ pub(crate) fn forget<C: Drop, A: Allocator>(
     ensures seats { AreTheSame (seats_at seat.old.table_id seat.old.me.0 places.now) (seats_at seat.new.table_id seat.new.me.0 places.now) }
     ensures holder { HasKernelFor mutex.0 seat.new.me.0 }
     ensures forgotten { AtSeat mutex.0 (seats_at seat.old.table_id seat.old.me.0 places.now) (seats_at seat.new.table_id seat.new.me.0 places.now) (ForgetsSo result) }
+    ensures noted { Notes mutex.0 forgets (FoundOffered (is_refused result)) seat.old.me.0 seat.new.me.0 }
 {
     let word = 1 + usize::from(mutex.0);
     let found = core.shared.load::<Forgetting>(seat, word);
@@ -261,6 +270,7 @@ pub(crate) fn accept<C: Drop, A: Allocator>(
     ensures seats { AreTheSame (seats_at seat.old.table_id seat.old.me.0 places.old) (seats_at seat.new.table_id seat.new.me.0 places.new) }
     ensures holder { HasKernelFor mutex.0 seat.new.me.0 }
     ensures accepted { AtSeat mutex.0 (seats_at seat.old.table_id seat.old.me.0 places.old) (seats_at seat.new.table_id seat.new.me.0 places.new) (AcceptsSo result) }
+    ensures noted { NotesAccept mutex.0 result seat.old.me.0 seat.new.me.0 }
 {
     await_offer(core, seat, places, mutex)?;
     Ok(take_offer(core, seat, places, mutex))
@@ -281,6 +291,7 @@ fn await_offer<C: Drop, A: Allocator>(
     ensures seats { AreTheSame (seats_at seat.old.table_id seat.old.me.0 places.now) (seats_at seat.new.table_id seat.new.me.0 places.now) }
     ensures holder { HasKernelFor mutex.0 seat.new.me.0 }
     ensures awaited { AtSeat mutex.0 (seats_at seat.old.table_id seat.old.me.0 places.now) (seats_at seat.new.table_id seat.new.me.0 places.now) (AwaitsSo result) }
+    ensures noted { Notes mutex.0 awaits (FoundOffered (is_done result)) seat.old.me.0 seat.new.me.0 }
 {
     let word = 1 + usize::from(mutex.0);
     let found = core.shared.load::<Awaiting>(seat, word);
@@ -306,6 +317,7 @@ fn take_offer<C: Drop, A: Allocator>(
     ensures seats { AreTheSame (seats_at seat.old.table_id seat.old.me.0 places.old) (seats_at seat.new.table_id seat.new.me.0 places.new) }
     ensures holder { HasKernelFor mutex.0 seat.new.me.0 }
     ensures taken { AtSeat mutex.0 (seats_at seat.old.table_id seat.old.me.0 places.old) (seats_at seat.new.table_id seat.new.me.0 places.new) (TakesOffer result) }
+    ensures noted { Notes mutex.0 accepts FoundAny seat.old.me.0 seat.new.me.0 }
 {
     let word = 1 + usize::from(mutex.0);
     core.shared.fetch_and::<Accepting>(seat, word, !OFFERED);

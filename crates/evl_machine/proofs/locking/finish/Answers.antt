@@ -1,54 +1,49 @@
 use Rattle.std.proofs.Common.{refl, ap, sym, ◌∙◌, subst}
 use Rattle.evl_machine.specs.Actors.{SeatedActor, acting}
-use Rattle.evl_machine.specs.Known.{first_of}
-use Rattle.evl_machine.proofs.LockingLaws.{along_call, along_none, answers_roomier, same_kernel, the_same}
+use Rattle.evl_machine.specs.Known.{KernelMe, first_of}
+use Rattle.evl_machine.specs.Noted.{IsSettled}
+use Rattle.evl_machine.proofs.LockingLaws.{along_call, along_none, answers_roomier, enters_made, same_kernel, the_same}
+use Rattle.evl_machine.proofs.LockingTies.{count_as, got_accepts, got_settled, just_as, late_forgets, late_settled, same_settled}
 use Rattle.evl_machine.proofs.LockingCalls.{finishes_late, finishes_locked, is_ended, is_timed, on_board}
 use Rattle.evl_machine.proofs.SeatsAt.{at_table_of, core_of_step, core_twice, holds_for}
 use Rattle.evl_machine.proofs.Visits.{actor_at_mutexes}
+use Rattle.evl_machine.proofs.Settling.{taken_holds}
 use Rattle.evl_machine.proofs.locking.finish.Goals as goal
 
 pub returns-then-not-finished-clause-along : goal.returns-then-not-finished-clause-along
-returns-then-not-finished-clause-along g c = along_none _ _ refl _ _ _ (same_kernel _) c.requires.held c.requires.suits c.requires.legal (the_same _)
+returns-then-not-finished-clause-along g c = along_none _ _ refl _ _ _ (same_kernel _) c.requires.held c.requires.taken.suits c.requires.taken.legal (the_same _)
 
 pub returns-in_err-reserve-clause-along : goal.returns-in_err-reserve-clause-along
-returns-in_err-reserve-clause-along g c = along_none _ _ refl _ _ _ c.reserve.ensures.same c.requires.held c.requires.suits c.requires.legal (the_same _)
+returns-in_err-reserve-clause-along g c = along_none _ _ refl _ _ _ c.reserve.ensures.same c.requires.held c.requires.taken.suits c.requires.taken.legal (the_same _)
 
-pub forget-forgotten-requires-clause-table : goal.forget-forgotten-requires-clause-table
-forget-forgotten-requires-clause-table g c = (at_table_of _ _ c.actor.view_is _ _ c.actor.invariant c.requires.table)
+pub forget-requires-clause-table : goal.forget-requires-clause-table
+forget-requires-clause-table g c = (at_table_of _ _ c.actor.view_is _ _ c.actor.invariant c.requires.table)
 
-pub forget-forgotten-requires-clause-holder : goal.forget-forgotten-requires-clause-holder
-forget-forgotten-requires-clause-holder g c = holds_for _ _ c.actor.view_is c.args.core.now.shared.table_id c.args.core.now.shared.key.value c.requires.holder c.args.mutex.0
-
-pub returns-then-is_err-clause-along : goal.returns-then-is_err-clause-along
-returns-then-is_err-clause-along g c =
-    along_none _ _ (ap acting c.actor.view_is) _ _ _ c.reserve.ensures.same c.requires.held c.requires.suits c.requires.legal c.forget-forgotten.ensures.seats
+pub forget-requires-clause-holder : goal.forget-requires-clause-holder
+forget-requires-clause-holder g c = holds_for _ _ c.actor.view_is c.args.core.now.shared.table_id c.args.core.now.shared.key.value (taken_holds _ _ _ c.requires.taken.taken) c.args.mutex.0
 
 pub end_wait-ended-requires-clause-answering : goal.end_wait-ended-requires-clause-answering
 end_wait-ended-requires-clause-answering g c = answers_roomier _ _ _ _ c.reserve.ensures.same c.requires.answering
 
 pub invariant_of-actor : goal.invariant_of-actor
-invariant_of-actor g c = actor_at_mutexes _ _ _ _ _ _ c.actor.invariant (ap (λ (a : SeatedActor _). a.table) c.actor.view_is ∙ c.requires.table.0) (ap (λ (a : SeatedActor _). first_of a.me.0) c.actor.view_is ∙ c.requires.table.1) c.forget-forgotten.ensures.core c.forget-forgotten.ensures.table
+invariant_of-actor g c = actor_at_mutexes _ _ _ _ _ _ c.actor.invariant (ap (λ (a : SeatedActor _). a.table) c.actor.view_is ∙ c.requires.table.0) (ap (λ (a : SeatedActor _). first_of a.me.0) c.actor.view_is ∙ c.requires.table.1) c.forget.ensures.core c.forget.ensures.table
 
 pub returns-then-timed_out-clause-along : goal.returns-then-timed_out-clause-along
 returns-then-timed_out-clause-along g c =
-    along_call _ _ (ap acting c.actor.view_is) _ _ _ _ _ _ _ c.reserve.ensures.same c.forget-forgotten.ensures.seats
+    along_call _ _ (ap acting c.actor.view_is) _ _ _ _ _ _ _ c.reserve.ensures.same c.forget.ensures.seats
     c.end_wait-ended.ensures.applied c.end_wait-ended.ensures.same c.end_wait-ended.ensures.suits c.end_wait-ended.ensures.held
 
 pub returns-then-timed_out-clause-finished : goal.returns-then-timed_out-clause-finished
 returns-then-timed_out-clause-finished g c =
-    finishes_late _ _ (ap acting c.actor.view_is) _ _ _ _ _ _ c.end_wait-ended.ensures.same _ c.in_ok-reserve.ensures c.requires.legal c.requires.board
+    finishes_late _ _ (ap acting c.actor.view_is) _ _ _ _ _ _ c.end_wait-ended.ensures.same _ c.in_ok-reserve.ensures c.requires.taken.legal c.requires.taken.fits
     (on_board _ _ _ _ c.kernel.ensures c.if-not-finished.false c.finished.ensures.outside) (is_ended _ _ _ _ c.kernel.ensures c.finished.ensures.ended c.if-not-finished.false)
-    _ c.end_wait-ended.ensures.applied _ c.forget-forgotten.ensures.forgotten c.if-is_err.ensures.value (is_timed _ _ _ _ _ _ c.reserve.ensures.same c.kernel-2.ensures c.timed_out.ensures.ended c.if-timed_out.true)
+    _ c.end_wait-ended.ensures.applied c.in-Ok.ensures.forgotten (is_timed _ _ _ _ _ _ c.reserve.ensures.same c.kernel-2.ensures c.timed_out.ensures.ended c.if-timed_out.true)
 
 pub accept-requires-clause-table : goal.accept-requires-clause-table
 accept-requires-clause-table g c = (at_table_of _ _ c.actor.view_is _ _ c.actor.invariant c.requires.table)
 
 pub accept-requires-clause-holder : goal.accept-requires-clause-holder
-accept-requires-clause-holder g c = holds_for _ _ c.actor.view_is c.args.core.now.shared.table_id c.args.core.now.shared.key.value c.requires.holder c.args.mutex.0
-
-pub returns-in_err-pass-clause-along : goal.returns-in_err-pass-clause-along
-returns-in_err-pass-clause-along g c =
-    along_none _ _ (ap acting c.actor.view_is) _ _ _ c.reserve.ensures.same c.requires.held c.requires.suits c.requires.legal c.accept.ensures.seats
+accept-requires-clause-holder g c = holds_for _ _ c.actor.view_is c.args.core.now.shared.table_id c.args.core.now.shared.key.value (taken_holds _ _ _ c.requires.taken.taken) c.args.mutex.0
 
 pub end_wait-over-requires-clause-answering : goal.end_wait-over-requires-clause-answering
 end_wait-over-requires-clause-answering g c = answers_roomier _ _ _ _ c.reserve.ensures.same c.requires.answering
@@ -63,6 +58,36 @@ returns-clause-along g c =
 
 pub returns-clause-finished : goal.returns-clause-finished
 returns-clause-finished g c =
-    finishes_locked _ _ (ap acting c.actor.view_is) _ _ _ _ _ _ c.end_wait-over.ensures.same _ c.in_ok-reserve.ensures c.requires.legal c.requires.board
+    finishes_locked _ _ (ap acting c.actor.view_is) _ _ _ _ _ _ c.end_wait-over.ensures.same _ c.in_ok-reserve.ensures c.requires.taken.legal c.requires.taken.fits
     (on_board _ _ _ _ c.kernel.ensures c.if-not-finished.false c.finished.ensures.outside) (is_ended _ _ _ _ c.kernel.ensures c.finished.ensures.ended c.if-not-finished.false)
-    _ c.end_wait-over.ensures.applied _ c.in_ok-pass.ensures.accepted (is_timed _ _ _ _ _ _ c.reserve.ensures.same c.kernel-2.ensures c.timed_out.ensures.ended c.if-timed_out.false)
+    _ c.end_wait-over.ensures.applied _ c.in-Ok-accept.ensures.accepted (is_timed _ _ _ _ _ _ c.reserve.ensures.same c.kernel-2.ensures c.timed_out.ensures.ended c.if-timed_out.false)
+
+pub returns-then-not-finished-clause-settled : goal.returns-then-not-finished-clause-settled
+returns-then-not-finished-clause-settled g c = same_settled _ _ c.requires.taken _ refl
+
+pub returns-in_err-reserve-clause-settled : goal.returns-in_err-reserve-clause-settled
+returns-in_err-reserve-clause-settled g c = same_settled _ _ c.requires.taken _ c.reserve.ensures.same.history
+
+pub unreachable-requires : goal.unreachable-requires
+unreachable-requires g c =
+    let just = just_as _ _ c.actor.view_is _ c.requires.taken in
+    late_forgets _ _ just c.args.mutex (count_as _ _ c.actor.view_is c.args.mutex.0 c.actor.invariant c.requires.there) (ap (λ (a : SeatedActor _). a.wait) c.actor.view_is ∙ c.requires.waits) (is_ended _ _ _ _ c.kernel.ensures c.finished.ensures.ended c.if-not-finished.false) _ (is_timed _ _ _ _ _ _ c.reserve.ensures.same c.kernel-2.ensures c.timed_out.ensures.ended c.if-timed_out.true) c.in_default.ensures.noted
+
+pub unreachable-requires-in_default-accept : goal.unreachable-requires-in_default-accept
+unreachable-requires-in_default-accept g c =
+    let just = just_as _ _ c.actor.view_is _ c.requires.taken in
+    got_accepts _ _ just c.args.mutex (count_as _ _ c.actor.view_is c.args.mutex.0 c.actor.invariant c.requires.there) (ap (λ (a : SeatedActor _). a.wait) c.actor.view_is ∙ c.requires.waits) (is_ended _ _ _ _ c.kernel.ensures c.finished.ensures.ended c.if-not-finished.false) _ (is_timed _ _ _ _ _ _ c.reserve.ensures.same c.kernel-2.ensures c.timed_out.ensures.ended c.if-timed_out.false) c.in_default-accept.ensures.noted
+
+pub returns-then-timed_out-clause-settled : goal.returns-then-timed_out-clause-settled
+returns-then-timed_out-clause-settled g c =
+    let just = just_as _ _ c.actor.view_is _ c.requires.taken in
+    let entered = enters_made _ _ c.end_wait-ended.new.kernel _ _ _ _ c.in_ok-reserve.ensures c.end_wait-ended.ensures.applied in
+    subst (λ (m : KernelMe _). IsSettled m.0 c.end_wait-ended.new.kernel.history.state) (sym c.end_wait-ended.ensures.seat.1)
+    (late_settled _ _ just c.args.mutex (count_as _ _ c.actor.view_is c.args.mutex.0 c.actor.invariant c.requires.there) (ap (λ (a : SeatedActor _). a.wait) c.actor.view_is ∙ c.requires.waits) (is_ended _ _ _ _ c.kernel.ensures c.finished.ensures.ended c.if-not-finished.false) _ c.end_wait-ended.new.kernel _ _ (is_timed _ _ _ _ _ _ c.reserve.ensures.same c.kernel-2.ensures c.timed_out.ensures.ended c.if-timed_out.true) c.in-Ok.ensures.noted entered)
+
+pub returns-clause-settled : goal.returns-clause-settled
+returns-clause-settled g c =
+    let just = just_as _ _ c.actor.view_is _ c.requires.taken in
+    let entered = enters_made _ _ c.end_wait-over.new.kernel _ _ _ _ c.in_ok-reserve.ensures c.end_wait-over.ensures.applied in
+    subst (λ (m : KernelMe _). IsSettled m.0 c.end_wait-over.new.kernel.history.state) (sym c.end_wait-over.ensures.seat.1)
+    (got_settled _ _ just c.args.mutex (count_as _ _ c.actor.view_is c.args.mutex.0 c.actor.invariant c.requires.there) (ap (λ (a : SeatedActor _). a.wait) c.actor.view_is ∙ c.requires.waits) (is_ended _ _ _ _ c.kernel.ensures c.finished.ensures.ended c.if-not-finished.false) _ _ c.end_wait-over.new.kernel _ _ c.in-Ok-accept.ensures.noted.1 c.in-Ok-accept.ensures.noted.2 entered)

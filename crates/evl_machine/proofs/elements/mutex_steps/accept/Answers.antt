@@ -10,3 +10,6 @@ returns-clause-accepted g c = accepted _ _ _ _ _ _ (c.await_offer.ensures.table.
 
 pub returns-clause-seats : goal.returns-clause-seats
 returns-clause-seats g c = same_twice c.await_offer.ensures.seats c.take_offer.ensures.seats
+
+pub returns-clause-noted : goal.returns-clause-noted
+returns-clause-noted g c = (c.await_offer.new.seat.me.0, c.in_ok-await_offer.ensures.noted, c.take_offer.ensures.noted)

@@ -6,10 +6,13 @@ use Rattle.evl_words.specs.MutexWorld.{owns, tries}
 use Rattle.evl_words.specs.MutexRule.{tried}
 use Rattle.evl_words.proofs.MutexSeats.{tried_of}
 use Rattle.evl_machine.specs.Known.{mutex_count}
+use Rattle.evl_machine.specs.MutexTokens.{HasKernelFor}
 use Rattle.evl_machine.specs.ThreadRule.{mutex_of}
-use Rattle.evl_machine.proofs.MutexTokens.{marks_known}
+use Rattle.evl_machine.proofs.MutexTokens.{marks_held}
 use Rattle.evl_machine.proofs.MutexStepLaws.{lose_held_made, number_is, pass_is, stranger_is, win_held_made}
 use Rattle.evl_machine.proofs.SeatLists.{some-within}
+use Rattle.evl_base.specs.declared.refusal.Refusal.TheVariants.{Busy}
+use Rattle.evl_machine.proofs.StepNotes.{lost_noted, won_noted}
 use Rattle.evl_machine.proofs.elements.mutex_steps.try_held.Goals as goal
 
 pub compare_exchange-requires : goal.compare_exchange-requires
@@ -25,7 +28,7 @@ compare_exchange-requires g c =
     let within : i < mutex_count s.key.value = omega (arith, here, e, t.all) in (
       t.same,
       omega (arith, within, t.words, t.all),
-      marks_known s.key.value s.table_id.slots c.args.seat.now.id k v c.args.seat.now.me t.its.one i within tries (subst (λ n. owns (mutex_of n v).held.role ≡ false) (sym e) (stranger_is _ _ _ t.its c.requires.free)) (step s.table_id.slots (1 + i) 0 (c.from-number.result + 1) none) refl tried (λ found u d. ((refl, d), tried_of k (mutex_of i v) u found d)) (λ st n. either (eqb n 0) st.second n) (λ n. ap (λ x. either (eqb n 0) (x + 1) n) number),
+      marks_held s.key.value s.table_id.slots c.args.seat.now.id k v c.args.seat.now.me t.its.one i within (subst (λ n. HasKernelFor n c.args.seat.now.me.0) (sym e) c.requires.holder) tries (subst (λ n. owns (mutex_of n v).held.role ≡ false) (sym e) (stranger_is _ _ _ t.its c.requires.free)) (step s.table_id.slots (1 + i) 0 (c.from-number.result + 1) none) refl tried (λ found u d. ((refl, d), tried_of k (mutex_of i v) u found d)) (λ st n. either (eqb n 0) st.second n) (λ n. ap (λ x. either (eqb n 0) (x + 1) n) number),
     )
 
 pub own-requires : goal.own-requires
@@ -48,3 +51,9 @@ returns-then-compare_exchange-eq0-clause-seats g c = (win_held_made _ _ _ _ _ _ 
 
 pub returns-else-compare_exchange-eq0-clause-seats : goal.returns-else-compare_exchange-eq0-clause-seats
 returns-else-compare_exchange-eq0-clause-seats g c = (lose_held_made _ _ _ _ _ _ _ _ c.requires.table c.compare_exchange.ensures.0 c.args.core.now.shared.table_id.slots c.from-word.result 0 (c.from-number.result + 1) c.compare_exchange.result c.from-word.ensures c.compare_exchange.ensures.2 c.if-compare_exchange-eq0.false c.requires.free).seats
+
+pub returns-then-compare_exchange-eq0-clause-noted : goal.returns-then-compare_exchange-eq0-clause-noted
+returns-then-compare_exchange-eq0-clause-noted g c = won_noted _ _ _ _ _ _ _ c.requires.table c.args.core.now.shared.table_id.slots c.from-word.result 0 (c.from-number.result + 1) c.compare_exchange.result c.from-word.ensures c.number.result c.number.ensures.number c.own.result (ap (λ n. n + 1) c.from-number.ensures) c.compare_exchange.ensures.2 c.if-compare_exchange-eq0.true
+
+pub returns-else-compare_exchange-eq0-clause-noted : goal.returns-else-compare_exchange-eq0-clause-noted
+returns-else-compare_exchange-eq0-clause-noted g c = lost_noted _ _ _ _ _ _ _ c.requires.table c.args.core.now.shared.table_id.slots c.from-word.result 0 (c.from-number.result + 1) c.compare_exchange.result c.from-word.ensures c.number.result c.number.ensures.number Busy (ap (λ n. n + 1) c.from-number.ensures) c.compare_exchange.ensures.2 c.if-compare_exchange-eq0.false

@@ -5,9 +5,9 @@ use Rattle.atomic_table.specs.Table.{step}
 use Rattle.evl_words.specs.MutexWorld.{owns, tries}
 use Rattle.evl_words.specs.MutexRule.{tried}
 use Rattle.evl_words.proofs.MutexSeats.{tried_of}
-use Rattle.evl_machine.specs.Known.{mutex_count}
+use Rattle.evl_machine.specs.Known.{ceilings_of, mutex_count}
 use Rattle.evl_machine.specs.ThreadRule.{mutex_of}
-use Rattle.evl_machine.proofs.MutexTokens.{steps_known}
+use Rattle.evl_machine.proofs.MutexTokens.{tries_known}
 use Rattle.evl_machine.proofs.MutexStepLaws.{lose_made, number_is, pass_is, stranger_is, win_made}
 use Rattle.evl_machine.proofs.SeatLists.{some-within}
 use Rattle.evl_machine.proofs.elements.mutex_steps.try_there.Goals as goal
@@ -25,7 +25,7 @@ compare_exchange-requires g c =
     let within : i < mutex_count s.key.value = omega (arith, here, e, t.all) in (
       t.same,
       omega (arith, within, t.words, t.all),
-      steps_known s.key.value s.table_id.slots c.args.seat.now.id k v c.args.seat.now.me t.its.one i within tries (subst (λ n. owns (mutex_of n v).held.role ≡ false) (sym e) (stranger_is _ _ _ t.its c.requires.free)) (step s.table_id.slots (1 + i) 0 (c.from-number.result + 1) none) refl tried (λ found u d. ((refl, d), tried_of k (mutex_of i v) u found d)) (λ n. either (eqb n 0) (c.from-number.result + 1) n) (λ n. ap (λ x. either (eqb n 0) (x + 1) n) number),
+      tries_known s.key.value s.table_id.slots c.args.seat.now.id k v c.args.seat.now.me t.its.one i within (ap (ceilings_of s.key.value) e ∙ c.requires.plain) (λ n. either (eqb n 0) (c.from-number.result + 1) n) (step s.table_id.slots (1 + i) 0 (c.from-number.result + 1) none) refl (subst (λ n. owns (mutex_of n v).held.role ≡ false) (sym e) (stranger_is _ _ _ t.its c.requires.free)) (λ n. ap (λ x. either (eqb n 0) (x + 1) n) number),
     )
 
 pub own-requires : goal.own-requires

@@ -7,9 +7,9 @@ use Rattle.evl_words.specs.declared.mutex.MutexRole.TheVariants.{Owner}
 use Rattle.evl_words.specs.MutexWorld.{unlocks}
 use Rattle.evl_words.specs.MutexRule.{unlocked}
 use Rattle.evl_words.proofs.MutexSeats.{unlocked_of}
-use Rattle.evl_machine.specs.Known.{mutex_count}
+use Rattle.evl_machine.specs.Known.{ceilings_of, mutex_count}
 use Rattle.evl_machine.specs.ThreadRule.{mutex_of}
-use Rattle.evl_machine.proofs.MutexTokens.{steps_known}
+use Rattle.evl_machine.proofs.MutexTokens.{unlocks_known}
 use Rattle.evl_machine.proofs.MutexStepLaws.{back_made, number_is, owner_is, unlock_made}
 use Rattle.evl_machine.proofs.SeatLists.{some-within}
 use Rattle.evl_machine.proofs.elements.mutex_steps.unlock_there.Goals as goal
@@ -27,7 +27,7 @@ compare_exchange-requires g c =
     let within : i < mutex_count s.key.value = omega (arith, here, e, t.all) in (
       t.same,
       omega (arith, within, t.words, t.all),
-      steps_known s.key.value s.table_id.slots c.args.seat.now.id k v c.args.seat.now.me t.its.one i within unlocks (subst (λ n. (mutex_of n v).held.role ≡ Owner) (sym e) (owner_is _ _ _ t.its c.args.pass c.requires.once)) (step s.table_id.slots (1 + i) (c.from-number.result + 1) 0 none) refl unlocked (λ found u d. ((refl, d), unlocked_of k (mutex_of i v) u found d)) (λ n. either (eqb n (c.from-number.result + 1)) 0 n) (λ n. ap (λ x. either (eqb n (x + 1)) 0 n) number),
+      unlocks_known s.key.value s.table_id.slots c.args.seat.now.id k v c.args.seat.now.me t.its.one i within (ap (ceilings_of s.key.value) e ∙ c.requires.plain) (λ n. either (eqb n (c.from-number.result + 1)) 0 n) (step s.table_id.slots (1 + i) (c.from-number.result + 1) 0 none) refl (subst (λ n. (mutex_of n v).held.role ≡ Owner) (sym e) (owner_is _ _ _ t.its c.args.pass c.requires.once)) (λ n. ap (λ x. either (eqb n (x + 1)) 0 n) number),
     )
 
 pub returns-then-compare_exchange-number-clause-table : goal.returns-then-compare_exchange-number-clause-table

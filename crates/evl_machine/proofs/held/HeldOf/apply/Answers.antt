@@ -15,4 +15,4 @@ apply-requires-clause-answering g c =
     answers_still _ _ c.args.self.now.caller.machine.first c.self.inside.kernel (subst (λ (f : KernelView _). ComesFrom f c.self.inside.kernel) first c.self.invariant.2) c.requires
 
 pub invariant_of-self : goal.invariant_of-self
-invariant_of-self g c = held_call _ _ _ _ _ _ _ c.self.invariant c.apply.ensures.seat c.apply.ensures.same c.apply.ensures.applied c.apply.ensures.suits
+invariant_of-self g c = held_call _ _ _ _ _ _ _ c.self.invariant c.apply.ensures.seat c.apply.ensures.same (sym c.in_default.ensures.refused) c.apply.ensures.applied c.apply.ensures.suits

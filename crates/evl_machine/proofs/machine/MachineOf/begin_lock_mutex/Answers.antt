@@ -2,6 +2,7 @@ use Rattle.std.proofs.Common.{None, arith, ap, sym, ◌∙◌, nat_lt, slice_get
 use Rattle.evl_machine.specs.Actors.{acting}
 use Rattle.evl_machine.specs.Callers.{machine_by}
 use Rattle.evl_machine.specs.Calls.{HoldsAtItsStage}
+use Rattle.evl_machine.specs.Ceilings.{has_ceiling}
 use Rattle.evl_machine.specs.Handles.{CallerState, MachineState, account_of}
 use Rattle.evl_machine.specs.Known.{seen}
 use Rattle.evl_machine.specs.Visits.{actor_of}
@@ -28,3 +29,6 @@ nest-requires-clause-held g c = omega (arith, c.if-depth-gt0.true, (c.depth.ensu
 
 pub begin_with_kernel-requires-clause-unrefused : goal.begin_with_kernel-requires-clause-unrefused
 begin_with_kernel-requires-clause-unrefused g c = own_lock_is c.caller.inside.actor c.args.caller.now c.kind-kind.result c.args.mutex None c.caller.view_is c.caller.invariant (c.kind-kind.ensures.kind ∙ ap (λ (m : MachineState _). slice_get m.first.history.board.mutexes.items c.args.mutex.0) (sym c.requires.machine)) (sym c.in_default.ensures.refused)
+
+pub begin_with_kernel-requires-clause-kind : goal.begin_with_kernel-requires-clause-kind
+begin_with_kernel-requires-clause-kind g c = ap has_ceiling (sym (c.kind-kind.ensures.kind ∙ ap (λ (m : MachineState _). slice_get m.first.history.board.mutexes.items c.args.mutex.0) (sym c.requires.machine))) ∙ sym c.has_ceiling.ensures

@@ -1,13 +1,17 @@
 use Rattle.std.proofs.Common.{length, refl, ap, sym, ◌∙◌, subst}
 use Rattle.evl_base.specs.declared.numbers.ThreadId.{ThreadId}
 use Rattle.evl_kernel.specs.KernelViews.{KernelView}
-use Rattle.evl_machine.specs.Actors.{ActorState, AreHeldAt, ClaimsOneOf, Suits, acting}
+use Rattle.evl_machine.specs.Actors.{ActorState, AreHeldAt, ClaimsOneOf, Suits, acting, call_refusal}
 use Rattle.evl_machine.specs.Calls.{Applied, IsCaller}
 use Rattle.evl_machine.specs.Handles.{account_of}
-use Rattle.evl_machine.specs.Known.{first_of, seen}
+use Rattle.evl_machine.specs.Known.{KernelMe, first_of, seen}
+use Rattle.evl_machine.specs.MutexSeats.{holds_mutex}
+use Rattle.evl_machine.specs.Noted.{IsSettled}
 use Rattle.evl_machine.specs.Seats.{CoreMe}
 use Rattle.evl_machine.specs.StaxSeats.{holds_stax}
 use Rattle.evl_machine.proofs.Calling.{found_taken, called_none}
+use Rattle.evl_machine.proofs.LockingTies.{other_settled}
+use Rattle.evl_machine.proofs.Opened.{just_took}
 use Rattle.evl_machine.proofs.Knowing.{answers_still, first_in_me}
 use Rattle.evl_machine.proofs.Visits.{acted_by, call_along, called_by, comes_still, has_still, same_core, suits_back, suits_opened, suits_same}
 use Rattle.evl_machine.proofs.machine.MachineOf.call_with.Goals as goal
@@ -38,6 +42,13 @@ apply-reply-requires-clause-stays g c holds = c.requires.stays (ap (λ (a : Acto
 
 pub apply-reply-requires-clause-there : goal.apply-reply-requires-clause-there
 apply-reply-requires-clause-there g c = subst (λ ps. ClaimsOneOf (length ps) c.args.call) (sym c.in-Some.ensures.kept.1) c.requires.there
+
+pub shut-requires-clause-settled : goal.shut-requires-clause-settled
+shut-requires-clause-settled g c =
+    let o = c.in-Some.ensures.same.1 in
+    let just = just_took c.args.actor.now c.open.new.actor c.in-Some.kernel c.in-Some.ensures.opened c.requires.suits c.in-Some.ensures.same c.in-Some.ensures.kept.0 c.in-Some.ensures.holder refl c.requires.board in
+    let free = ap (λ (a : ActorState). call_refusal a.wait (holds_stax a.staxes) (holds_mutex a.mutexes) c.args.call) o ∙ c.requires.free in
+    subst (λ (m : KernelMe _). IsSettled m.0 c.apply-reply.new.kernel.history.state) (sym c.apply-reply.ensures.seat.1) (other_settled _ _ just c.apply-reply.new.kernel c.args.call _ _ _ free c.apply-reply.ensures.applied)
 
 pub shut-requires-clause-machine : goal.shut-requires-clause-machine
 shut-requires-clause-machine g c = c.apply-reply.ensures.seat.0 ∙ c.in-Some.ensures.same.0 ∙ c.requires.caller.0

@@ -1,8 +1,9 @@
-use Rattle.std.proofs.Common.{◌≡◌, true, ap, sym, ◌∙◌, subst}
+use Rattle.std.proofs.Common.{◌≡◌, true, ap, refl, sym, ◌∙◌, subst}
 use Rattle.evl_base.specs.Board.{board_fits}
 use Rattle.evl_kernel.specs.Callbacks.{AnswersAsTold}
 use Rattle.evl_kernel.specs.KernelViews.{KernelView}
 use Rattle.evl_machine.specs.Handles.{CallerState, MachineState}
+use Rattle.evl_machine.proofs.Opened.{opened_wait}
 use Rattle.evl_machine.proofs.Staying.{at_stage}
 use Rattle.evl_machine.proofs.machine.MachineOf.end_wait.Goals as goal
 
@@ -15,6 +16,9 @@ pub end_with-requires-clause-answering : goal.end_with-requires-clause-answering
 end_with-requires-clause-answering g c =
     let same = ap (λ (s : CallerState _). s.machine.first) c.caller.view_is ∙ ap (λ (m : MachineState _). m.first) c.requires.machine in
     subst (λ (first : KernelView _). AnswersAsTold g.C.Handler.declared g.C.Handler.plan first.callbacks) (sym same) c.requires.answering
+
+pub end_with-requires-clause-waits : goal.end_with-requires-clause-waits
+end_with-requires-clause-waits g c = opened_wait c.caller.inside.actor c.caller.inside.actor c.args.caller.now _ c.caller.view_is c.caller.invariant refl c.requires.waits
 
 pub returns-clause-stage : goal.returns-clause-stage
 returns-clause-stage g c = at_stage _ _ _ _ c.end_with.ensures.held c.end_with.ensures.suits c.end_with.ensures.rests.own

@@ -5,14 +5,17 @@ use Rattle.evl_kernel.specs.KernelViews.{KernelView}
 use Rattle.evl_machine.specs.Actors.{ActorState, AreHeldAt, Suits, acting, keeps_stage}
 use Rattle.evl_machine.specs.Calls.{Answered, Applied, IsCaller}
 use Rattle.evl_machine.specs.Handles.{account_of}
-use Rattle.evl_machine.specs.Known.{first_of, seen}
+use Rattle.evl_machine.specs.Known.{KernelMe, first_of, seen}
+use Rattle.evl_machine.specs.Noted.{IsSettled}
 use Rattle.evl_machine.specs.MutexSeats.{holds_mutex}
 use Rattle.evl_machine.specs.Seats.{CoreMe}
 use Rattle.evl_machine.specs.StaxSeats.{holds_stax}
 use Rattle.evl_kernel.specs.Waits.{has_ended}
+use Rattle.evl_machine.proofs.LockingTies.{other_settled, same_settled}
+use Rattle.evl_machine.proofs.Opened.{just_took}
 use Rattle.evl_machine.proofs.Knowing.{answers_still, first_in_me}
 use Rattle.evl_machine.proofs.Visits.{acted_by, call_along, called_by, comes_still, has_still, none_along, same_core, suits_back, suits_opened, suits_same}
-use Rattle.evl_machine.proofs.WaitingLaws.{goes_on, look_opened}
+use Rattle.evl_machine.proofs.WaitingLaws.{goes_on, look_opened, may_finish}
 use Rattle.evl_machine.proofs.machine.MachineOf.end_with.Goals as goal
 
 pub returns-in_default-clause-rests : goal.returns-in_default-clause-rests
@@ -23,6 +26,9 @@ returns-in_default-clause-suits g c = suits_same c.args.actor.now c.open.new.act
 
 pub returns-in_default-clause-held : goal.returns-in_default-clause-held
 returns-in_default-clause-held g c = c.in_default.ensures.held
+
+pub shut-requires-clause-settled : goal.shut-requires-clause-settled
+shut-requires-clause-settled g c = same_settled _ _ (just_took c.args.actor.now c.open.new.actor c.in-Some.kernel c.in-Some.ensures.opened c.requires.suits c.in-Some.ensures.same c.in-Some.ensures.kept.0 c.in-Some.ensures.holder refl c.requires.board) _ refl
 
 pub shut-requires-clause-machine : goal.shut-requires-clause-machine
 shut-requires-clause-machine g c = c.in-Some.ensures.same.0 ∙ c.requires.caller.0
@@ -67,6 +73,13 @@ apply-reply-requires-clause-answering g c = answers_still _ _ _ _ c.in-Some.ensu
 
 pub apply-reply-requires-clause-suits : goal.apply-reply-requires-clause-suits
 apply-reply-requires-clause-suits g c = suits_opened c.args.actor.now c.open.new.actor c.in-Some.kernel c.in-Some.ensures.opened c.requires.suits c.in-Some.ensures.same.1
+
+pub shut-requires-2-clause-settled : goal.shut-requires-2-clause-settled
+shut-requires-2-clause-settled g c =
+    let just = just_took c.args.actor.now c.open.new.actor c.in-Some.kernel c.in-Some.ensures.opened c.requires.suits c.in-Some.ensures.same c.in-Some.ensures.kept.0 c.in-Some.ensures.holder refl c.requires.board in
+    let waits = ap (λ (a : ActorState). a.wait) c.in-Some.ensures.same.1 ∙ c.requires.waits in
+    subst (λ (m : KernelMe _). IsSettled m.0 c.apply-reply.new.kernel.history.state) (sym c.apply-reply.ensures.seat.1)
+    (other_settled _ _ just c.apply-reply.new.kernel (Finish c.keeps_stage-keep.result) _ (holds_stax c.open.new.actor.staxes) (holds_mutex (acting c.open.new.actor).mutexes) (may_finish _ (holds_stax c.open.new.actor.staxes) (holds_mutex (acting c.open.new.actor).mutexes) _ waits c.keeps_stage-keep.ensures) c.apply-reply.ensures.applied)
 
 pub shut-requires-2-clause-machine : goal.shut-requires-2-clause-machine
 shut-requires-2-clause-machine g c = c.apply-reply.ensures.seat.0 ∙ c.in-Some.ensures.same.0 ∙ c.requires.caller.0

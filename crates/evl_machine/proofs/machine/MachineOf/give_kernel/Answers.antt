@@ -6,6 +6,7 @@ use Rattle.evl_machine.specs.Events.{Gives}
 use Rattle.evl_machine.specs.Handles.{MachineState, account_of}
 use Rattle.evl_machine.specs.Known.{ComesFrom, past_of, room_of, seen}
 use Rattle.evl_machine.specs.MutexTokens.{KeepsPlaces}
+use Rattle.evl_machine.specs.Noted.{IsSettled}
 use Rattle.evl_machine.proofs.Knowing.{gives_known, gave_places, gave_seen, first_in_me, hand_in_me}
 use Rattle.evl_machine.proofs.Taking.{is_loaded}
 use Rattle.evl_machine.proofs.machine.MachineOf.give_kernel.Goals as goal
@@ -15,7 +16,8 @@ store-requires g c =
     let is = is_loaded past_of room_of (account_of (seen c.args.seat.now.me)) c.args.kernel (seen c.args.seat.now.me) (seen c.exchange.new.seat.me) c.requires.kernel.0 (ap seen c.exchange.ensures.3) in (
       c.exchange.ensures.0 ∙ (c.requires.machine ∙ sym (ap (λ (m : MachineState _). m.id) c.self.view_is)),
       omega (arith, c.self.invariant.0),
-      gives_known c.self.inside.core.shared.key.value _ _ c.exchange.new.seat.me (account_of (seen c.args.seat.now.me)) c.args.kernel is (subst (λ first. ComesFrom first c.args.kernel) (sym (ap first_in_me c.exchange.ensures.3)) c.requires.comes) c.requires.kernel.1 (step 0 0 0 0 none),
+      gives_known c.self.inside.core.shared.key.value _ _ c.exchange.new.seat.me (account_of (seen c.args.seat.now.me)) c.args.kernel is (subst (λ first. ComesFrom first c.args.kernel) (sym (ap first_in_me c.exchange.ensures.3)) c.requires.comes) c.requires.kernel.1
+          (subst (λ hand. IsSettled hand c.args.kernel.history.state) (sym (ap hand_in_me c.exchange.ensures.3)) c.requires.settled) (step 0 0 0 0 none),
     )
 
 pub returns-clause-same : goal.returns-clause-same

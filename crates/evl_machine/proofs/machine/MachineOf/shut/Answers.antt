@@ -3,6 +3,7 @@ use Rattle.evl_machine.specs.Actors.{SeatedActor, acting}
 use Rattle.evl_machine.specs.Calls.{IsHeld}
 use Rattle.evl_machine.specs.Handles.{account_of}
 use Rattle.evl_machine.specs.Known.{first_of, seen}
+use Rattle.evl_machine.specs.Noted.{IsSettled}
 use Rattle.evl_machine.proofs.Calling.{gives_caller}
 use Rattle.evl_machine.proofs.SeatsAt.{acting_kept}
 use Rattle.evl_machine.proofs.Visits.{actor_kept}
@@ -21,3 +22,6 @@ returns-clause-same g c =
 
 pub returns-clause-rests : goal.returns-clause-rests
 returns-clause-rests g c = gives_caller _ _ _ c.args.kernel (subst (λ (a : SeatedActor _). IsHeld (seen a.me) a.thread c.args.kernel) (sym c.actor.view_is) c.requires.held) c.give_kernel.ensures.given
+
+pub give_kernel-requires-clause-settled : goal.give_kernel-requires-clause-settled
+give_kernel-requires-clause-settled g c = subst (λ (a : SeatedActor _). IsSettled a.me.0 c.args.kernel.history.state) (sym c.actor.view_is) c.requires.settled

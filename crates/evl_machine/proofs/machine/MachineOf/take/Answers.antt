@@ -1,9 +1,12 @@
 use Rattle.std.proofs.Common.{ap, sym, ◌∙◌, subst}
+use Rattle.evl_base.specs.Board.{board_fits}
+use Rattle.evl_base.specs.declared.numbers.ThreadId.{ThreadId}
 use Rattle.evl_kernel.specs.KernelViews.{KernelView}
 use Rattle.evl_machine.specs.declared.views.Account.{Account}
 use Rattle.evl_machine.specs.Events.{FailsToTake, Takes}
 use Rattle.evl_machine.specs.Handles.{CallerState, MachineState, account_of}
 use Rattle.evl_machine.specs.Known.{seen}
+use Rattle.evl_machine.proofs.Opened.{owned_seats, own_thread}
 use Rattle.evl_machine.proofs.Visits.{caller_same, has_taken_it, took_it}
 use Rattle.evl_machine.proofs.machine.MachineOf.take.Goals as goal
 
@@ -12,10 +15,10 @@ open-requires-clause-machine g c = ap (λ (s : CallerState _). s.machine.id) c.c
 
 pub invariant_of-result : goal.invariant_of-result
 invariant_of-result g c =
-    has_taken_it c.args.self.now c.caller.inside.actor c.open.new.actor c.in-Some.kernel c.in-Some.ensures.opened c.caller.invariant.1 c.in-Some.ensures.same c.in-Some.ensures.kept.0 (ap (λ (s : CallerState _). s.machine) c.caller.view_is ∙ c.requires)
+    has_taken_it c.args.self.now c.caller.inside.actor c.open.new.actor c.in-Some.kernel c.in-Some.ensures.opened c.caller.invariant.1 c.in-Some.ensures.same c.in-Some.ensures.kept.0 (ap (λ (s : CallerState _). s.machine) c.caller.view_is ∙ c.requires) c.in-Some.ensures.holder (ap (λ (s : MachineState _). board_fits s.first.history.board) (sym c.self.view_is) ∙ c.self.invariant.4)
 
 pub returns-in-Some-clause-taken : goal.returns-in-Some-clause-taken
-returns-in-Some-clause-taken g c = took_it c.args.self.now c.caller.inside.actor c.open.new.actor c.in-Some.kernel c.args.caller c.in-Some.ensures.opened c.in-Some.ensures.same.1 c.caller.view_is c.requires
+returns-in-Some-clause-taken g c = took_it c.args.self.now c.caller.inside.actor c.open.new.actor c.in-Some.kernel c.args.caller c.in-Some.ensures.opened c.in-Some.ensures.same.1 c.caller.view_is c.requires (owned_seats c.open.new.actor c.in-Some.kernel _ c.in-Some.ensures.own (own_thread _ _ _ _ _ c.in-Some.ensures.opened (ap (λ (t : ThreadId). t.0) (sym c.in-Some.ensures.kept.0))) c.in-Some.ensures.holder)
 
 pub returns-in-Some-clause-event : goal.returns-in-Some-clause-event
 returns-in-Some-clause-event g c =

@@ -1,14 +1,16 @@
 use Rattle.std.proofs.Common.{sym, ap, ◌∙◌, arith, subst}
 use mathlib.Core.Option.{none}
 use Rattle.atomic_table.specs.Table.{step}
+use Rattle.evl_kernel.specs.KernelViews.{KernelView}
 use Rattle.evl_machine.specs.Seats.{CoreMe}
 use Rattle.evl_machine.specs.Handles.{MachineState, account_of}
 use Rattle.evl_machine.specs.declared.views.Account.{Account}
 use Rattle.evl_machine.specs.Events.{Takes}
 use Rattle.evl_machine.specs.Known.{first_of, past_of, room_of, seen}
-use Rattle.evl_machine.specs.MutexTokens.{HasKernel, KeepsPlaces}
+use Rattle.evl_machine.specs.MutexTokens.{KeepsPlaces}
+use Rattle.evl_machine.specs.Noted.{HasTaken}
 use Rattle.evl_machine.proofs.Knowing.{takes_known, took_holds, took_places, took_seen, first_in_me, hand_in_me}
-use Rattle.evl_machine.proofs.Taking.{one_slot, takes_out, comes_out}
+use Rattle.evl_machine.proofs.Taking.{one_slot, out_as, takes_out, comes_out}
 use Rattle.evl_machine.proofs.machine.MachineOf.take_kernel.Goals as goal
 
 pub compare_exchange-requires : goal.compare_exchange-requires
@@ -64,7 +66,6 @@ returns-then-compare_exchange-ne0-clause-places g c = took_places (step 0 0 0 1 
 
 pub returns-clause-holder : goal.returns-clause-holder
 returns-clause-holder g c =
-    let told = took_seen (step 0 0 0 1 none) _ _ _ _ c.requires.1 c.compare_exchange.ensures.2 in
-    let found = c.if-compare_exchange-ne0.false in
-    comes_out past_of room_of _ (seen c.args.seat.now.me) (seen c.compare_exchange.new.seat.me) _ _ _ (told.0 found) c.exchange.ensures.2
-    (subst HasKernel (sym (ap hand_in_me c.exchange.ensures.3)) (took_holds (step 0 0 0 1 none) _ _ _ _ c.requires.1 c.compare_exchange.ensures.2 found))
+    let holds = took_holds (step 0 0 0 1 none) _ _ _ _ c.requires.1 c.compare_exchange.ensures.2 c.if-compare_exchange-ne0.false in
+    out_as past_of room_of c.compare_exchange.new.seat.me.1 holds.0 c.exchange.result _ (λ (k : KernelView _). HasTaken (account_of (seen c.args.seat.now.me)).thread k.history c.exchange.new.seat.me.0) holds.1 c.exchange.ensures.2
+    (subst (λ hand. HasTaken (account_of (seen c.args.seat.now.me)).thread holds.0.history hand) (sym (ap hand_in_me c.exchange.ensures.3)) holds.2)

@@ -1,4 +1,5 @@
 use Rattle.std.proofs.Common.{ap, ◌∙◌, Ok}
+use Rattle.evl_machine.specs.Calls.{wait_of_caller}
 use Rattle.evl_machine.proofs.MutexUnlocks.{still_has, unlocked_by_kernel}
 use Rattle.evl_machine.proofs.machine.MachineOf.unlock_at_word.Goals as goal
 
@@ -7,3 +8,6 @@ release_with_kernel-requires-clause-once g c = still_has _ _ _ _ _ c.requires.ow
 
 pub returns-in-Claimed-clause-unlocked : goal.returns-in-Claimed-clause-unlocked
 returns-in-Claimed-clause-unlocked g c = unlocked_by_kernel _ _ _ _ _ _ _ c.requires.own c.in-Claimed.is c.unlock_word.ensures.unlocked c.release_with_kernel.ensures.visits
+
+pub release_with_kernel-requires-clause-idle : goal.release_with_kernel-requires-clause-idle
+release_with_kernel-requires-clause-idle g c = ap wait_of_caller c.unlock_word.ensures.unlocked.0 ∙ c.requires.idle
