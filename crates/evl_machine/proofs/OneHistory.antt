@@ -1,5 +1,5 @@
 -- What two callers of one machine know together: two tokens are one for a moment, in which the rule tells that their threads fit one history.
-use Rattle.std.proofs.Common.{◌≡◌, ◌≢◌, ◌⊎◌, inl, inr, ⊎_elim, ℕ, ◌+◌, ◌<◌, nat_lt, List, [], ◌∷◌, ◌++◌, length, map, get_or, Option, Some, None, slice_get, refl, sym, ap, ◌∙◌, subst, append_assoc, arith}
+use Rattle.std.proofs.Common.{◌≡◌, ◌≢◌, inl, inr, ⊎_elim, ℕ, ◌+◌, ◌<◌, nat_lt, List, [], ◌∷◌, ◌++◌, length, map, get_or, Option, Some, None, slice_get, refl, sym, ap, ◌∙◌, subst, append_assoc, arith}
 use Rattle.std.specs.Option.{option_map}
 use Rattle.std.proofs.lemmas.Option.{slice_get-map, slice_get_within}
 use mathlib.Core.Option.{some}
@@ -76,9 +76,6 @@ one_history h a b apart is other f g = record {
 }
 
 module _ {C : Type 0} where
-  abbrev ThisPlace : Type 0
-  ThisPlace = Place (ThreadView (KernelView C) MutexView)
-
   -- the threads of a token that has two fit one history of the kernel, and are together at each mutex's word
   pub two_known : (first : KernelView C) → TellsOfTwo (KeptKnown first) AreTogether
   two_known first s id p q d at =

@@ -11,9 +11,7 @@ use crate::actor::Actor;
 use crate::caller::CallerOf;
 use crate::machine::MachineOf;
 use crate::views::{Made, ThreadView};
-use evl_words::{
-    MutexCall, MutexHold, MutexReply, Together, View, WordEntry, look_together,
-};
+use evl_words::{MutexCall, MutexHold, MutexReply, Together, View, WordEntry, look_together};
 use std::alloc::Allocator;
 use std::marker::PhantomData;
 

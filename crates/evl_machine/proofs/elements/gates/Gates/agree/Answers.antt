@@ -1,4 +1,4 @@
-use Rattle.std.proofs.Common.{◌≡◌, ◌<◌, length, slice_set, ap, ◌∙◌, sym, arith, subst}
+use Rattle.std.proofs.Common.{◌<◌, length, slice_set, ap, ◌∙◌, sym, arith, subst}
 use Rattle.std.proofs.Common.{slice_get}
 use Rattle.std.proofs.lemmas.Option.{slice_get_within}
 use Rattle.evl_words.specs.GateCalls.{SeatState}
