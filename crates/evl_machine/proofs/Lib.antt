@@ -25,6 +25,7 @@ pub mod StaxCalls
 pub mod Seating
 pub mod Newcomers
 pub mod Gathering
+pub mod OneHistory
 pub mod Crossing
 pub mod CoreLaws
 pub mod OneWorldLaws

@@ -1,8 +1,10 @@
 -- What one seat does at a stax, told of the list in which it stands.
-use Rattle.std.proofs.Common.{◌≡◌, ℕ, ◌+◌, ◌≤◌, ◌<◌, ◌==◌, ◌&&◌, nat_lt, cond, Bool, true, false, if◌then◌else◌, List, [], ◌∷◌, ◌++◌, length, length-append, get_or, take, map, Option, Some, None, is_some, Result, Ok, Err, is_ok, IfOk, IfErr, MatchOption, slice_get, slice_set, refl, sym, ap, ◌∙◌, arith}
+use Rattle.std.proofs.Common.{◌≡◌, ◌≢◌, ℕ, ◌+◌, ◌≤◌, ◌<◌, ◌==◌, ◌&&◌, nat_lt, cond, Bool, true, false, if◌then◌else◌, List, [], ◌∷◌, ◌++◌, length, length-append, get_or, take, map, Option, Some, None, is_some, Result, Ok, Err, is_ok, IfOk, IfErr, MatchOption, slice_get, slice_set, refl, sym, ap, ◌∙◌, subst, arith}
 use Rattle.std.specs.List.{range_with_len}
 use Rattle.std.proofs.lemmas.List.{length-map, map-append, take_more}
 use Rattle.std.proofs.lemmas.List.FromFn.{length-range_with_len}
+use mathlib.Core.Logic.{dite}
+use native.Mathlib.Decide.{ℕ_discrete}
 use mir.Val.{bool_byte}
 use Rattle.evl_base.specs.declared.stage.Stage.{Stage}
 use Rattle.evl_base.specs.declared.refusal.Refusal.{Refusal}
@@ -10,7 +12,7 @@ use Rattle.evl_base.specs.declared.refusal.Refusal.TheVariants.{NoMemory, Histor
 use Rattle.evl_words.specs.declared.gate.StaxPass.{StaxPass}
 use Rattle.evl_words.specs.declared.gate.GateCall.TheVariants.{Enter}
 use Rattle.evl_words.specs.declared.gate.GateReply.TheVariants.{Entered}
-use Rattle.evl_words.specs.GateCalls.{GateState, SeatState, new_seat, IsSeatOf, IsSameSeat, IsPassOf, Tries, Calls, FailsToEnter}
+use Rattle.evl_words.specs.GateCalls.{AgreeAtGate, GateState, SeatState, new_seat, IsSeatOf, IsSameSeat, IsPassOf, Tries, Calls, FailsToEnter}
 use Rattle.evl_machine.specs.Homes.{Home, gate_home, stax_home}
 use Rattle.evl_machine.specs.AtSeats.{AtSeat}
 use Rattle.evl_machine.specs.StaxSeats.{is_held, stax_passes, AreFresh, AreGatesOf, Leaves, Enters, TriesStax, LeavesSo, LeavesBy, LeavesStax, pass_refusal}
@@ -140,3 +142,15 @@ pub fresh : (limits : List ℕ) (threads : ℕ) (gates : List GateState) → len
 fresh limits threads gates few are k =
     let long : length gates ≡ length limits = sym (length-map gates (λ (g : GateState). g.limit)) ∙ ap length are.bounds in
     fresh-counted (λ g n. new_seat g n) (λ (g : GateState). g.id.0) (λ (s : SeatState). s.gate.0) stax_passes (λ g n. refl) (λ g n. refl) k gates (omega (arith, few, long)) (are.numbers ∙ ap (range_with_len 0) (sym long))
+
+-- the seats of two threads agree at one gate more
+pub agree_more : (xs ys : List SeatState) (n : ℕ) (s t : SeatState) → ((i : ℕ) (p q : SeatState) → i < n → slice_get xs i ≡ Some p → slice_get ys i ≡ Some q → AgreeAtGate p q) → slice_get xs n ≡ Some s → slice_get ys n ≡ Some t → AgreeAtGate s t
+    → (i : ℕ) (p q : SeatState) → i < n + 1 → slice_get xs i ≡ Some p → slice_get ys i ≡ Some q → AgreeAtGate p q
+agree_more xs ys n s t before here there agree i p q less at also = dite (ℕ_discrete i n)
+    (λ (e : i ≡ n).
+    let one : Some s ≡ Some p = sym here ∙ (ap (slice_get xs) (sym e) ∙ at) in
+    let other : Some t ≡ Some q = sym there ∙ (ap (slice_get ys) (sym e) ∙ also) in
+    let same : s ≡ p = cc in
+    let like : t ≡ q = cc in
+    subst (λ (z : SeatState × SeatState). AgreeAtGate z.0 z.1) (λ j. (same j, like j)) agree)
+    (λ (ne : i ≢ n). before i p q (omega (arith, less, ne)) at also)

@@ -29,6 +29,7 @@ pub mod Callers
 pub mod StaxCalls
 pub mod Makings
 pub mod Closings
+pub mod OneHistory
 pub mod Locking
 pub mod InHand
 pub mod Visits

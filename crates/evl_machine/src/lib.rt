@@ -2,6 +2,7 @@
 #![tactic(auto)]
 
 mod actor;
+mod agreeing;
 mod boxed;
 mod caller;
 mod closing;

@@ -1,5 +1,5 @@
 -- A seat of a gate, as its callers see it, before and after a step.
-use Rattle.std.proofs.Common.{◌≡◌, ◌≢◌, ℕ, [], ◌∷◌, refl, ap, ◌∙◌, subst}
+use Rattle.std.proofs.Common.{◌≡◌, ◌≢◌, ℕ, [], ◌∷◌, get_or, refl, ap, ◌∙◌, subst}
 use Rattle.std.specs.Prelude.{Option, Some, None, is_some, false, IsSome, MatchOption}
 use Rattle.atomic_table.specs.Table.{Me, Step, Allows}
 use Rattle.evl_base.specs.declared.stage.Stage.{Stage}
@@ -16,12 +16,14 @@ use Rattle.evl_words.specs.Gate.{GateStep, open_gate}
 use Rattle.evl_words.specs.GateWord.{word_refusal}
 use Rattle.evl_words.specs.GateWorld.{GateView, GateKind, GateDoes, GateLooks, GateAppends, step_may, step_word, gate_author, gate_entry, hold, newcomer}
 use Rattle.evl_words.specs.GateRule.{GateRule, GatePart, Shows, Finds, view_in}
-use Rattle.evl_words.specs.GateCalls.{SeatState, IsSameSeat, Calls, Races, FailsToEnter}
+use Rattle.evl_words.specs.GateCalls.{SeatState, AreAtGate, IsSameSeat, Calls, Races, FailsToEnter}
 use Rattle.evl_words.proofs.Sequences.{prefix_refl, prefix_trans}
 use Rattle.evl_words.proofs.Histories.{extends_after, seen_before}
 use Rattle.evl_words.proofs.Dealing.{told_at}
 use Rattle.evl_words.proofs.Parts.{turns_as, allows_part}
-use Rattle.evl_words.proofs.GateSteps.{gate_turn}
+use Rattle.evl_words.specs.Looks.{TellsOfTwo}
+use Rattle.evl_words.proofs.LookLaws.{see_one, two_apart}
+use Rattle.evl_words.proofs.GateSteps.{gate_turn, holders_agree}
 
 abbrev pub IsOneSeat : ℕ → Me (Unit {0}) (Hand GateView) → Type 0
 IsOneSeat k me = me ≡ (place k (view_in me.0) ∷ [], [])
@@ -90,3 +92,13 @@ fails_after old mid new stage _ same look held free f = f
 pub is_none : (o : Option Stage) → is_some o ≡ false → o ≡ None
 is_none None e = refl
 is_none (Some s) e = cc
+
+-- two seats of one token see one history, and hold the gate at one stage
+pub two_at_gate : {S : Type 0} (limit seats : ℕ) → TellsOfTwo {S = S} (GateRule limit seats) AreAtGate
+two_at_gate limit seats s id p q d at =
+    let are = d.deals.same id (p ∷ q ∷ []) at in
+    let part = d.kept.kept in record {
+      apart = two_apart d.views s.views id p q d.deals at;
+      history = see_one gate_author part.0 p.number q.number p.view q.view (part.1.history.fits p.number p.view are.0) (part.1.history.fits q.number q.view are.1.0);
+      stage = holders_agree limit (record { word = get_or s.words 0 0; log = part.0; views = d.views }) part.1 p.number q.number p.view q.view are.0 are.1.0;
+    }

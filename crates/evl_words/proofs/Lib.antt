@@ -6,6 +6,7 @@ pub mod Dealing
 pub mod Dealings
 pub mod Counting
 pub mod Endings
+pub mod LookLaws
 pub mod Parts
 pub mod GateLaws
 pub mod GateWords

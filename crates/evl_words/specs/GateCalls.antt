@@ -1,5 +1,5 @@
 -- A gate and its seats as their callers see them, and what a call did.
-use Rattle.std.specs.Prelude.{◌≡◌, ◌≢◌, ◌⊎◌, ℕ, ◌≤◌, Option, None, IsSome, is_some, List, [], ◌∷◌, length, count_by, All}
+use Rattle.std.specs.Prelude.{◌≡◌, ◌≢◌, ◌⊎◌, ℕ, ◌≤◌, Option, Some, None, IsSome, is_some, List, [], ◌∷◌, length, count_by, All}
 use mathlib.Core.List.{IsPrefix}
 use Rattle.evl_base.specs.declared.stage.Stage.{Stage}
 use Rattle.evl_base.specs.declared.numbers.StaxId.{StaxId}
@@ -12,7 +12,7 @@ use Rattle.evl_words.specs.declared.gate.GateReply.{GateReply}
 use Rattle.evl_words.specs.declared.gate.GateReply.TheVariants.{Refused}
 use Rattle.atomic_table.specs.Seated.{TableId}
 use Rattle.evl_words.specs.Machine.{Run}
-use Rattle.evl_words.specs.History.{Fits, entries_of}
+use Rattle.evl_words.specs.History.{Fits, SeeOneHistory, entries_of}
 use Rattle.evl_words.specs.declared.history.Place.{Place}
 use Rattle.evl_words.specs.Hands.{Hand, place}
 use Rattle.evl_words.specs.Gate.{Gate, GateEntry, GateStep, open_gate, stage_held}
@@ -114,3 +114,12 @@ pub record Closes (gate : GateState) (seats : List SeatState) (found : ℕ) : Ty
 
 abbrev pub place_of : SeatState → Place GateView
 place_of seat = place seat.number seat.view
+
+-- Two seats of a gate: of what they have seen one is the beginning of the other, and where both hold the gate, they do so at one stage
+pub record AreAtGate (p q : Place GateView) : Type 0 where
+  pub apart : p.number ≢ q.number
+  pub history : SeeOneHistory gate_author p.number p.view q.number q.view
+  pub stage : (s t : Stage) → p.view.held.stage ≡ Some s → q.view.held.stage ≡ Some t → s ≡ t
+
+abbrev pub AgreeAtGate : SeatState → SeatState → Type 0
+AgreeAtGate one other = AreAtGate (place_of one) (place_of other)

@@ -1,5 +1,5 @@
 -- The common history of an object that callers share, and what each of its seats knows of it.
-use Rattle.std.specs.Prelude.{◌≡◌, ℕ, ◌≤◌, ◌==◌, List, [], ◌∷◌, ◌++◌, length, map, filter}
+use Rattle.std.specs.Prelude.{◌≡◌, ◌⊎◌, ℕ, ◌≤◌, ◌==◌, List, [], ◌∷◌, ◌++◌, length, map, filter}
 use mathlib.Core.List.{IsPrefix}
 use mathlib.Core.Option.{some}
 use lib.ListN.{get_elem?}
@@ -21,6 +21,10 @@ module _ {E : Type 0} (author : E → ℕ) where
       pub seen : IsPrefix v.seen log
       pub own : entries_of seat log ≡ v.mine
       pub known : entries_of seat v.seen ≡ v.mine
+
+    -- Of what two seats have seen one is the beginning of the other, and the longer one has just the other's own entries of its seat
+    abbrev pub SeeOneHistory : ℕ → View E H → ℕ → View E H → Type 0
+    SeeOneHistory j u k v = Fits v.seen j u ⊎ Fits u.seen k v
 
     module _ {S : Type 0} (step : S → E → S → Type 0) (opening : S) where
       -- A legal history that ends in a state, and that all views fit, seat k's view being the k-th. It has the entries of these seats and of no others, and its last state is tied to what the seats hold

@@ -3,6 +3,7 @@ pub mod History
 pub mod Events
 pub mod Hands
 pub mod Endings
+pub mod Looks
 pub mod Dealings
 pub mod Parts
 pub mod Gate

@@ -1,5 +1,5 @@
 -- A mutex word and its seats as their callers see them, and what a call did.
-use Rattle.std.specs.Prelude.{◌≡◌, ◌⊎◌, ℕ, ◌+◌, ◌-◌, ◌<◌, ◌≤◌, ◌==◌, Bool, true, false, List, [], ◌∷◌, All, MatchBool}
+use Rattle.std.specs.Prelude.{◌≡◌, ◌≢◌, ◌⊎◌, ℕ, ◌+◌, ◌-◌, ◌<◌, ◌≤◌, ◌==◌, Bool, true, false, List, [], ◌∷◌, All, MatchBool}
 use Rattle.evl_base.specs.declared.numbers.MutexId.{MutexId}
 use Rattle.evl_base.specs.declared.refusal.Refusal.{Refusal}
 use Rattle.evl_base.specs.declared.refusal.Refusal.TheVariants.{Busy, Deadlock, Limit}
@@ -16,13 +16,13 @@ use Rattle.evl_words.specs.declared.mutex.Unlock.{Unlock as Unlocking}
 use Rattle.evl_words.specs.declared.mutex.Unlock.TheVariants.{Done as IsDone, Claimed as IsClaimed}
 use Rattle.atomic_table.specs.Seated.{TableId}
 use Rattle.evl_words.specs.Machine.{Run}
-use Rattle.evl_words.specs.History.{Fits, entries_of}
+use Rattle.evl_words.specs.History.{Fits, SeeOneHistory, entries_of}
 use Rattle.evl_words.specs.declared.history.Place.{Place}
 use Rattle.evl_words.specs.Hands.{Hand, place}
 use Rattle.evl_words.specs.Mutex.{Mutex, MutexEntry, MutexStep, unowned, is_owner, is_seizing}
 use Rattle.evl_words.specs.MutexBits.{mutex_word}
 use Rattle.evl_words.specs.MutexRule.{view_in}
-use Rattle.evl_words.specs.MutexWorld.{MutexView, MutexKind, MutexDoes, MutexLooks, MutexAppends, EndsOffered, NamesBelow, awaits, accepts, mutex_author, newcomer, role_of, owns, wins}
+use Rattle.evl_words.specs.MutexWorld.{MutexView, MutexKind, MutexDoes, MutexLooks, MutexAppends, EndsOffered, HasIt, NamesBelow, awaits, accepts, mutex_author, newcomer, role_of, owns, wins}
 
 -- of which table and mutex the seat is, its number, how often it holds the mutex, and its view
 pub record MutexSeatState : Type 0 where
@@ -131,3 +131,13 @@ pub record Closes (mutex : MutexState) (seats : List MutexSeatState) (found : �
 
 abbrev pub place_of : MutexSeatState → Place MutexView
 place_of seat = place seat.number seat.view
+
+-- Two seats of a mutex: of what they have seen one is the beginning of the other, and at most one of them has the mutex
+pub record AreAtMutex (p q : Place MutexView) : Type 0 where
+  pub apart : p.number ≢ q.number
+  pub history : SeeOneHistory mutex_author p.number p.view q.number q.view
+  pub alone : HasIt p.view → HasIt q.view → ⊥
+
+pub record AgreeAtMutex (one other : MutexSeatState) : Type 0 where
+  pub are : AreAtMutex (place_of one) (place_of other)
+  pub alone : 0 < one.depth → other.depth ≡ 0

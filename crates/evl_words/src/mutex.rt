@@ -6,6 +6,7 @@ use std::alloc::{Allocator, Global};
 use std::collections::LinkedList;
 use std::marker::Model;
 
+mod agreeing;
 pub mod bits;
 mod ends;
 mod handing;

@@ -3,6 +3,7 @@ ghost use Rattle.std.specs.Prelude.{◌≡◌, ◌<◌, length, map};
 ghost use Rattle.evl_words.specs.GateCalls.{IsSeatOf, IsSameSeat};
 ghost use Rattle.evl_machine.specs.Homes.{gate_home, stax_home};
 ghost use Rattle.evl_machine.specs.AtSeats.{AtSeat};
+ghost use Rattle.evl_machine.specs.OneHistory.{AgreeOnStaxes};
 ghost use Rattle.evl_machine.specs.StaxSeats.{LeavesBy, LeavesStax, TriesStax};
 ghost use Rattle.evl_machine.specs.StaxWaits.{Marks};
 
@@ -33,6 +34,17 @@ impl<A: Allocator> Gates<A> {
         let result = self.gates[place].try_lock(&mut seats.seats[place], stage);
         seats.held += u16::from(result.is_ok());
         result
+    }
+
+    /// The seats of two threads agree at each gate.
+    pub(crate) fn agree(&self, one: &mut StaxSeats<A>, other: &mut StaxSeats<A>)
+        requires homes { (map stax_home one.old ≡ map gate_home self.now) × (map stax_home other.old ≡ map gate_home self.now) }
+        ensures same { (one.new ≡ one.old) × (other.new ≡ other.old) }
+        ensures agree { AgreeOnStaxes one.old other.old }
+    {
+        for place in 0..self.gates.len() {
+            self.gates[place].agree(&mut one.seats[place], &mut other.seats[place]);
+        }
     }
 
     /// Sets the claim mark of a stax, by which the last one to leave sees that others want in.
