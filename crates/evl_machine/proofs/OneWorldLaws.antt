@@ -116,8 +116,13 @@ module _ {S B : Type 0} (past : S → History) (room : S → ℕ) (comes : B →
       word_keeps : (c : CorePart B) → CoreKept past comes first w.word (w.slot ∷ []) (set (map core_of w.views) k c)
           → TieOf i w.word (w.slot ∷ []) (set (map core_of w.views) k c) (mutex.step_word (get_or w.mutexes i 0) k (mutex_of i v) kind)
           → ((j word : ℕ) → j ≢ i → TieOf j w.word (w.slot ∷ []) (map core_of w.views) word → TieOf j w.word (w.slot ∷ []) (set (map core_of w.views) k c) word)
-          → Stands (record { word = w.word; slot = w.slot; mutexes = set w.mutexes i (mutex.step_word (get_or w.mutexes i 0) k (mutex_of i v) kind);
-            logs = λ j. if j == i then w.logs i ++ mutex.step_entries (get_or w.mutexes i 0) k (mutex_of i v) kind else w.logs j; views = set w.views k (put_core (put_mutex i v part) c) })
+          → Stands (record {
+            word = w.word;
+            slot = w.slot;
+            mutexes = set w.mutexes i (mutex.step_word (get_or w.mutexes i 0) k (mutex_of i v) kind);
+            logs = λ j. if j == i then w.logs i ++ mutex.step_entries (get_or w.mutexes i 0) k (mutex_of i v) kind else w.logs j;
+            views = set w.views k (put_core (put_mutex i v part) c);
+          })
       word_keeps c locked mine others = record {
         count = length-set w.mutexes i n ∙ h.count;
         locked = subst (λ cs. CoreKept past comes first w.word (w.slot ∷ []) cs) (sym cores_are) locked;
@@ -165,8 +170,13 @@ module _ {S B : Type 0} (past : S → History) (room : S → ℕ) (comes : B →
       again = set_again (map core_of w.views) k (core_of v) core_at
 
       -- by the thread that has the kernel
-      by_holder : HasFor i (core_of v) → Stands (record { word = w.word; slot = w.slot; mutexes = set w.mutexes i (mutex.step_word (get_or w.mutexes i 0) k (mutex_of i v) kind);
-        logs = λ j. if j == i then w.logs i ++ mutex.step_entries (get_or w.mutexes i 0) k (mutex_of i v) kind else w.logs j; views = set w.views k (put_core (put_mutex i v part) (noted_if true i (mutex.step_word (get_or w.mutexes i 0) k (mutex_of i v) kind) (core_of v))) })
+      by_holder : HasFor i (core_of v) → Stands (record {
+        word = w.word;
+        slot = w.slot;
+        mutexes = set w.mutexes i (mutex.step_word (get_or w.mutexes i 0) k (mutex_of i v) kind);
+        logs = λ j. if j == i then w.logs i ++ mutex.step_entries (get_or w.mutexes i 0) k (mutex_of i v) kind else w.logs j;
+        views = set w.views k (put_core (put_mutex i v part) (noted_if true i (mutex.step_word (get_or w.mutexes i 0) k (mutex_of i v) kind) (core_of v)));
+      })
       by_holder (g, has, about) =
           let n = mutex.step_word (get_or w.mutexes i 0) k (mutex_of i v) kind in
           word_keeps (noted_if true i n (core_of v))
@@ -175,8 +185,13 @@ module _ {S B : Type 0} (past : S → History) (room : S → ℕ) (comes : B →
           (λ j word ne tied. ties_beside past comes first ceilings i k (core_of v) g has about w.word (w.slot ∷ []) (map core_of w.views) h.locked core_at n j word ne tied)
 
       -- by anybody, where the tie stands over the word that is left
-      by_anybody : TieOf i w.word (w.slot ∷ []) (map core_of w.views) (mutex.step_word (get_or w.mutexes i 0) k (mutex_of i v) kind) → Stands (record { word = w.word; slot = w.slot; mutexes = set w.mutexes i (mutex.step_word (get_or w.mutexes i 0) k (mutex_of i v) kind);
-        logs = λ j. if j == i then w.logs i ++ mutex.step_entries (get_or w.mutexes i 0) k (mutex_of i v) kind else w.logs j; views = set w.views k (put_core (put_mutex i v part) (core_of v)) })
+      by_anybody : TieOf i w.word (w.slot ∷ []) (map core_of w.views) (mutex.step_word (get_or w.mutexes i 0) k (mutex_of i v) kind) → Stands (record {
+        word = w.word;
+        slot = w.slot;
+        mutexes = set w.mutexes i (mutex.step_word (get_or w.mutexes i 0) k (mutex_of i v) kind);
+        logs = λ j. if j == i then w.logs i ++ mutex.step_entries (get_or w.mutexes i 0) k (mutex_of i v) kind else w.logs j;
+        views = set w.views k (put_core (put_mutex i v part) (core_of v));
+      })
       by_anybody mine =
           word_keeps (core_of v) (subst (λ cs. CoreKept past comes first w.word (w.slot ∷ []) cs) (sym again) h.locked)
           (subst (λ cs. TieOf i w.word (w.slot ∷ []) cs (mutex.step_word (get_or w.mutexes i 0) k (mutex_of i v) kind)) (sym again) mine)
@@ -198,9 +213,13 @@ module _ {S B : Type 0} (past : S → History) (room : S → ℕ) (comes : B →
     word_step i tries (within, may, who) = by (ceilings i) refl who
       where
         by : (b : Bool) → ceilings i ≡ b → MatchBool b (HasFor i (core_of v)) (is_unlocking tries ≡ true → ceilings i ≡ false)
-            → Stands (record { word = w.word; slot = w.slot; mutexes = set w.mutexes i (mutex.step_word (get_or w.mutexes i 0) k (mutex_of i v) tries);
+            → Stands (record {
+              word = w.word;
+              slot = w.slot;
+              mutexes = set w.mutexes i (mutex.step_word (get_or w.mutexes i 0) k (mutex_of i v) tries);
               logs = λ j. if j == i then w.logs i ++ mutex.step_entries (get_or w.mutexes i 0) k (mutex_of i v) tries else w.logs j;
-              views = set w.views k (put_core (put_mutex i v (seat_after mutex_steps (get_or w.mutexes i 0) (w.logs i) k (mutex_of i v) tries)) (noted_if b i (mutex.step_word (get_or w.mutexes i 0) k (mutex_of i v) tries) (core_of v))) })
+              views = set w.views k (put_core (put_mutex i v (seat_after mutex_steps (get_or w.mutexes i 0) (w.logs i) k (mutex_of i v) tries)) (noted_if b i (mutex.step_word (get_or w.mutexes i 0) k (mutex_of i v) tries) (core_of v)));
+            })
         by true e who = by_holder i within tries may who
         by false e who = by_anybody i within tries may (stepping i within tries may e (try_stays (get_or w.mutexes i 0) k (near i within tries may)))
 

@@ -39,16 +39,19 @@ opened_at (kind ∷ kinds) zero m at = let is : opened_mutex kind ≡ m = cc in 
 opened_at (kind ∷ kinds) (suc i) m at = opened_at kinds i m at
 
 pub opens_tied : (h : History) → IsLegal h → h.entries ≡ [] → (i : ℕ) → AreTied (λ j. is_ceiled (slice_get h.board.mutexes.items j)) h.state i 0
-opens_tied h legal none_yet i m at = (o.0, record {
-  owner = record {
-    named = λ n e. absurd (some_none m.owner e o.1);
-    marked = λ e. absurd (false≢true (sym e ∙ ap is_nobody o.2));
-    raised = λ e some. absurd (false≢true (sym (ap is_some o.1) ∙ some));
-    ceiled = λ has n e. absurd (let z : 0 ≡ n + 1 = e in omega arith);
-    peopled = λ e. absurd (false≢true e);
-  };
-  offer = λ t. sym (got t);
-})
+opens_tied h legal none_yet i m at = (
+  o.0,
+  record {
+    owner = record {
+      named = λ n e. absurd (some_none m.owner e o.1);
+      marked = λ e. absurd (false≢true (sym e ∙ ap is_nobody o.2));
+      raised = λ e some. absurd (false≢true (sym (ap is_some o.1) ∙ some));
+      ceiled = λ has n e. absurd (let z : 0 ≡ n + 1 = e in omega arith);
+      peopled = λ e. absurd (false≢true e);
+    };
+    offer = λ t. sym (got t);
+  },
+)
   where
     some_none : {x : ℕ} (y : Option ℕ) → y ≡ Some x → y ≡ None → ⊥
     some_none y e f = let g = sym e ∙ f in absurd (cc)

@@ -117,7 +117,7 @@ module _ (ceilings : ℕ → Bool) where
         let more_is : more ≡ h.more = same_more next more h c.told in
         let below : (n : ℕ) → h.next ≡ Some n → n < 64 = λ n e. from_told next h.next next_is n e low in (
           s.2 id.0 (word_given (option_map (λ n. n.0) next) more)
-          (subst (λ (z : Option ℕ × Bool). AreTied ceilings s.0 id.0 (word_given z.0 z.1)) (λ i. (sym next_is i, sym more_is i)) (tied_released ceilings id.0 before.state s.0 (Handed next more) k marked here tied c below)),
+              (subst (λ (z : Option ℕ × Bool). AreTied ceilings s.0 id.0 (word_given z.0 z.1)) (λ i. (sym next_is i, sym more_is i)) (tied_released ceilings id.0 before.state s.0 (Handed next more) k marked here tied c below)),
           λ j word ne t. s.2 j word (beside id.0 c.was _ s.0 c.changes c.elsewhere j word ne t),
         )
       where
