@@ -2,7 +2,7 @@
 ghost use Rattle.std.specs.Prelude.{◌≡◌, All};
 
 use super::acts::{Act, Ask, Passes, Told};
-use super::rows::{Row, Step, answers, is_told, last_of, taken};
+use super::rows::{Row, Step, answers, comes_back, is_told, last_of, taken};
 use arrayvec::ArrayVec;
 use evl_base::{Board, MutexId, MutexKind, Policy, Refusal, Stage, ThreadId};
 use evl_machine::{Caller, Machine};
@@ -44,7 +44,7 @@ fn recorded(machine: &Machine, callers: &mut Vec<Caller>) -> Option<Recorded>
         return None;
     };
     let told = (held.kernel().owner(MUTEX), held.kernel().waiters(MUTEX));
-    if callers.push(held.give()).is_ok() {
+    if comes_back(machine, callers, held.give()) {
         Some(told)
     } else {
         None

@@ -170,6 +170,15 @@ pub fn one_of(machine: &Machine, callers: &mut Vec<Caller>, is_last: bool) -> Op
     }
 }
 
+// Whether there is room for a caller, which is away.
+pub fn comes_back(machine: &Machine, callers: &mut Vec<Caller>, caller: Caller) -> bool
+    requires callers { All (λ c. c.machine ≡ machine.now.of) callers.old.items }
+    requires away { caller.machine ≡ machine.now.of }
+    ensures { All (λ c. c.machine ≡ machine.now.of) callers.new.items }
+{
+    callers.push(caller).is_ok()
+}
+
 // Whether there is room for both callers, which are away.
 pub fn come_back(
     machine: &Machine,
