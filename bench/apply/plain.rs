@@ -6,7 +6,7 @@ use std::hint::black_box;
 use std::io::Write;
 use std::time::Instant;
 
-const LINES: usize = 1024;
+const LINES: usize = 4096;
 const MAX_INBAND: usize = 64;
 const CHUNK: usize = 4096;
 const RING: usize = 256;

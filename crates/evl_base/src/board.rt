@@ -3,6 +3,7 @@ ghost use Rattle.std.specs.Prelude.{◌≡◌};
 ghost use Rattle.std.specs.List.{list_all};
 ghost use Rattle.evl_base.specs.Limits.{count_fits, sizes_fit, kind_fits, percent_fits, stax_fits};
 
+use crate::limits::MAX_THREADS;
 use crate::mutex_kind::MutexKind;
 use crate::refusal::Refusal;
 use arrayvec::ArrayVec;
@@ -10,7 +11,7 @@ use arrayvec::ArrayVec;
 /// The elements of a kernel, as they are opened (this profile).
 #[derive(Debug, Drop)]
 pub struct Board {
-    /// How many threads there are, 1 to 64.
+    /// How many threads there are, 1 to 256.
     pub threads: u16,
     /// The opening count of each semaphore, 0 to 2,147,483,647.
     pub sems: ArrayVec<u32, 64>,
@@ -34,7 +35,7 @@ impl Board {
         ensures { result ≡ checked self.now }
     {
         let fits = 1 <= self.threads
-            && self.threads <= 64
+            && usize::from(self.threads) <= MAX_THREADS
             && counts_fit(self.sems.as_slice())
             && rings_fit(self.xbufs.as_slice())
             && kinds_fit(self.mutexes.as_slice())

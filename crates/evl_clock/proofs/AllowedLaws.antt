@@ -19,9 +19,9 @@ module _ {C : Type 0} (declared : C → ℕ) where
   pub new-allowed : (c : Clock C) (kinds : ℕ) → new_timer_refusal c kinds ≡ None → is_timer_allowed kinds ≡ true
   new-allowed c kinds e = allowed_by (is_timer_allowed kinds) (is_some (free_place c)) e
 
-  pub allowed-opening : AreAllowed declared opening
+  pub allowed-opening : (threads : ℕ) → AreAllowed declared (opening threads)
   unfolding opening
-  allowed-opening = λ n at e. absurd (none_there _ at (at-none timer_count n) e)
+  allowed-opening threads = λ n at e. absurd (none_there _ at (at-none timer_count n) e)
 
   -- a place that is written
   pub allowed-with : (c : Clock C) (n : ℕ) (t : Option (Timer C)) → AreAllowed declared c → ((at : Timer C) → t ≡ Some at → is_timer_allowed (declared at.callback) ≡ true)

@@ -15,7 +15,7 @@ quiet = record { accepts = 1; rows = record { items = [] } }
 
 -- a clock with one timer
 abbrev one_timer : Clock Plan
-one_timer = with_new_timer opening 0 quiet 0
+one_timer = with_new_timer (opening 64) 0 quiet 0
 
 abbrev running : ℕ → ℕ → Timer Plan
 running date interval = record (made quiet 0) { state = Running date interval }

@@ -1,5 +1,5 @@
 -- The clock: the date, the timers by their numbers, and the deadlines of waits by their threads.
-use Rattle.std.specs.Prelude.{ℕ, ◌≡◌, ◌+◌, ◌^◌, nat_le, not, List, length, position, replicate, Option, Some, None, is_some, is_none, option_map, slice_index_or, slice_set, if◌then◌else◌}
+use Rattle.std.specs.Prelude.{ℕ, ◌≡◌, ◌≤◌, ◌+◌, ◌^◌, min, nat_le, not, List, length, position, replicate, Option, Some, None, is_some, is_none, option_map, slice_index_or, slice_set, if◌then◌else◌}
 use Rattle.evl_base.specs.declared.refusal.Refusal.{Refusal}
 use Rattle.evl_base.specs.declared.refusal.Refusal.TheVariants.{Unknown, Invalid, Limit, Range}
 use Rattle.evl_clock.specs.declared.timer.Timer.{Timer}
@@ -12,14 +12,14 @@ pub record Clock (C : Type 0) : Type 0 where
   pub deadlines : List (Option ℕ)
 
 module _ {C : Type 0} where
-  -- no time has passed, there are no timers and no deadlines
-  unfoldable pub opening : Clock C
-  opening = record { now = 0; timers = replicate timer_count None; deadlines = replicate thread_count None }
+  -- no time has passed, there are no timers and no deadlines; so many threads may have one, or the most that may
+  unfoldable pub opening : ℕ → Clock C
+  opening threads = record { now = 0; timers = replicate timer_count None; deadlines = replicate (min threads thread_count) None }
 
-  -- a place for each timer and for each thread
+  -- a place for each timer, and for each thread that may have a deadline
   pub record IsSoundClock (c : Clock C) : Type 0 where
     pub timers : length c.timers ≡ timer_count
-    pub deadlines : length c.deadlines ≡ thread_count
+    pub deadlines : length c.deadlines ≤ thread_count
 
   abbrev pub timer_at : Clock C → ℕ → Option (Timer C)
   timer_at c n = slice_index_or c.timers n None

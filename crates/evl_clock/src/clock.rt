@@ -1,5 +1,5 @@
 //! The clock (Xenomai 4: EVL clocks and timers).
-ghost use Rattle.std.specs.Prelude.{◌≡◌, ◌+◌, ◌≤◌, ◌<◌, nat_le, length, None, Some, is_some, option_map, replicate, IfOk, IfErr, MatchOption, IfNone, IfSome, OnOk, OnErr};
+ghost use Rattle.std.specs.Prelude.{◌≡◌, ◌+◌, ◌≤◌, ◌<◌, min, nat_le, length, None, Some, is_some, option_map, replicate, IfOk, IfErr, MatchOption, IfNone, IfSome, OnOk, OnErr};
 ghost use Rattle.evl_base.specs.declared.refusal.Refusal.{Refusal};
 ghost use Rattle.evl_clock.specs.Clocks.{IsSoundClock, advance_refusal, advanced, dropped, free_place, new_timer_refusal, opening, start, stop, timer_at, timer_refusal, with_deadline, with_new_timer};
 ghost use Rattle.evl_clock.specs.ClockSteps.{FallsDue, Fires, IsBounded, item_of};
@@ -12,14 +12,12 @@ use crate::search::{free_place, least_deadline, least_timer, sooner_item, take_t
 use crate::timer::Timer;
 use crate::timer_state::TimerState;
 use bitflags::Flags;
-use evl_base::{ActionKinds, Refusal, ThreadId, TimerId};
+use evl_base::{ActionKinds, MAX_THREADS, Refusal, ThreadId, TimerId};
 use evl_pipeline::{Answer, Fire, Handler};
 use std::alloc::{AllocError, Allocator};
 use std::marker::Model;
 
 const TIMERS: usize = 64;
-
-const THREADS: usize = 64;
 
 // The kinds of action that a timer's callback may declare: it neither hands its event on in-band nor posts an
 // out-of-band line.
@@ -31,7 +29,7 @@ fn allowed() -> ActionKinds
         .union(ActionKinds::STOP_TIMER)
 }
 
-/// The date, 64 places for timers with callbacks of type `C`, and the deadlines of 64 threads' waits. To a contract it
+/// The date, 64 places for timers with callbacks of type `C`, and the deadlines of threads' waits. To a contract it
 /// is the record `Clock C` of `specs/Clocks.antt`. Only `new` takes memory. The type of the callbacks has no bound
 /// here: where a struct asks for a bound with ghost members, no function can name it at a type with a boxed closure.
 #[derive(Drop)]
@@ -61,28 +59,37 @@ fn no_timers<C, A: Allocator>(alloc: A) -> Result<Vec<Option<Timer<C>>, A>, Allo
     Ok(timers)
 }
 
-fn no_deadlines<A: Allocator>(alloc: A) -> Result<Vec<Option<u64>, A>, AllocError>
-    ensures empty { IfOk result (λ deadlines. deadlines.items ≡ replicate thread_count None) }
+fn no_deadlines<A: Allocator>(alloc: A, threads: usize) -> Result<Vec<Option<u64>, A>, AllocError>
+    ensures empty { IfOk result (λ deadlines. deadlines.items ≡ replicate (min threads thread_count) None) }
 {
-    let deadlines = Vec::from_elem(alloc, None, THREADS)?;
+    let deadlines = Vec::from_elem(alloc, None, threads.min(MAX_THREADS))?;
     Ok(deadlines)
 }
 
 impl<C: Drop, A: Allocator + Clone> ClockOf<C, A> {
-    /// A clock at date 0 with no timers and no deadlines. It has room for 64 timers and for the deadlines of 64
+    /// A clock at date 0 with no timers and no deadlines. It has room for 64 timers and for the deadlines of 256
     /// threads. `NoMemory` where that room was refused (this profile).
     pub fn new(alloc: A) -> Result<ClockOf<C, A>, Refusal>
-        ensures opening { IfOk result (λ c. c ≡ opening) }
+        ensures opening { IfOk result (λ c. c ≡ opening thread_count) }
         ensures refusal { IfErr result (λ e. e ≡ Refusal.NoMemory) }
     {
-        ClockOf::with_room(alloc).map_err(|_| Refusal::NoMemory)
+        ClockOf::for_threads(alloc, MAX_THREADS)
     }
 
-    fn with_room(alloc: A) -> Result<ClockOf<C, A>, AllocError>
-        ensures opening { IfOk result (λ c. c ≡ opening) }
+    /// The same with room for the deadlines of so many threads alone, or of 256 where there are more. `NoMemory` where
+    /// that room was refused (this profile).
+    pub fn for_threads(alloc: A, threads: usize) -> Result<ClockOf<C, A>, Refusal>
+        ensures opening { IfOk result (λ c. c ≡ opening threads) }
+        ensures refusal { IfErr result (λ e. e ≡ Refusal.NoMemory) }
+    {
+        ClockOf::with_room(alloc, threads).map_err(|_| Refusal::NoMemory)
+    }
+
+    fn with_room(alloc: A, threads: usize) -> Result<ClockOf<C, A>, AllocError>
+        ensures opening { IfOk result (λ c. c ≡ opening threads) }
     {
         let timers = no_timers(alloc.clone()?)?;
-        let deadlines = no_deadlines(alloc)?;
+        let deadlines = no_deadlines(alloc, threads)?;
         Ok(ClockOf {
             date: 0,
             timers,
@@ -169,8 +176,8 @@ impl<C, A: Allocator> ClockOf<C, A> {
         Ok(timer.callback)
     }
 
-    /// Sets the deadline of a thread's wait, in nanoseconds, in place of an earlier one. Threads above 63 have no
-    /// deadline, and nothing changes. (Xenomai 4: EVL timed waits)
+    /// Sets the deadline of a thread's wait, in nanoseconds, in place of an earlier one. Threads for which there is no
+    /// room have no deadline, and nothing changes. (Xenomai 4: EVL timed waits)
     pub fn set_deadline(&mut self, thread: ThreadId, date: u64)
         ensures state { self.new ≡ with_deadline self.old thread.0 (Some date) }
     {

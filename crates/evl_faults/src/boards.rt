@@ -108,7 +108,7 @@ pub fn check_board(
             None => 0,
         };
         let words = format!(in alloc;
-            "the board needs a key \"threads\": a number from 1 to 64 is wanted there"
+            "the board needs a key \"threads\": a number from 1 to 256 is wanted there"
         )?;
         finding.note(Fault::Board, at, words)?;
     }

@@ -119,7 +119,7 @@ pub fn sample(key: &str) -> &'static [u8] {
 /// What value is wanted at a key of a board, or at `limit`.
 pub fn board_wanted(key: &str) -> &'static str {
     match key {
-        "threads" => "a number from 1 to 64",
+        "threads" => "a number from 1 to 256",
         "sems" => "a list of at most 64 numbers from 0 to 2147483647",
         "flags" => "a list of at most 64 numbers from 0 to 4294967295",
         "xbufs" => "a list of at most 16 pairs of numbers from 1 to 256",

@@ -1,5 +1,5 @@
 -- Other names for what stands in timers: each change of the clock comes to the same before and after the renaming.
-use Rattle.std.proofs.Common.{◌≡◌, ℕ, zero, suc, ◌+◌, nat_lt, Bool, cond, List, [], ◌∷◌, ◌++◌, length, map, replicate, Option, Some, None, is_some, is_none, if◌then◌else◌, refl, sym, ap, ◌∙◌}
+use Rattle.std.proofs.Common.{◌≡◌, ℕ, zero, suc, ◌+◌, min, nat_lt, Bool, cond, List, [], ◌∷◌, ◌++◌, length, map, replicate, Option, Some, None, is_some, is_none, if◌then◌else◌, refl, sym, ap, ◌∙◌}
 use Rattle.std.specs.List.{position_or_len}
 use Rattle.std.specs.Option.{option_map}
 use Rattle.std.proofs.lemmas.List.{length-map, map-set}
@@ -9,6 +9,7 @@ use Rattle.evl_clock.specs.declared.timer.Timer.{Timer}
 use Rattle.evl_clock.specs.Timers.{made, after_fire, started, stopped}
 use Rattle.evl_clock.specs.Clocks.{Clock, opening, timer_at, with_timer, free_place, timer_refusal, with_new_timer, changed, start, stop, dropped}
 use Rattle.evl_clock.specs.ClockSteps.{fired}
+use Rattle.evl_clock.specs.Limits.{thread_count, timer_count}
 use Rattle.evl_clock.specs.Dues.{all_due, due_from, timer, deadline, timer_date, earliest, next_due, is_due, due_count}
 use Rattle.evl_kernel.specs.Renamed.{named_timer, renamed_clock}
 use Rattle.evl_kernel.proofs.RenamedLaws.{lookup-map}
@@ -91,6 +92,6 @@ module _ {X Y : Type 0} (name : X → Y) where
   nothing-mapped zero = refl
   nothing-mapped (suc n) = ap (λ (ts : List (Option (Timer Y))). None ∷ ts) (nothing-mapped n)
 
-  pub clock-opening : renamed_clock name opening ≡ opening
+  pub clock-opening : (threads : ℕ) → renamed_clock name (opening threads) ≡ opening threads
   unfolding opening
-  clock-opening = ap (λ (ts : List (Option (Timer Y))). record { now = 0; timers = ts; deadlines = replicate 64 None }) (nothing-mapped 64)
+  clock-opening threads = ap (λ (ts : List (Option (Timer Y))). record { now = 0; timers = ts; deadlines = replicate (min threads thread_count) None }) (nothing-mapped timer_count)

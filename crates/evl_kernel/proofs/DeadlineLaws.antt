@@ -1,9 +1,11 @@
 -- A wait has the deadline with which it began, as long as it goes on.
-use Rattle.std.proofs.Common.{◌≡◌, ◌<◌, ℕ, ◌==◌, Bool, true, false, List, [], ◌∷◌, length, Option, Some, None, Result, Ok, Err, is_none, slice_index_or, slice_set, refl, sym, ap, subst, ◌∙◌, arith}
+use Rattle.std.proofs.Common.{◌≡◌, ◌<◌, ℕ, ◌==◌, Bool, true, false, List, [], ◌∷◌, length, min, Option, Some, None, Result, Ok, Err, is_none, slice_index_or, slice_set, refl, sym, ap, subst, ◌∙◌, arith}
 use Rattle.std.specs.Option.{option_map, option_map_or}
 use Rattle.std.proofs.lemmas.Bool.{false≢true}
 use Rattle.std.proofs.lemmas.Bool.Decides.{nat_tests}
 use Rattle.std.proofs.lemmas.List.{length-replicate, length-set}
+use Rattle.std.proofs.Math.Nat.{min-eq_left}
+use Rattle.evl_base.specs.Limits.{thread_limit}
 use Rattle.evl_base.specs.declared.board.Board.{Board}
 use Rattle.evl_base.specs.declared.call.Call.{Call}
 use Rattle.evl_base.specs.declared.refusal.Refusal.{Refusal}
@@ -46,18 +48,18 @@ swapped m n e = grind (arith, nat_tests)
 abbrev goes_on : Option Wait → Bool
 goes_on o = option_map_or (λ (w : Wait). is_none w.outcome) o false
 
--- there is a place for the deadline of each thread that a board may have
-abbrev HasDates : State → Type 0
-HasDates s = length s.clock.deadlines ≡ 64
+-- there is a place for the deadline of each thread
+abbrev HasDates : ℕ → State → Type 0
+HasDates threads s = length s.clock.deadlines ≡ min threads thread_limit
 
-opened_so : (board : Board) (bank : List Handler) → HasDates (opening board bank)
+opened_so : (board : Board) (bank : List Handler) → HasDates board.threads (opening board bank)
 unfolding clocks.opening
-opened_so board bank = length-replicate {A = Option ℕ} 64 None
+opened_so board bank = length-replicate {A = Option ℕ} (min board.threads thread_limit) None
 
-dates_at : (h : History) → IsLegal h → HasDates h.state
-dates_at h legal = run_holds HasDates each own (opened h) h.entries h.plays h.state (opened_so h.board h.bank) legal
+dates_at : (of : History) → IsLegal of → HasDates of.board.threads of.state
+dates_at of legal = run_holds (HasDates of.board.threads) each own (opened of) of.entries of.plays of.state (opened_so of.board of.bank) legal
   where
-    waiting : KeptByWakes HasDates
+    waiting : KeptByWakes (HasDates of.board.threads)
     waiting = record {
       changed = λ s e h. h;
       waiting = λ s thread wait h. h;
@@ -65,21 +67,21 @@ dates_at h legal = run_holds HasDates each own (opened h) h.entries h.plays h.st
       queued = λ s ready h. h;
     }
 
-    each : KeptByEach HasDates
+    each : KeptByEach (HasDates of.board.threads)
     each = record {
       lined = λ s q h. h;
       banked = λ s number home b h. h;
       clocked = λ s c same h. ap (λ (ds : List (Option ℕ)). length ds) same ∙ h;
       paid = λ s before delta now h. h;
-      asked = λ s by step plain may h. leaves-touched HasDates waiting s by step h;
-      expired = λ s thread h. kept-deadline HasDates waiting s thread h;
+      asked = λ s by step plain may h. leaves-touched (HasDates of.board.threads) waiting s by step h;
+      expired = λ s thread h. kept-deadline (HasDates of.board.threads) waiting s thread h;
     }
 
-    own : (s : State) (caller : ℕ) (asked : Call) → KeptByOwn HasDates s caller asked
+    own : (s : State) (caller : ℕ) (asked : Call) → KeptByOwn (HasDates of.board.threads) s caller asked
     own s caller asked = record {
-      threads = λ step is passed h. leaves-threads HasDates (λ s q h. h) s caller step h;
-      begun = λ on until is passed h. leaves-beginning HasDates waiting (timed-by HasDates waiting (λ s h. h) (λ s thread until h. length-set s.clock.deadlines thread until ∙ h)) s caller on until h;
-      ended = λ keep is h. leaves-finish HasDates waiting s caller keep (λ x hx. hx) h;
+      threads = λ step is passed h. leaves-threads (HasDates of.board.threads) (λ s q h. h) s caller step h;
+      begun = λ on until is passed h. leaves-beginning (HasDates of.board.threads) waiting (timed-by (HasDates of.board.threads) waiting (λ s h. h) (λ s thread until h. length-set s.clock.deadlines thread until ∙ h)) s caller on until h;
+      ended = λ keep is h. leaves-finish (HasDates of.board.threads) waiting s caller keep (λ x hx. hx) h;
     }
 
 -- Where this thread is blocked, something holds of its deadline.
@@ -242,7 +244,7 @@ deadlines_are h legal fits caller asked reply plays new step thread is = record 
         begins_so wants until its passed hx = dated_beginning caller Q old caller wants until (λ e served. begun_by_itself caller Q (with_elements old e) (awaited wants) until served within (ap until_of (sym its)))
           where
             within : caller < length old.clock.deadlines
-            within = omega (arith, (passed_all old caller asked (ap ends_a_wait its) passed).there, (proper_at h legal fits).threads_are, threads_few h.board fits, dates_at h legal)
+            within = omega (arith, (passed_all old caller asked (ap ends_a_wait its) passed).there, (proper_at h legal fits).threads_are, dates_at h legal ∙ min-eq_left (threads_few h.board fits))
 
     begun_ : is_blocked old thread ≡ false → (thread ≡ caller) × (deadline_at new.clock thread ≡ until_of (task_of asked))
     begun_ not = by (thread == caller) refl

@@ -3,6 +3,7 @@ use Rattle.std.proofs.Common.{◌≡◌, ◌<◌, ℕ, ◌==◌, Bool, true, fal
 use Rattle.std.specs.Option.{option_map, option_map_or}
 use Rattle.std.proofs.lemmas.Bool.{false≢true}
 use Rattle.std.proofs.lemmas.Bool.Decides.{nat_tests}
+use Rattle.evl_base.specs.Limits.{thread_limit}
 use Rattle.evl_base.specs.declared.refusal.Refusal.TheVariants.{Again, Invalid}
 use Rattle.evl_base.specs.declared.reply.Reply.{Reply}
 use Rattle.evl_base.specs.declared.reply.Reply.TheVariants.{Bits, Done}
@@ -119,7 +120,7 @@ pub record Begun (f g : FlagGroup) (thread : ℕ) (served : Option Reply) : Type
   pub at_once : (outcome : Reply) → served ≡ Some outcome → OneGoes (in_flags f) (in_flags g) []
   pub waits : served ≡ None → OneComes (in_flags f) (in_flags g) thread
 
-pub begun : (f g : FlagGroup) (reply : Reply) (w : FlagWaiter) → IsSoundGroup f → in_flags f w.thread ≡ false → w.thread < 64 → machine f (group.begin w) ≡ Ok (reply, g)
+pub begun : (f g : FlagGroup) (reply : Reply) (w : FlagWaiter) → IsSoundGroup f → in_flags f w.thread ≡ false → w.thread < thread_limit → machine f (group.begin w) ≡ Ok (reply, g)
     → Begun f g w.thread (flag_serves f (group.begin w))
 begun f g reply w h away within is =
     subst (λ (x : FlagGroup). Begun f x w.thread (flag_serves f (group.begin w))) (ap (λ (x : Reply × FlagGroup). x.1) (ok_is is)) (by (taken w.kind f.bits) refl)

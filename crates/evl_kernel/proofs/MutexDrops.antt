@@ -2,6 +2,7 @@
 use Rattle.std.proofs.Common.{◌≡◌, ◌≤◌, ◌⊎◌, ⊎_elim, ℕ, ◌==◌, ◌&&◌, Bool, true, false, not, List, [], Option, Some, None, is_some, Result, Ok, Err, slice_get, slice_set, slice_index_or, refl, sym, ap, ◌∙◌, subst, arith}
 use Rattle.std.specs.Option.{option_map_or}
 use Rattle.std.proofs.lemmas.Bool.{false≢true}
+use Rattle.evl_base.specs.Limits.{thread_limit}
 use Rattle.evl_base.specs.declared.call.Call.{Call}
 use Rattle.evl_base.specs.declared.call.Call.TheVariants as call
 use Rattle.evl_base.specs.declared.refusal.Refusal.{Refusal}
@@ -49,7 +50,7 @@ use Rattle.evl_kernel.proofs.MutexRests.{and_false, IsElse, else_at, else_got, g
 use Rattle.evl_kernel.proofs.PlayWalk.{KeptByPlays, settles_holds}
 
 -- Proper waits, and of mutex n nothing but this since a state
-module _ (n count : ℕ) (few : count ≤ 64) (base : State) where
+module _ (n count : ℕ) (few : count ≤ thread_limit) (base : State) where
   abbrev Rests : State → Type 0
   Rests s = IsProper count s × Since n base s
 
@@ -87,7 +88,7 @@ settling_drops h legal fits caller asked reply plays new step = by (answer h.sta
     count : ℕ
     count = h.board.threads
 
-    few : count ≤ 64
+    few : count ≤ thread_limit
     few = threads_few h.board fits
 
     proper : IsProper count h.state
@@ -176,7 +177,7 @@ other_step thread rank (wanted.Write id way bytes) e = refl
 other_step thread rank (wanted.Read id way len) e = refl
 other_step thread rank (wanted.Mutex id owner) e = absurd (false≢true (sym e))
 
-module _ (n count : ℕ) (few : count ≤ 64) (s : State) (h : IsProper count s) (caller : ℕ) where
+module _ (n count : ℕ) (few : count ≤ thread_limit) (s : State) (h : IsProper count s) (caller : ℕ) where
   -- a wait begins, for something else
   since_beginning : (wants : Wanted) (until : Option ℕ) → wants_mutex wants ≡ false → Passed s caller → Leaves (Since n s) (beginning s caller wants until).effect
   since_beginning wants until other passed = leaves-refused (Since n s) (begin_refusal s caller wants) _ (λ none. left none (element (elements s) step) refl)
@@ -295,7 +296,7 @@ others_drop h legal fits caller asked reply plays new step other n = by reply st
     count : ℕ
     count = h.board.threads
 
-    few : count ≤ 64
+    few : count ≤ thread_limit
     few = threads_few h.board fits
 
     proper : IsProper count h.state

@@ -3,6 +3,7 @@ use Rattle.std.proofs.Common.{◌≡◌, ◌≤◌, ◌⊎◌, inl, inr, ⊎_eli
 use Rattle.std.specs.Option.{option_map_or}
 use Rattle.std.proofs.lemmas.Bool.{false≢true}
 use Rattle.std.proofs.lemmas.Bool.Decides.{nat_tests}
+use Rattle.evl_base.specs.Limits.{thread_limit}
 use Rattle.evl_base.specs.Board.{board_fits}
 use Rattle.evl_base.specs.declared.board.Board.{Board}
 use Rattle.evl_base.specs.declared.call.Call.{Call}
@@ -101,7 +102,7 @@ rightly_served : (s : State) (o : Option ℕ) → AllRightly s → AllRightly (a
 rightly_served s None all = all
 rightly_served s (Some next) all = rightly_woken s next Done all (done_rightly (wait_at s next))
 
-module _ (count : ℕ) (few : count ≤ 64) where
+module _ (count : ℕ) (few : count ≤ thread_limit) where
   abbrev Fair : State → Type 0
   Fair s = IsProper count s × AllRightly s
 

@@ -2,6 +2,7 @@
 use Rattle.std.proofs.Common.{◌≡◌, ◌≤◌, ◌⊎◌, ⊎_elim, ℕ, ◌==◌, ◌&&◌, ◌||◌, Bool, true, false, not, List, [], ◌∷◌, Option, Some, None, is_some, is_none, option_map, Ok, Err, slice_get, slice_set, slice_index_or, if◌then◌else◌, refl, sym, ap, ◌∙◌, subst}
 use Rattle.std.specs.Option.{option_map_or}
 use Rattle.std.proofs.lemmas.Bool.{false≢true}
+use Rattle.evl_base.specs.Limits.{thread_limit}
 use Rattle.evl_base.specs.declared.reply.Reply.{Reply}
 use Rattle.evl_base.specs.declared.reply.Reply.TheVariants.{TimedOut}
 use Rattle.evl_mutex.specs.Mutexes.{Mutex as MutexRecorded, has_ceiling, ceiling_of, drop_waiter}
@@ -162,7 +163,7 @@ pub with_mutexes : (n : ℕ) (s : State) (after : Elements) → after.mutexes �
 with_mutexes n s after same = ((λ m e. (m, ap (λ (ms : List MutexRecorded). slice_get ms n) (sym same) ∙ e, went_same m)), (λ t. refl))
 
 -- a step that was asked for, of another element
-module _ (n count : ℕ) (few : count ≤ 64) (s : State) (h : IsProper count s) where
+module _ (n count : ℕ) (few : count ≤ thread_limit) (s : State) (h : IsProper count s) where
   pub else_at : (after : Elements) → after.mutexes ≡ (elements s).mutexes → (t : ℕ) → Gone (elements s) t after → IsElse n (wait_at s t)
   else_at after same t went = subst (IsElse n) (sym (h.proper.stands went.on t went.stood)) (else_gone n (elements s) after same t went.on went.stood went.gone)
 

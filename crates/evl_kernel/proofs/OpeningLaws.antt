@@ -1,5 +1,5 @@
 -- The records of a new kernel.
-use Rattle.std.proofs.Common.{◌≡◌, ◌≤◌, ℕ, zero, suc, inl, inr, Bool, true, false, ◌&&◌, nat_le, arith, length, List, [], ◌∷◌, map, replicate, Option, Some, None, is_some, slice_get, slice_index, slice_index_or, refl, sym, ap, ◌∙◌, subst}
+use Rattle.std.proofs.Common.{◌≡◌, ◌≤◌, ℕ, zero, suc, inl, inr, Bool, true, false, ◌&&◌, nat_le, min, arith, length, List, [], ◌∷◌, map, replicate, Option, Some, None, is_some, slice_get, slice_index, slice_index_or, refl, sym, ap, ◌∙◌, subst}
 use Rattle.std.specs.Option.{option_map, option_map_or}
 use Rattle.std.specs.List.{list_all}
 use Rattle.std.proofs.lemmas.Bool.Decides.{nat_tests}
@@ -7,6 +7,7 @@ use Rattle.evl_base.specs.Board.{board_fits}
 use Rattle.evl_base.specs.Limits.{within, count_fits, kind_fits, percent_fits, sizes_fit, stax_fits}
 use Rattle.std.proofs.lemmas.Bool.{false≢true}
 use Rattle.std.proofs.lemmas.List.{length-replicate}
+use Rattle.std.proofs.Math.Nat.{min-le_right}
 use Rattle.evl_base.specs.declared.board.Board.{Board}
 use Rattle.evl_base.specs.declared.stage.Stage.{Stage}
 use Rattle.evl_base.specs.declared.stage.Stage.TheVariants.{Inband, Oob}
@@ -75,9 +76,9 @@ unfolding lines.opening
 nothing-opening {X} Oob line at h = none_some (sym (at-none {A = lines.Installed X} line_count line) ∙ h)
 nothing-opening {X} Inband line at h = none_some (sym (at-none {A = lines.Installed X} line_count line) ∙ h)
 
-pub no_timer-opening : {X : Type 0} (n : ℕ) (at : Timer X) → clocks.timer_at clocks.opening n ≡ Some at → ⊥
+pub no_timer-opening : {X : Type 0} (threads n : ℕ) (at : Timer X) → clocks.timer_at (clocks.opening threads) n ≡ Some at → ⊥
 unfolding clocks.opening
-no_timer-opening {X} n at h = none_some (sym (at-none {A = Timer X} timer_count n) ∙ h)
+no_timer-opening {X} threads n at h = none_some (sym (at-none {A = Timer X} timer_count n) ∙ h)
 
 module _ {C : Type 0} (declared : C → ℕ) (plan : C → Plan) where
   abbrev pub handler_made : C → Handler
@@ -105,38 +106,38 @@ module _ {C : Type 0} (declared : C → ℕ) (plan : C → Plan) where
       ap (λ (ps : List (BankPlace C)). slice_get (told ps) (suc n)) split
       ∙ filled-at bank others n place callback rest (ap (λ (ps : List (BankPlace C)). slice_get ps (suc n)) (sym split) ∙ at) has
 
-  pub answers-opening : (bank : List C) (w : Whereabouts C) → AreFilled declared plan bank w.bank → w.lines ≡ lines.opening → w.clock ≡ clocks.opening → AnswersAsTold declared plan w
-  answers-opening bank w filled nothing no_timers number callback (inl home) = filled-at bank w.bank number home.place callback filled home.at home.there
-  answers-opening bank w filled nothing no_timers number callback (inr (inr timed)) =
-      absurd (no_timer-opening timed.timer timed.at (subst (λ (c : clocks.Clock (Numbered C)). clocks.timer_at c timed.timer ≡ Some timed.at) no_timers timed.there))
-  answers-opening bank w filled nothing no_timers number callback (inr (inl out)) =
+  pub answers-opening : (bank : List C) (w : Whereabouts C) (threads : ℕ) → AreFilled declared plan bank w.bank → w.lines ≡ lines.opening → w.clock ≡ clocks.opening threads → AnswersAsTold declared plan w
+  answers-opening bank w threads filled nothing no_timers number callback (inl home) = filled-at bank w.bank number home.place callback filled home.at home.there
+  answers-opening bank w threads filled nothing no_timers number callback (inr (inr timed)) =
+      absurd (no_timer-opening threads timed.timer timed.at (subst (λ (c : clocks.Clock (Numbered C)). clocks.timer_at c timed.timer ≡ Some timed.at) no_timers timed.there))
+  answers-opening bank w threads filled nothing no_timers number callback (inr (inl out)) =
       absurd (nothing-opening out.stage out.line out.at (subst (λ (p : lines.Pipeline (Numbered C)). lines.installed_at p out.stage out.line ≡ Some out.at) nothing out.there))
 
   pub state-opening : (board : Board) (bank : List C) (r : RecordsView C) → r.threads ≡ board.threads → r.elements.elements ≡ all_opened board → r.waits ≡ replicate board.threads None
-      → AreFilled declared plan bank r.bank → r.lines ≡ lines.opening → r.clock ≡ clocks.opening → r.sched ≡ fresh board.threads board.groups.items
+      → AreFilled declared plan bank r.bank → r.lines ≡ lines.opening → r.clock ≡ clocks.opening board.threads → r.sched ≡ fresh board.threads board.groups.items
       → state_of r ≡ opening board (map handler_made bank)
   state-opening board bank r threads opened waits filled nothing no_timers nobody =
       let lines_are : renamed number_of r.lines ≡ lines.opening = ap (renamed number_of) nothing ∙ renamed-opening number_of in
-      let clock_is : renamed_clock number_of r.clock ≡ clocks.opening = ap (renamed_clock number_of) no_timers ∙ clock-opening number_of in
+      let clock_is : renamed_clock number_of r.clock ≡ clocks.opening board.threads = ap (renamed_clock number_of) no_timers ∙ clock-opening number_of board.threads in
       let sched_is = ap (λ (x : Ranked). x.sched) nobody ∙ sched-fresh board.threads board.groups.items in
       (λ i. record { threads = threads i; elements = opened i; bank = banked-filled bank r.bank filled i; lines = lines_are i; clock = clock_is i; sched = sched_is i; waits = waits i })
 
   pub opened_records : (board : Board) (bank : List C) (r : RecordsView C) → r.threads ≡ board.threads → r.elements.elements ≡ all_opened board → r.waits ≡ replicate board.threads None
-      → AreFilled declared plan bank r.bank → r.lines ≡ lines.opening → r.clock ≡ clocks.opening → r.sched ≡ fresh board.threads board.groups.items
+      → AreFilled declared plan bank r.bank → r.lines ≡ lines.opening → r.clock ≡ clocks.opening board.threads → r.sched ≡ fresh board.threads board.groups.items
       → IsOpened declared plan board bank r
   opened_records board bank r threads opened waits filled nothing no_timers nobody =
       record { filled = filled; nothing_out = nothing; no_timers = no_timers; state = state-opening board bank r threads opened waits filled nothing no_timers nobody }
 
-pub sound_opening : {X : Type 0} → clocks.IsSoundClock {C = X} clocks.opening
+pub sound_opening : {X : Type 0} (threads : ℕ) → clocks.IsSoundClock {C = X} (clocks.opening threads)
 unfolding clocks.opening
-sound_opening = record { timers = refl; deadlines = refl }
+sound_opening threads = record { timers = refl; deadlines = subst (λ (n : ℕ). n ≤ thread_limit) (sym (length-replicate {A = Option ℕ} (min threads thread_limit) None)) (min-le_right threads thread_limit) }
 
-pub sound-opening_clock : {C : Type 0} (r : RecordsView C) → r.clock ≡ clocks.opening → clocks.IsSoundClock r.clock
-sound-opening_clock {C} r nothing = subst (λ (c : clocks.Clock (Numbered C)). clocks.IsSoundClock c) (sym nothing) sound_opening
+pub sound-opening_clock : {C : Type 0} (r : RecordsView C) (threads : ℕ) → r.clock ≡ clocks.opening threads → clocks.IsSoundClock r.clock
+sound-opening_clock {C} r threads nothing = subst (λ (c : clocks.Clock (Numbered C)). clocks.IsSoundClock c) (sym nothing) (sound_opening threads)
 
-pub timers_allowed-new : {C : Type 0} (r : RecordsView C) → r.clock ≡ clocks.opening → AreTimersAllowed (state_of r)
-timers_allowed-new r nothing timer at h =
-    absurd (no_timer-opening timer at (subst (λ (c : clocks.Clock ℕ). clocks.timer_at c timer ≡ Some at) (ap (renamed_clock number_of) nothing ∙ clock-opening number_of) h))
+pub timers_allowed-new : {C : Type 0} (r : RecordsView C) (threads : ℕ) → r.clock ≡ clocks.opening threads → AreTimersAllowed (state_of r)
+timers_allowed-new r threads nothing timer at h =
+    absurd (no_timer-opening threads timer at (subst (λ (c : clocks.Clock ℕ). clocks.timer_at c timer ≡ Some at) (ap (renamed_clock number_of) nothing ∙ clock-opening number_of threads) h))
 
 pub allowed-new : {C : Type 0} (r : RecordsView C) → r.lines ≡ lines.opening → AreAllowed (state_of r)
 allowed-new r nothing stage line at h =
@@ -186,12 +187,12 @@ second_of_two : (a b : Bool) → (a && b) ≡ true → b ≡ true
 second_of_two true b h = h
 second_of_two false b h = absurd (false≢true h)
 
-pub threads_few : (board : Board) → board_fits board ≡ true → board.threads ≤ 64
+pub threads_few : (board : Board) → board_fits board ≡ true → board.threads ≤ thread_limit
 threads_few b fits =
-    at_most (second_of_two (nat_le 1 b.threads) (nat_le b.threads 64)
-    (first_of_six (within 1 64 b.threads) (list_all count_fits b.sems.items) (list_all sizes_fit b.xbufs.items) (list_all kind_fits b.mutexes.items) (list_all percent_fits b.groups.items) (list_all stax_fits b.staxes.items) fits))
+    at_most (second_of_two (nat_le 1 b.threads) (nat_le b.threads thread_limit)
+    (first_of_six (within 1 thread_limit b.threads) (list_all count_fits b.sems.items) (list_all sizes_fit b.xbufs.items) (list_all kind_fits b.mutexes.items) (list_all percent_fits b.groups.items) (list_all stax_fits b.staxes.items) fits))
   where
-    at_most : nat_le b.threads 64 ≡ true → b.threads ≤ 64
+    at_most : nat_le b.threads thread_limit ≡ true → b.threads ≤ thread_limit
     at_most e = grind (arith, nat_tests)
 
 -- cross-buffers, whose rings are within their limits
@@ -225,7 +226,7 @@ opened_sound board fits = record {
   }) board.sems.items;
   flags = sound_of flags.opened IsSoundGroup (λ c. record { rests = tt; queue = record { ranked = tt; few = λ t e. absurd (false≢true e) } }) board.flags.items;
   xbufs = sound_xbufs board.xbufs.items
-      (third_of_six (within 1 64 board.threads) (list_all count_fits board.sems.items) (list_all sizes_fit board.xbufs.items) (list_all kind_fits board.mutexes.items) (list_all percent_fits board.groups.items)
+      (third_of_six (within 1 thread_limit board.threads) (list_all count_fits board.sems.items) (list_all sizes_fit board.xbufs.items) (list_all kind_fits board.mutexes.items) (list_all percent_fits board.groups.items)
       (list_all stax_fits board.staxes.items) fits);
   mutexes = sound-fresh thread_limit board.mutexes.items;
 }

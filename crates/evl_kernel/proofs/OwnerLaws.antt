@@ -256,7 +256,7 @@ seated_beginning s caller wants until h = leaves-refused AreSeated (begin_refusa
 abbrev Stays : ℕ → State → Type 0
 Stays n s = IsProper n s × AreSeated s
 
-module _ (n : ℕ) (few : n ≤ 64) where
+module _ (n : ℕ) (few : n ≤ thread_limit) where
   both : (e : Effect) → Leaves (IsProper n) e → Leaves AreSeated e → Leaves (Stays n) e
   both (Ok (reply, s)) proper seated = (proper, seated)
   both (Err refusal) proper seated = tt

@@ -1,8 +1,9 @@
 -- After each call something is due only where line 0 is pending out-of-band.
-use Rattle.std.proofs.Common.{◌≡◌, ℕ, ◌≤◌, ◌==◌, nat_le, Bool, true, false, not, ◌&&◌, ◌||◌, List, [], ◌∷◌, length, map, Option, Some, None, Result, Ok, Err, is_some, unwrap_or, slice_get, slice_set, if◌then◌else◌, refl, sym, ap, ◌∙◌, subst, arith, length-append}
+use Rattle.std.proofs.Common.{◌≡◌, ℕ, zero, suc, ◌+◌, ◌≤◌, ◌==◌, min, replicate, nat_le, Bool, true, false, not, ◌&&◌, ◌||◌, List, [], ◌∷◌, length, map, Option, Some, None, Result, Ok, Err, is_some, unwrap_or, slice_get, slice_set, if◌then◌else◌, refl, sym, ap, ◌∙◌, subst, arith, length-append}
 use Rattle.std.specs.Option.{option_map, option_map_or}
 use Rattle.std.proofs.lemmas.Bool.{false≢true}
 use Rattle.std.proofs.lemmas.Bool.Decides.{nat_tests}
+use Rattle.evl_base.specs.Limits.{thread_limit}
 use Rattle.evl_base.specs.declared.board.Board.{Board}
 use Rattle.evl_base.specs.declared.call.Call.{Call}
 use Rattle.evl_base.specs.declared.entry.Entry.{Entry}
@@ -376,9 +377,13 @@ run_held old [] plays new h run = subst IsHeld (sym run.1) h
 run_held old (e ∷ entries) plays new h (own, rest, mid, split, (counted_is, step), run) =
     run_held mid entries rest new (follows_held old (answer old e.caller.0 e.call) e.reply own mid h (held-answer old e.caller.0 e.call h) step) run
 
+nothing_dated : (kind : ℕ → Item) (now n k : ℕ) → due_from kind now n (replicate {A = Option ℕ} k None) ≡ []
+nothing_dated kind now n zero = refl
+nothing_dated kind now n (suc k) = nothing_dated kind now (n + 1) k
+
 nothing_at_first : (board : Board) (bank : List Handler) → IsHeld (opening board bank)
 unfolding clocks.opening due_count
-nothing_at_first board bank due = absurd (omega (arith, due))
+nothing_at_first board bank due = absurd (omega (arith, due, ap (λ (items : List (ℕ × Item)). length items) (nothing_dated deadline 0 0 (min board.threads thread_limit))))
 
 pub due_pends : DueMeansPending
 due_pends h legal due = run_held (opened h) h.entries h.plays h.state (nothing_at_first h.board h.bank) legal (due_one h.state.clock due)

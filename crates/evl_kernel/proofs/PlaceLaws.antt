@@ -374,5 +374,5 @@ placed-opening board bank = record {
   once = λ n. omega (arith, opened_home bank n, stood-none n line_count, timed-none n timer_count);
   size_is = length-map bank at_home;
   sound = sound-opening;
-  clock_sound = sound_opening;
+  clock_sound = sound_opening board.threads;
 }

@@ -3,6 +3,7 @@ use Rattle.std.proofs.Common.{◌≡◌, ◌≤◌, ℕ, ◌==◌, Bool, true, f
 use Rattle.std.proofs.lemmas.Bool.{false≢true}
 use Rattle.std.proofs.lemmas.Bool.Decides.{nat_tests}
 use Rattle.std.proofs.lemmas.List.{length-set}
+use Rattle.evl_base.specs.Limits.{thread_limit}
 use Rattle.evl_base.specs.declared.reply.Reply.{Reply}
 use Rattle.evl_base.specs.declared.reply.Reply.TheVariants.{TimedOut}
 use Rattle.evl_kernel.specs.declared.waits.Awaited.{Awaited}
@@ -46,7 +47,7 @@ pub record IsProper (n : ℕ) (s : State) : Type 0 where
   pub places : length s.waits ≡ n
 
 -- what the records keep of them
-pub kept_of : (n : ℕ) (s : State) → n ≤ 64 → IsProper n s → WaitsAreKept n (elements s) s.waits
+pub kept_of : (n : ℕ) (s : State) → n ≤ thread_limit → IsProper n s → WaitsAreKept n (elements s) s.waits
 kept_of n s few h = record { few = few; sound = h.proper.sound; places = h.places; going = λ on thread stands. h.proper.stands on thread stands }
 
 -- the waits of these end, who stand nowhere
@@ -58,7 +59,7 @@ is_woken n s ((thread, outcome) ∷ others) threads_are places h away =
     (proper_woken s thread outcome (λ t. is_served t others) h (away thread (ap (λ (b : Bool). b || is_served thread others) (is_number thread thread refl))))
     (λ t is. away t (or_true (thread == t) (is_served t others) is))
 
-module _ (n : ℕ) (few : n ≤ 64) (s : State) (h : IsProper n s) where
+module _ (n : ℕ) (few : n ≤ thread_limit) (s : State) (h : IsProper n s) where
   -- a step of an element: these are let go
   pub beside_after : (served : List (ℕ × Reply)) (after : Elements) → Stepped (elements s) served after → ProperBeside (with_elements s after) (λ t. is_served t served)
   beside_after served after stepped = record {

@@ -1,9 +1,10 @@
 -- Waits that begin and end, and steps on threads, leave the waits proper; so does each run.
-use Rattle.std.proofs.Common.{◌≡◌, ◌<◌, ◌≤◌, ℕ, ◌==◌, ◌⊎◌, inl, inr, nat_le, Bool, true, false, not, ◌&&◌, ◌||◌, List, replicate, Option, Some, None, Ok, Err, is_none, is_some, slice_set, slice_index_or, if◌then◌else◌, refl, sym, ap, ◌∙◌, subst, arith}
+use Rattle.std.proofs.Common.{◌≡◌, ◌<◌, ◌≤◌, ℕ, ◌==◌, ◌⊎◌, inl, inr, nat_le, min, Bool, true, false, not, ◌&&◌, ◌||◌, List, replicate, Option, Some, None, Ok, Err, is_none, is_some, slice_set, slice_index_or, if◌then◌else◌, refl, sym, ap, ◌∙◌, subst, arith}
 use Rattle.std.specs.Option.{option_map_or}
 use Rattle.std.proofs.lemmas.Bool.{false≢true}
 use Rattle.std.proofs.lemmas.Bool.Decides.{nat_tests}
 use Rattle.std.proofs.lemmas.List.{length-set, length-replicate}
+use Rattle.evl_base.specs.Limits.{thread_limit}
 use Rattle.evl_base.specs.Board.{board_fits}
 use Rattle.evl_base.specs.declared.board.Board.{Board}
 use Rattle.evl_base.specs.declared.call.Call.{Call}
@@ -78,7 +79,7 @@ first_true true b e = refl
 first_true false b e = absurd (false≢true e)
 
 -- A thread whose wait doesn't go on is ready as its stage says, has no deadline, and stands nowhere.
-module _ (n : ℕ) (few : n ≤ 64) (s : State) (h : IsProper n s) (thread : ℕ) (over : over_if (wait_at s thread)) where
+module _ (n : ℕ) (few : n ≤ thread_limit) (s : State) (h : IsProper n s) (thread : ℕ) (over : over_if (wait_at s thread)) where
   pub ready_as : is_ready s.sched thread ≡ is_oob (stage_of s.sched thread)
   ready_as = h.proper.ready thread ∙ (ap (λ (c : Bool). is_oob (stage_of s.sched thread) && not c) over ∙ and_true (is_oob (stage_of s.sched thread)))
 
@@ -131,7 +132,7 @@ passed_all s caller asked other = by (ends_a_wait (task_of asked)) other (wait_a
 pub over_none : (s : State) (thread : ℕ) → wait_at s thread ≡ None → over_if (wait_at s thread)
 over_none s thread none = ap (λ (o : Option Wait). option_map_or (λ (w : Wait). is_none w.outcome) o false) none
 
-module _ (n : ℕ) (few : n ≤ 64) where
+module _ (n : ℕ) (few : n ≤ thread_limit) where
   proper_threads : (s : State) (caller : ℕ) (step : ThreadStep) → wait_at s caller ≡ None → IsProper n s → Leaves (IsProper n) (thread_effect s caller step)
   proper_threads s caller (attach policy stage) idle h = leaves-refused (IsProper n) (attach_refusal s.sched caller policy) _ (λ passed.
       proper_seat n few s h caller (over_none s caller idle) _ (anew-attached s.sched caller policy stage))
@@ -346,7 +347,7 @@ proper_opening board bank fits = record {
     stands = λ on t stands. absurd (false≢true (sym (nobody on t) ∙ stands));
     waits = λ on t is. absurd (none_some (sym (no_wait t) ∙ is));
     ready = λ t. sym (ap (λ (o : Option Seat). is_oob (option_map_or (λ (seat : Seat). seat.stage) o Inband) && not (is_blocked (opening board bank) t)) (at-none {A = Seat} board.threads t));
-    dated = λ t date is. absurd (none_some (sym (at-none {A = ℕ} 64 t) ∙ is));
+    dated = λ t date is. absurd (none_some (sym (at-none {A = ℕ} (min board.threads thread_limit) t) ∙ is));
   };
   threads_are = refl;
   places = length-replicate board.threads None;

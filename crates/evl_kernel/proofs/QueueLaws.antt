@@ -146,7 +146,7 @@ pub record Begins (e : Elements) (thread : ℕ) (on : Awaited) (served : Option 
   pub waits : served ≡ None → Comes e on thread after
   pub quiet : served ≡ None → woken ≡ []
 
-module _ (e : Elements) (h : AreSound e) (after : Elements) (reply : Reply) (thread rank : ℕ) (within : thread < 64) where
+module _ (e : Elements) (h : AreSound e) (after : Elements) (reply : Reply) (thread rank : ℕ) (within : thread < thread_limit) where
   of_sem : (id : SemId) → stands_for e (Sem id) thread ≡ false → element e (step_of_waiter thread rank (wanted.Sem id)) ≡ Ok (reply, after)
       → Begins e thread (Sem id) (serves e (step_of_waiter thread rank (wanted.Sem id))) (wakes e (step_of_waiter thread rank (wanted.Sem id))) after
   of_sem id away is =

@@ -2,6 +2,7 @@
 use Rattle.std.proofs.Common.{◌≡◌, ◌<◌, ◌+◌, ◌-◌, ℕ, ◌==◌, nat_lt, Bool, true, false, ◌||◌, List, [], ◌∷◌, Option, Some, None, Ok, Err, if◌then◌else◌, refl, sym, ap, ◌∙◌, subst, arith}
 use Rattle.std.proofs.lemmas.Bool.{false≢true}
 use Rattle.std.proofs.lemmas.Bool.Decides.{nat_tests}
+use Rattle.evl_base.specs.Limits.{thread_limit}
 use Rattle.evl_base.specs.declared.refusal.Refusal.TheVariants.{Again, Range}
 use Rattle.evl_base.specs.declared.reply.Reply.{Reply}
 use Rattle.evl_base.specs.declared.reply.Reply.TheVariants.{Done}
@@ -107,7 +108,7 @@ pub record Begun (q p : Semaphore) (thread : ℕ) (served : Option Reply) : Type
   pub at_once : (outcome : Reply) → served ≡ Some outcome → OneGoes (in_sem q) (in_sem p) []
   pub waits : served ≡ None → OneComes (in_sem q) (in_sem p) thread
 
-pub begun : (q p : Semaphore) (reply : Reply) (w : Waiter) → IsSoundSemaphore q → in_sem q w.thread ≡ false → w.thread < 64 → machine q (semaphore.begin w) ≡ Ok (reply, p)
+pub begun : (q p : Semaphore) (reply : Reply) (w : Waiter) → IsSoundSemaphore q → in_sem q w.thread ≡ false → w.thread < thread_limit → machine q (semaphore.begin w) ≡ Ok (reply, p)
     → Begun q p w.thread (sem_serves q (semaphore.begin w))
 begun q p reply w h away within is =
     subst (λ (x : Semaphore). Begun q x w.thread (sem_serves q (semaphore.begin w))) (ap (λ (x : Reply × Semaphore). x.1) (ok_is is)) (by (q.count == 0) refl)

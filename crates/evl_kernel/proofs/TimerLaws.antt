@@ -1,5 +1,5 @@
 -- What a change of the clock leaves of the callbacks: which stand in timers, and that they are allowed there.
-use Rattle.std.proofs.Common.{◌≡◌, ℕ, zero, suc, nat_le, ◌⊎◌, inl, inr, Bool, true, false, not, List, [], ◌∷◌, Option, Some, None, is_some, slice_get, slice_set, slice_index_or, Result, Ok, Err, OnOk, OnErr, if◌then◌else◌, refl, sym, ap, ◌∙◌, subst}
+use Rattle.std.proofs.Common.{◌≡◌, ◌≤◌, ℕ, zero, suc, nat_le, ◌⊎◌, inl, inr, Bool, true, false, not, List, [], ◌∷◌, Option, Some, None, is_some, slice_get, slice_set, slice_index_or, Result, Ok, Err, OnOk, OnErr, if◌then◌else◌, refl, sym, ap, ◌∙◌, subst}
 use Rattle.std.specs.Option.{option_map}
 use Rattle.std.proofs.lemmas.Option.{slice_get-map}
 use Rattle.std.proofs.lemmas.List.{map-set, length-set}
@@ -10,6 +10,7 @@ use Rattle.evl_pipeline.specs.Lines as lines
 use Rattle.evl_base.specs.declared.reply.Reply.TheVariants.{Done, Number}
 use Rattle.evl_pipeline.specs.declared.plan.Plan.{Plan}
 use Rattle.evl_clock.specs.declared.timer.Timer.{Timer}
+use Rattle.evl_clock.specs.Limits.{thread_count}
 use Rattle.evl_clock.specs.Timers.{is_timer_allowed, made, after_fire, started, stopped}
 use Rattle.evl_clock.specs.Clocks.{Clock, IsSoundClock, timer_at, with_timer, free_place, with_new_timer, timer_refusal, new_timer_refusal, advance_refusal, start, stop, dropped, advanced, with_deadline}
 use Rattle.evl_clock.specs.ClockSteps.{fired}
@@ -40,7 +41,7 @@ module _ {X : Type 0} where
   sound-with_timer c n t h = record { timers = length-set c.timers n t ∙ h.timers; deadlines = h.deadlines }
 
   pub sound-with_deadline : (c : Clock X) (n : ℕ) (until : Option ℕ) → IsSoundClock c → IsSoundClock (with_deadline c n until)
-  sound-with_deadline c n until h = record { timers = h.timers; deadlines = length-set c.deadlines n until ∙ h.deadlines }
+  sound-with_deadline c n until h = record { timers = h.timers; deadlines = subst (λ (k : ℕ). k ≤ thread_count) (sym (length-set c.deadlines n until)) h.deadlines }
 
   pub sound-advanced : (c : Clock X) (delta : ℕ) → IsSoundClock c → IsSoundClock (advanced c delta)
   sound-advanced c delta h = record { timers = h.timers; deadlines = h.deadlines }

@@ -3,6 +3,7 @@ use Rattle.std.proofs.Common.{◌≡◌, ◌≢◌, ◌<◌, ◌≤◌, if◌the
 use Rattle.std.specs.Option.{option_map_or}
 use Rattle.std.proofs.lemmas.Bool.{false≢true}
 use Rattle.std.proofs.lemmas.Bool.Decides.{nat_tests}
+use Rattle.evl_base.specs.Limits.{thread_limit}
 use mathlib.Core.Logic.{dite}
 use native.Mathlib.Decide.{ℕ_discrete}
 use Rattle.evl_base.specs.declared.call.Call.{Call}
@@ -196,7 +197,7 @@ waits_step count old proper caller asked reply plays new step = record { others 
 pub waits_own : WaitsAreTheThreadsOwn
 waits_own h legal fits caller asked reply plays new step = waits_step h.board.threads h.state (proper_at h legal fits) caller asked reply plays new step
 
-run_awaits : (count : ℕ) → count ≤ 64 → (old : State) (entries : List Entry) (plays : List Play) (new : State) → IsProper count old → Run old entries plays new → (t : ℕ) → awaited_at new t ≡ awaited_along t entries (awaited_at old t)
+run_awaits : (count : ℕ) → count ≤ thread_limit → (old : State) (entries : List Entry) (plays : List Play) (new : State) → IsProper count old → Run old entries plays new → (t : ℕ) → awaited_at new t ≡ awaited_along t entries (awaited_at old t)
 run_awaits count few old [] plays new proper run t = ap (λ (x : State). awaited_at x t) run.1
 run_awaits count few old (e ∷ es) plays new proper (mine, rest, mid, split, (counted, step), run) t =
     let one = waits_step count old proper e.caller.0 e.call e.reply mine mid step in

@@ -4,6 +4,7 @@ use Rattle.std.specs.Option.{option_map, option_map_or}
 use Rattle.std.proofs.lemmas.Bool.{false≢true}
 use Rattle.std.proofs.lemmas.Bool.Decides.{nat_tests}
 use Rattle.std.proofs.lemmas.List.{length-set}
+use Rattle.evl_base.specs.Limits.{thread_limit}
 use Rattle.evl_base.specs.declared.refusal.Refusal.{Refusal}
 use Rattle.evl_base.specs.declared.refusal.Refusal.TheVariants.{Unknown, Deadlock}
 use Rattle.evl_base.specs.declared.reply.Reply.{Reply}
@@ -264,7 +265,7 @@ module _ {C : Type 0} (r : RecordsView C) (h : IsSound r) (thread rank : ℕ) (w
   pub begin_away : (on : Awaited) → stands_for r.elements.elements on thread ≡ false
   begin_away on = idle_away r.threads r.elements.elements r.waits h.waits thread none on
 
-  pub begin_few : thread < 64
+  pub begin_few : thread < thread_limit
   begin_few = omega (arith, there, h.waits.few)
 
   begins : Begins r.elements.elements thread (awaited wants) (serves r.elements.elements (step_of_waiter thread rank wants)) (wakes r.elements.elements (step_of_waiter thread rank wants)) after.elements

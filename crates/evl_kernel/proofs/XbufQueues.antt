@@ -2,6 +2,7 @@
 use Rattle.std.proofs.Common.{◌≡◌, ◌<◌, ℕ, ◌==◌, ◌⊎◌, inl, inr, Bool, true, false, ◌||◌, List, [], ◌∷◌, ◌++◌, map, Option, Some, None, Result, Ok, Err, if◌then◌else◌, refl, sym, ap, ◌∙◌, subst, arith}
 use Rattle.std.proofs.lemmas.Bool.{false≢true}
 use Rattle.std.proofs.lemmas.Bool.Decides.{nat_tests}
+use Rattle.evl_base.specs.Limits.{thread_limit}
 use Rattle.evl_base.specs.declared.refusal.Refusal.{Refusal}
 use Rattle.evl_base.specs.declared.refusal.Refusal.TheVariants.{Again}
 use Rattle.evl_base.specs.declared.reply.Reply.{Reply}
@@ -339,7 +340,7 @@ module _ (x : Xbuf) (thread : ℕ) where
       alone Out (writing In) is = inr is
       alone Out (writing Out) is = inr is
 
-module _ (x y : Xbuf) (said : Reply) (h : IsSoundXbuf x) (thread : ℕ) (within : thread < 64) where
+module _ (x y : Xbuf) (said : Reply) (h : IsSoundXbuf x) (thread : ℕ) (within : thread < thread_limit) where
   pub write_begun : (way : Way) (bytes : List ℕ) → in_writers way x thread ≡ false → machine x (through.begin_write thread way bytes) ≡ Ok (said, y)
       → Begun x y (writing way) thread (xbuf_serves x (through.begin_write thread way bytes)) (xbuf_wakes x (through.begin_write thread way bytes))
   write_begun way bytes away = by (stage_refusal (writing_stage way) (writing_stage way)) (too_big (stream x way) bytes) refl (can_write (stream x way) bytes) refl

@@ -1,5 +1,7 @@
 -- How many there are at most.
-use Rattle.std.specs.Prelude.{ℕ}
+use Rattle.std.specs.Prelude.{ℕ, ◌+◌, ◌*◌}
+use Rattle.evl_base.specs.Limits.{line_limit, thread_limit}
+use Rattle.evl_clock.specs.Limits.{timer_count}
 
 -- the callbacks of a bank
 abbrev pub callback_limit : ℕ
@@ -13,9 +15,9 @@ history_limit = 1000000
 abbrev pub inband_limit : ℕ
 inband_limit = 64
 
--- the plays of one call: five for each in-band one, and one for each of 1024 lines, of 64 timers and of 64 deadlines
+-- the plays of one call: five for each in-band one, and one for each line, each timer and each deadline; so 4736
 abbrev pub play_limit : ℕ
-play_limit = 1472
+play_limit = 5 * inband_limit + line_limit + timer_count + thread_limit
 
 -- the boxes that the bytes of one call's reply take: the caller's and the entry's
 abbrev pub box_limit : ℕ

@@ -27,7 +27,7 @@ opening board bank = record {
   elements = all_opened board;
   bank = map at_home bank;
   lines = lines.opening;
-  clock = clocks.opening;
+  clock = clocks.opening board.threads;
   sched = threads.opening board.threads board.groups.items;
   waits = replicate board.threads None;
 }

@@ -103,7 +103,7 @@ pub record IsSound {C : Type 0} (r : RecordsView C) : Type 0 where
 pub record IsOpened {C : Type 0} (declared : C → ℕ) (plan : C → Plan) (board : Board) (bank : List C) (r : RecordsView C) : Type 0 where
   pub filled : AreFilled declared plan bank r.bank
   pub nothing_out : r.lines ≡ lines.opening
-  pub no_timers : r.clock ≡ clocks.opening
+  pub no_timers : r.clock ≡ clocks.opening board.threads
   pub state : state_of r ≡ opening board (map (λ callback. record { kinds = declared callback; plan = plan callback }) bank)
 
 -- no callback came, and what is told of the places is the same

@@ -4,15 +4,14 @@ ghost use Rattle.evl_base.specs.declared.refusal.Refusal.{Refusal};
 ghost use Rattle.evl_bitmap.specs.NumberSet.{least};
 ghost use Rattle.evl_kernel.specs.ChangedThreads.{without_least};
 
-use crate::THREADS;
-use evl_base::{Refusal, ThreadId};
+use evl_base::{MAX_THREADS, Refusal, ThreadId};
 use evl_bitmap::{Bitmap, Level, Word};
 use evl_mutex::RankChanges;
 use std::alloc::Allocator;
 use std::marker::Model;
 
 /// How many words of 32 bits there are, with a bit for each thread.
-const WORDS: u16 = 2;
+const WORDS: u16 = (MAX_THREADS / 32) as u16;
 
 /// The threads whose effective rank may be another one than the scheduler was given. To a contract it is a set of numbers.
 /// Only `new` takes memory.
@@ -59,7 +58,7 @@ impl<A: Allocator> RankChanges for ChangedThreads<A> {
     ghost is_noted = { is_noted };
 
     fn note(&mut self, thread: ThreadId) {
-        if usize::from(thread.0) < THREADS {
+        if usize::from(thread.0) < MAX_THREADS {
             self.threads.insert(thread.0);
         }
     }

@@ -15,8 +15,7 @@ mod mutexes;
 mod semaphores;
 mod waiting;
 
-use crate::THREADS;
-use evl_base::{Board, Refusal};
+use evl_base::{Board, MAX_THREADS, Refusal};
 use evl_mutex::OwnersOf;
 use evl_sync::{FlagGroup, Sem};
 use evl_xbuf::XbufOf;
@@ -62,7 +61,7 @@ impl<A: Allocator> Elements<A> {
         };
         let for_owners = alloc.clone().map_err(|_| Refusal::NoMemory)?;
         let xbufs = opened_xbufs(alloc, board.xbufs.as_slice())?;
-        let owners = OwnersOf::new(for_owners, THREADS as u16, board.mutexes.as_slice())?;
+        let owners = OwnersOf::new(for_owners, MAX_THREADS as u16, board.mutexes.as_slice())?;
         Ok(Elements {
             sems,
             flags,

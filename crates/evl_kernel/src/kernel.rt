@@ -20,7 +20,8 @@ ghost use Rattle.evl_kernel.specs.KernelViews.{AddsEntry, IsOpened, IsKernelAnsw
 
 use crate::records::Records;
 use evl_base::{
-    Board, Call, Entry, LineNo, MutexId, Play, Refusal, Reply, Spares, Stage, ThreadId, TimerId,
+    Board, Call, Entry, LINES, LineNo, MAX_THREADS, MutexId, Play, Refusal, Reply, Spares, Stage,
+    ThreadId, TimerId,
 };
 use evl_clock::TimerState;
 use evl_pipeline::{Callback, Handler};
@@ -33,8 +34,9 @@ const MAX_LIMIT: u32 = 1_000_000;
 /// The most callbacks of a bank.
 const MAX_CALLBACKS: usize = 64;
 
-/// The most plays that one call makes.
-const MAX_PLAYS: usize = 1472;
+/// The most plays that one call makes: five for each of 64 in-band ones, and one for each line, each of 64 timers and
+/// each deadline.
+const MAX_PLAYS: usize = 5 * 64 + LINES + 64 + MAX_THREADS;
 
 /// The most boxes that the bytes of one call's reply take: the caller's and the entry's.
 const MAX_BOXES: usize = 2;
@@ -225,7 +227,7 @@ impl<C, A: Allocator> KernelOf<C, A> {
 }
 
 impl<C, A: Allocator> KernelOf<C, A> {
-    /// Whether an event of the line is pending on the stage; no line above 1023 is (Dovetail: interrupt pipeline).
+    /// Whether an event of the line is pending on the stage; no line above 4095 is (Dovetail: interrupt pipeline).
     pub fn pending(&self, stage: Stage, line: LineNo) -> bool
         ensures pending { result ≡ lines.is_pending self.now.history.state.lines stage line.0 }
         ensures outside { line_count ≤ line.0 → result ≡ false }
@@ -242,7 +244,7 @@ impl<C, A: Allocator> KernelOf<C, A> {
         self.records.is_stalled(stage)
     }
 
-    /// How many events came on the line where no callback stood for them: 0 to 2^64 - 1, and 0 for a line above 1023
+    /// How many events came on the line where no callback stood for them: 0 to 2^64 - 1, and 0 for a line above 4095
     /// (this profile).
     pub fn spurious(&self, line: LineNo) -> u64
         ensures count { result ≡ count_at self.now.history.state.lines.spurious line.0 }
@@ -253,7 +255,7 @@ impl<C, A: Allocator> KernelOf<C, A> {
     }
 
     /// How many answers of the callbacks on the line of this stage were unhandled: 0 to 2^64 - 1, and 0 for a line
-    /// above 1023 (this profile).
+    /// above 4095 (this profile).
     pub fn unhandled(&self, line: LineNo, stage: Stage) -> u64
         ensures count { result ≡ count_at (lines.side self.now.history.state.lines stage).unhandled line.0 }
         ensures outside { line_count ≤ line.0 → result ≡ 0 }

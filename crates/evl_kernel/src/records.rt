@@ -81,7 +81,7 @@ impl<C: Handler, A: Allocator> Records<C, A> {
         ensures refusal { IfErr result (λ e. e ≡ Refusal.NoMemory) }
     {
         let waiting = waiting_over(&alloc, boxes, board)?;
-        let playing = playing_over(&alloc)?;
+        let playing = playing_over(&alloc, board.threads)?;
         let bank = placed(&alloc, bank)?;
         let changes = ChangedThreads::new(another(&alloc)?)?;
         let sched = SchedOf::new(alloc, board.threads, board.groups.as_slice())?;
@@ -122,16 +122,17 @@ fn waiting_over<A: Allocator + Clone>(
     Ok((elements, waits))
 }
 
-/// The lines and the clock, as they are at the beginning.
+/// The lines, and the clock of so many threads, as they are at the beginning.
 fn playing_over<C: Handler, A: Allocator + Clone>(
     alloc: &A,
+    threads: u16,
 ) -> Result<(PipelineOf<Numbered<C>, A>, ClockOf<Numbered<C>, A>), Refusal>
     ensures lines { IfOk result (λ made. made.0 ≡ lines.opening) }
-    ensures clock { IfOk result (λ made. made.1 ≡ clocks.opening) }
+    ensures clock { IfOk result (λ made. made.1 ≡ clocks.opening threads) }
     ensures refusal { IfErr result (λ e. e ≡ Refusal.NoMemory) }
 {
     let pipeline = PipelineOf::new(another(alloc)?)?;
-    let clock = ClockOf::new(another(alloc)?)?;
+    let clock = ClockOf::for_threads(another(alloc)?, usize::from(threads))?;
     Ok((pipeline, clock))
 }
 

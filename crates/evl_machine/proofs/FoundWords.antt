@@ -1,11 +1,10 @@
 -- What a step on a mutex's word tells of the word that it found: the mutex that the word shows.
-use Rattle.std.proofs.Common.{◌≡◌, ◌≢◌, ℕ, ◌+◌, ◌<◌, eqb, eqb-true, Bool, true, false, length, map, refl, sym, ap, ◌∙◌, subst, arith}
+use Rattle.std.proofs.Common.{◌≡◌, ◌≢◌, ℕ, ◌+◌, ◌<◌, eqb-true, Bool, true, map, refl, sym, ap, ◌∙◌, arith}
 use Rattle.atomic_table.proofs.Lists.{at_map}
 use Rattle.evl_base.specs.declared.numbers.ThreadId.{ThreadId}
+use Rattle.evl_base.specs.Limits.{thread_limit}
 use Rattle.evl_words.specs.declared.mutex.Claim.{Claim}
 use Rattle.evl_words.specs.declared.mutex.Claim.TheVariants.{Won, Queued, Seizing}
-use Rattle.evl_words.specs.declared.mutex.MutexHold.{MutexHold}
-use Rattle.evl_words.specs.declared.mutex.MutexReply.{MutexReply}
 use Rattle.evl_words.specs.declared.mutex.MutexReply.TheVariants.{Won as IsWon, Queued as IsQueued, Seizing as IsSeizing}
 use Rattle.evl_words.specs.declared.mutex.MutexRole.TheVariants.{Owner}
 use Rattle.evl_words.specs.Mutex.{Mutex, unowned, seized, owned, offered, claim_answer, is_offered, is_owner}
@@ -21,7 +20,7 @@ use Rattle.evl_machine.proofs.TieWords.{number_in-offer}
 pub record Shown (found : ℕ) : Type 0 where
   pub mutex : Mutex
   pub word : found ≡ mutex_word mutex
-  pub below : NamesBelow 64 mutex
+  pub below : NamesBelow thread_limit mutex
 
 module _ (k : ℕ) (p q : MutexView) (kind : MutexKind) (found : ℕ) (d : MutexDoes k p kind found q) where
   pub shown : Shown found
@@ -29,8 +28,8 @@ module _ (k : ℕ) (p q : MutexView) (kind : MutexKind) (found : ℕ) (d : Mutex
       let tied = d.event.stands.history.tied in
       record { mutex = d.event.stands.state; word = sym d.event.shows ∙ tied.word; below = names_within _ d.event.stands.state tied.few tied.below }
 
-  -- a thread that makes a step is one of at most 64
-  pub is_near : k < 64
+  -- a thread that makes a step is one of at most 256
+  pub is_near : k < thread_limit
   is_near =
       let e = d.event in
       let few = e.stands.history.tied.few in
@@ -92,7 +91,7 @@ seizing_found found s is = let x = by s.mutex (claim_is found s Seizing is) in (
 pub queued_found : (found : ℕ) (s : Shown found) (owner : ThreadId) → reply_of (Queued owner) ≡ claim_reply found → (s.mutex ≢ unowned) × (number_in (mutex_word s.mutex) ≡ owner.0 + 1)
 queued_found found s owner is = by s.mutex s.below (claim_is found s (Queued owner) is)
   where
-    by : (x : Mutex) → NamesBelow 64 x → IsQueued owner.0 ≡ claim_answer x → (x ≢ unowned) × (number_in (mutex_word x) ≡ owner.0 + 1)
+    by : (x : Mutex) → NamesBelow thread_limit x → IsQueued owner.0 ≡ claim_answer x → (x ≢ unowned) × (number_in (mutex_word x) ≡ owner.0 + 1)
     by unowned below e = absurd (cc)
     by (seized h) below e = absurd (cc)
     by (owned h marked) below e = let same : owner.0 ≡ h = cc in ((λ is. absurd (cc)), number_in-owned h marked below ∙ ap (λ n. n + 1) (sym same))

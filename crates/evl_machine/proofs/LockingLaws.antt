@@ -1,5 +1,5 @@
 -- A caller that has the kernel in hand: what goes along with it, step by step.
-use Rattle.std.proofs.Common.{◌≡◌, ◌↔◌, ◌⊎◌, ◌+◌, ◌≤◌, ◌<◌, ℕ, List, [], true, Result, Ok, Err, IfOk, IfErr, length, map, refl, sym, ap, ◌∙◌, subst, arith, inl, inr, ⊎_elim}
+use Rattle.std.proofs.Common.{◌≡◌, ◌↔◌, ◌⊎◌, ◌+◌, ◌≤◌, ◌<◌, ℕ, List, [], true, Result, Ok, Err, IfOk, IfErr, length, map, refl, sym, ap, ◌∙◌, subst, arith, ⊎_elim}
 use Rattle.evl_base.specs.declared.call.Call.{Call}
 use Rattle.evl_base.specs.declared.call.Call.TheVariants.{Raise}
 use Rattle.evl_base.specs.declared.mutex_kind.MutexKind.{MutexKind}

@@ -2,7 +2,6 @@
 use Rattle.std.proofs.Common.{◌≡◌, ◌≢◌, ◌⊎◌, ⊎_elim, ◌<◌, ◌+◌, eqb, ne_eqb, ℕ, zero, suc, not, Bool, true, false, true≢false, List, [], ◌∷◌, length, map, Option, Some, None, is_some, option_map, Result, Ok, Err, if◌then◌else◌, slice_get, refl, sym, ap, ◌∙◌, subst, arith}
 use Rattle.std.specs.Prelude.{bit_and, bit_or, ◌||◌, ◌&&◌, ◌==◌}
 use Rattle.std.specs.Option.{option_map_or}
-use Rattle.std.proofs.lemmas.Bool.{false≢true}
 use mathlib.Core.Logic.{dite}
 use native.Mathlib.Decide.{ℕ_discrete}
 use prog.Atomic.{either}
@@ -18,6 +17,7 @@ use Rattle.evl_base.specs.declared.refusal.Refusal.TheVariants.{Invalid}
 use Rattle.evl_base.specs.declared.reply.Reply.{Reply}
 use Rattle.evl_base.specs.declared.reply.Reply.TheVariants.{Handed}
 use Rattle.evl_base.specs.declared.stage.Stage.TheVariants.{Oob}
+use Rattle.evl_base.specs.Limits.{thread_limit}
 use Rattle.evl_mutex.specs.Mutexes.{Mutex, opened as opened_mutex}
 use Rattle.evl_kernel.specs.declared.waits.Awaited.{Awaited}
 use Rattle.evl_kernel.specs.declared.waits.Awaited.TheVariants.{Sem, Flags, Writing, Reading, Mutex as OnMutex}
@@ -38,34 +38,33 @@ use Rattle.evl_kernel.proofs.OwnRunLaws.{mutexes_by_themselves}
 use Rattle.evl_kernel.proofs.ProperSteps.{proper_at}
 use Rattle.evl_words.specs.declared.mutex.Claim.TheVariants.{Won, Queued, Seizing}
 use Rattle.evl_words.specs.declared.mutex.MutexPass.{MutexPass}
-use Rattle.evl_words.specs.declared.mutex.MutexRole.TheVariants.{Owner}
 use Rattle.evl_words.specs.Mutex as word
 use Rattle.evl_words.specs.Mutex.{owned, offered, claimed}
 use Rattle.evl_words.specs.MutexBits.{mutex_word, offer_word, offers_to}
 use Rattle.evl_words.specs.MutexWorld.{MutexKind as Kind, MutexView, accepts, awaits, claims, forgets, frees, offers, owns, settles, step_word, tries}
 use Rattle.evl_words.proofs.MutexWords.{accept-word, mark-word}
 use Rattle.evl_machine.specs.declared.unfinished.Unfinished.{Unfinished}
-use Rattle.evl_machine.specs.declared.unfinished.Unfinished.TheVariants.{Mutex as of_mutex, Element}
+use Rattle.evl_machine.specs.declared.unfinished.Unfinished.TheVariants.{Mutex as of_mutex}
 use Rattle.evl_machine.specs.declared.views.Noted.{Noted as Note}
 use Rattle.evl_machine.specs.Accounts.{threads_of}
 use Rattle.evl_machine.specs.Actors.{IsActor, SeatedActor, acting, call_refusal, same_truth, keeps_stage, waits_for_mutex}
 use Rattle.evl_machine.specs.Calls.{Applied}
 use Rattle.evl_machine.specs.JustTaken.{HasJustTaken}
-use Rattle.evl_machine.specs.Known.{CoreHand, ceilings_of, first_of, mutex_count, taken_in}
+use Rattle.evl_machine.specs.Known.{CoreHand, ceilings_of, first_of, mutex_count}
 use Rattle.evl_machine.specs.Locking.{EntersOne}
 use Rattle.evl_machine.specs.MutexSeats.{HasOnce}
-use Rattle.evl_machine.specs.MutexTokens.{note_in, part_of}
-use Rattle.evl_machine.specs.Noted.{Found, FoundAny, FoundClaimed, FoundFree, FoundOffered, FoundTaken, IsSettled, Notes, NotesAccept, NotesGiven, ceilings_in, number_of}
+use Rattle.evl_machine.specs.MutexTokens.{part_of}
+use Rattle.evl_machine.specs.Noted.{Found, FoundAny, FoundClaimed, FoundFree, FoundOffered, FoundTaken, IsSettled, Notes, NotesGiven, ceilings_in, number_of}
 use Rattle.evl_machine.specs.Ties.{AreTied, IsLeft, StandsNoted}
 use Rattle.evl_machine.proofs.AwaitedCalls.{kept, kept_of, mutex_awaited, none_awaited, unfinished_is}
-use Rattle.evl_machine.proofs.FoundWords.{Shown, is_near, offer_found, owned_found, queued_found, seizing_found, shown, won_found}
+use Rattle.evl_machine.proofs.FoundWords.{Shown, offer_found, owned_found, queued_found, seizing_found, shown, won_found}
 use Rattle.evl_machine.proofs.MutexStepLaws.{owner_is, part_is}
 use Rattle.evl_machine.proofs.SeatLists.{some-within}
 use Rattle.evl_machine.proofs.SeatsAt.{once_at}
 use Rattle.evl_machine.proofs.Settling.{settled_fresh, settled_noting, stay_same, stood_fresh}
 use Rattle.evl_machine.proofs.TieFinds.{over_finds, raise_passes, release_passes}
 use Rattle.evl_machine.proofs.TieRecords.{tied_refused}
-use Rattle.evl_machine.proofs.TieRule.{from_true, noted}
+use Rattle.evl_machine.proofs.TieRule.{from_true}
 use Rattle.evl_machine.proofs.TieSteps.{not_seized, word_given}
 use Rattle.evl_machine.proofs.TieVisits.{OthersStay, TiesStay, accept_stays, claim_stays, finish_stays, left_offered, other_stays, raise_stays, refused_stays, release_stays, tied_plain}
 
@@ -225,7 +224,7 @@ module _ {C : Type 0} where
     abbrev ceilings : ℕ → Bool
     ceilings = ceilings_in a.me.0
 
-    near : thread < 64
+    near : thread < thread_limit
     near = let few = threads_few k.history.board just.fits in let here = just.member in omega (arith, few, here)
 
     there : thread < k.history.state.threads
@@ -308,7 +307,7 @@ module _ {C : Type 0} where
         release_stays ceilings k.history just.legal just.fits thread entered.1.0 k'.history.state id next more entered.1.1.extends.step.1 marked near low
         (subst (λ x. AreTied ceilings k.history.state id.0 x) (is ∙ ap (λ n. mutex_word (owned n marked)) just.taken.number) tied)
       where
-        low : (n : ThreadId) → next ≡ Some n → n.0 < 64
+        low : (n : ThreadId) → next ≡ Some n → n.0 < thread_limit
         low n is =
             let few = threads_few k.history.board just.fits in
             let step : Step k.history.state thread (Release id) (Ok (Handed (Some n) more)) entered.1.0 k'.history.state = subst (λ (o : Option ThreadId). Step k.history.state thread (Release id) (Ok (Handed o more)) entered.1.0 k'.history.state) is entered.1.1.extends.step.1 in

@@ -24,7 +24,7 @@ use Rattle.evl_machine.specs.Noted.{Found, Notes, number_of}
 use Rattle.evl_machine.specs.Ties.{StandsNoted}
 use Rattle.evl_machine.specs.TieTells.{on_noted}
 use Rattle.evl_machine.specs.MutexPlaces.{Deepens}
-use Rattle.evl_machine.specs.Homes.{Home, mutex_home}
+use Rattle.evl_machine.specs.Homes.{mutex_home}
 use Rattle.evl_machine.specs.MutexTokens.{AreItsPlaces, AreTheSame, HasKernelFor, IsAtTable, TellsTheSame, note_in, part_of, seat_at, seats_at}
 use Rattle.evl_machine.specs.Seats.{view}
 use Rattle.evl_machine.specs.ThreadRule.{put_core, mutex_of, put_mutex, on_mutex}

@@ -26,7 +26,6 @@ use Rattle.evl_words.specs.Hands.{place}
 use Rattle.evl_words.specs.MutexWorld.{MutexView, owns}
 use Rattle.evl_words.specs.MutexWorld.{newcomer as at_mutex}
 use Rattle.evl_words.specs.Parts.{part_in}
-use Rattle.evl_machine.specs.declared.views.Account.{Account}
 use Rattle.evl_machine.specs.Accounts.{calls_by, newcomer, threads_of}
 use Rattle.evl_base.specs.declared.mutex_kind.MutexKind.{MutexKind}
 use Rattle.evl_machine.specs.Callers.{caller_by}

@@ -1,5 +1,5 @@
 -- What holds of the one table's world holds after any list of atomic steps, and while hands of threads are split and joined.
-use Rattle.std.proofs.Common.{◌≡◌, ◌≢◌, ⊎_elim, Some, eq-eqb, ne_eqb, ℕ, zero, suc, ◌<◌, ◌≤◌, ◌==◌, if◌then◌else◌, Bool, true, false, List, [], ◌∷◌, ◌++◌, map, set, get_or, length, refl, sym, ap, ◌∙◌, subst, length-set, get_or-set_same, get_or-set_other, arith}
+use Rattle.std.proofs.Common.{◌≡◌, ◌≢◌, ⊎_elim, Some, eq-eqb, ne_eqb, ℕ, ◌<◌, ◌≤◌, ◌==◌, if◌then◌else◌, Bool, true, false, List, [], ◌∷◌, ◌++◌, map, set, get_or, refl, sym, ap, ◌∙◌, subst, length-set, get_or-set_same, get_or-set_other, arith}
 use Rattle.std.specs.Prelude.{MatchBool, replicate}
 use Rattle.std.proofs.lemmas.List.{length-replicate}
 use mathlib.Core.Option.{some, none}
@@ -7,6 +7,7 @@ use mathlib.Core.Logic.{dite}
 use native.Mathlib.Decide.{ℕ_discrete}
 use lib.ListN.{get_elem?}
 use Rattle.atomic_table.proofs.Lists.{at_map, set_again, set_else}
+use Rattle.evl_base.specs.Limits.{thread_limit}
 use Rattle.evl_kernel.specs.Histories.{History, IsLegal}
 use Rattle.evl_words.specs.Machine.{Run}
 use Rattle.evl_words.specs.Events.{Event, seat_after, world_after}
@@ -105,7 +106,7 @@ module _ {S B : Type 0} (past : S → History) (room : S → ℕ) (comes : B →
       part_now : IsMutexWorld (world_after mutex_steps (mutex_world past room comes ceilings m w i) k (mutex_of i v) kind)
       part_now = steps.step_keeps (mutex_world past room comes ceilings m w i) (h.parts i within) k (mutex_of i v) part_at kind may
 
-      near : k < 64
+      near : k < thread_limit
       near =
           let few = (h.parts i within).history.tied.few in
           let held = map (λ (x : MutexView). x.held) (map (mutex_of i) w.views) in
@@ -250,8 +251,8 @@ module _ {S B : Type 0} (past : S → History) (room : S → ℕ) (comes : B →
   abbrev pub OpensTied : S → Type 0
   OpensTied y = (i : ℕ) → i < m → TieOf i 0 (some (Some y) ∷ []) (replicate (threads_of (past y)) (newcomer_part (past y) first)) 0
 
-  -- there are at most 64 threads, where there are mutexes
-  opens_one : (y : S) → ((i : ℕ) → i < m → threads_of (past y) ≤ 64) → IsLegal (past y) → (past y).entries ≡ [] → comes first y → OpensTied y → Stands ((opened_one past room comes ceilings m first y).world)
+  -- there are at most 256 threads, where there are mutexes
+  opens_one : (y : S) → ((i : ℕ) → i < m → threads_of (past y) ≤ thread_limit) → IsLegal (past y) → (past y).entries ≡ [] → comes first y → OpensTied y → Stands ((opened_one past room comes ceilings m first y).world)
   opens_one y few legal none_yet from tied =
       let n = threads_of (past y) in
       let one = newcomer_view (past y) first m n in record {
@@ -264,7 +265,7 @@ module _ {S B : Type 0} (past : S → History) (room : S → ℕ) (comes : B →
       }
 
   -- after any list of events from the opening
-  pub one_dealings_keep : (y : S) → ((i : ℕ) → i < m → threads_of (past y) ≤ 64) → IsLegal (past y) → (past y).entries ≡ [] → comes first y → OpensTied y → (events : List (DealingEvent (OneKind S))) (t : OneDealing S B)
+  pub one_dealings_keep : (y : S) → ((i : ℕ) → i < m → threads_of (past y) ≤ thread_limit) → IsLegal (past y) → (past y).entries ≡ [] → comes first y → OpensTied y → (events : List (DealingEvent (OneKind S))) (t : OneDealing S B)
       → Run (OneDealingStep past room comes ceilings m) (opened_one past room comes ceilings m first y) events t → StandsInOne past room comes ceilings m first t
   one_dealings_keep y few legal none_yet from tied events t run =
       let d = opened_one past room comes ceilings m first y in

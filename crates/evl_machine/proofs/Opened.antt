@@ -12,7 +12,6 @@ use Rattle.evl_base.specs.declared.mutex_kind.MutexKind.{MutexKind}
 use Rattle.evl_base.specs.declared.mutex_kind.MutexKind.TheVariants.{Normal, Recursive, Ceiling}
 use Rattle.evl_base.specs.declared.numbers.MutexId.{MutexId}
 use Rattle.evl_base.specs.declared.numbers.ThreadId.{ThreadId}
-use Rattle.evl_base.specs.declared.refusal.Refusal.{Refusal}
 use Rattle.evl_base.specs.declared.refusal.Refusal.TheVariants.{Busy, Deadlock, Limit, Unknown, WrongStage}
 use Rattle.evl_base.specs.declared.stage.Stage.{Stage}
 use Rattle.evl_base.specs.declared.stage.Stage.TheVariants.{Inband, Oob}
@@ -31,7 +30,7 @@ use Rattle.evl_machine.specs.Callers.{IsResting, caller_by, machine_by}
 use Rattle.evl_machine.specs.Calls.{AreOwnedAsRecorded, stage_of_caller, wait_of_caller}
 use Rattle.evl_machine.specs.Ceilings.{has_ceiling}
 use Rattle.evl_machine.specs.Handles.{CallerState, account_of}
-use Rattle.evl_machine.specs.Homes.{Home, mutex_home, word_home, word_homes}
+use Rattle.evl_machine.specs.Homes.{mutex_home, word_home, word_homes}
 use Rattle.evl_machine.specs.InHand.{Opens}
 use Rattle.evl_machine.specs.JustTaken.{HasJustTaken}
 use Rattle.evl_machine.specs.Known.{ComesFrom, CoreHand, KernelMe, first_of, mutex_count, seen}
@@ -39,7 +38,7 @@ use Rattle.evl_machine.specs.Locking.{HaveSeats}
 use Rattle.evl_machine.specs.MutexLocks.{kind_of, lock_refusal, own_lock_refusal, spend_refusal}
 use Rattle.evl_machine.specs.MutexPlaces.{depth_in, place_passes}
 use Rattle.evl_machine.specs.MutexSeats.{depth_at, is_owner, is_recursive, mutex_passes, mutex_refusal, owner_refusal}
-use Rattle.evl_machine.specs.MutexTokens.{part_of, seat_at, seats_at}
+use Rattle.evl_machine.specs.MutexTokens.{part_of, seat_at}
 use Rattle.evl_machine.specs.Noted.{HasTaken}
 use Rattle.evl_machine.specs.Visits.{actor_of}
 use Rattle.evl_machine.proofs.SeatsAt.{depth_there, long_as}

@@ -1,10 +1,9 @@
 -- What a thread's token and its places tell of its seats at the mutexes.
-use Rattle.std.proofs.Common.{◌≡◌, ◌<◌, ℕ, ◌+◌, ◌||◌, nat_lt, Bool, List, [], ◌∷◌, length, map, Option, Some, None, IsSomeAnd, slice_get, MatchOption, refl, sym, ap, ◌∙◌, subst}
+use Rattle.std.proofs.Common.{◌≡◌, ◌<◌, ℕ, ◌+◌, ◌||◌, nat_lt, List, [], ◌∷◌, length, map, Option, Some, None, IsSomeAnd, slice_get, refl, sym, ap, ◌∙◌, subst}
 use Rattle.std.specs.Option.{option_map, option_map_or}
 use Rattle.std.proofs.lemmas.List.{length-map}
 use Rattle.std.proofs.lemmas.Option.{slice_get-map}
 use Rattle.atomic_table.specs.Seated.{TableId}
-use Rattle.evl_base.specs.declared.refusal.Refusal.{Refusal}
 use Rattle.evl_base.specs.declared.refusal.Refusal.TheVariants.{NotOwner}
 use Rattle.evl_kernel.specs.KernelViews.{KernelView}
 use Rattle.evl_words.specs.declared.mutex.MutexPass.{MutexPass}
@@ -12,11 +11,10 @@ use Rattle.evl_words.specs.declared.mutex.MutexRole.TheVariants.{Winner}
 use Rattle.evl_words.specs.declared.mutex.place.MutexPlace.{MutexPlace}
 use Rattle.evl_words.specs.MutexCalls.{IsPassOf, MutexSeatState}
 use Rattle.evl_words.specs.MutexPlaces.{IsOfPlace}
-use Rattle.evl_words.specs.MutexWorld.{MutexView}
-use Rattle.evl_machine.specs.Actors.{ActorState, IsActor, SeatedActor, Suits, acting}
+use Rattle.evl_machine.specs.Actors.{IsActor, SeatedActor, acting}
 use Rattle.evl_machine.specs.Known.{CoreHand, KernelMe, first_of}
 use Rattle.evl_machine.specs.MutexPlaces.{depth_in, holds_place, place_passes, spend_refusal_in}
-use Rattle.evl_machine.specs.MutexSeats.{HasOnce, HasSeat, HasWon, depth_at, holds_mutex, is_owner, mutex_passes, pass_refusal, unlock_refusal}
+use Rattle.evl_machine.specs.MutexSeats.{HasOnce, HasSeat, HasWon, depth_at, holds_mutex, mutex_passes, pass_refusal, unlock_refusal}
 use Rattle.evl_machine.specs.MutexTokens.{HasKernel, HasKernelFor, IsAtTable, KeepsPlaces, TellsTheSame, part_of, seat_at, seats_at}
 
 -- what is said of what a map gives at a place

@@ -5,7 +5,7 @@ use Rattle.evl_kernel.specs.Histories.{History}
 use Rattle.evl_words.specs.MutexWorld.{MutexKind, step_word}
 use Rattle.evl_machine.specs.declared.views.Noted.{Noted}
 use Rattle.evl_machine.specs.CoreRule.{IsAbout}
-use Rattle.evl_machine.specs.Known.{CoreHand, taken_in, first_of, ceilings_of}
+use Rattle.evl_machine.specs.Known.{CoreHand, taken_in, ceilings_of}
 use Rattle.evl_machine.specs.MutexTokens.{HasKernel, note_in, part_of}
 use Rattle.evl_machine.specs.Noted.{Found, HasTaken, IsSettled, Notes, ceilings_in, number_of}
 use Rattle.evl_machine.specs.Ties.{AreTied, StandsNoted}

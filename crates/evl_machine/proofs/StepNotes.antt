@@ -1,5 +1,5 @@
 -- What each step on a mutex's word by the thread that has the kernel notes, and how it found the word.
-use Rattle.std.proofs.Common.{◌≡◌, ◌≢◌, ◌==◌, eqb, ℕ, ◌+◌, Bool, true, false, List, Option, IsSomeAnd, Ok, Err, slice_get, refl, sym, ap, ◌∙◌}
+use Rattle.std.proofs.Common.{◌≡◌, ◌≢◌, ◌==◌, ℕ, ◌+◌, Bool, List, Option, IsSomeAnd, Ok, Err, slice_get, refl, sym, ap, ◌∙◌}
 use Rattle.std.specs.Prelude.{bit_and, bit_or}
 use mathlib.Core.Option.{none}
 use prog.Atomic.{either}
@@ -10,15 +10,13 @@ use Rattle.evl_kernel.specs.KernelViews.{KernelView}
 use Rattle.evl_words.specs.declared.mutex.Claim.{Claim}
 use Rattle.evl_words.specs.declared.mutex.MutexPass.{MutexPass}
 use Rattle.evl_words.specs.declared.mutex.place.MutexPlace.{MutexPlace}
-use Rattle.evl_words.specs.Hands.{Told}
 use Rattle.evl_words.specs.MutexBits.{claim_reply, offer_word, offers_to}
 use Rattle.evl_words.specs.MutexCalls.{reply_of}
 use Rattle.evl_words.specs.MutexRule.{awaited, claimed, does, forgot, tried}
-use Rattle.evl_words.specs.MutexWorld.{MutexKind, accepts, awaits, claims, forgets, frees, offers, settles, tries}
+use Rattle.evl_words.specs.MutexWorld.{accepts, awaits, claims, forgets, frees, offers, settles, tries}
 use Rattle.evl_machine.specs.Known.{KernelMe, accepted_known, awaited_known, claimed_known, forgot_known, freed_known, offered_known, settled_known, tried_held_known}
 use Rattle.evl_machine.specs.MutexTokens.{IsAtTable}
 use Rattle.evl_machine.specs.Noted.{FoundAny, FoundClaimed, FoundOffered, FoundTried, Notes}
-use Rattle.evl_machine.specs.ThreadRule.{mutex_of}
 use Rattle.evl_machine.proofs.MutexStepLaws.{number_is}
 use Rattle.evl_machine.proofs.MutexTokens.{notes}
 

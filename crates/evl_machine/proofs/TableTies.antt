@@ -6,6 +6,7 @@ use lib.ListN.{get_elem?}
 use prog.Atomic.{either}
 use Rattle.atomic_table.specs.Table.{State, Me, Step, Allows}
 use Rattle.atomic_table.proofs.Lists.{at_map, set_here}
+use Rattle.evl_base.specs.Limits.{thread_limit}
 use Rattle.evl_kernel.specs.Histories.{History}
 use Rattle.evl_words.specs.Hands.{Hand, Told, Turns, place}
 use Rattle.evl_words.specs.Parts.{Tells, PartTurns, LockTurns, KeepsTies, Tabled, AreParts}
@@ -60,8 +61,8 @@ owner_role Bystander e = absurd (cc)
 owner_role Winner e = absurd (cc)
 owner_role Waiter e = absurd (cc)
 
--- a seat that makes a step is one of at most 64
-does_near : (k : ℕ) (v u : MutexView) (kind : MutexKind) (found : ℕ) → MutexDoes k v kind found u → k < 64
+-- a seat that makes a step is one of at most 256
+does_near : (k : ℕ) (v u : MutexView) (kind : MutexKind) (found : ℕ) → MutexDoes k v kind found u → k < thread_limit
 does_near k v u kind found d =
     let e = d.event in
     let few = e.stands.history.tied.few in

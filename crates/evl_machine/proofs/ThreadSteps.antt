@@ -1,11 +1,12 @@
 -- Each step on the core's lock and on the mutex words keeps the rule of their one table, and each owes its own part and the ties.
-use Rattle.std.proofs.Common.{◌≡◌, ◌≢◌, eqb, set, ℕ, zero, suc, ◌+◌, ◌-◌, ◌≤◌, ◌<◌, List, [], ◌∷◌, length, map, get_or, Option, Some, refl, sym, ap, ◌∙◌, subst, arith}
+use Rattle.std.proofs.Common.{◌≡◌, eqb, ℕ, zero, suc, ◌+◌, ◌-◌, ◌≤◌, ◌<◌, List, [], ◌∷◌, length, map, get_or, Option, Some, refl, sym, ap, ◌∙◌, subst, arith}
 use Rattle.std.proofs.lemmas.List.{length-replicate}
 use Rattle.std.specs.Prelude.{replicate}
 use mathlib.Core.Option.{some}
 use lib.ListN.{get_elem?}
 use prog.Atomic.{either}
 use Rattle.atomic_table.specs.Table.{Me, Step, Allows, Splits, opening}
+use Rattle.evl_base.specs.Limits.{thread_limit}
 use Rattle.evl_kernel.specs.Histories.{History, IsLegal}
 use Rattle.evl_words.specs.Hands.{Hand, Told, Turns, place, first_of, rest_of}
 use Rattle.evl_words.specs.Parts.{Tells, Within, KeepsTies, AreParts}
@@ -86,8 +87,8 @@ module _ {S B : Type 0} (past : S → History) (room : S → ℕ) (comes : B →
   at_blank x d (suc n) zero lt = refl
   at_blank x d (suc n) (suc i) lt = at_blank x d n i (omega arith)
 
-  -- The table at the opening: n threads, at most 64 where there are mutexes, and m mutexes that nobody has. It owes the ties
-  pub opens_thread : (y : S) (n : ℕ) → n ≡ threads_of (past y) → ((i : ℕ) → i < m → n ≤ 64) → IsLegal (past y) → (past y).entries ≡ [] → comes first y → ((i : ℕ) → i < m → tie i 0 (some (Some y) ∷ []) (replicate n (newcomer_part (past y) first)) 0)
+  -- The table at the opening: n threads, at most 256 where there are mutexes, and m mutexes that nobody has. It owes the ties
+  pub opens_thread : (y : S) (n : ℕ) → n ≡ threads_of (past y) → ((i : ℕ) → i < m → n ≤ thread_limit) → IsLegal (past y) → (past y).entries ≡ [] → comes first y → ((i : ℕ) → i < m → tie i 0 (some (Some y) ∷ []) (replicate n (newcomer_part (past y) first)) 0)
       → (words : List ℕ) → words ≡ replicate (1 + m) 0 → MachineRule past comes tie first m (opening words (Some y ∷ []) (all_threads (past y) first m n))
   opens_thread y n all few legal none_yet from ties words are =
       let one = newcomer_view (past y) first m n in

@@ -4,6 +4,7 @@ use Rattle.std.specs.Option.{option_map_or}
 use mathlib.Core.Logic.{dite}
 use native.Mathlib.Decide.{ℕ_discrete}
 use Rattle.evl_base.specs.declared.reply.Reply.{Reply}
+use Rattle.evl_base.specs.Limits.{thread_limit}
 use Rattle.evl_mutex.specs.Mutexes as record_of
 use Rattle.evl_mutex.specs.Mutexes.{Mutex, has_ceiling, is_open_to, released, raised, handed_to}
 use Rattle.evl_mutex.specs.declared.waiter.Waiter.{Waiter}
@@ -42,7 +43,7 @@ module _ (ceilings : ℕ → Bool) where
       (before.0, left_tied m (has_got s i) left word (subst (λ b. IsLeft b left word) (sym before.0) is) before.1)
 
   -- a claim of a mutex that somebody has
-  module _ (i : ℕ) (s : State) (x : word.Mutex) (k : ℕ) (small : NamesBelow 64 x) (here : k < 64) (there : x ≢ unowned) (tied : AreTied ceilings s i (mutex_word x)) where
+  module _ (i : ℕ) (s : State) (x : word.Mutex) (k : ℕ) (small : NamesBelow thread_limit x) (here : k < thread_limit) (there : x ≢ unowned) (tied : AreTied ceilings s i (mutex_word x)) where
     pub tied_refused : AreTied ceilings s i (mutex_word (claimed x k))
     tied_refused m at = ((tied m at).0, claim_refused x k small here there m (has_got s i) (tied m at).1)
 
@@ -55,7 +56,7 @@ module _ (ceilings : ℕ → Bool) where
         (before.0, record { owner = now.owner; offer = λ t. now.offer t ∙ sym (leaves.got i t) })
 
   -- a mutex that nobody had, raised
-  pub tied_raised : (i : ℕ) (s new : State) (k : ℕ) → k < 64 → AreTied ceilings s i 0 → RaiseLeaves s i k new → AreTied ceilings new i (k + 1)
+  pub tied_raised : (i : ℕ) (s new : State) (k : ℕ) → k < thread_limit → AreTied ceilings s i 0 → RaiseLeaves s i k new → AreTied ceilings new i (k + 1)
   tied_raised i s new k small tied leaves m at =
       let before = tied leaves.was leaves.changes.there in
       let is : raised leaves.was k ≡ m = some_is (sym leaves.changes.now ∙ at) in
@@ -64,8 +65,8 @@ module _ (ceilings : ℕ → Bool) where
       (before.0, record { owner = now.owner; offer = λ t. now.offer t ∙ sym (leaves.got i t) })
 
   -- a mutex that its owner handed on, as the kernel told
-  pub tied_released : (i : ℕ) (s new : State) (reply : Reply) (k : ℕ) (marked : Bool) → k < 64 → AreTied ceilings s i (mutex_word (owned k marked)) → (leaves : ReleaseLeaves s i reply new)
-      → ((next : ℕ) → (released leaves.was).next ≡ Some next → next < 64) → AreTied ceilings new i (word_given (released leaves.was).next (released leaves.was).more)
+  pub tied_released : (i : ℕ) (s new : State) (reply : Reply) (k : ℕ) (marked : Bool) → k < thread_limit → AreTied ceilings s i (mutex_word (owned k marked)) → (leaves : ReleaseLeaves s i reply new)
+      → ((next : ℕ) → (released leaves.was).next ≡ Some next → next < thread_limit) → AreTied ceilings new i (word_given (released leaves.was).next (released leaves.was).more)
   tied_released i s new reply k marked small tied leaves low m at =
       let before = tied leaves.was leaves.changes.there in
       let is : (released leaves.was).after ≡ m = some_is (sym leaves.changes.now ∙ at) in
@@ -90,7 +91,7 @@ module _ (ceilings : ℕ → Bool) where
       given (Some next) t = or_false (next == t)
 
   -- a mutex that was offered to the thread, and that it accepted
-  pub tied_accepted : (i : ℕ) (s new : State) (k : ℕ) (marked : Bool) → k < 64 → AreTied ceilings s i (mutex_word (offered k marked)) → FinishLeaves s k new → AreTied ceilings new i (mutex_word (owned k marked))
+  pub tied_accepted : (i : ℕ) (s new : State) (k : ℕ) (marked : Bool) → k < thread_limit → AreTied ceilings s i (mutex_word (offered k marked)) → FinishLeaves s k new → AreTied ceilings new i (mutex_word (owned k marked))
   tied_accepted i s new k marked small tied leaves m at =
       let before = tied m (sym (leaves.records i) ∙ at) in
       (before.0, accept_tied m (has_got s i) (has_got new i) k marked small nobody before.1)

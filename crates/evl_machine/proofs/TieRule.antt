@@ -1,19 +1,15 @@
 -- Each step on the core's lock and on a mutex's word keeps the ties of the one table.
-use Rattle.std.proofs.Common.{◌≡◌, ◌≢◌, inl, inr, ⊎_elim, ℕ, ◌==◌, eq-eqb, ne_eqb, Bool, true, false, List, [], ◌∷◌, set, Option, Some, None, refl, sym, ap, ◌∙◌, subst, arith, length-set}
+use Rattle.std.proofs.Common.{◌≡◌, ◌≢◌, inl, ⊎_elim, ℕ, ◌==◌, eq-eqb, ne_eqb, Bool, true, false, List, [], ◌∷◌, set, Option, Some, None, refl, sym, ap, ◌∙◌, subst, arith}
 use Rattle.std.specs.Prelude.{MatchBool}
 use mathlib.Core.Option.{some, none, some-injective}
-use mathlib.Core.Logic.{dite}
-use native.Mathlib.Decide.{ℕ_discrete}
 use lib.ListN.{get_elem?}
-use Rattle.atomic_table.proofs.Lists.{at_set, set_here, set_else}
+use Rattle.atomic_table.proofs.Lists.{at_set}
 use Rattle.evl_kernel.specs.Histories.{History}
 use Rattle.evl_kernel.specs.States.{State}
 use Rattle.evl_words.specs.Parts.{KeepsTies}
-use Rattle.evl_words.proofs.Sequences.{at_below}
 use Rattle.evl_machine.specs.declared.views.CorePart.{CorePart}
 use Rattle.evl_machine.specs.declared.views.Noted.{Noted}
-use Rattle.evl_machine.specs.Accounts.{Fits}
-use Rattle.evl_machine.specs.CoreRule.{IsFree, IsTaken, Homes, account_at, after_take, after_give, noting, IsAbout}
+use Rattle.evl_machine.specs.CoreRule.{IsFree, IsTaken, Homes, after_take, after_give, noting, IsAbout}
 use Rattle.evl_machine.specs.CoreWorld.{Slot}
 use Rattle.evl_machine.specs.Ties.{AreTied, IsLeft, MutexTied, Settled, StandsNoted}
 use Rattle.evl_machine.proofs.Noting.{noted_core}

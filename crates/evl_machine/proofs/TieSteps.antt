@@ -6,6 +6,7 @@ use Rattle.std.proofs.lemmas.Bool.{false≢true}
 use mathlib.Core.Logic.{dite}
 use native.Mathlib.Decide.{ℕ_discrete}
 use prog.Atomic.{either}
+use Rattle.evl_base.specs.Limits.{thread_limit}
 use Rattle.evl_mutex.specs.declared.waiter.Waiter.{Waiter}
 use Rattle.evl_mutex.specs.Queues.{enqueued, is_nobody}
 use Rattle.evl_mutex.specs.Mutexes as record_of
@@ -57,12 +58,12 @@ plain_tied m got a b pa pb free tie = record { owner = owner_plain m a b pa pb f
 abbrev pub StaysPlain : ℕ → ℕ → Type 0
 StaysPlain a b = (b ≡ a) ⊎ (IsPlain a × IsPlain b)
 
-pub try_stays : (n k : ℕ) → k < 64 → StaysPlain n (either (eqb n 0) (k + 1) n)
+pub try_stays : (n k : ℕ) → k < thread_limit → StaysPlain n (either (eqb n 0) (k + 1) n)
 try_stays n k small = dite (ℕ_discrete n 0)
     (λ (e : n ≡ 0). inr ((try_plain n k small e).0, subst (λ b. IsPlain (either b (k + 1) n)) (sym (eq-eqb n 0 e)) (try_plain n k small e).1))
     (λ (ne : n ≢ 0). inl (ap (λ b. either b (k + 1) n) (ne_eqb n 0 ne)))
 
-pub unlock_stays : (n k : ℕ) → k < 64 → StaysPlain n (either (eqb n (k + 1)) 0 n)
+pub unlock_stays : (n k : ℕ) → k < thread_limit → StaysPlain n (either (eqb n (k + 1)) 0 n)
 unlock_stays n k small = dite (ℕ_discrete n (k + 1))
     (λ (e : n ≡ k + 1). inr ((unlock_plain n k small e).0, subst (λ b. IsPlain (either b 0 n)) (sym (eq-eqb n (k + 1) e)) (unlock_plain n k small e).1))
     (λ (ne : n ≢ k + 1). inl (ap (λ b. either b 0 n) (ne_eqb n (k + 1) ne)))
@@ -97,7 +98,7 @@ pub tied_left : (m m' : Mutex) (got got' : ℕ → Bool) (n : ℕ) → LeftBy m 
 tied_left m m' got got' n left same tie = record { owner = owner_left m m' n left tie.owner; offer = λ t. tie.offer t ∙ sym (same t) }
 
 -- a word that isn't 0 has somebody in it
-pub peopled_word : (x : word.Mutex) → NamesBelow 64 x → x ≢ unowned → (is_claimed (mutex_word x) ≡ true → number_in (mutex_word x) ≢ 0) → number_in (mutex_word x) ≢ 0
+pub peopled_word : (x : word.Mutex) → NamesBelow thread_limit x → x ≢ unowned → (is_claimed (mutex_word x) ≡ true → number_in (mutex_word x) ≢ 0) → number_in (mutex_word x) ≢ 0
 peopled_word unowned small there peopled = absurd (there refl)
 peopled_word (seized h) small there peopled = peopled refl
 peopled_word (owned h marked) small there peopled = λ z. let n : h + 1 ≡ 0 = sym (number_in-owned h marked small) ∙ z in omega arith
@@ -108,16 +109,16 @@ pub not_seized : (m : Mutex) (h : ℕ) → OwnerTie m (mutex_word (seized h)) �
 not_seized m h tie = tie.peopled refl refl
 
 -- and who owns one with a ceiling is recorded
-pub owner_recorded : (m : Mutex) (k : ℕ) (marked : Bool) → k < 64 → has_ceiling m ≡ true → OwnerTie m (mutex_word (owned k marked)) → m.owner ≡ Some k
+pub owner_recorded : (m : Mutex) (k : ℕ) (marked : Bool) → k < thread_limit → has_ceiling m ≡ true → OwnerTie m (mutex_word (owned k marked)) → m.owner ≡ Some k
 owner_recorded m k marked small ceiling tie = tie.ceiled ceiling k (number_in-owned k marked small)
 
 -- A claim: the word is marked, whether or not the kernel accepts the wait
-module _ (x : word.Mutex) (k : ℕ) (small : NamesBelow 64 x) (here : k < 64) (there : x ≢ unowned) where
+module _ (x : word.Mutex) (k : ℕ) (small : NamesBelow thread_limit x) (here : k < thread_limit) (there : x ≢ unowned) where
   marked_is : is_claimed (mutex_word (claimed x k)) ≡ true
-  marked_is = claimed-word (claimed x k) (names-claimed 64 x k here small) ∙ marked-claimed x k
+  marked_is = claimed-word (claimed x k) (names-claimed thread_limit x k here small) ∙ marked-claimed x k
 
   offers_same : (t : ℕ) → offers_to (mutex_word (claimed x k)) t ≡ offers_to (mutex_word x) t
-  offers_same t = offers_to-word (claimed x k) t (names-claimed 64 x k here small) ∙ offered-claimed x k t ∙ sym (offers_to-word x t small)
+  offers_same t = offers_to-word (claimed x k) t (names-claimed thread_limit x k here small) ∙ offered-claimed x k t ∙ sym (offers_to-word x t small)
 
   owner_refused : (m : Mutex) → OwnerTie m (mutex_word x) → OwnerTie m (mutex_word (claimed x k))
   owner_refused m tie = record {
@@ -153,7 +154,7 @@ module _ (x : word.Mutex) (k : ℕ) (small : NamesBelow 64 x) (here : k < 64) (t
   }
 
 -- A mutex that nobody had is its thread's: where it has a ceiling, that was recorded
-pub raise_tied : (m : Mutex) (got : ℕ → Bool) (k : ℕ) → k < 64 → has_ceiling m ≡ true → IsTied m got 0 → IsTied (raised m k) got (k + 1)
+pub raise_tied : (m : Mutex) (got : ℕ → Bool) (k : ℕ) → k < thread_limit → has_ceiling m ≡ true → IsTied m got 0 → IsTied (raised m k) got (k + 1)
 raise_tied m got k small ceiling tie = record {
   owner = record {
     named = λ o e. let same : k ≡ o = cc in number_small k small ∙ ap (λ q. q + 1) same;
@@ -193,10 +194,10 @@ got_given (Some next) t = next == t
 offered_word : (next : ℕ) (more : Bool) → mutex_word (offered next more) ≡ offer_word next more
 offered_word next more = refl
 
-pub release_tied : (m : Mutex) → ((next : ℕ) → (released m).next ≡ Some next → next < 64) → IsTied (released m).after (got_given (released m).next) (word_given (released m).next (released m).more)
+pub release_tied : (m : Mutex) → ((next : ℕ) → (released m).next ≡ Some next → next < thread_limit) → IsTied (released m).after (got_given (released m).next) (word_given (released m).next (released m).more)
 release_tied m low = by m.waiters low
   where
-    by : (ws : List Waiter) → ((next : ℕ) → (handed_to m ws).next ≡ Some next → next < 64) → IsTied (handed_to m ws).after (got_given (handed_to m ws).next) (word_given (handed_to m ws).next (handed_to m ws).more)
+    by : (ws : List Waiter) → ((next : ℕ) → (handed_to m ws).next ≡ Some next → next < thread_limit) → IsTied (handed_to m ws).after (got_given (handed_to m ws).next) (word_given (handed_to m ws).next (handed_to m ws).more)
     by [] low = record {
       owner = record { named = λ o e. absurd (cc); marked = λ e. absurd (false≢true (sym e)); raised = λ none some. absurd (false≢true some); ceiled = λ has o e. absurd (let z : 0 ≡ o + 1 = e in omega arith); peopled = λ e. absurd (false≢true e) };
       offer = λ t. refl;
@@ -212,7 +213,7 @@ release_tied m low = by m.waiters low
       offer = λ t. offers_to-word (offered w.thread (not (is_nobody ws))) t small;
     }
       where
-        small : w.thread < 64
+        small : w.thread < thread_limit
         small = low w.thread refl
 
         who : (b : Bool) (o : ℕ) → (if b then Some w.thread else None) ≡ Some o → w.thread ≡ o
@@ -230,7 +231,7 @@ release_tied m low = by m.waiters low
         alone false ceiling n s = absurd (false≢true n)
 
 -- An acceptance, after which nobody's wait for the mutex is ended by getting it
-pub accept_tied : (m : Mutex) (got got' : ℕ → Bool) (k : ℕ) (marked : Bool) → k < 64 → ((t : ℕ) → got' t ≡ false) → IsTied m got (mutex_word (offered k marked)) → IsTied m got' (mutex_word (owned k marked))
+pub accept_tied : (m : Mutex) (got got' : ℕ → Bool) (k : ℕ) (marked : Bool) → k < thread_limit → ((t : ℕ) → got' t ≡ false) → IsTied m got (mutex_word (offered k marked)) → IsTied m got' (mutex_word (owned k marked))
 accept_tied m got got' k marked small nobody tie = record {
   owner = record {
     named = λ o e. number_in-owned k marked small ∙ sym (number_in-offer k marked small) ∙ tie.owner.named o e;
@@ -243,5 +244,5 @@ accept_tied m got got' k marked small nobody tie = record {
 }
 
 -- who is offered the mutex is alone in that
-pub offered_alone : (got : ℕ → Bool) (k : ℕ) (marked : Bool) → k < 64 → OfferTie got (mutex_word (offered k marked)) → (t : ℕ) → got t ≡ eqb k t
+pub offered_alone : (got : ℕ → Bool) (k : ℕ) (marked : Bool) → k < thread_limit → OfferTie got (mutex_word (offered k marked)) → (t : ℕ) → got t ≡ eqb k t
 offered_alone got k marked small tie t = sym (tie t) ∙ offers_to-word (offered k marked) t small

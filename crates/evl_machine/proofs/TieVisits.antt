@@ -12,6 +12,7 @@ use Rattle.evl_base.specs.declared.play.Play.{Play}
 use Rattle.evl_base.specs.declared.refusal.Refusal.{Refusal}
 use Rattle.evl_base.specs.declared.reply.Reply.{Reply}
 use Rattle.evl_base.specs.declared.reply.Reply.TheVariants.{Handed}
+use Rattle.evl_base.specs.Limits.{thread_limit}
 use Rattle.evl_mutex.specs.Mutexes.{Mutex, Handing, released}
 use Rattle.evl_words.specs.Mutex as word
 use Rattle.evl_words.specs.Mutex.{unowned, owned, offered, claimed}
@@ -87,7 +88,7 @@ module _ (ceilings : ℕ → Bool) where
 
     -- a claim that the kernel accepted, of a word that named its owner
     pub claim_stays : (id : MutexId) (owner : ThreadId) (until : Option ℕ) (reply : Reply) → Step before.state k (Claim id owner until) (Ok reply) plays after
-        → (x : word.Mutex) → NamesBelow 64 x → k < 64 → x ≢ unowned → number_in (mutex_word x) ≡ owner.0 + 1 → AreTied ceilings before.state id.0 (mutex_word x)
+        → (x : word.Mutex) → NamesBelow thread_limit x → k < thread_limit → x ≢ unowned → number_in (mutex_word x) ≡ owner.0 + 1 → AreTied ceilings before.state id.0 (mutex_word x)
         → AreTied ceilings after id.0 (mutex_word (claimed x k)) × OthersStay id.0 before.state after
     claim_stays id owner until reply step x small here there name tied =
         let s = after_settling (Claim id owner until) reply step in
@@ -97,7 +98,7 @@ module _ (ceilings : ℕ → Bool) where
         )
 
     -- a raise, of a mutex that nobody had
-    pub raise_stays : (id : MutexId) (reply : Reply) → Step before.state k (Raise id) (Ok reply) plays after → k < 64 → AreTied ceilings before.state id.0 0 → AreTied ceilings after id.0 (k + 1) × OthersStay id.0 before.state after
+    pub raise_stays : (id : MutexId) (reply : Reply) → Step before.state k (Raise id) (Ok reply) plays after → k < thread_limit → AreTied ceilings before.state id.0 0 → AreTied ceilings after id.0 (k + 1) × OthersStay id.0 before.state after
     raise_stays id reply step here tied =
         let s = after_settling (Raise id) reply step in
         let c = (mutex_calls before legal fits k).raise id reply s.0 s.1 in (
@@ -106,8 +107,8 @@ module _ (ceilings : ℕ → Bool) where
         )
 
     -- a release by the owner, whose word is given to whom the kernel told
-    pub release_stays : (id : MutexId) (next : Option ThreadId) (more : Bool) → Step before.state k (Release id) (Ok (Handed next more)) plays after → (marked : Bool) → k < 64
-        → ((n : ThreadId) → next ≡ Some n → n.0 < 64) → AreTied ceilings before.state id.0 (mutex_word (owned k marked))
+    pub release_stays : (id : MutexId) (next : Option ThreadId) (more : Bool) → Step before.state k (Release id) (Ok (Handed next more)) plays after → (marked : Bool) → k < thread_limit
+        → ((n : ThreadId) → next ≡ Some n → n.0 < thread_limit) → AreTied ceilings before.state id.0 (mutex_word (owned k marked))
         → AreTied ceilings after id.0 (word_given (option_map (λ n. n.0) next) more) × OthersStay id.0 before.state after
     release_stays id next more step marked here low tied =
         let s = after_settling (Release id) (Handed next more) step in
@@ -115,7 +116,7 @@ module _ (ceilings : ℕ → Bool) where
         let h = released c.was in
         let next_is : option_map (λ n. n.0) next ≡ h.next = same_next next more h c.told in
         let more_is : more ≡ h.more = same_more next more h c.told in
-        let below : (n : ℕ) → h.next ≡ Some n → n < 64 = λ n e. from_told next h.next next_is n e low in (
+        let below : (n : ℕ) → h.next ≡ Some n → n < thread_limit = λ n e. from_told next h.next next_is n e low in (
           s.2 id.0 (word_given (option_map (λ n. n.0) next) more)
               (subst (λ (z : Option ℕ × Bool). AreTied ceilings s.0 id.0 (word_given z.0 z.1)) (λ i. (sym next_is i, sym more_is i)) (tied_released ceilings id.0 before.state s.0 (Handed next more) k marked here tied c below)),
           λ j word ne t. s.2 j word (beside id.0 c.was _ s.0 c.changes c.elsewhere j word ne t),
@@ -139,12 +140,12 @@ module _ (ceilings : ℕ → Bool) where
         same_more : (next : Option ThreadId) (more : Bool) (h : Handing) → Handed next more ≡ handed_told h → more ≡ h.more
         same_more next more h e = ap more_in e
 
-        from_told : (next : Option ThreadId) (o : Option ℕ) → option_map (λ (n : ThreadId). n.0) next ≡ o → (n : ℕ) → o ≡ Some n → ((t : ThreadId) → next ≡ Some t → t.0 < 64) → n < 64
+        from_told : (next : Option ThreadId) (o : Option ℕ) → option_map (λ (n : ThreadId). n.0) next ≡ o → (n : ℕ) → o ≡ Some n → ((t : ThreadId) → next ≡ Some t → t.0 < thread_limit) → n < thread_limit
         from_told None o e n is low = absurd (let f = e ∙ is in cc)
-        from_told (Some t) o e n is low = let same : t.0 ≡ n = (let f : Some t.0 ≡ Some n = e ∙ is in cc) in subst (λ (x : ℕ). x < 64) same (low t refl)
+        from_told (Some t) o e n is low = let same : t.0 ≡ n = (let f : Some t.0 ≡ Some n = e ∙ is in cc) in subst (λ (x : ℕ). x < thread_limit) same (low t refl)
 
     -- the end of a wait that got the mutex, which was offered
-    pub accept_stays : (id : MutexId) (keep : Bool) (reply : Reply) → Step before.state k (Finish keep) (Ok reply) plays after → (marked : Bool) → k < 64 → ((j : ℕ) → j ≢ id.0 → has_got before.state j k ≡ false) → AreTied ceilings before.state id.0 (mutex_word (offered k marked))
+    pub accept_stays : (id : MutexId) (keep : Bool) (reply : Reply) → Step before.state k (Finish keep) (Ok reply) plays after → (marked : Bool) → k < thread_limit → ((j : ℕ) → j ≢ id.0 → has_got before.state j k ≡ false) → AreTied ceilings before.state id.0 (mutex_word (offered k marked))
         → AreTied ceilings after id.0 (mutex_word (owned k marked)) × OthersStay id.0 before.state after
     accept_stays id keep reply step marked here alone tied =
         let s = after_settling (Finish keep) reply step in

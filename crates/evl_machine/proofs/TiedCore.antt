@@ -1,5 +1,5 @@
 -- Where the core is free, each mutex's word is tied to the kernel in the slot.
-use Rattle.std.proofs.Common.{◌≡◌, ◌+◌, ◌<◌, ℕ, map, get_or, length, Option, ⊎_elim, arith}
+use Rattle.std.proofs.Common.{◌≡◌, ◌+◌, ◌<◌, map, get_or, length, Option, ⊎_elim, arith}
 use Rattle.atomic_table.specs.Table.{State as TableState}
 use Rattle.evl_kernel.specs.KernelViews.{KernelView}
 use Rattle.evl_machine.specs.CoreRule.{IsFree, IsTaken}

@@ -1,30 +1,28 @@
 -- What a caller at rest does with a mutex by itself leaves of it.
-use Rattle.std.proofs.Common.{◌≡◌, ◌≢◌, ◌<◌, ◌≤◌, ◌-◌, ◌+◌, ◌==◌, ◌&&◌, ℕ, not, nat_lt, if◌then◌else◌, Bool, true, false, true≢false, List, [], ◌∷◌, length, map, Option, Some, None, is_some, IsSomeAnd, MatchBool, MatchOption, Result, Ok, Err, slice_get, eqb-true, eq-eqb, ne_eqb, length-set, refl, sym, ap, ◌∙◌, subst, arith}
+use Rattle.std.proofs.Common.{◌≡◌, ◌≢◌, ◌<◌, ◌+◌, ◌==◌, ◌&&◌, ℕ, nat_lt, if◌then◌else◌, Bool, true, false, true≢false, List, length, map, Option, Some, None, IsSomeAnd, MatchBool, MatchOption, Result, Ok, Err, slice_get, eqb-true, eq-eqb, ne_eqb, length-set, refl, sym, ap, ◌∙◌, subst, arith}
 use Rattle.std.specs.Option.{option_map, option_map_or}
 use Rattle.std.proofs.lemmas.Bool.Decides.{nat_tests}
 use Rattle.std.proofs.lemmas.Option.{none-some, slice_get-map}
 use Rattle.atomic_table.specs.Seated.{TableId}
 use Rattle.evl_base.specs.declared.mutex_kind.MutexKind.{MutexKind}
-use Rattle.evl_base.specs.declared.numbers.MutexId.{MutexId}
-use Rattle.evl_base.specs.declared.numbers.ThreadId.{ThreadId}
 use Rattle.evl_base.specs.declared.refusal.Refusal.{Refusal}
-use Rattle.evl_base.specs.declared.refusal.Refusal.TheVariants.{Deadlock, Limit, NotOwner}
+use Rattle.evl_base.specs.declared.refusal.Refusal.TheVariants.{NotOwner}
 use Rattle.evl_kernel.specs.KernelViews.{KernelView}
-use Rattle.evl_words.specs.MutexCalls.{IsPassOf, MutexSeatState, at_depth}
+use Rattle.evl_words.specs.MutexCalls.{MutexSeatState, at_depth}
 use Rattle.evl_words.specs.MutexPlaces.{IsOfPlace, is_pass_of}
 use Rattle.evl_words.specs.declared.mutex.MutexPass.{MutexPass}
 use Rattle.evl_words.specs.declared.mutex.Unlock.{Unlock}
 use Rattle.evl_words.specs.declared.mutex.Unlock.TheVariants.{Done}
 use Rattle.evl_words.specs.declared.mutex.place.MutexPlace.{MutexPlace}
 use Rattle.evl_words.proofs.Sequences.{map-set}
-use Rattle.evl_machine.specs.Actors.{ActorState, AwaitsOneOf, IsActor, SeatedActor, Suits, acting}
+use Rattle.evl_machine.specs.Actors.{AwaitsOneOf, IsActor, SeatedActor, Suits, acting}
 use Rattle.evl_machine.specs.AtSeats.{AtSeat}
 use Rattle.evl_machine.specs.Callers.{IsResting, caller_by}
 use Rattle.evl_machine.specs.Calls.{IsCaller}
-use Rattle.evl_machine.specs.Handles.{CallerState, account_of, caller_of, machine_of}
-use Rattle.evl_machine.specs.Known.{CoreHand, KernelMe, first_of, seen}
+use Rattle.evl_machine.specs.Handles.{CallerState, account_of, caller_of}
+use Rattle.evl_machine.specs.Known.{CoreHand, KernelMe, seen}
 use Rattle.evl_machine.specs.MutexLocks.{MutexCall}
-use Rattle.evl_machine.specs.MutexPlaces.{Deepens, HoldsBy, depth_in, less, place_passes, spend_refusal_in}
+use Rattle.evl_machine.specs.MutexPlaces.{Deepens, HoldsBy, less, place_passes}
 use Rattle.evl_machine.specs.MutexSeats.{Gains, IsOfMutex, Tries, TriesMutex, UnlocksMutex, UnlocksSo, depth_at, is_recursive, mutex_refusal, owner_refusal, unlock_refusal}
 use Rattle.evl_machine.specs.MutexTokens.{AreTheSame, TellsTheSame, seat_at, seats_at}
 use Rattle.evl_machine.specs.Seats.{CoreMe}

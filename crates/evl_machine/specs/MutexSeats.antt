@@ -1,6 +1,6 @@
 -- What a call on a mutex does to the caller's seats at the mutex words of a machine.
-use Rattle.std.specs.Prelude.{◌≡◌, ℕ, ◌+◌, ◌<◌, ◌==◌, nat_lt, not, ◌&&◌, if◌then◌else◌, Bool, true, false, Option, Some, None, IsSomeAnd, Result, Ok, Err, MatchBool, MatchOption, List, length, map, slice_get}
-use Rattle.std.specs.List.{list_any, range_with_len}
+use Rattle.std.specs.Prelude.{◌≡◌, ℕ, ◌+◌, ◌<◌, ◌==◌, nat_lt, not, ◌&&◌, if◌then◌else◌, Bool, true, false, Option, Some, None, IsSomeAnd, Result, Ok, Err, MatchBool, MatchOption, List, slice_get}
+use Rattle.std.specs.List.{list_any}
 use Rattle.std.specs.Option.{option_map_or}
 use Rattle.evl_base.specs.declared.mutex_kind.MutexKind.{MutexKind}
 use Rattle.evl_base.specs.declared.mutex_kind.MutexKind.TheVariants.{Normal, Recursive, Ceiling}
@@ -13,8 +13,8 @@ use Rattle.evl_words.specs.declared.mutex.MutexCall.TheVariants.{Try, Claim as C
 use Rattle.evl_words.specs.declared.mutex.MutexReply.TheVariants.{Passed, Refused, Done}
 use Rattle.evl_words.specs.declared.mutex.Unlock.{Unlock}
 use Rattle.evl_words.specs.MutexWorld.{tries, unlocks, claims, settles, offers, frees, forgets, role_claimed, forgotten}
-use Rattle.evl_words.specs.MutexCalls.{MutexState, MutexSeatState, IsPassOf, Makes, Accepts, Calls, Unlocks, at_depth, reply_of}
-use Rattle.evl_machine.specs.AtSeats.{AtSeat, AreCounted}
+use Rattle.evl_words.specs.MutexCalls.{MutexSeatState, IsPassOf, Makes, Accepts, Calls, Unlocks, at_depth, reply_of}
+use Rattle.evl_machine.specs.AtSeats.{AtSeat}
 
 abbrev pub is_recursive : MutexKind → Bool
 is_recursive Normal = false

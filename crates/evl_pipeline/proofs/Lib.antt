@@ -4,3 +4,4 @@ pub mod LineLaws
 pub mod AllowedLaws
 pub mod Rows
 pub mod Crossing
+pub mod ByLineLaws

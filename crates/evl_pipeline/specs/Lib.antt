@@ -4,3 +4,4 @@ pub mod NumberSet
 pub mod Counts
 pub mod Lines
 pub mod Sides
+pub mod ByLine

@@ -3,6 +3,7 @@
 
 mod action;
 mod answer;
+mod by_line;
 mod callback;
 mod fire;
 mod held;

@@ -8,13 +8,13 @@ ghost use Rattle.evl_pipeline.specs.NumberSet.{least};
 ghost use Rattle.evl_pipeline.specs.Plans.{allowed};
 
 use crate::answer::Answer;
+use crate::by_line::ByLine;
 use crate::callback::Handler;
 use crate::fire::Fire;
-use crate::log::LINES;
 use crate::ran::Ran;
-use crate::side::{SideOf, zeros};
+use crate::side::SideOf;
 use bitflags::Flags;
-use evl_base::{ActionKinds, LineNo, Refusal, Stage};
+use evl_base::{ActionKinds, LINES, LineNo, Refusal, Stage};
 use std::alloc::{AllocError, Allocator};
 use std::marker::Model;
 
@@ -25,7 +25,7 @@ use std::marker::Model;
 pub struct PipelineOf<C, A: Allocator> {
     oob: SideOf<C, A>,
     inband: SideOf<C, A>,
-    spurious: Vec<u64, A>,
+    spurious: ByLine<u64, A>,
 }
 
 impl<C, A: Allocator> Model for PipelineOf<C, A> {
@@ -39,7 +39,7 @@ impl<C, A: Allocator> Model for PipelineOf<C, A> {
 }
 
 impl<C: Drop, A: Allocator + Clone> PipelineOf<C, A> {
-    /// A pipeline with 1024 lines, where nothing stands, nothing is pending and nothing was counted. It has room for a
+    /// A pipeline with 4096 lines, where nothing stands, nothing is pending and nothing was counted. It has room for a
     /// callback on each line of each stage. `NoMemory` where that room was refused (this profile).
     pub fn new(alloc: A) -> Result<PipelineOf<C, A>, Refusal>
         ensures opening { IfOk result (λ p. p ≡ opening) }
@@ -53,7 +53,7 @@ impl<C: Drop, A: Allocator + Clone> PipelineOf<C, A> {
     {
         let oob = SideOf::new(alloc.clone()?)?;
         let inband = SideOf::new(alloc.clone()?)?;
-        let spurious = zeros(alloc)?;
+        let spurious = ByLine::new(alloc)?;
         Ok(PipelineOf {
             oob,
             inband,
@@ -97,7 +97,7 @@ impl<C, A: Allocator> PipelineOf<C, A> {
     }
 
     /// Why `request` would refuse a callback that declares `kinds`, if it would: the first that applies of `Unknown` for a
-    /// line above 1023, `Invalid` for line 0 and for a kind that isn't allowed on the stage, and `Busy` where a callback
+    /// line above 4095, `Invalid` for line 0 and for a kind that isn't allowed on the stage, and `Busy` where a callback
     /// stands there (this profile).
     pub fn request_refusal(&self, line: LineNo, stage: Stage, kinds: ActionKinds) -> Option<Refusal>
         ensures refusal { result ≡ request_refusal self.now line.0 stage kinds.0 }
@@ -120,8 +120,8 @@ impl<C, A: Allocator> PipelineOf<C, A> {
         ensures state { self.new ≡ posted self.old stage line }
     {
         if !self.has_callback(stage, line) {
-            let count = self.spurious[line as usize];
-            self.spurious[line as usize] = count.saturating_add(1);
+            let count = self.spurious.get(line);
+            self.spurious.set(line, count.saturating_add(1));
             return;
         }
         match stage {
@@ -152,7 +152,7 @@ impl<C, A: Allocator> PipelineOf<C, A> {
 
     /// Takes an interrupt on a line. It goes to the out-of-band stage where the line has a callback there, else to the
     /// in-band stage where it has one there; an event that is pending already stays so, once. Where the line has no
-    /// callback it counts as spurious; this count stays at 2^64 - 1 once there. `Unknown` for a line above 1023.
+    /// callback it counts as spurious; this count stays at 2^64 - 1 once there. `Unknown` for a line above 4095.
     /// (Dovetail: interrupt pipeline)
     pub fn arrive(&mut self, line: LineNo) -> Result<(), Refusal>
         ensures ok { OnOk result ((post_refusal line.0 ≡ None) × (self.new ≡ arrived self.old line.0)) }
@@ -171,7 +171,7 @@ impl<C, A: Allocator> PipelineOf<C, A> {
     }
 
     /// Posts a line on a stage. Where the line has no callback there it counts as spurious. `Unknown` for a line above
-    /// 1023. (Dovetail: interrupt pipeline)
+    /// 4095. (Dovetail: interrupt pipeline)
     pub fn post(&mut self, stage: Stage, line: LineNo) -> Result<(), Refusal>
         ensures ok { OnOk result ((post_refusal line.0 ≡ None) × (self.new ≡ posted self.old stage line.0)) }
         ensures refused { IfErr result (λ e. post_refusal line.0 ≡ Some e) }
@@ -205,7 +205,7 @@ impl<C, A: Allocator> PipelineOf<C, A> {
         }
     }
 
-    /// Whether an event of the line is pending on the stage. No line above 1023 is.
+    /// Whether an event of the line is pending on the stage. No line above 4095 is.
     pub fn is_pending(&self, stage: Stage, line: LineNo) -> bool
         ensures pending { result ≡ is_pending self.now stage line.0 }
         ensures outside { line_count ≤ line.0 → result ≡ false }
@@ -235,16 +235,16 @@ impl<C, A: Allocator> PipelineOf<C, A> {
         }
     }
 
-    /// How many events came on the line where no callback stood for them: 0 to 2^64 - 1, and 0 for a line above 1023.
+    /// How many events came on the line where no callback stood for them: 0 to 2^64 - 1, and 0 for a line above 4095.
     pub fn spurious(&self, line: LineNo) -> u64
         ensures count { result ≡ count_at self.now.spurious line.0 }
         ensures outside { line_count ≤ line.0 → result ≡ 0 }
     {
-        self.spurious.get(line.0 as usize).copied().unwrap_or(0)
+        self.spurious.get(line.0)
     }
 
     /// How many answers of the callbacks on the line of this stage were unhandled: 0 to 2^64 - 1, and 0 for a line
-    /// above 1023. A request and a free keep the count.
+    /// above 4095. A request and a free keep the count.
     pub fn unhandled(&self, line: LineNo, stage: Stage) -> u64
         ensures count { result ≡ count_at (side self.now stage).unhandled line.0 }
         ensures outside { line_count ≤ line.0 → result ≡ 0 }
@@ -256,7 +256,7 @@ impl<C, A: Allocator> PipelineOf<C, A> {
     }
 
     /// Takes the callback off a line of a stage and gives it back; a pending event of that line and stage is dropped.
-    /// Refused, in this order: `Unknown` for a line above 1023, `Invalid` for line 0, which is the clock's, and
+    /// Refused, in this order: `Unknown` for a line above 4095, `Invalid` for line 0, which is the clock's, and
     /// `Unknown` where no callback stands there. A refused call changes nothing. (this profile)
     pub fn free(&mut self, line: LineNo, stage: Stage) -> Result<C, Refusal>
         ensures ok { IfOk result (λ callback. (free_refusal self.old line.0 stage ≡ None) × (option_map (λ at. at.callback) (installed_at self.old stage line.0) ≡ Some callback)) }
@@ -280,7 +280,7 @@ impl<C, A: Allocator> PipelineOf<C, A> {
 
 impl<C: Handler, A: Allocator> PipelineOf<C, A> {
     /// Lets a callback stand on a line of a stage, with a tag that its fires carry. Its first fire counts 1; how many
-    /// answers of the line were unhandled is kept. Refused, in this order: `Unknown` for a line above 1023, `Invalid`
+    /// answers of the line were unhandled is kept. Refused, in this order: `Unknown` for a line above 4095, `Invalid`
     /// for line 0, which is the clock's, and for kinds of action beyond those that are allowed on the stage (POST_SEM,
     /// POST_FLAGS, STOP_TIMER, out-of-band also PROPAGATE, in-band also POST_OOB), and `Busy` where a callback stands there. A refused call changes nothing and gives
     /// the callback back. (this profile)

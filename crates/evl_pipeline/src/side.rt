@@ -7,12 +7,13 @@ ghost use Rattle.evl_pipeline.specs.NumberSet.{contains, least};
 ghost use Rattle.evl_pipeline.specs.Sides.{port_at};
 
 use crate::answer::Answer;
+use crate::by_line::ByLine;
 use crate::callback::Handler;
 use crate::fire::Fire;
 use crate::held::Held;
-use crate::log::{LINES, Log};
+use crate::log::Log;
 use crate::port::Port;
-use evl_base::{LineNo, Stage};
+use evl_base::{LINES, LineNo, Stage};
 use slab::Slab;
 use std::alloc::{AllocError, Allocator};
 use std::marker::Model;
@@ -23,9 +24,9 @@ use std::marker::Model;
 pub struct SideOf<C, A: Allocator> {
     stalled: bool,
     log: Log<A>,
-    ports: Vec<Option<Port>, A>,
+    ports: ByLine<Option<Port>, A>,
     callbacks: Slab<Held<C>, A>,
-    unhandled: Vec<u64, A>,
+    unhandled: ByLine<u64, A>,
 }
 
 impl<C, A: Allocator> Model for SideOf<C, A> {
@@ -51,8 +52,8 @@ impl<C, A: Allocator + Clone> SideOf<C, A> {
         ensures empty { IfOk result (λ s. s ≡ empty_side) }
     {
         let log = Log::new(alloc.clone()?)?;
-        let ports = empty_ports(alloc.clone()?)?;
-        let unhandled = zeros(alloc.clone()?)?;
+        let ports = ByLine::new(alloc.clone()?)?;
+        let unhandled = ByLine::new(alloc.clone()?)?;
         let callbacks = Slab::with_capacity(alloc, LINES)?;
         Ok(SideOf {
             stalled: false,
@@ -107,7 +108,7 @@ impl<C, A: Allocator> SideOf<C, A> {
         ensures count { result ≡ count_at self.now.unhandled line }
         ensures outside { line_count ≤ line → result ≡ 0 }
     {
-        self.unhandled.get(line as usize).copied().unwrap_or(0)
+        self.unhandled.get(line)
     }
 
     /// Whether a callback stands on the line.
@@ -132,7 +133,7 @@ impl<C, A: Allocator> SideOf<C, A> {
         ensures state { self.new ≡ filled self.old line callback tag }
     {
         let key = self.callbacks.insert_reserved(Held { callback, line });
-        self.ports[line as usize] = Some(Port { key, tag, count: 0 });
+        self.ports.set(line, Some(Port { key, tag, count: 0 }));
     }
 
     /// Takes the callback from a line, and drops its pending event. Without a callback there nothing changes.
@@ -142,39 +143,25 @@ impl<C, A: Allocator> SideOf<C, A> {
     {
         let port = port_of(&self.ports, line)?;
         self.log.remove(line);
-        self.ports[line as usize] = None;
+        self.ports.set(line, None);
         Some(self.callbacks.remove(port.key).callback)
     }
 }
 
-fn empty_ports<A: Allocator>(alloc: A) -> Result<Vec<Option<Port>, A>, AllocError>
-    ensures empty { IfOk result (λ ports. ports.items ≡ replicate line_count None) }
-{
-    let ports = Vec::from_elem(alloc, None, LINES)?;
-    Ok(ports)
-}
-
-/// A count of 0 for each line.
-pub fn zeros<A: Allocator>(alloc: A) -> Result<Vec<u64, A>, AllocError>
-    ensures zeros { IfOk result (λ counts. counts.items ≡ replicate line_count 0) }
-{
-    Vec::from_elem(alloc, 0, LINES)
-}
-
-fn port_of<A: Allocator>(ports: &Vec<Option<Port>, A>, line: u16) -> Option<Port>
+fn port_of<A: Allocator>(ports: &ByLine<Option<Port>, A>, line: u16) -> Option<Port>
     ensures port { result ≡ port_at ports.now.items line }
 {
-    *ports.get(line as usize)?
+    ports.get(line)
 }
 
 // Counts one more unhandled answer of a line, if the answer is one.
-fn count_unless<A: Allocator>(counts: &mut Vec<u64, A>, line: u16, handled: bool)
-    requires { line < length counts.old.items }
+fn count_unless<A: Allocator>(counts: &mut ByLine<u64, A>, line: u16, handled: bool)
+    requires { line < line_count }
     ensures counted { counts.new.items ≡ (if handled then counts.old.items else counted counts.old.items line) }
 {
     if !handled {
-        let count = counts[line as usize];
-        counts[line as usize] = count.saturating_add(1);
+        let count = counts.get(line);
+        counts.set(line, count.saturating_add(1));
     }
 }
 
@@ -194,11 +181,12 @@ impl<C: Handler, A: Allocator> SideOf<C, A> {
             count: port.count.saturating_add(1),
             moment: now,
         };
-        self.ports[line as usize] = Some(Port {
+        let played = Port {
             key: port.key,
             tag: port.tag,
             count: fire.count,
-        });
+        };
+        self.ports.set(line, Some(played));
         let answer = self.callbacks[port.key].callback.fire(fire);
         count_unless(&mut self.unhandled, line, answer.handled);
         Some((fire, answer))

@@ -7,7 +7,7 @@ use Rattle.toml.specs.Data.{Data, string}
 use Rattle.toml.specs.Tables.{at_key, close}
 use Rattle.toml.specs.View.{items_of}
 use Rattle.evl_base.specs.Board.{board_fits}
-use Rattle.evl_base.specs.Limits.{count_fits, sizes_fit, kind_fits, percent_fits, stax_fits, within}
+use Rattle.evl_base.specs.Limits.{count_fits, sizes_fit, kind_fits, percent_fits, stax_fits, thread_limit, within}
 use Rattle.evl_base.specs.declared.board.Board.{Board}
 use Rattle.evl_base.specs.declared.mutex_kind.MutexKind.{MutexKind}
 use Rattle.evl_base.specs.declared.mutex_kind.MutexKind.TheVariants.{Normal, Recursive, Ceiling}
@@ -85,8 +85,8 @@ within_limits board h =
     let b = and_parts _ (list_all percent_fits board.groups.items) a.0 in
     let c = and_parts _ (list_all kind_fits board.mutexes.items) b.0 in
     let d = and_parts _ (list_all sizes_fit board.xbufs.items) c.0 in
-    let e = and_parts (within 1 64 board.threads) (list_all count_fits board.sems.items) d.0 in
-    let count : within 1 64 board.threads ≡ true = e.0 in
+    let e = and_parts (within 1 thread_limit board.threads) (list_all count_fits board.sems.items) d.0 in
+    let count : within 1 thread_limit board.threads ≡ true = e.0 in
     record {
       threads = grind (arith, nat_tests);
       sems = e.1;

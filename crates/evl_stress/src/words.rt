@@ -8,7 +8,7 @@ pub struct Asked {
     pub tells: bool,
 }
 
-/// `SEED THREADS CHOICES`, and `tell` behind them where the texts are to be told: 1 to 63 threads. Nothing where the words
+/// `SEED THREADS CHOICES`, and `tell` behind them where the texts are to be told: 1 to 255 threads. Nothing where the words
 /// are others.
 pub fn read_words(words: &[String]) -> Option<Asked> {
     let [seed, threads, choices, rest @ ..] = words else {
@@ -19,7 +19,7 @@ pub fn read_words(words: &[String]) -> Option<Asked> {
         threads: threads.parse::<u16>().ok()?,
         choices: choices.parse::<u32>().ok()?,
     };
-    if order.threads < 1 || 63 < order.threads {
+    if order.threads < 1 || 255 < order.threads {
         return None;
     }
     match rest {

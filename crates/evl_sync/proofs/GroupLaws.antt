@@ -1,5 +1,6 @@
 -- What is known of a flag group after each change.
 use Rattle.std.proofs.Common.{◌≡◌, ◌<◌, ℕ, bit_xor, false, List, Some, None, sym}
+use Rattle.evl_base.specs.Limits.{thread_limit}
 use Rattle.evl_base.specs.declared.take.Take.{Take}
 use Rattle.evl_sync.specs.declared.flag_waiter.FlagWaiter.{FlagWaiter}
 use Rattle.evl_sync.specs.Queues.{enqueued, dropped, stands_in, IsKept}
@@ -12,7 +13,7 @@ pub sound_taken : (kind : Take) (bits got : ℕ) (ws : List FlagWaiter) → Some
     → IsSoundGroup (record { bits = bits; waiters = ws }) → IsSoundGroup (record { bits = bit_xor bits got; waiters = ws })
 sound_taken kind bits got ws e h = record { rests = rests-taken kind ws bits got (sym e) h.rests; queue = h.queue }
 
-pub sound-begun : (w : FlagWaiter) (bits : ℕ) (ws : List FlagWaiter) → stands_in (λ v. v.thread) w.thread ws ≡ false → w.thread < 64 → taken w.kind bits ≡ None
+pub sound-begun : (w : FlagWaiter) (bits : ℕ) (ws : List FlagWaiter) → stands_in (λ v. v.thread) w.thread ws ≡ false → w.thread < thread_limit → taken w.kind bits ≡ None
     → IsSoundGroup (record { bits = bits; waiters = ws }) → IsSoundGroup (record { bits = bits; waiters = enqueued (λ v. v.rank) w ws })
 sound-begun w bits ws away below e h = record {
   rests = all-enqueued (λ v. taken v.kind bits ≡ None) (λ v. v.rank) w ws e h.rests;

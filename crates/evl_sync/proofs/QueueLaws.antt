@@ -5,6 +5,7 @@ use Rattle.std.proofs.lemmas.Bool.Decides.{nat_tests}
 use Rattle.std.proofs.lemmas.Bool.{false≢true}
 use Rattle.std.proofs.lemmas.Map.Steps.{length-le_from_distinct_below}
 use Rattle.std.proofs.lemmas.Map.Keys.{IsDistinct-cons}
+use Rattle.evl_base.specs.Limits.{thread_limit}
 use Rattle.evl_sync.specs.Queues.{enqueued, dropped, stands_in, rest_of, AreRanked, IsKept}
 
 or_swap : (a b c : Bool) → (a || (b || c)) ≡ (b || (a || c))
@@ -17,6 +18,9 @@ swapped n m = grind (arith, nat_tests)
 
 pub is_same : (n m : ℕ) → (n == m) ≡ true → n ≡ m
 is_same n m e = grind (arith, nat_tests)
+
+same : (n : ℕ) → (n == n) ≡ true
+same n = grind (arith, nat_tests)
 
 less : (n m : ℕ) → nat_lt n m ≡ true → n ≤ m
 less n m e = grind (arith, nat_tests)
@@ -78,13 +82,13 @@ module _ {A : Type 0} where
         )
       ] refl
 
-  pub kept-enqueued : (thread rank : A → ℕ) (w : A) (ws : List A) → stands_in thread (thread w) ws ≡ false → thread w < 64 → IsKept thread rank ws → IsKept thread rank (enqueued rank w ws)
+  pub kept-enqueued : (thread rank : A → ℕ) (w : A) (ws : List A) → stands_in thread (thread w) ws ≡ false → thread w < thread_limit → IsKept thread rank ws → IsKept thread rank (enqueued rank w ws)
   kept-enqueued thread rank w ws e l h = record {
     ranked = ranked-enqueued thread rank w ws e h.ranked;
     few = λ t s. below t (thread w == t) refl (sym (stands-enqueued thread rank w ws t) ∙ s);
   }
     where
-      below : (t : ℕ) (b : Bool) → (thread w == t) ≡ b → (b || stands_in thread t ws) ≡ true → t < 64
+      below : (t : ℕ) (b : Bool) → (thread w == t) ≡ b → (b || stands_in thread t ws) ≡ true → t < thread_limit
       below t true at s = omega (arith, is_same (thread w) t at, l)
       below t false at s = h.few t s
 
@@ -149,16 +153,21 @@ module _ {A : Type 0} where
   count_numbers thread [] = refl
   count_numbers thread (w ∷ ws) = ap suc (count_numbers thread ws)
 
-  -- one of the 64 threads isn't in the queue: there is room for it
-  pub has_room : (thread rank : A → ℕ) (t : ℕ) (ws : List A) → IsKept thread rank ws → stands_in thread t ws ≡ false → t < 64 → length ws < 64
+  -- one of the threads isn't in the queue: there is room for it
+  pub has_room : (thread rank : A → ℕ) (t : ℕ) (ws : List A) → IsKept thread rank ws → stands_in thread t ws ≡ false → t < thread_limit → length ws < thread_limit
   has_room thread rank t ws h away below =
-      let l : length (t ∷ numbers thread ws) ≤ 64 = length-le_from_distinct_below (t ∷ numbers thread ws) 64
+      let l : length (t ∷ numbers thread ws) ≤ thread_limit = length-le_from_distinct_below (t ∷ numbers thread ws) thread_limit
       (IsDistinct-cons eqb t (numbers thread ws) (apart_numbers thread t ws away) (distinct_numbers thread rank ws h.ranked)) (λ q e. within q (q == t) refl e) in
       omega (arith, l, count_numbers thread ws)
     where
-      within : (q : ℕ) (b : Bool) → (q == t) ≡ b → (b || list_any (eqb q) (numbers thread ws)) ≡ true → q < 64
+      within : (q : ℕ) (b : Bool) → (q == t) ≡ b → (b || list_any (eqb q) (numbers thread ws)) ≡ true → q < thread_limit
       within q true at e = omega (arith, is_same q t at, below)
       within q false at e = h.few q (sym (stands_number thread q ws) ∙ e)
+
+  -- there are no more than the threads
+  pub few_kept : (thread rank : A → ℕ) (ws : List A) → IsKept thread rank ws → length ws ≤ thread_limit
+  few_kept thread rank [] h = omega arith
+  few_kept thread rank (w ∷ ws) h = omega (arith, has_room thread rank (thread w) ws (kept-rest thread rank (w ∷ ws) h) h.ranked.1 (h.few (thread w) (rw (same (thread w)) refl)))
 
   -- where a waiter is put
   pub inserted : (rank : A → ℕ) (w : A) (ws : List A) → insert ws (position_or_len (λ v. nat_lt (rank v) (rank w)) ws) w ≡ enqueued rank w ws

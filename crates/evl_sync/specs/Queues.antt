@@ -36,7 +36,7 @@ abbrev pub AreRanked : {A : Type 0} → (A → ℕ) → (A → ℕ) → List A �
 AreRanked thread rank [] = Unit {0}
 AreRanked thread rank (w ∷ ws) = AllByRecursion (λ v. rank v ≤ rank w) ws × (stands_in thread (thread w) ws ≡ false) × AreRanked thread rank ws
 
--- what is known of a queue of threads below 64
+-- what is known of a queue of a board's threads
 pub record IsKept {A : Type 0} (thread rank : A → ℕ) (ws : List A) : Type 0 where
   pub ranked : AreRanked thread rank ws
   pub few : (t : ℕ) → stands_in thread t ws ≡ true → t < thread_limit

@@ -3,16 +3,15 @@ ghost use Rattle.std.specs.Prelude.{◌≡◌, ◌<◌, ◌≤◌, ◌++◌, [],
 ghost use Rattle.evl_base.specs.Limits.{thread_limit};
 ghost use Rattle.evl_sync.specs.Queues.{IsKept, dropped, first_of, number_of, rest_of, stands_in};
 
-use crate::THREADS;
 use arrayvec::ArrayVec;
-use evl_base::ThreadId;
+use evl_base::{MAX_THREADS, ThreadId};
 use std::marker::Model;
 
 /// Threads that wait, in the order of their arrival (this profile). To a contract it is the list of their numbers, the
-/// first one at its head. It has a place for each of the 64 threads and takes no memory.
+/// first one at its head. It has a place for each of 256 threads and takes no memory.
 #[derive(Drop)]
 pub struct ArrivalQueue {
-    threads: ArrayVec<u16, THREADS>,
+    threads: ArrayVec<u16, MAX_THREADS>,
 }
 
 impl Model for ArrivalQueue {
@@ -79,7 +78,7 @@ impl ArrivalQueue {
         there
     }
 
-    /// How many wait, at most 64. (this profile)
+    /// How many wait, at most 256. (this profile)
     pub fn len(&self) -> usize
         ensures count { result ≡ length self.now }
         ensures few { result ≤ thread_limit }
@@ -96,7 +95,7 @@ fn stands_in(threads: &[u16], thread: u16) -> bool
 }
 
 // All but this thread.
-fn without(threads: &[u16], thread: u16) -> ArrayVec<u16, THREADS>
+fn without(threads: &[u16], thread: u16) -> ArrayVec<u16, MAX_THREADS>
     requires few { length threads.now ≤ thread_limit }
     ensures dropped { result.items ≡ dropped (λ t. t) thread threads.now }
 {

@@ -1,16 +1,15 @@
 //! One flag group.
-ghost use Rattle.std.specs.Prelude.{◌≡◌, ◌<◌, ◌≤◌, false, length, IfErr, Ok};
+ghost use Rattle.std.specs.Prelude.{◌≡◌, ◌<◌, ◌≤◌, false, [], length, IfErr, Ok};
 ghost use Rattle.evl_base.specs.Limits.{thread_limit};
 ghost use Rattle.evl_sync.specs.Queues.{stands_in};
 ghost use Rattle.evl_sync.specs.Steps.{stepped, unless};
 ghost use Rattle.evl_sync.specs.FlagGroups.{IsSoundGroup, begin_take, drop_waiter, opened, pairs, post, post_refusal, take_refusal, try_take, walk_of, walked};
 
-use crate::THREADS;
 use crate::flag_waiter::{FlagWaiter, Served};
 use crate::kinds::{is_empty_mask, taken};
-use crate::ranked::{place_for, without};
+use crate::ranked::{leave, place_for};
 use arrayvec::ArrayVec;
-use evl_base::{Refusal, Take, ThreadId};
+use evl_base::{MAX_THREADS, Refusal, Take, ThreadId};
 use std::marker::Model;
 
 /// A flag group: its 32 bits, and who waits for which of them, by rank and arrival (Xenomai 4: EVL event flag group). To a
@@ -18,7 +17,7 @@ use std::marker::Model;
 #[derive(Drop)]
 pub struct FlagGroup {
     bits: u32,
-    waiters: ArrayVec<FlagWaiter, THREADS>,
+    waiters: ArrayVec<FlagWaiter, MAX_THREADS>,
 }
 
 impl Model for FlagGroup {
@@ -65,17 +64,33 @@ impl FlagGroup {
     /// Adds bits, and goes once through the waiters in the order of the queue, each of which takes what it wants from what
     /// those before it left; says whom it served with which bits, in that order. Bits that nobody takes stay. `Invalid`
     /// where there are no bits to add; then nothing changes. (Xenomai 4: EVL event flag group; this profile)
-    pub fn post(&mut self, bits: u32) -> Result<ArrayVec<Served, THREADS>, Refusal>
+    pub fn post(&mut self, bits: u32) -> Result<ArrayVec<Served, MAX_THREADS>, Refusal>
         ensures step { stepped (λ served. pairs served.items) result self.new ≡ unless (post_refusal bits) (Ok (walked (post bits self.old))) }
+        ensures refused { IfErr result (λ e. self.new ≡ self.old) }
+    {
+        let mut told = ArrayVec::new();
+        match self.post_telling(bits, &mut told) {
+            Ok(()) => Ok(told),
+            Err(refusal) => Err(refusal),
+        }
+    }
+
+    /// Adds bits as `post` does, and tells whom it served into a list where nobody stands yet, so that no such list is
+    /// moved. (Xenomai 4: EVL event flag group; this profile)
+    pub fn post_telling(
+        &mut self,
+        bits: u32,
+        told: &mut ArrayVec<Served, MAX_THREADS>,
+    ) -> Result<(), Refusal>
+        requires nobody { told.old.items ≡ [] }
+        ensures step { stepped (λ _. pairs told.new.items) result self.new ≡ unless (post_refusal bits) (Ok (walked (post bits self.old))) }
         ensures refused { IfErr result (λ e. self.new ≡ self.old) }
     {
         if bits == 0 {
             return Err(Refusal::Invalid);
         }
-        let (served, waiting, left) = walk(self.waiters.as_slice(), self.bits | bits);
-        self.bits = left;
-        self.waiters = waiting;
-        Ok(served)
+        self.bits = walk(&mut self.waiters, self.bits | bits, told);
+        Ok(())
     }
 
     /// Takes bits as `try_take` does, past all waiters, and says which; where they aren't there the thread, which doesn't
@@ -121,7 +136,7 @@ impl FlagGroup {
     pub fn drop_waiter(&mut self, thread: ThreadId)
         ensures step { self.new ≡ drop_waiter thread.0 self.old }
     {
-        self.waiters = without(self.waiters.as_slice(), thread.0);
+        let _ = leave(&mut self.waiters, thread.0);
     }
 
     /// The bits that are there. (Xenomai 4: EVL event flag group)
@@ -133,34 +148,33 @@ impl FlagGroup {
     }
 }
 
-// One walk through the waiters: whom it serves, who goes on waiting, and which bits are left.
+// One walk through the waiters, which tells whom it serves: which bits are left. Who goes on waiting stays.
 fn walk(
-    waiters: &[FlagWaiter],
+    waiters: &mut ArrayVec<FlagWaiter, MAX_THREADS>,
     bits: u32,
-) -> (
-    ArrayVec<Served, THREADS>,
-    ArrayVec<FlagWaiter, THREADS>,
-    u32,
-)
-    requires few { length waiters.now ≤ thread_limit }
-    ensures served { pairs result.0.items ≡ (walk_of waiters.now bits).served }
-    ensures waiting { result.1.items ≡ (walk_of waiters.now bits).waiting }
-    ensures left { result.2 ≡ (walk_of waiters.now bits).left }
+    told: &mut ArrayVec<Served, MAX_THREADS>,
+) -> u32
+    requires few { length waiters.old.items ≤ thread_limit }
+    requires nobody { told.old.items ≡ [] }
+    ensures served { pairs told.new.items ≡ (walk_of waiters.old.items bits).served }
+    ensures waiting { waiters.new.items ≡ (walk_of waiters.old.items bits).waiting }
+    ensures left { result ≡ (walk_of waiters.old.items bits).left }
 {
     let mut left = bits;
-    let mut served = ArrayVec::new();
-    let mut waiting = ArrayVec::new();
-    for waiter in waiters {
+    let mut place = 0;
+    while place < waiters.len() {
+        let waiter = waiters.as_slice()[place];
         match taken(waiter.kind, left) {
             Some(got) => {
                 left = left ^ got;
-                served.push(Served {
+                waiters.remove(place);
+                told.push(Served {
                     thread: ThreadId(waiter.thread),
                     bits: got,
                 });
             }
-            None => waiting.push(*waiter),
+            None => place += 1,
         }
     }
-    (served, waiting, left)
+    left
 }

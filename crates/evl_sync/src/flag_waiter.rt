@@ -8,7 +8,7 @@ use std::default::Default;
 /// A waiting thread, with the effective rank that it had when its wait began, and which bits it wants (this profile).
 #[derive(Clone, Copy, Debug)]
 pub struct FlagWaiter {
-    /// The number of the thread, 0 to 63.
+    /// The number of the thread, 0 to 255.
     pub thread: u16,
     /// Its rank at the beginning of the wait.
     pub rank: u16,

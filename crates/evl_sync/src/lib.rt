@@ -16,6 +16,3 @@ pub use flag_waiter::{FlagWaiter, Served};
 pub use sem::Sem;
 pub use wait_queue::WaitQueue;
 pub use waiter::Waiter;
-
-/// The most threads that a board has.
-pub(crate) const THREADS: usize = 64;

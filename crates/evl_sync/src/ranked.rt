@@ -1,11 +1,10 @@
 //! Places among those who wait by rank and arrival, whatever else they wait for.
-ghost use Rattle.std.specs.Prelude.{◌≡◌, ◌<◌, ◌≤◌, nat_lt, length, IfSome};
+ghost use Rattle.std.specs.Prelude.{◌≡◌, ◌<◌, ◌≤◌, ◌==◌, nat_lt, length, IfSome};
 ghost use Rattle.std.specs.List.{position, position_or_len};
-ghost use Rattle.evl_base.specs.Limits.{thread_limit};
-ghost use Rattle.evl_sync.specs.Queues.{dropped};
+ghost use Rattle.evl_sync.specs.Queues.{AreRanked, dropped, stands_in};
 
-use crate::THREADS;
 use arrayvec::ArrayVec;
+use evl_base::MAX_THREADS;
 use std::default::Default;
 
 // A thread that waits by rank and arrival.
@@ -25,18 +24,27 @@ pub(crate) trait Ranked: Copy + Default {
         ensures { result ≡ rank_of self.now };
 }
 
-// All but this thread.
-pub(crate) fn without<W: Ranked>(waiters: &[W], thread: u16) -> ArrayVec<W, THREADS>
-    requires few { length waiters.now ≤ thread_limit }
-    ensures dropped { result.items ≡ dropped W.thread_of thread waiters.now }
+// Lets a thread, which stands here at most once, wait no more; whether it did.
+pub(crate) fn leave<W: Ranked>(waiters: &mut ArrayVec<W, MAX_THREADS>, thread: u16) -> bool
+    requires once { AreRanked W.thread_of W.rank_of waiters.old.items }
+    ensures there { result ≡ stands_in W.thread_of thread waiters.old.items }
+    ensures dropped { waiters.new.items ≡ dropped W.thread_of thread waiters.old.items }
 {
-    let mut kept = ArrayVec::new();
-    for waiter in waiters {
-        if waiter.thread() != thread {
-            kept.push(*waiter);
+    match place_of(waiters.as_slice(), thread) {
+        Some(place) => {
+            waiters.remove(place);
+            true
         }
+        None => false,
     }
-    kept
+}
+
+// The place of a thread.
+fn place_of<W: Ranked>(waiters: &[W], thread: u16) -> Option<usize>
+    ensures place { result ≡ position (λ w. W.thread_of w == thread) waiters.now }
+    ensures within { IfSome result (λ place. place < length waiters.now) }
+{
+    waiters.iter().position(|waiter| waiter.thread() == thread)
 }
 
 // The place behind those of this rank or a greater one.

@@ -3,18 +3,17 @@ ghost use Rattle.std.specs.Prelude.{◌≡◌, ◌<◌, ◌≤◌, [], false, le
 ghost use Rattle.evl_base.specs.Limits.{thread_limit};
 ghost use Rattle.evl_sync.specs.Queues.{IsKept, dropped, enqueued, first_of, number_of, rest_of, stands_in};
 
-use crate::THREADS;
-use crate::ranked::{place_for, without};
+use crate::ranked::{leave, place_for};
 use crate::waiter::Waiter;
 use arrayvec::ArrayVec;
-use evl_base::ThreadId;
+use evl_base::{MAX_THREADS, ThreadId};
 use std::marker::Model;
 
 /// Threads that wait: greater ranks first, those of one rank in the order of their arrival (this profile). To a contract
-/// it is the list of them, the first one at its head. It has a place for each of the 64 threads and takes no memory.
+/// it is the list of them, the first one at its head. It has a place for each of 256 threads and takes no memory.
 #[derive(Drop)]
 pub struct WaitQueue {
-    waiters: ArrayVec<Waiter, THREADS>,
+    waiters: ArrayVec<Waiter, MAX_THREADS>,
 }
 
 impl Model for WaitQueue {
@@ -86,12 +85,10 @@ impl WaitQueue {
         ensures there { result ≡ stands_in (λ w. w.thread) thread.0 self.old }
         ensures dropped { self.new ≡ dropped (λ w. w.thread) thread.0 self.old }
     {
-        let there = stands_in(self.waiters.as_slice(), thread.0);
-        self.waiters = without(self.waiters.as_slice(), thread.0);
-        there
+        leave(&mut self.waiters, thread.0)
     }
 
-    /// How many wait, at most 64. (this profile)
+    /// How many wait, at most 256. (this profile)
     pub fn len(&self) -> usize
         ensures count { result ≡ length self.now }
         ensures few { result ≤ thread_limit }
@@ -99,10 +96,4 @@ impl WaitQueue {
     {
         self.waiters.len()
     }
-}
-
-fn stands_in(waiters: &[Waiter], thread: u16) -> bool
-    ensures there { result ≡ stands_in (λ w. w.thread) thread waiters.now }
-{
-    waiters.iter().any(|waiter| waiter.thread == thread)
 }

@@ -1,11 +1,9 @@
 //! Numbers that come and go at random, in a bitmap and in a list in rising order.
-ghost use Rattle.std.specs.Prelude.{◌≡◌, ◌≤◌};
+ghost use Rattle.std.specs.Prelude.{◌≡◌, ◌<◌, ◌≤◌};
 
 use crate::dice::Dice;
 use evl_bitmap::{Bitmap, Level, Word};
 use std::alloc::{AllocError, Allocator};
-
-const NUMBERS: u16 = 1024;
 
 // The plain program: a list in rising order.
 #[derive(Drop)]
@@ -46,11 +44,17 @@ impl<A: Allocator> Plain<A> {
 }
 
 // Whether one random call on both leaves them alike: a number comes or goes, or the least or the greatest one goes.
-fn is_alike<L: Level, A: Allocator>(set: &mut L, plain: &mut Plain<A>, dice: &mut Dice) -> bool
-    requires { 1024 ≤ L.limit set.old }
+fn is_alike<L: Level, A: Allocator>(
+    set: &mut L,
+    plain: &mut Plain<A>,
+    limit: u16,
+    dice: &mut Dice,
+) -> bool
+    requires some { 0 < limit }
+    requires room { limit ≤ L.limit set.old }
     ensures { L.limit set.new ≡ L.limit set.old }
 {
-    let number = dice.below(NUMBERS);
+    let number = dice.below(limit);
     match dice.below(5) {
         0 | 1 => {
             set.insert(number);
@@ -76,22 +80,37 @@ fn is_alike<L: Level, A: Allocator>(set: &mut L, plain: &mut Plain<A>, dice: &mu
     plain.is_like(set, number)
 }
 
-// Whether a set and a list stay alike over two thousand random calls.
-fn stays_alike<A: Allocator + Clone>(alloc: A, seed: u64) -> Result<bool, AllocError> {
-    let numbers = Vec::new(alloc.clone()?);
-    let mut plain = Plain { numbers };
-    let mut set = Bitmap::new(alloc, 32, Word::new())?;
+// Whether a set of numbers below a limit, which is empty, and a list stay alike over two thousand random calls.
+fn stays_alike<L: Level, A: Allocator>(alloc: A, set: &mut L, limit: u16, seed: u64) -> bool
+    requires some { 0 < limit }
+    requires room { limit ≤ L.limit set.old }
+{
+    let mut plain = Plain {
+        numbers: Vec::new(alloc),
+    };
     let mut dice = Dice::new(seed);
     let mut alike = true;
     for _ in 0..2000u32 {
-        alike = is_alike(&mut set, &mut plain, &mut dice) && alike;
+        alike = is_alike(set, &mut plain, limit, &mut dice) && alike;
     }
-    Ok(alike)
+    alike
+}
+
+fn two_levels<A: Allocator + Clone>(alloc: A, seed: u64) -> Result<bool, AllocError> {
+    let mut set = Bitmap::new(alloc.clone()?, 32, Word::new())?;
+    Ok(stays_alike(alloc, &mut set, 1024, seed))
+}
+
+fn three_levels<A: Allocator + Clone>(alloc: A, seed: u64) -> Result<bool, AllocError> {
+    let used = Bitmap::new(alloc.clone()?, 4, Word::new())?;
+    let mut set = Bitmap::new(alloc.clone()?, 128, used)?;
+    Ok(stays_alike(alloc, &mut set, 4096, seed))
 }
 
 #[test]
 fn a_bitmap_is_a_list_in_rising_order(rt: HostRuntime) {
     for seed in [1, 2, 3] {
-        assert!(rt; stays_alike(rt.alloc(), seed) == Ok(true));
+        assert!(rt; two_levels(rt.alloc(), seed) == Ok(true));
+        assert!(rt; three_levels(rt.alloc(), seed) == Ok(true));
     }
 }

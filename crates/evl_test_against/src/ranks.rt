@@ -4,21 +4,21 @@ use evl_base::{MutexId, MutexKind, Refusal, ThreadId};
 use evl_mutex::OwnersOf;
 use std::alloc::Allocator;
 
-pub const THREADS: u16 = 64;
+pub const THREADS: u16 = 256;
 
 // The plain program: what was told of each thread. Who owns what, the records are asked.
 #[derive(Drop)]
 pub struct Plain {
-    base: [u16; 64],
+    base: [u16; 256],
     // which mutex each thread waits for
-    wanted: [Option<MutexId>; 64],
+    wanted: [Option<MutexId>; 256],
 }
 
 impl Plain {
     pub fn new() -> Plain {
         Plain {
-            base: [0; 64],
-            wanted: [None; 64],
+            base: [0; 256],
+            wanted: [None; 256],
         }
     }
 
@@ -87,9 +87,9 @@ impl Plain {
 
     // Whether the records tell just these ranks, one by one and all at once.
     pub fn is_like<A: Allocator>(&self, owners: &OwnersOf<A>, kinds: &[MutexKind]) -> bool {
-        let mut ranks = [7; 65];
+        let mut ranks = [7; 257];
         owners.ranks(&mut ranks);
-        let mut alike = ranks[64] == 0;
+        let mut alike = ranks[256] == 0;
         for thread in 0..THREADS {
             let rank = self.rank(owners, kinds, thread);
             alike = alike

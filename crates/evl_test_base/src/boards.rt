@@ -61,7 +61,7 @@ fn fits_stax(limit: u16) -> bool {
 #[test]
 fn threads_and_counts_have_a_range(rt: HostRuntime) {
     assert!(rt; !is_fit(bare_board(0)) && is_fit(bare_board(1)));
-    assert!(rt; is_fit(bare_board(64)) && !is_fit(bare_board(65)));
+    assert!(rt; is_fit(bare_board(256)) && !is_fit(bare_board(257)));
     assert!(rt; fits_count(0) && fits_count(2_147_483_647) && !fits_count(2_147_483_648));
     assert!(rt; fits_rings(1, 256) && fits_rings(256, 1));
     assert!(rt; !fits_rings(0, 4) && !fits_rings(257, 4));
@@ -77,7 +77,7 @@ fn ceilings_groups_and_staxes_have_a_range(rt: HostRuntime) {
 
 #[test]
 fn a_board_is_checked(rt: HostRuntime) -> Result<(), Fail> {
-    let mut board = bare_board(64);
+    let mut board = bare_board(256);
     assert!(rt; board.check().is_ok());
     board.xbufs.push((256, 0));
     assert!(rt; matches!(board.check(), Err(Refusal::Range)));

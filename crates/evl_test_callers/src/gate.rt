@@ -331,11 +331,11 @@ fn a_gate_closes_as_it_stands_whoever_is_handed_in(rt: HostRuntime) {
 fn limits_and_seats_have_a_range(rt: HostRuntime) {
     for (limit, seats, fits) in [
         (1, 1, true),
-        (1000, 64, true),
+        (1000, 256, true),
         (0, 1, false),
         (1001, 1, false),
         (1, 0, false),
-        (1, 65, false),
+        (1, 257, false),
     ] {
         let refusal = made(rt.alloc(), limit, seats).err();
         assert!(rt; refusal == if fits { None } else { Some(Refusal::Range) });

@@ -4,6 +4,7 @@ ghost use Rattle.evl_words.specs.MutexCalls.{IsPassOf, IsSeatOf, IsSameSeat};
 
 mod closing;
 mod making;
+mod widest;
 
 use evl_base::{MutexId, Refusal, ThreadId};
 use evl_words::{Claim, MutexPass, MutexSeat, MutexWord, Unlock};

@@ -2,8 +2,8 @@
 use crate::handlers::{quiet, quiet_plan};
 use crate::rows::{PipelineRow, on_a_pipeline};
 use bitflags::Flags;
-use evl_base::{ActionKinds, LineNo, Refusal, Stage};
-use evl_pipeline::{Callback, Fire, Handler, PipelineOf};
+use evl_base::{ActionKinds, LINES, LineNo, Refusal, Stage};
+use evl_pipeline::{Callback, Fire, Handler, PipelineOf, Ran};
 use linked_list_allocator::LocalHeap;
 use std::alloc::{Allocator, Global};
 
@@ -28,7 +28,7 @@ fn is_too_small(alloc: Global, size: usize) -> bool {
 
 #[test]
 fn a_new_pipeline_is_refused_in_short_memory(rt: HostRuntime) {
-    for size in [64, 4096, 16384, 65536] {
+    for size in [64, 4096, 65536, 262144] {
         assert!(rt; is_too_small(rt.alloc(), size));
     }
 }
@@ -60,7 +60,7 @@ fn only_new_takes_memory(rt: HostRuntime) {
         panic!(rt; "box");
     };
     let callback = Callback::new(ActionKinds::from_bits_retain(0), &quiet_plan(1), run);
-    let Ok(heap) = LocalHeap::new(alloc, 1048576) else {
+    let Ok(heap) = LocalHeap::new(alloc, 4194304) else {
         panic!(rt; "heap");
     };
     let row = OneLine {
@@ -68,4 +68,71 @@ fn only_new_takes_memory(rt: HostRuntime) {
         heap: &heap,
     };
     assert!(rt; on_a_pipeline(&heap, row) == Ok(true));
+}
+
+// Every line but the clock's has a callback and a pending event, and so has the clock's.
+fn fill<A: Allocator>(
+    pipeline: &mut PipelineOf<Callback, A>,
+    callbacks: &mut Vec<Callback>,
+) -> bool {
+    pipeline.stall(Stage::Oob);
+    for line in 1..LINES as u16 {
+        let Some(callback) = callbacks.pop() else {
+            return false;
+        };
+        let requested = pipeline.request(LineNo(line), Stage::Oob, callback, 0);
+        if requested.is_err() || pipeline.arrive(LineNo(line)).is_err() {
+            return false;
+        }
+    }
+    let clock = pipeline.arrive(LineNo(0)).is_ok();
+    pipeline.unstall(Stage::Oob);
+    clock
+}
+
+// Whether this line is played next.
+fn plays<A: Allocator>(pipeline: &mut PipelineOf<Callback, A>, line: u16) -> bool {
+    match pipeline.next(false, true, 0) {
+        Some(Ran::Clock) => line == 0,
+        Some(Ran::Line { fire, answer }) => fire.line.0 == line && answer.handled,
+        None => false,
+    }
+}
+
+// A callback for each line.
+#[derive(Drop)]
+struct EveryLine {
+    callbacks: Vec<Callback>,
+}
+
+impl PipelineRow<Callback> for EveryLine {
+    fn ask<A: Allocator>(self, pipeline: &mut PipelineOf<Callback, A>) -> bool {
+        let EveryLine { mut callbacks } = self;
+        if !fill(pipeline, &mut callbacks) {
+            return false;
+        }
+        for line in 0..LINES as u16 {
+            if !plays(pipeline, line) {
+                return false;
+            }
+        }
+        pipeline.next(false, true, 0).is_none()
+    }
+}
+
+// All 4096 lines are pending, and are played in their order.
+#[test]
+fn every_line_is_played_in_order(rt: HostRuntime) {
+    let alloc = rt.alloc();
+    let mut callbacks = Vec::new(alloc);
+    for _ in 1..LINES {
+        let Ok(run) = Box::new(alloc, |_: Fire| quiet()) else {
+            panic!(rt; "box");
+        };
+        let callback = Callback::new(ActionKinds::from_bits_retain(0), &quiet_plan(1), run);
+        let Ok(()) = callbacks.push(callback) else {
+            panic!(rt; "callbacks");
+        };
+    }
+    assert!(rt; on_a_pipeline(alloc, EveryLine { callbacks }) == Ok(true));
 }

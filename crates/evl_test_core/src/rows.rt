@@ -3,7 +3,7 @@ ghost use Rattle.std.specs.Prelude.{◌≡◌};
 ghost use Rattle.evl_kernel.specs.Callbacks.{AnswersAsTold};
 
 use crate::handlers::board_of;
-use evl_base::Refusal;
+use evl_base::{Board, Refusal};
 use evl_kernel::KernelOf;
 use evl_pipeline::{Handler, PipelineOf};
 use std::alloc::{Allocator, Global};
@@ -30,7 +30,19 @@ pub(crate) fn on_a_kernel<C: Handler, A: Allocator + Clone, T: KernelRow>(
     limit: u32,
     row: T,
 ) -> Result<T::Told, Refusal> {
-    match KernelOf::over(alloc, boxes, board_of(count), bank, limit) {
+    on_a_board(alloc, boxes, board_of(count), bank, limit, row)
+}
+
+/// The same over any board.
+pub(crate) fn on_a_board<C: Handler, A: Allocator + Clone, T: KernelRow>(
+    alloc: A,
+    boxes: Global,
+    board: Board,
+    bank: Vec<C, A>,
+    limit: u32,
+    row: T,
+) -> Result<T::Told, Refusal> {
+    match KernelOf::over(alloc, boxes, board, bank, limit) {
         Ok(mut kernel) => Ok(row.ask(&mut kernel)),
         Err(refusal) => Err(refusal),
     }

@@ -11,7 +11,7 @@ use std::sync::atomic::{AtomicU64, Ordering};
 
 const TIMER: TimerId = TimerId(0);
 
-const THREAD: ThreadId = ThreadId(63);
+const THREAD: ThreadId = ThreadId(255);
 
 // Whether a periodic timer fires once, and tells how many periods it missed.
 fn is_late<C: Handler, A: Allocator>(clock: &mut ClockOf<C, A>, callback: C) -> bool {
@@ -94,6 +94,23 @@ fn falls_due<C: Handler, A: Allocator + Clone>(alloc: A) -> bool {
 #[test]
 fn a_deadline_falls_due(rt: HostRuntime) {
     assert!(rt; falls_due::<Callback, Global>(rt.alloc()));
+}
+
+// Whether a clock for two threads has a deadline for the second one, and none for a third.
+fn has_two_deadlines<C: Handler, A: Allocator + Clone>(alloc: A) -> bool {
+    let Ok(mut clock) = ClockOf::<C, A>::for_threads(alloc, 2) else {
+        return false;
+    };
+    clock.set_deadline(ThreadId(2), 40);
+    clock.set_deadline(ThreadId(1), 50);
+    let due = clock.advance(50) == Ok(true);
+    let first = is_deadline(clock.next_due(), ThreadId(1));
+    due && first && clock.next_due().is_none()
+}
+
+#[test]
+fn a_clock_has_deadlines_for_its_threads(rt: HostRuntime) {
+    assert!(rt; has_two_deadlines::<Callback, Global>(rt.alloc()));
 }
 
 // Whether a clock is refused for want of memory.

@@ -122,15 +122,15 @@ fn a_blocked_thread_comes_back(rt: HostRuntime) {
     assert!(rt; is_row(rt.alloc(), &[10], &steps));
 }
 
-// Whether 64 threads are attached, and no more; the first one is charged, and the next one picked.
+// Whether 256 threads are attached, and no more; the first one is charged, and the next one picked.
 fn is_full<A: Allocator>(sched: &mut SchedOf<A>) -> bool {
-    for number in 0u16..64 {
+    for number in 0u16..256 {
         if !is_told(sched, Step::Attach(ThreadId(number), RR, Ok(()))) {
             return false;
         }
     }
     let steps = [
-        Step::Attach(ThreadId(64), RR, Err(Refusal::Unknown)),
+        Step::Attach(ThreadId(256), RR, Err(Refusal::Unknown)),
         Step::Charge(100),
         Step::Pick(ONE),
     ];
@@ -139,7 +139,7 @@ fn is_full<A: Allocator>(sched: &mut SchedOf<A>) -> bool {
 
 // Whether a scheduler that is full takes no more of its heap than a new one.
 fn only_new_takes<A: Allocator + Clone>(alloc: A, heap: &LocalHeap) -> bool {
-    match SchedOf::new(alloc, 64, &[10, 20]) {
+    match SchedOf::new(alloc, 256, &[10, 20]) {
         Ok(mut sched) => {
             let used = heap.used();
             is_full(&mut sched) && heap.used() == used
@@ -150,13 +150,13 @@ fn only_new_takes<A: Allocator + Clone>(alloc: A, heap: &LocalHeap) -> bool {
 
 // Whether a scheduler is refused for want of memory.
 fn is_refused<A: Allocator + Clone>(alloc: A) -> bool {
-    matches!(SchedOf::new(alloc, 64, &[]), Err(Refusal::NoMemory))
+    matches!(SchedOf::new(alloc, 256, &[]), Err(Refusal::NoMemory))
 }
 
 // Only a new scheduler takes memory.
 #[test]
 fn only_new_takes_memory(rt: HostRuntime) {
-    let Ok(heap) = LocalHeap::new(rt.alloc(), 65536) else {
+    let Ok(heap) = LocalHeap::new(rt.alloc(), 262144) else {
         panic!(rt; "heap")
     };
     assert!(rt; only_new_takes(&heap, &heap));

@@ -99,7 +99,7 @@ fn new_lets_in<A: Allocator + Clone>(alloc: A) -> bool {
 
 #[test]
 fn a_dropped_writer_lets_others_in(rt: HostRuntime) {
-    let Ok(heap) = LocalHeap::new(rt.alloc(), 65536) else {
+    let Ok(heap) = LocalHeap::new(rt.alloc(), 262144) else {
         panic!(rt; "heap")
     };
     assert!(rt; new_lets_in(&heap));

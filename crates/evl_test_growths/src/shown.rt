@@ -5,11 +5,11 @@ use evl_kernel::KernelOf;
 use std::alloc::{AllocError, Allocator, Global};
 
 // One more than there can be of each.
-const LINES: u16 = 1025;
+const LINES: u16 = 4097;
 
 const TIMERS: u16 = 65;
 
-const THREADS: u16 = 65;
+const THREADS: u16 = 257;
 
 const MUTEXES: u16 = 33;
 

@@ -4,7 +4,7 @@ use std::alloc::Global;
 
 /// A scenario with a fault of the board, an unknown key, an unknown word, and a value that can't stand where it does.
 const FAULTY: &str = r#"[board]
-threads = 65
+threads = 257
 [[step]]
 do = "arrive"
 who = 0
@@ -23,7 +23,7 @@ who = 0
 "#;
 
 /// What is told of it.
-const TOLD: &str = r#"a.toml:2:11: threads = 65: a number from 1 to 64 is wanted
+const TOLD: &str = r#"a.toml:2:11: threads = 257: a number from 1 to 256 is wanted
 a.toml:6:1: step 1: arrive has no key "lien"; did you mean "line"? (keys: line)
 a.toml:8:6: step 2: there is no call "puut"; did you mean "put"?
 a.toml:14:9: step 3: delta = "01": a number from 0 to 18446744073709551615, above 9223372036854775807 as a string is wanted

@@ -7,7 +7,7 @@ use std::alloc::{AllocError, Global};
 const EACH_CALL: &str = r#"limit = 1000000
 
 [board]
-threads = 64
+threads = 256
 sems = [0, 2147483647]
 flags = [4294967295]
 xbufs = [[1, 256], [8, 8]]
@@ -31,7 +31,7 @@ stage = "inband"
 [[step]]
 do = "arrive"
 who = 7
-line = 1023
+line = 4095
 
 [[step]]
 do = "post"

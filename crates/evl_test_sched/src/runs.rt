@@ -191,10 +191,10 @@ fn is_alike(alloc: Global, seed: u64, threads: u16, calls: u16) -> bool {
     both.run_alike(threads, calls) && both.end_alike(threads)
 }
 
-// Whether all of so many runs are, of 1 to 64 threads.
+// Whether all of so many runs are, of 4 to 256 threads.
 fn are_alike(alloc: Global, runs: u16, calls: u16) -> bool {
     for run in 0..runs {
-        let threads = run % 64 + 1;
+        let threads = run % 64 * 4 + 4;
         if !is_alike(alloc, u64::from(run), threads, calls) {
             return false;
         }

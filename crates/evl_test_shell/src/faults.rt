@@ -97,7 +97,7 @@ fn bad_boards(rt: HostRuntime) {
         "[board]\nthreads = 1\nstaxes = [1]\n",
         "[board]\nsems = [0]\n",
         "[board]\nthreads = 0\n",
-        "[board]\nthreads = 65\n",
+        "[board]\nthreads = 257\n",
         "[board]\nthreads = 1\nsems = [2147483648]\n",
         "[board]\nthreads = 1\nsems = [-1]\n",
         "[board]\nthreads = 1\nsems = 0\n",

@@ -23,6 +23,7 @@ use Rattle.evl_words.specs.MutexBits.{number_in, mutex_word, offer_word, offers_
 use Rattle.evl_words.specs.MutexWorld.{MutexView, MutexWorld, MutexTie, MutexKind, IsMutexWorld, MutexDoes, EndsOffered, NamesBelow, tries, unlocks, claims, settles, offers, frees, asks, forgets, awaits, accepts, step_may, step_word, mutex_steps, mutex_author, mutex_entry, role_of, role_claimed, queued, forgotten, owns, wins, HasIt}
 use Rattle.evl_words.specs.MutexRule.{MutexPart}
 use Rattle.std.proofs.lemmas.List.{length-map}
+use Rattle.evl_base.specs.Limits.{thread_limit}
 use Rattle.evl_words.proofs.Sequences.{at_below, at_some}
 use Rattle.evl_words.proofs.Machines.{run_split, run_same}
 use Rattle.evl_words.proofs.Events.{moved, stands_moved, call_stands, does_turn}
@@ -36,7 +37,7 @@ tie_after found m held tie k old at call may n shows role own win below =
     let t = mutex_change m k call in
     let new = role_of old.seats role in
     let long : length (set held k new) ≡ length held = length-set held k new in record {
-      few = subst (λ z. z ≤ 64) (sym long) tie.few;
+      few = subst (λ z. z ≤ thread_limit) (sym long) tie.few;
       word = shows;
       counted = λ j h at_j. ⊎_elim
           (λ (same : (j ≡ k) × (new ≡ h)). sym (ap (λ (z : MutexHold). z.seats) same.1) ∙ tie.counted k old at ∙ sym long)
@@ -53,7 +54,7 @@ tie_after found m held tie k old at call may n shows role own win below =
       below = subst (λ z. NamesBelow z t) (sym long) below;
     }
 
-pub names_within : (n : ℕ) (m : Mutex) → n ≤ 64 → NamesBelow n m → NamesBelow 64 m
+pub names_within : (n : ℕ) (m : Mutex) → n ≤ thread_limit → NamesBelow n m → NamesBelow thread_limit m
 names_within n unowned few below = tt
 names_within n (seized h) few below = omega arith
 names_within n (owned h marked) few below = omega arith
@@ -148,13 +149,13 @@ module _ (w : MutexWorld) (h : IsMutexWorld w) (k : ℕ) (v : MutexView) (at : g
   here : k < length holds
   here = at_below holds k v.held held_at
 
-  near : k < 64
+  near : k < thread_limit
   near = let n = here in let f = h.history.tied.few in omega arith
 
   shown : w.word ≡ mutex_word m
   shown = h.history.tied.word
 
-  small : NamesBelow 64 m
+  small : NamesBelow thread_limit m
   small = names_within (length holds) m h.history.tied.few h.history.tied.below
 
   owning : is_owner m k ≡ owns v.held.role
@@ -328,7 +329,7 @@ one_has_it w h j k u v at_j at_k a b =
     (⊎_elim (λ e. inl (owning w h j u at_j ∙ e)) (λ e. inr (winning w h j u at_j ∙ e)) a)
     (⊎_elim (λ e. inl (owning w h k v at_k ∙ e)) (λ e. inr (winning w h k v at_k ∙ e)) b)
 
-mark_is : (m : Mutex) → NamesBelow 64 m → mutex_word m ≡ 2147483648 → (h : ℕ) × (m ≡ seized h)
+mark_is : (m : Mutex) → NamesBelow thread_limit m → mutex_word m ≡ 2147483648 → (h : ℕ) × (m ≡ seized h)
 mark_is unowned small e = absurd (omega arith)
 mark_is (seized h) small e = (h, refl)
 mark_is (owned h false) small e = absurd (omega arith)

@@ -6,6 +6,7 @@ use Rattle.std.proofs.lemmas.Nat.Bits.{and_high}
 use mathlib.Core.Logic.{dite}
 use native.Mathlib.Decide.{ℕ_discrete}
 use Rattle.std.specs.Prelude.{bit_and, bit_or}
+use Rattle.evl_base.specs.Limits.{thread_limit}
 use Rattle.evl_words.specs.declared.mutex.MutexReply.TheVariants.{Queued}
 use Rattle.evl_words.specs.Mutex.{Mutex, unowned, seized, owned, offered, is_offered, claim_answer, claimed}
 use Rattle.evl_words.specs.MutexBits.{mutex_word, claim_bit, offer_word, number_in, offers_to, claim_reply}
@@ -17,11 +18,11 @@ zero_is (seized h) e = absurd (omega arith)
 zero_is (owned h marked) e = absurd (omega arith)
 zero_is (offered h marked) e = absurd (omega arith)
 
-pub number_in-owned : (h : ℕ) (marked : Bool) → h < 64 → number_in (h + 1 + claim_bit marked) ≡ h + 1
+pub number_in-owned : (h : ℕ) (marked : Bool) → h < thread_limit → number_in (h + 1 + claim_bit marked) ≡ h + 1
 number_in-owned h false small = omega arith
 number_in-owned h true small = omega arith
 
-number_in-offered : (h : ℕ) (marked : Bool) → h < 64 → number_in (offer_word h marked) ≡ h + 1
+number_in-offered : (h : ℕ) (marked : Bool) → h < thread_limit → number_in (offer_word h marked) ≡ h + 1
 number_in-offered h false small = omega arith
 number_in-offered h true small = omega arith
 
@@ -32,7 +33,7 @@ queued_reply word h ne number =
     let less : number_in word - 1 ≡ h = omega arith in
     rw (ne_eqb word 0 ne) (rw (ne_eqb (number_in word) 0 other) (ap (λ n. Queued n) less))
 
-pub claim_reply-word : (m : Mutex) → NamesBelow 64 m → claim_reply (mutex_word m) ≡ claim_answer m
+pub claim_reply-word : (m : Mutex) → NamesBelow thread_limit m → claim_reply (mutex_word m) ≡ claim_answer m
 claim_reply-word unowned small = refl
 claim_reply-word (seized h) small = refl
 claim_reply-word (owned h marked) small = queued_reply (mutex_word (owned h marked)) h (λ e. absurd (omega arith)) (number_in-owned h marked small)
@@ -47,7 +48,7 @@ same_number h k = dite (ℕ_discrete h k)
     (λ (ne : h ≢ k). let ne' : h + 1 ≢ k + 1 = λ e. ne (omega arith) in ne_eqb (h + 1) (k + 1) ne' ∙ sym (ne_eqb h k ne))
 
 -- the word offers the mutex to whom the mutex is offered to
-pub offers_to-word : (m : Mutex) (k : ℕ) → NamesBelow 64 m → offers_to (mutex_word m) k ≡ is_offered m k
+pub offers_to-word : (m : Mutex) (k : ℕ) → NamesBelow thread_limit m → offers_to (mutex_word m) k ≡ is_offered m k
 offers_to-word unowned k small = refl
 offers_to-word (seized h) k small = refl
 offers_to-word (owned h false) k small = no_offer (h + 1 + 0) k (omega arith)
@@ -65,7 +66,7 @@ or_mark : (low : ℕ) (marked : Bool) → low < 2147483648 → bit_or (low + cla
 or_mark low false small = ap (λ n. bit_or n 2147483648) (let e : low + 0 ≡ 0 * 2 ^ 31 + low = omega arith in e) ∙ or_block 31 0 1 low 0 small (omega arith) ∙ (let z = or_zero_r low in let e : 1 * 2 ^ 31 + bit_or low 0 ≡ low + 2147483648 = omega arith in e)
 or_mark low true small = ap (λ n. bit_or n 2147483648) (let e : low + 2147483648 ≡ 1 * 2 ^ 31 + low = omega arith in e) ∙ or_block 31 1 1 low 0 small (omega arith) ∙ (let z = or_zero_r low in let e : 1 * 2 ^ 31 + bit_or low 0 ≡ low + 2147483648 = omega arith in e)
 
-pub mark-word : (m : Mutex) (k : ℕ) → NamesBelow 64 m → bit_or (mutex_word m) 2147483648 ≡ mutex_word (claimed m k)
+pub mark-word : (m : Mutex) (k : ℕ) → NamesBelow thread_limit m → bit_or (mutex_word m) 2147483648 ≡ mutex_word (claimed m k)
 mark-word unowned k small = refl
 mark-word (seized h) k small = refl
 mark-word (owned h marked) k small = or_mark (h + 1) marked (omega arith)
@@ -78,7 +79,7 @@ and_rest hi low small =
     let same : bit_and low 1073741823 ≡ low = mask ∙ omega arith in
     and_block 30 hi 17179869182 low 1073741823 small (omega arith) ∙ ap (λ n. bit_and hi 17179869182 * 2 ^ 30 + n) same
 
-pub accept-word : (h : ℕ) (marked : Bool) → h < 64 → bit_and (offer_word h marked) 18446744072635809791 ≡ mutex_word (owned h marked)
+pub accept-word : (h : ℕ) (marked : Bool) → h < thread_limit → bit_and (offer_word h marked) 18446744072635809791 ≡ mutex_word (owned h marked)
 accept-word h false small = ap (λ n. bit_and n 18446744072635809791) (let e : h + 1 + 1073741824 + 0 ≡ 1 * 2 ^ 30 + (h + 1) = omega arith in e) ∙ and_rest 1 (h + 1) (omega arith) ∙ (let e : 0 * 2 ^ 30 + (h + 1) ≡ h + 1 + 0 = omega arith in e)
 accept-word h true small = ap (λ n. bit_and n 18446744072635809791) (let e : h + 1 + 1073741824 + 2147483648 ≡ 3 * 2 ^ 30 + (h + 1) = omega arith in e) ∙ and_rest 3 (h + 1) (omega arith) ∙ (let e : 2 * 2 ^ 30 + (h + 1) ≡ h + 1 + 2147483648 = omega arith in e)
 

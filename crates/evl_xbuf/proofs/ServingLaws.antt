@@ -1,10 +1,9 @@
 -- Serving waiters one by one.
-use Rattle.std.proofs.Common.{◌≡◌, ℕ, zero, suc, ◌≤◌, ◌==◌, inl, inr, Bool, true, false, List, [], ◌∷◌, ◌++◌, length, take, drop, Option, Some, None, if◌then◌else◌, refl, ap, append-nil, length-append, arith}
+use Rattle.std.proofs.Common.{◌≡◌, ℕ, zero, suc, ◌≤◌, inl, inr, Bool, true, false, List, [], ◌∷◌, ◌++◌, length, take, drop, Option, Some, None, if◌then◌else◌, refl, ap, append-nil, length-append, arith}
 use Rattle.std.specs.Option.{is_some}
-use Rattle.std.proofs.lemmas.Bool.Decides.{nat_tests}
 use Rattle.std.proofs.lemmas.List.{take-append-drop}
-use Rattle.evl_sync.specs.Queues.{IsKept}
-use Rattle.evl_sync.proofs.QueueLaws.{has_room, kept-rest}
+use Rattle.evl_base.specs.Limits.{thread_limit}
+use Rattle.evl_sync.proofs.QueueLaws.{few_kept}
 use Rattle.evl_xbuf.specs.declared.waiters.Reader.{Reader}
 use Rattle.evl_xbuf.specs.Streams.{HasOneQueue, IsKeptStream, Stream, Service, Got, can_read, given, next_service, preceded_by, read, reader_served, served_from, waiting}
 use Rattle.evl_xbuf.specs.Served.{read_by}
@@ -24,16 +23,9 @@ no_service : (o : Option (Service × Stream)) → is_some o ≡ false → o ≡ 
 no_service None e = refl
 no_service (Some x) e = cc
 
-same : (n : ℕ) → (n == n) ≡ true
-same n = grind (arith, nat_tests)
-
-few_kept : {A : Type 0} (thread : A → ℕ) (ws : List A) → IsKept thread (λ v. 0) ws → length ws ≤ 64
-few_kept thread [] h = omega arith
-few_kept thread (w ∷ ws) h = omega (arith, has_room thread (λ v. 0) (thread w) ws (kept-rest thread (λ v. 0) (w ∷ ws) h) h.ranked.1 (h.few (thread w) (rw (same (thread w)) refl)))
-
-few_waiting : (s : Stream) → IsKeptStream s → HasOneQueue s → waiting s ≤ 64
-few_waiting s h (inl e) = let l = few_kept (λ r. r.thread) s.readers h.readers in omega (arith, ap length e, l)
-few_waiting s h (inr e) = let l = few_kept (λ w. w.thread) s.writers h.writers in omega (arith, ap length e, l)
+few_waiting : (s : Stream) → IsKeptStream s → HasOneQueue s → waiting s ≤ thread_limit
+few_waiting s h (inl e) = let l = few_kept (λ r. r.thread) (λ v. 0) s.readers h.readers in omega (arith, ap length e, l)
+few_waiting s h (inr e) = let l = few_kept (λ w. w.thread) (λ v. 0) s.writers h.writers in omega (arith, ap length e, l)
 
 pub serves-begin : (s : Stream) → IsKeptStream s → HasOneQueue s → Serves s [] s
 serves-begin s h q = record {

@@ -5,6 +5,7 @@ use Rattle.std.specs.List.{AllByRecursion}
 use Rattle.std.proofs.lemmas.Bool.{false≢true}
 use Rattle.std.proofs.lemmas.Bool.Decides.{nat_tests}
 use Rattle.std.proofs.lemmas.List.{take-append-drop}
+use Rattle.evl_base.specs.Limits.{thread_limit}
 use Rattle.evl_base.specs.declared.refusal.Refusal.TheVariants.{TooBig}
 use Rattle.evl_sync.specs.Queues.{dropped, is_nobody, stands_in}
 use Rattle.evl_xbuf.specs.declared.waiters.Reader.{Reader}
@@ -181,7 +182,7 @@ abbrev reader_of : ℕ → ℕ → Reader
 reader_of t len = record { thread = t; len = len }
 
 -- a writer that begins to wait
-pub sound-with_writer : (s : Stream) (t : ℕ) (bytes : List ℕ) → IsSoundStream s → stands_in (λ w. w.thread) t s.writers ≡ false → t < 64 → too_big s bytes ≡ None
+pub sound-with_writer : (s : Stream) (t : ℕ) (bytes : List ℕ) → IsSoundStream s → stands_in (λ w. w.thread) t s.writers ≡ false → t < thread_limit → too_big s bytes ≡ None
     → can_write s bytes ≡ false → IsSoundStream (with_writer s t bytes)
 sound-with_writer s t bytes h away below short cant = record { kept = kept-writer s t bytes away below l h.kept; rest = by s.writers refl s.readers refl }
   where
@@ -209,7 +210,7 @@ sound-with_writer s t bytes h away below short cant = record { kept = kept-write
         absurd (omega (arith, none, long, l))
 
 -- a reader that begins to wait
-pub sound-with_reader : (s : Stream) (t len : ℕ) → IsSoundStream s → stands_in (λ r. r.thread) t s.readers ≡ false → t < 64 → can_read s len ≡ false → IsSoundStream (with_reader s t len)
+pub sound-with_reader : (s : Stream) (t len : ℕ) → IsSoundStream s → stands_in (λ r. r.thread) t s.readers ≡ false → t < thread_limit → can_read s len ≡ false → IsSoundStream (with_reader s t len)
 sound-with_reader s t len h away below cant = record { kept = kept-reader s t len away below h.kept; rest = by s.writers refl s.readers refl }
   where
     by : (ws : List Writer) → s.writers ≡ ws → (rs : List Reader) → s.readers ≡ rs → IsAtRest (with_reader s t len)

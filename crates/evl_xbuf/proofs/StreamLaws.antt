@@ -1,6 +1,7 @@
 -- What is known of a way after each change of its bytes and queues.
 use Rattle.std.proofs.Common.{◌≡◌, ℕ, ◌<◌, ◌≤◌, Bool, true, false, List, [], ◌∷◌, ◌++◌, length, remove, if◌then◌else◌}
 use Rattle.std.specs.List.{AllByRecursion}
+use Rattle.evl_base.specs.Limits.{thread_limit}
 use Rattle.evl_sync.specs.Queues.{stands_in, IsKept}
 use Rattle.evl_sync.proofs.QueueLaws.{all-dropped, kept-dropped, kept-enqueued, kept_first, enqueued-last}
 use Rattle.evl_xbuf.specs.declared.waiters.Reader.{Reader}
@@ -15,10 +16,10 @@ all-first_gone : {A : Type 0} (P : A → Type 0) (xs : List A) → AllByRecursio
 all-first_gone P [] h = h
 all-first_gone P (x ∷ xs) h = h.1
 
-kept-last : {A : Type 0} (thread : A → ℕ) (w : A) (ws : List A) → stands_in thread (thread w) ws ≡ false → thread w < 64 → IsKept thread (λ v. 0) ws → IsKept thread (λ v. 0) (ws ++ w ∷ [])
+kept-last : {A : Type 0} (thread : A → ℕ) (w : A) (ws : List A) → stands_in thread (thread w) ws ≡ false → thread w < thread_limit → IsKept thread (λ v. 0) ws → IsKept thread (λ v. 0) (ws ++ w ∷ [])
 kept-last thread w ws away below h = rw (← enqueued-last w ws) (kept-enqueued thread (λ v. 0) w ws away below h)
 
-pub kept-reader : (s : Stream) (t len : ℕ) → stands_in (λ r. r.thread) t s.readers ≡ false → t < 64 → IsKeptStream s → IsKeptStream (with_reader s t len)
+pub kept-reader : (s : Stream) (t len : ℕ) → stands_in (λ r. r.thread) t s.readers ≡ false → t < thread_limit → IsKeptStream s → IsKeptStream (with_reader s t len)
 kept-reader s t len away below h = record {
   few = h.few;
   within = h.within;
@@ -27,7 +28,7 @@ kept-reader s t len away below h = record {
   readers = let r : Reader = record { thread = t; len = len } in kept-last (λ v. v.thread) r s.readers away below h.readers;
 }
 
-pub kept-writer : (s : Stream) (t : ℕ) (bytes : List ℕ) → stands_in (λ w. w.thread) t s.writers ≡ false → t < 64 → length bytes ≤ s.size → IsKeptStream s → IsKeptStream (with_writer s t bytes)
+pub kept-writer : (s : Stream) (t : ℕ) (bytes : List ℕ) → stands_in (λ w. w.thread) t s.writers ≡ false → t < thread_limit → length bytes ≤ s.size → IsKeptStream s → IsKeptStream (with_writer s t bytes)
 kept-writer s t bytes away below l h =
     let w : Writer = record { thread = t; bytes = record { items = bytes } } in
     record {

@@ -138,7 +138,7 @@ pub record IsAtRest (s : Stream) : Type 0 where
   pub rests : next_service s ≡ None
   pub one_queue : HasOneQueue s
 
--- what is there fits the ring, and so would what each writer waits to write; each thread below 64 waits once in a queue at most
+-- what is there fits the ring, and so would what each writer waits to write; each thread waits once in a queue at most
 pub record IsKeptStream (s : Stream) : Type 0 where
   pub few : s.size ≤ 256
   pub within : length s.there ≤ s.size

@@ -14,8 +14,5 @@ use std::alloc::Global;
 pub use waiters::{Reader, Writer};
 pub use xbuf::XbufOf;
 
-/// The most threads that a board has.
-pub(crate) const THREADS: usize = 64;
-
 /// The cross-buffers of one kernel.
 pub type Xbuf = XbufOf<Global>;

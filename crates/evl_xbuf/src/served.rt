@@ -5,9 +5,8 @@ ghost use Rattle.evl_base.specs.Limits.{thread_limit};
 ghost use Rattle.evl_xbuf.specs.Served.{IsShort, read_by, told_of};
 ghost use Rattle.evl_xbuf.specs.Streams.{Got, Wrote};
 
-use crate::THREADS;
 use arrayvec::ArrayVec;
-use evl_base::{Bytes, ThreadId};
+use evl_base::{Bytes, MAX_THREADS, ThreadId};
 use std::marker::Model;
 
 /// A thread that waited and was served (Xenomai 4: EVL cross-buffer; this profile).
@@ -29,10 +28,10 @@ pub struct Turn {
 }
 
 /// Whom a call served, in the order in which they were served (this profile). To a contract it is the list of these
-/// services. It has a place for each of the 64 threads and takes no memory.
+/// services. It has a place for each of 256 threads and takes no memory.
 #[derive(Drop)]
 pub struct Served {
-    turns: ArrayVec<Turn, THREADS>,
+    turns: ArrayVec<Turn, MAX_THREADS>,
     bytes: Bytes,
 }
 
@@ -49,8 +48,8 @@ impl Model for Served {
 }
 
 impl Served {
-    /// Nobody was served.
-    pub(crate) fn new() -> Served
+    /// Nobody was served. (this profile)
+    pub fn new() -> Served
         ensures nobody { result ≡ [] }
     {
         Served {
@@ -59,7 +58,7 @@ impl Served {
         }
     }
 
-    /// How many were served, at most 64. (this profile)
+    /// How many were served, at most 256. (this profile)
     pub fn len(&self) -> usize
         ensures count { result ≡ length self.now }
         ensures few { result ≤ thread_limit }

@@ -5,7 +5,7 @@ use evl_base::Bytes;
 /// A thread that waits to write (this profile).
 #[derive(Drop)]
 pub struct Writer {
-    /// The number of the thread, 0 to 63.
+    /// The number of the thread, 0 to 255.
     pub thread: u16,
     /// What it writes, all at once.
     pub bytes: Bytes,
@@ -14,7 +14,7 @@ pub struct Writer {
 /// A thread that waits to read (this profile).
 #[derive(Clone, Copy, Debug, Default)]
 pub struct Reader {
-    /// The number of the thread, 0 to 63.
+    /// The number of the thread, 0 to 255.
     pub thread: u16,
     /// How many bytes it takes at most.
     pub len: u16,

@@ -8,14 +8,13 @@ ghost use Rattle.evl_sync.specs.Steps.{stepped};
 ghost use Rattle.evl_xbuf.specs.Streams.{room};
 ghost use Rattle.evl_xbuf.specs.Xbufs.{IsSoundXbuf, begin_read, begin_write, drop_waiter, opened, same_stage, reading_stage, stream, try_read, try_write, writing_stage};
 
+mod telling;
+
 use crate::served::Served;
 use crate::stream::Stream;
 use evl_base::{Bytes, Refusal, Stage, ThreadId, Way};
 use std::alloc::{AllocError, Allocator};
 use std::marker::Model;
-
-// The most bytes of one transfer (this profile).
-const MAX_TRANSFER: u16 = 256;
 
 /// A cross-buffer: two rings of bytes between the stages, one for each way, and who waits to write or to read there, by
 /// arrival alone (Xenomai 4: EVL cross-buffer). Way `In` is written in-band and read out-of-band, way `Out` the other way
@@ -70,12 +69,10 @@ impl<A: Allocator> XbufOf<A> {
         ensures step { stepped (λ served. served) result self.new ≡ try_write stage way bytes.now self.old }
         ensures refused { IfErr result (λ e. self.new ≡ self.old) }
     {
-        if !writes(stage, way) {
-            return Err(Refusal::WrongStage);
-        }
-        match way {
-            Way::In => self.inbound.try_write(bytes),
-            Way::Out => self.outbound.try_write(bytes),
+        let mut told = Served::new();
+        match self.try_write_telling(stage, way, bytes, &mut told) {
+            Ok(()) => Ok(told),
+            Err(refusal) => Err(refusal),
         }
     }
 
@@ -87,15 +84,10 @@ impl<A: Allocator> XbufOf<A> {
         ensures step { stepped (λ told. (told.0.items, told.1)) result self.new ≡ try_read stage way len self.old }
         ensures refused { IfErr result (λ e. self.new ≡ self.old) }
     {
-        if len > MAX_TRANSFER {
-            return Err(Refusal::Range);
-        }
-        if !reads(stage, way) {
-            return Err(Refusal::WrongStage);
-        }
-        match way {
-            Way::In => self.inbound.try_read(len),
-            Way::Out => self.outbound.try_read(len),
+        let mut told = Served::new();
+        match self.try_read_telling(stage, way, len, &mut told) {
+            Ok(bytes) => Ok((bytes, told)),
+            Err(refusal) => Err(refusal),
         }
     }
 
@@ -115,12 +107,11 @@ impl<A: Allocator> XbufOf<A> {
         ensures step { stepped (λ served. served) result self.new ≡ begin_write thread.0 stage way bytes.now self.old }
         ensures refused { IfErr result (λ e. self.new ≡ self.old) }
     {
-        if !writes(stage, way) {
-            return Err(Refusal::WrongStage);
-        }
-        match way {
-            Way::In => self.inbound.begin_write(thread, bytes),
-            Way::Out => self.outbound.begin_write(thread, bytes),
+        let mut told = Served::new();
+        match self.begin_write_telling(thread, stage, way, bytes, &mut told) {
+            Ok(true) => Ok(Some(told)),
+            Ok(false) => Ok(None),
+            Err(refusal) => Err(refusal),
         }
     }
 
@@ -140,15 +131,11 @@ impl<A: Allocator> XbufOf<A> {
         ensures step { stepped (λ told. option_map (λ t. (t.0.items, t.1)) told) result self.new ≡ begin_read thread.0 stage way len self.old }
         ensures refused { IfErr result (λ e. self.new ≡ self.old) }
     {
-        if len > MAX_TRANSFER {
-            return Err(Refusal::Range);
-        }
-        if !reads(stage, way) {
-            return Err(Refusal::WrongStage);
-        }
-        match way {
-            Way::In => Ok(self.inbound.begin_read(thread, len)),
-            Way::Out => Ok(self.outbound.begin_read(thread, len)),
+        let mut told = Served::new();
+        match self.begin_read_telling(thread, stage, way, len, &mut told) {
+            Ok(Some(bytes)) => Ok(Some((bytes, told))),
+            Ok(None) => Ok(None),
+            Err(refusal) => Err(refusal),
         }
     }
 
@@ -157,10 +144,9 @@ impl<A: Allocator> XbufOf<A> {
     pub fn drop_waiter(&mut self, thread: ThreadId, way: Way) -> Served
         ensures step { (result, self.new) ≡ drop_waiter thread.0 way self.old }
     {
-        match way {
-            Way::In => self.inbound.drop_waiter(thread),
-            Way::Out => self.outbound.drop_waiter(thread),
-        }
+        let mut told = Served::new();
+        self.drop_waiter_telling(thread, way, &mut told);
+        told
     }
 
     /// Whether bytes are longer than this way's ring, so that they can never be written. (this profile)
@@ -184,25 +170,5 @@ impl<A: Allocator> XbufOf<A> {
             Way::In => inbound,
             Way::Out => outbound,
         }
-    }
-}
-
-// Whether this stage writes this way.
-fn writes(stage: Stage, way: Way) -> bool
-    ensures writes { result ≡ same_stage (writing_stage way) stage }
-{
-    match way {
-        Way::In => stage == Stage::Inband,
-        Way::Out => stage == Stage::Oob,
-    }
-}
-
-// Whether this stage reads this way.
-fn reads(stage: Stage, way: Way) -> bool
-    ensures reads { result ≡ same_stage (reading_stage way) stage }
-{
-    match way {
-        Way::In => stage == Stage::Oob,
-        Way::Out => stage == Stage::Inband,
     }
 }

@@ -1,5 +1,5 @@
 //! The steps of cross-buffers.
-ghost use Rattle.std.specs.Prelude.{◌≡◌, Ok, Err, IfErr, IfOk, map};
+ghost use Rattle.std.specs.Prelude.{◌≡◌, [], Ok, Err, IfErr, IfOk, map};
 ghost use Rattle.evl_kernel.specs.CrossBuffers as through;
 ghost use Rattle.evl_kernel.specs.CrossBuffers.{bytes_told, service_told};
 ghost use Rattle.evl_kernel.specs.Elements.{element, on_xbuf, wakes};
@@ -11,7 +11,8 @@ use evl_xbuf::Served;
 use std::alloc::Allocator;
 
 impl<A: Allocator> Elements<A> {
-    /// Writes all of the bytes from a stage, and says whom that served. The first that applies: `Unknown` (no such
+    /// Writes all of the bytes from a stage, and tells whom that served, into a list where nobody stands yet. The first
+    /// that applies: `Unknown` (no such
     /// cross-buffer), `WrongStage` (the other stage writes this way), `TooBig` (more bytes than the ring has), `Again` (a
     /// writer waits, or they don't fit).
     pub(crate) fn write(
@@ -20,20 +21,23 @@ impl<A: Allocator> Elements<A> {
         xbuf: XbufId,
         way: Way,
         bytes: &[u8],
-    ) -> Result<Served, Refusal>
-        ensures step { IfOk result (λ served. element self.old.elements (on_xbuf xbuf.0 (through.write stage way bytes.now)) ≡ Ok (Reply.Done, self.new.elements)) }
+        told: &mut Served,
+    ) -> Result<(), Refusal>
+        requires nobody { told.old ≡ [] }
+        ensures step { IfOk result (λ _. element self.old.elements (on_xbuf xbuf.0 (through.write stage way bytes.now)) ≡ Ok (Reply.Done, self.new.elements)) }
         ensures owners { owners_of self.new ≡ owners_of self.old }
-        ensures served { IfOk result (λ served. wakes self.old.elements (on_xbuf xbuf.0 (through.write stage way bytes.now)) ≡ map service_told served) }
+        ensures served { IfOk result (λ _. wakes self.old.elements (on_xbuf xbuf.0 (through.write stage way bytes.now)) ≡ map service_told told.new) }
         ensures refused { IfErr result (λ e. (element self.old.elements (on_xbuf xbuf.0 (through.write stage way bytes.now)) ≡ Err e) × (self.new ≡ self.old)) }
     {
         let place = usize::from(xbuf.0);
         if place >= self.xbufs.len() {
             return Err(Refusal::Unknown);
         }
-        self.xbufs[place].try_write(stage, way, bytes)
+        self.xbufs[place].try_write_telling(stage, way, bytes, told)
     }
 
-    /// Reads so many bytes from a stage, or as many as are there, and says whom that served. The first that applies:
+    /// Reads so many bytes from a stage, or as many as are there, and tells whom that served, into a list where nobody
+    /// stands yet. The first that applies:
     /// `Unknown` (no such cross-buffer), `Range` (more than one transfer carries), `WrongStage` (the other stage reads this
     /// way), `Again` (nothing is there).
     pub(crate) fn read(
@@ -42,17 +46,19 @@ impl<A: Allocator> Elements<A> {
         xbuf: XbufId,
         way: Way,
         len: u16,
-    ) -> Result<(Bytes, Served), Refusal>
-        ensures step { IfOk result (λ got. element self.old.elements (on_xbuf xbuf.0 (through.read stage way len)) ≡ Ok (bytes_told got.0.items, self.new.elements)) }
+        told: &mut Served,
+    ) -> Result<Bytes, Refusal>
+        requires nobody { told.old ≡ [] }
+        ensures step { IfOk result (λ got. element self.old.elements (on_xbuf xbuf.0 (through.read stage way len)) ≡ Ok (bytes_told got.items, self.new.elements)) }
         ensures owners { owners_of self.new ≡ owners_of self.old }
-        ensures served { IfOk result (λ got. wakes self.old.elements (on_xbuf xbuf.0 (through.read stage way len)) ≡ map service_told got.1) }
+        ensures served { IfOk result (λ got. wakes self.old.elements (on_xbuf xbuf.0 (through.read stage way len)) ≡ map service_told told.new) }
         ensures refused { IfErr result (λ e. (element self.old.elements (on_xbuf xbuf.0 (through.read stage way len)) ≡ Err e) × (self.new ≡ self.old)) }
     {
         let place = usize::from(xbuf.0);
         if place >= self.xbufs.len() {
             return Err(Refusal::Unknown);
         }
-        self.xbufs[place].try_read(stage, way, len)
+        self.xbufs[place].try_read_telling(stage, way, len, told)
     }
 
     /// How many bytes are free. `Unknown` where there is no such cross-buffer.

@@ -1,5 +1,5 @@
 //! The steps of flag groups that calls and actions ask for.
-ghost use Rattle.std.specs.Prelude.{◌≡◌, Ok, Err, IfErr, IfOk};
+ghost use Rattle.std.specs.Prelude.{◌≡◌, [], Ok, Err, IfErr, IfOk};
 ghost use Rattle.evl_sync.specs.FlagGroups.{pairs};
 ghost use Rattle.evl_kernel.specs.Elements.{element, on_flags, wakes};
 ghost use Rattle.evl_kernel.specs.ElementsViews.{owners_of};
@@ -7,9 +7,8 @@ ghost use Rattle.evl_kernel.specs.FlagGroups as group;
 ghost use Rattle.evl_kernel.specs.FlagGroups.{all_served};
 
 use super::Elements;
-use crate::THREADS;
 use arrayvec::ArrayVec;
-use evl_base::{FlagId, Refusal, Reply, Take};
+use evl_base::{FlagId, MAX_THREADS, Refusal, Reply, Take};
 use evl_sync::Served;
 use std::alloc::Allocator;
 
@@ -28,23 +27,25 @@ impl<A: Allocator> Elements<A> {
         self.flags[place].try_take(kind)
     }
 
-    /// Adds bits, and says who waits no more, in order, and which bits each took. `Unknown` where there is no such flag
-    /// group, `Invalid` where there are no bits to add.
+    /// Adds bits, and tells who waits no more, in order, and which bits each took, into a list where nobody stands yet.
+    /// `Unknown` where there is no such flag group, `Invalid` where there are no bits to add.
     pub(crate) fn post(
         &mut self,
         flags: FlagId,
         bits: u32,
-    ) -> Result<ArrayVec<Served, THREADS>, Refusal>
-        ensures step { IfOk result (λ served. element self.old.elements (on_flags flags.0 (group.post bits)) ≡ Ok (Reply.Done, self.new.elements)) }
+        told: &mut ArrayVec<Served, MAX_THREADS>,
+    ) -> Result<(), Refusal>
+        requires nobody { told.old.items ≡ [] }
+        ensures step { IfOk result (λ _. element self.old.elements (on_flags flags.0 (group.post bits)) ≡ Ok (Reply.Done, self.new.elements)) }
         ensures owners { owners_of self.new ≡ owners_of self.old }
-        ensures served { IfOk result (λ served. wakes self.old.elements (on_flags flags.0 (group.post bits)) ≡ all_served (pairs served.items)) }
+        ensures served { IfOk result (λ _. wakes self.old.elements (on_flags flags.0 (group.post bits)) ≡ all_served (pairs told.new.items)) }
         ensures refused { IfErr result (λ e. (element self.old.elements (on_flags flags.0 (group.post bits)) ≡ Err e) × (self.new ≡ self.old)) }
     {
         let place = usize::from(flags.0);
         if place >= self.flags.len() {
             return Err(Refusal::Unknown);
         }
-        self.flags[place].post(bits)
+        self.flags[place].post_telling(bits, told)
     }
 
     /// The bits that are there. `Unknown` where there is no such flag group.

@@ -1,5 +1,5 @@
 //! How waits for elements begin, and how a waiter leaves.
-ghost use Rattle.std.specs.Prelude.{◌≡◌, ◌<◌, ◌≤◌, None, Some, Ok, false, true, map, if◌then◌else◌};
+ghost use Rattle.std.specs.Prelude.{◌≡◌, ◌<◌, ◌≤◌, [], None, Some, Ok, false, true, map, if◌then◌else◌};
 ghost use Rattle.std.specs.Option.{option_map};
 ghost use Rattle.evl_base.specs.Limits.{thread_limit};
 ghost use Rattle.evl_kernel.specs.Beginnings.{awaited, form_refusal, is_ranked, is_there, size_refusal, step_of_waiter};
@@ -102,70 +102,81 @@ impl<A: Allocator> Elements<A> {
         }
     }
 
-    /// A thread that waits for nothing writes at once, which says whom that served, or begins to wait.
+    /// A thread that waits for nothing writes at once, or begins to wait; whether it wrote. Whom that served is told into
+    /// a list where nobody stands yet.
     pub(crate) fn begin_write(
         &mut self,
         thread: ThreadId,
         xbuf: XbufId,
         way: Way,
         bytes: &[u8],
-    ) -> Option<Served>
+        told: &mut Served,
+    ) -> bool
+        requires nobody { told.old ≡ [] }
         requires there { is_there self.old.elements (Awaited.Writing xbuf way) ≡ true }
         requires fits { size_refusal self.old.elements (Wanted.Write xbuf way (record { items = bytes.now })) ≡ None }
         requires away { stands_for self.old.elements (Awaited.Writing xbuf way) thread.0 ≡ false }
         requires few { thread.0 < thread_limit }
         ensures step { element self.old.elements (on_xbuf xbuf.0 (through.begin_write thread.0 way bytes.now)) ≡ Ok (Reply.Begun, self.new.elements) }
         ensures owners { owners_of self.new ≡ owners_of self.old }
-        ensures served { serves self.old.elements (on_xbuf xbuf.0 (through.begin_write thread.0 way bytes.now)) ≡ done_at_once result }
-        ensures woken { wakes self.old.elements (on_xbuf xbuf.0 (through.begin_write thread.0 way bytes.now)) ≡ map service_told (served_in result) }
+        ensures served { serves self.old.elements (on_xbuf xbuf.0 (through.begin_write thread.0 way bytes.now)) ≡ done_at_once (if result then Some told.new else None) }
+        ensures woken { wakes self.old.elements (on_xbuf xbuf.0 (through.begin_write thread.0 way bytes.now)) ≡ map service_told (served_in (if result then Some told.new else None)) }
     {
         let stage = match way {
             Way::In => Stage::Inband,
             Way::Out => Stage::Oob,
         };
-        match self.xbufs[usize::from(xbuf.0)].begin_write(thread, stage, way, bytes) {
-            Ok(served) => served,
-            Err(_) => None,
+        let place = usize::from(xbuf.0);
+        match self.xbufs[place].begin_write_telling(thread, stage, way, bytes, told) {
+            Ok(done) => done,
+            Err(_) => false,
         }
     }
 
-    /// A thread that waits for nothing reads at once, which says what and whom that served, or begins to wait.
+    /// A thread that waits for nothing reads at once, which says what, or begins to wait. Whom that served is told into a
+    /// list where nobody stands yet.
     pub(crate) fn begin_read(
         &mut self,
         thread: ThreadId,
         xbuf: XbufId,
         way: Way,
         len: u16,
-    ) -> Option<(Bytes, Served)>
+        told: &mut Served,
+    ) -> Option<Bytes>
+        requires nobody { told.old ≡ [] }
         requires there { is_there self.old.elements (Awaited.Reading xbuf way) ≡ true }
         requires range { len ≤ 256 }
         requires away { stands_for self.old.elements (Awaited.Reading xbuf way) thread.0 ≡ false }
         requires few { thread.0 < thread_limit }
         ensures step { element self.old.elements (on_xbuf xbuf.0 (through.begin_read thread.0 way len)) ≡ Ok (Reply.Begun, self.new.elements) }
         ensures owners { owners_of self.new ≡ owners_of self.old }
-        ensures served { serves self.old.elements (on_xbuf xbuf.0 (through.begin_read thread.0 way len)) ≡ read_at_once (option_map (λ got. (got.0.items, got.1)) result) }
-        ensures woken { wakes self.old.elements (on_xbuf xbuf.0 (through.begin_read thread.0 way len)) ≡ map service_told (served_beside (option_map (λ got. (got.0.items, got.1)) result)) }
+        ensures served { serves self.old.elements (on_xbuf xbuf.0 (through.begin_read thread.0 way len)) ≡ read_at_once (option_map (λ got. (got.items, told.new)) result) }
+        ensures woken { wakes self.old.elements (on_xbuf xbuf.0 (through.begin_read thread.0 way len)) ≡ map service_told (served_beside (option_map (λ got. (got.items, told.new)) result)) }
     {
         let stage = match way {
             Way::In => Stage::Oob,
             Way::Out => Stage::Inband,
         };
-        match self.xbufs[usize::from(xbuf.0)].begin_read(thread, stage, way, len) {
+        let place = usize::from(xbuf.0);
+        match self.xbufs[place].begin_read_telling(thread, stage, way, len, told) {
             Ok(got) => got,
             Err(_) => None,
         }
     }
 
-    /// A thread leaves the queue of an element; whom that served, where it was a cross-buffer's. Nothing changes where it
-    /// doesn't stand there. Whose effective rank may have changed is noted, which nobody's has where it was no mutex's.
+    /// A thread leaves the queue of an element; whom that served, where it was a cross-buffer's, is told into a list where
+    /// nobody stands yet. Nothing changes where it doesn't stand there. Whose effective rank may have changed is noted,
+    /// which nobody's has where it was no mutex's.
     pub(crate) fn leave<C: RankChanges>(
         &mut self,
         thread: ThreadId,
         on: Awaited,
         changes: &mut C,
-    ) -> Option<Served>
+        told: &mut Served,
+    )
+        requires nobody { told.old ≡ [] }
         ensures left { self.new.elements ≡ if_done self.old.elements (element self.old.elements (drop_step thread.0 on)) }
-        ensures woken { wakes self.old.elements (drop_step thread.0 on) ≡ map service_told (served_in result) }
+        ensures woken { wakes self.old.elements (drop_step thread.0 on) ≡ map service_told told.new }
         ensures base { self.new.base ≡ self.old.base }
         ensures owners { is_of_mutex on ≡ false → owners_of self.new ≡ owners_of self.old }
         ensures noted { ChangesAreNoted (C.is_noted changes.old) (C.is_noted changes.new) (rank_of (owners_of self.old)) (rank_of (owners_of self.new)) }
@@ -176,35 +187,33 @@ impl<A: Allocator> Elements<A> {
                 if place < self.sems.len() {
                     self.sems[place].drop_waiter(thread);
                 }
-                None
             }
             Awaited::Flags(flags) => {
                 let place = usize::from(flags.0);
                 if place < self.flags.len() {
                     self.flags[place].drop_waiter(thread);
                 }
-                None
             }
             Awaited::Writing(xbuf, way) | Awaited::Reading(xbuf, way) => {
-                self.leave_xbuf(thread, xbuf, way)
+                self.leave_xbuf(thread, xbuf, way, told);
             }
             Awaited::Mutex(mutex) => {
                 self.owners.leave_noting(mutex, thread, changes);
-                None
             }
         }
     }
 
-    /// A thread waits for a cross-buffer no more this way, if it did; whom that served, if there is such a cross-buffer.
-    fn leave_xbuf(&mut self, thread: ThreadId, xbuf: XbufId, way: Way) -> Option<Served>
+    /// A thread waits for a cross-buffer no more this way, if it did and there is such a cross-buffer; whom that served is
+    /// told.
+    fn leave_xbuf(&mut self, thread: ThreadId, xbuf: XbufId, way: Way, told: &mut Served)
+        requires nobody { told.old ≡ [] }
         ensures left { self.new.elements ≡ if_done self.old.elements (element self.old.elements (on_xbuf xbuf.0 (through.drop thread.0 way))) }
-        ensures woken { wakes self.old.elements (on_xbuf xbuf.0 (through.drop thread.0 way)) ≡ map service_told (served_in result) }
+        ensures woken { wakes self.old.elements (on_xbuf xbuf.0 (through.drop thread.0 way)) ≡ map service_told told.new }
         ensures owners { owners_of self.new ≡ owners_of self.old }
     {
         let place = usize::from(xbuf.0);
-        if place >= self.xbufs.len() {
-            return None;
+        if place < self.xbufs.len() {
+            self.xbufs[place].drop_waiter_telling(thread, way, told);
         }
-        Some(self.xbufs[place].drop_waiter(thread, way))
     }
 }

@@ -16,6 +16,7 @@ ghost use Rattle.evl_kernel.specs.declared.waits.Awaited.{Awaited as AwaitedOne}
 
 use super::Records;
 use crate::wait_place::Outcome;
+use arrayvec::ArrayVec;
 use evl_base::{FlagId, Refusal, Reply, SemId, Spares, Take, ThreadId, Way, XbufId};
 use evl_sync::Served;
 use evl_xbuf::{self as xbuf, Service};
@@ -81,10 +82,11 @@ impl<C, A: Allocator> Records<C, A> {
         ensures served { Has (state_of self.old) (stepping (state_of self.old) (on_flags flags.0 (group.post bits))) result (state_of self.new) }
         ensures stands { KeepsCallbacks self.old self.new }
     {
-        match self.elements.post(flags, bits) {
+        let mut told = ArrayVec::new();
+        match self.elements.post(flags, bits, &mut told) {
             Err(refusal) => Err(refusal),
-            Ok(served) => {
-                self.wake_all(served.as_slice());
+            Ok(()) => {
+                self.wake_all(told.as_slice());
                 Ok(Reply::Done)
             }
         }
@@ -115,10 +117,11 @@ impl<C, A: Allocator> Records<C, A> {
         ensures stands { KeepsCallbacks self.old self.new }
     {
         let stage = self.sched.stage(thread);
-        match self.elements.write(stage, xbuf, way, bytes) {
+        let mut told = xbuf::Served::new();
+        match self.elements.write(stage, xbuf, way, bytes, &mut told) {
             Err(refusal) => Err(refusal),
-            Ok(served) => {
-                self.wake_served(&served);
+            Ok(()) => {
+                self.wake_served(&told);
                 Ok(Reply::Done)
             }
         }
@@ -141,10 +144,11 @@ impl<C, A: Allocator> Records<C, A> {
         ensures stands { KeepsCallbacks self.old self.new }
     {
         let stage = self.sched.stage(thread);
-        match self.elements.read(stage, xbuf, way, len) {
+        let mut told = xbuf::Served::new();
+        match self.elements.read(stage, xbuf, way, len, &mut told) {
             Err(refusal) => Err(refusal),
-            Ok((bytes, served)) => {
-                self.wake_served(&served);
+            Ok(bytes) => {
+                self.wake_served(&told);
                 Ok(Reply::Bytes(spares.take(bytes.as_slice())))
             }
         }

@@ -1,9 +1,9 @@
 //! Waits: how they begin, and what ends them.
-ghost use Rattle.std.specs.Prelude.{ℕ, ◌≡◌, ◌<◌, ◌≤◌, ◌+◌, None, Some, Ok, Err, true, false, map, IfErr, IfOk};
+ghost use Rattle.std.specs.Prelude.{ℕ, ◌≡◌, ◌<◌, ◌≤◌, ◌+◌, [], None, Some, Ok, Err, true, false, map, IfErr, IfOk};
 ghost use Rattle.evl_sched.specs.Threads.{unready};
 ghost use Rattle.evl_clock.specs.Clocks.{with_deadline};
 ghost use Rattle.evl_kernel.specs.Beginnings.{begin_refusal, beginning, is_named, is_ranked, waiter_refusal};
-ghost use Rattle.evl_kernel.specs.CrossBuffers.{service_told, served_in};
+ghost use Rattle.evl_kernel.specs.CrossBuffers.{service_told};
 ghost use Rattle.evl_kernel.specs.Elements.{elements, with_elements};
 ghost use Rattle.evl_kernel.specs.Endings.{finish, goes_inband, left_by, served_by_leaving};
 ghost use Rattle.evl_kernel.specs.KernelViews.{Has, IsAnswer};
@@ -102,17 +102,18 @@ impl<C, A: Allocator> Records<C, A> {
         ensures stands { KeepsCallbacks self.old self.new }
     {
         let on = Awaited::Writing(xbuf, way);
-        match self.elements.begin_write(thread, xbuf, way, bytes) {
-            Some(served) => {
-                let done = Outcome::Told(Reply::Done);
-                waits::begin(&mut self.waits, thread, on, Some(done));
-                self.wake_served(&served);
-            }
-            None => {
-                waits::begin(&mut self.waits, thread, on, None);
-                self.suspend(thread, until);
-            }
+        let mut told = Served::new();
+        if self
+            .elements
+            .begin_write(thread, xbuf, way, bytes, &mut told)
+        {
+            let done = Outcome::Told(Reply::Done);
+            waits::begin(&mut self.waits, thread, on, Some(done));
+            self.wake_served(&told);
+            return;
         }
+        waits::begin(&mut self.waits, thread, on, None);
+        self.suspend(thread, until);
     }
 
     /// A wait to read begins; where something is read at once, the waits of those whom that serves end.
@@ -124,11 +125,12 @@ impl<C, A: Allocator> Records<C, A> {
         ensures stands { KeepsCallbacks self.old self.new }
     {
         let on = Awaited::Reading(xbuf, way);
-        match self.elements.begin_read(thread, xbuf, way, len) {
-            Some((bytes, served)) => {
+        let mut told = Served::new();
+        match self.elements.begin_read(thread, xbuf, way, len, &mut told) {
+            Some(bytes) => {
                 let read = Outcome::Read(bytes.as_slice());
                 waits::begin(&mut self.waits, thread, on, Some(read));
-                self.wake_served(&served);
+                self.wake_served(&told);
             }
             None => {
                 waits::begin(&mut self.waits, thread, on, None);
@@ -208,28 +210,29 @@ impl<C, A: Allocator> Records<C, A> {
         ensures expired { state_of self.new ≡ (deadline_left (state_of self.old) thread.0).1 }
         ensures stands { KeepsCallbacks self.old self.new }
     {
-        let served = self.leave_queue(thread);
+        let mut told = Served::new();
+        self.leave_queue(thread, &mut told);
         self.wake(thread, Outcome::Told(Reply::TimedOut));
-        if let Some(served) = served {
-            self.wake_served(&served);
-        }
+        self.wake_served(&told);
     }
 
-    /// A thread leaves the queue in which it waits, if it waits in one; whom that serves wait on. Where it was a mutex's,
-    /// the ranks are handed on.
-    fn leave_queue(&mut self, thread: ThreadId) -> Option<Served>
+    /// A thread leaves the queue in which it waits, if it waits in one; whom that serves wait on, and are told into a list
+    /// where nobody stands yet. Where it was a mutex's, the ranks are handed on.
+    fn leave_queue(&mut self, thread: ThreadId, told: &mut Served)
+        requires nobody { told.old ≡ [] }
         ensures left { state_of self.new ≡ with_elements (state_of self.old) (left_by (elements (state_of self.old)) thread.0 (wait_at (state_of self.old) thread.0)) }
-        ensures served { served_by_leaving (elements (state_of self.old)) thread.0 (wait_at (state_of self.old) thread.0) ≡ map service_told (served_in result) }
+        ensures served { served_by_leaving (elements (state_of self.old)) thread.0 (wait_at (state_of self.old) thread.0) ≡ map service_told told.new }
         ensures away { (on : AwaitedOne) → stands_for (elements (state_of self.new)) on thread.0 ≡ false }
-        ensures apart { (t : ℕ) → is_served t (map service_told (served_in result)) ≡ true → (on : AwaitedOne) → stands_for (elements (state_of self.new)) on t ≡ false }
+        ensures apart { (t : ℕ) → is_served t (map service_told told.new) ≡ true → (on : AwaitedOne) → stands_for (elements (state_of self.new)) on t ≡ false }
         ensures stands { KeepsCallbacks self.old self.new }
     {
-        let on = waits::awaited_by(&self.waits, thread)?;
-        let served = self.elements.leave(thread, on, &mut self.changes);
+        let Some(on) = waits::awaited_by(&self.waits, thread) else {
+            return;
+        };
+        self.elements.leave(thread, on, &mut self.changes, told);
         if on.is_of_mutex() {
             ranks::hand_on(&self.elements, &mut self.changes, &mut self.sched);
         }
-        served
     }
 
     /// Answers what ended the thread's wait, which is finished then, bytes in a box of `spares`; a weak thread goes in-band,

@@ -8,7 +8,7 @@ use std::alloc::Global;
 
 #[test]
 fn seats_have_a_range(rt: HostRuntime) {
-    for (seats, fits) in [(1, true), (64, true), (0, false), (65, false)] {
+    for (seats, fits) in [(1, true), (256, true), (0, false), (257, false)] {
         let refusal = made(rt.alloc(), false, seats).err();
         assert!(rt; refusal == if fits { None } else { Some(Refusal::Range) });
     }

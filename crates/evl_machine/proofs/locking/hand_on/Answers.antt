@@ -1,10 +1,8 @@
-use Rattle.std.proofs.Common.{IfSome, ap, sym, ◌∙◌, subst}
+use Rattle.std.proofs.Common.{IfSome, sym, subst}
 use Rattle.evl_base.specs.declared.numbers.ThreadId.{ThreadId}
 use Rattle.evl_machine.specs.Actors.{SeatedActor, acting}
-use Rattle.evl_machine.specs.Known.{first_of}
 use Rattle.evl_machine.specs.MutexSeats.{HasOnce, HasSeat}
-use Rattle.evl_machine.proofs.SeatsAt.{at_table_of, core_of_step, holds_for, once_at, seat_there}
-use Rattle.evl_machine.proofs.Visits.{actor_at_mutexes}
+use Rattle.evl_machine.proofs.SeatsAt.{at_table_of, holds_for, once_at, seat_there}
 use Rattle.evl_machine.proofs.locking.hand_on.Goals as goal
 
 pub offer-requires-clause-table : goal.offer-requires-clause-table

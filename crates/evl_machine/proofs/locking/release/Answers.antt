@@ -3,7 +3,6 @@ use Rattle.evl_base.specs.declared.refusal.Refusal.{Refusal}
 use Rattle.evl_words.specs.declared.mutex.MutexPass.{MutexPass}
 use Rattle.evl_machine.specs.Locking.{GoesAlong, Releases}
 use Rattle.evl_machine.specs.Noted.{IsSettled, NotesGiven}
-use Rattle.evl_base.specs.declared.reply.Reply.TheVariants.{Handed}
 use Rattle.evl_machine.specs.Actors.{ActorState, SeatedActor, acting}
 use Rattle.evl_machine.specs.Known.{KernelMe, first_of}
 use Rattle.evl_machine.specs.MutexSeats.{HasOnce}

@@ -1,7 +1,6 @@
 use Rattle.std.proofs.Common.{map, length, ◌+◌, ap, sym, ◌∙◌}
 use Rattle.std.specs.List.{range_with_len}
 use Rattle.evl_machine.specs.Known.{mutex_count}
-use Rattle.evl_machine.specs.Homes.{word_homes}
 use Rattle.evl_machine.specs.Makings.{new_places}
 use Rattle.evl_machine.proofs.Newcomers.{staxes_of}
 use Rattle.evl_machine.proofs.making.seated.Goals as goal

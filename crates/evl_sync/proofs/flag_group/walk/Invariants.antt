@@ -1,13 +1,18 @@
-use Rattle.std.proofs.Common.{ℕ, ◌≡◌, ◌≤◌, length, drop}
-use Rattle.evl_sync.specs.FlagGroups.{Walk, walk_of, walk_after, pairs}
+use Rattle.std.proofs.Common.{ℕ, ◌≡◌, ◌≤◌, ◌+◌, ◌-◌, length}
+use Rattle.evl_base.specs.Limits.{thread_limit}
+use Rattle.evl_sync.specs.FlagGroups.{Walk, walk_of}
+use Rattle.evl_sync.proofs.WalkLaws.{walking}
 use Rattle.evl_sync.proofs.flag_group.walk.Given as goal
 
 -- what was served and passed so far, and then what the rest comes to
-pub record Walks (all rest : Walk) (served waiting place : ℕ) : Type 0 where
-  pub few_served : served ≤ place
-  pub few_waiting : waiting ≤ place
-  pub whole : rest ≡ all
+pub record Walks (all now : Walk) (served waiting place : ℕ) : Type 0 where
+  pub within : place ≤ waiting
+  pub few : served + waiting ≤ thread_limit
+  pub whole : now ≡ all
 
-abbrev pub invariant-loop-waiter : goal.invariant-loop-waiter
-invariant-loop-waiter l =
-    Walks (walk_of l.waiters l.fn.bits) (walk_after (pairs l.served.items) l.waiting.items (walk_of (drop l.waiter-index l.waiters) l.left)) (length l.served.items) (length l.waiting.items) l.waiter-index
+abbrev pub invariant-loop-place : goal.invariant-loop-place
+invariant-loop-place l =
+    Walks (walk_of l.initial.waiters.items l.fn.bits) (walking l.told.items l.waiters.items l.place l.left) (length l.told.items) (length l.waiters.items) l.place
+
+abbrev pub decreases-loop-place : goal.decreases-loop-place
+decreases-loop-place l = length l.waiters.items - l.place

@@ -2,4 +2,4 @@ use Rattle.std.proofs.Common.{◌≤◌}
 use Rattle.evl_test_against.proofs.numbers.stays_alike.Given as goal
 
 abbrev pub invariant-loop : goal.invariant-loop
-invariant-loop g l = 1024 ≤ l.set.limit
+invariant-loop g l = l.limit ≤ g.L.Level.limit l.set

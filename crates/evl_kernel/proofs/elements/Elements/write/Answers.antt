@@ -10,4 +10,4 @@ use Rattle.evl_kernel.proofs.elements.Elements.write.Goals as goal
 pub returns-clause-refused : goal.returns-clause-refused
 returns-clause-refused g c =
     let here = slice_get_read c.self.inside.xbufs.items _ c.from-place.result c.index_mut.result.now refl (omega (arith, c.if-place-len.false, c.len.ensures, c.self.inside.xbufs.ok.0)) c.index_mut.ensures.value in
-    rw (← c.self.view_is, ← c.from-place.ensures) (nth-same cross_buffer (λ xs. record { elements = record { sems = c.self.inside.sems.items; flags = c.self.inside.flags.items; xbufs = xs; mutexes = c.self.inside.owners.mutexes }; base = c.self.inside.owners.base }) c.self.inside.xbufs.items c.from-place.result (through.write c.args.stage c.args.way c.args.bytes.now) c.index_mut.result.now c.try_write.new.self here (λ served. served) (λ served. reply.Done) c.try_write.result (ap (replied (λ served. reply.Done)) c.try_write.ensures.step) c.try_write.ensures.refused)
+    rw (← c.self.view_is, ← c.from-place.ensures) (nth-same cross_buffer (λ xs. record { elements = record { sems = c.self.inside.sems.items; flags = c.self.inside.flags.items; xbufs = xs; mutexes = c.self.inside.owners.mutexes }; base = c.self.inside.owners.base }) c.self.inside.xbufs.items c.from-place.result (through.write c.args.stage c.args.way c.args.bytes.now) c.index_mut.result.now c.try_write_telling.new.self here (λ (u : Unit {0}). c.try_write_telling.new.told) (λ served. reply.Done) c.try_write_telling.result (ap (replied (λ served. reply.Done)) c.try_write_telling.ensures.step) c.try_write_telling.ensures.refused)

@@ -32,6 +32,9 @@ returns-then-not-claim-clause-served g c =
       ap (λ (e : _). state_of (record r { elements = e })) (c.claim.ensures.unchanged c.if-not-claim.true),
     )
 
+pub returns-then-not-claim-clause-stands : goal.returns-then-not-claim-clause-stands
+returns-then-not-claim-clause-stands g c = rw (← c.self.view_is) (keeps-changed (records_view c.self.inside) c.claim.new.self c.self.inside.sched c.self.inside.waits.items)
+
 pub invariant_of-self-2 : goal.invariant_of-self-2
 invariant_of-self-2 g c =
     let r = records_view c.self.inside in

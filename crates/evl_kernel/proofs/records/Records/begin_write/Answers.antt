@@ -11,16 +11,16 @@ begin_write-requires-clause-away g c =
 pub invariant_of-self : goal.invariant_of-self
 invariant_of-self g c =
     sound_served (records_view c.self.inside) c.self.invariant c.args.thread.0 0 (wanted.Write c.args.xbuf c.args.way (record { items = c.args.bytes.now })) c.args.until (rw (← c.self.view_is) at c.requires.idle) (rw (← c.self.view_is) at c.requires.there) (rw (← c.self.view_is) at c.requires.may) c.begin_write.new.self c.begin_write.ensures.step
-    _ c.in-Some.ensures.served _ c.begin.new.waits.items c.begin.ensures.begun c.begin_write.ensures.owners
+    _ (rw c.if-begin_write.true at c.begin_write.ensures.served) _ c.begin.new.waits.items c.begin.ensures.begun c.begin_write.ensures.owners
 
 pub wake_served-requires : goal.wake_served-requires
 wake_served-requires g c = record {
   away = λ thread is on.
       begin_freed (records_view c.self.inside) c.self.invariant c.args.thread.0 0 (wanted.Write c.args.xbuf c.args.way (record { items = c.args.bytes.now })) c.args.until (rw (← c.self.view_is) at c.requires.idle) (rw (← c.self.view_is) at c.requires.there) (rw (← c.self.view_is) at c.requires.may) c.begin_write.new.self c.begin_write.ensures.step
-      _ c.in-Some.ensures.served thread (rw c.in-Some.ensures.woken is) on;
+      _ (rw c.if-begin_write.true at c.begin_write.ensures.served) thread (rw (rw c.if-begin_write.true at c.begin_write.ensures.woken) is) on;
 }
 
-pub invariant_of-self-in-None : goal.invariant_of-self-in-None
-invariant_of-self-in-None g c =
+pub invariant_of-self-2 : goal.invariant_of-self-2
+invariant_of-self-2 g c =
     sound_waiting (records_view c.self.inside) c.self.invariant c.args.thread.0 0 (wanted.Write c.args.xbuf c.args.way (record { items = c.args.bytes.now })) c.args.until (rw (← c.self.view_is) at c.requires.idle) (rw (← c.self.view_is) at c.requires.there) (rw (← c.self.view_is) at c.requires.may) c.begin_write.new.self c.begin_write.ensures.step
-    c.in-None.ensures.served c.begin-in-None.new.waits.items c.begin-in-None.ensures.begun c.begin_write.ensures.owners
+    (rw c.if-begin_write.false at c.begin_write.ensures.served) c.begin-2.new.waits.items c.begin-2.ensures.begun c.begin_write.ensures.owners

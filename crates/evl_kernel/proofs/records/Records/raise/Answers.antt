@@ -34,6 +34,9 @@ hand_on-requires-clause-others g c =
 pub returns-clause-stands : goal.returns-clause-stands
 returns-clause-stands g c = rw (← c.self.view_is) (keeps-changed (records_view c.self.inside) c.raise.new.self c.hand_on.new.sched c.self.inside.waits.items)
 
+pub returns-in-Err-raise-clause-stands : goal.returns-in-Err-raise-clause-stands
+returns-in-Err-raise-clause-stands g c = rw (← c.self.view_is) (keeps-changed (records_view c.self.inside) c.raise.new.self c.self.inside.sched c.self.inside.waits.items)
+
 pub returns-clause-served : goal.returns-clause-served
 returns-clause-served g c =
     let r = records_view c.self.inside in let s = state_of r in let n = c.args.mutex.0 in let thread = c.args.thread.0 in let step = on_mutex n (mutex.raise thread) in

@@ -2,9 +2,7 @@ use Rattle.std.proofs.Common.{◌≡◌, ◌+◌, ◌<◌, eqb, false, subst, re
 use mathlib.Core.Option.{none}
 use prog.Atomic.{either}
 use Rattle.atomic_table.specs.Table.{step}
-use Rattle.evl_words.specs.MutexWorld.{owns, tries}
-use Rattle.evl_words.specs.MutexRule.{tried}
-use Rattle.evl_words.proofs.MutexSeats.{tried_of}
+use Rattle.evl_words.specs.MutexWorld.{owns}
 use Rattle.evl_machine.specs.Known.{ceilings_of, mutex_count}
 use Rattle.evl_machine.specs.ThreadRule.{mutex_of}
 use Rattle.evl_machine.proofs.MutexTokens.{tries_known}

@@ -4,9 +4,6 @@ use prog.Atomic.{either}
 use Rattle.atomic_table.specs.Table.{step}
 use Rattle.evl_base.specs.declared.numbers.MutexId.{MutexId}
 use Rattle.evl_words.specs.declared.mutex.MutexRole.TheVariants.{Owner}
-use Rattle.evl_words.specs.MutexWorld.{unlocks}
-use Rattle.evl_words.specs.MutexRule.{unlocked}
-use Rattle.evl_words.proofs.MutexSeats.{unlocked_of}
 use Rattle.evl_machine.specs.Known.{ceilings_of, mutex_count}
 use Rattle.evl_machine.specs.ThreadRule.{mutex_of}
 use Rattle.evl_machine.proofs.MutexTokens.{unlocks_known}

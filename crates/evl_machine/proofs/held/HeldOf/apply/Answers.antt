@@ -1,11 +1,8 @@
 use Rattle.std.proofs.Common.{ap, sym, ◌∙◌, subst}
-use Rattle.evl_base.specs.declared.numbers.ThreadId.{ThreadId}
 use Rattle.evl_kernel.specs.KernelViews.{KernelView}
-use Rattle.evl_machine.specs.Handles.{HeldState, MachineState, machine_of}
-use Rattle.evl_machine.specs.Known.{ComesFrom, first_of, seen}
-use Rattle.evl_machine.specs.Calls.{IsHeld}
-use Rattle.evl_machine.proofs.Calling.{held_applied}
-use Rattle.evl_machine.proofs.Knowing.{answers_still, comes_on}
+use Rattle.evl_machine.specs.Handles.{HeldState, MachineState}
+use Rattle.evl_machine.specs.Known.{ComesFrom}
+use Rattle.evl_machine.proofs.Knowing.{answers_still}
 use Rattle.evl_machine.proofs.Visits.{held_call}
 use Rattle.evl_machine.proofs.held.HeldOf.apply.Goals as goal
 

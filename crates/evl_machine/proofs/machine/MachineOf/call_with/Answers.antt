@@ -1,10 +1,10 @@
 use Rattle.std.proofs.Common.{length, refl, ap, sym, ◌∙◌, subst}
 use Rattle.evl_base.specs.declared.numbers.ThreadId.{ThreadId}
 use Rattle.evl_kernel.specs.KernelViews.{KernelView}
-use Rattle.evl_machine.specs.Actors.{ActorState, AreHeldAt, ClaimsOneOf, Suits, acting, call_refusal}
+use Rattle.evl_machine.specs.Actors.{ActorState, AreHeldAt, ClaimsOneOf, call_refusal}
 use Rattle.evl_machine.specs.Calls.{Applied, IsCaller}
 use Rattle.evl_machine.specs.Handles.{account_of}
-use Rattle.evl_machine.specs.Known.{KernelMe, first_of, seen}
+use Rattle.evl_machine.specs.Known.{KernelMe, seen}
 use Rattle.evl_machine.specs.MutexSeats.{holds_mutex}
 use Rattle.evl_machine.specs.Noted.{IsSettled}
 use Rattle.evl_machine.specs.Seats.{CoreMe}

@@ -2,7 +2,7 @@ use Rattle.std.proofs.Common.{◌≡◌, false, refl, ap, sym, ◌∙◌, subst}
 use Rattle.evl_base.specs.declared.call.Call.TheVariants.{Finish}
 use Rattle.evl_base.specs.declared.numbers.ThreadId.{ThreadId}
 use Rattle.evl_kernel.specs.KernelViews.{KernelView}
-use Rattle.evl_machine.specs.Actors.{ActorState, AreHeldAt, Suits, acting, keeps_stage}
+use Rattle.evl_machine.specs.Actors.{ActorState, AreHeldAt, acting, keeps_stage}
 use Rattle.evl_machine.specs.Calls.{Answered, Applied, IsCaller}
 use Rattle.evl_machine.specs.Handles.{account_of}
 use Rattle.evl_machine.specs.Known.{KernelMe, first_of, seen}

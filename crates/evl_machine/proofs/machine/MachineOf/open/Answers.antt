@@ -1,8 +1,7 @@
-use Rattle.std.proofs.Common.{◌≡◌, MatchOption, refl, ap, sym, ◌∙◌, subst}
+use Rattle.std.proofs.Common.{MatchOption, ap, ◌∙◌, subst}
 use Rattle.std.specs.Bool.{⊤}
 use Rattle.evl_machine.specs.Actors.{SeatedActor, acting}
 use Rattle.evl_machine.specs.Handles.{account_of}
-use Rattle.evl_machine.specs.InHand.{Opens}
 use Rattle.evl_kernel.specs.KernelViews.{KernelView}
 use Rattle.evl_machine.specs.Known.{first_of, seen}
 use Rattle.evl_machine.specs.Noted.{HasTaken}

@@ -1,8 +1,8 @@
-use Rattle.std.proofs.Common.{◌≡◌, length, map, refl, ap, inl, inr, sym, ◌∙◌, subst}
+use Rattle.std.proofs.Common.{refl, ap, inl, inr, sym, ◌∙◌, subst}
 use Rattle.evl_base.specs.declared.numbers.ThreadId.{ThreadId}
 use Rattle.evl_kernel.specs.Callbacks.{AnswersAsTold}
 use Rattle.evl_kernel.specs.KernelViews.{KernelView}
-use Rattle.evl_machine.specs.Actors.{ActorState, acting}
+use Rattle.evl_machine.specs.Actors.{ActorState}
 use Rattle.evl_machine.specs.Handles.{CallerState, MachineState}
 use Rattle.evl_machine.proofs.Visits.{comes_still, finds_taken, has_still, opened_answers, resting_same, stage_back, stage_resting, suits_back, visited_by}
 use Rattle.evl_machine.proofs.Opened.{just_took, opened_seats, opened_wait, own_thread, owned_seats}

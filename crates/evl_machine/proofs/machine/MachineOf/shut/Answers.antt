@@ -1,7 +1,6 @@
 use Rattle.std.proofs.Common.{ap, sym, ◌∙◌, subst}
 use Rattle.evl_machine.specs.Actors.{SeatedActor, acting}
 use Rattle.evl_machine.specs.Calls.{IsHeld}
-use Rattle.evl_machine.specs.Handles.{account_of}
 use Rattle.evl_machine.specs.Known.{first_of, seen}
 use Rattle.evl_machine.specs.Noted.{IsSettled}
 use Rattle.evl_machine.proofs.Calling.{gives_caller}

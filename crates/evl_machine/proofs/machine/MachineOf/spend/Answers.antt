@@ -1,18 +1,12 @@
-use Rattle.std.proofs.Common.{◌≡◌, ◌≢◌, ◌<◌, ◌+◌, false, length, slice_get, Ok, refl, ap, sym, ◌∙◌, subst, arith}
+use Rattle.std.proofs.Common.{◌≡◌, ◌<◌, Ok, refl, ap, sym, ◌∙◌, subst}
 use Rattle.evl_machine.specs.declared.caller.CallerOf.TheInside.{Inside}
 use Rattle.evl_words.specs.declared.mutex.Unlock.TheVariants.{Done}
-use Rattle.evl_machine.specs.Actors.{SeatedActor, acting}
-use Rattle.evl_machine.specs.Callers.{IsResting, caller_by}
-use Rattle.evl_machine.specs.Ceilings.{has_ceiling}
-use Rattle.evl_machine.specs.Handles.{CallerState, MachineState}
-use Rattle.evl_machine.specs.Known.{first_of}
-use Rattle.evl_machine.specs.MutexLocks.{kinds_of}
+use Rattle.evl_machine.specs.Actors.{acting}
+use Rattle.evl_machine.specs.Callers.{caller_by}
+use Rattle.evl_machine.specs.Handles.{CallerState}
 use Rattle.evl_machine.specs.MutexSeats.{TriesMutex, UnlocksMutex, unlock_refusal}
 use Rattle.evl_machine.specs.MutexTokens.{TellsTheSame, seats_at}
-use Rattle.evl_machine.proofs.Opened.{free_there, lock_open, nests_there}
-use Rattle.evl_machine.proofs.SeatsAt.{at_table, once_at}
-use Rattle.evl_machine.proofs.Visits.{actor_at_mutexes, stage_resting}
-use Rattle.evl_machine.proofs.WordCalls.{actor_in, caller_stepped, nests_so, own_place, resting_stepped, same_at_depth, spends_so, tries_so, unlocks_so}
+use Rattle.evl_machine.proofs.WordCalls.{actor_in, caller_stepped, same_at_depth, spends_so, unlocks_so}
 use Rattle.evl_machine.proofs.WordCalls.{depth_is, held_there, its_deeper, no_step, one_less}
 use Rattle.evl_machine.proofs.MutexStepLaws.{said_there}
 use Rattle.evl_machine.specs.MutexPlaces.{less}

@@ -1,4 +1,4 @@
-use Rattle.std.proofs.Common.{ap, ◌∙◌, Ok}
+use Rattle.std.proofs.Common.{ap, ◌∙◌}
 use Rattle.evl_machine.specs.Calls.{wait_of_caller}
 use Rattle.evl_machine.proofs.MutexUnlocks.{still_has, unlocked_by_kernel}
 use Rattle.evl_machine.proofs.machine.MachineOf.unlock_at_word.Goals as goal

@@ -19,7 +19,7 @@ invariant_of-self g c =
     let port : Port = record { key = key; tag = c.args.tag; count = 0 } in
     let free : port_at s.ports.items line ≡ None = free-none s.ports.items s.callbacks is.linked line (rw (← c.self.view_is) at c.requires.free) in
     let inside : line < length s.ports.items = omega (arith, c.requires.range, is.lines) in
-    record {
+    rw c.set.ensures.written (record {
       lines = length-set s.ports.items line (Some port) ∙ is.lines;
       counts = is.counts;
       linked = linked-changed s.ports.items s.callbacks after is.linked line key _ (λ other q at _. key-vacant s.ports.items s.callbacks is.linked key new.was_vacant other q at)
@@ -27,7 +27,7 @@ invariant_of-self g c =
           let same : port ≡ q = cc in ap (λ p. option_map (λ held. held.line) (get after p.key)) (sym same) ∙ ap (option_map (λ held. held.line)) new.updates.changed);
       filled = omega (arith, new.len, is.filled, filled-added s.ports.items line port free inside);
       room = omega (arith, new.capacity, is.room);
-    }
+    })
 
 pub returns : goal.returns
 returns g c =
@@ -35,7 +35,7 @@ returns g c =
     let key = c.insert_reserved-key.result in let after = c.insert_reserved-key.new.self in
     let port : Port = record { key = key; tag = c.args.tag; count = 0 } in
     record {
-      state = rw (← c.self.view_is) (ap (λ installed. record { stalled = s.stalled; pending = s.log; installed = installed; unhandled = s.unhandled.items })
+      state = rw (← c.self.view_is, c.set.ensures.written) (ap (λ installed. record { stalled = s.stalled; pending = s.log; installed = installed; unhandled = s.unhandled.items })
           (seen-changed s.ports.items s.callbacks after is.linked line key _ (λ other q at _. key-vacant s.ports.items s.callbacks is.linked key new.was_vacant other q at) new.updates (Some port)
           ∙ ap (slice_set (map (installed_by s.callbacks) s.ports.items) line) (shows after port _ new.updates.changed)));
     }

@@ -3,7 +3,7 @@ use Rattle.evl_pipeline.proofs.PortLaws.{linked-nothing, filled-nothing}
 use Rattle.evl_pipeline.proofs.side.SideOf.new.Goals as goal
 
 pub invariant_of-result : goal.invariant_of-result
-invariant_of-result g c = rw (c.in_ok-ports.ensures.empty, c.in_ok-unhandled.ensures.zeros) (record {
+invariant_of-result g c = rw (c.in_ok-ports.ensures.empty, c.in_ok-unhandled.ensures.empty) (record {
   lines = refl;
   counts = refl;
   linked = linked-nothing c.in_ok-callbacks.callbacks;
@@ -12,4 +12,4 @@ invariant_of-result g c = rw (c.in_ok-ports.ensures.empty, c.in_ok-unhandled.ens
 })
 
 pub returns : goal.returns
-returns g c = record { empty = rw (c.in_ok-log.ensures.empty, c.in_ok-ports.ensures.empty, c.in_ok-unhandled.ensures.zeros) refl }
+returns g c = record { empty = rw (c.in_ok-log.ensures.empty, c.in_ok-ports.ensures.empty, c.in_ok-unhandled.ensures.empty) refl }

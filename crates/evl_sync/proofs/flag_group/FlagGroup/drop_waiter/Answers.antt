@@ -3,4 +3,4 @@ use Rattle.evl_sync.proofs.flag_group.FlagGroup.drop_waiter.Goals as goal
 
 pub invariant_of-self : goal.invariant_of-self
 invariant_of-self c =
-    rw (c.without-self-inside.ensures.dropped, c.as_slice.ensures.value) (sound-dropped c.args.thread.0 c.self.inside.bits c.self.inside.waiters.items c.self.invariant)
+    rw c.leave.ensures.dropped (sound-dropped c.args.thread.0 c.self.inside.bits c.self.inside.waiters.items c.self.invariant)

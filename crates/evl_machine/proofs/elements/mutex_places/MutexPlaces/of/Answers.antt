@@ -1,6 +1,4 @@
-use Rattle.std.proofs.Common.{◌≡◌, ◌++◌, ◌∷◌, [], ap, sym, ◌∙◌, refl, subst, arith}
-use Rattle.evl_words.specs.declared.mutex.place.MutexPlace.{MutexPlace}
-use Rattle.evl_machine.specs.Makings.{new_places}
+use Rattle.std.proofs.Common.{◌++◌, ◌∷◌, [], sym, ◌∙◌, subst, arith}
 use Rattle.evl_machine.specs.MutexPlaces.{AreCountedPlaces}
 use Rattle.evl_machine.proofs.Newcomers.{new_counted, one_place_more}
 use Rattle.evl_machine.proofs.elements.mutex_places.MutexPlaces.of.Goals as goal

@@ -1,0 +1,35 @@
+-- What is kept for each line, as it is written and read.
+use Rattle.std.proofs.Common.{◌≡◌, ◌<◌, ◌≤◌, ℕ, zero, suc, ◌+◌, ◌-◌, List, [], ◌∷◌, ◌++◌, length, replicate, slice_index_or, slice_set, Option, Some, None, slice_get, refl, sym, ap, ◌∙◌, arith}
+use Rattle.std.proofs.lemmas.List.{append_assoc, get_or_append_left, length-append, length-set, set-append_left}
+use Rattle.evl_pipeline.specs.ByLine.{filled_up}
+use Rattle.evl_pipeline.specs.Limits.{line_count}
+
+module _ {T : Type 0} (blank : T) where
+  at-blank : (n i : ℕ) → slice_index_or (replicate n blank) i blank ≡ blank
+  at-blank zero i = refl
+  at-blank (suc n) zero = refl
+  at-blank (suc n) (suc i) = at-blank n i
+
+  -- what is read behind the last one that was written is blank
+  pub item-is : (written : List T) (n i : ℕ) → slice_index_or (written ++ replicate n blank) i blank ≡ slice_index_or written i blank
+  item-is [] n i = at-blank n i
+  item-is (x ∷ xs) n zero = refl
+  item-is (x ∷ xs) n (suc i) = item-is xs n i
+
+  one-more : (n k : ℕ) → n ≡ suc k → replicate n blank ≡ blank ∷ replicate k blank
+  one-more n k e = ap (λ (m : ℕ). replicate m blank) e
+
+  -- one more blank is written
+  pub blank-written : (written after : List T) → length written < line_count → after ≡ written ++ blank ∷ [] → filled_up blank after ≡ filled_up blank written
+  blank-written written after few is =
+      let long : length (written ++ blank ∷ []) ≡ length written + 1 = length-append written (blank ∷ []) in
+      ap (filled_up blank) is
+      ∙ ap (λ (n : ℕ). (written ++ blank ∷ []) ++ replicate (line_count - n) blank) long
+      ∙ append_assoc written (blank ∷ []) (replicate (line_count - (length written + 1)) blank)
+      ∙ ap (λ (xs : List T). written ++ xs) (sym (one-more (line_count - length written) (line_count - (length written + 1)) (omega (arith, few))))
+
+  -- an item is written
+  pub item-set : (written : List T) (i : ℕ) (x : T) → i < length written → filled_up blank (slice_set written i x) ≡ slice_set (filled_up blank written) i x
+  item-set written i x there =
+      ap (λ (n : ℕ). slice_set written i x ++ replicate (line_count - n) blank) (length-set written i x)
+      ∙ sym (set-append_left written (replicate (line_count - length written) blank) i x there)

@@ -1,0 +1,48 @@
+-- One walk through the waiters, as it goes on from place to place.
+use Rattle.std.proofs.Common.{◌≡◌, ◌<◌, ℕ, zero, suc, ◌+◌, bit_xor, List, [], ◌∷◌, ◌++◌, length, map, take, drop, remove, get_or, Option, Some, None, refl, sym, ap, ◌∙◌, arith}
+use Rattle.std.proofs.lemmas.List.{append_assoc, drop_more, map-append, take_more}
+use Rattle.evl_base.specs.declared.numbers.ThreadId.{ThreadId}
+use Rattle.evl_sync.specs.declared.flag_waiter.FlagWaiter.{FlagWaiter}
+use Rattle.evl_sync.specs.declared.flag_waiter.Served.{Served}
+use Rattle.evl_sync.specs.FlagGroups.{Walk, left_of, pairs, passed, taken, walk_after, walk_of}
+
+pub by_suc : (n : ℕ) → n + 1 ≡ suc n
+by_suc n = omega arith
+
+module _ {A : Type 0} where
+  -- whoever leaves a place leaves those before it there, and those behind it move up
+  take-removed : (n : ℕ) (ws : List A) → take n (remove ws n) ≡ take n ws
+  take-removed zero ws = refl
+  take-removed (suc n) [] = refl
+  take-removed (suc n) (w ∷ ws) = ap (λ xs. w ∷ xs) (take-removed n ws)
+
+  drop-removed : (n : ℕ) (ws : List A) → drop n (remove ws n) ≡ drop (suc n) ws
+  drop-removed zero [] = refl
+  drop-removed zero (w ∷ ws) = refl
+  drop-removed (suc n) [] = refl
+  drop-removed (suc n) (w ∷ ws) = drop-removed n ws
+
+-- what is said so far of a walk from a place on
+abbrev pub walking : List Served → List FlagWaiter → ℕ → ℕ → Walk
+walking served ws place left = walk_after (pairs served) (take place ws) (walk_of (drop place ws) left)
+
+module _ (served : List Served) (ws : List FlagWaiter) (place left : ℕ) (w : FlagWaiter) (is : drop place ws ≡ w ∷ drop (suc place) ws) where
+  abbrev rest : Option ℕ → Walk
+  rest got = walk_of (drop (suc place) ws) (left_of left got)
+
+  here : (got : Option ℕ) → got ≡ taken w.kind left → walking served ws place left ≡ walk_after (pairs served) (take place ws) (passed w got (rest got))
+  here got e = ap (λ xs. walk_after (pairs served) (take place ws) (walk_of xs left)) is ∙ ap (λ o. walk_after (pairs served) (take place ws) (passed w o (rest o))) (sym e)
+
+  pub walk-served : (got : ℕ) (one : Served) (after : List FlagWaiter) → Some got ≡ taken w.kind left → one ≡ record { thread = record { 0 = w.thread }; bits = got } → after ≡ remove ws place
+      → walking (served ++ one ∷ []) after place (bit_xor left got) ≡ walking served ws place left
+  walk-served got one after e o r =
+      (λ i. walk_after (pairs (served ++ o i ∷ [])) (take place (r i)) (walk_of (drop place (r i)) (bit_xor left got)))
+      ∙ (λ i. walk_after (map-append (λ (s : Served). (s.thread.0, s.bits)) served (record { thread = record { 0 = w.thread }; bits = got } ∷ []) i) (take-removed place ws i) (walk_of (drop-removed place ws i) (bit_xor left got)))
+      ∙ (λ i. record { served = append_assoc (pairs served) ((w.thread, got) ∷ []) (rest (Some got)).served i; waiting = take place ws ++ (rest (Some got)).waiting; left = (rest (Some got)).left })
+      ∙ sym (here (Some got) e)
+
+  pub walk-passed : None ≡ taken w.kind left → take (suc place) ws ≡ take place ws ++ w ∷ [] → walking served ws (suc place) left ≡ walking served ws place left
+  walk-passed e t =
+      (λ i. record { served = pairs served ++ (rest None).served; waiting = t i ++ (rest None).waiting; left = (rest None).left })
+      ∙ (λ i. record { served = pairs served ++ (rest None).served; waiting = append_assoc (take place ws) (w ∷ []) (rest None).waiting i; left = (rest None).left })
+      ∙ sym (here None e)

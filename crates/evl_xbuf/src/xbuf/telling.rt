@@ -1,0 +1,149 @@
+//! The calls on a cross-buffer with the services told into a list of the caller's, so that no such list is moved.
+ghost use Rattle.std.specs.Prelude.{◌≡◌, ◌<◌, false, [], None, Some, IfErr, if◌then◌else◌};
+ghost use Rattle.std.specs.Option.{option_map};
+ghost use Rattle.evl_base.specs.Limits.{thread_limit};
+ghost use Rattle.evl_sync.specs.Queues.{stands_in};
+ghost use Rattle.evl_sync.specs.Steps.{stepped};
+ghost use Rattle.evl_xbuf.specs.Xbufs.{begin_read, begin_write, drop_waiter, reading_stage, same_stage, stream, try_read, try_write, writing_stage};
+
+use super::XbufOf;
+use crate::served::Served;
+use evl_base::{Bytes, Refusal, Stage, ThreadId, Way};
+use std::alloc::Allocator;
+
+// The most bytes of one transfer (this profile).
+const MAX_TRANSFER: u16 = 256;
+
+impl<A: Allocator> XbufOf<A> {
+    /// Writes as `try_write` does, and tells whom that served into a list where nobody stands yet. (Xenomai 4: EVL
+    /// cross-buffer; this profile)
+    pub fn try_write_telling(
+        &mut self,
+        stage: Stage,
+        way: Way,
+        bytes: &[u8],
+        told: &mut Served,
+    ) -> Result<(), Refusal>
+        requires nobody { told.old ≡ [] }
+        ensures step { stepped (λ _. told.new) result self.new ≡ try_write stage way bytes.now self.old }
+        ensures refused { IfErr result (λ e. self.new ≡ self.old) }
+    {
+        if !writes(stage, way) {
+            return Err(Refusal::WrongStage);
+        }
+        match way {
+            Way::In => self.inbound.try_write(bytes, told),
+            Way::Out => self.outbound.try_write(bytes, told),
+        }
+    }
+
+    /// Reads as `try_read` does, and tells whom that served into a list where nobody stands yet. (Xenomai 4: EVL
+    /// cross-buffer; this profile)
+    pub fn try_read_telling(
+        &mut self,
+        stage: Stage,
+        way: Way,
+        len: u16,
+        told: &mut Served,
+    ) -> Result<Bytes, Refusal>
+        requires nobody { told.old ≡ [] }
+        ensures step { stepped (λ bytes. (bytes.items, told.new)) result self.new ≡ try_read stage way len self.old }
+        ensures refused { IfErr result (λ e. self.new ≡ self.old) }
+    {
+        if len > MAX_TRANSFER {
+            return Err(Refusal::Range);
+        }
+        if !reads(stage, way) {
+            return Err(Refusal::WrongStage);
+        }
+        match way {
+            Way::In => self.inbound.try_read(len, told),
+            Way::Out => self.outbound.try_read(len, told),
+        }
+    }
+
+    /// Writes or begins to wait as `begin_write` does, says whether it was done at once, and tells whom that served into a
+    /// list where nobody stands yet. (Xenomai 4: EVL cross-buffer; this profile)
+    pub fn begin_write_telling(
+        &mut self,
+        thread: ThreadId,
+        stage: Stage,
+        way: Way,
+        bytes: &[u8],
+        told: &mut Served,
+    ) -> Result<bool, Refusal>
+        requires nobody { told.old ≡ [] }
+        requires away { stands_in (λ w. w.thread) thread.0 (stream self.old way).writers ≡ false }
+        requires few { thread.0 < thread_limit }
+        ensures step { stepped (λ done. if done then Some told.new else None) result self.new ≡ begin_write thread.0 stage way bytes.now self.old }
+        ensures refused { IfErr result (λ e. self.new ≡ self.old) }
+    {
+        if !writes(stage, way) {
+            return Err(Refusal::WrongStage);
+        }
+        match way {
+            Way::In => self.inbound.begin_write(thread, bytes, told),
+            Way::Out => self.outbound.begin_write(thread, bytes, told),
+        }
+    }
+
+    /// Reads or begins to wait as `begin_read` does, with what was read at once, and tells whom that served into a list
+    /// where nobody stands yet. (Xenomai 4: EVL cross-buffer; this profile)
+    pub fn begin_read_telling(
+        &mut self,
+        thread: ThreadId,
+        stage: Stage,
+        way: Way,
+        len: u16,
+        told: &mut Served,
+    ) -> Result<Option<Bytes>, Refusal>
+        requires nobody { told.old ≡ [] }
+        requires away { stands_in (λ r. r.thread) thread.0 (stream self.old way).readers ≡ false }
+        requires few { thread.0 < thread_limit }
+        ensures step { stepped (λ got. option_map (λ bytes. (bytes.items, told.new)) got) result self.new ≡ begin_read thread.0 stage way len self.old }
+        ensures refused { IfErr result (λ e. self.new ≡ self.old) }
+    {
+        if len > MAX_TRANSFER {
+            return Err(Refusal::Range);
+        }
+        if !reads(stage, way) {
+            return Err(Refusal::WrongStage);
+        }
+        match way {
+            Way::In => Ok(self.inbound.begin_read(thread, len, told)),
+            Way::Out => Ok(self.outbound.begin_read(thread, len, told)),
+        }
+    }
+
+    /// Lets a thread wait this way no more as `drop_waiter` does, and tells whom that served into a list where nobody
+    /// stands yet. (this profile)
+    pub fn drop_waiter_telling(&mut self, thread: ThreadId, way: Way, told: &mut Served)
+        requires nobody { told.old ≡ [] }
+        ensures step { (told.new, self.new) ≡ drop_waiter thread.0 way self.old }
+    {
+        match way {
+            Way::In => self.inbound.drop_waiter(thread, told),
+            Way::Out => self.outbound.drop_waiter(thread, told),
+        }
+    }
+}
+
+// Whether this stage writes this way.
+fn writes(stage: Stage, way: Way) -> bool
+    ensures writes { result ≡ same_stage (writing_stage way) stage }
+{
+    match way {
+        Way::In => stage == Stage::Inband,
+        Way::Out => stage == Stage::Oob,
+    }
+}
+
+// Whether this stage reads this way.
+fn reads(stage: Stage, way: Way) -> bool
+    ensures reads { result ≡ same_stage (reading_stage way) stage }
+{
+    match way {
+        Way::In => stage == Stage::Oob,
+        Way::Out => stage == Stage::Inband,
+    }
+}
