@@ -48,3 +48,4 @@ pub mod MutexUnlocks
 pub mod WaitingLaws
 pub mod StaxWaitLaws
 pub mod MutexWaitLaws
+pub mod InWords

@@ -17,6 +17,7 @@ pub mod AtSeats
 pub mod MutexPlaces
 pub mod MutexTokens
 pub mod Noted
+pub mod InWord
 pub mod StaxSeats
 pub mod MutexSeats
 pub mod Unfinished

@@ -1,6 +1,6 @@
 //! The machine of stored callbacks. These types have no `Model`, since they name the callbacks' type; each keeps, as a
 //! fact, that the callbacks answer what is told of them.
-ghost use Rattle.std.specs.Prelude.{◌≡◌, ◌≢◌, ◌⊎◌, ◌↔◌, false, length, map, All, IfOk, IfErr, MatchResult};
+ghost use Rattle.std.specs.Prelude.{◌≡◌, ◌≢◌, ◌⊎◌, ◌↔◌, ⊤, false, is_some, length, map, nat_lt, All, IfOk, IfErr, MatchOption, MatchResult};
 ghost use Rattle.evl_kernel.specs.Callbacks.{AnswersAsTold};
 ghost use Rattle.evl_kernel.specs.KernelViews.{IsOpened};
 ghost use Rattle.evl_kernel.specs.Openings.{can_open};
@@ -9,11 +9,14 @@ ghost use Rattle.evl_machine.specs.Homes.{AreHomes};
 ghost use Rattle.evl_machine.specs.Events.{FailsToTake, Gives, Takes};
 ghost use Rattle.evl_machine.specs.Calls.{CalledHeld, HoldsAtItsStage, TookKernel};
 ghost use Rattle.evl_machine.specs.Closings.{Closes, KeepsOpen};
+ghost use Rattle.evl_machine.specs.InWord.{Agrees};
+ghost use Rattle.evl_machine.specs.Known.{mutex_count};
 
 use crate::caller::CallerOf;
 use crate::held::HeldOf;
+use crate::in_word::InWord;
 use crate::machine::MachineOf;
-use evl_base::{Board, Call, Refusal, Reply};
+use evl_base::{Board, Call, MutexId, Refusal, Reply};
 use evl_kernel::Kernel;
 use evl_pipeline::Callback;
 use std::alloc::Global;
@@ -125,6 +128,16 @@ impl<'a> Held<'a> {
         ensures { result.now ≡ self.now.of.kernel }
     {
         self.of.kernel()
+    }
+
+    /// What stands in a mutex's word, by one load; none where there is no such mutex. It is what the kernel records: whom it
+    /// has as the owner stands there, and where somebody waits, so does the mark (this profile).
+    pub fn in_word(&mut self, mutex: MutexId) -> Option<InWord>
+        ensures same { self.new.of ≡ self.old.of }
+        ensures there { is_some result ≡ nat_lt mutex.0 (mutex_count self.old.of.caller.machine.first) }
+        ensures agrees { MatchOption result ⊤ (Agrees self.old.of.kernel.history.state mutex.0) }
+    {
+        self.of.in_word(mutex)
     }
 
     /// Puts the kernel back. The caller has then seen its history (this profile).

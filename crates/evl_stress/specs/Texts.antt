@@ -7,7 +7,7 @@ use Rattle.evl_scenario.specs.Writings.{has_keys, scenario_text, script_of_histo
 use Rattle.evl_scenario.specs.declared.writing.Unwritten.TheVariants as unwritten
 use Rattle.evl_shell.specs.Runs.{trace_of}
 use Rattle.evl_stress.specs.declared.texts.Failure.{Failure}
-use Rattle.evl_stress.specs.declared.texts.Failure.TheVariants.{Refused, Unwritten}
+use Rattle.evl_stress.specs.declared.texts.Failure.TheVariants.{Refused, Unwritten, Differs}
 use Rattle.evl_stress.specs.declared.texts.Texts.{Texts}
 
 -- the scenario, played over this bank, writes just the trace
@@ -22,3 +22,4 @@ IsUntold h (Unwritten unwritten.Limit) = 1000000 < length h.entries
 IsUntold h (Unwritten unwritten.TooLong) = 1048576 < length (scenario_text (script_of_history (without_staxes h.board) 1000000 h.entries))
 IsUntold h (Unwritten unwritten.Memory) = Unit {0}
 IsUntold h (Refused refusal) = refusal ≡ NoMemory
+IsUntold h (Differs takes) = ⊥

@@ -2,10 +2,12 @@
 ghost use Rattle.std.specs.Prelude.{◌≡◌};
 ghost use Rattle.evl_kernel.specs.Callbacks.{AnswersAsTold};
 
+use crate::boards::MUTEXES;
 use crate::choices::any_call;
 use crate::tools::Tools;
-use evl_base::{Call, Refusal, Reply};
-use evl_machine::{CallerOf, HeldOf, MachineOf};
+use crate::watch::Watch;
+use evl_base::{Call, MutexId, Refusal, Reply, ThreadId};
+use evl_machine::{CallerOf, HeldOf, InWord, MachineOf};
 use evl_pipeline::Handler;
 use std::alloc::Allocator;
 use std::sync::Wait;
@@ -75,11 +77,46 @@ fn applies<C: Handler, A: Allocator>(
     held.give()
 }
 
-/// Takes the core for two calls, where nobody has it.
+// Whether a mutex's word says whom the kernel records as the owner, and that somebody waits where somebody does.
+fn says(word: Option<InWord>, owner: Option<ThreadId>, waiters: usize) -> bool {
+    match word {
+        Some(word) => {
+            (owner.is_none() || word.owner == owner) && (waiters == 0 || word.is_claimed)
+        }
+        None => false,
+    }
+}
+
+// Whether the words of all mutexes say what the kernel records.
+fn agrees<C: Handler, A: Allocator>(held: &mut HeldOf<'_, C, A>) -> bool
+    ensures { held.new ≡ held.old }
+{
+    for number in 0..MUTEXES {
+        let mutex = MutexId(number);
+        let word = held.in_word(mutex);
+        let kernel = held.kernel();
+        if !says(word, kernel.owner(mutex), kernel.waiters(mutex)) {
+            return false;
+        }
+    }
+    true
+}
+
+// Counts a take at which they don't.
+fn compares<C: Handler, A: Allocator>(held: &mut HeldOf<'_, C, A>, watch: &Watch)
+    ensures { held.new ≡ held.old }
+{
+    if !agrees(held) {
+        watch.count_differing();
+    }
+}
+
+/// Takes the core for two calls, where nobody has it, and compares the mutexes' words with what the kernel records.
 pub fn holds<C: Handler, A: Allocator>(
     machine: &MachineOf<C, A>,
     caller: CallerOf<C, A>,
     tools: &mut Tools,
+    watch: &Watch,
 ) -> CallerOf<C, A>
     requires machine { caller.machine ≡ machine.now }
     requires answering { AnswersAsTold C.declared C.plan machine.now.first.callbacks }
@@ -88,7 +125,10 @@ pub fn holds<C: Handler, A: Allocator>(
     let first = any_call(&mut tools.dice, tools.alloc, tools.date);
     let second = any_call(&mut tools.dice, tools.alloc, tools.date);
     match machine.take(caller) {
-        Ok(held) => applies(held, first, second),
+        Ok(mut held) => {
+            compares(&mut held, watch);
+            applies(held, first, second)
+        }
         Err(caller) => caller,
     }
 }

@@ -171,7 +171,7 @@ fn chooses<C: Handler, A: Allocator, R: Wait>(
 {
     for _ in 0..choices {
         if tools.dice.one_in(12) {
-            caller = holds(machine, caller, tools);
+            caller = holds(machine, caller, tools, watch);
         } else {
             acts(rt, machine, &mut caller, tools, watch);
         }

@@ -55,6 +55,9 @@ fn excuse(rt: &HostRuntime, failure: Failure) -> io::Result<ExitCode> {
     match failure {
         Failure::Refused(refusal) => eprintln!(rt; "no run: {refusal}")?,
         Failure::Unwritten(why) => eprintln!(rt; "no scenario: {why:?}")?,
+        Failure::Differs(takes) => {
+            eprintln!(rt; "at {takes} takes a mutex's word didn't say what is recorded")?
+        }
     }
     Ok(ExitCode::FAILURE)
 }

@@ -104,6 +104,7 @@ fn all_call<C: Handler + Send, R: Threads + Wait + Sync>(
     alloc: Global,
     order: Order,
     machine: &MachineOf<C, Global>,
+    watch: &Watch,
     callers: Vec<CallerOf<C, Global>>,
 ) -> Result<Vec<CallerOf<C, Global>>, AllocError>
     requires machine { All (λ c. c.machine ≡ machine.now) callers.items }
@@ -112,9 +113,8 @@ fn all_call<C: Handler + Send, R: Threads + Wait + Sync>(
     ensures machine { IfOk result (λ back. All (λ c. c.machine ≡ machine.now) back.items) }
     ensures all { IfOk result (λ back. length back.items ≡ length callers.items) }
 {
-    let watch = Watch::new(u32::from(order.threads));
     let hands = hands_of(alloc, order, machine, callers)?;
-    let hands = all_work(rt, machine, &watch, hands)?;
+    let hands = all_work(rt, machine, watch, hands)?;
     callers_of(alloc, machine, hands)
 }
 
@@ -136,7 +136,8 @@ fn texts_after(
     }
 }
 
-/// All callers of a machine do what their host threads are for, and the machine is closed.
+/// All callers of a machine do what their host threads are for, and the machine is closed. `Differs` where a mutex's word
+/// didn't say what is recorded.
 fn played<R: Threads + Wait + Sync>(
     rt: &R,
     alloc: Global,
@@ -151,9 +152,13 @@ fn played<R: Threads + Wait + Sync>(
     requires shared { IsSync R.row }
     ensures { IfOk result (λ texts. IsPlayedSo machine.of.first.history.bank texts) }
 {
-    match all_call(rt, alloc, order, &machine.of, callers) {
-        Ok(back) => texts_after(alloc, threads, machine, back),
-        Err(_) => Err(Failure::Refused(Refusal::NoMemory)),
+    let watch = Watch::new(u32::from(order.threads));
+    let Ok(back) = all_call(rt, alloc, order, &machine.of, &watch, callers) else {
+        return Err(Failure::Refused(Refusal::NoMemory));
+    };
+    match watch.differing() {
+        0 => texts_after(alloc, threads, machine, back),
+        takes => Err(Failure::Differs(takes)),
     }
 }
 
@@ -198,8 +203,8 @@ impl BankUser for Runner {
 
 /// The texts of a run over the program's callbacks: the scenario, played over them, writes just the trace.
 ///
-/// `Refused` where the machine wasn't made or closed, or memory was refused; `Unwritten` where the scenario would be too
-/// long (this profile).
+/// `Refused` where the machine wasn't made or closed, or memory was refused; `Differs` where a mutex's word didn't say what
+/// is recorded; `Unwritten` where the scenario would be too long (this profile).
 pub fn run_hosts<R: Threads + Wait + Sync>(
     rt: &R,
     alloc: Global,

@@ -28,6 +28,8 @@ pub enum Failure {
     Refused(Refusal),
     /// The scenario wasn't written: it would be longer than a scenario may be, or there was no memory.
     Unwritten(Unwritten),
+    /// At so many takes of the kernel what it records of a mutex didn't stand in the mutex's word.
+    Differs(u32),
 }
 
 /// The texts of a kernel's history, whose board is the shared one. `Unwritten` where it has more than a million entries or

@@ -5,13 +5,14 @@ use std::sync::atomic::{AtomicU32, Ordering};
 use std::thread;
 
 /// What the host threads tell each other beside the machine: how many wait, how many are done, and how often those who wait
-/// were helped.
+/// were helped; and at how many takes of the kernel a mutex's word didn't say what is recorded.
 #[derive(Drop)]
 pub struct Watch {
     threads: u32,
     waiting: AtomicU32,
     done: AtomicU32,
     helps: AtomicU32,
+    differing: AtomicU32,
 }
 
 impl Watch {
@@ -22,6 +23,7 @@ impl Watch {
             waiting: AtomicU32::new(0),
             done: AtomicU32::new(0),
             helps: AtomicU32::new(0),
+            differing: AtomicU32::new(0),
         }
     }
 
@@ -60,6 +62,16 @@ impl Watch {
     /// They were helped once more.
     pub fn helped(&self) {
         self.helps.fetch_add(1, Ordering::SeqCst);
+    }
+
+    /// Counts a take at which a mutex's word didn't say what is recorded.
+    pub fn count_differing(&self) {
+        self.differing.fetch_add(1, Ordering::SeqCst);
+    }
+
+    /// How many such takes there were.
+    pub fn differing(&self) -> u32 {
+        self.differing.load(Ordering::SeqCst)
     }
 
     /// Waits until help came after so many.

@@ -1,5 +1,6 @@
 //! What the words of the program ask for.
 use crate::runs::Order;
+use evl_base::MAX_THREADS;
 
 /// A run, and whether its texts are told.
 #[derive(Clone, Copy)]
@@ -8,8 +9,8 @@ pub struct Asked {
     pub tells: bool,
 }
 
-/// `SEED THREADS CHOICES`, and `tell` behind them where the texts are to be told: 1 to 255 threads. Nothing where the words
-/// are others.
+/// `SEED THREADS CHOICES`, and `tell` behind them where the texts are to be told: 1 to 255 threads, since a board
+/// has one more. Nothing where the words are others.
 pub fn read_words(words: &[String]) -> Option<Asked> {
     let [seed, threads, choices, rest @ ..] = words else {
         return None;
@@ -19,7 +20,7 @@ pub fn read_words(words: &[String]) -> Option<Asked> {
         threads: threads.parse::<u16>().ok()?,
         choices: choices.parse::<u32>().ok()?,
     };
-    if order.threads < 1 || 255 < order.threads {
+    if order.threads < 1 || usize::from(order.threads) >= MAX_THREADS {
         return None;
     }
     match rest {

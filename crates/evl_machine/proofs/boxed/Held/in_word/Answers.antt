@@ -1,0 +1,7 @@
+use Rattle.std.proofs.Common.{ap}
+use Rattle.evl_machine.specs.Handles.{HeldState}
+use Rattle.evl_machine.proofs.Knowing.{answers_there}
+use Rattle.evl_machine.proofs.boxed.Held.in_word.Goals as goal
+
+pub invariant_of-self : goal.invariant_of-self
+invariant_of-self g c = record { answering = answers_there (λ x. x.kinds.0) (λ x. x.plan.value) c.args.self.now.of.caller.machine c.in_word.new.self.caller.machine (ap (λ (s : HeldState _). s.caller.machine) c.in_word.ensures.same) c.args.self.now.answering }

@@ -1,0 +1,24 @@
+use Rattle.std.proofs.Common.{sym, ap, ◌∙◌, subst}
+use Rattle.std.specs.Prelude.{⊤, MatchOption}
+use Rattle.evl_kernel.specs.KernelViews.{KernelView}
+use Rattle.evl_machine.specs.Actors.{SeatedActor, acting}
+use Rattle.evl_machine.specs.Callers.{HasInHand}
+use Rattle.evl_machine.specs.Handles.{HeldState, MachineState, account_of, caller_of}
+use Rattle.evl_machine.specs.InWord.{Agrees}
+use Rattle.evl_machine.specs.Known.{seen}
+use Rattle.evl_machine.proofs.InWords.{agreed_if}
+use Rattle.evl_machine.proofs.held.HeldOf.in_word.Goals as goal
+
+pub look-requires : goal.look-requires
+look-requires g c = record { machine = (sym (ap (λ (m : MachineState _). m.id) c.self.invariant.0), sym (ap (λ (m : MachineState _). m.first) c.self.invariant.0)) }
+
+pub invariant_of-self : goal.invariant_of-self
+invariant_of-self g c = subst (λ (a : SeatedActor _). HasInHand c.self.inside.machine.now a c.self.inside.kernel) (sym c.look.ensures.same) c.self.invariant
+
+pub returns-clause-same : goal.returns-clause-same
+returns-clause-same g c = ap (λ (a : SeatedActor _). record { caller = caller_of c.self.inside.machine.now (account_of (seen a.me)) a.staxes (acting a).mutexes; kernel = c.self.inside.kernel }) c.look.ensures.same ∙ c.self.view_is
+
+pub returns-clause-agrees : goal.returns-clause-agrees
+returns-clause-agrees g c =
+    subst (λ (k : KernelView _). MatchOption c.look.result ⊤ (Agrees k.history.state c.args.mutex.0)) (ap (λ (h : HeldState _). h.kernel) c.self.view_is)
+    (agreed_if c.self.inside.machine.now c.self.inside.actor c.self.inside.kernel c.self.invariant c.args.mutex.0 c.look.result c.look.ensures.stood)

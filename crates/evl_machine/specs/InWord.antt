@@ -1,0 +1,40 @@
+-- What stands in a mutex's word, and what a look at it tells the caller that has the kernel.
+use Rattle.std.specs.Prelude.{◌≡◌, ℕ, ◌-◌, ◌==◌, true, false, Option, Some, None, if◌then◌else◌}
+use Rattle.std.specs.Option.{option_map}
+use Rattle.atomic_table.specs.Table.{Step}
+use Rattle.evl_base.specs.declared.numbers.ThreadId.{ThreadId}
+use Rattle.evl_mutex.specs.Queues.{is_nobody}
+use Rattle.evl_mutex.specs.Mutexes.{Mutex}
+use Rattle.evl_words.specs.declared.mutex.Claim.{Claim}
+use Rattle.evl_words.specs.declared.mutex.Claim.TheVariants.{Won, Queued, Seizing}
+use Rattle.evl_words.specs.MutexBits.{number_in}
+use Rattle.evl_kernel.specs.States.{State}
+use Rattle.evl_kernel.specs.KernelViews.{KernelView}
+use Rattle.evl_kernel.specs.MutexEffects.{record_at}
+use Rattle.evl_machine.specs.declared.in_word.InWord.{InWord}
+use Rattle.evl_machine.specs.Ties.{is_claimed}
+use Rattle.evl_machine.specs.Known.{CoreHand, KernelMe}
+use Rattle.evl_machine.specs.Noted.{Stood}
+
+-- who owns a mutex, by what a claim is answered
+abbrev pub owner_of : Claim → Option ThreadId
+owner_of Won = None
+owner_of (Queued owner) = Some owner
+owner_of Seizing = None
+
+-- what a word says
+abbrev pub in_word : ℕ → InWord
+in_word word = record { owner = if number_in word == 0 then None else Some (record { 0 = number_in word - 1 }); is_claimed = is_claimed word }
+
+-- whom a state has recorded as the owner of the mutex i stands in its word, and where somebody waits for the mutex, so does the mark
+abbrev pub Agrees : State → ℕ → InWord → Type 0
+Agrees s i w = (m : Mutex) → record_at s i ≡ Some m → ((o : ℕ) → m.owner ≡ Some o → option_map (λ (t : ThreadId). t.0) w.owner ≡ Some o) × (is_nobody m.waiters ≡ false → w.is_claimed ≡ true)
+
+module _ {C : Type 0} where
+  -- it is what the word of the mutex i said when this stood of it
+  abbrev pub IsRead : CoreHand C → ℕ → InWord → Type 0
+  IsRead hand i w = (word : ℕ) × (w ≡ in_word word) × Stood hand i word
+
+  -- a look leaves what the thread knows, and tells what stood of the mutex
+  abbrev pub looked_known : Step (Option (KernelView C)) → KernelMe C → ℕ → KernelMe C → Type 0
+  looked_known st m found n = (n ≡ m) × Stood m.0 (st.word - 1) found
