@@ -2,28 +2,12 @@
 use Rattle.std.specs.Prelude.{◌≡◌, ℕ, List, length, Option, Some, None, if◌then◌else◌, nat_eq, Result, Ok, Err}
 use Rattle.evl_scenario.specs.declared.faults.Fault.{Fault}
 use Rattle.evl_scenario.specs.declared.faults.Fault.TheVariants.{Text, Board, Step, Memory, Write}
+use Rattle.evl_plans.specs.Traces.{Refuses}
 use Rattle.evl_c.specs.Windows.{window}
 
 -- the limit that a number hands in: at 0 the text's own stays
 abbrev pub limit_given : ℕ → Option ℕ
 limit_given limit = if nat_eq limit 0 then None else Some limit
-
--- what a run into an empty list left there, by its end
-abbrev pub Runs : Result (List ℕ) Fault → List ℕ → Result (Unit {0}) Fault → Type 0
-Runs trace told (Ok done) = trace ≡ Ok told
-Runs trace told (Err Text) = trace ≡ Err Text
-Runs trace told (Err Board) = trace ≡ Err Board
-Runs trace told (Err (Step n)) = trace ≡ Err (Step n)
-Runs trace told (Err Memory) = Unit {0}
-Runs trace told (Err Write) = Unit {0}
-
--- a fault for which a text is refused; for want of memory any text may be, and no sink is there that fails
-abbrev pub Refuses : Result (List ℕ) Fault → Fault → Type 0
-Refuses trace Text = trace ≡ Err Text
-Refuses trace Board = trace ≡ Err Board
-Refuses trace (Step n) = trace ≡ Err (Step n)
-Refuses trace Memory = Unit {0}
-Refuses trace Write = ⊥
 
 -- the end of a play, whose `Ok` is the trace's length, and what stands in the buffer then
 abbrev pub Ends : Result (List ℕ) Fault → ℕ → List ℕ → List ℕ → Result ℕ Fault → Type 0

@@ -1,14 +1,15 @@
 //! Plans as C gives them.
-ghost use Rattle.std.specs.Prelude.{◌≡◌, ◌≤◌, length, map, true};
+ghost use Rattle.std.specs.Prelude.{◌≡◌, ◌≤◌, length, map, true, IfOk};
 ghost use Rattle.std.specs.List.{list_all};
-ghost use Rattle.evl_pipeline.specs.Plans.{kind_of};
+ghost use Rattle.evl_plans.specs.Told.{told};
 ghost use Rattle.evl_c.specs.Forms.{action_of, are_plans, handler_of, has_action, has_rows, is_plan, is_sound_row, period_of, used_rows};
 
-use crate::answers::Planned;
 use arrayvec::ArrayVec;
 use bitflags::Flags;
 use evl_base::{ActionKinds, FlagId, LineNo, SemId, TimerId};
 use evl_pipeline::{Action, Plan};
+use evl_plans::{Planned, kind_of};
+use std::alloc::{AllocError, Global};
 
 /// A row of a plan (include/evl.h: `evl_row`).
 #[repr(C)]
@@ -48,19 +49,6 @@ fn action_of(row: &RowForm) -> Action
         2 => Action::Propagate,
         3 => Action::PostOob(LineNo(row.element)),
         _ => Action::StopTimer(TimerId(row.element)),
-    }
-}
-
-// The kind of an action, as a bit.
-fn kind_of(action: Action) -> u8
-    ensures { result ≡ kind_of action }
-{
-    match action {
-        Action::PostSem(_) => 1,
-        Action::PostFlags(_, _) => 2,
-        Action::Propagate => 4,
-        Action::PostOob(_) => 8,
-        Action::StopTimer(_) => 16,
     }
 }
 
@@ -146,11 +134,10 @@ pub fn are_plans(forms: &[PlanForm]) -> bool
     forms.len() <= 64 && is_each_plan(forms)
 }
 
-/// The callback that a form stands for.
-pub fn read_plan(form: &PlanForm) -> Planned
+// The callback that a form stands for.
+fn read_plan(form: &PlanForm) -> Planned
     requires { is_plan form.now ≡ true }
-    ensures kinds { result.kinds.0 ≡ (handler_of form.now).kinds }
-    ensures plan { result.plan ≡ (handler_of form.now).plan }
+    ensures { told result ≡ handler_of form.now }
 {
     Planned::new(
         ActionKinds::from_bits_retain(form.kinds),
@@ -159,4 +146,17 @@ pub fn read_plan(form: &PlanForm) -> Planned
             rows: read_rows(used_rows(form)),
         },
     )
+}
+
+/// The callbacks that forms stand for, at most 64. `AllocError` where the list couldn't grow.
+pub fn read_plans(alloc: Global, forms: &[PlanForm]) -> Result<Vec<Planned>, AllocError>
+    requires { are_plans forms.now ≡ true }
+    ensures plans { IfOk result (λ plans. map told plans.items ≡ map handler_of forms.now) }
+    ensures few { IfOk result (λ plans. length plans.items ≤ 64) }
+{
+    let mut plans = Vec::new(alloc);
+    for form in forms {
+        plans.push(read_plan(form))?;
+    }
+    Ok(plans)
 }

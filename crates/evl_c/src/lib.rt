@@ -1,7 +1,6 @@
 //! The simulator as a library for C. What each export takes, answers and refuses stands in include/evl.h too.
 #![tactic(auto)]
 
-mod answers;
 mod forms;
 mod plans;
 mod plays;

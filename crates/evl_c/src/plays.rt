@@ -1,17 +1,18 @@
 //! Plays a scenario's text for C.
-ghost use Rattle.std.specs.Prelude.{◌≡◌, ◌↔◌, [], false, true, map, Ok, Err, IfOk, IfErr};
+ghost use Rattle.std.specs.Prelude.{◌≡◌, ◌↔◌, false, true, map, Ok, Err, IfOk, IfErr};
 ghost use Rattle.evl_bank.specs.Bank.{program_bank};
 ghost use Rattle.evl_shell.specs.Runs.{trace_of};
 ghost use Rattle.evl_c.specs.Forms.{are_plans, handler_of};
+ghost use Rattle.evl_plans.specs.Traces.{Refuses};
 ghost use Rattle.evl_c.specs.Plays as plays;
-ghost use Rattle.evl_c.specs.Plays.{Plays, Refuses, Runs, limit_given};
+ghost use Rattle.evl_c.specs.Plays.{Plays, limit_given};
 
-use crate::forms::{PlanForm, are_plans, read_plan};
+use crate::forms::{PlanForm, are_plans, read_plans};
 use crate::plans::program_plans;
 use crate::windows::put_window;
-use evl_pipeline::{Callback, Fire};
-use evl_shell::{Fault, Over, run};
-use std::alloc::{AllocError, Global};
+use evl_plans::trace_plans;
+use evl_shell::Fault;
+use std::alloc::Global;
 
 /// What a play told (include/evl.h: `evl_played`).
 #[repr(C)]
@@ -21,29 +22,6 @@ pub struct Played {
     pub length: usize,
     /// The step at fault, from 1; 0 where no step is.
     pub step: u32,
-}
-
-// Runs a text over callbacks with these plans, where there is memory for the bank.
-fn run_text(
-    alloc: Global,
-    plans: &[PlanForm],
-    text: &[u8],
-    limit: Option<u32>,
-    out: &mut Over<Vec<u8>>,
-) -> Result<Result<(), Fault>, AllocError>
-    requires plans { are_plans plans.now ≡ true }
-    requires working { out.old.failed ≡ false }
-    requires empty { out.old.writer.items ≡ [] }
-    ensures { IfOk result (λ end. Runs (trace_of (map handler_of plans.now) limit text.now) out.new.writer.items end) }
-{
-    let mut bank = Vec::new(alloc);
-    for form in plans {
-        let told = read_plan(form);
-        let planned = read_plan(form);
-        let answers = Box::new(alloc, move |fire: Fire| planned.answer(fire.count))?;
-        bank.push(Callback::new(told.kinds, &told.plan, answers))?;
-    }
-    Ok(run(alloc, text, limit, bank, out))
 }
 
 // The trace of a text over callbacks with these plans.
@@ -57,11 +35,9 @@ fn trace_text(
     ensures traced { IfOk result (λ trace. trace_of (map handler_of plans.now) limit text.now ≡ Ok trace.items) }
     ensures refused { IfErr result (λ e. Refuses (trace_of (map handler_of plans.now) limit text.now) e) }
 {
-    let mut out = Over::new(Vec::new(alloc));
-    match run_text(alloc, plans, text, limit, &mut out) {
-        Ok(Ok(())) => Ok(out.into_inner()),
-        Ok(Err(Fault::Write)) | Err(_) => Err(Fault::Memory),
-        Ok(Err(fault)) => Err(fault),
+    match read_plans(alloc, plans) {
+        Ok(read) => trace_plans(alloc, read.as_slice(), text, limit),
+        Err(_) => Err(Fault::Memory),
     }
 }
 

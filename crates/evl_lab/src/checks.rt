@@ -1,30 +1,88 @@
-//! `lab check`: the faults of scenarios.
+//! `lab check`: the faults of scenarios, and the warnings of a dry run.
+use crate::banks::read_plans;
 use evl_faults::report;
+use evl_plans::Planned;
+use evl_warnings::warnings;
+use std::alloc::{AllocError, Global};
+use std::fs;
+use std::io::{self, Write};
 use std::rt::Files;
-use std::{fs, io};
 
-/// The status of a file that is at fault.
+/// The status of a file or a bank that is at fault.
 const AT_FAULT: u8 = 2;
 
-// Tells the faults of a file, and whether it has any.
-fn check_file<R: Files + AllocGlobal + Print>(rt: &R, name: &str) -> io::Result<bool> {
-    let Ok(text) = fs::read(rt, name) else {
-        rt.println(format_args!("{name}: can't be read"))?;
+// Tells the faults of a text, or its warnings where it has none, and whether it has a fault.
+fn tell_faults(
+    alloc: Global,
+    plans: &[Planned],
+    name: &str,
+    text: &[u8],
+    told: &mut String,
+) -> Result<bool, AllocError> {
+    if report(alloc, name, text, told)? {
         return Ok(true);
-    };
+    }
+    warnings(alloc, name, text, plans, told)?;
+    Ok(false)
+}
+
+// Prints the faults or warnings of a text, and tells whether it has a fault.
+fn check_text<R: AllocGlobal + Print>(
+    rt: &R,
+    plans: &[Planned],
+    name: &str,
+    text: &[u8],
+) -> io::Result<bool> {
     let mut told = String::new(rt.alloc());
-    let is_at_fault = report(rt.alloc(), name, text.as_slice(), &mut told)?;
+    let is_at_fault = tell_faults(rt.alloc(), plans, name, text, &mut told)?;
     rt.print(told.as_str())?;
     Ok(is_at_fault)
 }
 
-/// Tells the faults of files, a line each, and answers the status: 2 where a file is at fault or can't be read.
-pub fn check_files<R: Files + AllocGlobal + Print>(rt: &R, names: &[&str]) -> io::Result<u8> {
+// Tells that a file can't be read.
+fn tell_unread<R: Print>(rt: &R, name: &str) -> io::Result<bool> {
+    rt.println(format_args!("{name}: can't be read"))?;
+    Ok(true)
+}
+
+// Prints the faults or warnings of a file, and tells whether it has a fault.
+fn check_file<R: Files + AllocGlobal + Print>(
+    rt: &R,
+    plans: &[Planned],
+    name: &str,
+) -> io::Result<bool> {
+    match fs::read(rt, name) {
+        Ok(text) => check_text(rt, plans, name, text.as_slice()),
+        Err(_) => tell_unread(rt, name),
+    }
+}
+
+// Prints the faults or warnings of files, and answers the status.
+fn check_each<R: Files + AllocGlobal + Print>(
+    rt: &R,
+    plans: &[Planned],
+    names: &[&str],
+) -> io::Result<u8> {
     let mut status = 0;
     for name in names {
-        if check_file(rt, name)? {
+        if check_file(rt, plans, name)? {
             status = AT_FAULT;
         }
     }
     Ok(status)
+}
+
+/// Prints the faults of files, a line each, or where a file has none the warnings of a dry run over a bank, and answers the
+/// status: 2 where a file is at fault or can't be read, or the bank is.
+pub fn check_files<R: Files + AllocGlobal + Print, E: Write>(
+    rt: &R,
+    bank: Option<&str>,
+    names: &[&str],
+    err: &mut E,
+) -> io::Result<u8> {
+    match read_plans(rt, bank, err) {
+        Ok(Some(plans)) => check_each(rt, plans.as_slice(), names),
+        Ok(None) => Ok(AT_FAULT),
+        Err(error) => Err(error),
+    }
 }

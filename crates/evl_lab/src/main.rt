@@ -1,18 +1,25 @@
-//! Checks and draws scenarios of calls on an out-of-band core.
+//! Checks, plays, drives and draws scenarios of calls on an out-of-band core.
 #![tactic(auto)]
 
+mod banks;
 mod checks;
+mod commands;
+mod compares;
 mod draws;
+mod helps;
+mod lives;
+mod parts;
+mod plays;
+mod texts;
 mod words;
 
-use checks::check_files;
 use clap::Error;
 use clap::error::ErrorKind;
-use draws::draw;
+use commands::read_words;
+use parts::do_part;
 use std::env;
 use std::io::{self, Write};
 use std::process::ExitCode;
-use words::{Asked, read_words};
 
 /// The status of an output that failed.
 const FAILED: u8 = 1;
@@ -35,30 +42,35 @@ fn turn_away(rt: &HostRuntime, error: &Error) -> io::Result<u8> {
 }
 
 // Does what the words ask for, and answers the status.
-fn do_words(rt: &HostRuntime) -> io::Result<u8> {
-    let words: Vec<String> = env::args(rt)?.collect(rt.alloc())?;
-    let texts: Vec<&str> = words.iter().map(|word| word.as_str()).collect(rt.alloc())?;
-    match read_words(rt.alloc(), texts.as_slice()) {
-        Ok(Asked::Check(files)) => check_files(rt, files.as_slice()),
-        Ok(Asked::Draw { form, file }) => {
-            draw(rt, form, file, &mut rt.stdin(), &mut rt.stderr())
-        }
+fn do_words(rt: &HostRuntime, words: &[&str]) -> io::Result<u8> {
+    match read_words(rt.alloc(), words) {
+        Ok(matches) => do_part(rt, &matches, &mut rt.stdin(), &mut rt.stderr()),
         Err(error) => turn_away(rt, &error),
     }
 }
 
+// Does what the program's own words ask for, and answers the status.
+fn do_own_words(rt: &HostRuntime) -> io::Result<u8> {
+    let words: Vec<String> = env::args(rt)?.collect(rt.alloc())?;
+    let texts: Vec<&str> = words.iter().map(|word| word.as_str()).collect(rt.alloc())?;
+    do_words(rt, texts.as_slice())
+}
+
+// Tells why the program ends early, and answers the status.
+fn tell_failure<E: Write>(err: &mut E, error: &io::Error) -> u8 {
+    if error.kind() == io::ErrorKind::OutOfMemory {
+        let _ = writeln!(err, "lab: no memory");
+        NO_MEMORY
+    } else {
+        let _ = writeln!(err, "lab: {error}");
+        FAILED
+    }
+}
+
 fn main(rt: HostRuntime) -> ExitCode {
-    let status = match do_words(&rt) {
+    let status = match do_own_words(&rt) {
         Ok(status) => status,
-        Err(error) => {
-            if error.kind() == io::ErrorKind::OutOfMemory {
-                let _ = writeln!(rt.stderr(), "lab: no memory");
-                NO_MEMORY
-            } else {
-                let _ = writeln!(rt.stderr(), "lab: {error}");
-                FAILED
-            }
-        }
+        Err(error) => tell_failure(&mut rt.stderr(), &error),
     };
     ExitCode::from(status)
 }

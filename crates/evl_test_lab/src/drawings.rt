@@ -1,6 +1,7 @@
 //! Traces that are read and drawn.
 use evl_drawing::{marks_of, write_svg, write_table};
-use evl_traces::{Misread, read_lines};
+use evl_runs::write_events;
+use evl_traces::{Misread, TraceLine, read_lines};
 use std::alloc::{AllocError, Global};
 
 /// A trace with a call that is answered, one that is refused, and a play.
@@ -17,6 +18,21 @@ const TABLE: &str = "row,lane,shows,line
 3,out-of-band,unhandled,\"line 5 oob count 1 none\"
 ";
 
+/// The same as trace events.
+const EVENTS: &str = r#"{"traceEvents": [
+{"ph": "M", "name": "thread_name", "pid": 1, "tid": 0, "args": {"name": "T0"}},
+{"ph": "M", "name": "thread_sort_index", "pid": 1, "tid": 0, "args": {"sort_index": 0}},
+{"ph": "X", "name": "1 T0 try_get sem=0 -> Again", "cat": "refused", "cname": "terrible", "pid": 1, "tid": 0, "ts": 1, "dur": 1},
+{"ph": "M", "name": "thread_name", "pid": 1, "tid": 1, "args": {"name": "T1"}},
+{"ph": "M", "name": "thread_sort_index", "pid": 1, "tid": 1, "args": {"sort_index": 1}},
+{"ph": "X", "name": "2 T1 arrive line=5 -> done", "cat": "answered", "cname": "good", "pid": 1, "tid": 1, "ts": 2, "dur": 1},
+{"ph": "M", "name": "thread_name", "pid": 1, "tid": 458752, "args": {"name": "out-of-band"}},
+{"ph": "M", "name": "thread_sort_index", "pid": 1, "tid": 458752, "args": {"sort_index": 458752}},
+{"ph": "X", "name": "line 5 oob count 1 none", "cat": "unhandled", "cname": "grey", "pid": 1, "tid": 458752, "ts": 3, "dur": 1},
+{"ph": "M", "name": "process_name", "pid": 1, "args": {"name": "machine"}}
+]}
+"#;
+
 // The table of a trace, where it has one.
 fn table(alloc: Global, trace: &str) -> Result<Option<String>, AllocError> {
     let Ok(lines) = read_lines(alloc, trace) else {
@@ -31,6 +47,30 @@ fn has_table(alloc: Global, trace: &str, wanted: &str) -> bool {
     match table(alloc, trace) {
         Ok(Some(text)) => text.as_str() == wanted,
         _ => false,
+    }
+}
+
+// The trace events of the lines of a trace.
+fn events_of(alloc: Global, lines: &[TraceLine<'_>]) -> Result<String, AllocError> {
+    match marks_of(alloc, lines) {
+        Ok(marks) => write_events(alloc, marks.as_slice()),
+        Err(error) => Err(error),
+    }
+}
+
+// Whether the lines of a trace have these events.
+fn have_events(alloc: Global, lines: &[TraceLine<'_>], wanted: &str) -> bool {
+    match events_of(alloc, lines) {
+        Ok(text) => text.as_str() == wanted,
+        Err(_) => false,
+    }
+}
+
+// Whether a trace has these events.
+fn has_events(alloc: Global, trace: &str, wanted: &str) -> bool {
+    match read_lines(alloc, trace) {
+        Ok(lines) => have_events(alloc, lines.as_slice(), wanted),
+        Err(_) => false,
     }
 }
 
@@ -56,6 +96,11 @@ fn is_picture(alloc: Global, trace: &str) -> bool {
 #[test]
 fn each_line_has_its_row(rt: HostRuntime) {
     assert!(rt; has_table(rt.alloc(), TRACE, TABLE));
+}
+
+#[test]
+fn each_mark_is_an_event(rt: HostRuntime) {
+    assert!(rt; has_events(rt.alloc(), TRACE, EVENTS));
 }
 
 #[test]

@@ -1,7 +1,13 @@
-//! Tests of the lab: the faults of scenarios, the lines of traces, and pictures.
+//! Tests of the lab: the faults of scenarios, the lines of traces, pictures, banks, plays, and machines that are driven.
 #![tactic(auto)]
 
+#[cfg(test)]
+mod banks;
 #[cfg(test)]
 mod drawings;
 #[cfg(test)]
 mod faults;
+#[cfg(test)]
+mod lives;
+#[cfg(test)]
+mod plays;

@@ -1,7 +1,7 @@
-use Rattle.std.proofs.Common.{◌≡◌, ◌∙◌, List, ℕ, Option, Ok, Err, length, map, refl, sym, ap, subst}
+use Rattle.std.proofs.Common.{◌≡◌, ◌∙◌, List, ℕ, Option, Ok, Err, length, map, refl, ap, subst}
 use Rattle.evl_c.specs.Forms.{handler_of}
 use Rattle.evl_shell.specs.Runs.{trace_of}
-use Rattle.evl_c.specs.Plays.{Refuses}
+use Rattle.evl_plans.specs.Traces.{Refuses}
 use Rattle.evl_c.specs.Windows.{window}
 use Rattle.evl_c.proofs.plays.play_over.Goals as goal
 

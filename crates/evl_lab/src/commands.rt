@@ -1,0 +1,184 @@
+//! The command lines of the program.
+use clap::{Arg, ArgAction, ArgMatches, Command, Error, value_parser};
+use std::alloc::{AllocError, Global};
+
+// The file of a bank.
+fn bank_word<'a>(alloc: Global) -> Arg<'a> {
+    Arg::new(alloc, "bank")
+        .long("bank")
+        .value_name("BANK")
+        .action(ArgAction::Set)
+        .help("The callbacks, as tables [[callback]]; without it, the program's eight")
+}
+
+// The files of `check`.
+fn checked_files<'a>(alloc: Global) -> Arg<'a> {
+    Arg::new(alloc, "FILE")
+        .required(true)
+        .action(ArgAction::Append)
+        .num_args(1..)
+        .help("The scenarios to check")
+}
+
+// The words of `check`.
+fn check_command<'a>(alloc: Global) -> Result<Command<'a>, AllocError> {
+    Command::new(alloc, "check")
+        .about("Tells every fault of scenarios, with its place, or else the warnings of a dry run")
+        .arg(bank_word(alloc))?
+        .arg(checked_files(alloc))
+}
+
+// A form of a picture, which goes with no other.
+fn form_word<'a>(
+    alloc: Global,
+    name: &'a str,
+    others: (&'a str, &'a str, &'a str),
+    help: &'a str,
+) -> Result<Arg<'a>, AllocError> {
+    Arg::new(alloc, name)
+        .long(name)
+        .action(ArgAction::SetTrue)
+        .help(help)
+        .conflicts_with(others.0)?
+        .conflicts_with(others.1)?
+        .conflicts_with(others.2)
+}
+
+// The form that is drawn where none is named.
+fn svg_word<'a>(alloc: Global) -> Result<Arg<'a>, AllocError> {
+    let help = "As SVG, which is the form where none is named";
+    form_word(alloc, "svg", ("perfetto", "csv", "lanes"), help)
+}
+
+// The form for viewers of timelines.
+fn perfetto_word<'a>(alloc: Global) -> Result<Arg<'a>, AllocError> {
+    let help = "As trace events in JSON, for a viewer of timelines";
+    form_word(alloc, "perfetto", ("svg", "csv", "lanes"), help)
+}
+
+// The form for tables.
+fn csv_word<'a>(alloc: Global) -> Result<Arg<'a>, AllocError> {
+    let help = "As comma-separated values";
+    form_word(alloc, "csv", ("svg", "perfetto", "lanes"), help)
+}
+
+// The form for a terminal.
+fn lanes_word<'a>(alloc: Global) -> Result<Arg<'a>, AllocError> {
+    let help = "As rows of characters";
+    form_word(alloc, "lanes", ("svg", "perfetto", "csv"), help)
+}
+
+// The text that is drawn.
+fn drawn_file<'a>(alloc: Global) -> Arg<'a> {
+    Arg::new(alloc, "FILE").action(ArgAction::Set).help(
+        "A trace or a scenario; without it, or with -, standard input",
+    )
+}
+
+// The words of `draw`.
+fn draw_command<'a>(alloc: Global) -> Result<Command<'a>, AllocError> {
+    let command = Command::new(alloc, "draw").about(
+        "Draws a trace: a mark for each call and each play",
+    );
+    let with_one = command.arg(svg_word(alloc)?)?;
+    let with_two = with_one.arg(perfetto_word(alloc)?)?;
+    let with_three = with_two.arg(csv_word(alloc)?)?;
+    let with_four = with_three.arg(lanes_word(alloc)?)?;
+    with_four.arg(drawn_file(alloc))
+}
+
+// The limit of the history.
+fn limit_word<'a>(alloc: Global) -> Arg<'a> {
+    Arg::new(alloc, "limit")
+        .long("limit")
+        .value_name("N")
+        .value_parser(value_parser!(u32).range(1..=1_000_000))
+        .help("How many entries the history may have, in place of the scenario's own limit")
+}
+
+// The words of the bank and of the limit.
+fn with_bank<'a>(alloc: Global, command: Command<'a>) -> Result<Command<'a>, AllocError> {
+    command.arg(bank_word(alloc))?.arg(limit_word(alloc))
+}
+
+// What is told as JSON.
+fn json_word<'a>(alloc: Global) -> Result<Arg<'a>, AllocError> {
+    Arg::new(alloc, "json")
+        .long("json")
+        .action(ArgAction::SetTrue)
+        .help("A line of JSON for each entry, with its plays")
+        .conflicts_with("against")
+}
+
+// The folder of traces that were made before.
+fn against_word<'a>(alloc: Global) -> Arg<'a> {
+    Arg::new(alloc, "against")
+        .long("against")
+        .value_name("FOLDER")
+        .action(ArgAction::Set)
+        .help("The first difference from the trace that FOLDER has of the same name")
+}
+
+// The files of `play`.
+fn played_files<'a>(alloc: Global) -> Arg<'a> {
+    Arg::new(alloc, "FILE")
+        .action(ArgAction::Append)
+        .num_args(1..)
+        .help("The scenarios; without them, or with -, standard input")
+}
+
+// The words of `play`.
+fn play_command<'a>(alloc: Global) -> Result<Command<'a>, AllocError> {
+    let command = Command::new(alloc, "play").about("Plays scenarios and prints their traces");
+    let over_bank = with_bank(alloc, command)?;
+    let as_json = over_bank.arg(json_word(alloc)?)?;
+    as_json.arg(against_word(alloc))?.arg(played_files(alloc))
+}
+
+// The scenario that comes first.
+fn first_file<'a>(alloc: Global) -> Arg<'a> {
+    Arg::new(alloc, "FILE")
+        .action(ArgAction::Set)
+        .help("The scenario whose board and steps come first")
+}
+
+// The words of `live`.
+fn live_command<'a>(alloc: Global) -> Result<Command<'a>, AllocError> {
+    let command = Command::new(alloc, "live").about(
+        "Answers each line of standard input, a call as a trace has it; ? helps",
+    );
+    let over_bank = with_bank(alloc, command)?;
+    over_bank.arg(first_file(alloc))
+}
+
+// The word of a call.
+fn call_word<'a>(alloc: Global) -> Arg<'a> {
+    Arg::new(alloc, "WORD")
+        .action(ArgAction::Set)
+        .help("A call's word; without it, all calls")
+}
+
+// The words of `help`.
+fn help_command<'a>(alloc: Global) -> Result<Command<'a>, AllocError> {
+    Command::new(alloc, "help")
+        .about("Tells a form of each call, or of one what its keys take")
+        .arg(call_word(alloc))
+}
+
+// The command line that the program takes.
+fn command_line<'a>(alloc: Global) -> Result<Command<'a>, AllocError> {
+    let program = Command::new(alloc, "lab")
+        .about("Checks, plays, drives and draws scenarios of calls on an out-of-band core")
+        .disable_help_subcommand(true)
+        .subcommand_required(true);
+    let checks = program.subcommand(check_command(alloc)?)?;
+    let draws = checks.subcommand(draw_command(alloc)?)?;
+    let plays = draws.subcommand(play_command(alloc)?)?;
+    let lives = plays.subcommand(live_command(alloc)?)?;
+    lives.subcommand(help_command(alloc)?)
+}
+
+/// Reads the words, of which the first is the program's name.
+pub fn read_words<'a>(alloc: Global, words: &'a [&'a str]) -> Result<ArgMatches<'a>, Error> {
+    command_line(alloc)?.try_get_matches_from(words)
+}

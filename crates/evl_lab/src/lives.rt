@@ -1,0 +1,228 @@
+//! `lab live`: a machine that is driven line by line.
+ghost use Rattle.std.specs.Prelude.{◌≤◌, length};
+
+use crate::banks::read_plans;
+use crate::words::Driving;
+use evl_live::{Session, answer_line};
+use evl_plans::Planned;
+use evl_scenario::Fault;
+use std::alloc::{AllocError, Global};
+use std::fs;
+use std::io::{self, Read, Write};
+use std::rt::Files;
+
+/// The status of a scenario or a bank that is refused.
+const AT_FAULT: u8 = 2;
+
+/// How many bytes are asked for at a time.
+const PART: usize = 65_536;
+
+/// The scenario that comes first where none is named.
+const DEFAULT: &str = "limit = 1000000
+[board]
+threads = 8
+sems = [0, 0, 0, 0]
+flags = [0, 0]
+xbufs = [[64, 64]]
+mutexes = [\"normal\", \"normal\", \"recursive\", \"ceiling 50\"]
+groups = [50]
+";
+
+// Answers the whole lines at the front of some bytes, and tells how many bytes they have.
+fn answer_lines(
+    alloc: Global,
+    session: &mut Session,
+    bytes: &[u8],
+    told: &mut String,
+) -> Result<usize, AllocError> {
+    let mut from = 0usize;
+    for (at, byte) in bytes.iter().enumerate() {
+        if *byte == b'\n' {
+            answer_line(alloc, session, bytes.get(from..at).unwrap_or(&[]), told)?;
+            from = at.saturating_add(1);
+        }
+    }
+    Ok(from)
+}
+
+// Answers the whole lines at the front of what waits, prints the answers, and tells how many bytes these lines have.
+fn answer_whole<R: AllocGlobal + Print>(
+    rt: &R,
+    session: &mut Session,
+    waiting: &[u8],
+) -> io::Result<usize> {
+    let mut told = String::new(rt.alloc());
+    let from = answer_lines(rt.alloc(), session, waiting, &mut told)?;
+    rt.print(told.as_str())?;
+    Ok(from)
+}
+
+// Keeps what stands behind the whole lines.
+fn keep_rest(alloc: Global, waiting: &mut Vec<u8>, from: usize) -> Result<(), AllocError> {
+    let rest = Vec::from_slice(alloc, waiting.as_slice().get(from..).unwrap_or(&[]))?;
+    *waiting = rest;
+    Ok(())
+}
+
+// Reads a part of the input behind what waits, and tells whether there was one.
+fn read_part<I: Read>(input: &mut I, buffer: &mut [u8], waiting: &mut Vec<u8>) -> io::Result<bool> {
+    let count = input.read(buffer)?;
+    waiting.extend_from_slice(buffer.get(..count).unwrap_or(&[]))?;
+    Ok(count > 0)
+}
+
+// Answers the whole lines of what waits, and keeps what isn't one.
+fn answer_part<R: AllocGlobal + Print>(
+    rt: &R,
+    session: &mut Session,
+    waiting: &mut Vec<u8>,
+) -> io::Result<()> {
+    let from = answer_whole(rt, session, waiting.as_slice())?;
+    keep_rest(rt.alloc(), waiting, from)?;
+    Ok(())
+}
+
+// Answers the lines of the input up to its end, and leaves what has no line feed there.
+fn answer_parts<R: AllocGlobal + Print, I: Read>(
+    rt: &R,
+    session: &mut Session,
+    input: &mut I,
+    buffer: &mut [u8],
+    waiting: &mut Vec<u8>,
+) -> io::Result<()> {
+    for _ in 0..u64::MAX {
+        if !read_part(input, buffer, waiting)? {
+            return Ok(());
+        }
+        answer_part(rt, session, waiting)?;
+    }
+    Ok(())
+}
+
+// Answers the last line, where it has no line feed.
+fn answer_last<R: AllocGlobal + Print>(
+    rt: &R,
+    session: &mut Session,
+    line: &[u8],
+) -> io::Result<()> {
+    let mut told = String::new(rt.alloc());
+    answer_line(rt.alloc(), session, line, &mut told)?;
+    rt.print(told.as_str())
+}
+
+// Answers the lines of the input up to its end.
+fn drive<R: AllocGlobal + Print, I: Read>(
+    rt: &R,
+    session: &mut Session,
+    input: &mut I,
+    buffer: &mut [u8],
+) -> io::Result<()> {
+    let mut waiting = Vec::new(rt.alloc());
+    match answer_parts(rt, session, input, buffer, &mut waiting) {
+        Ok(()) => answer_last(rt, session, waiting.as_slice()),
+        Err(error) => Err(error),
+    }
+}
+
+// Prints the trace of what a machine was asked before the first line.
+fn print_trace<R: AllocGlobal + Print>(rt: &R, session: &Session) -> io::Result<()> {
+    match session.trace(rt.alloc()) {
+        Ok(trace) => rt.print(trace.as_str()),
+        Err(error) => Err(error.into()),
+    }
+}
+
+// Prints the trace of the scenario that comes first, and answers the lines of the input.
+fn drive_opened<R: AllocGlobal + Print, I: Read>(
+    rt: &R,
+    session: &mut Session,
+    input: &mut I,
+) -> io::Result<u8> {
+    print_trace(rt, session)?;
+    match vec![in rt.alloc(); 0u8; PART] {
+        Ok(mut buffer) => drive(rt, session, input, buffer.as_mut_slice())?,
+        Err(error) => return Err(error.into()),
+    }
+    Ok(0)
+}
+
+// Tells which step can't be read.
+fn tell_step<E: Write>(err: &mut E, number: u32) -> io::Result<u8> {
+    writeln!(err, "lab: bad step {number}")?;
+    Ok(AT_FAULT)
+}
+
+// Tells why no machine is opened.
+fn tell_unopened<E: Write>(err: &mut E, why: &str) -> io::Result<u8> {
+    writeln!(err, "lab: {why}")?;
+    Ok(AT_FAULT)
+}
+
+// Tells why a scenario can't come first.
+fn tell_fault<E: Write>(err: &mut E, fault: Fault) -> io::Result<u8> {
+    match fault {
+        Fault::Text => tell_unopened(err, "bad text"),
+        Fault::Board => tell_unopened(err, "bad board"),
+        Fault::Step(number) => tell_step(err, number),
+        Fault::Memory | Fault::Write => Err(AllocError.into()),
+    }
+}
+
+// Opens a machine over these callbacks and drives it.
+fn drive_plans<R: AllocGlobal + Print, I: Read, E: Write>(
+    rt: &R,
+    text: &[u8],
+    limit: Option<u32>,
+    plans: Vec<Planned>,
+    input: &mut I,
+    err: &mut E,
+) -> io::Result<u8>
+    requires { length plans.items ≤ 64 }
+{
+    match Session::open(rt.alloc(), text, limit, plans) {
+        Ok(mut session) => drive_opened(rt, &mut session, input),
+        Err(fault) => tell_fault(err, fault),
+    }
+}
+
+// Drives a machine of the scenario with this text.
+fn drive_text<R: Files + AllocGlobal + Print, I: Read, E: Write>(
+    rt: &R,
+    driving: Driving<'_>,
+    text: &[u8],
+    input: &mut I,
+    err: &mut E,
+) -> io::Result<u8> {
+    match read_plans(rt, driving.bank, err) {
+        Ok(Some(plans)) => drive_plans(rt, text, driving.limit, plans, input, err),
+        Ok(None) => Ok(AT_FAULT),
+        Err(error) => Err(error),
+    }
+}
+
+// Drives a machine of the scenario that a file holds.
+fn drive_file<R: Files + AllocGlobal + Print, I: Read, E: Write>(
+    rt: &R,
+    driving: Driving<'_>,
+    path: &str,
+    input: &mut I,
+    err: &mut E,
+) -> io::Result<u8> {
+    match fs::read(rt, path) {
+        Ok(text) => drive_text(rt, driving, text.as_slice(), input, err),
+        Err(_) => tell_unopened(err, "no file"),
+    }
+}
+
+/// Drives a machine by the lines of the input, and answers the status: 2 where its scenario or bank is at fault.
+pub fn live<R: Files + AllocGlobal + Print, I: Read, E: Write>(
+    rt: &R,
+    driving: Driving<'_>,
+    input: &mut I,
+    err: &mut E,
+) -> io::Result<u8> {
+    match driving.file {
+        Some(path) => drive_file(rt, driving, path, input, err),
+        None => drive_text(rt, driving, DEFAULT.as_bytes(), input, err),
+    }
+}

@@ -1,0 +1,2 @@
+mod TellingLaws
+mod GrowthLaws

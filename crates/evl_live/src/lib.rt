@@ -1,0 +1,14 @@
+//! A machine that is driven line by line: each line is a call, as a trace has it, and is answered with the lines of the trace.
+#![tactic(auto)]
+
+mod answers;
+mod helps;
+mod lines;
+mod places;
+mod session;
+mod small;
+mod states;
+
+pub use answers::answer_line;
+pub use helps::{FORMS, Form, write_call_of, write_forms};
+pub use session::Session;

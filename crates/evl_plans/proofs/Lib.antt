@@ -1,0 +1,4 @@
+mod KindLaws
+mod RowLaws
+mod CallbackLaws
+mod TraceLaws

@@ -1,0 +1,4 @@
+pub mod Plans
+pub mod Told
+pub mod Banks
+pub mod Traces

@@ -1,0 +1,7 @@
+-- What a callback that keeps its plan tells.
+use Rattle.evl_kernel.specs.States.{Handler}
+use Rattle.evl_plans.specs.declared.planned.Planned.{Planned}
+
+-- what a callback declares, and what it answers
+abbrev pub told : Planned → Handler
+told planned = record { kinds = planned.kinds.0; plan = planned.plan }

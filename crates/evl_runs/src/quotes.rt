@@ -1,0 +1,10 @@
+//! Texts of JSON.
+use serde_json::Value;
+use std::alloc::{AllocError, Global};
+
+/// Writes a text in quotes, with escapes. `AllocError` where memory couldn't grow.
+pub fn put_text(alloc: Global, json: &mut String, text: &str) -> Result<(), AllocError> {
+    let value = Value::String(String::from_str(alloc, text)?);
+    let quoted = value.to_string(alloc)?;
+    json.push_str(quoted.as_str())
+}
