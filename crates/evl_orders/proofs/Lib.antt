@@ -1,0 +1,9 @@
+pub mod Totals
+pub mod Leads
+pub mod Weighing
+pub mod Fronts
+pub mod EveryRun
+pub mod Once
+pub mod Ends
+pub mod Merges
+pub mod Tallying

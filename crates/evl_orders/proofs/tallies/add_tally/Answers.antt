@@ -1,0 +1,30 @@
+use Rattle.std.proofs.Common.{◌≡◌, ◌≢◌, ℕ, ◌<◌, List, length, sym, ◌∙◌, ap, subst, arith, All}
+use Rattle.std.specs.Prelude.{Some, slice_get, string_bytes}
+use Rattle.evl_orders.specs.Tallies.{AreDistinct, told_weight}
+use Rattle.evl_orders.specs.declared.tallies.Tally.{Tally}
+use Rattle.evl_orders.proofs.Fronts.{some_at}
+use Rattle.evl_orders.proofs.Tallying.{told_raised, distinct_raised, distinct_push}
+use Rattle.evl_orders.proofs.tallies.add_tally.Goals as goal
+
+pub returns-in-Ok-clause-sums : goal.returns-in-Ok-clause-sums
+returns-in-Ok-clause-sums c = λ f.
+    let items = c.args.tallies.now.items in
+    let within : c.in-Some.place < length items = omega (arith, c.in-Some.ensures.within, ap length c.as_slice.ensures.value) in
+    let there = some_at items c.in-Some.place within in
+    let got : slice_get c.as_slice.result.now c.in-Some.place ≡ Some there.0 = cc (there.1, c.as_slice.ensures.value) in
+    let same = c.in-Some.ensures.same there.0 got ∙ c.as_str.ensures.value in
+    ap (told_weight f) (c.in-Ok.ensures there.0 there.1) ∙ told_raised f items c.in-Some.place c.args.tally.count there.0 (string_bytes c.args.tally.told) there.1 same
+
+pub returns-in-Ok-clause-distinct : goal.returns-in-Ok-clause-distinct
+returns-in-Ok-clause-distinct c =
+    let items = c.args.tallies.now.items in
+    let within : c.in-Some.place < length items = omega (arith, c.in-Some.ensures.within, ap length c.as_slice.ensures.value) in
+    let there = some_at items c.in-Some.place within in
+    subst AreDistinct (sym (c.in-Ok.ensures there.0 there.1)) (distinct_raised items c.in-Some.place c.args.tally.count there.0 there.1 c.requires)
+
+pub returns-in-Ok-push-clause-distinct : goal.returns-in-Ok-push-clause-distinct
+returns-in-Ok-push-clause-distinct c =
+    let items = c.args.tallies.now.items in
+    let apart = subst (λ (told : List ℕ). All (λ t. string_bytes t.told ≢ told) c.as_slice.result.now) c.as_str.ensures.value c.in-None.ensures.none in
+    let none = subst (λ (ts : List Tally). All (λ t. string_bytes t.told ≢ string_bytes c.args.tally.told) ts) c.as_slice.ensures.value apart in
+    subst AreDistinct (sym c.in-Ok-push.ensures.items) (distinct_push items c.args.tally c.requires none)

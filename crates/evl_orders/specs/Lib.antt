@@ -1,0 +1,5 @@
+pub mod Fronts
+pub mod Laws
+pub mod Machines
+pub mod Tallies
+pub mod Weights

@@ -1,0 +1,14 @@
+-- Outcomes, each once.
+use Rattle.std.specs.Prelude.{ℕ, ◌*◌, ◌≢◌, List, map, AllPairs, sum_by, string_bytes}
+use Rattle.evl_orders.specs.declared.tallies.Tally.{Tally}
+
+-- a number of each outcome's text, over all orders that end so
+abbrev pub told_weight : (List ℕ → ℕ) → List Tally → ℕ
+told_weight f tallies = sum_by (λ tally. tally.count * f (string_bytes tally.told)) tallies
+
+abbrev pub texts : List Tally → List (List ℕ)
+texts tallies = map (λ tally. string_bytes tally.told) tallies
+
+-- no two outcomes are told alike
+abbrev pub AreDistinct : List Tally → Type 0
+AreDistinct tallies = AllPairs (λ one other. one ≢ other) (texts tallies)

@@ -1,0 +1,18 @@
+//! Every order in which the callers of a world may come: how many orders there are, and where they end.
+#![tactic(auto)]
+
+mod exploring;
+mod laws;
+mod levels;
+mod nodes;
+mod tallies;
+mod worlds;
+
+pub use exploring::{Explored, explore};
+pub use laws::{
+    merges_are_orders, orders_are_merges, orders_end, runs_are_all_runs, runs_are_there_once,
+};
+pub use levels::OrdersError;
+pub use nodes::Node;
+pub use tallies::{Tally, add_tally};
+pub use worlds::World;

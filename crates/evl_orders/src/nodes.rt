@@ -1,0 +1,12 @@
+//! Moments, with the orders that lead to them.
+
+/// A moment, with how many orders lead to one of its state (this profile).
+#[derive(Drop)]
+pub struct Node<M> {
+    /// The moment to which the first of these orders leads.
+    pub at: M,
+    /// How many they are.
+    pub count: u128,
+    /// The first of them: who makes each step.
+    pub order: Vec<u16>,
+}
