@@ -18,6 +18,8 @@ ghost use Rattle.evl_kernel.specs.Waits.{has_ended, has_timed_out, is_waiting};
 ghost use Rattle.evl_kernel.specs.Places.{AreInOnePlace};
 ghost use Rattle.evl_kernel.specs.KernelViews.{AddsEntry, IsOpened, IsKernelAnswer, makes_entry};
 
+mod readers;
+
 use crate::records::Records;
 use evl_base::{
     Board, Call, Entry, LINES, LineNo, MAX_THREADS, MutexId, Play, Refusal, Reply, Spares, Stage,

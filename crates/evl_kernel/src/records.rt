@@ -21,6 +21,7 @@ ghost use Rattle.evl_kernel.specs.Waits.{has_ended, has_timed_out, is_waiting};
 mod elements;
 mod line_calls;
 mod mutexes;
+mod readers;
 mod serving;
 mod settling;
 mod threads;

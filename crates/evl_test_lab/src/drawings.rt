@@ -13,9 +13,9 @@ const TRACE: &str = "board threads=2 sems=1 flags=0 xbufs=0 mutexes=0 groups=0 l
 
 /// The same as a table.
 const TABLE: &str = "row,lane,shows,line
-1,T0,refused,\"1 T0 try_get sem=0 -> Again\"
-2,T1,answered,\"2 T1 arrive line=5 -> done\"
-3,out-of-band,unhandled,\"line 5 oob count 1 none\"
+1,T0,refused,1 T0 try_get sem=0 -> Again
+2,T1,answered,2 T1 arrive line=5 -> done
+3,out-of-band,unhandled,line 5 oob count 1 none
 ";
 
 /// The same as trace events.
@@ -34,7 +34,7 @@ const EVENTS: &str = r#"{"traceEvents": [
 "#;
 
 // The table of a trace, where it has one.
-fn table(alloc: Global, trace: &str) -> Result<Option<String>, AllocError> {
+fn table(alloc: Global, trace: &str) -> Result<Option<Vec<u8>>, AllocError> {
     let Ok(lines) = read_lines(alloc, trace) else {
         return Ok(None);
     };
@@ -45,7 +45,7 @@ fn table(alloc: Global, trace: &str) -> Result<Option<String>, AllocError> {
 // Whether a trace has this table.
 fn has_table(alloc: Global, trace: &str, wanted: &str) -> bool {
     match table(alloc, trace) {
-        Ok(Some(text)) => text.as_str() == wanted,
+        Ok(Some(text)) => text.as_slice() == wanted.as_bytes(),
         _ => false,
     }
 }
@@ -80,7 +80,7 @@ fn picture(alloc: Global, trace: &str) -> Result<Option<Vec<u8>>, AllocError> {
         return Ok(None);
     };
     let marks = marks_of(alloc, lines.as_slice())?;
-    Ok(Some(write_svg(alloc, marks.as_slice())?))
+    Ok(Some(write_svg(alloc, marks.as_slice(), &[])?))
 }
 
 // Whether a picture begins and ends as SVG does.

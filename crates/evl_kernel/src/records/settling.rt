@@ -5,7 +5,6 @@ ghost use Rattle.evl_kernel.specs.Callbacks.{AnswersAsTold};
 ghost use Rattle.evl_kernel.specs.Records.{KeepsCallbacks, state_of, whereabouts};
 ghost use Rattle.evl_kernel.specs.Fires.{Called};
 ghost use Rattle.evl_kernel.specs.Limits.{inband_limit, play_limit};
-ghost use Rattle.evl_kernel.specs.States.{date};
 ghost use Rattle.evl_kernel.specs.Settling.{acted, all_acted, answered, due_played, is_of_clock, line_goes, next_play, one_inband};
 ghost use Rattle.evl_kernel.specs.Settled.{Appends, left_after, left_to_play, settling, stage_of, waiting};
 
@@ -17,15 +16,6 @@ use std::alloc::Allocator;
 
 /// The most in-band plays of one call.
 const MAX_INBAND: u8 = 64;
-
-impl<C, A: Allocator> Records<C, A> {
-    /// The date, in nanoseconds.
-    fn date(&self) -> u64
-        ensures date { result ≡ date (state_of self.now) }
-    {
-        self.clock.now()
-    }
-}
 
 impl<C: Drop, A: Allocator> Records<C, A> {
     /// Carries out one action of a callback on a line: what its call does, and nothing where that would be refused.
