@@ -21,6 +21,7 @@ ghost use Rattle.evl_kernel.specs.KernelViews.{AddsEntry, IsOpened, IsKernelAnsw
 mod readers;
 
 use crate::records::Records;
+use crate::served_lists::ServedLists;
 use evl_base::{
     Board, Call, Entry, LINES, LineNo, MAX_THREADS, MutexId, Play, Refusal, Reply, Spares, Stage,
     ThreadId, TimerId,
@@ -53,6 +54,7 @@ pub struct KernelOf<C, A: Allocator> {
     history: Vec<Entry, A>,
     plays: Vec<Play, A>,
     spares: Spares<A>,
+    lists: ServedLists,
     limit: usize,
 }
 
@@ -132,6 +134,7 @@ impl<C: Handler, A: Allocator> KernelOf<C, A> {
             history: Vec::new(for_history),
             plays: Vec::new(for_plays),
             spares: Spares::new(for_spares, boxes),
+            lists: ServedLists::new(),
             limit: limit as usize,
         })
     }
@@ -196,9 +199,13 @@ impl<C: Handler, A: Allocator> KernelOf<C, A> {
             .map_err(|_| Refusal::NoMemory)?;
         self.spares.keep(MAX_BOXES)?;
         let before = self.plays.len();
-        let reply = self
-            .records
-            .perform(caller, &call, &mut self.plays, &mut self.spares);
+        let reply = self.records.perform(
+            caller,
+            &call,
+            &mut self.plays,
+            &mut self.spares,
+            &mut self.lists,
+        );
         let kept = copied_reply(&reply, &mut self.spares);
         self.history.push_reserved(Entry {
             caller,
