@@ -16,7 +16,7 @@ pub use frames::lanes_of;
 pub use lanes::Lane;
 pub use marks::{Mark, Shape, marks_of};
 pub use moments::{Condition, Moment, Standing};
-pub use pages::{PAGE, page, page_moments, pages};
+pub use pages::{PAGE, page, page_count, page_moments};
 pub use rows::write_rows;
 pub use svg::write_svg;
 pub use tables::write_table;

@@ -8,7 +8,7 @@ use crate::moments::Moment;
 pub const PAGE: usize = 2000;
 
 /// How many pages some marks take: at least one (this profile).
-pub fn pages(marks: &[Mark<'_>]) -> usize {
+pub fn page_count(marks: &[Mark<'_>]) -> usize {
     marks.len().saturating_sub(1) / PAGE + 1
 }
 

@@ -11,9 +11,9 @@ use Rattle.evl_sched.specs.Picks.{picked}
 use Rattle.evl_sched.specs.Ranks.{rank_of}
 use Rattle.evl_sched.specs.Threads.{Sched, is_attached, refused_first}
 use Rattle.evl_sched.proofs.AlikeLaws.{picked-alike}
-use Rattle.evl_kernel.specs.ElementsViews.{owners_of}
-use Rattle.evl_kernel.specs.Records.{RanksAreKept, RecordsView, state_of}
+use Rattle.evl_kernel.specs.Records.{IsSound, RecordsView, state_of}
 use Rattle.evl_kernel.specs.ThreadCalls.{rank_of as effective_of}
+use Rattle.evl_kernel.proofs.EffectiveLaws.{given_as}
 use Rattle.evl_kernel.proofs.RankLaws.{attached_of}
 use Rattle.evl_kernel.proofs.StageLaws.{past_seats}
 
@@ -30,15 +30,15 @@ stranger_is_none q thread e = by (is_thread q thread) refl (is_attached q thread
     by true is true at h = absurd (never h)
     by false out true at h = absurd (false≢true (sym (ap is_some (past_seats q.seats thread (grind (arith, nat_tests, out)))) ∙ at))
 
-module _ {C : Type 0} (r : RecordsView C) (kept : RanksAreKept (owners_of r.elements) r.sched) where
+module _ {C : Type 0} (r : RecordsView C) (h : IsSound r) where
   pub pick_reads : (o : Option ThreadId) → option_map (λ (t : ThreadId). t.0) o ≡ picked (rank_of r.sched) r.sched.sched → option_map (λ (t : ThreadId). t.0) o ≡ picked (effective_of (state_of r)) r.sched.sched
-  pick_reads o is = is ∙ picked-alike (rank_of r.sched) (effective_of (state_of r)) r.sched.sched kept.given
+  pick_reads o is = is ∙ picked-alike (rank_of r.sched) (effective_of (state_of r)) r.sched.sched (given_as r h)
 
   pub rank_reads : (thread rank : ℕ) → stranger_refusal r.sched.sched thread ≡ None → rank ≡ rank_of r.sched thread
       → Some rank ≡ (if is_attached r.sched.sched thread then Some (effective_of (state_of r) thread) else None)
   rank_reads thread rank passed is =
       let here : is_attached r.sched.sched thread ≡ true = attached_of r.sched.sched thread passed in
-      rw here (ap Some (is ∙ kept.given thread here))
+      rw here (ap Some (is ∙ given_as r h thread here))
 
   pub no_rank_reads : (thread : ℕ) (e : Refusal) → stranger_refusal r.sched.sched thread ≡ Some e
       → None ≡ (if is_attached r.sched.sched thread then Some (effective_of (state_of r) thread) else None)

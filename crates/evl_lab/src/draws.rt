@@ -1,8 +1,8 @@
 //! `lab draw`: the picture of a trace, or of a scenario, which is played.
 use crate::texts::{put, read_text};
 use crate::words::{Drawing, Form};
-use evl_drawing::{Mark, Moment, lanes_of, marks_of, page, page_moments, pages, write_rows, write_svg, write_table};
-use evl_moments::moments;
+use evl_drawing::{Mark, Moment, lanes_of, marks_of, page, page_count, page_moments, write_rows, write_svg, write_table};
+use evl_moments::moments_of;
 use evl_plans::trace_plans;
 use evl_runs::{program_plans, write_events};
 use evl_scenario::Fault;
@@ -22,7 +22,7 @@ struct Drawn<'a> {
 }
 
 // How the lanes of marks stand after each step of a scenario, over the program's callbacks; nothing where there is none.
-fn moments_of(
+fn known_moments(
     alloc: Global,
     marks: &[Mark<'_>],
     scenario: Option<&str>,
@@ -32,7 +32,7 @@ fn moments_of(
     };
     let lanes = lanes_of(alloc, marks)?;
     let plans = program_plans(alloc)?;
-    moments(alloc, plans.as_slice(), text.as_bytes(), lanes.as_slice())
+    moments_of(alloc, plans.as_slice(), text.as_bytes(), lanes.as_slice())
 }
 
 // The picture of a page of marks, from 0.
@@ -42,7 +42,7 @@ fn picture_of(
     scenario: Option<&str>,
     number: usize,
 ) -> Result<Vec<u8>, AllocError> {
-    let known = moments_of(alloc, marks, scenario)?;
+    let known = known_moments(alloc, marks, scenario)?;
     let behind = page_moments(marks, known.as_slice(), number);
     write_svg(alloc, page(marks, number), behind)
 }
@@ -55,7 +55,7 @@ fn draw_svg<R: AllocGlobal + Print, E: Write>(
     number: u32,
     err: &mut E,
 ) -> io::Result<u8> {
-    let all = pages(marks);
+    let all = page_count(marks);
     let chosen = number as usize;
     if chosen > all {
         writeln!(err, "lab: the picture has no page {number}: the last one is {all}")?;

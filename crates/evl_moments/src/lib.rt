@@ -6,5 +6,5 @@ mod runs;
 mod standings;
 
 pub use moments::moment_of;
-pub use runs::moments;
+pub use runs::moments_of;
 pub use standings::standing;

@@ -61,7 +61,7 @@ fn play(
 
 /// How the lanes stand after each step of a scenario's text, played over copies of these callbacks: a moment for each step.
 /// Of a text that is no scenario nothing is told. `AllocError` where memory couldn't grow (this profile).
-pub fn moments(
+pub fn moments_of(
     alloc: Global,
     bank: &[Planned],
     text: &[u8],
