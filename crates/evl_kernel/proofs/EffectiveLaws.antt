@@ -1,18 +1,18 @@
 -- The ranks and the rings that the recorded owners of a board's threads compute are those over all threads.
-use Rattle.std.proofs.Common.{◌≡◌, ◌<◌, ◌≤◌, ℕ, zero, suc, Bool, true, false, List, [], ◌∷◌, length, find, Option, Some, None, is_some, option_and_then, if◌then◌else◌, refl, sym, ap, ◌∙◌, arith}
+use Rattle.std.proofs.Common.{◌≡◌, ◌<◌, ◌≤◌, ℕ, suc, Bool, true, false, List, [], ◌∷◌, length, find, Option, Some, None, is_some, option_and_then, if◌then◌else◌, refl, sym, ap, ◌∙◌, arith}
 use Rattle.evl_base.specs.Limits.{thread_limit}
 use Rattle.evl_mutex.specs.Chains.{HasNoRing, reaches, waits_for}
 use Rattle.evl_mutex.specs.Mutexes.{Mutex, is_waited_for_by}
 use Rattle.evl_mutex.specs.Owners as owners
 use Rattle.evl_mutex.proofs.ChainLaws.{reaches-complete, reaches-sound}
 use Rattle.evl_sched.specs.Ranks as ranks
-use Rattle.evl_sched.specs.Threads.{base_of, is_attached}
+use Rattle.evl_sched.specs.Threads.{is_attached}
 use Rattle.evl_kernel.specs.declared.waits.Awaited.TheVariants.{Mutex as OnMutex}
 use Rattle.evl_kernel.specs.Beginnings.{waits_back}
 use Rattle.evl_kernel.specs.ElementsViews.{owners_of}
 use Rattle.evl_kernel.specs.Records.{RecordsView, IsSound, state_of}
 use Rattle.evl_kernel.specs.Standing.{in_mutex, stands_at}
-use Rattle.evl_kernel.specs.ThreadCalls.{rank_by, rank_of}
+use Rattle.evl_kernel.specs.ThreadCalls.{rank_of}
 use Rattle.evl_kernel.proofs.HandLaws.{within}
 use Rattle.evl_kernel.proofs.MutexQueues.{back_is}
 use Rattle.evl_kernel.proofs.RankLaws.{rank_told}

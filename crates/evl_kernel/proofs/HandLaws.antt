@@ -1,13 +1,11 @@
 -- The recorded owners are told base ranks, and the scheduler is given the effective ones.
-use Rattle.std.proofs.Common.{◌≡◌, ◌≢◌, ◌≤◌, ◌<◌, ◌+◌, ℕ, zero, suc, ◌==◌, Bool, true, false, List, [], ◌∷◌, length, Option, Some, None, is_some, slice_index, slice_index_or, slice_set, refl, sym, ap, ◌∙◌, subst, arith}
+use Rattle.std.proofs.Common.{◌≡◌, ◌≢◌, ◌≤◌, ◌<◌, ℕ, zero, suc, ◌==◌, Bool, true, false, List, [], ◌∷◌, length, Option, Some, None, is_some, slice_index, slice_index_or, slice_set, refl, ap, ◌∙◌, subst, arith}
 use Rattle.std.specs.Option.{option_map_or}
 use Rattle.std.proofs.lemmas.Bool.{false≢true}
 use Rattle.std.proofs.lemmas.Bool.Decides.{nat_tests}
 use Rattle.std.proofs.lemmas.List.{get_or-set_other, get_or-set_same, length-set}
-use Rattle.evl_mutex.specs.Owners as owners
-use Rattle.evl_sched.specs.Ranks.{Ranked, IsSoundSched, given_to, rank_of, with_given}
+use Rattle.evl_sched.specs.Ranks.{Ranked, IsSoundSched, rank_of, with_given}
 use Rattle.evl_sched.specs.Threads.{Sched, base_of, is_attached}
-use Rattle.evl_kernel.specs.ElementsViews.{ElementsView, owners_of}
 use Rattle.evl_base.specs.Limits.{thread_limit}
 use Rattle.evl_kernel.specs.Records.{AreTold}
 
