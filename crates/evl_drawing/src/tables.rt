@@ -16,7 +16,12 @@ fn word(shape: Shape) -> &'static str {
 }
 
 // Puts the fields of a mark into a record that is empty.
-fn put_mark(row: &mut ByteRecord, number: &str, lane: &str, mark: &Mark<'_>) -> Result<(), AllocError> {
+fn put_mark(
+    row: &mut ByteRecord,
+    number: &str,
+    lane: &str,
+    mark: &Mark<'_>,
+) -> Result<(), AllocError> {
     row.push_field(number.as_bytes())?;
     row.push_field(lane.as_bytes())?;
     row.push_field(word(mark.shape).as_bytes())?;

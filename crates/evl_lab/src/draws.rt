@@ -1,7 +1,10 @@
 //! `lab draw`: the picture of a trace, or of a scenario, which is played.
 use crate::texts::{put, read_text};
 use crate::words::{Drawing, Form};
-use evl_drawing::{Mark, Moment, lanes_of, marks_of, page, page_count, page_moments, write_rows, write_svg, write_table};
+use evl_drawing::{
+    Mark, Moment, lanes_of, marks_of, page, page_count, page_moments, write_rows, write_svg,
+    write_table,
+};
 use evl_moments::moments_of;
 use evl_plans::trace_plans;
 use evl_runs::{program_plans, write_events};
@@ -58,7 +61,10 @@ fn draw_svg<R: AllocGlobal + Print, E: Write>(
     let all = page_count(marks);
     let chosen = number as usize;
     if chosen > all {
-        writeln!(err, "lab: the picture has no page {number}: the last one is {all}")?;
+        writeln!(
+            err,
+            "lab: the picture has no page {number}: the last one is {all}"
+        )?;
         return Ok(AT_FAULT);
     }
     if all > 1 {

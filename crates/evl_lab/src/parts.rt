@@ -4,7 +4,7 @@ use crate::draws::draw;
 use crate::helps::help;
 use crate::lives::live;
 use crate::plays::play_files;
-use crate::words::{driving_of, drawing_of, playing_of};
+use crate::words::{drawing_of, driving_of, playing_of};
 use clap::ArgMatches;
 use std::io::{self, Read, Write};
 use std::rt::Files;
