@@ -127,6 +127,7 @@ impl<C: Handler, A: Allocator> KernelOf<C, A> {
         let for_history = alloc.clone().map_err(|_| Refusal::NoMemory)?;
         let for_plays = alloc.clone().map_err(|_| Refusal::NoMemory)?;
         let for_spares = alloc.clone().map_err(|_| Refusal::NoMemory)?;
+        let lists = ServedLists::new(boxes)?;
         let records = Records::new(alloc, boxes, &board, bank)?;
         Ok(KernelOf {
             board,
@@ -134,7 +135,7 @@ impl<C: Handler, A: Allocator> KernelOf<C, A> {
             history: Vec::new(for_history),
             plays: Vec::new(for_plays),
             spares: Spares::new(for_spares, boxes),
-            lists: ServedLists::new(),
+            lists,
             limit: limit as usize,
         })
     }

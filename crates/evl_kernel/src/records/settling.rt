@@ -39,7 +39,7 @@ impl<C: Drop, A: Allocator> Records<C, A> {
                 let _ = self.stop_timer(timer);
             }
             Action::PostFlags(flags, bits) => {
-                let _ = self.post_flags(flags, bits, &mut lists.of_flags);
+                let _ = self.post_flags(flags, bits, &mut *lists.of_flags);
             }
         }
     }
@@ -80,7 +80,7 @@ impl<C: Handler, A: Allocator> Records<C, A> {
     {
         match self.clock.next_due()? {
             Due::Deadline(thread) => {
-                self.expire(thread, &mut lists.of_xbufs);
+                self.expire(thread, &mut *lists.of_xbufs);
                 Some(Play::Deadline { thread })
             }
             Due::Timer {
