@@ -1,6 +1,6 @@
 pub mod Accounts
-pub mod CoreSteps
 pub mod Noting
+pub mod CoreSteps
 pub mod ThreadSteps
 pub mod TieWords
 pub mod TieSteps
@@ -46,6 +46,7 @@ pub mod WordCalls
 pub mod MutexLocks
 pub mod MutexUnlocks
 pub mod WaitingLaws
+pub mod TurnedAway
 pub mod StaxWaitLaws
 pub mod MutexWaitLaws
 pub mod InWords
