@@ -26,6 +26,7 @@ pub mod Seating
 pub mod Newcomers
 pub mod Gathering
 pub mod OneHistory
+pub mod Tokens
 pub mod Crossing
 pub mod CoreLaws
 pub mod OneWorldLaws
