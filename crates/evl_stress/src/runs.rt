@@ -110,10 +110,12 @@ fn callers_of<C: Handler, A: Allocator>(
     let mut callers = Vec::with_capacity(alloc, hands.len())?;
     for hand in hands {
         let Hand { caller, tools, .. } = hand;
-        events.extend_from_slice(tools.events.as_slice())?;
         match callers.push(caller) {
             Ok(()) => {}
             Err(_) => return Err(AllocError),
+        }
+        if !tools.tells(events) {
+            return Err(AllocError);
         }
     }
     Ok(callers)

@@ -131,6 +131,11 @@ impl Tools {
         until(&mut self.dice, self.date)
     }
 
+    /// What it noted comes to the others' notes; false where there was no memory for that.
+    pub fn tells(&self, events: &mut Vec<Event>) -> bool {
+        events.extend_from_slice(self.events.as_slice()).is_ok()
+    }
+
     /// An answer of the clock.
     pub fn learn(&mut self, answer: &Result<Reply, Refusal>) {
         if let Ok(Reply::Number(date)) = answer {

@@ -1,6 +1,8 @@
 //! Where one call of the kernel may stop, and several under one take.
 use crate::acts::{Act, Ask, BUSY, CORE_BUSY, FULL, SHORT, Told};
-use crate::boards::{ATTACHED, FIRST, GROWN, PUT, SECOND, SEM, STAX, board_with, free};
+use crate::boards::{
+    ATTACHED, FIRST, GROWN, PUT, SECOND, SEM, STAX, board_with, free, marked, owned,
+};
 use crate::phases::Side;
 use crate::rows::is_row;
 use evl_base::{MutexKind, Refusal, Stage};
@@ -82,4 +84,27 @@ fn core_is_lost_with_its_caller(rt: HostRuntime) {
             &phases
         )
     );
+}
+
+// A caller is dropped with what it has: that stays taken, and all else goes on.
+#[test]
+fn what_a_dropped_caller_has_stays_taken(rt: HostRuntime) {
+    let taken = [
+        (0, Act::Lock(FIRST), Told::Passed),
+        (0, Act::Enter(STAX), Told::Passed),
+    ];
+    let on = [
+        (0, Act::Lock(FIRST), BUSY),
+        (0, Act::Enter(STAX), Told::Refused(Refusal::Limit)),
+        (0, Act::LockAtLast(FIRST, Some(0)), Told::TimedOut),
+        (0, Act::Lock(SECOND), Told::Passed),
+        (0, Act::UnlockFast(SECOND), Told::Done),
+        (0, PUT, Told::Done),
+    ];
+    let phases = [
+        (Side::Free, &ATTACHED[..], free(2)),
+        (Side::Free, &taken, owned(2, 0)),
+        (Side::Lost, &on, marked(5, 0)),
+    ];
+    assert!(rt; is_row(&rt, rt.alloc(), board_with(MutexKind::Normal), 100, &phases));
 }

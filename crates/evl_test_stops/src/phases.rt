@@ -30,6 +30,8 @@ pub enum Side {
     AppliedShort,
     // The last caller was dropped with the core.
     Dropped,
+    // The first caller was dropped with what it had, so that the second one is the first.
+    Lost,
 }
 
 // What is left: how many entries, what stands in the word of the first mutex, and what the kernel records of it.
@@ -148,6 +150,21 @@ fn last_is_dropped<C: Handler, A: Allocator>(
     }
 }
 
+// Whether the first caller was there, and is dropped.
+fn first_is_dropped<C: Handler, A: Allocator>(
+    machine: &MachineOf<C, A>,
+    callers: &mut Vec<CallerOf<C, A>, A>,
+) -> bool
+    requires { All (λ c. c.machine ≡ machine.now) callers.old.items }
+    ensures { All (λ c. c.machine ≡ machine.now) callers.new.items }
+{
+    if callers.is_empty() {
+        return false;
+    }
+    drop(callers.remove(0));
+    true
+}
+
 // What is left, as the last caller sees it.
 fn left_of<C: Handler, A: Allocator>(
     machine: &MachineOf<C, A>,
@@ -182,6 +199,40 @@ pub fn is_left<C: Handler, A: Allocator>(
     }
 }
 
+// Whether the others' steps are answered as it is wanted once the last caller was dropped with the core.
+fn answers_after_last<C: Handler, A: Allocator, R: Wait>(
+    rt: &R,
+    machine: &MachineOf<C, A>,
+    callers: &mut Vec<CallerOf<C, A>, A>,
+    passes: &mut Passes,
+    steps: &[Step],
+) -> bool
+    requires callers { All (λ c. c.machine ≡ machine.now) callers.old.items }
+    requires answering { AnswersAsTold C.declared C.plan machine.now.first.callbacks }
+    ensures { All (λ c. c.machine ≡ machine.now) callers.new.items }
+{
+    let dropped = last_is_dropped(machine, callers);
+    let told = answers(rt, machine, callers, passes, steps);
+    dropped && told
+}
+
+// The same once the first caller was dropped.
+fn answers_after_first<C: Handler, A: Allocator, R: Wait>(
+    rt: &R,
+    machine: &MachineOf<C, A>,
+    callers: &mut Vec<CallerOf<C, A>, A>,
+    passes: &mut Passes,
+    steps: &[Step],
+) -> bool
+    requires callers { All (λ c. c.machine ≡ machine.now) callers.old.items }
+    requires answering { AnswersAsTold C.declared C.plan machine.now.first.callbacks }
+    ensures { All (λ c. c.machine ≡ machine.now) callers.new.items }
+{
+    let dropped = first_is_dropped(machine, callers);
+    let told = answers(rt, machine, callers, passes, steps);
+    dropped && told
+}
+
 // Whether the steps beside this side are answered as it is wanted.
 pub fn answers_by<C: Handler, A: Allocator, R: Wait>(
     rt: &R,
@@ -201,9 +252,8 @@ pub fn answers_by<C: Handler, A: Allocator, R: Wait>(
         Side::Free | Side::Short => answers(rt, machine, callers, passes, steps),
         Side::Held => answers_beside(rt, machine, callers, passes, steps),
         Side::Applied | Side::AppliedShort => last_applies(machine, callers, steps),
-        Side::Dropped => {
-            last_is_dropped(machine, callers) && answers(rt, machine, callers, passes, steps)
-        }
+        Side::Dropped => answers_after_last(rt, machine, callers, passes, steps),
+        Side::Lost => answers_after_first(rt, machine, callers, passes, steps),
     };
     drop(taken);
     told
