@@ -78,9 +78,17 @@ pub fn kind(dice: &mut Dice) -> Take {
     }
 }
 
-/// A deadline that lies so little ahead of a date.
+/// A deadline that lies so little ahead of a date; sometimes just there, so that it comes while others call.
 pub fn until(dice: &mut Dice, date: u64) -> u64 {
-    date.saturating_add(dice.time(AHEAD))
+    let ahead = if dice.one_in(3) { 3 } else { AHEAD };
+    date.saturating_add(dice.time(ahead))
+}
+
+/// Lets time pass to where deadlines may lie.
+pub fn short_tick(dice: &mut Dice) -> Call {
+    Call::Tick {
+        delta: dice.time(4),
+    }
 }
 
 fn policy(dice: &mut Dice) -> Policy {

@@ -25,19 +25,20 @@ pub enum Duty {
     Helps,
 }
 
-/// A caller, what its host thread has beside it, and what it is for.
+/// A caller, what its host thread has beside it, what it is for, and how many rounds are left for it.
 #[derive(Drop)]
 pub struct Hand<C, A: Allocator> {
     pub caller: CallerOf<C, A>,
     pub tools: Tools,
     pub duty: Duty,
+    pub rounds: u32,
 }
 
 // How far time is let pass, in nanoseconds: beyond each deadline.
 const LONG: u64 = 10_000;
 
 // How many turns the others have to notice that they were helped.
-const TURNS: u32 = 1000;
+const TURNS: u32 = 50;
 
 // What doesn't keep the core: a call, a wait, a mutex or a stax.
 fn acts<C: Handler, A: Allocator, R: Wait>(
@@ -55,9 +56,9 @@ fn acts<C: Handler, A: Allocator, R: Wait>(
         0 | 1 => waits(rt, machine, caller, tools, watch),
         2 => begins(rt, machine, caller, tools, watch),
         3 | 4 => locks(rt, machine, caller, tools, watch),
-        5 | 6 => unlocks(rt, machine, caller, tools),
+        5 | 6 => unlocks(rt, machine, caller, tools, watch),
         7 => enters(rt, machine, caller, tools, watch),
-        8 | 9 => leaves(machine, caller, tools),
+        8 | 9 => leaves(machine, caller, tools, watch),
         10 => switches(rt, machine, caller, tools),
         _ => makes_call(rt, machine, caller, tools),
     }
@@ -98,9 +99,8 @@ fn lets_go<C: Handler, A: Allocator, R: Wait>(
 {
     finishes(rt, machine, caller, tools, watch);
     finishes_lock(rt, machine, caller, tools, watch);
-    unlocks_all(rt, machine, caller, tools);
-    leaves_all(machine, caller, tools);
-    watch.count_done();
+    unlocks_all(rt, machine, caller, tools, watch);
+    leaves_all(machine, caller, tools, watch);
 }
 
 // Lets time pass, and gives what others may wait for.
@@ -156,7 +156,7 @@ fn attends<C: Handler, A: Allocator, R: Wait>(
     }
 }
 
-// Makes so many choices.
+// Makes so many choices, and in the last round lets go of all that it has; nothing where it has stopped for good.
 fn chooses<C: Handler, A: Allocator, R: Wait>(
     rt: &R,
     machine: &MachineOf<C, A>,
@@ -164,19 +164,27 @@ fn chooses<C: Handler, A: Allocator, R: Wait>(
     tools: &mut Tools,
     watch: &Watch,
     choices: u32,
+    is_last: bool,
 ) -> CallerOf<C, A>
     requires machine { caller.machine ≡ machine.now }
     requires answering { AnswersAsTold C.declared C.plan machine.now.first.callbacks }
     ensures { result.machine ≡ machine.now }
 {
     for _ in 0..choices {
+        if tools.is_gone {
+            break;
+        }
         if tools.dice.one_in(12) {
             caller = holds(machine, caller, tools, watch);
         } else {
             acts(rt, machine, &mut caller, tools, watch);
         }
     }
-    lets_go(rt, machine, &mut caller, tools, watch);
+    let is_gone = tools.goes();
+    if is_last && !is_gone {
+        lets_go(rt, machine, &mut caller, tools, watch);
+    }
+    watch.count_done();
     caller
 }
 
@@ -191,9 +199,13 @@ impl<C: Handler, A: Allocator> Hand<C, A> {
             mut caller,
             mut tools,
             duty,
+            rounds,
         } = self;
+        let is_last = rounds <= 1;
         caller = match duty {
-            Duty::Chooses(choices) => chooses(rt, machine, caller, &mut tools, watch, choices),
+            Duty::Chooses(choices) => {
+                chooses(rt, machine, caller, &mut tools, watch, choices, is_last)
+            }
             Duty::Helps => {
                 attends(rt, machine, &mut caller, watch);
                 caller
@@ -203,6 +215,7 @@ impl<C: Handler, A: Allocator> Hand<C, A> {
             caller,
             tools,
             duty,
+            rounds: rounds.saturating_sub(1),
         }
     }
 }

@@ -7,6 +7,7 @@ mod calls;
 mod choices;
 mod dice;
 mod entries;
+mod events;
 mod hand;
 mod hosts;
 mod locks;
@@ -18,13 +19,14 @@ mod watch;
 mod words;
 
 use crate::again::plays_so;
+use crate::events::Event;
 use crate::runs::run_hosts;
 use crate::texts::{Failure, Texts};
 use crate::words::read_words;
 use std::process::ExitCode;
 use std::{env, io};
 
-const USAGE: &str = "usage: evl_stress SEED THREADS CHOICES [tell]";
+const USAGE: &str = "usage: evl_stress SEED THREADS CHOICES [LIMIT ROUNDS] [tell]";
 
 // What is told of a run.
 enum Told {
@@ -32,11 +34,23 @@ enum Told {
     Again(bool),
 }
 
-// The scenario, a line that ends it, and the trace.
+// A call at a mutex or a stax: its thread, which call, the number of the mutex or stax, the answer, and the stamps.
+fn tell_event(rt: &HostRuntime, event: &Event) -> io::Result<()> {
+    print!(rt; "{} {} ", event.thread, event.step.name())?;
+    print!(rt; "{} {} ", event.number, event.answer)?;
+    println!(rt; "{} {}", event.begun, event.ended)
+}
+
+// The scenario, a line that ends it, the trace, another such line, and the calls at mutexes and staxes.
 fn tell(rt: &HostRuntime, texts: &Texts) -> io::Result<()> {
     print!(rt; "{}", texts.scenario)?;
     println!(rt; "# trace")?;
-    print!(rt; "{}", texts.trace)
+    print!(rt; "{}", texts.trace)?;
+    println!(rt; "# words")?;
+    for event in texts.events.as_slice() {
+        tell_event(rt, event)?;
+    }
+    Ok(())
 }
 
 fn conclude(rt: &HostRuntime, texts: &Texts, told: Told) -> io::Result<ExitCode> {

@@ -11,10 +11,11 @@ ghost use Rattle.evl_stress.specs.Texts.{IsPlayedSo};
 
 use crate::boards::shared_board;
 use crate::dice::Dice;
+use crate::events::Event;
 use crate::hand::{Duty, Hand};
 use crate::hosts::all_work;
 use crate::texts::{Failure, LIMIT, Texts, texts_of};
-use crate::tools::Tools;
+use crate::tools::{Manner, Tools};
 use crate::watch::Watch;
 use evl_bank::{BankUser, with_program_bank};
 use evl_base::Refusal;
@@ -25,18 +26,30 @@ use std::alloc::{AllocError, Allocator, Global};
 use std::sync::Wait;
 use std::thread::Threads;
 
-/// What is run: from which seed, by how many host threads, and how many choices each makes. One host thread more helps them.
+/// What is run: from which seed, by how many host threads, how many choices each makes in a round, how many entries the
+/// history has at most, and in how many rounds, between which each caller goes with its passes to another host thread. One
+/// host thread more helps them.
 #[derive(Clone, Copy)]
 pub struct Order {
     pub seed: u64,
     pub threads: u16,
     pub choices: u32,
+    pub limit: u32,
+    pub rounds: u32,
 }
 
 impl Order {
     /// The threads of the board: those that choose, and the one that helps.
     fn board_threads(self) -> u16 {
         self.threads.saturating_add(1)
+    }
+
+    /// How the hands do what they choose.
+    fn manner(self) -> Manner {
+        Manner {
+            is_patient: self.limit >= LIMIT,
+            moves: self.rounds > 1,
+        }
     }
 
     /// What the host thread of a caller is for, the first ones choosing and the last one helping.
@@ -65,8 +78,14 @@ fn hands_of<C: Handler, A: Allocator>(
     for caller in callers {
         let hand = Hand {
             caller,
-            tools: Tools::new(Dice::new(order.seed, u64::from(place)), alloc),
+            tools: Tools::new(
+                place,
+                Dice::new(order.seed, u64::from(place)),
+                order.manner(),
+                alloc,
+            ),
             duty: order.duty(place),
+            rounds: order.rounds,
         };
         match hands.push(hand) {
             Ok(()) => {}
@@ -77,11 +96,12 @@ fn hands_of<C: Handler, A: Allocator>(
     Ok(hands)
 }
 
-/// The callers of some hands, in their order.
+/// The callers of some hands, in their order; what the hands tell of their calls comes to the others' tellings.
 fn callers_of<C: Handler, A: Allocator>(
     alloc: Global,
     machine: &MachineOf<C, A>,
     hands: Vec<Hand<C, A>>,
+    events: &mut Vec<Event>,
 ) -> Result<Vec<CallerOf<C, A>>, AllocError>
     requires { All (λ h. h.caller.machine ≡ machine.now) hands.items }
     ensures machine { IfOk result (λ callers. All (λ c. c.machine ≡ machine.now) callers.items) }
@@ -89,16 +109,41 @@ fn callers_of<C: Handler, A: Allocator>(
 {
     let mut callers = Vec::with_capacity(alloc, hands.len())?;
     for hand in hands {
-        let Hand { caller, .. } = hand;
+        let Hand { caller, tools, .. } = hand;
         match callers.push(caller) {
             Ok(()) => {}
             Err(_) => return Err(AllocError),
+        }
+        if !tools.tells(events) {
+            return Err(AllocError);
         }
     }
     Ok(callers)
 }
 
-/// All callers do what their host threads are for, and come back.
+/// All hands do what they are for, in so many rounds, in each on host threads of its own.
+fn all_rounds<C: Handler + Send, R: Threads + Wait + Sync>(
+    rt: &R,
+    rounds: u32,
+    machine: &MachineOf<C, Global>,
+    watch: &Watch,
+    hands: Vec<Hand<C, Global>>,
+) -> Result<Vec<Hand<C, Global>>, AllocError>
+    requires machine { All (λ h. h.caller.machine ≡ machine.now) hands.items }
+    requires answering { AnswersAsTold C.declared C.plan machine.now.first.callbacks }
+    requires shared { IsSync R.row }
+    ensures machine { IfOk result (λ back. All (λ h. h.caller.machine ≡ machine.now) back.items) }
+    ensures all { IfOk result (λ back. length back.items ≡ length hands.items) }
+{
+    let mut hands = hands;
+    for _ in 0..rounds {
+        watch.starts();
+        hands = all_work(rt, machine, watch, hands)?;
+    }
+    Ok(hands)
+}
+
+/// All callers do what their host threads are for, and come back, with what they tell of their calls.
 fn all_call<C: Handler + Send, R: Threads + Wait + Sync>(
     rt: &R,
     alloc: Global,
@@ -106,6 +151,7 @@ fn all_call<C: Handler + Send, R: Threads + Wait + Sync>(
     machine: &MachineOf<C, Global>,
     watch: &Watch,
     callers: Vec<CallerOf<C, Global>>,
+    events: &mut Vec<Event>,
 ) -> Result<Vec<CallerOf<C, Global>>, AllocError>
     requires machine { All (λ c. c.machine ≡ machine.now) callers.items }
     requires answering { AnswersAsTold C.declared C.plan machine.now.first.callbacks }
@@ -114,8 +160,8 @@ fn all_call<C: Handler + Send, R: Threads + Wait + Sync>(
     ensures all { IfOk result (λ back. length back.items ≡ length callers.items) }
 {
     let hands = hands_of(alloc, order, machine, callers)?;
-    let hands = all_work(rt, machine, watch, hands)?;
-    callers_of(alloc, machine, hands)
+    let hands = all_rounds(rt, order.rounds, machine, watch, hands)?;
+    callers_of(alloc, machine, hands, events)
 }
 
 /// The texts of what the callers did, once all are back and the machine is closed.
@@ -124,6 +170,7 @@ fn texts_after(
     threads: u16,
     machine: Machine,
     callers: Vec<Caller>,
+    events: Vec<Event>,
 ) -> Result<Texts, Failure>
     requires machine { All (λ c. c.machine ≡ machine.of) callers.items }
     requires sound { AreSound machine.of.first.history.bank }
@@ -131,7 +178,7 @@ fn texts_after(
     ensures { IfOk result (λ texts. IsPlayedSo machine.of.first.history.bank texts) }
 {
     match machine.close(callers) {
-        Ok(kernel) => texts_of(alloc, &kernel, threads),
+        Ok(kernel) => texts_of(alloc, &kernel, threads, events),
         Err((refusal, _, _)) => Err(Failure::Refused(refusal)),
     }
 }
@@ -153,11 +200,15 @@ fn played<R: Threads + Wait + Sync>(
     ensures { IfOk result (λ texts. IsPlayedSo machine.of.first.history.bank texts) }
 {
     let watch = Watch::new(u32::from(order.threads));
-    let Ok(back) = all_call(rt, alloc, order, &machine.of, &watch, callers) else {
+    let mut events = Vec::new(alloc);
+    let Ok(back) = all_call(rt, alloc, order, &machine.of, &watch, callers, &mut events) else {
         return Err(Failure::Refused(Refusal::NoMemory));
     };
+    if !watch.is_all_told() {
+        return Err(Failure::Refused(Refusal::NoMemory));
+    }
     match watch.differing() {
-        0 => texts_after(alloc, threads, machine, back),
+        0 => texts_after(alloc, threads, machine, back, events),
         takes => Err(Failure::Differs(takes)),
     }
 }
@@ -175,7 +226,7 @@ fn run_over<R: Threads + Wait + Sync>(
 {
     know_bank(bank.as_slice());
     let threads = order.board_threads();
-    match Machine::new(alloc, shared_board(threads), bank, LIMIT) {
+    match Machine::new(alloc, shared_board(threads), bank, order.limit) {
         Ok((machine, callers)) => played(rt, alloc, order, threads, machine, callers),
         Err(refusal) => Err(Failure::Refused(refusal)),
     }

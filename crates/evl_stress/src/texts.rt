@@ -5,17 +5,19 @@ ghost use Rattle.evl_stress.specs.Boards.{shared_board};
 ghost use Rattle.evl_stress.specs.Texts.{IsPlayedSo, IsUntold};
 
 use crate::boards::shared_board;
+use crate::events::Event;
 use evl_base::Refusal;
 use evl_kernel::KernelOf;
 use evl_scenario::{Unwritten, without_staxes, write_scenario};
 use evl_shell::trace_kernel;
 use std::alloc::{Allocator, Global};
 
-/// A scenario, and the trace that it is played with.
+/// A scenario, and the trace that it is played with; and what the callers told of their calls at mutexes and staxes.
 #[derive(Drop)]
 pub struct Texts {
     pub scenario: String,
     pub trace: String,
+    pub events: Vec<Event>,
 }
 
 /// The most entries that a history has.
@@ -32,12 +34,13 @@ pub enum Failure {
     Differs(u32),
 }
 
-/// The texts of a kernel's history, whose board is the shared one. `Unwritten` where it has more than a million entries or
+/// The texts of a kernel's history, whose board is the shared one, beside what was told. `Unwritten` where it has more than a million entries or
 /// its scenario would be too long; `NoMemory`, of either kind, where a growth was refused (this profile).
 pub fn texts_of<C, A: Allocator>(
     alloc: Global,
     kernel: &KernelOf<C, A>,
     threads: u16,
+    events: Vec<Event>,
 ) -> Result<Texts, Failure>
     requires board { kernel.now.history.board ≡ shared_board threads }
     requires sound { AreSound kernel.now.history.bank }
@@ -54,7 +57,11 @@ pub fn texts_of<C, A: Allocator>(
         Err(why) => return Err(Failure::Unwritten(why)),
     };
     match trace_kernel(alloc, kernel, &board, LIMIT) {
-        Ok(trace) => Ok(Texts { scenario, trace }),
+        Ok(trace) => Ok(Texts {
+            scenario,
+            trace,
+            events,
+        }),
         Err(refusal) => Err(Failure::Refused(refusal)),
     }
 }

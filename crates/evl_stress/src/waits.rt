@@ -12,9 +12,6 @@ use evl_pipeline::Handler;
 use std::alloc::Allocator;
 use std::sync::Wait;
 
-// How often an unfinished wait is looked at, at most.
-const LOOKS: u32 = 100;
-
 fn transfers<C: Handler, A: Allocator, R: Wait>(
     rt: &R,
     machine: &MachineOf<C, A>,
@@ -68,7 +65,7 @@ fn waits_for_one<C: Handler, A: Allocator, R: Wait>(
     }
 }
 
-/// Waits for an element to the end.
+/// Waits for an element to the end, where there is the patience for that.
 pub fn waits<C: Handler, A: Allocator, R: Wait>(
     rt: &R,
     machine: &MachineOf<C, A>,
@@ -80,10 +77,20 @@ pub fn waits<C: Handler, A: Allocator, R: Wait>(
     requires answering { AnswersAsTold C.declared C.plan machine.now.first.callbacks }
     ensures { caller.new.machine ≡ machine.now }
 {
+    if !tools.manner.is_patient {
+        return begins(rt, machine, caller, tools, watch);
+    }
     learns_date(rt, machine, caller, tools);
     watch.falls_asleep();
     let _ = waits_for_one(rt, machine, caller, tools);
     watch.wakes_up();
+}
+
+// Keeps in mind that a wait is over, where the answer tells.
+fn ends(tools: &mut Tools, answer: &Result<Reply, Refusal>) {
+    if answer.is_ok() {
+        tools.is_waiting = false;
+    }
 }
 
 /// Finishes a wait for an element, if there is one.
@@ -98,12 +105,12 @@ pub fn finishes<C: Handler, A: Allocator, R: Wait>(
     requires answering { AnswersAsTold C.declared C.plan machine.now.first.callbacks }
     ensures { caller.new.machine ≡ machine.now }
 {
-    for _ in 0..LOOKS {
+    for _ in 0..tools.looks() {
         let since = watch.helps();
         let keep = tools.keeps_stage();
         match machine.call(rt, caller, Call::Finish { keep }) {
             Err(Refusal::Again) => watch.sleep(rt, since),
-            _ => return,
+            answer => return ends(tools, &answer),
         }
     }
 }
@@ -125,6 +132,7 @@ pub fn begins<C: Handler, A: Allocator, R: Wait>(
     let begin = any_begin(&mut tools.dice, tools.alloc, until);
     let answer = machine.call(rt, caller, begin);
     if let Ok(Reply::Begun) = answer {
+        tools.is_waiting = true;
         makes_call(rt, machine, caller, tools);
         finishes(rt, machine, caller, tools, watch);
     }

@@ -5,7 +5,8 @@ use std::sync::atomic::{AtomicU32, Ordering};
 use std::thread;
 
 /// What the host threads tell each other beside the machine: how many wait, how many are done, and how often those who wait
-/// were helped; and at how many takes of the kernel a mutex's word didn't say what is recorded.
+/// were helped; at how many takes of the kernel a mutex's word didn't say what is recorded; stamps; and how many calls
+/// couldn't be told.
 #[derive(Drop)]
 pub struct Watch {
     threads: u32,
@@ -13,6 +14,8 @@ pub struct Watch {
     done: AtomicU32,
     helps: AtomicU32,
     differing: AtomicU32,
+    stamps: AtomicU32,
+    untold: AtomicU32,
 }
 
 impl Watch {
@@ -24,7 +27,29 @@ impl Watch {
             done: AtomicU32::new(0),
             helps: AtomicU32::new(0),
             differing: AtomicU32::new(0),
+            stamps: AtomicU32::new(0),
+            untold: AtomicU32::new(0),
         }
+    }
+
+    /// All threads begin again.
+    pub fn starts(&self) {
+        self.done.store(0, Ordering::SeqCst);
+    }
+
+    /// A number greater than all stamps before.
+    pub fn stamp(&self) -> u32 {
+        self.stamps.fetch_add(1, Ordering::SeqCst)
+    }
+
+    /// Counts a call that there was no memory to tell of.
+    pub fn count_untold(&self) {
+        self.untold.fetch_add(1, Ordering::SeqCst);
+    }
+
+    /// Whether each call was told of.
+    pub fn is_all_told(&self) -> bool {
+        self.untold.load(Ordering::SeqCst) == 0
     }
 
     /// A thread begins to wait for others.

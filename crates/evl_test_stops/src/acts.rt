@@ -1,0 +1,365 @@
+//! What a caller does in a row, and what it is told. Of the caller its machine alone is told by the clauses.
+ghost use Rattle.std.specs.Prelude.{◌≡◌};
+ghost use Rattle.evl_kernel.specs.Callbacks.{AnswersAsTold};
+
+use crate::boards::{FLAGS, SEM, XBUF};
+use crate::passes::Passes;
+use evl_base::{Call, MutexId, Policy, Refusal, Reply, SemId, Stage, StaxId, Take, Transfer, Way};
+use evl_machine::{CallerOf, MachineOf};
+use evl_pipeline::Handler;
+use std::alloc::Allocator;
+use std::sync::Wait;
+
+// A call of the kernel.
+#[derive(Clone, Copy)]
+pub enum Ask {
+    Attach(Policy, Stage),
+    SetStage(Stage),
+    Put(SemId),
+    Peek(SemId),
+    BeginGet(SemId),
+    Finish(bool),
+    Tick(u64),
+}
+
+pub fn call_of(ask: Ask) -> Call {
+    match ask {
+        Ask::Attach(policy, stage) => Call::Attach { policy, stage },
+        Ask::SetStage(stage) => Call::SetStage { stage },
+        Ask::Put(sem) => Call::Put { sem },
+        Ask::Peek(sem) => Call::Peek { sem },
+        Ask::BeginGet(sem) => Call::BeginGet { sem, until: None },
+        Ask::Finish(keep) => Call::Finish { keep },
+        Ask::Tick(delta) => Call::Tick { delta },
+    }
+}
+
+// What a caller does: without waiting, and (the last ones) by the forms that wait.
+#[derive(Clone, Copy)]
+pub enum Act {
+    Call(Ask),
+    Enter(StaxId),
+    Leave(u16),
+    Lock(MutexId),
+    Begin(MutexId, Option<u64>),
+    Finish,
+    UnlockFast(MutexId),
+    Unlock(MutexId),
+    // The pass of the mutex is lost.
+    Lose(MutexId),
+    CallAtLast(Ask),
+    LockAtLast(MutexId, Option<u64>),
+    UnlockAtLast(MutexId),
+    WaitFor(Element, Option<u64>),
+}
+
+// For what a caller waits: a semaphore, bits of a flag group, a byte to read, or room for two bytes that it writes.
+#[derive(Clone, Copy)]
+pub enum Element {
+    Sem,
+    Flags,
+    Read,
+    Write,
+}
+
+// What it is told.
+#[derive(Clone, Copy, PartialEq)]
+pub enum Told {
+    Done,
+    Begun,
+    Count(i64),
+    TimedOut,
+    Passed,
+    Waiting,
+    Left(bool),
+    Refused(Refusal),
+    Nothing,
+}
+
+pub const BUSY: Told = Told::Refused(Refusal::Busy);
+
+pub const CORE_BUSY: Told = Told::Refused(Refusal::CoreBusy);
+
+pub const FULL: Told = Told::Refused(Refusal::HistoryFull);
+
+pub const SHORT: Told = Told::Refused(Refusal::NoMemory);
+
+// What the kernel's answer tells.
+pub fn told_by(answer: Result<Reply, Refusal>) -> Told {
+    match answer {
+        Ok(Reply::Done) => Told::Done,
+        Ok(Reply::Begun) => Told::Begun,
+        Ok(Reply::Count(count)) => Told::Count(count),
+        Ok(Reply::TimedOut) => Told::TimedOut,
+        Ok(_) => Told::Nothing,
+        Err(refusal) => Told::Refused(refusal),
+    }
+}
+
+fn loses(passes: &mut Passes, mutex: MutexId) -> Told {
+    match passes.of_mutex(mutex) {
+        Some(_) => Told::Done,
+        None => Told::Nothing,
+    }
+}
+
+fn asks<C: Handler, A: Allocator>(
+    machine: &MachineOf<C, A>,
+    caller: &mut CallerOf<C, A>,
+    ask: Ask,
+) -> Told
+    requires machine { caller.old.machine ≡ machine.now }
+    requires answering { AnswersAsTold C.declared C.plan machine.now.first.callbacks }
+    ensures { caller.new.machine ≡ machine.now }
+{
+    told_by(machine.try_call(caller, call_of(ask)))
+}
+
+fn enters<C: Handler, A: Allocator>(
+    machine: &MachineOf<C, A>,
+    caller: &mut CallerOf<C, A>,
+    passes: &mut Passes,
+    stax: StaxId,
+) -> Told
+    requires machine { caller.old.machine ≡ machine.now }
+    ensures { caller.new.machine ≡ machine.now }
+{
+    passes.entered(machine.try_lock_stax(caller, stax))
+}
+
+fn leaves<C: Handler, A: Allocator>(
+    machine: &MachineOf<C, A>,
+    caller: &mut CallerOf<C, A>,
+    passes: &mut Passes,
+    number: u16,
+) -> Told
+    requires machine { caller.old.machine ≡ machine.now }
+    ensures { caller.new.machine ≡ machine.now }
+{
+    match passes.of_caller(number) {
+        Some(pass) => passes.left(machine.unlock_stax(caller, pass)),
+        None => Told::Nothing,
+    }
+}
+
+fn locks<C: Handler, A: Allocator>(
+    machine: &MachineOf<C, A>,
+    caller: &mut CallerOf<C, A>,
+    passes: &mut Passes,
+    mutex: MutexId,
+) -> Told
+    requires machine { caller.old.machine ≡ machine.now }
+    requires answering { AnswersAsTold C.declared C.plan machine.now.first.callbacks }
+    ensures { caller.new.machine ≡ machine.now }
+{
+    passes.locked(machine.try_lock_mutex(caller, mutex))
+}
+
+fn begins<C: Handler, A: Allocator>(
+    machine: &MachineOf<C, A>,
+    caller: &mut CallerOf<C, A>,
+    passes: &mut Passes,
+    mutex: MutexId,
+    until: Option<u64>,
+) -> Told
+    requires machine { caller.old.machine ≡ machine.now }
+    requires answering { AnswersAsTold C.declared C.plan machine.now.first.callbacks }
+    ensures { caller.new.machine ≡ machine.now }
+{
+    passes.begun(machine.begin_lock_mutex(caller, mutex, until))
+}
+
+fn finishes<C: Handler, A: Allocator>(
+    machine: &MachineOf<C, A>,
+    caller: &mut CallerOf<C, A>,
+    passes: &mut Passes,
+) -> Told
+    requires machine { caller.old.machine ≡ machine.now }
+    requires answering { AnswersAsTold C.declared C.plan machine.now.first.callbacks }
+    ensures { caller.new.machine ≡ machine.now }
+{
+    passes.ended(machine.finish_lock_mutex(caller))
+}
+
+fn unlocks_fast<C: Handler, A: Allocator>(
+    machine: &MachineOf<C, A>,
+    caller: &mut CallerOf<C, A>,
+    passes: &mut Passes,
+    mutex: MutexId,
+) -> Told
+    requires machine { caller.old.machine ≡ machine.now }
+    requires answering { AnswersAsTold C.declared C.plan machine.now.first.callbacks }
+    ensures { caller.new.machine ≡ machine.now }
+{
+    match passes.of_mutex(mutex) {
+        Some(pass) => passes.unlocked(machine.unlock_mutex_fast(caller, pass)),
+        None => Told::Nothing,
+    }
+}
+
+fn unlocks<C: Handler, A: Allocator>(
+    machine: &MachineOf<C, A>,
+    caller: &mut CallerOf<C, A>,
+    passes: &mut Passes,
+    mutex: MutexId,
+) -> Told
+    requires machine { caller.old.machine ≡ machine.now }
+    requires answering { AnswersAsTold C.declared C.plan machine.now.first.callbacks }
+    ensures { caller.new.machine ≡ machine.now }
+{
+    match passes.of_mutex(mutex) {
+        Some(pass) => passes.unlocked(machine.try_unlock_mutex(caller, pass)),
+        None => Told::Nothing,
+    }
+}
+
+fn asks_at_last<C: Handler, A: Allocator, R: Wait>(
+    rt: &R,
+    machine: &MachineOf<C, A>,
+    caller: &mut CallerOf<C, A>,
+    ask: Ask,
+) -> Told
+    requires machine { caller.old.machine ≡ machine.now }
+    requires answering { AnswersAsTold C.declared C.plan machine.now.first.callbacks }
+    ensures { caller.new.machine ≡ machine.now }
+{
+    told_by(machine.call(rt, caller, call_of(ask)))
+}
+
+fn locks_at_last<C: Handler, A: Allocator, R: Wait>(
+    rt: &R,
+    machine: &MachineOf<C, A>,
+    caller: &mut CallerOf<C, A>,
+    passes: &mut Passes,
+    mutex: MutexId,
+    until: Option<u64>,
+) -> Told
+    requires machine { caller.old.machine ≡ machine.now }
+    requires answering { AnswersAsTold C.declared C.plan machine.now.first.callbacks }
+    ensures { caller.new.machine ≡ machine.now }
+{
+    passes.ended(machine.lock_mutex(rt, caller, mutex, until))
+}
+
+fn unlocks_at_last<C: Handler, A: Allocator, R: Wait>(
+    rt: &R,
+    machine: &MachineOf<C, A>,
+    caller: &mut CallerOf<C, A>,
+    passes: &mut Passes,
+    mutex: MutexId,
+) -> Told
+    requires machine { caller.old.machine ≡ machine.now }
+    requires answering { AnswersAsTold C.declared C.plan machine.now.first.callbacks }
+    ensures { caller.new.machine ≡ machine.now }
+{
+    match passes.of_mutex(mutex) {
+        Some(pass) => passes.unlocked(machine.unlock_mutex(rt, caller, pass)),
+        None => Told::Nothing,
+    }
+}
+
+fn gets<C: Handler, A: Allocator, R: Wait>(
+    rt: &R,
+    machine: &MachineOf<C, A>,
+    caller: &mut CallerOf<C, A>,
+    until: Option<u64>,
+) -> Told
+    requires machine { caller.old.machine ≡ machine.now }
+    requires answering { AnswersAsTold C.declared C.plan machine.now.first.callbacks }
+    ensures { caller.new.machine ≡ machine.now }
+{
+    told_by(machine.get_sem(rt, caller, SEM, until))
+}
+
+fn takes_flags<C: Handler, A: Allocator, R: Wait>(
+    rt: &R,
+    machine: &MachineOf<C, A>,
+    caller: &mut CallerOf<C, A>,
+    until: Option<u64>,
+) -> Told
+    requires machine { caller.old.machine ≡ machine.now }
+    requires answering { AnswersAsTold C.declared C.plan machine.now.first.callbacks }
+    ensures { caller.new.machine ≡ machine.now }
+{
+    told_by(machine.wait_flags(rt, caller, FLAGS, Take::Any, until))
+}
+
+fn reads<C: Handler, A: Allocator, R: Wait>(
+    rt: &R,
+    machine: &MachineOf<C, A>,
+    caller: &mut CallerOf<C, A>,
+    until: Option<u64>,
+) -> Told
+    requires machine { caller.old.machine ≡ machine.now }
+    requires answering { AnswersAsTold C.declared C.plan machine.now.first.callbacks }
+    ensures { caller.new.machine ≡ machine.now }
+{
+    told_by(machine.read_xbuf(rt, caller, XBUF, Way::In, 1, until))
+}
+
+fn writes<C: Handler, A: Allocator, R: Wait>(
+    rt: &R,
+    machine: &MachineOf<C, A>,
+    caller: &mut CallerOf<C, A>,
+    bytes: Transfer,
+    until: Option<u64>,
+) -> Told
+    requires machine { caller.old.machine ≡ machine.now }
+    requires answering { AnswersAsTold C.declared C.plan machine.now.first.callbacks }
+    ensures { caller.new.machine ≡ machine.now }
+{
+    told_by(machine.write_xbuf(rt, caller, XBUF, Way::Out, bytes, until))
+}
+
+// Waits for an element; the bytes that are written come from the passes' allocator.
+fn waits_for<C: Handler, A: Allocator, R: Wait>(
+    rt: &R,
+    machine: &MachineOf<C, A>,
+    caller: &mut CallerOf<C, A>,
+    passes: &Passes,
+    element: Element,
+    until: Option<u64>,
+) -> Told
+    requires machine { caller.old.machine ≡ machine.now }
+    requires answering { AnswersAsTold C.declared C.plan machine.now.first.callbacks }
+    ensures { caller.new.machine ≡ machine.now }
+{
+    match element {
+        Element::Sem => gets(rt, machine, caller, until),
+        Element::Flags => takes_flags(rt, machine, caller, until),
+        Element::Read => reads(rt, machine, caller, until),
+        Element::Write => match passes.bytes() {
+            Some(bytes) => writes(rt, machine, caller, bytes, until),
+            None => Told::Nothing,
+        },
+    }
+}
+
+// What a caller does.
+pub fn does<C: Handler, A: Allocator, R: Wait>(
+    rt: &R,
+    machine: &MachineOf<C, A>,
+    caller: &mut CallerOf<C, A>,
+    passes: &mut Passes,
+    act: Act,
+) -> Told
+    requires machine { caller.old.machine ≡ machine.now }
+    requires answering { AnswersAsTold C.declared C.plan machine.now.first.callbacks }
+    ensures { caller.new.machine ≡ machine.now }
+{
+    match act {
+        Act::Call(ask) => asks(machine, caller, ask),
+        Act::Enter(stax) => enters(machine, caller, passes, stax),
+        Act::Leave(number) => leaves(machine, caller, passes, number),
+        Act::Lock(mutex) => locks(machine, caller, passes, mutex),
+        Act::Begin(mutex, until) => begins(machine, caller, passes, mutex, until),
+        Act::Finish => finishes(machine, caller, passes),
+        Act::UnlockFast(mutex) => unlocks_fast(machine, caller, passes, mutex),
+        Act::Unlock(mutex) => unlocks(machine, caller, passes, mutex),
+        Act::Lose(mutex) => loses(passes, mutex),
+        Act::CallAtLast(ask) => asks_at_last(rt, machine, caller, ask),
+        Act::LockAtLast(mutex, until) => locks_at_last(rt, machine, caller, passes, mutex, until),
+        Act::UnlockAtLast(mutex) => unlocks_at_last(rt, machine, caller, passes, mutex),
+        Act::WaitFor(element, until) => waits_for(rt, machine, caller, passes, element, until),
+    }
+}

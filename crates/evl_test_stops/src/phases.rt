@@ -1,0 +1,260 @@
+//! Phases of a row as data: who calls what and is told what, beside whom, and what is left then.
+ghost use Rattle.std.specs.Prelude.{◌≡◌, All};
+ghost use Rattle.evl_kernel.specs.Callbacks.{AnswersAsTold};
+
+use crate::acts::{Act, Told, does};
+use crate::held::{answers_held, applies, drops_the_kernel, looks};
+use crate::memory::Memory;
+use crate::passes::Passes;
+use evl_base::ThreadId;
+use evl_machine::{CallerOf, InWord, MachineOf};
+use evl_pipeline::Handler;
+use std::alloc::Allocator;
+use std::sync::Wait;
+
+// A step: by which caller, what it does, and what it is told.
+pub type Step = (usize, Act, Told);
+
+// What stands still while the steps of a phase are made.
+#[derive(Clone, Copy, PartialEq)]
+pub enum Side {
+    // Nothing.
+    Free,
+    // The last caller has the core.
+    Held,
+    // There is no memory.
+    Short,
+    // The steps are the last caller's own calls, all under one take of the core.
+    Applied,
+    // The same where there is no memory.
+    AppliedShort,
+    // The last caller was dropped with the core.
+    Dropped,
+    // The first caller was dropped with what it had, so that the second one is the first.
+    Lost,
+}
+
+// What is left: how many entries, what stands in the word of the first mutex, and what the kernel records of it.
+#[derive(Clone, Copy, PartialEq)]
+pub struct Left {
+    pub entries: usize,
+    pub word: Option<InWord>,
+    pub owner: Option<ThreadId>,
+    pub waiters: usize,
+}
+
+// Steps beside a side, and what is left where it can be looked at.
+pub type Phase<'a> = (Side, &'a [Step], Option<Left>);
+
+// What the caller at this place is told.
+fn answer<C: Handler, A: Allocator, R: Wait>(
+    rt: &R,
+    machine: &MachineOf<C, A>,
+    callers: &mut Vec<CallerOf<C, A>, A>,
+    passes: &mut Passes,
+    number: usize,
+    act: Act,
+) -> Told
+    requires callers { All (λ c. c.machine ≡ machine.now) callers.old.items }
+    requires answering { AnswersAsTold C.declared C.plan machine.now.first.callbacks }
+    ensures { All (λ c. c.machine ≡ machine.now) callers.new.items }
+{
+    if number >= callers.len() {
+        return Told::Nothing;
+    }
+    does(rt, machine, &mut callers[number], passes, act)
+}
+
+// Whether each step is answered as it is wanted.
+pub fn answers<C: Handler, A: Allocator, R: Wait>(
+    rt: &R,
+    machine: &MachineOf<C, A>,
+    callers: &mut Vec<CallerOf<C, A>, A>,
+    passes: &mut Passes,
+    steps: &[Step],
+) -> bool
+    requires callers { All (λ c. c.machine ≡ machine.now) callers.old.items }
+    requires answering { AnswersAsTold C.declared C.plan machine.now.first.callbacks }
+    ensures { All (λ c. c.machine ≡ machine.now) callers.new.items }
+{
+    for (number, act, wanted) in steps {
+        if answer(rt, machine, callers, passes, *number, *act) != *wanted {
+            return false;
+        }
+    }
+    true
+}
+
+// Whether there is room for the last caller, which was away.
+fn comes_back<C: Handler, A: Allocator>(
+    machine: &MachineOf<C, A>,
+    callers: &mut Vec<CallerOf<C, A>, A>,
+    caller: CallerOf<C, A>,
+) -> bool
+    requires callers { All (λ c. c.machine ≡ machine.now) callers.old.items }
+    requires away { caller.machine ≡ machine.now }
+    ensures { All (λ c. c.machine ≡ machine.now) callers.new.items }
+{
+    callers.push(caller).is_ok()
+}
+
+// Whether the others' steps are answered as it is wanted while the last caller has the core.
+fn answers_beside<C: Handler, A: Allocator, R: Wait>(
+    rt: &R,
+    machine: &MachineOf<C, A>,
+    callers: &mut Vec<CallerOf<C, A>, A>,
+    passes: &mut Passes,
+    steps: &[Step],
+) -> bool
+    requires callers { All (λ c. c.machine ≡ machine.now) callers.old.items }
+    requires answering { AnswersAsTold C.declared C.plan machine.now.first.callbacks }
+    ensures { All (λ c. c.machine ≡ machine.now) callers.new.items }
+{
+    let Some(holder) = callers.pop() else {
+        return false;
+    };
+    let (told, holder) = answers_held(rt, machine, holder, callers, passes, steps);
+    let back = comes_back(machine, callers, holder);
+    told && back
+}
+
+// Whether the last caller's own calls, all under one take of the core, are answered as it is wanted.
+fn last_applies<C: Handler, A: Allocator>(
+    machine: &MachineOf<C, A>,
+    callers: &mut Vec<CallerOf<C, A>, A>,
+    steps: &[Step],
+) -> bool
+    requires callers { All (λ c. c.machine ≡ machine.now) callers.old.items }
+    requires answering { AnswersAsTold C.declared C.plan machine.now.first.callbacks }
+    ensures { All (λ c. c.machine ≡ machine.now) callers.new.items }
+{
+    let Some(holder) = callers.pop() else {
+        return false;
+    };
+    let (told, holder) = applies(machine, holder, steps);
+    let back = comes_back(machine, callers, holder);
+    told && back
+}
+
+// Whether the last caller gets the core, and is dropped with it.
+fn last_is_dropped<C: Handler, A: Allocator>(
+    machine: &MachineOf<C, A>,
+    callers: &mut Vec<CallerOf<C, A>, A>,
+) -> bool
+    requires { All (λ c. c.machine ≡ machine.now) callers.old.items }
+    ensures { All (λ c. c.machine ≡ machine.now) callers.new.items }
+{
+    match callers.pop() {
+        Some(holder) => drops_the_kernel(machine, holder),
+        None => false,
+    }
+}
+
+// Whether the first caller was there, and is dropped.
+fn first_is_dropped<C: Handler, A: Allocator>(
+    machine: &MachineOf<C, A>,
+    callers: &mut Vec<CallerOf<C, A>, A>,
+) -> bool
+    requires { All (λ c. c.machine ≡ machine.now) callers.old.items }
+    ensures { All (λ c. c.machine ≡ machine.now) callers.new.items }
+{
+    if callers.is_empty() {
+        return false;
+    }
+    drop(callers.remove(0));
+    true
+}
+
+// What is left, as the last caller sees it.
+fn left_of<C: Handler, A: Allocator>(
+    machine: &MachineOf<C, A>,
+    callers: &mut Vec<CallerOf<C, A>, A>,
+) -> Option<Left>
+    requires { All (λ c. c.machine ≡ machine.now) callers.old.items }
+    ensures { All (λ c. c.machine ≡ machine.now) callers.new.items }
+{
+    let Some(holder) = callers.pop() else {
+        return None;
+    };
+    let (left, holder) = looks(machine, holder);
+    if comes_back(machine, callers, holder) {
+        left
+    } else {
+        None
+    }
+}
+
+// Whether this is left, where it is looked at.
+pub fn is_left<C: Handler, A: Allocator>(
+    machine: &MachineOf<C, A>,
+    callers: &mut Vec<CallerOf<C, A>, A>,
+    wanted: Option<Left>,
+) -> bool
+    requires { All (λ c. c.machine ≡ machine.now) callers.old.items }
+    ensures { All (λ c. c.machine ≡ machine.now) callers.new.items }
+{
+    match wanted {
+        None => true,
+        Some(_) => left_of(machine, callers) == wanted,
+    }
+}
+
+// Whether the others' steps are answered as it is wanted once the last caller was dropped with the core.
+fn answers_after_last<C: Handler, A: Allocator, R: Wait>(
+    rt: &R,
+    machine: &MachineOf<C, A>,
+    callers: &mut Vec<CallerOf<C, A>, A>,
+    passes: &mut Passes,
+    steps: &[Step],
+) -> bool
+    requires callers { All (λ c. c.machine ≡ machine.now) callers.old.items }
+    requires answering { AnswersAsTold C.declared C.plan machine.now.first.callbacks }
+    ensures { All (λ c. c.machine ≡ machine.now) callers.new.items }
+{
+    let dropped = last_is_dropped(machine, callers);
+    let told = answers(rt, machine, callers, passes, steps);
+    dropped && told
+}
+
+// The same once the first caller was dropped.
+fn answers_after_first<C: Handler, A: Allocator, R: Wait>(
+    rt: &R,
+    machine: &MachineOf<C, A>,
+    callers: &mut Vec<CallerOf<C, A>, A>,
+    passes: &mut Passes,
+    steps: &[Step],
+) -> bool
+    requires callers { All (λ c. c.machine ≡ machine.now) callers.old.items }
+    requires answering { AnswersAsTold C.declared C.plan machine.now.first.callbacks }
+    ensures { All (λ c. c.machine ≡ machine.now) callers.new.items }
+{
+    let dropped = first_is_dropped(machine, callers);
+    let told = answers(rt, machine, callers, passes, steps);
+    dropped && told
+}
+
+// Whether the steps beside this side are answered as it is wanted.
+pub fn answers_by<C: Handler, A: Allocator, R: Wait>(
+    rt: &R,
+    memory: Memory<'_>,
+    machine: &MachineOf<C, A>,
+    callers: &mut Vec<CallerOf<C, A>, A>,
+    passes: &mut Passes,
+    side: Side,
+    steps: &[Step],
+) -> bool
+    requires callers { All (λ c. c.machine ≡ machine.now) callers.old.items }
+    requires answering { AnswersAsTold C.declared C.plan machine.now.first.callbacks }
+    ensures { All (λ c. c.machine ≡ machine.now) callers.new.items }
+{
+    let taken = memory.taken_for(side);
+    let told = match side {
+        Side::Free | Side::Short => answers(rt, machine, callers, passes, steps),
+        Side::Held => answers_beside(rt, machine, callers, passes, steps),
+        Side::Applied | Side::AppliedShort => last_applies(machine, callers, steps),
+        Side::Dropped => answers_after_last(rt, machine, callers, passes, steps),
+        Side::Lost => answers_after_first(rt, machine, callers, passes, steps),
+    };
+    drop(taken);
+    told
+}
