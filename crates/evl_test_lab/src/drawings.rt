@@ -1,5 +1,6 @@
 //! Traces that are read and drawn.
-use evl_drawing::{marks_of, write_svg, write_table};
+use evl_drawing::{Condition, Lane, Moment, marks_of, write_svg, write_table};
+use evl_moments::moments_of;
 use evl_runs::write_events;
 use evl_traces::{Misread, TraceLine, read_lines};
 use std::alloc::{AllocError, Global};
@@ -112,4 +113,38 @@ fn a_trace_is_drawn(rt: HostRuntime) {
 fn another_line_is_refused(rt: HostRuntime) {
     let read = read_lines(rt.alloc(), "1 T0 now -> number 0\n1 T0 now = number 0\n");
     assert!(rt; matches!(&read, Err(Misread::Line(2))));
+}
+
+/// A thread that is attached, and then goes in-band.
+const TWO_MOMENTS: &str = r#"
+step = [
+  { do = "attach", who = 1, policy = "fifo 10", stage = "oob" },
+  { do = "set_stage", who = 1, stage = "inband" },
+]
+[board]
+threads = 2
+"#;
+
+// How thread 1 stands after a step.
+fn stands(moments: &[Moment], step: usize) -> Option<(Condition, Option<u16>)> {
+    let standing = moments.get(step)?.standing(Lane::Thread(1))?;
+    Some((standing.condition, standing.number))
+}
+
+// Whether thread 1 is picked at its rank after the first step, and in-band after the second.
+fn stands_so(alloc: Global) -> bool {
+    let lanes = [Lane::Thread(0), Lane::Thread(1)];
+    match moments_of(alloc, &[], TWO_MOMENTS.as_bytes(), &lanes) {
+        Ok(moments) => {
+            moments.len() == 2
+                && stands(moments.as_slice(), 0) == Some((Condition::Picked, Some(522)))
+                && stands(moments.as_slice(), 1) == Some((Condition::Inband, Some(522)))
+        }
+        Err(_) => false,
+    }
+}
+
+#[test]
+fn moments_tell_how_a_thread_stands(rt: HostRuntime) {
+    assert!(rt; stands_so(rt.alloc()));
 }
