@@ -1,1 +1,2 @@
 mod TitleLaws
+pub mod PageLaws

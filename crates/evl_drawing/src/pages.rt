@@ -1,5 +1,5 @@
 //! Long pictures in pages.
-ghost use Rattle.std.specs.Prelude.{◌≡◌, ◌*◌, ◌-◌, drop, take};
+ghost use Rattle.std.specs.Prelude.{◌≡◌, ◌*◌, drop, take};
 
 use crate::marks::{Mark, Shape};
 use crate::moments::Moment;
@@ -12,13 +12,26 @@ pub fn page_count(marks: &[Mark<'_>]) -> usize {
     marks.len().saturating_sub(1) / PAGE + 1
 }
 
+// The first marks, as many as a page has.
+fn first_page<'a, 'b>(marks: &'b [Mark<'a>]) -> &'b [Mark<'a>]
+    ensures page { result.now ≡ take 2000 marks.now }
+{
+    if marks.len() <= PAGE {
+        marks
+    } else {
+        &marks[..PAGE]
+    }
+}
+
 /// The marks of a page, from 0; none behind the last one (this profile).
+#[tactic(auto, using(crate::proofs::PageLaws::drop_short))]
 pub fn page<'a, 'b>(marks: &'b [Mark<'a>], number: usize) -> &'b [Mark<'a>]
     ensures page { result.now ≡ take 2000 (drop (2000 * number) marks.now) }
 {
-    let from = number.saturating_mul(PAGE).min(marks.len());
-    let to = from.saturating_add(PAGE).min(marks.len());
-    &marks[from..to]
+    match number.checked_mul(PAGE) {
+        Some(from) if from < marks.len() => first_page(&marks[from..]),
+        _ => &[],
+    }
 }
 
 /// Whether a mark is that of an entry.
