@@ -1,8 +1,9 @@
 //! What the readers of a kernel tell of its date, its threads and its elements.
 ghost use Rattle.evl_kernel.specs.Callbacks.{AnswersAsTold};
 
-use crate::handlers::{SEM, apply, board_of, does, quiet, quiet_plan};
+use crate::handlers::{SEM, apply, does, quiet, quiet_plan};
 use crate::rows::{KernelRow, on_a_board};
+use arrayvec::ArrayVec;
 use bitflags::Flags;
 use evl_base::{ActionKinds, Board, Call, FlagId, Policy, Reply, Stage, ThreadId, Way, XbufId};
 use evl_kernel::{Awaited, KernelOf};
@@ -81,10 +82,21 @@ impl KernelRow for OneThread {
 
 // A board of one thread with a semaphore, a flag group and a cross-buffer.
 fn board() -> Board {
-    let mut board = board_of(0);
-    board.flags.push(6);
-    board.xbufs.push((16, 8));
-    board
+    let mut sems = ArrayVec::new();
+    sems.push(0);
+    let mut flags = ArrayVec::new();
+    flags.push(6);
+    let mut xbufs = ArrayVec::new();
+    xbufs.push((16, 8));
+    Board {
+        threads: 1,
+        sems,
+        flags,
+        xbufs,
+        mutexes: ArrayVec::new(),
+        groups: ArrayVec::new(),
+        staxes: ArrayVec::new(),
+    }
 }
 
 #[test]
