@@ -40,7 +40,7 @@ fn picked_instead(kernel: &PlannedKernel, step: &Step) -> Option<ThreadId> {
 }
 
 // The step with this number, where an out-of-band thread makes it while another is picked.
-fn unpicked(kernel: &PlannedKernel, step: &Step, number: usize) -> Option<Unpicked> {
+fn unpicked_step(kernel: &PlannedKernel, step: &Step, number: usize) -> Option<Unpicked> {
     match picked_instead(kernel, step) {
         Some(picked) => Some(Unpicked {
             number,
@@ -81,7 +81,7 @@ pub fn make_steps(
     for step in steps {
         number = number.saturating_add(1);
         if found.is_none() {
-            found = unpicked(kernel, &step, number);
+            found = unpicked_step(kernel, &step, number);
         }
         make_step(kernel, step)?;
     }
