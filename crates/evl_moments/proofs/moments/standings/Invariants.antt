@@ -3,4 +3,4 @@ use Rattle.evl_moments.specs.Standings.{stands}
 use Rattle.evl_moments.proofs.moments.standings.Given as goal
 
 abbrev pub invariant-loop-lane : goal.invariant-loop-lane
-invariant-loop-lane g l = l.told.items ++ filter_map (stands l.kernel.now.history.state) (drop l.lane-index l.lanes.now) ≡ filter_map (stands l.kernel.now.history.state) l.lanes.now
+invariant-loop-lane g l = l.told.items ++ filter_map (stands l.kernel.history.state) (drop l.lane-index l.lanes) ≡ filter_map (stands l.kernel.history.state) l.lanes
