@@ -13,7 +13,7 @@ use Rattle.evl_clock.specs.Clocks.{Clock, IsSoundClock, timer_at, deadline_at, w
 use Rattle.evl_clock.specs.ClockSteps.{fired}
 use Rattle.evl_clock.specs.Dues.{all_due, deadline, due_count, due_from, due_of, next_due, timer, timer_date}
 use Rattle.evl_clock.specs.Limits.{thread_count, timer_count}
-use Rattle.evl_clock.specs.Searching.{least_in, sooner}
+use Rattle.evl_clock.specs.Searching.{deadlines_due, least_in, sooner, timers_due}
 use Rattle.evl_clock.specs.Timers.{after_fire, date_of, missed_of, next_date, state_after, stopped}
 use Rattle.evl_clock.proofs.LeastLaws.{earliest-least, either, least-append}
 
@@ -139,7 +139,7 @@ not_timer n m e = cc
 some_date : (o : Option ℕ) (t : ℕ) → o ≡ None → o ≡ Some t → ⊥
 some_date o t e f = cc
 
-abbrev number_of : Item → ℕ
+abbrev pub number_of : Item → ℕ
 number_of (item.Timer id) = id.0
 number_of (item.Deadline thread) = thread.0
 
@@ -150,13 +150,6 @@ same_deadline : (p n : ℕ) → deadline (0 + p) ≡ deadline n → p ≡ n
 same_deadline p n e = omega (arith, ap number_of e)
 
 module _ {C : Type 0} where
-  -- what was found among the timers, and among the deadlines
-  abbrev timers_due : Clock C → List (ℕ × Item)
-  timers_due c = due_from timer c.now 0 (map timer_date c.timers)
-
-  abbrev deadlines_due : Clock C → List (ℕ × Item)
-  deadlines_due c = due_from deadline c.now 0 c.deadlines
-
   pub next-least : (c : Clock C) → option_map (λ d. d.1) (sooner (least_in (timers_due c)) (least_in (deadlines_due c))) ≡ next_due c
   unfolding next_due
   next-least c = ap (option_map (λ d. d.1)) (sym (least-append (timers_due c) (deadlines_due c)) ∙ sym (earliest-least (all_due c)))

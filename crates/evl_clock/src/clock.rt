@@ -3,12 +3,14 @@ ghost use Rattle.std.specs.Prelude.{◌≡◌, ◌+◌, ◌≤◌, ◌<◌, min,
 ghost use Rattle.evl_base.specs.declared.refusal.Refusal.{Refusal};
 ghost use Rattle.evl_clock.specs.Clocks.{IsSoundClock, advance_refusal, advanced, dropped, free_place, new_timer_refusal, opening, start, stop, timer_at, timer_refusal, with_deadline, with_new_timer};
 ghost use Rattle.evl_clock.specs.ClockSteps.{FallsDue, Fires, IsBounded, item_of};
-ghost use Rattle.evl_clock.specs.Dues.{IsNextDue, NothingIsDue, due_count, is_due, next_due};
+ghost use Rattle.evl_clock.specs.Dues.{IsNextDue, NothingIsDue, deadline, due_count, is_due, next_due, timer};
 ghost use Rattle.evl_clock.specs.Limits.{thread_count, timer_count};
+ghost use Rattle.evl_clock.specs.Searching.{IsLeft, Leaves, deadlines_due, least_in, timers_due};
 ghost use Rattle.evl_clock.specs.Timers.{timer_kinds};
 
+use crate::ahead::{Ahead, Seen};
 use crate::due::{Due, Item};
-use crate::search::{free_place, least_deadline, least_timer, sooner_item, take_timer};
+use crate::search::{chosen, free_place, least_deadline, least_timer, sooner_item, take_timer};
 use crate::timer::Timer;
 use crate::timer_state::TimerState;
 use bitflags::Flags;
@@ -29,24 +31,28 @@ fn allowed() -> ActionKinds
         .union(ActionKinds::STOP_TIMER)
 }
 
-/// The date, 64 places for timers with callbacks of type `C`, and the deadlines of threads' waits. To a contract it
-/// is the record `Clock C` of `specs/Clocks.antt`. Only `new` takes memory. The type of the callbacks has no bound
-/// here: where a struct asks for a bound with ghost members, no function can name it at a type with a boxed closure.
+/// The date, 64 places for timers with callbacks of type `C`, the deadlines of threads' waits, and what is known ahead
+/// of both. To a contract it is the record `Clock C` of `specs/Clocks.antt`. Only `new` takes memory. The type of the
+/// callbacks has no bound here: where a struct asks for a bound with ghost members, no function can name it at a type
+/// with a boxed closure.
 #[derive(Drop)]
 pub struct ClockOf<C, A: Allocator> {
     date: u64,
     timers: Vec<Option<Timer<C>>, A>,
     deadlines: Vec<Option<u64>, A>,
+    timers_ahead: Ahead,
+    deadlines_ahead: Ahead,
 }
 
 impl<C, A: Allocator> Model for ClockOf<C, A> {
-    ghost use Rattle.evl_clock.specs.Clocks.{IsSoundClock, Clock};
+    ghost use Rattle.evl_clock.specs.Clocks.{Clock};
+    ghost use Rattle.evl_clock.specs.Searching.{IsForeseen};
 
     ghost Value = { Clock C };
 
     ghost view = { λ c. record { now = c.date; timers = c.timers.items; deadlines = c.deadlines.items } };
 
-    ghost invariant = { λ c. IsSoundClock (record { now = c.date; timers = c.timers.items; deadlines = c.deadlines.items }) };
+    ghost invariant = { λ c. IsForeseen (record { now = c.date; timers = c.timers.items; deadlines = c.deadlines.items }) c.timers_ahead c.deadlines_ahead };
 }
 
 fn no_timers<C, A: Allocator>(alloc: A) -> Result<Vec<Option<Timer<C>>, A>, AllocError>
@@ -94,6 +100,8 @@ impl<C: Drop, A: Allocator + Clone> ClockOf<C, A> {
             date: 0,
             timers,
             deadlines,
+            timers_ahead: Ahead::new(),
+            deadlines_ahead: Ahead::new(),
         })
     }
 }
@@ -107,20 +115,60 @@ impl<C, A: Allocator> ClockOf<C, A> {
         self.date
     }
 
-    // What is due next: what has the least date that isn't after now, at equal dates a timer before a deadline, and
-    // else the lower number.
-    fn due_item(&self) -> Option<Item>
-        ensures next { result ≡ next_due self.now }
-        ensures rule { MatchOption result (NothingIsDue self.now) (IsNextDue self.now) }
+    // The timer that is due first, with its date, and what is known of all other timers. Where none may be due, none is
+    // looked at.
+    #[inline(always)]
+    fn see_timers(&mut self) -> Seen
+        ensures least { result.best ≡ least_in (timers_due self.old) }
+        ensures left { Leaves self.old result }
+        ensures same { self.new ≡ self.old }
     {
-        let timer = least_timer(&self.timers, self.date);
-        let deadline = least_deadline(&self.deadlines, self.date);
-        sooner_item(timer, deadline)
+        if self.date < self.timers_ahead.soonest {
+            return Seen::new();
+        }
+        let seen = least_timer(&self.timers[..self.timers_ahead.reach], self.date);
+        if seen.best.is_none() {
+            self.timers_ahead = seen.rest;
+        }
+        seen
+    }
+
+    // The deadline that is due first, with its date, and what is known of all others. Where none may be due, none is
+    // looked at.
+    #[inline(always)]
+    fn see_deadlines(&mut self) -> Seen
+        ensures least { result.best ≡ least_in (deadlines_due self.old) }
+        ensures left { Leaves self.old result }
+        ensures same { self.new ≡ self.old }
+    {
+        if self.date < self.deadlines_ahead.soonest {
+            return Seen::new();
+        }
+        let seen = least_deadline(&self.deadlines[..self.deadlines_ahead.reach], self.date);
+        if seen.best.is_none() {
+            self.deadlines_ahead = seen.rest;
+        }
+        seen
+    }
+
+    // What is due next: what has the least date that isn't after now, at equal dates a timer before a deadline, and
+    // else the lower number; and what is known ahead of the others of its kind, once it is gone.
+    fn due_item(&mut self) -> Option<(Item, Ahead)>
+        ensures next { option_map (λ d. d.0) result ≡ next_due self.old }
+        ensures rule { MatchOption result (NothingIsDue self.old) (λ d. IsNextDue self.old d.0) }
+        ensures left { IfSome result (λ d. IsLeft self.old d.0 d.1) }
+        ensures same { self.new ≡ self.old }
+    {
+        let timer = self.see_timers();
+        let deadline = self.see_deadlines();
+        let item = sooner_item(timer.best, deadline.best);
+        chosen(item, timer.rest, deadline.rest)
     }
 
     // Whether something is due.
-    fn is_due(&self) -> bool
-        ensures due { result ≡ is_due self.now }
+    fn is_due(&mut self) -> bool
+        ensures due { result ≡ is_due self.old }
+        ensures same { self.new ≡ self.old }
     {
         self.due_item().is_some()
     }
@@ -199,6 +247,19 @@ impl<C, A: Allocator> ClockOf<C, A> {
     {
         if (thread.0 as usize) < self.deadlines.len() {
             self.deadlines[thread.0 as usize] = until;
+            self.deadlines_ahead = self.deadlines_ahead.with(thread.0, until);
+        }
+    }
+
+    // The deadline of a thread's wait falls due, and this is known ahead of the others.
+    fn expire(&mut self, thread: ThreadId, left: Ahead)
+        requires left { IsLeft self.old (deadline thread.0) left }
+        ensures state { self.new ≡ with_deadline self.old thread.0 None }
+    {
+        let n = thread.0 as usize;
+        if n < self.deadlines.len() {
+            self.deadlines[n] = None;
+            self.deadlines_ahead = left;
         }
     }
 }
@@ -219,6 +280,7 @@ impl<C: Drop, A: Allocator> ClockOf<C, A> {
             Some(mut timer) => {
                 timer.start(date, interval);
                 self.timers[id.0 as usize] = Some(timer);
+                self.timers_ahead = self.timers_ahead.with(id.0, Some(date));
                 Ok(date <= self.date)
             },
         }
@@ -267,13 +329,15 @@ impl<C: Handler, A: Allocator> ClockOf<C, A> {
         }
     }
 
-    // Lets the timer of this number fire, if there is one.
-    fn fire(&mut self, id: TimerId) -> Option<(Fire, u64, Answer)>
+    // Lets the timer of this number fire, if there is one. This is known ahead of the others.
+    fn fire(&mut self, id: TimerId, left: Ahead) -> Option<(Fire, u64, Answer)>
+        requires left { IsLeft self.old (timer id.0) left }
         ensures none { IfNone result (timer_at self.old id.0 ≡ None) }
         ensures some { IfSome result (λ f. Fires C.declared C.plan C.gives self.old id.0 f.0 f.1 f.2 self.new) }
     {
         let mut timer = take_timer(&mut self.timers, id.0)?;
         let fired = timer.fire(self.date);
+        self.timers_ahead = left.with(id.0, timer.state.date());
         self.timers[id.0 as usize] = Some(timer);
         Some(fired)
     }
@@ -290,9 +354,10 @@ impl<C: Handler, A: Allocator> ClockOf<C, A> {
         ensures fewer { IfSome result (λ due. due_count self.new + 1 ≡ due_count self.old) }
         ensures bounded { IsBounded C.declared self.old result }
     {
-        match self.due_item()? {
+        let (item, left) = self.due_item()?;
+        match item {
             Item::Timer(id) => {
-                let (fire, missed, answer) = self.fire(id)?;
+                let (fire, missed, answer) = self.fire(id, left)?;
                 Some(Due::Timer {
                     id,
                     fire,
@@ -301,7 +366,7 @@ impl<C: Handler, A: Allocator> ClockOf<C, A> {
                 })
             },
             Item::Deadline(thread) => {
-                self.clear_deadline(thread);
+                self.expire(thread, left);
                 Some(Due::Deadline(thread))
             },
         }

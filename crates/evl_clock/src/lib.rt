@@ -1,6 +1,7 @@
 //! The date, timers and deadlines, and what falls due (Xenomai 4: EVL clocks and timers).
 #![tactic(auto)]
 
+mod ahead;
 mod clock;
 mod due;
 mod search;

@@ -1,33 +1,13 @@
 //! What is due next, and taking a timer out of its place.
 ghost use Rattle.std.specs.Prelude.{◌≡◌, ◌≤◌, ◌<◌, length, map, position, None, Some, is_none, option_map, slice_index_or, slice_set, IfNone, IfSome};
-ghost use Rattle.evl_clock.specs.Dues.{deadline, due_from, due_of, timer, timer_date};
-ghost use Rattle.evl_clock.specs.Searching.{least_in, sooner};
+ghost use Rattle.evl_clock.specs.Dues.{deadline, due_from, timer, timer_date};
+ghost use Rattle.evl_clock.specs.Searching.{IsRest, least_in, sooner, with_rest};
 
+use crate::ahead::{Ahead, Seen, sooner};
 use crate::due::Item;
 use crate::timer::Timer;
 use evl_base::{ThreadId, TimerId};
 use std::alloc::Allocator;
-
-// The item with its date, if that isn't after now.
-fn due_of(now: u64, date: Option<u64>, one: Item) -> Option<(u64, Item)>
-    ensures due { result ≡ least_in (due_of now date one) }
-{
-    match date {
-        Some(date) => if date <= now { Some((date, one)) } else { None },
-        None => None,
-    }
-}
-
-// Of two the one with the lower date, and the first at equal dates.
-fn sooner(a: Option<(u64, Item)>, b: Option<(u64, Item)>) -> Option<(u64, Item)>
-    ensures sooner { result ≡ sooner a b }
-{
-    match (a, b) {
-        (None, b) => b,
-        (Some(a), None) => Some(a),
-        (Some(a), Some(b)) => if a.0 <= b.0 { Some(a) } else { Some(b) },
-    }
-}
 
 /// The sooner of a timer and a deadline, without its date; at equal dates the timer.
 pub fn sooner_item(timer: Option<(u64, Item)>, deadline: Option<(u64, Item)>) -> Option<Item>
@@ -36,6 +16,26 @@ pub fn sooner_item(timer: Option<(u64, Item)>, deadline: Option<(u64, Item)>) ->
     match sooner(timer, deadline) {
         Some((_, item)) => Some(item),
         None => None,
+    }
+}
+
+/// The item that was chosen, with what is known of the others of its kind.
+pub fn chosen(item: Option<Item>, timers: Ahead, deadlines: Ahead) -> Option<(Item, Ahead)>
+    ensures chosen { result ≡ option_map (with_rest timers deadlines) item }
+{
+    match item {
+        Some(item) => Some(with_rest(timers, deadlines, item)),
+        None => None,
+    }
+}
+
+// An item with what is known of the others of its kind.
+fn with_rest(timers: Ahead, deadlines: Ahead, item: Item) -> (Item, Ahead)
+    ensures rest { result ≡ with_rest timers deadlines item }
+{
+    match item {
+        Item::Timer(id) => (Item::Timer(id), timers),
+        Item::Deadline(thread) => (Item::Deadline(thread), deadlines),
     }
 }
 
@@ -49,31 +49,32 @@ fn timer_date<C>(place: &Option<Timer<C>>) -> Option<u64>
     }
 }
 
-/// The timer that is due first, with its date.
-pub fn least_timer<C>(timers: &[Option<Timer<C>>], now: u64) -> Option<(u64, Item)>
+/// The timer that is due first, with its date, and what is known of all others.
+pub fn least_timer<C>(timers: &[Option<Timer<C>>], now: u64) -> Seen
     requires { length timers.now ≤ 65536 }
-    ensures least { result ≡ least_in (due_from timer now 0 (map timer_date timers.now)) }
+    ensures least { result.best ≡ least_in (due_from timer now 0 (map timer_date timers.now)) }
+    ensures rest { IsRest timer (length timers.now) (map timer_date timers.now) result }
 {
-    let mut best = None;
+    let mut seen = Seen::new();
     for (n, place) in timers.iter().enumerate() {
-        best = sooner(
-            best,
-            due_of(now, timer_date(place), Item::Timer(TimerId(n as u16))),
-        );
+        let n = n as u16;
+        seen.see(now, n, timer_date(place), Item::Timer(TimerId(n)));
     }
-    best
+    seen
 }
 
-/// The deadline that is due first, with its date.
-pub fn least_deadline(deadlines: &[Option<u64>], now: u64) -> Option<(u64, Item)>
+/// The deadline that is due first, with its date, and what is known of all others.
+pub fn least_deadline(deadlines: &[Option<u64>], now: u64) -> Seen
     requires { length deadlines.now ≤ 65536 }
-    ensures least { result ≡ least_in (due_from deadline now 0 deadlines.now) }
+    ensures least { result.best ≡ least_in (due_from deadline now 0 deadlines.now) }
+    ensures rest { IsRest deadline (length deadlines.now) deadlines.now result }
 {
-    let mut best = None;
+    let mut seen = Seen::new();
     for (n, date) in deadlines.iter().enumerate() {
-        best = sooner(best, due_of(now, *date, Item::Deadline(ThreadId(n as u16))));
+        let n = n as u16;
+        seen.see(now, n, *date, Item::Deadline(ThreadId(n)));
     }
-    best
+    seen
 }
 
 /// The least number of a place that is free.

@@ -1,6 +1,8 @@
 //! The sheet that marks are drawn on: bands of lanes, one below the other.
 use crate::lanes::{Lane, add_lane, index_of};
 use crate::marks::{Mark, Shape};
+use crate::moments::Condition;
+use crate::strips::strip_text;
 use std::alloc::{AllocError, Global};
 
 /// How many marks stand side by side in a band.
@@ -19,17 +21,39 @@ const TOP: usize = 44;
 
 const BETWEEN: usize = 20;
 
+// The room for the dates above a band, and for the second line of a legend, where it is told how lanes stand.
+const DATES: usize = 32;
+
+const SECOND: usize = 20;
+
+// How much higher a lane is with its strip.
+const STRIP: usize = 6;
+
 // How many characters of a line are shown at most, and how wide one is.
 const MOST_SHOWN: usize = 72;
 
 const CHARACTER: usize = 6;
 
-/// How a picture is laid out: its lanes from the top, the characters that are shown of a line, and how many marks it has.
+/// How a picture is laid out: its lanes from the top, the characters that are shown of a line, how many marks it has, and
+/// whether dates and strips show how lanes stand.
 #[derive(Drop)]
 pub struct Sheet {
     pub lanes: Vec<Lane>,
     pub shown: usize,
     count: usize,
+    stands: bool,
+}
+
+/// The lanes of some marks, from the top. `AllocError` where the list couldn't grow (this profile).
+pub fn lanes_of(alloc: Global, marks: &[Mark<'_>]) -> Result<Vec<Lane>, AllocError> {
+    let mut lanes = Vec::new(alloc);
+    for mark in marks {
+        add_lane(&mut lanes, mark.lane)?;
+        if let Some(lane) = mark.names {
+            add_lane(&mut lanes, lane)?;
+        }
+    }
+    Ok(lanes)
 }
 
 // So many steps from a place.
@@ -38,27 +62,43 @@ fn steps(from: usize, step: usize, count: usize) -> usize {
 }
 
 impl Sheet {
-    /// The sheet for some marks. `AllocError` where its list couldn't grow.
-    pub fn of(alloc: Global, marks: &[Mark<'_>]) -> Result<Sheet, AllocError> {
-        let mut lanes = Vec::new(alloc);
+    /// The sheet for some marks, and whether it is told how lanes stand. `AllocError` where its list couldn't grow.
+    pub fn of(alloc: Global, marks: &[Mark<'_>], stands: bool) -> Result<Sheet, AllocError> {
+        let lanes = lanes_of(alloc, marks)?;
         let mut shown = 0;
         for mark in marks {
-            add_lane(&mut lanes, mark.lane)?;
-            if let Some(lane) = mark.names {
-                add_lane(&mut lanes, lane)?;
-            }
             shown = mark.line.len().max(shown).min(MOST_SHOWN);
         }
         Ok(Sheet {
             lanes,
             shown,
             count: marks.len(),
+            stands,
         })
     }
 
-    // How high the lanes of a band are.
+    // So much room, where it is told how lanes stand.
+    fn room(&self, room: usize) -> usize {
+        if self.stands { room } else { 0 }
+    }
+
+    // How high a lane is.
+    fn lane(&self) -> usize {
+        self.room(STRIP).saturating_add(LANE)
+    }
+
+    // The room for the legend.
+    fn top(&self) -> usize {
+        self.room(SECOND).saturating_add(TOP)
+    }
+
+    // How high the dates and lanes of a band are.
     fn depth(&self) -> usize {
-        steps(LANE / 2, LANE, self.lanes.len())
+        steps(
+            self.room(DATES).saturating_add(LANE / 2),
+            self.lane(),
+            self.lanes.len(),
+        )
     }
 
     // How high a band is, with the lines below it.
@@ -68,7 +108,17 @@ impl Sheet {
 
     // Where the band of a column begins.
     fn band_top(&self, column: usize) -> usize {
-        steps(TOP, self.height(), column / COLUMNS)
+        steps(self.top(), self.height(), column / COLUMNS)
+    }
+
+    /// Whether it has this lane.
+    pub fn has(&self, lane: Lane) -> bool {
+        index_of(self.lanes.as_slice(), lane).is_some()
+    }
+
+    /// Where the dates of the band of a column stand, from the top.
+    pub fn date_row(&self, column: usize) -> usize {
+        self.band_top(column).saturating_add(DATES)
     }
 
     /// Where a column stands, from the left.
@@ -79,7 +129,9 @@ impl Sheet {
     /// Where a lane stands in the band of a column, from the top.
     pub fn down(&self, column: usize, lane: Lane) -> usize {
         let index = index_of(self.lanes.as_slice(), lane).unwrap_or(0);
-        steps(self.band_top(column).saturating_add(LANE), LANE, index)
+        let first = self.room(DATES).saturating_add(LANE);
+        let top = self.band_top(column).saturating_add(first);
+        steps(top, self.lane(), index)
     }
 
     /// How far the lines below a band are below a lane.
@@ -106,26 +158,13 @@ impl Sheet {
     /// The beginning of the picture, up to its legend.
     pub fn head(&self, alloc: Global) -> Result<String, AllocError> {
         let width = self.width();
-        let height = steps(TOP, self.height(), self.bands());
+        let height = steps(self.top(), self.height(), self.bands());
         let mut text = format!(in alloc;
             "<svg xmlns=\"http://www.w3.org/2000/svg\" width=\"{width}\" height=\"{height}\" viewBox=\"0 0 {width} {height}\" font-family=\"DejaVu Sans Mono, monospace\" font-size=\"9\">\n<rect width=\"100%\" height=\"100%\" fill=\"#ffffff\"/>\n"
         )?;
-        let shapes = [
-            (Shape::Answered, "answered"),
-            (Shape::Begun, "a wait begins"),
-            (Shape::Ended, "a wait ends"),
-            (Shape::Refused, "refused"),
-            (Shape::Played, "played"),
-            (Shape::Unhandled, "not handled"),
-        ];
-        let mut at: usize = 16;
-        for (shape, word) in shapes {
-            let drawn = shape_text(shape);
-            write!(
-                text,
-                "<g transform=\"translate({at},18)\">{drawn}<text x=\"10\" y=\"3\">{word}</text></g>\n"
-            )?;
-            at = steps(at.saturating_add(32), CHARACTER, word.len());
+        put_shapes(&mut text)?;
+        if self.stands {
+            put_conditions(&mut text)?;
         }
         Ok(text)
     }
@@ -145,6 +184,51 @@ impl Sheet {
         }
         Ok(text)
     }
+}
+
+// Appends the legend of the shapes.
+fn put_shapes(text: &mut String) -> Result<(), AllocError> {
+    let shapes = [
+        (Shape::Answered, "answered"),
+        (Shape::Begun, "a wait begins"),
+        (Shape::Ended, "a wait ends"),
+        (Shape::Refused, "refused"),
+        (Shape::Played, "played"),
+        (Shape::Unhandled, "not handled"),
+    ];
+    let mut at: usize = 16;
+    for (shape, word) in shapes {
+        let drawn = shape_text(shape);
+        write!(
+            text,
+            "<g transform=\"translate({at},18)\">{drawn}<text x=\"10\" y=\"3\">{word}</text></g>\n"
+        )?;
+        at = steps(at.saturating_add(32), CHARACTER, word.len());
+    }
+    Ok(())
+}
+
+// Appends the legend of the conditions.
+fn put_conditions(text: &mut String) -> Result<(), AllocError> {
+    let conditions = [
+        (Condition::Picked, "picked"),
+        (Condition::Ready, "ready"),
+        (Condition::Blocked, "blocked"),
+        (Condition::Inband, "in-band"),
+        (Condition::Owned, "owned"),
+        (Condition::Stalled, "stalled"),
+        (Condition::Runs, "timer runs"),
+    ];
+    let mut at: usize = 20;
+    for (condition, word) in conditions {
+        let drawn = strip_text(condition);
+        write!(
+            text,
+            "<g transform=\"translate({at},28)\">{drawn}<text x=\"12\" y=\"13\">{word}</text></g>\n"
+        )?;
+        at = steps(at.saturating_add(36), CHARACTER, word.len());
+    }
+    Ok(())
 }
 
 // The colour of the line of a lane.

@@ -5,12 +5,18 @@ mod escapes;
 mod frames;
 mod lanes;
 mod marks;
+mod moments;
+mod pages;
 mod rows;
+mod strips;
 mod svg;
 mod tables;
 
+pub use frames::lanes_of;
 pub use lanes::Lane;
 pub use marks::{Mark, Shape, marks_of};
+pub use moments::{Condition, Moment, Standing};
+pub use pages::{PAGE, page, page_count, page_moments};
 pub use rows::write_rows;
 pub use svg::write_svg;
 pub use tables::write_table;

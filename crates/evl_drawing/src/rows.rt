@@ -47,7 +47,7 @@ fn write_band(text: &mut String, lanes: &[Lane], marks: &[Mark<'_>]) -> Result<(
 /// The picture of some marks as rows of at most 80 characters: a band of lanes for each 60 marks, and what the characters
 /// mean. `AllocError` where memory couldn't grow (this profile).
 pub fn write_rows(alloc: Global, marks: &[Mark<'_>]) -> Result<String, AllocError> {
-    let sheet = Sheet::of(alloc, marks)?;
+    let sheet = Sheet::of(alloc, marks, false)?;
     let mut text = String::new(alloc);
     for band in marks.chunks(COLUMNS) {
         write_band(&mut text, sheet.lanes.as_slice(), band)?;

@@ -7,6 +7,9 @@ use crate::escapes::{put_escaped, title};
 use crate::frames::{COLUMNS, Sheet, shape_text};
 use crate::lanes::{Lane, closed, index_of};
 use crate::marks::{Mark, Shape};
+use crate::moments::Moment;
+use crate::pages::is_entry;
+use crate::strips::put_moment;
 use std::alloc::{AllocError, Global};
 
 // What is shown of a line.
@@ -115,19 +118,48 @@ fn note(open: &mut [bool], lanes: &[Lane], mark: &Mark<'_>) {
     }
 }
 
-// What stands before the mark of a column: the lanes of its band, where it is the first one there, and the waits.
+// The lanes of the band of a column, where it is the first one there.
+fn frame(alloc: Global, sheet: &Sheet, column: usize) -> Result<String, AllocError> {
+    if column % COLUMNS == 0 {
+        sheet.frame(alloc, column)
+    } else {
+        Ok(String::new(alloc))
+    }
+}
+
+// How the lanes stand in a column: as the waits that are open tell, or as after this many entries, where that is known.
+#[derive(Clone, Copy, Drop)]
+struct Known<'a> {
+    open: &'a [bool],
+    moments: &'a [Moment],
+    entries: usize,
+}
+
+impl Known<'_> {
+    // How the machine stood after so many entries.
+    fn after(&self, entries: usize) -> Option<&Moment> {
+        self.moments.get(entries.checked_sub(1)?)
+    }
+}
+
+// What stands before the mark of a column: the lanes of its band, where it is the first one there, and how they stand.
 fn background(
     alloc: Global,
     sheet: &Sheet,
     column: usize,
-    open: &[bool],
+    known: &Known<'_>,
 ) -> Result<String, AllocError> {
-    let going_on = waits(alloc, sheet, column, open)?;
-    if column % COLUMNS != 0 {
-        return Ok(going_on);
+    let mut text = frame(alloc, sheet, column)?;
+    match known.after(known.entries) {
+        Some(moment) => {
+            let before = known.after(known.entries.saturating_sub(1));
+            put_moment(alloc, &mut text, sheet, column, moment, before)?;
+        }
+        None => {
+            let going_on = waits(alloc, sheet, column, known.open)?;
+            text.push_str(going_on.as_str())?;
+        }
     }
-    let mut text = sheet.frame(alloc, column)?;
-    text.push_str(going_on.as_str())?;
     Ok(text)
 }
 
@@ -136,12 +168,12 @@ fn put_background(
     alloc: Global,
     sheet: &Sheet,
     column: usize,
-    open: &[bool],
+    known: &Known<'_>,
     text: &mut Vec<u8>,
 ) -> Result<(), AllocError>
     ensures { OnOk result (Adds text.old.items text.new.items) }
 {
-    let behind = background(alloc, sheet, column, open)?;
+    let behind = background(alloc, sheet, column, known)?;
     text.extend_from_slice(behind.as_str().as_bytes())
 }
 
@@ -159,34 +191,56 @@ fn put_mark(
     text.extend_from_slice(drawn.as_slice())
 }
 
+// One more entry, where a mark is that of one.
+fn counted(entries: usize, mark: &Mark<'_>) -> usize {
+    if is_entry(mark) {
+        entries.saturating_add(1)
+    } else {
+        entries
+    }
+}
+
 // Appends all marks, each behind what stands before it.
 fn put_marks(
     alloc: Global,
     sheet: &Sheet,
     marks: &[Mark<'_>],
+    moments: &[Moment],
     text: &mut Vec<u8>,
 ) -> Result<(), AllocError>
     ensures { OnOk result (HoldsTitles (map line_of marks.now) text.new.items) }
 {
     let mut open = closed(alloc, sheet.lanes.as_slice())?;
+    let mut entries: usize = 0;
     for (column, mark) in marks.iter().enumerate() {
-        put_background(alloc, sheet, column, open.as_slice(), text)?;
+        entries = counted(entries, mark);
+        let known = Known {
+            open: open.as_slice(),
+            moments,
+            entries,
+        };
+        put_background(alloc, sheet, column, &known, text)?;
         put_mark(alloc, sheet, column, mark, text)?;
         note(open.as_mut_slice(), sheet.lanes.as_slice(), mark);
     }
     Ok(())
 }
 
-/// The picture of some marks as SVG: a band of lanes for each 60 of them, with the title of each mark, in order.
+/// The picture of some marks as SVG: a band of lanes for each 60 of them, with the title of each mark, in order. Where it is
+/// known how the machine stood after each entry, dates and strips show it; else the waits that the answers tell are shown.
 /// `AllocError` where memory couldn't grow (this profile).
-pub fn write_svg(alloc: Global, marks: &[Mark<'_>]) -> Result<Vec<u8>, AllocError>
+pub fn write_svg(
+    alloc: Global,
+    marks: &[Mark<'_>],
+    moments: &[Moment],
+) -> Result<Vec<u8>, AllocError>
     ensures { IfOk result (λ text. HoldsTitles (map line_of marks.now) text.items) }
 {
-    let sheet = Sheet::of(alloc, marks)?;
+    let sheet = Sheet::of(alloc, marks, !moments.is_empty())?;
     let head = sheet.head(alloc)?;
     let mut text = Vec::new(alloc);
     text.extend_from_slice(head.as_str().as_bytes())?;
-    put_marks(alloc, &sheet, marks, &mut text)?;
+    put_marks(alloc, &sheet, marks, moments, &mut text)?;
     text.extend_from_slice(b"</svg>\n")?;
     Ok(text)
 }

@@ -1,5 +1,5 @@
 -- Which threads are noted after each change of the set, and what is known of the ranks that the scheduler was given.
-use Rattle.std.proofs.Common.{◌≡◌, ◌≢◌, ◌<◌, ◌==◌, ◌||◌, ◌&&◌, not, ℕ, nat_lt, Bool, true, false, List, [], ◌∷◌, Option, Some, None, is_some, option_map, Result, Ok, Err, OnOk, OnErr, slice_index_or, slice_set, refl, sym, ap, ◌∙◌, subst, arith}
+use Rattle.std.proofs.Common.{◌≡◌, ◌≢◌, ◌<◌, ◌==◌, ◌||◌, ◌&&◌, not, ℕ, nat_lt, Bool, true, false, List, [], Option, Some, None, is_some, option_map, Result, Ok, Err, OnOk, OnErr, slice_index_or, slice_set, refl, sym, ap, ◌∙◌, subst, arith}
 use Rattle.std.specs.Option.{option_map_or}
 use Rattle.std.proofs.lemmas.Bool.{false≢true}
 use Rattle.std.proofs.lemmas.List.{get_or-set_other}
@@ -22,7 +22,6 @@ use Rattle.evl_kernel.specs.ChangedThreads.{AreGivenBut, is_noted}
 use Rattle.evl_kernel.specs.ElementsViews.{ElementsView, owners_of}
 use Rattle.evl_kernel.specs.Records.{AreGiven, AreTold, RanksAreKept}
 use Rattle.evl_kernel.proofs.HandLaws.{attached-low}
-use Rattle.evl_kernel.proofs.RankLaws.{rank_told}
 
 swapped : (a b : ℕ) → (a == b) ≡ (b == a)
 swapped a b = by (a == b) refl (b == a) refl
@@ -68,22 +67,22 @@ given-more set o r p n h kept given others t free attached = by (n == t) refl (a
         (λ i. option_map_or (λ rank. rank) (others t other i) (base_of (kept i) t)) ∙ h t before attached
 
 -- where none is noted, all are given their ranks
-pub given-all : (v : ElementsView) (r : Ranked) → AreGivenBut (is_noted []) r (owners_of v) → AreTold v.base r.sched → AreGiven r v.elements.mutexes
+pub given-all : (v : ElementsView) (r : Ranked) → AreGivenBut (is_noted []) r (owners_of v) → AreTold v.base r.sched → AreGiven r (owners_of v)
 given-all v r h told t attached =
-    let low : t < thread_limit = omega (arith, told.few, attached-low r.sched t attached) in
-    h t (ap not (less t thread_limit low)) attached ∙ rank_told (owners_of v) r.sched told t
+    let low : t < thread_limit = omega (arith, told.few, told.seats, attached-low r.sched t attached) in
+    h t (ap not (less t thread_limit low)) attached
 
 -- where the recorded owners noted whose rank may have changed, the others are given their ranks still
-pub given-beside : (o p : Owners) (r : Ranked) (was now : ℕ → Bool) → RanksAreKept o r → ChangesAreNoted was now (owners.rank_of o) (owners.rank_of p) → AreGivenBut now r p
-given-beside o p r was now kept noted t free attached = kept.given t attached ∙ sym (rank_told o r.sched kept.told t) ∙ sym (noted.same t free)
+pub given-beside : {n : ℕ} (o p : Owners) (r : Ranked) (was now : ℕ → Bool) → RanksAreKept n o r → ChangesAreNoted was now (owners.rank_of o) (owners.rank_of p) → AreGivenBut now r p
+given-beside o p r was now kept noted t free attached = kept.given t attached ∙ sym (noted.same t free)
 
 -- where one thread's seat changes, the others are given their ranks still
-pub given-apart : (o : Owners) (q p : Ranked) (thread : ℕ) (seat : Option Seat) → RanksAreKept o q → p.sched.seats ≡ slice_set q.sched.seats thread seat
+pub given-apart : {n : ℕ} (o : Owners) (q p : Ranked) (thread : ℕ) (seat : Option Seat) → RanksAreKept n o q → p.sched.seats ≡ slice_set q.sched.seats thread seat
     → ((t : ℕ) → t ≢ thread → given_to p t ≡ given_to q t) → (t : ℕ) → t ≢ thread → is_attached p.sched t ≡ true → ranks.rank_of p t ≡ owners.rank_of o t
 given-apart o q p thread seat kept seats given t other attached =
     let same : seat_at p.sched t ≡ seat_at q.sched t = ap (λ (seats : List (Option Seat)). slice_index_or seats t None) seats ∙ get_or-set_other q.sched.seats thread t seat None other in
     let bases : base_of p.sched t ≡ base_of q.sched t = ap (λ (seat : Option Seat). option_map_or (λ seat. base_rank seat.policy) seat 0) same in
-    (λ i. option_map_or (λ rank. rank) (given t other i) (bases i)) ∙ kept.given t (ap is_some (sym same) ∙ attached) ∙ sym (rank_told o q.sched kept.told t)
+    (λ i. option_map_or (λ rank. rank) (given t other i) (bases i)) ∙ kept.given t (ap is_some (sym same) ∙ attached)
 
 -- so they are where the base rank of one thread is told, which is noted
 pub given-told : (o p : Owners) (r : Ranked) (thread : ℕ) (was noting now : ℕ → Bool) → ((t : ℕ) → noting t ≡ (was t || (t == thread)))
@@ -102,7 +101,7 @@ given-told o p r thread was noting now one given noted t free attached = given t
     other e = absurd (false≢true (sym free ∙ noted.more t (one t ∙ ap (λ b. was t || b) (there e) ∙ or_true (was t))))
 
 -- the calls that change one thread's seat
-module _ (o : Owners) (q p : Ranked) (thread : ℕ) (kept : RanksAreKept o q) where
+module _ {n : ℕ} (o : Owners) (q p : Ranked) (thread : ℕ) (kept : RanksAreKept n o q) where
   abbrev OthersAreGiven : Ranked → Type 0
   OthersAreGiven r = (t : ℕ) → t ≢ thread → is_attached r.sched t ≡ true → ranks.rank_of r t ≡ owners.rank_of o t
 
@@ -119,4 +118,4 @@ module _ (o : Owners) (q p : Ranked) (thread : ℕ) (kept : RanksAreKept o q) wh
   -- also where the call may be refused
   pub given-detached : (result : Result (Unit {0}) Refusal) → OnOk result (p ≡ calls.detach q thread) → OnErr result (p ≡ q) → OthersAreGiven p
   given-detached (Ok u) done same = subst OthersAreGiven (sym done) (given-apart o q (calls.detach q thread) thread None kept refl (λ t other. refl))
-  given-detached (Err refusal) done same = subst OthersAreGiven (sym same) (λ t other attached. kept.given t attached ∙ sym (rank_told o q.sched kept.told t))
+  given-detached (Err refusal) done same = subst OthersAreGiven (sym same) (λ t other attached. kept.given t attached)

@@ -1,10 +1,13 @@
 -- A kernel may go to another host thread, as its callbacks and its allocator may.
 use denote.Builtin.{u32}
 use denote.RattleType.{RattleType}
-use denote.Param.Send.{Frees, IsSend, sendable, view_send}
+use denote.Struct.Declared.{shape}
+use denote.Struct.Struct.{Struct}
+use denote.Param.Send.{Frees, IsSend, sendable, struct_send, view_send}
 use Rattle.std.specs.declared.alloc.Allocator.{Ghosts}
 use Rattle.std.specs.contracts.vec.Vec as Vec
 use Rattle.std.proofs.CrossingOver.{crosses}
+use Rattle.std.proofs.Crossing as heap
 use Rattle.evl_base.specs.contracts.entry.Entry as Entry
 use Rattle.evl_base.specs.contracts.play.Play as Play
 use Rattle.evl_base.proofs.Crossing.{board_send, declared_send, entry_send, play_send, spares_send, transfer_send}
@@ -14,7 +17,8 @@ use Rattle.evl_sched.proofs.Crossing.{sched_send}
 use Rattle.evl_sync.proofs.Crossing.{flag_group_send, sem_send}
 use Rattle.evl_sync.specs.contracts.sem.Sem as Sem
 use Rattle.evl_sync.specs.contracts.flag_group.FlagGroup as FlagGroup
-use Rattle.evl_xbuf.proofs.Crossing.{xbuf_send}
+use Rattle.evl_sync.specs.contracts.flag_waiter.Served as FlagServed
+use Rattle.evl_xbuf.proofs.Crossing.{served_send, xbuf_send}
 use Rattle.evl_mutex.proofs.Crossing.{owners_send}
 use Rattle.evl_xbuf.specs.contracts.xbuf.XbufOf as XbufOf
 use Rattle.evl_bitmap.specs.contracts.word.Word as Word
@@ -27,6 +31,17 @@ use Rattle.evl_kernel.specs.contracts.bank.Numbered as Numbered
 use Rattle.evl_kernel.specs.contracts.records.Records as Records
 use Rattle.evl_kernel.specs.contracts.records.Records.TheInside as Inside
 use Rattle.evl_kernel.specs.contracts.kernel.KernelOf as KernelOf
+use Rattle.evl_kernel.specs.contracts.kernel.KernelOf.TheInside as KernelInside
+use Rattle.evl_kernel.specs.contracts.served_lists.ServedLists as ServedLists
+
+flag_served_send : IsSend FlagServed.the_row
+flag_served_send = search (declared_send, crosses, sendable) depth 20
+
+-- the lists as the field of a kernel
+lists_send : IsSend (Struct (shape ServedLists.the_type))
+lists_send =
+    let of_flags = flag_served_send in let of_xbufs = served_send in
+    search (declared_send, struct_send, heap.crosses, crosses, sendable) depth 40 fits 20000
 
 module _ (C A : RattleType) (g : Ghosts A.Denot) where
   plays_send : IsSend A → Frees g g.dealloc_token → IsSend (Vec.the_row Play.the_row A g)
@@ -80,4 +95,4 @@ module _ (C A : RattleType) (g : Ghosts A.Denot) where
   pub kernel_send : IsSend C → IsSend A → Frees g g.dealloc_token → IsSend (KernelOf.the_row C A g)
   kernel_send s a f =
       let records = records_send s a f in let board = board_send in let plays = plays_send C A g a f in let entries = entries_send C A g a f in let spares = spares_send A g a f in
-      search (view_send, declared_send, crosses, sendable) depth 20
+      view_send _ _ _ _ _ (declared_send (KernelInside.the_type C A g) (board, (records, (entries, (plays, (spares, (lists_send, (search sendable, tt))))))))

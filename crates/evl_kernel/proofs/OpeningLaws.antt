@@ -255,17 +255,20 @@ no_seats : (count : ℕ) (percents : List ℕ) → (threads.opening count percen
 unfolding threads.opening
 no_seats count percents = refl
 
-pub ranks-new : {C : Type 0} (r : RecordsView C) (board : Board) → board_fits board ≡ true → r.elements.base ≡ replicate thread_limit 0 → r.sched ≡ fresh board.threads board.groups.items
-    → RanksAreKept (owners_of r.elements) r.sched
+pub ranks-new : {C : Type 0} (r : RecordsView C) (board : Board) → board_fits board ≡ true → r.elements.base ≡ replicate board.threads 0 → r.sched ≡ fresh board.threads board.groups.items
+    → RanksAreKept board.threads (owners_of r.elements) r.sched
 ranks-new r board fits none nobody =
     let s : Sched = r.sched.sched in
     let seats : s.seats ≡ replicate board.threads None = ap (λ (x : Sched). x.seats) (ap (λ (x : Ranked). x.sched) nobody ∙ sched-fresh board.threads board.groups.items) ∙ no_seats board.threads board.groups.items in
     let seat : (t : ℕ) → slice_index_or s.seats t None ≡ None = λ t. ap (λ (xs : List (Option Seat)). slice_index_or xs t None) seats ∙ nobody_seated board.threads t in
+    let size : length r.elements.base ≡ board.threads = ap (λ (b : List ℕ). length b) none ∙ length-replicate {A = ℕ} board.threads 0 in
+    let many : length s.seats ≡ board.threads = ap (λ (xs : List (Option Seat)). length xs) seats ∙ length-replicate board.threads None in
     record {
+      size = size;
       told = record {
-        size = ap (λ (b : List ℕ). length b) none ∙ length-replicate {A = ℕ} thread_limit 0;
-        few = subst (λ (n : ℕ). n ≤ thread_limit) (sym (ap (λ (xs : List (Option Seat)). length xs) seats ∙ length-replicate board.threads None)) (threads_few board fits);
-        same = λ t. ap (λ (b : List ℕ). slice_index b t) none ∙ (no_base thread_limit t ∙ sym (ap (λ (o : Option Seat). option_map_or (λ x. base_rank x.policy) o 0) (seat t)));
+        few = omega (arith, size, threads_few board fits);
+        seats = omega (arith, size, many);
+        same = λ t. ap (λ (b : List ℕ). slice_index b t) none ∙ (no_base board.threads t ∙ sym (ap (λ (o : Option Seat). option_map_or (λ x. base_rank x.policy) o 0) (seat t)));
       };
       given = λ t attached. absurd (false≢true (sym (ap (λ (o : Option Seat). is_some o) (seat t)) ∙ attached));
     }

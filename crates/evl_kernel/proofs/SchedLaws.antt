@@ -19,12 +19,12 @@ use Rattle.evl_base.specs.declared.refusal.Refusal.TheVariants.{Busy, Invalid, R
 use Rattle.evl_base.specs.declared.reply.Reply.TheVariants.{Number, Chosen}
 use Rattle.evl_sched.specs.Charges.{charged, refilled}
 use Rattle.evl_kernel.specs.States.{with_sched}
-use Rattle.evl_kernel.specs.ElementsViews.{owners_of}
 use Rattle.evl_kernel.specs.Mutexes.{named}
 use Rattle.evl_kernel.specs.ThreadCalls.{paid_between, pick, tell_rank, rank_of as effective_of}
 use Rattle.evl_kernel.proofs.RankLaws.{attached_of}
 use Rattle.evl_kernel.specs.KernelViews.{IsAnswer}
-use Rattle.evl_kernel.specs.Records.{RanksAreKept, RecordsView, state_of}
+use Rattle.evl_kernel.specs.Records.{IsSound, RecordsView, state_of}
+use Rattle.evl_kernel.proofs.EffectiveLaws.{given_as}
 
 pub sched-fresh : (threads : ℕ) (percents : List ℕ) → (fresh threads percents).sched ≡ opening threads percents
 unfolding fresh
@@ -53,9 +53,9 @@ agree a b one = by (a == b) refl
         other e = absurd (false≢true (sym is ∙ e))
 
 -- what whoever is picked pays
-module _ {C : Type 0} (r : RecordsView C) (q : Ranked) (before delta now : ℕ) (kept : RanksAreKept (owners_of r.elements) r.sched) where
+module _ {C : Type 0} (r : RecordsView C) (q : Ranked) (before delta now : ℕ) (h : IsSound r) where
   by_rank : charged (rank_of r.sched) r.sched.sched delta ≡ charged (effective_of (state_of r)) r.sched.sched delta
-  by_rank = charged-alike (rank_of r.sched) (effective_of (state_of r)) r.sched.sched kept.given delta
+  by_rank = charged-alike (rank_of r.sched) (effective_of (state_of r)) r.sched.sched (given_as r h) delta
 
   pub paid_anew : q ≡ calls.refill (calls.charge r.sched delta) → before / 1000000000 ≢ now / 1000000000 → state_of (record r { sched = q }) ≡ paid_between (state_of r) before delta now
   paid_anew is other =
@@ -113,10 +113,10 @@ set_policy_answers q thread policy e h = policy_answers (is_thread q thread) (is
     last true r h = absurd (never h)
 
 -- what is told of ranks and of who is picked
-module _ {C : Type 0} (r : RecordsView C) (kept : RanksAreKept (owners_of r.elements) r.sched) where
+module _ {C : Type 0} (r : RecordsView C) (h : IsSound r) where
   pub told_rank : (thread rank : ℕ) → stranger_refusal r.sched.sched thread ≡ None → rank ≡ rank_of r.sched thread → tell_rank (state_of r) thread ≡ Ok (Number rank, state_of r)
-  told_rank thread rank passed is = rw passed (ap (λ (n : ℕ). Ok (Number n, state_of r)) (sym (is ∙ kept.given thread (attached_of r.sched.sched thread passed))))
+  told_rank thread rank passed is = rw passed (ap (λ (n : ℕ). Ok (Number n, state_of r)) (sym (is ∙ given_as r h thread (attached_of r.sched.sched thread passed))))
 
   pub told_pick : (o : Option ThreadId) → option_map (λ (t : ThreadId). t.0) o ≡ picked (rank_of r.sched) r.sched.sched → pick (state_of r) ≡ Ok (Chosen o, state_of r)
   told_pick o is =
-      ap (λ (x : Option ThreadId). Ok (Chosen x, state_of r)) (ap (option_map named) (sym (is ∙ picked-alike (rank_of r.sched) (effective_of (state_of r)) r.sched.sched kept.given)) ∙ named-number o)
+      ap (λ (x : Option ThreadId). Ok (Chosen x, state_of r)) (ap (option_map named) (sym (is ∙ picked-alike (rank_of r.sched) (effective_of (state_of r)) r.sched.sched (given_as r h))) ∙ named-number o)

@@ -209,7 +209,7 @@ seats_are h legal =
     run_holds (λ s. Q s.sched) (kept_by_each Q pays queues) (λ s caller asked. kept_by_own Q pays queues s caller asked (seats-threads h.board.threads s caller) (λ q. seats-switched h.board.threads q caller Inband)) (opened h) h.entries h.plays h.state (seats-opening h.board h.bank) legal
 
 -- nobody sits past the last seat
-past_seats : (seats : List (Option Seat)) (thread : ℕ) → length seats ≤ thread → slice_index_or seats thread None ≡ None
+pub past_seats : (seats : List (Option Seat)) (thread : ℕ) → length seats ≤ thread → slice_index_or seats thread None ≡ None
 past_seats [] thread out = refl
 past_seats (x ∷ xs) zero out = absurd (omega (arith, out))
 past_seats (x ∷ xs) (suc thread) out = past_seats xs thread (omega (arith, out))

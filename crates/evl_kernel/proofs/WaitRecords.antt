@@ -48,6 +48,7 @@ use Rattle.evl_kernel.proofs.QueueSteps.{Comes}
 use Rattle.evl_kernel.proofs.QueueLaws.{Begins, Dropped, IsAsked, Stepped, asked_goes, begin_goes}
 use Rattle.evl_kernel.proofs.BeginLaws.{free_to_begin}
 use Rattle.evl_kernel.proofs.RankLaws.{attached_of}
+use Rattle.evl_kernel.proofs.EffectiveLaws.{given_as}
 use Rattle.evl_clock.specs.Clocks.{with_deadline}
 use Rattle.evl_kernel.specs.TimerCalls.{posted_if}
 
@@ -210,11 +211,11 @@ module _ {C : Type 0} (r : RecordsView C) where
   keeps-changed e q waits = record { brings = λ number callback stands. stands; told_is = refl }
 
   -- what a thread that may begin a wait has
-  pub may_begin_is : RanksAreKept (owners_of r.elements) r.sched → (thread rank : ℕ) (wants : Wanted) → stranger_refusal r.sched.sched thread ≡ None → rank ≡ ranks.rank_of r.sched thread
+  pub may_begin_is : IsSound r → (thread rank : ℕ) (wants : Wanted) → stranger_refusal r.sched.sched thread ≡ None → rank ≡ ranks.rank_of r.sched thread
       → form_refusal wants ≡ None → may_name (state_of r) thread wants ≡ true → stage_of r.sched.sched thread ≡ stage_wanted wants → (waiter_refusal (state_of r) thread wants ≡ None) × (rank ≡ rank_of (state_of r) thread)
-  may_begin_is kept thread rank wants passed is form may same = (
+  may_begin_is h thread rank wants passed is form may same = (
     rw (passed, form, may) (ap (stage_refusal (stage_wanted wants)) same ∙ own (stage_wanted wants)),
-    is ∙ kept.given thread (attached_of r.sched.sched thread passed),
+    is ∙ given_as r h thread (attached_of r.sched.sched thread passed),
   )
     where
       own : (stage : Stage) → stage_refusal stage stage ≡ None
@@ -223,13 +224,13 @@ module _ {C : Type 0} (r : RecordsView C) where
 
 -- the elements change, and nothing else of the records
 module _ {C : Type 0} (r : RecordsView C) (h : IsSound r) where
-  pub sound_with : (after : ElementsView) (q : Ranked) (waits : List (Option Wait)) → RanksAreKept (owners_of after) q → WaitsAreKept r.threads after.elements waits
+  pub sound_with : (after : ElementsView) (q : Ranked) (waits : List (Option Wait)) → RanksAreKept r.threads (owners_of after) q → WaitsAreKept r.threads after.elements waits
       → IsSound (record r { elements = after; sched = q; waits = waits })
   sound_with after q waits ranked kept = record { allowed = h.allowed; timers_allowed = h.timers_allowed; clock_sound = h.clock_sound; ranks = ranked; waits = kept }
 
   -- where the recorded owners are the same, the ranks are
-  pub ranks_as : (after : ElementsView) → owners_of after ≡ owners_of r.elements → RanksAreKept (owners_of after) r.sched
-  ranks_as after owners = subst (λ (o : Owners). RanksAreKept o r.sched) (sym owners) h.ranks
+  pub ranks_as : (after : ElementsView) → owners_of after ≡ owners_of r.elements → RanksAreKept r.threads (owners_of after) r.sched
+  ranks_as after owners = subst (λ (o : Owners). RanksAreKept r.threads o r.sched) (sym owners) h.ranks
 
   -- by a step that was asked for
   module _ (step : ElementStep) (asked : IsAsked step) (reply : Reply) (after : ElementsView) (made : element r.elements.elements step ≡ Ok (reply, after.elements)) where
@@ -240,7 +241,7 @@ module _ {C : Type 0} (r : RecordsView C) (h : IsSound r) where
     asked_sound owners = sound_with after r.sched r.waits (ranks_as after owners) (kept_after r.threads r.elements.elements r.waits h.waits (wakes r.elements.elements step) after.elements went)
 
     -- and the ranks are handed on
-    pub asked_ranked : (q : Ranked) → RanksAreKept (owners_of after) q → IsSound (record r { elements = after; sched = q })
+    pub asked_ranked : (q : Ranked) → RanksAreKept r.threads (owners_of after) q → IsSound (record r { elements = after; sched = q })
     asked_ranked q ranked = sound_with after q r.waits ranked (kept_after r.threads r.elements.elements r.waits h.waits (wakes r.elements.elements step) after.elements went)
 
     pub asked_away : (t : ℕ) → is_served t (wakes r.elements.elements step) ≡ true → (on : Awaited) → stands_for after.elements on t ≡ false
@@ -276,7 +277,7 @@ module _ {C : Type 0} (r : RecordsView C) (h : IsSound r) (thread rank : ℕ) (w
   sound_served outcome served w waits is owners =
       sound_with r h after r.sched waits (ranks_as r h after owners) (kept_served r.threads r.elements.elements r.waits h.waits thread (awaited wants) _ _ after.elements begins none outcome served w waits is)
 
-  pub sound_ranked : serves r.elements.elements (step_of_waiter thread rank wants) ≡ None → (q : Ranked) → RanksAreKept (owners_of after) q
+  pub sound_ranked : serves r.elements.elements (step_of_waiter thread rank wants) ≡ None → (q : Ranked) → RanksAreKept r.threads (owners_of after) q
       → (waits : List (Option Wait)) → waits ≡ slice_set r.waits thread (Some (going_on (awaited wants))) → IsSound (record r { elements = after; sched = q; waits = waits })
   sound_ranked nothing q ranked waits is =
       sound_with r h after q waits ranked (kept_waiting r.threads r.elements.elements r.waits h.waits thread (awaited wants) _ _ after.elements begins none nothing there waits is)

@@ -12,7 +12,7 @@ use Rattle.evl_clock.specs.Clocks as clocks
 use Rattle.evl_sched.specs.Ranks as ranks
 use Rattle.evl_sched.specs.Ranks.{Ranked}
 use Rattle.evl_sched.specs.Threads.{Sched, base_of, is_attached}
-use Rattle.evl_mutex.specs.Mutexes.{Mutex}
+use Rattle.evl_mutex.specs.Owners as owners
 use Rattle.evl_mutex.specs.Owners.{Owners}
 use Rattle.evl_kernel.specs.declared.waits.Awaited.{Awaited}
 use Rattle.evl_kernel.specs.declared.waits.Wait.{Wait}
@@ -21,7 +21,6 @@ use Rattle.evl_kernel.specs.declared.bank.Numbered.{Numbered}
 use Rattle.evl_base.specs.Limits.{thread_limit}
 use Rattle.evl_kernel.specs.States.{State, Elements, Banked}
 use Rattle.evl_kernel.specs.ElementsViews.{ElementsView, owners_of}
-use Rattle.evl_kernel.specs.ThreadCalls.{rank_by}
 use Rattle.evl_kernel.specs.Standing.{AreSound, stands_for}
 use Rattle.evl_kernel.specs.Waits.{wait_of, going_on}
 use Rattle.evl_kernel.specs.Renamed.{renamed, renamed_clock}
@@ -80,23 +79,25 @@ pub record WaitsAreKept (threads : ℕ) (e : Elements) (waits : List (Option Wai
 
 -- the recorded owners were told the base rank of each thread, 0 where it isn't attached
 pub record AreTold (base : List ℕ) (s : Sched) : Type 0 where
-  pub size : length base ≡ thread_limit
-  pub few : length s.seats ≤ thread_limit
+  pub few : length base ≤ thread_limit
+  pub seats : length s.seats ≤ length base
   pub same : (thread : ℕ) → slice_index base thread ≡ base_of s thread
 
 -- each attached thread is picked by its effective rank
-abbrev pub AreGiven : Ranked → List Mutex → Type 0
-AreGiven r mutexes = (thread : ℕ) → is_attached r.sched thread ≡ true → ranks.rank_of r thread ≡ rank_by (base_of r.sched) mutexes thread
+abbrev pub AreGiven : Ranked → Owners → Type 0
+AreGiven r o = (thread : ℕ) → is_attached r.sched thread ≡ true → ranks.rank_of r thread ≡ owners.rank_of o thread
 
-pub record RanksAreKept (o : Owners) (r : Ranked) : Type 0 where
+-- the recorded owners are of the threads of the board
+pub record RanksAreKept (threads : ℕ) (o : Owners) (r : Ranked) : Type 0 where
+  pub size : length o.base ≡ threads
   pub told : AreTold o.base r.sched
-  pub given : AreGiven r o.mutexes
+  pub given : AreGiven r o
 
 pub record IsSound {C : Type 0} (r : RecordsView C) : Type 0 where
   pub allowed : AreAllowed (state_of r)
   pub timers_allowed : AreTimersAllowed (state_of r)
   pub clock_sound : clocks.IsSoundClock r.clock
-  pub ranks : RanksAreKept (owners_of r.elements) r.sched
+  pub ranks : RanksAreKept r.threads (owners_of r.elements) r.sched
   pub waits : WaitsAreKept r.threads r.elements.elements r.waits
 
 -- the records of a new kernel

@@ -2,7 +2,6 @@
 ghost use Rattle.std.specs.Prelude.{◌≡◌, IfErr, IfOk, map, replicate, true};
 ghost use Rattle.std.specs.List.{list_all};
 ghost use Rattle.evl_base.specs.Board.{board_fits};
-ghost use Rattle.evl_base.specs.Limits.{thread_limit};
 ghost use Rattle.evl_kernel.specs.Openings.{all_opened};
 ghost use Rattle.evl_sync.specs.FlagGroups as flag_groups;
 ghost use Rattle.evl_sync.specs.Semaphores as semaphores;
@@ -12,10 +11,11 @@ ghost use Rattle.evl_base.specs.Limits.{sizes_fit};
 mod cross_buffers;
 mod flag_groups;
 mod mutexes;
+mod readers;
 mod semaphores;
 mod waiting;
 
-use evl_base::{Board, MAX_THREADS, Refusal};
+use evl_base::{Board, Refusal};
 use evl_mutex::OwnersOf;
 use evl_sync::{FlagGroup, Sem};
 use evl_xbuf::XbufOf;
@@ -46,7 +46,7 @@ impl<A: Allocator> Elements<A> {
         A: Clone,
         requires fits { board_fits board.now ≡ true }
         ensures opened { IfOk result (λ elements. elements.elements ≡ all_opened board.now) }
-        ensures base { IfOk result (λ elements. elements.base ≡ replicate thread_limit 0) }
+        ensures base { IfOk result (λ elements. elements.base ≡ replicate board.now.threads 0) }
         ensures refusal { IfErr result (λ e. e ≡ Refusal.NoMemory) }
     {
         let for_sems = alloc.clone().map_err(|_| Refusal::NoMemory)?;
@@ -61,7 +61,7 @@ impl<A: Allocator> Elements<A> {
         };
         let for_owners = alloc.clone().map_err(|_| Refusal::NoMemory)?;
         let xbufs = opened_xbufs(alloc, board.xbufs.as_slice())?;
-        let owners = OwnersOf::new(for_owners, MAX_THREADS as u16, board.mutexes.as_slice())?;
+        let owners = OwnersOf::new(for_owners, board.threads, board.mutexes.as_slice())?;
         Ok(Elements {
             sems,
             flags,

@@ -18,7 +18,10 @@ ghost use Rattle.evl_kernel.specs.Waits.{has_ended, has_timed_out, is_waiting};
 ghost use Rattle.evl_kernel.specs.Places.{AreInOnePlace};
 ghost use Rattle.evl_kernel.specs.KernelViews.{AddsEntry, IsOpened, IsKernelAnswer, makes_entry};
 
+mod readers;
+
 use crate::records::Records;
+use crate::served_lists::ServedLists;
 use evl_base::{
     Board, Call, Entry, LINES, LineNo, MAX_THREADS, MutexId, Play, Refusal, Reply, Spares, Stage,
     ThreadId, TimerId,
@@ -51,6 +54,7 @@ pub struct KernelOf<C, A: Allocator> {
     history: Vec<Entry, A>,
     plays: Vec<Play, A>,
     spares: Spares<A>,
+    lists: ServedLists,
     limit: usize,
 }
 
@@ -123,6 +127,7 @@ impl<C: Handler, A: Allocator> KernelOf<C, A> {
         let for_history = alloc.clone().map_err(|_| Refusal::NoMemory)?;
         let for_plays = alloc.clone().map_err(|_| Refusal::NoMemory)?;
         let for_spares = alloc.clone().map_err(|_| Refusal::NoMemory)?;
+        let lists = ServedLists::new(boxes)?;
         let records = Records::new(alloc, boxes, &board, bank)?;
         Ok(KernelOf {
             board,
@@ -130,6 +135,7 @@ impl<C: Handler, A: Allocator> KernelOf<C, A> {
             history: Vec::new(for_history),
             plays: Vec::new(for_plays),
             spares: Spares::new(for_spares, boxes),
+            lists,
             limit: limit as usize,
         })
     }
@@ -194,9 +200,13 @@ impl<C: Handler, A: Allocator> KernelOf<C, A> {
             .map_err(|_| Refusal::NoMemory)?;
         self.spares.keep(MAX_BOXES)?;
         let before = self.plays.len();
-        let reply = self
-            .records
-            .perform(caller, &call, &mut self.plays, &mut self.spares);
+        let reply = self.records.perform(
+            caller,
+            &call,
+            &mut self.plays,
+            &mut self.spares,
+            &mut self.lists,
+        );
         let kept = copied_reply(&reply, &mut self.spares);
         self.history.push_reserved(Entry {
             caller,

@@ -23,7 +23,7 @@ pub(crate) fn hand_on<A: Allocator>(
 )
     requires told { AreTold elements.now.base sched.old.sched }
     requires others { AreGivenBut (is_noted changes.old) sched.old (owners_of elements.now) }
-    ensures given { AreGiven sched.new elements.now.elements.mutexes }
+    ensures given { AreGiven sched.new (owners_of elements.now) }
     ensures kept { sched.new.sched ≡ sched.old.sched }
     ensures none { changes.new ≡ [] }
 {
@@ -52,13 +52,14 @@ pub(crate) fn base_changed<A: Allocator>(
     sched: &mut SchedOf<A>,
     thread: ThreadId,
 )
-    requires size { length elements.old.base ≡ thread_limit }
-    requires few { length sched.old.sched.seats ≤ thread_limit }
-    requires there { thread.0 < thread_limit }
+    requires size { length elements.old.base ≤ thread_limit }
+    requires few { length sched.old.sched.seats ≤ length elements.old.base }
+    requires there { thread.0 < length elements.old.base }
     requires others { (t : ℕ) → t ≢ thread.0 → slice_index elements.old.base t ≡ base_of sched.old.sched t }
     requires given { (t : ℕ) → t ≢ thread.0 → is_attached sched.old.sched t ≡ true → rank_of sched.old t ≡ owners.rank_of (owners_of elements.old) t }
+    ensures size { length elements.new.base ≡ length elements.old.base }
     ensures told { AreTold elements.new.base sched.new.sched }
-    ensures given { AreGiven sched.new elements.new.elements.mutexes }
+    ensures given { AreGiven sched.new (owners_of elements.new) }
     ensures elements { elements.new.elements ≡ elements.old.elements }
     ensures kept { sched.new.sched ≡ sched.old.sched }
 {

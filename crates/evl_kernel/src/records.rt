@@ -9,10 +9,10 @@ ghost use Rattle.evl_pipeline.specs.Lines as lines;
 ghost use Rattle.evl_clock.specs.Clocks as clocks;
 ghost use Rattle.evl_clock.specs.Clocks.{timer_at};
 ghost use Rattle.evl_clock.specs.Limits.{timer_count};
+ghost use Rattle.evl_sched.specs.Ranks.{fresh};
 ghost use Rattle.evl_sched.specs.Threads.{stage_of};
 ghost use Rattle.evl_mutex.specs.Owners.{owner_at};
 ghost use Rattle.evl_kernel.specs.Callbacks.{AreFilled};
-ghost use Rattle.evl_base.specs.Limits.{thread_limit};
 ghost use Rattle.evl_kernel.specs.Openings.{all_opened};
 ghost use Rattle.evl_kernel.specs.Records.{IsOpened, state_of};
 ghost use Rattle.evl_kernel.specs.MutexEffects.{record_at};
@@ -21,6 +21,7 @@ ghost use Rattle.evl_kernel.specs.Waits.{has_ended, has_timed_out, is_waiting};
 mod elements;
 mod line_calls;
 mod mutexes;
+mod readers;
 mod serving;
 mod settling;
 mod threads;
@@ -80,22 +81,60 @@ impl<C: Handler, A: Allocator> Records<C, A> {
         ensures opened { IfOk result (λ r. IsOpened C.declared C.plan board.now bank.items r) }
         ensures refusal { IfErr result (λ e. e ≡ Refusal.NoMemory) }
     {
-        let waiting = waiting_over(&alloc, boxes, board)?;
-        let playing = playing_over(&alloc, board.threads)?;
+        let parts = parts_over(&alloc, boxes, board)?;
         let bank = placed(&alloc, bank)?;
-        let changes = ChangedThreads::new(another(&alloc)?)?;
-        let sched = SchedOf::new(alloc, board.threads, board.groups.as_slice())?;
+        let scheduling = scheduling_over(alloc, board)?;
         Ok(Records {
             threads: board.threads,
-            elements: waiting.0,
-            changes,
+            elements: parts.0,
+            changes: scheduling.0,
             bank,
-            pipeline: playing.0,
-            clock: playing.1,
-            sched,
-            waits: waiting.1,
+            pipeline: parts.2,
+            clock: parts.3,
+            sched: scheduling.1,
+            waits: parts.1,
         })
     }
+}
+
+/// The elements of a board, its threads' waits, the lines and the clock.
+type Parts<C, A> = (
+    Elements<A>,
+    Vec<WaitPlace, A>,
+    PipelineOf<Numbered<C>, A>,
+    ClockOf<Numbered<C>, A>,
+);
+
+/// The elements, the waits, the lines and the clock of a board, as they are at the beginning.
+fn parts_over<C: Handler, A: Allocator + Clone>(
+    alloc: &A,
+    boxes: Global,
+    board: &Board,
+) -> Result<Parts<C, A>, Refusal>
+    requires fits { board_fits board.now ≡ true }
+    ensures opened { IfOk result (λ made. made.0.elements ≡ all_opened board.now) }
+    ensures base { IfOk result (λ made. made.0.base ≡ replicate board.now.threads 0) }
+    ensures waits { IfOk result (λ made. made.1.items ≡ replicate board.now.threads None) }
+    ensures lines { IfOk result (λ made. made.2 ≡ lines.opening) }
+    ensures clock { IfOk result (λ made. made.3 ≡ clocks.opening board.now.threads) }
+    ensures refusal { IfErr result (λ e. e ≡ Refusal.NoMemory) }
+{
+    let waiting = waiting_over(alloc, boxes, board)?;
+    let playing = playing_over(alloc, board.threads)?;
+    Ok((waiting.0, waiting.1, playing.0, playing.1))
+}
+
+/// The threads of a board as the scheduler has them at the beginning, none of which is noted.
+fn scheduling_over<A: Allocator + Clone>(
+    alloc: A,
+    board: &Board,
+) -> Result<(ChangedThreads<A>, SchedOf<A>), Refusal>
+    ensures sched { IfOk result (λ made. made.1 ≡ fresh board.now.threads board.now.groups.items) }
+    ensures refusal { IfErr result (λ e. e ≡ Refusal.NoMemory) }
+{
+    let changes = ChangedThreads::new(another(&alloc)?)?;
+    let sched = SchedOf::new(alloc, board.threads, board.groups.as_slice())?;
+    Ok((changes, sched))
 }
 
 /// The same allocator once more.
@@ -113,7 +152,7 @@ fn waiting_over<A: Allocator + Clone>(
 ) -> Result<(Elements<A>, Vec<WaitPlace, A>), Refusal>
     requires fits { board_fits board.now ≡ true }
     ensures opened { IfOk result (λ made. made.0.elements ≡ all_opened board.now) }
-    ensures base { IfOk result (λ made. made.0.base ≡ replicate thread_limit 0) }
+    ensures base { IfOk result (λ made. made.0.base ≡ replicate board.now.threads 0) }
     ensures waits { IfOk result (λ made. made.1.items ≡ replicate board.now.threads None) }
     ensures refusal { IfErr result (λ e. e ≡ Refusal.NoMemory) }
 {

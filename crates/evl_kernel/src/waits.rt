@@ -11,15 +11,18 @@ use evl_base::{
 };
 use std::alloc::Allocator;
 
-/// What a thread waits for.
+/// What a thread waits for (Xenomai 4: EVL elements).
 #[derive(Clone, Copy, Drop)]
-pub(crate) enum Awaited {
+pub enum Awaited {
+    /// A semaphore.
     Sem(SemId),
+    /// Bits of a flag group.
     Flags(FlagId),
     /// To write into a way of a cross-buffer.
     Writing(XbufId, Way),
     /// To read from it.
     Reading(XbufId, Way),
+    /// A mutex.
     Mutex(MutexId),
 }
 

@@ -68,6 +68,15 @@ fn lanes_word<'a>(alloc: Global) -> Result<Arg<'a>, AllocError> {
     form_word(alloc, "lanes", ("svg", "perfetto", "csv"), help)
 }
 
+// The page of a long picture.
+fn page_word<'a>(alloc: Global) -> Arg<'a> {
+    Arg::new(alloc, "page")
+        .long("page")
+        .value_name("N")
+        .value_parser(value_parser!(u32).range(1..=1_000_000))
+        .help("Which page of an SVG of more than 2000 marks, from 1")
+}
+
 // The text that is drawn.
 fn drawn_file<'a>(alloc: Global) -> Arg<'a> {
     Arg::new(alloc, "FILE").action(ArgAction::Set).help(
@@ -84,7 +93,7 @@ fn draw_command<'a>(alloc: Global) -> Result<Command<'a>, AllocError> {
     let with_two = with_one.arg(perfetto_word(alloc)?)?;
     let with_three = with_two.arg(csv_word(alloc)?)?;
     let with_four = with_three.arg(lanes_word(alloc)?)?;
-    with_four.arg(drawn_file(alloc))
+    with_four.arg(page_word(alloc))?.arg(drawn_file(alloc))
 }
 
 // The limit of the history.

@@ -1,7 +1,11 @@
 //! `lab draw`: the picture of a trace, or of a scenario, which is played.
 use crate::texts::{put, read_text};
-use crate::words::Form;
-use evl_drawing::{Mark, marks_of, write_rows, write_svg, write_table};
+use crate::words::{Drawing, Form};
+use evl_drawing::{
+    Mark, Moment, lanes_of, marks_of, page, page_count, page_moments, write_rows, write_svg,
+    write_table,
+};
+use evl_moments::moments_of;
 use evl_plans::trace_plans;
 use evl_runs::{program_plans, write_events};
 use evl_scenario::Fault;
@@ -13,57 +17,118 @@ use std::rt::Files;
 /// The status of a text that can't be drawn.
 const AT_FAULT: u8 = 2;
 
-// Writes the picture of marks.
-fn draw_svg<R: AllocGlobal + Print>(rt: &R, marks: &[Mark<'_>]) -> io::Result<()> {
-    match write_svg(rt.alloc(), marks) {
-        Ok(picture) => put(rt, picture.as_slice()),
-        Err(error) => Err(error.into()),
-    }
+/// What is drawn: the lines of a trace, and of a scenario also its text.
+#[derive(Clone, Copy, Drop)]
+struct Drawn<'a> {
+    lines: &'a [TraceLine<'a>],
+    scenario: Option<&'a str>,
 }
 
-// Writes marks as trace events.
-fn draw_events<R: AllocGlobal + Print>(rt: &R, marks: &[Mark<'_>]) -> io::Result<()> {
-    match write_events(rt.alloc(), marks) {
-        Ok(events) => rt.print(events.as_str()),
-        Err(error) => Err(error.into()),
-    }
+// How the lanes of marks stand after each step of a scenario, over the program's callbacks; nothing where there is none.
+fn known_moments(
+    alloc: Global,
+    marks: &[Mark<'_>],
+    scenario: Option<&str>,
+) -> Result<Vec<Moment>, AllocError> {
+    let Some(text) = scenario else {
+        return Ok(Vec::new(alloc));
+    };
+    let lanes = lanes_of(alloc, marks)?;
+    let plans = program_plans(alloc)?;
+    moments_of(alloc, plans.as_slice(), text.as_bytes(), lanes.as_slice())
 }
 
-// Writes the table of marks.
-fn draw_table<R: AllocGlobal + Print>(rt: &R, marks: &[Mark<'_>]) -> io::Result<()> {
-    match write_table(rt.alloc(), marks) {
-        Ok(table) => rt.print(table.as_str()),
-        Err(error) => Err(error.into()),
-    }
+// The picture of a page of marks, from 0.
+fn picture_of(
+    alloc: Global,
+    marks: &[Mark<'_>],
+    scenario: Option<&str>,
+    number: usize,
+) -> Result<Vec<u8>, AllocError> {
+    let known = known_moments(alloc, marks, scenario)?;
+    let behind = page_moments(marks, known.as_slice(), number);
+    write_svg(alloc, page(marks, number), behind)
 }
 
-// Writes marks in characters.
-fn draw_rows<R: AllocGlobal + Print>(rt: &R, marks: &[Mark<'_>]) -> io::Result<()> {
-    match write_rows(rt.alloc(), marks) {
-        Ok(rows) => rt.print(rows.as_str()),
-        Err(error) => Err(error.into()),
+// Writes the picture of a page of marks, from 1, and says so where there are several.
+fn draw_svg<R: AllocGlobal + Print, E: Write>(
+    rt: &R,
+    marks: &[Mark<'_>],
+    scenario: Option<&str>,
+    number: u32,
+    err: &mut E,
+) -> io::Result<u8> {
+    let all = page_count(marks);
+    let chosen = number as usize;
+    if chosen > all {
+        writeln!(
+            err,
+            "lab: the picture has no page {number}: the last one is {all}"
+        )?;
+        return Ok(AT_FAULT);
     }
-}
-
-// Writes marks in a form.
-fn draw_marks<R: AllocGlobal + Print>(rt: &R, marks: &[Mark<'_>], form: Form) -> io::Result<u8> {
-    match form {
-        Form::Svg => draw_svg(rt, marks)?,
-        Form::Events => draw_events(rt, marks)?,
-        Form::Table => draw_table(rt, marks)?,
-        Form::Rows => draw_rows(rt, marks)?,
+    if all > 1 {
+        writeln!(err, "lab: page {number} of {all}")?;
+    }
+    match picture_of(rt.alloc(), marks, scenario, chosen.saturating_sub(1)) {
+        Ok(picture) => put(rt, picture.as_slice())?,
+        Err(error) => return Err(error.into()),
     }
     Ok(0)
 }
 
-// Writes the picture of the lines of a trace.
-fn draw_lines<R: AllocGlobal + Print>(
+// Writes marks as trace events.
+fn draw_events<R: AllocGlobal + Print>(rt: &R, marks: &[Mark<'_>]) -> io::Result<u8> {
+    match write_events(rt.alloc(), marks) {
+        Ok(events) => rt.print(events.as_str())?,
+        Err(error) => return Err(error.into()),
+    }
+    Ok(0)
+}
+
+// Writes the table of marks.
+fn draw_table<R: AllocGlobal + Print>(rt: &R, marks: &[Mark<'_>]) -> io::Result<u8> {
+    match write_table(rt.alloc(), marks) {
+        Ok(table) => put(rt, table.as_slice())?,
+        Err(error) => return Err(error.into()),
+    }
+    Ok(0)
+}
+
+// Writes marks in characters.
+fn draw_rows<R: AllocGlobal + Print>(rt: &R, marks: &[Mark<'_>]) -> io::Result<u8> {
+    match write_rows(rt.alloc(), marks) {
+        Ok(rows) => rt.print(rows.as_str())?,
+        Err(error) => return Err(error.into()),
+    }
+    Ok(0)
+}
+
+// Writes marks in a form.
+fn draw_marks<R: AllocGlobal + Print, E: Write>(
     rt: &R,
-    lines: &[TraceLine<'_>],
-    form: Form,
+    marks: &[Mark<'_>],
+    scenario: Option<&str>,
+    drawing: Drawing,
+    err: &mut E,
 ) -> io::Result<u8> {
-    match marks_of(rt.alloc(), lines) {
-        Ok(marks) => draw_marks(rt, marks.as_slice(), form),
+    match drawing.form {
+        Form::Svg => draw_svg(rt, marks, scenario, drawing.page, err),
+        Form::Events => draw_events(rt, marks),
+        Form::Table => draw_table(rt, marks),
+        Form::Rows => draw_rows(rt, marks),
+    }
+}
+
+// Writes the picture of what is drawn.
+fn draw_lines<R: AllocGlobal + Print, E: Write>(
+    rt: &R,
+    drawn: &Drawn<'_>,
+    drawing: Drawing,
+    err: &mut E,
+) -> io::Result<u8> {
+    match marks_of(rt.alloc(), drawn.lines) {
+        Ok(marks) => draw_marks(rt, marks.as_slice(), drawn.scenario, drawing, err),
         Err(error) => Err(error.into()),
     }
 }
@@ -99,9 +164,21 @@ fn trace_of(alloc: Global, text: &str) -> Result<Vec<u8>, Fault> {
 }
 
 // Writes the picture of a trace that was made of a scenario.
-fn draw_trace<R: AllocGlobal + Print>(rt: &R, trace: &[u8], form: Form) -> io::Result<u8> {
+fn draw_trace<R: AllocGlobal + Print, E: Write>(
+    rt: &R,
+    trace: &[u8],
+    scenario: &str,
+    drawing: Drawing,
+    err: &mut E,
+) -> io::Result<u8> {
     match read_lines(rt.alloc(), std::str::from_utf8(trace).unwrap_or("")) {
-        Ok(lines) => draw_lines(rt, lines.as_slice(), form),
+        Ok(lines) => {
+            let drawn = Drawn {
+                lines: lines.as_slice(),
+                scenario: Some(scenario),
+            };
+            draw_lines(rt, &drawn, drawing, err)
+        }
         Err(_) => Err(AllocError.into()),
     }
 }
@@ -111,11 +188,11 @@ fn draw_scenario<R: AllocGlobal + Print, E: Write>(
     rt: &R,
     text: &str,
     line: usize,
-    form: Form,
+    drawing: Drawing,
     err: &mut E,
 ) -> io::Result<u8> {
     match trace_of(rt.alloc(), text) {
-        Ok(trace) => draw_trace(rt, trace.as_slice(), form),
+        Ok(trace) => draw_trace(rt, trace.as_slice(), text, drawing, err),
         Err(fault) => tell_neither(err, line, fault),
     }
 }
@@ -124,13 +201,19 @@ fn draw_scenario<R: AllocGlobal + Print, E: Write>(
 fn draw_text<R: AllocGlobal + Print, E: Write>(
     rt: &R,
     text: &str,
-    form: Form,
+    drawing: Drawing,
     err: &mut E,
 ) -> io::Result<u8> {
     match read_lines(rt.alloc(), text) {
-        Ok(lines) => draw_lines(rt, lines.as_slice(), form),
+        Ok(lines) => {
+            let drawn = Drawn {
+                lines: lines.as_slice(),
+                scenario: None,
+            };
+            draw_lines(rt, &drawn, drawing, err)
+        }
         Err(Misread::Memory) => Err(AllocError.into()),
-        Err(Misread::Line(line)) => draw_scenario(rt, text, line, form, err),
+        Err(Misread::Line(line)) => draw_scenario(rt, text, line, drawing, err),
     }
 }
 
@@ -144,11 +227,11 @@ fn tell_undrawn<E: Write>(err: &mut E, why: &str) -> io::Result<u8> {
 fn draw_bytes<R: AllocGlobal + Print, E: Write>(
     rt: &R,
     bytes: &[u8],
-    form: Form,
+    drawing: Drawing,
     err: &mut E,
 ) -> io::Result<u8> {
     match std::str::from_utf8(bytes) {
-        Ok(text) => draw_text(rt, text, form, err),
+        Ok(text) => draw_text(rt, text, drawing, err),
         Err(_) => tell_undrawn(err, "the text is no UTF-8"),
     }
 }
@@ -157,13 +240,13 @@ fn draw_bytes<R: AllocGlobal + Print, E: Write>(
 /// holds neither.
 pub fn draw<R: Files + AllocGlobal + Print, I: Read, E: Write>(
     rt: &R,
-    form: Form,
+    drawing: Drawing,
     file: Option<&str>,
     input: &mut I,
     err: &mut E,
 ) -> io::Result<u8> {
     match read_text(rt, file, input) {
-        Ok(given) => draw_bytes(rt, given.as_slice(), form, err),
+        Ok(given) => draw_bytes(rt, given.as_slice(), drawing, err),
         Err(_) => tell_undrawn(err, "no file"),
     }
 }

@@ -4,7 +4,7 @@ use crate::draws::draw;
 use crate::helps::help;
 use crate::lives::live;
 use crate::plays::play_files;
-use crate::words::{driving_of, form_of, playing_of};
+use crate::words::{drawing_of, driving_of, playing_of};
 use clap::ArgMatches;
 use std::io::{self, Read, Write};
 use std::rt::Files;
@@ -24,7 +24,7 @@ pub fn do_part<R: Files + AllocGlobal + Print, I: Read, E: Write>(
             let files = inner.get_strs("FILE").unwrap_or(&[]);
             check_files(rt, inner.get_str("bank"), files, err)
         }
-        Some(("draw", inner)) => draw(rt, form_of(inner), inner.get_str("FILE"), input, err),
+        Some(("draw", inner)) => draw(rt, drawing_of(inner), inner.get_str("FILE"), input, err),
         Some(("play", inner)) => {
             let files = inner.get_strs("FILE").unwrap_or(&[]);
             play_files(rt, playing_of(inner), files, input, err)

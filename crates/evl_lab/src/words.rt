@@ -10,6 +10,14 @@ pub enum Form {
     Rows,
 }
 
+/// What `draw` asks for.
+#[derive(Clone, Copy, PartialEq, Eq, Debug)]
+pub struct Drawing {
+    pub form: Form,
+    /// The page of a picture that is long, from 1.
+    pub page: u32,
+}
+
 /// What is told of a scenario that was played.
 #[derive(Clone, Copy, PartialEq, Eq, Debug)]
 pub enum Telling<'a> {
@@ -42,8 +50,8 @@ pub struct Driving<'a> {
     pub limit: Option<u32>,
 }
 
-/// The form that is asked for.
-pub fn form_of(matches: &ArgMatches<'_>) -> Form {
+// The form that is asked for.
+fn form_of(matches: &ArgMatches<'_>) -> Form {
     if matches.get_flag("perfetto") {
         Form::Events
     } else if matches.get_flag("csv") {
@@ -52,6 +60,14 @@ pub fn form_of(matches: &ArgMatches<'_>) -> Form {
         Form::Rows
     } else {
         Form::Svg
+    }
+}
+
+/// What `draw` is asked for.
+pub fn drawing_of(matches: &ArgMatches<'_>) -> Drawing {
+    Drawing {
+        form: form_of(matches),
+        page: matches.get_one("page").unwrap_or(1),
     }
 }
 

@@ -12,8 +12,9 @@ use Rattle.evl_words.proofs.Machines.{run_keeps}
 use Rattle.evl_words.proofs.Dealing.{deals_turn, deals_split, deals_join, deals_opening}
 use Rattle.evl_machine.specs.declared.views.CorePart.{CorePart}
 use Rattle.evl_machine.specs.Accounts.{GoesOn, threads_of}
-use Rattle.evl_machine.specs.CoreRule.{CoreKept, IsFree, IsTaken, MayGive, after_take}
+use Rattle.evl_machine.specs.CoreRule.{CoreKept, IsFree, IsTaken, MayGive, after_loss, after_take}
 use Rattle.evl_machine.specs.CoreWorld.{CoreWorld, CoreKind, CoreHappens, CoreDealing, CoreDealingStep, IsCoreWorld, Slot, StandsDealt, takes, gives, moves_out, moves_in, opened_core, step_may, step_part, world_after}
+use Rattle.evl_machine.proofs.Noting.{lost_core}
 use Rattle.evl_machine.proofs.CoreSteps.{taken_core, given_core, holder_is, opens_core, only_slot}
 
 module _ {S B : Type 0} (past : S → History) (room : S → ℕ) (comes : B → S → Type 0) (first : B) where
@@ -34,7 +35,7 @@ module _ {S B : Type 0} (past : S → History) (room : S → ℕ) (comes : B →
       subst (λ (z : ℕ × Slot S). Stands (world_after past room comes record { word = z.0; slot = z.1; views = w.views } k c takes)) (λ i. (sym f.word_is i, sym slot i)) now)
       (λ (t : IsTaken r.history w.word (w.slot ∷ []) w.views).
       subst (λ (n : ℕ). Stands (world_after past room comes record { word = n; slot = w.slot; views = w.views } k c takes)) (sym t.word_is)
-      (subst (λ (n : ℕ). Stands record { word = n; slot = w.slot; views = set w.views k c }) t.word_is (stays w r k c at)))
+      (subst (λ (n : ℕ). Stands record { word = n; slot = w.slot; views = set w.views k (after_loss c) }) t.word_is (lost_core past comes first w.word (w.slot ∷ []) w.views k c r at)))
       r.who
 
   give_keeps : (w : CoreWorld S B) → Stands w → (k : ℕ) (c : CorePart B) → get_elem? w.views k ≡ some c → (y : S) → MayGive k c (past y) → comes c.first y → Stands (world_after past room comes w k c (gives y))

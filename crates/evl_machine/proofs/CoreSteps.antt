@@ -8,17 +8,18 @@ use native.Mathlib.Decide.{ℕ_discrete}
 use lib.ListN.{get_elem?}
 use prog.Atomic.{either}
 use Rattle.atomic_table.specs.Table.{Step, takes, keeps, gives}
-use Rattle.atomic_table.proofs.Lists.{at_set, set_again, set_else, set_here}
+use Rattle.atomic_table.proofs.Lists.{at_set, set_else, set_here}
 use Rattle.evl_base.specs.declared.entry.Entry.{Entry}
 use Rattle.evl_kernel.specs.Histories.{History, IsLegal}
 use Rattle.evl_words.specs.Parts.{LockTurns, LockChange}
 use Rattle.evl_words.proofs.Sequences.{at_below, at_replicate}
 use Rattle.evl_machine.specs.declared.views.CorePart.{CorePart}
 use Rattle.evl_machine.specs.Accounts.{GoesOn, HasNoStranger, MadeBy, calls_by, Fits, threads_of}
-use Rattle.evl_machine.specs.CoreRule.{IsFree, IsTaken, CoreKept, Homes, MayGive, account_at, newcomer_part, after_take, after_give}
+use Rattle.evl_machine.specs.CoreRule.{IsFree, IsTaken, CoreKept, Homes, MayGive, account_at, newcomer_part, after_take, after_loss, after_give}
 use Rattle.evl_machine.specs.CoreWorld as kind
 use Rattle.evl_machine.specs.CoreWorld.{CoreWorld, IsCoreEvent, Slot, step_part}
 use Rattle.evl_machine.specs.CoreTells.{CoreMe, took, gave}
+use Rattle.evl_machine.proofs.Noting.{lost_core}
 use Rattle.evl_machine.proofs.Accounts.{goes_on_threads, strangers_more, starts_whole, fits_longer, goes_on_legal}
 
 -- what holds of the elements but one, and of the new one there, holds of all
@@ -46,9 +47,9 @@ module _ {S B : Type 0} (past : S → History) (comes : B → S → Type 0) (fir
   abbrev pub Change : Type 1
   Change = LockChange (Option S) (CorePart B)
 
-  -- what stands beside the lock where nothing changes, where the thread k takes the kernel, and where it gives one back
-  abbrev pub Stays : Change → Type 0
-  Stays beside = (n : ℕ) (homes : Homes S) (cores : List (CorePart B)) → beside n homes cores n homes cores
+  -- what stands beside the lock where a take of the thread k is lost, where it takes the kernel, and where it gives one back
+  abbrev pub Losing : Change → ℕ → CorePart B → Type 0
+  Losing beside k c = (n : ℕ) (homes : Homes S) (cores : List (CorePart B)) → get_elem? cores k ≡ some c → beside n homes cores n homes (set cores k (after_loss c))
 
   abbrev pub Taking : (S → ℕ) → Change → ℕ → CorePart B → Type 0
   Taking room beside k c = (y : S) (cores : List (CorePart B)) → Lock 0 (some (Some y) ∷ []) cores → get_elem? cores k ≡ some c → beside 0 (some (Some y) ∷ []) cores 1 (none ∷ []) (set cores k (after_take (past y) (room y) c))
@@ -77,10 +78,10 @@ module _ {S B : Type 0} (past : S → History) (comes : B → S → Type 0) (fir
   one_stays : (n : ℕ) → n ≡ 1 → n ≡ either (eqb n 0) 1 n
   one_stays n e = subst (λ (x : ℕ). x ≡ either (eqb x 0) 1 x) (sym e) refl
 
-  -- the kernel goes out of the slot where the word is 0, and nothing changes elsewhere
-  pub takes_core : (room : S → ℕ) (beside : Change) → Stays beside → (slots k : ℕ) (c : CorePart B) → Taking room beside k c → (st : Step (Option S))
+  -- the kernel goes out of the slot where the word is 0, and elsewhere the take is lost
+  pub takes_core : (room : S → ℕ) (beside : Change) (slots k : ℕ) (c : CorePart B) → Losing beside k c → Taking room beside k c → (st : Step (Option S))
       → LockTurns Lock beside slots k (c, []) (λ n. either (eqb n 0) 1 n) (took past room comes st k (c, []))
-  takes_core room beside stays slots k c taking st n homes cores r len at below = ⊎_elim
+  takes_core room beside slots k c losing taking st n homes cores r len at below = ⊎_elim
       (λ (f : IsFree past comes first r.history n homes cores).
       let y = f.kernel in
       let w = after_take (past y) (room y) c in
@@ -114,9 +115,10 @@ module _ {S B : Type 0} (past : S → History) (comes : B → S → Type 0) (fir
         ),
       ))
       (λ (t : IsTaken r.history n homes cores).
-      let both = subst (λ (z : ℕ × List (CorePart B)). Lock z.0 homes z.1 × beside n homes cores z.0 homes z.1) (λ i. (one_stays n t.word_is i, sym (set_again cores k c at) i)) (r, stays n homes cores) in
+      let w = after_loss c in
+      let both = subst (λ (z : ℕ). Lock z homes (set cores k w) × beside n homes cores z homes (set cores k w)) (one_stays n t.word_is) (lost_core past comes first n homes cores k c r at, losing n homes cores at) in
       let taken : n ≡ 1 = t.word_is in (
-        c,
+        w,
         keeps,
         tt,
         both.0,

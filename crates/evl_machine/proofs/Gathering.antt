@@ -17,13 +17,13 @@ use Rattle.evl_kernel.specs.KernelViews.{KernelView}
 use Rattle.evl_machine.specs.declared.views.Account.{Account}
 use Rattle.evl_machine.specs.declared.views.ThreadView.{ThreadView}
 use Rattle.evl_machine.specs.ThreadRule.{ThreadRule, core_of}
-use Rattle.evl_machine.specs.Accounts.{Fits, HasNoStranger, account, calls_by, informed, saw, threads_of}
+use Rattle.evl_machine.specs.Accounts.{Fits, HasNoStranger, account, calls_by, informed, lost_one, saw, threads_of}
 use Rattle.evl_machine.specs.Events.{FailsToTake, Gives, Takes}
 use Rattle.evl_machine.specs.Seats.{AccountsFit, CoreMe, view}
 use Rattle.evl_machine.specs.CoreRule.{account_at}
 use Rattle.evl_machine.specs.Known.{ComesFrom, CoreHand, IsLive, KeptKnown, KernelMe, accounts_in, ceilings_of, taken_in, mutex_count, past_of, seen}
 use Rattle.evl_machine.specs.Ties.{mutex_tie}
-use Rattle.evl_machine.specs.Handles.{Belongs, MachineState, CallerState, HeldState, holding, returned, shown}
+use Rattle.evl_machine.specs.Handles.{Belongs, MachineState, CallerState, HeldState, holding, returned, shown, turned_away}
 use Rattle.evl_machine.specs.Calls.{TookKernel}
 use Rattle.evl_machine.specs.Closings.{Closes, KeepsOpen, LacksCaller, accounts_back, gathered}
 use Rattle.evl_machine.proofs.CoreSteps.{all_fit as fits_all}
@@ -117,7 +117,7 @@ module _ {C : Type 0} where
   none_handed m [] none = (refl, refl)
   none_handed m (x ∷ xs) none = absurd (omega arith)
 
-  pub stays_busy : (m : MachineState C) (xs : List (CallerState C)) (first : CallerState C) (others back : List (CallerState C)) → xs ≡ first ∷ others → back ≡ first ∷ others → FailsToTake m.first first.account first.account → KeepsOpen m xs CoreBusy back
+  pub stays_busy : (m : MachineState C) (xs : List (CallerState C)) (first : CallerState C) (others back : List (CallerState C)) → xs ≡ first ∷ others → back ≡ turned_away first ∷ others → FailsToTake m.first first.account (lost_one first.account) → KeepsOpen m xs CoreBusy back
   stays_busy m xs first others back are same fails = subst (λ (ys : List (CallerState C)). KeepsOpen m ys CoreBusy back) (sym are) (inl (refl, same, fails))
 
   legal_of : (c : CallerState C) (k : HeldState C) → TookKernel c k → IsLegal k.kernel.history
@@ -135,7 +135,7 @@ module _ {C : Type 0} where
   informs_as : (c : CallerState C) (k : HeldState C) → TookKernel c k → returned k.kernel.history k.caller ≡ shown k.kernel.history k.kernel.room c
   informs_as c k took =
       let h = k.kernel.history in
-      ap (returned h) took.caller ∙ ap (λ mine. record c { account = account c.account.thread h mine (c.account.found ++ k.kernel.room ∷ []) }) (fits_first c k took).mine
+      ap (returned h) took.caller ∙ ap (λ mine. record c { account = account c.account.thread h mine (c.account.found ++ k.kernel.room ∷ []) c.account.lost }) (fits_first c k took).mine
 
   pub stays_open : (m : MachineState C) (xs : List (CallerState C)) (first : CallerState C) (others back : List (CallerState C)) (k : HeldState C) → xs ≡ first ∷ others → length xs < threads_of m.first.history → TookKernel first k
       → Belongs first m → Takes m.first first.account k.caller.account → Gives k.caller.machine.first k.caller.account k.kernel (informed k.kernel.history k.caller.account)
@@ -164,7 +164,8 @@ module _ {C : Type 0} where
   pub back_again : (m : MachineState C) (xs : List (CallerState C)) (refusal : Refusal) (back : List (CallerState C)) → KeepsOpen m xs refusal back → All (λ (c : CallerState C). Belongs c m) xs → All (λ (c : CallerState C). Belongs c m) back
   back_again m [] refusal back (invalid, none) all = subst (λ (ys : List (CallerState C)). All (λ (c : CallerState C). Belongs c m) ys) (sym none) (All-nil _)
   back_again m (x ∷ xs) refusal back kept all = ⊎_elim
-      (λ (busy : (refusal ≡ CoreBusy) × (back ≡ x ∷ xs) × FailsToTake m.first x.account x.account). subst (λ (ys : List (CallerState C)). All (λ (c : CallerState C). Belongs c m) ys) (sym busy.1) all)
+      (λ (busy : (refusal ≡ CoreBusy) × (back ≡ turned_away x ∷ xs) × FailsToTake m.first x.account (lost_one x.account)). subst (λ (ys : List (CallerState C)). All (λ (c : CallerState C). Belongs c m) ys) (sym busy.1)
+      (All-cons (λ (c : CallerState C). Belongs c m) (turned_away x) xs (All-head (λ (c : CallerState C). Belongs c m) x xs all) (All-tail (λ (c : CallerState C). Belongs c m) x xs all)))
       (λ (missing : (refusal ≡ Invalid) × LacksCaller m x xs back). subst (λ (ys : List (CallerState C)). All (λ (c : CallerState C). Belongs c m) ys) (sym missing.1.back_is)
       (All-cons (λ (c : CallerState C). Belongs c m) (shown missing.1.history missing.1.room x) xs (All-head (λ (c : CallerState C). Belongs c m) x xs all) (All-tail (λ (c : CallerState C). Belongs c m) x xs all)))
       kept

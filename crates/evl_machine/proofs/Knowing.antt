@@ -17,8 +17,8 @@ use Rattle.evl_words.specs.declared.mutex.place.MutexPlace.{MutexPlace}
 use Rattle.evl_machine.specs.declared.views.Account.{Account}
 use Rattle.evl_machine.specs.declared.views.CorePart.{CorePart}
 use Rattle.evl_machine.specs.declared.views.ThreadView.{ThreadView}
-use Rattle.evl_machine.specs.Accounts.{Fits, MadeBy, informed}
-use Rattle.evl_machine.specs.CoreRule.{MayGive, account_at, core_part}
+use Rattle.evl_machine.specs.Accounts.{Fits, MadeBy, informed, lost_one}
+use Rattle.evl_machine.specs.CoreRule.{MayGive, account_at, after_loss, core_part}
 use Rattle.evl_machine.specs.MutexTokens.{AreItsPlaces, KeepsPlaces, note_in, part_of}
 use Rattle.evl_machine.specs.Noted.{HasTaken, IsSettled, number_of}
 use Rattle.evl_machine.specs.ThreadRule.{mutex_of, put_core}
@@ -45,14 +45,14 @@ Slots C = List (ℕ × Option (KernelView C))
 
 module _ {C : Type 0} where
   -- a token of one account has one thread
-  record IsOne (me : KernelMe C) (taken : Option History) (a : Account) (cs : Slots C) : Type 0 where
-    number : ℕ
-    thread : Thread C
-    me_is : me ≡ (place number thread ∷ [], cs)
-    taken_is : thread.core.taken ≡ taken
-    account_is : account_at number thread.core ≡ a
+  pub record IsOne (me : KernelMe C) (taken : Option History) (a : Account) (cs : Slots C) : Type 0 where
+    pub number : ℕ
+    pub thread : Thread C
+    pub me_is : me ≡ (place number thread ∷ [], cs)
+    pub taken_is : thread.core.taken ≡ taken
+    pub account_is : account_at number thread.core ≡ a
 
-  is_one : (hand : CoreHand C) (slots : Slots C) (taken : Option History) (a : Account) (cs : Slots C) → seen (hand, slots) ≡ (view taken (a ∷ []), cs) → IsOne (hand, slots) taken a cs
+  pub is_one : (hand : CoreHand C) (slots : Slots C) (taken : Option History) (a : Account) (cs : Slots C) → seen (hand, slots) ≡ (view taken (a ∷ []), cs) → IsOne (hand, slots) taken a cs
   is_one [] slots taken a cs e = let none = ap (λ (m : CoreMe (KernelView C)). m.0.accounts) e in absurd (cc)
   is_one (p ∷ []) slots taken a cs e = record {
     number = p.number;
@@ -79,15 +79,15 @@ module _ {C : Type 0} where
       takes_tied past_of room_of ComesFrom first ceilings_of mutex_count slots id o.number o.thread me o.me_is st
 
   -- what a thread knows of the core is what its account tells, what it has taken, and the kernel as it was made
-  part_is : (k : ℕ) (c : CorePart (KernelView C)) (taken : Option History) (a : Account) (first : KernelView C) → c.taken ≡ taken → account_at k c ≡ a → c.first ≡ first → c ≡ core_part taken a.seen a.mine a.found first c.note
-  part_is k c taken a first t s f = λ i. core_part (t i) (s i).seen (s i).mine (s i).found (f i) c.note
+  part_is : (k : ℕ) (c : CorePart (KernelView C)) (taken : Option History) (a : Account) (first : KernelView C) → c.taken ≡ taken → account_at k c ≡ a → c.first ≡ first → c ≡ core_part taken a.seen a.mine a.found a.lost first c.note
+  part_is k c taken a first t s f = λ i. core_part (t i) (s i).seen (s i).mine (s i).found (s i).lost (f i) c.note
 
   event_as : (k k' : ℕ) (c c' : CorePart (KernelView C)) (kind : CoreKind (KernelView C)) (found found' : ℕ) (d d' : CorePart (KernelView C)) → k ≡ k' → c ≡ c' → found ≡ found' → d ≡ d' → KernelEvent k c kind found d → KernelEvent k' c' kind found' d'
   event_as k k' c c' kind found found' d d' e f g h event = subst (λ (z : (ℕ × CorePart (KernelView C)) × (ℕ × CorePart (KernelView C))). KernelEvent z.0.0 z.0.1 kind z.1.0 z.1.1) (λ i. ((e i, f i), (g i, h i))) event
 
   -- what a take tells
   pub took_seen : (st : Step (Option (KernelView C))) (found : ℕ) (me me' : KernelMe C) (a : Account) → seen me ≡ seated a → took_known st me found me'
-      → (found ≡ 0 → Took past_of room_of (ComesFrom (first_of me.0)) (seen me) (seen me')) × (found ≢ 0 → seen me' ≡ seen me) × (first_of me'.0 ≡ first_of me.0)
+      → (found ≡ 0 → Took past_of room_of (ComesFrom (first_of me.0)) (seen me) (seen me')) × (found ≢ 0 → seen me' ≡ seated (lost_one a)) × (first_of me'.0 ≡ first_of me.0)
       × (found ≡ 0 → Takes (first_of me.0) a (account_of (seen me'))) × (found ≢ 0 → FailsToTake (first_of me.0) a (account_of (seen me')))
   took_seen st found me me' a rests told =
       let o = is_one me.0 me.1 None a [] rests in
@@ -104,7 +104,8 @@ module _ {C : Type 0} where
       (λ (ne : found ≢ 0). ap (λ (x : CorePart (KernelView C) × Slots C). x.0.first) (t.2.0.0.1 ne)) in
       let number : k ≡ a.thread = ap (λ (x : Account). x.thread) o.account_is in
       let from : v.core ≡ at_rest (first_of me.0) a v.core.note = part_is k v.core None a (first_of me.0) o.taken_is o.account_is (sym before) in
-      let account : account_at k t.0.core ≡ account_of (seen me') = sym (ap account_of now) in (
+      let account : account_at k t.0.core ≡ account_of (seen me') = sym (ap account_of now) in
+      let lost : found ≢ 0 → seen me' ≡ seated (lost_one a) = λ ne. now ∙ (ap (seen_at k) (t.2.0.0.1 ne) ∙ lost_seen o) in (
         (λ e.
             let q = t.2.0.0.0 e in (
               q.0,
@@ -114,7 +115,7 @@ module _ {C : Type 0} where
               fit_one (past_of q.0) (account_at k v.core) (seen me).0.accounts (ap (λ (m : CoreMe (KernelView C)). m.0.accounts) was) q.4,
               subst (λ (first : KernelView C). ComesFrom first q.0) (sym before) q.5,
             )),
-        (λ ne. now ∙ (ap (seen_at k) (t.2.0.0.1 ne) ∙ sym was)),
+        lost,
         after ∙ (stays ∙ sym before),
         (λ e.
             let q = t.2.0.0.0 e in
@@ -126,6 +127,7 @@ module _ {C : Type 0} where
             )),
         (λ ne.
             let taken : t.0.core.taken ≡ None = ap (λ (x : CorePart (KernelView C) × Slots C). x.0.taken) (t.2.0.0.1 ne) ∙ o.taken_is in (
+              ap account_of (lost ne),
               found,
               ne,
               v.core.note,
@@ -137,6 +139,10 @@ module _ {C : Type 0} where
     where
       taken_at : KernelView C → CoreMe (KernelView C) → CoreMe (KernelView C)
       taken_at y m = (Rattle.evl_machine.specs.Seats.after_take (past_of y) (room_of y) m.0, (0, Some y) ∷ [])
+
+      -- a thread that was at rest has lost one take more, and knows nothing else
+      lost_seen : (o : IsOne me None a []) → seen_at o.number (after_loss o.thread.core, me.1) ≡ seated (lost_one a)
+      lost_seen o = λ i. (view (o.taken_is i) (lost_one (o.account_is i) ∷ []), (o.me_is i).1)
 
   pub gives_known : (first : KernelView C) (slots id : ℕ) (me : KernelMe C) (a : Account) (k : KernelView C) → seen me ≡ loaded past_of room_of a k → ComesFrom (first_of me.0) k → Continues a k.history → IsSettled me.0 k.history.state → (st : Step (Option (KernelView C)))
       → Allows (KeptKnown first) slots id me 0 (λ _. 0) (λ _. gave_known st me 0)

@@ -1,6 +1,6 @@
 pub mod Accounts
-pub mod CoreSteps
 pub mod Noting
+pub mod CoreSteps
 pub mod ThreadSteps
 pub mod TieWords
 pub mod TieSteps
@@ -26,6 +26,7 @@ pub mod Seating
 pub mod Newcomers
 pub mod Gathering
 pub mod OneHistory
+pub mod Tokens
 pub mod Crossing
 pub mod CoreLaws
 pub mod OneWorldLaws
@@ -46,6 +47,7 @@ pub mod WordCalls
 pub mod MutexLocks
 pub mod MutexUnlocks
 pub mod WaitingLaws
+pub mod TurnedAway
 pub mod StaxWaitLaws
 pub mod MutexWaitLaws
 pub mod InWords

@@ -24,7 +24,7 @@ use Rattle.evl_words.proofs.MutexEnds.{mutex_opens}
 use Rattle.evl_machine.specs.declared.views.CorePart.{CorePart}
 use Rattle.evl_machine.specs.declared.views.ThreadView.{ThreadView}
 use Rattle.evl_machine.specs.Accounts.{threads_of}
-use Rattle.evl_machine.specs.CoreRule.{CoreKept, IsFree, IsTaken, newcomer_part}
+use Rattle.evl_machine.specs.CoreRule.{CoreKept, IsFree, IsTaken, after_loss, newcomer_part}
 use Rattle.evl_machine.specs.CoreWorld as core
 use Rattle.evl_machine.specs.CoreWorld.{CoreKind, Slot, takes, gives, moves_out, moves_in}
 use Rattle.evl_machine.specs.ThreadRule.{core_of, put_core, mutex_of, put_mutex, newcomer_view}
@@ -33,7 +33,7 @@ use Rattle.evl_machine.specs.Ties.{MutexTied}
 use Rattle.evl_machine.proofs.CoreSteps.{holder_is, only_slot, opens_core}
 use Rattle.evl_machine.proofs.CoreLaws as core_laws
 use Rattle.evl_machine.proofs.ThreadSteps.{parts_apart, at_blank, zeros}
-use Rattle.evl_machine.proofs.TieRule.{lock_marked, tie_giving, tie_marking, tie_stepping, tie_taking, ties_beside}
+use Rattle.evl_machine.proofs.TieRule.{lock_marked, tie_giving, tie_losing, tie_marking, tie_stepping, tie_taking, ties_beside}
 use Rattle.evl_machine.proofs.TieSteps.{StaysPlain, try_stays, unlock_stays}
 
 module _ {S B : Type 0} (past : S → History) (room : S → ℕ) (comes : B → S → Type 0) (first : B) (ceilings : ℕ → Bool) (m : ℕ) where
@@ -67,8 +67,8 @@ module _ {S B : Type 0} (past : S → History) (room : S → ℕ) (comes : B →
         (subst (λ (z : ℕ × Slot S). TieOf i z.0 (z.1 ∷ []) (map core_of w.views) word) (λ j. (f.word_is j, slot j)) tied) in
         subst (λ (z : ℕ × Slot S). TieOf i (core.step_word past room comes z.0 takes) (core.step_slot past room comes z.0 z.1 takes ∷ []) (set (map core_of w.views) k (core.step_part past room comes z.0 z.1 k (core_of v) takes)) word) (λ j. (sym f.word_is j, sym slot j)) now)
         (λ (t : IsTaken h.locked.history w.word (w.slot ∷ []) (map core_of w.views)).
-        let same : TieOf i w.word (w.slot ∷ []) (set (map core_of w.views) k (core_of v)) word = subst (λ cs. TieOf i w.word (w.slot ∷ []) cs word) (sym (set_again (map core_of w.views) k (core_of v) core_at)) tied in
-        let one : TieOf i 1 (w.slot ∷ []) (set (map core_of w.views) k (core_of v)) word = subst (λ n. TieOf i n (w.slot ∷ []) (set (map core_of w.views) k (core_of v)) word) t.word_is same in
+        let same : TieOf i w.word (w.slot ∷ []) (set (map core_of w.views) k (after_loss (core_of v))) word = tie_losing past comes first ceilings k (core_of v) w.word (w.slot ∷ []) (map core_of w.views) core_at i word tied in
+        let one : TieOf i 1 (w.slot ∷ []) (set (map core_of w.views) k (after_loss (core_of v))) word = subst (λ n. TieOf i n (w.slot ∷ []) (set (map core_of w.views) k (after_loss (core_of v))) word) t.word_is same in
         subst (λ n. TieOf i (core.step_word past room comes n takes) (core.step_slot past room comes n w.slot takes ∷ []) (set (map core_of w.views) k (core.step_part past room comes n w.slot k (core_of v) takes)) word) (sym t.word_is) one)
         h.locked.who
     lock_ties (gives y) ((may, from), settled) i word tied =

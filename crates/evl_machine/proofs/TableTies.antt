@@ -28,7 +28,7 @@ use Rattle.evl_machine.proofs.CoreSteps.{takes_core}
 use Rattle.evl_machine.proofs.ThreadSteps.{parts_apart, gives_thread, steps_thread}
 use Rattle.evl_machine.proofs.TieSteps.{StaysPlain, try_stays, unlock_stays}
 use Rattle.evl_machine.proofs.TieRecords.{owner_finds}
-use Rattle.evl_machine.proofs.TieRule.{tie_taking, tie_giving, tie_stepping, tie_marking, ties_beside, lock_marked}
+use Rattle.evl_machine.proofs.TieRule.{tie_losing, tie_taking, tie_giving, tie_stepping, tie_marking, ties_beside, lock_marked}
 
 module _ {S V C P : Type 0} (lock : ℕ → List (maybe.Option S) → List C → Type 0) (part : ℕ → ℕ → List P → Type 0) (tie : ℕ → ℕ → List (maybe.Option S) → List C → ℕ → Type 0)
     (core_of : V → C) (put_core : V → C → V) (of : ℕ → V → P) (put : ℕ → V → P → V) (laws : AreParts core_of put_core of put) (further : ℕ) where
@@ -101,7 +101,7 @@ module _ {S B : Type 0} (past : S → History) (room : S → ℕ) (comes : B →
       → Allows OneTable slots id me 0 (λ n. either (eqb n 0) 1 n) (Told (with_owned count_of (took past room comes)) st me)
   takes_tied slots id k v me one st =
       let turns = lock_turns_also (CoreKept past comes first) MutexParts (mutex_tie past ceilings) core_of put_core mutex_of put_mutex parts_apart m slots k v [] (λ n. either (eqb n 0) 1 n) (took past room comes st k (v.core, [])) (OwnsAsRecorded count_of k)
-      (takes_core past comes first room (KeepsTies (mutex_tie past ceilings)) (λ n hs cs i word t. t) slots k v.core (tie_taking past comes first ceilings room k v.core) st)
+      (takes_core past comes first room (KeepsTies (mutex_tie past ceilings)) slots k v.core (tie_losing past comes first ceilings k v.core) (tie_taking past comes first ceilings room k v.core) st)
       (owned_as k) in
       subst (λ (z : Seat). Allows OneTable slots id z 0 (λ n. either (eqb n 0) 1 n) (Told (with_owned count_of (took past room comes)) st z)) (sym one)
       (allows_of (ThreadRule past comes (mutex_tie past ceilings) first m) slots id k v (place k v ∷ [], []) refl 0 (λ n. either (eqb n 0) 1 n) st (with_owned count_of (took past room comes)) turns)

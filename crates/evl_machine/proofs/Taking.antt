@@ -33,12 +33,12 @@ module _ {S : Type 0} (past : S → History) (room : S → ℕ) where
   Took from me me' = (k : S) × (me' ≡ (after_take (past k) (room k) me.0, (0, Some k) ∷ [])) × IsLegal (past k) × HasNoStranger (past k) × AccountsFit (past k) me.0.accounts × from k
 
   -- what comes out of the slot after a take is the kernel
-  pub takes_out : (from : S → Type 0) (me me' me'' : CoreMe S) (out : Option S) → Took from me me' → me'.1 ≡ put_first out me'.1 → me'' ≡ put_none me' → MatchOption out (me'' ≡ me) (λ k. Taken past room me k me'' × from k)
-  takes_out from me me' me'' out t slot now =
+  pub takes_out : (from : S → Type 0) (me me' me'' : CoreMe S) (out : Option S) → (None' : Type 0) → Took from me me' → me'.1 ≡ put_first out me'.1 → me'' ≡ put_none me' → MatchOption out None' (λ k. Taken past room me k me'' × from k)
+  takes_out from me me' me'' out None' t slot now =
       let k = t.0 in
       let is : me'.1 ≡ slot_with (Some k) = ap (λ (m : CoreMe S). m.1) t.1 in
       let same : Some k ≡ out = ap first_slot (sym is ∙ slot) in
-      subst (λ (x : Option S). MatchOption x (me'' ≡ me) (λ k. Taken past room me k me'' × from k)) same (
+      subst (λ (x : Option S). MatchOption x None' (λ k. Taken past room me k me'' × from k)) same (
         record {
           now = now ∙ ap put_none t.1;
           legal = t.2;

@@ -24,7 +24,7 @@ use Rattle.evl_machine.specs.CoreRule.{CoreKept, Homes, MayGive, newcomer_part}
 use Rattle.evl_machine.specs.CoreTells.{took, gave}
 use Rattle.evl_machine.specs.Accounts.{threads_of}
 use Rattle.evl_machine.specs.ThreadRule.{Tie, MutexParts, ThreadRule, MachineRule, core_of, put_core, mutex_of, put_mutex, newcomer_view, all_threads, on_core, on_mutex}
-use Rattle.evl_machine.proofs.CoreSteps.{Taking, Giving, takes_core, gives_core, opens_core}
+use Rattle.evl_machine.proofs.CoreSteps.{Losing, Taking, Giving, takes_core, gives_core, opens_core}
 
 pub parts_apart : {B : Type 0} → AreParts {V = ThreadView B MutexView} core_of put_core mutex_of put_mutex
 parts_apart = record {
@@ -41,11 +41,11 @@ module _ {S B : Type 0} (past : S → History) (room : S → ℕ) (comes : B →
   Seat = Me (Option S) (Hand (ThreadView B MutexView))
 
   -- a take by a thread that has no slot owes the ties alone
-  pub takes_thread : (slots id k : ℕ) (v : ThreadView B MutexView) (me : Seat) → me ≡ (place k v ∷ [], []) → Taking past comes first room (KeepsTies tie) k v.core → (st : Step (Option S))
+  pub takes_thread : (slots id k : ℕ) (v : ThreadView B MutexView) (me : Seat) → me ≡ (place k v ∷ [], []) → Losing past comes first (KeepsTies tie) k v.core → Taking past comes first room (KeepsTies tie) k v.core → (st : Step (Option S))
       → Allows (MachineRule past comes tie first m) slots id me 0 (λ n. either (eqb n 0) 1 n) (Told (on_core (took past room comes)) st me)
-  takes_thread slots id k v me one ties st =
+  takes_thread slots id k v me one losing ties st =
       let turns = lock_turns (CoreKept past comes first) MutexParts tie core_of put_core mutex_of put_mutex parts_apart m slots k v [] (λ n. either (eqb n 0) 1 n) (took past room comes st k (v.core, []))
-      (takes_core past comes first room (KeepsTies tie) (λ n hs cs i word t. t) slots k v.core ties st) in
+      (takes_core past comes first room (KeepsTies tie) slots k v.core losing ties st) in
       subst (λ (z : Seat). Allows (MachineRule past comes tie first m) slots id z 0 (λ n. either (eqb n 0) 1 n) (Told (on_core (took past room comes)) st z)) (sym one)
       (allows_of (ThreadRule past comes tie first m) slots id k v (place k v ∷ [], []) refl 0 (λ n. either (eqb n 0) 1 n) st (on_core (took past room comes)) turns)
 

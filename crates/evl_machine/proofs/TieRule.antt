@@ -9,11 +9,11 @@ use Rattle.evl_kernel.specs.States.{State}
 use Rattle.evl_words.specs.Parts.{KeepsTies}
 use Rattle.evl_machine.specs.declared.views.CorePart.{CorePart}
 use Rattle.evl_machine.specs.declared.views.Noted.{Noted}
-use Rattle.evl_machine.specs.CoreRule.{IsFree, IsTaken, Homes, after_take, after_give, noting, IsAbout}
+use Rattle.evl_machine.specs.CoreRule.{IsFree, IsTaken, Homes, after_take, after_loss, after_give, noting, IsAbout}
 use Rattle.evl_machine.specs.CoreWorld.{Slot}
 use Rattle.evl_machine.specs.Ties.{AreTied, IsLeft, MutexTied, Settled, StandsNoted}
 use Rattle.evl_machine.proofs.Noting.{noted_core}
-use Rattle.evl_machine.proofs.CoreSteps.{Lock, Taking, Giving, none_some, holder_is}
+use Rattle.evl_machine.proofs.CoreSteps.{Lock, Losing, Taking, Giving, none_some, holder_is}
 use Rattle.evl_machine.proofs.TieSteps.{StaysPlain, stays_left, stays_tied}
 
 Some-injective : {X : Type 0} (x y : X) → Some x ≡ Some y → x ≡ y
@@ -56,6 +56,17 @@ from_true false X Y e h = absurd (cc)
 module _ {S B : Type 0} (past : S → History) (comes : B → S → Type 0) (first : B) (ceilings : ℕ → Bool) where
   abbrev pub TieOf : ℕ → ℕ → Homes S → List (CorePart B) → ℕ → Type 0
   TieOf = MutexTied past ceilings
+
+  -- a take that is lost
+  pub tie_losing : (k : ℕ) (c : CorePart B) → Losing past comes first (KeepsTies TieOf) k c
+  tie_losing k c n homes cores at i word tied = record {
+    free = tied.free;
+    taken = λ j u h there has. ⊎_elim
+        (λ (same : (j ≡ k) × (after_loss c ≡ u)).
+        subst (λ (x : CorePart B). StandsNoted ceilings h.state i x.note word) same.1 (tied.taken k c h at (ap (λ (x : CorePart B). x.taken) same.1 ∙ has)))
+        (λ (other : (j ≢ k) × (get_elem? cores j ≡ some u)). tied.taken j u h other.1 has)
+        (at_set cores k j (after_loss c) u there);
+  }
 
   -- a take
   pub tie_taking : (room : S → ℕ) (k : ℕ) (c : CorePart B) → Taking past comes first room (KeepsTies TieOf) k c

@@ -16,12 +16,12 @@ use Rattle.evl_kernel.specs.KernelViews.{KernelView}
 use Rattle.evl_words.specs.MutexCalls.{MutexSeatState}
 use Rattle.evl_words.specs.declared.mutex.place.MutexPlace.{MutexPlace}
 use Rattle.evl_machine.specs.declared.views.Account.{Account}
-use Rattle.evl_machine.specs.Accounts.{Fits, IsAccount, MadeBy, calls_by, informed, saw}
+use Rattle.evl_machine.specs.Accounts.{Fits, IsAccount, MadeBy, calls_by, informed, lost_one, saw}
 use Rattle.evl_machine.specs.Actors.{ActorState, AreHeldAt, AwaitsOneOf, IsActor, IsSameActor, SeatedActor, Suits, acting, call_refusal, stage_in}
 use Rattle.evl_machine.specs.Callers.{HasInHand, IsResting, caller_by, machine_by}
 use Rattle.evl_machine.specs.Calls.{ActsOnCore, Answered, Applied, AreOwnedAsRecorded, IsCaller, IsHeld, TookKernel}
 use Rattle.evl_machine.specs.Events.{FailsToTake, Gives, Takes}
-use Rattle.evl_machine.specs.Handles.{CallerState, Continues, HeldState, MachineState, account_of, caller_of, machine_of, returned, shown}
+use Rattle.evl_machine.specs.Handles.{CallerState, Continues, HeldState, MachineState, account_of, caller_of, machine_of, returned, seated, shown, turned_away}
 use Rattle.evl_machine.specs.Homes.{Home, mutex_home, stax_home, word_home, word_homes}
 use Rattle.evl_machine.specs.Known.{ComesFrom, KernelMe, first_of, mutex_count, seen}
 use Rattle.evl_machine.specs.Locking.{GoesAlong, HaveSeats}
@@ -34,7 +34,7 @@ use Rattle.evl_machine.specs.StaxSeats.{holds_stax}
 use Rattle.evl_machine.specs.Unfinished.{unfinished}
 use Rattle.evl_machine.specs.Visits.{FindsTaken, Visited, actor_of}
 use Rattle.evl_machine.proofs.Accounts.{goes_on_more, made_by-append}
-use Rattle.evl_machine.proofs.Calling.{TakenOut, calls, fits_one, given_account, held_applied, is_held, mine_after, takes_hold, took_and_gave}
+use Rattle.evl_machine.proofs.Calling.{TakenOut, calls, fits_one, given_account, held_applied, is_held, lost_caller, mine_after, takes_hold, took_and_gave}
 use Rattle.evl_machine.proofs.Knowing.{answers_still, comes_on}
 use Rattle.evl_machine.proofs.LockingLaws.{along_call, along_none, same_kernel, the_same}
 use Rattle.evl_machine.proofs.LockingTies.{other_call_stays, still_settled}
@@ -57,11 +57,11 @@ module _ {C : Type 0} where
   }
 
   -- what came of a take of an actor at rest
-  pub opens_or_not : (x a : SeatedActor C) (me : KernelMe C) (out : Option (KernelView C)) → x ≡ a → IsCaller (seen a.me) a.thread → MatchOption out (seen me ≡ seen x.me) (λ k. TakenOut (seen x.me) k (seen me) × ComesFrom (first_of x.me.0) k) → first_of me.0 ≡ first_of x.me.0
-      → MatchOption out (seen me ≡ seen a.me) (λ k. Opens (first_of a.me.0) (account_of (seen a.me)) a.thread me k)
-  opens_or_not x a me out is rests took from = subst (λ (z : SeatedActor C). IsCaller (seen z.me) z.thread → MatchOption out (seen me ≡ seen z.me) (λ k. Opens (first_of z.me.0) (account_of (seen z.me)) z.thread me k)) is (by out took) rests
+  pub opens_or_not : (x a : SeatedActor C) (me : KernelMe C) (out : Option (KernelView C)) → x ≡ a → IsCaller (seen a.me) a.thread → MatchOption out (seen me ≡ seated (lost_one (account_of (seen x.me)))) (λ k. TakenOut (seen x.me) k (seen me) × ComesFrom (first_of x.me.0) k) → first_of me.0 ≡ first_of x.me.0
+      → MatchOption out (seen me ≡ seated (lost_one (account_of (seen a.me)))) (λ k. Opens (first_of a.me.0) (account_of (seen a.me)) a.thread me k)
+  opens_or_not x a me out is rests took from = subst (λ (z : SeatedActor C). IsCaller (seen z.me) z.thread → MatchOption out (seen me ≡ seated (lost_one (account_of (seen z.me)))) (λ k. Opens (first_of z.me.0) (account_of (seen z.me)) z.thread me k)) is (by out took) rests
     where
-      by : (o : Option (KernelView C)) → MatchOption o (seen me ≡ seen x.me) (λ k. TakenOut (seen x.me) k (seen me) × ComesFrom (first_of x.me.0) k) → IsCaller (seen x.me) x.thread → MatchOption o (seen me ≡ seen x.me) (λ k. Opens (first_of x.me.0) (account_of (seen x.me)) x.thread me k)
+      by : (o : Option (KernelView C)) → MatchOption o (seen me ≡ seated (lost_one (account_of (seen x.me)))) (λ k. TakenOut (seen x.me) k (seen me) × ComesFrom (first_of x.me.0) k) → IsCaller (seen x.me) x.thread → MatchOption o (seen me ≡ seated (lost_one (account_of (seen x.me)))) (λ k. Opens (first_of x.me.0) (account_of (seen x.me)) x.thread me k)
       by None same rests = same
       by (Some k) took rests = opens_by (first_of x.me.0) (account_of (seen x.me)) x.thread x.me me k rests refl refl took.0 took.1 from
 
@@ -217,19 +217,22 @@ module _ {C : Type 0} (x o : SeatedActor C) (k : KernelView C) (opens : Opens (f
           (visited_at (first_of x.me.0) (account_of (seen x.me)) (acting x) o.me k opens (acting x') k' along x.table n.table (first_of n.me.0) does a old was (given.0 ∙ stayed ∙ opened) first suits (subst (λ (z : ActorState). AreOwnedAsRecorded z.thread.0 z.mutexes k.history) same owned) account
           (subst (λ (z : ActorState). does z k (acting x') k') same did) took gives)
 
--- a caller that didn't find the kernel is as it was
-module _ {C : Type 0} (x n : SeatedActor C) (same : (n.table ≡ x.table) × (acting n ≡ acting x) × (first_of n.me.0 ≡ first_of x.me.0)) (kept : n.thread ≡ x.thread) (knows : seen n.me ≡ seen x.me) where
-  pub caller_same : caller_by n ≡ caller_by x
-  caller_same = λ i. caller_of (machine_of (same.0 i) (same.2 i) (same.1 i).staxes (same.1 i).mutexes) (account_of (knows i)) (same.1 i).staxes (same.1 i).mutexes
+-- a caller that didn't find the kernel has lost one take more
+module _ {C : Type 0} (x n : SeatedActor C) (same : (n.table ≡ x.table) × (acting n ≡ acting x) × (first_of n.me.0 ≡ first_of x.me.0)) (kept : n.thread ≡ x.thread) (knows : seen n.me ≡ seated (lost_one (account_of (seen x.me)))) where
+  pub caller_lost : caller_by n ≡ turned_away (caller_by x)
+  caller_lost = λ i. caller_of (machine_of (same.0 i) (same.2 i) (same.1 i).staxes (same.1 i).mutexes) (account_of (knows i)) (same.1 i).staxes (same.1 i).mutexes
 
-  pub suits_same : Suits (acting x) (account_of (seen x.me)).seen → Suits (acting n) (account_of (seen n.me)).seen
-  suits_same suits = subst (λ (z : ActorState × CoreMe (KernelView C)). Suits z.0 (account_of z.1).seen) (λ i. (sym same.1 i, sym knows i)) suits
+  pub suits_lost : Suits (acting x) (account_of (seen x.me)).seen → Suits (acting n) (account_of (seen n.me)).seen
+  suits_lost suits = subst (λ (z : ActorState × CoreMe (KernelView C)). Suits z.0 (account_of z.1).seen) (λ i. (sym same.1 i, sym knows i)) suits
 
-  pub resting_same : IsResting x → IsResting n
-  resting_same is = (subst (λ (z : CoreMe (KernelView C) × ThreadId). IsCaller z.0 z.1) (λ i. (sym knows i, sym kept i)) is.0, suits_same is.1)
+  pub rests_lost : IsCaller (seen x.me) x.thread → IsCaller (seen n.me) n.thread
+  rests_lost is = subst (IsCaller (seen n.me)) (sym kept) (lost_caller (seen x.me) (seen n.me) x.thread is knows)
+
+  pub resting_lost : IsResting x → IsResting n
+  resting_lost is = (rests_lost is.0, suits_lost is.1)
 
   pub finds_taken : (old : CallerState C) → caller_by x ≡ old → FailsToTake (first_of x.me.0) (account_of (seen x.me)) (account_of (seen n.me)) → FindsTaken old (caller_by n)
-  finds_taken old was fails = subst (λ (z : CallerState C). FindsTaken z (caller_by n)) was (caller_same, fails)
+  finds_taken old was fails = subst (λ (z : CallerState C). FindsTaken z (caller_by n)) was (caller_lost, fails)
 
 -- held staxes are held at the stage of the caller's thread, where it is at rest
 pub stage_resting : {C : Type 0} (a : SeatedActor C) → AreHeldAt a.stage a.staxes → IsResting a → AreHeldAt (stage_in (account_of (seen a.me)).seen (account_of (seen a.me)).thread) a.staxes

@@ -1,5 +1,5 @@
 -- What a caller's looks and the end of its wait come to.
-use Rattle.std.proofs.Common.{◌≡◌, ◌≢◌, ℕ, List, [], ◌∷◌, ◌++◌, not, Bool, true, false, true≢false, Option, Some, None, Result, Ok, Err, MatchOption, if◌then◌else◌, refl, sym, ap, ◌∙◌, subst}
+use Rattle.std.proofs.Common.{◌≡◌, ◌≢◌, ℕ, List, [], ◌∷◌, ◌++◌, not, Bool, true, false, true≢false, Option, Some, None, Result, Ok, Err, MatchOption, if◌then◌else◌, refl, sym, ap, ◌∙◌, subst, inl, inr, ⊎_elim}
 use Rattle.evl_base.specs.declared.call.Call.{Call}
 use Rattle.evl_base.specs.declared.call.Call.TheVariants.{Finish}
 use Rattle.evl_base.specs.declared.entry.Entry.{Entry}
@@ -16,46 +16,62 @@ use Rattle.evl_machine.specs.declared.unfinished.WaitStep.TheVariants.{Begins}
 use Rattle.evl_machine.specs.declared.views.Account.{Account}
 use Rattle.evl_machine.specs.Accounts.{IsAccount, informed}
 use Rattle.evl_machine.specs.Actors.{SeatedActor, call_refusal, keeps_stage, same_truth}
-use Rattle.evl_machine.specs.Calls.{Called, Enters, KernelCall, own_refusal, wait_of_caller}
+use Rattle.evl_machine.specs.Calls.{Called, CalledAtLast, Enters, IsTurnedAway, KernelCall, own_refusal, wait_of_caller}
 use Rattle.evl_machine.specs.Handles.{CallerState, account_of}
 use Rattle.evl_machine.specs.InHand.{Opens}
-use Rattle.evl_machine.specs.Known.{KernelMe, seen}
+use Rattle.evl_machine.specs.Known.{KernelMe, first_of, seen}
 use Rattle.evl_machine.specs.MutexSeats.{holds_mutex}
 use Rattle.evl_machine.specs.StaxSeats.{holds_stax}
 use Rattle.evl_machine.specs.Unfinished.{unfinished, unfinished_from, wait_after, wait_step}
 use Rattle.evl_machine.specs.Waitings.{Look, Looked, Looks, LooksBy, WaitsOut, begins_wait, finish_of}
+use Rattle.evl_machine.specs.Events.{FailsToTake, Gives, LosesTakes, Takes}
 use Rattle.evl_machine.proofs.Calling.{took}
 use Rattle.evl_machine.proofs.Staying.{fits_stage}
 
-looks_by_more : (a : Account) (xs : List Account) (b : Account) (ys : List Account) (c : Account) → LooksBy a xs b → LooksBy b ys c → LooksBy a (xs ++ ys) c
-looks_by_more a [] b ys c same more = subst (λ (x : Account). LooksBy x ys c) same more
-looks_by_more a (x ∷ xs) b ys c (first, rest) more = (first, looks_by_more x xs b ys c rest more)
+module _ {C : Type 0} (first : KernelView C) where
+  looks_by_more : (a : Account) (xs : List Account) (b : Account) (ys : List Account) (c : Account) → LooksBy first a xs b → LooksBy first b ys c → LooksBy first a (xs ++ ys) c
+  looks_by_more a [] b ys c same more = subst (λ (x : Account). LooksBy first x ys c) same more
+  looks_by_more a (x ∷ xs) b ys c (one, rest) more = (one, looks_by_more x xs b ys c rest more)
 
--- looks, and then looks
-pub looks_more : (a b c : Account) → Looks a b → Looks b c → Looks a c
-looks_more a b c (xs, before) (ys, after) = (xs ++ ys, looks_by_more a xs b ys c before after)
+  -- looks, and then looks
+  pub looks_more : (a b c : Account) → Looks first a b → Looks first b c → Looks first a c
+  looks_more a b c (xs, before) (ys, after) = (xs ++ ys, looks_by_more a xs b ys c before after)
 
--- looks leave the caller's own calls
-mine_stays : (a : Account) (xs : List Account) (b : Account) → LooksBy a xs b → b.mine ≡ a.mine
-mine_stays a [] b same = ap (λ (x : Account). x.mine) same
-mine_stays a (x ∷ xs) b (first, rest) = mine_stays x xs b rest ∙ ap (λ (y : Account). y.mine) first.now
+  -- looks and lost takes leave the caller's own calls
+  mine_stays : (a : Account) (xs : List Account) (b : Account) → LooksBy first a xs b → b.mine ≡ a.mine
+  mine_stays a [] b same = ap (λ (x : Account). x.mine) same
+  mine_stays a (x ∷ xs) b (one, rest) = mine_stays x xs b rest
+      ∙ ⊎_elim (λ (look : Look first a x). ap (λ (y : Account). y.mine) look.now) (λ (fails : FailsToTake first a x). ap (λ (y : Account). y.mine) fails.0) one
+
+  pub lost_mine : (a : Account) (lost : List Account) (b : Account) → LosesTakes first a lost b → b.mine ≡ a.mine
+  lost_mine a [] b same = ap (λ (x : Account). x.mine) same
+  lost_mine a (x ∷ xs) b (rest, fails) = ap (λ (y : Account). y.mine) fails.0 ∙ lost_mine a xs x rest
+
+  -- a take that was lost, of a caller that looks
+  pub look_lost : (a a' : Account) → FailsToTake first a a' → Looks first a a'
+  look_lost a a' fails = (a' ∷ [], (inr fails, refl))
 
 module _ {C : Type 0} where
   -- what a caller knows that took the kernel and gave it back, between which no call was made
-  pub look_opened : (first : KernelView C) (a : Account) (thread : ThreadId) (me : KernelMe C) (k : KernelView C) → Opens first a thread me k → has_ended k.history.state thread.0 ≡ false → (a' : Account) → a' ≡ informed k.history (account_of (seen me)) → Looks a a'
-  look_opened first a thread me k opens going a' now =
+  pub look_opened : (first : KernelView C) (a : Account) (thread : ThreadId) (me : KernelMe C) (k : KernelView C) → Opens first a thread me k → has_ended k.history.state thread.0 ≡ false → (a' : Account) → a' ≡ informed k.history (account_of (seen me))
+      → Takes first a (account_of (seen me)) → Gives (first_of me.0) (account_of (seen me)) k a' → Looks first a a'
+  look_opened first a thread me k opens going a' now takes gives =
       let f = opens.fits in
       let own : a.thread ≡ thread.0 = sym (ap (λ (y : Account). y.thread) opens.account) ∙ opens.held.own in
       let same : a' ≡ took k a = now ∙ (ap (informed k.history) opens.account ∙ (λ i. record (took k a) { mine = f.mine i })) in
-      let one : Look a (took k a) = record {
+      let one : Look first a (took k a) = record {
         room = k.room;
         now = refl;
         later = f.seen;
         stage = fits_stage a k.history opens.was f;
         goes_on = ap (has_ended k.history.state) own ∙ going;
         account = subst IsAccount opens.account opens.held.continues.before;
+        held = account_of (seen me);
+        kernel = k;
+        takes = takes;
+        gives = subst (λ (z : KernelView C × Account). Gives z.0 (account_of (seen me)) k z.1) (λ i. (opens.first_is i, same i)) gives;
       } in
-      subst (Looks a) (sym same) (took k a ∷ [], (one, refl))
+      subst (Looks first a) (sym same) (took k a ∷ [], (inl one, refl))
 
   -- what the kernel's reader told of a wait
   pub goes_on : (k read : KernelView C) (x a : SeatedActor C) (b : Bool) → x ≡ a → read ≡ k → b ≡ has_ended read.history.state x.thread.0 → b ≡ false → has_ended k.history.state a.thread.0 ≡ false
@@ -82,11 +98,14 @@ module _ {C : Type 0} where
   finishes limit c r new waits call = subst (λ o. MatchOption o (KernelCall limit c (finish_of c) r new) (λ refusal. (r ≡ Err refusal) × (new ≡ c))) (sym (finish_is_free c waits)) call
 
   pub looked_more : (a b c : CallerState C) → Looked a b → Looked b c → Looked a c
-  looked_more a b c (same, before) (still, after) = (still ∙ (λ i. record (same i) { account = c.account }), looks_more a.account b.account c.account before after)
+  looked_more a b c (same, before) (still, after) = (
+    still ∙ (λ i. record (same i) { account = c.account }),
+    looks_more a.machine.first a.account b.account c.account before (subst (λ (s : CallerState C). Looks s.machine.first b.account c.account) same after),
+  )
 
   -- a caller that has looked waits for what it waited for
   pub still_waits : (old over : CallerState C) → wait_of_caller old ≡ Some Element → Looked old over → wait_of_caller over ≡ Some Element
-  still_waits old over waits looked = ap unfinished (mine_stays old.account looked.1.0 over.account looked.1.1) ∙ waits
+  still_waits old over waits looked = ap unfinished (mine_stays old.machine.first old.account looked.1.0 over.account looked.1.1) ∙ waits
 
   -- a caller that has looked finishes its wait
   pub waits_out : (limit : ℕ) (old over : CallerState C) (r : Result Reply Refusal) (new : CallerState C) → wait_of_caller old ≡ Some Element → Looked old over → KernelCall limit over (finish_of over) r new → r ≢ Err Again → WaitsOut limit old r new
@@ -98,13 +117,13 @@ module _ {C : Type 0} where
   }
 
   -- what an answer that begins a wait leaves unfinished
-  pub begun_waits : (limit : ℕ) (old : CallerState C) (begin : Call) (r : Result Reply Refusal) (new : CallerState C) → wait_step begin ≡ Begins Element → begins_wait r ≡ true → Called limit old begin r new → wait_of_caller new ≡ Some Element
+  pub begun_waits : (limit : ℕ) (old : CallerState C) (begin : Call) (r : Result Reply Refusal) (new : CallerState C) → wait_step begin ≡ Begins Element → begins_wait r ≡ true → CalledAtLast limit old begin r new → wait_of_caller new ≡ Some Element
   begun_waits limit old begin (Err refusal) new begins is called = absurd (true≢false (sym is))
   begun_waits limit old begin (Ok reply) new begins is called = by (own_refusal old begin) called
     where
-      by : (o : Option Refusal) → MatchOption o (KernelCall limit old begin (Ok reply) new) (λ refusal. (◌≡◌ {A = Result Reply Refusal} (Ok reply) (Err refusal)) × (new ≡ old)) → wait_of_caller new ≡ Some Element
-      by None (same, answered, acted) =
-          let e : Enters old.account begin (Ok reply) new.account = answered.entered refl in
-          let entry = entry_of old.account.thread begin (Ok reply) e.plays in
-          ap unfinished e.mine ∙ (after_one None old.account.mine entry ∙ ap (λ (s : WaitStep). wait_after (unfinished old.account.mine) s (Ok reply)) begins)
+      by : (o : Option Refusal) → MatchOption o ((last : CallerState C) × IsTurnedAway old last × KernelCall limit last begin (Ok reply) new) (λ refusal. (◌≡◌ {A = Result Reply Refusal} (Ok reply) (Err refusal)) × (new ≡ old)) → wait_of_caller new ≡ Some Element
+      by None (last, away, (same, answered, acted)) =
+          let e : Enters last.account begin (Ok reply) new.account = answered.entered refl in
+          let entry = entry_of last.account.thread begin (Ok reply) e.plays in
+          ap unfinished e.mine ∙ (after_one None last.account.mine entry ∙ ap (λ (s : WaitStep). wait_after (unfinished last.account.mine) s (Ok reply)) begins)
       by (Some refusal) (other, same) = absurd (cc)

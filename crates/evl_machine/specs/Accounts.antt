@@ -1,5 +1,5 @@
--- What one caller knows of the kernel: the history that it has seen, its own calls there, and what room it found.
-use Rattle.std.specs.Prelude.{◌≡◌, ℕ, ◌<◌, ◌≤◌, ◌==◌, cond, List, [], ◌∷◌, ◌++◌}
+-- What one caller knows of the kernel: the history that it has seen, its own calls there, what room it found, and how often it found it taken.
+use Rattle.std.specs.Prelude.{◌≡◌, ℕ, ◌+◌, ◌<◌, ◌≤◌, ◌==◌, cond, List, [], ◌∷◌, ◌++◌}
 use Rattle.evl_base.specs.declared.entry.Entry.{Entry}
 use Rattle.evl_base.specs.declared.play.Play.{Play}
 use Rattle.evl_kernel.specs.Histories.{History, Run, IsLegal}
@@ -36,8 +36,8 @@ MadeBy t (e ∷ es) = (e.caller.0 ≡ t) × MadeBy t es
 abbrev pub HasNoStranger : History → Type 0
 HasNoStranger h = (t : ℕ) → threads_of h ≤ t → calls_by t h.entries ≡ []
 
-abbrev pub account : ℕ → History → List Entry → List ℕ → Account
-account t seen mine found = record { thread = t; seen = seen; mine = mine; found = found }
+abbrev pub account : ℕ → History → List Entry → List ℕ → ℕ → Account
+account t seen mine found lost = record { thread = t; seen = seen; mine = mine; found = found; lost = lost }
 
 -- the common history begins with what the caller has seen, and its own calls are all that the history has of its thread
 pub record Fits (history : History) (a : Account) : Type 0 where
@@ -58,6 +58,10 @@ saw h room a = record a { seen = h; found = a.found ++ room ∷ [] }
 abbrev pub informed : History → Account → Account
 informed h a = record a { seen = h; mine = calls_by a.thread h.entries }
 
+-- the account once its caller found the core taken
+abbrev pub lost_one : Account → Account
+lost_one a = record a { lost = a.lost + 1 }
+
 -- a caller of this thread that has made no call
 abbrev pub newcomer : History → ℕ → Account
-newcomer h t = account t h [] []
+newcomer h t = account t h [] [] 0

@@ -12,8 +12,8 @@ use Rattle.evl_mutex.specs.Mutexes.{Mutex, is_open_to}
 use Rattle.evl_words.specs.MutexCalls.{MutexSeatState}
 use Rattle.evl_kernel.specs.KernelViews.{KernelView, IsKernelAnswer, Adds, entry_of, makes_entry, refusal_enters}
 use Rattle.evl_machine.specs.declared.views.Account.{Account}
-use Rattle.evl_machine.specs.Accounts.{BeginsWith, IsAccount}
-use Rattle.evl_machine.specs.Events.{FailsToTake, Gives, Takes}
+use Rattle.evl_machine.specs.Accounts.{BeginsWith, IsAccount, lost_one}
+use Rattle.evl_machine.specs.Events.{FailsToTake, Gives, LosesTakes, Takes}
 use Rattle.evl_machine.specs.Seats.{CoreMe}
 use Rattle.evl_machine.specs.QuietCore.{IsQuiet}
 use Rattle.evl_machine.specs.Known.{ComesFrom}
@@ -61,14 +61,15 @@ pub record Enters (a : Account) (c : Call) (r : Result Reply Refusal) (a' : Acco
   pub adds : Adds before a.thread c r plays a'.seen
   pub mine : a'.mine ≡ a.mine ++ entry_of a.thread c r plays ∷ []
 
--- The answer is the kernel's at one point of the common history, which is legal and begins with all that the caller had seen. A refusal without an entry leaves the caller's own calls, and CoreBusy all that it knows. For every other answer the kernel was taken once. It was full for HistoryFull, and for NoMemory it was not, and had no room made
+-- The answer is the kernel's at one point of the common history, which is legal and begins with all that the caller had seen. A refusal without an entry leaves the caller's own calls, and CoreBusy all that it knows but that one take more was lost. For every other answer the kernel was taken once, and no take was lost. It was full for HistoryFull, and for NoMemory it was not, and had no room made
 pub record Answered (limit : ℕ) (a : Account) (c : Call) (r : Result Reply Refusal) (a' : Account) : Type 0 where
   pub thread : a'.thread ≡ a.thread
   pub account : IsAccount a'
   pub later : BeginsWith a'.seen a.seen
   pub entered : completes r ≡ true → Enters a c r a'
   pub refused : completes r ≡ false → a'.mine ≡ a.mine
-  pub busy : r ≡ Err CoreBusy → a' ≡ a
+  pub busy : r ≡ Err CoreBusy → a' ≡ lost_one a
+  pub lost : r ≢ Err CoreBusy → a'.lost ≡ a.lost
   pub taken : r ≢ Err CoreBusy → (room : ℕ) × (a'.found ≡ a.found ++ room ∷ [])
   pub full : r ≡ Err HistoryFull → length a'.seen.entries ≡ limit
   pub memory : r ≡ Err NoMemory → (a'.found ≡ a.found ++ 0 ∷ []) × (length a'.seen.entries ≢ limit)
@@ -126,6 +127,14 @@ module _ {C : Type 0} where
   -- an own answer leaves the caller as it was; every other one is the kernel's
   abbrev pub Called : ℕ → CallerState C → Call → Result Reply Refusal → CallerState C → Type 0
   Called limit old c r new = MatchOption (own_refusal old c) (KernelCall limit old c r new) (λ refusal. (r ≡ Err refusal) × (new ≡ old))
+
+  -- of the caller only what it knows changes, by takes that found the core taken
+  abbrev pub IsTurnedAway : CallerState C → CallerState C → Type 0
+  IsTurnedAway old new = (new ≡ record old { account = new.account }) × (lost : List Account) × LosesTakes old.machine.first old.account lost new.account
+
+  -- the same of a call that is made until the core isn't found taken: before the kernel's answer come only takes that were lost
+  abbrev pub CalledAtLast : ℕ → CallerState C → Call → Result Reply Refusal → CallerState C → Type 0
+  CalledAtLast limit old c r new = MatchOption (own_refusal old c) ((last : CallerState C) × IsTurnedAway old last × KernelCall limit last c r new) (λ refusal. (r ≡ Err refusal) × (new ≡ old))
 
   -- the same of a caller that has the kernel, which goes by what it would know if it gave the kernel back
   abbrev pub CalledHeld : HeldState C → Call → Result Reply Refusal → HeldState C → Type 0

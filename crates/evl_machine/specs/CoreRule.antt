@@ -1,5 +1,5 @@
 -- The part of the core's lock in a table's rule, over plain data: the lock's word, the slot and the core part of each thread's view. What lies in the slot has a history, and has come from what was first put there.
-use Rattle.std.specs.Prelude.{◌≡◌, ◌≢◌, ◌⊎◌, ℕ, List, [], ◌∷◌, ◌++◌, length, Option, Some, None}
+use Rattle.std.specs.Prelude.{◌≡◌, ◌≢◌, ◌⊎◌, ℕ, ◌+◌, List, [], ◌∷◌, ◌++◌, length, Option, Some, None}
 use mathlib.Core.Option.{some, none}
 use mathlib.Core.Option as maybe
 use lib.ListN.{get_elem?}
@@ -10,16 +10,16 @@ use Rattle.evl_machine.specs.declared.views.CorePart.{CorePart}
 use Rattle.evl_machine.specs.declared.views.Noted.{Noted}
 use Rattle.evl_machine.specs.Accounts.{GoesOn, HasNoStranger, MadeBy, Fits, account, calls_by, threads_of}
 
-abbrev pub core_part : {B : Type 0} → Option History → History → List Entry → List ℕ → B → Option Noted → CorePart B
-core_part taken seen mine found first note = record { taken = taken; seen = seen; mine = mine; found = found; first = first; note = note }
+abbrev pub core_part : {B : Type 0} → Option History → History → List Entry → List ℕ → ℕ → B → Option Noted → CorePart B
+core_part taken seen mine found lost first note = record { taken = taken; seen = seen; mine = mine; found = found; lost = lost; first = first; note = note }
 
 -- what the thread k knows of the calls
 abbrev pub account_at : {B : Type 0} → ℕ → CorePart B → Account
-account_at k c = account k c.seen c.mine c.found
+account_at k c = account k c.seen c.mine c.found c.lost
 
 -- a thread that has made no call
 abbrev pub newcomer_part : {B : Type 0} → History → B → CorePart B
-newcomer_part h first = core_part None h [] [] first None
+newcomer_part h first = core_part None h [] [] 0 first None
 
 -- what is known once a kernel with this history and this room was taken, and once the thread k gave one back
 abbrev pub after_take : {B : Type 0} → History → ℕ → CorePart B → CorePart B
@@ -27,6 +27,10 @@ after_take h room c = record c { taken = Some h; seen = h; found = c.found ++ ro
 
 abbrev pub after_give : {B : Type 0} → History → ℕ → CorePart B → CorePart B
 after_give h k c = record c { taken = None; seen = h; mine = calls_by k h.entries; note = None }
+
+-- what is known once the core was found taken
+abbrev pub after_loss : {B : Type 0} → CorePart B → CorePart B
+after_loss c = record c { lost = c.lost + 1 }
 
 -- the thread that has the kernel has left this word at this mutex
 abbrev pub noting : {B : Type 0} → ℕ → ℕ → CorePart B → CorePart B

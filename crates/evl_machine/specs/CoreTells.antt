@@ -5,7 +5,7 @@ use Rattle.evl_kernel.specs.Histories.{History, IsLegal}
 use Rattle.evl_words.specs.Parts.{Tells}
 use Rattle.evl_machine.specs.declared.views.CorePart.{CorePart}
 use Rattle.evl_machine.specs.Accounts.{Fits, HasNoStranger}
-use Rattle.evl_machine.specs.CoreRule.{account_at, after_take, after_give}
+use Rattle.evl_machine.specs.CoreRule.{account_at, after_take, after_loss, after_give}
 use Rattle.evl_machine.specs.CoreWorld.{IsCoreEvent, takes, gives}
 
 abbrev pub CoreMe : Type 0 → Type 0 → Type 0
@@ -16,9 +16,9 @@ module _ {S B : Type 0} (past : S → History) (room : S → ℕ) (comes : B →
   abbrev pub Took : ℕ → CoreMe S B → CoreMe S B → Type 0
   Took k m m' = (y : S) × (m' ≡ (after_take (past y) (room y) m.0, (0, Some y) ∷ [])) × IsLegal (past y) × HasNoStranger (past y) × Fits (past y) (account_at k m.0) × comes m.0.first y
 
-  -- a take tells that it is an event
+  -- a take tells that it is an event, and where it found another word, that it is lost
   abbrev pub took : Tells (Option S) (CorePart B)
-  took st k m found m' = (found ≡ 0 → Took k m m') × (found ≢ 0 → m' ≡ m) × IsCoreEvent past room comes k m.0 takes found m'.0
+  took st k m found m' = (found ≡ 0 → Took k m m') × (found ≢ 0 → m' ≡ (after_loss m.0, m.1)) × IsCoreEvent past room comes k m.0 takes found m'.0
 
   -- a give tells that it is one, which found some word
   abbrev pub gave : Tells (Option S) (CorePart B)

@@ -10,7 +10,7 @@ use Rattle.evl_words.specs.Dealings.{DealingEvent, acts, cuts, gathers}
 use Rattle.evl_words.specs.Hands.{Hand, Deals, place, hand_from, first_of, rest_of}
 use Rattle.evl_machine.specs.declared.views.CorePart.{CorePart}
 use Rattle.evl_machine.specs.Accounts.{threads_of}
-use Rattle.evl_machine.specs.CoreRule.{CoreKept, MayGive, after_take, after_give, newcomer_part}
+use Rattle.evl_machine.specs.CoreRule.{CoreKept, MayGive, after_take, after_loss, after_give, newcomer_part}
 
 abbrev pub Slot : Type 0 → Type 0
 Slot S = maybe.Option (Option S)
@@ -20,7 +20,7 @@ pub record CoreWorld (S B : Type 0) : Type 0 where
   pub slot : Slot S
   pub views : List (CorePart B)
 
--- The kinds of step. A take that finds the core taken changes nothing. Who has taken the slot moves the kernel out of it and, before it gives one back, in again
+-- The kinds of step. A take that finds the core taken is counted as lost, and changes nothing else. Who has taken the slot moves the kernel out of it and, before it gives one back, in again
 pub data CoreKind (S : Type 0) : Type 0 where
   takes : CoreKind S
   gives : S → CoreKind S
@@ -54,7 +54,7 @@ module _ {S B : Type 0} (past : S → History) (room : S → ℕ) (comes : B →
   taken_from (some (Some y)) c = after_take (past y) (room y) c
 
   abbrev pub step_part : ℕ → Slot S → ℕ → CorePart B → CoreKind S → CorePart B
-  step_part found slot k c takes = if found == 0 then taken_from slot c else c
+  step_part found slot k c takes = if found == 0 then taken_from slot c else after_loss c
   step_part found slot k c (gives y) = after_give (past y) k c
   step_part found slot k c moves_out = c
   step_part found slot k c moves_in = c

@@ -1,9 +1,10 @@
 -- The core's steps as events, read at a caller's account.
-use Rattle.std.specs.Prelude.{◌≢◌, ℕ, Option, Some, None}
+use Rattle.std.specs.Prelude.{◌≡◌, ◌≢◌, ℕ, List, [], ◌∷◌, Option, Some, None}
 use Rattle.evl_kernel.specs.KernelViews.{KernelView}
 use Rattle.evl_machine.specs.declared.views.Account.{Account}
 use Rattle.evl_machine.specs.declared.views.CorePart.{CorePart}
 use Rattle.evl_machine.specs.declared.views.Noted.{Noted}
+use Rattle.evl_machine.specs.Accounts.{lost_one}
 use Rattle.evl_machine.specs.CoreRule.{core_part}
 use Rattle.evl_machine.specs.CoreWorld.{CoreKind, IsCoreEvent, takes, gives}
 use Rattle.evl_machine.specs.Known.{ComesFrom, past_of, room_of}
@@ -11,20 +12,25 @@ use Rattle.evl_machine.specs.Known.{ComesFrom, past_of, room_of}
 module _ {C : Type 0} where
   -- what a thread with this account knows of the core, while it has nothing of it and while it has the kernel
   abbrev pub at_rest : KernelView C → Account → Option Noted → CorePart (KernelView C)
-  at_rest first a note = core_part None a.seen a.mine a.found first note
+  at_rest first a note = core_part None a.seen a.mine a.found a.lost first note
 
   abbrev pub in_hand : KernelView C → Account → Option Noted → CorePart (KernelView C)
-  in_hand first a note = core_part (Some a.seen) a.seen a.mine a.found first note
+  in_hand first a note = core_part (Some a.seen) a.seen a.mine a.found a.lost first note
 
   abbrev pub KernelEvent : ℕ → CorePart (KernelView C) → CoreKind (KernelView C) → ℕ → CorePart (KernelView C) → Type 0
   KernelEvent = IsCoreEvent past_of room_of ComesFrom
 
-  -- a take found the core free, or taken
+  -- a take found the core free, or taken, by which its thread has lost one more and knows nothing else
   abbrev pub Takes : KernelView C → Account → Account → Type 0
   Takes first a a' = (was is : Option Noted) × KernelEvent a.thread (at_rest first a was) takes 0 (in_hand first a' is)
 
   abbrev pub FailsToTake : KernelView C → Account → Account → Type 0
-  FailsToTake first a a' = (found : ℕ) × (found ≢ 0) × (was is : Option Noted) × KernelEvent a.thread (at_rest first a was) takes found (at_rest first a' is)
+  FailsToTake first a a' = (a' ≡ lost_one a) × (found : ℕ) × (found ≢ 0) × (was is : Option Noted) × KernelEvent a.thread (at_rest first a was) takes found (at_rest first a' is)
+
+  -- takes that found the core taken, the last one first, each with the account before it
+  abbrev pub LosesTakes : KernelView C → Account → List Account → Account → Type 0
+  LosesTakes first a [] a' = a' ≡ a
+  LosesTakes first a (before ∷ earlier) a' = LosesTakes first a earlier before × FailsToTake first before a'
 
   -- the kernel was given back
   abbrev pub Gives : KernelView C → Account → KernelView C → Account → Type 0

@@ -31,6 +31,7 @@ pub mod StaxCalls
 pub mod Makings
 pub mod Closings
 pub mod OneHistory
+pub mod Tokens
 pub mod Locking
 pub mod InHand
 pub mod Visits

@@ -8,7 +8,7 @@ use Rattle.evl_machine.specs.Accounts.{GoesOn, IsAccount, MadeBy}
 use Rattle.evl_machine.specs.Actors.{ActorState}
 use Rattle.evl_machine.specs.Calls.{TookKernel, stage_of_caller, wait_of_caller}
 use Rattle.evl_machine.specs.Events.{FailsToTake, Gives, Takes}
-use Rattle.evl_machine.specs.Handles.{CallerState, HeldState, returned}
+use Rattle.evl_machine.specs.Handles.{CallerState, HeldState, returned, turned_away}
 use Rattle.evl_machine.specs.Known.{ComesFrom}
 
 module _ {C : Type 0} where
@@ -32,9 +32,9 @@ module _ {C : Type 0} where
     pub takes : Takes old.machine.first old.account held.caller.account
     pub gives : Gives old.machine.first held.caller.account given new.account
 
-  -- another caller has the kernel, and nothing changes
+  -- another caller has the kernel: one take more is lost, and nothing else changes
   abbrev pub FindsTaken : CallerState C → CallerState C → Type 0
-  FindsTaken old new = (new ≡ old) × FailsToTake old.machine.first old.account new.account
+  FindsTaken old new = (new ≡ turned_away old) × FailsToTake old.machine.first old.account new.account
 
   -- it takes the kernel and gives it back, or is told that another caller has it
   abbrev pub Visits : Type 0 → CallerState C → (ActorState → KernelView C → ActorState → KernelView C → Type 0) → CallerState C → Type 0

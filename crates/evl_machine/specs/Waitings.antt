@@ -1,5 +1,5 @@
 -- What a caller does that waits for an element: it begins the wait, looks at the kernel until the wait is over, and finishes it.
-use Rattle.std.specs.Prelude.{◌≡◌, ◌≢◌, ℕ, List, [], ◌∷◌, Bool, true, false, Result, Ok, Err, MatchBool}
+use Rattle.std.specs.Prelude.{◌≡◌, ◌≢◌, ◌⊎◌, ℕ, List, [], ◌∷◌, Bool, true, false, Result, Ok, Err, MatchBool}
 use Rattle.evl_base.specs.declared.call.Call.{Call}
 use Rattle.evl_base.specs.declared.call.Call.TheVariants.{Finish}
 use Rattle.evl_base.specs.declared.refusal.Refusal.{Refusal}
@@ -10,27 +10,25 @@ use Rattle.evl_kernel.specs.Waits.{has_ended}
 use Rattle.evl_machine.specs.declared.views.Account.{Account}
 use Rattle.evl_machine.specs.Accounts.{BeginsWith, IsAccount, saw}
 use Rattle.evl_machine.specs.Actors.{keeps_stage, stage_in}
+use Rattle.evl_kernel.specs.KernelViews.{KernelView}
+use Rattle.evl_machine.specs.Events.{FailsToTake, Gives, Takes}
 use Rattle.evl_machine.specs.Handles.{CallerState}
-use Rattle.evl_machine.specs.Calls.{Called}
+use Rattle.evl_machine.specs.Calls.{Called, CalledAtLast}
 use Rattle.evl_machine.specs.MutexSeats.{holds_mutex}
 use Rattle.evl_machine.specs.StaxSeats.{holds_stax}
 
 -- A look: the kernel was taken and given back, and no call was made. The history that the caller has now seen begins with what it had seen, nobody has changed the stage of its thread, and its wait goes on there
-pub record Look (a a' : Account) : Type 0 where
+pub record Look {C : Type 0} (first : KernelView C) (a a' : Account) : Type 0 where
   pub room : ℕ
   pub now : a' ≡ saw a'.seen room a
   pub later : BeginsWith a'.seen a.seen
   pub stage : stage_in a'.seen a.thread ≡ stage_in a.seen a.thread
   pub goes_on : has_ended a'.seen.state a.thread ≡ false
   pub account : IsAccount a'
-
--- looks, one after another, each from where the one before it ended
-abbrev pub LooksBy : Account → List Account → Account → Type 0
-LooksBy a [] a' = a' ≡ a
-LooksBy a (next ∷ looks) a' = Look a next × LooksBy next looks a'
-
-abbrev pub Looks : Account → Account → Type 0
-Looks a a' = (looks : List Account) × LooksBy a looks a'
+  pub held : Account
+  pub kernel : KernelView C
+  pub takes : Takes first a held
+  pub gives : Gives first held kernel a'
 
 -- whether an answer begins a wait
 abbrev pub begins_wait : Result Reply Refusal → Bool
@@ -38,9 +36,17 @@ begins_wait (Ok Begun) = true
 begins_wait answer = false
 
 module _ {C : Type 0} where
+  -- looks, and takes that found the core taken, one after another, each from where the one before it ended
+  abbrev pub LooksBy : KernelView C → Account → List Account → Account → Type 0
+  LooksBy first a [] a' = a' ≡ a
+  LooksBy first a (next ∷ looks) a' = (Look first a next ⊎ FailsToTake first a next) × LooksBy first next looks a'
+
+  abbrev pub Looks : KernelView C → Account → Account → Type 0
+  Looks first a a' = (looks : List Account) × LooksBy first a looks a'
+
   -- of the caller only its account changes, and that by looks
   abbrev pub Looked : CallerState C → CallerState C → Type 0
-  Looked old new = (new ≡ record old { account = new.account }) × Looks old.account new.account
+  Looked old new = (new ≡ record old { account = new.account }) × Looks old.machine.first old.account new.account
 
   -- the end of a wait, at which the thread keeps its stage where the caller holds a stax or a mutex
   abbrev pub finish_of : CallerState C → Call
@@ -57,5 +63,5 @@ module _ {C : Type 0} where
   pub record Waits (limit : ℕ) (old : CallerState C) (begin : Call) (r : Result Reply Refusal) (new : CallerState C) : Type 0 where
     pub answer : Result Reply Refusal
     pub begun : CallerState C
-    pub called : Called limit old begin answer begun
+    pub called : CalledAtLast limit old begin answer begun
     pub ends : MatchBool (begins_wait answer) (WaitsOut limit begun r new) ((r ≡ answer) × (new ≡ begun))

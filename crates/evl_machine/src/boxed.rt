@@ -4,7 +4,7 @@ ghost use Rattle.std.specs.Prelude.{◌≡◌, ◌≢◌, ◌⊎◌, ◌↔◌, 
 ghost use Rattle.evl_kernel.specs.Callbacks.{AnswersAsTold};
 ghost use Rattle.evl_kernel.specs.KernelViews.{IsOpened};
 ghost use Rattle.evl_kernel.specs.Openings.{can_open};
-ghost use Rattle.evl_machine.specs.Handles.{Belongs, newcomers_of, returned};
+ghost use Rattle.evl_machine.specs.Handles.{Belongs, newcomers_of, returned, turned_away};
 ghost use Rattle.evl_machine.specs.Homes.{AreHomes};
 ghost use Rattle.evl_machine.specs.Events.{FailsToTake, Gives, Takes};
 ghost use Rattle.evl_machine.specs.Calls.{CalledHeld, HoldsAtItsStage, TookKernel};
@@ -98,10 +98,11 @@ impl Machine {
         }
     }
 
-    /// Takes the kernel for as long as the caller likes. The caller comes back only where another has it (this profile).
+    /// Takes the kernel for as long as the caller likes. The caller comes back only where another has it, with one lost take
+    /// more (this profile).
     pub fn take(&self, caller: Caller) -> Result<Held<'_>, Caller>
         requires { Belongs caller self.now.of }
-        ensures taken { MatchResult result (λ h. TookKernel caller h.of) (λ c. c ≡ caller) }
+        ensures taken { MatchResult result (λ h. TookKernel caller h.of) (λ c. c ≡ turned_away caller) }
         ensures event { MatchResult result (λ h. Takes self.now.of.first caller.account h.of.caller.account) (λ c. FailsToTake self.now.of.first caller.account c.account) }
     {
         match self.of.take(caller) {

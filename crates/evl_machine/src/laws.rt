@@ -19,6 +19,7 @@ ghost use Rattle.evl_machine.specs.OneWorld.{OneDealing, OneDealingStep, OneKind
 ghost use Rattle.evl_machine.specs.Known.{ComesFrom, CoreHand, KeptKnown, ceilings_of, mutex_count, past_of, room_of};
 ghost use Rattle.evl_machine.specs.QuietCore.{LiesQuiet};
 ghost use Rattle.evl_machine.specs.TiedCore.{LiesTied};
+ghost use Rattle.evl_machine.specs.Tokens.{HasOneHistory};
 
 use evl_words::laws::holders_agree;
 
@@ -55,6 +56,14 @@ pub fn free_core_is_quiet<C>()
 /// unfinished wait ended with it (Xenomai 4: EVL mutex; this profile).
 pub fn free_core_is_tied<C>()
     ensures { (first : KernelView C) → (s : State (Option (KernelView C)) (CoreHand C)) → KeptKnown first s → slice_index s.words 0 ≡ 0 → LiesTied first s.words s.homes }
+{}
+
+/// Whatever the callers of a machine have done, there is one history of its kernel, which all that they know of it fits: in
+/// any state that the running rule of the machine's table keeps, what is read of its tokens (`CallerOf::token`) is the
+/// beginning of that history, with just the calls of its thread, and of any two one is the beginning of the other (this
+/// profile).
+pub fn callers_know_one_history<C>()
+    ensures { (first : KernelView C) → (s : State (Option (KernelView C)) (CoreHand C)) → KeptKnown first s → HasOneHistory s }
 {}
 
 /// Two callers that hold one stax are on one stage, whatever its seats have done (Dovetail: stage exclusion locks).

@@ -2,7 +2,7 @@
 ghost use Rattle.std.specs.Prelude.{◌≡◌, ◌≢◌, Err, IfErr, IfOk, MatchOption};
 ghost use Rattle.evl_base.specs.declared.refusal.Refusal.TheVariants.{CoreBusy};
 ghost use Rattle.evl_kernel.specs.Callbacks.{AnswersAsTold};
-ghost use Rattle.evl_machine.specs.Accounts.{informed};
+ghost use Rattle.evl_machine.specs.Accounts.{informed, lost_one};
 ghost use Rattle.evl_machine.specs.Known.{ComesFrom, first_of, past_of, room_of, seen};
 ghost use Rattle.evl_machine.specs.Handles.{Belongs, Continues, IsSameCaller, Taken, account_of, holding, seated};
 ghost use Rattle.evl_machine.specs.Events.{FailsToTake, Gives, Takes};
@@ -52,13 +52,13 @@ impl<C: Drop, A: Allocator> Model for MachineOf<C, A> {
 }
 
 impl<C: Drop, A: Allocator> MachineOf<C, A> {
-    /// Takes the kernel out of the slot, unless a seat has it.
+    /// Takes the kernel out of the slot, unless a seat has it: then one take more of this one's is lost.
     #[inline]
     pub(crate) fn take_kernel(&self, seat: &mut CoreSeat<C, A>) -> Option<KernelBox<C, A>>
         requires { (seat.old.table_id ≡ self.now.id) × (seen seat.old.me ≡ seated (account_of (seen seat.old.me))) }
         ensures same { (seat.new.table_id ≡ seat.old.table_id) × (seat.new.id ≡ seat.old.id) × (first_of seat.new.me.0 ≡ first_of seat.old.me.0) }
         ensures event { MatchOption result (FailsToTake (first_of seat.old.me.0) (account_of (seen seat.old.me)) (account_of (seen seat.new.me))) (λ _. Takes (first_of seat.old.me.0) (account_of (seen seat.old.me)) (account_of (seen seat.new.me))) }
-        ensures taken { MatchOption result (seen seat.new.me ≡ seen seat.old.me) (λ k. Taken past_of room_of (seen seat.old.me) k (seen seat.new.me) × ComesFrom (first_of seat.old.me.0) k) }
+        ensures taken { MatchOption result (seen seat.new.me ≡ seated (lost_one (account_of (seen seat.old.me)))) (λ k. Taken past_of room_of (seen seat.old.me) k (seen seat.new.me) × ComesFrom (first_of seat.old.me.0) k) }
         ensures places { KeepsPlaces seat.old.me.0 seat.new.me.0 }
         ensures holder { MatchOption result ⊤ (λ k. HasTaken (account_of (seen seat.old.me)).thread k.history seat.new.me.0) }
     {

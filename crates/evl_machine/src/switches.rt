@@ -4,7 +4,7 @@ ghost use Rattle.evl_base.specs.declared.call.Call.TheVariants.{SetStage};
 ghost use Rattle.evl_base.specs.declared.refusal.Refusal.TheVariants.{CoreBusy};
 ghost use Rattle.evl_base.specs.declared.stage.Stage.TheVariants.{Inband, Oob};
 ghost use Rattle.evl_kernel.specs.Callbacks.{AnswersAsTold};
-ghost use Rattle.evl_machine.specs.Calls.{Called, HoldsAtItsStage};
+ghost use Rattle.evl_machine.specs.Calls.{CalledAtLast, HoldsAtItsStage};
 ghost use Rattle.evl_machine.specs.Handles.{Belongs, IsSameCaller};
 
 use crate::caller::CallerOf;
@@ -23,7 +23,7 @@ impl<C: Handler, A: Allocator> MachineOf<C, A> {
         requires machine { Belongs caller.old self.now }
         requires answering { AnswersAsTold C.declared C.plan self.now.first.callbacks }
         ensures machine { IsSameCaller caller.old caller.new }
-        ensures called { Called self.now.first.limit caller.old (SetStage Oob) result caller.new }
+        ensures called { CalledAtLast self.now.first.limit caller.old (SetStage Oob) result caller.new }
         ensures stage { HoldsAtItsStage caller.new }
         ensures entered { result ≢ Err CoreBusy }
     {
@@ -43,7 +43,7 @@ impl<C: Handler, A: Allocator> MachineOf<C, A> {
         requires machine { Belongs caller.old self.now }
         requires answering { AnswersAsTold C.declared C.plan self.now.first.callbacks }
         ensures machine { IsSameCaller caller.old caller.new }
-        ensures called { Called self.now.first.limit caller.old (SetStage Inband) result caller.new }
+        ensures called { CalledAtLast self.now.first.limit caller.old (SetStage Inband) result caller.new }
         ensures stage { HoldsAtItsStage caller.new }
         ensures entered { result ≢ Err CoreBusy }
     {

@@ -17,13 +17,14 @@ impl Model for Past {
     ghost view = { λ past. record no_history { entries = past.entries } };
 }
 
-/// What is known of one caller: the history that it has seen, its own calls there, and for how many calls it found room
-/// made in the kernel, at each time that it took it.
+/// What is known of one caller: the history that it has seen, its own calls there, for how many calls it found room made
+/// in the kernel, at each time that it took it, and how often it found it taken.
 pub struct Account {
     pub thread: u64,
     pub seen: Past,
     pub mine: LinkedList<Entry>,
     pub found: LinkedList<u64>,
+    pub lost: u64,
 }
 
 /// What is read of a token of the table: the history of the kernel that it took, if it has one, and the accounts of its
@@ -40,13 +41,14 @@ pub struct Noted {
 }
 
 /// What a thread knows of the core: the history of the kernel that it took, if it has one, the history that it has
-/// seen, its own calls there, for how many calls it found room made in the kernel, at each time that it took it, and
-/// the kernel as it was made.
+/// seen, its own calls there, for how many calls it found room made in the kernel, at each time that it took it, how
+/// often it found the core taken, and the kernel as it was made.
 pub struct CorePart<F> {
     pub taken: Option<Past>,
     pub seen: Past,
     pub mine: LinkedList<Entry>,
     pub found: LinkedList<u64>,
+    pub lost: u64,
     pub first: F,
     pub note: Option<Noted>,
 }

@@ -3,7 +3,7 @@ ghost use Rattle.std.specs.Prelude.{◌≡◌, ◌≢◌, Err};
 ghost use Rattle.evl_kernel.specs.Callbacks.{AnswersAsTold};
 ghost use Rattle.evl_base.specs.declared.refusal.Refusal.TheVariants.{CoreBusy};
 ghost use Rattle.evl_machine.specs.Handles.{Belongs, IsSameCaller};
-ghost use Rattle.evl_machine.specs.Calls.{Called, HoldsAtItsStage};
+ghost use Rattle.evl_machine.specs.Calls.{CalledAtLast, HoldsAtItsStage};
 
 use crate::caller::CallerOf;
 use crate::machine::MachineOf;
@@ -15,7 +15,7 @@ use std::thread;
 
 impl<C: Handler, A: Allocator> MachineOf<C, A> {
     /// One call of the kernel, however long other callers have it: `try_call` until it isn't answered `CoreBusy`. The call is
-    /// handed over once the caller has the kernel, and is never copied.
+    /// handed over once the caller has the kernel, and is never copied. Each try before it is a lost take.
     ///
     /// It is refused with no step as `try_call` refuses it; every other answer is the kernel's, of which `NoMemory` and
     /// `HistoryFull` make no entry (this profile).
@@ -29,7 +29,7 @@ impl<C: Handler, A: Allocator> MachineOf<C, A> {
         requires machine { Belongs caller.old self.now }
         requires answering { AnswersAsTold C.declared C.plan self.now.first.callbacks }
         ensures machine { IsSameCaller caller.old caller.new }
-        ensures called { Called self.now.first.limit caller.old call result caller.new }
+        ensures called { CalledAtLast self.now.first.limit caller.old call result caller.new }
         ensures stage { HoldsAtItsStage caller.new }
         ensures entered { result ≢ Err CoreBusy }
     {

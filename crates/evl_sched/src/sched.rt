@@ -9,7 +9,7 @@ ghost use Rattle.evl_bitmap.specs.NumberSet.{contains};
 ghost use Rattle.evl_sched.specs.Policies.{group_of};
 ghost use Rattle.evl_sched.specs.Picks.{IsPicked, eligible, is_anyone_eligible, picked};
 ghost use Rattle.evl_sched.specs.Ranks.{IsSoundSched, fresh, rank_of, with_given, with_sched};
-ghost use Rattle.evl_sched.specs.Threads.{base_of, seat_at, stage_of};
+ghost use Rattle.evl_sched.specs.Threads.{base_of, is_ready, seat_at, stage_of};
 
 use crate::group::Group;
 use crate::order::Order;
@@ -138,6 +138,13 @@ impl<A: Allocator> SchedOf<A> {
             Some(seat) => Some(seat.policy),
             None => None,
         }
+    }
+
+    /// Whether a thread is on the ready list: attached, out-of-band and not blocked. (Xenomai 4: EVL scheduling policies)
+    pub fn is_ready(&self, thread: ThreadId) -> bool
+        ensures ready { result ≡ is_ready self.now.sched thread.0 }
+    {
+        self.order.is_ready(thread.0)
     }
 
     // The seat of an attached thread.

@@ -14,6 +14,8 @@ mod most_plays;
 #[cfg(test)]
 mod pipelines;
 #[cfg(test)]
+mod readers;
+#[cfg(test)]
 mod rows;
 #[cfg(test)]
 mod waits;

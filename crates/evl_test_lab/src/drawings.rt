@@ -1,5 +1,6 @@
 //! Traces that are read and drawn.
-use evl_drawing::{marks_of, write_svg, write_table};
+use evl_drawing::{Condition, Lane, Moment, marks_of, write_svg, write_table};
+use evl_moments::moments_of;
 use evl_runs::write_events;
 use evl_traces::{Misread, TraceLine, read_lines};
 use std::alloc::{AllocError, Global};
@@ -13,9 +14,9 @@ const TRACE: &str = "board threads=2 sems=1 flags=0 xbufs=0 mutexes=0 groups=0 l
 
 /// The same as a table.
 const TABLE: &str = "row,lane,shows,line
-1,T0,refused,\"1 T0 try_get sem=0 -> Again\"
-2,T1,answered,\"2 T1 arrive line=5 -> done\"
-3,out-of-band,unhandled,\"line 5 oob count 1 none\"
+1,T0,refused,1 T0 try_get sem=0 -> Again
+2,T1,answered,2 T1 arrive line=5 -> done
+3,out-of-band,unhandled,line 5 oob count 1 none
 ";
 
 /// The same as trace events.
@@ -34,7 +35,7 @@ const EVENTS: &str = r#"{"traceEvents": [
 "#;
 
 // The table of a trace, where it has one.
-fn table(alloc: Global, trace: &str) -> Result<Option<String>, AllocError> {
+fn table(alloc: Global, trace: &str) -> Result<Option<Vec<u8>>, AllocError> {
     let Ok(lines) = read_lines(alloc, trace) else {
         return Ok(None);
     };
@@ -45,7 +46,7 @@ fn table(alloc: Global, trace: &str) -> Result<Option<String>, AllocError> {
 // Whether a trace has this table.
 fn has_table(alloc: Global, trace: &str, wanted: &str) -> bool {
     match table(alloc, trace) {
-        Ok(Some(text)) => text.as_str() == wanted,
+        Ok(Some(text)) => text.as_slice() == wanted.as_bytes(),
         _ => false,
     }
 }
@@ -80,7 +81,7 @@ fn picture(alloc: Global, trace: &str) -> Result<Option<Vec<u8>>, AllocError> {
         return Ok(None);
     };
     let marks = marks_of(alloc, lines.as_slice())?;
-    Ok(Some(write_svg(alloc, marks.as_slice())?))
+    Ok(Some(write_svg(alloc, marks.as_slice(), &[])?))
 }
 
 // Whether a picture begins and ends as SVG does.
@@ -112,4 +113,38 @@ fn a_trace_is_drawn(rt: HostRuntime) {
 fn another_line_is_refused(rt: HostRuntime) {
     let read = read_lines(rt.alloc(), "1 T0 now -> number 0\n1 T0 now = number 0\n");
     assert!(rt; matches!(&read, Err(Misread::Line(2))));
+}
+
+/// A thread that is attached, and then goes in-band.
+const TWO_MOMENTS: &str = r#"
+step = [
+  { do = "attach", who = 1, policy = "fifo 10", stage = "oob" },
+  { do = "set_stage", who = 1, stage = "inband" },
+]
+[board]
+threads = 2
+"#;
+
+// How thread 1 stands after a step.
+fn stands(moments: &[Moment], step: usize) -> Option<(Condition, Option<u16>)> {
+    let standing = moments.get(step)?.standing(Lane::Thread(1))?;
+    Some((standing.condition, standing.number))
+}
+
+// Whether thread 1 is picked at its rank after the first step, and in-band after the second.
+fn stands_so(alloc: Global) -> bool {
+    let lanes = [Lane::Thread(0), Lane::Thread(1)];
+    match moments_of(alloc, &[], TWO_MOMENTS.as_bytes(), &lanes) {
+        Ok(moments) => {
+            moments.len() == 2
+                && stands(moments.as_slice(), 0) == Some((Condition::Picked, Some(522)))
+                && stands(moments.as_slice(), 1) == Some((Condition::Inband, Some(522)))
+        }
+        Err(_) => false,
+    }
+}
+
+#[test]
+fn moments_tell_how_a_thread_stands(rt: HostRuntime) {
+    assert!(rt; stands_so(rt.alloc()));
 }

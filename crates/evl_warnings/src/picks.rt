@@ -1,8 +1,16 @@
 //! The warning of a step by a thread that isn't the picked one.
-use evl_base::{Call, Refusal, Reply, Stage, ThreadId};
+use evl_base::{Call, Refusal, Stage, ThreadId};
 use evl_plans::PlannedKernel;
 use evl_scenario::Step;
 use std::alloc::AllocError;
+
+/// A step that an out-of-band thread made while another was picked: its number, from 1, and who was.
+#[derive(Clone, Copy, Debug, PartialEq, Eq)]
+pub struct Unpicked {
+    pub number: usize,
+    pub who: ThreadId,
+    pub picked: ThreadId,
+}
 
 // Whether a call comes from a thread, and not from what happens around it.
 fn is_of_thread(call: &Call) -> bool {
@@ -18,33 +26,36 @@ fn runs_oob(kernel: &PlannedKernel, step: &Step) -> bool {
     is_of_thread(&step.call) && !read.waits(step.who) && read.stage(step.who) == Stage::Oob
 }
 
-// Who is picked, where that is somebody else than this thread.
-fn other_picked(kernel: &mut PlannedKernel, who: ThreadId) -> Option<ThreadId> {
-    match kernel.apply(who, Call::Pick) {
-        Ok(Reply::Chosen(Some(picked))) => { if picked == who { None } else { Some(picked) } }
-        _ => None,
-    }
-}
-
 // Who is picked while an out-of-band thread makes this step, where that is somebody else.
-fn picked_instead(kernel: &mut PlannedKernel, step: &Step) -> Option<ThreadId> {
-    if runs_oob(kernel, step) {
-        other_picked(kernel, step.who)
-    } else {
+fn picked_instead(kernel: &PlannedKernel, step: &Step) -> Option<ThreadId> {
+    if !runs_oob(kernel, step) {
+        return None;
+    }
+    let picked = kernel.kernel().picked()?;
+    if picked == step.who {
         None
+    } else {
+        Some(picked)
     }
 }
 
-// Writes that a thread calls while another is picked.
-fn write_unpicked(
-    told: &mut String,
-    name: &str,
-    number: usize,
-    who: ThreadId,
-    picked: ThreadId,
-) -> Result<(), AllocError> {
-    let thread = who.0;
-    let other = picked.0;
+// The step with this number, where an out-of-band thread makes it while another is picked.
+fn unpicked(kernel: &PlannedKernel, step: &Step, number: usize) -> Option<Unpicked> {
+    match picked_instead(kernel, step) {
+        Some(picked) => Some(Unpicked {
+            number,
+            who: step.who,
+            picked,
+        }),
+        None => None,
+    }
+}
+
+/// Writes that a thread calls while another is picked.
+pub fn write_unpicked(told: &mut String, name: &str, found: Unpicked) -> Result<(), AllocError> {
+    let number = found.number;
+    let thread = found.who.0;
+    let other = found.picked.0;
     write!(told, "{name}: step {number}: warning: ")?;
     write!(told, "T{thread} calls while T{other} is picked\n")?;
     Ok(())
@@ -59,30 +70,20 @@ fn make_step(kernel: &mut PlannedKernel, step: Step) -> Result<(), AllocError> {
     }
 }
 
-/// Makes steps. `AllocError` where memory couldn't grow.
-pub fn make_steps(kernel: &mut PlannedKernel, steps: Vec<Step>) -> Result<(), AllocError> {
-    for step in steps {
-        make_step(kernel, step)?;
-    }
-    Ok(())
-}
-
-/// Makes steps up to the first that an out-of-band thread makes while another is picked, and warns of that. Who is picked is
-/// asked for by a call before each step. `AllocError` where memory couldn't grow.
-pub fn warn_of_unpicked(
-    told: &mut String,
-    name: &str,
+/// Makes steps, and answers the first that an out-of-band thread made while another was picked. `AllocError` where memory
+/// couldn't grow.
+pub fn make_steps(
     kernel: &mut PlannedKernel,
     steps: Vec<Step>,
-) -> Result<(), AllocError> {
+) -> Result<Option<Unpicked>, AllocError> {
+    let mut found = None;
     let mut number: usize = 0;
     for step in steps {
         number = number.saturating_add(1);
-        let who = step.who;
-        if let Some(picked) = picked_instead(kernel, &step) {
-            return write_unpicked(told, name, number, who, picked);
+        if found.is_none() {
+            found = unpicked(kernel, &step, number);
         }
         make_step(kernel, step)?;
     }
-    Ok(())
+    Ok(found)
 }

@@ -58,6 +58,14 @@ impl Served {
         }
     }
 
+    /// Nobody was served any more: the list is as a new one. (this profile)
+    pub fn clear(&mut self)
+        ensures nobody { self.new ≡ [] }
+    {
+        self.turns.clear();
+        self.bytes.clear();
+    }
+
     /// How many were served, at most 256. (this profile)
     pub fn len(&self) -> usize
         ensures count { result ≡ length self.now }

@@ -171,4 +171,14 @@ impl<A: Allocator> XbufOf<A> {
             Way::Out => outbound,
         }
     }
+
+    /// How many bytes stand in this way's ring: 0 to its size. (Xenomai 4: EVL cross-buffer)
+    pub fn there(&self, way: Way) -> usize
+        ensures there { result ≡ length (stream self.now way).there }
+    {
+        match way {
+            Way::In => self.inbound.len(),
+            Way::Out => self.outbound.len(),
+        }
+    }
 }

@@ -17,7 +17,7 @@ ghost use Rattle.evl_kernel.specs.declared.waits.Awaited.{Awaited as AwaitedOne}
 use super::Records;
 use crate::wait_place::Outcome;
 use arrayvec::ArrayVec;
-use evl_base::{FlagId, Refusal, Reply, SemId, Spares, Take, ThreadId, Way, XbufId};
+use evl_base::{FlagId, MAX_THREADS, Refusal, Reply, SemId, Spares, Take, ThreadId, Way, XbufId};
 use evl_sync::Served;
 use evl_xbuf::{self as xbuf, Service};
 use std::alloc::Allocator;
@@ -77,13 +77,18 @@ impl<C, A: Allocator> Records<C, A> {
 
     /// Adds bits, and ends the waits of those who are served by one walk through the waiters. `Unknown` where there is no
     /// such flag group, `Invalid` where there are no bits to add.
-    pub(super) fn post_flags(&mut self, flags: FlagId, bits: u32) -> Result<Reply, Refusal>
+    pub(super) fn post_flags(
+        &mut self,
+        flags: FlagId,
+        bits: u32,
+        told: &mut ArrayVec<Served, MAX_THREADS>,
+    ) -> Result<Reply, Refusal>
         ensures answer { IsAnswer result }
         ensures served { Has (state_of self.old) (stepping (state_of self.old) (on_flags flags.0 (group.post bits))) result (state_of self.new) }
         ensures stands { KeepsCallbacks self.old self.new }
     {
-        let mut told = ArrayVec::new();
-        match self.elements.post(flags, bits, &mut told) {
+        told.clear();
+        match self.elements.post(flags, bits, told) {
             Err(refusal) => Err(refusal),
             Ok(()) => {
                 self.wake_all(told.as_slice());
@@ -111,17 +116,18 @@ impl<C, A: Allocator> Records<C, A> {
         xbuf: XbufId,
         way: Way,
         bytes: &[u8],
+        told: &mut xbuf::Served,
     ) -> Result<Reply, Refusal>
         ensures answer { IsAnswer result }
         ensures served { Has (state_of self.old) (stepping (state_of self.old) (on_xbuf xbuf.0 (through.write (stage_of (state_of self.old).sched thread.0) way bytes.now))) result (state_of self.new) }
         ensures stands { KeepsCallbacks self.old self.new }
     {
         let stage = self.sched.stage(thread);
-        let mut told = xbuf::Served::new();
-        match self.elements.write(stage, xbuf, way, bytes, &mut told) {
+        told.clear();
+        match self.elements.write(stage, xbuf, way, bytes, told) {
             Err(refusal) => Err(refusal),
             Ok(()) => {
-                self.wake_served(&told);
+                self.wake_served(told);
                 Ok(Reply::Done)
             }
         }
@@ -136,6 +142,7 @@ impl<C, A: Allocator> Records<C, A> {
         way: Way,
         len: u16,
         spares: &mut Spares<A>,
+        told: &mut xbuf::Served,
     ) -> Result<Reply, Refusal>
         requires boxes { 1 ≤ spares.old }
         ensures boxes { spares.old ≤ spares.new + 1 }
@@ -144,11 +151,11 @@ impl<C, A: Allocator> Records<C, A> {
         ensures stands { KeepsCallbacks self.old self.new }
     {
         let stage = self.sched.stage(thread);
-        let mut told = xbuf::Served::new();
-        match self.elements.read(stage, xbuf, way, len, &mut told) {
+        told.clear();
+        match self.elements.read(stage, xbuf, way, len, told) {
             Err(refusal) => Err(refusal),
             Ok(bytes) => {
-                self.wake_served(&told);
+                self.wake_served(told);
                 Ok(Reply::Bytes(spares.take(bytes.as_slice())))
             }
         }

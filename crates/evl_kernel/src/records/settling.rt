@@ -5,11 +5,11 @@ ghost use Rattle.evl_kernel.specs.Callbacks.{AnswersAsTold};
 ghost use Rattle.evl_kernel.specs.Records.{KeepsCallbacks, state_of, whereabouts};
 ghost use Rattle.evl_kernel.specs.Fires.{Called};
 ghost use Rattle.evl_kernel.specs.Limits.{inband_limit, play_limit};
-ghost use Rattle.evl_kernel.specs.States.{date};
 ghost use Rattle.evl_kernel.specs.Settling.{acted, all_acted, answered, due_played, is_of_clock, line_goes, next_play, one_inband};
 ghost use Rattle.evl_kernel.specs.Settled.{Appends, left_after, left_to_play, settling, stage_of, waiting};
 
 use super::Records;
+use crate::served_lists::ServedLists;
 use evl_base::{LineNo, Play, Stage};
 use evl_clock::Due;
 use evl_pipeline::{Action, Answer, Handler, Ran};
@@ -18,19 +18,10 @@ use std::alloc::Allocator;
 /// The most in-band plays of one call.
 const MAX_INBAND: u8 = 64;
 
-impl<C, A: Allocator> Records<C, A> {
-    /// The date, in nanoseconds.
-    fn date(&self) -> u64
-        ensures date { result ≡ date (state_of self.now) }
-    {
-        self.clock.now()
-    }
-}
-
 impl<C: Drop, A: Allocator> Records<C, A> {
     /// Carries out one action of a callback on a line: what its call does, and nothing where that would be refused.
     #[inline(never)]
-    fn act(&mut self, line: LineNo, action: Action)
+    fn act(&mut self, line: LineNo, action: Action, lists: &mut ServedLists)
         ensures acted { state_of self.new ≡ acted (state_of self.old) line.0 action }
         ensures stands { KeepsCallbacks self.old self.new }
     {
@@ -48,30 +39,30 @@ impl<C: Drop, A: Allocator> Records<C, A> {
                 let _ = self.stop_timer(timer);
             }
             Action::PostFlags(flags, bits) => {
-                let _ = self.post_flags(flags, bits);
+                let _ = self.post_flags(flags, bits, &mut *lists.of_flags);
             }
         }
     }
 
     /// Carries out the actions of an answer, in order.
     #[inline(always)]
-    fn carry_out(&mut self, line: LineNo, actions: &[Action])
+    fn carry_out(&mut self, line: LineNo, actions: &[Action], lists: &mut ServedLists)
         ensures acted { state_of self.new ≡ all_acted (state_of self.old) line.0 actions.now }
         ensures stands { KeepsCallbacks self.old self.new }
     {
         for action in actions {
-            self.act(line, *action);
+            self.act(line, *action, lists);
         }
     }
 
     /// Carries out what a callback on a line answered; nothing where it didn't handle its fire.
     #[inline(always)]
-    fn respond(&mut self, line: LineNo, answer: &Answer)
+    fn respond(&mut self, line: LineNo, answer: &Answer, lists: &mut ServedLists)
         ensures answered { state_of self.new ≡ answered (state_of self.old) line.0 answer.now }
         ensures stands { KeepsCallbacks self.old self.new }
     {
         if answer.handled {
-            self.carry_out(line, answer.actions.as_slice());
+            self.carry_out(line, answer.actions.as_slice(), lists);
         }
     }
 }
@@ -79,7 +70,7 @@ impl<C: Drop, A: Allocator> Records<C, A> {
 impl<C: Handler, A: Allocator> Records<C, A> {
     /// Plays the next due item of the clock, if something is due.
     #[inline(never)]
-    fn play_item(&mut self) -> Option<Play>
+    fn play_item(&mut self, lists: &mut ServedLists) -> Option<Play>
         requires answering { AnswersAsTold C.declared C.plan (whereabouts self.old) }
         ensures played { IfSome result (λ play. due_played (state_of self.old) ≡ Some (play, state_of self.new)) }
         ensures nearer { IfSome result (λ play. waiting (state_of self.new) < waiting (state_of self.old)) }
@@ -89,7 +80,7 @@ impl<C: Handler, A: Allocator> Records<C, A> {
     {
         match self.clock.next_due()? {
             Due::Deadline(thread) => {
-                self.expire(thread);
+                self.expire(thread, &mut *lists.of_xbufs);
                 Some(Play::Deadline { thread })
             }
             Due::Timer {
@@ -98,7 +89,7 @@ impl<C: Handler, A: Allocator> Records<C, A> {
                 missed,
                 answer,
             } => {
-                self.respond(fire.line, &answer);
+                self.respond(fire.line, &answer, lists);
                 Some(Play::Timer {
                     timer: id,
                     count: fire.count,
@@ -111,7 +102,7 @@ impl<C: Handler, A: Allocator> Records<C, A> {
 
     /// Plays the line that is next after so many in-band plays of this call, if a line is playable; an eligible thread holds
     /// in-band lines back.
-    fn play_line(&mut self, inband: u8) -> Option<Play>
+    fn play_line(&mut self, inband: u8, lists: &mut ServedLists) -> Option<Play>
         requires answering { AnswersAsTold C.declared C.plan (whereabouts self.old) }
         requires few { inband ≤ inband_limit }
         ensures played { IfSome result (λ play. line_goes (settling self.old inband false) ≡ Some (play, settling self.new (inband + one_inband (stage_of play)) (is_of_clock play))) }
@@ -127,7 +118,7 @@ impl<C: Handler, A: Allocator> Records<C, A> {
             None => None,
             Some(Ran::Clock) => Some(Play::Clock),
             Some(Ran::Line { fire, answer }) => {
-                self.respond(fire.line, &answer);
+                self.respond(fire.line, &answer, lists);
                 Some(Play::Line {
                     line: fire.line,
                     stage: fire.stage,
@@ -140,7 +131,7 @@ impl<C: Handler, A: Allocator> Records<C, A> {
 
     /// Plays what is next after so many in-band plays of this call, if something is playable: behind a play of the clock
     /// or of a due item what is due, else a line.
-    fn play_next(&mut self, inband: u8, of_clock: bool) -> Option<Play>
+    fn play_next(&mut self, inband: u8, of_clock: bool, lists: &mut ServedLists) -> Option<Play>
         requires answering { AnswersAsTold C.declared C.plan (whereabouts self.old) }
         requires few { inband ≤ inband_limit }
         ensures played { IfSome result (λ play. next_play (settling self.old inband of_clock) ≡ Some (play, settling self.new (inband + one_inband (stage_of play)) (is_of_clock play))) }
@@ -151,16 +142,16 @@ impl<C: Handler, A: Allocator> Records<C, A> {
         ensures stands { KeepsCallbacks self.old self.new }
     {
         if of_clock {
-            if let Some(play) = self.play_item() {
+            if let Some(play) = self.play_item(lists) {
                 return Some(play);
             }
         }
-        self.play_line(inband)
+        self.play_line(inband, lists)
     }
 
     /// Plays until nothing is playable, and appends the plays. Where nothing pends, nothing is looked for.
     #[inline(always)]
-    pub(super) fn settle<B: Allocator>(&mut self, plays: &mut Vec<Play, B>)
+    pub(super) fn settle<B: Allocator>(&mut self, plays: &mut Vec<Play, B>, lists: &mut ServedLists)
         requires answering { AnswersAsTold C.declared C.plan (whereabouts self.old) }
         requires room { vec_len plays.old + play_limit ≤ vec_capacity plays.old }
         ensures settled { Appends C.gives (whereabouts self.old) plays.old.items (state_of self.old) plays.new.items (state_of self.new) }
@@ -170,12 +161,12 @@ impl<C: Handler, A: Allocator> Records<C, A> {
         if self.pipeline.is_idle() {
             return;
         }
-        self.play_pending(plays);
+        self.play_pending(plays, lists);
     }
 
     /// Plays until nothing is playable, and appends the plays. A stalled out-of-band stage holds both stages back.
     #[inline(never)]
-    fn play_pending<B: Allocator>(&mut self, plays: &mut Vec<Play, B>)
+    fn play_pending<B: Allocator>(&mut self, plays: &mut Vec<Play, B>, lists: &mut ServedLists)
         requires answering { AnswersAsTold C.declared C.plan (whereabouts self.old) }
         requires room { vec_len plays.old + play_limit ≤ vec_capacity plays.old }
         ensures settled { Appends C.gives (whereabouts self.old) plays.old.items (state_of self.old) plays.new.items (state_of self.new) }
@@ -187,7 +178,7 @@ impl<C: Handler, A: Allocator> Records<C, A> {
         }
         let mut inband = 0;
         let mut of_clock = false;
-        while let Some(play) = self.play_next(inband, of_clock) {
+        while let Some(play) = self.play_next(inband, of_clock, lists) {
             inband += counted_inband(&play);
             of_clock = is_of_clock(&play);
             plays.push(play).unwrap();

@@ -35,6 +35,7 @@ impl<C, A: Allocator> Records<C, A> {
         thread: ThreadId,
         wanted: Wanted,
         until: Option<u64>,
+        told: &mut Served,
     ) -> Result<Reply, Refusal>
         requires idle { wait_at (state_of self.old) thread.0 ≡ None }
         requires there { thread.0 < self.old.threads }
@@ -58,9 +59,9 @@ impl<C, A: Allocator> Records<C, A> {
         }
         match wanted {
             Wanted::Write(xbuf, way, bytes) => {
-                self.begin_write(thread, xbuf, way, bytes.as_slice(), until)
+                self.begin_write(thread, xbuf, way, bytes.as_slice(), until, told)
             }
-            Wanted::Read(xbuf, way, len) => self.begin_read(thread, xbuf, way, len, until),
+            Wanted::Read(xbuf, way, len) => self.begin_read(thread, xbuf, way, len, until, told),
             Wanted::Mutex(mutex, owner) => return self.begin_claim(thread, mutex, owner, until),
             ranked => self.begin_ranked(thread, rank, &ranked, until),
         }
@@ -94,6 +95,7 @@ impl<C, A: Allocator> Records<C, A> {
         way: Way,
         bytes: &[u8],
         until: Option<u64>,
+        told: &mut Served,
     )
         requires idle { wait_at (state_of self.old) thread.0 ≡ None }
         requires there { thread.0 < self.old.threads }
@@ -102,14 +104,11 @@ impl<C, A: Allocator> Records<C, A> {
         ensures stands { KeepsCallbacks self.old self.new }
     {
         let on = Awaited::Writing(xbuf, way);
-        let mut told = Served::new();
-        if self
-            .elements
-            .begin_write(thread, xbuf, way, bytes, &mut told)
-        {
+        told.clear();
+        if self.elements.begin_write(thread, xbuf, way, bytes, told) {
             let done = Outcome::Told(Reply::Done);
             waits::begin(&mut self.waits, thread, on, Some(done));
-            self.wake_served(&told);
+            self.wake_served(told);
             return;
         }
         waits::begin(&mut self.waits, thread, on, None);
@@ -117,7 +116,15 @@ impl<C, A: Allocator> Records<C, A> {
     }
 
     /// A wait to read begins; where something is read at once, the waits of those whom that serves end.
-    fn begin_read(&mut self, thread: ThreadId, xbuf: XbufId, way: Way, len: u16, until: Option<u64>)
+    fn begin_read(
+        &mut self,
+        thread: ThreadId,
+        xbuf: XbufId,
+        way: Way,
+        len: u16,
+        until: Option<u64>,
+        told: &mut Served,
+    )
         requires idle { wait_at (state_of self.old) thread.0 ≡ None }
         requires there { thread.0 < self.old.threads }
         requires may { begin_refusal (state_of self.old) thread.0 (Wanted.Read xbuf way len) ≡ None }
@@ -125,12 +132,12 @@ impl<C, A: Allocator> Records<C, A> {
         ensures stands { KeepsCallbacks self.old self.new }
     {
         let on = Awaited::Reading(xbuf, way);
-        let mut told = Served::new();
-        match self.elements.begin_read(thread, xbuf, way, len, &mut told) {
+        told.clear();
+        match self.elements.begin_read(thread, xbuf, way, len, told) {
             Some(bytes) => {
                 let read = Outcome::Read(bytes.as_slice());
                 waits::begin(&mut self.waits, thread, on, Some(read));
-                self.wake_served(&told);
+                self.wake_served(told);
             }
             None => {
                 waits::begin(&mut self.waits, thread, on, None);
@@ -206,14 +213,14 @@ impl<C, A: Allocator> Records<C, A> {
 
     /// A deadline that fell due ends its thread's wait as timed out, and the thread leaves the queue in which it waited;
     /// then the waits of those end whom that serves.
-    pub(super) fn expire(&mut self, thread: ThreadId)
+    pub(super) fn expire(&mut self, thread: ThreadId, told: &mut Served)
         ensures expired { state_of self.new ≡ (deadline_left (state_of self.old) thread.0).1 }
         ensures stands { KeepsCallbacks self.old self.new }
     {
-        let mut told = Served::new();
-        self.leave_queue(thread, &mut told);
+        told.clear();
+        self.leave_queue(thread, told);
         self.wake(thread, Outcome::Told(Reply::TimedOut));
-        self.wake_served(&told);
+        self.wake_served(told);
     }
 
     /// A thread leaves the queue in which it waits, if it waits in one; whom that serves wait on, and are told into a list

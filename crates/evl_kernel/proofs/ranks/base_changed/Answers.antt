@@ -1,4 +1,5 @@
-use Rattle.std.proofs.Common.{ℕ, slice_set, ap, ◌∙◌}
+use Rattle.std.proofs.Common.{ℕ, List, length, slice_set, ap, ◌∙◌}
+use Rattle.std.proofs.lemmas.List.{length-set}
 use Rattle.evl_kernel.specs.ChangedThreads.{is_noted}
 use Rattle.evl_kernel.specs.ElementsViews.{owners_of}
 use Rattle.evl_kernel.proofs.ChangedLaws.{given-told}
@@ -19,3 +20,6 @@ pub returns-clause-told : goal.returns-clause-told
 returns-clause-told g c =
     let base = c.set_base.ensures.told ∙ ap (λ (rank : ℕ). slice_set c.args.elements.now.base c.args.thread.0 rank) c.base_rank-rank.ensures.base in
     rw (c.hand_on.ensures.kept, base) (base-told c.args.elements.now.base c.args.sched.now.sched c.args.thread.0 c.requires.size c.requires.few c.requires.there c.requires.others)
+
+pub returns-clause-size : goal.returns-clause-size
+returns-clause-size g c = ap (λ (base : List ℕ). length base) c.set_base.ensures.told ∙ length-set c.args.elements.now.base c.args.thread.0 c.base_rank-rank.result

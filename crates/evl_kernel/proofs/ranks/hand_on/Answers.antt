@@ -1,4 +1,4 @@
-use Rattle.std.proofs.Common.{◌≡◌, ◌<◌, [], length, Some, None, sym, ap, ◌∙◌, subst, arith}
+use Rattle.std.proofs.Common.{◌≡◌, ◌<◌, [], length, Some, sym, ap, ◌∙◌, subst, arith}
 use Rattle.std.specs.Option.{option_map_or}
 use Rattle.evl_bitmap.specs.NumberSet.{NumberSet, least, remove}
 use Rattle.evl_bitmap.proofs.NumberSetLaws.{least-none, length-remove_least}

@@ -1,5 +1,4 @@
 use Rattle.std.proofs.Common.{ℕ, ◌∙◌, ap, map}
-use Rattle.evl_base.specs.Limits.{thread_limit}
 use Rattle.evl_sync.specs.FlagGroups as flag_groups
 use Rattle.evl_sync.specs.Semaphores as semaphores
 use Rattle.evl_mutex.specs.Owners.{Owners, fresh}
@@ -11,10 +10,10 @@ returns-clause-opened g c =
     let sems = c.in-Ok.ensures.sems ∙ ap (map semaphores.opened) c.as_slice.ensures.value in
     let flags = c.in-Ok-opened_flags.ensures.flags ∙ ap (map flag_groups.opened) c.as_slice-2.ensures.value in
     let xbufs = c.in_ok-xbufs.ensures.xbufs ∙ ap (map (λ (pair : ℕ × ℕ). cross_buffers.opened pair.0 pair.1)) c.as_slice-3.ensures.value in
-    let mutexes = c.in_ok-owners.ensures.fresh ∙ ap (fresh thread_limit) c.as_slice-4.ensures.value in
+    let mutexes = c.in_ok-owners.ensures.fresh ∙ ap (fresh c.args.board.now.threads) c.as_slice-4.ensures.value in
     λ i. record { sems = sems i; flags = flags i; xbufs = xbufs i; mutexes = (mutexes i).mutexes }
 
 pub returns-clause-base : goal.returns-clause-base
 returns-clause-base g c =
-    let owners = c.in_ok-owners.ensures.fresh ∙ ap (fresh thread_limit) c.as_slice-4.ensures.value in
+    let owners = c.in_ok-owners.ensures.fresh ∙ ap (fresh c.args.board.now.threads) c.as_slice-4.ensures.value in
     ap (λ (o : Owners). o.base) owners

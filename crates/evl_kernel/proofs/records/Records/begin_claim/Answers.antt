@@ -1,6 +1,5 @@
-use Rattle.std.proofs.Common.{ℕ, [], Ok, refl, None, sym, ap, ◌∙◌}
+use Rattle.std.proofs.Common.{[], Ok, refl, None, sym, ap, ◌∙◌}
 use Rattle.evl_base.specs.declared.reply.Reply.TheVariants.{Begun}
-use Rattle.evl_mutex.specs.Chains.{reaches, waits_for}
 use Rattle.evl_mutex.specs.Owners.{rank_of}
 use Rattle.evl_kernel.specs.declared.waits.Awaited.TheVariants.{Mutex as OnMutex}
 use Rattle.evl_kernel.specs.declared.waits.Wanted.TheVariants.{Mutex as WantsMutex}
@@ -9,9 +8,9 @@ use Rattle.evl_kernel.specs.Records.{state_of}
 use Rattle.evl_kernel.specs.States.{State}
 use Rattle.evl_kernel.specs.RecordsInside.{records_view}
 use Rattle.evl_kernel.proofs.CallbackLaws.{keeps-both}
-use Rattle.evl_kernel.proofs.MutexQueues.{back_is}
 use Rattle.evl_kernel.proofs.QueueLaws.{claim_wakes}
-use Rattle.evl_kernel.proofs.RankLaws.{rank_told, ranks-handed}
+use Rattle.evl_kernel.proofs.EffectiveLaws.{back_as, rank_as}
+use Rattle.evl_kernel.proofs.RankLaws.{ranks-handed}
 use Rattle.evl_kernel.proofs.WaitRecords.{begin_is, blocked_as, claim_rings, idle_away, keeps-changed, may_begin_all, sound_ranked}
 use Rattle.evl_kernel.specs.ChangedThreads.{is_noted}
 use Rattle.evl_kernel.proofs.ChangedLaws.{given-beside}
@@ -25,8 +24,7 @@ pub returns-then-not-claim-clause-served : goal.returns-then-not-claim-clause-se
 returns-then-not-claim-clause-served g c =
     let r = records_view c.self.inside in
     let wants = WantsMutex c.args.mutex c.args.owner in
-    let back = back_is c.self.inside.elements.elements.mutexes c.args.owner.0 c.args.thread.0
-    ∙ (ap (λ (n : ℕ). reaches n (waits_for c.self.inside.elements.elements.mutexes) c.args.owner.0 c.args.thread.0) (sym c.self.invariant.ranks.told.size) ∙ c.claim.ensures.ring c.if-not-claim.true) in
+    let back = back_as r c.self.invariant c.args.owner.0 c.args.thread.0 ∙ c.claim.ensures.ring c.if-not-claim.true in
     rw (← c.self.view_is) (
       claim_rings (state_of r) c.args.thread.0 wants c.args.until (rw (← c.self.view_is) at c.requires.there) (rw (← c.self.view_is) at c.requires.named) refl (rw (← c.self.view_is) at c.requires.may) refl back,
       ap (λ (e : _). state_of (record r { elements = e })) (c.claim.ensures.unchanged c.if-not-claim.true),
@@ -40,8 +38,7 @@ invariant_of-self-2 g c =
     let r = records_view c.self.inside in
     let wants = WantsMutex c.args.mutex c.args.owner in
     let rank = rank_of (owners_of c.self.inside.elements) c.args.thread.0 in
-    let back = back_is c.self.inside.elements.elements.mutexes c.args.owner.0 c.args.thread.0
-    ∙ (ap (λ (n : ℕ). reaches n (waits_for c.self.inside.elements.elements.mutexes) c.args.owner.0 c.args.thread.0) (sym c.self.invariant.ranks.told.size) ∙ c.claim.ensures.free c.if-not-claim.false) in
+    let back = back_as r c.self.invariant c.args.owner.0 c.args.thread.0 ∙ c.claim.ensures.free c.if-not-claim.false in
     let may = may_begin_all (state_of r) c.args.thread.0 wants (rw (← c.self.view_is) at c.requires.there) (rw (← c.self.view_is) at c.requires.named) refl (rw (← c.self.view_is) at c.requires.may) refl back in
     sound_ranked r c.self.invariant c.args.thread.0 rank wants c.args.until (rw (← c.self.view_is) at c.requires.idle) (rw (← c.self.view_is) at c.requires.caller) may c.claim.new.self (c.claim.ensures.step c.if-not-claim.false)
     refl c.hand_on.new.sched
@@ -53,13 +50,12 @@ returns-clause-served g c =
     let r = records_view c.self.inside in
     let wants = WantsMutex c.args.mutex c.args.owner in
     let rank = rank_of (owners_of c.self.inside.elements) c.args.thread.0 in
-    let back = back_is c.self.inside.elements.elements.mutexes c.args.owner.0 c.args.thread.0
-    ∙ (ap (λ (n : ℕ). reaches n (waits_for c.self.inside.elements.elements.mutexes) c.args.owner.0 c.args.thread.0) (sym c.self.invariant.ranks.told.size) ∙ c.claim.ensures.free c.if-not-claim.false) in
+    let back = back_as r c.self.invariant c.args.owner.0 c.args.thread.0 ∙ c.claim.ensures.free c.if-not-claim.false in
     let may = may_begin_all (state_of r) c.args.thread.0 wants (rw (← c.self.view_is) at c.requires.there) (rw (← c.self.view_is) at c.requires.named) refl (rw (← c.self.view_is) at c.requires.may) refl back in
     let s = state_of r in
     let on = OnMutex c.args.mutex in
     rw (← c.self.view_is) (begin_is r c.self.invariant c.args.thread.0 rank wants c.args.until (rw (← c.self.view_is) at c.requires.idle) (rw (← c.self.view_is) at c.requires.caller) may c.claim.new.self (c.claim.ensures.step c.if-not-claim.false)
-    (rank_told (owners_of c.self.inside.elements) c.self.inside.sched.sched c.self.invariant.ranks.told c.args.thread.0) None refl [] (claim_wakes c.self.inside.elements.elements c.args.mutex.0 (record { thread = c.args.thread.0; rank = rank }) c.args.owner.0)
+    (rank_as r c.self.invariant c.args.thread.0) None refl [] (claim_wakes c.self.inside.elements.elements c.args.mutex.0 (record { thread = c.args.thread.0; rank = rank }) c.args.owner.0)
     ∙ ap (λ (x : State). Ok (Begun, x)) (sym (blocked_as s c.claim.new.self.elements c.args.thread.0 on c.args.until c.hand_on.new.sched.sched c.begin.new.waits.items (state_of c.suspend.new.self) c.hand_on.ensures.kept c.begin.ensures.begun c.suspend.ensures.suspended)))
 
 pub returns-clause-stands : goal.returns-clause-stands

@@ -7,4 +7,4 @@ returns-in-Err-clause-answer g c = stranger_answers c.self.inside.sched.sched c.
 
 pub returns-in-Ok-clause-served : goal.returns-in-Ok-clause-served
 returns-in-Ok-clause-served g c =
-    rw (← c.self.view_is, c.told.ensures.number) (told_rank (records_view c.self.inside) c.self.invariant.ranks c.args.thread.0 c.in-Ok.rank c.in-Ok.ensures.ok.0 c.in-Ok.ensures.ok.1)
+    rw (← c.self.view_is, c.told.ensures.number) (told_rank (records_view c.self.inside) c.self.invariant c.args.thread.0 c.in-Ok.rank c.in-Ok.ensures.ok.0 c.in-Ok.ensures.ok.1)

@@ -2,7 +2,7 @@ use Rattle.std.proofs.Common.{length, refl, ap, sym, ◌∙◌, subst}
 use Rattle.evl_base.specs.declared.numbers.ThreadId.{ThreadId}
 use Rattle.evl_kernel.specs.KernelViews.{KernelView}
 use Rattle.evl_machine.specs.Actors.{ActorState, AreHeldAt, ClaimsOneOf, call_refusal}
-use Rattle.evl_machine.specs.Calls.{Applied, IsCaller}
+use Rattle.evl_machine.specs.Calls.{Applied}
 use Rattle.evl_machine.specs.Handles.{account_of}
 use Rattle.evl_machine.specs.Known.{KernelMe, seen}
 use Rattle.evl_machine.specs.MutexSeats.{holds_mutex}
@@ -13,14 +13,14 @@ use Rattle.evl_machine.proofs.Calling.{found_taken, called_none}
 use Rattle.evl_machine.proofs.LockingTies.{other_settled}
 use Rattle.evl_machine.proofs.Opened.{just_took}
 use Rattle.evl_machine.proofs.Knowing.{answers_still, first_in_me}
-use Rattle.evl_machine.proofs.Visits.{acted_by, call_along, called_by, comes_still, has_still, same_core, suits_back, suits_opened, suits_same}
+use Rattle.evl_machine.proofs.Visits.{acted_by, call_along, called_by, comes_still, has_still, rests_lost, same_core, suits_back, suits_opened, suits_lost}
 use Rattle.evl_machine.proofs.machine.MachineOf.call_with.Goals as goal
 
 pub returns-in_default-clause-rests : goal.returns-in_default-clause-rests
-returns-in_default-clause-rests g c = subst (λ (z : CoreMe (KernelView _) × ThreadId). IsCaller z.0 z.1) (λ i. (sym c.in_default.ensures.opened i, sym c.in_default.ensures.kept.0 i)) c.requires.caller.1
+returns-in_default-clause-rests g c = rests_lost c.args.actor.now c.open.new.actor c.in_default.ensures.same c.in_default.ensures.kept.0 c.in_default.ensures.opened c.requires.caller.1
 
 pub returns-in_default-clause-suits : goal.returns-in_default-clause-suits
-returns-in_default-clause-suits g c = suits_same c.args.actor.now c.open.new.actor c.in_default.ensures.same c.in_default.ensures.kept.0 c.in_default.ensures.opened c.requires.suits
+returns-in_default-clause-suits g c = suits_lost c.args.actor.now c.open.new.actor c.in_default.ensures.same c.in_default.ensures.kept.0 c.in_default.ensures.opened c.requires.suits
 
 pub returns-in_default-clause-held : goal.returns-in_default-clause-held
 returns-in_default-clause-held g c = c.in_default.ensures.held

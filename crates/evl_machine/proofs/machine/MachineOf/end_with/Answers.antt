@@ -3,7 +3,7 @@ use Rattle.evl_base.specs.declared.call.Call.TheVariants.{Finish}
 use Rattle.evl_base.specs.declared.numbers.ThreadId.{ThreadId}
 use Rattle.evl_kernel.specs.KernelViews.{KernelView}
 use Rattle.evl_machine.specs.Actors.{ActorState, AreHeldAt, acting, keeps_stage}
-use Rattle.evl_machine.specs.Calls.{Answered, Applied, IsCaller}
+use Rattle.evl_machine.specs.Calls.{Answered, Applied}
 use Rattle.evl_machine.specs.Handles.{account_of}
 use Rattle.evl_machine.specs.Known.{KernelMe, first_of, seen}
 use Rattle.evl_machine.specs.Noted.{IsSettled}
@@ -14,15 +14,18 @@ use Rattle.evl_kernel.specs.Waits.{has_ended}
 use Rattle.evl_machine.proofs.LockingTies.{other_settled, same_settled}
 use Rattle.evl_machine.proofs.Opened.{just_took}
 use Rattle.evl_machine.proofs.Knowing.{answers_still, first_in_me}
-use Rattle.evl_machine.proofs.Visits.{acted_by, call_along, called_by, comes_still, has_still, none_along, same_core, suits_back, suits_opened, suits_same}
-use Rattle.evl_machine.proofs.WaitingLaws.{goes_on, look_opened, may_finish}
+use Rattle.evl_machine.proofs.Visits.{acted_by, call_along, called_by, comes_still, has_still, none_along, rests_lost, same_core, suits_back, suits_opened, suits_lost}
+use Rattle.evl_machine.proofs.WaitingLaws.{goes_on, look_lost, look_opened, may_finish}
 use Rattle.evl_machine.proofs.machine.MachineOf.end_with.Goals as goal
 
 pub returns-in_default-clause-rests : goal.returns-in_default-clause-rests
-returns-in_default-clause-rests g c = subst (λ (z : CoreMe (KernelView _) × ThreadId). IsCaller z.0 z.1) (λ i. (sym c.in_default.ensures.opened i, sym c.in_default.ensures.kept.0 i)) c.requires.caller.1
+returns-in_default-clause-rests g c = rests_lost c.args.actor.now c.open.new.actor c.in_default.ensures.same c.in_default.ensures.kept.0 c.in_default.ensures.opened c.requires.caller.1
 
 pub returns-in_default-clause-suits : goal.returns-in_default-clause-suits
-returns-in_default-clause-suits g c = suits_same c.args.actor.now c.open.new.actor c.in_default.ensures.same c.in_default.ensures.kept.0 c.in_default.ensures.opened c.requires.suits
+returns-in_default-clause-suits g c = suits_lost c.args.actor.now c.open.new.actor c.in_default.ensures.same c.in_default.ensures.kept.0 c.in_default.ensures.opened c.requires.suits
+
+pub returns-in_default-clause-looked : goal.returns-in_default-clause-looked
+returns-in_default-clause-looked g c = look_lost _ _ _ c.in_default.ensures.event
 
 pub returns-in_default-clause-held : goal.returns-in_default-clause-held
 returns-in_default-clause-held g c = c.in_default.ensures.held
@@ -66,7 +69,7 @@ returns-then-not-finished-clause-held g c = subst (λ (z : ActorState). AreHeldA
 
 pub returns-then-not-finished-clause-looked : goal.returns-then-not-finished-clause-looked
 returns-then-not-finished-clause-looked g c =
-    look_opened _ _ _ c.open.new.actor.me c.in-Some.kernel c.in-Some.ensures.opened (subst (λ (t : ThreadId). has_ended c.in-Some.kernel.history.state t.0 ≡ false) c.in-Some.ensures.kept.0 (goes_on _ _ _ _ _ c.actor.view_is c.kernel.ensures c.finished.ensures.ended c.if-not-finished.true)) _ c.shut.ensures.account
+    look_opened _ _ _ c.open.new.actor.me c.in-Some.kernel c.in-Some.ensures.opened (subst (λ (t : ThreadId). has_ended c.in-Some.kernel.history.state t.0 ≡ false) c.in-Some.ensures.kept.0 (goes_on _ _ _ _ _ c.actor.view_is c.kernel.ensures c.finished.ensures.ended c.if-not-finished.true)) _ c.shut.ensures.account c.in-Some.ensures.event c.shut.ensures.event
 
 pub apply-reply-requires-clause-answering : goal.apply-reply-requires-clause-answering
 apply-reply-requires-clause-answering g c = answers_still _ _ _ _ c.in-Some.ensures.opened.comes c.requires.answering

@@ -5,7 +5,7 @@ use Rattle.evl_kernel.specs.KernelViews.{KernelView}
 use Rattle.evl_machine.specs.Actors.{acting}
 use Rattle.evl_machine.specs.Ceilings.{has_ceiling}
 use Rattle.evl_machine.specs.Handles.{CallerState, MachineState}
-use Rattle.evl_machine.proofs.Visits.{comes_still, finds_taken, has_still, opened_answers, resting_same, stage_back, stage_resting, suits_back, visited_by}
+use Rattle.evl_machine.proofs.Visits.{comes_still, finds_taken, has_still, opened_answers, resting_lost, stage_back, stage_resting, suits_back, visited_by}
 use Rattle.evl_machine.specs.Locking.{LocksRaised}
 use Rattle.evl_machine.proofs.Opened.{free_at_ceiling, just_took, lock_open, opened_may, own_thread, owned_seats}
 use Rattle.evl_machine.proofs.machine.MachineOf.lock_at_ceiling.Goals as goal
@@ -71,4 +71,4 @@ pub returns-in-None-clause-visits : goal.returns-in-None-clause-visits
 returns-in-None-clause-visits g c = inl (refl, finds_taken c.caller.inside.actor c.open.new.actor c.in-None.ensures.same c.in-None.ensures.kept.0 c.in-None.ensures.opened _ c.caller.view_is c.in-None.ensures.event)
 
 pub returns-in-None-clause-stage : goal.returns-in-None-clause-stage
-returns-in-None-clause-stage g c = stage_resting c.open.new.actor c.in-None.ensures.held (resting_same c.caller.inside.actor c.open.new.actor c.in-None.ensures.same c.in-None.ensures.kept.0 c.in-None.ensures.opened c.caller.invariant)
+returns-in-None-clause-stage g c = stage_resting c.open.new.actor c.in-None.ensures.held (resting_lost c.caller.inside.actor c.open.new.actor c.in-None.ensures.same c.in-None.ensures.kept.0 c.in-None.ensures.opened c.caller.invariant)

@@ -4,7 +4,7 @@ use Rattle.evl_kernel.specs.Callbacks.{AnswersAsTold}
 use Rattle.evl_kernel.specs.KernelViews.{KernelView}
 use Rattle.evl_machine.specs.Actors.{ActorState}
 use Rattle.evl_machine.specs.Handles.{CallerState, MachineState}
-use Rattle.evl_machine.proofs.Visits.{comes_still, finds_taken, has_still, opened_answers, resting_same, stage_back, stage_resting, suits_back, visited_by}
+use Rattle.evl_machine.proofs.Visits.{comes_still, finds_taken, has_still, opened_answers, resting_lost, stage_back, stage_resting, suits_back, visited_by}
 use Rattle.evl_machine.proofs.Opened.{just_took, opened_seats, opened_wait, own_thread, owned_seats}
 use Rattle.evl_machine.specs.MutexSeats.{HasOnce}
 use Rattle.evl_machine.proofs.machine.MachineOf.release_with_kernel.Goals as goal
@@ -67,4 +67,4 @@ pub returns-in-None-clause-visits : goal.returns-in-None-clause-visits
 returns-in-None-clause-visits g c = inl (refl, finds_taken c.caller.inside.actor c.open.new.actor c.in-None.ensures.same c.in-None.ensures.kept.0 c.in-None.ensures.opened _ c.caller.view_is c.in-None.ensures.event)
 
 pub returns-in-None-clause-stage : goal.returns-in-None-clause-stage
-returns-in-None-clause-stage g c = stage_resting c.open.new.actor c.in-None.ensures.held (resting_same c.caller.inside.actor c.open.new.actor c.in-None.ensures.same c.in-None.ensures.kept.0 c.in-None.ensures.opened c.caller.invariant)
+returns-in-None-clause-stage g c = stage_resting c.open.new.actor c.in-None.ensures.held (resting_lost c.caller.inside.actor c.open.new.actor c.in-None.ensures.same c.in-None.ensures.kept.0 c.in-None.ensures.opened c.caller.invariant)

@@ -4,10 +4,10 @@ use Rattle.evl_base.specs.declared.numbers.ThreadId.{ThreadId}
 use Rattle.evl_kernel.specs.KernelViews.{KernelView}
 use Rattle.evl_machine.specs.declared.views.Account.{Account}
 use Rattle.evl_machine.specs.Events.{FailsToTake, Takes}
-use Rattle.evl_machine.specs.Handles.{CallerState, MachineState, account_of}
+use Rattle.evl_machine.specs.Handles.{CallerState, MachineState, account_of, turned_away}
 use Rattle.evl_machine.specs.Known.{seen}
 use Rattle.evl_machine.proofs.Opened.{owned_seats, own_thread}
-use Rattle.evl_machine.proofs.Visits.{caller_same, has_taken_it, took_it}
+use Rattle.evl_machine.proofs.Visits.{caller_lost, has_taken_it, took_it}
 use Rattle.evl_machine.proofs.machine.MachineOf.take.Goals as goal
 
 pub open-requires-clause-machine : goal.open-requires-clause-machine
@@ -27,7 +27,7 @@ returns-in-Some-clause-event g c =
     subst (λ (z : KernelView _ × Account). Takes z.0 z.1 (account_of (seen c.open.new.actor.me))) (λ i. (first i, account i)) c.in-Some.ensures.event
 
 pub returns-in-None-clause-taken : goal.returns-in-None-clause-taken
-returns-in-None-clause-taken g c = caller_same c.caller.inside.actor c.open.new.actor c.in-None.ensures.same c.in-None.ensures.kept.0 c.in-None.ensures.opened ∙ c.caller.view_is
+returns-in-None-clause-taken g c = caller_lost c.caller.inside.actor c.open.new.actor c.in-None.ensures.same c.in-None.ensures.kept.0 c.in-None.ensures.opened ∙ ap turned_away c.caller.view_is
 
 pub returns-in-None-clause-event : goal.returns-in-None-clause-event
 returns-in-None-clause-event g c =

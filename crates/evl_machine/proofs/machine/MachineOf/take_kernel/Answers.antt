@@ -47,7 +47,7 @@ returns-then-compare_exchange-ne0-clause-event g c = (took_seen (step 0 0 0 1 no
 pub returns-clause-taken : goal.returns-clause-taken
 returns-clause-taken g c =
     let told = took_seen (step 0 0 0 1 none) _ _ _ _ c.requires.1 c.compare_exchange.ensures.2 in
-    takes_out past_of room_of _ (seen c.args.seat.now.me) (seen c.compare_exchange.new.seat.me) (seen c.exchange.new.seat.me) _ (told.0 c.if-compare_exchange-ne0.false) c.exchange.ensures.2 (ap seen c.exchange.ensures.3)
+    takes_out past_of room_of _ (seen c.args.seat.now.me) (seen c.compare_exchange.new.seat.me) (seen c.exchange.new.seat.me) _ _ (told.0 c.if-compare_exchange-ne0.false) c.exchange.ensures.2 (ap seen c.exchange.ensures.3)
 
 pub returns-then-compare_exchange-ne0-clause-same : goal.returns-then-compare_exchange-ne0-clause-same
 returns-then-compare_exchange-ne0-clause-same g c =

@@ -1,0 +1,47 @@
+//! How a machine stands after the calls of a picture.
+use crate::lanes::Lane;
+
+/// How a lane stands after a call.
+#[derive(Clone, Copy, PartialEq, Eq, Debug)]
+pub enum Condition {
+    /// The thread is attached, and in-band.
+    Inband,
+    /// The thread is out-of-band, and blocked.
+    Blocked,
+    /// The thread is on the ready list, and isn't picked.
+    Ready,
+    /// The thread is picked.
+    Picked,
+    /// The stage is stalled.
+    Stalled,
+    /// The mutex has a recorded owner.
+    Owned,
+    /// The timer runs.
+    Runs,
+}
+
+/// How one lane stands, with the effective rank of its thread or the recorded owner of its mutex.
+#[derive(Clone, Copy, PartialEq, Eq, Debug)]
+pub struct Standing {
+    pub lane: Lane,
+    pub condition: Condition,
+    pub number: Option<u16>,
+}
+
+/// How a machine stands after a call: the date in nanoseconds, and the lanes that show something. The others show nothing: a
+/// thread that isn't attached, a stage that isn't stalled, a mutex with no recorded owner, a timer that doesn't run.
+#[derive(Drop)]
+pub struct Moment {
+    pub date: u64,
+    pub standings: Vec<Standing>,
+}
+
+impl Moment {
+    /// How a lane stands, where it shows something.
+    pub fn standing(&self, lane: Lane) -> Option<Standing> {
+        self.standings
+            .iter()
+            .find(|standing| standing.lane == lane)
+            .copied()
+    }
+}

@@ -1,0 +1,6 @@
+use Rattle.evl_kernel.specs.RecordsInside.{records_view}
+use Rattle.evl_kernel.proofs.ReaderLaws.{pick_reads}
+use Rattle.evl_kernel.proofs.records.Records.picked.Goals as goal
+
+pub returns : goal.returns
+returns g c = record { picked = rw (← c.self.view_is) (pick_reads (records_view c.self.inside) c.self.invariant c.pick.result c.pick.ensures.picked) }

@@ -1,0 +1,83 @@
+//! What the records tell of threads, date and elements besides the answers of calls.
+ghost use Rattle.std.specs.Prelude.{◌≡◌, None, Some, length, option_map, slice_get, if◌then◌else◌};
+ghost use Rattle.evl_kernel.specs.Records.{state_of};
+ghost use Rattle.evl_kernel.specs.States.{date};
+ghost use Rattle.evl_kernel.specs.ThreadCalls.{rank_of};
+ghost use Rattle.evl_kernel.specs.Waits.{wait_at};
+ghost use Rattle.evl_sched.specs.Picks.{picked};
+ghost use Rattle.evl_sched.specs.Threads.{is_attached, is_ready, seat_at};
+ghost use Rattle.evl_sync.specs.Semaphores as semaphores;
+ghost use Rattle.evl_xbuf.specs.Xbufs.{stream};
+
+use super::Records;
+use crate::waits::{self, Awaited};
+use evl_base::{FlagId, Policy, SemId, ThreadId, Way, XbufId};
+use std::alloc::Allocator;
+
+impl<C, A: Allocator> Records<C, A> {
+    /// The date, in nanoseconds.
+    pub(crate) fn date(&self) -> u64
+        ensures date { result ≡ date (state_of self.now) }
+    {
+        self.clock.now()
+    }
+
+    /// Who is picked.
+    pub(crate) fn picked(&self) -> Option<ThreadId>
+        ensures picked { option_map (λ t. t.0) result ≡ picked (rank_of (state_of self.now)) (state_of self.now).sched }
+    {
+        self.sched.pick()
+    }
+
+    /// The effective rank of a thread, if it is attached.
+    pub(crate) fn rank(&self, thread: ThreadId) -> Option<u16>
+        ensures rank { result ≡ (if is_attached (state_of self.now).sched thread.0 then Some (rank_of (state_of self.now) thread.0) else None) }
+    {
+        match self.sched.rank(thread) {
+            Ok(rank) => Some(rank),
+            Err(_) => None,
+        }
+    }
+
+    /// The policy of a thread, if it is attached.
+    pub(crate) fn policy(&self, thread: ThreadId) -> Option<Policy>
+        ensures policy { result ≡ option_map (λ seat. seat.policy) (seat_at (state_of self.now).sched thread.0) }
+    {
+        self.sched.policy(thread)
+    }
+
+    /// Whether a thread is on the ready list.
+    pub(crate) fn is_ready(&self, thread: ThreadId) -> bool
+        ensures ready { result ≡ is_ready (state_of self.now).sched thread.0 }
+    {
+        self.sched.is_ready(thread)
+    }
+
+    /// What a thread waits for or waited for, while its wait is unfinished.
+    pub(crate) fn awaited(&self, thread: ThreadId) -> Option<Awaited>
+        ensures on { result ≡ option_map (λ w. w.on) (wait_at (state_of self.now) thread.0) }
+    {
+        waits::awaited_by(&self.waits, thread)
+    }
+
+    /// The count of a semaphore, or minus the number of its waiters.
+    pub(crate) fn count(&self, sem: SemId) -> Option<i64>
+        ensures count { result ≡ option_map semaphores.peek (slice_get (state_of self.now).elements.sems sem.0) }
+    {
+        self.elements.count(sem)
+    }
+
+    /// The bits of a flag group.
+    pub(crate) fn bits(&self, flags: FlagId) -> Option<u32>
+        ensures bits { result ≡ option_map (λ group. group.bits) (slice_get (state_of self.now).elements.flags flags.0) }
+    {
+        self.elements.flag_bits(flags)
+    }
+
+    /// How many bytes stand in a way of a cross-buffer.
+    pub(crate) fn there(&self, xbuf: XbufId, way: Way) -> Option<usize>
+        ensures there { result ≡ option_map (λ x. length (stream x way).there) (slice_get (state_of self.now).elements.xbufs xbuf.0) }
+    {
+        self.elements.there(xbuf, way)
+    }
+}

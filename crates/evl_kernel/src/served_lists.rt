@@ -1,0 +1,26 @@
+//! Lists into which an element tells whom it served.
+ghost use Rattle.std.specs.Prelude.{◌≡◌, IfErr};
+ghost use Rattle.evl_base.specs.declared.refusal.Refusal.{Refusal};
+
+use arrayvec::ArrayVec;
+use evl_base::{MAX_THREADS, Refusal};
+use std::alloc::Global;
+
+/// The lists into which an element tells whom it served: a flag group and a cross-buffer. They are kept between calls, as
+/// each takes 2 KiB to make; whoever uses one empties it first, of those whom the call before served.
+#[derive(Drop)]
+pub(crate) struct ServedLists {
+    pub(crate) of_flags: Box<ArrayVec<evl_sync::Served, MAX_THREADS>>,
+    pub(crate) of_xbufs: Box<evl_xbuf::Served>,
+}
+
+impl ServedLists {
+    /// Empty lists, in boxes of this allocator. `NoMemory` where a box was refused.
+    pub(crate) fn new(boxes: Global) -> Result<ServedLists, Refusal>
+        ensures refusal { IfErr result (λ e. e ≡ Refusal.NoMemory) }
+    {
+        let of_flags = Box::new(boxes, ArrayVec::new()).map_err(|_| Refusal::NoMemory)?;
+        let of_xbufs = Box::new(boxes, evl_xbuf::Served::new()).map_err(|_| Refusal::NoMemory)?;
+        Ok(ServedLists { of_flags, of_xbufs })
+    }
+}

@@ -1,0 +1,101 @@
+//! What the readers of a kernel tell of its date, its threads and its elements.
+ghost use Rattle.evl_kernel.specs.Callbacks.{AnswersAsTold};
+
+use crate::handlers::{SEM, apply, board_of, does, quiet, quiet_plan};
+use crate::rows::{KernelRow, on_a_board};
+use bitflags::Flags;
+use evl_base::{ActionKinds, Board, Call, FlagId, Policy, Reply, Stage, ThreadId, Way, XbufId};
+use evl_kernel::{Awaited, KernelOf};
+use evl_pipeline::{Callback, Fire, Handler};
+use std::alloc::Allocator;
+
+const CALLER: ThreadId = ThreadId(0);
+
+const STRANGER: ThreadId = ThreadId(9);
+
+// Whether these are the rank, the readiness and the pick that the readers tell of thread 0.
+fn stands<C, A: Allocator>(kernel: &KernelOf<C, A>, rank: Option<u16>, ready: bool) -> bool {
+    let picked = match kernel.picked() {
+        Some(thread) => thread.0 == CALLER.0,
+        None => false,
+    };
+    kernel.rank(CALLER) == rank && kernel.ready(CALLER) == ready && picked == ready
+}
+
+// Whether a stranger shows nothing.
+fn knows_no_stranger<C, A: Allocator>(kernel: &KernelOf<C, A>) -> bool {
+    kernel.rank(STRANGER).is_none()
+        && kernel.policy(STRANGER).is_none()
+        && !kernel.ready(STRANGER)
+        && kernel.awaited(STRANGER).is_none()
+}
+
+// Whether these are the date, the count, the bits and the bytes that are there.
+fn holds<C, A: Allocator>(kernel: &KernelOf<C, A>, date: u64, count: i64) -> bool {
+    kernel.now() == date
+        && kernel.count(SEM) == Some(count)
+        && kernel.bits(FlagId(0)) == Some(6)
+        && kernel.bits(FlagId(1)).is_none()
+        && kernel.there(XbufId(0), Way::Out) == Some(0)
+        && kernel.there(XbufId(1), Way::Out).is_none()
+}
+
+// Whether thread 0 waits for the semaphore.
+fn awaits_sem<C, A: Allocator>(kernel: &KernelOf<C, A>) -> bool {
+    match kernel.awaited(CALLER) {
+        Some(Awaited::Sem(sem)) => sem.0 == SEM.0,
+        _ => false,
+    }
+}
+
+// Thread 0 is attached, and then waits for the semaphore, which stands at 0, until after the date has moved.
+fn goes_and_waits<C: Handler, A: Allocator>(kernel: &mut KernelOf<C, A>) -> bool
+    requires { AnswersAsTold C.declared C.plan kernel.old.callbacks }
+{
+    let before = stands(kernel, None, false) && holds(kernel, 0, 0);
+    let attach = Call::Attach {
+        policy: Policy::Fifo(10),
+        stage: Stage::Oob,
+    };
+    let attached = does(kernel, attach);
+    let runs = stands(kernel, Some(522), true) && knows_no_stranger(kernel);
+    let wait = Call::BeginGet {
+        sem: SEM,
+        until: None,
+    };
+    let begun = matches!(apply(kernel, wait), Ok(Reply::Begun));
+    let blocked = stands(kernel, Some(522), false) && awaits_sem(kernel) && holds(kernel, 0, -1);
+    before && attached && runs && begun && blocked
+}
+
+#[derive(Drop)]
+struct OneThread;
+
+impl KernelRow for OneThread {
+    type Told = bool;
+
+    fn ask<C: Handler, A: Allocator>(self, kernel: &mut KernelOf<C, A>) -> bool {
+        goes_and_waits(kernel)
+    }
+}
+
+// A board of one thread with a semaphore, a flag group and a cross-buffer.
+fn board() -> Board {
+    let mut board = board_of(0);
+    board.flags.push(6);
+    board.xbufs.push((16, 8));
+    board
+}
+
+#[test]
+fn readers_tell_how_a_machine_stands(rt: HostRuntime) {
+    let alloc = rt.alloc();
+    let Ok(run) = Box::new(alloc, |_: Fire| quiet()) else {
+        panic!(rt; "box");
+    };
+    let callback = Callback::new(ActionKinds::from_bits_retain(0), &quiet_plan(1), run);
+    let Ok(bank) = Vec::from_array(alloc, [callback]) else {
+        panic!(rt; "bank");
+    };
+    assert!(rt; on_a_board(alloc, alloc, board(), bank, 10, OneThread) == Ok(true));
+}
