@@ -38,7 +38,7 @@ pub struct Hand<C, A: Allocator> {
 const LONG: u64 = 10_000;
 
 // How many turns the others have to notice that they were helped.
-const TURNS: u32 = 50;
+const TURNS: u32 = 1000;
 
 // What doesn't keep the core: a call, a wait, a mutex or a stax.
 fn acts<C: Handler, A: Allocator, R: Wait>(

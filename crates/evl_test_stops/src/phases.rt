@@ -1,5 +1,5 @@
 //! Phases of a row as data: who calls what and is told what, beside whom, and what is left then.
-ghost use Rattle.std.specs.Prelude.{◌≡◌, All};
+ghost use Rattle.std.specs.Prelude.{◌≡◌, All, IfSome};
 ghost use Rattle.evl_kernel.specs.Callbacks.{AnswersAsTold};
 
 use crate::acts::{Act, Told, does};
@@ -85,6 +85,18 @@ pub fn answers<C: Handler, A: Allocator, R: Wait>(
     true
 }
 
+// The last caller, which is taken away.
+fn last_of<C: Handler, A: Allocator>(
+    machine: &MachineOf<C, A>,
+    callers: &mut Vec<CallerOf<C, A>, A>,
+) -> Option<CallerOf<C, A>>
+    requires { All (λ c. c.machine ≡ machine.now) callers.old.items }
+    ensures last { IfSome result (λ c. c.machine ≡ machine.now) }
+    ensures rest { All (λ c. c.machine ≡ machine.now) callers.new.items }
+{
+    callers.pop()
+}
+
 // Whether there is room for the last caller, which was away.
 fn comes_back<C: Handler, A: Allocator>(
     machine: &MachineOf<C, A>,
@@ -110,7 +122,7 @@ fn answers_beside<C: Handler, A: Allocator, R: Wait>(
     requires answering { AnswersAsTold C.declared C.plan machine.now.first.callbacks }
     ensures { All (λ c. c.machine ≡ machine.now) callers.new.items }
 {
-    let Some(holder) = callers.pop() else {
+    let Some(holder) = last_of(machine, callers) else {
         return false;
     };
     let (told, holder) = answers_held(rt, machine, holder, callers, passes, steps);
@@ -128,7 +140,7 @@ fn last_applies<C: Handler, A: Allocator>(
     requires answering { AnswersAsTold C.declared C.plan machine.now.first.callbacks }
     ensures { All (λ c. c.machine ≡ machine.now) callers.new.items }
 {
-    let Some(holder) = callers.pop() else {
+    let Some(holder) = last_of(machine, callers) else {
         return false;
     };
     let (told, holder) = applies(machine, holder, steps);
@@ -144,7 +156,7 @@ fn last_is_dropped<C: Handler, A: Allocator>(
     requires { All (λ c. c.machine ≡ machine.now) callers.old.items }
     ensures { All (λ c. c.machine ≡ machine.now) callers.new.items }
 {
-    match callers.pop() {
+    match last_of(machine, callers) {
         Some(holder) => drops_the_kernel(machine, holder),
         None => false,
     }
@@ -173,7 +185,7 @@ fn left_of<C: Handler, A: Allocator>(
     requires { All (λ c. c.machine ≡ machine.now) callers.old.items }
     ensures { All (λ c. c.machine ≡ machine.now) callers.new.items }
 {
-    let Some(holder) = callers.pop() else {
+    let Some(holder) = last_of(machine, callers) else {
         return None;
     };
     let (left, holder) = looks(machine, holder);
