@@ -17,13 +17,6 @@ use std::rt::Files;
 /// The status of a text that can't be drawn.
 const AT_FAULT: u8 = 2;
 
-/// What is drawn: the lines of a trace, and of a scenario also its text.
-#[derive(Clone, Copy, Drop)]
-struct Drawn<'a> {
-    lines: &'a [TraceLine<'a>],
-    scenario: Option<&'a str>,
-}
-
 // How the lanes of marks stand after each step of a scenario, over the program's callbacks; nothing where there is none.
 fn known_moments(
     alloc: Global,
@@ -120,15 +113,16 @@ fn draw_marks<R: AllocGlobal + Print, E: Write>(
     }
 }
 
-// Writes the picture of what is drawn.
+// Writes the picture of the lines of a trace, and of a scenario with how the lanes stand.
 fn draw_lines<R: AllocGlobal + Print, E: Write>(
     rt: &R,
-    drawn: &Drawn<'_>,
+    lines: &[TraceLine<'_>],
+    scenario: Option<&str>,
     drawing: Drawing,
     err: &mut E,
 ) -> io::Result<u8> {
-    match marks_of(rt.alloc(), drawn.lines) {
-        Ok(marks) => draw_marks(rt, marks.as_slice(), drawn.scenario, drawing, err),
+    match marks_of(rt.alloc(), lines) {
+        Ok(marks) => draw_marks(rt, marks.as_slice(), scenario, drawing, err),
         Err(error) => Err(error.into()),
     }
 }
@@ -172,13 +166,7 @@ fn draw_trace<R: AllocGlobal + Print, E: Write>(
     err: &mut E,
 ) -> io::Result<u8> {
     match read_lines(rt.alloc(), std::str::from_utf8(trace).unwrap_or("")) {
-        Ok(lines) => {
-            let drawn = Drawn {
-                lines: lines.as_slice(),
-                scenario: Some(scenario),
-            };
-            draw_lines(rt, &drawn, drawing, err)
-        }
+        Ok(lines) => draw_lines(rt, lines.as_slice(), Some(scenario), drawing, err),
         Err(_) => Err(AllocError.into()),
     }
 }
@@ -205,13 +193,7 @@ fn draw_text<R: AllocGlobal + Print, E: Write>(
     err: &mut E,
 ) -> io::Result<u8> {
     match read_lines(rt.alloc(), text) {
-        Ok(lines) => {
-            let drawn = Drawn {
-                lines: lines.as_slice(),
-                scenario: None,
-            };
-            draw_lines(rt, &drawn, drawing, err)
-        }
+        Ok(lines) => draw_lines(rt, lines.as_slice(), None, drawing, err),
         Err(Misread::Memory) => Err(AllocError.into()),
         Err(Misread::Line(line)) => draw_scenario(rt, text, line, drawing, err),
     }
