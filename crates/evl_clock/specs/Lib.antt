@@ -4,3 +4,4 @@ pub mod Clocks
 pub mod Dues
 pub mod Searching
 pub mod ClockSteps
+pub mod Names

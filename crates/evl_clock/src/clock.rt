@@ -8,6 +8,8 @@ ghost use Rattle.evl_clock.specs.Limits.{thread_count, timer_count};
 ghost use Rattle.evl_clock.specs.Searching.{IsLeft, Leaves, deadlines_due, least_in, timers_due};
 ghost use Rattle.evl_clock.specs.Timers.{timer_kinds};
 
+mod likeness;
+
 use crate::ahead::{Ahead, Seen};
 use crate::due::{Due, Item};
 use crate::search::{chosen, free_place, least_deadline, least_timer, sooner_item, take_timer};

@@ -1,5 +1,5 @@
 -- Where the callbacks of a bank are, and what they answer.
-use Rattle.std.specs.Prelude.{◌≡◌, ℕ, ◌⊎◌, List, [], ◌∷◌, map, Some, slice_get}
+use Rattle.std.specs.Prelude.{◌≡◌, ℕ, ◌⊎◌, Bool, List, [], ◌∷◌, map, Some, is_some, slice_get}
 use Rattle.evl_base.specs.declared.stage.Stage.{Stage}
 use Rattle.evl_pipeline.specs.declared.plan.Plan.{Plan}
 use Rattle.evl_pipeline.specs.Lines.{Pipeline, Installed, installed_at}
@@ -18,6 +18,10 @@ pub record Whereabouts (C : Type 0) : Type 0 where
 module _ {C : Type 0} where
   abbrev pub handler_of : BankPlace C → Handler
   handler_of place = record { kinds = place.kinds.0; plan = place.plan.value.value }
+
+  -- the callback of a place is there
+  abbrev pub is_home : BankPlace C → Bool
+  is_home place = is_some place.callback
 
   -- what the callback of each place declares and answers, wherever it is
   abbrev pub told : List (BankPlace C) → List Handler

@@ -1,5 +1,5 @@
 -- Who stands in the queues of the elements.
-use Rattle.std.specs.Prelude.{ℕ, Bool, false, ◌≡◌, ◌==◌, List, Some, replicate, slice_get}
+use Rattle.std.specs.Prelude.{ℕ, Bool, false, ◌≡◌, ◌==◌, List, [], Some, map, replicate, slice_get}
 use Rattle.std.specs.List.{list_any}
 use Rattle.std.specs.Option.{option_map_or}
 use Rattle.evl_base.specs.declared.reply.Reply.{Reply}
@@ -42,6 +42,18 @@ stands_for e (Flags id) thread = stands_at in_flags e.flags id.0 thread
 stands_for e (Writing id way) thread = stands_at (in_writers way) e.xbufs id.0 thread
 stands_for e (Reading id way) thread = stands_at (in_readers way) e.xbufs id.0 thread
 stands_for e (Mutex id) thread = stands_at in_mutex e.mutexes id.0 thread
+
+-- the queue of the n-th of a kind
+abbrev pub queue_at : {X : Type 0} → (X → List ℕ) → List X → ℕ → List ℕ
+queue_at queue xs n = option_map_or queue (slice_get xs n) []
+
+-- who stands in the queue of this element, the first one at its head
+abbrev pub queue_of : Elements → Awaited → List ℕ
+queue_of e (Sem id) = queue_at (λ q. map (λ w. w.thread) q.waiters) e.sems id.0
+queue_of e (Flags id) = queue_at (λ f. map (λ w. w.thread) f.waiters) e.flags id.0
+queue_of e (Writing id way) = queue_at (λ x. map (λ w. w.thread) (stream x way).writers) e.xbufs id.0
+queue_of e (Reading id way) = queue_at (λ x. map (λ r. r.thread) (stream x way).readers) e.xbufs id.0
+queue_of e (Mutex id) = queue_at (λ m. map (λ w. w.thread) m.waiters) e.mutexes id.0
 
 -- the thread is among those who are served
 abbrev pub is_served : ℕ → List (ℕ × Reply) → Bool

@@ -1,8 +1,9 @@
 //! The bank: the callbacks that a kernel was made with, each in its place or out on a line.
-ghost use Rattle.std.specs.Prelude.{◌≡◌, ◌<◌, Some, None, IfNone, option_map, slice_get, slice_set, vec_len};
+ghost use Rattle.std.specs.Prelude.{◌≡◌, ◌<◌, Some, None, IfNone, map, option_map, slice_get, slice_set, true, vec_len};
+ghost use Rattle.evl_kernel.specs.Callbacks.{is_home};
 
 use evl_base::ActionKinds;
-use evl_pipeline::{Answer, Fire, Handler, Plan};
+use evl_pipeline::{Answer, Fire, Handler, Named, Plan};
 use std::alloc::Allocator;
 use std::mem;
 use std::snapshot::Snapshot;
@@ -39,6 +40,14 @@ impl<C: Handler> Handler for Numbered<C> {
 
     fn told(&self) -> &Snapshot<Plan> {
         self.callback.told()
+    }
+}
+
+impl<C> Named for Numbered<C> {
+    ghost name = { λ numbered. numbered.number };
+
+    fn name(&self) -> u8 {
+        self.number
     }
 }
 
@@ -79,4 +88,31 @@ pub(crate) fn put_back<C: Drop, A: Allocator>(
         → bank.new.items ≡ slice_set bank.old.items number (record place { callback = Some callback }) }
 {
     bank[usize::from(number)].callback = Some(callback);
+}
+
+/// Whether in two banks the callbacks of the same places are there.
+pub(crate) fn are_homes_alike<C>(one: &[BankPlace<C>], other: &[BankPlace<C>]) -> bool
+    ensures alike { result ≡ true → map is_home one.now ≡ map is_home other.now }
+    ensures other { map is_home one.now ≡ map is_home other.now → result ≡ true }
+{
+    if one.len() != other.len() {
+        return false;
+    }
+    for i in 0..one.len() {
+        if !are_both_home(&one[i], &other[i]) {
+            return false;
+        }
+    }
+    true
+}
+
+// Whether the callbacks of both places are there, or both are out.
+fn are_both_home<C>(one: &BankPlace<C>, other: &BankPlace<C>) -> bool
+    ensures alike { result ≡ true → is_home one.now ≡ is_home other.now }
+    ensures other { is_home one.now ≡ is_home other.now → result ≡ true }
+{
+    match one.callback {
+        Some(_) => other.callback.is_some(),
+        None => other.callback.is_none(),
+    }
 }

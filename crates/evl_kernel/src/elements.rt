@@ -10,6 +10,7 @@ ghost use Rattle.evl_base.specs.Limits.{sizes_fit};
 
 mod cross_buffers;
 mod flag_groups;
+mod likeness;
 mod mutexes;
 mod readers;
 mod semaphores;

@@ -18,6 +18,7 @@ ghost use Rattle.evl_kernel.specs.Waits.{has_ended, has_timed_out, is_waiting};
 ghost use Rattle.evl_kernel.specs.Places.{AreInOnePlace};
 ghost use Rattle.evl_kernel.specs.KernelViews.{AddsEntry, IsOpened, IsKernelAnswer, makes_entry};
 
+mod likeness;
 mod readers;
 
 use crate::records::Records;

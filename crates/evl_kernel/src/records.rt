@@ -19,6 +19,7 @@ ghost use Rattle.evl_kernel.specs.MutexEffects.{record_at};
 ghost use Rattle.evl_kernel.specs.Waits.{has_ended, has_timed_out, is_waiting};
 
 mod elements;
+mod likeness;
 mod line_calls;
 mod mutexes;
 mod readers;

@@ -12,7 +12,7 @@ use evl_base::{
 use std::alloc::Allocator;
 
 /// What a thread waits for (Xenomai 4: EVL elements).
-#[derive(Clone, Copy, Drop)]
+#[derive(Clone, Copy, PartialEq, Eq, Drop)]
 pub enum Awaited {
     /// A semaphore.
     Sem(SemId),

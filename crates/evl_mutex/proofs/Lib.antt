@@ -9,6 +9,7 @@ pub mod LoweringLaws
 pub mod RaiseLaws
 pub mod HandingLaws
 pub mod ListLaws
+pub mod LikenessLaws
 pub mod CallLaws
 pub mod CeilingLaws
 pub mod StoredLaws

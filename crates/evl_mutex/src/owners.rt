@@ -9,6 +9,9 @@ ghost use Rattle.evl_mutex.specs.Owners.{IsClaim, IsRelease, IsRingFree, IsSound
 ghost use Rattle.evl_mutex.specs.Ranks.{IsEffective};
 ghost use Rattle.evl_mutex.specs.Views.{HaveRoom, ahead_in, mutexes_of, numbers_of};
 
+mod likeness;
+mod queues;
+
 use crate::changes::{RankChanges, Unnoted};
 use crate::mutex_record::MutexRecord;
 use crate::waiter::Waiter;
@@ -369,18 +372,6 @@ impl<A: Allocator> OwnersOf<A> {
             Some(thread.0),
         );
         Ok(())
-    }
-}
-
-impl<A: Allocator> OwnersOf<A> {
-    /// How many threads wait for a mutex; none where there is no such mutex. (Xenomai 4: EVL mutexes)
-    pub fn waiters(&self, mutex: MutexId) -> usize
-        ensures waiters { result ≡ option_map_or (λ m. length m.waiters) (slice_get self.now.mutexes mutex.0) 0 }
-    {
-        match self.mutexes.get(mutex.0 as usize) {
-            Some(record) => record.waiters.len(),
-            None => 0,
-        }
     }
 }
 

@@ -5,3 +5,4 @@ pub mod AllowedLaws
 pub mod Rows
 pub mod Crossing
 pub mod ByLineLaws
+pub mod LikenessLaws

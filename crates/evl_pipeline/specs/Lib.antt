@@ -5,3 +5,4 @@ pub mod Counts
 pub mod Lines
 pub mod Sides
 pub mod ByLine
+pub mod Names

@@ -3,6 +3,7 @@ use Rattle.std.specs.Prelude.{◌≡◌, ℕ, ◌≤◌, List, length, count_by,
 use Rattle.slab.specs.Slab.{Slab, get, slab_len}
 use Rattle.evl_pipeline.specs.declared.held.Held.{Held}
 use Rattle.evl_pipeline.specs.declared.port.Port.{Port}
+use Rattle.evl_pipeline.specs.declared.shown.Shown.{Shown}
 use Rattle.evl_pipeline.specs.Limits.{line_count}
 use Rattle.evl_pipeline.specs.Lines.{Installed}
 
@@ -29,3 +30,7 @@ module _ {C : Type 0} where
     pub linked : AreLinked ports callbacks
     pub filled : slab_len callbacks ≡ count_by is_some ports
     pub room : line_count ≤ callbacks.capacity
+
+  -- what a line shows of its callback
+  abbrev pub shown : (C → ℕ) → Installed C → Shown
+  shown name at = record { number = name at.callback; tag = at.tag; count = at.count }

@@ -3,8 +3,11 @@ ghost use Rattle.std.specs.Prelude.{◌≡◌, ◌<◌, ◌≤◌, None, length,
 ghost use Rattle.evl_pipeline.specs.ByLine.{filled_up};
 ghost use Rattle.evl_pipeline.specs.Limits.{line_count};
 
+mod likeness;
+
 use crate::port::Port;
 use evl_base::LINES;
+pub use likeness::are_counts_alike;
 use std::alloc::{AllocError, Allocator};
 use std::marker::Model;
 

@@ -7,6 +7,8 @@ ghost use Rattle.evl_pipeline.specs.Lines.{IsBounded, IsSoundPipeline, Plays, Pl
 ghost use Rattle.evl_pipeline.specs.NumberSet.{least};
 ghost use Rattle.evl_pipeline.specs.Plans.{allowed};
 
+mod likeness;
+
 use crate::answer::Answer;
 use crate::by_line::ByLine;
 use crate::callback::Handler;

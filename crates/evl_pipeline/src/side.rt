@@ -6,6 +6,8 @@ ghost use Rattle.evl_pipeline.specs.Lines.{PlaysOn, Taken, callback_on, cleared,
 ghost use Rattle.evl_pipeline.specs.NumberSet.{contains, least};
 ghost use Rattle.evl_pipeline.specs.Sides.{port_at};
 
+mod likeness;
+
 use crate::answer::Answer;
 use crate::by_line::ByLine;
 use crate::callback::Handler;

@@ -18,5 +18,7 @@ pub mod BeforeLaws
 pub mod OrderLaws
 pub mod FirstLaws
 pub mod StampedLaws
+pub mod WalkLaws
+pub mod LikeLaws
 pub mod StoodLaws
 pub mod Rows

@@ -1,5 +1,5 @@
 -- The threads whose policies name a group.
-use Rattle.std.specs.Prelude.{ℕ, ◌≡◌, ◌<◌, ◌≤◌, true, List, length, Option}
+use Rattle.std.specs.Prelude.{ℕ, ◌≡◌, ◌≤◌, true, List, length, Option}
 use Rattle.evl_bitmap.specs.NumberSet.{NumberSet, contains}
 use Rattle.evl_bitmap.specs.Numbers.{Bounded}
 use Rattle.evl_sched.specs.declared.seat.Seat.{Seat}

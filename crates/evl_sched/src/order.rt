@@ -6,6 +6,8 @@ ghost use Rattle.evl_sched.specs.Picks.{first_greatest};
 ghost use Rattle.evl_sched.specs.Places.{rank_in, place_of};
 ghost use Rattle.evl_sched.specs.Threads.{without};
 
+mod walk;
+
 use crate::contenders::Contenders;
 use crate::place::Place;
 use std::alloc::{AllocError, Allocator};

@@ -11,6 +11,8 @@ ghost use Rattle.evl_sched.specs.Picks.{IsPicked, eligible, is_anyone_eligible, 
 ghost use Rattle.evl_sched.specs.Ranks.{IsSoundSched, fresh, rank_of, with_given, with_sched};
 ghost use Rattle.evl_sched.specs.Threads.{base_of, is_ready, seat_at, stage_of};
 
+mod readers;
+
 use crate::group::Group;
 use crate::order::Order;
 use crate::seat::Seat;

@@ -6,3 +6,4 @@ pub mod LeavingLaws
 pub mod WalkLaws
 pub mod Crossing
 pub mod Rows
+pub mod LikenessLaws

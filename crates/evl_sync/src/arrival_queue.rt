@@ -3,6 +3,8 @@ ghost use Rattle.std.specs.Prelude.{◌≡◌, ◌<◌, ◌≤◌, ◌++◌, [],
 ghost use Rattle.evl_base.specs.Limits.{thread_limit};
 ghost use Rattle.evl_sync.specs.Queues.{IsKept, dropped, first_of, number_of, rest_of, stands_in};
 
+mod likeness;
+
 use arrayvec::ArrayVec;
 use evl_base::{MAX_THREADS, ThreadId};
 use std::marker::Model;

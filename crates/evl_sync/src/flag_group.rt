@@ -1,9 +1,11 @@
 //! One flag group.
-ghost use Rattle.std.specs.Prelude.{◌≡◌, ◌<◌, ◌≤◌, false, [], length, IfErr, Ok};
+ghost use Rattle.std.specs.Prelude.{◌≡◌, ◌<◌, ◌≤◌, false, [], length, option_map, slice_get, IfErr, Ok};
 ghost use Rattle.evl_base.specs.Limits.{thread_limit};
-ghost use Rattle.evl_sync.specs.Queues.{stands_in};
+ghost use Rattle.evl_sync.specs.Queues.{number_of, stands_in};
 ghost use Rattle.evl_sync.specs.Steps.{stepped, unless};
 ghost use Rattle.evl_sync.specs.FlagGroups.{IsSoundGroup, begin_take, drop_waiter, opened, pairs, post, post_refusal, take_refusal, try_take, walk_of, walked};
+
+mod likeness;
 
 use crate::flag_waiter::{FlagWaiter, Served};
 use crate::kinds::{is_empty_mask, taken};
@@ -145,6 +147,17 @@ impl FlagGroup {
         ensures sound { IsSoundGroup self.now }
     {
         self.bits
+    }
+
+    /// Who stands at a place of the queue, the first one at 0; none where nobody stands there. (Xenomai 4: EVL event flag
+    /// group)
+    pub fn waiter(&self, place: usize) -> Option<ThreadId>
+        ensures waiter { number_of result ≡ option_map (λ w. w.thread) (slice_get self.now.waiters place) }
+    {
+        match self.waiters.as_slice().get(place) {
+            Some(waiter) => Some(ThreadId(waiter.thread)),
+            None => None,
+        }
     }
 }
 

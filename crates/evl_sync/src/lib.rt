@@ -1,6 +1,7 @@
 //! Queues of waiting threads, semaphores and flag groups (Xenomai 4: EVL semaphores and event flag groups).
 #![tactic(auto)]
 
+mod alike;
 mod arrival_queue;
 mod flag_group;
 mod flag_waiter;
@@ -10,6 +11,7 @@ mod sem;
 mod wait_queue;
 mod waiter;
 
+pub use alike::{Alike, are_alike};
 pub use arrival_queue::ArrivalQueue;
 pub use flag_group::FlagGroup;
 pub use flag_waiter::{FlagWaiter, Served};

@@ -1,9 +1,11 @@
 //! One semaphore.
-ghost use Rattle.std.specs.Prelude.{◌≡◌, ◌<◌, ◌≤◌, false, IfErr};
+ghost use Rattle.std.specs.Prelude.{◌≡◌, ◌<◌, ◌≤◌, false, option_map, slice_get, IfErr};
 ghost use Rattle.evl_base.specs.Limits.{thread_limit};
 ghost use Rattle.evl_sync.specs.Queues.{number_of, stands_in};
 ghost use Rattle.evl_sync.specs.Steps.{stepped};
 ghost use Rattle.evl_sync.specs.Semaphores.{IsSoundSemaphore, begin_get, drop_waiter, opened, peek, put, try_get};
+
+mod likeness;
 
 use crate::wait_queue::WaitQueue;
 use evl_base::{Refusal, ThreadId};
@@ -103,5 +105,12 @@ impl Sem {
             return i64::from(self.count);
         }
         -(waiting as i64)
+    }
+
+    /// Who stands at a place of the queue, the first one at 0; none where nobody stands there. (Xenomai 4: EVL semaphore)
+    pub fn waiter(&self, place: usize) -> Option<ThreadId>
+        ensures waiter { number_of result ≡ option_map (λ w. w.thread) (slice_get self.now.waiters place) }
+    {
+        self.queue.get(place)
     }
 }

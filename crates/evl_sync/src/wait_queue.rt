@@ -1,7 +1,9 @@
 //! Threads that wait, by rank and arrival.
-ghost use Rattle.std.specs.Prelude.{◌≡◌, ◌<◌, ◌≤◌, [], false, length};
+ghost use Rattle.std.specs.Prelude.{◌≡◌, ◌<◌, ◌≤◌, [], false, length, option_map, slice_get};
 ghost use Rattle.evl_base.specs.Limits.{thread_limit};
 ghost use Rattle.evl_sync.specs.Queues.{IsKept, dropped, enqueued, first_of, number_of, rest_of, stands_in};
+
+mod likeness;
 
 use crate::ranked::{leave, place_for};
 use crate::waiter::Waiter;
@@ -60,6 +62,16 @@ impl WaitQueue {
         ensures first { number_of result ≡ first_of (λ w. w.thread) self.now }
     {
         match self.waiters.as_slice().first() {
+            Some(waiter) => Some(ThreadId(waiter.thread)),
+            None => None,
+        }
+    }
+
+    /// Who stands at a place, the first one at 0; none where nobody stands there. (this profile)
+    pub fn get(&self, place: usize) -> Option<ThreadId>
+        ensures waiter { number_of result ≡ option_map (λ w. w.thread) (slice_get self.now place) }
+    {
+        match self.waiters.as_slice().get(place) {
             Some(waiter) => Some(ThreadId(waiter.thread)),
             None => None,
         }

@@ -1,5 +1,5 @@
 //! One cross-buffer.
-ghost use Rattle.std.specs.Prelude.{◌≡◌, ◌<◌, ◌≤◌, false, length, nat_lt, IfOk, IfErr};
+ghost use Rattle.std.specs.Prelude.{◌≡◌, ◌<◌, ◌≤◌, false, length, nat_lt, slice_get, IfOk, IfErr};
 ghost use Rattle.std.specs.Option.{option_map};
 ghost use Rattle.evl_base.specs.Limits.{thread_limit};
 ghost use Rattle.evl_base.specs.declared.refusal.Refusal.{Refusal};
@@ -8,6 +8,7 @@ ghost use Rattle.evl_sync.specs.Steps.{stepped};
 ghost use Rattle.evl_xbuf.specs.Streams.{room};
 ghost use Rattle.evl_xbuf.specs.Xbufs.{IsSoundXbuf, begin_read, begin_write, drop_waiter, opened, same_stage, reading_stage, stream, try_read, try_write, writing_stage};
 
+mod likeness;
 mod telling;
 
 use crate::served::Served;
@@ -179,6 +180,27 @@ impl<A: Allocator> XbufOf<A> {
         match way {
             Way::In => self.inbound.len(),
             Way::Out => self.outbound.len(),
+        }
+    }
+
+    /// Who waits to write into this way at a place, the first one at 0; none where nobody does. (Xenomai 4: EVL
+    /// cross-buffer)
+    pub fn writer(&self, way: Way, place: usize) -> Option<ThreadId>
+        ensures writer { option_map (λ t. t.0) result ≡ option_map (λ w. w.thread) (slice_get (stream self.now way).writers place) }
+    {
+        match way {
+            Way::In => self.inbound.writer(place),
+            Way::Out => self.outbound.writer(place),
+        }
+    }
+
+    /// Who waits to read from this way at a place, the first one at 0; none where nobody does. (Xenomai 4: EVL cross-buffer)
+    pub fn reader(&self, way: Way, place: usize) -> Option<ThreadId>
+        ensures reader { option_map (λ t. t.0) result ≡ option_map (λ r. r.thread) (slice_get (stream self.now way).readers place) }
+    {
+        match way {
+            Way::In => self.inbound.reader(place),
+            Way::Out => self.outbound.reader(place),
         }
     }
 }

@@ -1,10 +1,12 @@
 //! What the elements tell besides the answers of calls.
-ghost use Rattle.std.specs.Prelude.{◌≡◌, length, option_map, slice_get};
+ghost use Rattle.std.specs.Prelude.{◌≡◌, length, map, option_map, slice_get};
+ghost use Rattle.evl_kernel.specs.Standing.{queue_at, queue_of};
 ghost use Rattle.evl_sync.specs.Semaphores as semaphores;
 ghost use Rattle.evl_xbuf.specs.Xbufs.{stream};
 
 use super::Elements;
-use evl_base::{FlagId, SemId, Way, XbufId};
+use crate::waits::Awaited;
+use evl_base::{FlagId, SemId, ThreadId, Way, XbufId};
 use std::alloc::Allocator;
 
 impl<A: Allocator> Elements<A> {
@@ -27,5 +29,46 @@ impl<A: Allocator> Elements<A> {
         ensures there { result ≡ option_map (λ x. length (stream x way).there) (slice_get self.now.elements.xbufs xbuf.0) }
     {
         Some(self.xbufs.get(usize::from(xbuf.0))?.there(way))
+    }
+
+    // Who stands at a place of a semaphore's queue.
+    fn sem_waiter(&self, sem: SemId, place: usize) -> Option<ThreadId>
+        ensures waiter { option_map (λ t. t.0) result ≡ slice_get (queue_at (λ q. map (λ w. w.thread) q.waiters) self.now.elements.sems sem.0) place }
+    {
+        self.sems.get(usize::from(sem.0))?.waiter(place)
+    }
+
+    // Who stands at a place of a flag group's queue.
+    fn flag_waiter(&self, flags: FlagId, place: usize) -> Option<ThreadId>
+        ensures waiter { option_map (λ t. t.0) result ≡ slice_get (queue_at (λ f. map (λ w. w.thread) f.waiters) self.now.elements.flags flags.0) place }
+    {
+        self.flags.get(usize::from(flags.0))?.waiter(place)
+    }
+
+    // Who stands at a place among those who wait to write into a way of a cross-buffer.
+    fn writer(&self, xbuf: XbufId, way: Way, place: usize) -> Option<ThreadId>
+        ensures waiter { option_map (λ t. t.0) result ≡ slice_get (queue_at (λ x. map (λ w. w.thread) (stream x way).writers) self.now.elements.xbufs xbuf.0) place }
+    {
+        self.xbufs.get(usize::from(xbuf.0))?.writer(way, place)
+    }
+
+    // Who stands at a place among those who wait to read from a way of a cross-buffer.
+    fn reader(&self, xbuf: XbufId, way: Way, place: usize) -> Option<ThreadId>
+        ensures waiter { option_map (λ t. t.0) result ≡ slice_get (queue_at (λ x. map (λ r. r.thread) (stream x way).readers) self.now.elements.xbufs xbuf.0) place }
+    {
+        self.xbufs.get(usize::from(xbuf.0))?.reader(way, place)
+    }
+
+    /// Who stands at a place of the queue of an element, the first one at 0.
+    pub(crate) fn waiter(&self, on: Awaited, place: usize) -> Option<ThreadId>
+        ensures waiter { option_map (λ t. t.0) result ≡ slice_get (queue_of self.now.elements on) place }
+    {
+        match on {
+            Awaited::Sem(sem) => self.sem_waiter(sem, place),
+            Awaited::Flags(flags) => self.flag_waiter(flags, place),
+            Awaited::Writing(xbuf, way) => self.writer(xbuf, way, place),
+            Awaited::Reading(xbuf, way) => self.reader(xbuf, way, place),
+            Awaited::Mutex(mutex) => self.owners.waiter(mutex, place),
+        }
     }
 }

@@ -1,7 +1,9 @@
 //! What a kernel tells of its threads, its date and its elements besides their calls. No reader changes anything or makes
 //! an entry.
-ghost use Rattle.std.specs.Prelude.{◌≡◌, None, Some, length, option_map, slice_get, if◌then◌else◌};
+ghost use Rattle.std.specs.Prelude.{◌≡◌, ◌++◌, IfErr, None, OnOk, Some, length, map, option_map, slice_get, if◌then◌else◌};
+ghost use Rattle.evl_base.specs.declared.refusal.Refusal.{Refusal};
 ghost use Rattle.evl_kernel.specs.Histories.{IsLegal};
+ghost use Rattle.evl_kernel.specs.Standing.{queue_of};
 ghost use Rattle.evl_kernel.specs.States.{date};
 ghost use Rattle.evl_kernel.specs.ThreadCalls.{rank_of};
 ghost use Rattle.evl_kernel.specs.Waits.{wait_at};
@@ -12,7 +14,7 @@ ghost use Rattle.evl_xbuf.specs.Xbufs.{stream};
 
 use super::KernelOf;
 use crate::waits::Awaited;
-use evl_base::{FlagId, Policy, SemId, ThreadId, Way, XbufId};
+use evl_base::{FlagId, Policy, Refusal, SemId, ThreadId, Way, XbufId};
 use std::alloc::Allocator;
 
 impl<C, A: Allocator> KernelOf<C, A> {
@@ -88,5 +90,24 @@ impl<C, A: Allocator> KernelOf<C, A> {
         ensures legal { IsLegal self.now.history }
     {
         self.records.there(xbuf, way)
+    }
+
+    /// Who stands at a place of the queue of an element, the first one at 0; none where nobody stands there, or there is no such
+    /// element (Xenomai 4: EVL elements).
+    pub fn waiter(&self, on: Awaited, place: usize) -> Option<ThreadId>
+        ensures waiter { option_map (λ t. t.0) result ≡ slice_get (queue_of self.now.history.state.elements on) place }
+        ensures legal { IsLegal self.now.history }
+    {
+        self.records.waiter(on, place)
+    }
+
+    /// Adds the threads of the ready list to a list, in their order. `NoMemory` where room was refused (Xenomai 4: EVL scheduling
+    /// policies; this profile).
+    pub fn ready_threads<B: Allocator>(&self, out: &mut Vec<ThreadId, B>) -> Result<(), Refusal>
+        ensures told { OnOk result (map (λ t. t.0) out.new.items ≡ map (λ t. t.0) out.old.items ++ self.now.history.state.sched.ready) }
+        ensures refusal { IfErr result (λ e. e ≡ Refusal.NoMemory) }
+        ensures legal { IsLegal self.now.history }
+    {
+        self.records.ready_threads(out)
     }
 }

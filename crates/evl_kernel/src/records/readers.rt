@@ -1,6 +1,8 @@
 //! What the records tell of threads, date and elements besides the answers of calls.
-ghost use Rattle.std.specs.Prelude.{◌≡◌, None, Some, length, option_map, slice_get, if◌then◌else◌};
+ghost use Rattle.std.specs.Prelude.{◌≡◌, ◌++◌, IfErr, None, OnOk, Some, length, map, option_map, slice_get, if◌then◌else◌};
+ghost use Rattle.evl_base.specs.declared.refusal.Refusal.{Refusal};
 ghost use Rattle.evl_kernel.specs.Records.{state_of};
+ghost use Rattle.evl_kernel.specs.Standing.{queue_of};
 ghost use Rattle.evl_kernel.specs.States.{date};
 ghost use Rattle.evl_kernel.specs.ThreadCalls.{rank_of};
 ghost use Rattle.evl_kernel.specs.Waits.{wait_at};
@@ -11,7 +13,7 @@ ghost use Rattle.evl_xbuf.specs.Xbufs.{stream};
 
 use super::Records;
 use crate::waits::{self, Awaited};
-use evl_base::{FlagId, Policy, SemId, ThreadId, Way, XbufId};
+use evl_base::{FlagId, Policy, Refusal, SemId, ThreadId, Way, XbufId};
 use std::alloc::Allocator;
 
 impl<C, A: Allocator> Records<C, A> {
@@ -79,5 +81,23 @@ impl<C, A: Allocator> Records<C, A> {
         ensures there { result ≡ option_map (λ x. length (stream x way).there) (slice_get (state_of self.now).elements.xbufs xbuf.0) }
     {
         self.elements.there(xbuf, way)
+    }
+
+    /// Who stands at a place of the queue of an element, the first one at 0.
+    pub(crate) fn waiter(&self, on: Awaited, place: usize) -> Option<ThreadId>
+        ensures waiter { option_map (λ t. t.0) result ≡ slice_get (queue_of (state_of self.now).elements on) place }
+    {
+        self.elements.waiter(on, place)
+    }
+
+    /// Adds the ready threads to a list, in their order. `NoMemory` where room was refused.
+    pub(crate) fn ready_threads<B: Allocator>(
+        &self,
+        out: &mut Vec<ThreadId, B>,
+    ) -> Result<(), Refusal>
+        ensures told { OnOk result (map (λ t. t.0) out.new.items ≡ map (λ t. t.0) out.old.items ++ (state_of self.now).sched.ready) }
+        ensures refusal { IfErr result (λ e. e ≡ Refusal.NoMemory) }
+    {
+        self.sched.ready_threads(out)
     }
 }

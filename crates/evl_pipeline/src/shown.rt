@@ -1,0 +1,9 @@
+//! What a line shows of its callback.
+
+/// The name of a callback, and what its calls tell.
+#[derive(Clone, Copy, PartialEq, Eq)]
+pub struct Shown {
+    pub number: u8,
+    pub tag: u32,
+    pub count: u64,
+}
