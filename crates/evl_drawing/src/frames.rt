@@ -217,6 +217,7 @@ fn put_conditions(text: &mut String) -> Result<(), AllocError> {
         (Condition::Inband, "in-band"),
         (Condition::Owned, "owned"),
         (Condition::Stalled, "stalled"),
+        (Condition::Pending, "events pending"),
         (Condition::Runs, "timer runs"),
     ];
     let mut at: usize = 20;

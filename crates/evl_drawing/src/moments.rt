@@ -14,13 +14,16 @@ pub enum Condition {
     Picked,
     /// The stage is stalled.
     Stalled,
+    /// The stage isn't stalled, and events are pending there.
+    Pending,
     /// The mutex has a recorded owner.
     Owned,
     /// The timer runs.
     Runs,
 }
 
-/// How one lane stands, with the effective rank of its thread or the recorded owner of its mutex.
+/// How one lane stands, with the effective rank of its thread, the recorded owner of its mutex, or how many events are pending on
+/// its stage.
 #[derive(Clone, Copy, PartialEq, Eq, Debug)]
 pub struct Standing {
     pub lane: Lane,
@@ -29,7 +32,7 @@ pub struct Standing {
 }
 
 /// How a machine stands after a call: the date in nanoseconds, and the lanes that show something. The others show nothing: a
-/// thread that isn't attached, a stage that isn't stalled, a mutex with no recorded owner, a timer that doesn't run.
+/// thread that isn't attached, a stage that isn't stalled and has no pending event, a mutex with no recorded owner, a timer that doesn't run.
 #[derive(Drop)]
 pub struct Moment {
     pub date: u64,

@@ -17,6 +17,8 @@ pub fn strip_text(condition: Condition) -> &'static str {
         Condition::Stalled => {
             "<path d=\"M-8 12l4 -5m1 5l4 -5m1 5l4 -5\" stroke=\"#5c4300\" stroke-width=\"1.5\"/>"
         }
+        Condition::Pending =>
+            "<path d=\"M-6 10h2m4 0h2m4 0h2\" stroke=\"#5c4300\" stroke-width=\"3\"/>",
         Condition::Owned => {
             "<rect x=\"-8\" y=\"8.5\" width=\"16\" height=\"3\" fill=\"#5f6b7a\"/>"
         }
@@ -24,16 +26,21 @@ pub fn strip_text(condition: Condition) -> &'static str {
     }
 }
 
+// What stands before the number above a lane: T is that of an owner, + that of pending events.
+fn number_sign(condition: Condition) -> &'static str {
+    match condition {
+        Condition::Owned => "T",
+        Condition::Stalled | Condition::Pending => "+",
+        _ => "",
+    }
+}
+
 // Appends the number that stands above a lane.
 fn put_number(text: &mut String, standing: Standing, number: u16) -> Result<(), AllocError> {
-    let owner = if standing.condition == Condition::Owned {
-        "T"
-    } else {
-        ""
-    };
+    let sign = number_sign(standing.condition);
     write!(
         text,
-        "<text x=\"-7\" y=\"-7\" font-size=\"7\">{owner}{number}</text>"
+        "<text x=\"-7\" y=\"-7\" font-size=\"7\">{sign}{number}</text>"
     )?;
     Ok(())
 }

@@ -127,12 +127,14 @@ fn frame(alloc: Global, sheet: &Sheet, column: usize) -> Result<String, AllocErr
     }
 }
 
-// How the lanes stand in a column: as the waits that are open tell, or as after this many entries, where that is known.
+// How the lanes stand in a column: as the waits that are open tell, or as after this many entries, where that is known. And how
+// many entries stand before the column: as many, where it is a play's.
 #[derive(Clone, Copy, Drop)]
 struct Known<'a> {
     open: &'a [bool],
     moments: &'a [Moment],
     entries: usize,
+    before: usize,
 }
 
 impl Known<'_> {
@@ -152,7 +154,7 @@ fn background(
     let mut text = frame(alloc, sheet, column)?;
     match known.after(known.entries) {
         Some(moment) => {
-            let before = known.after(known.entries.saturating_sub(1));
+            let before = known.after(known.before);
             put_moment(alloc, &mut text, sheet, column, moment, before)?;
         }
         None => {
@@ -213,11 +215,13 @@ fn put_marks(
     let mut open = closed(alloc, sheet.lanes.as_slice())?;
     let mut entries: usize = 0;
     for (column, mark) in marks.iter().enumerate() {
+        let before = entries;
         entries = counted(entries, mark);
         let known = Known {
             open: open.as_slice(),
             moments,
             entries,
+            before,
         };
         put_background(alloc, sheet, column, &known, text)?;
         put_mark(alloc, sheet, column, mark, text)?;

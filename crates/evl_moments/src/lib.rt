@@ -2,6 +2,7 @@
 #![tactic(auto)]
 
 mod moments;
+mod pending;
 mod runs;
 mod standings;
 

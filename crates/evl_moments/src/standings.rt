@@ -1,7 +1,8 @@
 //! How the lanes of a picture stand, as a kernel's readers tell it.
 ghost use Rattle.std.specs.Prelude.{◌≡◌};
-ghost use Rattle.evl_moments.specs.Standings.{condition, is_picked, mutex_stands, stage_stands, stands, thread_stands, timer_stands};
+ghost use Rattle.evl_moments.specs.Standings.{condition, is_picked, mutex_stands, pending_count, some_events, stage_stands, stands, thread_stands, timer_stands};
 
+use crate::pending::pending_count;
 use evl_base::{MutexId, Stage, ThreadId, TimerId};
 use evl_drawing::{Condition, Lane, Standing};
 use evl_kernel::KernelOf;
@@ -75,23 +76,40 @@ fn timer_standing<C>(kernel: &KernelOf<C, Global>, timer: u16) -> Option<Standin
     }
 }
 
-// How a stage stands, if it is stalled.
+// How many events are pending on a stage, if any are.
+fn pending_events<C>(kernel: &KernelOf<C, Global>, stage: Stage) -> Option<u16>
+    ensures events { result ≡ some_events (pending_count kernel.now.history.state stage) }
+{
+    match pending_count(kernel, stage) {
+        0 => None,
+        count => Some(count),
+    }
+}
+
+// How a stage stands, if it is stalled, or events are pending there.
 fn stage_standing<C>(kernel: &KernelOf<C, Global>, stage: Stage) -> Option<Standing>
     ensures standing { result ≡ stage_stands kernel.now.history.state stage }
 {
+    let number = pending_events(kernel, stage);
     if kernel.stalled(stage) {
-        Some(Standing {
+        return Some(Standing {
             lane: Lane::Stage(stage),
             condition: Condition::Stalled,
-            number: None,
-        })
-    } else {
-        None
+            number,
+        });
+    }
+    match number {
+        Some(count) => Some(Standing {
+            lane: Lane::Stage(stage),
+            condition: Condition::Pending,
+            number: Some(count),
+        }),
+        None => None,
     }
 }
 
 /// How a lane stands, where it shows something: an attached thread, a mutex with a recorded owner, a timer that runs, a stage
-/// that is stalled (this profile).
+/// that is stalled or on which events are pending (this profile).
 pub fn standing<C>(kernel: &KernelOf<C, Global>, lane: Lane) -> Option<Standing>
     ensures standing { result ≡ stands kernel.now.history.state lane }
 {
