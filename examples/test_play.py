@@ -45,6 +45,9 @@ def test_ranks_along_a_chain():
     assert kernel.rank_of(0, thread=1).text == "number 540"
     assert kernel.put(0, sem=0).refusal == "Unknown"
     assert evl.play(kernel.scenario()) == kernel.trace()
+    assert kernel.see_rank(2) == 540 and kernel.see_rank(0) is None
+    assert kernel.see_owner(0) == 1 and kernel.see_waiter("mutex", 0) == 2
+    assert kernel.finish(3).text == "timed out" and kernel.see_picked() == 3
 
 
 def test_callbacks():
@@ -55,6 +58,30 @@ def test_callbacks():
         assert kernel.arrive(0, line=9).plays == [f"line 9 oob count {count} handled"]
     assert kernel.peek(0, sem=1).text == "count 2"
     assert kernel.peek_flags(0, flags=0).text == "bits 6"
+
+
+def test_refusals():
+    kernel = evl.Kernel(threads=1, sems=[0])
+    for wrong in ({"sem": 65536}, {"sem": -1}, {"mutex": 0}, {}):
+        try:
+            kernel.put(0, **wrong)
+        except evl.BadStep:
+            continue
+        raise AssertionError(wrong)
+    assert kernel.see_count(0) == 0 and kernel.see_count(1) is None
+    kernel.close()
+    try:
+        kernel.put(0, sem=0)
+    except ValueError:
+        pass
+    else:
+        raise AssertionError("a closed kernel was called")
+    for board in ({"threads": 0}, {"threads": 1, "sems": [1 << 31]}, {"threads": 1, "limit": 0}, {"threads": 1, "mutexes": ["weak"]}):
+        try:
+            evl.Kernel(**board)
+        except evl.BadBoard:
+            continue
+        raise AssertionError(board)
 
 
 def test_all_values():

@@ -1,39 +1,47 @@
 /*
- * The out-of-band core, simulated, for C++17, over evl.h (docs/EMBEDDING.md).
+ * The out-of-band core, simulated, for C++17, over evl.h and evl_kernel.h (docs/EMBEDDING.md).
  *
- *   evl::kernel kernel("threads = 2\nsems = [0]\n");
- *   assert(kernel.call("try_get", 0, {{"sem", 0}}).text == "Again");
+ *   const std::uint32_t sems[] = {0};
+ *   evl_board board{};
+ *   board.threads = 2, board.sems = sems, board.sem_count = 1;
+ *   evl::kernel kernel(board);
+ *   assert(kernel.call(0, evl_call_try_get(0)).refusal == EVL_REFUSAL_AGAIN);
  */
 #ifndef EVL_HPP
 #define EVL_HPP
 
-#include <evl.h>
+#include <evl_kernel.h>
 
 #include <cstdint>
-#include <initializer_list>
 #include <new>
 #include <optional>
 #include <stdexcept>
 #include <string>
 #include <string_view>
-#include <type_traits>
 #include <utility>
 #include <vector>
 
 namespace evl {
 
-/* A text that is refused, or a plan: answer is EVL_BAD_TEXT, EVL_BAD_BOARD, EVL_BAD_STEP or EVL_BAD_PLAN, and step the step
-   at fault, or 0. */
+/* A text that is refused, a board, a plan or a number: answer is EVL_BAD_TEXT to EVL_TOO_LONG, and step the step at fault,
+   or 0. */
 struct refused : std::runtime_error {
   std::uint32_t answer;
   std::uint32_t step;
-  refused(std::uint32_t why, std::uint32_t number)
-      : std::runtime_error(why == EVL_BAD_TEXT    ? "bad text"
-                           : why == EVL_BAD_BOARD ? "bad board"
-                           : why == EVL_BAD_STEP  ? "bad step"
-                                                  : "bad plan"),
-        answer(why),
-        step(number) {}
+  refused(std::uint32_t why, std::uint32_t number) : std::runtime_error(reason(why)), answer(why), step(number) {}
+
+ private:
+  static const char *reason(std::uint32_t why) {
+    switch (why) {
+      case EVL_BAD_TEXT: return "bad text";
+      case EVL_BAD_BOARD: return "bad board";
+      case EVL_BAD_STEP: return "bad step";
+      case EVL_BAD_PLAN: return "bad plan";
+      case EVL_BAD_NUMBER: return "bad number";
+      case EVL_TOO_LONG: return "too long";
+      default: return "no kernel";
+    }
+  }
 };
 
 /* The callbacks that a scenario names by their numbers. */
@@ -60,60 +68,68 @@ inline std::string play(std::string_view text, std::uint32_t limit = 0, std::siz
   }
 }
 
-/* What a call answers, as in the trace: "done", "count 3", or the name of a refusal; and the lines of what was played. */
-struct answer {
-  std::string text;
-  std::vector<std::string> plays;
-  bool is_refusal() const { return text[0] >= 'A' && text[0] <= 'Z'; }
+/* The callbacks of the program. */
+inline bank program_bank() { return bank(evl_program_bank, evl_program_bank + EVL_PROGRAM_BANK); }
+
+/* What a call answered, with the bytes that it brought and what the kernel played. */
+struct answer : evl_answer {
+  std::string bytes;
+  std::vector<evl_event> events;
+  explicit answer(const evl_answer &told) : evl_answer(told) {}
 };
 
-/* The value of a key: a number, a bool or a text without quotes and line feeds. */
-struct value {
-  std::string text;
-  value(bool is) : text(is ? "true" : "false") {}
-  value(const char *word) : text('"' + std::string(word) + '"') {}
-  template <typename T, typename = std::enable_if_t<std::is_integral_v<T> && !std::is_same_v<T, bool>>>
-  value(T number) : text('"' + std::to_string(number) + '"') {}
-};
-
-/* A kernel with the program's callbacks, or with those of a bank. It is kept as the text of its calls: each call plays the whole text again, so that
-   the n-th takes time in proportion to n; the text has room for some 20,000 calls. A copy is a kernel of its own. */
+/* A kernel, which is closed with the object. It can be moved, and isn't copied. */
 class kernel {
  public:
-  /* The board is the lines of [board] in docs/SCENARIOS.md. */
-  explicit kernel(const std::string &board, std::uint32_t limit = 1000, std::optional<bank> plans = std::nullopt)
-      : plans_(std::move(plans)),
-        scenario_("limit = " + std::to_string(limit) + "\n[board]\n" + board + "\n"),
-        trace_(play(scenario_, 0, 0, plans_)) {}
+  /* Throws refused where the board, the limit or a plan is, and std::bad_alloc. */
+  explicit kernel(const evl_board &board, std::uint32_t limit = 1000, const bank &plans = program_bank()) {
+    done(evl_open(&kernel_, &board, plans.data(), plans.size(), limit));
+  }
+  ~kernel() { evl_close(&kernel_); }
+  kernel(kernel &&other) noexcept { std::swap(kernel_, other.kernel_); }
+  kernel &operator=(kernel &&other) noexcept {
+    std::swap(kernel_, other.kernel_);
+    return *this;
+  }
+  kernel(const kernel &) = delete;
+  kernel &operator=(const kernel &) = delete;
 
-  /* Makes a call: a step word of docs/SCENARIOS.md, the caller, and the word's keys. Throws refused where the word has no
-     such key or value; then nothing was called. */
-  answer call(const char *word, unsigned who, std::initializer_list<std::pair<const char *, value>> keys = {}) {
-    std::string text = scenario_ + "\n[[step]]\ndo = \"" + word + "\"\nwho = " + std::to_string(who) + "\n";
-    for (const auto &key : keys) text += key.first + (" = " + key.second.text) + "\n";
-    std::string lines = play(text, 0, trace_.size(), plans_);
-    scenario_ = std::move(text);
-    trace_ += lines;
-    return read(lines);
+  /* Makes a call of a thread: kernel.call(1, evl_call_put(0)). `bytes` are those of a write. Throws refused where a number of
+     the call is out of its range, and std::bad_alloc. */
+  answer call(std::uint16_t who, const evl_call &asked, std::string_view bytes = {}) {
+    evl_answer told{};
+    std::uint8_t read[256];
+    done(evl_apply(&kernel_, who, &asked, reinterpret_cast<const std::uint8_t *>(bytes.data()), bytes.size(), read,
+                   sizeof read, &told));
+    answer whole(told);
+    if (told.kind == EVL_BYTES) whole.bytes.assign(read, read + told.number);
+    whole.events.resize(told.plays);
+    for (std::size_t it = 0; it < told.plays; it++) done(evl_event_at(&kernel_, told.first_play + it, &whole.events[it]));
+    return whole;
   }
 
-  const std::string &scenario() const { return scenario_; }
-  const std::string &trace() const { return trace_; }
+  /* For the questions of evl_calls.h: evl_see_rank(kernel.get(), 1). */
+  evl_kernel *get() { return &kernel_; }
+
+  std::string scenario() { return text(evl_scenario); }
+  std::string trace() { return text(evl_trace); }
 
  private:
-  static answer read(const std::string &lines) {
-    std::size_t end = lines.find('\n'), arrow = lines.rfind(" -> ", end);
-    answer told{lines.substr(arrow + 4, end - arrow - 4), {}};
-    for (std::size_t at = end + 1; at < lines.size(); at = end + 1) {
-      end = lines.find('\n', at);
-      told.plays.push_back(lines.substr(at + 2, end - at - 2));
-    }
-    return told;
+  static void done(std::uint32_t status) {
+    if (status == EVL_NO_MEMORY) throw std::bad_alloc();
+    if (status != EVL_DONE) throw refused(status, 0);
   }
 
-  std::optional<bank> plans_;
-  std::string scenario_;
-  std::string trace_;
+  template <typename Function>
+  std::string text(Function function) {
+    std::size_t length = 0;
+    done(function(&kernel_, 0, nullptr, 0, &length));
+    std::string whole(length, '\0');
+    done(function(&kernel_, 0, reinterpret_cast<std::uint8_t *>(whole.data()), length, &length));
+    return whole;
+  }
+
+  evl_kernel kernel_ = EVL_NO_KERNEL;
 };
 
 }  // namespace evl

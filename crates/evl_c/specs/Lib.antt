@@ -1,3 +1,12 @@
+pub mod Answers
+pub mod Applies
+pub mod Boards
+pub mod Calls
 pub mod Forms
+pub mod Handles
+pub mod Opens
+pub mod Owning
 pub mod Plays
+pub mod Readings
+pub mod Texts
 pub mod Windows

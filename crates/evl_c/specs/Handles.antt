@@ -1,0 +1,9 @@
+-- What a handle holds.
+use Rattle.std.specs.Prelude.{Option}
+use Rattle.evl_kernel.specs.KernelViews.{KernelView}
+use Rattle.evl_plans.specs.declared.planned.Planned.{Planned}
+use Rattle.evl_c.specs.declared.handles.KernelHandle.{KernelHandle}
+
+-- the kernel that is there, if one is
+abbrev pub held : KernelHandle → Option (KernelView Planned)
+held handle = handle.slot.held

@@ -1,0 +1,14 @@
+-- What C is told of a text.
+use Rattle.std.specs.Prelude.{◌≡◌, ℕ, List, length, None, Ok}
+use Rattle.evl_scenario.specs.Scenarios.{Script, scenario_of}
+use Rattle.evl_c.specs.Windows.{window}
+
+-- the text from its byte `start` on stands in the buffer, and its length was told
+abbrev pub TellsText : List ℕ → ℕ → List ℕ → List ℕ → ℕ → Type 0
+TellsText text start old new told = (new ≡ window text start old) × (told ≡ length text)
+
+-- the same of a text that, read as a scenario, asks for just this
+pub record TellsScenario (script : Script) (start : ℕ) (old new : List ℕ) (told : ℕ) : Type 0 where
+  pub text : List ℕ
+  pub reads : scenario_of None text ≡ Ok script
+  pub tells : TellsText text start old new told

@@ -1,0 +1,200 @@
+//! What calls answered and played, for C.
+ghost use Rattle.std.specs.Prelude.{◌≡◌};
+ghost use Rattle.evl_c.specs.Answers as answers;
+
+use evl_base::{Play, Refusal, Reply, Stage, ThreadId};
+
+/// What a call answered (include/evl.h: `evl_answer`).
+#[repr(C)]
+#[derive(Clone, Copy)]
+pub struct AnswerForm {
+    /// The number of the refusal; 0 where the call wasn't refused.
+    pub refusal: u16,
+    /// The kind of the answer: 0 where the call was refused, else 1 to 9.
+    pub kind: u8,
+    /// Whether more threads wait for a mutex.
+    pub more: bool,
+    /// The thread that is named; -1 where none is.
+    pub thread: i32,
+    /// A semaphore's count.
+    pub count: i64,
+    /// A number, bits, or how many bytes there are.
+    pub number: u64,
+    /// The index of the call's first play.
+    pub first_play: usize,
+    /// How many plays the call made.
+    pub plays: usize,
+}
+
+/// A play (include/evl.h: `evl_event`).
+#[repr(C)]
+#[derive(Clone, Copy)]
+pub struct PlayForm {
+    /// The kind: 0 to 3.
+    pub kind: u8,
+    /// The stage of a line: 0 or 1.
+    pub stage: u8,
+    /// Whether the callback handled it.
+    pub handled: bool,
+    /// The line, timer or thread.
+    pub element: u16,
+    /// The count of a fire, from 1.
+    pub count: u64,
+    /// How many periods a timer missed.
+    pub missed: u64,
+}
+
+/// The number of a thread; -1 where there is none.
+pub fn thread_number(thread: Option<ThreadId>) -> i32
+    ensures { result ≡ answers.thread_number thread }
+{
+    match thread {
+        None => -1,
+        Some(ThreadId(number)) => i32::from(number),
+    }
+}
+
+/// The number of a stage.
+pub fn stage_number(stage: Stage) -> u8
+    ensures { result ≡ answers.stage_number stage }
+{
+    match stage {
+        Stage::Inband => 0,
+        Stage::Oob => 1,
+    }
+}
+
+// What a reply tells, apart from its plays.
+fn reply_form(reply: &Reply) -> AnswerForm
+    ensures { result ≡ answers.reply_form reply.now }
+{
+    let (kind, thread, number) = match reply {
+        Reply::Done => (1, None, 0),
+        Reply::Begun => (2, None, 0),
+        Reply::Count(_) => (3, None, 0),
+        Reply::Bits(bits) => (4, None, u64::from(*bits)),
+        Reply::Number(number) => (5, None, *number),
+        Reply::Bytes(bytes) => (6, None, bytes.as_slice().len() as u64),
+        Reply::Chosen(thread) => (7, *thread, 0),
+        Reply::Handed { next, .. } => (8, *next, 0),
+        Reply::TimedOut => (9, None, 0),
+    };
+    AnswerForm {
+        refusal: 0,
+        kind,
+        more: has_more(reply),
+        thread: thread_number(thread),
+        count: count_of(reply),
+        number,
+        first_play: 0,
+        plays: 0,
+    }
+}
+
+// Whether a reply says that more threads wait.
+fn has_more(reply: &Reply) -> bool
+    ensures { result ≡ answers.has_more reply.now }
+{
+    match reply {
+        Reply::Handed { more, .. } => *more,
+        _ => false,
+    }
+}
+
+// The count that a reply tells, or 0.
+fn count_of(reply: &Reply) -> i64
+    ensures { result ≡ answers.count_of reply.now }
+{
+    match reply {
+        Reply::Count(count) => *count,
+        _ => 0,
+    }
+}
+
+// What an answer tells, apart from its plays.
+fn told(answer: &Result<Reply, Refusal>) -> AnswerForm
+    ensures { result ≡ answers.told answer.now }
+{
+    match answer {
+        Ok(reply) => reply_form(reply),
+        Err(refusal) => AnswerForm {
+            refusal: refusal.number(),
+            kind: 0,
+            more: false,
+            thread: -1,
+            count: 0,
+            number: 0,
+            first_play: 0,
+            plays: 0,
+        },
+    }
+}
+
+/// What an answer tells, with where its plays are.
+pub fn answer_form(answer: &Result<Reply, Refusal>, first_play: usize, plays: usize) -> AnswerForm
+    ensures { result ≡ answers.answer_form answer.now first_play plays }
+{
+    AnswerForm {
+        first_play,
+        plays,
+        ..told(answer)
+    }
+}
+
+/// The bytes of an answer.
+pub fn bytes_of(answer: &Result<Reply, Refusal>) -> &[u8]
+    ensures { result.now ≡ answers.bytes_of answer.now }
+{
+    match answer {
+        Ok(Reply::Bytes(bytes)) => bytes.as_slice(),
+        _ => &[],
+    }
+}
+
+/// What a play tells.
+pub fn play_form(play: &Play) -> PlayForm
+    ensures { result ≡ answers.play_form play.now }
+{
+    let none = PlayForm {
+        kind: 0,
+        stage: 0,
+        handled: false,
+        element: 0,
+        count: 0,
+        missed: 0,
+    };
+    match *play {
+        Play::Clock => none,
+        Play::Timer {
+            timer,
+            count,
+            missed,
+            handled,
+        } => PlayForm {
+            kind: 1,
+            handled,
+            element: timer.0,
+            count,
+            missed,
+            ..none
+        },
+        Play::Deadline { thread } => PlayForm {
+            kind: 2,
+            element: thread.0,
+            ..none
+        },
+        Play::Line {
+            line,
+            stage,
+            count,
+            handled,
+        } => PlayForm {
+            kind: 3,
+            stage: stage_number(stage),
+            handled,
+            element: line.0,
+            count,
+            ..none
+        },
+    }
+}

@@ -1,0 +1,99 @@
+//! Calls of kernels for C.
+ghost use Rattle.std.specs.Prelude.{◌≡◌, ◌≢◌, ◌↔◌, false, true, None, Some, Err, IfErr, IfOk, IfSome, IsSomeAnd, option_map, slice_get};
+ghost use Rattle.evl_c.specs.Answers as answers;
+ghost use Rattle.evl_c.specs.Applies.{Applied, Applies};
+ghost use Rattle.evl_c.specs.Calls as calls;
+ghost use Rattle.evl_c.specs.Handles.{held};
+
+use crate::answers::{AnswerForm, PlayForm, answer_form, bytes_of, play_form};
+use crate::calls::{CallForm, is_call, read_call};
+use crate::handles::KernelHandle;
+use crate::held::Held;
+use crate::windows::put_window;
+use evl_base::{Call, ThreadId};
+use std::alloc::Global;
+
+// Makes a call, puts the bytes that it brought into a buffer, and tells of it.
+fn make_call(kernel: &mut Held, caller: u16, call: Call, out: &mut [u8]) -> AnswerForm
+    ensures { Applied kernel.old kernel.new caller call out.old out.new result }
+{
+    let before = kernel.kernel().plays().len();
+    let answer = kernel.apply(ThreadId(caller), call);
+    let after = kernel.kernel().plays().len();
+    put_window(bytes_of(&answer), 0, out);
+    answer_form(&answer, before, after.saturating_sub(before))
+}
+
+/// Makes a call of a thread, with these bytes where it is a write; the bytes that it brings go into the buffer, as many as
+/// there is room for.
+///
+/// 0: the call is answered, or refused, as `answer` tells. 4: no memory for the bytes. 6: no kernel is there. 7: a number of
+/// the call is out of its range, or there are more than 256 bytes. But for 0 nothing is called or written (this profile).
+#[unsafe(no_mangle)]
+pub extern "C" fn evl_c_apply(
+    alloc: Global,
+    kernel: &mut KernelHandle,
+    caller: u16,
+    call: &CallForm,
+    bytes: &[u8],
+    out: &mut [u8],
+    answer: &mut AnswerForm,
+) -> u32
+    ensures applied { result ≡ 0 → Applies (held kernel.old) (held kernel.new) caller (calls.call_of call.now bytes.now) out.old out.new answer.new }
+    ensures numbers { (result ≡ 7) ↔ (calls.is_call call.now bytes.now ≡ false) }
+    ensures none { result ≡ 6 → held kernel.old ≡ None }
+    ensures refused { result ≢ 0 → (held kernel.new ≡ held kernel.old) × (out.new ≡ out.old) × (answer.new ≡ answer.old) }
+{
+    if !is_call(call, bytes) {
+        return 7;
+    }
+    let Ok(made) = read_call(alloc, call, bytes) else {
+        return 4;
+    };
+    let Some(mut there) = kernel.take(alloc) else {
+        return 6;
+    };
+    *answer = make_call(&mut there, caller, made, out);
+    kernel.put(there);
+    0
+}
+
+// The play with an index.
+fn event_at(kernel: &Held, index: usize) -> Option<PlayForm>
+    ensures { result ≡ option_map answers.play_form (slice_get kernel.now.history.plays index) }
+{
+    match kernel.kernel().plays().get(index) {
+        Some(play) => Some(play_form(play)),
+        None => None,
+    }
+}
+
+/// Tells of a play of a kernel's history, by its index, from 0: those of a call are the `plays` from `first_play` on.
+///
+/// 0: done. 6: no kernel is there. 7: there is no such play. But for 0 nothing is written (this profile).
+#[unsafe(no_mangle)]
+pub extern "C" fn evl_c_event(
+    alloc: Global,
+    kernel: &mut KernelHandle,
+    index: usize,
+    event: &mut PlayForm,
+) -> u32
+    ensures told { result ≡ 0 → IsSomeAnd (held kernel.old) (λ k. option_map answers.play_form (slice_get k.history.plays index) ≡ Some event.new) }
+    ensures beyond { result ≡ 7 → IsSomeAnd (held kernel.old) (λ k. option_map answers.play_form (slice_get k.history.plays index) ≡ None) }
+    ensures none { (result ≡ 6) ↔ (held kernel.old ≡ None) }
+    ensures kept { held kernel.new ≡ held kernel.old }
+    ensures refused { result ≢ 0 → event.new ≡ event.old }
+{
+    let Some(there) = kernel.take(alloc) else {
+        return 6;
+    };
+    let found = event_at(&there, index);
+    kernel.put(there);
+    match found {
+        Some(form) => {
+            *event = form;
+            0
+        }
+        None => 7,
+    }
+}

@@ -1,0 +1,36 @@
+//! Questions to kernels, of C.
+ghost use Rattle.std.specs.Prelude.{◌≡◌, ◌≢◌, ◌↔◌, false, None, IsSomeAnd};
+ghost use Rattle.evl_c.specs.Handles.{held};
+ghost use Rattle.evl_c.specs.Readings as readings;
+
+use crate::handles::KernelHandle;
+use crate::readings::{QuestionForm, ReadingForm, is_question, read};
+use std::alloc::Global;
+
+/// Asks a kernel, which changes nothing.
+///
+/// 0: done. 6: no kernel is there. 7: a number of the question is out of its range. But for 0 nothing is written (this
+/// profile).
+#[unsafe(no_mangle)]
+pub extern "C" fn evl_c_ask(
+    alloc: Global,
+    kernel: &mut KernelHandle,
+    question: &QuestionForm,
+    reading: &mut ReadingForm,
+) -> u32
+    ensures told { result ≡ 0 → IsSomeAnd (held kernel.old) (λ k. reading.new ≡ readings.reading_of k question.now) }
+    ensures numbers { (result ≡ 7) ↔ (readings.is_question question.now ≡ false) }
+    ensures none { result ≡ 6 → held kernel.old ≡ None }
+    ensures kept { held kernel.new ≡ held kernel.old }
+    ensures refused { result ≢ 0 → reading.new ≡ reading.old }
+{
+    if !is_question(question) {
+        return 7;
+    }
+    let Some(there) = kernel.take(alloc) else {
+        return 6;
+    };
+    *reading = read(there.kernel(), question);
+    kernel.put(there);
+    0
+}

@@ -1,0 +1,89 @@
+//! Makes kernels for C, and frees them.
+ghost use Rattle.std.specs.Prelude.{◌≡◌, ◌≢◌, ◌↔◌, false, true, length, map, None, Some, IsSomeAnd};
+ghost use Rattle.evl_c.specs.Boards.{board_of};
+ghost use Rattle.evl_c.specs.Forms.{are_plans, handler_of};
+ghost use Rattle.evl_c.specs.Handles.{held};
+ghost use Rattle.evl_c.specs.Opens.{IsFresh, can_be_opened};
+
+use crate::boards::{BoardForm, is_board};
+use crate::forms::{PlanForm, are_plans, read_plans};
+use crate::handles::KernelHandle;
+use crate::held::Held;
+use evl_base::Refusal;
+use std::alloc::Global;
+
+// Puts a kernel into a handle. 4: no memory.
+fn put_new(alloc: Global, kernel: &mut KernelHandle, new: Held) -> u32
+    ensures put { result ≡ 0 → held kernel.new ≡ Some new }
+    ensures refused { result ≢ 0 → (result ≡ 4) × (held kernel.new ≡ held kernel.old) }
+{
+    match Box::new(alloc, new) {
+        Ok(made) => {
+            kernel.put(made);
+            0
+        }
+        Err(_) => 4,
+    }
+}
+
+// Makes a kernel of a board over callbacks with these plans.
+fn open_over(
+    alloc: Global,
+    board: &BoardForm<'_>,
+    plans: &[PlanForm],
+    limit: u32,
+    kernel: &mut KernelHandle,
+) -> u32
+    requires plans { are_plans plans.now ≡ true }
+    ensures opened { result ≡ 0 → IsSomeAnd (held kernel.new) (λ k. IsFresh (board_of board.now) (map handler_of plans.now) limit k) }
+    ensures fits { result ≡ 0 → can_be_opened board.now (length plans.now) limit ≡ true }
+    ensures board { result ≡ 2 → can_be_opened board.now (length plans.now) limit ≡ false }
+    ensures plans { result ≢ 5 }
+    ensures refused { result ≢ 0 → held kernel.new ≡ held kernel.old }
+{
+    if !is_board(board) {
+        return 2;
+    }
+    let Ok(bank) = read_plans(alloc, plans) else {
+        return 4;
+    };
+    match Held::open(alloc, board, bank, limit) {
+        Ok(new) => put_new(alloc, kernel, new),
+        Err(Refusal::Range) => 2,
+        Err(_) => 4,
+    }
+}
+
+/// Makes a kernel of a board, over callbacks with these plans, with a history of at most `limit` entries (1 to 1,000,000).
+/// A kernel that was there is freed.
+///
+/// 0: done. 2: bad board or limit. 4: no memory. 5: a plan is none, or there are more than 64. But for 0 no kernel is there
+/// then (this profile).
+#[unsafe(no_mangle)]
+pub extern "C" fn evl_c_open(
+    alloc: Global,
+    board: &BoardForm<'_>,
+    plans: &[PlanForm],
+    limit: u32,
+    kernel: &mut KernelHandle,
+) -> u32
+    ensures opened { result ≡ 0 → IsSomeAnd (held kernel.new) (λ k. IsFresh (board_of board.now) (map handler_of plans.now) limit k) }
+    ensures fits { result ≡ 0 → can_be_opened board.now (length plans.now) limit ≡ true }
+    ensures board { result ≡ 2 → can_be_opened board.now (length plans.now) limit ≡ false }
+    ensures plans { (result ≡ 5) ↔ (are_plans plans.now ≡ false) }
+    ensures refused { result ≢ 0 → held kernel.new ≡ None }
+{
+    drop(kernel.take(alloc));
+    if !are_plans(plans) {
+        return 5;
+    }
+    open_over(alloc, board, plans, limit, kernel)
+}
+
+/// Frees a kernel, if one is there (this profile).
+#[unsafe(no_mangle)]
+pub extern "C" fn evl_c_close(alloc: Global, kernel: &mut KernelHandle)
+    ensures { held kernel.new ≡ None }
+{
+    drop(kernel.take(alloc));
+}

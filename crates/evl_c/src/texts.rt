@@ -1,0 +1,95 @@
+//! Scenarios and traces of kernels, for C.
+ghost use Rattle.std.specs.Prelude.{◌≡◌, ◌≢◌, ◌↔◌, None, Ok, length, IsSomeAnd, string_bytes};
+ghost use Rattle.evl_scenario.specs.Scenarios.{scenario_of};
+ghost use Rattle.evl_scenario.specs.Traces.{history_trace};
+ghost use Rattle.evl_scenario.specs.Writings.{script_of_history};
+ghost use Rattle.evl_c.specs.Handles.{held};
+ghost use Rattle.evl_c.specs.Texts.{TellsScenario, TellsText};
+ghost use Rattle.evl_c.specs.Windows.{window};
+
+use crate::handles::KernelHandle;
+use crate::windows::put_window;
+use evl_scenario::Unwritten;
+use std::alloc::Global;
+
+// Puts a text, from a byte on, into a buffer, and tells its length.
+fn tell_text(text: &String, start: usize, out: &mut [u8], length: &mut usize)
+    ensures { TellsText (string_bytes text.now) start out.old out.new length.new }
+{
+    put_window(text.as_str().as_bytes(), start, out);
+    *length = text.len();
+}
+
+/// Puts the trace of all calls of a kernel so far, from the byte `start` on, into the buffer, as much as there is room for.
+///
+/// 0: done, and `length` is the whole trace's. 4: no memory. 6: no kernel is there. But for 0 nothing is written (this
+/// profile).
+#[unsafe(no_mangle)]
+pub extern "C" fn evl_c_trace(
+    alloc: Global,
+    kernel: &mut KernelHandle,
+    start: usize,
+    out: &mut [u8],
+    length: &mut usize,
+) -> u32
+    ensures told { result ≡ 0 → IsSomeAnd (held kernel.old) (λ k. TellsText (history_trace k.history.board k.limit k.history.entries k.history.plays) start out.old out.new length.new) }
+    ensures none { (result ≡ 6) ↔ (held kernel.old ≡ None) }
+    ensures kept { held kernel.new ≡ held kernel.old }
+    ensures refused { result ≢ 0 → (out.new ≡ out.old) × (length.new ≡ length.old) }
+{
+    let Some(there) = kernel.take(alloc) else {
+        return 6;
+    };
+    let text = there.trace(alloc);
+    kernel.put(there);
+    match text {
+        Ok(text) => {
+            tell_text(&text, start, out, length);
+            0
+        }
+        Err(_) => 4,
+    }
+}
+
+// The number of a fault of a scenario's writing.
+fn status_of(fault: Unwritten) -> u32
+    ensures one { result ≢ 0 }
+    ensures other { result ≢ 6 }
+{
+    match fault {
+        Unwritten::Board | Unwritten::Limit => 2,
+        Unwritten::TooLong => 8,
+        Unwritten::Memory => 4,
+    }
+}
+
+/// Puts the scenario of all calls of a kernel so far, from the byte `start` on, into the buffer, as much as there is room for.
+///
+/// 0: done, and `length` is the whole text's. 4: no memory. 6: no kernel is there. 8: it would be longer than a scenario may
+/// be. But for 0 nothing is written (this profile).
+#[unsafe(no_mangle)]
+pub extern "C" fn evl_c_scenario(
+    alloc: Global,
+    kernel: &mut KernelHandle,
+    start: usize,
+    out: &mut [u8],
+    length: &mut usize,
+) -> u32
+    ensures told { result ≡ 0 → IsSomeAnd (held kernel.old) (λ k. TellsScenario (script_of_history k.history.board k.limit k.history.entries) start out.old out.new length.new) }
+    ensures none { (result ≡ 6) ↔ (held kernel.old ≡ None) }
+    ensures kept { held kernel.new ≡ held kernel.old }
+    ensures refused { result ≢ 0 → (out.new ≡ out.old) × (length.new ≡ length.old) }
+{
+    let Some(there) = kernel.take(alloc) else {
+        return 6;
+    };
+    let text = there.scenario(alloc);
+    kernel.put(there);
+    match text {
+        Ok(text) => {
+            tell_text(&text, start, out, length);
+            0
+        }
+        Err(fault) => status_of(fault),
+    }
+}
