@@ -105,8 +105,8 @@ fn boxed<S: Drop, T: Drop>(
     Ok((first, second))
 }
 
-// Makes the program's bank, each callback with a closure of its own. A function can't name the closures' types in what it
-// answers, so the bank is made where it is used.
+// Makes the program's bank, each callback with a closure of its own. A function can't name the closures' types in what
+// it answers, so the bank is made where it is used.
 macro_rules! callbacks {
     ($alloc:expr) => {{
         let none = ActionKinds::from_bits_retain(0);
@@ -160,7 +160,7 @@ fn play_over_bank<F: Files, R: Read, S: Sink, T: Sink>(
     Ok(play_into(rt, alloc, words, bank, input, out, err))
 }
 
-/// Does what the words ask for as `play_into` does, over the program's bank (this profile).
+/// Does what the words ask for as `play_into` does, over the program's bank.
 pub fn play_program<F: Files, R: Read, S: Sink, T: Sink>(
     rt: &F,
     alloc: Global,
@@ -197,7 +197,7 @@ pub trait BankUser: Drop {
         ensures { makes self (handlers_of (λ (c : _). c.kinds.0) (λ (c : _). c.plan.value) bank.items) result };
 }
 
-/// Hands the program's bank over. `AllocError` where there is no memory for it, and then nothing was done (this profile).
+/// Hands the program's bank over. `AllocError` where there is no memory for it, and then nothing was done.
 pub fn with_program_bank<U: BankUser, R: Threads + Wait + Sync>(
     rt: &R,
     alloc: Global,

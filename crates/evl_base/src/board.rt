@@ -8,7 +8,7 @@ use crate::mutex_kind::MutexKind;
 use crate::refusal::Refusal;
 use arrayvec::ArrayVec;
 
-/// The elements of a kernel, as they are opened (this profile).
+/// The elements of a kernel, as they are opened.
 #[derive(Debug, Drop)]
 pub struct Board {
     /// How many threads there are, 1 to 256.
@@ -30,7 +30,7 @@ pub struct Board {
 impl Board {
     ghost use Rattle.evl_base.specs.Board.{checked};
 
-    /// `Range` exactly where a number is outside its limits (this profile).
+    /// `Range` exactly where a number is outside its limits.
     pub fn check(&self) -> Result<(), Refusal>
         ensures { result ≡ checked self.now }
     {

@@ -161,18 +161,18 @@ pub enum Call {
         until: Option<u64>,
     },
     /// Begins a wait for a mutex, until a date in nanoseconds, or without a deadline, and records the thread that the
-    /// caller names as its owner; the owner inherits from who waits. Refused, in this order: `Unknown` where there is no
-    /// such mutex or owner; `Invalid` where the caller or the owner isn't attached, the owner is the caller, or another
-    /// owner is recorded; `WrongStage` where the caller isn't out-of-band; `Deadlock` where the wait would close a ring.
-    /// (Xenomai 4: EVL mutexes, priority inheritance; this profile)
+    /// caller names as its owner; the owner inherits from who waits. Refused, in this order: `Unknown` where there is
+    /// no such mutex or owner; `Invalid` where the caller or the owner isn't attached, the owner is the caller, or
+    /// another owner is recorded; `WrongStage` where the caller isn't out-of-band; `Deadlock` where the wait would
+    /// close a ring. (Xenomai 4: EVL mutexes, priority inheritance)
     Claim {
         mutex: MutexId,
         owner: ThreadId,
         until: Option<u64>,
     },
-    /// Hands a mutex on to the first of its waiters, if anybody waits, and ends that one's wait; the answer names it, and
-    /// says whether more wait. Anybody may do so where no owner is recorded. Refused, in this order: `Unknown` where there
-    /// is no such mutex; `NotOwner` where another thread is recorded as its owner. (Xenomai 4: EVL mutexes; this profile)
+    /// Hands a mutex on to the first of its waiters, if anybody waits, and ends that one's wait; the answer names it,
+    /// and says whether more wait. Anybody may do so where no owner is recorded. Refused, in this order: `Unknown`
+    /// where there is no such mutex; `NotOwner` where another thread is recorded as its owner. (Xenomai 4: EVL mutexes)
     Release {
         mutex: MutexId,
     },
@@ -202,8 +202,8 @@ macro_rules! copied {
 }
 
 impl Call {
-    /// The same call once more, its bytes, if it carries any, in a box of `spares`. `Call` isn't `Copy`, as it may carry
-    /// bytes (this profile).
+    /// The same call once more, its bytes, if it carries any, in a box of `spares`. `Call` isn't `Copy`, as it may
+    /// carry bytes.
     pub fn copied<A: Allocator>(&self, spares: &mut Spares<A>) -> Call
         requires { boxes_in_call self.now ≤ spares.old }
         ensures same { result ≡ self.now }

@@ -1,5 +1,5 @@
-//! What a call says in a trace, by families: lines, clock, threads, flag groups, cross-buffers, mutexes,
-//! semaphores, the end of a wait. A family hands on what isn't its own, so that a call costs the proof of its family alone.
+//! What a call says in a trace, by families: lines, clock, threads, flag groups, cross-buffers, mutexes, semaphores,
+//! the end of a wait. A family hands on what isn't its own, so that a call costs the proof of its family alone.
 ghost use Rattle.std.specs.Prelude.{Some};
 
 use crate::call::Call;
@@ -298,8 +298,8 @@ impl<'a> fmt::Display for SemText<'a> {
     }
 }
 
-/// The text of the call that ends a wait. The calls of the families above are named, so that a new call is in one of them
-/// or here.
+/// The text of the call that ends a wait. The calls of the families above are named, so that a new call is in one of
+/// them or here.
 #[derive(Drop)]
 struct FinishText<'a>(&'a Call);
 

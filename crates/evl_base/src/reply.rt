@@ -8,7 +8,7 @@ use crate::way::Hex;
 use std::alloc::Allocator;
 use std::fmt;
 
-/// What a call that wasn't refused answers (this profile).
+/// What a call that wasn't refused answers.
 #[derive(Debug, Drop)]
 pub enum Reply {
     /// The call is done, and there is nothing to tell.
@@ -33,7 +33,7 @@ pub enum Reply {
 
 impl Reply {
     /// The same reply once more, its bytes, if it carries any, in a box of `spares`. `Reply` isn't `Copy`, as it may
-    /// carry bytes (this profile).
+    /// carry bytes.
     pub fn copied<A: Allocator>(&self, spares: &mut Spares<A>) -> Reply
         requires { boxes_in self.now ≤ spares.old }
         ensures same { result ≡ self.now }

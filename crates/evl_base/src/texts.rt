@@ -9,8 +9,8 @@ use crate::play::Play;
 use crate::refusal::Refusal;
 use crate::reply::Reply;
 
-/// Appends the text of a call: its step word, then each key with its value (this profile).
-/// `NoMemory` where the buffer couldn't grow; it is then as it was.
+/// Appends the text of a call: its step word, then each key with its value. `NoMemory` where the buffer couldn't grow;
+/// it is then as it was.
 pub fn put_call(buffer: &mut Vec<u8>, call: &Call) -> Result<(), Refusal>
     ensures text { OnOk result (buffer.new.items ≡ buffer.old.items ++ call_text call.now) }
     ensures same { OnErr result (buffer.new.items ≡ buffer.old.items) }
@@ -24,8 +24,8 @@ pub fn put_call(buffer: &mut Vec<u8>, call: &Call) -> Result<(), Refusal>
         .map_err(|_| Refusal::NoMemory)
 }
 
-/// Appends the text of an answer, or the name of a refusal (this profile).
-/// `NoMemory` where the buffer couldn't grow; it is then as it was.
+/// Appends the text of an answer, or the name of a refusal. `NoMemory` where the buffer couldn't grow; it is then as it
+/// was.
 pub fn put_reply(buffer: &mut Vec<u8>, outcome: &Result<Reply, Refusal>) -> Result<(), Refusal>
     ensures text { OnOk result (buffer.new.items ≡ buffer.old.items ++ outcome_text outcome.now) }
     ensures same { OnErr result (buffer.new.items ≡ buffer.old.items) }
@@ -48,8 +48,8 @@ pub fn put_reply(buffer: &mut Vec<u8>, outcome: &Result<Reply, Refusal>) -> Resu
     }
 }
 
-/// Appends the text of a play, without the spaces before it in a trace (this profile).
-/// `NoMemory` where the buffer couldn't grow; it is then as it was.
+/// Appends the text of a play, without the spaces before it in a trace. `NoMemory` where the buffer couldn't grow; it
+/// is then as it was.
 pub fn put_play(buffer: &mut Vec<u8>, play: Play) -> Result<(), Refusal>
     ensures text { OnOk result (buffer.new.items ≡ buffer.old.items ++ play_text play) }
     ensures same { OnErr result (buffer.new.items ≡ buffer.old.items) }

@@ -7,8 +7,7 @@ use arrayvec::ArrayVec;
 use std::alloc::{Allocator, Global};
 use std::marker::Model;
 
-/// The bytes of one transfer through a cross-buffer, at most 256, in a box: what carries one is as small as a pointer
-/// (this profile).
+/// The bytes of one transfer through a cross-buffer, at most 256, in a box: what carries one is as small as a pointer.
 #[derive(Debug, Drop)]
 pub struct Transfer {
     held: Box<Bytes>,
@@ -24,7 +23,7 @@ impl Model for Transfer {
 }
 
 impl Transfer {
-    /// No bytes yet. `NoMemory` where the box was refused (this profile).
+    /// No bytes yet. `NoMemory` where the box was refused.
     pub fn empty(alloc: Global) -> Result<Transfer, Refusal>
         ensures none { IfOk result (λ t. t.items ≡ []) }
         ensures refusal { IfErr result (λ e. e ≡ Refusal.NoMemory) }
@@ -35,7 +34,7 @@ impl Transfer {
         }
     }
 
-    /// The bytes, at most 256 (this profile).
+    /// The bytes, at most 256.
     pub fn as_slice(&self) -> &[u8]
         ensures items { result.now ≡ self.now.items }
         ensures few { length self.now.items ≤ 256 }
@@ -43,7 +42,7 @@ impl Transfer {
         self.held.as_slice()
     }
 
-    /// The same bytes in a vector of their own (this profile).
+    /// The same bytes in a vector of their own.
     pub fn to_bytes(&self) -> Bytes
         ensures items { result.items ≡ self.now.items }
     {
@@ -52,7 +51,7 @@ impl Transfer {
         bytes
     }
 
-    /// These bytes, at most 256, take the place of the ones that were there; the box stays (this profile).
+    /// These bytes, at most 256, take the place of the ones that were there; the box stays.
     pub fn set(&mut self, bytes: &[u8])
         requires { length bytes.now ≤ 256 }
         ensures { self.new.items ≡ bytes.now }
@@ -63,7 +62,7 @@ impl Transfer {
 }
 
 /// Boxes that wait for the bytes of transfers to come: how many there are. Whoever has made enough of them before a
-/// change needs no memory in the midst of it (this profile).
+/// change needs no memory in the midst of it.
 #[derive(Drop)]
 pub struct Spares<A: Allocator> {
     alloc: Global,

@@ -4,7 +4,7 @@ ghost use Rattle.std.specs.Prelude.{Some};
 use arrayvec::ArrayVec;
 use std::fmt;
 
-/// The bytes of one transfer through a cross-buffer, at most 256 (this profile).
+/// The bytes of one transfer through a cross-buffer, at most 256.
 pub type Bytes = ArrayVec<u8, 256>;
 
 /// A way through a cross-buffer (Xenomai 4: EVL cross-buffer).

@@ -68,7 +68,8 @@ impl Seen {
     }
 }
 
-// The date that isn't the best one's, of two: that which isn't due, or else the later one. The last where there is one date.
+// The date that isn't the best one's, of two: that which isn't due, or else the later one. The last where there is one
+// date.
 fn lost(now: u64, date: u64, best: Option<(u64, Item)>) -> u64
     ensures lost { result ≡ lost now date best }
 {

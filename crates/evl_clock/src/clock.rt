@@ -76,7 +76,7 @@ fn no_deadlines<A: Allocator>(alloc: A, threads: usize) -> Result<Vec<Option<u64
 
 impl<C: Drop, A: Allocator + Clone> ClockOf<C, A> {
     /// A clock at date 0 with no timers and no deadlines. It has room for 64 timers and for the deadlines of 256
-    /// threads. `NoMemory` where that room was refused (this profile).
+    /// threads. `NoMemory` where that room was refused.
     pub fn new(alloc: A) -> Result<ClockOf<C, A>, Refusal>
         ensures opening { IfOk result (λ c. c ≡ opening thread_count) }
         ensures refusal { IfErr result (λ e. e ≡ Refusal.NoMemory) }
@@ -85,7 +85,7 @@ impl<C: Drop, A: Allocator + Clone> ClockOf<C, A> {
     }
 
     /// The same with room for the deadlines of so many threads alone, or of 256 where there are more. `NoMemory` where
-    /// that room was refused (this profile).
+    /// that room was refused.
     pub fn for_threads(alloc: A, threads: usize) -> Result<ClockOf<C, A>, Refusal>
         ensures opening { IfOk result (λ c. c ≡ opening threads) }
         ensures refusal { IfErr result (λ e. e ≡ Refusal.NoMemory) }
@@ -188,7 +188,7 @@ impl<C, A: Allocator> ClockOf<C, A> {
         Ok(self.is_due())
     }
 
-    /// What the timer does, if there is such a timer. There is none above 63. (this profile)
+    /// What the timer does, if there is such a timer. There is none above 63.
     pub fn state(&self, id: TimerId) -> Option<TimerState>
         ensures state { result ≡ option_map (λ t. t.state) (timer_at self.now id.0) }
         ensures outside { timer_count ≤ id.0 → result ≡ None }
@@ -212,7 +212,7 @@ impl<C, A: Allocator> ClockOf<C, A> {
     }
 
     /// Takes a timer away, whatever it does, and gives its callback back. No more is due than before. `Unknown` where
-    /// there is no such timer. A refused call changes nothing. (this profile)
+    /// there is no such timer. A refused call changes nothing.
     pub fn drop_timer(&mut self, id: TimerId) -> Result<C, Refusal>
         ensures ok { IfOk result (λ callback. (timer_refusal self.old id.0 ≡ None) × (option_map (λ t. t.callback) (timer_at self.old id.0) ≡ Some callback)) }
         ensures state { OnOk result (self.new ≡ dropped self.old id.0) }
@@ -312,7 +312,6 @@ impl<C: Handler, A: Allocator> ClockOf<C, A> {
     /// Makes a timer that is idle and never fired, with the least free number and a tag that its fires carry. Refused,
     /// in this order: `Invalid` for kinds of action beyond those that are allowed for timers (POST_SEM, POST_FLAGS,
     /// STOP_TIMER), and `Limit` where there are 64 timers. A refused call changes nothing and gives the callback back.
-    /// (this profile)
     pub fn new_timer(&mut self, callback: C, tag: u32) -> Result<TimerId, (Refusal, C)>
         ensures ok { IfOk result (λ id. (new_timer_refusal self.old (C.declared callback) ≡ None) × (free_place self.old ≡ Some id.0) × (self.new ≡ with_new_timer self.old id.0 callback tag)) }
         ensures refused { IfErr result (λ e. new_timer_refusal self.old (C.declared callback) ≡ Some e.0) }
@@ -346,10 +345,9 @@ impl<C: Handler, A: Allocator> ClockOf<C, A> {
 
     /// Lets the next due item fall due, if something is due: what has the least date that isn't after now, at equal
     /// dates a timer before a deadline, and else the lower number. A timer's callback is called once, with line 0, the
-    /// out-of-band stage, its tag, its count and the date now; how many whole periods it missed is added to its
-    /// overruns. It runs on from the first date after now that is a whole number of periods on; it is idle where its
-    /// interval is 0, and ended where that date would be past 2^64 - 1. Counts stay at 2^64 - 1 once there. A deadline
-    /// is gone. Each item leaves one fewer due. (Xenomai 4: EVL clocks and timers)
+    /// out-of-band stage, its tag, its count and the date now; it runs on from the first date after now that is a whole
+    /// number of periods on, is idle where its interval is 0, and ended where that date would be past 2^64 - 1; counts
+    /// and overruns stay at 2^64 - 1. A deadline is gone. (Xenomai 4: EVL clocks and timers)
     pub fn next_due(&mut self) -> Option<Due>
         ensures due { FallsDue C.declared C.plan C.gives self.old result self.new }
         ensures rule { MatchOption result (NothingIsDue self.old) (λ due. IsNextDue self.old (item_of due)) }

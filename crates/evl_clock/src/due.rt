@@ -11,7 +11,7 @@ pub enum Item {
     Deadline(ThreadId),
 }
 
-/// What fell due (this profile).
+/// What fell due.
 #[derive(Debug, Drop)]
 pub enum Due {
     /// A timer fired.

@@ -96,9 +96,9 @@ fn explain(alloc: Global, text: &[u8], fault: Fault) -> Result<Vec<Found>, Alloc
     in_front(fault, words, found)
 }
 
-/// The faults of a scenario's text, each with its place and what was wanted. There is one exactly where the text can't be
-/// played, and the first is the one that it is refused for: of the text, of the board, or of the first step that can't be
-/// read. `AllocError` where memory couldn't grow (this profile).
+/// The faults of a scenario's text, each with its place and what was wanted. There is one exactly where the text can't
+/// be played, and the first is the one that it is refused for: of the text, of the board, or of the first step that
+/// can't be read. `AllocError` where memory couldn't grow.
 pub fn check(alloc: Global, text: &[u8]) -> Result<Vec<Found>, AllocError>
     ensures { IfOk result (λ found. first_fault found.items ≡ refusal_in (scenario_of None text.now)) }
 {

@@ -16,8 +16,8 @@ fn write_found(report: &mut String, name: &str, found: &[Found]) -> Result<(), A
     Ok(())
 }
 
-/// Writes a line for each fault of the scenario's text that a file of this name holds, behind a report, and answers whether
-/// there is one: just where the text can't be played. `AllocError` where memory couldn't grow (this profile).
+/// Writes a line for each fault of the scenario's text that a file of this name holds, behind a report, and answers
+/// whether there is one: just where the text can't be played. `AllocError` where memory couldn't grow.
 pub fn report(
     alloc: Global,
     name: &str,

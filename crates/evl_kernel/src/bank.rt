@@ -8,7 +8,8 @@ use std::alloc::Allocator;
 use std::mem;
 use std::snapshot::Snapshot;
 
-/// A place of the bank: what its callback declares and, for contracts alone, its plan; and the callback where it is there.
+/// A place of the bank: what its callback declares and, for contracts alone, its plan; and the callback where it is
+/// there.
 #[derive(Drop)]
 pub(crate) struct BankPlace<C> {
     pub(crate) kinds: ActionKinds,

@@ -87,8 +87,7 @@ impl<C: Handler> KernelOf<C, Global> {
     /// most `limit` entries.
     ///
     /// `Range` exactly where a number of the board is outside its limits, the bank has more than 64 callbacks, or
-    /// `limit` is outside 1 to 1,000,000; `NoMemory` where room for the elements was refused. The bank is then dropped
-    /// (this profile).
+    /// `limit` is outside 1 to 1,000,000; `NoMemory` where room for the elements was refused. The bank is then dropped.
     pub fn new(
         alloc: Global,
         board: Board,
@@ -106,7 +105,7 @@ impl<C: Handler> KernelOf<C, Global> {
 }
 
 impl<C: Handler, A: Allocator> KernelOf<C, A> {
-    /// A kernel as `new` makes it, over any allocator; the boxes of transferred bytes come from `boxes` (this profile).
+    /// A kernel as `new` makes it, over any allocator; the boxes of transferred bytes come from `boxes`.
     pub fn over(
         alloc: A,
         boxes: Global,
@@ -141,11 +140,11 @@ impl<C: Handler, A: Allocator> KernelOf<C, A> {
         })
     }
 
-    /// Makes room for the entries and plays of the next `n` calls of `apply`, which then answer neither `NoMemory`
-    /// nor `HistoryFull`.
+    /// Makes room for the entries and plays of the next `n` calls of `apply`, which then answer neither `NoMemory` nor
+    /// `HistoryFull`.
     ///
     /// `HistoryFull` exactly where the history has fewer than `n` places left; `NoMemory` where the room was refused.
-    /// All but the room is as before: the history, and where each callback is (this profile).
+    /// All but the room is as before: the history, and where each callback is.
     pub fn reserve(&mut self, n: usize) -> Result<(), Refusal>
         ensures room { OnOk result (n ≤ self.new.room) }
         ensures full { (result ≡ Err Refusal.HistoryFull) ↔ (self.old.limit < length self.old.history.entries + n) }
@@ -167,15 +166,11 @@ impl<C: Handler, A: Allocator> KernelOf<C, A> {
         self.spares.keep(n * MAX_BOXES)
     }
 
-    /// Answers a call of a thread, settles, and enters the call with its answer into the history.
-    ///
-    /// `HistoryFull` exactly where the history is at its limit, `NoMemory` where room for the entry and its plays was
-    /// refused: neither makes an entry or changes anything. Every other refusal is an answer with an entry: the first
-    /// that applies of `Busy` (the caller has an unfinished wait, and the call isn't `Finish`), `Unknown` (no such thread,
-    /// line, callback, timer, group or element), `Range`, `Invalid`, `WrongStage`, then the call's own.
-    /// Each play of a line calls the callback that stands there with its line, stage, tag, count and date, and each play of
-    /// a timer its callback with line 0, the out-of-band stage, its tag, its count and the date, on the condition that it
-    /// answers its plan (this profile).
+    /// Answers a call of a thread, settles, and enters the call with its answer into the history. `HistoryFull` exactly
+    /// at the limit, `NoMemory` where room for the entry was refused: neither makes an entry or changes anything. Other
+    /// refusals are answers with an entry, the first that applies of `Busy` (the caller has an unfinished wait, and this
+    /// isn't `Finish`), `Unknown` (no such thread, line, callback, timer, group or element), `Range`, `Invalid`,
+    /// `WrongStage`, then the call's own (Xenomai 4: EVL core).
     pub fn apply(&mut self, caller: ThreadId, call: Call) -> Result<Reply, Refusal>
         requires answering { AnswersAsTold C.declared C.plan self.old.callbacks }
         ensures entry { IsTrue (makes_entry result) → AddsEntry self.old.history caller.0 call result self.new.history }
@@ -220,7 +215,7 @@ impl<C: Handler, A: Allocator> KernelOf<C, A> {
 }
 
 impl<C, A: Allocator> KernelOf<C, A> {
-    /// All entries, in order (this profile).
+    /// All entries, in order.
     pub fn history(&self) -> &[Entry]
         ensures entries { result.now ≡ self.now.history.entries }
         ensures legal { IsLegal self.now.history }
@@ -228,7 +223,7 @@ impl<C, A: Allocator> KernelOf<C, A> {
         self.history.as_slice()
     }
 
-    /// All plays of all calls, in order (this profile).
+    /// All plays of all calls, in order.
     pub fn plays(&self) -> &[Play]
         ensures plays { result.now ≡ self.now.history.plays }
         ensures legal { IsLegal self.now.history }
@@ -255,8 +250,7 @@ impl<C, A: Allocator> KernelOf<C, A> {
         self.records.is_stalled(stage)
     }
 
-    /// How many events came on the line where no callback stood for them: 0 to 2^64 - 1, and 0 for a line above 4095
-    /// (this profile).
+    /// How many events came on the line where no callback stood for them: 0 to 2^64 - 1, and 0 for a line above 4095.
     pub fn spurious(&self, line: LineNo) -> u64
         ensures count { result ≡ count_at self.now.history.state.lines.spurious line.0 }
         ensures outside { line_count ≤ line.0 → result ≡ 0 }
@@ -266,7 +260,7 @@ impl<C, A: Allocator> KernelOf<C, A> {
     }
 
     /// How many answers of the callbacks on the line of this stage were unhandled: 0 to 2^64 - 1, and 0 for a line
-    /// above 4095 (this profile).
+    /// above 4095.
     pub fn unhandled(&self, line: LineNo, stage: Stage) -> u64
         ensures count { result ≡ count_at (lines.side self.now.history.state.lines stage).unhandled line.0 }
         ensures outside { line_count ≤ line.0 → result ≡ 0 }
@@ -284,8 +278,8 @@ impl<C, A: Allocator> KernelOf<C, A> {
         self.records.timer(id)
     }
 
-    /// The stage of a thread: in-band where it isn't attached, or where there is no such thread (Xenomai 4: EVL threads,
-    /// `evl_is_inband`; Dovetail: interrupt pipeline).
+    /// The stage of a thread: in-band where it isn't attached, or where there is no such thread (Xenomai 4: EVL
+    /// threads, `evl_is_inband`; Dovetail: interrupt pipeline).
     pub fn stage(&self, thread: ThreadId) -> Stage
         ensures stage { result ≡ stage_of self.now.history.state.sched thread.0 }
         ensures outside { self.now.history.board.threads ≤ thread.0 → result ≡ Stage.Inband }
@@ -294,8 +288,8 @@ impl<C, A: Allocator> KernelOf<C, A> {
         self.records.stage(thread)
     }
 
-    /// Whether a thread has an unfinished wait, ended or not; false where there is no such thread (Xenomai 4: EVL elements;
-    /// this profile).
+    /// Whether a thread has an unfinished wait, ended or not; false where there is no such thread (Xenomai 4: EVL
+    /// elements).
     pub fn waits(&self, thread: ThreadId) -> bool
         ensures waits { result ≡ is_waiting self.now.history.state thread.0 }
         ensures outside { self.now.history.board.threads ≤ thread.0 → result ≡ false }
@@ -304,8 +298,8 @@ impl<C, A: Allocator> KernelOf<C, A> {
         self.records.waits(thread)
     }
 
-    /// Whether a thread's unfinished wait has ended, so that `Finish` answers what ended it; false where there is no such
-    /// thread (this profile).
+    /// Whether a thread's unfinished wait has ended, so that `Finish` answers what ended it; false where there is no
+    /// such thread.
     pub fn finished(&self, thread: ThreadId) -> bool
         ensures ended { result ≡ has_ended self.now.history.state thread.0 }
         ensures outside { self.now.history.board.threads ≤ thread.0 → result ≡ false }
@@ -314,8 +308,8 @@ impl<C, A: Allocator> KernelOf<C, A> {
         self.records.finished(thread)
     }
 
-    /// Whether a thread's unfinished wait has ended by its deadline; false where there is no such thread (Xenomai 4: EVL
-    /// timed waits; this profile).
+    /// Whether a thread's unfinished wait has ended by its deadline; false where there is no such thread (Xenomai 4:
+    /// EVL timed waits).
     pub fn timed_out(&self, thread: ThreadId) -> bool
         ensures ended { result ≡ has_timed_out self.now.history.state thread.0 }
         ensures outside { self.now.history.board.threads ≤ thread.0 → result ≡ false }

@@ -6,8 +6,8 @@ use arrayvec::ArrayVec;
 use evl_base::{MAX_THREADS, Refusal};
 use std::alloc::Global;
 
-/// The lists into which an element tells whom it served: a flag group and a cross-buffer. They are kept between calls, as
-/// each takes 2 KiB to make; whoever uses one empties it first, of those whom the call before served.
+/// The lists into which an element tells whom it served: a flag group and a cross-buffer. They are kept between calls,
+/// as each takes 2 KiB to make; whoever uses one empties it first, of those whom the call before served.
 #[derive(Drop)]
 pub(crate) struct ServedLists {
     pub(crate) of_flags: Box<ArrayVec<evl_sync::Served, MAX_THREADS>>,

@@ -16,8 +16,8 @@ pub(crate) enum Outcome<'a> {
     Read(&'a [u8]),
 }
 
-/// A thread's unfinished wait, if it has one, and the thread's box, which is there unless what the thread read lies in it.
-/// So the end of a wait takes no memory. To a contract it is the wait.
+/// A thread's unfinished wait, if it has one, and the thread's box, which is there unless what the thread read lies in
+/// it. So the end of a wait takes no memory. To a contract it is the wait.
 #[derive(Drop)]
 pub(crate) struct WaitPlace {
     wait: Option<Wait>,
@@ -90,8 +90,9 @@ impl WaitPlace {
         }
     }
 
-    /// What ended the wait, which is finished then; where it carries bytes, a box of `spares` takes the place of theirs.
-    /// The first that applies: `Invalid` (there is no wait), `Again` (it goes on). A refused call changes nothing.
+    /// What ended the wait, which is finished then; where it carries bytes, a box of `spares` takes the place of
+    /// theirs. The first that applies: `Invalid` (there is no wait), `Again` (it goes on). A refused call changes
+    /// nothing.
     pub(crate) fn finish<A: Allocator>(&mut self, spares: &mut Spares<A>) -> Result<Reply, Refusal>
         requires boxes { 1 ≤ spares.old }
         ensures outcome { result ≡ outcome_of self.old }

@@ -35,8 +35,8 @@ impl Awaited {
     }
 }
 
-/// What a thread wants that begins to wait: a semaphore, bits of a flag group, to write bytes into a cross-buffer, to read
-/// so many from it, or a mutex of this owner.
+/// What a thread wants that begins to wait: a semaphore, bits of a flag group, to write bytes into a cross-buffer, to
+/// read so many from it, or a mutex of this owner.
 #[derive(Drop)]
 pub(crate) enum Wanted {
     Sem(SemId),
@@ -160,8 +160,8 @@ pub(crate) fn end<A: Allocator>(
     }
 }
 
-/// What ended a thread's wait, which is finished then; bytes come in a box of `spares`. The first that applies: `Invalid`
-/// (there is no wait), `Again` (it goes on). A refused call changes nothing.
+/// What ended a thread's wait, which is finished then; bytes come in a box of `spares`. The first that applies:
+/// `Invalid` (there is no wait), `Again` (it goes on). A refused call changes nothing.
 pub(crate) fn take_outcome<A: Allocator>(
     waits: &mut Vec<WaitPlace, A>,
     thread: ThreadId,

@@ -23,8 +23,8 @@ use evl_words::MutexPass;
 use std::alloc::Allocator;
 use std::marker::Model;
 
-/// Who acts for a thread of the board: its token at the core's table, and all that it has beside it (this profile). A
-/// caller has it while it is at rest, and while it has the kernel; it goes from one to the other whole.
+/// Who acts for a thread of the board: its token at the core's table, and all that it has beside it. A caller has it
+/// while it is at rest, and while it has the kernel; it goes from one to the other whole.
 #[derive(Drop)]
 pub struct Actor<C, A: Allocator> {
     pub(crate) seat: CoreSeat<C, A>,
@@ -225,7 +225,8 @@ pub(crate) fn has_ceiling(kind: Option<MutexKind>) -> bool
     matches!(kind, Some(MutexKind::Ceiling(_)))
 }
 
-/// Whether a mutex that is held so often is handed on at once when a pass of it is spent: it has a ceiling, and is held once.
+/// Whether a mutex that is held so often is handed on at once when a pass of it is spent: it has a ceiling, and is held
+/// once.
 pub(crate) fn is_handed_on(kind: Option<MutexKind>, depth: u8) -> bool
     ensures { result ≡ is_handed_on kind depth }
 {

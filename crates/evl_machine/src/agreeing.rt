@@ -27,8 +27,8 @@ impl<C> Together<ThreadView<Made<C>, View<WordEntry<MutexCall, MutexReply>, Mute
 
 impl<C: Drop, A: Allocator> MachineOf<C, A> {
     /// Two callers of one machine know of one kernel: of what they have seen of it one history is the beginning of the
-    /// other, and the longer one has just the calls of each that are its own, in its order. So it is of each mutex's word
-    /// and of each stax; at most one of them has a mutex, and they hold a stax at one stage. Neither changes (this profile).
+    /// other, and the longer one has just the calls of each that are its own, in its order. So it is of each mutex's
+    /// word and of each stax; at most one of them has a mutex, and they hold a stax at one stage. Neither changes.
     pub fn agree(&self, one: &mut CallerOf<C, A>, other: &mut CallerOf<C, A>)
         requires machine { Belongs one.old self.now × Belongs other.old self.now }
         ensures same { (one.new ≡ one.old) × (other.new ≡ other.old) }

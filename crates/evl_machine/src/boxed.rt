@@ -29,15 +29,15 @@ type MachineCore = MachineOf<Callback, Global>;
 
 type HeldCore<'a> = HeldOf<'a, Callback, Global>;
 
-/// The kernel of stored callbacks behind the core's lock, shared by callers on host threads (this profile). All calls of
-/// `MachineOf` are its calls: it lends its machine, with the fact that they ask for.
+/// The kernel of stored callbacks behind the core's lock, shared by callers on host threads. All calls of `MachineOf`
+/// are its calls: it lends its machine, with the fact that they ask for.
 #[derive(Drop)]
 pub struct Machine {
     pub of: MachineCore,
     ghost answering: { AnswersAsTold (λ c. c.kinds.0) (λ c. c.plan.value) of.first.callbacks },
 }
 
-/// A caller that has the kernel (this profile). Where it is dropped without `give`, the core stays taken.
+/// A caller that has the kernel. Where it is dropped without `give`, the core stays taken.
 #[derive(Drop)]
 pub struct Held<'a> {
     pub of: HeldCore<'a>,
@@ -49,7 +49,7 @@ impl Deref for Machine {
 
     ghost deref_gives = { λ machine lent. (lent ≡ machine.of) × AnswersAsTold (λ c. c.kinds.0) (λ c. c.plan.value) lent.first.callbacks };
 
-    /// The machine whose calls are these, and whose callbacks answer what is told of them (this profile).
+    /// The machine whose calls are these, and whose callbacks answer what is told of them.
     #[inline(always)]
     fn deref(&self) -> &MachineCore {
         &self.of
@@ -58,11 +58,9 @@ impl Deref for Machine {
 
 impl Machine {
     /// A machine with a new kernel of this board, bank and limit, and a caller for each thread of the board, in the
-    /// threads' order.
-    ///
-    /// `Range` exactly where a number of the board is outside its limits, the bank has more than 64 callbacks, or
-    /// `limit` is outside 1 to 1,000,000; `NoMemory` where room for the elements, the core or the callers was refused.
-    /// The bank is then dropped (this profile).
+    /// threads' order. `Range` exactly where a number of the board is outside its limits, the bank has more than 64
+    /// callbacks, or `limit` is outside 1 to 1,000,000; `NoMemory` where room for the elements, the core or the callers
+    /// was refused. The bank is then dropped.
     pub fn new(
         alloc: Global,
         board: Board,
@@ -83,7 +81,7 @@ impl Machine {
     ///
     /// `Invalid` where no caller is handed in; `CoreBusy` where the core stands taken, which the first caller tries to
     /// take; then `Invalid` where there are fewer callers than threads, and the first caller has given the core back.
-    /// The machine and its callers then come back (this profile).
+    /// The machine and its callers then come back.
     pub fn close(self, callers: Vec<Caller>) -> Result<Kernel, (Refusal, Machine, Vec<Caller>)>
         requires { All (λ c. Belongs c self.of) callers.items }
         ensures closed { IfOk result (λ k. Closes self.of callers.items k) }
@@ -98,8 +96,8 @@ impl Machine {
         }
     }
 
-    /// Takes the kernel for as long as the caller likes. The caller comes back only where another has it, with one lost take
-    /// more (this profile).
+    /// Takes the kernel for as long as the caller likes. The caller comes back only where another has it, with one lost
+    /// take more.
     pub fn take(&self, caller: Caller) -> Result<Held<'_>, Caller>
         requires { Belongs caller self.now.of }
         ensures taken { MatchResult result (λ h. TookKernel caller h.of) (λ c. c ≡ turned_away caller) }
@@ -115,8 +113,8 @@ impl Machine {
 impl<'a> Held<'a> {
     /// One call of the kernel, which is entered among all callers' calls when the kernel is given back.
     ///
-    /// By what the caller has itself it is refused as `try_call` refuses it; each other answer is the kernel's, of which
-    /// `NoMemory` and `HistoryFull` make no entry (this profile).
+    /// By what the caller has itself it is refused as `try_call` refuses it; each other answer is the kernel's, of
+    /// which `NoMemory` and `HistoryFull` make no entry.
     pub fn apply(&mut self, call: Call) -> Result<Reply, Refusal>
         ensures same { self.new.of.caller ≡ self.old.of.caller }
         ensures called { CalledHeld self.old.of call result self.new.of }
@@ -124,15 +122,15 @@ impl<'a> Held<'a> {
         self.of.apply(call)
     }
 
-    /// The kernel, to be read (this profile).
+    /// The kernel, to be read.
     pub fn kernel(&self) -> &Kernel
         ensures { result.now ≡ self.now.of.kernel }
     {
         self.of.kernel()
     }
 
-    /// What stands in a mutex's word, by one load; none where there is no such mutex. It is what the kernel records: whom it
-    /// has as the owner stands there, and where somebody waits, so does the mark (this profile).
+    /// What stands in a mutex's word, by one load; none where there is no such mutex. It is what the kernel records:
+    /// whom it has as the owner stands there, and where somebody waits, so does the mark.
     pub fn in_word(&mut self, mutex: MutexId) -> Option<InWord>
         ensures same { self.new.of ≡ self.old.of }
         ensures there { is_some result ≡ nat_lt mutex.0 (mutex_count self.old.of.caller.machine.first) }
@@ -141,7 +139,7 @@ impl<'a> Held<'a> {
         self.of.in_word(mutex)
     }
 
-    /// Puts the kernel back. The caller has then seen its history (this profile).
+    /// Puts the kernel back. The caller has then seen its history.
     pub fn give(self) -> Caller
         ensures stage { HoldsAtItsStage result }
         ensures given { result ≡ returned self.entry.of.kernel.history self.entry.of.caller }

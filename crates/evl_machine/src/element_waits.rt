@@ -62,12 +62,9 @@ impl<C: Handler, A: Allocator> MachineOf<C, A> {
     }
 
     /// Takes one from a semaphore's count, and waits where it is 0, until a date in nanoseconds, or without a deadline
-    /// (Xenomai 4: EVL semaphores).
-    ///
-    /// It is one `BeginGet`, as by `call`, whose refusal is the answer. Where that is answered `Begun`, it looks at the
-    /// kernel until the wait is over, and makes one `Finish`, whose answer is the answer: `Done`, or `TimedOut` where the
-    /// deadline came first. `NoMemory` and `HistoryFull` make no entry; as the answer of the `Finish` they leave the wait
-    /// unfinished (this profile).
+    /// (Xenomai 4: EVL semaphores). It is one `BeginGet`, as by `call`, and where that is answered `Begun` one `Finish`
+    /// once the wait is over, whose answer is the answer: `Done`, or `TimedOut` where the deadline came first.
+    /// `NoMemory` and `HistoryFull` of the `Finish` leave the wait unfinished.
     pub fn get_sem<R: Wait>(
         &self,
         rt: &R,
@@ -85,13 +82,10 @@ impl<C: Handler, A: Allocator> MachineOf<C, A> {
         self.wait_for(rt, caller, Call::BeginGet { sem, until })
     }
 
-    /// Takes bits of a flag group, and waits where it can't have them at once, until a date in nanoseconds, or without a
-    /// deadline (Xenomai 4: EVL flag groups).
-    ///
-    /// It is one `BeginTake`, as by `call`, whose refusal is the answer. Where that is answered `Begun`, it looks at the
-    /// kernel until the wait is over, and makes one `Finish`, whose answer is the answer: the `Bits` that were taken, or
-    /// `TimedOut` where the deadline came first. `NoMemory` and `HistoryFull` make no entry; as the answer of the `Finish`
-    /// they leave the wait unfinished (this profile).
+    /// Takes bits of a flag group, and waits where it can't have them at once, until a date in nanoseconds, or without
+    /// a deadline (Xenomai 4: EVL flag groups). It is one `BeginTake`, as by `call`, and where that is answered `Begun`
+    /// one `Finish` once the wait is over, whose answer is the answer: the `Bits` that were taken, or `TimedOut` where
+    /// the deadline came first. `NoMemory` and `HistoryFull` of the `Finish` leave the wait unfinished.
     pub fn wait_flags<R: Wait>(
         &self,
         rt: &R,
@@ -110,13 +104,11 @@ impl<C: Handler, A: Allocator> MachineOf<C, A> {
         self.wait_for(rt, caller, Call::BeginTake { flags, kind, until })
     }
 
-    /// Reads up to so many bytes of a way of a cross-buffer, and waits where none are there, until a date in nanoseconds,
-    /// or without a deadline (Xenomai 4: EVL cross-buffers).
-    ///
-    /// It is one `BeginRead`, as by `call`, whose refusal is the answer. Where that is answered `Begun`, it looks at the
-    /// kernel until the wait is over, and makes one `Finish`, whose answer is the answer: the `Bytes` that were read, or
-    /// `TimedOut` where the deadline came first. `NoMemory` and `HistoryFull` make no entry; as the answer of the `Finish`
-    /// they leave the wait unfinished (this profile).
+    /// Reads up to so many bytes of a way of a cross-buffer, and waits where none are there, until a date in
+    /// nanoseconds, or without a deadline (Xenomai 4: EVL cross-buffers). It is one `BeginRead`, as by `call`, and
+    /// where that is answered `Begun` one `Finish` once the wait is over, whose answer is the answer: the `Bytes` that
+    /// were read, or `TimedOut` where the deadline came first. `NoMemory` and `HistoryFull` of the `Finish` leave the
+    /// wait unfinished.
     pub fn read_xbuf<R: Wait>(
         &self,
         rt: &R,
@@ -142,13 +134,11 @@ impl<C: Handler, A: Allocator> MachineOf<C, A> {
         self.wait_for(rt, caller, begin)
     }
 
-    /// Writes bytes into a way of a cross-buffer, all of them, and waits where they don't fit yet or others wait to write,
-    /// until a date in nanoseconds, or without a deadline (Xenomai 4: EVL cross-buffers).
-    ///
-    /// It is one `BeginWrite`, as by `call`, whose refusal is the answer. Where that is answered `Begun`, it looks at the
-    /// kernel until the wait is over, and makes one `Finish`, whose answer is the answer: `Done`, or `TimedOut` where the
-    /// deadline came first. `NoMemory` and `HistoryFull` make no entry; as the answer of the `Finish` they leave the wait
-    /// unfinished (this profile).
+    /// Writes all bytes into a way of a cross-buffer, and waits where they don't fit yet or others wait to write, until
+    /// a date in nanoseconds, or without a deadline (Xenomai 4: EVL cross-buffers). It is one `BeginWrite`, as by
+    /// `call`, and where that is answered `Begun` one `Finish` once the wait is over, whose answer is the answer:
+    /// `Done`, or `TimedOut` where the deadline came first. `NoMemory` and `HistoryFull` of the `Finish` leave the wait
+    /// unfinished.
     pub fn write_xbuf<R: Wait>(
         &self,
         rt: &R,

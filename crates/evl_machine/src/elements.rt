@@ -1,6 +1,6 @@
 //! The staxes of a machine with each thread's seats at them, and each thread's places at the mutexes. All steps on the
-//! words of both are made here; a contract speaks of an element's number, which is its place in the list, and of its seat
-//! there.
+//! words of both are made here; a contract speaks of an element's number, which is its place in the list, and of its
+//! seat there.
 mod dealing;
 mod gate_calls;
 mod gates;

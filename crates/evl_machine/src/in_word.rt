@@ -12,7 +12,7 @@ use evl_base::{MutexId, ThreadId};
 use evl_words::{CLAIM_MARK, Claim, claim_on};
 use std::alloc::Allocator;
 
-/// What stands in a mutex's word (this profile): who owns the mutex or has it offered, and whether somebody claims it.
+/// What stands in a mutex's word: who owns the mutex or has it offered, and whether somebody claims it.
 #[derive(Debug, Clone, Copy, PartialEq, Eq)]
 pub struct InWord {
     pub owner: Option<ThreadId>,
@@ -85,8 +85,8 @@ impl<C: Drop, A: Allocator> MachineOf<C, A> {
 }
 
 impl<'a, C: Drop, A: Allocator> HeldOf<'a, C, A> {
-    /// What stands in a mutex's word, by one load; none where there is no such mutex. It is what the kernel records: whom it
-    /// has as the owner stands there, and where somebody waits, so does the mark (this profile).
+    /// What stands in a mutex's word, by one load; none where there is no such mutex. It is what the kernel records:
+    /// whom it has as the owner stands there, and where somebody waits, so does the mark.
     pub fn in_word(&mut self, mutex: MutexId) -> Option<InWord>
         ensures same { self.new ≡ self.old }
         ensures there { is_some result ≡ nat_lt mutex.0 (mutex_count self.old.caller.machine.first) }

@@ -10,7 +10,7 @@ use evl_pipeline::Handler;
 use std::alloc::{AllocError, Allocator};
 use std::marker::Model;
 
-/// A kernel in a box of its own (this profile). To a contract it is the kernel.
+/// A kernel in a box of its own. To a contract it is the kernel.
 #[derive(Drop)]
 pub struct KernelBox<C, A: Allocator> {
     kernel: Box<KernelOf<C, A>, A>,

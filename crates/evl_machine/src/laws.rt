@@ -23,45 +23,43 @@ ghost use Rattle.evl_machine.specs.Tokens.{HasOneHistory};
 
 use evl_words::laws::holders_agree;
 
-/// What holds of the core's word and slot, and of what its threads know, holds after any list of their atomic steps
-/// (this profile).
+/// What holds of the core's word and slot, and of what its threads know, holds after any list of their atomic steps.
 pub fn core_events_keep_order<C>()
     ensures { (first : KernelView C) (w t : CoreWorld (KernelView C) (KernelView C)) (events : List (Event (CoreKind (KernelView C)))) → IsCoreWorld past_of room_of ComesFrom first w → Run (CoreHappens past_of room_of ComesFrom) w events t → IsCoreWorld past_of room_of ComesFrom first t }
 {}
 
-/// From the opening on it holds after any list of atomic steps, among which hands of threads are split and joined (this
-/// profile).
+/// From the opening on it holds after any list of atomic steps, among which hands of threads are split and joined.
 pub fn core_world_stands<C>()
     ensures { (first k : KernelView C) → IsLegal k.history → k.history.entries ≡ [] → ComesFrom first k → (events : List (DealingEvent (CoreKind (KernelView C)))) (t : CoreDealing (KernelView C) (KernelView C)) → Run (CoreDealingStep past_of room_of ComesFrom) (opened_core past_of room_of ComesFrom first k) events t → StandsDealt past_of room_of ComesFrom first t }
 {}
 
-/// From the opening of the one table on, its core's word and slot, each mutex's word, and what its threads know keep their
-/// conditions after any list of atomic steps, among which hands of threads are split and joined. Who has the kernel alone
-/// claims, settles, offers, frees, accepts and forgets a mutex, and tries one with a ceiling, which no exchange unlocks
-/// (this profile).
+/// From the opening of the one table on, its core's word and slot, each mutex's word, and what its threads know keep
+/// their conditions after any list of atomic steps, among which hands of threads are split and joined. Who has the
+/// kernel alone claims, settles, offers, frees, accepts and forgets a mutex, and tries one with a ceiling, which no
+/// exchange unlocks.
 pub fn one_world_stands<C>()
     ensures { (first k : KernelView C) → board_fits k.history.board ≡ true → IsLegal k.history → k.history.entries ≡ [] → ComesFrom first k → (events : List (DealingEvent (OneKind (KernelView C)))) (t : OneDealing (KernelView C) (KernelView C)) → Run (OneDealingStep past_of room_of ComesFrom (ceilings_of first) (mutex_count first)) (opened_one past_of room_of ComesFrom (ceilings_of first) (mutex_count first) first k) events t → StandsInOne past_of room_of ComesFrom (ceilings_of first) (mutex_count first) first t }
 {}
 
 /// Whenever the core of a running machine is free, the kernel lies in the slot with a legal history, and a line is
-/// pending there out-of-band only while the out-of-band stage is stalled, and a timer or deadline is due only while line 0
-/// is (Dovetail: interrupt pipeline).
+/// pending there out-of-band only while the out-of-band stage is stalled, and a timer or deadline is due only while
+/// line 0 is (Dovetail: interrupt pipeline).
 pub fn free_core_is_quiet<C>()
     ensures { (first : KernelView C) → (s : State (Option (KernelView C)) (CoreHand C)) → KeptKnown first s → slice_index s.words 0 ≡ 0 → LiesQuiet s.homes }
 {}
 
-/// Whenever the core of a running machine is free, the recorded owner of a mutex, if there is one, is the owner in its word,
-/// owning or offered; a mutex with waiters has its mark set, and one without has a recorded owner only at a ceiling, where
-/// whoever is in the word is recorded; the mark never stands alone; and the word offers the mutex to just the thread whose
-/// unfinished wait ended with it (Xenomai 4: EVL mutex; this profile).
+/// Whenever the core of a running machine is free, the recorded owner of a mutex, if there is one, is the owner in its
+/// word, owning or offered; a mutex with waiters has its mark set, and one without has a recorded owner only at a
+/// ceiling, where whoever is in the word is recorded; the mark never stands alone; and the word offers the mutex to
+/// just the thread whose unfinished wait ended with it (Xenomai 4: EVL mutex).
 pub fn free_core_is_tied<C>()
     ensures { (first : KernelView C) → (s : State (Option (KernelView C)) (CoreHand C)) → KeptKnown first s → slice_index s.words 0 ≡ 0 → LiesTied first s.words s.homes }
 {}
 
-/// Whatever the callers of a machine have done, there is one history of its kernel, which all that they know of it fits: in
-/// any state that the running rule of the machine's table keeps, what is read of its tokens (`CallerOf::token`) is the
-/// beginning of that history, with just the calls of its thread, and of any two one is the beginning of the other (this
-/// profile).
+/// Whatever the callers of a machine have done, there is one history of its kernel, which all that they know of it
+/// fits: in any state that the running rule of the machine's table keeps, what is read of its tokens
+/// (`CallerOf::token`) is the beginning of that history, with just the calls of its thread, and of any two one is the
+/// beginning of the other.
 pub fn callers_know_one_history<C>()
     ensures { (first : KernelView C) → (s : State (Option (KernelView C)) (CoreHand C)) → KeptKnown first s → HasOneHistory s }
 {}

@@ -1,5 +1,5 @@
-//! What a caller does with a mutex while it has the kernel: steps of the mutex's word, and the calls of the kernel that go
-//! with them. No step of the core's lock is among them. All growths come before the first step of a word.
+//! What a caller does with a mutex while it has the kernel: steps of the mutex's word, and the calls of the kernel that
+//! go with them. No step of the core's lock is among them. All growths come before the first step of a word.
 ghost use Rattle.std.specs.Prelude.{◌≡◌, ◌<◌, IfSome, IsSomeAnd, None, Some, length, slice_get, true};
 ghost use Rattle.evl_base.specs.declared.call.Call.TheVariants.{Finish};
 ghost use Rattle.evl_base.specs.declared.stage.Stage.TheVariants.{Oob};
@@ -70,8 +70,8 @@ pub(crate) fn lock_raised<C: Handler, A: Allocator>(
     Ok(pass)
 }
 
-/// Has the kernel hand a mutex on, and offers it to the next owner, or frees it where there is none. Where there is no room
-/// for the call the pass comes back, and the word stays as it is.
+/// Has the kernel hand a mutex on, and offers it to the next owner, or frees it where there is none. Where there is no
+/// room for the call the pass comes back, and the word stays as it is.
 pub(crate) fn release<C: Handler, A: Allocator>(
     core: &CoreLock<C, A>,
     actor: &mut Actor<C, A>,
@@ -128,8 +128,8 @@ fn hand_on<C: Drop, A: Allocator>(
     }
 }
 
-/// Claims a mutex that the caller doesn't hold, and waits for it where another has it. Where it was won, and has a ceiling,
-/// the kernel is told. All claims are made with the kernel, so nobody else has won it and not settled yet.
+/// Claims a mutex that the caller doesn't hold, and waits for it where another has it. Where it was won, and has a
+/// ceiling, the kernel is told. All claims are made with the kernel, so nobody else has won it and not settled yet.
 pub(crate) fn begin<C: Handler, A: Allocator>(
     core: &CoreLock<C, A>,
     actor: &mut Actor<C, A>,
@@ -172,8 +172,8 @@ pub(crate) fn begin<C: Handler, A: Allocator>(
     }
 }
 
-/// Ends the caller's wait for a mutex, where it is over to the kernel: it takes the mutex that was offered to it, or waits for
-/// it no more where the deadline came first. The word offers it to just those whose wait ended with it.
+/// Ends the caller's wait for a mutex, where it is over to the kernel: it takes the mutex that was offered to it, or
+/// waits for it no more where the deadline came first. The word offers it to just those whose wait ended with it.
 pub(crate) fn finish<C: Handler, A: Allocator>(
     core: &CoreLock<C, A>,
     actor: &mut Actor<C, A>,

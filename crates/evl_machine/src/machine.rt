@@ -26,8 +26,7 @@ use evl_pipeline::Handler;
 use std::alloc::Allocator;
 use std::marker::Model;
 
-/// The kernel, in a lock of one word and one slot (this profile). To a contract it is its table, and the kernel as it
-/// was made.
+/// The kernel, in a lock of one word and one slot. To a contract it is its table, and the kernel as it was made.
 #[derive(Drop)]
 pub struct MachineOf<C: Drop, A: Allocator> {
     pub(crate) core: CoreLock<C, A>,
@@ -69,8 +68,8 @@ impl<C: Drop, A: Allocator> MachineOf<C, A> {
         table.exchange(seat, 0, None)
     }
 
-    /// Puts the kernel back. It goes on from the one that was taken, by calls of the seat's one caller, and what stands of
-    /// each mutex's word is tied to what it records.
+    /// Puts the kernel back. It goes on from the one that was taken, by calls of the seat's one caller, and what stands
+    /// of each mutex's word is tied to what it records.
     #[inline]
     pub(crate) fn give_kernel(&self, seat: &mut CoreSeat<C, A>, kernel: KernelBox<C, A>)
         requires machine { seat.old.table_id ≡ self.now.id }
@@ -129,8 +128,8 @@ impl<C: Handler, A: Allocator> MachineOf<C, A> {
         Ok(reply)
     }
 
-    /// One call of the kernel, by the host thread that makes it, which the caller itself doesn't refuse; the call comes back
-    /// where another caller has the kernel.
+    /// One call of the kernel, by the host thread that makes it, which the caller itself doesn't refuse; the call comes
+    /// back where another caller has the kernel.
     #[inline(always)]
     pub(crate) fn attempt(
         &self,
@@ -149,13 +148,10 @@ impl<C: Handler, A: Allocator> MachineOf<C, A> {
         self.call_with(&mut caller.actor, call)
     }
 
-    /// One call of the kernel, by the host thread that makes it.
-    ///
-    /// By what the caller has itself, and with no step: `Invalid` for `Claim`, `Release` and `Raise`, for the `Finish` of a
-    /// wait for a mutex, and for a `Finish` whose `keep` isn't whether the caller holds a stax or a mutex; `HoldsStax` for
-    /// `Attach`, `Detach` and `SetStage` while it holds a stax; `Busy` for `Detach` while it holds a mutex. Then `CoreBusy`
-    /// only where another caller has the kernel; every other answer is the kernel's, of which `NoMemory` and `HistoryFull`
-    /// make no entry (this profile).
+    /// One call of the kernel, by the host thread that makes it. With no step `Invalid` for `Claim`, `Release`, `Raise`,
+    /// the `Finish` of a wait for a mutex, and a `Finish` whose `keep` isn't whether the caller holds a stax or a mutex;
+    /// `HoldsStax` for `Attach`, `Detach` and `SetStage` while it holds a stax; `Busy` for `Detach` while it holds a
+    /// mutex. Then `CoreBusy` only where another caller has the kernel; all else is the kernel's answer.
     #[inline(always)]
     pub fn try_call(&self, caller: &mut CallerOf<C, A>, call: Call) -> Result<Reply, Refusal>
         requires machine { Belongs caller.old self.now }

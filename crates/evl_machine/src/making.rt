@@ -31,11 +31,9 @@ use std::snapshot::Snapshot;
 
 impl<C: Handler, A: Allocator> MachineOf<C, A> {
     /// A machine with a new kernel of this board, bank and limit, and a caller for each thread of the board, in the
-    /// threads' order. The boxes of transferred bytes come from `boxes`.
-    ///
-    /// `Range` exactly where a number of the board is outside its limits, the bank has more than 64 callbacks, or
-    /// `limit` is outside 1 to 1,000,000; `NoMemory` where room for the elements, the core or the callers was refused.
-    /// The bank is then dropped (this profile).
+    /// threads' order; the boxes of transferred bytes come from `boxes`. `Range` exactly where a number of the board is
+    /// outside its limits, the bank has more than 64 callbacks, or `limit` is outside 1 to 1,000,000; `NoMemory` where
+    /// room for the elements, the core or the callers was refused. The bank is then dropped.
     pub fn over(
         alloc: A,
         boxes: Global,

@@ -60,12 +60,9 @@ impl<C: Handler, A: Allocator> MachineOf<C, A> {
     }
 
     /// Locks a mutex, and waits for it where another caller has it, until a date in nanoseconds, or without a deadline
-    /// (Xenomai 4: EVL mutex).
-    ///
-    /// It begins as `begin_lock_mutex` does, again while that answers `CoreBusy` or `Again`; where the caller has to wait, it
-    /// finishes as `finish_lock_mutex` does, again while that answers `CoreBusy` or `Again`, which makes no entry. Every
-    /// other answer of the two is the answer: `Locked` with the pass, `TimedOut` where the deadline came first, or a refusal.
-    /// `NoMemory` and `HistoryFull` of the finish leave the wait unfinished (this profile).
+    /// (Xenomai 4: EVL mutex). It begins as `begin_lock_mutex` and finishes as `finish_lock_mutex`, each again while it
+    /// answers `CoreBusy` or `Again`. Every other answer is the answer: `Locked` with the pass, `TimedOut` where the
+    /// deadline came first, or a refusal. `NoMemory` and `HistoryFull` of the finish leave the wait unfinished.
     pub fn lock_mutex<R: Wait>(
         &self,
         rt: &R,
@@ -87,10 +84,11 @@ impl<C: Handler, A: Allocator> MachineOf<C, A> {
         }
     }
 
-    /// Gives a mutex back, however long other callers have the kernel where that has to hand it on (Xenomai 4: EVL mutex).
+    /// Gives a mutex back, however long other callers have the kernel where that has to hand it on (Xenomai 4: EVL
+    /// mutex).
     ///
-    /// It spends the pass as `try_unlock_mutex` does, again while that answers `CoreBusy`. Every other answer is the answer,
-    /// with the pass back where it is a refusal (this profile).
+    /// It spends the pass as `try_unlock_mutex` does, again while that answers `CoreBusy`. Every other answer is the
+    /// answer, with the pass back where it is a refusal.
     pub fn unlock_mutex<R: Wait>(
         &self,
         rt: &R,

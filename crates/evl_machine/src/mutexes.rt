@@ -17,13 +17,11 @@ use evl_words::{MutexPass, Unlock};
 use std::alloc::Allocator;
 
 impl<C: Handler, A: Allocator> MachineOf<C, A> {
-    /// Locks a mutex, or locks it once more (Xenomai 4: EVL mutex; this profile).
-    ///
-    /// With no step `Busy` while the caller has an unfinished wait, `Unknown` where there is no such mutex, `WrongStage`
-    /// where the caller's thread is in-band, `Deadlock` where the caller has it and it doesn't nest, and `Limit` where the
-    /// caller has it 255 times. `Busy` where another caller has it. A mutex with a ceiling is tried while the caller has the
-    /// kernel: `CoreBusy` where another caller has that, `NoMemory` or `HistoryFull` where there is no room for one call, of
-    /// which none makes a step of the mutex; a try that took it is told to the kernel, which accepts that.
+    /// Locks a mutex, or once more (Xenomai 4: EVL mutex). With no step `Busy` in an unfinished wait, `Unknown` where
+    /// there is no such mutex, `WrongStage` in-band, `Deadlock` where the caller has it and it doesn't nest, `Limit`
+    /// where it has it 255 times. `Busy` where another has it. One with a ceiling is tried with the kernel, which is
+    /// told of it: `CoreBusy` where another has that, `NoMemory` or `HistoryFull` where it has no room, with no step of
+    /// the mutex.
     #[inline(always)]
     pub fn try_lock_mutex(
         &self,
@@ -73,13 +71,11 @@ impl<C: Handler, A: Allocator> MachineOf<C, A> {
         }
     }
 
-    /// Begins to lock a mutex, and answers whether the caller has it or waits for it until this moment (Xenomai 4: EVL mutex;
-    /// this profile).
-    ///
-    /// It is refused with no step as `try_lock_mutex` is, and an owner has the mutex once more with no step. `CoreBusy` where
-    /// another caller has the kernel, and `NoMemory` or `HistoryFull` where there is no room for one call: then the mutex
-    /// isn't claimed. Where another has it, it is claimed, and the answer is the kernel's to the wait: a refused one leaves
-    /// the claim. A mutex with a ceiling that was won is told to the kernel, which accepts that.
+    /// Begins to lock a mutex, and answers whether the caller has it or waits for it until this moment (Xenomai 4: EVL
+    /// mutex). Refused with no step as `try_lock_mutex` is. `CoreBusy` where another has the kernel, `NoMemory` or
+    /// `HistoryFull` where it has no room: the mutex isn't claimed then. Where another has it, it is claimed, and the
+    /// answer is the kernel's to the wait: a refused one leaves the claim. One with a ceiling that was won is told to
+    /// the kernel.
     pub fn begin_lock_mutex(
         &self,
         caller: &mut CallerOf<C, A>,
@@ -103,12 +99,10 @@ impl<C: Handler, A: Allocator> MachineOf<C, A> {
         self.begin_with_kernel(caller, mutex, has_ceiling(kind), until)
     }
 
-    /// Ends the caller's wait for a mutex, where that is over: the caller has the mutex, or the deadline came first (Xenomai 4:
-    /// EVL mutex; this profile).
-    ///
-    /// With no step `Invalid` where the caller doesn't wait for a mutex. `CoreBusy` where another caller has the kernel,
-    /// `Again` while the wait goes on, and `NoMemory` or `HistoryFull` where there is no room for one call: all of them leave
-    /// the wait to be finished later.
+    /// Ends the caller's wait for a mutex, where that is over: the caller has the mutex, or the deadline came first
+    /// (Xenomai 4: EVL mutex). With no step `Invalid` where it doesn't wait for a mutex. `CoreBusy` where another has
+    /// the kernel, `Again` while the wait goes on, `NoMemory` or `HistoryFull` where there is no room for one call: all
+    /// of them leave the wait to be finished later.
     pub fn finish_lock_mutex(&self, caller: &mut CallerOf<C, A>) -> Result<Ended, Refusal>
         requires machine { Belongs caller.old self.now }
         requires answering { AnswersAsTold C.declared C.plan self.now.first.callbacks }
@@ -123,11 +117,11 @@ impl<C: Handler, A: Allocator> MachineOf<C, A> {
         }
     }
 
-    /// Spends a pass without the kernel (Xenomai 4: EVL mutex, fast path; this profile).
+    /// Spends a pass without the kernel (Xenomai 4: EVL mutex, fast path).
     ///
-    /// With no step, and with the pass back: `Busy` while the caller has an unfinished wait, `NotOwner` for a pass of another
-    /// caller or of a mutex that the caller doesn't have, and `Busy` for a mutex with a ceiling. `Busy` with the pass back
-    /// where others claim the mutex.
+    /// With no step, and with the pass back: `Busy` while the caller has an unfinished wait, `NotOwner` for a pass of
+    /// another caller or of a mutex that the caller doesn't have, and `Busy` for a mutex with a ceiling. `Busy` with
+    /// the pass back where others claim the mutex.
     #[inline(always)]
     pub fn unlock_mutex_fast(
         &self,
@@ -153,7 +147,8 @@ impl<C: Handler, A: Allocator> MachineOf<C, A> {
         }
     }
 
-    /// Spends a pass without the kernel where the caller may have another one, or the mutex a ceiling, or something refuses it.
+    /// Spends a pass without the kernel where the caller may have another one, or the mutex a ceiling, or something
+    /// refuses it.
     #[cold]
     #[inline(never)]
     fn unlock_rarely(
@@ -176,13 +171,10 @@ impl<C: Handler, A: Allocator> MachineOf<C, A> {
         fast_answer(self.unlock_word(caller, pass))
     }
 
-    /// Spends a pass. A mutex that others claim, or that has a ceiling, is handed on by the kernel, and its word offered to
-    /// whom the kernel names, or freed (Xenomai 4: EVL mutex; this profile).
-    ///
-    /// With no step, and with the pass back: `Busy` while the caller has an unfinished wait, and `NotOwner` for a pass of
-    /// another caller or of a mutex that the caller doesn't have. Where the kernel has to hand the mutex on: `CoreBusy` where
-    /// another caller has that, and `NoMemory` or `HistoryFull` where there is no room for one call, each with the pass back
-    /// and the word as it is.
+    /// Spends a pass. A mutex that others claim, or with a ceiling, is handed on by the kernel, and its word offered to
+    /// whom that names, or freed (Xenomai 4: EVL mutex). With no step, and the pass back: `Busy` in an unfinished wait,
+    /// `NotOwner` for a pass of another caller or of a mutex that the caller doesn't have; where the kernel hands it
+    /// on, `CoreBusy` where another has that, `NoMemory` or `HistoryFull` where it has no room.
     #[inline]
     pub fn try_unlock_mutex(
         &self,

@@ -54,12 +54,10 @@ impl<C: Drop, A: Allocator> MachineOf<C, A> {
         }
     }
 
-    /// Enters a stax at the stage of the caller's thread, however long it takes (Dovetail: stax).
-    ///
-    /// It tries as `try_lock_stax` does until it has a pass, or is refused otherwise than by `Again`, `Limit` or `Raced`:
-    /// with `Unknown` where there is no such stax, and with `Busy` where the caller holds it. After the first `Again` it
-    /// sets the claim mark, by which the last caller to leave is told that others want in. The core isn't taken (this
-    /// profile).
+    /// Enters a stax at the stage of the caller's thread, however long it takes (Dovetail: stax). It tries as
+    /// `try_lock_stax` does until it has a pass, or is refused with `Unknown` where there is no such stax, or `Busy`
+    /// where the caller holds it. After the first `Again` it sets the claim mark, by which the last caller to leave is
+    /// told that others want in. The core isn't taken.
     pub fn lock_stax<R: Wait>(
         &self,
         rt: &R,
@@ -95,7 +93,8 @@ fn may_pass(refusal: Refusal) -> bool
     )
 }
 
-/// Whether the claim mark is wanted after this refusal: it wasn't set by then, and callers of the other stage hold the stax.
+/// Whether the claim mark is wanted after this refusal: it wasn't set by then, and callers of the other stage hold the
+/// stax.
 fn wants_mark(marked: bool, refusal: Refusal) -> bool
     ensures { result ≡ (not marked && is_again refusal) }
 {

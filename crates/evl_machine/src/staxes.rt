@@ -14,9 +14,9 @@ use std::alloc::Allocator;
 impl<C: Drop, A: Allocator> MachineOf<C, A> {
     /// Enters a stax at the stage of the caller's thread (Dovetail: stax).
     ///
-    /// With no step `Unknown` where there is no such stax, and `Busy` where the caller holds it. `Again` where callers of
-    /// the other stage hold it, `Limit` where its limit of callers holds it, `Raced` where another step came in between
-    /// and the caller would have been let in before it and after it. The core isn't taken (this profile).
+    /// With no step `Unknown` where there is no such stax, and `Busy` where the caller holds it. `Again` where callers
+    /// of the other stage hold it, `Limit` where its limit of callers holds it, `Raced` where another step came in
+    /// between and the caller would have been let in before it and after it. The core isn't taken.
     #[inline(always)]
     pub fn try_lock_stax(
         &self,
@@ -32,11 +32,11 @@ impl<C: Drop, A: Allocator> MachineOf<C, A> {
             .try_lock(&mut caller.actor.staxes, stax, caller.actor.stage)
     }
 
-    /// Leaves a stax, and answers whether the caller was the last one in it and the claim mark stood, which is then taken
-    /// away (Dovetail: stax).
+    /// Leaves a stax, and answers whether the caller was the last one in it and the claim mark stood, which is then
+    /// taken away (Dovetail: stax).
     ///
-    /// `NotOwner`, with the pass back and no step, for a pass of another caller, of a stax that isn't on the board, or of
-    /// one that the caller doesn't hold. The core isn't taken (this profile).
+    /// `NotOwner`, with the pass back and no step, for a pass of another caller, of a stax that isn't on the board, or
+    /// of one that the caller doesn't hold. The core isn't taken.
     #[inline(always)]
     pub fn unlock_stax(
         &self,

@@ -17,8 +17,8 @@ use std::sync::Wait;
 impl<C: Handler, A: Allocator> MachineOf<C, A> {
     /// Moves the caller's thread to the out-of-band stage (Xenomai 4: EVL threads).
     ///
-    /// It is one `SetStage`, as by `call`: `HoldsStax`, with no step, while the caller holds a stax; every other answer is
-    /// the kernel's, of which `NoMemory` and `HistoryFull` make no entry (this profile).
+    /// It is one `SetStage`, as by `call`: `HoldsStax`, with no step, while the caller holds a stax; every other answer
+    /// is the kernel's, of which `NoMemory` and `HistoryFull` make no entry.
     pub fn switch_oob<R: Wait>(&self, rt: &R, caller: &mut CallerOf<C, A>) -> Result<Reply, Refusal>
         requires machine { Belongs caller.old self.now }
         requires answering { AnswersAsTold C.declared C.plan self.now.first.callbacks }
@@ -33,8 +33,8 @@ impl<C: Handler, A: Allocator> MachineOf<C, A> {
 
     /// Moves the caller's thread to the in-band stage (Xenomai 4: EVL threads).
     ///
-    /// It is one `SetStage`, as by `call`: `HoldsStax`, with no step, while the caller holds a stax; every other answer is
-    /// the kernel's, of which `NoMemory` and `HistoryFull` make no entry (this profile).
+    /// It is one `SetStage`, as by `call`: `HoldsStax`, with no step, while the caller holds a stax; every other answer
+    /// is the kernel's, of which `NoMemory` and `HistoryFull` make no entry.
     pub fn switch_inband<R: Wait>(
         &self,
         rt: &R,

@@ -4,7 +4,7 @@ ghost use Rattle.evl_machine.specs.Unfinished.{wait_after, wait_step};
 
 use evl_base::{Call, MutexId, Refusal, Reply};
 
-/// What an unfinished wait is for (this profile).
+/// What an unfinished wait is for.
 #[derive(Clone, Copy, PartialEq, Eq, Debug)]
 pub enum Unfinished {
     /// A mutex.

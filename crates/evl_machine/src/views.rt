@@ -17,8 +17,8 @@ impl Model for Past {
     ghost view = { λ past. record no_history { entries = past.entries } };
 }
 
-/// What is known of one caller: the history that it has seen, its own calls there, for how many calls it found room made
-/// in the kernel, at each time that it took it, and how often it found it taken.
+/// What is known of one caller: the history that it has seen, its own calls there, for how many calls it found room
+/// made in the kernel, at each time that it took it, and how often it found it taken.
 pub struct Account {
     pub thread: u64,
     pub seen: Past,

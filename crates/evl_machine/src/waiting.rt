@@ -14,11 +14,11 @@ use std::sync::Wait;
 use std::thread;
 
 impl<C: Handler, A: Allocator> MachineOf<C, A> {
-    /// One call of the kernel, however long other callers have it: `try_call` until it isn't answered `CoreBusy`. The call is
-    /// handed over once the caller has the kernel, and is never copied. Each try before it is a lost take.
+    /// One call of the kernel, however long other callers have it: `try_call` until it isn't answered `CoreBusy`. The
+    /// call is handed over once the caller has the kernel, and is never copied. Each try before it is a lost take.
     ///
     /// It is refused with no step as `try_call` refuses it; every other answer is the kernel's, of which `NoMemory` and
-    /// `HistoryFull` make no entry (this profile).
+    /// `HistoryFull` make no entry.
     #[inline(always)]
     pub fn call<R: Wait>(
         &self,

@@ -3,19 +3,19 @@ ghost use Rattle.std.specs.Prelude.{◌≡◌, ◌==◌, ◌||◌, true, ℕ};
 
 use evl_base::ThreadId;
 
-/// Where a call on the recorded owners notes each thread whose effective rank may have changed. (this profile)
+/// Where a call on the recorded owners notes each thread whose effective rank may have changed.
 pub trait RankChanges {
     ghost use Rattle.std.specs.Prelude.{ℕ, Bool};
 
     /// Whether a thread is noted.
     ghost is_noted: { Self → ℕ → Bool };
 
-    /// Notes a thread; whoever is noted stays so. (this profile)
+    /// Notes a thread; whoever is noted stays so.
     fn note(&mut self, thread: ThreadId)
         ensures noted { (t : ℕ) → is_noted self.new t ≡ (is_noted self.old t || (t == thread.0)) };
 }
 
-/// Keeps no note: every thread counts as noted, as one whose rank may have changed. (this profile)
+/// Keeps no note: every thread counts as noted, as one whose rank may have changed.
 #[derive(Drop)]
 pub struct Unnoted;
 

@@ -20,9 +20,9 @@ use evl_base::{MutexId, MutexKind, Refusal, ThreadId};
 use std::alloc::{AllocError, Allocator};
 use std::marker::Model;
 
-/// What is recorded of threads and mutexes: base ranks, owners and waiters. The owner of a mutex is recorded while somebody
-/// waits for it, and where it has a ceiling also while nobody waits, from `raise`, `claim` or `release` on. To a contract
-/// it is the record `Owners` of `specs/Owners.antt`. Only `new` takes memory. (Xenomai 4: EVL mutexes; this profile)
+/// What is recorded of threads and mutexes: base ranks, owners and waiters. The owner of a mutex is recorded while
+/// somebody waits for it, and where it has a ceiling also while nobody waits, from `raise`, `claim` or `release` on. To
+/// a contract it is the record `Owners` of `specs/Owners.antt`. Only `new` takes memory. (Xenomai 4: EVL mutexes)
 #[derive(Drop)]
 pub struct OwnersOf<A: Allocator> {
     base: Vec<u16, A>,
@@ -48,8 +48,7 @@ impl<A: Allocator> Model for OwnersOf<A> {
 
 impl<A: Allocator + Clone> OwnersOf<A> {
     /// So many threads, each of base rank 0, and a mutex of each kind, for which no owner is recorded and nobody waits.
-    /// Each mutex has room for all of these threads. `NoMemory` where that room was refused. (Xenomai 4: EVL mutexes; this
-    /// profile)
+    /// Each mutex has room for all of these threads. `NoMemory` where that room was refused. (Xenomai 4: EVL mutexes)
     pub fn new(alloc: A, threads: u16, kinds: &[MutexKind]) -> Result<OwnersOf<A>, Refusal>
         ensures fresh { IfOk result (λ o. o ≡ fresh threads kinds.now) }
         ensures refusal { IfErr result (λ e. e ≡ Refusal.NoMemory) }
@@ -76,9 +75,9 @@ impl<A: Allocator + Clone> OwnersOf<A> {
 }
 
 impl<A: Allocator> OwnersOf<A> {
-    /// The effective rank of a thread: the greatest of its base rank, the ceilings that are recorded for it (512 and the
-    /// priority), and the base ranks of all threads from which it is reached along "waits for a mutex recorded as owned
-    /// by". A waiter's own ceilings aren't inherited. (Xenomai 4: EVL mutexes, priority inheritance and ceilings)
+    /// The effective rank of a thread: the greatest of its base rank, the ceilings that are recorded for it (512 and
+    /// the priority), and the base ranks of all threads from which it is reached along "waits for a mutex recorded as
+    /// owned by". A waiter's own ceilings aren't inherited. (Xenomai 4: EVL mutexes, priority inheritance and ceilings)
     pub fn effective(&self, thread: ThreadId) -> u16
         ensures rank { result ≡ rank_of self.now thread.0 }
         ensures rule { IsEffective (base_of self.now) self.now.mutexes thread.0 result }
@@ -105,7 +104,7 @@ impl<A: Allocator> OwnersOf<A> {
         named(record.owner)
     }
 
-    /// Whether there is such a mutex. (this profile)
+    /// Whether there is such a mutex.
     pub fn has(&self, mutex: MutexId) -> bool
         ensures has { result ≡ nat_lt mutex.0 (length self.now.mutexes) }
     {
@@ -119,8 +118,8 @@ impl<A: Allocator> OwnersOf<A> {
         walks::owns_any(&self.mutexes, thread.0)
     }
 
-    /// Who waits for a mutex first, to whom a release would hand it; nobody where nobody waits or there is no such mutex.
-    /// (Xenomai 4: EVL mutexes)
+    /// Who waits for a mutex first, to whom a release would hand it; nobody where nobody waits or there is no such
+    /// mutex. (Xenomai 4: EVL mutexes)
     pub fn next(&self, mutex: MutexId) -> Option<ThreadId>
         ensures next { option_map (λ thread. thread.0) result ≡ next_of self.now mutex.0 }
     {
@@ -136,7 +135,7 @@ impl<A: Allocator> OwnersOf<A> {
         self.set_base_noting(thread, rank, &mut Unnoted)
     }
 
-    /// Sets the base rank of a thread as `set_base` does, and notes whose effective rank may have changed. (this profile)
+    /// Sets the base rank of a thread as `set_base` does, and notes whose effective rank may have changed.
     pub fn set_base_noting<C: RankChanges>(
         &mut self,
         thread: ThreadId,
@@ -172,17 +171,16 @@ impl<A: Allocator> OwnersOf<A> {
         mending::mend(&self.base, &self.ahead, &mut self.lent, &mut Unnoted, owner);
     }
 
-    /// Lets a thread wait for this one mutex no more, if it does; where there is no such mutex nothing changes. Where it
-    /// was the last waiter, no owner of the mutex is recorded any more; at a ceiling the owner stays. (Xenomai 4: EVL
-    /// mutexes; this profile)
+    /// Lets a thread wait for this one mutex no more, if it does; where there is no such mutex nothing changes. Where
+    /// it was the last waiter, no owner of the mutex is recorded any more; at a ceiling the owner stays. (Xenomai 4:
+    /// EVL mutexes)
     pub fn leave(&mut self, mutex: MutexId, thread: ThreadId)
         ensures state { self.new ≡ changed self.old mutex.0 (drop_waiter thread.0) }
     {
         self.leave_noting(mutex, thread, &mut Unnoted);
     }
 
-    /// Lets a thread wait for this one mutex no more as `leave` does, and notes whose effective rank may have changed. (this
-    /// profile)
+    /// Lets a thread wait for this one mutex no more as `leave` does, and notes whose effective rank may have changed.
     pub fn leave_noting<C: RankChanges>(
         &mut self,
         mutex: MutexId,
@@ -207,10 +205,11 @@ impl<A: Allocator> OwnersOf<A> {
         }
     }
 
-    /// A thread begins to wait for a mutex, whose owner it names, and that owner is recorded. It stands behind the waiters
-    /// of its effective rank or a greater one. Refused, in this order: `Busy` where it waits already; `Unknown` where there
-    /// is no such mutex, waiter or owner; `Invalid` where the owner is the waiter, or another owner is recorded; `Deadlock`
-    /// where somebody would wait for itself then. A refused call changes nothing. (Xenomai 4: EVL mutexes; this profile)
+    /// A thread begins to wait for a mutex, whose owner it names, and that owner is recorded. It stands behind the
+    /// waiters of its effective rank or a greater one. Refused, in this order: `Busy` where it waits already; `Unknown`
+    /// where there is no such mutex, waiter or owner; `Invalid` where the owner is the waiter, or another owner is
+    /// recorded; `Deadlock` where somebody would wait for itself then. A refused call changes nothing. (Xenomai 4: EVL
+    /// mutexes)
     pub fn claim(
         &mut self,
         mutex: MutexId,
@@ -223,8 +222,8 @@ impl<A: Allocator> OwnersOf<A> {
         self.claim_noting(mutex, waiter, owner, &mut Unnoted)
     }
 
-    /// A thread begins to wait for a mutex as by `claim`, which refuses the same, and whose effective rank may have changed
-    /// is noted. (this profile)
+    /// A thread begins to wait for a mutex as by `claim`, which refuses the same, and whose effective rank may have
+    /// changed is noted.
     pub fn claim_noting<C: RankChanges>(
         &mut self,
         mutex: MutexId,
@@ -269,9 +268,9 @@ impl<A: Allocator> OwnersOf<A> {
     }
 
     /// Hands a mutex on to the first waiter: who that is, if anybody waits, and whether more do. It is recorded as the
-    /// owner where more wait or the mutex has a ceiling; else nobody is. Refused, in this order: `Unknown` where there is
-    /// no such mutex; `NotOwner` where another owner is recorded. Where none is, anybody may release it. A refused call
-    /// changes nothing. (Xenomai 4: EVL mutexes; this profile)
+    /// owner where more wait or the mutex has a ceiling; else nobody is. Refused, in this order: `Unknown` where there
+    /// is no such mutex; `NotOwner` where another owner is recorded. Where none is, anybody may release it. A refused
+    /// call changes nothing. (Xenomai 4: EVL mutexes)
     pub fn release(
         &mut self,
         mutex: MutexId,
@@ -282,8 +281,7 @@ impl<A: Allocator> OwnersOf<A> {
         self.release_noting(mutex, owner, &mut Unnoted)
     }
 
-    /// Hands a mutex on as `release` does, which refuses the same, and notes whose effective rank may have changed. (this
-    /// profile)
+    /// Hands a mutex on as `release` does, which refuses the same, and notes whose effective rank may have changed.
     pub fn release_noting<C: RankChanges>(
         &mut self,
         mutex: MutexId,
@@ -317,9 +315,9 @@ impl<A: Allocator> OwnersOf<A> {
         Ok((named(next), more))
     }
 
-    /// Records a thread as the owner of a mutex with a ceiling. Refused, in this order: `Unknown` where there is no such
-    /// mutex or thread; `Invalid` where the mutex has no ceiling; `Busy` where an owner is recorded, this thread too.
-    /// A refused call changes nothing. (Xenomai 4: EVL mutexes, priority ceilings; this profile)
+    /// Records a thread as the owner of a mutex with a ceiling. Refused, in this order: `Unknown` where there is no
+    /// such mutex or thread; `Invalid` where the mutex has no ceiling; `Busy` where an owner is recorded, this thread
+    /// too. A refused call changes nothing. (Xenomai 4: EVL mutexes, priority ceilings)
     pub fn raise(&mut self, mutex: MutexId, thread: ThreadId) -> Result<(), Refusal>
         ensures answer { result ≡ unless_refused (raise_refusal self.old mutex.0 thread.0) tt }
         ensures state { self.new ≡ (if is_ok result then changed self.old mutex.0 (λ m. raised m thread.0) else self.old) }
@@ -328,7 +326,7 @@ impl<A: Allocator> OwnersOf<A> {
     }
 
     /// Records a thread as the owner of a mutex with a ceiling as `raise` does, which refuses the same, and notes whose
-    /// effective rank may have changed. (this profile)
+    /// effective rank may have changed.
     pub fn raise_noting<C: RankChanges>(
         &mut self,
         mutex: MutexId,
@@ -353,9 +351,9 @@ impl<A: Allocator> OwnersOf<A> {
         Ok(())
     }
 
-    /// Takes back a raise: no owner is recorded any more. Refused, in this order: `Unknown` where there is no such mutex;
-    /// `Invalid` where it has no ceiling; `NotOwner` where the thread isn't recorded as its owner; `Busy` where somebody
-    /// waits. A refused call changes nothing. (Xenomai 4: EVL mutexes, priority ceilings; this profile)
+    /// Takes back a raise: no owner is recorded any more. Refused, in this order: `Unknown` where there is no such
+    /// mutex; `Invalid` where it has no ceiling; `NotOwner` where the thread isn't recorded as its owner; `Busy` where
+    /// somebody waits. A refused call changes nothing. (Xenomai 4: EVL mutexes, priority ceilings)
     pub fn lower(&mut self, mutex: MutexId, thread: ThreadId) -> Result<(), Refusal>
         ensures answer { result ≡ unless_refused (lower_refusal self.old mutex.0 thread.0) tt }
         ensures state { self.new ≡ (if is_ok result then changed self.old mutex.0 lowered else self.old) }

@@ -10,7 +10,7 @@ use crate::plan::Plan;
 use evl_base::ActionKinds;
 use std::snapshot::Snapshot;
 
-/// Code that answers a plan. The running program has the code alone: only contracts read the plan (this profile).
+/// Code that answers a plan. The running program has the code alone: only contracts read the plan.
 #[derive(Drop)]
 pub struct Callback {
     pub kinds: ActionKinds,

@@ -42,7 +42,7 @@ impl<C, A: Allocator> Model for PipelineOf<C, A> {
 
 impl<C: Drop, A: Allocator + Clone> PipelineOf<C, A> {
     /// A pipeline with 4096 lines, where nothing stands, nothing is pending and nothing was counted. It has room for a
-    /// callback on each line of each stage. `NoMemory` where that room was refused (this profile).
+    /// callback on each line of each stage. `NoMemory` where that room was refused.
     pub fn new(alloc: A) -> Result<PipelineOf<C, A>, Refusal>
         ensures opening { IfOk result (λ p. p ≡ opening) }
         ensures refusal { IfErr result (λ e. e ≡ Refusal.NoMemory) }
@@ -64,8 +64,8 @@ impl<C: Drop, A: Allocator + Clone> PipelineOf<C, A> {
     }
 }
 
-// The kinds of action that a callback on a line of the stage may declare: an out-of-band one posts no out-of-band lines,
-// and an in-band one hands nothing on to the in-band stage.
+// The kinds of action that a callback on a line of the stage may declare: an out-of-band one posts no out-of-band
+// lines, and an in-band one hands nothing on to the in-band stage.
 fn allowed(stage: Stage) -> ActionKinds
     ensures kinds { result.0 ≡ allowed stage }
 {
@@ -98,9 +98,9 @@ impl<C, A: Allocator> PipelineOf<C, A> {
         }
     }
 
-    /// Why `request` would refuse a callback that declares `kinds`, if it would: the first that applies of `Unknown` for a
-    /// line above 4095, `Invalid` for line 0 and for a kind that isn't allowed on the stage, and `Busy` where a callback
-    /// stands there (this profile).
+    /// Why `request` would refuse a callback that declares `kinds`, if it would: the first that applies of `Unknown`
+    /// for a line above 4095, `Invalid` for line 0 and for a kind that isn't allowed on the stage, and `Busy` where a
+    /// callback stands there.
     pub fn request_refusal(&self, line: LineNo, stage: Stage, kinds: ActionKinds) -> Option<Refusal>
         ensures refusal { result ≡ request_refusal self.now line.0 stage kinds.0 }
     {
@@ -219,7 +219,7 @@ impl<C, A: Allocator> PipelineOf<C, A> {
         }
     }
 
-    /// Whether no event is pending, on either stage: then `next` plays nothing (this profile).
+    /// Whether no event is pending, on either stage: then `next` plays nothing.
     pub fn is_idle(&self) -> bool
         ensures idle { result ≡ (is_none (least self.now.oob.pending) && is_none (least self.now.inband.pending)) }
     {
@@ -259,7 +259,7 @@ impl<C, A: Allocator> PipelineOf<C, A> {
 
     /// Takes the callback off a line of a stage and gives it back; a pending event of that line and stage is dropped.
     /// Refused, in this order: `Unknown` for a line above 4095, `Invalid` for line 0, which is the clock's, and
-    /// `Unknown` where no callback stands there. A refused call changes nothing. (this profile)
+    /// `Unknown` where no callback stands there. A refused call changes nothing.
     pub fn free(&mut self, line: LineNo, stage: Stage) -> Result<C, Refusal>
         ensures ok { IfOk result (λ callback. (free_refusal self.old line.0 stage ≡ None) × (option_map (λ at. at.callback) (installed_at self.old stage line.0) ≡ Some callback)) }
         ensures state { OnOk result (self.new ≡ freed self.old line.0 stage) }
@@ -284,8 +284,8 @@ impl<C: Handler, A: Allocator> PipelineOf<C, A> {
     /// Lets a callback stand on a line of a stage, with a tag that its fires carry. Its first fire counts 1; how many
     /// answers of the line were unhandled is kept. Refused, in this order: `Unknown` for a line above 4095, `Invalid`
     /// for line 0, which is the clock's, and for kinds of action beyond those that are allowed on the stage (POST_SEM,
-    /// POST_FLAGS, STOP_TIMER, out-of-band also PROPAGATE, in-band also POST_OOB), and `Busy` where a callback stands there. A refused call changes nothing and gives
-    /// the callback back. (this profile)
+    /// POST_FLAGS, STOP_TIMER, out-of-band also PROPAGATE, in-band also POST_OOB), and `Busy` where a callback stands
+    /// there. A refused call changes nothing and gives the callback back.
     pub fn request(
         &mut self,
         line: LineNo,

@@ -36,7 +36,7 @@ pub fn read_board(table: &Table) -> Option<Board>
     Some(board)
 }
 
-/// Whether a history may be limited to so many entries: 1 to 1,000,000 (this profile).
+/// Whether a history may be limited to so many entries: 1 to 1,000,000.
 pub fn is_limit_in_range(limit: u32) -> bool
     ensures { result ≡ is_limit limit }
 {

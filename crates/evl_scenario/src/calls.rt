@@ -1,4 +1,5 @@
-//! The calls of a scenario's steps: for each word a function of its name, which reads the keys. A call's bytes lie in a box of `spares`.
+//! The calls of a scenario's steps: for each word a function of its name, which reads the keys. A call's bytes lie in a
+//! box of `spares`.
 ghost use Rattle.std.specs.Prelude.{◌≡◌, ◌≤◌};
 ghost use Rattle.toml.specs.View.{table_view};
 ghost use Rattle.evl_scenario.specs.declared.steps.StepWord.TheVariants as word;

@@ -18,7 +18,7 @@ use toml::{Table, Value};
 /// A longer text is no scenario.
 pub const MOST_BYTES: usize = 1_048_576;
 
-/// What a text asks to be played: a board, the limit of its history, and the steps in order (this profile).
+/// What a text asks to be played: a board, the limit of its history, and the steps in order.
 #[derive(Drop)]
 pub struct Scenario {
     board: Board,
@@ -165,8 +165,9 @@ fn read_text(alloc: Global, text: &str, given: Option<u32>) -> Result<Scenario, 
     }
 }
 
-/// What a text asks to be played, under a limit that may be handed in.
-/// `Text` for a text of more than 1,048,576 bytes, of other bytes than UTF-8, or of no document; `Board` and `Step` for what stands in it; `Memory` where a growth was refused.
+/// What a text asks to be played, under a limit that may be handed in. `Text` for a text of more than 1,048,576 bytes,
+/// of other bytes than UTF-8, or of no document; `Board` and `Step` for what stands in it; `Memory` where a growth was
+/// refused.
 pub fn read_scenario(alloc: Global, text: &[u8], given: Option<u32>) -> Result<Scenario, Fault>
     ensures ok { IfOk result (λ scenario. scenario_of given text.now ≡ Ok scenario) }
     ensures err { IfErr result (λ e. (e ≡ Fault.Memory) ⊎ (scenario_of given text.now ≡ Err e)) }

@@ -1,5 +1,5 @@
-//! The texts of steps: a table each, with its word, its thread and the keys of its call. The calls go by families, and a
-//! family hands on what isn't its own.
+//! The texts of steps: a table each, with its word, its thread and the keys of its call. The calls go by families, and
+//! a family hands on what isn't its own.
 ghost use Rattle.std.specs.Prelude.{◌≡◌, Some};
 ghost use Rattle.evl_scenario.specs.Writings.{call_word};
 
@@ -7,8 +7,8 @@ use crate::value_texts::{Digits, Moment, Until};
 use evl_base::{Call, ThreadId};
 use std::fmt;
 
-/// The table of a step, as a scenario has it: behind an empty line its header, and then each key with its value on a line
-/// of its own.
+/// The table of a step, as a scenario has it: behind an empty line its header, and then each key with its value on a
+/// line of its own.
 #[derive(Drop)]
 pub struct StepTable<'a> {
     pub who: ThreadId,
@@ -378,8 +378,8 @@ impl<'a> fmt::Display for SemKeys<'a> {
     }
 }
 
-/// The keys of the call that ends a wait. The calls of the families above are named, so that a new call is in one of them
-/// or here.
+/// The keys of the call that ends a wait. The calls of the families above are named, so that a new call is in one of
+/// them or here.
 #[derive(Drop)]
 struct FinishKeys<'a>(&'a Call);
 

@@ -9,7 +9,8 @@ use evl_base::{Call, Spares, ThreadId};
 use std::alloc::Global;
 use toml::{Table, Value};
 
-/// A word that names a call of the kernel (Dovetail: interrupt pipeline; Xenomai 4: EVL elements; the words are this profile's).
+/// A word that names a call of the kernel (Dovetail: interrupt pipeline; Xenomai 4: EVL elements; the words are this
+/// profile's).
 #[derive(Clone, Copy, PartialEq, Eq, Debug)]
 pub enum StepWord {
     Request,
@@ -245,8 +246,8 @@ fn read_call(word: StepWord, table: &Table, spares: &mut Spares<Global>) -> Opti
     }
 }
 
-/// The step that a TOML value stands for: a table with a word, a thread, and just the keys of the word. The bytes of its
-/// call, if it carries any, lie in a box of `spares`.
+/// The step that a TOML value stands for: a table with a word, a thread, and just the keys of the word. The bytes of
+/// its call, if it carries any, lie in a box of `spares`.
 pub fn read_step(value: &Value, spares: &mut Spares<Global>) -> Option<Step>
     requires there { 1 ≤ spares.old }
     ensures { result ≡ step_of (view value.now) }

@@ -71,7 +71,7 @@ impl<'a> fmt::Display for EntryLine<'a> {
 }
 
 /// Writes the first line of a trace behind a text: how many threads and elements there are, and the limit. `AllocError`
-/// where the text couldn't grow; what it holds then isn't known (this profile).
+/// where the text couldn't grow; what it holds then isn't known.
 pub fn write_board_line<A: Allocator>(
     text: &mut String<A>,
     board: &Board,
@@ -95,9 +95,8 @@ fn write_plays<A: Allocator>(text: &mut String<A>, plays: &[Play]) -> Result<(),
     Ok(())
 }
 
-/// Writes the lines of an entry behind a text: that of its call, with the number that the entry has in its history, from
-/// 1, and one for each of its plays. `AllocError` where the text couldn't grow; what it holds then isn't known (this
-/// profile).
+/// Writes the lines of an entry behind a text: that of its call, with the number that the entry has in its history,
+/// from 1, and one for each of its plays. `AllocError` where the text couldn't grow; what it holds then isn't known.
 pub fn write_entry<A: Allocator>(
     text: &mut String<A>,
     number: usize,
@@ -131,8 +130,8 @@ fn write_history<A: Allocator>(
     Ok(())
 }
 
-/// The trace of a history, written from its board, its limit, its entries and all their plays, as a kernel gives them, with
-/// no call made again. `NoMemory` where a growth was refused, and nothing else (this profile).
+/// The trace of a history, written from its board, its limit, its entries and all their plays, as a kernel gives them,
+/// with no call made again. `NoMemory` where a growth was refused, and nothing else.
 pub fn trace_history<A: Allocator>(
     alloc: A,
     board: &Board,

@@ -132,7 +132,7 @@ fn know_call(call: &Call)
     ])
 }
 
-/// The numbers of a step are those of its fields' types (this profile).
+/// The numbers of a step are those of its fields' types.
 pub fn know_step(who: ThreadId, call: &Call)
     ensures { StepFits (record { who = who; call = call.now }) }
 {
@@ -148,7 +148,7 @@ fn know_words(words: &[u32])
     }
 }
 
-/// A board's lists are no longer than their types let them, and the bits of its flag groups are words (this profile).
+/// A board's lists are no longer than their types let them, and the bits of its flag groups are words.
 pub fn know_board(board: &Board)
     ensures { BoardHolds board.now }
 {

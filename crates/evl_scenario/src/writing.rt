@@ -13,7 +13,7 @@ use arrayvec::ArrayVec;
 use evl_base::{Board, Call, Entry, ThreadId};
 use std::alloc::{AllocError, Allocator};
 
-/// Why a history wasn't written as a scenario (this profile).
+/// Why a history wasn't written as a scenario.
 #[derive(Clone, Copy, PartialEq, Eq, Debug)]
 pub enum Unwritten {
     /// The board has a stage exclusion lock, for which a scenario has no key, or a number outside its limits.
@@ -38,8 +38,8 @@ fn is_short<A: Allocator>(text: &String<A>) -> bool
     text.len() <= MOST_BYTES
 }
 
-/// Writes the limit and the board behind a text, as the head of a scenario. `AllocError` where the text couldn't grow; what
-/// it holds then isn't known. Stage exclusion locks of the board aren't written (this profile).
+/// Writes the limit and the board behind a text, as the head of a scenario. `AllocError` where the text couldn't grow;
+/// what it holds then isn't known. Stage exclusion locks of the board aren't written.
 pub fn write_opening<A: Allocator>(
     text: &mut String<A>,
     board: &Board,
@@ -58,7 +58,7 @@ pub fn write_opening<A: Allocator>(
 }
 
 /// Writes a step behind a text: an empty line, and a table with its word, its thread and the keys of its call.
-/// `AllocError` where the text couldn't grow; what it holds then isn't known (this profile).
+/// `AllocError` where the text couldn't grow; what it holds then isn't known.
 pub fn write_step<A: Allocator>(
     text: &mut String<A>,
     who: ThreadId,
@@ -71,8 +71,8 @@ pub fn write_step<A: Allocator>(
     text.write(StepTable { who, call })
 }
 
-/// The same board without stage exclusion locks, for which a scenario has no key, and of which no call of a history speaks:
-/// a history over the one is a history over the other (this profile).
+/// The same board without stage exclusion locks, for which a scenario has no key, and of which no call of a history
+/// speaks: a history over the one is a history over the other.
 pub fn without_staxes(board: Board) -> Board
     ensures { result ≡ without_staxes board }
 {
@@ -119,9 +119,9 @@ fn write_entries<A: Allocator>(text: &mut String<A>, entries: &[Entry]) -> Resul
     }
 }
 
-/// The scenario of a history: its board, its limit, and a step for each entry, in order. Read as a scenario, it asks for
-/// just these. `Board` and `Limit` where a scenario can't have this board or limit, `TooLong` where the text would be longer
-/// than a scenario may be; `Memory` where a growth was refused (this profile).
+/// The scenario of a history: its board, its limit, and a step for each entry, in order. Read as a scenario, it asks
+/// for just these. `Board` and `Limit` where a scenario can't have this board or limit, `TooLong` where the text would
+/// be longer than a scenario may be; `Memory` where a growth was refused.
 pub fn write_scenario<A: Allocator>(
     alloc: A,
     board: &Board,

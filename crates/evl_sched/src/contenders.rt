@@ -16,8 +16,8 @@ pub struct Alone {
     pub place: Place,
 }
 
-/// The places of threads: who comes while nobody has a place stands alone, and all others in queues. To a contract it is
-/// the place of each thread.
+/// The places of threads: who comes while nobody has a place stands alone, and all others in queues. To a contract it
+/// is the place of each thread.
 #[derive(Drop)]
 pub struct Contenders<A: Allocator> {
     alone: Option<Alone>,

@@ -251,8 +251,8 @@ fn owner_of(cell: usize) -> Option<u16> {
     }
 }
 
-// The cell behind which a place is: the beginning of an empty queue, that of the last thread where the place comes behind
-// it, and else by a walk.
+// The cell behind which a place is: the beginning of an empty queue, that of the last thread where the place comes
+// behind it, and else by a walk.
 fn cell_from<A: Allocator>(
     links: &Vec<Option<u16>, A>,
     places: &Vec<Option<Place>, A>,
@@ -310,8 +310,8 @@ fn cell_for<A: Allocator>(
     before_place(links, places, places.len(), queue as usize, place)
 }
 
-// The cell behind which a thread stands: the beginning where it is first, that of a guessed thread where this holds, and
-// else by a walk.
+// The cell behind which a thread stands: the beginning where it is first, that of a guessed thread where this holds,
+// and else by a walk.
 fn cell_before<A: Allocator>(
     links: &Vec<Option<u16>, A>,
     places: &Vec<Option<Place>, A>,

@@ -69,8 +69,8 @@ pub fn stand<A: Allocator>(
     order.stand(thread, search::rank_to_run(seats, groups, given, thread));
 }
 
-/// Each thread whose policy names a group stands by the groups' budgets; all others do already. These threads are among the
-/// members; the second set is room for them.
+/// Each thread whose policy names a group stands by the groups' budgets; all others do already. These threads are among
+/// the members; the second set is room for them.
 pub fn stand_grouped<A: Allocator>(
     seats: &Vec<Option<Seat>, A>,
     groups: &Vec<Group, A>,

@@ -90,8 +90,8 @@ impl<A: Allocator> SchedOf<A> {
         named(self.order.first())
     }
 
-    /// Whether some thread is eligible: attached, out-of-band and not blocked, and, where its policy names a quota group,
-    /// with some of that group's budget left. (Xenomai 4: EVL scheduling policies)
+    /// Whether some thread is eligible: attached, out-of-band and not blocked, and, where its policy names a quota
+    /// group, with some of that group's budget left. (Xenomai 4: EVL scheduling policies)
     pub fn eligible(&self) -> bool
         ensures eligible { result ≡ is_anyone_eligible self.now.sched }
         ensures nobody { result ≡ false → eligible self.now.sched ≡ [] }
@@ -111,7 +111,6 @@ impl<A: Allocator> SchedOf<A> {
     }
 
     /// The rank that a thread was given last since it was attached, or else its base rank. Refused as `base` is.
-    /// (this profile)
     pub fn rank(&self, thread: ThreadId) -> Result<u16, Refusal>
         ensures ok { IfOk result (λ rank. (stranger_refusal self.now.sched thread.0 ≡ None) × (rank ≡ rank_of self.now thread.0)) }
         ensures refused { IfErr result (λ e. stranger_refusal self.now.sched thread.0 ≡ Some e) }
@@ -142,7 +141,8 @@ impl<A: Allocator> SchedOf<A> {
         }
     }
 
-    /// Whether a thread is on the ready list: attached, out-of-band and not blocked. (Xenomai 4: EVL scheduling policies)
+    /// Whether a thread is on the ready list: attached, out-of-band and not blocked. (Xenomai 4: EVL scheduling
+    /// policies)
     pub fn is_ready(&self, thread: ThreadId) -> bool
         ensures ready { result ≡ is_ready self.now.sched thread.0 }
     {
@@ -195,9 +195,9 @@ impl<A: Allocator> SchedOf<A> {
 
     /// Attaches a thread, with a policy, on a stage. It has a full slice and its base rank; out-of-band it goes to the
     /// end of the ready list. Refused, in this order: `Unknown` where there is no such thread, or no quota group of the
-    /// number that the policy names; `Range` where a number of the policy is out of its range (priorities 1 to 99, and 0
-    /// to 99 under `Weak`; slices 1 to 1,000,000,000 ns); `Busy` where the thread is attached.
-    /// A refused call changes nothing. (Xenomai 4: EVL threads; this profile)
+    /// number that the policy names; `Range` where a number of the policy is out of its range (priorities 1 to 99, and
+    /// 0 to 99 under `Weak`; slices 1 to 1,000,000,000 ns); `Busy` where the thread is attached. A refused call changes
+    /// nothing. (Xenomai 4: EVL threads)
     pub fn attach(&mut self, thread: ThreadId, policy: Policy, stage: Stage) -> Result<(), Refusal>
         ensures ok { OnOk result (attach_refusal self.old.sched thread.0 policy ≡ None) }
         ensures state { OnOk result (self.new ≡ calls.attach self.old thread.0 policy stage) }
@@ -218,9 +218,9 @@ impl<A: Allocator> SchedOf<A> {
         Ok(())
     }
 
-    /// Detaches a thread: it has no policy, slice or place in the ready list any more. Refused, in this order: `Unknown`
-    /// where there is no such thread, and `Invalid` where it isn't attached. A refused call changes nothing.
-    /// (Xenomai 4: EVL threads; this profile)
+    /// Detaches a thread: it has no policy, slice or place in the ready list any more. Refused, in this order:
+    /// `Unknown` where there is no such thread, and `Invalid` where it isn't attached. A refused call changes nothing.
+    /// (Xenomai 4: EVL threads)
     pub fn detach(&mut self, thread: ThreadId) -> Result<(), Refusal>
         ensures ok { OnOk result (stranger_refusal self.old.sched thread.0 ≡ None) }
         ensures state { OnOk result (self.new ≡ calls.detach self.old thread.0) }

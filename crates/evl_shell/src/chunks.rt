@@ -49,8 +49,8 @@ impl Chunks {
         result
     }
 
-    /// Hands on all that waits where no more can be made for want of memory, and says so: `Memory`, or `Write` where the
-    /// sink fails.
+    /// Hands on all that waits where no more can be made for want of memory, and says so: `Memory`, or `Write` where
+    /// the sink fails.
     pub fn give_up<S: Sink>(&mut self, out: &mut S) -> Fault
         requires working { S.has_failed out.old ≡ false }
         ensures stopped { Stopped (S.told out.old) self.old (S.told out.new) [] (S.has_failed out.new) result }

@@ -10,18 +10,16 @@ use evl_pipeline::Callback;
 use evl_scenario::trace_history;
 use std::alloc::Allocator;
 
-/// The callbacks of a bank are sound, each by its type: their periods are 1 or more, and their actions are of kinds that they
-/// declare. Nothing is computed here (this profile).
+/// The callbacks of a bank are sound, each by its type: their periods are 1 or more, and their actions are of kinds
+/// that they declare. Nothing is computed here.
 pub fn know_bank(bank: &[Callback])
     ensures { AreSound (handlers_of (λ (c : _). c.kinds.0) (λ (c : _). c.plan.value) bank.now) }
 {}
 
-/// The trace of a kernel's history, over a board and a limit that its first line tells: that of a run of its calls, with no
-/// call made again. `NoMemory` where a growth was refused, and nothing else.
-///
-/// Where the board is the kernel's, with or without its stage exclusion locks, the limit no less than the number of entries,
-/// and the callbacks of the bank that the kernel was opened with are sound, a run of the history's scenario over such a bank
-/// writes just this trace (this profile).
+/// The trace of a kernel's history, over a board and a limit that its first line tells, with no call made again.
+/// `NoMemory` where a growth was refused, and nothing else. Over the kernel's board, with or without its stage
+/// exclusion locks, a limit no less than the entries, and sound callbacks, a run of the history's scenario writes just
+/// this trace.
 pub fn trace_kernel<C, A: Allocator, B: Allocator>(
     alloc: B,
     kernel: &KernelOf<C, A>,

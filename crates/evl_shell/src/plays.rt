@@ -109,7 +109,7 @@ fn report<S: Sink>(err: &mut S, stop: Stop)
     }
 }
 
-/// Puts the line of a stop and answers its status. The line goes out whole, unless the sink fails (this profile).
+/// Puts the line of a stop and answers its status. The line goes out whole, unless the sink fails.
 pub fn conclude<S: Sink>(err: &mut S, stop: Stop) -> u8
     requires working { S.has_failed err.old ≡ false }
     ensures takes { Takes (S.told err.old) (S.told err.new) (stop_line stop) (S.has_failed err.new) }
@@ -120,7 +120,7 @@ pub fn conclude<S: Sink>(err: &mut S, stop: Stop) -> u8
     status_of(stop)
 }
 
-/// Writes the line of a stop and answers its status; a failure of `err` is ignored (this profile).
+/// Writes the line of a stop and answers its status; a failure of `err` is ignored.
 pub fn stopped<E: Write>(err: &mut E, stop: Stop) -> u8
     ensures says { TakesPrefix (E.contents err.old) (E.contents err.new) (stop_line stop) }
     ensures status { result ≡ plays.status_of stop }
@@ -136,8 +136,7 @@ pub fn stopped<E: Write>(err: &mut E, stop: Stop) -> u8
     status
 }
 
-/// Plays the scenario that an input holds, over a bank of at most 64 callbacks, under a limit that may be handed in (this
-/// profile).
+/// Plays the scenario that an input holds, over a bank of at most 64 callbacks, under a limit that may be handed in.
 pub fn play_input<R: Read, S: Sink>(
     alloc: Global,
     limit: Option<u32>,

@@ -142,14 +142,10 @@ fn turn_away<S: Sink, T: Sink>(alloc: Global, error: &Error, out: &mut S, err: &
     }
 }
 
-/// Does what the words ask for, `[FILE] [--limit N]` behind the program's name, and answers the status. It reads a
-/// scenario from FILE, or from the input where no FILE is named or `-`, up to its end, at most 1,048,577 bytes, and
-/// plays it into the sink over a bank of at most 64 callbacks, where N (1 to 1,000,000) replaces the scenario's limit. Where a
-/// FILE is named the input isn't touched.
-///
-/// The status is 0 where that is done, and for `--help`, whose text goes to the sink; 1 the sink failed; 2 the scenario
-/// was refused, the file couldn't be opened, or a read failed; 3 the words were refused; 4 no memory. Where it isn't 0,
-/// `err` is told why, whole unless it fails, in one line but for status 3 (this profile).
+/// Does what the words ask for, `[FILE] [--limit N]` behind the program's name: plays the scenario in FILE, or without
+/// it or for `-` in the input, at most 1,048,577 bytes, into the sink over a bank of at most 64 callbacks. The status
+/// is 0 where that is done, and for `--help`; 1 the sink failed; 2 the scenario was refused, or couldn't be read; 3 the
+/// words were refused; 4 no memory. Where it isn't 0, `err` is told why, in one line but for status 3.
 pub fn play_into<F: Files, R: Read, S: Sink, T: Sink>(
     rt: &F,
     alloc: Global,
@@ -174,7 +170,7 @@ pub fn play_into<F: Files, R: Read, S: Sink, T: Sink>(
     }
 }
 
-/// The same with a writer for `err`, of which nobody knows whether it has failed (this profile).
+/// The same with a writer for `err`, of which nobody knows whether it has failed.
 pub fn play<F: Files, R: Read, S: Sink, E: Write>(
     rt: &F,
     alloc: Global,

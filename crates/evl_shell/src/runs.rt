@@ -37,8 +37,8 @@ fn number_after(before: usize, count: usize) -> Option<usize>
     if before < count { Some(count) } else { None }
 }
 
-// Makes the call of a step, which goes into the kernel's history. `NoMemory` is all that it is refused for, and only where the kernel had no room: any other
-// refusal of the call is told.
+// Makes the call of a step, which goes into the kernel's history. `NoMemory` is all that it is refused for, and only
+// where the kernel had no room: any other refusal of the call is told.
 fn make_call<C: Handler>(kernel: &mut KernelOf<C, Global>, step: Step) -> Result<Called, Refusal>
     requires answering { AnswersAsTold C.declared C.plan kernel.old.callbacks }
     ensures answering { AnswersAsTold C.declared C.plan kernel.new.callbacks }
@@ -202,11 +202,10 @@ fn write_scenario<C: Handler, S: Sink>(
     }
 }
 
-/// Writes the trace of a text over a bank of at most 64 callbacks, under a limit that may be handed in (1 to
-/// 1,000,000; it replaces the text's). The text is checked whole before the first byte is written, and the bank is
-/// dropped in the end. `Text`, `Board` and `Step` say what is wrong with the text, `Memory` that a growth was refused:
-/// the lines made before it were written whole; and `Write` that the sink has failed, which it has at no other answer
-/// (this profile).
+/// Writes the trace of a text over a bank of at most 64 callbacks, under a limit that may be handed in (1 to 1,000,000;
+/// it replaces the text's). The text is checked whole before the first byte is written, and the bank is dropped in the
+/// end. `Text`, `Board` and `Step` say what is wrong with the text, `Memory` that a growth was refused: the lines made
+/// before it were written whole; and `Write` that the sink has failed, which it has at no other answer.
 pub fn run<S: Sink>(
     alloc: Global,
     text: &[u8],

@@ -5,7 +5,7 @@ ghost use Rattle.evl_shell.specs.Sinks.{TakesPrefix, failed_after};
 
 use std::io::Write;
 
-/// Something that takes bytes, and tells which it took, or tells nothing (this profile).
+/// Something that takes bytes, and tells which it took, or tells nothing.
 pub trait Sink {
     /// The bytes that were taken, where they are known.
     ghost told: { Self → Option (List ℕ) };
@@ -16,8 +16,8 @@ pub trait Sink {
     /// The place that it writes to, as a number: for a writer that is lent, its borrow.
     ghost place: { Self → ℕ } = { λ _. 0 };
 
-    /// Takes a front part of the bytes and answers its length. The sink has failed from the first time on that it took 0
-    /// of some bytes.
+    /// Takes a front part of the bytes and answers its length. The sink has failed from the first time on that it took
+    /// 0 of some bytes.
     fn put(&mut self, bytes: &[u8]) -> usize
         ensures within { result ≤ length bytes.now }
         ensures takes { Appends (told self.old) (told self.new) (take result bytes.now) }
@@ -51,7 +51,7 @@ pub fn write_part<W: Write>(writer: &mut W, bytes: &[u8], failed: &mut bool) -> 
     }
 }
 
-/// The sink over a writer. An error and a count of 0 are its failures (this profile).
+/// The sink over a writer. An error and a count of 0 are its failures.
 #[derive(Drop)]
 pub struct Over<W: Write> {
     writer: W,

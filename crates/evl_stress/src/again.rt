@@ -38,8 +38,8 @@ impl<'a> BankUser for Player<'a> {
     }
 }
 
-/// Whether the scenario was played over the program's callbacks and wrote just the trace; not where there was no memory for
-/// that.
+/// Whether the scenario was played over the program's callbacks and wrote just the trace; not where there was no memory
+/// for that.
 pub fn plays_so<R: Threads + Wait + Sync>(rt: &R, alloc: Global, texts: &Texts) -> bool {
     match with_program_bank(rt, alloc, Player { alloc, texts }) {
         Ok(same) => same,

@@ -1,4 +1,6 @@
-//! Runs host threads on one machine, with calls of all kinds by chance, and tells what they did as a scenario and its trace.
+//! Runs host threads on one machine, with calls of all kinds by chance, and tells what they did as a scenario and its
+//! trace.
+//! What names no source is this profile's own.
 #![tactic(auto)]
 
 mod again;

@@ -27,8 +27,8 @@ use std::sync::Wait;
 use std::thread::Threads;
 
 /// What is run: from which seed, by how many host threads, how many choices each makes in a round, how many entries the
-/// history has at most, and in how many rounds, between which each caller goes with its passes to another host thread. One
-/// host thread more helps them.
+/// history has at most, and in how many rounds, between which each caller goes with its passes to another host thread.
+/// One host thread more helps them.
 #[derive(Clone, Copy)]
 pub struct Order {
     pub seed: u64,
@@ -183,8 +183,8 @@ fn texts_after(
     }
 }
 
-/// All callers of a machine do what their host threads are for, and the machine is closed. `Differs` where a mutex's word
-/// didn't say what is recorded.
+/// All callers of a machine do what their host threads are for, and the machine is closed. `Differs` where a mutex's
+/// word didn't say what is recorded.
 fn played<R: Threads + Wait + Sync>(
     rt: &R,
     alloc: Global,
@@ -254,8 +254,8 @@ impl BankUser for Runner {
 
 /// The texts of a run over the program's callbacks: the scenario, played over them, writes just the trace.
 ///
-/// `Refused` where the machine wasn't made or closed, or memory was refused; `Differs` where a mutex's word didn't say what
-/// is recorded; `Unwritten` where the scenario would be too long (this profile).
+/// `Refused` where the machine wasn't made or closed, or memory was refused; `Differs` where a mutex's word didn't say
+/// what is recorded; `Unwritten` where the scenario would be too long.
 pub fn run_hosts<R: Threads + Wait + Sync>(
     rt: &R,
     alloc: Global,

@@ -34,8 +34,8 @@ pub enum Failure {
     Differs(u32),
 }
 
-/// The texts of a kernel's history, whose board is the shared one, beside what was told. `Unwritten` where it has more than a million entries or
-/// its scenario would be too long; `NoMemory`, of either kind, where a growth was refused (this profile).
+/// The texts of a kernel's history, whose board is the shared one, beside what was told. `Unwritten` where it has more
+/// than a million entries or its scenario would be too long; `NoMemory`, of either kind, where a growth was refused.
 pub fn texts_of<C, A: Allocator>(
     alloc: Global,
     kernel: &KernelOf<C, A>,

@@ -20,15 +20,16 @@ const FEW_LOOKS: u32 = 5;
 /// How the hands of a run do what they choose.
 #[derive(Clone, Copy)]
 pub struct Manner {
-    /// They wait however long it takes: not where a history may be full, in which no wait for an element comes to its end.
+    /// They wait however long it takes: not where a history may be full, in which no wait for an element comes to its
+    /// end.
     pub is_patient: bool,
     /// They go to other host threads with their passes, may lose one, and may stop for good: so none waits for a stax.
     pub moves: bool,
 }
 
-/// Its thread, its random numbers, about which date it is, the passes of what it holds, the last one first, what it tells of
-/// its calls, at which stage it is if it knows, whether it has begun a wait and not finished it, for which mutex it waited
-/// last, its manner, whether it has stopped for good, and whether it has lost a pass.
+/// Its thread, its random numbers, about which date it is, the passes of what it holds, the last one first, what it
+/// tells of its calls, at which stage it is if it knows, whether it has begun a wait and not finished it, for which
+/// mutex it waited last, its manner, whether it has stopped for good, and whether it has lost a pass.
 #[derive(Drop)]
 pub struct Tools {
     pub thread: u16,
@@ -90,7 +91,8 @@ impl Tools {
         loses
     }
 
-    /// Notes a call at a mutex since a stamp. Nothing is told of those during an unfinished wait, which come to no word.
+    /// Notes a call at a mutex since a stamp. Nothing is told of those during an unfinished wait, which come to no
+    /// word.
     pub fn note_mutex(&mut self, watch: &Watch, begun: u32, step: Step, number: u16, answer: u16) {
         if !self.is_waiting {
             self.note(watch, begun, step, number, answer);

@@ -4,9 +4,9 @@ use std::sync::Wait;
 use std::sync::atomic::{AtomicU32, Ordering};
 use std::thread;
 
-/// What the host threads tell each other beside the machine: how many wait, how many are done, and how often those who wait
-/// were helped; at how many takes of the kernel a mutex's word didn't say what is recorded; stamps; and how many calls
-/// couldn't be told.
+/// What the host threads tell each other beside the machine: how many wait, how many are done, and how often those who
+/// wait were helped; at how many takes of the kernel a mutex's word didn't say what is recorded; stamps; and how many
+/// calls couldn't be told.
 #[derive(Drop)]
 pub struct Watch {
     threads: u32,

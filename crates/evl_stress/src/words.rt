@@ -24,9 +24,9 @@ fn read_more(words: &[String]) -> Option<(u32, u32, &[String])> {
     }
 }
 
-/// `SEED THREADS CHOICES`, then `LIMIT ROUNDS` where the history is to be shorter or the callers are to move, and `tell`
-/// behind them where the texts are to be told: 1 to 255 threads, since a board has one more. Nothing where the words are
-/// others.
+/// `SEED THREADS CHOICES`, then `LIMIT ROUNDS` where the history is to be shorter or the callers are to move, and
+/// `tell` behind them where the texts are to be told: 1 to 255 threads, since a board has one more. Nothing where the
+/// words are others.
 pub fn read_words(words: &[String]) -> Option<Asked> {
     let [seed, threads, choices, rest @ ..] = words else {
         return None;

@@ -1,17 +1,17 @@
 //! Lists that are compared place by place.
 ghost use Rattle.std.specs.Prelude.{◌≡◌, true};
 
-/// What can be told from others of its type. (this profile)
+/// What can be told from others of its type.
 pub trait Alike {
     ghost use Rattle.std.specs.Prelude.{◌≡◌, true};
 
-    /// Whether both are the same. (this profile)
+    /// Whether both are the same.
     fn is_alike(&self, other: &Self) -> bool
         ensures alike { result ≡ true → self.now ≡ other.now }
         ensures other { self.now ≡ other.now → result ≡ true };
 }
 
-/// Whether the same stands in the same places of both. (this profile)
+/// Whether the same stands in the same places of both.
 pub fn are_alike<T: Alike>(ours: &[T], theirs: &[T]) -> bool
     ensures alike { result ≡ true → ours.now ≡ theirs.now }
     ensures other { ours.now ≡ theirs.now → result ≡ true }

@@ -9,8 +9,8 @@ use arrayvec::ArrayVec;
 use evl_base::{MAX_THREADS, ThreadId};
 use std::marker::Model;
 
-/// Threads that wait, in the order of their arrival (this profile). To a contract it is the list of their numbers, the
-/// first one at its head. It has a place for each of 256 threads and takes no memory.
+/// Threads that wait, in the order of their arrival. To a contract it is the list of their numbers, the first one at
+/// its head. It has a place for each of 256 threads and takes no memory.
 #[derive(Drop)]
 pub struct ArrivalQueue {
     threads: ArrayVec<u16, MAX_THREADS>,
@@ -28,7 +28,7 @@ impl Model for ArrivalQueue {
 }
 
 impl ArrivalQueue {
-    /// A queue in which nobody waits. (this profile)
+    /// A queue in which nobody waits.
     pub fn new() -> ArrivalQueue
         ensures empty { result ≡ [] }
     {
@@ -37,7 +37,7 @@ impl ArrivalQueue {
         }
     }
 
-    /// A thread, which doesn't wait here yet, begins to wait, behind all others. (this profile)
+    /// A thread, which doesn't wait here yet, begins to wait, behind all others.
     pub fn push(&mut self, thread: ThreadId)
         requires away { stands_in (λ t. t) thread.0 self.old ≡ false }
         requires few { thread.0 < thread_limit }
@@ -46,7 +46,7 @@ impl ArrivalQueue {
         self.threads.push(thread.0);
     }
 
-    /// Who is first; none where nobody waits. (this profile)
+    /// Who is first; none where nobody waits.
     pub fn head(&self) -> Option<ThreadId>
         ensures first { number_of result ≡ first_of (λ t. t) self.now }
     {
@@ -56,7 +56,7 @@ impl ArrivalQueue {
         }
     }
 
-    /// Lets the first one wait no more, and says who that was; none where nobody waits. (this profile)
+    /// Lets the first one wait no more, and says who that was; none where nobody waits.
     #[tactic(auto, using(crate::proofs::QueueLaws::kept_first))]
     pub fn pop(&mut self) -> Option<ThreadId>
         ensures first { number_of result ≡ first_of (λ t. t) self.old }
@@ -69,8 +69,8 @@ impl ArrivalQueue {
         Some(ThreadId(first))
     }
 
-    /// Lets a thread wait no more, wherever it stands, and says whether it waited here. Nothing changes where it didn't.
-    /// (this profile)
+    /// Lets a thread wait no more, wherever it stands, and says whether it waited here. Nothing changes where it
+    /// didn't.
     pub fn remove(&mut self, thread: ThreadId) -> bool
         ensures there { result ≡ stands_in (λ t. t) thread.0 self.old }
         ensures dropped { self.new ≡ dropped (λ t. t) thread.0 self.old }
@@ -80,7 +80,7 @@ impl ArrivalQueue {
         there
     }
 
-    /// How many wait, at most 256. (this profile)
+    /// How many wait, at most 256.
     pub fn len(&self) -> usize
         ensures count { result ≡ length self.now }
         ensures few { result ≤ thread_limit }

@@ -14,8 +14,8 @@ use arrayvec::ArrayVec;
 use evl_base::{MAX_THREADS, Refusal, Take, ThreadId};
 use std::marker::Model;
 
-/// A flag group: its 32 bits, and who waits for which of them, by rank and arrival (Xenomai 4: EVL event flag group). To a
-/// contract it is the record `FlagGroup` of `specs/FlagGroups.antt`. It takes no memory.
+/// A flag group: its 32 bits, and who waits for which of them, by rank and arrival (Xenomai 4: EVL event flag group).
+/// To a contract it is the record `FlagGroup` of `specs/FlagGroups.antt`. It takes no memory.
 #[derive(Drop)]
 pub struct FlagGroup {
     bits: u32,
@@ -43,9 +43,10 @@ impl FlagGroup {
         }
     }
 
-    /// Takes bits, and says which, whoever waits: all of them under `Any`, those of the mask that are there under `Of`, the
-    /// whole mask under `Exact`. Refused, in this order, with nothing changed: `Invalid` where the mask has no bits, `Again`
-    /// where there are no bits to take, or under `Exact` not all of them. (Xenomai 4: EVL event flag group; this profile)
+    /// Takes bits, and says which, whoever waits: all of them under `Any`, those of the mask that are there under `Of`,
+    /// the whole mask under `Exact`. Refused, in this order, with nothing changed: `Invalid` where the mask has no
+    /// bits, `Again` where there are no bits to take, or under `Exact` not all of them. (Xenomai 4: EVL event flag
+    /// group)
     #[tactic(auto, using(crate::proofs::GroupLaws::sound_taken))]
     pub fn try_take(&mut self, kind: Take) -> Result<u32, Refusal>
         ensures step { stepped (λ got. got) result self.new ≡ try_take kind self.old }
@@ -63,9 +64,9 @@ impl FlagGroup {
         }
     }
 
-    /// Adds bits, and goes once through the waiters in the order of the queue, each of which takes what it wants from what
-    /// those before it left; says whom it served with which bits, in that order. Bits that nobody takes stay. `Invalid`
-    /// where there are no bits to add; then nothing changes. (Xenomai 4: EVL event flag group; this profile)
+    /// Adds bits, and goes once through the waiters in the order of the queue, each of which takes what it wants from
+    /// what those before it left; says whom it served with which bits, in that order. Bits that nobody takes stay.
+    /// `Invalid` where there are no bits to add; then nothing changes. (Xenomai 4: EVL event flag group)
     pub fn post(&mut self, bits: u32) -> Result<ArrayVec<Served, MAX_THREADS>, Refusal>
         ensures step { stepped (λ served. pairs served.items) result self.new ≡ unless (post_refusal bits) (Ok (walked (post bits self.old))) }
         ensures refused { IfErr result (λ e. self.new ≡ self.old) }
@@ -95,9 +96,9 @@ impl FlagGroup {
         Ok(())
     }
 
-    /// Takes bits as `try_take` does, past all waiters, and says which; where they aren't there the thread, which doesn't
-    /// wait here yet, begins to wait, behind those of its rank or a greater one, and the answer is none. `Invalid` where
-    /// the mask has no bits; then nothing changes. (Xenomai 4: EVL event flag group; this profile)
+    /// Takes bits as `try_take` does, past all waiters, and says which; where they aren't there the thread, which
+    /// doesn't wait here yet, begins to wait, behind those of its rank or a greater one, and the answer is none.
+    /// `Invalid` where the mask has no bits; then nothing changes. (Xenomai 4: EVL event flag group)
     #[tactic(auto, using(crate::proofs::GroupLaws::sound_taken))]
     pub fn begin_take(
         &mut self,
@@ -134,7 +135,7 @@ impl FlagGroup {
         }
     }
 
-    /// Lets a thread wait here no more. Nothing changes where it doesn't wait here. (this profile)
+    /// Lets a thread wait here no more. Nothing changes where it doesn't wait here.
     pub fn drop_waiter(&mut self, thread: ThreadId)
         ensures step { self.new ≡ drop_waiter thread.0 self.old }
     {
@@ -149,8 +150,8 @@ impl FlagGroup {
         self.bits
     }
 
-    /// Who stands at a place of the queue, the first one at 0; none where nobody stands there. (Xenomai 4: EVL event flag
-    /// group)
+    /// Who stands at a place of the queue, the first one at 0; none where nobody stands there. (Xenomai 4: EVL event
+    /// flag group)
     pub fn waiter(&self, place: usize) -> Option<ThreadId>
         ensures waiter { number_of result ≡ option_map (λ w. w.thread) (slice_get self.now.waiters place) }
     {

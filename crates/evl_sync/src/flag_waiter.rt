@@ -5,7 +5,7 @@ use crate::ranked::Ranked;
 use evl_base::{Take, ThreadId};
 use std::default::Default;
 
-/// A waiting thread, with the effective rank that it had when its wait began, and which bits it wants (this profile).
+/// A waiting thread, with the effective rank that it had when its wait began, and which bits it wants.
 #[derive(Clone, Copy, Debug)]
 pub struct FlagWaiter {
     /// The number of the thread, 0 to 255.
@@ -45,7 +45,7 @@ impl Ranked for FlagWaiter {
     }
 }
 
-/// A thread that a post served, and which bits it took (this profile).
+/// A thread that a post served, and which bits it took.
 #[derive(Clone, Copy, Debug, PartialEq, Eq)]
 pub struct Served {
     /// Who waits no more.

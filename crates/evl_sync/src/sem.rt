@@ -11,11 +11,11 @@ use crate::wait_queue::WaitQueue;
 use evl_base::{Refusal, ThreadId};
 use std::marker::Model;
 
-// The greatest count of a semaphore (this profile).
+// The greatest count of a semaphore.
 const MAX_COUNT: u32 = 2_147_483_647;
 
-/// A semaphore: its count, and who waits for it, by rank and arrival (Xenomai 4: EVL semaphore). To a contract it is the
-/// record `Semaphore` of `specs/Semaphores.antt`. It takes no memory.
+/// A semaphore: its count, and who waits for it, by rank and arrival (Xenomai 4: EVL semaphore). To a contract it is
+/// the record `Semaphore` of `specs/Semaphores.antt`. It takes no memory.
 #[derive(Drop)]
 pub struct Sem {
     count: u32,
@@ -56,8 +56,8 @@ impl Sem {
         Ok(())
     }
 
-    /// Lets the first waiter wait no more, and says who that was; where nobody waits, raises the count by 1. `Range` where
-    /// nobody waits and the count is 2,147,483,647; then nothing changes. (Xenomai 4: EVL semaphore; this profile)
+    /// Lets the first waiter wait no more, and says who that was; where nobody waits, raises the count by 1. `Range`
+    /// where nobody waits and the count is 2,147,483,647; then nothing changes. (Xenomai 4: EVL semaphore)
     pub fn put(&mut self) -> Result<Option<ThreadId>, Refusal>
         ensures step { stepped number_of result self.new ≡ put self.old }
         ensures sound { IsSoundSemaphore self.old }
@@ -73,8 +73,8 @@ impl Sem {
         Ok(None)
     }
 
-    /// Lowers the count by 1 where it isn't 0; else the thread, which doesn't wait here yet, begins to wait, behind those
-    /// of its rank or a greater one. Whether it was served at once. (Xenomai 4: EVL semaphore; this profile)
+    /// Lowers the count by 1 where it isn't 0; else the thread, which doesn't wait here yet, begins to wait, behind
+    /// those of its rank or a greater one. Whether it was served at once. (Xenomai 4: EVL semaphore)
     pub fn begin_get(&mut self, thread: ThreadId, rank: u16) -> bool
         requires away { stands_in (λ w. w.thread) thread.0 self.old.waiters ≡ false }
         requires few { thread.0 < thread_limit }
@@ -88,7 +88,7 @@ impl Sem {
         false
     }
 
-    /// Lets a thread wait here no more. Nothing changes where it doesn't wait here. (this profile)
+    /// Lets a thread wait here no more. Nothing changes where it doesn't wait here.
     pub fn drop_waiter(&mut self, thread: ThreadId)
         ensures step { self.new ≡ drop_waiter thread.0 self.old }
     {
@@ -107,7 +107,8 @@ impl Sem {
         -(waiting as i64)
     }
 
-    /// Who stands at a place of the queue, the first one at 0; none where nobody stands there. (Xenomai 4: EVL semaphore)
+    /// Who stands at a place of the queue, the first one at 0; none where nobody stands there. (Xenomai 4: EVL
+    /// semaphore)
     pub fn waiter(&self, place: usize) -> Option<ThreadId>
         ensures waiter { number_of result ≡ option_map (λ w. w.thread) (slice_get self.now.waiters place) }
     {

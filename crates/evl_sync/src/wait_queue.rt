@@ -11,8 +11,8 @@ use arrayvec::ArrayVec;
 use evl_base::{MAX_THREADS, ThreadId};
 use std::marker::Model;
 
-/// Threads that wait: greater ranks first, those of one rank in the order of their arrival (this profile). To a contract
-/// it is the list of them, the first one at its head. It has a place for each of 256 threads and takes no memory.
+/// Threads that wait: greater ranks first, those of one rank in the order of their arrival. To a contract it is the
+/// list of them, the first one at its head. It has a place for each of 256 threads and takes no memory.
 #[derive(Drop)]
 pub struct WaitQueue {
     waiters: ArrayVec<Waiter, MAX_THREADS>,
@@ -31,7 +31,7 @@ impl Model for WaitQueue {
 }
 
 impl WaitQueue {
-    /// A queue in which nobody waits. (this profile)
+    /// A queue in which nobody waits.
     pub fn new() -> WaitQueue
         ensures empty { result ≡ [] }
     {
@@ -41,7 +41,7 @@ impl WaitQueue {
     }
 
     /// A thread, which doesn't wait here yet, begins to wait: behind those of its rank or a greater one, before all
-    /// others. (this profile)
+    /// others.
     pub fn push(&mut self, thread: ThreadId, rank: u16)
         requires away { stands_in (λ w. w.thread) thread.0 self.old ≡ false }
         requires few { thread.0 < thread_limit }
@@ -57,7 +57,7 @@ impl WaitQueue {
         );
     }
 
-    /// Who is first; none where nobody waits. (this profile)
+    /// Who is first; none where nobody waits.
     pub fn head(&self) -> Option<ThreadId>
         ensures first { number_of result ≡ first_of (λ w. w.thread) self.now }
     {
@@ -67,7 +67,7 @@ impl WaitQueue {
         }
     }
 
-    /// Who stands at a place, the first one at 0; none where nobody stands there. (this profile)
+    /// Who stands at a place, the first one at 0; none where nobody stands there.
     pub fn get(&self, place: usize) -> Option<ThreadId>
         ensures waiter { number_of result ≡ option_map (λ w. w.thread) (slice_get self.now place) }
     {
@@ -77,7 +77,7 @@ impl WaitQueue {
         }
     }
 
-    /// Lets the first one wait no more, and says who that was; none where nobody waits. (this profile)
+    /// Lets the first one wait no more, and says who that was; none where nobody waits.
     #[tactic(auto, using(crate::proofs::QueueLaws::kept_first))]
     pub fn pop(&mut self) -> Option<ThreadId>
         ensures first { number_of result ≡ first_of (λ w. w.thread) self.old }
@@ -91,8 +91,8 @@ impl WaitQueue {
         Some(ThreadId(first.thread))
     }
 
-    /// Lets a thread wait no more, wherever it stands, and says whether it waited here. Nothing changes where it didn't.
-    /// (this profile)
+    /// Lets a thread wait no more, wherever it stands, and says whether it waited here. Nothing changes where it
+    /// didn't.
     pub fn remove(&mut self, thread: ThreadId) -> bool
         ensures there { result ≡ stands_in (λ w. w.thread) thread.0 self.old }
         ensures dropped { self.new ≡ dropped (λ w. w.thread) thread.0 self.old }
@@ -100,7 +100,7 @@ impl WaitQueue {
         leave(&mut self.waiters, thread.0)
     }
 
-    /// How many wait, at most 256. (this profile)
+    /// How many wait, at most 256.
     pub fn len(&self) -> usize
         ensures count { result ≡ length self.now }
         ensures few { result ≤ thread_limit }

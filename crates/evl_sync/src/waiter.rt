@@ -1,8 +1,8 @@
 //! A waiting thread.
 use crate::ranked::Ranked;
 
-/// A waiting thread, with the effective rank that it had when its wait began: a rank that it is given later doesn't move
-/// it (this profile).
+/// A waiting thread, with the effective rank that it had when its wait began: a rank that it is given later doesn't
+/// move it.
 #[derive(Clone, Copy, Debug, Default, PartialEq, Eq)]
 pub struct Waiter {
     /// The number of the thread, 0 to 255.

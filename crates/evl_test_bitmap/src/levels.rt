@@ -5,7 +5,8 @@ use evl_bitmap::{Bitmap, Level, Word};
 use linked_list_allocator::LocalHeap;
 use std::alloc::{AllocError, Allocator};
 
-// Whether the set, which is empty, has just 7, 31 and 8 after they came, one of them twice, and is empty after they went.
+// Whether the set, which is empty, has just 7, 31 and 8 after they came, one of them twice, and is empty after they
+// went.
 fn keeps_a_word<L: Level>(set: &mut L) -> bool
     requires { 32 ≤ L.limit set.old }
     ensures { L.limit set.new ≡ L.limit set.old }

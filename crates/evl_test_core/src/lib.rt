@@ -10,6 +10,8 @@ mod handlers;
 #[cfg(test)]
 mod kernels;
 #[cfg(test)]
+mod likeness;
+#[cfg(test)]
 mod most_plays;
 #[cfg(test)]
 mod pipelines;

@@ -20,8 +20,8 @@ pub(crate) trait KernelRow: Drop {
         requires { AnswersAsTold C.declared C.plan kernel.old.callbacks };
 }
 
-/// What a new kernel comes to, over a board of one semaphore at this count, with a history of so many calls; or why there
-/// is none.
+/// What a new kernel comes to, over a board of one semaphore at this count, with a history of so many calls; or why
+/// there is none.
 pub(crate) fn on_a_kernel<C: Handler, A: Allocator + Clone, T: KernelRow>(
     alloc: A,
     boxes: Global,

@@ -58,8 +58,8 @@ fn lacks_room<C: Handler, A: Allocator>(kernel: &mut KernelOf<C, A>, calls: usiz
     matches!(refusal_of_room(kernel, calls), Some(Refusal::NoMemory))
 }
 
-// Whether the call of a step is refused for memory, and then is not when it is made once more; none where the refusal changed
-// something, or came twice.
+// Whether the call of a step is refused for memory, and then is not when it is made once more; none where the refusal
+// changed something, or came twice.
 fn is_refused_once<C: Handler, A: Allocator>(
     alloc: Global,
     kernel: &mut KernelOf<C, A>,
@@ -80,8 +80,8 @@ fn is_refused_once<C: Handler, A: Allocator>(
     if same && !twice { Some(true) } else { None }
 }
 
-// Whether room for some calls is refused for memory, and then is not when it is asked for once more; none where the refusal
-// changed something, or came twice.
+// Whether room for some calls is refused for memory, and then is not when it is asked for once more; none where the
+// refusal changed something, or came twice.
 fn is_room_refused_once<C: Handler, A: Allocator>(
     alloc: Global,
     kernel: &mut KernelOf<C, A>,
@@ -161,8 +161,8 @@ fn is_traced<C, A: Allocator>(alloc: Global, kernel: &KernelOf<C, A>, row: &Row)
     }
 }
 
-// Where a run met the refusal, by whether its room and how many of its calls were refused; none where a call was refused in
-// spite of its room.
+// Where a run met the refusal, by whether its room and how many of its calls were refused; none where a call was
+// refused in spite of its room.
 fn site_of(reserves: bool, room: bool, calls: u32) -> Option<Site> {
     match (room, calls) {
         (false, 0) => Some(Site::Nowhere),
@@ -243,7 +243,8 @@ impl<'a> BankUser for Run<'a> {
     }
 }
 
-// Where a row meets the refusal of the request behind so many; none where it is met by nobody, or something stays taken.
+// Where a row meets the refusal of the request behind so many; none where it is met by nobody, or something stays
+// taken.
 fn met<R: Threads + Wait + Sync>(
     rt: &R,
     alloc: Global,
@@ -291,8 +292,8 @@ fn requests<R: Threads + Wait + Sync>(
     None
 }
 
-// Each call is refused with nothing changed, or answers as the row has it, and so does a call that was refused before; what
-// was taken for an opening that is refused goes back.
+// Each call is refused with nothing changed, or answers as the row has it, and so does a call that was refused before;
+// what was taken for an opening that is refused goes back.
 #[test]
 fn each_request_is_refused_once(rt: HostRuntime) {
     for row in ROWS.as_slice() {

@@ -1,7 +1,7 @@
 //! The rows over which each request for memory is refused: their scenarios and traces, as they lie in `scenarios/`.
 
-/// A row: its scenario, its trace, and how many requests for memory there are: of its opening, of room for all of its calls,
-/// if that is asked for ahead of them, and else of its calls.
+/// A row: its scenario, its trace, and how many requests for memory there are: of its opening, of room for all of its
+/// calls, if that is asked for ahead of them, and else of its calls.
 pub(crate) struct Row {
     pub scenario: &'static str,
     pub trace: &'static str,

@@ -1,5 +1,6 @@
-//! Two callers that take two locks: the first takes lock one and then lock two, the second the other way round, and each gives
-//! them back in the other order than it took them. A state is five times the place of the first and that of the second.
+//! Two callers that take two locks: the first takes lock one and then lock two, the second the other way round, and
+//! each gives them back in the other order than it took them. A state is five times the place of the first and that of
+//! the second.
 use crate::tables::{NONE, Table};
 use evl_orders::{OrdersError, explore};
 use std::alloc::{AllocError, Global};
@@ -9,8 +10,8 @@ fn next_if(can: bool, state: u8) -> u8 {
     if can { state } else { NONE }
 }
 
-// Whether a caller can make its next step, where the other is at this place: it waits for its first lock while the other has both,
-// and for its second one while the other has that.
+// Whether a caller can make its next step, where the other is at this place: it waits for its first lock while the
+// other has both, and for its second one while the other has that.
 fn can_step(place: u8, other: u8) -> bool {
     match place {
         0 => other != 2,

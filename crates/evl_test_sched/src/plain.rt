@@ -1,4 +1,5 @@
-//! A scheduler as its definition says it: the ready threads are one list in order, and each look goes through all of it.
+//! A scheduler as its definition says it: the ready threads are one list in order, and each look goes through all of
+//! it.
 use evl_base::{Policy, Stage};
 use std::alloc::{AllocError, Global};
 

@@ -25,8 +25,8 @@ fn writes_of(alloc: Global, text: &str, trace: &[u8], most: usize) -> Option<usi
     }
 }
 
-// How many bytes a writer has taken where a run ends at this write of its; none where it doesn't, or they aren't the trace's
-// first ones.
+// How many bytes a writer has taken where a run ends at this write of its; none where it doesn't, or they aren't the
+// trace's first ones.
 fn taken_at(alloc: Global, text: &str, trace: &[u8], stop: usize, writer: Narrow) -> Option<usize> {
     let (ends, writer) = ends(alloc, text, writer, Err(Fault::Write));
     let taken = writer.taken.len();
@@ -37,7 +37,8 @@ fn taken_at(alloc: Global, text: &str, trace: &[u8], stop: usize, writer: Narrow
     }
 }
 
-// Whether each write in turn ends the run, by an error and by a count of 0, and each later one with more of the trace taken.
+// Whether each write in turn ends the run, by an error and by a count of 0, and each later one with more of the trace
+// taken.
 fn breaks_at_each(alloc: Global, text: &str, trace: &[u8], most: usize) -> bool {
     let Some(writes) = writes_of(alloc, text, trace, most) else {
         return false;

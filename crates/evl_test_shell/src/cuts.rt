@@ -53,8 +53,8 @@ const FOUR: &str = r#"board threads=1 sems=1 flags=0 xbufs=0 mutexes=0 groups=0 
 // What a front part of the file comes to: the trace of the steps that it has whole, or a fault.
 type Came = Result<&'static str, Fault>;
 
-// The lines of the file: how long a line has to be at least, so that the part is TOML, and what it comes to then. A shorter one
-// is no TOML, and nothing of a line is as the line before it.
+// The lines of the file: how long a line has to be at least, so that the part is TOML, and what it comes to then. A
+// shorter one is no TOML, and nothing of a line is as the line before it.
 const LINES: [(usize, Came); 20] = [
     (9, Err(Fault::Board)),
     (7, Err(Fault::Board)),

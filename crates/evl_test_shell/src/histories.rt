@@ -1,5 +1,5 @@
-//! Traces that are written from the histories of kernels: the program, playing the scenario of such a history, writes just
-//! its trace.
+//! Traces that are written from the histories of kernels: the program, playing the scenario of such a history, writes
+//! just its trace.
 ghost use Rattle.std.specs.Prelude.{◌≡◌, [], ◌∷◌, true};
 ghost use Rattle.evl_kernel.specs.Callbacks.{AnswersAsTold};
 
@@ -90,7 +90,8 @@ fn make<C: Handler, A: Allocator>(kernel: &mut KernelOf<C, A>, who: u16, call: C
     let _answer = kernel.apply(ThreadId(who), call);
 }
 
-// Whether the history of a kernel over the board is traced so, and the program writes the same where it plays its scenario.
+// Whether the history of a kernel over the board is traced so, and the program writes the same where it plays its
+// scenario.
 fn is_traced<F: Files + AllocGlobal, C>(
     rt: &F,
     kernel: &KernelOf<C, Global>,

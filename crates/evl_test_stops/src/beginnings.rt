@@ -9,8 +9,8 @@ use evl_base::{MutexKind, Refusal};
 
 const CEILING: MutexKind = MutexKind::Ceiling(50);
 
-// A mutex with a ceiling is tried, and begun, while the core is held: the word stays free, and the next try takes it and is
-// told to the kernel.
+// A mutex with a ceiling is tried, and begun, while the core is held: the word stays free, and the next try takes it
+// and is told to the kernel.
 #[test]
 fn ceiling_is_tried_while_the_core_is_held(rt: HostRuntime) {
     let stopped = [
@@ -76,8 +76,8 @@ fn taken_ceiling_is_tried(rt: HostRuntime) {
     assert!(rt; is_row(&rt, rt.alloc(), board_with(CEILING), 100, &phases));
 }
 
-// A lock begins while the core is held: the mutex isn't claimed, so its owner needs no kernel to unlock it, and the next
-// beginning has it.
+// A lock begins while the core is held: the mutex isn't claimed, so its owner needs no kernel to unlock it, and the
+// next beginning has it.
 #[test]
 fn lock_begins_while_the_core_is_held(rt: HostRuntime) {
     let before = [(0, Act::Lock(FIRST), Told::Passed)];
@@ -116,8 +116,8 @@ fn lock_begins_without_memory(rt: HostRuntime) {
     assert!(rt; is_row(&rt, rt.alloc(), board_with(MutexKind::Normal), 100, &phases));
 }
 
-// A claim that would close a ring is refused and leaves its mark: the owner asks the kernel when it unlocks, which finds
-// nobody waiting, and the mutex is free.
+// A claim that would close a ring is refused and leaves its mark: the owner asks the kernel when it unlocks, which
+// finds nobody waiting, and the mutex is free.
 #[test]
 fn refused_claim_leaves_its_mark(rt: HostRuntime) {
     let before = [

@@ -72,8 +72,8 @@ fn finish_without_memory(rt: HostRuntime) {
     assert!(rt; is_row(&rt, rt.alloc(), board_with(MutexKind::Normal), 100, &phases));
 }
 
-// The deadline came, and the core is held: the wait stays unfinished, and the mark stands. It stays behind the finish too,
-// so that the owner asks the kernel when it unlocks.
+// The deadline came, and the core is held: the wait stays unfinished, and the mark stands. It stays behind the finish
+// too, so that the owner asks the kernel when it unlocks.
 #[test]
 fn late_finish_while_the_core_is_held(rt: HostRuntime) {
     let stopped = [

@@ -1,5 +1,5 @@
-//! Tests of calls that stop half way: where each may stop while the other side is held still, what it leaves, and how one
-//! goes on.
+//! Tests of calls that stop half way: where each may stop while the other side is held still, what it leaves, and how
+//! one goes on.
 #![tactic(auto)]
 
 #[cfg(test)]

@@ -7,8 +7,8 @@ use evl_base::{MutexKind, Refusal};
 
 const CEILING: MutexKind = MutexKind::Ceiling(50);
 
-// A contended mutex is unlocked while the core is held: its word is found claimed, and the owner keeps it; then it is handed
-// on, and its next owner isn't marked.
+// A contended mutex is unlocked while the core is held: its word is found claimed, and the owner keeps it; then it is
+// handed on, and its next owner isn't marked.
 #[test]
 fn contended_unlock_while_the_core_is_held(rt: HostRuntime) {
     let stopped = [

@@ -131,8 +131,8 @@ fn warn_of_pending(
     Ok(())
 }
 
-/// Warns of what a kernel, of so many threads, shows after a scenario of so many steps. `AllocError` where memory couldn't
-/// grow.
+/// Warns of what a kernel, of so many threads, shows after a scenario of so many steps. `AllocError` where memory
+/// couldn't grow.
 pub fn warn_of_end(
     told: &mut String,
     name: &str,

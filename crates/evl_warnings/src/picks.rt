@@ -70,8 +70,8 @@ fn make_step(kernel: &mut PlannedKernel, step: Step) -> Result<(), AllocError> {
     }
 }
 
-/// Makes steps, and answers the first that an out-of-band thread made while another was picked. `AllocError` where memory
-/// couldn't grow.
+/// Makes steps, and answers the first that an out-of-band thread made while another was picked. `AllocError` where
+/// memory couldn't grow.
 pub fn make_steps(
     kernel: &mut PlannedKernel,
     steps: Vec<Step>,

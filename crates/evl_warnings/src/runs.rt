@@ -65,9 +65,9 @@ fn run(
 }
 
 /// Writes a line for each warning of a dry run behind what was told, and answers whether there is one: calls refused as
-/// `Busy`, `Unknown` or `HistoryFull`, waits that aren't finished, events that are pending in the end, and the first step of
-/// an out-of-band thread while another is picked. Of a text that is no scenario nothing is told. `AllocError` where memory
-/// couldn't grow.
+/// `Busy`, `Unknown` or `HistoryFull`, waits that aren't finished, events that are pending in the end, and the first
+/// step of an out-of-band thread while another is picked. Of a text that is no scenario nothing is told. `AllocError`
+/// where memory couldn't grow.
 pub fn warnings(
     alloc: Global,
     name: &str,

@@ -16,7 +16,7 @@ mod word;
 
 use steps::{GateKey, Gated};
 
-/// How a gate was left (this profile).
+/// How a gate was left.
 #[derive(Clone, Copy, PartialEq, Eq, Debug)]
 pub enum Left {
     /// Nobody holds the gate any more. `claimed` says whether the claim mark stood.
@@ -52,7 +52,7 @@ pub struct GateHold {
 /// The seats that a token of the gate's table has, each with its view.
 type Hand = LinkedList<Place<View<WordEntry<GateCall, GateReply>, GateHold>>>;
 
-/// A caller's place at a gate, which it holds at most once (this profile).
+/// A caller's place at a gate, which it holds at most once.
 #[derive(Drop)]
 pub struct StaxSeat {
     seat: Seat<(), Hand>,
@@ -74,14 +74,15 @@ impl Model for StaxSeat {
     ghost invariant = { λ s. (s.seat.me ≡ (place s.number (view_in s.seat.me.0) ∷ [], [])) × ((view_in s.seat.me.0).held.stage ≡ s.held) };
 }
 
-/// Shows that a seat holds a gate, and is spent when the seat leaves (this profile).
+/// Shows that a seat holds a gate, and is spent when the seat leaves.
 #[derive(Drop)]
 pub struct StaxPass {
     gate: StaxId,
     seat: u16,
 }
 
-/// A stage exclusion lock (Dovetail: interrupt pipeline, stax): threads of one stage hold it together, never threads of both. It is one atomic word, and no call on it waits.
+/// A stage exclusion lock (Dovetail: interrupt pipeline, stax): threads of one stage hold it together, never threads of
+/// both. It is one atomic word, and no call on it waits.
 #[derive(Drop)]
 pub struct StaxGate<A: Allocator = Global> {
     table: Table<(), Hand, GateKey, Gated, A>,

@@ -28,7 +28,7 @@ impl<S, V, T: Together<V>> Play<S, HandOf<V>> for Look<T> {
 }
 
 /// Two tokens are one for a moment, in which word 0 is read, and two again. It tells how their seats are together, and
-/// changes nothing (this profile).
+/// changes nothing.
 pub fn look_together<S, V, T: Together<V>, K, P: TableRule<S, HandOf<V>, K>, A: Allocator>(
     table: &Table<S, HandOf<V>, K, P, A>,
     one: &mut Seat<S, HandOf<V>>,

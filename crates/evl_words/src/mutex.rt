@@ -19,7 +19,7 @@ pub mod steps;
 use place::MutexPlace;
 use steps::{MutexKey, Worded};
 
-/// How an unlocking ended (this profile).
+/// How an unlocking ended.
 #[derive(Drop)]
 pub enum Unlock {
     /// The mutex is held once less, or by nobody.
@@ -28,7 +28,7 @@ pub enum Unlock {
     Claimed(MutexPass),
 }
 
-/// What a claim found (this profile).
+/// What a claim found.
 #[derive(Clone, Copy, PartialEq, Eq, Debug)]
 pub enum Claim {
     /// Nobody had the mutex. The claimer has won it, and alone settles.
@@ -85,7 +85,7 @@ pub struct MutexHold {
 /// The seats that a token of the word's table has, each with its view.
 type Hand = LinkedList<Place<View<WordEntry<MutexCall, MutexReply>, MutexHold>>>;
 
-/// A thread's place at a mutex, with its token of the mutex's table (this profile).
+/// A thread's place at a mutex, with its token of the mutex's table.
 #[derive(Drop)]
 pub struct MutexSeat {
     seat: Seat<(), Hand>,
@@ -106,14 +106,15 @@ impl Model for MutexSeat {
     ghost invariant = { λ s. (s.seat.me ≡ (place s.here.number (view_in s.seat.me.0) ∷ [], [])) × (owns (view_in s.seat.me.0).held.role ≡ nat_lt 0 s.here.depth) };
 }
 
-/// Shows that a seat holds a mutex once, and is spent when the seat gives it up (this profile).
+/// Shows that a seat holds a mutex once, and is spent when the seat gives it up.
 #[derive(Drop)]
 pub struct MutexPass {
     mutex: MutexId,
     seat: u16,
 }
 
-/// A mutex's word (Xenomai 4: mutex, its fast lock word): it names the owner, whether the mutex is offered to it, and whether others claim it. No call on it waits.
+/// A mutex's word (Xenomai 4: mutex, its fast lock word): it names the owner, whether the mutex is offered to it, and
+/// whether others claim it. No call on it waits.
 #[derive(Drop)]
 pub struct MutexWord<A: Allocator = Global> {
     table: Table<(), Hand, MutexKey, Worded, A>,

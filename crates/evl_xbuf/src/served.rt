@@ -27,8 +27,8 @@ pub struct Turn {
     end: u16,
 }
 
-/// Whom a call served, in the order in which they were served (this profile). To a contract it is the list of these
-/// services. It has a place for each of 256 threads and takes no memory.
+/// Whom a call served, in the order in which they were served. To a contract it is the list of these services. It has a
+/// place for each of 256 threads and takes no memory.
 #[derive(Drop)]
 pub struct Served {
     turns: ArrayVec<Turn, MAX_THREADS>,
@@ -48,7 +48,7 @@ impl Model for Served {
 }
 
 impl Served {
-    /// Nobody was served. (this profile)
+    /// Nobody was served.
     pub fn new() -> Served
         ensures nobody { result ≡ [] }
     {
@@ -58,7 +58,7 @@ impl Served {
         }
     }
 
-    /// Nobody was served any more: the list is as a new one. (this profile)
+    /// Nobody was served any more: the list is as a new one.
     pub fn clear(&mut self)
         ensures nobody { self.new ≡ [] }
     {
@@ -66,7 +66,7 @@ impl Served {
         self.bytes.clear();
     }
 
-    /// How many were served, at most 256. (this profile)
+    /// How many were served, at most 256.
     pub fn len(&self) -> usize
         ensures count { result ≡ length self.now }
         ensures few { result ≤ thread_limit }
@@ -74,7 +74,7 @@ impl Served {
         self.turns.len()
     }
 
-    /// The service at this place, from 0, with at most 256 bytes; none behind the last one. (this profile)
+    /// The service at this place, from 0, with at most 256 bytes; none behind the last one.
     pub fn get(&self, place: usize) -> Option<Service<'_>>
         ensures service { option_map told_of result ≡ slice_get self.now place }
         ensures short { IsShort result }

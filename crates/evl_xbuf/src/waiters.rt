@@ -2,7 +2,7 @@
 
 use evl_base::Bytes;
 
-/// A thread that waits to write (this profile).
+/// A thread that waits to write.
 #[derive(Drop)]
 pub struct Writer {
     /// The number of the thread, 0 to 255.
@@ -11,7 +11,7 @@ pub struct Writer {
     pub bytes: Bytes,
 }
 
-/// A thread that waits to read (this profile).
+/// A thread that waits to read.
 #[derive(Clone, Copy, Debug, Default)]
 pub struct Reader {
     /// The number of the thread, 0 to 255.

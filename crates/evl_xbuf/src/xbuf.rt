@@ -18,8 +18,8 @@ use std::alloc::{AllocError, Allocator};
 use std::marker::Model;
 
 /// A cross-buffer: two rings of bytes between the stages, one for each way, and who waits to write or to read there, by
-/// arrival alone (Xenomai 4: EVL cross-buffer). Way `In` is written in-band and read out-of-band, way `Out` the other way
-/// round. To a contract it is the record `Xbuf` of `specs/Xbufs.antt`. Only `new` takes memory.
+/// arrival alone (Xenomai 4: EVL cross-buffer). Way `In` is written in-band and read out-of-band, way `Out` the other
+/// way round. To a contract it is the record `Xbuf` of `specs/Xbufs.antt`. Only `new` takes memory.
 #[derive(Drop)]
 pub struct XbufOf<A: Allocator> {
     inbound: Stream<A>,
@@ -77,10 +77,10 @@ impl<A: Allocator> XbufOf<A> {
         }
     }
 
-    /// Reads the next bytes that were written, `len` of them or as many as are there, from the stage that reads this way,
-    /// and says whom that served: the writers that waited and now fit, in order. Refused, in this order, with nothing
-    /// changed: `Range` where `len` is above 256; `WrongStage` from the other stage; `Again` where nothing is there. A read
-    /// of no bytes always gives none. (Xenomai 4: EVL cross-buffer; this profile)
+    /// Reads the next bytes that were written, `len` of them or as many as are there, from the stage that reads this
+    /// way, and says whom that served: the writers that waited and now fit, in order. Refused, in this order, with
+    /// nothing changed: `Range` where `len` is above 256; `WrongStage` from the other stage; `Again` where nothing is
+    /// there. A read of no bytes always gives none. (Xenomai 4: EVL cross-buffer)
     pub fn try_read(&mut self, stage: Stage, way: Way, len: u16) -> Result<(Bytes, Served), Refusal>
         ensures step { stepped (λ told. (told.0.items, told.1)) result self.new ≡ try_read stage way len self.old }
         ensures refused { IfErr result (λ e. self.new ≡ self.old) }
@@ -93,9 +93,9 @@ impl<A: Allocator> XbufOf<A> {
     }
 
     /// Writes as `try_write` does where that is done at once, and says whom that served; else the thread, which doesn't
-    /// wait to write here yet, begins to wait, behind all other writers, and the answer is none. Refused, in this order,
-    /// with nothing changed: `WrongStage` from the other stage; `TooBig` where the bytes are longer than the ring.
-    /// (Xenomai 4: EVL cross-buffer; this profile)
+    /// wait to write here yet, begins to wait, behind all other writers, and the answer is none. Refused, in this
+    /// order, with nothing changed: `WrongStage` from the other stage; `TooBig` where the bytes are longer than the
+    /// ring. (Xenomai 4: EVL cross-buffer)
     pub fn begin_write(
         &mut self,
         thread: ThreadId,
@@ -116,10 +116,10 @@ impl<A: Allocator> XbufOf<A> {
         }
     }
 
-    /// Reads as `try_read` does where that is done at once, and says whom that served; else the thread, which doesn't wait
-    /// to read here yet, begins to wait, behind all other readers, and the answer is none. Refused, in this order, with
-    /// nothing changed: `Range` where `len` is above 256; `WrongStage` from the other stage. (Xenomai 4: EVL cross-buffer;
-    /// this profile)
+    /// Reads as `try_read` does where that is done at once, and says whom that served; else the thread, which doesn't
+    /// wait to read here yet, begins to wait, behind all other readers, and the answer is none. Refused, in this order,
+    /// with nothing changed: `Range` where `len` is above 256; `WrongStage` from the other stage. (Xenomai 4: EVL
+    /// cross-buffer)
     pub fn begin_read(
         &mut self,
         thread: ThreadId,
@@ -140,8 +140,8 @@ impl<A: Allocator> XbufOf<A> {
         }
     }
 
-    /// Lets a thread wait this way no more, and says whom that served: those behind it whom it held back, in order. Where
-    /// it doesn't wait there nothing changes and nobody is served. (this profile)
+    /// Lets a thread wait this way no more, and says whom that served: those behind it whom it held back, in order.
+    /// Where it doesn't wait there nothing changes and nobody is served.
     pub fn drop_waiter(&mut self, thread: ThreadId, way: Way) -> Served
         ensures step { (result, self.new) ≡ drop_waiter thread.0 way self.old }
     {
@@ -150,7 +150,7 @@ impl<A: Allocator> XbufOf<A> {
         told
     }
 
-    /// Whether bytes are longer than this way's ring, so that they can never be written. (this profile)
+    /// Whether bytes are longer than this way's ring, so that they can never be written.
     pub fn is_too_big(&self, way: Way, bytes: &[u8]) -> bool
         ensures too_big { result ≡ nat_lt (stream self.now way).size (length bytes.now) }
     {
@@ -194,7 +194,8 @@ impl<A: Allocator> XbufOf<A> {
         }
     }
 
-    /// Who waits to read from this way at a place, the first one at 0; none where nobody does. (Xenomai 4: EVL cross-buffer)
+    /// Who waits to read from this way at a place, the first one at 0; none where nobody does. (Xenomai 4: EVL
+    /// cross-buffer)
     pub fn reader(&self, way: Way, place: usize) -> Option<ThreadId>
         ensures reader { option_map (λ t. t.0) result ≡ option_map (λ r. r.thread) (slice_get (stream self.now way).readers place) }
     {

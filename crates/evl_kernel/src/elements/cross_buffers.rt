@@ -12,9 +12,8 @@ use std::alloc::Allocator;
 
 impl<A: Allocator> Elements<A> {
     /// Writes all of the bytes from a stage, and tells whom that served, into a list where nobody stands yet. The first
-    /// that applies: `Unknown` (no such
-    /// cross-buffer), `WrongStage` (the other stage writes this way), `TooBig` (more bytes than the ring has), `Again` (a
-    /// writer waits, or they don't fit).
+    /// that applies: `Unknown` (no such cross-buffer), `WrongStage` (the other stage writes this way), `TooBig` (more
+    /// bytes than the ring has), `Again` (a writer waits, or they don't fit).
     pub(crate) fn write(
         &mut self,
         stage: Stage,
@@ -37,9 +36,8 @@ impl<A: Allocator> Elements<A> {
     }
 
     /// Reads so many bytes from a stage, or as many as are there, and tells whom that served, into a list where nobody
-    /// stands yet. The first that applies:
-    /// `Unknown` (no such cross-buffer), `Range` (more than one transfer carries), `WrongStage` (the other stage reads this
-    /// way), `Again` (nothing is there).
+    /// stands yet. The first that applies: `Unknown` (no such cross-buffer), `Range` (more than one transfer carries),
+    /// `WrongStage` (the other stage reads this way), `Again` (nothing is there).
     pub(crate) fn read(
         &mut self,
         stage: Stage,

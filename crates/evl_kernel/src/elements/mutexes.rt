@@ -71,8 +71,8 @@ impl<A: Allocator> Elements<A> {
         }
     }
 
-    /// A thread that waits for nothing begins to wait for a mutex whose owner it names, and this is whether it does: not
-    /// where it would wait for itself along recorded owners. Whose effective rank may have changed is noted.
+    /// A thread that waits for nothing begins to wait for a mutex whose owner it names, and this is whether it does:
+    /// not where it would wait for itself along recorded owners. Whose effective rank may have changed is noted.
     pub(crate) fn claim<C: RankChanges>(
         &mut self,
         mutex: MutexId,
@@ -98,8 +98,8 @@ impl<A: Allocator> Elements<A> {
             .is_ok()
     }
 
-    /// Hands a mutex on to the first waiter: who that is, if anybody waits, and whether more do. The first that applies:
-    /// `Unknown` (no such mutex), `NotOwner` (another owner is recorded).
+    /// Hands a mutex on to the first waiter: who that is, if anybody waits, and whether more do. The first that
+    /// applies: `Unknown` (no such mutex), `NotOwner` (another owner is recorded).
     pub(crate) fn release<C: RankChanges>(
         &mut self,
         mutex: MutexId,
@@ -115,8 +115,8 @@ impl<A: Allocator> Elements<A> {
         self.owners.release_noting(mutex, thread, changes)
     }
 
-    /// A thread has the ceiling of a mutex, of which it is recorded as the owner. The first that applies: `Unknown` (no such
-    /// mutex), `Invalid` (it has no ceiling), `Busy` (an owner is recorded).
+    /// A thread has the ceiling of a mutex, of which it is recorded as the owner. The first that applies: `Unknown` (no
+    /// such mutex), `Invalid` (it has no ceiling), `Busy` (an owner is recorded).
     pub(crate) fn raise<C: RankChanges>(
         &mut self,
         mutex: MutexId,

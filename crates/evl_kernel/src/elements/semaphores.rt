@@ -24,8 +24,8 @@ impl<A: Allocator> Elements<A> {
         self.sems[place].try_get()
     }
 
-    /// Lets the first waiter wait no more, and says who that was, or else raises a count. `Unknown` where there is no such
-    /// semaphore, `Range` where nobody waits and its count is the greatest.
+    /// Lets the first waiter wait no more, and says who that was, or else raises a count. `Unknown` where there is no
+    /// such semaphore, `Range` where nobody waits and its count is the greatest.
     pub(crate) fn put(&mut self, sem: SemId) -> Result<Option<ThreadId>, Refusal>
         ensures step { IfOk result (λ served. element self.old.elements (on_sem sem.0 semaphore.put) ≡ Ok (Reply.Done, self.new.elements)) }
         ensures owners { owners_of self.new ≡ owners_of self.old }

@@ -35,8 +35,8 @@ impl<A: Allocator> Elements<A> {
         }
     }
 
-    /// A thread that waits for nothing begins to wait with its rank for a semaphore or a flag group, or is served at once;
-    /// then this is with what.
+    /// A thread that waits for nothing begins to wait with its rank for a semaphore or a flag group, or is served at
+    /// once; then this is with what.
     pub(crate) fn begin(&mut self, thread: ThreadId, rank: u16, wanted: &Wanted) -> Option<Reply>
         requires ranked { is_ranked wanted.now ≡ true }
         requires there { is_there self.old.elements (awaited wanted.now) ≡ true }
@@ -102,8 +102,8 @@ impl<A: Allocator> Elements<A> {
         }
     }
 
-    /// A thread that waits for nothing writes at once, or begins to wait; whether it wrote. Whom that served is told into
-    /// a list where nobody stands yet.
+    /// A thread that waits for nothing writes at once, or begins to wait; whether it wrote. Whom that served is told
+    /// into a list where nobody stands yet.
     pub(crate) fn begin_write(
         &mut self,
         thread: ThreadId,
@@ -133,8 +133,8 @@ impl<A: Allocator> Elements<A> {
         }
     }
 
-    /// A thread that waits for nothing reads at once, which says what, or begins to wait. Whom that served is told into a
-    /// list where nobody stands yet.
+    /// A thread that waits for nothing reads at once, which says what, or begins to wait. Whom that served is told into
+    /// a list where nobody stands yet.
     pub(crate) fn begin_read(
         &mut self,
         thread: ThreadId,
@@ -164,9 +164,9 @@ impl<A: Allocator> Elements<A> {
         }
     }
 
-    /// A thread leaves the queue of an element; whom that served, where it was a cross-buffer's, is told into a list where
-    /// nobody stands yet. Nothing changes where it doesn't stand there. Whose effective rank may have changed is noted,
-    /// which nobody's has where it was no mutex's.
+    /// A thread leaves the queue of an element; whom that served, where it was a cross-buffer's, is told into a list
+    /// where nobody stands yet. Nothing changes where it doesn't stand there. Whose effective rank may have changed is
+    /// noted, which nobody's has where it was no mutex's.
     pub(crate) fn leave<C: RankChanges>(
         &mut self,
         thread: ThreadId,
@@ -203,8 +203,8 @@ impl<A: Allocator> Elements<A> {
         }
     }
 
-    /// A thread waits for a cross-buffer no more this way, if it did and there is such a cross-buffer; whom that served is
-    /// told.
+    /// A thread waits for a cross-buffer no more this way, if it did and there is such a cross-buffer; whom that served
+    /// is told.
     fn leave_xbuf(&mut self, thread: ThreadId, xbuf: XbufId, way: Way, told: &mut Served)
         requires nobody { told.old ≡ [] }
         ensures left { self.new.elements ≡ if_done self.old.elements (element self.old.elements (on_xbuf xbuf.0 (through.drop thread.0 way))) }

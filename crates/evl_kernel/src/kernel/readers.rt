@@ -1,5 +1,5 @@
-//! What a kernel tells of its threads, its date and its elements besides their calls. No reader changes anything or makes
-//! an entry.
+//! What a kernel tells of its threads, its date and its elements besides their calls. No reader changes anything or
+//! makes an entry.
 ghost use Rattle.std.specs.Prelude.{◌≡◌, ◌++◌, IfErr, None, OnOk, Some, length, map, option_map, slice_get, if◌then◌else◌};
 ghost use Rattle.evl_base.specs.declared.refusal.Refusal.{Refusal};
 ghost use Rattle.evl_kernel.specs.Histories.{IsLegal};
@@ -34,8 +34,8 @@ impl<C, A: Allocator> KernelOf<C, A> {
         self.records.picked()
     }
 
-    /// The effective rank of a thread, if it is attached: its own, its ceilings', and what reaches it of those who wait for
-    /// its mutexes (Xenomai 4: EVL mutex, priority inheritance and ceiling).
+    /// The effective rank of a thread, if it is attached: its own, its ceilings', and what reaches it of those who wait
+    /// for its mutexes (Xenomai 4: EVL mutex, priority inheritance and ceiling).
     pub fn rank(&self, thread: ThreadId) -> Option<u16>
         ensures rank { result ≡ (if is_attached self.now.history.state.sched thread.0 then Some (rank_of self.now.history.state thread.0) else None) }
         ensures legal { IsLegal self.now.history }
@@ -51,7 +51,8 @@ impl<C, A: Allocator> KernelOf<C, A> {
         self.records.policy(thread)
     }
 
-    /// Whether a thread is on the ready list: attached, out-of-band and not blocked (Xenomai 4: EVL scheduling policies).
+    /// Whether a thread is on the ready list: attached, out-of-band and not blocked (Xenomai 4: EVL scheduling
+    /// policies).
     pub fn ready(&self, thread: ThreadId) -> bool
         ensures ready { result ≡ is_ready self.now.history.state.sched thread.0 }
         ensures legal { IsLegal self.now.history }
@@ -84,7 +85,8 @@ impl<C, A: Allocator> KernelOf<C, A> {
         self.records.bits(flags)
     }
 
-    /// How many bytes stand in a way of a cross-buffer; none where there is no such buffer (Xenomai 4: EVL cross-buffer).
+    /// How many bytes stand in a way of a cross-buffer; none where there is no such buffer (Xenomai 4: EVL
+    /// cross-buffer).
     pub fn there(&self, xbuf: XbufId, way: Way) -> Option<usize>
         ensures there { result ≡ option_map (λ x. length (stream x way).there) (slice_get self.now.history.state.elements.xbufs xbuf.0) }
         ensures legal { IsLegal self.now.history }
@@ -92,8 +94,8 @@ impl<C, A: Allocator> KernelOf<C, A> {
         self.records.there(xbuf, way)
     }
 
-    /// Who stands at a place of the queue of an element, the first one at 0; none where nobody stands there, or there is no such
-    /// element (Xenomai 4: EVL elements).
+    /// Who stands at a place of the queue of an element, the first one at 0; none where nobody stands there, or there
+    /// is no such element (Xenomai 4: EVL elements).
     pub fn waiter(&self, on: Awaited, place: usize) -> Option<ThreadId>
         ensures waiter { option_map (λ t. t.0) result ≡ slice_get (queue_of self.now.history.state.elements on) place }
         ensures legal { IsLegal self.now.history }
@@ -101,8 +103,8 @@ impl<C, A: Allocator> KernelOf<C, A> {
         self.records.waiter(on, place)
     }
 
-    /// Adds the threads of the ready list to a list, in their order. `NoMemory` where room was refused (Xenomai 4: EVL scheduling
-    /// policies; this profile).
+    /// Adds the threads of the ready list to a list, in their order. `NoMemory` where room was refused; what the list
+    /// holds then isn't known (Xenomai 4: EVL scheduling policies).
     pub fn ready_threads<B: Allocator>(&self, out: &mut Vec<ThreadId, B>) -> Result<(), Refusal>
         ensures told { OnOk result (map (λ t. t.0) out.new.items ≡ map (λ t. t.0) out.old.items ++ self.now.history.state.sched.ready) }
         ensures refusal { IfErr result (λ e. e ≡ Refusal.NoMemory) }

@@ -36,8 +36,8 @@ impl<C, A: Allocator> Records<C, A> {
         Ok(Reply::Done)
     }
 
-    /// Ends the wait of the first waiter, or else raises a count. `Unknown` where there is no such semaphore, `Range` where
-    /// nobody waits and its count is the greatest.
+    /// Ends the wait of the first waiter, or else raises a count. `Unknown` where there is no such semaphore, `Range`
+    /// where nobody waits and its count is the greatest.
     pub(super) fn put(&mut self, sem: SemId) -> Result<Reply, Refusal>
         ensures answer { IsAnswer result }
         ensures served { Has (state_of self.old) (stepping (state_of self.old) (on_sem sem.0 semaphore.put)) result (state_of self.new) }
@@ -75,8 +75,8 @@ impl<C, A: Allocator> Records<C, A> {
         Ok(Reply::Bits(bits))
     }
 
-    /// Adds bits, and ends the waits of those who are served by one walk through the waiters. `Unknown` where there is no
-    /// such flag group, `Invalid` where there are no bits to add.
+    /// Adds bits, and ends the waits of those who are served by one walk through the waiters. `Unknown` where there is
+    /// no such flag group, `Invalid` where there are no bits to add.
     pub(super) fn post_flags(
         &mut self,
         flags: FlagId,
@@ -108,8 +108,8 @@ impl<C, A: Allocator> Records<C, A> {
         }
     }
 
-    /// Writes bytes from the thread's stage, and ends the waits of those whom that serves. The first that applies: `Unknown`
-    /// (no such cross-buffer), `WrongStage`, `TooBig`, `Again`.
+    /// Writes bytes from the thread's stage, and ends the waits of those whom that serves. The first that applies:
+    /// `Unknown` (no such cross-buffer), `WrongStage`, `TooBig`, `Again`.
     pub(super) fn write(
         &mut self,
         thread: ThreadId,
@@ -133,8 +133,8 @@ impl<C, A: Allocator> Records<C, A> {
         }
     }
 
-    /// Reads bytes from the thread's stage into a box of `spares`, and ends the waits of those whom that serves. The first
-    /// that applies: `Unknown` (no such cross-buffer), `Range`, `WrongStage`, `Again`.
+    /// Reads bytes from the thread's stage into a box of `spares`, and ends the waits of those whom that serves. The
+    /// first that applies: `Unknown` (no such cross-buffer), `Range`, `WrongStage`, `Again`.
     pub(super) fn read(
         &mut self,
         thread: ThreadId,

@@ -33,8 +33,8 @@ impl<C, A: Allocator> Records<C, A> {
         }
     }
 
-    /// A wait for a mutex begins, whose owner the thread names; the ranks are handed on. `Deadlock` where the thread would
-    /// wait for itself.
+    /// A wait for a mutex begins, whose owner the thread names; the ranks are handed on. `Deadlock` where the thread
+    /// would wait for itself.
     pub(super) fn begin_claim(
         &mut self,
         thread: ThreadId,
@@ -60,8 +60,8 @@ impl<C, A: Allocator> Records<C, A> {
         Ok(Reply::Begun)
     }
 
-    /// Hands a mutex on to the first waiter, whose wait ends; the ranks are handed on. The first that applies: `Unknown` (no
-    /// such mutex), `NotOwner` (another owner is recorded).
+    /// Hands a mutex on to the first waiter, whose wait ends; the ranks are handed on. The first that applies:
+    /// `Unknown` (no such mutex), `NotOwner` (another owner is recorded).
     pub(super) fn release(&mut self, thread: ThreadId, mutex: MutexId) -> Result<Reply, Refusal>
         ensures answer { IsAnswer result }
         ensures served { Has (state_of self.old) (stepping (state_of self.old) (on_mutex mutex.0 (mutex_step.release thread.0))) result (state_of self.new) }

@@ -100,8 +100,8 @@ impl<C: Handler, A: Allocator> Records<C, A> {
         }
     }
 
-    /// Plays the line that is next after so many in-band plays of this call, if a line is playable; an eligible thread holds
-    /// in-band lines back.
+    /// Plays the line that is next after so many in-band plays of this call, if a line is playable; an eligible thread
+    /// holds in-band lines back.
     fn play_line(&mut self, inband: u8, lists: &mut ServedLists) -> Option<Play>
         requires answering { AnswersAsTold C.declared C.plan (whereabouts self.old) }
         requires few { inband ≤ inband_limit }
@@ -129,8 +129,8 @@ impl<C: Handler, A: Allocator> Records<C, A> {
         }
     }
 
-    /// Plays what is next after so many in-band plays of this call, if something is playable: behind a play of the clock
-    /// or of a due item what is due, else a line.
+    /// Plays what is next after so many in-band plays of this call, if something is playable: behind a play of the
+    /// clock or of a due item what is due, else a line.
     fn play_next(&mut self, inband: u8, of_clock: bool, lists: &mut ServedLists) -> Option<Play>
         requires answering { AnswersAsTold C.declared C.plan (whereabouts self.old) }
         requires few { inband ≤ inband_limit }

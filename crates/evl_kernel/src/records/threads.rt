@@ -39,8 +39,8 @@ impl<C, A: Allocator> Records<C, A> {
         Ok(Reply::Done)
     }
 
-    /// Takes a thread out of the core. The first that applies: `Unknown` (no such thread), `Invalid` (it isn't attached),
-    /// `Busy` (it is recorded as the owner of a mutex).
+    /// Takes a thread out of the core. The first that applies: `Unknown` (no such thread), `Invalid` (it isn't
+    /// attached), `Busy` (it is recorded as the owner of a mutex).
     pub(super) fn detach(&mut self, thread: ThreadId) -> Result<Reply, Refusal>
         ensures answer { IsAnswer result }
         ensures served { Has (state_of self.old) (thread_call.detach (state_of self.old) thread.0) result (state_of self.new) }
@@ -63,8 +63,8 @@ impl<C, A: Allocator> Records<C, A> {
         Ok(Reply::Done)
     }
 
-    /// Sets the policy of a thread. The first that applies: `Unknown` (no such thread or quota group), `Range` (a number of
-    /// the policy), `Invalid` (the thread isn't attached).
+    /// Sets the policy of a thread. The first that applies: `Unknown` (no such thread or quota group), `Range` (a
+    /// number of the policy), `Invalid` (the thread isn't attached).
     pub(super) fn set_policy(&mut self, thread: ThreadId, policy: Policy) -> Result<Reply, Refusal>
         ensures answer { IsAnswer result }
         ensures served { Has (state_of self.old) (thread_call.set_policy (state_of self.old) thread.0 policy) result (state_of self.new) }
@@ -113,8 +113,8 @@ impl<C, A: Allocator> Records<C, A> {
         }
     }
 
-    /// Charges the thread that is picked with the time since the date that was before, and refills the quota groups where
-    /// a new second began between the two dates.
+    /// Charges the thread that is picked with the time since the date that was before, and refills the quota groups
+    /// where a new second began between the two dates.
     pub(super) fn pay(&mut self, before: u64, delta: u64, now: u64)
         ensures paid { state_of self.new ≡ thread_call.paid_between (state_of self.old) before delta now }
         ensures stands { KeepsCallbacks self.old self.new }

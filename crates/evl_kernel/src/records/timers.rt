@@ -33,8 +33,8 @@ impl<C, A: Allocator> Records<C, A> {
         Ok(Reply::Number(self.clock.now()))
     }
 
-    /// Charges the thread that is picked, moves the date by so many nanoseconds, and posts line 0 where something is due
-    /// then. `Range` where the date would be past 2^64 - 1.
+    /// Charges the thread that is picked, moves the date by so many nanoseconds, and posts line 0 where something is
+    /// due then. `Range` where the date would be past 2^64 - 1.
     pub(super) fn tick(&mut self, delta: u64) -> Result<Reply, Refusal>
         ensures answer { IsAnswer result }
         ensures served { Has (state_of self.old) (timer_call.tick (state_of self.old) delta) result (state_of self.new) }
@@ -107,9 +107,9 @@ impl<C: Drop, A: Allocator> Records<C, A> {
 }
 
 impl<C: Handler, A: Allocator> Records<C, A> {
-    /// A callback leaves its bank place for a timer, which is idle and has the least free number. The first that applies:
-    /// `Unknown` (no such callback), `Invalid` (a kind that isn't allowed for timers), `Busy` (the callback is out),
-    /// `Limit` (there are 64 timers).
+    /// A callback leaves its bank place for a timer, which is idle and has the least free number. The first that
+    /// applies: `Unknown` (no such callback), `Invalid` (a kind that isn't allowed for timers), `Busy` (the callback is
+    /// out), `Limit` (there are 64 timers).
     pub(super) fn new_timer(&mut self, callback: u8, tag: u32) -> Result<Reply, Refusal>
         requires answering { AnswersAsTold C.declared C.plan (whereabouts self.old) }
         ensures answer { IsAnswer result }

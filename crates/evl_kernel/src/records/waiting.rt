@@ -26,10 +26,10 @@ use evl_xbuf::Served;
 use std::alloc::Allocator;
 
 impl<C, A: Allocator> Records<C, A> {
-    /// Begins a wait, which is served at once where it can be; else the thread is blocked, until a date where there is one.
-    /// The first that applies: `Unknown` (no such element, or no such owner), `Range` (more bytes than one transfer carries),
-    /// `Invalid` (the thread isn't attached, a mask has no bits, or the owner can't be named), `WrongStage`, `TooBig` (more
-    /// bytes than the ring has), `Deadlock` (the thread would wait for itself).
+    /// Begins a wait, which is served at once where it can be; else the thread is blocked, until a date where there is
+    /// one. The first that applies: `Unknown` (no such element, or no such owner), `Range` (more bytes than one
+    /// transfer carries), `Invalid` (the thread isn't attached, a mask has no bits, or the owner can't be named),
+    /// `WrongStage`, `TooBig` (more bytes than the ring has), `Deadlock` (the thread would wait for itself).
     pub(super) fn begin_wait(
         &mut self,
         thread: ThreadId,
@@ -156,8 +156,8 @@ impl<C, A: Allocator> Records<C, A> {
         }
     }
 
-    /// The rank of a thread that may begin this wait. The first that applies: `Unknown` (no such thread), `Invalid` (it isn't
-    /// attached, a mask has no bits, or the owner can't be named), `WrongStage` (it is on the other stage).
+    /// The rank of a thread that may begin this wait. The first that applies: `Unknown` (no such thread), `Invalid` (it
+    /// isn't attached, a mask has no bits, or the owner can't be named), `WrongStage` (it is on the other stage).
     fn may_begin(&self, thread: ThreadId, wanted: &Wanted) -> Result<u16, Refusal>
         ensures ok { IfOk result (λ rank. (waiter_refusal (state_of self.now) thread.0 wanted.now ≡ None) × (rank ≡ rank_of (state_of self.now) thread.0)) }
         ensures refused { IfErr result (λ e. waiter_refusal (state_of self.now) thread.0 wanted.now ≡ Some e) }
@@ -197,8 +197,8 @@ impl<C, A: Allocator> Records<C, A> {
         }
     }
 
-    /// A wait that went on has ended: its deadline is gone, and its thread goes to the end of the ready list, where it is
-    /// out-of-band.
+    /// A wait that went on has ended: its deadline is gone, and its thread goes to the end of the ready list, where it
+    /// is out-of-band.
     #[inline(never)]
     pub(super) fn wake(&mut self, thread: ThreadId, outcome: Outcome<'_>)
         requires fits { FitsBox (Some outcome) }
@@ -211,8 +211,8 @@ impl<C, A: Allocator> Records<C, A> {
         self.sched.ready(thread);
     }
 
-    /// A deadline that fell due ends its thread's wait as timed out, and the thread leaves the queue in which it waited;
-    /// then the waits of those end whom that serves.
+    /// A deadline that fell due ends its thread's wait as timed out, and the thread leaves the queue in which it
+    /// waited; then the waits of those end whom that serves.
     pub(super) fn expire(&mut self, thread: ThreadId, told: &mut Served)
         ensures expired { state_of self.new ≡ (deadline_left (state_of self.old) thread.0).1 }
         ensures stands { KeepsCallbacks self.old self.new }
@@ -223,8 +223,8 @@ impl<C, A: Allocator> Records<C, A> {
         self.wake_served(told);
     }
 
-    /// A thread leaves the queue in which it waits, if it waits in one; whom that serves wait on, and are told into a list
-    /// where nobody stands yet. Where it was a mutex's, the ranks are handed on.
+    /// A thread leaves the queue in which it waits, if it waits in one; whom that serves wait on, and are told into a
+    /// list where nobody stands yet. Where it was a mutex's, the ranks are handed on.
     fn leave_queue(&mut self, thread: ThreadId, told: &mut Served)
         requires nobody { told.old ≡ [] }
         ensures left { state_of self.new ≡ with_elements (state_of self.old) (left_by (elements (state_of self.old)) thread.0 (wait_at (state_of self.old) thread.0)) }
@@ -242,8 +242,9 @@ impl<C, A: Allocator> Records<C, A> {
         }
     }
 
-    /// Answers what ended the thread's wait, which is finished then, bytes in a box of `spares`; a weak thread goes in-band,
-    /// unless it keeps its stage or got a mutex. The first that applies: `Invalid` (there is no wait), `Again` (it goes on).
+    /// Answers what ended the thread's wait, which is finished then, bytes in a box of `spares`; a weak thread goes
+    /// in-band, unless it keeps its stage or got a mutex. The first that applies: `Invalid` (there is no wait), `Again`
+    /// (it goes on).
     pub(super) fn finish(
         &mut self,
         thread: ThreadId,

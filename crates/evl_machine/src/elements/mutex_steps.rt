@@ -1,5 +1,5 @@
-//! Steps on a mutex's word in the core's table: by anybody for a mutex without a ceiling, else by the thread that has the
-//! kernel.
+//! Steps on a mutex's word in the core's table: by anybody for a mutex without a ceiling, else by the thread that has
+//! the kernel.
 ghost use Rattle.std.specs.Prelude.{◌≡◌, ◌<◌, IsSomeAnd, Ok, false, length, slice_get};
 ghost use Rattle.evl_words.specs.declared.mutex.MutexRole.TheVariants.{Winner};
 ghost use Rattle.evl_words.specs.MutexPlaces.{IsOfPlace};

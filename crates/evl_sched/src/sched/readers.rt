@@ -21,8 +21,8 @@ impl<A: Allocator> SchedOf<A> {
         }
     }
 
-    /// Whether two schedulers are in the same state, whatever ranks they were given: the same seats, the same ready list and the
-    /// same budgets. (this profile)
+    /// Whether two schedulers are in the same state, whatever ranks they were given: the same seats, the same ready
+    /// list and the same budgets.
     pub fn is_like<B: Allocator>(&self, other: &SchedOf<B>) -> bool
         ensures alike { result ≡ true → self.now.sched ≡ other.now.sched }
         ensures other { self.now.sched ≡ other.now.sched → result ≡ true }

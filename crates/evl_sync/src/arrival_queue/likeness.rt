@@ -4,7 +4,7 @@ ghost use Rattle.std.specs.Prelude.{◌≡◌, true};
 use super::ArrivalQueue;
 
 impl ArrivalQueue {
-    /// Whether in both the same threads wait, in the same order. (this profile)
+    /// Whether in both the same threads wait, in the same order.
     pub fn is_like(&self, other: &ArrivalQueue) -> bool
         ensures alike { result ≡ true → self.now ≡ other.now }
         ensures other { self.now ≡ other.now → result ≡ true }

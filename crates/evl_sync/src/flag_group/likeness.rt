@@ -6,8 +6,8 @@ use crate::alike::{Alike, are_alike};
 use crate::flag_waiter::FlagWaiter;
 
 impl FlagGroup {
-    /// Whether both have the same bits, and the same threads wait for the same bits, with the same ranks and in the same
-    /// order. (this profile)
+    /// Whether both have the same bits, and the same threads wait for the same bits, with the same ranks and in the
+    /// same order.
     pub fn is_like(&self, other: &FlagGroup) -> bool
         ensures alike { result ≡ true → self.now ≡ other.now }
         ensures other { self.now ≡ other.now → result ≡ true }

@@ -5,8 +5,7 @@ use super::Sem;
 use crate::alike::Alike;
 
 impl Sem {
-    /// Whether both have the same count, and the same threads wait, with the same ranks and in the same order. (this
-    /// profile)
+    /// Whether both have the same count, and the same threads wait, with the same ranks and in the same order.
     pub fn is_like(&self, other: &Sem) -> bool
         ensures alike { result ≡ true → self.now ≡ other.now }
         ensures other { self.now ≡ other.now → result ≡ true }

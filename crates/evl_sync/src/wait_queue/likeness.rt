@@ -5,7 +5,7 @@ use super::WaitQueue;
 use crate::waiter::Waiter;
 
 impl WaitQueue {
-    /// Whether in both the same threads wait, with the same ranks, in the same order. (this profile)
+    /// Whether in both the same threads wait, with the same ranks, in the same order.
     pub fn is_like(&self, other: &WaitQueue) -> bool
         ensures alike { result ≡ true → self.now ≡ other.now }
         ensures other { self.now ≡ other.now → result ≡ true }

@@ -13,7 +13,9 @@ use evl_base::{Refusal, Stage};
 use std::alloc::Allocator;
 
 impl<A: Allocator> StaxGate<A> {
-    /// Leaves the gate, by one subtraction that keeps the stage bit (Dovetail: stax). The last to leave is told whether the claim mark stands (this profile). NotOwner, with the pass back and no step, for a pass that isn't this seat's at this gate, or where the seat holds nothing.
+    /// Leaves the gate, by one subtraction that keeps the stage bit (Dovetail: stax). The last to leave is told whether
+    /// the claim mark stands. NotOwner, with the pass back and no step, for a pass that isn't this seat's at this gate,
+    /// or where the seat holds nothing.
     pub fn unlock(&self, seat: &mut StaxSeat, pass: StaxPass) -> Result<Left, (Refusal, StaxPass)>
         requires { IsSeatOf seat.old self.now }
         ensures seat { IsSameSeat seat.old seat.new }
@@ -35,7 +37,7 @@ impl<A: Allocator> StaxGate<A> {
         }
     }
 
-    /// Sets the claim mark, by which the last to leave is told of others that want in (this profile).
+    /// Sets the claim mark, by which the last to leave is told of others that want in.
     pub fn claim(&self, seat: &mut StaxSeat)
         requires { IsSeatOf seat.old self.now }
         ensures seat { IsSameSeat seat.old seat.new }
@@ -47,7 +49,7 @@ impl<A: Allocator> StaxGate<A> {
             .fetch_or::<Claiming>(&mut seat.seat, 0, CLAIM_MARK);
     }
 
-    /// Clears the claim mark (this profile).
+    /// Clears the claim mark.
     pub fn unclaim(&self, seat: &mut StaxSeat)
         requires { IsSeatOf seat.old self.now }
         ensures seat { IsSameSeat seat.old seat.new }
@@ -59,7 +61,7 @@ impl<A: Allocator> StaxGate<A> {
             .fetch_and::<Unclaiming>(&mut seat.seat, 0, !CLAIM_MARK);
     }
 
-    /// How many hold the gate, from 0 to its limit, and at which stage. With none the stage means nothing (this profile).
+    /// How many hold the gate, from 0 to its limit, and at which stage. With none the stage means nothing.
     pub fn peek(&self, seat: &mut StaxSeat) -> (u16, Stage)
         requires { IsSeatOf seat.old self.now }
         ensures seat { IsSameSeat seat.old seat.new }

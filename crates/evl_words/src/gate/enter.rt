@@ -75,8 +75,8 @@ impl<A: Allocator> StaxGate<A> {
         }
     }
 
-    /// The first step of `try_lock` by itself: a load of the word, which is given where it would let the seat in. Between it
-    /// and `exchange` others may step. `Again` and `Limit` as by `try_lock` (this profile).
+    /// The first step of `try_lock` by itself: a load of the word, which is given where it would let the seat in.
+    /// Between it and `exchange` others may step. `Again` and `Limit` as by `try_lock`.
     pub fn look(&self, seat: &mut StaxSeat, stage: Stage) -> Result<u64, Refusal>
         requires mine { IsSeatOf seat.old self.now }
         requires free { seat.old.view.held.stage ≡ None }
@@ -88,8 +88,8 @@ impl<A: Allocator> StaxGate<A> {
         self.look_as::<Brand>(seat, stage)
     }
 
-    /// The second step of `try_lock` by itself: one exchange of the word that `look` gave. Where it finds another word, that
-    /// one decides: `Again`, `Limit`, or `Raced` where it would have let the seat in too (this profile).
+    /// The second step of `try_lock` by itself: one exchange of the word that `look` gave. Where it finds another word,
+    /// that one decides: `Again`, `Limit`, or `Raced` where it would have let the seat in too.
     pub fn exchange(
         &self,
         seat: &mut StaxSeat,
@@ -108,7 +108,9 @@ impl<A: Allocator> StaxGate<A> {
         self.exchange_as::<Brand>(seat, stage, word)
     }
 
-    /// Enters the gate at a stage, by a load and one exchange (Dovetail: stax). Busy, with no step, where the seat holds the gate already. Again where seats of the other stage hold it, Limit where its limit of seats holds it. Raced where the exchange found another word than the load and either would have let the seat in (this profile).
+    /// Enters the gate at a stage, by a load and one exchange (Dovetail: stax). Busy, with no step, where the seat
+    /// holds the gate already. Again where seats of the other stage hold it, Limit where its limit of seats holds it.
+    /// Raced where the exchange found another word than the load and either would have let the seat in.
     pub fn try_lock(&self, seat: &mut StaxSeat, stage: Stage) -> Result<StaxPass, Refusal>
         requires { IsSeatOf seat.old self.now }
         ensures seat { IsSameSeat seat.old seat.new }

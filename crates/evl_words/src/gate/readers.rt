@@ -5,14 +5,14 @@ use super::{StaxPass, StaxSeat};
 use evl_base::{Stage, StaxId};
 
 impl StaxPass {
-    /// The gate that a seat holds by it (this profile).
+    /// The gate that a seat holds by it.
     pub fn gate(&self) -> StaxId
         ensures { result ≡ self.now.gate }
     {
         self.gate
     }
 
-    /// The number of the seat that holds the gate by it, from 0 to 255 (this profile).
+    /// The number of the seat that holds the gate by it, from 0 to 255.
     pub fn seat(&self) -> u16
         ensures { result ≡ self.now.seat }
     {
@@ -21,21 +21,21 @@ impl StaxPass {
 }
 
 impl StaxSeat {
-    /// The gate that it was made with (this profile).
+    /// The gate that it was made with.
     pub fn gate(&self) -> StaxId
         ensures { result ≡ self.now.gate }
     {
         self.gate
     }
 
-    /// Its number among the gate's seats, from 0 to 255 (this profile).
+    /// Its number among the gate's seats, from 0 to 255.
     pub fn number(&self) -> u16
         ensures { result ≡ self.now.number }
     {
         self.number
     }
 
-    /// The stage at which it holds the gate, if it does (this profile).
+    /// The stage at which it holds the gate, if it does.
     pub fn held(&self) -> Option<Stage>
         ensures { result ≡ self.now.view.held.stage }
     {

@@ -5,16 +5,16 @@ ghost use Rattle.evl_words.specs.GateWord.{count_in, stage_in, mark_in, packed};
 
 use evl_base::{Refusal, Stage};
 
-/// The stage of the holders: clear in-band, set oob (this profile).
+/// The stage of the holders: clear in-band, set oob.
 pub const STAGE_BIT: u64 = 1 << 30;
 
-/// The claim mark (this profile).
+/// The claim mark.
 pub const CLAIM_MARK: u64 = 1 << 31;
 
-/// The bits of the number of holders (this profile).
+/// The bits of the number of holders.
 pub const COUNT_MASK: u64 = (1 << 16) - 1;
 
-/// A gate's word, taken apart: how many hold the gate, at which stage, and the claim mark (this profile).
+/// A gate's word, taken apart: how many hold the gate, at which stage, and the claim mark.
 #[derive(Clone, Copy)]
 pub struct GateWord {
     pub holders: u16,

@@ -18,8 +18,8 @@ impl Together<View<WordEntry<MutexCall, MutexReply>, MutexHold>> for AtMutex {
 
 impl<A: Allocator> MutexWord<A> {
     /// Two seats of a mutex word know of one history: of what they have seen one is the beginning of the other, and the
-    /// longer one has just the entries of each that are its own, in its order. At most one of them holds the mutex. Neither
-    /// changes (Xenomai 4: EVL mutex).
+    /// longer one has just the entries of each that are its own, in its order. At most one of them holds the mutex.
+    /// Neither changes (Xenomai 4: EVL mutex).
     pub fn agree(&self, one: &mut MutexSeat, other: &mut MutexSeat)
         requires mutex { IsSeatOf one.old self.now × IsSeatOf other.old self.now }
         ensures same { (one.new ≡ one.old) × (other.new ≡ other.old) }

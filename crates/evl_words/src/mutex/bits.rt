@@ -6,13 +6,13 @@ ghost use Rattle.evl_words.specs.MutexCalls.{reply_of};
 use super::Claim;
 use evl_base::ThreadId;
 
-/// The mutex is offered to its owner, who has not yet accepted it (this profile).
+/// The mutex is offered to its owner, who has not yet accepted it.
 pub const OFFERED: u64 = 1 << 30;
 
-/// The claim mark; alone it says that a seat has won and not yet settled (this profile).
+/// The claim mark; alone it says that a seat has won and not yet settled.
 pub const CLAIM_MARK: u64 = 1 << 31;
 
-/// The bits of the owner's number (this profile).
+/// The bits of the owner's number.
 const NUMBER_MASK: u64 = (1 << 16) - 1;
 
 /// What a claim on this word is answered.

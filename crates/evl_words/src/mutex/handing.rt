@@ -14,7 +14,8 @@ use std::alloc::Allocator;
 use std::marker::Brand;
 
 impl<A: Allocator> MutexWord<A> {
-    /// Sets the claim mark, and tells what stood before (Xenomai 4: the claim bit). On a free mutex its caller has won, and alone settles.
+    /// Sets the claim mark, and tells what stood before (Xenomai 4: the claim bit). On a free mutex its caller has won,
+    /// and alone settles.
     pub fn claim(&self, seat: &mut MutexSeat) -> Claim
         requires { IsSeatOf seat.old self.now }
         ensures seat { IsSameSeat seat.old seat.new }
@@ -28,7 +29,7 @@ impl<A: Allocator> MutexWord<A> {
         claim_on(word)
     }
 
-    /// The winner of a claim becomes the owner, and the mark goes (this profile).
+    /// The winner of a claim becomes the owner, and the mark goes.
     pub fn settle(&self, seat: &mut MutexSeat) -> MutexPass
         requires mine { IsSeatOf seat.old self.now }
         requires won { seat.old.view.held.role ≡ Winner }
@@ -65,7 +66,7 @@ impl<A: Allocator> MutexWord<A> {
         seat.here.spend(pass);
     }
 
-    /// The owner, at depth 1, offers the mutex to the seat of a thread, and marks it where more wait (this profile).
+    /// The owner, at depth 1, offers the mutex to the seat of a thread, and marks it where more wait.
     pub fn offer(&self, seat: &mut MutexSeat, pass: MutexPass, next: ThreadId, more: bool)
         requires mine { IsSeatOf seat.old self.now }
         requires pass { IsPassOf pass seat.old × (seat.old.depth ≡ 1) }
@@ -77,7 +78,7 @@ impl<A: Allocator> MutexWord<A> {
         self.offer_as::<Brand>(seat, pass, next, more)
     }
 
-    /// The owner, at depth 1, gives the mutex up to nobody, and no mark stays (this profile).
+    /// The owner, at depth 1, gives the mutex up to nobody, and no mark stays.
     pub fn free(&self, seat: &mut MutexSeat, pass: MutexPass)
         requires mine { IsSeatOf seat.old self.now }
         requires pass { IsPassOf pass seat.old × (seat.old.depth ≡ 1) }

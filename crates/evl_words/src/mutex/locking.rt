@@ -10,7 +10,9 @@ use evl_base::Refusal;
 use std::alloc::Allocator;
 
 impl<A: Allocator> MutexWord<A> {
-    /// Takes the mutex by one exchange of 0 for the seat's number, and otherwise answers Busy (Xenomai 4: fast locking). An owner that tries again is refused by Deadlock, or holds a recursive mutex once more, up to 255 times, and then is refused by Limit (this profile); that makes no step.
+    /// Takes the mutex by one exchange of 0 for the seat's number, and otherwise answers Busy (Xenomai 4: fast
+    /// locking). An owner that tries again is refused by Deadlock, or holds a recursive mutex once more, up to 255
+    /// times, and then is refused by Limit; that makes no step.
     pub fn try_lock(&self, seat: &mut MutexSeat) -> Result<MutexPass, Refusal>
         requires { IsSeatOf seat.old self.now }
         ensures seat { IsSameSeat seat.old seat.new }
@@ -40,7 +42,9 @@ impl<A: Allocator> MutexWord<A> {
         }
     }
 
-    /// Spends a pass. At depth 1 the mutex is given up by one exchange of the seat's number for 0, unless it is claimed (Xenomai 4: the claim bit sends the unlocker to the core). A pass that isn't this seat's at this mutex comes back with NotOwner.
+    /// Spends a pass. At depth 1 the mutex is given up by one exchange of the seat's number for 0, unless it is claimed
+    /// (Xenomai 4: the claim bit sends the unlocker to the core). A pass that isn't this seat's at this mutex comes
+    /// back with NotOwner.
     pub fn unlock(
         &self,
         seat: &mut MutexSeat,

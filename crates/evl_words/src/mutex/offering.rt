@@ -14,7 +14,7 @@ use evl_base::Refusal;
 use std::alloc::Allocator;
 
 impl<A: Allocator> MutexWord<A> {
-    /// Whether the mutex is offered to the seat (this profile).
+    /// Whether the mutex is offered to the seat.
     pub fn seen_offer(&self, seat: &mut MutexSeat) -> bool
         requires { IsSeatOf seat.old self.now }
         ensures seat { IsSameSeat seat.old seat.new }
@@ -25,7 +25,7 @@ impl<A: Allocator> MutexWord<A> {
         is_offered_to(word, seat.here.number())
     }
 
-    /// The seat waits for the mutex no more. Busy where the mutex is offered to it (this profile).
+    /// The seat waits for the mutex no more. Busy where the mutex is offered to it.
     pub fn forget(&self, seat: &mut MutexSeat) -> Result<(), Refusal>
         requires { IsSeatOf seat.old self.now }
         ensures seat { IsSameSeat seat.old seat.new }
@@ -71,7 +71,7 @@ impl<A: Allocator> MutexWord<A> {
         seat.here.own()
     }
 
-    /// Accepts what is offered to the seat, which then owns the mutex. Again without an offer to it (this profile).
+    /// Accepts what is offered to the seat, which then owns the mutex. Again without an offer to it.
     pub fn accept(&self, seat: &mut MutexSeat) -> Result<MutexPass, Refusal>
         requires { IsSeatOf seat.old self.now }
         ensures seat { IsSameSeat seat.old seat.new }

@@ -5,7 +5,7 @@ ghost use Rattle.evl_words.specs.MutexPlaces.{IsOfPlace, is_pass_of};
 use super::MutexPass;
 use evl_base::MutexId;
 
-/// A thread's place at a mutex, and how often it holds it, up to 255 times (this profile).
+/// A thread's place at a mutex, and how often it holds it, up to 255 times.
 #[derive(Drop)]
 pub struct MutexPlace {
     mutex: MutexId,
@@ -14,7 +14,7 @@ pub struct MutexPlace {
 }
 
 impl MutexPlace {
-    /// A place that doesn't hold its mutex (this profile).
+    /// A place that doesn't hold its mutex.
     pub fn new(mutex: MutexId, number: u16) -> MutexPlace
         ensures { result ≡ record { mutex = mutex; number = number; depth = 0 } }
     {
@@ -25,28 +25,28 @@ impl MutexPlace {
         }
     }
 
-    /// The mutex that it was made with (this profile).
+    /// The mutex that it was made with.
     pub fn mutex(&self) -> MutexId
         ensures { result ≡ self.now.mutex }
     {
         self.mutex
     }
 
-    /// Its number among the mutex's seats, from 0 to 255 (this profile).
+    /// Its number among the mutex's seats, from 0 to 255.
     pub fn number(&self) -> u16
         ensures { result ≡ self.now.number }
     {
         self.number
     }
 
-    /// How often it holds the mutex, from 0 to 255 (this profile).
+    /// How often it holds the mutex, from 0 to 255.
     pub fn depth(&self) -> u8
         ensures { result ≡ self.now.depth }
     {
         self.depth
     }
 
-    /// Holds the mutex once (this profile).
+    /// Holds the mutex once.
     pub fn own(&mut self) -> MutexPass
         ensures pass { IsOfPlace result self.old }
         ensures place { self.new ≡ record self.old { depth = 1 } }
@@ -55,7 +55,7 @@ impl MutexPlace {
         self.pass()
     }
 
-    /// Holds the mutex once more (this profile).
+    /// Holds the mutex once more.
     pub fn nest(&mut self) -> MutexPass
         requires { self.old.depth < 255 }
         ensures pass { IsOfPlace result self.old }
@@ -65,14 +65,14 @@ impl MutexPlace {
         self.pass()
     }
 
-    /// Whether it holds the mutex by this pass (this profile).
+    /// Whether it holds the mutex by this pass.
     pub fn fits(&self, pass: &MutexPass) -> bool
         ensures { result ≡ is_pass_of pass.now self.now }
     {
         pass.mutex == self.mutex && pass.seat == self.number && self.depth > 0
     }
 
-    /// Holds the mutex once less (this profile).
+    /// Holds the mutex once less.
     pub fn spend(&mut self, pass: MutexPass)
         requires { 0 < self.old.depth }
         ensures { self.new ≡ record self.old { depth = self.old.depth - 1 } }

@@ -5,14 +5,14 @@ use super::{MutexPass, MutexSeat};
 use evl_base::MutexId;
 
 impl MutexPass {
-    /// The mutex that a seat holds by it (this profile).
+    /// The mutex that a seat holds by it.
     pub fn mutex(&self) -> MutexId
         ensures { result ≡ self.now.mutex }
     {
         self.mutex
     }
 
-    /// The number of the seat that holds the mutex by it, from 0 to 255 (this profile).
+    /// The number of the seat that holds the mutex by it, from 0 to 255.
     pub fn seat(&self) -> u16
         ensures { result ≡ self.now.seat }
     {
@@ -21,21 +21,21 @@ impl MutexPass {
 }
 
 impl MutexSeat {
-    /// The mutex that it was made with (this profile).
+    /// The mutex that it was made with.
     pub fn mutex(&self) -> MutexId
         ensures { result ≡ self.now.mutex }
     {
         self.here.mutex()
     }
 
-    /// Its number among the mutex's seats, from 0 to 255 (this profile).
+    /// Its number among the mutex's seats, from 0 to 255.
     pub fn number(&self) -> u16
         ensures { result ≡ self.now.number }
     {
         self.here.number()
     }
 
-    /// How often it holds the mutex, from 0 to 255 (this profile).
+    /// How often it holds the mutex, from 0 to 255.
     pub fn depth(&self) -> u8
         ensures { result ≡ self.now.depth }
     {

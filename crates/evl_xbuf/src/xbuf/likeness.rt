@@ -6,7 +6,7 @@ use std::alloc::Allocator;
 
 impl<A: Allocator> XbufOf<A> {
     /// Whether both ways stand alike: the sizes of the rings, the bytes that are there, and who waits for what, in the
-    /// same order. (this profile)
+    /// same order.
     pub fn is_like<B: Allocator>(&self, other: &XbufOf<B>) -> bool
         ensures alike { result ≡ true → self.now ≡ other.now }
         ensures other { self.now ≡ other.now → result ≡ true }

@@ -11,7 +11,7 @@ use crate::served::Served;
 use evl_base::{Bytes, Refusal, Stage, ThreadId, Way};
 use std::alloc::Allocator;
 
-// The most bytes of one transfer (this profile).
+// The most bytes of one transfer.
 const MAX_TRANSFER: u16 = 256;
 
 impl<A: Allocator> XbufOf<A> {
@@ -62,8 +62,8 @@ impl<A: Allocator> XbufOf<A> {
         }
     }
 
-    /// Writes or begins to wait as `begin_write` does, says whether it was done at once, and tells whom that served into a
-    /// list where nobody stands yet. (Xenomai 4: EVL cross-buffer; this profile)
+    /// Writes or begins to wait as `begin_write` does, says whether it was done at once, and tells whom that served
+    /// into a list where nobody stands yet. (Xenomai 4: EVL cross-buffer)
     pub fn begin_write_telling(
         &mut self,
         thread: ThreadId,
@@ -116,7 +116,7 @@ impl<A: Allocator> XbufOf<A> {
     }
 
     /// Lets a thread wait this way no more as `drop_waiter` does, and tells whom that served into a list where nobody
-    /// stands yet. (this profile)
+    /// stands yet.
     pub fn drop_waiter_telling(&mut self, thread: ThreadId, way: Way, told: &mut Served)
         requires nobody { told.old ≡ [] }
         ensures step { (told.new, self.new) ≡ drop_waiter thread.0 way self.old }

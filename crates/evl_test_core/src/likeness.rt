@@ -1,0 +1,80 @@
+//! Kernels that stand alike, whatever calls led there, and the ready list.
+ghost use Rattle.std.specs.Prelude.{IfOk};
+ghost use Rattle.evl_kernel.specs.Callbacks.{AnswersAsTold};
+
+use crate::handlers::{SEM, does};
+use arrayvec::ArrayVec;
+use evl_base::{Board, Call, Policy, Refusal, Stage, ThreadId};
+use evl_kernel::{Kernel, KernelOf};
+use evl_pipeline::Handler;
+use std::alloc::{Allocator, Global};
+
+const PUT: Call = Call::Put { sem: SEM };
+
+const GET: Call = Call::TryGet { sem: SEM };
+
+// A kernel of two threads and a semaphore, with no callbacks.
+fn made(alloc: Global) -> Result<Kernel, Refusal>
+    ensures { IfOk result (λ k. AnswersAsTold (λ c. c.kinds.0) (λ c. c.plan.value) k.callbacks) }
+{
+    let mut sems = ArrayVec::new();
+    sems.push(0);
+    let board = Board {
+        threads: 2,
+        sems,
+        flags: ArrayVec::new(),
+        xbufs: ArrayVec::new(),
+        mutexes: ArrayVec::new(),
+        groups: ArrayVec::new(),
+        staxes: ArrayVec::new(),
+    };
+    Kernel::new(alloc, board, Vec::new(alloc), 10)
+}
+
+// Whether the ready list has just the calling thread.
+fn is_ready_alone<C, A: Allocator>(alloc: Global, kernel: &KernelOf<C, A>) -> bool {
+    let mut ready = Vec::new(alloc);
+    let told = kernel.ready_threads(&mut ready).is_ok();
+    told && ready.as_slice() == [ThreadId(0)].as_slice()
+}
+
+// Whether a thread that is attached out-of-band stands in the ready list.
+fn is_listed<C: Handler, A: Allocator>(alloc: Global, kernel: &mut KernelOf<C, A>) -> bool
+    requires { AnswersAsTold C.declared C.plan kernel.old.callbacks }
+    ensures { AnswersAsTold C.declared C.plan kernel.new.callbacks }
+{
+    let attach = Call::Attach {
+        policy: Policy::Fifo(10),
+        stage: Stage::Oob,
+    };
+    let attached = does(kernel, attach);
+    attached && is_ready_alone(alloc, kernel)
+}
+
+// Two kernels come to one state by other calls, and then to another.
+fn meet<C: Handler, A: Allocator>(one: &mut KernelOf<C, A>, other: &mut KernelOf<C, A>) -> bool
+    requires one { AnswersAsTold C.declared C.plan one.old.callbacks }
+    requires other { AnswersAsTold C.declared C.plan other.old.callbacks }
+    ensures { AnswersAsTold C.declared C.plan one.new.callbacks }
+{
+    let before = one.is_like(other);
+    let put = does(one, PUT);
+    let apart = !one.is_like(other);
+    let got = does(one, GET);
+    let met = one.is_like(other);
+    let told = does(other, PUT);
+    before && put && apart && got && met && told && !one.is_like(other)
+}
+
+#[test]
+fn kernels_stand_alike(rt: HostRuntime) {
+    let alloc = rt.alloc();
+    let Ok(mut one) = made(alloc) else {
+        panic!(rt; "one");
+    };
+    let Ok(mut other) = made(alloc) else {
+        panic!(rt; "other");
+    };
+    let met = meet(&mut one, &mut other);
+    assert!(rt; met && is_listed(alloc, &mut one));
+}
