@@ -167,7 +167,7 @@ static inline evl_call evl_call_finish(bool keep) {
 
 /*
  * Questions, which change nothing. Where there is no kernel, or no such thing, the number is -1, the count INT64_MIN, the
- * truth false and the date 0.
+ * truth false and the date 0; but nobody waits (0) for a mutex that isn't there, and a thread that isn't there is in-band.
  */
 static inline evl_reading evl_ask(evl_kernel *kernel, unsigned kind, uint16_t element, unsigned stage, unsigned way,
                                   unsigned on, size_t place) {

@@ -6,8 +6,8 @@
  *   evl_answer answer = evl_do(&kernel, 0, evl_call_put(0));
  *   evl_close(&kernel);
  *
- * What is said here of each function is proved of the export that it calls (crates/evl_c); the functions in this file fill
- * structs and look for null pointers. Who calls owes what the C types say, as in evl.h, and that an evl_kernel is either
+ * What is said here of each function is proved of the export that it calls (crates/evl_c), but for when memory runs out, of
+ * which no proof speaks; the functions in this file fill structs and look for null pointers. Who calls owes what the C types say, as in evl.h, and that an evl_kernel is either
  * EVL_NO_KERNEL or what a function of this file left in it, in one place: a copy of it is no second kernel. A kernel is given
  * to one call at a time, of the thread that made it. Nothing here is called from a signal handler.
  */
@@ -80,7 +80,10 @@ enum evl_call_kind {
   EVL_CALL_CLAIM, EVL_CALL_RELEASE, EVL_CALL_RAISE, EVL_CALL_FINISH
 };
 
-/* A call, as the functions evl_call_.. make it. All of its numbers are in their ranges, also those that its kind doesn't use. */
+/*
+ * A call, as the functions evl_call_.. make it. All of its numbers are in their ranges, also those that its kind doesn't use.
+ * A take's `choice` above 2 is taken as 2, and a finish's above 1 as 1.
+ */
 typedef struct evl_call {
   uint8_t kind;     /* EVL_CALL_REQUEST to EVL_CALL_FINISH */
   uint8_t stage;    /* EVL_INBAND or EVL_OOB */

@@ -8,5 +8,6 @@ pub mod Opens
 pub mod Owning
 pub mod Plays
 pub mod Readings
+pub mod Statuses
 pub mod Texts
 pub mod Windows

@@ -4,6 +4,7 @@ ghost use Rattle.evl_c.specs.Answers as answers;
 ghost use Rattle.evl_c.specs.Applies.{Applied, Applies};
 ghost use Rattle.evl_c.specs.Calls as calls;
 ghost use Rattle.evl_c.specs.Handles.{held};
+ghost use Rattle.evl_c.specs.Statuses.{brings_bytes, is_among, of_apply, of_look};
 
 use crate::answers::{AnswerForm, PlayForm, answer_form, bytes_of, play_form};
 use crate::calls::{CallForm, is_call, read_call};
@@ -24,11 +25,11 @@ fn make_call(kernel: &mut Held, caller: u16, call: Call, out: &mut [u8]) -> Answ
     answer_form(&answer, before, after.saturating_sub(before))
 }
 
-/// Makes a call of a thread, with these bytes where it is a write; the bytes that it brings go into the buffer, as many as
-/// there is room for.
+/// Makes a call of a thread, with these bytes where it is a write; the bytes that it brings go into the buffer, as many
+/// as there is room for.
 ///
-/// 0: the call is answered, or refused, as `answer` tells. 4: no memory for the bytes. 6: no kernel is there. 7: a number of
-/// the call is out of its range, or there are more than 256 bytes. But for 0 nothing is called or written (this profile).
+/// 0: the call is answered, or refused, as `answer` tells. 4: no memory for the bytes of a write. 6: no kernel is
+/// there. 7: a number of the call is out of its range, or there are more than 256 bytes. But for 0 nothing is done.
 #[unsafe(no_mangle)]
 pub extern "C" fn evl_c_apply(
     alloc: Global,
@@ -41,17 +42,20 @@ pub extern "C" fn evl_c_apply(
 ) -> u32
     ensures applied { result ≡ 0 → Applies (held kernel.old) (held kernel.new) caller (calls.call_of call.now bytes.now) out.old out.new answer.new }
     ensures numbers { (result ≡ 7) ↔ (calls.is_call call.now bytes.now ≡ false) }
-    ensures none { result ≡ 6 → held kernel.old ≡ None }
+    ensures none { (result ≡ 6) ↔ ((calls.is_call call.now bytes.now ≡ true) × (held kernel.old ≡ None)) }
+    ensures memory { result ≡ 4 → brings_bytes call.now ≡ true }
+    ensures statuses { is_among of_apply result ≡ true }
     ensures refused { result ≢ 0 → (held kernel.new ≡ held kernel.old) × (out.new ≡ out.old) × (answer.new ≡ answer.old) }
 {
     if !is_call(call, bytes) {
         return 7;
     }
-    let Ok(made) = read_call(alloc, call, bytes) else {
-        return 4;
-    };
     let Some(mut there) = kernel.take(alloc) else {
         return 6;
+    };
+    let Ok(made) = read_call(alloc, call, bytes) else {
+        kernel.put(there);
+        return 4;
     };
     *answer = make_call(&mut there, caller, made, out);
     kernel.put(there);
@@ -70,7 +74,7 @@ fn event_at(kernel: &Held, index: usize) -> Option<PlayForm>
 
 /// Tells of a play of a kernel's history, by its index, from 0: those of a call are the `plays` from `first_play` on.
 ///
-/// 0: done. 6: no kernel is there. 7: there is no such play. But for 0 nothing is written (this profile).
+/// 0: done. 6: no kernel is there. 7: there is no such play. But for 0 nothing is written.
 #[unsafe(no_mangle)]
 pub extern "C" fn evl_c_event(
     alloc: Global,
@@ -81,6 +85,7 @@ pub extern "C" fn evl_c_event(
     ensures told { result ≡ 0 → IsSomeAnd (held kernel.old) (λ k. option_map answers.play_form (slice_get k.history.plays index) ≡ Some event.new) }
     ensures beyond { result ≡ 7 → IsSomeAnd (held kernel.old) (λ k. option_map answers.play_form (slice_get k.history.plays index) ≡ None) }
     ensures none { (result ≡ 6) ↔ (held kernel.old ≡ None) }
+    ensures statuses { is_among of_look result ≡ true }
     ensures kept { held kernel.new ≡ held kernel.old }
     ensures refused { result ≢ 0 → event.new ≡ event.old }
 {

@@ -1,7 +1,8 @@
 //! Questions to kernels, of C.
-ghost use Rattle.std.specs.Prelude.{◌≡◌, ◌≢◌, ◌↔◌, false, None, IsSomeAnd};
+ghost use Rattle.std.specs.Prelude.{◌≡◌, ◌≢◌, ◌↔◌, false, true, None, IsSomeAnd};
 ghost use Rattle.evl_c.specs.Handles.{held};
 ghost use Rattle.evl_c.specs.Readings as readings;
+ghost use Rattle.evl_c.specs.Statuses.{is_among, of_look};
 
 use crate::handles::KernelHandle;
 use crate::readings::{QuestionForm, ReadingForm, is_question, read};
@@ -9,8 +10,7 @@ use std::alloc::Global;
 
 /// Asks a kernel, which changes nothing.
 ///
-/// 0: done. 6: no kernel is there. 7: a number of the question is out of its range. But for 0 nothing is written (this
-/// profile).
+/// 0: done. 6: no kernel is there. 7: a number of the question is out of its range. But for 0 nothing is written.
 #[unsafe(no_mangle)]
 pub extern "C" fn evl_c_ask(
     alloc: Global,
@@ -20,7 +20,8 @@ pub extern "C" fn evl_c_ask(
 ) -> u32
     ensures told { result ≡ 0 → IsSomeAnd (held kernel.old) (λ k. reading.new ≡ readings.reading_of k question.now) }
     ensures numbers { (result ≡ 7) ↔ (readings.is_question question.now ≡ false) }
-    ensures none { result ≡ 6 → held kernel.old ≡ None }
+    ensures none { (result ≡ 6) ↔ ((readings.is_question question.now ≡ true) × (held kernel.old ≡ None)) }
+    ensures statuses { is_among of_look result ≡ true }
     ensures kept { held kernel.new ≡ held kernel.old }
     ensures refused { result ≢ 0 → reading.new ≡ reading.old }
 {

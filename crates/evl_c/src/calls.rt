@@ -2,6 +2,7 @@
 ghost use Rattle.std.specs.Prelude.{◌≡◌, ◌≤◌, length, true, Err, IfErr, IfOk};
 ghost use Rattle.evl_base.specs.declared.refusal.Refusal.{Refusal};
 ghost use Rattle.evl_c.specs.Calls as calls;
+ghost use Rattle.evl_c.specs.Statuses as statuses;
 
 use evl_base::{
     Call, FlagId, LineNo, MutexId, Policy, Refusal, SemId, Stage, Take, ThreadId, TimerId,
@@ -287,7 +288,7 @@ pub fn is_call(form: &CallForm, bytes: &[u8]) -> bool
 pub fn read_call(alloc: Global, form: &CallForm, bytes: &[u8]) -> Result<Call, Refusal>
     requires { calls.is_call form.now bytes.now ≡ true }
     ensures call { IfOk result (λ call. call ≡ calls.call_of form.now bytes.now) }
-    ensures refusal { IfErr result (λ e. e ≡ Refusal.NoMemory) }
+    ensures refusal { IfErr result (λ e. (e ≡ Refusal.NoMemory) × (statuses.brings_bytes form.now ≡ true)) }
 {
     match form.kind {
         27 => Ok(Call::Write {

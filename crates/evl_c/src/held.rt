@@ -94,8 +94,8 @@ impl Held {
         }
     }
 
-    /// The scenario of all calls so far. `Board` and `Limit` where no scenario has these, `TooLong` where it would be longer
-    /// than one may be, `Memory` where a growth was refused.
+    /// The scenario of all calls so far. `Board` and `Limit` where no scenario has these, `TooLong` where it would be
+    /// longer than one may be, `Memory` where a growth was refused.
     pub fn scenario(&self, alloc: Global) -> Result<String, Unwritten>
         ensures text { IfOk result (λ text. scenario_of None (string_bytes text) ≡ Ok (script_of_history self.now.history.board self.now.limit self.now.history.entries)) }
         ensures refused { IfErr result (λ e. IsUnwritten e (script_of_history self.now.history.board self.now.limit self.now.history.entries)) }

@@ -1,4 +1,5 @@
 //! The simulator as a library for C. What each export takes, answers and refuses stands in include/evl.h too.
+//! What names no source is this profile's own.
 #![tactic(auto)]
 
 mod answers;

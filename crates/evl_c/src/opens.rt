@@ -4,6 +4,7 @@ ghost use Rattle.evl_c.specs.Boards.{board_of};
 ghost use Rattle.evl_c.specs.Forms.{are_plans, handler_of};
 ghost use Rattle.evl_c.specs.Handles.{held};
 ghost use Rattle.evl_c.specs.Opens.{IsFresh, can_be_opened};
+ghost use Rattle.evl_c.specs.Statuses.{is_among, of_open};
 
 use crate::boards::{BoardForm, is_board};
 use crate::forms::{PlanForm, are_plans, read_plans};
@@ -15,6 +16,7 @@ use std::alloc::Global;
 // Puts a kernel into a handle. 4: no memory.
 fn put_new(alloc: Global, kernel: &mut KernelHandle, new: Held) -> u32
     ensures put { result ≡ 0 → held kernel.new ≡ Some new }
+    ensures statuses { is_among of_open result ≡ true }
     ensures refused { result ≢ 0 → (result ≡ 4) × (held kernel.new ≡ held kernel.old) }
 {
     match Box::new(alloc, new) {
@@ -39,6 +41,7 @@ fn open_over(
     ensures fits { result ≡ 0 → can_be_opened board.now (length plans.now) limit ≡ true }
     ensures board { result ≡ 2 → can_be_opened board.now (length plans.now) limit ≡ false }
     ensures plans { result ≢ 5 }
+    ensures statuses { is_among of_open result ≡ true }
     ensures refused { result ≢ 0 → held kernel.new ≡ held kernel.old }
 {
     if !is_board(board) {
@@ -54,11 +57,11 @@ fn open_over(
     }
 }
 
-/// Makes a kernel of a board, over callbacks with these plans, with a history of at most `limit` entries (1 to 1,000,000).
-/// A kernel that was there is freed.
+/// Makes a kernel of a board, over callbacks with these plans, with a history of at most `limit` entries (1 to
+/// 1,000,000). A kernel that was there is freed.
 ///
-/// 0: done. 2: bad board or limit. 4: no memory. 5: a plan is none, or there are more than 64. But for 0 no kernel is there
-/// then (this profile).
+/// 0: done. 2: bad board or limit. 4: no memory. 5: a plan is none, or there are more than 64. But for 0 no kernel is
+/// there then.
 #[unsafe(no_mangle)]
 pub extern "C" fn evl_c_open(
     alloc: Global,
@@ -71,6 +74,7 @@ pub extern "C" fn evl_c_open(
     ensures fits { result ≡ 0 → can_be_opened board.now (length plans.now) limit ≡ true }
     ensures board { result ≡ 2 → can_be_opened board.now (length plans.now) limit ≡ false }
     ensures plans { (result ≡ 5) ↔ (are_plans plans.now ≡ false) }
+    ensures statuses { is_among of_open result ≡ true }
     ensures refused { result ≢ 0 → held kernel.new ≡ None }
 {
     drop(kernel.take(alloc));
@@ -80,7 +84,7 @@ pub extern "C" fn evl_c_open(
     open_over(alloc, board, plans, limit, kernel)
 }
 
-/// Frees a kernel, if one is there (this profile).
+/// Frees a kernel, if one is there.
 #[unsafe(no_mangle)]
 pub extern "C" fn evl_c_close(alloc: Global, kernel: &mut KernelHandle)
     ensures { held kernel.new ≡ None }

@@ -103,10 +103,10 @@ fn play_over(
     }
 }
 
-/// Plays a scenario's text over the program's callbacks, and puts its trace, from the byte `start` on, into the buffer, as
-/// much as there is room for. `limit` (1 to 1,000,000) replaces the text's; at 0 that stays.
+/// Plays a scenario's text over the program's callbacks, and puts its trace, from the byte `start` on, into the buffer,
+/// as much as there is room for. `limit` (1 to 1,000,000) replaces the text's; at 0 that stays.
 ///
-/// 0: done. 1: bad text. 2: bad board. 3: bad step. 4: no memory. But for 0 the buffer is as before (this profile).
+/// 0: done. 1: bad text. 2: bad board. 3: bad step. 4: no memory. But for 0 the buffer is as before.
 #[unsafe(no_mangle)]
 pub extern "C" fn evl_c_play(
     alloc: Global,
@@ -121,8 +121,8 @@ pub extern "C" fn evl_c_play(
     play_over(alloc, &program_plans(), text, limit, start, out, played)
 }
 
-/// The same over callbacks with these plans, at most 64. 5: a number of a plan is out of its range, it declares fewer kinds
-/// than it has, or there are more than 64; then nothing is played, and the buffer is as before (this profile).
+/// The same over callbacks with these plans, at most 64. 5: a number of a plan is out of its range, it declares fewer
+/// kinds than it has, or there are more than 64; then nothing is played, and the buffer is as before.
 #[unsafe(no_mangle)]
 pub extern "C" fn evl_c_play_over(
     alloc: Global,

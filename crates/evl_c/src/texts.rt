@@ -1,10 +1,12 @@
 //! Scenarios and traces of kernels, for C.
-ghost use Rattle.std.specs.Prelude.{◌≡◌, ◌≢◌, ◌↔◌, None, Ok, length, IsSomeAnd, string_bytes};
+ghost use Rattle.std.specs.Prelude.{◌≡◌, ◌≢◌, ◌↔◌, true, None, Ok, length, IsSomeAnd, string_bytes};
 ghost use Rattle.evl_scenario.specs.Scenarios.{scenario_of};
 ghost use Rattle.evl_scenario.specs.Traces.{history_trace};
 ghost use Rattle.evl_scenario.specs.Writings.{script_of_history};
 ghost use Rattle.evl_c.specs.Handles.{held};
-ghost use Rattle.evl_c.specs.Texts.{TellsScenario, TellsText};
+ghost use Rattle.evl_c.specs.Statuses.{is_among, of_scenario, of_trace};
+ghost use Rattle.evl_c.specs.Texts as texts;
+ghost use Rattle.evl_c.specs.Texts.{TellsScenario, TellsText, Unwrites};
 ghost use Rattle.evl_c.specs.Windows.{window};
 
 use crate::handles::KernelHandle;
@@ -20,10 +22,10 @@ fn tell_text(text: &String, start: usize, out: &mut [u8], length: &mut usize)
     *length = text.len();
 }
 
-/// Puts the trace of all calls of a kernel so far, from the byte `start` on, into the buffer, as much as there is room for.
+/// Puts the trace of all calls of a kernel so far, from the byte `start` on, into the buffer, as much as there is room
+/// for.
 ///
-/// 0: done, and `length` is the whole trace's. 4: no memory. 6: no kernel is there. But for 0 nothing is written (this
-/// profile).
+/// 0: done, and `length` is the whole trace's. 4: no memory. 6: no kernel is there. But for 0 nothing is written.
 #[unsafe(no_mangle)]
 pub extern "C" fn evl_c_trace(
     alloc: Global,
@@ -34,6 +36,7 @@ pub extern "C" fn evl_c_trace(
 ) -> u32
     ensures told { result ≡ 0 → IsSomeAnd (held kernel.old) (λ k. TellsText (history_trace k.history.board k.limit k.history.entries k.history.plays) start out.old out.new length.new) }
     ensures none { (result ≡ 6) ↔ (held kernel.old ≡ None) }
+    ensures statuses { is_among of_trace result ≡ true }
     ensures kept { held kernel.new ≡ held kernel.old }
     ensures refused { result ≢ 0 → (out.new ≡ out.old) × (length.new ≡ length.old) }
 {
@@ -55,6 +58,8 @@ pub extern "C" fn evl_c_trace(
 fn status_of(fault: Unwritten) -> u32
     ensures one { result ≢ 0 }
     ensures other { result ≢ 6 }
+    ensures statuses { is_among of_scenario result ≡ true }
+    ensures told { result ≡ texts.status_of fault }
 {
     match fault {
         Unwritten::Board | Unwritten::Limit => 2,
@@ -63,10 +68,11 @@ fn status_of(fault: Unwritten) -> u32
     }
 }
 
-/// Puts the scenario of all calls of a kernel so far, from the byte `start` on, into the buffer, as much as there is room for.
+/// Puts the scenario of all calls of a kernel so far, from the byte `start` on, into the buffer, as much as there is
+/// room for.
 ///
-/// 0: done, and `length` is the whole text's. 4: no memory. 6: no kernel is there. 8: it would be longer than a scenario may
-/// be. But for 0 nothing is written (this profile).
+/// 0: done, and `length` is the whole text's. 4: no memory. 6: no kernel is there. 8: it would be longer than a
+/// scenario may be. But for 0 nothing is written.
 #[unsafe(no_mangle)]
 pub extern "C" fn evl_c_scenario(
     alloc: Global,
@@ -77,6 +83,8 @@ pub extern "C" fn evl_c_scenario(
 ) -> u32
     ensures told { result ≡ 0 → IsSomeAnd (held kernel.old) (λ k. TellsScenario (script_of_history k.history.board k.limit k.history.entries) start out.old out.new length.new) }
     ensures none { (result ≡ 6) ↔ (held kernel.old ≡ None) }
+    ensures unwritten { result ≢ 0 → result ≢ 6 → IsSomeAnd (held kernel.old) (λ k. Unwrites (script_of_history k.history.board k.limit k.history.entries) result) }
+    ensures statuses { is_among of_scenario result ≡ true }
     ensures kept { held kernel.new ≡ held kernel.old }
     ensures refused { result ≢ 0 → (out.new ≡ out.old) × (length.new ≡ length.old) }
 {

@@ -2,7 +2,8 @@
 ghost use Rattle.std.specs.Prelude.{◌≡◌};
 ghost use Rattle.evl_c.specs.Windows.{window};
 
-/// Puts the bytes of a text from a place on over the front of a buffer, as many as both have; the rest of the buffer stays.
+/// Puts the bytes of a text from a place on over the front of a buffer, as many as both have; the rest of the buffer
+/// stays.
 pub fn put_window(text: &[u8], start: usize, out: &mut [u8])
     ensures { out.new ≡ window text.now start out.old }
 {

@@ -9,6 +9,7 @@ use Rattle.evl_kernel.specs.Histories.{History, IsLegal, Run, opened}
 use Rattle.evl_kernel.specs.States.{State}
 use Rattle.evl_scenario.specs.Lines.{board_line_of, board_line_text}
 use Rattle.evl_scenario.specs.Traces.{entry_lines, history_trace, lines_behind}
+use Rattle.evl_scenario.specs.declared.steps.Step.{Step}
 use Rattle.evl_live.specs.Sessions.{Driven, TellsEntry, TellsTrace}
 
 -- what plays stand behind an entry's own
@@ -55,9 +56,9 @@ trace_grows board limit old new entry own legal counted entries plays =
     ∙ ap (λ (n : ℕ). (first ++ lines_behind 0 old.entries old.plays) ++ entry_lines n entry own) number
 
 -- whoever tells of the entry that came tells by what the trace grew
-tells_trace : (old new : Driven) (before after : List ℕ) → new.board ≡ old.board → new.limit ≡ old.limit → IsLegal old.history
-    → TellsEntry old.history new.history before after → TellsTrace old new before after
-tells_trace old new before after board limit legal tells = record {
+tells_trace : (old new : Driven) (step : Step) (before after : List ℕ) → new.board ≡ old.board → new.limit ≡ old.limit → IsLegal old.history
+    → TellsEntry old.history new.history step before after → TellsTrace old new before after
+tells_trace old new step before after board limit legal tells = record {
   lines = entry_lines (length new.history.entries) tells.entry tells.plays;
   told = tells.told;
   trace = (λ i. history_trace (board i) (limit i) new.history.entries new.history.plays)
@@ -65,7 +66,7 @@ tells_trace old new before after board limit legal tells = record {
 }
 
 -- whether or not something was told
-pub tells_trace_on : {T E : Type 0} (r : Result T E) (Applies : Type 0) (old new : Driven) (before after : List ℕ) → new.board ≡ old.board → new.limit ≡ old.limit
-    → IsLegal old.history → OnOk r (Applies → TellsEntry old.history new.history before after) → OnOk r (Applies → TellsTrace old new before after)
-tells_trace_on (Ok done) Applies old new before after board limit legal tells = λ applies. tells_trace old new before after board limit legal (tells applies)
-tells_trace_on (Err e) Applies old new before after board limit legal tells = tt
+pub tells_trace_on : {T E : Type 0} (r : Result T E) (Applies : Type 0) (old new : Driven) (step : Step) (before after : List ℕ) → new.board ≡ old.board → new.limit ≡ old.limit
+    → IsLegal old.history → OnOk r (Applies → TellsEntry old.history new.history step before after) → OnOk r (Applies → TellsTrace old new before after)
+tells_trace_on (Ok done) Applies old new step before after board limit legal tells = λ applies. tells_trace old new step before after board limit legal (tells applies)
+tells_trace_on (Err e) Applies old new step before after board limit legal tells = tt

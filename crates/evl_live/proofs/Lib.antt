@@ -1,2 +1,4 @@
+mod StepLaws
+mod OpeningLaws
 mod TellingLaws
 mod GrowthLaws

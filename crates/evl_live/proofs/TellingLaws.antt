@@ -1,14 +1,15 @@
 -- What is told of the newest entry of a history.
-use Rattle.std.proofs.Common.{◌≡◌, ◌∙◌, ℕ, ◌-◌, List, [], ◌∷◌, ◌++◌, length, drop, Option, Some, sym, ap, arith}
+use Rattle.std.proofs.Common.{◌≡◌, ◌∙◌, ℕ, ◌-◌, List, [], ◌∷◌, ◌++◌, length, drop, Some, sym, ap, arith}
 use Rattle.std.specs.List.{slice_get}
 use Rattle.std.proofs.Math.Seq.{get_or-append_seam, drop-append_seam}
 use Rattle.std.proofs.lemmas.List.{length-append}
 use Rattle.std.proofs.lemmas.Option.{slice_get-get_or}
 use Rattle.evl_base.specs.declared.entry.Entry.{Entry}
 use Rattle.evl_base.specs.declared.play.Play.{Play}
-use Rattle.evl_kernel.specs.Histories.{History, Extends}
+use Rattle.evl_kernel.specs.Histories.{History}
 use Rattle.evl_scenario.specs.Traces.{entry_lines}
-use Rattle.evl_live.specs.Sessions.{TellsEntry}
+use Rattle.evl_scenario.specs.declared.steps.Step.{Step}
+use Rattle.evl_live.specs.Sessions.{Enters, TellsEntry}
 
 -- the last of a list that ends so
 pub newest : (before : List Entry) (entry : Entry) → slice_get (before ++ entry ∷ []) (length (before ++ entry ∷ []) - 1) ≡ Some entry
@@ -28,17 +29,20 @@ newest_told entries last number own plays told after n at same is before entry e
     let one : last ≡ entry = cc in
     is ∙ (λ i. told ++ entry_lines (n i) (one i) (same i))
 
--- whoever tells of the newest entry, with the plays from an index on, tells of the entry that came, with its own plays
-pub tells : (old new : History) (from : ℕ) (entry : Entry) (plays : List Play) (before after : List ℕ) → Extends old new entry plays → from ≡ length old.plays
+-- whoever tells of the newest entry, with the plays from an index on, tells of the step that was entered, with its own plays
+pub tells : (old new : History) (step : Step) (from : ℕ) (before after : List ℕ) → Enters old step new → from ≡ length old.plays
     → ((b : List Entry) (e : Entry) → new.entries ≡ b ++ e ∷ [] → after ≡ before ++ entry_lines (length new.entries) e (drop from new.plays))
-    → TellsEntry old new before after
-tells old new from entry plays before after extends at told = record {
-  entry = entry;
-  plays = plays;
-  entries_are = extends.entries;
-  plays_are = extends.plays_too;
-  counted = extends.step.0;
-  told = told old.entries entry extends.entries
-      ∙ ap (λ (own : List Play). before ++ entry_lines (length new.entries) entry own)
-      (ap (λ n. drop n new.plays) at ∙ ap (λ (all : List Play). drop (length old.plays) all) extends.plays_too ∙ drop-append_seam old.plays plays);
-}
+    → TellsEntry old new step before after
+tells old new step from before after enters at told =
+    let extends = enters.extends in
+    record {
+      entry = enters.entry;
+      plays = enters.plays;
+      asked = enters.asked;
+      entries_are = extends.entries;
+      plays_are = extends.plays_too;
+      counted = extends.step.0;
+      told = told old.entries enters.entry extends.entries
+          ∙ ap (λ (own : List Play). before ++ entry_lines (length new.entries) enters.entry own)
+          (ap (λ n. drop n new.plays) at ∙ ap (λ (all : List Play). drop (length old.plays) all) extends.plays_too ∙ drop-append_seam old.plays enters.plays);
+    }

@@ -1,13 +1,17 @@
--- What a driven machine is, and what it tells of a call.
-use Rattle.std.specs.Prelude.{◌≡◌, ℕ, List, [], ◌∷◌, ◌++◌, length, None, Err}
+-- What a driven machine is, what it was opened with, and what it tells of a call.
+use Rattle.std.specs.Prelude.{◌≡◌, ◌≤◌, ◌-◌, ℕ, List, [], ◌∷◌, ◌++◌, length, map, take, None, Err}
 use Rattle.evl_base.specs.declared.board.Board.{Board}
 use Rattle.evl_base.specs.declared.entry.Entry.{Entry}
 use Rattle.evl_base.specs.declared.play.Play.{Play}
 use Rattle.evl_base.specs.declared.refusal.Refusal.TheVariants.{HistoryFull}
-use Rattle.evl_kernel.specs.Histories.{History}
+use Rattle.evl_kernel.specs.Histories.{Extends, History}
+use Rattle.evl_kernel.specs.States.{Handler}
 use Rattle.evl_scenario.specs.Lines.{line_text}
+use Rattle.evl_scenario.specs.Scenarios.{Script}
 use Rattle.evl_scenario.specs.Traces.{entry_lines, history_trace}
+use Rattle.evl_scenario.specs.Writings.{step_of_entry}
 use Rattle.evl_scenario.specs.declared.steps.Step.{Step}
+use Rattle.evl_shell.specs.Histories.{AreSound}
 
 -- the board and the limit that it was opened with, and all that it was asked since
 pub record Driven : Type 0 where
@@ -15,10 +19,41 @@ pub record Driven : Type 0 where
   pub limit : ℕ
   pub history : History
 
--- The history has one entry more, and what was told behind the text before are the lines of that entry and of its plays.
-pub record TellsEntry (old new : History) (before after : List ℕ) : Type 0 where
+-- the history is of this board, no longer than the limit, and over sound callbacks
+pub record IsDriven (driven : Driven) : Type 0 where
+  pub board : driven.history.board ≡ driven.board
+  pub within : length driven.history.entries ≤ driven.limit
+  pub sound : AreSound driven.history.bank
+
+-- what a history has asked for, and of these steps as many as its limit leaves room for
+abbrev pub asked_under : ℕ → History → List Step → List Step
+asked_under limit h steps = map step_of_entry h.entries ++ take (limit - length h.entries) steps
+
+-- A machine over these callbacks, of a scenario's board and limit, was asked for the scenario's steps in order, as many as its limit leaves room for.
+pub record Opens (script : Script) (bank : List Handler) (driven : Driven) : Type 0 where
+  pub board : driven.board ≡ script.board
+  pub limit : driven.limit ≡ script.limit
+  pub bank_is : driven.history.bank ≡ bank
+  pub asked : map step_of_entry driven.history.entries ≡ take script.limit script.steps
+
+-- The board and the bank stay, and a history that was no longer than the limit is so still.
+pub record KeepsWithin (limit : ℕ) (old new : History) : Type 0 where
+  pub board : new.board ≡ old.board
+  pub bank : new.bank ≡ old.bank
+  pub within : length old.entries ≤ limit → length new.entries ≤ limit
+
+-- The history has one entry more, that of this step.
+pub record Enters (old : History) (step : Step) (new : History) : Type 0 where
   pub entry : Entry
   pub plays : List Play
+  pub extends : Extends old new entry plays
+  pub asked : (entry.caller ≡ step.who) × (entry.call ≡ step.call)
+
+-- The history has one entry more, that of this step, and what was told behind the text before are the lines of that entry and of its plays.
+pub record TellsEntry (old new : History) (step : Step) (before after : List ℕ) : Type 0 where
+  pub entry : Entry
+  pub plays : List Play
+  pub asked : (entry.caller ≡ step.who) × (entry.call ≡ step.call)
   pub entries_are : new.entries ≡ old.entries ++ entry ∷ []
   pub plays_are : new.plays ≡ old.plays ++ plays
   pub counted : entry.plays ≡ length plays

@@ -51,9 +51,10 @@ fn trimmed(line: &[u8]) -> &[u8] {
     line.get(..end).unwrap_or(&[])
 }
 
-/// Answers a line, without its line feed: a call with the lines of its trace, `?` and `? put` with help, `ps` with what the
-/// machine is doing, `scenario` with the scenario of the calls so far, a line that begins with `#` with itself, an empty one with
-/// nothing, and one that can't be read with `!`, the byte, from 1, and what was wanted there; that changes nothing. `AllocError` where memory couldn't grow.
+/// Answers a line, without its line feed: a call with the lines of its trace, `?` and `? put` with help, `ps` with what
+/// the machine is doing, `scenario` with the scenario of the calls so far, a line that begins with `#` with itself, an
+/// empty one with nothing, and one that can't be read with `!`, the byte, from 1, and what was wanted there; that
+/// changes nothing. `AllocError` where memory couldn't grow.
 pub fn answer_line(
     alloc: Global,
     session: &mut Session,

@@ -244,8 +244,8 @@ fn write_call(alloc: Global, told: &mut String, form: Form) -> Result<(), AllocE
     write_keys(alloc, told, form)
 }
 
-/// Writes the form of a call, and what each of its keys takes, and answers whether there is such a call. `AllocError` where
-/// memory couldn't grow.
+/// Writes the form of a call, and what each of its keys takes, and answers whether there is such a call. `AllocError`
+/// where memory couldn't grow.
 pub fn write_call_of(alloc: Global, told: &mut String, word: &str) -> Result<bool, AllocError> {
     match form_of(word) {
         Some(form) => match write_call(alloc, told, form) {

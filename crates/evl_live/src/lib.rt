@@ -1,4 +1,5 @@
-//! A machine that is driven line by line: each line is a call, as a trace has it, and is answered with the lines of the trace.
+//! A machine that is driven line by line: each line is a call, as a trace has it, and is answered with the lines of the
+//! trace.
 #![tactic(auto)]
 
 mod answers;

@@ -132,8 +132,9 @@ fn read_call(
     read_small(alloc, text.as_slice(), word, thread, pairs.as_slice())
 }
 
-/// The step that a line asks for, as a trace writes it: `T0 put sem=0`, with keys in any order, and without those that a
-/// scenario may leave out. Else where it can't be read, and what was wanted there. `AllocError` where memory couldn't grow.
+/// The step that a line asks for, as a trace writes it: `T0 put sem=0`, with keys in any order, and without those that
+/// a scenario may leave out. Else where it can't be read, and what was wanted there. `AllocError` where memory couldn't
+/// grow.
 pub fn read_step_line(alloc: Global, line: &[u8]) -> Result<Heard, AllocError> {
     if let Some(at) = odd_byte(line) {
         return unread_at(

@@ -2,7 +2,8 @@
 use crate::places::{Pair, Part, bytes_at};
 use std::alloc::{AllocError, Global};
 
-/// The line of the small scenario on which the step's word stands; that of its thread follows, and then those of its keys.
+/// The line of the small scenario on which the step's word stands; that of its thread follows, and then those of its
+/// keys.
 pub const WORD_LINE: usize = 4;
 
 // Writes a key with a value in quotes on a line.

@@ -1,6 +1,6 @@
 -- A world is gone through caller by caller, node by node, and step by step.
 use Rattle.std.proofs.Common.{◌≡◌, ℕ, zero, suc, ◌+◌, ◌*◌, Bool, true, false, cond, not, ◌&&◌, ◌||◌, List, [], ◌∷◌, ◌++◌, refl, sym, ◌∙◌, ap, subst, arith, zero-add, add-zero, add-one, append_assoc, append-nil}
-use Rattle.std.specs.Prelude.{◌<◌, All, Some, None, is_none, is_some, if◌then◌else◌, length, slice_get, slice_set}
+use Rattle.std.specs.Prelude.{◌<◌, ◌≤◌, All, Some, None, is_none, is_some, if◌then◌else◌, length, slice_get, slice_set}
 use Rattle.std.specs.List.{list_all}
 use Rattle.std.specs.Option.{option_map_or}
 use Rattle.std.proofs.lemmas.List.Sums.{sum_by_push, sum_by-cons}
@@ -12,7 +12,7 @@ use Rattle.evl_orders.specs.Fronts.{AreFit, IsLed, AreLed, AreOver, AddsSteps, L
 use Rattle.evl_orders.specs.declared.nodes.Node.{Node}
 use Rattle.evl_orders.proofs.Leads.{led_more}
 use Rattle.evl_orders.proofs.Weighing.{raised, weight_raised, fit_raised, led_raised}
-use Rattle.evl_orders.proofs.Totals.{total_runs_zero, total_runs_more, total_orders_zero, total_orders_more, none_left}
+use Rattle.evl_orders.proofs.Totals.{total_runs_zero, total_runs_more, total_orders_zero, total_orders_more, total_of_ones, none_left}
 
 -- whether any of these callers can make a step
 abbrev pub goes_by : {S : Type 0} → Machine S → S → List ℕ → Bool
@@ -38,6 +38,10 @@ some_at (x ∷ xs) zero h = (x, refl)
 some_at (x ∷ xs) (suc i) h = some_at xs i (omega arith)
 
 module _ {M S : Type 0} (m : Machine S) (state : M → S) (fits : M → Type 0) where
+  -- a node's moment is one of the world, and orders lead to it
+  abbrev IsFit : Node M → Type 0
+  IsFit n = fits n.at × (0 < n.count)
+
   -- no callers yet
   pub adds_none : (node : Node M) (nodes : List (Node M)) → AreFit fits nodes → AddsSteps m state fits node [] nodes nodes
   adds_none node nodes fit = record {
@@ -76,10 +80,10 @@ module _ {M S : Type 0} (m : Machine S) (state : M → S) (fits : M → Type 0) 
 
   -- a step to a new state
   pub adds_new : (before : Node M) (c : ℕ) (moment : M) (old new : List (Node M)) (node : Node M) → m.go (state before.at) c ≡ Some (state moment) → fits moment
-      → new ≡ old ++ node ∷ [] → node.at ≡ moment → node.count ≡ before.count → node.order.items ≡ before.order.items ++ c ∷ [] → AreFit fits old
+      → new ≡ old ++ node ∷ [] → node.at ≡ moment → node.count ≡ before.count → node.order.items ≡ before.order.items ++ c ∷ [] → AreFit fits old → 0 < before.count
       → AddsSteps m state fits before (c ∷ []) old new
-  adds_new before c moment old new node leads given made same count order fit = record {
-    fit = subst (AreFit fits) (sym made) (All-push (λ (n : Node M). fits n.at) old node fit (subst fits (sym same) given));
+  adds_new before c moment old new node leads given made same count order fit some = record {
+    fit = subst (AreFit fits) (sym made) (All-push IsFit old node fit (subst fits (sym same) given, omega (arith, count, some)));
     sums = λ f.
         ap (weight state f) made
         ∙ (sum_by_push (λ (n : Node M). n.count * f (state n.at)) old node
@@ -120,7 +124,7 @@ module _ {M S : Type 0} (m : Machine S) (state : M → S) (fits : M → Type 0) 
   -- no nodes yet
   pub leads_none : (ends : List (Node M)) → LeadsOn m state fits [] [] ends ends
   leads_none ends = record {
-    fit = All-nil (λ (node : Node M). fits node.at);
+    fit = All-nil IsFit;
     sums = λ f. refl;
     ends = λ f. sym (add-zero (weight state f ends));
     led_there = λ s all. all;
@@ -185,7 +189,7 @@ module _ {M S : Type 0} (m : Machine S) (state : M → S) (fits : M → Type 0) 
   -- no step yet
   pub front_first : (node : Node M) → fits node.at → node.count ≡ 1 → node.order.items ≡ [] → IsFront m state fits (state node.at) 0 (node ∷ []) []
   front_first node fit one none = record {
-    fit = All-cons (λ (n : Node M). fits n.at) node [] fit (All-nil (λ (n : Node M). fits n.at));
+    fit = All-cons IsFit node [] (fit, omega (arith, one)) (All-nil IsFit);
     reached = λ f.
         let alone = sum_by-cons (λ (n : Node M). n.count * f (state n.at)) node [] in
         let times : node.count * f (state node.at) ≡ 1 * f (state node.at) = ap (λ k. k * f (state node.at)) one in
@@ -219,6 +223,16 @@ module _ {M S : Type 0} (m : Machine S) (state : M → S) (fits : M → Type 0) 
   front_whole s steps level ends front none =
       none_left (runs m s steps) (sym (front.reached (λ t. 1)) ∙ ap (weight state (λ t. 1)) none)
 
+  -- each node has a run of its own
+  few : (nodes : List (Node M)) → AreFit fits nodes → length nodes ≤ weight state (λ t. 1) nodes
+  few [] fit = omega arith
+  few (node ∷ nodes) fit =
+      let more : weight state (λ t. 1) (node ∷ nodes) ≡ node.count * 1 + weight state (λ t. 1) nodes = sum_by-cons (λ (n : Node M). n.count * 1) node nodes in
+      omega (arith, more, (All-head IsFit node nodes fit).1, few nodes (All-tail IsFit node nodes fit))
+
+  pub front_few : (s : S) (steps : ℕ) (level ends : List (Node M)) → IsFront m state fits s steps level ends → length level ≤ length (runs m s steps)
+  front_few s steps level ends front = omega (arith, few level front.fit, front.reached (λ t. 1), total_of_ones (runs m s steps))
+
   -- the next caller, by its number
   pub caller_more : (node : Node M) (c : ℕ) (old mid new : List (Node M)) → AddsSteps m state fits node (below c) old mid → AddsSteps m state fits node (c ∷ []) mid new
       → AddsSteps m state fits node (below (c + 1)) old new
@@ -232,13 +246,13 @@ module _ {M S : Type 0} (m : Machine S) (state : M → S) (fits : M → Type 0) 
 
   -- the nodes that are left
   pub fit_same : (nodes others : List (Node M)) → nodes ≡ others → AreFit fits others → AreFit fits nodes
-  fit_same nodes others e fit = All-same (λ (n : Node M). fits n.at) nodes others e fit
+  fit_same nodes others e fit = All-same IsFit nodes others e fit
 
-  pub fit_head : (rest : List (Node M)) (node : Node M) (others : List (Node M)) → rest ≡ node ∷ others → AreFit fits rest → fits node.at
-  fit_head rest node others e fit = All-head (λ (n : Node M). fits n.at) node others (fit_same (node ∷ others) rest (sym e) fit)
+  pub fit_head : (rest : List (Node M)) (node : Node M) (others : List (Node M)) → rest ≡ node ∷ others → AreFit fits rest → fits node.at × (0 < node.count)
+  fit_head rest node others e fit = All-head IsFit node others (fit_same (node ∷ others) rest (sym e) fit)
 
   pub fit_rest : (rest : List (Node M)) (node : Node M) (others : List (Node M)) → rest ≡ node ∷ others → AreFit fits rest → AreFit fits others
-  fit_rest rest node others e fit = All-tail (λ (n : Node M). fits n.at) node others (fit_same (node ∷ others) rest (sym e) fit)
+  fit_rest rest node others e fit = All-tail IsFit node others (fit_same (node ∷ others) rest (sym e) fit)
 
   -- how far the nodes of a level were gone through
   abbrev pub Through : (rest level next old ends : List (Node M)) → Type 0
@@ -280,6 +294,9 @@ module _ {M S : Type 0} (m : Machine S) (state : M → S) (fits : M → Type 0) 
 
     pub whole_at : level ≡ [] → runs m s told ≡ []
     whole_at none = ap (runs m s) count ∙ front_whole s steps level ends front none
+
+    pub cut_at : (most : ℕ) → most < length level → most < length (runs m s told)
+    cut_at most more = omega (arith, more, front_few s steps level ends front, ap (λ k. length (runs m s k)) count)
 
     pub led_at : AreLed m state s found
     led_at = All-same (λ (n : Node M). IsLed m state s n) found ends same front.led_ends

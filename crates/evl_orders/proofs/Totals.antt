@@ -1,5 +1,5 @@
 -- Sums over runs, by one step more.
-use Rattle.std.proofs.Common.{◌≡◌, ℕ, suc, ◌+◌, Bool, true, false, cond, List, [], ◌∷◌, ◌++◌, refl, sym, ◌∙◌, ap, arith, zero-add}
+use Rattle.std.proofs.Common.{◌≡◌, ℕ, suc, ◌+◌, Bool, true, false, cond, List, [], ◌∷◌, ◌++◌, length, refl, sym, ◌∙◌, ap, arith, zero-add}
 use Rattle.std.specs.Prelude.{Option, Some, None, option_map, filter, filter_map, flat_map}
 use Rattle.std.specs.List.{cons_option}
 use Rattle.std.specs.Option.{option_map_or}
@@ -61,6 +61,11 @@ module _ {S : Type 0} (m : Machine S) (f : S → ℕ) where
       ∙ ap (λ n. total f (orders m s k) + n) (total_over (runs m s k))
 
 -- where one for each run is 0 there is no run
+-- each run counts once
+pub total_of_ones : {S : Type 0} (rs : List (Run S)) → total (λ s. 1) rs ≡ length rs
+total_of_ones [] = refl
+total_of_ones {S} (r ∷ rs) = omega (arith, sum_by-cons (λ (q : Run S). 1) r rs, total_of_ones rs)
+
 pub none_left : {S : Type 0} (rs : List (Run S)) → total (λ s. 1) rs ≡ 0 → rs ≡ []
 none_left [] e = refl
 none_left {S} (r ∷ rs) e = absurd (omega (arith, e, sum_by-cons (λ (q : Run S). 1) r rs))

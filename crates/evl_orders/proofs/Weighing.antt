@@ -1,6 +1,6 @@
 -- Sums over nodes, where one of them is led to by more orders.
 use Rattle.std.proofs.Common.{◌≡◌, ℕ, ◌+◌, ◌*◌, List, get_or, ap, subst, arith}
-use Rattle.std.specs.Prelude.{Some, slice_get, slice_set, sum_by}
+use Rattle.std.specs.Prelude.{◌<◌, Some, slice_get, slice_set, sum_by}
 use Rattle.std.proofs.lemmas.List.Sums.{sum_by-set}
 use Rattle.std.proofs.lemmas.List.Elements.{All-set, All-get_or}
 use Rattle.std.proofs.lemmas.Option.{slice_get_within, get_or_from_slice_get}
@@ -34,7 +34,7 @@ led_raised {M} m state s nodes i more node e all =
 pub fit_raised : {M : Type 0} (fits : M → Type 0) (nodes : List (Node M)) (i more : ℕ) (node : Node M)
     → slice_get nodes i ≡ Some node → AreFit fits nodes → AreFit fits (slice_set nodes i (raised node more))
 fit_raised {M} fits nodes i more node e fit =
-    let P : Node M → Type 0 = λ n. fits n.at in
+    let P : Node M → Type 0 = λ n. fits n.at × (0 < n.count) in
     let there : get_or nodes i node ≡ node = get_or_from_slice_get nodes i node node e in
     let one : P node = subst P there (All-get_or P nodes i node (slice_get_within nodes i node e) fit) in
-    All-set P nodes i (raised node more) one fit
+    All-set P nodes i (raised node more) (one.0, omega (arith, one.1)) fit

@@ -1,12 +1,12 @@
 -- How far a world was gone through.
-use Rattle.std.specs.Prelude.{ℕ, ◌≡◌, ◌+◌, ◌*◌, true, List, All, Some}
+use Rattle.std.specs.Prelude.{ℕ, ◌≡◌, ◌+◌, ◌*◌, ◌<◌, true, List, All, Some}
 use Rattle.evl_orders.specs.Machines.{Machine, led, is_over, runs, orders}
 use Rattle.evl_orders.specs.Weights.{total, weight, ahead_by, ahead, at_end}
 use Rattle.evl_orders.specs.declared.nodes.Node.{Node}
 
--- each node's moment is one of the world
+-- each node's moment is one of the world, and orders lead to it
 abbrev pub AreFit : {M : Type 0} → (M → Type 0) → List (Node M) → Type 0
-AreFit fits nodes = All (λ node. fits node.at) nodes
+AreFit fits nodes = All (λ node. fits node.at × (0 < node.count)) nodes
 
 -- a node's order leads to its moment
 abbrev pub IsLed : {M S : Type 0} → Machine S → (M → S) → S → Node M → Type 0

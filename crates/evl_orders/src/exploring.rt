@@ -1,5 +1,5 @@
 //! All orders of a world.
-ghost use Rattle.std.specs.Prelude.{ℕ, [], ◌∷◌, ◌++◌, if◌then◌else◌, ◌≡◌, ◌<◌, ◌||◌, true, not, is_some, OnOk, IfOk};
+ghost use Rattle.std.specs.Prelude.{ℕ, [], ◌∷◌, ◌++◌, if◌then◌else◌, ◌≡◌, ◌+◌, ◌<◌, ◌⊎◌, ◌||◌, true, false, not, is_some, length, vec_len, OnOk, IfOk};
 ghost use Rattle.evl_orders.specs.Fronts.{AddsSteps, AreFit, AreLed, AreOver, IsFront, LeadsOn};
 ghost use Rattle.evl_orders.specs.Machines.{below, is_over, orders, runs};
 ghost use Rattle.evl_orders.specs.Weights.{total, weight};
@@ -41,6 +41,7 @@ fn add_next<W: World>(
 ) -> Result<bool, OrdersError>
     requires caller { caller < (W.machine world.now).callers }
     requires node { W.fits world.now node.now.at }
+    requires count { 0 < node.now.count }
     requires nodes { AreFit (W.fits world.now) next.old.nodes.items }
     ensures goes { IfOk result (λ goes. goes ≡ is_some ((W.machine world.now).go (W.state world.now node.now.at) caller)) }
     ensures adds { IfOk result (λ goes. AddsSteps (W.machine world.now) (W.state world.now) (W.fits world.now) node.now (caller ∷ []) next.old.nodes.items next.new.nodes.items) }
@@ -72,6 +73,7 @@ fn add_nexts<W: World>(
     next: &mut Level<W::Moment>,
 ) -> Result<bool, OrdersError>
     requires node { W.fits world.now node.now.at }
+    requires count { 0 < node.now.count }
     requires nodes { AreFit (W.fits world.now) next.old.nodes.items }
     ensures goes { IfOk result (λ goes. goes ≡ not (is_over (W.machine world.now) (W.state world.now node.now.at))) }
     ensures adds { IfOk result (λ goes. AddsSteps (W.machine world.now) (W.state world.now) (W.fits world.now) node.now (below (W.machine world.now).callers) next.old.nodes.items next.new.nodes.items) }
@@ -135,7 +137,8 @@ fn first_front<W: World>(
     start: W::Moment,
 ) -> Result<Front<W::Moment>, AllocError>
     requires { W.fits world.now start }
-    ensures { IfOk result (λ front. IsFront (W.machine world.now) (W.state world.now) (W.fits world.now) (W.state world.now start) front.steps front.level.nodes.items front.ends.items) }
+    ensures front { IfOk result (λ front. IsFront (W.machine world.now) (W.state world.now) (W.fits world.now) (W.state world.now start) front.steps front.level.nodes.items front.ends.items) }
+    ensures steps { IfOk result (λ front. front.steps ≡ 0) }
 {
     let level = first_level(alloc, start)?;
     Ok(Front {
@@ -153,8 +156,9 @@ fn next_front<W: World>(
     front: Front<W::Moment>,
 ) -> Result<Front<W::Moment>, OrdersError>
     requires { AreFit (W.fits world.now) front.level.nodes.items }
-    ensures { IfOk result (λ next. (s : W.State) → IsFront (W.machine world.now) (W.state world.now) (W.fits world.now) s front.steps front.level.nodes.items front.ends.items
+    ensures front { IfOk result (λ next. (s : W.State) → IsFront (W.machine world.now) (W.state world.now) (W.fits world.now) s front.steps front.level.nodes.items front.ends.items
         → IsFront (W.machine world.now) (W.state world.now) (W.fits world.now) s next.steps next.level.nodes.items next.ends.items) }
+    ensures steps { IfOk result (λ next. next.steps ≡ front.steps + 1) }
 {
     let Front {
         level,
@@ -182,6 +186,7 @@ fn found<M: Drop>(front: Front<M>) -> Explored<M>
     ensures ends { result.ends.items ≡ front.ends.items }
     ensures steps { result.steps ≡ front.steps }
     ensures whole { result.whole ≡ true → front.level.nodes.items ≡ [] }
+    ensures cut { result.whole ≡ false → 0 < vec_len front.level.nodes }
 {
     let Front {
         level,
@@ -198,9 +203,9 @@ fn found<M: Drop>(front: Front<M>) -> Explored<M>
     }
 }
 
-/// Goes through all orders of fewer than `steps` steps from a moment, and no further than where a number of steps leads to more
-/// than `most` states. `Memory` where memory couldn't grow, `Count` where more orders lead to one state than a count can tell
-/// (this profile).
+/// Goes through all orders of fewer than `steps` steps from a moment, and no further than where a number of steps leads
+/// to more than `most` states. `Memory` where memory couldn't grow, `Count` where more orders lead to one state than a
+/// count can tell.
 pub fn explore<W: World>(
     alloc: Global,
     world: &W,
@@ -210,12 +215,17 @@ pub fn explore<W: World>(
 ) -> Result<Explored<W::Moment>, OrdersError>
     requires { W.fits world.now start }
 
-    // Whatever is counted of the states in which orders end: the ends, each as often as its count says, give what all orders give.
+    // Whatever is counted of the states in which orders end: the ends, each as often as its count says, give what all
+    // orders give.
     ensures counted { IfOk result (λ found. (f : W.State → ℕ) → weight (W.state world.now) f found.ends.items
         ≡ total f (orders (W.machine world.now) (W.state world.now start) found.steps)) }
 
     // Where nothing was cut off, no run has as many steps.
     ensures whole { IfOk result (λ found. found.whole ≡ true → runs (W.machine world.now) (W.state world.now start) found.steps ≡ []) }
+
+    // Else it came as far as was asked, or there are more runs of so many steps than `most`.
+    ensures cut { IfOk result (λ found. found.whole ≡ false → (found.steps ≡ steps)
+        ⊎ (most < length (runs (W.machine world.now) (W.state world.now start) found.steps))) }
 
     // Each end is where its order leads, and nobody can make a step there.
     ensures led { IfOk result (λ found. AreLed (W.machine world.now) (W.state world.now) (W.state world.now start) found.ends.items) }
@@ -225,9 +235,12 @@ pub fn explore<W: World>(
         Ok(front) => front,
         Err(_) => return Err(OrdersError::Memory),
     };
-    for _ in 0..steps {
+    for _step in 0..steps {
         let count = front.level.nodes.len();
-        if count == 0 || count > most {
+        if count == 0 {
+            return Ok(found(front));
+        }
+        if count > most {
             return Ok(found(front));
         }
         front = match next_front(alloc, world, front) {

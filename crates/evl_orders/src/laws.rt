@@ -3,28 +3,28 @@ ghost use Rattle.evl_orders.specs.Laws.{MergesAreOrders, OrdersAreMerges, Orders
 
 use crate::worlds::World;
 
-/// The runs of so many steps are all that there are, and nothing else (this profile).
+/// The runs of so many steps are all that there are, and nothing else.
 pub fn runs_are_all_runs<W: World>()
     ensures { RunsAreAllRuns W.State }
 {}
 
-/// Each of them is in their list once (this profile).
+/// Each of them is in their list once.
 pub fn runs_are_there_once<W: World>()
     ensures { RunsAreThereOnce W.State }
 {}
 
-/// Where there is no run of so many steps, the orders of fewer are all (this profile).
+/// Where there is no run of so many steps, the orders of fewer are all.
 pub fn orders_end<W: World>()
     ensures { OrdersEnd W.State }
 {}
 
-/// Where each caller has a list of steps, each order is a merge of front parts of these lists: so many steps of each caller, in
-/// their order (this profile).
+/// Where each caller has a list of steps, each order is a merge of front parts of these lists: so many steps of each
+/// caller, in their order.
 pub fn orders_are_merges<W: World>()
     ensures { OrdersAreMerges W.State }
 {}
 
-/// Where nobody ever waits before the end of its list, each merge of front parts of the lists can be gone (this profile).
+/// Where nobody ever waits before the end of its list, each merge of front parts of the lists can be gone.
 pub fn merges_are_orders<W: World>()
     ensures { MergesAreOrders W.State }
 {}

@@ -146,6 +146,7 @@ pub(crate) fn add_orders<W: World>(
 ) -> Result<(), OrdersError>
     requires nodes { AreFit (W.fits world.now) level.old.nodes.items }
     requires moment { W.fits world.now moment }
+    requires count { 0 < before.now.count }
     requires leads { (W.machine world.now).go (W.state world.now before.now.at) caller ≡ Some (W.state world.now moment) }
     ensures { OnOk result (AddsSteps (W.machine world.now) (W.state world.now) (W.fits world.now) before.now (caller ∷ []) level.old.nodes.items level.new.nodes.items) }
 {

@@ -1,6 +1,6 @@
 //! Moments, with the orders that lead to them.
 
-/// A moment, with how many orders lead to one of its state (this profile).
+/// A moment, with how many orders lead to one of its state.
 #[derive(Drop)]
 pub struct Node<M> {
     /// The moment to which the first of these orders leads.

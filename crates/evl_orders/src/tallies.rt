@@ -4,7 +4,7 @@ ghost use Rattle.evl_orders.specs.Tallies.{AreDistinct, told_weight};
 
 use crate::levels::OrdersError;
 
-/// An outcome (this profile).
+/// An outcome.
 #[derive(Drop)]
 pub struct Tally {
     /// What is told of it: two outcomes are the same where this is.
@@ -51,8 +51,8 @@ fn raise(tallies: &mut Vec<Tally>, place: usize, count: u128) -> Result<(), Orde
     }
 }
 
-/// Adds orders of an outcome: to those of the one that is told alike, if there is one. `Memory` where the list couldn't grow,
-/// `Count` where there are more orders than a count can tell.
+/// Adds orders of an outcome: to those of the one that is told alike, if there is one. `Memory` where the list couldn't
+/// grow, `Count` where there are more orders than a count can tell.
 pub fn add_tally(tallies: &mut Vec<Tally>, tally: Tally) -> Result<(), OrdersError>
     requires { AreDistinct tallies.old.items }
 

@@ -3,8 +3,8 @@ ghost use Rattle.std.specs.Prelude.{ℕ, ◌≡◌, ◌<◌, true, IfOk, IfSome,
 
 use std::alloc::{AllocError, Global};
 
-/// A world that callers drive, one step at a time: what a caller's next step does is determined by the state of the world
-/// (this profile).
+/// A world that callers drive, one step at a time: what a caller's next step does is determined by the state of the
+/// world.
 pub trait World {
     ghost use Rattle.evl_orders.specs.Machines.{Machine};
 

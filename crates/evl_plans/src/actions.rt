@@ -52,8 +52,8 @@ fn timer_stopped(table: &Table) -> Option<Action>
     Some(Action::StopTimer(TimerId(half_word_at(table, "stop_timer")?)))
 }
 
-/// The action that a row asks for, by the one key that it has beside `every` (with `post_flags` also `bits`); none where it
-/// has no such key, another one, or a value that can't stand there.
+/// The action that a row asks for, by the one key that it has beside `every` (with `post_flags` also `bits`); none
+/// where it has no such key, another one, or a value that can't stand there.
 pub fn read_action(table: &Table) -> Option<Action>
     ensures { result ≡ action_of (table_view table.now) }
 {

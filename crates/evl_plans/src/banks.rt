@@ -90,9 +90,9 @@ fn read_text(alloc: Global, text: &str) -> Result<Vec<Planned>, BankFault>
     }
 }
 
-/// The bank that a text asks for: a callback for each table `[[callback]]`, in order, numbered from 0, at most 64. `Text` for
-/// other bytes than UTF-8 or no document, `Document` for another key, `Callback` for the first that can't be read; `Memory`
-/// where a growth was refused (this profile).
+/// The bank that a text asks for: a callback for each table `[[callback]]`, in order, numbered from 0, at most 64.
+/// `Text` for other bytes than UTF-8 or no document, `Document` for another key, `Callback` for the first that can't be
+/// read; `Memory` where a growth was refused.
 pub fn read_bank(alloc: Global, text: &[u8]) -> Result<Vec<Planned>, BankFault>
     ensures ok { IfOk result (λ bank. bank_of text.now ≡ Ok (map told bank.items)) }
     ensures few { IfOk result (λ bank. length bank.items ≤ 64) }

@@ -34,7 +34,7 @@ impl fmt::Display for Part {
     }
 }
 
-/// Why a text is no bank (this profile).
+/// Why a text is no bank.
 #[derive(Clone, Copy, PartialEq, Eq, Debug)]
 pub enum BankFault {
     /// The text isn't UTF-8, or is no TOML document.

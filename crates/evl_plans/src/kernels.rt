@@ -1,8 +1,12 @@
 //! A kernel over callbacks that keep their plans.
-ghost use Rattle.std.specs.Prelude.{◌≡◌, ◌⊎◌, ◌↔◌, length, false, Err, IsTrue, IsFalse, IfOk, IfErr};
+ghost use Rattle.std.specs.Prelude.{◌≡◌, ◌⊎◌, ◌↔◌, ◌+◌, ◌≤◌, ◌<◌, length, false, Err, IsTrue, IsFalse, IfOk, IfErr, OnOk};
+ghost use Rattle.evl_kernel.specs.Callbacks.{BringsNone, told};
+ghost use Rattle.evl_kernel.specs.Fires.{AddsByCalls};
 ghost use Rattle.evl_kernel.specs.Histories.{IsLegal};
-ghost use Rattle.evl_kernel.specs.KernelViews.{AddsEntry, IsOpened, makes_entry};
+ghost use Rattle.evl_kernel.specs.KernelViews.{AddsEntry, IsKernelAnswer, IsOpened, makes_entry};
 ghost use Rattle.evl_kernel.specs.Openings.{can_open};
+ghost use Rattle.evl_kernel.specs.Places.{AreInOnePlace};
+ghost use Rattle.evl_pipeline.specs.Plans.{answer_of};
 
 use crate::planned::Planned;
 use evl_base::{Board, Call, Refusal, Reply, ThreadId};
@@ -10,7 +14,7 @@ use evl_kernel::KernelOf;
 use std::alloc::Global;
 use std::marker::Model;
 
-/// A kernel whose callbacks keep their plans, and so answer them (this profile).
+/// A kernel whose callbacks keep their plans, and so answer them.
 #[derive(Drop)]
 pub struct PlannedKernel {
     kernel: KernelOf<Planned, Global>,
@@ -29,8 +33,8 @@ impl Model for PlannedKernel {
 }
 
 impl PlannedKernel {
-    /// A kernel with the elements of the board, these callbacks, and an empty history of at most `limit` entries. `Range`
-    /// and `NoMemory` are the kernel's (this profile).
+    /// A kernel with the elements of the board, these callbacks, and an empty history of at most `limit` entries.
+    /// `Range` and `NoMemory` are the kernel's.
     pub fn new(
         alloc: Global,
         board: Board,
@@ -38,6 +42,7 @@ impl PlannedKernel {
         limit: u32,
     ) -> Result<PlannedKernel, Refusal>
         ensures opened { IfOk result (λ k. IsOpened (λ p. p.kinds.0) (λ p. p.plan) board bank.items limit k) }
+        ensures places { IfOk result (λ k. AreInOnePlace k.callbacks) }
         ensures range { (result ≡ Err Refusal.Range) ↔ (can_open board (length bank.items) limit ≡ false) }
         ensures refusals { IfErr result (λ e. (e ≡ Refusal.Range) ⊎ (e ≡ Refusal.NoMemory)) }
     {
@@ -53,9 +58,32 @@ impl PlannedKernel {
         ensures none { IsFalse (makes_entry result) → self.new.history ≡ self.old.history }
         ensures full { (result ≡ Err Refusal.HistoryFull) ↔ (length self.old.history.entries ≡ self.old.limit) }
         ensures legal { IsLegal self.new.history }
+        ensures memory { result ≡ Err Refusal.NoMemory → self.old.room ≡ 0 }
+        ensures answers { IsKernelAnswer result }
         ensures limit { self.new.limit ≡ self.old.limit }
+        ensures room { self.old.room ≤ self.new.room + 1 }
+        ensures brings { BringsNone self.old.callbacks self.new.callbacks }
+        ensures told { told self.new.callbacks.bank ≡ told self.old.callbacks.bank }
+        ensures called { AddsByCalls (λ p fire answer. answer ≡ answer_of p.plan fire.count) self.old.callbacks self.old.history caller.0 call self.new.history }
+        ensures places { AreInOnePlace self.new.callbacks }
     {
         self.kernel.apply(caller, call)
+    }
+
+    /// Makes room for the entries and plays of the next `n` calls of `apply`, which then answer neither `NoMemory` nor
+    /// `HistoryFull`: what the kernel's `reserve` does.
+    pub fn reserve(&mut self, n: usize) -> Result<(), Refusal>
+        ensures room { OnOk result (n ≤ self.new.room) }
+        ensures full { (result ≡ Err Refusal.HistoryFull) ↔ (self.old.limit < length self.old.history.entries + n) }
+        ensures refusals { IfErr result (λ e. (e ≡ Refusal.HistoryFull) ⊎ (e ≡ Refusal.NoMemory)) }
+        ensures history { self.new.history ≡ self.old.history }
+        ensures callbacks { self.new.callbacks ≡ self.old.callbacks }
+        ensures limit { self.new.limit ≡ self.old.limit }
+        ensures keeps { self.old.room ≤ self.new.room }
+        ensures memory { result ≡ Err Refusal.NoMemory → self.old.room < n }
+        ensures within { length self.old.history.entries ≤ self.old.limit }
+    {
+        self.kernel.reserve(n)
     }
 
     /// The kernel, to read it.

@@ -1,4 +1,5 @@
 //! Callbacks that keep their plans, banks of them that a text asks for, and what is played over them.
+//! What names no source is this profile's own.
 #![tactic(auto)]
 
 mod actions;

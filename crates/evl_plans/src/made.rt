@@ -10,7 +10,7 @@ use bitflags::Flags;
 use evl_base::ActionKinds;
 use evl_pipeline::{Action, Plan};
 
-/// The kind of an action, as a bit (this profile).
+/// The kind of an action, as a bit.
 pub fn kind_of(action: Action) -> u8
     ensures { result ≡ plans.kind_of action }
 {
@@ -47,8 +47,8 @@ fn copied_rows(rows: &[(u64, Action)]) -> ArrayVec<(u64, Action), 4>
 }
 
 impl Planned {
-    /// A callback that handles the events whose count `accepts` divides, and asks for the actions of these rows. It declares
-    /// the kinds of these actions (this profile).
+    /// A callback that handles the events whose count `accepts` divides, and asks for the actions of these rows. It
+    /// declares the kinds of these actions.
     #[tactic(auto, using(crate::proofs::KindLaws::rows_declare))]
     pub fn of_rows(accepts: u64, rows: ArrayVec<(u64, Action), 4>) -> Planned
         requires accepts { 1 ≤ accepts }
@@ -59,7 +59,7 @@ impl Planned {
         Planned::new(kinds, Plan { accepts, rows })
     }
 
-    /// The same callback once more (this profile).
+    /// The same callback once more.
     pub fn copied(&self) -> Planned
         ensures kinds { result.kinds ≡ self.now.kinds }
         ensures plan { result.plan ≡ self.now.plan }

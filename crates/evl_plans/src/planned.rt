@@ -8,7 +8,7 @@ use evl_base::ActionKinds;
 use evl_pipeline::{Action, Answer, Fire, Handler, Plan};
 use std::snapshot::Snapshot;
 
-/// A callback that keeps its plan, and the kinds of action that it declares (this profile).
+/// A callback that keeps its plan, and the kinds of action that it declares.
 #[derive(Drop)]
 pub struct Planned {
     pub kinds: ActionKinds,
@@ -42,7 +42,7 @@ fn actions_at(rows: &[(u64, Action)], count: u64) -> ArrayVec<Action, 4>
 }
 
 impl Planned {
-    /// A callback of a plan whose periods are 1 or more, and whose actions are of the kinds (this profile).
+    /// A callback of a plan whose periods are 1 or more, and whose actions are of the kinds.
     pub fn new(kinds: ActionKinds, plan: Plan) -> Planned
         requires { IsSound kinds.0 plan }
         ensures kinds { result.kinds ≡ kinds }
@@ -52,7 +52,7 @@ impl Planned {
         Planned { kinds, plan, shown }
     }
 
-    /// What the plan answers at a count, from 1 (this profile).
+    /// What the plan answers at a count, from 1.
     pub fn answer(&self, count: u64) -> Answer
         ensures { result ≡ answer_of self.now.plan count }
     {

@@ -52,8 +52,8 @@ fn read_rows(values: &[Value]) -> Result<Rows, Part>
     Ok(rows)
 }
 
-/// The rows at `do`, at most four; none where nothing stands there. `Rows` where no list does, `Row` for the first row that
-/// can't be read.
+/// The rows at `do`, at most four; none where nothing stands there. `Rows` where no list does, `Row` for the first row
+/// that can't be read.
 #[tactic(auto, using(crate::proofs::RowLaws::rows_periods))]
 pub fn rows_of(table: &Table) -> Result<Rows, Part>
     ensures ok { IfOk result (λ rows. rows_at (get_member (codes "do") (table_view table.now)) ≡ Ok rows.items) }

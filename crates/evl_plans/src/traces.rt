@@ -33,7 +33,7 @@ fn run_text(
 
 /// The trace of a scenario's text over a bank of these callbacks, at most 64, under a limit that may be handed in (1 to
 /// 1,000,000; it replaces the text's): what `run` writes. `Text`, `Board` and `Step` say what is wrong with the text,
-/// `Memory` that a growth was refused; it is never `Write` (this profile).
+/// `Memory` that a growth was refused; it is never `Write`.
 pub fn trace_plans(
     alloc: Global,
     plans: &[Planned],

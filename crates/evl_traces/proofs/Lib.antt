@@ -7,4 +7,5 @@ pub mod CallTexts
 pub mod EntryLaws
 pub mod PlayLaws
 mod BoardLaws
+mod FirstLaws
 pub mod LineLaws

@@ -27,6 +27,14 @@ around_cases c t a b false e h = cc
 pub around-whole : (c : ℕ) (t a b : List ℕ) → around c t ≡ Some (a, b) → t ≡ a ++ c ∷ b
 around-whole c t a b h = around_cases c t a b _ refl h
 
+lacks_cases : (c x : ℕ) (t : List ℕ) (v : Bool) → (x == c) ≡ v → Lacks c (before_first (λ b. b == c) t) → Lacks c (before_first (λ b. b == c) (x ∷ t))
+lacks_cases c x t true e h = rw e refl
+lacks_cases c x t false e h = let one : 1 + position_or_len (λ b. b == c) t ≡ suc (position_or_len (λ b. b == c) t) = omega arith in rw (e, one, e, h) refl
+
+pub first_lacks : (c : ℕ) (t : List ℕ) → Lacks c (before_first (λ b. b == c) t)
+first_lacks c [] = refl
+first_lacks c (x ∷ t) = lacks_cases c x t (x == c) refl (first_lacks c t)
+
 first_at : (c : ℕ) (a b : List ℕ) → Lacks c a → position_or_len (λ x. x == c) (a ++ c ∷ b) ≡ length a
 first_at c [] b h = rw (eq-eqb c c refl)
 first_at c (x ∷ a) b h =

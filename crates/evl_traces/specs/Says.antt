@@ -1,9 +1,10 @@
 -- What is known of the lines that were read.
-use Rattle.std.specs.Prelude.{◌≡◌, ◌⊎◌, ℕ, ◌+◌, List, [], ◌∷◌, ◌++◌, length, Option, Some, None}
+use Rattle.std.specs.Prelude.{◌≡◌, ◌≢◌, ◌⊎◌, ℕ, ◌+◌, true, List, [], ◌∷◌, ◌++◌, length, Option, Some, None, is_some}
+use Rattle.std.specs.List.{All}
 use Rattle.evl_scenario.specs.Lines.{line_feed}
 use Rattle.evl_traces.specs.Entries.{EntryParts}
 use Rattle.evl_traces.specs.Lines.{Said, board, entry, play, line_read}
-use Rattle.evl_traces.specs.Parts.{around}
+use Rattle.evl_traces.specs.Parts.{around, Lacks}
 use Rattle.evl_traces.specs.declared.entries.EntryLine.{EntryLine}
 use Rattle.evl_traces.specs.declared.traces.Says.{Says}
 use Rattle.evl_traces.specs.declared.traces.Says.TheVariants.{Board, Entry, Play}
@@ -32,14 +33,21 @@ says_some line = Some (says_of line.says)
 abbrev pub read_of : TraceLine → Option Said
 read_of line = line_read line.text.now
 
+-- a line of a trace, without the line feed at its end
+pub record IsLine (line : List ℕ) : Type 0 where
+  pub alone : Lacks 10 line
+  pub says : is_some (line_read line) ≡ true
+
 -- a text begins with no line of a trace: it has no line feed, or its first line is none
 abbrev pub BeginsOtherwise : List ℕ → Type 0
 BeginsOtherwise text = (around 10 text ≡ None) ⊎ ((line : List ℕ) × (rest : List ℕ) × (around 10 text ≡ Some (line, rest)) × (line_read line ≡ None))
 
--- behind this many lines but one a text has something, and it begins with no line of a trace
+-- before the line of this number a text has lines of a trace alone; from there on it has something, which begins with none
 pub record IsMisread (text : List ℕ) (n : ℕ) : Type 0 where
   pub front : List (List ℕ)
   pub rest : List ℕ
   pub whole : text ≡ whole_lines front ++ rest
+  pub lines : All IsLine front
   pub number : n ≡ length front + 1
+  pub more : rest ≢ []
   pub otherwise : BeginsOtherwise rest

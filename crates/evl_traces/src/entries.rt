@@ -44,7 +44,7 @@ fn call_and_answer(text: &str) -> Option<(&str, &str)>
     Some((call, answer))
 }
 
-/// The parts of the line of an entry, without its line feed; none where the text is no such line (this profile).
+/// The parts of the line of an entry, without its line feed; none where the text is no such line.
 pub fn read_entry(text: &str) -> Option<EntryLine<'_>>
     ensures { option_map (λ line. record { number = line.number; thread = line.thread; call = line.call.now; answer = line.answer.now }) result ≡ entry_read text.now }
 {

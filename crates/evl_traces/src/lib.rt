@@ -1,4 +1,5 @@
-//! The lines of a trace, read: each text that a trace has is read back as what it was written from, and no other is.
+//! The lines of a trace, read: each text that a trace has is read back as what it was written from, and what a text is
+//! read as has just that text. What names no source is this profile's own.
 #![tactic(auto)]
 
 mod answers;

@@ -1,7 +1,7 @@
 //! The parts of a line's text, and the numbers in it.
-ghost use Rattle.std.specs.Prelude.{◌≡◌, ◌^◌, option_map};
+ghost use Rattle.std.specs.Prelude.{◌≡◌, ◌^◌, IfSome, option_map};
 ghost use Rattle.evl_scenario.specs.Values.{around_space, below, past_front, text_number};
-ghost use Rattle.evl_traces.specs.Parts.{around, before_end};
+ghost use Rattle.evl_traces.specs.Parts.{around, before_end, Lacks};
 
 /// What stands before the first space, and what behind it.
 pub fn around_blank(text: &str) -> Option<(&str, &str)>
@@ -25,7 +25,8 @@ pub fn around_point(text: &str) -> Option<(&str, &str)>
 
 /// The first line, without the line feed at its end, and what follows it.
 pub fn around_line_feed(text: &str) -> Option<(&str, &str)>
-    ensures { option_map (λ parts. (parts.0.now, parts.1.now)) result ≡ around 10 text.now }
+    ensures cut { option_map (λ parts. (parts.0.now, parts.1.now)) result ≡ around 10 text.now }
+    ensures apart { IfSome result (λ parts. Lacks 10 parts.0.now) }
 {
     match text.split_once('\n') {
         Some(parts) => Some(parts),

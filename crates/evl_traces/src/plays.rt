@@ -82,7 +82,7 @@ fn deadline(text: &str) -> Option<Play>
     Some(Play::Deadline { thread })
 }
 
-/// The play that has this text, without the spaces before it in a trace; none where no play has it (this profile).
+/// The play that has this text, without the spaces before it in a trace; none where no play has it.
 pub fn read_play(text: &str) -> Option<Play>
     ensures { result ≡ play_read text.now }
 {

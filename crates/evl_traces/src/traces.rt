@@ -1,5 +1,6 @@
 //! The lines of a trace.
-ghost use Rattle.std.specs.Prelude.{◌≡◌, ◌⊎◌, ◌++◌, ℕ, map, Option, Some, option_map, IfSome, IfOk, IfErr, Result};
+ghost use Rattle.std.specs.Prelude.{◌≡◌, ◌⊎◌, ◌++◌, ℕ, map, Option, None, Some, option_map, IfSome, IfOk, IfErr, Result};
+ghost use Rattle.std.specs.List.{All};
 ghost use Rattle.evl_base.specs.declared.play.Play.{Play};
 ghost use Rattle.evl_base.specs.declared.refusal.Refusal.{Refusal};
 ghost use Rattle.evl_base.specs.declared.reply.Reply.{Reply};
@@ -9,8 +10,9 @@ ghost use Rattle.evl_scenario.specs.declared.lines.BoardLine.{BoardLine};
 ghost use Rattle.evl_scenario.specs.declared.steps.Step.{Step};
 ghost use Rattle.evl_traces.specs.Entries.{NumberFits, step_parts};
 ghost use Rattle.evl_traces.specs.Lines.{Said, board, entry, play, BoardFits, SaidFits, line_read, said_text, unspaced_read};
+ghost use Rattle.evl_traces.specs.Parts.{Lacks};
 ghost use Rattle.evl_traces.specs.Plays.{PlayFits};
-ghost use Rattle.evl_traces.specs.Says.{IsMisread, read_of, says_of, says_some, text_of, whole_lines};
+ghost use Rattle.evl_traces.specs.Says.{BeginsOtherwise, IsLine, IsMisread, read_of, says_of, says_some, text_of, whole_lines};
 
 use crate::boards::read_board;
 use crate::entries::{EntryLine, read_entry};
@@ -68,8 +70,8 @@ fn read_parts(text: &str) -> Option<Says<'_>>
     }
 }
 
-/// What a line says, without its line feed; none where it is no line of a trace. Reading is inverse to writing: whatever a
-/// line says, its text is read as that, and what a text is read as has just that text (this profile).
+/// What a line says, without its line feed; none where it is no line of a trace. Reading is inverse to writing:
+/// whatever a line says, its text is read as that, and what a text is read as has just that text.
 pub fn read_line(text: &str) -> Option<Says<'_>>
     ensures read { option_map says_of result ≡ line_read text.now }
 
@@ -91,27 +93,40 @@ pub fn read_line(text: &str) -> Option<Says<'_>>
     read_parts(text)
 }
 
-/// The lines of a trace. `Line` where one is no line of a trace, or the last has no line feed; `Memory` where a growth was
-/// refused (this profile).
+// The first line of a text, if it is one of a trace, and what follows its line feed.
+#[tactic(auto, using(crate::proofs::FirstLaws::whole_is, crate::proofs::FirstLaws::none_is))]
+fn first_line(text: &str) -> Option<(TraceLine<'_>, &str)>
+    ensures read { IfSome result (λ cut. read_of cut.0 ≡ says_some cut.0) }
+    ensures whole { IfSome result (λ cut. text.now ≡ text_of cut.0 ++ (line_feed ++ cut.1.now)) }
+    ensures apart { IfSome result (λ cut. Lacks 10 (text_of cut.0)) }
+    ensures none { result ≡ None → BeginsOtherwise text.now }
+{
+    let (line, more) = around_line_feed(text)?;
+    let says = read_line(line)?;
+    Some((TraceLine { text: line, says }, more))
+}
+
+/// The lines of a trace. `Line` where one is no line of a trace, or the last has no line feed; `Memory` where a growth
+/// was refused.
 pub fn read_lines(alloc: Global, text: &str) -> Result<Vec<TraceLine<'_>>, Misread>
     // Each line is read as what its text says, and together they are the text.
     ensures says { IfOk result (λ lines. map read_of lines.items ≡ map says_some lines.items) }
     ensures whole { IfOk result (λ lines. whole_lines (map text_of lines.items) ≡ text.now) }
 
-    // What stands at the line that is named is no line of a trace.
+    // Each is one line of a trace: no line feed stands in it.
+    ensures apart { IfOk result (λ lines. All (λ line. IsLine (text_of line)) lines.items) }
+
+    // What stands at the line that is named is no line of a trace, and each before it is one.
     ensures refused { IfErr result (λ e. (e ≡ Misread.Memory) ⊎ ((n : ℕ) × (e ≡ Misread.Line n) × IsMisread text.now n)) }
 {
     let mut lines = Vec::new(alloc);
     let mut rest = text;
     while !rest.is_empty() {
         let place = Misread::Line(lines.len() + 1);
-        let Some((line, more)) = around_line_feed(rest) else {
+        let Some((line, more)) = first_line(rest) else {
             return Err(place);
         };
-        let Some(says) = read_line(line) else {
-            return Err(place);
-        };
-        match lines.push(TraceLine { text: line, says }) {
+        match lines.push(line) {
             Ok(()) => {}
             Err(_) => return Err(Misread::Memory),
         }

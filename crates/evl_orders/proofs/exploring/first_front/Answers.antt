@@ -1,8 +1,8 @@
 use Rattle.evl_orders.proofs.Fronts.{front_at}
 use Rattle.evl_orders.proofs.exploring.first_front.Goals as goal
 
-pub returns : goal.returns
-returns g c =
+pub returns-clause-front : goal.returns-clause-front
+returns-clause-front g c =
     let w = c.args.world.now in
     let first = c.in_ok-level.ensures in
     front_at (g.W.World.machine w) (g.W.World.state w) (g.W.World.fits w) first.0 c.args.start c.in_ok-level.level.nodes.items c.new.result.items

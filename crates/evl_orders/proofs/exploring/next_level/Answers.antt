@@ -19,8 +19,14 @@ loop-node-init g c =
 pub add_nexts-requires-clause-node : goal.add_nexts-requires-clause-node
 add_nexts-requires-clause-node g c =
     let w = c.args.world.now in
-    fit_head (g.W.World.machine w) (g.W.World.state w) (g.W.World.fits w) c.loop-node.node-iterator.rest.items c.in-Some.node c.next.new.self.rest.items c.in-Some.ensures.steps.0
-    c.loop-node.invariant.fit
+    (fit_head (g.W.World.machine w) (g.W.World.state w) (g.W.World.fits w) c.loop-node.node-iterator.rest.items c.in-Some.node c.next.new.self.rest.items c.in-Some.ensures.steps.0
+    c.loop-node.invariant.fit).0
+
+pub add_nexts-requires-clause-count : goal.add_nexts-requires-clause-count
+add_nexts-requires-clause-count g c =
+    let w = c.args.world.now in
+    (fit_head (g.W.World.machine w) (g.W.World.state w) (g.W.World.fits w) c.loop-node.node-iterator.rest.items c.in-Some.node c.next.new.self.rest.items c.in-Some.ensures.steps.0
+    c.loop-node.invariant.fit).1
 
 pub loop-node-preserved : goal.loop-node-preserved
 loop-node-preserved g c =

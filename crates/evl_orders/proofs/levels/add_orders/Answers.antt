@@ -15,4 +15,4 @@ returns-in-Ok-add_moment g c =
     let w = c.args.world.now in
     let made = c.in-Ok-add_moment.ensures in
     adds_new (g.W.World.machine w) (g.W.World.state w) (g.W.World.fits w) c.args.before.now c.args.caller c.args.moment c.args.level.now.nodes.items
-    c.add_moment.new.level.nodes.items made.0 c.requires.leads c.requires.moment made.1 made.2 made.3 made.4 c.requires.nodes
+    c.add_moment.new.level.nodes.items made.0 c.requires.leads c.requires.moment made.1 made.2 made.3 made.4 c.requires.nodes c.requires.count

@@ -1,8 +1,11 @@
-use Rattle.std.proofs.Common.{rules, ◌≡◌, ◌++◌, ℕ, map, List, [], ◌∷◌, refl, sym, ap, ◌∙◌, append_assoc}
-use Rattle.std.proofs.lemmas.List.{map-append}
-use Rattle.evl_traces.specs.Says.{read_of, says_some, text_of, whole_lines}
+use Rattle.std.proofs.Common.{rules, ◌≡◌, ◌++◌, ℕ, map, List, [], ◌∷◌, refl, sym, ap, ◌∙◌, append_assoc, length, ◌==◌, ◌+◌, false, inr, is_some}
+use Rattle.std.proofs.lemmas.Bool.{false≢true}
+use Rattle.std.proofs.lemmas.List.{length-map, map-append}
+use Rattle.std.proofs.lemmas.List.Elements.{All-map, All-push, All-same}
+use Rattle.std.specs.List.{All}
+use Rattle.evl_traces.specs.Parts.{Lacks}
+use Rattle.evl_traces.specs.Says.{BeginsOtherwise, IsLine, IsMisread, read_of, says_some, text_of, whole_lines}
 use Rattle.evl_traces.specs.declared.traces.TraceLine.{TraceLine}
-use Rattle.evl_traces.proofs.PartLaws.{around-whole}
 use Rattle.evl_traces.proofs.traces.read_lines.Goals as goal
 
 reads_more : (lines all : List TraceLine) (line : TraceLine) → all ≡ lines ++ line ∷ [] → map read_of lines ≡ map says_some lines → read_of line ≡ says_some line
@@ -22,10 +25,39 @@ whole_more : (lines all : List TraceLine) (line : TraceLine) (rest more text : L
 whole_more lines all line rest more text same cut h =
     rw same (one_more lines line more ∙ sym (ap (λ (x : List ℕ). whole_lines (map text_of lines) ++ x) cut) ∙ h)
 
+each_more : (lines all : List TraceLine) (line : TraceLine) → all ≡ lines ++ line ∷ [] → read_of line ≡ says_some line → Lacks 10 (text_of line)
+    → All (λ l. IsLine (text_of l)) lines → All (λ l. IsLine (text_of l)) all
+each_more lines all line same read apart h =
+    let each : TraceLine → Type 0 = λ l. IsLine (text_of l) in
+    let here : each line = record { alone = apart; says = ap is_some read } in
+    All-same each all (lines ++ line ∷ []) same (All-push each lines line h here)
+
+misread : (lines : List TraceLine) (rest text : List ℕ) (n : ℕ) → whole_lines (map text_of lines) ++ rest ≡ text → All (λ l. IsLine (text_of l)) lines
+    → (length rest == 0) ≡ false → n ≡ length lines + 1 → BeginsOtherwise rest → IsMisread text n
+misread lines rest text n whole each some number otherwise = record {
+  front = map text_of lines;
+  rest = rest;
+  whole = sym whole;
+  lines = All-map IsLine text_of lines each;
+  number = number ∙ ap (λ k. k + 1) (sym (length-map lines text_of));
+  more = λ none. false≢true (sym some ∙ ap (λ (x : List ℕ). length x == 0) none);
+  otherwise = otherwise;
+}
+
 pub loop-rest-preserved : goal.loop-rest-preserved
 loop-rest-preserved c = (
   search rules,
-  reads_more c.loop-rest.lines.items c.push.new.self.items _ c.in-Ok.ensures.items c.loop-rest.invariant.1 (sym c.in-Some-read_line.ensures.read),
-  whole_more c.loop-rest.lines.items c.push.new.self.items _ c.loop-rest.rest.now c.in-Some.more.now c.args.text.now c.in-Ok.ensures.items
-      (around-whole 10 c.loop-rest.rest.now c.in-Some.line.now c.in-Some.more.now (sym c.in-Some.ensures)) c.loop-rest.invariant.2,
+  reads_more c.loop-rest.lines.items c.push.new.self.items c.in-Some.line c.in-Ok.ensures.items c.loop-rest.invariant.1 c.in-Some.ensures.read,
+  whole_more c.loop-rest.lines.items c.push.new.self.items c.in-Some.line c.loop-rest.rest.now c.in-Some.more.now c.args.text.now c.in-Ok.ensures.items
+      c.in-Some.ensures.whole c.loop-rest.invariant.2,
+  each_more c.loop-rest.lines.items c.push.new.self.items c.in-Some.line c.in-Ok.ensures.items c.in-Some.ensures.read c.in-Some.ensures.apart c.loop-rest.invariant.3,
 )
+
+pub returns-in_default-clause-refused : goal.returns-in_default-clause-refused
+returns-in_default-clause-refused c =
+    inr (
+      _,
+      refl,
+      misread c.loop-rest.lines.items c.loop-rest.rest.now c.args.text.now _ c.loop-rest.invariant.2 c.loop-rest.invariant.3
+          (search rules) (search rules) (c.in_default.ensures.none refl),
+    )
