@@ -1,0 +1,14 @@
+use Rattle.std.proofs.Common.{◌≡◌, ℕ, ◌+◌, List}
+use Rattle.evl_orders.specs.Tallies.{AreDistinct, told_weight}
+use Rattle.evl_orders.specs.Weights.{weight}
+use Rattle.evl_scenario_orders.specs.Moments.{seen_at}
+use Rattle.evl_scenario_orders.specs.Told.{told_text}
+use Rattle.evl_scenario_orders.proofs.outcomes.outcomes_at.Given as goal
+
+abbrev pub invariant-loop-end : goal.invariant-loop-end
+invariant-loop-end g l =
+    let state = seen_at l.callers (g.B.BankMaker.bank l.bank) in
+    record {
+      distinct : AreDistinct l.all.items;
+      sums : (f : List ℕ → ℕ) → told_weight f l.all.items + weight state (λ seen. f (told_text l.callers seen)) l.end-iterator.rest.items ≡ weight state (λ seen. f (told_text l.callers seen)) l.fn.ends.items;
+    }

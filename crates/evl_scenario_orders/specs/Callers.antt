@@ -1,0 +1,67 @@
+-- The callers of a scenario as a machine: a caller's step is the kernel's.
+use Rattle.std.specs.Prelude.{ℕ, ◌+◌, Bool, not, ◌&&◌, if◌then◌else◌, List, [], ◌∷◌, ◌++◌, length, map, codes, Option, Some, None, option_and_then, slice_get, slice_index, slice_index_or, slice_set, Result}
+use Rattle.evl_base.specs.Reply.{outcome_text}
+use Rattle.evl_base.specs.declared.refusal.Refusal.{Refusal}
+use Rattle.evl_base.specs.declared.reply.Reply.{Reply}
+use Rattle.evl_kernel.specs.States.{State, Handler}
+use Rattle.evl_kernel.specs.Openings.{opening}
+use Rattle.evl_kernel.specs.Replays.{Outcome, stepped}
+use Rattle.evl_kernel.specs.Waits.{is_waiting, has_ended}
+use Rattle.evl_scenario.specs.declared.steps.Step.{Step}
+use Rattle.evl_orders.specs.Machines.{Machine}
+use Rattle.evl_scenario_orders.specs.declared.callers.Callers.{Callers}
+
+-- how many steps of each caller were made, what it was answered, and the kernel's records
+pub record Seen : Type 0 where
+  pub made : List ℕ
+  pub answers : List (List ℕ)
+  pub state : State
+
+-- the records after these steps
+abbrev pub set_up : State → List Step → State
+set_up s [] = s
+set_up s (step ∷ steps) = set_up (stepped s step.who.0 step.call).after steps
+
+-- the records before the first caller's step
+abbrev pub begun : Callers → List Handler → State
+begun c bank = set_up (opening c.board bank) c.setup.items
+
+abbrev pub first : Callers → List Handler → Seen
+first c bank = record {
+  made = map (λ caller. 0) c.callers.items;
+  answers = map (λ caller. []) c.callers.items;
+  state = begun c bank;
+}
+
+-- the place of the next step of a caller that has made so many, and the step
+abbrev pub next_place : Callers → ℕ → ℕ → Option ℕ
+next_place c n made = option_and_then (λ caller. slice_get caller.places.items made) (slice_get c.callers.items n)
+
+abbrev pub next_step : Callers → ℕ → ℕ → Option Step
+next_step c n made = option_and_then (slice_get c.steps.items) (next_place c n made)
+
+-- a thread's wait goes on: the thread is blocked
+abbrev pub goes_on : State → ℕ → Bool
+goes_on s who = is_waiting s who && not (has_ended s who)
+
+-- what was answered so far, with one answer more
+abbrev pub answered : List ℕ → Result Reply Refusal → List ℕ
+answered told reply = (told ++ codes " -> ") ++ outcome_text reply
+
+-- after a step of this caller with this outcome
+abbrev pub after : Seen → ℕ → Outcome → Seen
+after seen n o = record {
+  made = slice_set seen.made n (slice_index seen.made n + 1);
+  answers = slice_set seen.answers n (answered (slice_index_or seen.answers n []) o.reply);
+  state = o.after;
+}
+
+-- A caller that has no step more makes none, and none does one whose wait goes on.
+abbrev pub step_of : Seen → ℕ → Step → Option Seen
+step_of seen n step = if goes_on seen.state step.who.0 then None else Some (after seen n (stepped seen.state step.who.0 step.call))
+
+abbrev pub go : Callers → Seen → ℕ → Option Seen
+go c seen n = option_and_then (step_of seen n) (next_step c n (slice_index seen.made n))
+
+abbrev pub machine : Callers → Machine Seen
+machine c = record { callers = length c.callers.items; go = go c }

@@ -1,0 +1,36 @@
+//! Every order in which the callers of a scenario may come: the scenario's text with what is set up before, its callers
+//! as a world, and the outcomes of their orders.
+#![tactic(auto)]
+
+mod asking;
+mod asks;
+mod banks;
+mod callers;
+mod digests;
+mod kernels;
+mod lines;
+mod merging;
+mod moments;
+mod outcomes;
+mod places;
+mod reports;
+mod scenarios;
+mod searches;
+mod seen;
+mod splits;
+mod texts;
+mod told;
+mod worlds;
+
+pub use asking::{Asked, ask_all};
+pub use asks::{Ask, AskFault, Never, first_against, is_against, read_ask};
+pub use banks::{BankMaker, NoCallbacks};
+pub use callers::{Caller, Callers};
+pub use moments::Moment;
+pub use outcomes::{Outcomes, is_stuck, outcomes_of};
+pub use reports::write_report;
+pub use scenarios::scenario_of;
+pub use seen::SeenState;
+pub use splits::{Split, split_text};
+pub use texts::{TextFault, read_callers};
+pub use worlds::Driven;

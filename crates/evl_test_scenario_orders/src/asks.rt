@@ -1,0 +1,99 @@
+//! What is asked of all orders.
+use evl_scenario_orders::{
+    Ask, AskFault, NoCallbacks, first_against, is_against, outcomes_of, read_ask, read_callers,
+};
+use std::alloc::Global;
+
+// Two threads that each get a semaphore, of which there is one; nobody puts it back.
+const ONE_LEFT: &str = "[board]\nthreads = 3\nsems = [1]\n
+[[setup]]\ndo = \"attach\"\nwho = 1\npolicy = \"fifo 10\"\nstage = \"oob\"
+[[setup]]\ndo = \"attach\"\nwho = 2\npolicy = \"fifo 10\"\nstage = \"oob\"
+[[step]]\ndo = \"begin_get\"\nwho = 1\nsem = 0
+[[step]]\ndo = \"finish\"\nwho = 1
+[[step]]\ndo = \"begin_get\"\nwho = 2\nsem = 0
+[[step]]\ndo = \"finish\"\nwho = 2
+";
+
+// What is asked behind that text.
+fn read(alloc: Global, asked: &str) -> Result<Ask, AskFault> {
+    let Ok(callers) = read_callers(alloc, ONE_LEFT.as_bytes()) else {
+        return Err(AskFault::Memory);
+    };
+    read_ask(alloc, &callers, asked.as_bytes())
+}
+
+// Why this can't be read, or nothing.
+fn fault_of(alloc: Global, asked: &str) -> Option<AskFault> {
+    match read(alloc, asked) {
+        Ok(_) => None,
+        Err(fault) => Some(fault),
+    }
+}
+
+// The first outcome that is against what is asked.
+fn first(alloc: Global, asked: &str) -> Result<Option<usize>, AskFault> {
+    let ask = match read(alloc, asked) {
+        Ok(ask) => ask,
+        Err(fault) => return Err(fault),
+    };
+    let Ok(callers) = read_callers(alloc, ONE_LEFT.as_bytes()) else {
+        return Err(AskFault::Memory);
+    };
+    match outcomes_of(alloc, &callers, &NoCallbacks, 10_000) {
+        Ok(outcomes) => Ok(first_against(&ask, outcomes.all.as_slice())),
+        Err(_) => Err(AskFault::Memory),
+    }
+}
+
+#[test]
+fn what_is_told_of_outcomes_is_asked(rt: HostRuntime) {
+    assert_eq!(rt; first(rt.alloc(), ""), Ok(None));
+    assert_eq!(rt;
+        first(rt.alloc(), "[ask]\nalways_ends = true\n"),
+        Ok(Some(0))
+    );
+    assert_eq!(rt;
+        first(rt.alloc(), "[ask]\nnever = [\"T1 -> timed out\"]\n"),
+        Ok(None)
+    );
+    assert_eq!(rt;
+        first(rt.alloc(), "[ask]\nnever = [\n\"T2 -> done\",\n]\n"),
+        Ok(Some(1))
+    );
+}
+
+#[test]
+fn just_one_answer_of_a_caller_is_meant(rt: HostRuntime) {
+    let ask = read(rt.alloc(), "[ask]\nnever = [\"T1 -> done\"]\n").expect(&rt, "an ask");
+    assert!(rt; is_against(&ask, "T1 -> done\n"));
+    assert!(rt; is_against(&ask, "T2 -> begun\nT1 -> begun -> done -> Busy\n"));
+    assert!(rt; !is_against(&ask, "T11 -> done\nT2 -> done\nT1 -> done not\n"));
+    assert!(rt; !is_against(&ask, "stuck: T1 waits\nT1\n"));
+}
+
+#[test]
+fn what_cant_be_asked_is_refused(rt: HostRuntime) {
+    assert_eq!(rt;
+        fault_of(
+            rt.alloc(),
+            "[ask]\nnever = [\"T1 -> done\", \"T7 -> done\"]\n"
+        ),
+        Some(AskFault::Never(2))
+    );
+    assert_eq!(rt;
+        fault_of(rt.alloc(), "[ask]\nnever = [\"T1 -> begun -> done\"]\n"),
+        Some(AskFault::Never(1))
+    );
+    assert_eq!(rt;
+        fault_of(rt.alloc(), "[ask]\nnever = [\"T1\"]\n"),
+        Some(AskFault::Never(1))
+    );
+    assert_eq!(rt;
+        fault_of(rt.alloc(), "[ask]\nalways = true\n"),
+        Some(AskFault::Table)
+    );
+    assert_eq!(rt;
+        fault_of(rt.alloc(), "[ask]\nalways_ends = 1\n"),
+        Some(AskFault::Table)
+    );
+}

@@ -1,0 +1,73 @@
+//! Orders of scenarios' callers.
+use evl_orders::OrdersError;
+use evl_scenario_orders::{NoCallbacks, is_stuck, outcomes_of, read_callers, write_report};
+use std::alloc::Global;
+
+// Two locks, which two threads take in opposite orders.
+const TWO_LOCKS: &str = "[board]\nthreads = 3\nsems = [1, 1]\n
+[[setup]]\ndo = \"attach\"\nwho = 1\npolicy = \"fifo 10\"\nstage = \"oob\"
+[[setup]]\ndo = \"attach\"\nwho = 2\npolicy = \"fifo 10\"\nstage = \"oob\"
+[[step]]\ndo = \"begin_get\"\nwho = 1\nsem = 0
+[[step]]\ndo = \"finish\"\nwho = 1
+[[step]]\ndo = \"begin_get\"\nwho = 1\nsem = 1
+[[step]]\ndo = \"finish\"\nwho = 1
+[[step]]\ndo = \"put\"\nwho = 1\nsem = 1
+[[step]]\ndo = \"put\"\nwho = 1\nsem = 0
+[[step]]\ndo = \"begin_get\"\nwho = 2\nsem = 1
+[[step]]\ndo = \"finish\"\nwho = 2
+[[step]]\ndo = \"begin_get\"\nwho = 2\nsem = 0
+[[step]]\ndo = \"finish\"\nwho = 2
+[[step]]\ndo = \"put\"\nwho = 2\nsem = 0
+[[step]]\ndo = \"put\"\nwho = 2\nsem = 1\n";
+
+const PUTS: &str = "[board]\nthreads = 3\nsems = [0, 0]
+[[step]]\ndo = \"put\"\nwho = 1\nsem = 0
+[[step]]\ndo = \"put\"\nwho = 1\nsem = 0
+[[step]]\ndo = \"put\"\nwho = 2\nsem = 1
+[[step]]\ndo = \"put\"\nwho = 2\nsem = 1\n";
+
+// How many orders a text has, how many outcomes, and how many orders end with somebody stuck.
+fn counts(alloc: Global, text: &str) -> Result<(u128, usize, u128), OrdersError> {
+    let Ok(callers) = read_callers(alloc, text.as_bytes()) else {
+        return Err(OrdersError::Memory);
+    };
+    let outcomes = outcomes_of(alloc, &callers, &NoCallbacks, 10_000)?;
+    let mut stuck: u128 = 0;
+    for outcome in &outcomes.all {
+        if is_stuck(outcome.told.as_str()) {
+            stuck = stuck.saturating_add(outcome.count);
+        }
+    }
+    Ok((outcomes.count, outcomes.all.len(), stuck))
+}
+
+#[test]
+fn two_orders_of_puts_end_alike(rt: HostRuntime) {
+    assert_eq!(rt; counts(rt.alloc(), PUTS), Ok((6, 1, 0)));
+}
+
+#[test]
+fn two_locks_can_end_stuck(rt: HostRuntime) {
+    assert_eq!(rt; counts(rt.alloc(), TWO_LOCKS), Ok((38, 2, 18)));
+}
+
+#[test]
+fn a_report_begins_with_counts(rt: HostRuntime) {
+    let callers = read_callers(rt.alloc(), PUTS.as_bytes()).expect(&rt, "callers");
+    let outcomes = outcomes_of(rt.alloc(), &callers, &NoCallbacks, 10_000).expect(&rt, "outcomes");
+    let report = write_report(rt.alloc(), &callers, &NoCallbacks, &outcomes).expect(&rt, "memory");
+    assert!(rt;
+        report
+            .as_str()
+            .starts_with("# 6 orders, 1 outcome\n# outcome 1: 6 orders\n")
+    );
+}
+
+#[test]
+fn a_report_tells_first_who_is_stuck(rt: HostRuntime) {
+    let callers = read_callers(rt.alloc(), TWO_LOCKS.as_bytes()).expect(&rt, "callers");
+    let outcomes = outcomes_of(rt.alloc(), &callers, &NoCallbacks, 10_000).expect(&rt, "outcomes");
+    let report = write_report(rt.alloc(), &callers, &NoCallbacks, &outcomes).expect(&rt, "memory");
+    let told = "# outcome 1: 18 orders\n# stuck: T1 waits for sem 1\n# stuck: T2 waits for sem 0\n";
+    assert!(rt; report.as_str().contains(told));
+}
