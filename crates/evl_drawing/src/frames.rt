@@ -29,22 +29,35 @@ const SECOND: usize = 20;
 // How much higher a lane is with its strip.
 const STRIP: usize = 6;
 
-// How many characters of a line are shown at most, and how wide one is.
+// How many characters of a line are shown at most, also where words are shown behind answers, and how wide one is.
 const MOST_SHOWN: usize = 72;
+
+const MOST_TOLD: usize = 100;
 
 const CHARACTER: usize = 6;
 
-/// How a picture is laid out: its lanes from the top, the characters that are shown of a line, how many marks it has, and
-/// whether dates and strips show how lanes stand.
+/// What a picture shows of how lanes stand.
+#[derive(Clone, Copy, PartialEq, Eq)]
+pub enum Shows {
+    /// The waits that the answers tell.
+    Waits,
+    /// Dates, and strips of all that a machine's readers tell.
+    Machine,
+    /// Dates, the waits, and strips of the words that callers went to.
+    Words,
+}
+
+/// How a picture is laid out: its lanes from the top, the characters that are shown of a line, how many marks it has,
+/// and what it shows of how lanes stand.
 #[derive(Drop)]
 pub struct Sheet {
     pub lanes: Vec<Lane>,
     pub shown: usize,
     count: usize,
-    stands: bool,
+    shows: Shows,
 }
 
-/// The lanes of some marks, from the top. `AllocError` where the list couldn't grow (this profile).
+/// The lanes of some marks, from the top. `AllocError` where the list couldn't grow.
 pub fn lanes_of(alloc: Global, marks: &[Mark<'_>]) -> Result<Vec<Lane>, AllocError> {
     let mut lanes = Vec::new(alloc);
     for mark in marks {
@@ -56,30 +69,42 @@ pub fn lanes_of(alloc: Global, marks: &[Mark<'_>]) -> Result<Vec<Lane>, AllocErr
     Ok(lanes)
 }
 
+// How many characters of a line are shown at most.
+fn most_shown(shows: Shows) -> usize {
+    match shows {
+        Shows::Words => MOST_TOLD,
+        _ => MOST_SHOWN,
+    }
+}
+
 // So many steps from a place.
 fn steps(from: usize, step: usize, count: usize) -> usize {
     from.saturating_add(step.saturating_mul(count))
 }
 
 impl Sheet {
-    /// The sheet for some marks, and whether it is told how lanes stand. `AllocError` where its list couldn't grow.
-    pub fn of(alloc: Global, marks: &[Mark<'_>], stands: bool) -> Result<Sheet, AllocError> {
+    /// The sheet for some marks, and what it shows of how lanes stand. `AllocError` where its list couldn't grow.
+    pub fn of(alloc: Global, marks: &[Mark<'_>], shows: Shows) -> Result<Sheet, AllocError> {
+        let most = most_shown(shows);
         let lanes = lanes_of(alloc, marks)?;
         let mut shown = 0;
         for mark in marks {
-            shown = mark.line.len().max(shown).min(MOST_SHOWN);
+            shown = mark.line.len().max(shown).min(most);
         }
         Ok(Sheet {
             lanes,
             shown,
             count: marks.len(),
-            stands,
+            shows,
         })
     }
 
     // So much room, where it is told how lanes stand.
     fn room(&self, room: usize) -> usize {
-        if self.stands { room } else { 0 }
+        match self.shows {
+            Shows::Waits => 0,
+            _ => room,
+        }
     }
 
     // How high a lane is.
@@ -109,6 +134,19 @@ impl Sheet {
     // Where the band of a column begins.
     fn band_top(&self, column: usize) -> usize {
         steps(self.top(), self.height(), column / COLUMNS)
+    }
+
+    /// Whether it shows the waits beside how lanes stand.
+    pub fn shows_waits(&self) -> bool {
+        self.shows == Shows::Words
+    }
+
+    /// Where the number above a lane stands: left of the tie, where it is the tied call that changes the number.
+    pub fn number_place(&self) -> &'static str {
+        match self.shows {
+            Shows::Words => "x=\"-2\" text-anchor=\"end\"",
+            _ => "x=\"-7\"",
+        }
     }
 
     /// Whether it has this lane.
@@ -163,8 +201,10 @@ impl Sheet {
             "<svg xmlns=\"http://www.w3.org/2000/svg\" width=\"{width}\" height=\"{height}\" viewBox=\"0 0 {width} {height}\" font-family=\"DejaVu Sans Mono, monospace\" font-size=\"9\">\n<rect width=\"100%\" height=\"100%\" fill=\"#ffffff\"/>\n"
         )?;
         put_shapes(&mut text)?;
-        if self.stands {
-            put_conditions(&mut text)?;
+        match self.shows {
+            Shows::Waits => {}
+            Shows::Machine => put_conditions(&mut text)?,
+            Shows::Words => put_words(&mut text, self.lanes.as_slice())?,
         }
         Ok(text)
     }
@@ -208,6 +248,26 @@ fn put_shapes(text: &mut String) -> Result<(), AllocError> {
     Ok(())
 }
 
+// Appends a condition with its word, so far from the left.
+fn put_condition(
+    text: &mut String,
+    at: usize,
+    condition: Condition,
+    word: &str,
+) -> Result<(), AllocError> {
+    let drawn = strip_text(condition);
+    write!(
+        text,
+        "<g transform=\"translate({at},28)\">{drawn}<text x=\"12\" y=\"13\">{word}</text></g>\n"
+    )?;
+    Ok(())
+}
+
+// Where the next condition of a legend stands, from the left.
+fn behind_word(at: usize, word: &str) -> usize {
+    steps(at.saturating_add(36), CHARACTER, word.len())
+}
+
 // Appends the legend of the conditions.
 fn put_conditions(text: &mut String) -> Result<(), AllocError> {
     let conditions = [
@@ -222,12 +282,37 @@ fn put_conditions(text: &mut String) -> Result<(), AllocError> {
     ];
     let mut at: usize = 20;
     for (condition, word) in conditions {
-        let drawn = strip_text(condition);
-        write!(
-            text,
-            "<g transform=\"translate({at},28)\">{drawn}<text x=\"12\" y=\"13\">{word}</text></g>\n"
-        )?;
-        at = steps(at.saturating_add(36), CHARACTER, word.len());
+        put_condition(text, at, condition, word)?;
+        at = behind_word(at, word);
+    }
+    Ok(())
+}
+
+// Whether a condition is one of the word of a lane.
+fn is_of_word(condition: Condition, lane: Lane) -> bool {
+    match lane {
+        Lane::Mutex(_) => matches!(condition, Condition::Owned | Condition::Claimed),
+        Lane::Stax(_) => matches!(condition, Condition::Inband | Condition::Oob),
+        Lane::Core => matches!(condition, Condition::Taken),
+        _ => false,
+    }
+}
+
+// Appends the legend of how words stand, of those that have a lane.
+fn put_words(text: &mut String, lanes: &[Lane]) -> Result<(), AllocError> {
+    let conditions = [
+        (Condition::Owned, "owned"),
+        (Condition::Claimed, "claimed"),
+        (Condition::Inband, "held in-band"),
+        (Condition::Oob, "held out-of-band"),
+        (Condition::Taken, "taken"),
+    ];
+    let mut at: usize = 20;
+    for (condition, word) in conditions {
+        if lanes.iter().any(|lane| is_of_word(condition, *lane)) {
+            put_condition(text, at, condition, word)?;
+            at = behind_word(at, word);
+        }
     }
     Ok(())
 }

@@ -10,6 +10,8 @@ use std::fmt;
 pub enum Lane {
     Thread(u16),
     Mutex(u16),
+    Stax(u16),
+    Core,
     Sem(u16),
     Flags(u16),
     Xbuf(u16),
@@ -23,6 +25,8 @@ impl fmt::Display for Lane {
         match *self {
             Lane::Thread(number) => write!(f, "T{number}"),
             Lane::Mutex(number) => write!(f, "mutex {number}"),
+            Lane::Stax(number) => write!(f, "stax {number}"),
+            Lane::Core => write!(f, "core"),
             Lane::Sem(number) => write!(f, "sem {number}"),
             Lane::Flags(number) => write!(f, "flags {number}"),
             Lane::Xbuf(number) => write!(f, "xbuf {number}"),
@@ -39,13 +43,15 @@ fn place(lane: Lane) -> (u8, u16) {
     match lane {
         Lane::Thread(number) => (0, number),
         Lane::Mutex(number) => (1, number),
-        Lane::Sem(number) => (2, number),
-        Lane::Flags(number) => (3, number),
-        Lane::Xbuf(number) => (4, number),
-        Lane::Timer(number) => (5, number),
-        Lane::Clock => (6, 0),
-        Lane::Stage(Stage::Oob) => (7, 0),
-        Lane::Stage(Stage::Inband) => (8, 0),
+        Lane::Stax(number) => (2, number),
+        Lane::Core => (3, 0),
+        Lane::Sem(number) => (4, number),
+        Lane::Flags(number) => (5, number),
+        Lane::Xbuf(number) => (6, number),
+        Lane::Timer(number) => (7, number),
+        Lane::Clock => (8, 0),
+        Lane::Stage(Stage::Oob) => (9, 0),
+        Lane::Stage(Stage::Inband) => (10, 0),
     }
 }
 

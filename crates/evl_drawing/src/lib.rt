@@ -1,4 +1,5 @@
 //! Pictures of a trace: a mark for each entry and play, in lanes, as SVG, as a table, or as text.
+//! What names no source is this profile's own.
 #![tactic(auto)]
 
 mod escapes;
@@ -11,6 +12,8 @@ mod rows;
 mod strips;
 mod svg;
 mod tables;
+mod told;
+mod words;
 
 pub use frames::lanes_of;
 pub use lanes::Lane;
@@ -18,5 +21,6 @@ pub use marks::{Mark, Shape, marks_of};
 pub use moments::{Condition, Moment, Standing};
 pub use pages::{PAGE, page, page_count, page_moments};
 pub use rows::write_rows;
-pub use svg::write_svg;
+pub use svg::{write_svg, write_told};
 pub use tables::write_table;
+pub use told::told_moments;

@@ -3,6 +3,7 @@ ghost use Rattle.std.specs.Prelude.{◌≡◌, option_map, map, IfOk};
 ghost use Rattle.evl_drawing.specs.Marks.{called_lines, line_of, marked};
 
 use crate::lanes::Lane;
+use crate::words::{outcome, shown};
 use evl_base::{Play, Stage};
 use evl_traces::{EntryLine, Says, TraceLine, is_refused};
 use std::alloc::{AllocError, Global};
@@ -64,6 +65,9 @@ fn named(call: &str) -> Option<Lane> {
     if let Some(number) = number_at(call, " mutex=") {
         return Some(Lane::Mutex(number));
     }
+    if let Some(number) = number_at(call, " stax=") {
+        return Some(Lane::Stax(number));
+    }
     if let Some(number) = number_at(call, " sem=") {
         return Some(Lane::Sem(number));
     }
@@ -79,11 +83,28 @@ fn named(call: &str) -> Option<Lane> {
     }
 }
 
+// The lane of what is shown behind the answer of an entry, or else of what its call names.
+fn entry_names(entry: &EntryLine<'_>) -> Option<Lane> {
+    match shown(entry.answer) {
+        Some((lane, _)) => Some(lane),
+        None => named(entry.call),
+    }
+}
+
+// Whether a call is refused: the name of a pass that it gets may begin as a refusal does.
+fn refuses(call: &str, answer: &str) -> bool {
+    match value_of(call, " as=") {
+        Some(name) if name == answer => false,
+        _ => is_refused(answer),
+    }
+}
+
 // How the mark of an entry looks.
 fn entry_shape(entry: &EntryLine<'_>) -> Shape {
-    if is_refused(entry.answer) {
+    let answer = outcome(entry.answer);
+    if refuses(entry.call, answer) {
         Shape::Refused
-    } else if entry.answer == "begun" {
+    } else if answer == "begun" {
         Shape::Begun
     } else if entry.call.starts_with("finish") {
         Shape::Ended
@@ -120,7 +141,7 @@ fn mark_of<'a>(line: &TraceLine<'a>) -> Option<Mark<'a>>
         Says::Entry(entry) => Some(Mark {
             line: line.text,
             lane: Lane::Thread(entry.thread),
-            names: named(entry.call),
+            names: entry_names(&entry),
             shape: entry_shape(&entry),
         }),
         Says::Play(play) => {
@@ -136,7 +157,7 @@ fn mark_of<'a>(line: &TraceLine<'a>) -> Option<Mark<'a>>
 }
 
 /// The marks of the lines of a trace: one for each entry and each play, in order, with its line. `AllocError` where the
-/// list couldn't grow (this profile).
+/// list couldn't grow.
 pub fn marks_of<'a>(alloc: Global, lines: &[TraceLine<'a>]) -> Result<Vec<Mark<'a>>, AllocError>
     ensures { IfOk result (λ marks. map line_of marks.items ≡ called_lines lines.now) }
 {

@@ -4,7 +4,7 @@ use crate::lanes::Lane;
 /// How a lane stands after a call.
 #[derive(Clone, Copy, PartialEq, Eq, Debug)]
 pub enum Condition {
-    /// The thread is attached, and in-band.
+    /// The thread is attached, and in-band; callers of that stage hold the stax.
     Inband,
     /// The thread is out-of-band, and blocked.
     Blocked,
@@ -16,14 +16,20 @@ pub enum Condition {
     Stalled,
     /// The stage isn't stalled, and events are pending there.
     Pending,
-    /// The mutex has a recorded owner.
+    /// The mutex has a recorded owner; its word names one.
     Owned,
     /// The timer runs.
     Runs,
+    /// Out-of-band callers hold the stax.
+    Oob,
+    /// The claim mark stands in the mutex's word.
+    Claimed,
+    /// A caller has the core.
+    Taken,
 }
 
-/// How one lane stands, with the effective rank of its thread, the recorded owner of its mutex, or how many events are pending on
-/// its stage.
+/// How one lane stands, with the effective rank of its thread, the owner of its mutex, how many events are pending on
+/// its stage, how many callers hold its stax, or who has the core.
 #[derive(Clone, Copy, PartialEq, Eq, Debug)]
 pub struct Standing {
     pub lane: Lane,
@@ -31,8 +37,9 @@ pub struct Standing {
     pub number: Option<u16>,
 }
 
-/// How a machine stands after a call: the date in nanoseconds, and the lanes that show something. The others show nothing: a
-/// thread that isn't attached, a stage that isn't stalled and has no pending event, a mutex with no recorded owner, a timer that doesn't run.
+/// How a machine stands after a call: the date in nanoseconds, and the lanes that show something. The others show
+/// nothing: a thread that isn't attached, a stage that isn't stalled and has no pending event, a mutex with no recorded
+/// owner, a timer that doesn't run, a word that is free or hasn't been shown.
 #[derive(Drop)]
 pub struct Moment {
     pub date: u64,

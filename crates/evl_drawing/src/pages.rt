@@ -1,5 +1,6 @@
 //! Long pictures in pages.
 ghost use Rattle.std.specs.Prelude.{◌≡◌, ◌*◌, drop, take};
+ghost use Rattle.evl_drawing.specs.Marks.{is_entry};
 
 use crate::marks::{Mark, Shape};
 use crate::moments::Moment;
@@ -7,7 +8,7 @@ use crate::moments::Moment;
 /// The most marks of a page.
 pub const PAGE: usize = 2000;
 
-/// How many pages some marks take: at least one (this profile).
+/// How many pages some marks take: at least one.
 pub fn page_count(marks: &[Mark<'_>]) -> usize {
     marks.len().saturating_sub(1) / PAGE + 1
 }
@@ -23,7 +24,7 @@ fn first_page<'a, 'b>(marks: &'b [Mark<'a>]) -> &'b [Mark<'a>]
     }
 }
 
-/// The marks of a page, from 0; none behind the last one (this profile).
+/// The marks of a page, from 0; none behind the last one.
 #[tactic(auto, using(crate::proofs::PageLaws::drop_short))]
 pub fn page<'a, 'b>(marks: &'b [Mark<'a>], number: usize) -> &'b [Mark<'a>]
     ensures page { result.now ≡ take 2000 (drop (2000 * number) marks.now) }
@@ -35,11 +36,13 @@ pub fn page<'a, 'b>(marks: &'b [Mark<'a>], number: usize) -> &'b [Mark<'a>]
 }
 
 /// Whether a mark is that of an entry.
-pub fn is_entry(mark: &Mark<'_>) -> bool {
+pub fn is_entry(mark: &Mark<'_>) -> bool
+    ensures { result ≡ is_entry mark.now }
+{
     !matches!(mark.shape, Shape::Played | Shape::Unhandled)
 }
 
-/// The moments of a page, from 0, of those of all entries: from that of its first entry on (this profile).
+/// The moments of a page, from 0, of those of all entries: from that of its first entry on.
 pub fn page_moments<'b>(marks: &[Mark<'_>], moments: &'b [Moment], number: usize) -> &'b [Moment] {
     let from = number.saturating_mul(PAGE).min(marks.len());
     let before = marks[..from].iter().filter(|mark| is_entry(mark)).count();

@@ -1,5 +1,5 @@
 //! A picture as rows of characters.
-use crate::frames::{COLUMNS, Sheet};
+use crate::frames::{COLUMNS, Sheet, Shows};
 use crate::lanes::Lane;
 use crate::marks::{Mark, Shape};
 use std::alloc::{AllocError, Global};
@@ -44,10 +44,10 @@ fn write_band(text: &mut String, lanes: &[Lane], marks: &[Mark<'_>]) -> Result<(
     Ok(())
 }
 
-/// The picture of some marks as rows of at most 80 characters: a band of lanes for each 60 marks, and what the characters
-/// mean. `AllocError` where memory couldn't grow (this profile).
+/// The picture of some marks as rows of at most 80 characters: a band of lanes for each 60 marks, and what the
+/// characters mean. `AllocError` where memory couldn't grow.
 pub fn write_rows(alloc: Global, marks: &[Mark<'_>]) -> Result<String, AllocError> {
-    let sheet = Sheet::of(alloc, marks, false)?;
+    let sheet = Sheet::of(alloc, marks, Shows::Waits)?;
     let mut text = String::new(alloc);
     for band in marks.chunks(COLUMNS) {
         write_band(&mut text, sheet.lanes.as_slice(), band)?;

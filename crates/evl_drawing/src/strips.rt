@@ -23,24 +23,37 @@ pub fn strip_text(condition: Condition) -> &'static str {
             "<rect x=\"-8\" y=\"8.5\" width=\"16\" height=\"3\" fill=\"#5f6b7a\"/>"
         }
         Condition::Runs => "<path d=\"M-8 10h16M-4 8v4M4 8v4\" stroke=\"#5c4300\"/>",
+        Condition::Oob => {
+            "<rect x=\"-8\" y=\"7.5\" width=\"16\" height=\"5\" fill=\"#1f5fa8\"/>"
+        }
+        Condition::Claimed => {
+            "<path d=\"M-8 10h16M-4 6.5v7M4 6.5v7\" stroke=\"#5f6b7a\" stroke-width=\"3\"/>"
+        }
+        Condition::Taken => "<path d=\"M-8 8h16M-8 12h16\" stroke=\"#5c4300\"/>",
     }
 }
 
-// What stands before the number above a lane: T is that of an owner, + that of pending events.
+// What stands before the number above a lane: T is that of a thread, + that of pending events.
 fn number_sign(condition: Condition) -> &'static str {
     match condition {
-        Condition::Owned => "T",
+        Condition::Owned | Condition::Claimed | Condition::Taken => "T",
         Condition::Stalled | Condition::Pending => "+",
         _ => "",
     }
 }
 
 // Appends the number that stands above a lane.
-fn put_number(text: &mut String, standing: Standing, number: u16) -> Result<(), AllocError> {
+fn put_number(
+    text: &mut String,
+    sheet: &Sheet,
+    standing: Standing,
+    number: u16,
+) -> Result<(), AllocError> {
+    let place = sheet.number_place();
     let sign = number_sign(standing.condition);
     write!(
         text,
-        "<text x=\"-7\" y=\"-7\" font-size=\"7\">{sign}{number}</text>"
+        "<text {place} y=\"-7\" font-size=\"7\">{sign}{number}</text>"
     )?;
     Ok(())
 }
@@ -74,7 +87,7 @@ fn put_standing(
     if let Some(number) = standing.number
         && tells_number(column, standing, before)
     {
-        put_number(text, standing, number)?;
+        put_number(text, sheet, standing, number)?;
     }
     text.push_str("</g>\n")
 }
@@ -118,7 +131,8 @@ fn put_date(
     Ok(())
 }
 
-/// Appends the date and how each lane stands in a column, with what was before it. `AllocError` where memory couldn't grow.
+/// Appends the date and how each lane stands in a column, with what was before it. `AllocError` where memory couldn't
+/// grow.
 pub fn put_moment(
     alloc: Global,
     text: &mut String,

@@ -4,7 +4,7 @@ ghost use Rattle.evl_drawing.specs.Marks.{line_of};
 ghost use Rattle.evl_drawing.specs.Titles.{Adds, AddsTitle, Holds, HoldsTitles, title_text};
 
 use crate::escapes::{put_escaped, title};
-use crate::frames::{COLUMNS, Sheet, shape_text};
+use crate::frames::{COLUMNS, Sheet, Shows, shape_text};
 use crate::lanes::{Lane, closed, index_of};
 use crate::marks::{Mark, Shape};
 use crate::moments::Moment;
@@ -127,8 +127,8 @@ fn frame(alloc: Global, sheet: &Sheet, column: usize) -> Result<String, AllocErr
     }
 }
 
-// How the lanes stand in a column: as the waits that are open tell, or as after this many entries, where that is known. And how
-// many entries stand before the column: as many, where it is a play's.
+// How the lanes stand in a column: as the waits that are open tell, or as after this many entries, where that is known.
+// And how many entries stand before the column: as many, where it is a play's.
 #[derive(Clone, Copy, Drop)]
 struct Known<'a> {
     open: &'a [bool],
@@ -152,15 +152,14 @@ fn background(
     known: &Known<'_>,
 ) -> Result<String, AllocError> {
     let mut text = frame(alloc, sheet, column)?;
-    match known.after(known.entries) {
-        Some(moment) => {
-            let before = known.after(known.before);
-            put_moment(alloc, &mut text, sheet, column, moment, before)?;
-        }
-        None => {
-            let going_on = waits(alloc, sheet, column, known.open)?;
-            text.push_str(going_on.as_str())?;
-        }
+    let now = known.after(known.entries);
+    if let Some(moment) = now {
+        let before = known.after(known.before);
+        put_moment(alloc, &mut text, sheet, column, moment, before)?;
+    }
+    if now.is_none() || sheet.shows_waits() {
+        let going_on = waits(alloc, sheet, column, known.open)?;
+        text.push_str(going_on.as_str())?;
     }
     Ok(text)
 }
@@ -230,9 +229,27 @@ fn put_marks(
     Ok(())
 }
 
-/// The picture of some marks as SVG: a band of lanes for each 60 of them, with the title of each mark, in order. Where it is
-/// known how the machine stood after each entry, dates and strips show it; else the waits that the answers tell are shown.
-/// `AllocError` where memory couldn't grow (this profile).
+// The picture of some marks, which shows this of how lanes stand.
+fn picture(
+    alloc: Global,
+    marks: &[Mark<'_>],
+    moments: &[Moment],
+    shows: Shows,
+) -> Result<Vec<u8>, AllocError>
+    ensures { IfOk result (λ text. HoldsTitles (map line_of marks.now) text.items) }
+{
+    let sheet = Sheet::of(alloc, marks, shows)?;
+    let head = sheet.head(alloc)?;
+    let mut text = Vec::new(alloc);
+    text.extend_from_slice(head.as_str().as_bytes())?;
+    put_marks(alloc, &sheet, marks, moments, &mut text)?;
+    text.extend_from_slice(b"</svg>\n")?;
+    Ok(text)
+}
+
+/// The picture of some marks as SVG: a band of lanes for each 60 of them, with the title of each mark, in order. Where
+/// it is known how the machine stood after each entry, dates and strips show it; else the waits that the answers tell
+/// are shown. `AllocError` where memory couldn't grow.
 pub fn write_svg(
     alloc: Global,
     marks: &[Mark<'_>],
@@ -240,11 +257,21 @@ pub fn write_svg(
 ) -> Result<Vec<u8>, AllocError>
     ensures { IfOk result (λ text. HoldsTitles (map line_of marks.now) text.items) }
 {
-    let sheet = Sheet::of(alloc, marks, !moments.is_empty())?;
-    let head = sheet.head(alloc)?;
-    let mut text = Vec::new(alloc);
-    text.extend_from_slice(head.as_str().as_bytes())?;
-    put_marks(alloc, &sheet, marks, moments, &mut text)?;
-    text.extend_from_slice(b"</svg>\n")?;
-    Ok(text)
+    if moments.is_empty() {
+        picture(alloc, marks, moments, Shows::Waits)
+    } else {
+        picture(alloc, marks, moments, Shows::Machine)
+    }
+}
+
+/// The same of the marks of callers' lines: dates, strips of how the words stood after each entry, and the waits.
+/// `AllocError` where memory couldn't grow.
+pub fn write_told(
+    alloc: Global,
+    marks: &[Mark<'_>],
+    moments: &[Moment],
+) -> Result<Vec<u8>, AllocError>
+    ensures { IfOk result (λ text. HoldsTitles (map line_of marks.now) text.items) }
+{
+    picture(alloc, marks, moments, Shows::Words)
 }

@@ -59,8 +59,8 @@ fn write_row(rows: &mut Writer<Vec<u8>>, row: &ByteRecord) -> Result<(), AllocEr
     }
 }
 
-/// A row for each mark: the number of its row, its lane, what it shows, and the line that it stands for. `AllocError` where
-/// memory couldn't grow (this profile).
+/// A row for each mark: the number of its row, its lane, what it shows, and the line that it stands for. `AllocError`
+/// where memory couldn't grow.
 pub fn write_table(alloc: Global, marks: &[Mark<'_>]) -> Result<Vec<u8>, AllocError> {
     let mut rows = WriterBuilder::new().from_writer(Vec::new(alloc));
     let mut row = head_of(alloc)?;

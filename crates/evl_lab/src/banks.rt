@@ -68,7 +68,8 @@ fn own_plans(alloc: Global) -> io::Result<Option<Vec<Planned>>>
     }
 }
 
-/// The callbacks of a bank's file, or the program's where none is named; none where the file is at fault, which is told.
+/// The callbacks of a bank's file, or the program's where none is named; none where the file is at fault, which is
+/// told.
 pub fn read_plans<R: Files + AllocGlobal, E: Write>(
     rt: &R,
     bank: Option<&str>,

@@ -72,8 +72,8 @@ fn check_each<R: Files + AllocGlobal + Print>(
     Ok(status)
 }
 
-/// Prints the faults of files, a line each, or where a file has none the warnings of a dry run over a bank, and answers the
-/// status: 2 where a file is at fault or can't be read, or the bank is.
+/// Prints the faults of files, a line each, or where a file has none the warnings of a dry run over a bank, and answers
+/// the status: 2 where a file is at fault or can't be read, or the bank is.
 pub fn check_files<R: Files + AllocGlobal + Print, E: Write>(
     rt: &R,
     bank: Option<&str>,

@@ -160,6 +160,49 @@ fn live_command<'a>(alloc: Global) -> Result<Command<'a>, AllocError> {
     over_bank.arg(first_file(alloc))
 }
 
+// The text of callers.
+fn callers_file<'a>(alloc: Global) -> Arg<'a> {
+    Arg::new(alloc, "FILE").action(ArgAction::Set).help(
+        "A scenario, in which [[setup]] stands for a step that comes first; without it, or with -, standard input",
+    )
+}
+
+// How far the orders are gone through.
+fn most_word<'a>(alloc: Global) -> Arg<'a> {
+    Arg::new(alloc, "most")
+        .long("most")
+        .value_name("N")
+        .value_parser(value_parser!(u32).range(1..=100_000_000))
+        .help(
+            "Go no further than where a number of steps leads to more than N moments; 100000 without it",
+        )
+}
+
+// The words of `orders`.
+fn orders_command<'a>(alloc: Global) -> Result<Command<'a>, AllocError> {
+    Command::new(alloc, "orders")
+        .about("Goes through every order in which the callers of a scenario may come")
+        .arg(bank_word(alloc))?
+        .arg(most_word(alloc))?
+        .arg(callers_file(alloc))
+}
+
+// The text of callers that is played.
+fn steps_file<'a>(alloc: Global) -> Arg<'a> {
+    Arg::new(alloc, "FILE").action(ArgAction::Set).help(
+        "A scenario with staxes, and with steps of callers; without it, or with -, standard input",
+    )
+}
+
+// The words of `callers`.
+fn steps_command<'a>(alloc: Global) -> Result<Command<'a>, AllocError> {
+    let command = Command::new(alloc, "callers").about(
+        "Plays callers of both stages, and shows the words of staxes and mutexes",
+    );
+    let over_bank = with_bank(alloc, command)?;
+    over_bank.arg(steps_file(alloc))
+}
+
 // The word of a call.
 fn call_word<'a>(alloc: Global) -> Arg<'a> {
     Arg::new(alloc, "WORD")
@@ -184,7 +227,9 @@ fn command_line<'a>(alloc: Global) -> Result<Command<'a>, AllocError> {
     let draws = checks.subcommand(draw_command(alloc)?)?;
     let plays = draws.subcommand(play_command(alloc)?)?;
     let lives = plays.subcommand(live_command(alloc)?)?;
-    lives.subcommand(help_command(alloc)?)
+    let orders = lives.subcommand(orders_command(alloc)?)?;
+    let steps = orders.subcommand(steps_command(alloc)?)?;
+    steps.subcommand(help_command(alloc)?)
 }
 
 /// Reads the words, of which the first is the program's name.

@@ -55,8 +55,8 @@ fn compare_texts<R: AllocGlobal + Print, E: Write>(
     }
 }
 
-/// Tells the first difference of a scenario's trace from the one that a folder has of the same name, and answers whether
-/// there is one, or no such trace.
+/// Tells the first difference of a scenario's trace from the one that a folder has of the same name, and answers
+/// whether there is one, or no such trace.
 pub fn compare<R: Files + AllocGlobal + Print, E: Write>(
     rt: &R,
     name: &str,

@@ -1,9 +1,9 @@
-//! `lab draw`: the picture of a trace, or of a scenario, which is played.
+//! `lab draw`: the picture of a trace, of a scenario, which is played, or of what `lab callers` tells.
 use crate::texts::{put, read_text};
 use crate::words::{Drawing, Form};
 use evl_drawing::{
-    Mark, Moment, lanes_of, marks_of, page, page_count, page_moments, write_rows, write_svg,
-    write_table,
+    Mark, Moment, lanes_of, marks_of, page, page_count, page_moments, told_moments, write_rows,
+    write_svg, write_table, write_told,
 };
 use evl_moments::moments_of;
 use evl_plans::trace_plans;
@@ -17,37 +17,61 @@ use std::rt::Files;
 /// The status of a text that can't be drawn.
 const AT_FAULT: u8 = 2;
 
-// How the lanes of marks stand after each step of a scenario, over the program's callbacks; nothing where there is none.
-fn known_moments(
+/// What stands between the lines of callers and what is told of their machine's end.
+const CLOSING: &str = "\nclose -> ";
+
+// What marks come from: a trace alone, a scenario that was played, or the lines of callers.
+#[derive(Clone, Copy, PartialEq, Eq, Debug)]
+enum Source<'a> {
+    Trace,
+    Scenario(&'a str),
+    Callers,
+}
+
+// How the lanes of marks stand after each step of a scenario, over the program's callbacks.
+fn scenario_moments(
     alloc: Global,
     marks: &[Mark<'_>],
-    scenario: Option<&str>,
+    text: &str,
 ) -> Result<Vec<Moment>, AllocError> {
-    let Some(text) = scenario else {
-        return Ok(Vec::new(alloc));
-    };
     let lanes = lanes_of(alloc, marks)?;
     let plans = program_plans(alloc)?;
     moments_of(alloc, plans.as_slice(), text.as_bytes(), lanes.as_slice())
+}
+
+// How the lanes of marks stand after each entry, as far as their source tells it.
+fn known_moments(
+    alloc: Global,
+    marks: &[Mark<'_>],
+    source: Source<'_>,
+) -> Result<Vec<Moment>, AllocError> {
+    match source {
+        Source::Trace => Ok(Vec::new(alloc)),
+        Source::Scenario(text) => scenario_moments(alloc, marks, text),
+        Source::Callers => told_moments(alloc, marks),
+    }
 }
 
 // The picture of a page of marks, from 0.
 fn picture_of(
     alloc: Global,
     marks: &[Mark<'_>],
-    scenario: Option<&str>,
+    source: Source<'_>,
     number: usize,
 ) -> Result<Vec<u8>, AllocError> {
-    let known = known_moments(alloc, marks, scenario)?;
+    let known = known_moments(alloc, marks, source)?;
     let behind = page_moments(marks, known.as_slice(), number);
-    write_svg(alloc, page(marks, number), behind)
+    match source {
+        Source::Callers => write_told(alloc, page(marks, number), behind),
+        _ => write_svg(alloc, page(marks, number), behind),
+    }
 }
 
 // Writes the picture of a page of marks, from 1, and says so where there are several.
 fn draw_svg<R: AllocGlobal + Print, E: Write>(
     rt: &R,
     marks: &[Mark<'_>],
-    scenario: Option<&str>,
+    source: Source<'_>,
     number: u32,
     err: &mut E,
 ) -> io::Result<u8> {
@@ -63,7 +87,7 @@ fn draw_svg<R: AllocGlobal + Print, E: Write>(
     if all > 1 {
         writeln!(err, "lab: page {number} of {all}")?;
     }
-    match picture_of(rt.alloc(), marks, scenario, chosen.saturating_sub(1)) {
+    match picture_of(rt.alloc(), marks, source, chosen.saturating_sub(1)) {
         Ok(picture) => put(rt, picture.as_slice())?,
         Err(error) => return Err(error.into()),
     }
@@ -101,28 +125,28 @@ fn draw_rows<R: AllocGlobal + Print>(rt: &R, marks: &[Mark<'_>]) -> io::Result<u
 fn draw_marks<R: AllocGlobal + Print, E: Write>(
     rt: &R,
     marks: &[Mark<'_>],
-    scenario: Option<&str>,
+    source: Source<'_>,
     drawing: Drawing,
     err: &mut E,
 ) -> io::Result<u8> {
     match drawing.form {
-        Form::Svg => draw_svg(rt, marks, scenario, drawing.page, err),
+        Form::Svg => draw_svg(rt, marks, source, drawing.page, err),
         Form::Events => draw_events(rt, marks),
         Form::Table => draw_table(rt, marks),
         Form::Rows => draw_rows(rt, marks),
     }
 }
 
-// Writes the picture of the lines of a trace, and of a scenario with how the lanes stand.
+// Writes the picture of the lines of a trace, with how the lanes stand as far as their source tells it.
 fn draw_lines<R: AllocGlobal + Print, E: Write>(
     rt: &R,
     lines: &[TraceLine<'_>],
-    scenario: Option<&str>,
+    source: Source<'_>,
     drawing: Drawing,
     err: &mut E,
 ) -> io::Result<u8> {
     match marks_of(rt.alloc(), lines) {
-        Ok(marks) => draw_marks(rt, marks.as_slice(), scenario, drawing, err),
+        Ok(marks) => draw_marks(rt, marks.as_slice(), source, drawing, err),
         Err(error) => Err(error.into()),
     }
 }
@@ -166,7 +190,10 @@ fn draw_trace<R: AllocGlobal + Print, E: Write>(
     err: &mut E,
 ) -> io::Result<u8> {
     match read_lines(rt.alloc(), std::str::from_utf8(trace).unwrap_or("")) {
-        Ok(lines) => draw_lines(rt, lines.as_slice(), Some(scenario), drawing, err),
+        Ok(lines) => {
+            let source = Source::Scenario(scenario);
+            draw_lines(rt, lines.as_slice(), source, drawing, err)
+        }
         Err(_) => Err(AllocError.into()),
     }
 }
@@ -185,17 +212,53 @@ fn draw_scenario<R: AllocGlobal + Print, E: Write>(
     }
 }
 
-// Writes the picture of a trace or a scenario.
+// Writes the picture of the lines that a text has, or of the text as a scenario.
+fn draw_whole<R: AllocGlobal + Print, E: Write>(
+    rt: &R,
+    read: &str,
+    source: Source<'_>,
+    text: &str,
+    drawing: Drawing,
+    err: &mut E,
+) -> io::Result<u8> {
+    match read_lines(rt.alloc(), read) {
+        Ok(lines) => draw_lines(rt, lines.as_slice(), source, drawing, err),
+        Err(Misread::Memory) => Err(AllocError.into()),
+        Err(Misread::Line(line)) => draw_scenario(rt, text, line, drawing, err),
+    }
+}
+
+// The text with a line feed at its end.
+fn with_line_feed(alloc: Global, text: &str) -> Result<String, AllocError> {
+    let mut line = String::from_str(alloc, text)?;
+    line.push_str("\n")?;
+    Ok(line)
+}
+
+// Writes the picture of the lines of callers, which stand at the front of a text.
+fn draw_callers<R: AllocGlobal + Print, E: Write>(
+    rt: &R,
+    front: &str,
+    text: &str,
+    drawing: Drawing,
+    err: &mut E,
+) -> io::Result<u8> {
+    match with_line_feed(rt.alloc(), front) {
+        Ok(told) => draw_whole(rt, told.as_str(), Source::Callers, text, drawing, err),
+        Err(error) => Err(error.into()),
+    }
+}
+
+// Writes the picture of a trace, of a scenario, or of callers up to where their machine is closed.
 fn draw_text<R: AllocGlobal + Print, E: Write>(
     rt: &R,
     text: &str,
     drawing: Drawing,
     err: &mut E,
 ) -> io::Result<u8> {
-    match read_lines(rt.alloc(), text) {
-        Ok(lines) => draw_lines(rt, lines.as_slice(), None, drawing, err),
-        Err(Misread::Memory) => Err(AllocError.into()),
-        Err(Misread::Line(line)) => draw_scenario(rt, text, line, drawing, err),
+    match text.split_once(CLOSING) {
+        Some((front, _)) => draw_callers(rt, front, text, drawing, err),
+        None => draw_whole(rt, text, Source::Trace, text, drawing, err),
     }
 }
 
@@ -218,8 +281,8 @@ fn draw_bytes<R: AllocGlobal + Print, E: Write>(
     }
 }
 
-/// Draws the trace that a file holds, or that of its scenario, or of the input where none is named. The status is 2 where it
-/// holds neither.
+/// Draws the trace that a file holds, or that of its scenario, or what is told of callers there, or of the input where
+/// none is named. The status is 2 where it holds none of these.
 pub fn draw<R: Files + AllocGlobal + Print, I: Read, E: Write>(
     rt: &R,
     drawing: Drawing,

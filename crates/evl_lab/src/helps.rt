@@ -27,7 +27,8 @@ fn tell_no_call<E: Write>(err: &mut E, word: &str) -> io::Result<u8> {
     Ok(REFUSED)
 }
 
-/// Prints a form of each call, or of one with what its keys take, and answers the status: 3 where there is no such call.
+/// Prints a form of each call, or of one with what its keys take, and answers the status: 3 where there is no such
+/// call.
 pub fn help<R: AllocGlobal + Print, E: Write>(
     rt: &R,
     word: Option<&str>,

@@ -2,12 +2,14 @@
 #![tactic(auto)]
 
 mod banks;
+mod callers;
 mod checks;
 mod commands;
 mod compares;
 mod draws;
 mod helps;
 mod lives;
+mod orders;
 mod parts;
 mod plays;
 mod texts;

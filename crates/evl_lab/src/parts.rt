@@ -1,10 +1,12 @@
-//! The parts of the program: `check`, `draw`, `play`, `live` and `help`.
+//! The parts of the program: `check`, `draw`, `play`, `live`, `orders`, `callers` and `help`.
+use crate::callers::callers;
 use crate::checks::check_files;
 use crate::draws::draw;
 use crate::helps::help;
 use crate::lives::live;
+use crate::orders::orders;
 use crate::plays::play_files;
-use crate::words::{drawing_of, driving_of, playing_of};
+use crate::words::{asked_of, drawing_of, driving_of, playing_of};
 use clap::ArgMatches;
 use std::io::{self, Read, Write};
 use std::rt::Files;
@@ -30,6 +32,11 @@ pub fn do_part<R: Files + AllocGlobal + Print, I: Read, E: Write>(
             play_files(rt, playing_of(inner), files, input, err)
         }
         Some(("live", inner)) => live(rt, driving_of(inner), input, err),
+        Some(("orders", inner)) => orders(rt, &asked_of(inner), input, err),
+        Some(("callers", inner)) => {
+            let asked = driving_of(inner);
+            callers(rt, asked.bank, asked.file, asked.limit, input, err)
+        }
         Some(("help", inner)) => help(rt, inner.get_str("WORD"), err),
         _ => Ok(REFUSED),
     }

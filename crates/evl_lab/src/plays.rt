@@ -22,8 +22,8 @@ fn tell_done<E: Write>(err: &mut E, name: &str) -> io::Result<bool> {
     Ok(false)
 }
 
-// Tells why a scenario wasn't played.
-fn tell_refused<E: Write>(err: &mut E, name: &str, why: &str) -> io::Result<bool> {
+/// Tells why a scenario wasn't played.
+pub fn tell_refused<E: Write>(err: &mut E, name: &str, why: &str) -> io::Result<bool> {
     writeln!(err, "{name}: {why}")?;
     Ok(true)
 }
@@ -34,8 +34,8 @@ fn tell_step<E: Write>(err: &mut E, name: &str, number: u32) -> io::Result<bool>
     Ok(true)
 }
 
-// Tells the fault of a scenario.
-fn tell_fault<E: Write>(err: &mut E, name: &str, fault: Fault) -> io::Result<bool> {
+/// Tells the fault of a scenario.
+pub fn tell_fault<E: Write>(err: &mut E, name: &str, fault: Fault) -> io::Result<bool> {
     match fault {
         Fault::Text => tell_refused(err, name, "bad text"),
         Fault::Board => tell_refused(err, name, "bad board"),
@@ -157,8 +157,8 @@ fn play_over<R: Files + AllocGlobal + Print, I: Read, E: Write>(
     Ok(if is_at_fault { AT_FAULT } else { 0 })
 }
 
-/// Plays scenarios over a bank, tells of each what is asked for and on `err` how it ended, and answers the status: 2 where one
-/// is refused, can't be read or differs, or the bank is at fault.
+/// Plays scenarios over a bank, tells of each what is asked for and on `err` how it ended, and answers the status: 2
+/// where one is refused, can't be read or differs, or the bank is at fault.
 pub fn play_files<R: Files + AllocGlobal + Print, I: Read, E: Write>(
     rt: &R,
     playing: Playing<'_>,

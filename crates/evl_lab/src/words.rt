@@ -63,6 +63,21 @@ fn form_of(matches: &ArgMatches<'_>) -> Form {
     }
 }
 
+/// What `orders` is asked for: the file of a bank, how many moments one number of steps may lead to, and the text.
+#[derive(Clone, Copy, Drop)]
+pub struct Asked<'a> {
+    pub bank: Option<&'a str>,
+    pub most: usize,
+    pub file: Option<&'a str>,
+}
+
+impl<'a> Asked<'a> {
+    /// How the text is called in messages.
+    pub fn name(&self) -> &'a str {
+        self.file.unwrap_or("-")
+    }
+}
+
 /// What `draw` is asked for.
 pub fn drawing_of(matches: &ArgMatches<'_>) -> Drawing {
     Drawing {
@@ -97,5 +112,15 @@ pub fn driving_of<'a>(matches: &ArgMatches<'a>) -> Driving<'a> {
         file: matches.get_str("FILE"),
         bank: matches.get_str("bank"),
         limit: matches.get_one("limit"),
+    }
+}
+
+/// What `orders` is asked for.
+pub fn asked_of<'a>(matches: &ArgMatches<'a>) -> Asked<'a> {
+    let most: u32 = matches.get_one("most").unwrap_or(100_000);
+    Asked {
+        bank: matches.get_str("bank"),
+        most: most as usize,
+        file: matches.get_str("FILE"),
     }
 }

@@ -1,4 +1,5 @@
 //! How a machine stands after each call of a scenario.
+//! What names no source is this profile's own.
 #![tactic(auto)]
 
 mod moments;

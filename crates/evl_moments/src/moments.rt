@@ -25,8 +25,8 @@ fn standings<C>(
     Ok(told)
 }
 
-/// The date of a kernel, and how those of the lanes stand that show something, in order. `AllocError` where memory couldn't
-/// grow (this profile).
+/// The date of a kernel, and how those of the lanes stand that show something, in order. `AllocError` where memory
+/// couldn't grow.
 pub fn moment_of<C>(
     alloc: Global,
     kernel: &KernelOf<C, Global>,

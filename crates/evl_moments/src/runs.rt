@@ -59,8 +59,8 @@ fn play(
     }
 }
 
-/// How the lanes stand after each step of a scenario's text, played over copies of these callbacks: a moment for each step.
-/// Of a text that is no scenario nothing is told. `AllocError` where memory couldn't grow (this profile).
+/// How the lanes stand after each step of a scenario's text, played over copies of these callbacks: a moment for each
+/// step. Of a text that is no scenario nothing is told. `AllocError` where memory couldn't grow.
 pub fn moments_of(
     alloc: Global,
     bank: &[Planned],

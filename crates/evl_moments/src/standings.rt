@@ -108,8 +108,8 @@ fn stage_standing<C>(kernel: &KernelOf<C, Global>, stage: Stage) -> Option<Stand
     }
 }
 
-/// How a lane stands, where it shows something: an attached thread, a mutex with a recorded owner, a timer that runs, a stage
-/// that is stalled or on which events are pending (this profile).
+/// How a lane stands, where it shows something: an attached thread, a mutex with a recorded owner, a timer that runs, a
+/// stage that is stalled or on which events are pending.
 pub fn standing<C>(kernel: &KernelOf<C, Global>, lane: Lane) -> Option<Standing>
     ensures standing { result ≡ stands kernel.now.history.state lane }
 {
@@ -119,5 +119,6 @@ pub fn standing<C>(kernel: &KernelOf<C, Global>, lane: Lane) -> Option<Standing>
         Lane::Timer(timer) => timer_standing(kernel, timer),
         Lane::Stage(stage) => stage_standing(kernel, stage),
         Lane::Sem(_) | Lane::Flags(_) | Lane::Xbuf(_) | Lane::Clock => None,
+        Lane::Stax(_) | Lane::Core => None,
     }
 }

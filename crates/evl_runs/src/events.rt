@@ -16,6 +16,8 @@ fn track_of(lane: Lane) -> u32 {
         Lane::Clock => (6, 0),
         Lane::Stage(Stage::Oob) => (7, 0),
         Lane::Stage(Stage::Inband) => (8, 0),
+        Lane::Stax(number) => (9, number),
+        Lane::Core => (10, 0),
     };
     kind.saturating_mul(65_536)
         .saturating_add(u32::from(number))
@@ -92,8 +94,8 @@ fn put_event(
     Ok(())
 }
 
-/// Marks as trace events in JSON: a track for each lane with its name, an event of one unit of time for each mark, at the
-/// number of its row, and where a wait begins and ends. `AllocError` where memory couldn't grow.
+/// Marks as trace events in JSON: a track for each lane with its name, an event of one unit of time for each mark, at
+/// the number of its row, and where a wait begins and ends. `AllocError` where memory couldn't grow.
 pub fn write_events(alloc: Global, marks: &[Mark<'_>]) -> Result<String, AllocError> {
     let mut json = String::from_str(alloc, "{\"traceEvents\": [\n")?;
     let mut seen = Vec::new(alloc);

@@ -135,9 +135,9 @@ fn end_entry(json: &mut String, plays: Option<usize>) -> Result<(), AllocError> 
     }
 }
 
-/// Writes a line of JSON for each entry of a trace: its file, number, thread, call with its keys, answer, whether that is a
-/// refusal, and its plays. A number is a number, `none` is null, anything else a text. `AllocError` where memory couldn't
-/// grow.
+/// Writes a line of JSON for each entry of a trace: its file, number, thread, call with its keys, answer, whether that
+/// is a refusal, and its plays. A number is a number, `none` is null, anything else a text. `AllocError` where memory
+/// couldn't grow.
 pub fn write_json(
     alloc: Global,
     file: &str,

@@ -1,5 +1,5 @@
-//! What is told of scenarios that were played: their traces as lines of JSON and as trace events, and the first difference
-//! of two traces; and the program's callbacks as plans.
+//! What is told of scenarios that were played: their traces as lines of JSON and as trace events, and the first
+//! difference of two traces; and the program's callbacks as plans.
 #![tactic(auto)]
 
 mod calls;

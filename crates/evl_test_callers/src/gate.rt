@@ -173,8 +173,8 @@ fn all_answer(gate: &StaxGate, seats: &mut Vec<StaxSeat>, times: u16, steps: &[S
     true
 }
 
-// The word at which a gate of this limit, with so many seats, stands once the steps were made so often; none where a step
-// isn't answered as it is wanted.
+// The word at which a gate of this limit, with so many seats, stands once the steps were made so often; none where a
+// step isn't answered as it is wanted.
 fn word_after(alloc: Global, limit: u16, seats: u16, times: u16, steps: &[Step]) -> Option<u64> {
     match made(alloc, limit, seats) {
         Ok((gate, mut seats)) => {
@@ -207,8 +207,8 @@ fn word_with(alloc: Global, handed: usize) -> Option<u64> {
     }
 }
 
-// Whether a gate of limit 2 with two seats stands at the word that is wanted after so many of the steps, each time from the
-// beginning.
+// Whether a gate of limit 2 with two seats stands at the word that is wanted after so many of the steps, each time from
+// the beginning.
 fn words_are(alloc: Global, steps: &[Step], wanted: &[(usize, u64)]) -> bool {
     for (count, word) in wanted {
         let Some(some) = steps.get(..*count) else {

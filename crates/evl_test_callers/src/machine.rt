@@ -5,7 +5,6 @@ mod acts;
 mod closing;
 mod growths;
 mod holding;
-mod mutexes;
 mod one_table;
 mod owners;
 mod racing;
@@ -69,8 +68,8 @@ const ONCE_FREE: [Step; 5] = [
     (1, Act::Call(Ask::Peek(SEM)), Told::Count(0)),
 ];
 
-// The first caller has the core for one put, while the second is told that it is busy, and gets a stax and a mutex. None
-// where an answer isn't the one that is wanted.
+// The first caller has the core for one put, while the second is told that it is busy, and gets a stax and a mutex.
+// None where an answer isn't the one that is wanted.
 fn held_row(
     machine: &Machine,
     first: Caller,
@@ -123,45 +122,6 @@ fn is_core_row(machine: &Machine, callers: &mut Vec<Caller>, passes: &mut Passes
     let held = is_held_row(machine, callers, passes);
     let free = answers(machine, callers, passes, &ONCE_FREE);
     attached && held && free
-}
-
-#[derive(Drop)]
-struct CoreRow;
-
-impl Row for CoreRow {
-    fn is_told(self, machine: &Machine, callers: &mut Vec<Caller>, passes: &mut Passes) -> bool {
-        is_core_row(machine, callers, passes)
-    }
-}
-
-// Row core_held.
-#[test]
-fn core_held(rt: HostRuntime) {
-    assert!(rt; is_told(rt.alloc(), board_of_two(), 100, CoreRow));
-}
-
-#[derive(Drop)]
-struct HeldByTheSecond;
-
-impl Row for HeldByTheSecond {
-    // The second caller has the core, and the first is told that it is busy.
-    fn is_told(self, machine: &Machine, callers: &mut Vec<Caller>, passes: &mut Passes) -> bool {
-        let attached = answers(machine, callers, passes, &BOTH_ATTACH);
-        let Some(mut first) = first_of(machine, callers) else {
-            return false;
-        };
-        let Some(second) = first_of(machine, callers) else {
-            return false;
-        };
-        let held = held_row(machine, second, &mut first, passes).is_some();
-        attached && held
-    }
-}
-
-// Row core_held with the threads' parts exchanged, while one of them has the core.
-#[test]
-fn core_held_by_the_other(rt: HostRuntime) {
-    assert!(rt; is_told(rt.alloc(), board_of_two(), 100, HeldByTheSecond));
 }
 
 #[derive(Drop)]

@@ -243,8 +243,8 @@ fn all_answer(
     true
 }
 
-// The word at which a mutex of so many seats stands once the rounds were made; none where a step isn't answered as it is
-// wanted.
+// The word at which a mutex of so many seats stands once the rounds were made; none where a step isn't answered as it
+// is wanted.
 fn word_after(alloc: Global, recursive: bool, count: u16, rounds: &[Round<'_>]) -> Option<u64> {
     match made(alloc, recursive, count) {
         Ok((word, mut seats)) => {
@@ -283,8 +283,8 @@ const BEFORE_THE_CLAIM: [Step; 3] = [
     (0, Act::Unlock, Told::Done),
 ];
 
-// The word at which the mutex of row mutex_word_claim stands once seat 1 has settled and so many of the steps behind that
-// were made.
+// The word at which the mutex of row mutex_word_claim stands once seat 1 has settled and so many of the steps behind
+// that were made.
 fn word_of_claim_row(alloc: Global, after: usize) -> Option<u64> {
     match made(alloc, false, 3) {
         Ok((word, mut seats)) => {
@@ -387,8 +387,8 @@ fn wins_around(
     }
 }
 
-// Row mutex_word_claim: what the calls answer, up to so many of the steps behind the settling. Seat 1 wins, and seat 2 comes
-// too late.
+// Row mutex_word_claim: what the calls answer, up to so many of the steps behind the settling. Seat 1 wins, and seat 2
+// comes too late.
 fn claim_row(
     word: &MutexWord,
     seats: &mut Vec<MutexSeat>,

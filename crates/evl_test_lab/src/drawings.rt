@@ -1,5 +1,7 @@
 //! Traces that are read and drawn.
-use evl_drawing::{Condition, Lane, Moment, marks_of, write_svg, write_table};
+use evl_drawing::{
+    Condition, Lane, Moment, marks_of, told_moments, write_rows, write_svg, write_table, write_told,
+};
 use evl_moments::moments_of;
 use evl_runs::write_events;
 use evl_traces::{Misread, TraceLine, read_lines};
@@ -125,9 +127,9 @@ step = [
 threads = 2
 "#;
 
-// How thread 1 stands after a step.
-fn stands(moments: &[Moment], step: usize) -> Option<(Condition, Option<u16>)> {
-    let standing = moments.get(step)?.standing(Lane::Thread(1))?;
+// How a lane stands after a step.
+fn stands(moments: &[Moment], step: usize, lane: Lane) -> Option<(Condition, Option<u16>)> {
+    let standing = moments.get(step)?.standing(lane)?;
     Some((standing.condition, standing.number))
 }
 
@@ -137,8 +139,8 @@ fn stands_so(alloc: Global) -> bool {
     match moments_of(alloc, &[], TWO_MOMENTS.as_bytes(), &lanes) {
         Ok(moments) => {
             moments.len() == 2
-                && stands(moments.as_slice(), 0) == Some((Condition::Picked, Some(522)))
-                && stands(moments.as_slice(), 1) == Some((Condition::Inband, Some(522)))
+                && stands(moments.as_slice(), 0, lanes[1]) == Some((Condition::Picked, Some(522)))
+                && stands(moments.as_slice(), 1, lanes[1]) == Some((Condition::Inband, Some(522)))
         }
         Err(_) => false,
     }
@@ -147,4 +149,110 @@ fn stands_so(alloc: Global) -> bool {
 #[test]
 fn moments_tell_how_a_thread_stands(rt: HostRuntime) {
     assert!(rt; stands_so(rt.alloc()));
+}
+
+/// Lines of callers: of a pass that is named as a refusal might be, a refused step, a wait, and the core.
+const TOLD: &str = "board threads=2 sems=0 flags=0 xbufs=0 mutexes=1 groups=0 limit=100
+1 T0 try_lock_stax stax=0 as=Pass -> Pass | stax 0: in-band, 1 holder
+2 T1 try_lock_stax stax=0 as=p1 -> Limit | stax 0: in-band, 1 holder
+3 T1 begin_lock_mutex mutex=0 until=none as=m1 -> begun | mutex 0: T0, claimed
+4 T1 finish_lock_mutex as=m1 -> m1 | mutex 0: T1
+5 T0 unlock_stax pass=Pass -> done | stax 0: free
+6 T0 take -> done | core: taken by T0
+";
+
+/// The same in characters.
+const TOLD_ROWS: &str = "T0          o   oo
+T1           x()  
+mutex 0       ..  
+stax 0      ..  . 
+core             .
+
+o answered  ( a wait begins  ) a wait ends  x refused  # played  - not handled
+. named by the call above
+";
+
+// Callers' lines in characters, where they are read.
+fn rows(alloc: Global, told: &str) -> Result<Option<String>, AllocError> {
+    let Ok(lines) = read_lines(alloc, told) else {
+        return Ok(None);
+    };
+    let marks = marks_of(alloc, lines.as_slice())?;
+    Ok(Some(write_rows(alloc, marks.as_slice())?))
+}
+
+// Whether callers' lines have these characters.
+fn has_rows(alloc: Global, told: &str, wanted: &str) -> bool {
+    match rows(alloc, told) {
+        Ok(Some(text)) => text.as_str() == wanted,
+        _ => false,
+    }
+}
+
+#[test]
+fn words_have_their_lanes(rt: HostRuntime) {
+    assert!(rt; has_rows(rt.alloc(), TOLD, TOLD_ROWS));
+}
+
+// How the words stand after each of callers' lines; nothing where they can't be read.
+fn words_of(alloc: Global, told: &str) -> Result<Vec<Moment>, AllocError> {
+    let Ok(lines) = read_lines(alloc, told) else {
+        return Ok(Vec::new(alloc));
+    };
+    let marks = marks_of(alloc, lines.as_slice())?;
+    told_moments(alloc, marks.as_slice())
+}
+
+// Whether a stax stands as it is shown until it is free, and a mutex as its word was shown last.
+fn stand_as_shown(moments: &[Moment]) -> bool {
+    let stax = Lane::Stax(0);
+    let mutex = Lane::Mutex(0);
+    stands(moments, 3, stax) == Some((Condition::Inband, Some(1)))
+        && stands(moments, 4, stax) == None
+        && stands(moments, 2, mutex) == Some((Condition::Claimed, Some(0)))
+        && stands(moments, 5, mutex) == Some((Condition::Owned, Some(1)))
+}
+
+// Whether the core stands as it is shown.
+fn core_stands(moments: &[Moment]) -> bool {
+    stands(moments, 4, Lane::Core) == None
+        && stands(moments, 5, Lane::Core) == Some((Condition::Taken, Some(0)))
+}
+
+// Whether the words stand as callers' lines show them.
+fn words_stand(alloc: Global, told: &str) -> bool {
+    match words_of(alloc, told) {
+        Ok(moments) => stand_as_shown(moments.as_slice()) && core_stands(moments.as_slice()),
+        Err(_) => false,
+    }
+}
+
+#[test]
+fn words_stand_as_they_were_shown(rt: HostRuntime) {
+    assert!(rt; words_stand(rt.alloc(), TOLD));
+}
+
+// The picture of callers' lines, where they are read.
+fn told_picture(alloc: Global, told: &str) -> Result<Option<Vec<u8>>, AllocError> {
+    let Ok(lines) = read_lines(alloc, told) else {
+        return Ok(None);
+    };
+    let marks = marks_of(alloc, lines.as_slice())?;
+    let moments = told_moments(alloc, marks.as_slice())?;
+    Ok(Some(write_told(alloc, marks.as_slice(), moments.as_slice())?))
+}
+
+// Whether the picture of callers' lines begins and ends as SVG does.
+fn is_told_picture(alloc: Global, told: &str) -> bool {
+    match told_picture(alloc, told) {
+        Ok(Some(text)) => {
+            text.as_slice().starts_with(b"<svg ") && text.as_slice().ends_with(b"</svg>\n")
+        }
+        _ => false,
+    }
+}
+
+#[test]
+fn callers_are_drawn(rt: HostRuntime) {
+    assert!(rt; is_told_picture(rt.alloc(), TOLD));
 }

@@ -1,4 +1,5 @@
-//! Tests of the lab: the faults of scenarios, the lines of traces, pictures, banks, plays, and machines that are driven.
+//! Tests of the lab: the faults of scenarios, the lines of traces, pictures, banks, plays, and machines that are
+//! driven.
 #![tactic(auto)]
 
 #[cfg(test)]

@@ -21,8 +21,8 @@ const JSON: &str =
 {"file": "a \"b\"", "number": null, "who": 0, "call": "begin_get", "keys": {"sem": 0, "until": null}, "answer": "HistoryFull", "refused": true, "plays": []}
 "#;
 
-/// A scenario of which something is told: T1 calls while T2 is picked and waits, a semaphore isn't there, a thread is busy, and
-/// a line is pending in the end.
+/// A scenario of which something is told: T1 calls while T2 is picked and waits, a semaphore isn't there, a thread is
+/// busy, and a line is pending in the end.
 const ODD: &str = r#"step = [
   { do = "attach", who = 1, policy = "fifo 10", stage = "oob" }, { do = "attach", who = 2, policy = "fifo 20", stage = "oob" },
   { do = "begin_get", who = 1, sem = 0 }, { do = "put", who = 1, sem = 0 }, { do = "put", who = 0, sem = 7 },

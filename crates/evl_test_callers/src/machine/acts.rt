@@ -61,8 +61,8 @@ fn request(line: LineNo, stage: Stage) -> Call {
     }
 }
 
-// What a caller does. A mutex is unlocked with the pass of it that came first, a stax is left with the pass of the caller
-// of this number.
+// What a caller does. A mutex is unlocked with the pass of it that came first, a stax is left with the pass of the
+// caller of this number.
 #[derive(Clone, Copy)]
 pub enum Act {
     Call(Ask),

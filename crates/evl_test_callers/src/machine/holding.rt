@@ -6,8 +6,8 @@ use super::{BOTH_ATTACH, ONCE_FREE, SEM, board_of_two};
 use evl_base::{ActionKinds, MutexId, StaxId};
 use evl_pipeline::{Action, Callback, Fire};
 
-// Row machine_4: the first caller has the kernel for one put on a host thread, until the second one's three tries on another
-// are answered, and both are told what they are to be once the core is free.
+// Row machine_4: the first caller has the kernel for one put on a host thread, until the second one's three tries on
+// another are answered, and both are told what they are to be once the core is free.
 #[test]
 fn machine_4(rt: HostRuntime) {
     let alloc = rt.alloc();

@@ -84,8 +84,8 @@ impl<'a> Row for Twice<'a> {
     }
 }
 
-// Row one_table_1: while another thread waits, the owner in the word is recorded and has that one's rank; handed on, the
-// mutex has no recorded owner, and the rank is its own again.
+// Row one_table_1: while another thread waits, the owner in the word is recorded and has that one's rank; handed on,
+// the mutex has no recorded owner, and the rank is its own again.
 #[test]
 fn one_table_1(rt: HostRuntime) {
     let rank = Act::Call(Ask::RankOf(ThreadId(0)));
@@ -109,8 +109,8 @@ fn one_table_1(rt: HostRuntime) {
     assert!(rt; is_told(rt.alloc(), board_of_three(), 100, row));
 }
 
-// Row one_table_2: the mutex is handed on to the waiter of the greatest rank, which is recorded since the other one still
-// waits; its word has the mark, so the fast path gives its pass back.
+// Row one_table_2: the mutex is handed on to the waiter of the greatest rank, which is recorded since the other one
+// still waits; its word has the mark, so the fast path gives its pass back.
 #[test]
 fn one_table_2(rt: HostRuntime) {
     let begin = [

@@ -210,8 +210,8 @@ pub fn gets_the_kernel(machine: &Machine, caller: Caller) -> bool
     taken(machine, caller).is_ok()
 }
 
-// What the kernel shows: how many calls it has, the first thread's stage, and whether that thread's wait is over and not
-// finished.
+// What the kernel shows: how many calls it has, the first thread's stage, and whether that thread's wait is over and
+// not finished.
 #[derive(Clone, Copy, PartialEq)]
 pub struct Shown {
     pub calls: usize,

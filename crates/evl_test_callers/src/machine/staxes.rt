@@ -27,34 +27,8 @@ fn board_of_four() -> Board {
     }
 }
 
-// Row stax_stages: two callers enter, a third one of their stage finds the limit, and the fourth, of the other stage, the
-// stax taken; then it enters, and is kept on its stage, attached, while it holds the stax.
-#[test]
-fn stax_stages(rt: HostRuntime) {
-    let left = Told::Left(false);
-    let again = Told::Refused(Refusal::Again);
-    let holds = Told::Refused(Refusal::HoldsStax);
-    let steps = [
-        (3, ATTACH, Told::Done),
-        (0, ENTER, Told::Passed),
-        (1, ENTER, Told::Passed),
-        (2, ENTER, Told::Refused(Refusal::Limit)),
-        (3, ENTER, again),
-        (0, Act::Leave(0), left),
-        (3, ENTER, again),
-        (1, Act::Leave(1), left),
-        (3, ENTER, Told::Passed),
-        (3, Act::Call(Ask::SetStage(Stage::Inband)), holds),
-        (3, Act::Call(Ask::Detach), holds),
-        (3, Act::Leave(3), left),
-        (0, ENTER, Told::Passed),
-        (0, ENTER, Told::Refused(Refusal::Busy)),
-    ];
-    assert!(rt; is_row(rt.alloc(), board_of_four(), 100, &[(1, &steps)]));
-}
-
-// A weak caller that holds a stax begins a wait that is served at once, and finishes it: it has to keep its stage. Three
-// calls are entered then, and it is out-of-band.
+// A weak caller that holds a stax begins a wait that is served at once, and finishes it: it has to keep its stage.
+// Three calls are entered then, and it is out-of-band.
 fn keeps_its_stage(machine: &Machine, callers: &mut Vec<Caller>, passes: &mut Passes) -> bool
     requires { All (λ c. c.machine ≡ machine.now.of) callers.old.items }
 {

@@ -192,7 +192,8 @@ fn is_busy<C: Handler, A: Allocator>(
     matches!(machine.try_call(caller, call), Err(Refusal::CoreBusy))
 }
 
-// Has the kernel for one put, until the other thread has tried; 2 where the put was done and the other thread's sign came.
+// Has the kernel for one put, until the other thread has tried; 2 where the put was done and the other thread's sign
+// came.
 fn holds_a_put<C: Handler, A: Allocator>(
     machine: &MachineOf<C, A>,
     caller: CallerOf<C, A>,
@@ -213,8 +214,8 @@ fn holds_a_put<C: Handler, A: Allocator>(
     }
 }
 
-// How many of three tries were answered as they are while another thread has the kernel: a put is told that it is busy, a
-// stax and a mutex are free.
+// How many of three tries were answered as they are while another thread has the kernel: a put is told that it is busy,
+// a stax and a mutex are free.
 fn tries_elements<C: Handler, A: Allocator>(
     machine: &MachineOf<C, A>,
     mut caller: CallerOf<C, A>,

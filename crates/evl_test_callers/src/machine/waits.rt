@@ -32,7 +32,8 @@ pub enum Waits {
 // A step of a row: by which caller, what it does, and what it is told.
 type Step = (usize, Waits, Told);
 
-// One call, however long another caller has the core; of the caller its machine alone is told. So are those that follow.
+// One call, however long another caller has the core; of the caller its machine alone is told. So are those that
+// follow.
 fn calls<R: Wait>(rt: &R, machine: &Machine, caller: &mut Caller, ask: Ask) -> Told
     requires { caller.old.machine ≡ machine.now.of }
     ensures { caller.new.machine ≡ caller.old.machine }

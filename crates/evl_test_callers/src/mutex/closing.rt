@@ -4,8 +4,8 @@ use evl_base::ThreadId;
 use evl_words::Claim;
 use std::alloc::Global;
 
-// The word at which a mutex that seat 0 has locked and seat 1 has claimed closes, where only the first ones of its seats are
-// handed in.
+// The word at which a mutex that seat 0 has locked and seat 1 has claimed closes, where only the first ones of its
+// seats are handed in.
 fn word_with(alloc: Global, handed: usize) -> Option<u64> {
     let steps = [
         (0, Act::Try, Told::Passed),

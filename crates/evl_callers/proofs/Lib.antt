@@ -1,0 +1,2 @@
+pub mod CrewLaws
+pub mod PlayLaws

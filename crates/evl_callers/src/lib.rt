@@ -1,0 +1,14 @@
+//! Callers of both stages in a text: the machine's calls, one after another on one host thread, each with its answer
+//! and what stands in the word that it went to.
+#![tactic(auto)]
+
+mod answers;
+mod crew;
+mod lines;
+mod passes;
+mod playing;
+mod steps_at;
+mod views;
+
+pub use passes::StepFault;
+pub use playing::{Ending, Played, play_callers};

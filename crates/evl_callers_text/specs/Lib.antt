@@ -1,0 +1,4 @@
+pub mod Acts
+pub mod Marks
+pub mod Readings
+pub mod Words

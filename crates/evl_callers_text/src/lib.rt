@@ -1,0 +1,10 @@
+//! Texts of callers, read: a scenario's board with staxes, and steps of a machine's callers among those of a scenario.
+#![tactic(auto)]
+
+mod acts;
+mod marks;
+mod reading;
+mod words;
+
+pub use acts::{Act, CallersStep};
+pub use reading::{CallersText, read_callers};

@@ -1,0 +1,187 @@
+//! Texts of callers, read: a board with its staxes, a limit, and steps of callers among those of a scenario.
+ghost use Rattle.std.specs.Prelude.{◌≡◌, IfOk, true};
+ghost use Rattle.evl_base.specs.Board.{board_fits};
+ghost use Rattle.evl_callers_text.specs.Readings.{OpensAs};
+
+use crate::acts::CallersStep;
+use crate::marks::{Mark, act_of, mark_step};
+use arrayvec::ArrayVec;
+use evl_base::Board;
+use evl_scenario::{Fault, Step, read_scenario};
+use std::alloc::{AllocError, Global};
+use toml::{Table, Value};
+
+// A longer text is none.
+const MOST_BYTES: usize = 1_048_576;
+
+/// What a text of callers asks for: a board, the limit of its history, and the steps in order.
+#[derive(Debug, Drop)]
+pub struct CallersText {
+    pub board: Board,
+    pub limit: u32,
+    pub steps: Vec<CallersStep>,
+}
+
+// The limit of a stax.
+fn stax_limit(value: &Value) -> Option<u16> {
+    match value {
+        Value::Integer(number) => u16::try_from(*number).ok(),
+        _ => None,
+    }
+}
+
+// The limits of staxes.
+fn stax_limits(values: &[Value]) -> Option<ArrayVec<u16, 16>> {
+    let mut limits = ArrayVec::new();
+    for value in values {
+        let limit = stax_limit(value)?;
+        if limits.try_push(limit).is_err() {
+            return None;
+        }
+    }
+    Some(limits)
+}
+
+// The limits of the staxes that a value lists; none where there is no value.
+fn listed(value: Option<Value>) -> Option<ArrayVec<u16, 16>> {
+    match value {
+        Some(Value::Array(values)) => stax_limits(values.as_slice()),
+        Some(_) => None,
+        None => Some(ArrayVec::new()),
+    }
+}
+
+// The staxes of a document, which are taken away from its board.
+fn take_staxes(table: &mut Table) -> Option<ArrayVec<u16, 16>> {
+    match table.get_mut("board") {
+        Some(Value::Table(board)) => listed(board.remove("staxes")),
+        _ => Some(ArrayVec::new()),
+    }
+}
+
+// Puts each of these steps as that of a scenario.
+fn mark_all(alloc: Global, values: &mut Vec<Value>) -> Result<Vec<Option<Mark>>, AllocError> {
+    let mut marks = Vec::new(alloc);
+    for value in values.iter_mut() {
+        let mark = mark_step(alloc, value)?;
+        marks.push(mark)?;
+    }
+    Ok(marks)
+}
+
+// The same of all steps of a document.
+fn mark_steps(alloc: Global, table: &mut Table) -> Result<Vec<Option<Mark>>, AllocError> {
+    match table.get_mut("step") {
+        Some(Value::Array(values)) => mark_all(alloc, values),
+        _ => Ok(Vec::new(alloc)),
+    }
+}
+
+// The document that a text is.
+fn document_of(alloc: Global, bytes: &[u8]) -> Result<Table, Fault> {
+    if bytes.len() > MOST_BYTES {
+        return Err(Fault::Text);
+    }
+    let Ok(text) = str::from_utf8(bytes) else {
+        return Err(Fault::Text);
+    };
+    match toml::table_from_str(alloc, text) {
+        Ok(table) => Ok(table),
+        Err(error) => Err(if error.is_memory() {
+            Fault::Memory
+        } else {
+            Fault::Text
+        }),
+    }
+}
+
+// The text of a document in which each step is that of a scenario.
+fn text_of(alloc: Global, table: &Table) -> Result<String, Fault> {
+    match toml::table_to_string(alloc, table) {
+        Ok(text) => Ok(text),
+        Err(toml::ser::Error::DateInvalid) => Err(Fault::Text),
+        Err(toml::ser::Error::OutOfMemory) => Err(Fault::Memory),
+    }
+}
+
+// The steps of callers, of the marks and what stands for them.
+fn steps_of(
+    alloc: Global,
+    marks: Vec<Option<Mark>>,
+    steps: Vec<Step>,
+) -> Result<Vec<CallersStep>, AllocError> {
+    let mut all = Vec::new(alloc);
+    for (mark, step) in marks.into_iter().zip(steps) {
+        let Step { who, call } = step;
+        all.push(CallersStep {
+            who,
+            act: act_of(mark, call),
+        })?;
+    }
+    Ok(all)
+}
+
+// The board with these staxes.
+fn with_staxes(board: Board, staxes: ArrayVec<u16, 16>) -> Board
+    ensures { result ≡ record board { staxes = staxes } }
+{
+    let Board {
+        threads,
+        sems,
+        flags,
+        xbufs,
+        mutexes,
+        groups,
+        staxes: _,
+    } = board;
+    Board {
+        threads,
+        sems,
+        flags,
+        xbufs,
+        mutexes,
+        groups,
+        staxes,
+    }
+}
+
+// What the text of a scenario asks for, with these staxes and marks.
+fn read_marked(
+    alloc: Global,
+    text: &str,
+    limit: Option<u32>,
+    staxes: ArrayVec<u16, 16>,
+    marks: Vec<Option<Mark>>,
+) -> Result<CallersText, Fault>
+    ensures fits { IfOk result (λ t. board_fits t.board ≡ true) }
+    ensures opens { IfOk result (OpensAs limit text.now staxes.items) }
+{
+    let (board, limit, steps) = read_scenario(alloc, text.as_bytes(), limit)?.into_parts();
+    let board = with_staxes(board, staxes);
+    if board.check().is_err() {
+        return Err(Fault::Board);
+    }
+    match steps_of(alloc, marks, steps) {
+        Ok(steps) => Ok(CallersText {
+            board,
+            limit,
+            steps,
+        }),
+        Err(_) => Err(Fault::Memory),
+    }
+}
+
+/// What a text of callers asks for, under a limit that may be handed in. Faults are those of a scenario.
+pub fn read_callers(alloc: Global, bytes: &[u8], limit: Option<u32>) -> Result<CallersText, Fault>
+    ensures { IfOk result (λ t. board_fits t.board ≡ true) }
+{
+    let mut table = document_of(alloc, bytes)?;
+    let Some(staxes) = take_staxes(&mut table) else {
+        return Err(Fault::Board);
+    };
+    let Ok(marks) = mark_steps(alloc, &mut table) else {
+        return Err(Fault::Memory);
+    };
+    let text = text_of(alloc, &table)?;
+    read_marked(alloc, text.as_str(), limit, staxes, marks)
+}

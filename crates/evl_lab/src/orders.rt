@@ -1,0 +1,198 @@
+//! `lab orders`: every order in which the callers of a scenario may come.
+ghost use Rattle.std.specs.Prelude.{◌≡◌, IfOk, map};
+ghost use Rattle.evl_lab.specs.Banks.{handler_of};
+
+use crate::banks::read_plans;
+use crate::plays::{tell_fault, tell_refused};
+use crate::texts::read_text;
+use crate::words::Asked;
+use evl_orders::OrdersError;
+use evl_plans::Planned;
+use evl_scenario_orders::{
+    Ask, AskFault, Asked as Answered, BankMaker, Callers, TextFault, ask_all, read_ask,
+    read_callers, write_report,
+};
+use std::alloc::{AllocError, Global};
+use std::io::{self, Read, Write};
+use std::rt::Files;
+
+/// The status where an outcome is against what is asked.
+const AGAINST: u8 = 1;
+
+/// The status of a text that is refused, or isn't gone through.
+const AT_FAULT: u8 = 2;
+
+// The same callbacks once more.
+fn copied_plans(alloc: Global, plans: &[Planned]) -> Result<Vec<Planned>, AllocError>
+    ensures { IfOk result (λ made. map handler_of made.items ≡ map handler_of plans.now) }
+{
+    let mut made = Vec::new(alloc);
+    for planned in plans {
+        made.push(planned.copied())?;
+    }
+    Ok(made)
+}
+
+// Callbacks that are copied for each kernel.
+#[derive(Drop)]
+struct Copies<'a> {
+    plans: &'a [Planned],
+}
+
+impl<'a> BankMaker for Copies<'a> {
+    ghost use Rattle.std.specs.Prelude.{map};
+    ghost use Rattle.evl_lab.specs.Banks.{handler_of};
+
+    type Made = Planned;
+
+    ghost bank = { λ copies. map handler_of copies.plans.now };
+
+    fn make(&self, alloc: Global) -> Result<Vec<Planned>, AllocError> {
+        copied_plans(alloc, self.plans)
+    }
+}
+
+// Tells why a text of callers is refused.
+fn tell_text_fault<E: Write>(err: &mut E, name: &str, fault: TextFault) -> io::Result<bool> {
+    match fault {
+        TextFault::Scenario(fault) => tell_fault(err, name, fault),
+        TextFault::Mixed => tell_refused(err, name, "a [[setup]] behind a [[step]]"),
+        TextFault::Limit => tell_refused(err, name, "more steps than the limit"),
+    }
+}
+
+// Tells why it can't be read what is asked.
+fn tell_ask_fault<E: Write>(err: &mut E, name: &str, fault: AskFault) -> io::Result<bool> {
+    match fault {
+        AskFault::Table => tell_refused(
+            err,
+            name,
+            "[ask] has never, a list of texts, and always_ends",
+        ),
+        AskFault::Never(number) => {
+            writeln!(
+                err,
+                "lab: {name}: [ask]: text {number} of never isn't a caller and one answer, as \"T1 -> timed out\""
+            )?;
+            Ok(true)
+        }
+        AskFault::Memory => Err(AllocError.into()),
+    }
+}
+
+// Tells which outcome is against what is asked, and answers the status.
+fn tell_against<E: Write>(err: &mut E, name: &str, against: Option<usize>) -> io::Result<u8> {
+    let Some(place) = against else {
+        return Ok(0);
+    };
+    let number = place.saturating_add(1);
+    writeln!(
+        err,
+        "lab: {name}: outcome {number} is against what is asked"
+    )?;
+    Ok(AGAINST)
+}
+
+// Prints the outcomes.
+fn print_outcomes<R: AllocGlobal + Print>(
+    rt: &R,
+    callers: &Callers,
+    bank: &Copies<'_>,
+    answered: &Answered,
+) -> io::Result<()> {
+    match write_report(rt.alloc(), callers, bank, &answered.outcomes) {
+        Ok(report) => rt.print(report.as_str()),
+        Err(error) => Err(error.into()),
+    }
+}
+
+// Goes through all orders, and answers the status.
+fn go_through<R: AllocGlobal + Print, E: Write>(
+    rt: &R,
+    asked: &Asked<'_>,
+    callers: &Callers,
+    ask: &Ask,
+    plans: &[Planned],
+    err: &mut E,
+) -> io::Result<u8> {
+    let bank = Copies { plans };
+    match ask_all(rt.alloc(), callers, &bank, ask, asked.most) {
+        Ok(answered) => {
+            print_outcomes(rt, callers, &bank, &answered)?;
+            tell_against(err, asked.name(), answered.against)
+        }
+        Err(OrdersError::Count) => {
+            tell_refused(err, asked.name(), "more orders than can be counted")?;
+            Ok(AT_FAULT)
+        }
+        Err(OrdersError::Memory) => Err(AllocError.into()),
+    }
+}
+
+// Goes through all orders of callers, and answers the status.
+fn tell_callers<R: AllocGlobal + Print, E: Write>(
+    rt: &R,
+    asked: &Asked<'_>,
+    callers: &Callers,
+    plans: &[Planned],
+    text: &[u8],
+    err: &mut E,
+) -> io::Result<u8> {
+    match read_ask(rt.alloc(), callers, text) {
+        Ok(ask) => go_through(rt, asked, callers, &ask, plans, err),
+        Err(fault) => {
+            tell_ask_fault(err, asked.name(), fault)?;
+            Ok(AT_FAULT)
+        }
+    }
+}
+
+// Goes through all orders of a text, and answers the status.
+fn tell_text<R: AllocGlobal + Print, E: Write>(
+    rt: &R,
+    asked: &Asked<'_>,
+    plans: &[Planned],
+    text: &[u8],
+    err: &mut E,
+) -> io::Result<u8> {
+    match read_callers(rt.alloc(), text) {
+        Ok(callers) => tell_callers(rt, asked, &callers, plans, text, err),
+        Err(fault) => {
+            tell_text_fault(err, asked.name(), fault)?;
+            Ok(AT_FAULT)
+        }
+    }
+}
+
+// Goes through all orders of a file, or of the input where none is named, and answers the status.
+fn tell_file<R: Files + AllocGlobal + Print, I: Read, E: Write>(
+    rt: &R,
+    asked: &Asked<'_>,
+    plans: &[Planned],
+    input: &mut I,
+    err: &mut E,
+) -> io::Result<u8> {
+    match read_text(rt, asked.file, input) {
+        Ok(text) => tell_text(rt, asked, plans, text.as_slice(), err),
+        Err(_) => {
+            tell_refused(err, asked.name(), "no file")?;
+            Ok(AT_FAULT)
+        }
+    }
+}
+
+/// Goes through every order in which the callers of a scenario may come, over a bank, prints how each ends, and answers
+/// the status: 1 where one is against what is asked, 2 where the text is refused or can't be read, or the bank is at
+/// fault.
+pub fn orders<R: Files + AllocGlobal + Print, I: Read, E: Write>(
+    rt: &R,
+    asked: &Asked<'_>,
+    input: &mut I,
+    err: &mut E,
+) -> io::Result<u8> {
+    match read_plans(rt, asked.bank, err) {
+        Ok(Some(plans)) => tell_file(rt, asked, plans.as_slice(), input, err),
+        Ok(None) => Ok(AT_FAULT),
+        Err(error) => Err(error),
+    }
+}

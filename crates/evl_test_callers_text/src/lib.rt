@@ -1,0 +1,7 @@
+//! Tests of texts of callers.
+#![tactic(auto)]
+
+#[cfg(test)]
+mod faults;
+#[cfg(test)]
+mod readings;
