@@ -4,6 +4,7 @@ import os
 import subprocess
 
 LAB = os.path.join(os.path.dirname(os.path.dirname(os.path.abspath(__file__))), "lab")
+LAB = LAB if os.path.exists(LAB) else "lab"
 machine = subprocess.Popen([LAB, "live"], stdin=subprocess.PIPE, stdout=subprocess.PIPE, text=True, bufsize=1)
 
 

@@ -1,10 +1,13 @@
-"""Plays scenarios from Python: PYTHONPATH=python pytest examples, or python3 examples/test_play.py."""
+"""Plays scenarios from Python: PYTHONPATH=python pytest examples, or python3 examples/test_play.py; a copy elsewhere plays those
+that are installed beside the module."""
 import glob
 import os
 
 import evl
 
 TOP = os.path.dirname(os.path.dirname(os.path.abspath(__file__)))
+if not os.path.isdir(f"{TOP}/scenarios"):
+    TOP = os.path.join(os.path.dirname(os.path.abspath(evl.__file__)), "../../../share/doc/evl-simulated")
 BOARD = "[board]\nthreads = 1\nsems = [0]\n"
 PUT = '[[step]]\ndo = "put"\nwho = 0\nsem = 0\n'
 

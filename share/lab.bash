@@ -1,24 +1,25 @@
 # Words of lab for bash.
 _lab() {
-    local word=${COMP_WORDS[COMP_CWORD]} part=${COMP_WORDS[1]} words
+    local word=${COMP_WORDS[COMP_CWORD]} part=${COMP_WORDS[1]} files='*.toml' words
     if [ "$COMP_CWORD" -eq 1 ]; then
-        mapfile -t COMPREPLY < <(compgen -W "check play live draw help --help --version" -- "$word")
+        mapfile -t COMPREPLY < <(compgen -W "check play live orders callers draw help --help --version" -- "$word")
         return
     fi
     case ${COMP_WORDS[COMP_CWORD - 1]} in
-        --limit | --page) return ;;
+        --limit | --most | --page) return ;;
         --against) mapfile -t COMPREPLY < <(compgen -d -- "$word"); return ;;
     esac
     case $part in
         check) words="--bank --help" ;;
         play) words="--bank --limit --json --against --help" ;;
-        live) words="--bank --limit --help" ;;
-        draw) words="--svg --perfetto --csv --lanes --page --help" ;;
+        live | callers) words="--bank --limit --help" ;;
+        orders) words="--bank --most --help" ;;
+        draw) words="--svg --perfetto --csv --lanes --page --help" files='*.@(toml|trace)' ;;
         *) words=--help ;;
     esac
     case $word in
         -*) mapfile -t COMPREPLY < <(compgen -W "$words" -- "$word") ;;
-        *) mapfile -t COMPREPLY < <(compgen -f -X '!*.@(toml|trace)' -- "$word"; compgen -d -- "$word") ;;
+        *) mapfile -t COMPREPLY < <(compgen -f -X "!$files" -- "$word"; compgen -d -- "$word") ;;
     esac
 }
 complete -o filenames -F _lab lab
