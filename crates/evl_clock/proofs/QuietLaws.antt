@@ -11,7 +11,7 @@ use Rattle.evl_clock.specs.declared.timer.Timer.{Timer}
 use Rattle.evl_clock.specs.Clocks.{Clock, dropped, start, stop, timer_at, with_deadline, with_new_timer, with_timer}
 use Rattle.evl_clock.specs.Dues.{IsDated, IsNextDue, NothingIsDue, is_due, next_due, timer_date}
 use Rattle.evl_clock.specs.Timers.{started, stopped}
-use Rattle.evl_clock.proofs.OrderLaws.{next-rule}
+use Rattle.evl_clock.proofs.OrderLaws.{is-none, next-rule}
 
 never : (d : ℕ) → None ≡ Some d → ⊥
 never d e = cc
@@ -56,16 +56,12 @@ module _ {C : Type 0} where
   by_rule c None e m = m
   by_rule c (Some one) e m = absurd (false≢true (sym e))
 
-  none_by : (c : Clock C) (o : Option Item) → NothingIsDue c → MatchOption o (NothingIsDue c) (IsNextDue c) → is_some o ≡ false
-  none_by c None quiet m = refl
-  none_by c (Some one) quiet m = absurd (omega (arith, m.due, quiet m.date one m.dated))
-
   -- nothing is due exactly where each date is after now
   pub quiet-is : (c : Clock C) → is_due c ≡ false → NothingIsDue c
   quiet-is c e = by_rule c (next_due c) e (next-rule c)
 
   pub is-quiet : (c : Clock C) → NothingIsDue c → is_due c ≡ false
-  is-quiet c quiet = none_by c (next_due c) quiet (next-rule c)
+  is-quiet c quiet = ap is_some (is-none c quiet)
 
   started_date : (t : Option (Timer C)) (date interval d : ℕ) → timer_date (option_map (λ t. started t date interval) t) ≡ Some d → date ≡ d
   started_date None date interval d e = absurd (never d e)

@@ -1,18 +1,18 @@
 //! The clock (Xenomai 4: EVL clocks and timers).
-ghost use Rattle.std.specs.Prelude.{◌≡◌, ◌+◌, ◌≤◌, ◌<◌, min, nat_le, length, None, Some, is_some, option_map, replicate, IfOk, IfErr, MatchOption, IfNone, IfSome, OnOk, OnErr};
+ghost use Rattle.std.specs.Prelude.{◌≡◌, ◌+◌, ◌≤◌, ◌<◌, min, nat_le, [], length, None, Some, is_some, option_map, replicate, IfOk, IfErr, MatchOption, IfNone, IfSome, OnOk, OnErr};
+ghost use Rattle.std.specs.Vec.{vec_capacity};
 ghost use Rattle.evl_base.specs.declared.refusal.Refusal.{Refusal};
 ghost use Rattle.evl_clock.specs.Clocks.{IsSoundClock, advance_refusal, advanced, dropped, free_place, new_timer_refusal, opening, start, stop, timer_at, timer_refusal, with_deadline, with_new_timer};
 ghost use Rattle.evl_clock.specs.ClockSteps.{FallsDue, Fires, IsBounded, item_of};
 ghost use Rattle.evl_clock.specs.Dues.{IsNextDue, NothingIsDue, deadline, due_count, is_due, next_due, timer};
 ghost use Rattle.evl_clock.specs.Limits.{thread_count, timer_count};
-ghost use Rattle.evl_clock.specs.Searching.{IsLeft, Leaves, deadlines_due, least_in, timers_due};
 ghost use Rattle.evl_clock.specs.Timers.{timer_kinds};
 
 mod likeness;
 
-use crate::ahead::{Ahead, Seen};
+use crate::agenda::{Entry, TIMERS, enter, first, item_at, leave};
 use crate::due::{Due, Item};
-use crate::search::{chosen, free_place, least_deadline, least_timer, sooner_item, take_timer};
+use crate::places::{free_place, take_timer};
 use crate::timer::Timer;
 use crate::timer_state::TimerState;
 use bitflags::Flags;
@@ -20,8 +20,6 @@ use evl_base::{ActionKinds, MAX_THREADS, Refusal, ThreadId, TimerId};
 use evl_pipeline::{Answer, Fire, Handler};
 use std::alloc::{AllocError, Allocator};
 use std::marker::Model;
-
-const TIMERS: usize = 64;
 
 // The kinds of action that a timer's callback may declare: it neither hands its event on in-band nor posts an
 // out-of-band line.
@@ -33,34 +31,34 @@ fn allowed() -> ActionKinds
         .union(ActionKinds::STOP_TIMER)
 }
 
-/// The date, 64 places for timers with callbacks of type `C`, the deadlines of threads' waits, and what is known ahead
-/// of both. To a contract it is the record `Clock C` of `specs/Clocks.antt`. Only `new` takes memory. The type of the
-/// callbacks has no bound here: where a struct asks for a bound with ghost members, no function can name it at a type
-/// with a boxed closure.
+/// The date, 64 places for timers with callbacks of type `C`, the deadlines of threads' waits, and the dates of both in
+/// their order, what falls due first at the end. To a contract it is the record `Clock C` of `specs/Clocks.antt`. Only
+/// `new` and `for_threads` take memory. The type of the callbacks has no bound here: where a struct asks for a bound
+/// with ghost members, no function can name it at a type with a boxed closure.
 #[derive(Drop)]
 pub struct ClockOf<C, A: Allocator> {
     date: u64,
     timers: Vec<Option<Timer<C>>, A>,
     deadlines: Vec<Option<u64>, A>,
-    timers_ahead: Ahead,
-    deadlines_ahead: Ahead,
+    agenda: Vec<Entry, A>,
 }
 
 impl<C, A: Allocator> Model for ClockOf<C, A> {
     ghost use Rattle.evl_clock.specs.Clocks.{Clock};
-    ghost use Rattle.evl_clock.specs.Searching.{IsForeseen};
+    ghost use Rattle.std.specs.Vec.{vec_capacity};
+    ghost use Rattle.evl_clock.specs.Agenda.{IsKept};
 
     ghost Value = { Clock C };
 
     ghost view = { λ c. record { now = c.date; timers = c.timers.items; deadlines = c.deadlines.items } };
 
-    ghost invariant = { λ c. IsForeseen (record { now = c.date; timers = c.timers.items; deadlines = c.deadlines.items }) c.timers_ahead c.deadlines_ahead };
+    ghost invariant = { λ c. IsKept (record { now = c.date; timers = c.timers.items; deadlines = c.deadlines.items }) c.agenda.items (vec_capacity c.agenda) };
 }
 
 fn no_timers<C, A: Allocator>(alloc: A) -> Result<Vec<Option<Timer<C>>, A>, AllocError>
     ensures empty { IfOk result (λ timers. timers.items ≡ replicate timer_count None) }
 {
-    let mut timers = Vec::with_capacity(alloc, TIMERS)?;
+    let mut timers = Vec::with_capacity(alloc, TIMERS as usize)?;
     for _ in 0..TIMERS {
         timers.push_reserved(None);
     }
@@ -72,6 +70,13 @@ fn no_deadlines<A: Allocator>(alloc: A, threads: usize) -> Result<Vec<Option<u64
 {
     let deadlines = Vec::from_elem(alloc, None, threads.min(MAX_THREADS))?;
     Ok(deadlines)
+}
+
+fn no_agenda<A: Allocator>(alloc: A, threads: usize) -> Result<Vec<Entry, A>, AllocError>
+    ensures empty { IfOk result (λ agenda. agenda.items ≡ []) }
+    ensures room { IfOk result (λ agenda. vec_capacity agenda ≡ timer_count + min threads thread_count) }
+{
+    Vec::with_capacity(alloc, TIMERS as usize + threads.min(MAX_THREADS))
 }
 
 impl<C: Drop, A: Allocator + Clone> ClockOf<C, A> {
@@ -97,13 +102,13 @@ impl<C: Drop, A: Allocator + Clone> ClockOf<C, A> {
         ensures opening { IfOk result (λ c. c ≡ opening threads) }
     {
         let timers = no_timers(alloc.clone()?)?;
-        let deadlines = no_deadlines(alloc, threads)?;
+        let deadlines = no_deadlines(alloc.clone()?, threads)?;
+        let agenda = no_agenda(alloc, threads)?;
         Ok(ClockOf {
             date: 0,
             timers,
             deadlines,
-            timers_ahead: Ahead::new(),
-            deadlines_ahead: Ahead::new(),
+            agenda,
         })
     }
 }
@@ -117,62 +122,17 @@ impl<C, A: Allocator> ClockOf<C, A> {
         self.date
     }
 
-    // The timer that is due first, with its date, and what is known of all other timers. Where none may be due, none is
-    // looked at.
-    #[inline(always)]
-    fn see_timers(&mut self) -> Seen
-        ensures least { result.best ≡ least_in (timers_due self.old) }
-        ensures left { Leaves self.old result }
-        ensures same { self.new ≡ self.old }
-    {
-        if self.date < self.timers_ahead.soonest {
-            return Seen::new();
-        }
-        let seen = least_timer(&self.timers[..self.timers_ahead.reach], self.date);
-        if seen.best.is_none() {
-            self.timers_ahead = seen.rest;
-        }
-        seen
-    }
-
-    // The deadline that is due first, with its date, and what is known of all others. Where none may be due, none is
-    // looked at.
-    #[inline(always)]
-    fn see_deadlines(&mut self) -> Seen
-        ensures least { result.best ≡ least_in (deadlines_due self.old) }
-        ensures left { Leaves self.old result }
-        ensures same { self.new ≡ self.old }
-    {
-        if self.date < self.deadlines_ahead.soonest {
-            return Seen::new();
-        }
-        let seen = least_deadline(&self.deadlines[..self.deadlines_ahead.reach], self.date);
-        if seen.best.is_none() {
-            self.deadlines_ahead = seen.rest;
-        }
-        seen
-    }
-
     // What is due next: what has the least date that isn't after now, at equal dates a timer before a deadline, and
-    // else the lower number; and what is known ahead of the others of its kind, once it is gone.
-    fn due_item(&mut self) -> Option<(Item, Ahead)>
-        ensures next { option_map (λ d. d.0) result ≡ next_due self.old }
-        ensures rule { MatchOption result (NothingIsDue self.old) (λ d. IsNextDue self.old d.0) }
-        ensures left { IfSome result (λ d. IsLeft self.old d.0 d.1) }
-        ensures same { self.new ≡ self.old }
+    // else the lower number.
+    fn due_item(&self) -> Option<Item>
+        ensures next { result ≡ next_due self.now }
+        ensures rule { MatchOption result (NothingIsDue self.now) (IsNextDue self.now) }
     {
-        let timer = self.see_timers();
-        let deadline = self.see_deadlines();
-        let item = sooner_item(timer.best, deadline.best);
-        chosen(item, timer.rest, deadline.rest)
-    }
-
-    // Whether something is due.
-    fn is_due(&mut self) -> bool
-        ensures due { result ≡ is_due self.old }
-        ensures same { self.new ≡ self.old }
-    {
-        self.due_item().is_some()
+        let next = first(&self.agenda)?;
+        if self.date < next.date {
+            return None;
+        }
+        Some(item_at(next.place))
     }
 
     /// Moves the date by so many nanoseconds, and says whether something is due then. `Range` exactly where the date
@@ -185,7 +145,7 @@ impl<C, A: Allocator> ClockOf<C, A> {
     {
         let then = self.date.checked_add(delta).ok_or(Refusal::Range)?;
         self.date = then;
-        Ok(self.is_due())
+        Ok(self.due_item().is_some())
     }
 
     /// What the timer does, if there is such a timer. There is none above 63.
@@ -223,6 +183,7 @@ impl<C, A: Allocator> ClockOf<C, A> {
         let Some(timer) = take_timer(&mut self.timers, id.0) else {
             return Err(Refusal::Unknown);
         };
+        leave(&mut self.agenda, id.0, timer.state.date());
         Ok(timer.callback)
     }
 
@@ -247,22 +208,22 @@ impl<C, A: Allocator> ClockOf<C, A> {
     fn put_deadline(&mut self, thread: ThreadId, until: Option<u64>)
         ensures state { self.new ≡ with_deadline self.old thread.0 until }
     {
-        if (thread.0 as usize) < self.deadlines.len() {
-            self.deadlines[thread.0 as usize] = until;
-            self.deadlines_ahead = self.deadlines_ahead.with(thread.0, until);
+        let n = thread.0 as usize;
+        if n < self.deadlines.len() {
+            let place = TIMERS + thread.0;
+            leave(&mut self.agenda, place, self.deadlines[n]);
+            enter(&mut self.agenda, place, until);
+            self.deadlines[n] = until;
         }
     }
 
-    // The deadline of a thread's wait falls due, and this is known ahead of the others.
-    fn expire(&mut self, thread: ThreadId, left: Ahead)
-        requires left { IsLeft self.old (deadline thread.0) left }
+    // The deadline of a thread's wait, which is due next, falls due.
+    fn expire(&mut self, thread: ThreadId)
+        requires next { next_due self.old ≡ Some (deadline thread.0) }
         ensures state { self.new ≡ with_deadline self.old thread.0 None }
     {
-        let n = thread.0 as usize;
-        if n < self.deadlines.len() {
-            self.deadlines[n] = None;
-            self.deadlines_ahead = left;
-        }
+        let _ = self.agenda.pop();
+        self.deadlines[thread.0 as usize] = None;
     }
 }
 
@@ -280,9 +241,10 @@ impl<C: Drop, A: Allocator> ClockOf<C, A> {
         match take_timer(&mut self.timers, id.0) {
             None => Err(Refusal::Unknown),
             Some(mut timer) => {
+                leave(&mut self.agenda, id.0, timer.state.date());
+                enter(&mut self.agenda, id.0, Some(date));
                 timer.start(date, interval);
                 self.timers[id.0 as usize] = Some(timer);
-                self.timers_ahead = self.timers_ahead.with(id.0, Some(date));
                 Ok(date <= self.date)
             },
         }
@@ -300,6 +262,7 @@ impl<C: Drop, A: Allocator> ClockOf<C, A> {
         match take_timer(&mut self.timers, id.0) {
             None => Err(Refusal::Unknown),
             Some(mut timer) => {
+                leave(&mut self.agenda, id.0, timer.state.date());
                 timer.stop();
                 self.timers[id.0 as usize] = Some(timer);
                 Ok(())
@@ -330,15 +293,16 @@ impl<C: Handler, A: Allocator> ClockOf<C, A> {
         }
     }
 
-    // Lets the timer of this number fire, if there is one. This is known ahead of the others.
-    fn fire(&mut self, id: TimerId, left: Ahead) -> Option<(Fire, u64, Answer)>
-        requires left { IsLeft self.old (timer id.0) left }
+    // Lets the timer of this number fire, which is due next.
+    fn fire(&mut self, id: TimerId) -> Option<(Fire, u64, Answer)>
+        requires next { next_due self.old ≡ Some (timer id.0) }
         ensures none { IfNone result (timer_at self.old id.0 ≡ None) }
         ensures some { IfSome result (λ f. Fires C.declared C.plan C.gives self.old id.0 f.0 f.1 f.2 self.new) }
     {
         let mut timer = take_timer(&mut self.timers, id.0)?;
         let fired = timer.fire(self.date);
-        self.timers_ahead = left.with(id.0, timer.state.date());
+        let _ = self.agenda.pop();
+        enter(&mut self.agenda, id.0, timer.state.date());
         self.timers[id.0 as usize] = Some(timer);
         Some(fired)
     }
@@ -354,10 +318,10 @@ impl<C: Handler, A: Allocator> ClockOf<C, A> {
         ensures fewer { IfSome result (λ due. due_count self.new + 1 ≡ due_count self.old) }
         ensures bounded { IsBounded C.declared self.old result }
     {
-        let (item, left) = self.due_item()?;
+        let item = self.due_item()?;
         match item {
             Item::Timer(id) => {
-                let (fire, missed, answer) = self.fire(id, left)?;
+                let (fire, missed, answer) = self.fire(id)?;
                 Some(Due::Timer {
                     id,
                     fire,
@@ -366,7 +330,7 @@ impl<C: Handler, A: Allocator> ClockOf<C, A> {
                 })
             },
             Item::Deadline(thread) => {
-                self.expire(thread, left);
+                self.expire(thread);
                 Some(Due::Deadline(thread))
             },
         }

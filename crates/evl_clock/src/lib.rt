@@ -2,10 +2,10 @@
 //! What names no source is this profile's own.
 #![tactic(auto)]
 
-mod ahead;
+mod agenda;
 mod clock;
 mod due;
-mod search;
+mod places;
 mod timer;
 mod timer_state;
 

@@ -1,13 +1,35 @@
-use Rattle.std.proofs.Common.{◌≡◌, option_map, sym, ap, subst, ◌∙◌}
-use Rattle.evl_clock.specs.Searching.{sooner, with_rest}
-use Rattle.evl_clock.proofs.ForeseenLaws.{Found, found}
+use Rattle.std.proofs.Common.{◌≡◌, None, Some, MatchOption, vec_capacity, sym, ap, ◌∙◌, subst}
+use Rattle.evl_clock.specs.Agenda.{first}
+use Rattle.evl_clock.specs.Dues.{IsNextDue, NothingIsDue, next_due}
+use Rattle.evl_clock.proofs.KeptLaws.{all-later, next-first, none-dated}
+use Rattle.evl_clock.proofs.OrderLaws.{is-next, is-none}
 use Rattle.evl_clock.proofs.clock.ClockOf.due_item.Goals as goal
+
+pub returns-in_err-next-clause-next : goal.returns-in_err-next-clause-next
+returns-in_err-next-clause-next g c =
+    let none : first c.self.inside.agenda.items ≡ None = ap first (sym c.deref.ensures.value) ∙ sym c.first.ensures.first ∙ c.in_err-next.was in
+    let gone : c.from_residual.result ≡ None = cc in
+    gone ∙ sym (is-none _ (none-dated _ c.self.inside.agenda.items (vec_capacity c.self.inside.agenda) c.self.invariant none)) ∙ ap next_due c.self.view_is
+
+pub returns-in_err-next-clause-rule : goal.returns-in_err-next-clause-rule
+returns-in_err-next-clause-rule g c =
+    let none : first c.self.inside.agenda.items ≡ None = ap first (sym c.deref.ensures.value) ∙ sym c.first.ensures.first ∙ c.in_err-next.was in
+    let gone : c.from_residual.result ≡ None = cc in
+    subst (λ o. MatchOption o (NothingIsDue c.args.self.now) (IsNextDue c.args.self.now)) (sym gone)
+    (subst NothingIsDue c.self.view_is (none-dated _ c.self.inside.agenda.items (vec_capacity c.self.inside.agenda) c.self.invariant none))
+
+pub returns-then-self-next-clause-next : goal.returns-then-self-next-clause-next
+returns-then-self-next-clause-next g c =
+    let there : first c.self.inside.agenda.items ≡ Some c.in_ok-next.next = ap first (sym c.deref.ensures.value) ∙ sym c.first.ensures.first ∙ c.in_ok-next.was in
+    rw (← c.self.view_is) (sym (is-none _ (all-later _ c.self.inside.agenda.items (vec_capacity c.self.inside.agenda) c.in_ok-next.next c.self.invariant there c.if-self-next.true)))
+
+pub returns-then-self-next-clause-rule : goal.returns-then-self-next-clause-rule
+returns-then-self-next-clause-rule g c =
+    let there : first c.self.inside.agenda.items ≡ Some c.in_ok-next.next = ap first (sym c.deref.ensures.value) ∙ sym c.first.ensures.first ∙ c.in_ok-next.was in
+    rw (← c.self.view_is) (all-later _ c.self.inside.agenda.items (vec_capacity c.self.inside.agenda) c.in_ok-next.next c.self.invariant there c.if-self-next.true)
 
 pub returns : goal.returns
 returns g c =
-    let timer = c.see_timers-timer in let deadline = c.see_deadlines-deadline in
-    let is : c.chosen.result ≡ option_map (with_rest timer.result.rest deadline.result.rest) (option_map (λ d. d.1) (sooner timer.result.best deadline.result.best)) =
-    c.chosen.ensures.chosen ∙ ap (option_map (with_rest timer.result.rest deadline.result.rest)) c.sooner_item-item.ensures.item in
-    let all : Found c.args.self.now c.chosen.result = subst (λ o. Found c.args.self.now o) (sym is)
-    (found c.args.self.now timer.new.self timer.result deadline.result timer.ensures.same timer.ensures.least deadline.ensures.least timer.ensures.left deadline.ensures.left) in
-    record { next = all.next; rule = all.rule; left = all.left; same = deadline.ensures.same ∙ timer.ensures.same }
+    let there : first c.self.inside.agenda.items ≡ Some c.in_ok-next.next = ap first (sym c.deref.ensures.value) ∙ sym c.first.ensures.first ∙ c.in_ok-next.was in
+    let next = next-first _ c.self.inside.agenda.items (vec_capacity c.self.inside.agenda) c.in_ok-next.next c.self.invariant there c.if-self-next.false in
+    rw (← c.self.view_is, c.item_at.ensures.item) (record { next = sym (is-next _ _ next); rule = next })

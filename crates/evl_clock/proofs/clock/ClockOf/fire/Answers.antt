@@ -1,9 +1,17 @@
-use Rattle.std.proofs.Common.{sym, subst}
-use Rattle.evl_clock.specs.Dues.{timer}
-use Rattle.evl_clock.specs.Searching.{IsLeft}
-use Rattle.evl_clock.proofs.ForeseenLaws.{foreseen-put}
+use Rattle.std.proofs.Common.{◌≡◌, ◌+◌, ◌-◌, ◌<◌, length, take, vec_capacity, vec_len, ap, ◌∙◌, arith}
+use Rattle.evl_clock.specs.Agenda.{entered}
+use Rattle.evl_clock.specs.Dues.{next_due}
+use Rattle.evl_clock.proofs.KeptLaws.{kept-put, others-few, others-fired, others-ordered}
 use Rattle.evl_clock.proofs.TimerLaws.{put_fired}
 use Rattle.evl_clock.proofs.clock.ClockOf.fire.Goals as goal
+
+pub enter-requires : goal.enter-requires
+enter-requires g c =
+    let xs = c.self.inside.agenda.items in let room = vec_capacity c.self.inside.agenda in let n = c.args.id.0 in let taken = c.in_ok-timer.ensures.some in let ys = c.pop.new.self.items in
+    let whole : vec_len c.self.inside.agenda ≡ length xs = omega (arith, c.self.inside.agenda.ok.0) in
+    let others = others-fired _ xs room n ys c.self.invariant (ap next_due c.self.view_is ∙ c.requires.next) (c.pop.ensures.rest ∙ ap (λ m. take (m - 1) xs) whole) in
+    let inside : n < 64 + length c.self.inside.deadlines.items = omega (arith, taken.1, c.self.invariant.sound.timers) in
+    record { ordered = others-ordered _ xs room n ys c.self.invariant others; room = omega (arith, others-few _ xs room n ys c.self.invariant inside others, c.pop.ensures.capacity) }
 
 pub returns-clause-some : goal.returns-clause-some
 returns-clause-some g c =
@@ -17,6 +25,8 @@ returns-clause-some g c =
 
 pub invariant_of-self-2 : goal.invariant_of-self-2
 invariant_of-self-2 g c =
-    let taken = c.in_ok-timer.ensures.some in
-    rw (c.with-self-inside.ensures.noted, c.date.ensures.date) (foreseen-put _ c.self.inside.timers_ahead c.self.inside.deadlines_ahead c.args.left c.take_timer.new.timers.items c.args.id.0 c.fire-fired.new.self
-    c.self.invariant taken.1 taken.2 (subst (λ k. IsLeft k (timer c.args.id.0) c.args.left) (sym c.self.view_is) c.requires.left))
+    let xs = c.self.inside.agenda.items in let room = vec_capacity c.self.inside.agenda in let n = c.args.id.0 in let taken = c.in_ok-timer.ensures.some in let ys = c.pop.new.self.items in
+    let whole : vec_len c.self.inside.agenda ≡ length xs = omega (arith, c.self.inside.agenda.ok.0) in
+    let others = others-fired _ xs room n ys c.self.invariant (ap next_due c.self.view_is ∙ c.requires.next) (c.pop.ensures.rest ∙ ap (λ m. take (m - 1) xs) whole) in
+    kept-put _ xs ys c.enter.new.agenda.items room (vec_capacity c.enter.new.agenda) n c.fire-fired.new.self c.take_timer.new.timers.items c.self.invariant taken.1 others
+    (c.enter.ensures.entered ∙ ap (λ o. entered n o ys) c.date.ensures.date) (c.enter.ensures.room ∙ c.pop.ensures.capacity) taken.2

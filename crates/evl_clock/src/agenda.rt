@@ -1,0 +1,98 @@
+//! The dates of timers and deadlines, in the order in which they fall due.
+ghost use Rattle.std.specs.Prelude.{◌≡◌, ◌≤◌, ◌<◌, length, IfSome};
+ghost use Rattle.std.specs.Vec.{vec_capacity};
+ghost use Rattle.evl_clock.specs.Agenda.{IsOrdered, entered, entry, first, is_before, item_at, left, place_of};
+
+use crate::due::Item;
+use evl_base::{ThreadId, TimerId};
+use std::alloc::Allocator;
+
+/// How many places there are for timers. Those of deadlines stand behind them.
+pub const TIMERS: u16 = 64;
+
+/// A date at which the item of a place falls due.
+#[derive(Clone, Copy)]
+pub struct Entry {
+    pub date: u64,
+    pub place: u16,
+}
+
+/// The item of a place.
+pub fn item_at(place: u16) -> Item
+    ensures item { result ≡ item_at place }
+{
+    if place < TIMERS {
+        Item::Timer(TimerId(place))
+    } else {
+        Item::Deadline(ThreadId(place - TIMERS))
+    }
+}
+
+// Whether one falls due before the other: by date, and at equal dates by place.
+fn is_before(one: Entry, other: Entry) -> bool
+    ensures before { result ≡ is_before one other }
+{
+    if one.date == other.date {
+        one.place < other.place
+    } else {
+        one.date < other.date
+    }
+}
+
+// How many stand before it: those that fall due after it.
+fn place_of(entries: &[Entry], entry: Entry) -> usize
+    requires ordered { IsOrdered entries.now }
+    ensures place { result ≡ place_of entry entries.now }
+    ensures range { result ≤ length entries.now }
+{
+    let mut low = 0;
+    let mut high = entries.len();
+    while low < high {
+        let middle = low + (high - low) / 2;
+        if is_before(entry, entries[middle]) {
+            low = middle + 1;
+        } else {
+            high = middle;
+        }
+    }
+    low
+}
+
+/// What falls due first.
+pub fn first(entries: &[Entry]) -> Option<Entry>
+    ensures first { result ≡ first entries.now }
+{
+    match entries.last() {
+        Some(entry) => Some(*entry),
+        None => None,
+    }
+}
+
+/// A place has this date, if any. There is room for it.
+pub fn enter<A: Allocator>(agenda: &mut Vec<Entry, A>, place: u16, date: Option<u64>)
+    requires ordered { IsOrdered agenda.old.items }
+    requires room { length agenda.old.items < vec_capacity agenda.old }
+    ensures entered { agenda.new.items ≡ entered place date agenda.old.items }
+    ensures room { vec_capacity agenda.new ≡ vec_capacity agenda.old }
+{
+    let Some(date) = date else {
+        return;
+    };
+    let entry = Entry { date, place };
+    let at = place_of(agenda, entry);
+    let _ = agenda.insert(at, entry);
+}
+
+/// A place has this date no more, if it had any.
+pub fn leave<A: Allocator>(agenda: &mut Vec<Entry, A>, place: u16, date: Option<u64>)
+    requires ordered { IsOrdered agenda.old.items }
+    requires stands { IfSome date (λ d. place_of (entry place d) agenda.old.items < length agenda.old.items) }
+    ensures left { agenda.new.items ≡ left place date agenda.old.items }
+    ensures room { vec_capacity agenda.new ≡ vec_capacity agenda.old }
+{
+    let Some(date) = date else {
+        return;
+    };
+    let at = place_of(agenda, Entry { date, place });
+    let _ = agenda.remove(at);
+}
