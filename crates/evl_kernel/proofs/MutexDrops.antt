@@ -1,5 +1,5 @@
 -- What settling does to mutexes, and every call that isn't about one: waits for them end by their deadlines alone.
-use Rattle.std.proofs.Common.{◌≡◌, ◌≤◌, ◌⊎◌, ⊎_elim, ℕ, ◌==◌, ◌&&◌, Bool, true, false, not, List, [], Option, Some, None, is_some, Result, Ok, Err, slice_get, slice_set, slice_index_or, refl, sym, ap, ◌∙◌, subst, arith}
+use Rattle.std.proofs.Common.{◌≡◌, ◌≤◌, ◌⊎◌, ⊎_elim, ℕ, ◌==◌, ◌&&◌, Bool, true, false, not, List, [], ◌++◌, Option, Some, None, is_some, Result, Ok, Err, slice_get, slice_set, slice_index_or, refl, sym, ap, ◌∙◌, subst, arith}
 use Rattle.std.specs.Option.{option_map_or}
 use Rattle.std.proofs.lemmas.Bool.{false≢true}
 use Rattle.evl_base.specs.Limits.{thread_limit}
@@ -34,7 +34,7 @@ use Rattle.evl_kernel.specs.Families.{LineStep, request, free, arrive, post, sta
 use Rattle.evl_kernel.specs.Serving.{general_refusal, answer, ends_a_wait}
 use Rattle.evl_kernel.specs.Settling.{acted, deadline_left, given, nothing}
 use Rattle.evl_kernel.specs.Histories.{Follows, Step}
-use Rattle.evl_kernel.specs.MutexRests.{is_for, is_done, got_it, OnlyLeft, SettlingOnlyDrops, OthersOnlyDrop, is_of_mutexes, wants_mutex, touches_mutex}
+use Rattle.evl_kernel.specs.MutexRests.{is_for, is_done, got_it, OnlyLeft, SettlingOnlyDrops, OthersOnlyDrop, is_of_mutexes, left_by, wants_mutex, touches_mutex}
 use Rattle.evl_kernel.proofs.QueueLaws.{Begins, IsAsked, begin_goes, asks_get, asks_put, asks_peek, asks_take, asks_post, asks_bits, asks_write, asks_read, asks_room, asks_release}
 use Rattle.evl_kernel.proofs.LeavesLaws.{Leaves, leaves-refused, leaves-unless, leaves-known}
 use Rattle.evl_kernel.proofs.ClockSteps.{KeptByClock, leaves-clock}
@@ -46,7 +46,7 @@ use Rattle.evl_kernel.proofs.ThreadSteps.{leaves-threads}
 use Rattle.evl_kernel.proofs.WaitRecords.{idle_away, same_number}
 use Rattle.evl_kernel.proofs.ProperSteps.{Passed, kept_by_each, kept_by_own, passed_all, proper_at}
 use Rattle.evl_kernel.proofs.WaitLaws.{index_set, wait_there}
-use Rattle.evl_kernel.proofs.MutexRests.{and_false, IsElse, else_at, else_got, got_set, mutexes_stay, Since, since_after, since_all_woken, since_expired, since_same, since_touched, went_same, with_mutexes}
+use Rattle.evl_kernel.proofs.MutexRests.{and_false, IsElse, else_at, else_got, got_set, left-both, mutexes_stay, Since, since_after, since_all_woken, since_expired, since_same, since_touched, went_same, with_mutexes}
 use Rattle.evl_kernel.proofs.PlayWalk.{KeptByPlays, settles_holds}
 
 -- Proper waits, and of mutex n nothing but this since a state
@@ -78,7 +78,7 @@ only_left n count old new proper since = record {
   records = λ m' at.
       let was = since.0 m' at in
       let sound = all-at IsSoundMutex (elements new).mutexes n m' at proper.proper.sound.mutexes.each in
-      (was.0, was.1, record { kind = was.2.kind; owner = was.2.owner; waited = was.2.waited; raised = sound.raised; stays = was.2.stays });
+      (was.0, was.1, record { gone = was.2.gone; left = was.2.left; kind = was.2.kind; owner = was.2.owner; waited = was.2.waited; held = was.2.held; raised = sound.raised; stays = was.2.stays });
   got = since.1;
 }
 
@@ -286,7 +286,7 @@ left_after n a b c x y = record {
   records = λ m' at.
       let later = y.records m' at in
       let sooner = x.0 later.0 later.1 in
-      (sooner.0, sooner.1, record { kind = later.2.kind ∙ sooner.2.kind; owner = λ o e. sooner.2.owner o (later.2.owner o e); waited = λ e. sooner.2.waited (later.2.waited e); raised = later.2.raised; stays = λ e. later.2.stays e ∙ sooner.2.stays (subst (λ k. is_some (ceiling_of k) ≡ true) later.2.kind e) });
+      (sooner.0, sooner.1, record { gone = later.2.gone ++ sooner.2.gone; left = later.2.left ∙ ap (left_by later.2.gone) sooner.2.left ∙ sym (left-both later.2.gone sooner.2.gone sooner.0); kind = later.2.kind ∙ sooner.2.kind; owner = λ o e. sooner.2.owner o (later.2.owner o e); waited = λ e. sooner.2.waited (later.2.waited e); held = λ e. later.2.held e ∙ sooner.2.held (later.2.waited e); raised = later.2.raised; stays = λ e. later.2.stays e ∙ sooner.2.stays (subst (λ k. is_some (ceiling_of k) ≡ true) later.2.kind e) });
   got = λ t. y.got t ∙ x.1 t;
 }
 

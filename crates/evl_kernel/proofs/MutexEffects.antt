@@ -81,11 +81,11 @@ abbrev released_if : Bool → MutexRecorded → Answered MutexRecorded
 released_if b q = if b then Ok (handed_told (released q), (released q).after) else Err NotOwner
 
 module _ (count : ℕ) (s : State) (h : IsProper count s) (caller : ℕ) where
-  claim_leaves : (id : MutexId) (owner : ThreadId) (until : Option ℕ) → Leaves (ClaimLeaves s id.0 owner.0) (answer s caller (Claim id owner until))
+  claim_leaves : (id : MutexId) (owner : ThreadId) (until : Option ℕ) → Leaves (ClaimLeaves s caller id.0 owner.0) (answer s caller (Claim id owner until))
   claim_leaves id owner until = leaves-refused P (general_refusal s caller (Claim id owner until)) _ (λ passed. leaves-refused P (begin_refusal s caller (wanted.Mutex id owner)) _ (λ none. left (passed_all s caller (Claim id owner until) refl passed).idle (element (elements s) step) refl))
     where
       P : State → Type 0
-      P = ClaimLeaves s id.0 owner.0
+      P = ClaimLeaves s caller id.0 owner.0
 
       w : Waiter
       w = record { thread = caller; rank = rank_of s caller }
@@ -103,13 +103,12 @@ module _ (count : ℕ) (s : State) (h : IsProper count s) (caller : ℕ) where
           there : P (suspended (with_elements s after) caller on until)
           there = record {
             was = q;
-            waiter = w;
             changes = record { there = here; now = changed_now s id.0 q (claimed q w owner.0) here after is; others = changed_else s id.0 q (claimed q w owner.0) here after is };
             got = λ j t. got_set j s caller (Some (going_on on)) (ap (got_it j) idle) (and_false (is_for j on)) t;
           }
 
           by : (b : Bool) → P (posted_if b (suspended (with_elements s after) caller on until))
-          by true = record { was = there.was; waiter = there.waiter; changes = record { there = there.changes.there; now = there.changes.now; others = there.changes.others }; got = there.got }
+          by true = record { was = there.was; changes = record { there = there.changes.there; now = there.changes.now; others = there.changes.others }; got = there.got }
           by false = there
 
       nobody : (q : MutexRecorded) → slice_get (elements s).mutexes id.0 ≡ Some q → wakes (elements s) step ≡ []
@@ -269,7 +268,7 @@ pub mutex_calls : MutexCallsChange
 mutex_calls h legal fits caller =
     let count = h.board.threads in
     let proper = proper_at h legal fits in record {
-      claim = λ id owner until reply new is. leaves_of (ClaimLeaves h.state id.0 owner.0) (answer h.state caller (Claim id owner until)) reply new (claim_leaves count h.state proper caller id owner until) is;
+      claim = λ id owner until reply new is. leaves_of (ClaimLeaves h.state caller id.0 owner.0) (answer h.state caller (Claim id owner until)) reply new (claim_leaves count h.state proper caller id owner until) is;
       release = λ id reply new is. tells_of (ReleaseLeaves h.state id.0) (answer h.state caller (Release id)) reply new (release_leaves count h.state proper caller id) is;
       raise = λ id reply new is. leaves_of (RaiseLeaves h.state id.0 caller) (answer h.state caller (Raise id)) reply new (raise_leaves count h.state proper caller id) is;
       finish = λ keep reply new is. leaves_of (FinishLeaves h.state caller) (answer h.state caller (Finish keep)) reply new (finish_leaves count h.state proper caller keep) is;

@@ -1,5 +1,5 @@
 -- What leaves of a mutex waiters alone: ends of waits, and each step of another element.
-use Rattle.std.proofs.Common.{◌≡◌, ◌≤◌, ◌⊎◌, ⊎_elim, ℕ, ◌==◌, ◌&&◌, ◌||◌, Bool, true, false, not, List, [], ◌∷◌, Option, Some, None, is_some, is_none, option_map, Ok, Err, slice_get, slice_set, slice_index_or, if◌then◌else◌, refl, sym, ap, ◌∙◌, subst}
+use Rattle.std.proofs.Common.{◌≡◌, ◌≤◌, ◌⊎◌, ⊎_elim, ℕ, ◌==◌, ◌&&◌, ◌||◌, Bool, true, false, not, List, [], ◌∷◌, ◌++◌, Option, Some, None, is_some, is_none, option_map, Ok, Err, slice_get, slice_set, slice_index_or, if◌then◌else◌, refl, sym, ap, ◌∙◌, subst}
 use Rattle.std.specs.Option.{option_map_or}
 use Rattle.std.proofs.lemmas.Bool.{false≢true}
 use Rattle.evl_base.specs.Limits.{thread_limit}
@@ -24,7 +24,7 @@ use Rattle.evl_kernel.specs.Endings.{drop_step, leaving_queue}
 use Rattle.evl_kernel.specs.Settling.{deadline_left}
 use Rattle.evl_kernel.specs.Standing.{in_mutex, is_served, stands_at, stands_for}
 use Rattle.evl_kernel.specs.WaitOrder.{is_blocked}
-use Rattle.evl_kernel.specs.MutexRests.{is_for, is_done, got_it, is_of_mutexes}
+use Rattle.evl_kernel.specs.MutexRests.{is_for, is_done, got_it, is_of_mutexes, left_by}
 use Rattle.evl_kernel.proofs.ElementSteps.{nth-made, ok_is, some_is}
 use Rattle.evl_kernel.proofs.QueueSteps.{Gone}
 use Rattle.evl_kernel.proofs.QueueLaws.{Dropped, IsAsked, asked_goes, drop_goes}
@@ -88,16 +88,24 @@ module _ (n : ℕ) where
 
 -- of one mutex: the same, or only waiters left
 pub record Went (m m' : MutexRecorded) : Type 0 where
+  pub gone : List ℕ
+  pub left : m' ≡ left_by gone m
   pub kind : m'.kind ≡ m.kind
   pub owner : (o : ℕ) → m'.owner ≡ Some o → m.owner ≡ Some o
   pub waited : is_nobody m'.waiters ≡ false → is_nobody m.waiters ≡ false
+  pub held : is_nobody m'.waiters ≡ false → m'.owner ≡ m.owner
   pub stays : has_ceiling m' ≡ true → m'.owner ≡ m.owner
 
 pub went_same : (m : MutexRecorded) → Went m m
-went_same m = record { kind = refl; owner = λ o e. e; waited = λ e. e; stays = λ e. refl }
+went_same m = record { gone = []; left = refl; kind = refl; owner = λ o e. e; waited = λ e. e; held = λ e. refl; stays = λ e. refl }
+
+-- who left first, and who left then
+pub left-both : (later sooner : List ℕ) (m : MutexRecorded) → left_by (later ++ sooner) m ≡ left_by later (left_by sooner m)
+left-both [] sooner m = refl
+left-both (thread ∷ later) sooner m = ap (drop_waiter thread) (left-both later sooner m)
 
 went_after : (a b c : MutexRecorded) → Went a b → Went b c → Went a c
-went_after a b c x y = record { kind = y.kind ∙ x.kind; owner = λ o e. x.owner o (y.owner o e); waited = λ e. x.waited (y.waited e); stays = λ e. y.stays e ∙ x.stays (subst (λ k. is_some (ceiling_of k) ≡ true) y.kind e) }
+went_after a b c x y = record { gone = y.gone ++ x.gone; left = y.left ∙ ap (left_by y.gone) x.left ∙ sym (left-both y.gone x.gone a); kind = y.kind ∙ x.kind; owner = λ o e. x.owner o (y.owner o e); waited = λ e. x.waited (y.waited e); held = λ e. y.held e ∙ x.held (y.waited e); stays = λ e. y.stays e ∙ x.stays (subst (λ k. is_some (ceiling_of k) ≡ true) y.kind e) }
 
 none_if : (b : Bool) (x : Option ℕ) (o : ℕ) → (if b then None else x) ≡ Some o → x ≡ Some o
 none_if true x o e = absurd (cc)
@@ -113,8 +121,12 @@ kept_if false true x e = refl
 kept_if true false x e = absurd (false≢true e)
 kept_if false false x e = absurd (false≢true e)
 
+held_if : (b c : Bool) (x : Option ℕ) → b ≡ false → (if b && not c then None else x) ≡ x
+held_if false c x e = refl
+held_if true c x e = absurd (false≢true (sym e))
+
 went_dropped : (thread : ℕ) (m : MutexRecorded) → Went m (drop_waiter thread m)
-went_dropped thread m = record { kind = refl; owner = λ o e. none_if (is_nobody (dropped thread m.waiters) && not (has_ceiling m)) m.owner o e; waited = nobody_dropped thread m.waiters; stays = kept_if (is_nobody (dropped thread m.waiters)) (has_ceiling m) m.owner }
+went_dropped thread m = record { gone = thread ∷ []; left = refl; kind = refl; owner = λ o e. none_if (is_nobody (dropped thread m.waiters) && not (has_ceiling m)) m.owner o e; waited = nobody_dropped thread m.waiters; held = held_if (is_nobody (dropped thread m.waiters)) (has_ceiling m) m.owner; stays = kept_if (is_nobody (dropped thread m.waiters)) (has_ceiling m) m.owner }
 
 -- since a state, of mutex n
 abbrev pub RecordsSince : ℕ → State → State → Type 0

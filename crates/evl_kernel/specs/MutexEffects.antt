@@ -8,11 +8,11 @@ use Rattle.evl_base.specs.declared.numbers.ThreadId.{ThreadId}
 use Rattle.evl_base.specs.declared.play.Play.{Play}
 use Rattle.evl_base.specs.declared.refusal.Refusal.{Refusal}
 use Rattle.evl_base.specs.declared.reply.Reply.{Reply}
-use Rattle.evl_mutex.specs.declared.waiter.Waiter.{Waiter}
 use Rattle.evl_mutex.specs.Mutexes.{Mutex as MutexRecorded, claimed, has_ceiling, is_open_to, raised, released}
 use Rattle.evl_kernel.specs.States.{State}
 use Rattle.evl_kernel.specs.Mutexes.{handed_told}
 use Rattle.evl_kernel.specs.Waits.{wait_at}
+use Rattle.evl_kernel.specs.ThreadCalls.{rank_of}
 use Rattle.evl_kernel.specs.Serving.{answer}
 use Rattle.evl_sched.specs.Threads.{is_attached}
 use Rattle.evl_kernel.specs.Histories.{History, IsLegal, Step}
@@ -34,11 +34,10 @@ pub record Changes (n : ℕ) (old : State) (was is : MutexRecorded) (new : State
 abbrev pub GotTheSame : State → State → Type 0
 GotTheSame old new = (j t : ℕ) → has_got new j t ≡ has_got old j t
 
--- an accepted claim: the thread waits for the mutex, whose owner it names
-pub record ClaimLeaves (old : State) (n owner : ℕ) (new : State) : Type 0 where
+-- an accepted claim: the caller waits for the mutex by its rank, and names who owns it
+pub record ClaimLeaves (old : State) (caller n owner : ℕ) (new : State) : Type 0 where
   pub was : MutexRecorded
-  pub waiter : Waiter
-  pub changes : Changes n old was (claimed was waiter owner) new
+  pub changes : Changes n old was (claimed was (record { thread = caller; rank = rank_of old caller }) owner) new
   pub got : GotTheSame old new
 
 -- an accepted release: the first waiter, if there is one, gets the mutex
@@ -62,7 +61,7 @@ pub record FinishLeaves (old : State) (thread : ℕ) (new : State) : Type 0 wher
   pub others : (j t : ℕ) → t ≢ thread → has_got new j t ≡ has_got old j t
 
 pub record MutexCallsLeave (s : State) (caller : ℕ) : Type 0 where
-  pub claim : (id : MutexId) (owner : ThreadId) (until : Option ℕ) (reply : Reply) (new : State) → answer s caller (Claim id owner until) ≡ Ok (reply, new) → ClaimLeaves s id.0 owner.0 new
+  pub claim : (id : MutexId) (owner : ThreadId) (until : Option ℕ) (reply : Reply) (new : State) → answer s caller (Claim id owner until) ≡ Ok (reply, new) → ClaimLeaves s caller id.0 owner.0 new
   pub release : (id : MutexId) (reply : Reply) (new : State) → answer s caller (Release id) ≡ Ok (reply, new) → ReleaseLeaves s id.0 reply new
   pub raise : (id : MutexId) (reply : Reply) (new : State) → answer s caller (Raise id) ≡ Ok (reply, new) → RaiseLeaves s id.0 caller new
   pub finish : (keep : Bool) (reply : Reply) (new : State) → answer s caller (Finish keep) ≡ Ok (reply, new) → FinishLeaves s caller new

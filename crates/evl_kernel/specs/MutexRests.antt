@@ -1,5 +1,5 @@
 -- What settling does to mutexes, and every call that isn't about one: waits for them end by their deadlines, and nothing else.
-use Rattle.std.specs.Prelude.{◌≡◌, ℕ, ◌==◌, ◌&&◌, Bool, true, false, List, Option, Some, is_some, Result, Ok, slice_get}
+use Rattle.std.specs.Prelude.{◌≡◌, ℕ, ◌==◌, ◌&&◌, Bool, true, false, List, [], ◌∷◌, Option, Some, is_some, Result, Ok, slice_get}
 use Rattle.std.specs.Option.{option_map_or}
 use Rattle.evl_base.specs.Board.{board_fits}
 use Rattle.evl_base.specs.declared.call.Call.{Call}
@@ -7,7 +7,7 @@ use Rattle.evl_base.specs.declared.play.Play.{Play}
 use Rattle.evl_base.specs.declared.refusal.Refusal.{Refusal}
 use Rattle.evl_base.specs.declared.reply.Reply.{Reply}
 use Rattle.evl_base.specs.declared.reply.Reply.TheVariants.{Done}
-use Rattle.evl_mutex.specs.Mutexes.{Mutex as MutexRecorded, has_ceiling}
+use Rattle.evl_mutex.specs.Mutexes.{Mutex as MutexRecorded, drop_waiter, has_ceiling}
 use Rattle.evl_mutex.specs.Queues.{is_nobody}
 use Rattle.evl_sched.specs.Threads.{stage_of}
 use Rattle.evl_kernel.specs.declared.waits.Awaited.{Awaited}
@@ -35,11 +35,19 @@ is_done _ = false
 abbrev pub got_it : ℕ → Option Wait → Bool
 got_it n wait = option_map_or (λ w. is_for n w.on && option_map_or is_done w.outcome false) wait false
 
--- of a mutex only waiters left, by their deadlines
+-- one thread after another leaves a mutex's queue, the last of the list first
+abbrev pub left_by : List ℕ → MutexRecorded → MutexRecorded
+left_by [] m = m
+left_by (thread ∷ threads) m = drop_waiter thread (left_by threads m)
+
+-- of a mutex only waiters left, by their deadlines: just these, and so what follows of it
 pub record LeftBy (m m' : MutexRecorded) : Type 0 where
+  pub gone : List ℕ
+  pub left : m' ≡ left_by gone m
   pub kind : m'.kind ≡ m.kind
   pub owner : (o : ℕ) → m'.owner ≡ Some o → m.owner ≡ Some o
   pub waited : is_nobody m'.waiters ≡ false → is_nobody m.waiters ≡ false
+  pub held : is_nobody m'.waiters ≡ false → m'.owner ≡ m.owner
   pub raised : is_nobody m'.waiters ≡ true → is_some m'.owner ≡ true → has_ceiling m' ≡ true
   pub stays : has_ceiling m' ≡ true → m'.owner ≡ m.owner
 

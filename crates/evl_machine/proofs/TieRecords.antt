@@ -14,6 +14,7 @@ use Rattle.evl_words.specs.MutexBits.{mutex_word, number_in, offers_to}
 use Rattle.evl_words.specs.MutexWorld.{NamesBelow}
 use Rattle.evl_words.proofs.MutexWords.{offers_to-word}
 use Rattle.evl_kernel.specs.States.{State}
+use Rattle.evl_kernel.specs.ThreadCalls.{rank_of}
 use Rattle.evl_kernel.specs.MutexRests.{OnlyLeft}
 use Rattle.evl_kernel.specs.MutexEffects.{record_at, has_got, ClaimLeaves, ReleaseLeaves, RaiseLeaves, FinishLeaves}
 use Rattle.evl_machine.specs.Ties.{IsTied, AreTied, IsLeft}
@@ -47,11 +48,12 @@ module _ (ceilings : ℕ → Bool) where
     pub tied_refused : AreTied ceilings s i (mutex_word (claimed x k))
     tied_refused m at = ((tied m at).0, claim_refused x k small here there m (has_got s i) (tied m at).1)
 
-    pub tied_claimed : (o : ℕ) (new : State) → number_in (mutex_word x) ≡ o + 1 → ClaimLeaves s i o new → AreTied ceilings new i (mutex_word (claimed x k))
+    pub tied_claimed : (o : ℕ) (new : State) → number_in (mutex_word x) ≡ o + 1 → ClaimLeaves s k i o new → AreTied ceilings new i (mutex_word (claimed x k))
     tied_claimed o new named leaves m at =
+        let waiter : Waiter = record { thread = k; rank = rank_of s k } in
         let before = tied leaves.was leaves.changes.there in
-        let is : record_of.claimed leaves.was leaves.waiter o ≡ m = some_is (sym leaves.changes.now ∙ at) in
-        let now = claim_accepted x k small here there leaves.was (has_got s i) leaves.waiter o named before.1 in
+        let is : record_of.claimed leaves.was waiter o ≡ m = some_is (sym leaves.changes.now ∙ at) in
+        let now = claim_accepted x k small here there leaves.was (has_got s i) waiter o named before.1 in
         subst (λ (q : Mutex). (has_ceiling q ≡ ceilings i) × IsTied q (has_got new i) (mutex_word (claimed x k))) is
         (before.0, record { owner = now.owner; offer = λ t. now.offer t ∙ sym (leaves.got i t) })
 

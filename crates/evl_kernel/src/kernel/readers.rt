@@ -1,6 +1,6 @@
 //! What a kernel tells of its threads, its date and its elements besides their calls. No reader changes anything or
 //! makes an entry.
-ghost use Rattle.std.specs.Prelude.{◌≡◌, ◌++◌, IfErr, None, OnOk, Some, length, map, option_map, slice_get, if◌then◌else◌};
+ghost use Rattle.std.specs.Prelude.{◌≡◌, ◌++◌, IfErr, None, OnErr, OnOk, Some, length, map, option_map, slice_get, if◌then◌else◌};
 ghost use Rattle.evl_base.specs.declared.refusal.Refusal.{Refusal};
 ghost use Rattle.evl_kernel.specs.Histories.{IsLegal};
 ghost use Rattle.evl_kernel.specs.Standing.{queue_of};
@@ -103,10 +103,11 @@ impl<C, A: Allocator> KernelOf<C, A> {
         self.records.waiter(on, place)
     }
 
-    /// Adds the threads of the ready list to a list, in their order. `NoMemory` where room was refused; what the list
-    /// holds then isn't known (Xenomai 4: EVL scheduling policies).
+    /// Adds the threads of the ready list to a list, in their order. `NoMemory` where room was refused; the list is
+    /// as before then (Xenomai 4: EVL scheduling policies).
     pub fn ready_threads<B: Allocator>(&self, out: &mut Vec<ThreadId, B>) -> Result<(), Refusal>
         ensures told { OnOk result (map (λ t. t.0) out.new.items ≡ map (λ t. t.0) out.old.items ++ self.now.history.state.sched.ready) }
+        ensures unchanged { OnErr result (map (λ t. t.0) out.new.items ≡ map (λ t. t.0) out.old.items) }
         ensures refusal { IfErr result (λ e. e ≡ Refusal.NoMemory) }
         ensures legal { IsLegal self.now.history }
     {

@@ -1,5 +1,5 @@
 //! What the records tell of threads, date and elements besides the answers of calls.
-ghost use Rattle.std.specs.Prelude.{◌≡◌, ◌++◌, IfErr, None, OnOk, Some, length, map, option_map, slice_get, if◌then◌else◌};
+ghost use Rattle.std.specs.Prelude.{◌≡◌, ◌++◌, IfErr, None, OnErr, OnOk, Some, length, map, option_map, slice_get, if◌then◌else◌};
 ghost use Rattle.evl_base.specs.declared.refusal.Refusal.{Refusal};
 ghost use Rattle.evl_kernel.specs.Records.{state_of};
 ghost use Rattle.evl_kernel.specs.Standing.{queue_of};
@@ -90,12 +90,13 @@ impl<C, A: Allocator> Records<C, A> {
         self.elements.waiter(on, place)
     }
 
-    /// Adds the ready threads to a list, in their order. `NoMemory` where room was refused.
+    /// Adds the ready threads to a list, in their order. `NoMemory` where room was refused; the list is as before then.
     pub(crate) fn ready_threads<B: Allocator>(
         &self,
         out: &mut Vec<ThreadId, B>,
     ) -> Result<(), Refusal>
         ensures told { OnOk result (map (λ t. t.0) out.new.items ≡ map (λ t. t.0) out.old.items ++ (state_of self.now).sched.ready) }
+        ensures unchanged { OnErr result (map (λ t. t.0) out.new.items ≡ map (λ t. t.0) out.old.items) }
         ensures refusal { IfErr result (λ e. e ≡ Refusal.NoMemory) }
     {
         self.sched.ready_threads(out)

@@ -1,5 +1,5 @@
 //! The ready threads one after another: they are told into a list, and those of two orders are compared.
-ghost use Rattle.std.specs.Prelude.{◌≡◌, ◌++◌, ℕ, true, map, OnOk};
+ghost use Rattle.std.specs.Prelude.{◌≡◌, ◌++◌, ℕ, true, length, map, take, OnErr, OnOk};
 ghost use Rattle.evl_sched.specs.Orders.{AreStamped, in_order};
 ghost use Rattle.evl_sched.specs.Walks.{IsNext};
 
@@ -15,11 +15,19 @@ pub struct Turn {
 }
 
 impl<A: Allocator> Order<A> {
-    /// Adds the ready threads to a list, in order.
+    /// Adds the ready threads to a list, in order; nothing of them where room was refused.
     pub fn ready_threads<B: Allocator>(&self, out: &mut Vec<ThreadId, B>) -> Result<(), AllocError>
         ensures told { OnOk result (map (λ t. t.0) out.new.items ≡ map (λ t. t.0) out.old.items ++ self.now.ready) }
+        ensures unchanged { OnErr result (map (λ t. t.0) out.new.items ≡ map (λ t. t.0) out.old.items) }
     {
-        tell_all(&self.stamps, self.next, out)
+        let before = out.len();
+        match tell_all(&self.stamps, self.next, out) {
+            Ok(()) => Ok(()),
+            Err(refused) => {
+                out.truncate(before);
+                Err(refused)
+            }
+        }
     }
 
     /// Whether the same threads are ready, in the same order.
@@ -56,6 +64,7 @@ fn tell_all<A: Allocator, B: Allocator>(
 ) -> Result<(), AllocError>
     requires { AreStamped stamps.now.items limit }
     ensures told { OnOk result (map (λ t. t.0) out.new.items ≡ map (λ t. t.0) out.old.items ++ in_order stamps.now.items limit) }
+    ensures begun { take (length out.old.items) (map (λ t. t.0) out.new.items) ≡ map (λ t. t.0) out.old.items }
 {
     let mut low: u64 = 0;
     while let Some(turn) = next_ready(stamps, limit, low) {

@@ -1,5 +1,5 @@
 //! What the scheduler tells of all of its threads at once.
-ghost use Rattle.std.specs.Prelude.{◌≡◌, ◌++◌, true, map, IfErr, OnOk};
+ghost use Rattle.std.specs.Prelude.{◌≡◌, ◌++◌, true, map, IfErr, OnErr, OnOk};
 ghost use Rattle.evl_base.specs.declared.refusal.Refusal.{Refusal};
 
 use super::SchedOf;
@@ -9,10 +9,11 @@ use evl_base::{Refusal, ThreadId};
 use std::alloc::Allocator;
 
 impl<A: Allocator> SchedOf<A> {
-    /// Adds the ready threads to a list, in the order of the ready list. `NoMemory` where room was refused.
-    /// (Xenomai 4: EVL scheduling policies; this profile)
+    /// Adds the ready threads to a list, in the order of the ready list. `NoMemory` where room was refused; the list is
+    /// as before then (Xenomai 4: EVL scheduling policies).
     pub fn ready_threads<B: Allocator>(&self, out: &mut Vec<ThreadId, B>) -> Result<(), Refusal>
         ensures told { OnOk result (map (λ t. t.0) out.new.items ≡ map (λ t. t.0) out.old.items ++ self.now.sched.ready) }
+        ensures unchanged { OnErr result (map (λ t. t.0) out.new.items ≡ map (λ t. t.0) out.old.items) }
         ensures refusal { IfErr result (λ e. e ≡ Refusal.NoMemory) }
     {
         match self.order.ready_threads(out) {
