@@ -1,9 +1,21 @@
 -- Which names hold passes.
-use Rattle.std.specs.Prelude.{ℕ, Bool, List, String, string_bytes}
-use Rattle.std.specs.List.{list_any}
+use Rattle.std.specs.Prelude.{◌≡◌, ℕ, Bool, List, String, string_bytes, slice_index_or, position, Some}
+use Rattle.std.specs.List.{list_any, remove}
 use Rattle.std.specs.Str.{bytes_eq}
 use Rattle.std.specs.declared.alloc.Global.{Global}
 
 -- a name is among these
 abbrev pub is_named : {P : Type 0} → List ℕ → List (String Global × P) → Bool
 is_named name passes = list_any (λ p. bytes_eq (string_bytes p.0) name) passes
+
+-- one of them is of this name
+abbrev pub is_of_name : {P : Type 0} → List ℕ → String Global × P → Bool
+is_of_name name named = bytes_eq (string_bytes named.0) name
+
+-- the first pass of a name is taken away, and the others stay
+pub record TakesPass {P : Type 0} (name : List ℕ) (old : List (String Global × P)) (pass : P) (new : List (String Global × P)) : Type 0 where
+  pub place : ℕ
+  pub held : String Global
+  pub first : position (is_of_name name) old ≡ Some place
+  pub there : slice_index_or old place (held, pass) ≡ (held, pass)
+  pub others : new ≡ remove old place

@@ -1,8 +1,9 @@
 //! What a step is answered, as text, and what it went to.
-ghost use Rattle.std.specs.Prelude.{◌≡◌, IfOk, is_some, string_bytes};
+ghost use Rattle.std.specs.Prelude.{◌≡◌, ◌||◌, Err, IfOk, Ok, if◌then◌else◌, is_some, string_bytes};
 ghost use Rattle.evl_base.specs.Reply.{outcome_text};
 ghost use Rattle.evl_callers.specs.Answers.{BeginsLock, CallsSo, EntersStax, FinishesLock, GivesSo, LeavesBy, LocksMutex, Makes, TakesSo, UnlocksBy, UnlocksFastBy, begun_text, ended_text, given_text, left_text, taken_text, unlocked_text};
 ghost use Rattle.evl_callers.specs.Crews.{crew_at};
+ghost use Rattle.evl_callers.specs.Names.{is_named};
 
 use crate::crew::Crew;
 use crate::passes::{Passes, StepFault};
@@ -97,7 +98,9 @@ fn keep_mutex(
 }
 
 // A name that holds no pass.
-fn free_name(passes: &Passes, name: &String) -> Result<(), Stop> {
+fn free_name(passes: &Passes, name: &String) -> Result<(), Stop>
+    ensures { result ≡ (if is_named (string_bytes name.now) passes.now.staxes.items || is_named (string_bytes name.now) passes.now.mutexes.items then Err (Stop.Fault StepFault.Held) else Ok tt) }
+{
     if passes.holds(name.as_str()) {
         Err(Stop::Fault(StepFault::Held))
     } else {

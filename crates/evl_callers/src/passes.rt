@@ -1,6 +1,7 @@
 //! Passes by their names.
-ghost use Rattle.std.specs.Prelude.{◌≡◌, ◌<◌, ◌||◌, ◌++◌, [], ◌∷◌, IfErr, IfSome, OnOk, length};
-ghost use Rattle.evl_callers.specs.Names.{is_named};
+ghost use Rattle.std.specs.Prelude.{◌≡◌, ◌==◌, ◌||◌, ◌++◌, [], ◌∷◌, IfErr, IfOk, MatchOption, None, OnOk, count_by, find, option_map, position};
+ghost use Rattle.std.specs.List.{remove};
+ghost use Rattle.evl_callers.specs.Names.{TakesPass, is_named, is_of_name};
 
 use evl_base::{MutexId, StaxId, ThreadId};
 use evl_words::{MutexPass, StaxPass};
@@ -61,7 +62,7 @@ impl Passes {
 
     // The place of a name among the passes of staxes.
     fn stax_place(&self, name: &str) -> Option<usize>
-        ensures place { IfSome result (λ k. k < length self.now.staxes.items) }
+        ensures { result ≡ position (is_of_name name.now) self.now.staxes.items }
     {
         self.staxes
             .iter()
@@ -70,7 +71,7 @@ impl Passes {
 
     // The place of a name among the passes of mutexes.
     fn mutex_place(&self, name: &str) -> Option<usize>
-        ensures place { IfSome result (λ k. k < length self.now.mutexes.items) }
+        ensures { result ≡ position (is_of_name name.now) self.now.mutexes.items }
     {
         self.mutexes
             .iter()
@@ -86,7 +87,9 @@ impl Passes {
 
     /// The pass of a stax that a name holds, which is taken away.
     pub fn take_stax(&mut self, name: &str) -> Result<StaxPass, StepFault>
-        ensures { IfErr result (λ e. e ≡ StepFault.HoldsNothing) }
+        ensures taken { IfOk result (λ pass. TakesPass name.now self.old.staxes.items pass self.new.staxes.items) }
+        ensures others { (self.new.mutexes ≡ self.old.mutexes) × (self.new.waits ≡ self.old.waits) }
+        ensures refused { IfErr result (λ e. (e ≡ StepFault.HoldsNothing) × (position (is_of_name name.now) self.old.staxes.items ≡ None) × (self.new ≡ self.old)) }
     {
         match self.stax_place(name) {
             Some(place) => Ok(self.staxes.remove(place).1),
@@ -96,7 +99,9 @@ impl Passes {
 
     /// The pass of a mutex that a name holds, which is taken away.
     pub fn take_mutex(&mut self, name: &str) -> Result<MutexPass, StepFault>
-        ensures { IfErr result (λ e. e ≡ StepFault.HoldsNothing) }
+        ensures taken { IfOk result (λ pass. TakesPass name.now self.old.mutexes.items pass self.new.mutexes.items) }
+        ensures others { (self.new.staxes ≡ self.old.staxes) × (self.new.waits ≡ self.old.waits) }
+        ensures refused { IfErr result (λ e. (e ≡ StepFault.HoldsNothing) × (position (is_of_name name.now) self.old.mutexes.items ≡ None) × (self.new ≡ self.old)) }
     {
         match self.mutex_place(name) {
             Some(place) => Ok(self.mutexes.remove(place).1),
@@ -106,7 +111,8 @@ impl Passes {
 
     /// Has a name hold a pass of a stax.
     pub fn put_stax(&mut self, name: String, pass: StaxPass) -> Result<(), AllocError>
-        ensures { OnOk result (self.new.staxes.items ≡ self.old.staxes.items ++ (name, pass) ∷ []) }
+        ensures held { OnOk result (self.new.staxes.items ≡ self.old.staxes.items ++ (name, pass) ∷ []) }
+        ensures others { (self.new.mutexes ≡ self.old.mutexes) × (self.new.waits ≡ self.old.waits) }
     {
         match self.staxes.push((name, pass)) {
             Ok(()) => Ok(()),
@@ -116,7 +122,8 @@ impl Passes {
 
     /// Has a name hold a pass of a mutex.
     pub fn put_mutex(&mut self, name: String, pass: MutexPass) -> Result<(), AllocError>
-        ensures { OnOk result (self.new.mutexes.items ≡ self.old.mutexes.items ++ (name, pass) ∷ []) }
+        ensures held { OnOk result (self.new.mutexes.items ≡ self.old.mutexes.items ++ (name, pass) ∷ []) }
+        ensures others { (self.new.staxes ≡ self.old.staxes) × (self.new.waits ≡ self.old.waits) }
     {
         match self.mutexes.push((name, pass)) {
             Ok(()) => Ok(()),
@@ -125,7 +132,9 @@ impl Passes {
     }
 
     /// How many callers hold a stax.
-    pub fn holders(&self, stax: StaxId) -> usize {
+    pub fn holders(&self, stax: StaxId) -> usize
+        ensures { result ≡ count_by (λ named. named.1.gate.0 == stax.0) self.now.staxes.items }
+    {
         self.staxes
             .iter()
             .filter(|named| named.1.gate() == stax)
@@ -133,7 +142,9 @@ impl Passes {
     }
 
     /// The number of a caller that holds a stax.
-    pub fn holder(&self, stax: StaxId) -> Option<u16> {
+    pub fn holder(&self, stax: StaxId) -> Option<u16>
+        ensures { result ≡ option_map (λ named. named.1.seat) (find (λ named. named.1.gate.0 == stax.0) self.now.staxes.items) }
+    {
         match self.staxes.iter().find(|named| named.1.gate() == stax) {
             Some(named) => Some(named.1.seat()),
             None => None,
@@ -141,7 +152,10 @@ impl Passes {
     }
 
     /// A caller waits for a mutex from now on.
-    pub fn begin_wait(&mut self, who: ThreadId, mutex: MutexId) -> Result<(), AllocError> {
+    pub fn begin_wait(&mut self, who: ThreadId, mutex: MutexId) -> Result<(), AllocError>
+        ensures waits { OnOk result (self.new.waits.items ≡ self.old.waits.items ++ (who, mutex) ∷ []) }
+        ensures others { (self.new.staxes ≡ self.old.staxes) × (self.new.mutexes ≡ self.old.mutexes) }
+    {
         match self.waits.push((who, mutex)) {
             Ok(()) => Ok(()),
             Err(_) => Err(AllocError),
@@ -150,13 +164,15 @@ impl Passes {
 
     // The place of a caller among those that wait.
     fn wait_place(&self, who: ThreadId) -> Option<usize>
-        ensures { IfSome result (λ k. k < length self.now.waits.items) }
+        ensures { result ≡ position (λ wait. wait.0.0 == who.0) self.now.waits.items }
     {
         self.waits.iter().position(|wait| wait.0 == who)
     }
 
     /// For which mutex a caller waits.
-    pub fn awaited(&self, who: ThreadId) -> Option<MutexId> {
+    pub fn awaited(&self, who: ThreadId) -> Option<MutexId>
+        ensures { result ≡ option_map (λ wait. wait.1) (find (λ wait. wait.0.0 == who.0) self.now.waits.items) }
+    {
         match self.waits.iter().find(|wait| wait.0 == who) {
             Some(wait) => Some(wait.1),
             None => None,
@@ -164,7 +180,10 @@ impl Passes {
     }
 
     /// A caller waits no more.
-    pub fn end_wait(&mut self, who: ThreadId) {
+    pub fn end_wait(&mut self, who: ThreadId)
+        ensures waits { MatchOption (position (λ wait. wait.0.0 == who.0) self.old.waits.items) (self.new ≡ self.old) (λ place. self.new.waits.items ≡ remove self.old.waits.items place) }
+        ensures others { (self.new.staxes ≡ self.old.staxes) × (self.new.mutexes ≡ self.old.mutexes) }
+    {
         if let Some(place) = self.wait_place(who) {
             self.waits.remove(place);
         }

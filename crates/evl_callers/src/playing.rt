@@ -282,6 +282,53 @@ fn refused_closing(alloc: Global, refusal: Refusal) -> Result<String, AllocError
     Ok(text)
 }
 
+// Leaves a machine as it is, with its callers.
+fn leave<C: Handler>(machine: MachineOf<C, Global>, callers: Vec<CallerOf<C, Global>>) {
+    drop(machine);
+    drop(callers);
+}
+
+// What is told of a closed machine's kernel, which goes.
+fn told_closed<C: Handler>(alloc: Global, kernel: KernelOf<C, Global>) -> Result<String, AllocError>
+    ensures { IfOk result (λ text. string_bytes text ≡ closed_text kernel.history) }
+{
+    closing_of(alloc, &kernel)
+}
+
+// What is told of a machine that isn't closed, which goes with its callers.
+fn told_open<C: Handler>(
+    alloc: Global,
+    refusal: Refusal,
+    machine: MachineOf<C, Global>,
+    callers: Vec<CallerOf<C, Global>>,
+) -> Result<String, AllocError>
+    ensures { IfOk result (λ text. string_bytes text ≡ open_text refusal) }
+{
+    leave(machine, callers);
+    refused_closing(alloc, refusal)
+}
+
+// Closes a machine, if it can be: how that ends, and what is told of it.
+fn closing<C: Handler>(
+    alloc: Global,
+    machine: MachineOf<C, Global>,
+    callers: Vec<CallerOf<C, Global>>,
+) -> Result<(Ending, String), AllocError>
+    requires { All (λ c. c.machine ≡ machine) callers.items }
+    ensures { IfOk result (λ told. ClosesSo machine callers.items told.0 (string_bytes told.1)) }
+{
+    match machine.close(callers) {
+        Ok(kernel) => match told_closed(alloc, kernel) {
+            Ok(text) => Ok((Ending::Closed, text)),
+            Err(refused) => Err(refused),
+        },
+        Err((refusal, machine, callers)) => match told_open(alloc, refusal, machine, callers) {
+            Ok(text) => Ok((Ending::Open(refusal), text)),
+            Err(refused) => Err(refused),
+        },
+    }
+}
+
 // What is told in the end, once the machine is closed, if it can be.
 fn closed<C: Handler>(
     report: Report,
@@ -293,23 +340,13 @@ fn closed<C: Handler>(
     ensures closed { IfOk result (λ told. ClosesSo machine callers.items told.ending (string_bytes told.closing)) }
 {
     let Report { alloc, text, .. } = report;
-    match machine.close(callers) {
-        Ok(kernel) => match closing_of(alloc, &kernel) {
-            Ok(closing) => Ok(Played {
-                lines: text,
-                closing,
-                ending: Ending::Closed,
-            }),
-            Err(_) => Err(Refusal::NoMemory),
-        },
-        Err((refusal, _, _)) => match refused_closing(alloc, refusal) {
-            Ok(closing) => Ok(Played {
-                lines: text,
-                closing,
-                ending: Ending::Open(refusal),
-            }),
-            Err(_) => Err(Refusal::NoMemory),
-        },
+    match closing(alloc, machine, callers) {
+        Ok((ending, closing)) => Ok(Played {
+            lines: text,
+            closing,
+            ending,
+        }),
+        Err(_) => Err(Refusal::NoMemory),
     }
 }
 
@@ -327,12 +364,6 @@ fn stopped(report: Report, number: usize, stop: Stop) -> Result<Played, Refusal>
         }),
         Stop::Memory => Err(Refusal::NoMemory),
     }
-}
-
-// Leaves a machine as it is, with its callers.
-fn leave<C: Handler>(machine: MachineOf<C, Global>, callers: Vec<CallerOf<C, Global>>) {
-    drop(machine);
-    drop(callers);
 }
 
 // What is told of all steps, over a machine.

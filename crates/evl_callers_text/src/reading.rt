@@ -1,7 +1,7 @@
 //! Texts of callers, read: a board with its staxes, a limit, and steps of callers among those of a scenario.
 ghost use Rattle.std.specs.Prelude.{◌≡◌, IfOk, true};
 ghost use Rattle.evl_base.specs.Board.{board_fits};
-ghost use Rattle.evl_callers_text.specs.Readings.{OpensAs};
+ghost use Rattle.evl_callers_text.specs.Readings.{IsRead, OpensAs, steps_as};
 
 use crate::acts::CallersStep;
 use crate::marks::{Mark, act_of, mark_step};
@@ -109,7 +109,9 @@ fn steps_of(
     alloc: Global,
     marks: Vec<Option<Mark>>,
     steps: Vec<Step>,
-) -> Result<Vec<CallersStep>, AllocError> {
+) -> Result<Vec<CallersStep>, AllocError>
+    ensures { IfOk result (λ all. all.items ≡ steps_as marks.items steps.items) }
+{
     let mut all = Vec::new(alloc);
     for (mark, step) in marks.into_iter().zip(steps) {
         let Step { who, call } = step;
@@ -154,12 +156,15 @@ fn read_marked(
     marks: Vec<Option<Mark>>,
 ) -> Result<CallersText, Fault>
     ensures fits { IfOk result (λ t. board_fits t.board ≡ true) }
-    ensures opens { IfOk result (OpensAs limit text.now staxes.items) }
+    ensures opens { IfOk result (OpensAs limit text.now staxes.items marks.items) }
 {
     let (board, limit, steps) = read_scenario(alloc, text.as_bytes(), limit)?.into_parts();
     let board = with_staxes(board, staxes);
     if board.check().is_err() {
         return Err(Fault::Board);
+    }
+    if marks.len() != steps.len() {
+        return Err(Fault::Text);
     }
     match steps_of(alloc, marks, steps) {
         Ok(steps) => Ok(CallersText {
@@ -173,7 +178,8 @@ fn read_marked(
 
 /// What a text of callers asks for, under a limit that may be handed in. Faults are those of a scenario.
 pub fn read_callers(alloc: Global, bytes: &[u8], limit: Option<u32>) -> Result<CallersText, Fault>
-    ensures { IfOk result (λ t. board_fits t.board ≡ true) }
+    ensures fits { IfOk result (λ t. board_fits t.board ≡ true) }
+    ensures opens { IfOk result (IsRead limit) }
 {
     let mut table = document_of(alloc, bytes)?;
     let Some(staxes) = take_staxes(&mut table) else {

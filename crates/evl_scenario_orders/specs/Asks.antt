@@ -1,6 +1,8 @@
 -- What is asked of all orders, by what is told of their ends.
-use Rattle.std.specs.Prelude.{ℕ, ◌≡◌, ◌==◌, Bool, true, false, ◌&&◌, ◌||◌, if◌then◌else◌, List, [], ◌∷◌, ◌++◌, codes, map, drop, take, length, string_bytes, Option, Some, None, is_some, option_and_then}
+use Rattle.std.specs.Prelude.{ℕ, ◌≡◌, ◌==◌, Bool, true, false, ◌&&◌, ◌||◌, if◌then◌else◌, List, [], ◌∷◌, ◌++◌, codes, map, drop, take, length, string_bytes, Option, Some, None, is_some, option_and_then, All}
+use Rattle.std.specs.Fmt.{decimal}
 use Rattle.std.specs.List.{list_any}
+use Rattle.std.specs.Str.{bytes_eq}
 use Rattle.std.specs.Cmp.Lexicographic.{pointwise}
 use Rattle.std.specs.Option.{option_map_or}
 use Rattle.toml.specs.Data.{Data, Members, no_members, get_member, as_array, as_str, as_table}
@@ -8,6 +10,7 @@ use Rattle.evl_scenario.specs.Tables.{all_given, has_only, value_or}
 use Rattle.evl_scenario.specs.Values.{truth_from}
 use Rattle.evl_scenario_orders.specs.declared.asks.Ask.{Ask}
 use Rattle.evl_scenario_orders.specs.declared.asks.Never.{Never}
+use Rattle.evl_scenario_orders.specs.declared.callers.Caller.{Caller}
 
 -- what stands behind the first text in the second, if that begins with it
 abbrev pub behind : List ℕ → List ℕ → Option (List ℕ)
@@ -52,6 +55,18 @@ is_against ask told = (ask.always_ends && some_line is_stuck_line told) || list_
 -- an answer that a caller may never have, as a text
 abbrev pub never_text : Never → List ℕ
 never_text never = string_bytes never.who ++ (codes " -> " ++ string_bytes never.answer)
+
+-- how a caller is told
+abbrev pub caller_text : ℕ → List ℕ
+caller_text who = codes "T" ++ decimal who
+
+-- one of these callers is told so
+abbrev pub is_caller_text : List Caller → List ℕ → Bool
+is_caller_text callers who = list_any (λ caller. bytes_eq (caller_text caller.who.0) who) callers
+
+-- what is asked is asked of these callers
+abbrev pub AreOfCallers : List Caller → List Never → Type 0
+AreOfCallers callers never = All (λ one. is_caller_text callers (string_bytes one.who) ≡ true) never
 
 -- the texts at `never`
 abbrev pub never_in : Option Data → Option (List (List ℕ))

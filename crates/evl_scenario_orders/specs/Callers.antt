@@ -1,5 +1,5 @@
 -- The callers of a scenario as a machine: a caller's step is the kernel's.
-use Rattle.std.specs.Prelude.{ℕ, ◌+◌, Bool, not, ◌&&◌, if◌then◌else◌, List, [], ◌∷◌, ◌++◌, length, map, codes, Option, Some, None, option_and_then, slice_get, slice_index, slice_index_or, slice_set, Result}
+use Rattle.std.specs.Prelude.{ℕ, ◌≡◌, ◌+◌, Bool, not, ◌&&◌, if◌then◌else◌, List, [], ◌∷◌, ◌++◌, length, map, codes, Option, Some, None, option_and_then, Ok, take, drop, slice_get, slice_index, slice_index_or, slice_set, Result}
 use Rattle.evl_base.specs.Reply.{outcome_text}
 use Rattle.evl_base.specs.declared.refusal.Refusal.{Refusal}
 use Rattle.evl_base.specs.declared.reply.Reply.{Reply}
@@ -7,6 +7,7 @@ use Rattle.evl_kernel.specs.States.{State, Handler}
 use Rattle.evl_kernel.specs.Openings.{opening}
 use Rattle.evl_kernel.specs.Replays.{Outcome, stepped}
 use Rattle.evl_kernel.specs.Waits.{is_waiting, has_ended}
+use Rattle.evl_scenario.specs.Scenarios.{Script, scenario_of}
 use Rattle.evl_scenario.specs.declared.steps.Step.{Step}
 use Rattle.evl_orders.specs.Machines.{Machine}
 use Rattle.evl_scenario_orders.specs.declared.callers.Callers.{Callers}
@@ -65,3 +66,14 @@ go c seen n = option_and_then (step_of seen n) (next_step c n (slice_index seen.
 
 abbrev pub machine : Callers → Machine Seen
 machine c = record { callers = length c.callers.items; go = go c }
+
+-- there is a scenario of just this board, limit and steps, of which so many of the first are set up
+pub record IsSetUp (c : Callers) : Type 0 where
+  pub text : List ℕ
+  pub count : ℕ
+  pub script : Script
+  pub scenario : scenario_of None text ≡ Ok script
+  pub board : c.board ≡ script.board
+  pub limit : c.limit ≡ script.limit
+  pub setup : c.setup.items ≡ take count script.steps
+  pub steps : c.steps.items ≡ drop count script.steps

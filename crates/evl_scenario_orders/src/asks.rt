@@ -1,5 +1,5 @@
 //! What is asked of all orders.
-ghost use Rattle.std.specs.Prelude.{◌≡◌, ◌++◌, IfOk, IfSome, IsSomeAnd, Some, codes, false, map, option_and_then, option_map, position, string_bytes};
+ghost use Rattle.std.specs.Prelude.{◌≡◌, ◌++◌, IfOk, IfSome, IsSomeAnd, Some, codes, false, map, option_and_then, option_map, position, string_bytes, true};
 ghost use Rattle.std.specs.BTreeMap.{keys};
 ghost use Rattle.std.specs.List.{list_all, list_any};
 ghost use Rattle.std.specs.Str.{bytes_eq};
@@ -8,9 +8,9 @@ ghost use Rattle.toml.specs.Parse.{parse_document};
 ghost use Rattle.toml.specs.View.{items_view, table_view, view};
 ghost use Rattle.evl_scenario.specs.Tables.{all_given, has_only, value_or};
 ghost use Rattle.evl_scenario.specs.Values.{truth_from};
-ghost use Rattle.evl_scenario_orders.specs.Asks.{Asks, ask_table, is_against, is_line_of, never_in, never_text, some_line};
+ghost use Rattle.evl_scenario_orders.specs.Asks.{AreOfCallers, Asks, ask_table, caller_text, is_against, is_caller_text, is_line_of, is_stuck_line, never_in, never_text, some_line};
 
-use crate::callers::Callers;
+use crate::callers::{Caller, Callers};
 use crate::searches::{Question, begins, behind, is_answered, some_line};
 use crate::splits::split_text;
 use evl_orders::Tally;
@@ -48,14 +48,18 @@ pub enum AskFault {
 }
 
 // Whether a thread is told so.
-fn is_named(alloc: Global, who: &str, number: u16) -> Result<bool, AllocError> {
+fn is_named(alloc: Global, who: &str, number: u16) -> Result<bool, AllocError>
+    ensures { IfOk result (λ named. named ≡ bytes_eq (caller_text number) who.now) }
+{
     let name = format!(in alloc; "T{number}")?;
     Ok(name.as_str() == who)
 }
 
 // Whether a caller is told so.
-fn is_name(alloc: Global, callers: &Callers, who: &str) -> Result<bool, AllocError> {
-    for caller in &callers.callers {
+fn is_name(alloc: Global, callers: &[Caller], who: &str) -> Result<bool, AllocError>
+    ensures { IfOk result (λ named. named ≡ is_caller_text callers.now who.now) }
+{
+    for caller in callers {
         if is_named(alloc, who, caller.who.0)? {
             return Ok(true);
         }
@@ -65,7 +69,8 @@ fn is_name(alloc: Global, callers: &Callers, who: &str) -> Result<bool, AllocErr
 
 // A caller and its answer, as two texts.
 fn never_of(alloc: Global, who: &str, answer: &str) -> Result<Never, AllocError>
-    ensures { IfOk result (λ never. never_text never ≡ who.now ++ (codes " -> " ++ answer.now)) }
+    ensures text { IfOk result (λ never. never_text never ≡ who.now ++ (codes " -> " ++ answer.now)) }
+    ensures who { IfOk result (λ never. string_bytes never.who ≡ who.now) }
 {
     let who = String::from_str(alloc, who)?;
     let answer = String::from_str(alloc, answer)?;
@@ -95,7 +100,8 @@ fn read_never(
     number: usize,
     value: &Value,
 ) -> Result<Never, AskFault>
-    ensures { IfOk result (λ never. as_str (view value.now) ≡ Some (never_text never)) }
+    ensures text { IfOk result (λ never. as_str (view value.now) ≡ Some (never_text never)) }
+    ensures who { IfOk result (λ never. is_caller_text callers.now.callers.items (string_bytes never.who) ≡ true) }
 {
     let Some(text) = value.as_str() else {
         return Err(AskFault::Table);
@@ -103,7 +109,7 @@ fn read_never(
     let Some((who, answer)) = parts_of(text) else {
         return Err(AskFault::Never(number));
     };
-    match is_name(alloc, callers, who) {
+    match is_name(alloc, callers.callers.as_slice(), who) {
         Ok(true) => match never_of(alloc, who, answer) {
             Ok(never) => Ok(never),
             Err(_) => Err(AskFault::Memory),
@@ -115,7 +121,8 @@ fn read_never(
 
 // The answers that these texts stand for.
 fn read_all(alloc: Global, callers: &Callers, values: &[Value]) -> Result<Vec<Never>, AskFault>
-    ensures { IfOk result (λ all. all_given as_str (items_view values.now) ≡ Some (map never_text all.items)) }
+    ensures texts { IfOk result (λ all. all_given as_str (items_view values.now) ≡ Some (map never_text all.items)) }
+    ensures who { IfOk result (λ all. AreOfCallers callers.now.callers.items all.items) }
 {
     let mut all = Vec::new(alloc);
     for value in values {
@@ -141,7 +148,8 @@ fn field<'a>(table: &'a Table, key: &str) -> Option<&'a Value>
 
 // The answers at `never`.
 fn never_at(alloc: Global, callers: &Callers, table: &Table) -> Result<Vec<Never>, AskFault>
-    ensures { IfOk result (λ all. never_in (get_member (codes "never") (table_view table.now)) ≡ Some (map never_text all.items)) }
+    ensures texts { IfOk result (λ all. never_in (get_member (codes "never") (table_view table.now)) ≡ Some (map never_text all.items)) }
+    ensures who { IfOk result (λ all. AreOfCallers callers.now.callers.items all.items) }
 {
     match field(table, "never") {
         Some(value) => match value.as_array() {
@@ -188,7 +196,8 @@ fn has_only_keys(table: &Table, known: &[&str]) -> bool
 
 // What a table `[ask]` asks.
 fn read_table(alloc: Global, callers: &Callers, table: &Table) -> Result<Ask, AskFault>
-    ensures { IfOk result (Asks (table_view table.now)) }
+    ensures asks { IfOk result (Asks (table_view table.now)) }
+    ensures who { IfOk result (λ ask. AreOfCallers callers.now.callers.items ask.never.items) }
 {
     if !has_only_keys(table, &["never", "always_ends"]) {
         return Err(AskFault::Table);
@@ -205,7 +214,8 @@ fn read_table(alloc: Global, callers: &Callers, table: &Table) -> Result<Ask, As
 
 // What a document asks in which nothing stands but `[ask]`.
 fn read_document(alloc: Global, callers: &Callers, document: &Table) -> Result<Ask, AskFault>
-    ensures { IfOk result (λ ask. IsSomeAnd (ask_table (table_view document.now)) (λ table. Asks table ask)) }
+    ensures asks { IfOk result (λ ask. IsSomeAnd (ask_table (table_view document.now)) (λ table. Asks table ask)) }
+    ensures who { IfOk result (λ ask. AreOfCallers callers.now.callers.items ask.never.items) }
 {
     match field(document, "ask") {
         Some(value) => match value.as_table() {
@@ -221,7 +231,8 @@ fn read_document(alloc: Global, callers: &Callers, document: &Table) -> Result<A
 
 // What a text asks that is just the table `[ask]`.
 fn read_text(alloc: Global, callers: &Callers, text: &str) -> Result<Ask, AskFault>
-    ensures { IfOk result (λ ask. IsSomeAnd (option_and_then ask_table (parse_document text.now)) (λ table. Asks table ask)) }
+    ensures asks { IfOk result (λ ask. IsSomeAnd (option_and_then ask_table (parse_document text.now)) (λ table. Asks table ask)) }
+    ensures who { IfOk result (λ ask. AreOfCallers callers.now.callers.items ask.never.items) }
 {
     match toml::table_from_str(alloc, text) {
         Ok(document) => read_document(alloc, callers, &document),
@@ -236,7 +247,9 @@ fn read_text(alloc: Global, callers: &Callers, text: &str) -> Result<Ask, AskFau
 }
 
 /// What the table `[ask]` of a text of callers asks: nothing where there is none.
-pub fn read_ask(alloc: Global, callers: &Callers, bytes: &[u8]) -> Result<Ask, AskFault> {
+pub fn read_ask(alloc: Global, callers: &Callers, bytes: &[u8]) -> Result<Ask, AskFault>
+    ensures who { IfOk result (λ ask. AreOfCallers callers.now.callers.items ask.never.items) }
+{
     let Ok(text) = str::from_utf8(bytes) else {
         return Err(AskFault::Table);
     };
@@ -273,6 +286,13 @@ impl Question for Stuck {
     }
 }
 
+/// Whether a line says that a caller is stuck.
+pub(crate) fn tells_stuck(told: &[u8]) -> bool
+    ensures { result ≡ some_line is_stuck_line told.now }
+{
+    some_line(&Stuck, told)
+}
+
 // Whether a caller has an answer that it may never have.
 fn has_any(never: &[Never], told: &[u8]) -> bool
     ensures { result ≡ list_any (λ one. some_line (is_line_of one) told.now) never.now }
@@ -286,7 +306,7 @@ pub fn is_against(ask: &Ask, told: &str) -> bool
     ensures { result ≡ is_against ask.now told.now }
 {
     let told = told.as_bytes();
-    (ask.always_ends && some_line(&Stuck, told)) || has_any(ask.never.as_slice(), told)
+    (ask.always_ends && tells_stuck(told)) || has_any(ask.never.as_slice(), told)
 }
 
 /// The place of the first outcome that is against what is asked.

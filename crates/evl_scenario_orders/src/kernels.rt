@@ -192,6 +192,11 @@ fn lead<C: Handler>(
     }
 }
 
+/// Lets a kernel go. All that goes with it is proved here once, and not wherever a kernel is done with.
+pub(crate) fn leave<C: Handler>(kernel: KernelOf<C, Global>) {
+    drop(kernel);
+}
+
 // A kernel, led along these steps.
 fn led_on<C: Handler>(
     alloc: Global,
@@ -206,7 +211,10 @@ fn led_on<C: Handler>(
 {
     match lead(alloc, &mut kernel, callers, places) {
         Ok(()) => Ok(kernel),
-        Err(error) => Err(error),
+        Err(error) => {
+            leave(kernel);
+            Err(error)
+        }
     }
 }
 

@@ -5,7 +5,7 @@ ghost use Rattle.evl_scenario_orders.specs.Moments.{seen_at, trailed};
 
 use crate::banks::BankMaker;
 use crate::callers::Callers;
-use crate::kernels::led;
+use crate::kernels::{leave, led};
 use crate::moments::{Moment, are_same, are_same_numbers};
 use evl_kernel::KernelOf;
 use std::alloc::Global;
@@ -22,7 +22,11 @@ fn is_led_alike<B: BankMaker>(
     ensures { result ≡ true → kernel.now.history.state ≡ trailed callers.now (begun callers.now (B.bank bank.now)) places.now }
 {
     match led(alloc, callers, bank, places) {
-        Ok(other) => kernel.is_like(&other),
+        Ok(other) => {
+            let alike = kernel.is_like(&other);
+            leave(other);
+            alike
+        }
         Err(_) => false,
     }
 }
@@ -38,7 +42,11 @@ fn are_led_alike<B: BankMaker>(
     ensures { result ≡ true → trailed callers.now (begun callers.now (B.bank bank.now)) one.now ≡ trailed callers.now (begun callers.now (B.bank bank.now)) other.now }
 {
     match led(alloc, callers, bank, one) {
-        Ok(kernel) => is_led_alike(alloc, callers, bank, &kernel, other),
+        Ok(kernel) => {
+            let alike = is_led_alike(alloc, callers, bank, &kernel, other);
+            leave(kernel);
+            alike
+        }
         Err(_) => false,
     }
 }

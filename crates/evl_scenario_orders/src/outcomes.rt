@@ -3,13 +3,15 @@ ghost use Rattle.std.specs.Prelude.{ℕ, List, ◌≡◌, ◌+◌, ◌*◌, ◌<
 ghost use Rattle.evl_orders.specs.Machines.{orders, runs};
 ghost use Rattle.evl_orders.specs.Tallies.{AreDistinct, told_weight};
 ghost use Rattle.evl_orders.specs.Weights.{total, weight};
+ghost use Rattle.evl_scenario_orders.specs.Asks.{is_stuck_line, some_line};
 ghost use Rattle.evl_scenario_orders.specs.Callers.{Seen, begun, first, machine};
 ghost use Rattle.evl_scenario_orders.specs.Moments.{seen_at, trailed};
 ghost use Rattle.evl_scenario_orders.specs.Told.{told_text};
 
+use crate::asks::tells_stuck;
 use crate::banks::BankMaker;
 use crate::callers::Callers;
-use crate::kernels::led;
+use crate::kernels::{leave, led};
 use crate::moments::{Moment, first_moment};
 use crate::told::told_of;
 use crate::worlds::Driven;
@@ -67,7 +69,11 @@ fn tally_of<B: BankMaker>(
     ensures count { IfOk result (λ tally. tally.count ≡ end.count) }
 {
     match led(alloc, callers, bank, end.at.trail.as_slice()) {
-        Ok(kernel) => tally_at(alloc, &kernel, callers, bank, end),
+        Ok(kernel) => {
+            let tally = tally_at(alloc, &kernel, callers, bank, end);
+            leave(kernel);
+            tally
+        }
         Err(error) => Err(error),
     }
 }
@@ -201,6 +207,8 @@ pub fn outcomes_of<B: BankMaker>(
 }
 
 /// Whether somebody can't go on where just this is told of an outcome.
-pub fn is_stuck(told: &str) -> bool {
-    told.lines().any(|line| line.starts_with("stuck: "))
+pub fn is_stuck(told: &str) -> bool
+    ensures { result ≡ some_line is_stuck_line told.now }
+{
+    tells_stuck(told.as_bytes())
 }

@@ -1,7 +1,7 @@
 //! An order as a scenario.
 use crate::banks::BankMaker;
 use crate::callers::Callers;
-use crate::kernels::led;
+use crate::kernels::{leave, led};
 use evl_kernel::KernelOf;
 use evl_scenario::write_scenario;
 use std::alloc::{AllocError, Global};
@@ -45,7 +45,11 @@ fn scenario_at<B: BankMaker>(
     places: &[usize],
 ) -> Result<String, AllocError> {
     match led(alloc, callers, bank, places) {
-        Ok(kernel) => written(alloc, callers, &kernel),
+        Ok(kernel) => {
+            let text = written(alloc, callers, &kernel);
+            leave(kernel);
+            text
+        }
         Err(error) => Err(error),
     }
 }

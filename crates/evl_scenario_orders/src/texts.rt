@@ -1,5 +1,6 @@
 //! Texts of callers, read.
 ghost use Rattle.std.specs.Prelude.{◌≤◌, ◌+◌, IfOk, length};
+ghost use Rattle.evl_scenario_orders.specs.Callers.{IsSetUp};
 ghost use Rattle.evl_scenario_orders.specs.Shares.{AreCallersOf};
 
 use crate::callers::Callers;
@@ -30,6 +31,9 @@ fn text_of(bytes: &[u8]) -> Result<&str, TextFault> {
 pub fn read_callers(alloc: Global, bytes: &[u8]) -> Result<Callers, TextFault>
     // The history has room for all steps.
     ensures room { IfOk result (λ callers. length callers.setup.items + length callers.steps.items ≤ callers.limit) }
+
+    // Board, limit and steps are those of a scenario, of which the first ones are set up.
+    ensures scenario { IfOk result IsSetUp }
 
     // Each thread that has a step which isn't set up is a caller, with all of these.
     ensures callers { IfOk result (λ callers. AreCallersOf callers.steps.items callers.callers.items) }

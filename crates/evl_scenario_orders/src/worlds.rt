@@ -9,7 +9,7 @@ ghost use Rattle.evl_scenario_orders.specs.Moments.{IsMoment, seen_at, seen_from
 use crate::banks::BankMaker;
 use crate::callers::Callers;
 use crate::digests::{digest_of, standing_of};
-use crate::kernels::{goes_on, led, make_step};
+use crate::kernels::{goes_on, leave, led, make_step};
 use crate::merging::are_merged;
 use crate::moments::{Moment, moment_after};
 use crate::seen::SeenState;
@@ -103,7 +103,7 @@ fn stepped<B: BankMaker>(
 {
     match led(alloc, callers, bank, moment.trail.as_slice()) {
         Ok(mut kernel) => {
-            step_kernel(
+            let next = step_kernel(
                 alloc,
                 &mut kernel,
                 callers,
@@ -112,7 +112,9 @@ fn stepped<B: BankMaker>(
                 caller,
                 place,
                 step,
-            )
+            );
+            leave(kernel);
+            next
         }
         Err(error) => Err(error),
     }

@@ -1,12 +1,13 @@
 //! Plays a scenario into a sink.
-ghost use Rattle.std.specs.Prelude.{◌≡◌, ◌≤◌, length, List, ℕ, [], true, false, Ok, Err, OnOk, OnErr, IfOk, IfErr, drop};
+ghost use Rattle.std.specs.Prelude.{◌≡◌, ◌≤◌, ◌++◌, length, List, ℕ, [], true, false, Ok, Err, OnOk, OnErr, IfOk, IfErr, drop, string_bytes};
 ghost use Rattle.std.specs.Io.KnownBytes.{Appends};
 ghost use Rattle.evl_kernel.specs.Limits.{callback_limit};
 ghost use Rattle.evl_kernel.specs.Callbacks.{AnswersAsTold};
+ghost use Rattle.evl_kernel.specs.KernelViews.{IsOpened};
 ghost use Rattle.evl_shell.specs.Sinks.{Passes};
 ghost use Rattle.evl_scenario.specs.Faults.{IsRefusal};
 ghost use Rattle.evl_shell.specs.Faults.{Stopped, Writes, WritesPart, WritesLines, is_write_fault};
-ghost use Rattle.evl_scenario.specs.Lines.{play_lines};
+ghost use Rattle.evl_scenario.specs.Lines.{AreLines, board_line_of, board_line_text, play_lines};
 ghost use Rattle.evl_shell.specs.Moments as moments;
 ghost use Rattle.evl_shell.specs.Moments.{moment, Turns, Tells};
 ghost use Rattle.evl_shell.specs.Runs.{turn, turn_lines, lines_from, handlers_of, script_trace, trace_of};
@@ -14,7 +15,7 @@ ghost use Rattle.evl_shell.specs.Runs.{turn, turn_lines, lines_from, handlers_of
 use crate::chunks::Chunks;
 use crate::sinks::{Sink, SinkFailed};
 use crate::texts::{Called, Texts};
-use evl_base::{Play, Refusal, Reply};
+use evl_base::{Board, Play, Refusal, Reply};
 use evl_kernel::KernelOf;
 use evl_pipeline::{Callback, Handler};
 use evl_scenario::{Answer, EntryNumber, Fault, Scenario, Step, read_scenario};
@@ -149,6 +150,49 @@ fn play_steps<C: Handler, S: Sink>(
     Ok(())
 }
 
+// Puts the line of a board, which stands in the texts, and plays some steps.
+fn play_opened<C: Handler, S: Sink>(
+    texts: &mut Texts,
+    kernel: &mut KernelOf<C, Global>,
+    steps: Vec<Step>,
+    chunks: &mut Chunks,
+    out: &mut S,
+) -> Result<(), Fault>
+    requires working { S.has_failed out.old ≡ false }
+    requires answering { AnswersAsTold C.declared C.plan kernel.old.callbacks }
+    requires whole { AreLines (string_bytes texts.old.line) }
+    ensures ok { OnOk result (Passes (S.told out.old) chunks.old (S.told out.new) chunks.new (string_bytes texts.old.line ++ lines_from kernel.old.limit (moment kernel.old) steps.items)) }
+    ensures working { OnOk result (S.has_failed out.new ≡ false) }
+    ensures stopped { IfErr result (Stopped (S.told out.old) chunks.old (S.told out.new) (string_bytes texts.old.line ++ lines_from kernel.old.limit (moment kernel.old) steps.items) (S.has_failed out.new)) }
+{
+    match chunks.put(texts.line.as_str(), out) {
+        Ok(()) => {}
+        Err(fault) => return Err(fault),
+    }
+    match play_steps(texts, kernel, steps, chunks, out) {
+        Ok(()) => Ok(()),
+        Err(fault) => Err(fault),
+    }
+}
+
+// Writes the line of a board into the texts, and makes its kernel.
+fn open<C: Handler>(
+    alloc: Global,
+    texts: &mut Texts,
+    board: Board,
+    bank: Vec<C>,
+    limit: u32,
+) -> Result<KernelOf<C, Global>, Refusal>
+    ensures line { OnOk result (string_bytes texts.new.line ≡ board_line_text (board_line_of board limit)) }
+    ensures opened { IfOk result (IsOpened C.declared C.plan board bank.items limit) }
+    ensures answering { IfOk result (λ k. AnswersAsTold C.declared C.plan k.callbacks) }
+{
+    match texts.write_board(&board, limit) {
+        Ok(()) => KernelOf::new(alloc, board, bank, limit),
+        Err(refusal) => Err(refusal),
+    }
+}
+
 // Plays a scenario, but for what waits at the end.
 fn play_scenario<C: Handler, S: Sink>(
     alloc: Global,
@@ -164,19 +208,9 @@ fn play_scenario<C: Handler, S: Sink>(
 {
     let (board, limit, steps) = scenario.into_parts();
     let mut texts = Texts::new(alloc);
-    let Ok(()) = texts.write_board(&board, limit) else {
-        return Err(chunks.give_up(out));
-    };
-    let Ok(mut kernel) = KernelOf::new(alloc, board, bank, limit) else {
-        return Err(chunks.give_up(out));
-    };
-    match chunks.put(texts.line.as_str(), out) {
-        Ok(()) => {}
-        Err(fault) => return Err(fault),
-    }
-    match play_steps(&mut texts, &mut kernel, steps, chunks, out) {
-        Ok(()) => Ok(()),
-        Err(fault) => Err(fault),
+    match open(alloc, &mut texts, board, bank, limit) {
+        Ok(mut kernel) => play_opened(&mut texts, &mut kernel, steps, chunks, out),
+        Err(_) => Err(chunks.give_up(out)),
     }
 }
 
