@@ -98,7 +98,12 @@ static void make_call(evl_kernel *kernel) {
   evl_call call = draw_call();
   size_t length = call.kind == EVL_CALL_WRITE || call.kind == EVL_CALL_BEGIN_WRITE ? draw(draw(9) == 0 ? 257 : 9) : 0;
   for (size_t it = 0; it < length; it++) bytes[it] = (uint8_t)draw(256);
-  evl_answer answer = evl_do_bytes(kernel, (uint16_t)(draw(50) == 0 ? draw(65536) : draw(4)), call, bytes, length, read, 256);
+  uint16_t who = (uint16_t)(draw(50) == 0 ? draw(65536) : draw(4));
+  /* half of the calls that may have an element and nothing else go the short way */
+  bool bare = (EVL_BARE_KINDS >> call.kind & 1) != 0 && draw(2) == 0;
+  if (bare) call = evl_call_of(call.kind, call.element);
+  require(!bare || evl_is_bare(call), "a call that has more");
+  evl_answer answer = bare ? evl_do(kernel, who, call) : evl_do_bytes(kernel, who, call, bytes, length, read, 256);
   require(answer.kind != EVL_NOT_CALLED, "a call that wasn't made");
   if (answer.refusal == EVL_REFUSAL_HISTORY_FULL) return;
   tell_answer(&answer, read);
@@ -169,6 +174,25 @@ static void try_seed(uint64_t seed, uint32_t calls, const char *folder) {
   evl_close(&other);
 }
 
+/* Which kinds go the short way is the same to both sides, and no other number makes a call. */
+static void try_bare(void) {
+  evl_kernel none = EVL_NO_KERNEL;
+  evl_call call = evl_call_put(0);
+  for (unsigned kind = 0; kind < 256; kind++) {
+    bool bare = kind < 64 && (EVL_BARE_KINDS >> kind & 1) != 0;
+    evl_answer answer = {3, 3, true, 3, 3, 3, 3, 3}, not_called = evl_not_called(bare ? EVL_NULL : EVL_BAD_NUMBER);
+    require(evl_c_apply_bare(&none, 0, (uint8_t)kind, 0, &answer) == not_called.number, "a kind");
+    require(answer.kind == not_called.kind && answer.number == not_called.number && answer.thread == -1 &&
+                answer.refusal == 0 && !answer.more && answer.count == 0 && answer.first_play == 0 && answer.plays == 0,
+            "an answer without a call");
+    require(evl_is_bare(evl_call_of(kind, 9)) == bare, "a kind to C");
+  }
+  require(evl_do(NULL, 0, call).number == EVL_NULL && evl_do(&none, 0, call).kind == EVL_NOT_CALLED, "no kernel");
+  require(!evl_is_bare(evl_until(evl_call_begin_get(0), 0)), "a deadline");
+  call.stage = 9;
+  require(!evl_is_bare(call) && evl_do(&none, 0, call).number == EVL_BAD_NUMBER, "stage 9 of a put");
+}
+
 /* Null pointers, no kernel, short buffers, and numbers out of their ranges. */
 static void try_refusals(void) {
   evl_kernel kernel = EVL_NO_KERNEL;
@@ -211,6 +235,7 @@ int main(int count, char **words) {
   uint32_t seeds = count > 2 ? (uint32_t)strtoul(words[2], NULL, 10) : 100;
   uint32_t calls = count > 3 ? (uint32_t)strtoul(words[3], NULL, 10) : 1000;
   try_refusals();
+  try_bare();
   for (uint32_t seed = 0; seed < seeds; seed++) try_seed(seed, calls, words[1]);
   printf("%" PRIu32 " kernels of %" PRIu32 " calls\n", seeds, calls);
   return EXIT_SUCCESS;

@@ -183,6 +183,8 @@ uint32_t evl_c_open(const evl_board *board, const evl_plan *plans, size_t plan_c
 void evl_c_close(evl_kernel *kernel);
 uint32_t evl_c_apply(evl_kernel *kernel, uint16_t caller, const evl_call *call, const uint8_t *bytes, size_t length,
                      uint8_t *out, size_t out_length, evl_answer *answer);
+/* A call of EVL_BARE_KINDS; but for EVL_DONE nothing is called, and *answer says so as evl_do does. */
+uint32_t evl_c_apply_bare(evl_kernel *kernel, uint16_t caller, uint8_t kind, uint16_t element, evl_answer *answer);
 uint32_t evl_c_event(evl_kernel *kernel, size_t index, evl_event *event);
 uint32_t evl_c_ask(evl_kernel *kernel, const evl_question *question, evl_reading *reading);
 uint32_t evl_c_trace(evl_kernel *kernel, size_t start, uint8_t *out, size_t out_length, size_t *length);
@@ -265,18 +267,49 @@ static inline uint32_t evl_apply(evl_kernel *kernel, uint16_t who, const evl_cal
   return evl_c_apply(kernel, who, call, bytes == NULL ? &none : bytes, length, out == NULL ? &none : out, out_length, answer);
 }
 
-/* The same with the answer as the result; where nothing was called its kind is EVL_NOT_CALLED. */
-static inline evl_answer evl_do_bytes(evl_kernel *kernel, uint16_t who, evl_call call, const uint8_t *bytes, size_t length,
-                                      uint8_t *out, size_t out_length) {
+/* Inlined also where a compiler would rather not, so that what is known of a call where it stands costs nothing. */
+#if defined(__GNUC__)
+#define EVL_INLINE static inline __attribute__((always_inline))
+#else
+#define EVL_INLINE static inline
+#endif
+
+/* What evl_do answers where nothing was called. */
+static inline evl_answer evl_not_called(uint32_t status) {
   evl_answer answer = {0, EVL_NOT_CALLED, false, -1, 0, 0, 0, 0};
-  uint32_t status = evl_apply(kernel, who, &call, bytes, length, out, out_length, &answer);
-  if (status != EVL_DONE) answer.number = status;
+  answer.number = status;
   return answer;
 }
 
+/* The same with the answer as the result; where nothing was called its kind is EVL_NOT_CALLED. */
+EVL_INLINE evl_answer evl_do_bytes(evl_kernel *kernel, uint16_t who, evl_call call, const uint8_t *bytes, size_t length,
+                                      uint8_t *out, size_t out_length) {
+  evl_answer answer;
+  uint32_t status = evl_apply(kernel, who, &call, bytes, length, out, out_length, &answer);
+  if (status != EVL_DONE) answer = evl_not_called(status);
+  return answer;
+}
+
+/* Whether a call has an element and nothing else, so that evl_c_apply_bare makes it in fewer steps. */
+#define EVL_KIND_BIT(kind) (UINT64_C(1) << (kind))
+#define EVL_BARE_KINDS                                                                                                       \
+  (EVL_KIND_BIT(EVL_CALL_ARRIVE) | EVL_KIND_BIT(EVL_CALL_STOP_TIMER) | EVL_KIND_BIT(EVL_CALL_DROP_TIMER) |                   \
+   EVL_KIND_BIT(EVL_CALL_OVERRUNS) | EVL_KIND_BIT(EVL_CALL_RANK_OF) | EVL_KIND_BIT(EVL_CALL_TRY_GET) |                       \
+   EVL_KIND_BIT(EVL_CALL_PUT) | EVL_KIND_BIT(EVL_CALL_PEEK) | EVL_KIND_BIT(EVL_CALL_BEGIN_GET) |                             \
+   EVL_KIND_BIT(EVL_CALL_PEEK_FLAGS) | EVL_KIND_BIT(EVL_CALL_RELEASE) | EVL_KIND_BIT(EVL_CALL_RAISE))
+EVL_INLINE bool evl_is_bare(evl_call call) {
+  return call.kind <= EVL_CALL_FINISH && (EVL_BARE_KINDS >> call.kind & 1) != 0 &&
+         (call.stage | call.way | call.choice | call.prio | call.callback | call.timed | call.other) == 0 &&
+         call.bits == 0 && (call.date | call.span) == 0;
+}
+
 /* The same of a call without bytes. */
-static inline evl_answer evl_do(evl_kernel *kernel, uint16_t who, evl_call call) {
-  return evl_do_bytes(kernel, who, call, NULL, 0, NULL, 0);
+EVL_INLINE evl_answer evl_do(evl_kernel *kernel, uint16_t who, evl_call call) {
+  evl_answer answer;
+  if (!evl_is_bare(call)) return evl_do_bytes(kernel, who, call, NULL, 0, NULL, 0);
+  if (kernel == NULL) return evl_not_called(EVL_NULL);
+  (void)evl_c_apply_bare(kernel, who, call.kind, call.element, &answer);
+  return answer;
 }
 
 /*

@@ -87,6 +87,19 @@ told (Err refusal) = refused_form refusal
 abbrev pub answer_form : Result Reply Refusal → ℕ → ℕ → AnswerForm
 answer_form answer first_play plays = record (told answer) { first_play = first_play; plays = plays }
 
+-- what is told where nothing was called, for this status
+abbrev pub not_called : ℕ → AnswerForm
+not_called status = record {
+  refusal = 0;
+  kind = 255;
+  more = false;
+  thread = negsuc 0;
+  count = pos 0;
+  number = status;
+  first_play = 0;
+  plays = 0;
+}
+
 -- the bytes that an answer brings
 abbrev pub bytes_of : Result Reply Refusal → List ℕ
 bytes_of (Ok (Bytes bytes)) = bytes.items

@@ -1,5 +1,5 @@
 -- Which calls C's forms are.
-use Rattle.std.specs.Prelude.{ℕ, Bool, nat_le, nat_eq, not, ◌&&◌, List, length, Option, Some, None, if◌then◌else◌}
+use Rattle.std.specs.Prelude.{ℕ, Bool, nat_le, nat_eq, not, ◌&&◌, ◌||◌, List, length, Option, Some, None, if◌then◌else◌}
 use Rattle.evl_base.specs.declared.call.Call.{Call}
 use Rattle.evl_base.specs.declared.call.Call.TheVariants.{Request, Free, Arrive, Post, Stall, Unstall, Tick, Now, NewTimer, StartTimer, StopTimer, DropTimer, Overruns, Attach, Detach, SetPolicy, SetStage, Pick, RankOf, TryGet, Put, Peek, BeginGet, TryTake, PostFlags, PeekFlags, BeginTake, Write, Read, Room, BeginWrite, BeginRead, Claim, Release, Raise, Finish}
 use Rattle.evl_base.specs.declared.policy.Policy.{Policy}
@@ -115,3 +115,30 @@ call_of form bytes =
     if nat_eq form.kind 27 then Write (record { 0 = form.element }) (way_of form) (record { items = bytes }) else
     if nat_eq form.kind 30 then BeginWrite (record { 0 = form.element }) (way_of form) (record { items = bytes }) (until_of form) else
     plain_call form
+
+-- kinds of calls on semaphores, flag groups and mutexes that have an element and nothing else: a `begin_get` where it has no
+-- deadline
+abbrev pub is_bare_sync : ℕ → Bool
+is_bare_sync kind = nat_eq kind 19 || (nat_eq kind 20 || (nat_eq kind 21 || (nat_eq kind 22 || (nat_eq kind 25
+    || (nat_eq kind 33 || nat_eq kind 34)))))
+
+-- the same of all calls
+abbrev pub is_bare : ℕ → Bool
+is_bare kind = nat_eq kind 2 || (nat_eq kind 10 || (nat_eq kind 11 || (nat_eq kind 12 || (nat_eq kind 18 || is_bare_sync kind))))
+
+-- the form of such a call
+abbrev pub bare_form : ℕ → ℕ → CallForm
+bare_form kind element = record {
+  kind = kind;
+  stage = 0;
+  way = 0;
+  choice = 0;
+  prio = 0;
+  callback = 0;
+  timed = 0;
+  element = element;
+  other = 0;
+  bits = 0;
+  date = 0;
+  span = 0;
+}

@@ -1,7 +1,9 @@
 //! What calls answered and played, for C.
 ghost use Rattle.std.specs.Prelude.{◌≡◌};
 ghost use Rattle.evl_c.specs.Answers as answers;
+ghost use Rattle.evl_c.specs.Windows.{window};
 
+use crate::windows::put_window;
 use evl_base::{Play, Refusal, Reply, Stage, ThreadId};
 
 /// What a call answered (include/evl.h: `evl_answer`).
@@ -10,7 +12,7 @@ use evl_base::{Play, Refusal, Reply, Stage, ThreadId};
 pub struct AnswerForm {
     /// The number of the refusal; 0 where the call wasn't refused.
     pub refusal: u16,
-    /// The kind of the answer: 0 where the call was refused, else 1 to 9.
+    /// The kind of the answer: 0 where the call was refused, else 1 to 9; 255 where nothing was called.
     pub kind: u8,
     /// Whether more threads wait for a mutex.
     pub more: bool,
@@ -130,8 +132,8 @@ fn told(answer: &Result<Reply, Refusal>) -> AnswerForm
     }
 }
 
-/// What an answer tells, with where its plays are.
-pub fn answer_form(answer: &Result<Reply, Refusal>, first_play: usize, plays: usize) -> AnswerForm
+// What an answer tells, with where its plays are.
+fn answer_form(answer: &Result<Reply, Refusal>, first_play: usize, plays: usize) -> AnswerForm
     ensures { result ≡ answers.answer_form answer.now first_play plays }
 {
     AnswerForm {
@@ -141,13 +143,75 @@ pub fn answer_form(answer: &Result<Reply, Refusal>, first_play: usize, plays: us
     }
 }
 
-/// The bytes of an answer.
-pub fn bytes_of(answer: &Result<Reply, Refusal>) -> &[u8]
+/// What is told where nothing was called, for this status.
+pub fn not_called(status: u32) -> AnswerForm
+    ensures { result ≡ answers.not_called status }
+{
+    AnswerForm {
+        refusal: 0,
+        kind: 255,
+        more: false,
+        thread: -1,
+        count: 0,
+        number: u64::from(status),
+        first_play: 0,
+        plays: 0,
+    }
+}
+
+// The bytes of an answer.
+fn bytes_of(answer: &Result<Reply, Refusal>) -> &[u8]
     ensures { result.now ≡ answers.bytes_of answer.now }
 {
     match answer {
         Ok(Reply::Bytes(bytes)) => bytes.as_slice(),
         _ => &[],
+    }
+}
+
+// Tells of any answer, which ends here. It stands by itself, so that the short way of `tell` pays nothing for it.
+#[inline(never)]
+fn tell_any(
+    answer: Result<Reply, Refusal>,
+    first_play: usize,
+    plays: usize,
+    out: &mut [u8],
+    form: &mut AnswerForm,
+)
+    ensures told { form.new ≡ answers.answer_form answer first_play plays }
+    ensures bytes { out.new ≡ window (answers.bytes_of answer) 0 out.old }
+{
+    put_window(bytes_of(&answer), 0, out);
+    *form = answer_form(&answer, first_play, plays);
+}
+
+/// Tells of an answer, with where its plays are, and puts its bytes into a buffer. Most calls are done and tell nothing
+/// else: for them there is a short way. The answer comes by value, so that it is stored for the long way alone.
+#[inline(always)]
+pub fn tell(
+    answer: Result<Reply, Refusal>,
+    first_play: usize,
+    plays: usize,
+    out: &mut [u8],
+    form: &mut AnswerForm,
+)
+    ensures told { form.new ≡ answers.answer_form answer first_play plays }
+    ensures bytes { out.new ≡ window (answers.bytes_of answer) 0 out.old }
+{
+    match answer {
+        Ok(Reply::Done) => {
+            *form = AnswerForm {
+                refusal: 0,
+                kind: 1,
+                more: false,
+                thread: -1,
+                count: 0,
+                number: 0,
+                first_play,
+                plays,
+            };
+        }
+        other => tell_any(other, first_play, plays, out, form),
     }
 }
 

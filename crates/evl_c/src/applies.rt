@@ -1,28 +1,28 @@
 //! Calls of kernels for C.
-ghost use Rattle.std.specs.Prelude.{◌≡◌, ◌≢◌, ◌↔◌, false, true, None, Some, Err, IfErr, IfOk, IfSome, IsSomeAnd, option_map, slice_get};
+ghost use Rattle.std.specs.Prelude.{◌≡◌, ◌≢◌, ◌↔◌, [], false, true, None, Some, Err, IfErr, IfOk, IfSome, IsSomeAnd, option_map, slice_get};
 ghost use Rattle.evl_c.specs.Answers as answers;
 ghost use Rattle.evl_c.specs.Applies.{Applied, Applies};
 ghost use Rattle.evl_c.specs.Calls as calls;
 ghost use Rattle.evl_c.specs.Handles.{held};
 ghost use Rattle.evl_c.specs.Statuses.{brings_bytes, is_among, of_apply, of_look};
 
-use crate::answers::{AnswerForm, PlayForm, answer_form, bytes_of, play_form};
+use crate::answers::{AnswerForm, PlayForm, not_called, play_form, tell};
+use crate::bare::bare_call;
 use crate::calls::{CallForm, is_call, read_call};
 use crate::handles::KernelHandle;
 use crate::held::Held;
-use crate::windows::put_window;
 use evl_base::{Call, ThreadId};
 use std::alloc::Global;
 
 // Makes a call, puts the bytes that it brought into a buffer, and tells of it.
-fn make_call(kernel: &mut Held, caller: u16, call: Call, out: &mut [u8]) -> AnswerForm
-    ensures { Applied kernel.old kernel.new caller call out.old out.new result }
+#[inline(always)]
+fn make_call(kernel: &mut Held, caller: u16, call: Call, out: &mut [u8], form: &mut AnswerForm)
+    ensures { Applied kernel.old kernel.new caller call out.old out.new form.new }
 {
     let before = kernel.kernel().plays().len();
     let answer = kernel.apply(ThreadId(caller), call);
     let after = kernel.kernel().plays().len();
-    put_window(bytes_of(&answer), 0, out);
-    answer_form(&answer, before, after.saturating_sub(before))
+    tell(answer, before, after.saturating_sub(before), out, form);
 }
 
 /// Makes a call of a thread, with these bytes where it is a write; the bytes that it brings go into the buffer, as many
@@ -57,7 +57,39 @@ pub extern "C" fn evl_c_apply(
         kernel.put(there);
         return 4;
     };
-    *answer = make_call(&mut there, caller, made, out);
+    make_call(&mut there, caller, made, out, answer);
+    kernel.put(there);
+    0
+}
+
+/// Makes a call of a thread that has an element and nothing else, as `evl_c_apply` does, in fewer steps.
+///
+/// 0: the call is answered, or refused, as `answer` tells. 6: no kernel is there. 7: calls of this kind have more. But
+/// for 0 nothing is done, and `answer` says so.
+#[unsafe(no_mangle)]
+pub extern "C" fn evl_c_apply_bare(
+    alloc: Global,
+    kernel: &mut KernelHandle,
+    caller: u16,
+    kind: u8,
+    element: u16,
+    answer: &mut AnswerForm,
+) -> u32
+    ensures applied { result ≡ 0 → Applies (held kernel.old) (held kernel.new) caller (calls.call_of (calls.bare_form kind element) []) [] [] answer.new }
+    ensures numbers { (result ≡ 7) ↔ (calls.is_bare kind ≡ false) }
+    ensures none { (result ≡ 6) ↔ ((calls.is_bare kind ≡ true) × (held kernel.old ≡ None)) }
+    ensures statuses { is_among of_look result ≡ true }
+    ensures refused { result ≢ 0 → (held kernel.new ≡ held kernel.old) × (answer.new ≡ answers.not_called result) }
+{
+    let Some(made) = bare_call(kind, element) else {
+        *answer = not_called(7);
+        return 7;
+    };
+    let Some(mut there) = kernel.take(alloc) else {
+        *answer = not_called(6);
+        return 6;
+    };
+    make_call(&mut there, caller, made, &mut [], answer);
     kernel.put(there);
     0
 }

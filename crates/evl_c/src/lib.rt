@@ -5,6 +5,7 @@
 mod answers;
 mod applies;
 mod asks;
+mod bare;
 mod boards;
 mod calls;
 mod forms;
@@ -20,7 +21,7 @@ mod texts;
 mod windows;
 
 pub use answers::{AnswerForm, PlayForm};
-pub use applies::{evl_c_apply, evl_c_event};
+pub use applies::{evl_c_apply, evl_c_apply_bare, evl_c_event};
 pub use asks::evl_c_ask;
 pub use boards::{BoardForm, MutexForm, RingsForm};
 pub use calls::CallForm;
