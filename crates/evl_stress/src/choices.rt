@@ -136,7 +136,7 @@ fn request(dice: &mut Dice) -> Call {
     }
 }
 
-fn of_lines(dice: &mut Dice) -> Call {
+fn line_call(dice: &mut Dice) -> Call {
     match dice.below(8) {
         0 | 1 => request(dice),
         2 => Call::Free {
@@ -161,7 +161,7 @@ fn start(dice: &mut Dice, date: u64) -> Call {
     }
 }
 
-fn of_clock(dice: &mut Dice, date: u64) -> Call {
+fn clock_call(dice: &mut Dice, date: u64) -> Call {
     match dice.below(9) {
         0 | 1 => Call::Tick {
             delta: dice.time(TICK),
@@ -178,7 +178,7 @@ fn of_clock(dice: &mut Dice, date: u64) -> Call {
     }
 }
 
-fn of_threads(dice: &mut Dice) -> Call {
+fn thread_call(dice: &mut Dice) -> Call {
     match dice.below(10) {
         0..=3 => attach(dice),
         4 => Call::Detach,
@@ -193,7 +193,7 @@ fn of_threads(dice: &mut Dice) -> Call {
     }
 }
 
-fn of_sems(dice: &mut Dice) -> Call {
+fn semaphore_call(dice: &mut Dice) -> Call {
     match dice.below(4) {
         0 => Call::TryGet { sem: sem(dice) },
         1 | 2 => Call::Put { sem: sem(dice) },
@@ -201,7 +201,7 @@ fn of_sems(dice: &mut Dice) -> Call {
     }
 }
 
-fn of_flags(dice: &mut Dice) -> Call {
+fn flag_call(dice: &mut Dice) -> Call {
     match dice.below(4) {
         0 => Call::TryTake {
             flags: flags(dice),
@@ -226,7 +226,7 @@ fn write(dice: &mut Dice, alloc: Global) -> Call {
     }
 }
 
-fn of_xbufs(dice: &mut Dice, alloc: Global) -> Call {
+fn cross_buffer_call(dice: &mut Dice, alloc: Global) -> Call {
     match dice.below(4) {
         0 | 1 => write(dice, alloc),
         2 => Call::Read {
@@ -242,7 +242,7 @@ fn of_xbufs(dice: &mut Dice, alloc: Global) -> Call {
 }
 
 /// What no caller may ask for by a call of its own.
-fn of_mutexes(dice: &mut Dice, date: u64) -> Call {
+fn mutex_call(dice: &mut Dice, date: u64) -> Call {
     match dice.below(3) {
         0 => Call::Claim {
             mutex: mutex(dice),
@@ -257,13 +257,13 @@ fn of_mutexes(dice: &mut Dice, date: u64) -> Call {
 /// A call that begins no wait, where the date is about this.
 pub fn any_call(dice: &mut Dice, alloc: Global, date: u64) -> Call {
     match dice.below(16) {
-        0..=3 => of_lines(dice),
-        4..=6 => of_clock(dice, date),
-        7 | 8 => of_threads(dice),
-        9 | 10 => of_sems(dice),
-        11 | 12 => of_flags(dice),
-        13 | 14 => of_xbufs(dice, alloc),
-        _ => of_mutexes(dice, date),
+        0..=3 => line_call(dice),
+        4..=6 => clock_call(dice, date),
+        7 | 8 => thread_call(dice),
+        9 | 10 => semaphore_call(dice),
+        11 | 12 => flag_call(dice),
+        13 | 14 => cross_buffer_call(dice, alloc),
+        _ => mutex_call(dice, date),
     }
 }
 

@@ -45,6 +45,15 @@ impl Step {
             None => Step::Enter,
         }
     }
+
+    /// The call that gives a mutex back in the way that a number names.
+    pub fn unlocking(way: u32) -> Step {
+        if way == 0 {
+            Step::UnlockFast
+        } else {
+            Step::Unlock
+        }
+    }
 }
 
 /// How a call was answered, as a number: that of its refusal, or one of those here.
@@ -68,14 +77,16 @@ pub struct Event {
     pub ended: u32,
 }
 
-pub fn of_try(answer: &Result<MutexPass, Refusal>) -> u16 {
+/// The answer to what gives a pass: a try of a mutex, or the entering of a stax.
+pub fn pass_answer<P>(answer: &Result<P, Refusal>) -> u16 {
     match answer {
         Ok(_) => PASSED,
         Err(refusal) => refusal.number(),
     }
 }
 
-pub fn of_begin(answer: &Result<Begun, Refusal>) -> u16 {
+/// The answer to the beginning of a wait for a mutex.
+pub fn begin_answer(answer: &Result<Begun, Refusal>) -> u16 {
     match answer {
         Ok(Begun::Locked(_)) => PASSED,
         Ok(Begun::Waiting) => WAITS,
@@ -83,7 +94,8 @@ pub fn of_begin(answer: &Result<Begun, Refusal>) -> u16 {
     }
 }
 
-pub fn of_end(answer: &Result<Ended, Refusal>) -> u16 {
+/// The answer to the end of a wait for a mutex.
+pub fn end_answer(answer: &Result<Ended, Refusal>) -> u16 {
     match answer {
         Ok(Ended::Locked(_)) => PASSED,
         Ok(Ended::TimedOut) => TIMED_OUT,
@@ -91,21 +103,16 @@ pub fn of_end(answer: &Result<Ended, Refusal>) -> u16 {
     }
 }
 
-pub fn of_unlock(answer: &Result<(), (Refusal, MutexPass)>) -> u16 {
+/// The answer to giving a mutex back.
+pub fn unlock_answer(answer: &Result<(), (Refusal, MutexPass)>) -> u16 {
     match answer {
         Ok(()) => PASSED,
         Err((refusal, _)) => refusal.number(),
     }
 }
 
-pub fn of_enter(answer: &Result<StaxPass, Refusal>) -> u16 {
-    match answer {
-        Ok(_) => PASSED,
-        Err(refusal) => refusal.number(),
-    }
-}
-
-pub fn of_leave(answer: &Result<bool, (Refusal, StaxPass)>) -> u16 {
+/// The answer to the leaving of a stax.
+pub fn leave_answer(answer: &Result<bool, (Refusal, StaxPass)>) -> u16 {
     match answer {
         Ok(true) => LAST,
         Ok(false) => PASSED,

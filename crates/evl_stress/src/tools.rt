@@ -1,9 +1,9 @@
 //! What a host thread has beside its caller.
-use crate::choices::until;
+use crate::choices::{any_call, until};
 use crate::dice::Dice;
 use crate::events::{Event, Step};
 use crate::watch::Watch;
-use evl_base::{MutexId, Refusal, Reply, Stage};
+use evl_base::{Call, MutexId, Refusal, Reply, Stage};
 use evl_words::{MutexPass, StaxPass};
 use std::alloc::Global;
 
@@ -126,6 +126,11 @@ impl Tools {
     /// Whether a wait that it ends leaves it where it is.
     pub fn keeps_stage(&self) -> bool {
         self.has_lost || !self.staxes.is_empty() || !self.mutexes.is_empty()
+    }
+
+    /// A call that begins no wait.
+    pub fn any_call(&mut self) -> Call {
+        any_call(&mut self.dice, self.alloc, self.date)
     }
 
     /// A date that comes.

@@ -1,6 +1,6 @@
 //! Words are shared by host threads, and seats move from one to another.
 use evl_base::{MutexId, StaxId};
-use evl_words::{MutexSeat, MutexWord, StaxGate, StaxSeat};
+use evl_words::{MutexWord, StaxGate};
 
 fn moved<T: Send>(value: T) -> T {
     value
@@ -10,36 +10,11 @@ fn shared<T: Sync>(_value: &T) -> bool {
     true
 }
 
-fn moved_stax_seat(seat: StaxSeat) -> StaxSeat {
-    moved(seat)
-}
-
-fn moved_mutex_seat(seat: MutexSeat) -> MutexSeat {
-    moved(seat)
-}
-
-fn shared_gate(gate: &StaxGate) -> bool {
-    shared(gate)
-}
-
-fn shared_word(word: &MutexWord) -> bool {
-    shared(word)
-}
-
-fn stax_seat_moves(seats: &mut Vec<StaxSeat>) -> bool {
+// Whether there is a seat, which moves.
+fn seat_moves<S: Send + Drop>(seats: &mut Vec<S>) -> bool {
     match seats.pop() {
         Some(seat) => {
-            let _seat = moved_stax_seat(seat);
-            true
-        }
-        None => false,
-    }
-}
-
-fn mutex_seat_moves(seats: &mut Vec<MutexSeat>) -> bool {
-    match seats.pop() {
-        Some(seat) => {
-            let _seat = moved_mutex_seat(seat);
+            let _seat = moved(seat);
             true
         }
         None => false,
@@ -49,12 +24,12 @@ fn mutex_seat_moves(seats: &mut Vec<MutexSeat>) -> bool {
 #[test]
 fn words_are_shared_and_seats_move(rt: HostRuntime) {
     let of_gate = match StaxGate::new(rt.alloc(), StaxId(0), 1, 1) {
-        Ok((gate, mut seats)) => stax_seat_moves(&mut seats) && shared_gate(&gate),
+        Ok((gate, mut seats)) => seat_moves(&mut seats) && shared(&gate),
         Err(_) => false,
     };
     assert!(rt; of_gate);
     let of_word = match MutexWord::new(rt.alloc(), MutexId(0), false, 1) {
-        Ok((word, mut seats)) => mutex_seat_moves(&mut seats) && shared_word(&word),
+        Ok((word, mut seats)) => seat_moves(&mut seats) && shared(&word),
         Err(_) => false,
     };
     assert!(rt; of_word);

@@ -1,10 +1,9 @@
-//! The mutex word's rows.
+//! The mutex word's rows as data: which seat does what, and what it is told.
 ghost use Rattle.std.specs.Prelude.{◌≡◌, ◌<◌, true, All, IfOk, IfSome, length};
 ghost use Rattle.evl_words.specs.MutexCalls.{IsPassOf, IsSeatOf, IsSameSeat};
 
-mod closing;
 mod making;
-mod widest;
+mod rows;
 
 use evl_base::{MutexId, Refusal, ThreadId};
 use evl_words::{Claim, MutexPass, MutexSeat, MutexWord, Unlock};
@@ -200,8 +199,14 @@ fn answers(
     true
 }
 
-// A round of a row: how often its steps are made.
-type Round<'a> = (u16, &'a [Step]);
+// A part of a row.
+#[derive(Clone, Copy)]
+enum Part<'a> {
+    // Steps that are made so often.
+    Steps(u16, &'a [Step]),
+    // The seat of this number claims a free mutex, and settles only once the others' steps are made.
+    Win(u16, &'a [Step]),
+}
 
 // The same of the steps so often.
 fn round_answers(
@@ -209,145 +214,19 @@ fn round_answers(
     count: u16,
     seats: &mut Vec<MutexSeat>,
     passes: &mut Vec<MutexPass>,
-    round: &Round<'_>,
+    times: u16,
+    steps: &[Step],
 ) -> bool
     requires count { word.now.seats ≡ count }
     requires mine { All (λ seat. IsSeatOf seat word.now) seats.old.items }
     ensures mine { All (λ seat. IsSeatOf seat word.now) seats.new.items }
 {
-    for _ in 0..round.0 {
-        if !answers(word, count, seats, passes, round.1) {
+    for _ in 0..times {
+        if !answers(word, count, seats, passes, steps) {
             return false;
         }
     }
     true
-}
-
-// The same of one round after another.
-fn all_answer(
-    word: &MutexWord,
-    count: u16,
-    seats: &mut Vec<MutexSeat>,
-    passes: &mut Vec<MutexPass>,
-    rounds: &[Round<'_>],
-) -> bool
-    requires count { word.now.seats ≡ count }
-    requires mine { All (λ seat. IsSeatOf seat word.now) seats.old.items }
-    ensures mine { All (λ seat. IsSeatOf seat word.now) seats.new.items }
-{
-    for round in rounds {
-        if !round_answers(word, count, seats, passes, round) {
-            return false;
-        }
-    }
-    true
-}
-
-// The word at which a mutex of so many seats stands once the rounds were made; none where a step isn't answered as it
-// is wanted.
-fn word_after(alloc: Global, recursive: bool, count: u16, rounds: &[Round<'_>]) -> Option<u64> {
-    match made(alloc, recursive, count) {
-        Ok((word, mut seats)) => {
-            if all_answer(&word, count, &mut seats, &mut Vec::new(alloc), rounds) {
-                Some(word.close(seats))
-            } else {
-                None
-            }
-        }
-        Err(_) => None,
-    }
-}
-
-// The same of a mutex of three seats that doesn't nest, whose steps are made once.
-fn word_of_three(alloc: Global, steps: &[Step]) -> Option<u64> {
-    word_after(alloc, false, 3, &[(1, steps)])
-}
-
-// Whether the word is the one that is wanted after so many of the steps, each time from the beginning.
-fn words_are(alloc: Global, steps: &[Step], wanted: &[(usize, u64)]) -> bool {
-    for (count, word) in wanted {
-        let Some(some) = steps.get(..*count) else {
-            return false;
-        };
-        if word_of_three(alloc, some) != Some(*word) {
-            return false;
-        }
-    }
-    true
-}
-
-// Row mutex_word_claim, up to the claim.
-const BEFORE_THE_CLAIM: [Step; 3] = [
-    (0, Act::Try, Told::Passed),
-    (1, Act::Try, Told::Refused(Refusal::Busy)),
-    (0, Act::Unlock, Told::Done),
-];
-
-// The word at which the mutex of row mutex_word_claim stands once seat 1 has settled and so many of the steps behind
-// that were made.
-fn word_of_claim_row(alloc: Global, after: usize) -> Option<u64> {
-    match made(alloc, false, 3) {
-        Ok((word, mut seats)) => {
-            if claim_row(&word, &mut seats, &mut Vec::new(alloc), after) {
-                Some(word.close(seats))
-            } else {
-                None
-            }
-        }
-        Err(_) => None,
-    }
-}
-
-// Row mutex_word_claim: the words.
-#[test]
-fn a_claim_wins_a_free_mutex(rt: HostRuntime) {
-    let claim = [(1, Act::Claim, Told::Found(Claim::Won))];
-    let rounds: [Round<'_>; 2] = [(1, &BEFORE_THE_CLAIM), (1, &claim)];
-    assert!(rt; word_after(rt.alloc(), false, 3, &rounds) == Some(2147483648));
-    for (after, word) in [(0, 2), (1, 0), (2, 3)] {
-        assert!(rt; word_of_claim_row(rt.alloc(), after) == Some(word));
-    }
-}
-
-// Row mutex_word_1: the words.
-#[test]
-fn a_claimed_mutex_is_handed_on(rt: HostRuntime) {
-    let queued = Told::Found(Claim::Queued(ThreadId(0)));
-    let steps = [
-        (0, Act::Try, Told::Passed),
-        (1, Act::Claim, queued),
-        (2, Act::Claim, queued),
-        (0, Act::Unlock, Told::Claimed),
-        (0, Act::Offer(1, true), Told::Done),
-        (1, Act::Accept, Told::Passed),
-        (1, Act::Unlock, Told::Claimed),
-        (1, Act::Offer(2, false), Told::Done),
-        (2, Act::Accept, Told::Passed),
-        (2, Act::Unlock, Told::Done),
-    ];
-    let words = [
-        (1, 1),
-        (3, 2147483649),
-        (5, 3221225474),
-        (6, 2147483650),
-        (8, 1073741827),
-        (9, 3),
-        (10, 0),
-    ];
-    assert!(rt; words_are(rt.alloc(), &steps, &words));
-}
-
-// Row mutex_word_2.
-#[test]
-fn a_seat_may_wait_no_more(rt: HostRuntime) {
-    let steps = [
-        (0, Act::Try, Told::Passed),
-        (1, Act::Claim, Told::Found(Claim::Queued(ThreadId(0)))),
-        (1, Act::Forget, Told::Done),
-        (0, Act::Unlock, Told::Claimed),
-        (0, Act::Free, Told::Done),
-    ];
-    assert!(rt; word_of_three(rt.alloc(), &steps) == Some(0));
 }
 
 // Whether there is room for a seat that was away.
@@ -387,82 +266,93 @@ fn wins_around(
     }
 }
 
-// Row mutex_word_claim: what the calls answer, up to so many of the steps behind the settling. Seat 1 wins, and seat 2
-// comes too late.
-fn claim_row(
+// The same of one part.
+fn part_answers(
     word: &MutexWord,
+    count: u16,
     seats: &mut Vec<MutexSeat>,
     passes: &mut Vec<MutexPass>,
-    count: usize,
+    part: Part<'_>,
 ) -> bool
-    requires seats { word.now.seats ≡ 3 }
+    requires count { word.now.seats ≡ count }
     requires mine { All (λ seat. IsSeatOf seat word.now) seats.old.items }
-    ensures { All (λ seat. IsSeatOf seat word.now) seats.new.items }
+    ensures mine { All (λ seat. IsSeatOf seat word.now) seats.new.items }
 {
-    let between = [
-        (2, Act::Try, Told::Refused(Refusal::Busy)),
-        (2, Act::Claim, Told::Found(Claim::Seizing)),
-    ];
-    let after = [(1, Act::Unlock, Told::Done), (2, Act::Try, Told::Passed)];
-    let free = answers(word, 3, seats, passes, &BEFORE_THE_CLAIM);
-    let won = wins_around(word, 3, seats, passes, 1, &between);
-    let late = answers(word, 3, seats, passes, after.get(..count).unwrap_or(&after));
-    free && won && late
-}
-
-// Row mutex_word_1: what seats 1 and 2 are told.
-#[test]
-fn an_offer_is_for_one_seat(rt: HostRuntime) {
-    let queued = Told::Found(Claim::Queued(ThreadId(0)));
-    let steps = [
-        (0, Act::Try, Told::Passed),
-        (1, Act::Claim, queued),
-        (2, Act::Claim, queued),
-        (0, Act::Unlock, Told::Claimed),
-        (1, Act::Accept, Told::Refused(Refusal::Again)),
-        (0, Act::Offer(1, true), Told::Done),
-        (2, Act::SeeOffer, Told::Offered(false)),
-        (1, Act::SeeOffer, Told::Offered(true)),
-        (1, Act::Forget, Told::Refused(Refusal::Busy)),
-        (1, Act::Accept, Told::Passed),
-        (1, Act::Unlock, Told::Claimed),
-        (1, Act::Offer(2, false), Told::Done),
-        (2, Act::Accept, Told::Passed),
-        (2, Act::Unlock, Told::Done),
-    ];
-    assert!(rt; word_of_three(rt.alloc(), &steps).is_some());
-}
-
-const ONE_TRY: [Step; 1] = [(0, Act::Try, Told::Passed)];
-
-const ONE_UNLOCKING: [Step; 1] = [(0, Act::Unlock, Told::Done)];
-
-// Row mutex_word_3.
-#[test]
-fn a_recursive_mutex_nests(rt: HostRuntime) {
-    for (recursive, want, count) in [(false, Refusal::Deadlock, 1), (true, Refusal::Limit, 255)] {
-        let refused = [(0, Act::Try, Told::Refused(want))];
-        let rounds: [Round<'_>; 2] = [(count, &ONE_TRY), (1, &refused)];
-        assert!(rt; word_after(rt.alloc(), recursive, 1, &rounds).is_some());
+    match part {
+        Part::Steps(times, steps) => round_answers(word, count, seats, passes, times, steps),
+        Part::Win(number, between) => wins_around(word, count, seats, passes, number, between),
     }
 }
 
-// Row mutex_word_3: 254 unlockings of 255 leave the word 1.
-#[test]
-fn the_last_unlocking_frees(rt: HostRuntime) {
-    for (times, want) in [(254, 1), (255, 0)] {
-        let rounds: [Round<'_>; 2] = [(255, &ONE_TRY), (times, &ONE_UNLOCKING)];
-        assert!(rt; word_after(rt.alloc(), true, 1, &rounds) == Some(want));
+// The same of one part after another.
+fn all_answer(
+    word: &MutexWord,
+    count: u16,
+    seats: &mut Vec<MutexSeat>,
+    passes: &mut Vec<MutexPass>,
+    parts: &[Part<'_>],
+) -> bool
+    requires count { word.now.seats ≡ count }
+    requires mine { All (λ seat. IsSeatOf seat word.now) seats.old.items }
+    ensures mine { All (λ seat. IsSeatOf seat word.now) seats.new.items }
+{
+    for part in parts {
+        if !part_answers(word, count, seats, passes, *part) {
+            return false;
+        }
+    }
+    true
+}
+
+// Whether a mutex nests, how many seats it has, and how many of them are there when it is closed.
+#[derive(Clone, Copy)]
+struct Kind {
+    recursive: bool,
+    seats: u16,
+    handed: usize,
+}
+
+// A mutex of so many seats that doesn't nest, all of which are there when it is closed.
+fn plain(seats: u16) -> Kind {
+    Kind {
+        recursive: false,
+        seats,
+        handed: 256,
     }
 }
 
-// A pass of one seat is no pass of another.
-#[test]
-fn a_pass_is_its_seats(rt: HostRuntime) {
-    let steps = [
-        (0, Act::Try, Told::Passed),
-        (1, Act::Unlock, Told::Refused(Refusal::NotOwner)),
-        (0, Act::Unlock, Told::Done),
-    ];
-    assert!(rt; word_after(rt.alloc(), false, 2, &[(1, &steps)]).is_some());
+// The word at which a mutex closes once the parts were made; none where a step isn't answered as it is wanted.
+fn word_after(alloc: Global, kind: Kind, parts: &[Part<'_>]) -> Option<u64> {
+    match made(alloc, kind.recursive, kind.seats) {
+        Ok((word, mut seats)) => {
+            let mut passes = Vec::new(alloc);
+            let told = all_answer(&word, kind.seats, &mut seats, &mut passes, parts);
+            seats.truncate(kind.handed);
+            let last = word.close(seats);
+            if told { Some(last) } else { None }
+        }
+        Err(_) => None,
+    }
+}
+
+// The same of a mutex of so many seats that doesn't nest, whose steps are made once.
+fn word_of(alloc: Global, seats: u16, steps: &[Step]) -> Option<u64> {
+    word_after(alloc, plain(seats), &[Part::Steps(1, steps)])
+}
+
+// After how many of the steps, and at which word.
+type Word = (usize, u64);
+
+// Whether the mutex, of three seats, closes at the word that is wanted after so many of the steps, each time from the
+// beginning.
+fn words_are(alloc: Global, steps: &[Step], wanted: &[Word]) -> bool {
+    for (count, word) in wanted {
+        let Some(some) = steps.get(..*count) else {
+            return false;
+        };
+        if word_of(alloc, 3, some) != Some(*word) {
+            return false;
+        }
+    }
+    true
 }

@@ -29,12 +29,12 @@ pub fn made_in<M: Making>(alloc: Global, size: usize) -> Option<bool> {
     }
 }
 
-// Whether each heap, of a size that grows by 16 bytes, has it or is too small for it, and both come.
-pub fn is_made_where_it_fits<M: Making>(alloc: Global) -> bool {
+// Whether each of so many heaps, whose sizes grow by 16 bytes, has it or is too small for it, and both come.
+pub fn is_made_where_it_fits<M: Making>(alloc: Global, from: usize, steps: usize) -> bool {
     let mut refused = false;
     let mut made = false;
-    for size in 0usize..128 {
-        match made_in::<M>(alloc, size * 16) {
+    for step in 0..steps {
+        match made_in::<M>(alloc, from.saturating_add(step.saturating_mul(16))) {
             Some(true) => made = true,
             Some(false) => refused = true,
             None => return false,

@@ -2,12 +2,11 @@
 ghost use Rattle.std.specs.Prelude.{◌≡◌};
 ghost use Rattle.evl_kernel.specs.Callbacks.{AnswersAsTold};
 
-use crate::handlers::{entries, makes_room, quiet, quiet_plan, reserve};
-use crate::rows::{KernelRow, on_a_kernel};
-use bitflags::Flags;
-use evl_base::{ActionKinds, Refusal};
+use crate::handlers::{board_of, entries, makes_room, reserve};
+use crate::rows::{KernelRow, on_a_quiet_kernel};
+use evl_base::Refusal;
 use evl_kernel::KernelOf;
-use evl_pipeline::{Callback, Fire, Handler};
+use evl_pipeline::Handler;
 use linked_list_allocator::LocalHeap;
 use std::alloc::Allocator;
 
@@ -44,12 +43,6 @@ fn room_is_refused_in_short_memory(rt: HostRuntime) {
     let Ok(heap) = LocalHeap::new(alloc, 320 * 4096) else {
         panic!(rt; "heap");
     };
-    let Ok(run) = Box::new(alloc, |_: Fire| quiet()) else {
-        panic!(rt; "box");
-    };
-    let callback = Callback::new(ActionKinds::from_bits_retain(0), &quiet_plan(1), run);
-    if let Ok(bank) = Vec::from_array(&heap, [callback]) {
-        assert!(rt; on_a_kernel(&heap, alloc, 0, bank, 100, NoRoom) == Ok(true));
-    }
+    assert!(rt; on_a_quiet_kernel(&heap, alloc, board_of(1, 0), 100, NoRoom) == Ok(true));
     assert!(rt; heap.used() == 0);
 }

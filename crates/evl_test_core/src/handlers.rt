@@ -1,16 +1,25 @@
-//! Plans, answers and boards for tests.
+//! Plans, answers, handlers and boards for tests, and calls of thread 0.
 ghost use Rattle.std.specs.Prelude.{◌≡◌, [], ◌∷◌, true};
 ghost use Rattle.evl_kernel.specs.Callbacks.{AnswersAsTold};
+ghost use Rattle.evl_pipeline.specs.Plans.{answer_of};
 
 use arrayvec::ArrayVec;
-use evl_base::{Board, Call, Refusal, Reply, SemId, ThreadId};
+use bitflags::Flags;
+use evl_base::{ActionKinds, Board, Call, Policy, Refusal, Reply, SemId, Stage, ThreadId};
 use evl_kernel::KernelOf;
-use evl_pipeline::{Action, Answer, Handler, Plan};
-use std::alloc::Allocator;
+use evl_pipeline::{Action, Answer, Fire, Handler, Plan};
+use std::alloc::{AllocError, Allocator};
+use std::snapshot::Snapshot;
 
 pub(crate) const SEM: SemId = SemId(0);
 
-const CALLER: ThreadId = ThreadId(0);
+pub(crate) const CALLER: ThreadId = ThreadId(0);
+
+/// The caller is attached out-of-band.
+pub(crate) const ATTACH: Call = Call::Attach {
+    policy: Policy::Fifo(10),
+    stage: Stage::Oob,
+};
 
 /// Handled, and nothing asked for.
 pub(crate) fn quiet() -> Answer
@@ -57,19 +66,81 @@ pub(crate) fn plan(action: Action) -> Plan
     Plan { accepts: 1, rows }
 }
 
-/// A board of one thread and one semaphore.
-pub(crate) fn board_of(count: u32) -> Board {
-    let mut sems = ArrayVec::new();
-    sems.push(count);
+/// A handler of one's own, with no closure in it: it handles each event and asks for nothing.
+#[derive(Drop)]
+pub(crate) struct QuietHandler {
+    plan: Snapshot<Plan>,
+    ghost accepts: { plan.value.accepts ≡ 1 },
+    ghost rows: { plan.value.rows.items ≡ [] },
+}
+
+impl QuietHandler {
+    pub(crate) fn new() -> QuietHandler {
+        QuietHandler {
+            plan: Snapshot::of(&quiet_plan(1)),
+        }
+    }
+}
+
+impl Handler for QuietHandler {
+    ghost plan = { λ handler. handler.plan.value };
+
+    ghost declared = { λ handler. 0 };
+
+    ghost gives = { λ handler fire answer. answer ≡ answer_of handler.plan.value fire.count };
+
+    fn fire(&self, fire: Fire) -> Answer {
+        let _ = fire;
+        let _ = &self.plan;
+        quiet()
+    }
+
+    fn kinds(&self) -> ActionKinds {
+        ActionKinds::from_bits_retain(0)
+    }
+
+    fn told(&self) -> &Snapshot<Plan> {
+        &self.plan
+    }
+}
+
+/// A bank of so many handlers that ask for nothing.
+pub(crate) fn quiet_bank<A: Allocator + Clone>(
+    alloc: &A,
+    count: u16,
+) -> Result<Vec<QuietHandler, A>, AllocError> {
+    let mut bank = Vec::new(alloc.clone()?);
+    for _ in 0..count {
+        bank.push(QuietHandler::new())?;
+    }
+    Ok(bank)
+}
+
+/// A board of so many threads, with no elements.
+pub(crate) fn bare_board(threads: u16) -> Board
+    ensures sems { result.sems.items ≡ [] }
+    ensures flags { result.flags.items ≡ [] }
+    ensures xbufs { result.xbufs.items ≡ [] }
+{
     Board {
-        threads: 1,
-        sems,
+        threads,
+        sems: ArrayVec::new(),
         flags: ArrayVec::new(),
         xbufs: ArrayVec::new(),
         mutexes: ArrayVec::new(),
         groups: ArrayVec::new(),
         staxes: ArrayVec::new(),
     }
+}
+
+/// A board of so many threads and one semaphore, which stands at a count.
+pub(crate) fn board_of(threads: u16, count: u32) -> Board
+    ensures flags { result.flags.items ≡ [] }
+    ensures xbufs { result.xbufs.items ≡ [] }
+{
+    let mut board = bare_board(threads);
+    board.sems.push(count);
+    board
 }
 
 /// One call of thread 0.

@@ -2,10 +2,9 @@
 ghost use Rattle.evl_kernel.specs.Callbacks.{AnswersAsTold};
 
 use crate::handlers::{
-    SEM, apply, asks, does, entries, makes_room, plan, plays, quiet, quiet_plan, reserve,
+    SEM, apply, asks, board_of, does, entries, makes_room, plan, plays, quiet_bank, reserve,
 };
-use crate::rows::{KernelRow, on_a_kernel};
-use bitflags::Flags;
+use crate::rows::{KernelRow, on_a_kernel, on_a_quiet_kernel};
 use evl_base::{ActionKinds, Call, LineNo, Refusal, Reply, Stage};
 use evl_kernel::KernelOf;
 use evl_pipeline::{Action, Callback, Fire, Handler};
@@ -59,14 +58,7 @@ impl KernelRow for ThreePlaces {
 #[test]
 fn reserve_limits(rt: HostRuntime) {
     let alloc = rt.alloc();
-    let Ok(run) = Box::new(alloc, |_: Fire| quiet()) else {
-        panic!(rt; "box");
-    };
-    let callback = Callback::new(ActionKinds::from_bits_retain(0), &quiet_plan(1), run);
-    let Ok(bank) = Vec::from_array(alloc, [callback]) else {
-        panic!(rt; "bank");
-    };
-    assert!(rt; on_a_kernel(alloc, alloc, 0, bank, 3, ThreePlaces) == Ok(true));
+    assert!(rt; on_a_quiet_kernel(alloc, alloc, board_of(1, 0), 3, ThreePlaces) == Ok(true));
 }
 
 // Whether the semaphore's count is 1.
@@ -139,13 +131,8 @@ fn a_kernel_calls_its_closures(rt: HostRuntime) {
 #[test]
 fn a_bank_has_a_range(rt: HostRuntime) {
     let alloc = rt.alloc();
-    let mut bank = Vec::new(alloc);
-    for _ in 0u8..65 {
-        let Ok(run) = Box::new(alloc, |_: Fire| quiet()) else {
-            panic!(rt; "box");
-        };
-        let callback = Callback::new(ActionKinds::from_bits_retain(0), &quiet_plan(1), run);
-        assert!(rt; bank.push(callback).is_ok());
-    }
+    let Ok(bank) = quiet_bank(&alloc, 65) else {
+        panic!(rt; "bank");
+    };
     assert!(rt; on_a_kernel(alloc, alloc, 0, bank, 1, ThreePlaces) == Err(Refusal::Range));
 }

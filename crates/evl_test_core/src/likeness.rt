@@ -2,9 +2,8 @@
 ghost use Rattle.std.specs.Prelude.{IfOk};
 ghost use Rattle.evl_kernel.specs.Callbacks.{AnswersAsTold};
 
-use crate::handlers::{SEM, does};
-use arrayvec::ArrayVec;
-use evl_base::{Board, Call, Policy, Refusal, Stage, ThreadId};
+use crate::handlers::{ATTACH, SEM, board_of, does};
+use evl_base::{Call, Refusal, ThreadId};
 use evl_kernel::{Kernel, KernelOf};
 use evl_pipeline::Handler;
 use std::alloc::{Allocator, Global};
@@ -17,18 +16,7 @@ const GET: Call = Call::TryGet { sem: SEM };
 fn made(alloc: Global) -> Result<Kernel, Refusal>
     ensures { IfOk result (λ k. AnswersAsTold (λ c. c.kinds.0) (λ c. c.plan.value) k.callbacks) }
 {
-    let mut sems = ArrayVec::new();
-    sems.push(0);
-    let board = Board {
-        threads: 2,
-        sems,
-        flags: ArrayVec::new(),
-        xbufs: ArrayVec::new(),
-        mutexes: ArrayVec::new(),
-        groups: ArrayVec::new(),
-        staxes: ArrayVec::new(),
-    };
-    Kernel::new(alloc, board, Vec::new(alloc), 10)
+    Kernel::new(alloc, board_of(2, 0), Vec::new(alloc), 10)
 }
 
 // Whether the ready list has just the calling thread.
@@ -43,11 +31,7 @@ fn is_listed<C: Handler, A: Allocator>(alloc: Global, kernel: &mut KernelOf<C, A
     requires { AnswersAsTold C.declared C.plan kernel.old.callbacks }
     ensures { AnswersAsTold C.declared C.plan kernel.new.callbacks }
 {
-    let attach = Call::Attach {
-        policy: Policy::Fifo(10),
-        stage: Stage::Oob,
-    };
-    let attached = does(kernel, attach);
+    let attached = does(kernel, ATTACH);
     attached && is_ready_alone(alloc, kernel)
 }
 

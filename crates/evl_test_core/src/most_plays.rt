@@ -2,7 +2,7 @@
 ghost use Rattle.std.specs.Prelude.{◌≡◌, [], ◌∷◌, true};
 ghost use Rattle.evl_kernel.specs.Callbacks.{AnswersAsTold};
 
-use crate::handlers::{asks, does, plan, plays, quiet, quiet_plan};
+use crate::handlers::{CALLER, asks, bare_board, does, plan, plays, quiet, quiet_plan};
 use crate::rows::{KernelRow, on_a_board};
 use arrayvec::ArrayVec;
 use bitflags::Flags;
@@ -13,8 +13,6 @@ use evl_base::{
 use evl_kernel::KernelOf;
 use evl_pipeline::{Action, Answer, Callback, Fire, Handler, Plan};
 use std::alloc::Allocator;
-
-const CALLER: ThreadId = ThreadId(0);
 
 const HANDED: LineNo = LineNo(1);
 
@@ -66,17 +64,9 @@ fn plan_of_four(first: Action, second: Action, third: Action, fourth: Action) ->
 
 // A board of all threads and one cross-buffer.
 fn widest_board() -> Board {
-    let mut xbufs = ArrayVec::new();
-    xbufs.push((1, 1));
-    Board {
-        threads: MAX_THREADS as u16,
-        sems: ArrayVec::new(),
-        flags: ArrayVec::new(),
-        xbufs,
-        mutexes: ArrayVec::new(),
-        groups: ArrayVec::new(),
-        staxes: ArrayVec::new(),
-    }
+    let mut board = bare_board(MAX_THREADS as u16);
+    board.xbufs.push((1, 1));
+    board
 }
 
 // Whether a callback stands on a line out-of-band, of which an event is pending then.

@@ -1,9 +1,8 @@
-//! Pipelines over stored closures.
-use crate::handlers::{quiet, quiet_plan};
+//! New pipelines: the memory that they take, and the order in which they play their lines.
+use crate::handlers::{QuietHandler, quiet_bank};
 use crate::rows::{PipelineRow, on_a_pipeline};
-use bitflags::Flags;
-use evl_base::{ActionKinds, LINES, LineNo, Refusal, Stage};
-use evl_pipeline::{Callback, Fire, Handler, PipelineOf, Ran};
+use evl_base::{LINES, LineNo, Refusal, Stage};
+use evl_pipeline::{Callback, PipelineOf, Ran};
 use linked_list_allocator::LocalHeap;
 use std::alloc::{Allocator, Global};
 
@@ -33,19 +32,20 @@ fn a_new_pipeline_is_refused_in_short_memory(rt: HostRuntime) {
     }
 }
 
-// A callback, and the memory that the pipeline has.
+// The memory that the pipeline has.
 #[derive(Drop)]
-struct OneLine<'a, C: Drop> {
-    callback: C,
+struct OneLine<'a> {
     heap: &'a LocalHeap,
 }
 
-impl<'a, C: Handler> PipelineRow<C> for OneLine<'a, C> {
+impl<'a> PipelineRow<QuietHandler> for OneLine<'a> {
     // A request, events and a play take no memory.
-    fn ask<A: Allocator>(self, pipeline: &mut PipelineOf<C, A>) -> bool {
-        let OneLine { callback, heap } = self;
+    fn ask<A: Allocator>(self, pipeline: &mut PipelineOf<QuietHandler, A>) -> bool {
+        let OneLine { heap } = self;
         let used = heap.used();
-        let requested = pipeline.request(LINE, Stage::Oob, callback, 0).is_ok();
+        let requested = pipeline
+            .request(LINE, Stage::Oob, QuietHandler::new(), 0)
+            .is_ok();
         let arrived = pipeline.arrive(LINE).is_ok();
         let spurious = pipeline.arrive(LineNo(6)).is_ok();
         let played = pipeline.next(false, true, 0).is_some();
@@ -55,32 +55,23 @@ impl<'a, C: Handler> PipelineRow<C> for OneLine<'a, C> {
 
 #[test]
 fn only_new_takes_memory(rt: HostRuntime) {
-    let alloc = rt.alloc();
-    let Ok(run) = Box::new(alloc, |_: Fire| quiet()) else {
-        panic!(rt; "box");
-    };
-    let callback = Callback::new(ActionKinds::from_bits_retain(0), &quiet_plan(1), run);
-    let Ok(heap) = LocalHeap::new(alloc, 4194304) else {
+    let Ok(heap) = LocalHeap::new(rt.alloc(), 4194304) else {
         panic!(rt; "heap");
     };
-    let row = OneLine {
-        callback,
-        heap: &heap,
-    };
-    assert!(rt; on_a_pipeline(&heap, row) == Ok(true));
+    assert!(rt; on_a_pipeline(&heap, OneLine { heap: &heap }) == Ok(true));
 }
 
-// Every line but the clock's has a callback and a pending event, and so has the clock's.
+// Every line but the clock's has a handler and a pending event, and so has the clock's.
 fn fill<A: Allocator>(
-    pipeline: &mut PipelineOf<Callback, A>,
-    callbacks: &mut Vec<Callback>,
+    pipeline: &mut PipelineOf<QuietHandler, A>,
+    handlers: &mut Vec<QuietHandler>,
 ) -> bool {
     pipeline.stall(Stage::Oob);
     for line in 1..LINES as u16 {
-        let Some(callback) = callbacks.pop() else {
+        let Some(handler) = handlers.pop() else {
             return false;
         };
-        let requested = pipeline.request(LineNo(line), Stage::Oob, callback, 0);
+        let requested = pipeline.request(LineNo(line), Stage::Oob, handler, 0);
         if requested.is_err() || pipeline.arrive(LineNo(line)).is_err() {
             return false;
         }
@@ -91,7 +82,7 @@ fn fill<A: Allocator>(
 }
 
 // Whether this line is played next.
-fn plays<A: Allocator>(pipeline: &mut PipelineOf<Callback, A>, line: u16) -> bool {
+fn plays<A: Allocator>(pipeline: &mut PipelineOf<QuietHandler, A>, line: u16) -> bool {
     match pipeline.next(false, true, 0) {
         Some(Ran::Clock) => line == 0,
         Some(Ran::Line { fire, answer }) => fire.line.0 == line && answer.handled,
@@ -99,16 +90,16 @@ fn plays<A: Allocator>(pipeline: &mut PipelineOf<Callback, A>, line: u16) -> boo
     }
 }
 
-// A callback for each line.
+// A handler for each line.
 #[derive(Drop)]
 struct EveryLine {
-    callbacks: Vec<Callback>,
+    handlers: Vec<QuietHandler>,
 }
 
-impl PipelineRow<Callback> for EveryLine {
-    fn ask<A: Allocator>(self, pipeline: &mut PipelineOf<Callback, A>) -> bool {
-        let EveryLine { mut callbacks } = self;
-        if !fill(pipeline, &mut callbacks) {
+impl PipelineRow<QuietHandler> for EveryLine {
+    fn ask<A: Allocator>(self, pipeline: &mut PipelineOf<QuietHandler, A>) -> bool {
+        let EveryLine { mut handlers } = self;
+        if !fill(pipeline, &mut handlers) {
             return false;
         }
         for line in 0..LINES as u16 {
@@ -124,15 +115,8 @@ impl PipelineRow<Callback> for EveryLine {
 #[test]
 fn every_line_is_played_in_order(rt: HostRuntime) {
     let alloc = rt.alloc();
-    let mut callbacks = Vec::new(alloc);
-    for _ in 1..LINES {
-        let Ok(run) = Box::new(alloc, |_: Fire| quiet()) else {
-            panic!(rt; "box");
-        };
-        let callback = Callback::new(ActionKinds::from_bits_retain(0), &quiet_plan(1), run);
-        let Ok(()) = callbacks.push(callback) else {
-            panic!(rt; "callbacks");
-        };
-    }
-    assert!(rt; on_a_pipeline(alloc, EveryLine { callbacks }) == Ok(true));
+    let Ok(handlers) = quiet_bank(&alloc, LINES as u16) else {
+        panic!(rt; "handlers");
+    };
+    assert!(rt; on_a_pipeline(alloc, EveryLine { handlers }) == Ok(true));
 }

@@ -1,16 +1,12 @@
 //! What the readers of a kernel tell of its date, its threads and its elements.
 ghost use Rattle.evl_kernel.specs.Callbacks.{AnswersAsTold};
 
-use crate::handlers::{SEM, apply, does, quiet, quiet_plan};
-use crate::rows::{KernelRow, on_a_board};
-use arrayvec::ArrayVec;
-use bitflags::Flags;
-use evl_base::{ActionKinds, Board, Call, FlagId, Policy, Reply, Stage, ThreadId, Way, XbufId};
+use crate::handlers::{ATTACH, CALLER, SEM, apply, board_of, does};
+use crate::rows::{KernelRow, on_a_quiet_kernel};
+use evl_base::{Board, Call, FlagId, Reply, ThreadId, Way, XbufId};
 use evl_kernel::{Awaited, KernelOf};
-use evl_pipeline::{Callback, Fire, Handler};
+use evl_pipeline::Handler;
 use std::alloc::Allocator;
-
-const CALLER: ThreadId = ThreadId(0);
 
 const STRANGER: ThreadId = ThreadId(9);
 
@@ -54,11 +50,7 @@ fn goes_and_waits<C: Handler, A: Allocator>(kernel: &mut KernelOf<C, A>) -> bool
     requires { AnswersAsTold C.declared C.plan kernel.old.callbacks }
 {
     let before = stands(kernel, None, false) && holds(kernel, 0, 0);
-    let attach = Call::Attach {
-        policy: Policy::Fifo(10),
-        stage: Stage::Oob,
-    };
-    let attached = does(kernel, attach);
+    let attached = does(kernel, ATTACH);
     let runs = stands(kernel, Some(522), true) && knows_no_stranger(kernel);
     let wait = Call::BeginGet {
         sem: SEM,
@@ -82,32 +74,14 @@ impl KernelRow for OneThread {
 
 // A board of one thread with a semaphore, a flag group and a cross-buffer.
 fn board() -> Board {
-    let mut sems = ArrayVec::new();
-    sems.push(0);
-    let mut flags = ArrayVec::new();
-    flags.push(6);
-    let mut xbufs = ArrayVec::new();
-    xbufs.push((16, 8));
-    Board {
-        threads: 1,
-        sems,
-        flags,
-        xbufs,
-        mutexes: ArrayVec::new(),
-        groups: ArrayVec::new(),
-        staxes: ArrayVec::new(),
-    }
+    let mut board = board_of(1, 0);
+    board.flags.push(6);
+    board.xbufs.push((16, 8));
+    board
 }
 
 #[test]
 fn readers_tell_how_a_machine_stands(rt: HostRuntime) {
     let alloc = rt.alloc();
-    let Ok(run) = Box::new(alloc, |_: Fire| quiet()) else {
-        panic!(rt; "box");
-    };
-    let callback = Callback::new(ActionKinds::from_bits_retain(0), &quiet_plan(1), run);
-    let Ok(bank) = Vec::from_array(alloc, [callback]) else {
-        panic!(rt; "bank");
-    };
-    assert!(rt; on_a_board(alloc, alloc, board(), bank, 10, OneThread) == Ok(true));
+    assert!(rt; on_a_quiet_kernel(alloc, alloc, board(), 10, OneThread) == Ok(true));
 }

@@ -2,7 +2,7 @@
 ghost use Rattle.std.specs.Prelude.{◌≡◌};
 ghost use Rattle.evl_kernel.specs.Callbacks.{AnswersAsTold};
 
-use crate::handlers::board_of;
+use crate::handlers::{board_of, quiet_bank};
 use evl_base::{Board, Refusal};
 use evl_kernel::KernelOf;
 use evl_pipeline::{Handler, PipelineOf};
@@ -30,10 +30,24 @@ pub(crate) fn on_a_kernel<C: Handler, A: Allocator + Clone, T: KernelRow>(
     limit: u32,
     row: T,
 ) -> Result<T::Told, Refusal> {
-    on_a_board(alloc, boxes, board_of(count), bank, limit, row)
+    on_a_board(alloc, boxes, board_of(1, count), bank, limit, row)
 }
 
-/// The same over any board.
+/// The same over any board, and over a bank of one handler that asks for nothing.
+pub(crate) fn on_a_quiet_kernel<A: Allocator + Clone, T: KernelRow>(
+    alloc: A,
+    boxes: Global,
+    board: Board,
+    limit: u32,
+    row: T,
+) -> Result<T::Told, Refusal> {
+    match quiet_bank(&alloc, 1) {
+        Ok(bank) => on_a_board(alloc, boxes, board, bank, limit, row),
+        Err(_) => Err(Refusal::NoMemory),
+    }
+}
+
+/// The same over any board and bank.
 pub(crate) fn on_a_board<C: Handler, A: Allocator + Clone, T: KernelRow>(
     alloc: A,
     boxes: Global,

@@ -1,15 +1,12 @@
 //! Waits of a kernel, as its readers tell of them.
 ghost use Rattle.evl_kernel.specs.Callbacks.{AnswersAsTold};
 
-use crate::handlers::{SEM, apply, does, plays, quiet, quiet_plan};
-use crate::rows::{KernelRow, on_a_kernel};
-use bitflags::Flags;
-use evl_base::{ActionKinds, Call, Policy, Reply, Stage, ThreadId};
+use crate::handlers::{ATTACH, CALLER, SEM, apply, board_of, does, plays};
+use crate::rows::{KernelRow, on_a_quiet_kernel};
+use evl_base::{Call, Reply, ThreadId};
 use evl_kernel::KernelOf;
-use evl_pipeline::{Callback, Fire, Handler};
+use evl_pipeline::Handler;
 use std::alloc::Allocator;
-
-const CALLER: ThreadId = ThreadId(0);
 
 const STRANGER: ThreadId = ThreadId(9);
 
@@ -47,11 +44,7 @@ fn is_served<C: Handler, A: Allocator>(kernel: &mut KernelOf<C, A>) -> bool
     requires { AnswersAsTold C.declared C.plan kernel.old.callbacks }
     ensures { AnswersAsTold C.declared C.plan kernel.new.callbacks }
 {
-    let attach = Call::Attach {
-        policy: Policy::Fifo(10),
-        stage: Stage::Oob,
-    };
-    let attached = does(kernel, attach);
+    let attached = does(kernel, ATTACH);
     let begun = begins(kernel);
     let told = tells(kernel, CALLER, [true, true, false])
         && tells(kernel, STRANGER, [false, false, false])
@@ -88,12 +81,5 @@ impl KernelRow for TwoWaits {
 #[test]
 fn readers_tell_of_waits(rt: HostRuntime) {
     let alloc = rt.alloc();
-    let Ok(run) = Box::new(alloc, |_: Fire| quiet()) else {
-        panic!(rt; "box");
-    };
-    let callback = Callback::new(ActionKinds::from_bits_retain(0), &quiet_plan(1), run);
-    let Ok(bank) = Vec::from_array(alloc, [callback]) else {
-        panic!(rt; "bank");
-    };
-    assert!(rt; on_a_kernel(alloc, alloc, 1, bank, 10, TwoWaits) == Ok(true));
+    assert!(rt; on_a_quiet_kernel(alloc, alloc, board_of(1, 1), 10, TwoWaits) == Ok(true));
 }

@@ -30,8 +30,15 @@ enum Site {
     Nowhere,
 }
 
+// What is asked of a kernel, and may be refused for memory: a step's call, or room for some calls.
+#[derive(Drop)]
+enum Asked {
+    Call(Step),
+    Room(usize),
+}
+
 // Whether the call of a step is refused for memory.
-fn is_refused<C: Handler, A: Allocator>(kernel: &mut KernelOf<C, A>, step: Step) -> bool
+fn is_call_refused<C: Handler, A: Allocator>(kernel: &mut KernelOf<C, A>, step: Step) -> bool
     requires { AnswersAsTold C.declared C.plan kernel.old.callbacks }
     ensures { AnswersAsTold C.declared C.plan kernel.new.callbacks }
 {
@@ -58,13 +65,24 @@ fn lacks_room<C: Handler, A: Allocator>(kernel: &mut KernelOf<C, A>, calls: usiz
     matches!(refusal_of_room(kernel, calls), Some(Refusal::NoMemory))
 }
 
-// Whether the call of a step is refused for memory, and then is not when it is made once more; none where the refusal
+// Whether what is asked is refused for memory.
+fn is_refused<C: Handler, A: Allocator>(kernel: &mut KernelOf<C, A>, asked: Asked) -> bool
+    requires { AnswersAsTold C.declared C.plan kernel.old.callbacks }
+    ensures { AnswersAsTold C.declared C.plan kernel.new.callbacks }
+{
+    match asked {
+        Asked::Call(step) => is_call_refused(kernel, step),
+        Asked::Room(calls) => lacks_room(kernel, calls),
+    }
+}
+
+// Whether what is asked is refused for memory, and then is not when it is asked once more; none where the refusal
 // changed something, or came twice.
 fn is_refused_once<C: Handler, A: Allocator>(
     alloc: Global,
     kernel: &mut KernelOf<C, A>,
-    step: Step,
-    again: Step,
+    asked: Asked,
+    again: Asked,
 ) -> Option<bool>
     requires { AnswersAsTold C.declared C.plan kernel.old.callbacks }
     ensures { AnswersAsTold C.declared C.plan kernel.new.callbacks }
@@ -72,7 +90,7 @@ fn is_refused_once<C: Handler, A: Allocator>(
     let Ok(before) = shown(alloc, kernel) else {
         return None;
     };
-    if !is_refused(kernel, step) {
+    if !is_refused(kernel, asked) {
         return Some(false);
     }
     let same = shows(alloc, kernel, &before);
@@ -80,29 +98,8 @@ fn is_refused_once<C: Handler, A: Allocator>(
     if same && !twice { Some(true) } else { None }
 }
 
-// Whether room for some calls is refused for memory, and then is not when it is asked for once more; none where the
-// refusal changed something, or came twice.
+// Whether room for some calls is refused once, where it is asked for at all.
 fn is_room_refused_once<C: Handler, A: Allocator>(
-    alloc: Global,
-    kernel: &mut KernelOf<C, A>,
-    calls: usize,
-) -> Option<bool>
-    requires { AnswersAsTold C.declared C.plan kernel.old.callbacks }
-    ensures { AnswersAsTold C.declared C.plan kernel.new.callbacks }
-{
-    let Ok(before) = shown(alloc, kernel) else {
-        return None;
-    };
-    if !lacks_room(kernel, calls) {
-        return Some(false);
-    }
-    let same = shows(alloc, kernel, &before);
-    let twice = lacks_room(kernel, calls);
-    if same && !twice { Some(true) } else { None }
-}
-
-// The same where room is asked for at all.
-fn is_asked_room_refused<C: Handler, A: Allocator>(
     alloc: Global,
     kernel: &mut KernelOf<C, A>,
     calls: usize,
@@ -112,7 +109,7 @@ fn is_asked_room_refused<C: Handler, A: Allocator>(
     ensures { AnswersAsTold C.declared C.plan kernel.new.callbacks }
 {
     if reserves {
-        is_room_refused_once(alloc, kernel, calls)
+        is_refused_once(alloc, kernel, Asked::Room(calls), Asked::Room(calls))
     } else {
         Some(false)
     }
@@ -129,7 +126,7 @@ fn refusals<C: Handler, A: Allocator>(
 {
     let mut count = 0u32;
     for (step, once_more) in steps.into_iter().zip(again) {
-        if is_refused_once(alloc, kernel, step, once_more)? {
+        if is_refused_once(alloc, kernel, Asked::Call(step), Asked::Call(once_more))? {
             count = count.saturating_add(1);
         }
     }
@@ -183,7 +180,7 @@ fn met_by_calls<C: Handler, A: Allocator>(
 {
     let steps = steps_of(alloc, row)?;
     let again = steps_of(alloc, row)?;
-    let room = is_asked_room_refused(alloc, kernel, steps.len(), reserves)?;
+    let room = is_room_refused_once(alloc, kernel, steps.len(), reserves)?;
     let calls = refusals(alloc, kernel, steps, again)?;
     if is_traced(alloc, kernel, row) {
         site_of(reserves, room, calls)

@@ -13,42 +13,42 @@ pub(crate) const ROWS: [Row; 8] = [
     Row {
         scenario: FIRST_SEMAPHORE,
         trace: FIRST_SEMAPHORE_TRACE,
-        requests: [37, 4, 3],
+        requests: [38, 4, 3],
     },
     Row {
         scenario: LOWEST_LINE_FIRST,
         trace: LOWEST_LINE_FIRST_TRACE,
-        requests: [37, 6, 6],
+        requests: [38, 6, 6],
     },
     Row {
         scenario: PERIODIC_TIMER,
         trace: PERIODIC_TIMER_TRACE,
-        requests: [36, 5, 5],
+        requests: [37, 5, 5],
     },
     Row {
         scenario: TIMER_BEFORE_DEADLINE,
         trace: TIMER_BEFORE_DEADLINE_TRACE,
-        requests: [37, 5, 5],
+        requests: [38, 5, 5],
     },
     Row {
         scenario: INHERITANCE_CHAIN,
         trace: INHERITANCE_CHAIN_TRACE,
-        requests: [39, 6, 6],
+        requests: [40, 6, 6],
     },
     Row {
         scenario: CROSS_BUFFER,
         trace: CROSS_BUFFER_TRACE,
-        requests: [43, 6, 5],
+        requests: [44, 6, 5],
     },
     Row {
         scenario: FLAG_WAITERS,
         trace: FLAG_WAITERS_TRACE,
-        requests: [37, 6, 5],
+        requests: [38, 6, 5],
     },
     Row {
         scenario: QUOTA_REFILL,
         trace: QUOTA_REFILL_TRACE,
-        requests: [37, 5, 4],
+        requests: [38, 5, 4],
     },
 ];
 

@@ -126,41 +126,19 @@ fn a_bank_of_ones_own_is_played(rt: HostRuntime) {
 #[test]
 fn banks_at_fault_are_refused(rt: HostRuntime) {
     let row = BankFault::Callback(0, Part::Row(1));
-    assert!(rt; is_refused(rt.alloc(), "callback", BankFault::Text));
-    assert!(rt; is_refused(rt.alloc(), "[board]", BankFault::Document));
-    assert!(rt;
-        is_refused(
-            rt.alloc(),
-            "[[callback]]\nname = 1",
-            BankFault::Callback(0, Part::Keys)
-        )
-    );
-    assert!(rt;
-        is_refused(
-            rt.alloc(),
+    let texts = [
+        ("callback", BankFault::Text),
+        ("[board]", BankFault::Document),
+        ("[[callback]]\nname = 1", BankFault::Callback(0, Part::Keys)),
+        (
             "[[callback]]\n[[callback]]\naccepts = 0",
-            BankFault::Callback(1, Part::Accepts)
-        )
-    );
-    assert!(rt;
-        is_refused(
-            rt.alloc(),
-            "[[callback]]\ndo = 1",
-            BankFault::Callback(0, Part::Rows)
-        )
-    );
-    assert!(rt;
-        is_refused(
-            rt.alloc(),
-            "[[callback]]\ndo = [{ propagate = false }]",
-            row
-        )
-    );
-    assert!(rt;
-        is_refused(
-            rt.alloc(),
-            "[[callback]]\ndo = [{ every = 0, propagate = true }]",
-            row
-        )
-    );
+            BankFault::Callback(1, Part::Accepts),
+        ),
+        ("[[callback]]\ndo = 1", BankFault::Callback(0, Part::Rows)),
+        ("[[callback]]\ndo = [{ propagate = false }]", row),
+        ("[[callback]]\ndo = [{ every = 0, propagate = true }]", row),
+    ];
+    for (text, fault) in texts {
+        assert!(rt; is_refused(rt.alloc(), text, fault), "{text}");
+    }
 }

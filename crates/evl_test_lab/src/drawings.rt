@@ -87,8 +87,8 @@ fn picture(alloc: Global, trace: &str) -> Result<Option<Vec<u8>>, AllocError> {
 }
 
 // Whether a picture begins and ends as SVG does.
-fn is_picture(alloc: Global, trace: &str) -> bool {
-    match picture(alloc, trace) {
+fn is_svg(picture: Result<Option<Vec<u8>>, AllocError>) -> bool {
+    match picture {
         Ok(Some(text)) => {
             text.as_slice().starts_with(b"<svg ") && text.as_slice().ends_with(b"</svg>\n")
         }
@@ -108,7 +108,7 @@ fn each_mark_is_an_event(rt: HostRuntime) {
 
 #[test]
 fn a_trace_is_drawn(rt: HostRuntime) {
-    assert!(rt; is_picture(rt.alloc(), TRACE));
+    assert!(rt; is_svg(picture(rt.alloc(), TRACE)));
 }
 
 #[test]
@@ -242,17 +242,7 @@ fn told_picture(alloc: Global, told: &str) -> Result<Option<Vec<u8>>, AllocError
     Ok(Some(write_told(alloc, marks.as_slice(), moments.as_slice())?))
 }
 
-// Whether the picture of callers' lines begins and ends as SVG does.
-fn is_told_picture(alloc: Global, told: &str) -> bool {
-    match told_picture(alloc, told) {
-        Ok(Some(text)) => {
-            text.as_slice().starts_with(b"<svg ") && text.as_slice().ends_with(b"</svg>\n")
-        }
-        _ => false,
-    }
-}
-
 #[test]
 fn callers_are_drawn(rt: HostRuntime) {
-    assert!(rt; is_told_picture(rt.alloc(), TOLD));
+    assert!(rt; is_svg(told_picture(rt.alloc(), TOLD)));
 }

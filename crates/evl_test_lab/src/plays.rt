@@ -96,27 +96,18 @@ fn each_entry_is_a_line_of_json(rt: HostRuntime) {
 
 #[test]
 fn numbers_alone_are_no_difference(rt: HostRuntime) {
-    assert!(rt;
-        difference(
-            rt.alloc(),
-            "1 T0 now -> number 0\n",
-            "2 T0 now -> number 0\n"
-        ) == 0
-    );
-    assert!(rt;
-        difference(
-            rt.alloc(),
-            "1 T0 now -> number 0\n",
-            "1 T0 now -> number 1\n"
-        ) == 1
-    );
-    assert!(rt;
-        difference(
-            rt.alloc(),
+    let traces = [
+        ("1 T0 now -> number 0\n", "2 T0 now -> number 0\n", 0),
+        ("1 T0 now -> number 0\n", "1 T0 now -> number 1\n", 1),
+        (
             "1 T0 now -> number 0\n  clock\n",
-            "1 T0 now -> number 0\n"
-        ) == 2
-    );
+            "1 T0 now -> number 0\n",
+            2,
+        ),
+    ];
+    for (one, other, line) in traces {
+        assert!(rt; difference(rt.alloc(), one, other) == line, "{one}{other}");
+    }
 }
 
 #[test]

@@ -1,19 +1,12 @@
 //! Traces of several lengths into writers that fail at each write in turn, or take nothing there.
 use crate::lengths::{ABOUT_A_PART, LONG, Length, SHORTEST, played};
+use crate::sinks::ends;
 use crate::writers::Narrow;
-use evl_shell::{Fault, Over, Sink, run};
+use evl_shell::Fault;
 use std::alloc::Global;
 
 // More than a trace has.
 const ALL: usize = 1_000_000;
-
-// A run of a text into a writer: whether it ends so, and with the sink failed just then; and the writer.
-fn ends(alloc: Global, text: &str, out: Narrow, answer: Result<(), Fault>) -> (bool, Narrow) {
-    let mut out = Over::new(out);
-    let came = run(alloc, text.as_bytes(), None, Vec::new(alloc), &mut out);
-    let is_so = came == answer && out.failed() == answer.is_err();
-    (is_so, out.into_inner())
-}
 
 // How many writes take a trace whole, each at most so many bytes; none where it isn't taken whole.
 fn writes_of(alloc: Global, text: &str, trace: &[u8], most: usize) -> Option<usize> {

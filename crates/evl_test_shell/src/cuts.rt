@@ -1,28 +1,7 @@
 //! The file of row `first_semaphore`, cut off after each of its bytes.
-use evl_shell::{Fault, Over, run};
+use crate::texts::{FIRST_SEMAPHORE, comes_to};
+use evl_shell::Fault;
 use std::alloc::Global;
-
-const FILE: &str = r#"limit = 100
-[board]
-threads = 1
-sems = [0]
-[[step]]
-do = "try_get"
-who = 0
-sem = 0
-[[step]]
-do = "put"
-who = 0
-sem = 0
-[[step]]
-do = "try_get"
-who = 0
-sem = 0
-[[step]]
-do = "peek"
-who = 0
-sem = 0
-"#;
 
 const NO_SEMS: &str = "board threads=1 sems=0 flags=0 xbufs=0 mutexes=0 groups=0 limit=100\n";
 
@@ -78,17 +57,6 @@ const LINES: [(usize, Came); 20] = [
     (7, Ok(FOUR)),
 ];
 
-// Whether a text comes to this: to its trace and nothing else, or to its fault with nothing written.
-fn comes_to(alloc: Global, text: &[u8], wanted: Came) -> bool {
-    let mut out = Over::new(Vec::new(alloc));
-    let answer = run(alloc, text, None, Vec::new(alloc), &mut out);
-    let written = out.into_inner();
-    match wanted {
-        Ok(trace) => answer == Ok(()) && written.as_slice() == trace.as_bytes(),
-        Err(fault) => answer == Err(fault) && written.is_empty(),
-    }
-}
-
 // How many cuts within a line, after each of its bytes, come to what they have to; none where one doesn't.
 fn cuts_of_line(
     alloc: Global,
@@ -98,13 +66,15 @@ fn cuts_of_line(
     whole: Came,
 ) -> Option<usize> {
     for length in 1..line.len().saturating_add(2) {
-        let part = FILE.as_bytes().get(..start.saturating_add(length))?;
+        let part = FIRST_SEMAPHORE
+            .as_bytes()
+            .get(..start.saturating_add(length))?;
         let wanted = if length < least {
             Err(Fault::Text)
         } else {
             whole
         };
-        if !comes_to(alloc, part, wanted) {
+        if !comes_to(alloc, part, None, wanted) {
             return None;
         }
     }
@@ -114,7 +84,7 @@ fn cuts_of_line(
 // How many cuts come to what they have to; none where one doesn't.
 fn cuts(alloc: Global) -> Option<usize> {
     let mut start = 0usize;
-    for (line, (least, whole)) in FILE.lines().zip(LINES.iter()) {
+    for (line, (least, whole)) in FIRST_SEMAPHORE.lines().zip(LINES.iter()) {
         start = start.saturating_add(cuts_of_line(alloc, start, line, *least, *whole)?);
     }
     Some(start)
@@ -122,6 +92,6 @@ fn cuts(alloc: Global) -> Option<usize> {
 
 #[test]
 fn each_cut_has_its_fault(rt: HostRuntime) {
-    assert!(rt; comes_to(rt.alloc(), b"", Err(Fault::Board)));
-    assert!(rt; cuts(rt.alloc()) == Some(FILE.len()));
+    assert!(rt; comes_to(rt.alloc(), b"", None, Err(Fault::Board)));
+    assert!(rt; cuts(rt.alloc()) == Some(FIRST_SEMAPHORE.len()));
 }

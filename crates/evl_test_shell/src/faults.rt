@@ -1,26 +1,18 @@
 //! Texts that are refused: what fault each is, that nothing is written, and which fault goes first.
+use crate::texts::{BOARD, comes_to, spaces};
 use evl_shell::{Fault, Over, run};
 use std::alloc::{AllocError, Global};
 
-const BOARD: &str = "[board]\nthreads = 1\nsems = [0]\n";
-
-const FIRST_SEMAPHORE: &str =
+const TRY_GET: &str =
     "limit = 100\n[board]\nthreads = 1\nsems = [0]\n[[step]]\ndo = \"try_get\"\nwho = 0\nsem = 0\n";
-
-// The fault of a text, and whether nothing was written.
-fn fault_of(alloc: Global, text: &[u8], limit: Option<u32>) -> (Option<Fault>, bool) {
-    let mut out = Over::new(Vec::new(alloc));
-    let fault = run(alloc, text, limit, Vec::new(alloc), &mut out).err();
-    (fault, out.into_inner().is_empty())
-}
 
 // Whether a text is refused as a whole, with nothing written.
 fn is_bad_text(alloc: Global, text: &[u8]) -> bool {
-    fault_of(alloc, text, None) == (Some(Fault::Text), true)
+    comes_to(alloc, text, None, Err(Fault::Text))
 }
 
 fn is_bad_board(alloc: Global, text: &str) -> bool {
-    fault_of(alloc, text.as_bytes(), None) == (Some(Fault::Board), true)
+    comes_to(alloc, text.as_bytes(), None, Err(Fault::Board))
 }
 
 // The board with these steps.
@@ -34,14 +26,23 @@ fn with_steps(alloc: Global, steps: &str) -> Result<Vec<u8>, AllocError> {
 // Whether just this step of a board with these steps is refused, with nothing written.
 fn is_bad_step(alloc: Global, steps: &str, number: u32) -> bool {
     match with_steps(alloc, steps) {
-        Ok(text) => fault_of(alloc, text.as_slice(), None) == (Some(Fault::Step(number)), true),
+        Ok(text) => comes_to(alloc, text.as_slice(), None, Err(Fault::Step(number))),
         Err(_) => false,
     }
 }
 
 // Whether a scenario is played under a limit that is handed in.
 fn is_limit(alloc: Global, limit: u32) -> bool {
-    fault_of(alloc, FIRST_SEMAPHORE.as_bytes(), Some(limit)) == (None, false)
+    let mut out = Over::new(Vec::new(alloc));
+    let done = run(
+        alloc,
+        TRY_GET.as_bytes(),
+        Some(limit),
+        Vec::new(alloc),
+        &mut out,
+    )
+    .is_ok();
+    done && !out.into_inner().is_empty()
 }
 
 #[test]
@@ -65,27 +66,18 @@ fn bad_texts(rt: HostRuntime) {
     }
 }
 
-// So many spaces.
-fn spaces(alloc: Global, count: usize) -> Result<String, AllocError> {
-    let mut text = String::new(alloc);
-    for _ in 0..count {
-        text.push(' ')?;
-    }
-    Ok(text)
-}
-
-// What is refused of so many spaces; none where there is no memory for them.
-fn fault_of_spaces(alloc: Global, count: usize) -> Option<(Option<Fault>, bool)> {
+// Whether so many spaces are refused for this fault, with nothing written.
+fn are_spaces(alloc: Global, count: usize, fault: Fault) -> bool {
     match spaces(alloc, count) {
-        Ok(text) => Some(fault_of(alloc, text.as_bytes(), None)),
-        Err(_) => None,
+        Ok(text) => comes_to(alloc, text.as_slice(), None, Err(fault)),
+        Err(_) => false,
     }
 }
 
 #[test]
 fn longest_text(rt: HostRuntime) {
     for (count, fault) in [(1_048_577, Fault::Text), (1_048_576, Fault::Board)] {
-        assert!(rt; fault_of_spaces(rt.alloc(), count) == Some((Some(fault), true)));
+        assert!(rt; are_spaces(rt.alloc(), count, fault));
     }
 }
 
@@ -187,18 +179,11 @@ fn limited_by(alloc: Global, limit: &str) -> Result<String, AllocError> {
     Ok(text)
 }
 
-// Whether a text is played with this trace.
-fn is_played(alloc: Global, text: &[u8], trace: &str) -> bool {
-    let mut out = Over::new(Vec::new(alloc));
-    let done = run(alloc, text, None, Vec::new(alloc), &mut out).is_ok();
-    done && out.into_inner().as_slice() == trace.as_bytes()
-}
-
 // Whether a text whose limit is written so is played, and its first line tells a limit of 10.
 fn is_limit_ten(alloc: Global, limit: &str) -> bool {
     let trace = "board threads=1 sems=0 flags=0 xbufs=0 mutexes=0 groups=0 limit=10\n";
     match limited_by(alloc, limit) {
-        Ok(text) => is_played(alloc, text.as_bytes(), trace),
+        Ok(text) => comes_to(alloc, text.as_bytes(), None, Ok(trace)),
         Err(_) => false,
     }
 }
@@ -217,5 +202,5 @@ fn faults_in_order(rt: HostRuntime) {
     assert!(rt; is_bad_board(alloc, board_first));
     assert!(rt; is_bad_text(alloc, b"[board]\nthreads = 0\n[[step]]\ncolour =\n"));
     let own_limit = b"limit = 0\n[board]\nthreads = 1\n";
-    assert!(rt; fault_of(alloc, own_limit, Some(5)) == (Some(Fault::Board), true));
+    assert!(rt; comes_to(alloc, own_limit, Some(5), Err(Fault::Board)));
 }

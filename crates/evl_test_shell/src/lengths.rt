@@ -1,8 +1,7 @@
 //! Scenarios whose traces have a given number of bytes.
+use crate::texts::{BOARD, puts};
 use evl_shell::{Over, run};
-use std::alloc::{AllocError, Global};
-
-const BOARD: &str = "[board]\nthreads = 1\nsems = [0]\n";
+use std::alloc::Global;
 
 /// A scenario of some puts between a head and a tail, and how many bytes its trace has.
 pub(crate) struct Length {
@@ -50,16 +49,6 @@ pub(crate) const LONG: Length = Length {
     bytes: 20_000,
 };
 
-// The scenario's text.
-fn text_of(alloc: Global, length: &Length) -> Result<String, AllocError> {
-    let mut text = String::from_str(alloc, length.head)?;
-    for _ in 0..length.puts {
-        text.push_str("[[step]]\ndo = \"put\"\nwho = 0\nsem = 0\n")?;
-    }
-    text.push_str(length.tail)?;
-    Ok(text)
-}
-
 // The trace of a text, if it is played.
 fn trace_of(alloc: Global, text: &str) -> Option<Vec<u8>> {
     let mut out = Over::new(Vec::new(alloc));
@@ -71,7 +60,7 @@ fn trace_of(alloc: Global, text: &str) -> Option<Vec<u8>> {
 
 /// The scenario's text and its trace, of just so many bytes; none where it isn't played so.
 pub(crate) fn played(alloc: Global, length: &Length) -> Option<(String, Vec<u8>)> {
-    let text = text_of(alloc, length).ok()?;
+    let text = puts(alloc, length.head, length.puts, length.tail).ok()?;
     let trace = trace_of(alloc, text.as_str())?;
     if trace.len() == length.bytes {
         Some((text, trace))

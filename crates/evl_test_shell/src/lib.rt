@@ -22,6 +22,8 @@ mod sinks;
 #[cfg(test)]
 mod statuses;
 #[cfg(test)]
+mod texts;
+#[cfg(test)]
 mod words;
 #[cfg(test)]
 mod writers;

@@ -1,25 +1,14 @@
 //! Inputs that come in small parts, and fail at each read in turn.
+use crate::endings::{NO_WORDS, ends_over};
 use crate::lengths::{ABOUT_A_PART, LONG, Length, SHORTEST, played};
 use crate::writers::Parts;
-use evl_bank::play_program;
-use evl_shell::Over;
 use std::rt::Files;
 
-// Whether the program ends so over an input: its status, what it writes and what it says.
-fn ends_over<F: Files + AllocGlobal>(
-    rt: &F,
-    input: &mut Parts,
-    status: u8,
-    written: &[u8],
-    said: &[u8],
-) -> bool {
-    let words = ["evl"];
-    let alloc = rt.alloc();
-    let mut out = Over::new(Vec::new(alloc));
-    let mut err = Over::new(Vec::new(alloc));
-    let done = play_program(rt, alloc, words.as_slice(), input, &mut out, &mut err);
-    let is_written = out.into_inner().as_slice() == written;
-    done == status && is_written && err.into_inner().as_slice() == said
+// Whether the program finds no file where the read with this number fails, and writes nothing.
+fn fails_at<F: Files + AllocGlobal>(rt: &F, text: &str, most: usize, stop: usize) -> bool {
+    let words = NO_WORDS.as_slice();
+    let mut input = Parts::new(text, most, stop);
+    ends_over(rt, words, &mut input, 2, b"", b"evl: no file\n") && input.reads == stop
 }
 
 // How many reads of at most so many bytes give a text whole; none where its trace isn't written.
@@ -30,7 +19,7 @@ fn reads_of<F: Files + AllocGlobal>(
     most: usize,
 ) -> Option<usize> {
     let mut input = Parts::new(text, most, 0);
-    if ends_over(rt, &mut input, 0, trace, b"") {
+    if ends_over(rt, NO_WORDS.as_slice(), &mut input, 0, trace, b"") {
         Some(input.reads)
     } else {
         None
@@ -43,8 +32,7 @@ fn fails_at_each<F: Files + AllocGlobal>(rt: &F, text: &str, trace: &[u8], most:
         return false;
     };
     for stop in 1..reads.saturating_add(1) {
-        let mut input = Parts::new(text, most, stop);
-        if !ends_over(rt, &mut input, 2, b"", b"evl: no file\n") || input.reads != stop {
+        if !fails_at(rt, text, most, stop) {
             return false;
         }
     }

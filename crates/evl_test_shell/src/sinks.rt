@@ -1,14 +1,23 @@
 //! Runs into sinks that take little, fail, or tell how they were used.
+use crate::texts::{BOARD, TEXT, TRACE, puts};
 use crate::writers::Narrow;
 use evl_shell::{Fault, Over, Sink, run};
-use std::alloc::{AllocError, Global};
+use std::alloc::Global;
 
-const TEXT: &str = "[board]\nthreads = 1\nsems = [0]\n[[step]]\ndo = \"put\"\nwho = 0\nsem = 0\n";
+/// A run of a text into a writer: whether it ends so, and with the sink failed just then; and the writer.
+pub(crate) fn ends(
+    alloc: Global,
+    text: &str,
+    out: Narrow,
+    answer: Result<(), Fault>,
+) -> (bool, Narrow) {
+    let mut out = Over::new(out);
+    let came = run(alloc, text.as_bytes(), None, Vec::new(alloc), &mut out);
+    let is_so = came == answer && out.failed() == answer.is_err();
+    (is_so, out.into_inner())
+}
 
-const TRACE: &str =
-    "board threads=1 sems=1 flags=0 xbufs=0 mutexes=0 groups=0 limit=1000\n1 T0 put sem=0 -> done\n";
-
-// Whether a run ends in a write fault where it has to: the sink has failed just then, and took just so many bytes.
+// Whether a run ends in a write fault where it has to, and the writer took just so many bytes; and the writer.
 fn stops_after(
     alloc: Global,
     text: &str,
@@ -16,12 +25,9 @@ fn stops_after(
     fails: bool,
     count: usize,
 ) -> (bool, Narrow) {
-    let mut out = Over::new(out);
-    let answer = run(alloc, text.as_bytes(), None, Vec::new(alloc), &mut out);
     let wanted = if fails { Err(Fault::Write) } else { Ok(()) };
-    let is_answered = answer == wanted && out.failed() == fails;
-    let writer = out.into_inner();
-    (is_answered && writer.taken.len() == count, writer)
+    let (ends, writer) = ends(alloc, text, out, wanted);
+    (ends && writer.taken.len() == count, writer)
 }
 
 fn starts(taken: &Vec<u8>, trace: &str) -> bool {
@@ -48,18 +54,9 @@ fn each_write_fails_once(rt: HostRuntime) {
     }
 }
 
-// A scenario of so many puts.
-fn puts(alloc: Global, count: usize) -> Result<String, AllocError> {
-    let mut text = String::from_str(alloc, "[board]\nthreads = 1\nsems = [0]\n")?;
-    for _ in 0..count {
-        text.push_str("[[step]]\ndo = \"put\"\nwho = 0\nsem = 0\n")?;
-    }
-    Ok(text)
-}
-
 // How many writes a thousand puts take, where the run ends so and the sink took just so many bytes; none elsewhere.
 fn writes_of_puts(alloc: Global, out: Narrow, fails: bool, count: usize) -> Option<usize> {
-    let Ok(text) = puts(alloc, 1000) else {
+    let Ok(text) = puts(alloc, BOARD, 1000, "") else {
         return None;
     };
     let (ends, writer) = stops_after(alloc, text.as_str(), out, fails, count);

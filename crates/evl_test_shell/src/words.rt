@@ -1,12 +1,10 @@
 //! The program's words: a file, a limit, help, and what is refused.
-use crate::endings::ends_by;
+use crate::endings::{ends_by, taken_at_fault};
+use crate::texts::FIRST_SEMAPHORE;
 use crate::writers::Narrow;
 use evl_bank::play_program;
 use evl_shell::Over;
 use std::rt::Files;
-
-const FIRST_SEMAPHORE: &str =
-    "limit = 100\n[board]\nthreads = 1\nsems = [0]\n[[step]]\ndo = \"try_get\"\nwho = 0\nsem = 0\n[[step]]\ndo = \"put\"\nwho = 0\nsem = 0\n[[step]]\ndo = \"try_get\"\nwho = 0\nsem = 0\n[[step]]\ndo = \"peek\"\nwho = 0\nsem = 0\n";
 
 const UNDER_THREE: &str =
     "board threads=1 sems=1 flags=0 xbufs=0 mutexes=0 groups=0 limit=3\n1 T0 try_get sem=0 -> Again\n2 T0 put sem=0 -> done\n3 T0 try_get sem=0 -> done\n- T0 peek sem=0 -> HistoryFull\n";
@@ -55,12 +53,7 @@ fn refuses_words(rt: HostRuntime) {
 
 // Whether the program tells of a write fault where its help isn't taken whole.
 fn breaks<F: Files + AllocGlobal>(rt: &F, words: &[&str]) -> bool {
-    let alloc = rt.alloc();
-    let mut out = Over::new(Narrow::new(alloc, 10, 2, true));
-    let mut err = Over::new(Vec::new(alloc));
-    let mut input = "".as_bytes();
-    let status = play_program(rt, alloc, words, &mut input, &mut out, &mut err);
-    status == 1 && err.into_inner().as_slice() == b"evl: write fault\n".as_slice()
+    taken_at_fault(rt, words, "", Narrow::new(rt.alloc(), 10, 2, true)).is_some()
 }
 
 #[test]

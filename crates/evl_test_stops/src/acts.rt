@@ -3,8 +3,11 @@ ghost use Rattle.std.specs.Prelude.{◌≡◌};
 ghost use Rattle.evl_kernel.specs.Callbacks.{AnswersAsTold};
 
 use crate::boards::{FLAGS, SEM, XBUF};
-use crate::passes::Passes;
-use evl_base::{Call, MutexId, Policy, Refusal, Reply, SemId, Stage, StaxId, Take, Transfer, Way};
+use crate::passes::{Passes, WRITTEN};
+use evl_base::{
+    Call, FlagId, MutexId, Policy, Refusal, Reply, SemId, Stage, StaxId, Take, ThreadId, Transfer,
+    Way,
+};
 use evl_machine::{CallerOf, MachineOf};
 use evl_pipeline::Handler;
 use std::alloc::Allocator;
@@ -20,6 +23,8 @@ pub enum Ask {
     BeginGet(SemId),
     Finish(bool),
     Tick(u64),
+    PostFlags(FlagId, u32),
+    RankOf(ThreadId),
 }
 
 pub fn call_of(ask: Ask) -> Call {
@@ -31,6 +36,8 @@ pub fn call_of(ask: Ask) -> Call {
         Ask::BeginGet(sem) => Call::BeginGet { sem, until: None },
         Ask::Finish(keep) => Call::Finish { keep },
         Ask::Tick(delta) => Call::Tick { delta },
+        Ask::PostFlags(flags, bits) => Call::PostFlags { flags, bits },
+        Ask::RankOf(thread) => Call::RankOf { thread },
     }
 }
 
@@ -50,16 +57,20 @@ pub enum Act {
     CallAtLast(Ask),
     LockAtLast(MutexId, Option<u64>),
     UnlockAtLast(MutexId),
+    EnterAtLast(StaxId),
+    Switch(Stage),
     WaitFor(Element, Option<u64>),
 }
 
-// For what a caller waits: a semaphore, bits of a flag group, a byte to read, or room for two bytes that it writes.
+// For what a caller waits: a semaphore, bits of a flag group, a byte to read, room for two bytes that it writes, or
+// what was written there.
 #[derive(Clone, Copy)]
 pub enum Element {
     Sem,
     Flags,
     Read,
     Write,
+    Written,
 }
 
 // What it is told.
@@ -68,6 +79,10 @@ pub enum Told {
     Done,
     Begun,
     Count(i64),
+    Bits(u32),
+    Number(u64),
+    // Just the bytes that a caller writes.
+    Written,
     TimedOut,
     Passed,
     Waiting,
@@ -90,6 +105,8 @@ pub fn told_by(answer: Result<Reply, Refusal>) -> Told {
         Ok(Reply::Done) => Told::Done,
         Ok(Reply::Begun) => Told::Begun,
         Ok(Reply::Count(count)) => Told::Count(count),
+        Ok(Reply::Bits(bits)) => Told::Bits(bits),
+        Ok(Reply::Number(number)) => Told::Number(number),
         Ok(Reply::TimedOut) => Told::TimedOut,
         Ok(_) => Told::Nothing,
         Err(refusal) => Told::Refused(refusal),
@@ -258,6 +275,35 @@ fn unlocks_at_last<C: Handler, A: Allocator, R: Wait>(
     }
 }
 
+fn enters_at_last<C: Handler, A: Allocator, R: Wait>(
+    rt: &R,
+    machine: &MachineOf<C, A>,
+    caller: &mut CallerOf<C, A>,
+    passes: &mut Passes,
+    stax: StaxId,
+) -> Told
+    requires machine { caller.old.machine ≡ machine.now }
+    ensures { caller.new.machine ≡ machine.now }
+{
+    passes.entered(machine.lock_stax(rt, caller, stax))
+}
+
+fn switches<C: Handler, A: Allocator, R: Wait>(
+    rt: &R,
+    machine: &MachineOf<C, A>,
+    caller: &mut CallerOf<C, A>,
+    stage: Stage,
+) -> Told
+    requires machine { caller.old.machine ≡ machine.now }
+    requires answering { AnswersAsTold C.declared C.plan machine.now.first.callbacks }
+    ensures { caller.new.machine ≡ machine.now }
+{
+    match stage {
+        Stage::Inband => told_by(machine.switch_inband(rt, caller)),
+        Stage::Oob => told_by(machine.switch_oob(rt, caller)),
+    }
+}
+
 fn gets<C: Handler, A: Allocator, R: Wait>(
     rt: &R,
     machine: &MachineOf<C, A>,
@@ -311,6 +357,31 @@ fn writes<C: Handler, A: Allocator, R: Wait>(
     told_by(machine.write_xbuf(rt, caller, XBUF, Way::Out, bytes, until))
 }
 
+// Reads, in-band, what was written by `writes`.
+fn reads_written<C: Handler, A: Allocator, R: Wait>(
+    rt: &R,
+    machine: &MachineOf<C, A>,
+    caller: &mut CallerOf<C, A>,
+    until: Option<u64>,
+) -> Told
+    requires machine { caller.old.machine ≡ machine.now }
+    requires answering { AnswersAsTold C.declared C.plan machine.now.first.callbacks }
+    ensures { caller.new.machine ≡ machine.now }
+{
+    match machine.read_xbuf(rt, caller, XBUF, Way::Out, 9, until) {
+        Ok(Reply::Bytes(read)) => told_of(read.as_slice()),
+        _ => Told::Nothing,
+    }
+}
+
+fn told_of(read: &[u8]) -> Told {
+    if read == WRITTEN {
+        Told::Written
+    } else {
+        Told::Nothing
+    }
+}
+
 // Waits for an element; the bytes that are written come from the passes' allocator.
 fn waits_for<C: Handler, A: Allocator, R: Wait>(
     rt: &R,
@@ -332,6 +403,7 @@ fn waits_for<C: Handler, A: Allocator, R: Wait>(
             Some(bytes) => writes(rt, machine, caller, bytes, until),
             None => Told::Nothing,
         },
+        Element::Written => reads_written(rt, machine, caller, until),
     }
 }
 
@@ -360,6 +432,8 @@ pub fn does<C: Handler, A: Allocator, R: Wait>(
         Act::CallAtLast(ask) => asks_at_last(rt, machine, caller, ask),
         Act::LockAtLast(mutex, until) => locks_at_last(rt, machine, caller, passes, mutex, until),
         Act::UnlockAtLast(mutex) => unlocks_at_last(rt, machine, caller, passes, mutex),
+        Act::EnterAtLast(stax) => enters_at_last(rt, machine, caller, passes, stax),
+        Act::Switch(stage) => switches(rt, machine, caller, stage),
         Act::WaitFor(element, until) => waits_for(rt, machine, caller, passes, element, until),
     }
 }

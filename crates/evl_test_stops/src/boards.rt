@@ -1,6 +1,6 @@
 //! The board of the rows, and what stands in the word of its first mutex.
 use crate::acts::{Act, Ask, Told};
-use crate::phases::{Left, Step};
+use crate::phases::{Left, Seen, Step};
 use arrayvec::ArrayVec;
 use evl_base::{Board, FlagId, MutexId, MutexKind, Policy, SemId, Stage, StaxId, ThreadId, XbufId};
 use evl_machine::InWord;
@@ -16,6 +16,10 @@ pub const STAX: StaxId = StaxId(0);
 pub const FIRST: MutexId = MutexId(0);
 
 pub const SECOND: MutexId = MutexId(1);
+
+pub const NORMAL: MutexKind = MutexKind::Normal;
+
+pub const CEILING: MutexKind = MutexKind::Ceiling(50);
 
 pub const ATTACH: Act = Act::Call(Ask::Attach(Policy::Fifo(10), Stage::Oob));
 
@@ -41,14 +45,14 @@ pub const CONTENDED: [Step; 4] = [
 ];
 
 // Four threads, of which the last one looks and has the core; a semaphore of count 0, a flag group, a cross-buffer with
-// rings of two bytes, two mutexes of which the second is a normal one, and a stax of limit 1.
+// rings of four bytes, two mutexes of which the second is a normal one, and a stax of limit 1.
 pub fn board_with(first: MutexKind) -> Board {
     let mut sems = ArrayVec::new();
     sems.push(0);
     let mut flags = ArrayVec::new();
     flags.push(0);
     let mut xbufs = ArrayVec::new();
-    xbufs.push((2, 2));
+    xbufs.push((4, 4));
     let mut mutexes = ArrayVec::new();
     mutexes.push(first);
     mutexes.push(MutexKind::Normal);
@@ -65,54 +69,41 @@ pub fn board_with(first: MutexKind) -> Board {
     }
 }
 
-// So many entries, and nobody has the first mutex.
-pub fn free(entries: usize) -> Option<Left> {
-    Some(Left {
-        entries,
-        word: word(None, false),
-        owner: None,
-        waiters: 0,
-    })
+// What is seen where this is left, if it is looked at.
+pub fn seen_of(left: Left) -> Option<Seen> {
+    match left {
+        Left::Unseen => None,
+        Left::Free(entries) => Some(Seen {
+            entries,
+            word: word(None, false),
+            owner: None,
+            waiters: 0,
+        }),
+        Left::Owned(entries, thread) => owned(entries, thread, false, None),
+        Left::Raised(entries, thread) => owned(entries, thread, false, Some(0)),
+        Left::Awaited(entries, thread, waiters) => owned(entries, thread, true, Some(waiters)),
+        Left::Marked(entries, thread) => owned(entries, thread, true, None),
+    }
 }
 
-// So many entries, and this thread has the first mutex, which nobody claims and of which nothing is recorded.
-pub fn owned(entries: usize, thread: u16) -> Option<Left> {
-    Some(Left {
-        entries,
-        word: word(Some(ThreadId(thread)), false),
-        owner: None,
-        waiters: 0,
-    })
-}
-
-// So many entries, and this thread has the first mutex, is its recorded owner, and nobody claims it.
-pub fn raised(entries: usize, thread: u16) -> Option<Left> {
-    Some(Left {
-        entries,
-        word: word(Some(ThreadId(thread)), false),
-        owner: Some(ThreadId(thread)),
-        waiters: 0,
-    })
-}
-
-// So many entries, and this thread has the first mutex, for which so many wait by the kernel's records.
-pub fn awaited(entries: usize, thread: u16, waiters: usize) -> Option<Left> {
-    Some(Left {
-        entries,
-        word: word(Some(ThreadId(thread)), true),
-        owner: Some(ThreadId(thread)),
-        waiters,
-    })
-}
-
-// So many entries, and this thread has the first mutex, at which a mark stands that nobody is recorded for.
-pub fn marked(entries: usize, thread: u16) -> Option<Left> {
-    Some(Left {
-        entries,
-        word: word(Some(ThreadId(thread)), true),
-        owner: None,
-        waiters: 0,
-    })
+// This thread has the first mutex, which is claimed or not; so many wait for it where it is the recorded owner.
+fn owned(entries: usize, thread: u16, is_claimed: bool, recorded: Option<usize>) -> Option<Seen> {
+    let owner = Some(ThreadId(thread));
+    let word = word(owner, is_claimed);
+    match recorded {
+        Some(waiters) => Some(Seen {
+            entries,
+            word,
+            owner,
+            waiters,
+        }),
+        None => Some(Seen {
+            entries,
+            word,
+            owner: None,
+            waiters: 0,
+        }),
+    }
 }
 
 fn word(owner: Option<ThreadId>, is_claimed: bool) -> Option<InWord> {

@@ -5,42 +5,60 @@ ghost use Rattle.evl_kernel.specs.Callbacks.{AnswersAsTold};
 use crate::acts::{Act, Told, call_of, told_by};
 use crate::boards::FIRST;
 use crate::passes::Passes;
-use crate::phases::{Left, Step, answers};
+use crate::phases::{Seen, Step, answers};
+use evl_base::ThreadId;
 use evl_machine::{CallerOf, HeldOf, MachineOf};
 use evl_pipeline::Handler;
 use std::alloc::Allocator;
 use std::sync::Wait;
 
-// What is left, as the caller sees it that has the kernel.
-fn looked<C: Handler, A: Allocator>(held: HeldOf<'_, C, A>) -> (Left, CallerOf<C, A>)
+// What a caller sees that has the kernel.
+fn looked<C: Handler, A: Allocator>(held: HeldOf<'_, C, A>) -> (Seen, CallerOf<C, A>)
     ensures { result.1.machine ≡ held.entry.caller.machine }
 {
     let mut held = held;
     let word = held.in_word(FIRST);
     let kernel = held.kernel();
-    let left = Left {
+    let seen = Seen {
         entries: kernel.history().len(),
         word,
         owner: kernel.owner(FIRST),
         waiters: kernel.waiters(FIRST),
     };
-    (left, held.give())
+    (seen, held.give())
 }
 
-// What is left, as this caller sees it; none where the core is taken.
+// What this caller sees; none where the core is taken.
 pub fn looks<C: Handler, A: Allocator>(
     machine: &MachineOf<C, A>,
     holder: CallerOf<C, A>,
-) -> (Option<Left>, CallerOf<C, A>)
+) -> (Option<Seen>, CallerOf<C, A>)
     requires { holder.machine ≡ machine.now }
     ensures { result.1.machine ≡ machine.now }
 {
     match machine.take(holder) {
         Ok(held) => {
-            let (left, holder) = looked(held);
-            (Some(left), holder)
+            let (seen, holder) = looked(held);
+            (Some(seen), holder)
         }
         Err(holder) => (None, holder),
+    }
+}
+
+// Whether this caller sees that the first thread's wait is over and unfinished.
+pub fn sees_its_end<C: Handler, A: Allocator>(
+    machine: &MachineOf<C, A>,
+    holder: CallerOf<C, A>,
+) -> (bool, CallerOf<C, A>)
+    requires { holder.machine ≡ machine.now }
+    ensures { result.1.machine ≡ machine.now }
+{
+    match machine.take(holder) {
+        Ok(held) => {
+            let over = held.kernel().finished(ThreadId(0));
+            (over, held.give())
+        }
+        Err(holder) => (false, holder),
     }
 }
 

@@ -1,5 +1,5 @@
-//! Tests of calls that stop half way: where each may stop while the other side is held still, what it leaves, and how
-//! one goes on.
+//! Tests of callers on one host thread, over what no text of callers tells: calls that stop half way (where each may
+//! stop while the other side is held still, what it leaves, and how one goes on), those that wait, what is recorded.
 #![tactic(auto)]
 
 #[cfg(test)]
@@ -22,6 +22,8 @@ mod passes;
 mod phases;
 #[cfg(test)]
 mod rows;
+#[cfg(test)]
+mod table;
 #[cfg(test)]
 mod unlockings;
 #[cfg(test)]

@@ -5,6 +5,9 @@ use evl_machine::{Begun, Ended};
 use evl_words::{MutexPass, StaxPass};
 use std::alloc::Global;
 
+// The bytes that a caller writes.
+pub const WRITTEN: &[u8] = b"ab";
+
 // A mutex is unlocked with the pass of it that came first, a stax is left with the pass of the caller of this number.
 #[derive(Drop)]
 pub struct Passes {
@@ -22,10 +25,10 @@ impl Passes {
         }
     }
 
-    // Two bytes to be written.
+    // The bytes to be written, in a box of their own.
     pub fn bytes(&self) -> Option<Transfer> {
         let mut bytes = Transfer::empty(self.alloc).ok()?;
-        bytes.set(b"ab");
+        bytes.set(WRITTEN);
         Some(bytes)
     }
 

@@ -3,7 +3,8 @@ ghost use Rattle.std.specs.Prelude.{◌≡◌, All, IfSome};
 ghost use Rattle.evl_kernel.specs.Callbacks.{AnswersAsTold};
 
 use crate::acts::{Act, Told, does};
-use crate::held::{answers_held, applies, drops_the_kernel, looks};
+use crate::boards::seen_of;
+use crate::held::{answers_held, applies, drops_the_kernel, looks, sees_its_end};
 use crate::memory::Memory;
 use crate::passes::Passes;
 use evl_base::ThreadId;
@@ -32,19 +33,38 @@ pub enum Side {
     Dropped,
     // The first caller was dropped with what it had, so that the second one is the first.
     Lost,
+    // There are no steps: the last caller sees that the first one's wait is over and unfinished.
+    Over,
 }
 
-// What is left: how many entries, what stands in the word of the first mutex, and what the kernel records of it.
+// What is seen: how many entries, what stands in the word of the first mutex, and what the kernel records of it.
 #[derive(Clone, Copy, PartialEq)]
-pub struct Left {
+pub struct Seen {
     pub entries: usize,
     pub word: Option<InWord>,
     pub owner: Option<ThreadId>,
     pub waiters: usize,
 }
 
-// Steps beside a side, and what is left where it can be looked at.
-pub type Phase<'a> = (Side, &'a [Step], Option<Left>);
+// What is left: how many entries, and who has the first mutex.
+#[derive(Clone, Copy)]
+pub enum Left {
+    // It isn't looked at.
+    Unseen,
+    // Nobody has it.
+    Free(usize),
+    // This thread, which nobody is recorded for, with no mark in the word.
+    Owned(usize, u16),
+    // The same, and it is the recorded owner.
+    Raised(usize, u16),
+    // This thread, which is the recorded owner, with a mark in the word, and so many who wait by the records.
+    Awaited(usize, u16, usize),
+    // This thread, with a mark in the word that nobody is recorded for.
+    Marked(usize, u16),
+}
+
+// Steps beside a side, and what is left.
+pub type Phase<'a> = (Side, &'a [Step], Left);
 
 // What the caller at this place is told.
 fn answer<C: Handler, A: Allocator, R: Wait>(
@@ -177,20 +197,36 @@ fn first_is_dropped<C: Handler, A: Allocator>(
     true
 }
 
+// Whether the last caller sees that the first one's wait is over and unfinished.
+fn last_sees_its_end<C: Handler, A: Allocator>(
+    machine: &MachineOf<C, A>,
+    callers: &mut Vec<CallerOf<C, A>, A>,
+) -> bool
+    requires { All (λ c. c.machine ≡ machine.now) callers.old.items }
+    ensures { All (λ c. c.machine ≡ machine.now) callers.new.items }
+{
+    let Some(holder) = last_of(machine, callers) else {
+        return false;
+    };
+    let (told, holder) = sees_its_end(machine, holder);
+    let back = comes_back(machine, callers, holder);
+    told && back
+}
+
 // What is left, as the last caller sees it.
 fn left_of<C: Handler, A: Allocator>(
     machine: &MachineOf<C, A>,
     callers: &mut Vec<CallerOf<C, A>, A>,
-) -> Option<Left>
+) -> Option<Seen>
     requires { All (λ c. c.machine ≡ machine.now) callers.old.items }
     ensures { All (λ c. c.machine ≡ machine.now) callers.new.items }
 {
     let Some(holder) = last_of(machine, callers) else {
         return None;
     };
-    let (left, holder) = looks(machine, holder);
+    let (seen, holder) = looks(machine, holder);
     if comes_back(machine, callers, holder) {
-        left
+        seen
     } else {
         None
     }
@@ -200,14 +236,14 @@ fn left_of<C: Handler, A: Allocator>(
 pub fn is_left<C: Handler, A: Allocator>(
     machine: &MachineOf<C, A>,
     callers: &mut Vec<CallerOf<C, A>, A>,
-    wanted: Option<Left>,
+    wanted: Left,
 ) -> bool
     requires { All (λ c. c.machine ≡ machine.now) callers.old.items }
     ensures { All (λ c. c.machine ≡ machine.now) callers.new.items }
 {
-    match wanted {
+    match seen_of(wanted) {
         None => true,
-        Some(_) => left_of(machine, callers) == wanted,
+        Some(seen) => left_of(machine, callers) == Some(seen),
     }
 }
 
@@ -266,6 +302,7 @@ pub fn answers_by<C: Handler, A: Allocator, R: Wait>(
         Side::Applied | Side::AppliedShort => last_applies(machine, callers, steps),
         Side::Dropped => answers_after_last(rt, machine, callers, passes, steps),
         Side::Lost => answers_after_first(rt, machine, callers, passes, steps),
+        Side::Over => last_sees_its_end(machine, callers),
     };
     drop(taken);
     told

@@ -2,10 +2,11 @@
 ghost use Rattle.std.specs.Prelude.{◌≡◌, All, IfOk};
 ghost use Rattle.evl_kernel.specs.Callbacks.{AnswersAsTold};
 
+use crate::boards::board_with;
 use crate::memory::Memory;
 use crate::passes::Passes;
 use crate::phases::{Phase, answers_by, is_left};
-use evl_base::{Board, Refusal};
+use evl_base::{Board, MutexKind, Refusal};
 use evl_machine::{CallerOf, MachineOf};
 use evl_pipeline::{Callback, Handler};
 use linked_list_allocator::LocalHeap;
@@ -94,27 +95,35 @@ fn is_row_of<C: Handler, A: Allocator + Clone, R: Wait>(
 fn is_row_over<R: Wait>(
     rt: &R,
     memory: Memory<'_>,
-    board: Board,
+    first: MutexKind,
     limit: u32,
     phases: &[Phase<'_>],
 ) -> bool {
     let bank: Vec<Callback, &LocalHeap> = Vec::new(memory.heap);
-    is_row_of(rt, memory, memory.heap, board, bank, limit, phases)
+    is_row_of(
+        rt,
+        memory,
+        memory.heap,
+        board_with(first),
+        bank,
+        limit,
+        phases,
+    )
 }
 
-// Whether the phases are answered as it is wanted by a new machine whose history has so many entries at most, and leave
-// what is wanted.
+// Whether the phases are answered as it is wanted by a new machine, whose first mutex is of this kind and whose history
+// has so many entries at most, and leave what is wanted.
 pub fn is_row<R: Wait>(
     rt: &R,
     boxes: Global,
-    board: Board,
+    first: MutexKind,
     limit: u32,
     phases: &[Phase<'_>],
 ) -> bool {
     match LocalHeap::new(boxes, ENOUGH) {
         Ok(heap) => {
             let memory = Memory { heap: &heap, boxes };
-            is_row_over(rt, memory, board, limit, phases)
+            is_row_over(rt, memory, first, limit, phases)
         }
         Err(_) => false,
     }

@@ -1,13 +1,78 @@
 //! Closing a machine of two callers.
 ghost use Rattle.std.specs.Prelude.{◌≡◌, All, IfOk, IfSome};
 
-use super::acts::{Passes, Told};
-use super::rows::{Round, gets_the_kernel, is_row, made, one_of};
-use super::{BOTH_ATTACH, GET, PUT, board_of_two, is_core_row};
-use evl_base::{Call, Entry, Refusal, Reply, ThreadId};
+use super::acts::{Ask, Told, call_of, told_by};
+use super::rows::{answers, comes_back, one_of};
+use super::{BOTH_ATTACH, MUTEX, ONCE_FREE, SEM, board_of_two};
+use evl_base::{Board, Call, Entry, Refusal, Reply, ThreadId};
 use evl_kernel::Kernel;
-use evl_machine::{Caller, Machine};
+use evl_machine::{Caller, InWord, Machine};
 use std::alloc::Global;
+use std::sync::Wait;
+
+// A machine over a board with no callbacks, and its callers.
+fn made(alloc: Global, board: Board) -> Result<(Machine, Vec<Caller>), Refusal>
+    ensures { IfOk result (λ m. All (λ c. c.machine ≡ m.0.of) m.1.items) }
+{
+    match Machine::new(alloc, board, Vec::new(alloc), 100) {
+        Ok(made) => Ok(made),
+        Err(refusal) => Err(refusal),
+    }
+}
+
+// Whether a put is done, as the third call, while the mutex is free.
+fn is_third_put(put: Told, word: Option<InWord>, calls: usize) -> bool {
+    let free = InWord {
+        owner: None,
+        is_claimed: false,
+    };
+    put == Told::Done && word == Some(free) && calls == 3
+}
+
+// Has the kernel for one put, which is the third call.
+fn holds_a_put(machine: &Machine, caller: Caller) -> (bool, Caller)
+    requires { caller.machine ≡ machine.now.of }
+    ensures { result.1.machine ≡ machine.now.of }
+{
+    match machine.take(caller) {
+        Ok(mut held) => {
+            let put = told_by(held.apply(call_of(Ask::Put(SEM))));
+            let word = held.in_word(MUTEX);
+            let calls = held.kernel().history().len();
+            let caller = held.give();
+            (is_third_put(put, word, calls), caller)
+        }
+        Err(caller) => (false, caller),
+    }
+}
+
+// Whether the first caller has the kernel for one put, and comes back.
+fn is_put_held(machine: &Machine, callers: &mut Vec<Caller>) -> bool
+    requires { All (λ c. c.machine ≡ machine.now.of) callers.old.items }
+    ensures { All (λ c. c.machine ≡ machine.now.of) callers.new.items }
+{
+    let Some(second) = one_of(&machine.of, callers, true) else {
+        return false;
+    };
+    let Some(first) = one_of(&machine.of, callers, true) else {
+        return false;
+    };
+    let (told, first) = holds_a_put(machine, first);
+    let first_back = comes_back(&machine.of, callers, first);
+    let second_back = comes_back(&machine.of, callers, second);
+    told && first_back && second_back
+}
+
+// Row core_held, but for the second caller's calls while the first one has the core, which make no entries.
+fn is_core_row<R: Wait>(rt: &R, machine: &Machine, callers: &mut Vec<Caller>) -> bool
+    requires { All (λ c. c.machine ≡ machine.now.of) callers.old.items }
+    ensures { All (λ c. c.machine ≡ machine.now.of) callers.new.items }
+{
+    let attached = answers(rt, &machine.of, callers, &BOTH_ATTACH);
+    let held = is_put_held(machine, callers);
+    let free = answers(rt, &machine.of, callers, &ONCE_FREE);
+    attached && held && free
+}
 
 fn is_done(answer: &Result<Reply, Refusal>) -> bool {
     matches!(answer, Ok(Reply::Done))
@@ -84,8 +149,8 @@ fn joins(
     ensures away { All (λ c. c.machine ≡ machine.now.of) away.new.items }
     ensures callers { All (λ c. c.machine ≡ machine.now.of) callers.new.items }
 {
-    match one_of(machine, away, is_last) {
-        Some(caller) => callers.push(caller).is_ok(),
+    match one_of(&machine.of, away, is_last) {
+        Some(caller) => comes_back(&machine.of, callers, caller),
         None => false,
     }
 }
@@ -133,11 +198,11 @@ fn closed_with_both(
 }
 
 // Whether the machine of the row is closed with both callers alone, in either order, and has its history.
-fn is_row_closed(alloc: Global, is_last: bool) -> bool {
-    let Ok((machine, mut callers)) = made(alloc, board_of_two(), Vec::new(alloc), 100) else {
+fn is_row_closed<R: Wait>(rt: &R, alloc: Global, is_last: bool) -> bool {
+    let Ok((machine, mut callers)) = made(alloc, board_of_two()) else {
         return false;
     };
-    let told = is_core_row(&machine, &mut callers, &mut Passes::new(alloc));
+    let told = is_core_row(rt, &machine, &mut callers);
     match closed_with_both(machine, Vec::new(alloc), &mut callers, is_last) {
         Some(kernel) => told && is_history_of_row(kernel.history()),
         None => false,
@@ -147,7 +212,7 @@ fn is_row_closed(alloc: Global, is_last: bool) -> bool {
 #[test]
 fn close_machine(rt: HostRuntime) {
     for is_last in [false, true] {
-        assert!(rt; is_row_closed(rt.alloc(), is_last));
+        assert!(rt; is_row_closed(&rt, rt.alloc(), is_last));
     }
 }
 
@@ -156,15 +221,15 @@ fn drops_the_kernel(machine: &Machine, callers: &mut Vec<Caller>, is_last: bool)
     requires { All (λ c. c.machine ≡ machine.now.of) callers.old.items }
     ensures { All (λ c. c.machine ≡ machine.now.of) callers.new.items }
 {
-    match one_of(machine, callers, is_last) {
-        Some(caller) => gets_the_kernel(machine, caller),
+    match one_of(&machine.of, callers, is_last) {
+        Some(caller) => machine.take(caller).is_ok(),
         None => false,
     }
 }
 
 // Whether a machine isn't closed of which one caller was dropped with the kernel.
 fn stays_busy(alloc: Global, is_last: bool) -> bool {
-    match made(alloc, board_of_two(), Vec::new(alloc), 100) {
+    match made(alloc, board_of_two()) {
         Ok((machine, mut callers)) => {
             let dropped = drops_the_kernel(&machine, &mut callers, is_last);
             let busy = refused(machine, callers, Refusal::CoreBusy).is_some();
@@ -179,17 +244,4 @@ fn close_with_a_dropped_holder(rt: HostRuntime) {
     for is_last in [false, true] {
         assert!(rt; stays_busy(rt.alloc(), is_last));
     }
-}
-
-// A thousand rounds of a put by the first and a get by the second, and of a put by the second and a get by the first.
-#[test]
-fn quiet_core_is_never_busy(rt: HostRuntime) {
-    let steps = [
-        (0, PUT, Told::Done),
-        (1, GET, Told::Done),
-        (1, PUT, Told::Done),
-        (0, GET, Told::Done),
-    ];
-    let rounds: [Round<'_>; 2] = [(1, &BOTH_ATTACH), (1000, &steps)];
-    assert!(rt; is_row(rt.alloc(), board_of_two(), 10_000, &rounds));
 }

@@ -1,6 +1,6 @@
 //! Memory that is too short for a machine.
 use super::board_of_two;
-use crate::short::{Making, made_in};
+use crate::short::{Making, is_made_where_it_fits, made_in};
 use evl_base::Refusal;
 use evl_machine::MachineOf;
 use evl_pipeline::Callback;
@@ -21,27 +21,25 @@ impl Making for OneMachine {
     }
 }
 
+// The size of the first heap that has a machine, of those that grow by 8192 bytes.
+fn large_enough(alloc: Global) -> Option<usize> {
+    for step in 1usize..128 {
+        match made_in::<OneMachine>(alloc, step * 8192) {
+            Some(true) => return Some(step * 8192),
+            Some(false) => {}
+            None => return None,
+        }
+    }
+    None
+}
+
 // Heaps whose sizes grow by 16 bytes, between one that is too small and one that is large enough, refuse each of the
 // last growths in turn. What was taken before a refusal goes back.
 #[test]
 fn short_memory_is_refused_and_given_back(rt: HostRuntime) {
-    let mut large = 0usize;
-    for step in 1usize..128 {
-        let made = made_in::<OneMachine>(rt.alloc(), step * 8192);
-        assert!(rt; made.is_some());
-        if made == Some(true) {
-            large = step * 8192;
-            break;
-        }
-    }
-    assert!(rt; large >= 8192);
-    let mut refused = 0u32;
-    for step in 0usize..512 {
-        let made = made_in::<OneMachine>(rt.alloc(), large - 8192 + step * 16);
-        assert!(rt; made.is_some());
-        if made == Some(false) {
-            refused = refused.saturating_add(1);
-        }
-    }
-    assert!(rt; refused >= 1);
+    let Some(large) = large_enough(rt.alloc()) else {
+        panic!(rt; "no heap has a machine");
+    };
+    let from = large.saturating_sub(8192);
+    assert!(rt; is_made_where_it_fits::<OneMachine>(rt.alloc(), from, 513));
 }

@@ -1,15 +1,17 @@
 //! Rows of two host threads as data: what is done before and after them on one, what each does, and what they leave.
 ghost use Rattle.std.specs.Prelude.{◌≡◌, All};
+ghost use Rattle.evl_kernel.specs.Callbacks.{AnswersAsTold};
 
-use super::acts::Passes;
+use super::board_of_two;
 use super::closing::{is_attach, is_put};
-use super::rows::{Step, answers, come_back, last_of, made};
-use super::threads::{Task, on_two_threads};
-use evl_base::{Board, Entry};
-use evl_kernel::Kernel;
-use evl_machine::{Caller, Machine};
-use evl_pipeline::Callback;
-use std::alloc::Global;
+use super::rows::{Step, answers, comes_back, made, one_of};
+use super::threads::{Hand, Task, both_call};
+use evl_base::{Entry, MutexId};
+use evl_kernel::KernelOf;
+use evl_machine::{CallerOf, MachineOf};
+use evl_pipeline::{Callback, Handler};
+use evl_words::MutexPass;
+use std::alloc::{Allocator, Global};
 use std::sync::Wait;
 use std::thread::Threads;
 
@@ -23,55 +25,81 @@ pub enum Left {
     Plays(usize),
 }
 
-// What two host threads do, and of how many calls each is told, between steps on one.
+// What two host threads do, and of how much each is told, between steps on one. The first caller may lock a mutex
+// before it goes, and then takes its pass with it.
 #[derive(Clone, Copy)]
 pub struct ThreadRow<'a> {
     pub before: &'a [Step],
+    pub locks: Option<MutexId>,
     pub tasks: (Task, Task),
     pub told: (u32, u32),
     pub after: &'a [Step],
     pub left: Left,
 }
 
-// Both callers work on two host threads; of how many calls each is told.
-fn told_on_threads<R: Threads + Wait + Sync>(
-    rt: &R,
-    machine: &Machine,
-    callers: &mut Vec<Caller>,
-    tasks: (Task, Task),
-) -> Option<(u32, u32)>
-    requires { All (λ c. c.machine ≡ machine.now.of) callers.old.items }
-    ensures { All (λ c. c.machine ≡ machine.now.of) callers.new.items }
+// The pass of a mutex, where there is one to be locked.
+fn pass_of<C: Handler, A: Allocator>(
+    machine: &MachineOf<C, A>,
+    caller: &mut CallerOf<C, A>,
+    mutex: Option<MutexId>,
+) -> Option<MutexPass>
+    requires machine { caller.old.machine ≡ machine.now }
+    requires answering { AnswersAsTold C.declared C.plan machine.now.first.callbacks }
+    ensures { caller.new.machine ≡ machine.now }
 {
-    let Some(second) = last_of(machine, callers) else {
-        return None;
-    };
-    let Some(first) = last_of(machine, callers) else {
-        return None;
-    };
-    let (one, two) = on_two_threads(rt, machine, first, second, tasks);
-    if come_back(machine, callers, one.0, two.0) {
-        Some((one.1, two.1))
-    } else {
-        None
+    match mutex {
+        Some(mutex) => machine.try_lock_mutex(caller, mutex).ok(),
+        None => None,
     }
 }
 
-// Whether the row is answered as it is wanted.
-fn answers_row<R: Threads + Wait + Sync>(
+// Whether both callers are told on two host threads what is wanted, and come back.
+fn told_on_threads<C: Handler + Send, R: Threads + Wait + Sync>(
     rt: &R,
-    machine: &Machine,
-    callers: &mut Vec<Caller>,
-    passes: &mut Passes,
+    machine: &MachineOf<C, Global>,
+    callers: &mut Vec<CallerOf<C, Global>>,
     row: &ThreadRow<'_>,
 ) -> bool
-    requires { All (λ c. c.machine ≡ machine.now.of) callers.old.items }
-    ensures { All (λ c. c.machine ≡ machine.now.of) callers.new.items }
+    requires callers { All (λ c. c.machine ≡ machine.now) callers.old.items }
+    requires answering { AnswersAsTold C.declared C.plan machine.now.first.callbacks }
+    ensures { All (λ c. c.machine ≡ machine.now) callers.new.items }
 {
-    let before = answers(machine, callers, passes, row.before);
-    let told = told_on_threads(rt, machine, callers, row.tasks);
-    let after = answers(machine, callers, passes, row.after);
-    before && told == Some(row.told) && after
+    let Some(second) = one_of(machine, callers, true) else {
+        return false;
+    };
+    let Some(mut first) = one_of(machine, callers, true) else {
+        return false;
+    };
+    let pass = pass_of(machine, &mut first, row.locks);
+    let first = Hand {
+        caller: first,
+        pass,
+    };
+    let second = Hand {
+        caller: second,
+        pass: None,
+    };
+    let (first, second, told) = both_call(rt, machine, first, second, row.tasks);
+    let first_back = comes_back(machine, callers, first);
+    let second_back = comes_back(machine, callers, second);
+    first_back && second_back && told == row.told
+}
+
+// Whether the row is answered as it is wanted.
+fn answers_row<C: Handler + Send, R: Threads + Wait + Sync>(
+    rt: &R,
+    machine: &MachineOf<C, Global>,
+    callers: &mut Vec<CallerOf<C, Global>>,
+    row: &ThreadRow<'_>,
+) -> bool
+    requires callers { All (λ c. c.machine ≡ machine.now) callers.old.items }
+    requires answering { AnswersAsTold C.declared C.plan machine.now.first.callbacks }
+    ensures { All (λ c. c.machine ≡ machine.now) callers.new.items }
+{
+    let before = answers(rt, machine, callers, row.before);
+    let told = told_on_threads(rt, machine, callers, row);
+    let after = answers(rt, machine, callers, row.after);
+    before && told && after
 }
 
 // How many of these calls are done puts of a thread.
@@ -87,15 +115,8 @@ fn is_history(history: &[Entry], count: usize, puts: (usize, usize)) -> bool {
     attached && calls.len() == count && puts_by(calls, 0) == puts.0 && puts_by(calls, 1) == puts.1
 }
 
-// Whether there is a kernel, and it has what is wanted.
-pub fn is_left(kernel: Option<Kernel>, left: Left) -> bool {
-    match kernel {
-        Some(kernel) => kernel_has(&kernel, left),
-        None => false,
-    }
-}
-
-fn kernel_has(kernel: &Kernel, left: Left) -> bool {
+// Whether a kernel has what is wanted.
+fn kernel_has<C: Handler>(kernel: &KernelOf<C, Global>, left: Left) -> bool {
     match left {
         Left::Unasked => true,
         Left::Calls(count, puts) => is_history(kernel.history(), count, puts),
@@ -103,21 +124,34 @@ fn kernel_has(kernel: &Kernel, left: Left) -> bool {
     }
 }
 
-// The kernel of a new machine, once a row was answered as it is wanted.
-pub fn kernel_of_row<R: Threads + Wait + Sync>(
+// Whether a row over a new machine with these callbacks is answered as it is wanted, the machine is closed then, and
+// its kernel has what is wanted.
+pub fn is_row_over<C: Handler + Send, R: Threads + Wait + Sync>(
     rt: &R,
     alloc: Global,
-    board: Board,
-    bank: Vec<Callback>,
+    bank: Vec<C>,
     limit: u32,
     row: &ThreadRow<'_>,
-) -> Option<Kernel> {
-    let Ok((machine, mut callers)) = made(alloc, board, bank, limit) else {
-        return None;
-    };
-    if answers_row(rt, &machine, &mut callers, &mut Passes::new(alloc), row) {
-        machine.close(callers).ok()
-    } else {
-        None
+) -> bool {
+    match made(alloc, alloc, board_of_two(), bank, limit) {
+        Ok((machine, mut callers)) => {
+            let told = answers_row(rt, &machine, &mut callers, row);
+            match machine.close(callers) {
+                Ok(kernel) => told && kernel_has(&kernel, row.left),
+                Err(_) => false,
+            }
+        }
+        Err(_) => false,
     }
+}
+
+// The same with no callbacks.
+pub fn is_thread_row<R: Threads + Wait + Sync>(
+    rt: &R,
+    alloc: Global,
+    limit: u32,
+    row: &ThreadRow<'_>,
+) -> bool {
+    let bank: Vec<Callback> = Vec::new(alloc);
+    is_row_over(rt, alloc, bank, limit, row)
 }

@@ -2,9 +2,12 @@
 ghost use Rattle.std.specs.Prelude.{◌≡◌, ◌≤◌};
 ghost use Rattle.evl_kernel.specs.Callbacks.{AnswersAsTold};
 
-use evl_base::{Call, LineNo, MutexId, Refusal, Reply, SemId, StaxId};
-use evl_machine::{Caller, CallerOf, Ended, Machine, MachineOf};
+use super::acts::{Act, Ask, Told, call_of, does};
+use super::{LINE, MUTEX, OTHER, SEM, STAX};
+use evl_base::{Refusal, Reply};
+use evl_machine::{CallerOf, MachineOf};
 use evl_pipeline::Handler;
+use evl_words::MutexPass;
 use std::alloc::{Allocator, Global};
 use std::sync::Wait;
 use std::sync::atomic::{AtomicBool, Ordering};
@@ -44,73 +47,94 @@ fn wait_for(sign: &AtomicBool) -> bool {
 // What a host thread does with its caller.
 #[derive(Clone, Copy)]
 pub enum Task {
-    // Puts so often.
-    Puts(u32),
-    // Lets an event arrive on a line so often.
-    Arrivals(u32, LineNo),
-    // Takes the kernel, and gives it back only once the other thread has tried.
-    Holds,
-    // Tries three calls, once the other thread has the kernel.
-    Tries,
-    // Takes the kernel, puts, and gives the kernel back only once the other thread has tried.
+    // Takes a turn so often.
+    Turns(u32, Turn),
+    // Takes the kernel, puts, and gives the kernel back only once the other thread has taken its turn.
     HoldsAPut,
-    // Tries a put, a stax and a mutex, once the other thread has the kernel.
-    TriesElements(StaxId, MutexId),
-    // Waits for the first semaphore, and then puts the second one.
-    GetsThenPuts(SemId, SemId),
-    // Puts the first semaphore, and then waits for the second one.
-    PutsThenGets(SemId, SemId),
-    // Waits for a stax, enters it and leaves it, so often.
-    Enters(u32, StaxId),
-    // Waits for a mutex, locks it and unlocks it, so often.
-    Locks(u32, MutexId),
+    // Takes a turn once the other thread has the kernel.
+    Beside(Turn),
 }
 
-// What goes to a host thread and works there on what all threads share.
-pub trait Worker<M>: Drop {
-    ghost fits: { Self → M → Type 0 };
-
-    // It comes back with the number of its calls that were answered as the task wants.
-    fn work<R: Wait>(self, rt: &R, shared: &M, signs: &Signs, task: Task) -> (Self, u32)
-        requires { fits self shared.now }
-        ensures { fits result.0 shared.now };
+// A turn.
+#[derive(Clone, Copy)]
+pub enum Turn {
+    Puts,
+    Arrives,
+    GetsThenPuts,
+    PutsThenGets,
+    Enters,
+    Locks,
+    TriesAll,
 }
 
-impl<C: Handler, A: Allocator> Worker<MachineOf<C, A>> for CallerOf<C, A> {
-    ghost use Rattle.std.specs.Prelude.{◌≡◌};
-    ghost use Rattle.evl_kernel.specs.Callbacks.{AnswersAsTold};
+const PUTS: [(Act, Told); 1] = [(Act::Call(Ask::Put(SEM)), Told::Done)];
 
-    ghost fits = { λ c m. (c.machine ≡ m) × AnswersAsTold C.declared C.plan m.first.callbacks };
+const ARRIVES: [(Act, Told); 1] = [(Act::Call(Ask::Arrive(LINE)), Told::Done)];
 
-    fn work<R: Wait>(
-        self,
-        rt: &R,
-        shared: &MachineOf<C, A>,
-        signs: &Signs,
-        task: Task,
-    ) -> (CallerOf<C, A>, u32) {
-        match task {
-            Task::Puts(times) => called(rt, shared, self, put(), times),
-            Task::Arrivals(times, line) => called(rt, shared, self, Call::Arrive { line }, times),
-            Task::Holds => holds(shared, self, signs),
-            Task::Tries => tries(shared, self, signs),
-            Task::HoldsAPut => holds_a_put(shared, self, signs),
-            Task::TriesElements(stax, mutex) => tries_elements(shared, self, signs, stax, mutex),
-            Task::GetsThenPuts(from, to) => gets_then_puts(rt, shared, self, from, to),
-            Task::PutsThenGets(to, from) => puts_then_gets(rt, shared, self, to, from),
-            Task::Enters(times, stax) => enters(rt, shared, self, stax, times),
-            Task::Locks(times, mutex) => locks(rt, shared, self, mutex, times),
-        }
+// Waits for the first semaphore, and then puts the second one.
+const GETS_THEN_PUTS: [(Act, Told); 2] = [
+    (Act::Get(SEM), Told::Done),
+    (Act::Call(Ask::Put(OTHER)), Told::Done),
+];
+
+// Puts the first semaphore, and then waits for the second one.
+const PUTS_THEN_GETS: [(Act, Told); 2] = [
+    (Act::Call(Ask::Put(SEM)), Told::Done),
+    (Act::Get(OTHER), Told::Done),
+];
+
+const ENTERS: [(Act, Told); 1] = [(Act::Through(STAX), Told::Done)];
+
+const LOCKS: [(Act, Told); 1] = [(Act::Has(MUTEX), Told::Done)];
+
+// While another caller has the kernel a call of it is refused, and a stax and a mutex are free.
+const TRIES_ALL: [(Act, Told); 5] = [
+    (Act::Try(Ask::Put(SEM)), Told::Refused(Refusal::CoreBusy)),
+    (Act::Try(Ask::TryGet(SEM)), Told::Refused(Refusal::CoreBusy)),
+    (Act::Try(Ask::Peek(SEM)), Told::Refused(Refusal::CoreBusy)),
+    (Act::Enter(STAX), Told::Done),
+    (Act::Lock(MUTEX), Told::Done),
+];
+
+// What is done in a turn, and told.
+fn acts_of(turn: Turn) -> &'static [(Act, Told)] {
+    match turn {
+        Turn::Puts => &PUTS,
+        Turn::Arrives => &ARRIVES,
+        Turn::GetsThenPuts => &GETS_THEN_PUTS,
+        Turn::PutsThenGets => &PUTS_THEN_GETS,
+        Turn::Enters => &ENTERS,
+        Turn::Locks => &LOCKS,
+        Turn::TriesAll => &TRIES_ALL,
     }
 }
 
-// Makes a call so often, each time however long another caller has the core, and counts how many were done.
-fn called<C: Handler, A: Allocator, R: Wait>(
+// Whether all of a turn is answered as it is wanted.
+fn takes_turn<C: Handler, A: Allocator, R: Wait>(
+    rt: &R,
+    machine: &MachineOf<C, A>,
+    caller: &mut CallerOf<C, A>,
+    turn: Turn,
+) -> bool
+    requires machine { caller.old.machine ≡ machine.now }
+    requires answering { AnswersAsTold C.declared C.plan machine.now.first.callbacks }
+    ensures { caller.new.machine ≡ machine.now }
+{
+    for (act, wanted) in acts_of(turn) {
+        if does(rt, machine, caller, *act) != *wanted {
+            return false;
+        }
+    }
+    true
+}
+
+// Takes a turn so often, and counts how often all of it was answered as it is wanted.
+fn turns<C: Handler, A: Allocator, R: Wait>(
     rt: &R,
     machine: &MachineOf<C, A>,
     mut caller: CallerOf<C, A>,
-    call: Call,
     times: u32,
+    turn: Turn,
 ) -> (CallerOf<C, A>, u32)
     requires machine { caller.machine ≡ machine.now }
     requires answering { AnswersAsTold C.declared C.plan machine.now.first.callbacks }
@@ -118,78 +142,9 @@ fn called<C: Handler, A: Allocator, R: Wait>(
 {
     let mut done = 0;
     for _ in 0..times {
-        if let Ok(Reply::Done) = machine.call(rt, &mut caller, copy_of(&call)) {
-            done += 1;
-        }
+        done += u32::from(takes_turn(rt, machine, &mut caller, turn));
     }
     (caller, done)
-}
-
-fn put() -> Call {
-    Call::Put { sem: SemId(0) }
-}
-
-fn get() -> Call {
-    Call::TryGet { sem: SemId(0) }
-}
-
-fn copy_of(call: &Call) -> Call {
-    match call {
-        Call::Arrive { line } => Call::Arrive { line: *line },
-        _ => put(),
-    }
-}
-
-// Has the kernel until the other thread has tried; 1 where it was free.
-fn holds<C: Handler, A: Allocator>(
-    machine: &MachineOf<C, A>,
-    caller: CallerOf<C, A>,
-    signs: &Signs,
-) -> (CallerOf<C, A>, u32)
-    requires { caller.machine ≡ machine.now }
-    ensures { result.0.machine ≡ machine.now }
-{
-    match machine.take(caller) {
-        Err(caller) => (caller, 0),
-        Ok(held) => {
-            signs.taken.store(true, Ordering::SeqCst);
-            let _tried = wait_for(&signs.tried);
-            (held.give(), 1)
-        }
-    }
-}
-
-// How many of three calls were told that the core is busy.
-fn tries<C: Handler, A: Allocator>(
-    machine: &MachineOf<C, A>,
-    mut caller: CallerOf<C, A>,
-    signs: &Signs,
-) -> (CallerOf<C, A>, u32)
-    requires machine { caller.machine ≡ machine.now }
-    requires answering { AnswersAsTold C.declared C.plan machine.now.first.callbacks }
-    ensures machine { result.0.machine ≡ machine.now }
-{
-    let _taken = wait_for(&signs.taken);
-    let put_busy = is_busy(machine, &mut caller, put());
-    let get_busy = is_busy(machine, &mut caller, get());
-    let peek_busy = is_busy(machine, &mut caller, Call::Peek { sem: SemId(0) });
-    signs.tried.store(true, Ordering::SeqCst);
-    (
-        caller,
-        u32::from(put_busy) + u32::from(get_busy) + u32::from(peek_busy),
-    )
-}
-
-fn is_busy<C: Handler, A: Allocator>(
-    machine: &MachineOf<C, A>,
-    caller: &mut CallerOf<C, A>,
-    call: Call,
-) -> bool
-    requires machine { caller.old.machine ≡ machine.now }
-    requires answering { AnswersAsTold C.declared C.plan machine.now.first.callbacks }
-    ensures { caller.new.machine ≡ caller.old.machine }
-{
-    matches!(machine.try_call(caller, call), Err(Refusal::CoreBusy))
 }
 
 // Has the kernel for one put, until the other thread has tried; 2 where the put was done and the other thread's sign
@@ -206,7 +161,7 @@ fn holds_a_put<C: Handler, A: Allocator>(
     match machine.take(caller) {
         Err(caller) => (caller, 0),
         Ok(mut held) => {
-            let done = matches!(held.apply(put()), Ok(Reply::Done));
+            let done = matches!(held.apply(call_of(Ask::Put(SEM))), Ok(Reply::Done));
             signs.taken.store(true, Ordering::SeqCst);
             let tried = wait_for(&signs.tried);
             (held.give(), u32::from(done) + u32::from(tried))
@@ -214,160 +169,101 @@ fn holds_a_put<C: Handler, A: Allocator>(
     }
 }
 
-// How many of three tries were answered as they are while another thread has the kernel: a put is told that it is busy,
-// a stax and a mutex are free.
-fn tries_elements<C: Handler, A: Allocator>(
+// Takes a turn while the other thread has the kernel, and tells that thread; 2 where that one's sign came, and all of
+// the turn was answered as it is wanted.
+fn takes_turn_beside<C: Handler, A: Allocator, R: Wait>(
+    rt: &R,
     machine: &MachineOf<C, A>,
     mut caller: CallerOf<C, A>,
     signs: &Signs,
-    stax: StaxId,
-    mutex: MutexId,
+    turn: Turn,
 ) -> (CallerOf<C, A>, u32)
     requires machine { caller.machine ≡ machine.now }
     requires answering { AnswersAsTold C.declared C.plan machine.now.first.callbacks }
     ensures machine { result.0.machine ≡ machine.now }
 {
-    let _taken = wait_for(&signs.taken);
-    let busy = is_busy(machine, &mut caller, put());
-    let entered = machine.try_lock_stax(&mut caller, stax).is_ok();
-    let locked = machine.try_lock_mutex(&mut caller, mutex).is_ok();
+    let taken = wait_for(&signs.taken);
+    let told = takes_turn(rt, machine, &mut caller, turn);
     signs.tried.store(true, Ordering::SeqCst);
-    (
-        caller,
-        u32::from(busy) + u32::from(entered) + u32::from(locked),
-    )
+    (caller, u32::from(taken) + u32::from(told))
 }
 
-// How many of a wait for a semaphore, and a put of another one, were done.
-fn gets_then_puts<C: Handler, A: Allocator, R: Wait>(
+// What a caller does on its host thread.
+fn works<C: Handler, A: Allocator, R: Wait>(
     rt: &R,
     machine: &MachineOf<C, A>,
-    mut caller: CallerOf<C, A>,
-    from: SemId,
-    to: SemId,
+    caller: CallerOf<C, A>,
+    signs: &Signs,
+    task: Task,
 ) -> (CallerOf<C, A>, u32)
     requires machine { caller.machine ≡ machine.now }
     requires answering { AnswersAsTold C.declared C.plan machine.now.first.callbacks }
     ensures machine { result.0.machine ≡ machine.now }
 {
-    let got = gets(rt, machine, &mut caller, from);
-    let put = puts(rt, machine, &mut caller, to);
-    (caller, u32::from(got) + u32::from(put))
-}
-
-// The same, the put first.
-fn puts_then_gets<C: Handler, A: Allocator, R: Wait>(
-    rt: &R,
-    machine: &MachineOf<C, A>,
-    mut caller: CallerOf<C, A>,
-    to: SemId,
-    from: SemId,
-) -> (CallerOf<C, A>, u32)
-    requires machine { caller.machine ≡ machine.now }
-    requires answering { AnswersAsTold C.declared C.plan machine.now.first.callbacks }
-    ensures machine { result.0.machine ≡ machine.now }
-{
-    let put = puts(rt, machine, &mut caller, to);
-    let got = gets(rt, machine, &mut caller, from);
-    (caller, u32::from(put) + u32::from(got))
-}
-
-fn gets<C: Handler, A: Allocator, R: Wait>(
-    rt: &R,
-    machine: &MachineOf<C, A>,
-    caller: &mut CallerOf<C, A>,
-    sem: SemId,
-) -> bool
-    requires machine { caller.old.machine ≡ machine.now }
-    requires answering { AnswersAsTold C.declared C.plan machine.now.first.callbacks }
-    ensures { caller.new.machine ≡ caller.old.machine }
-{
-    matches!(machine.get_sem(rt, caller, sem, None), Ok(Reply::Done))
-}
-
-fn puts<C: Handler, A: Allocator, R: Wait>(
-    rt: &R,
-    machine: &MachineOf<C, A>,
-    caller: &mut CallerOf<C, A>,
-    sem: SemId,
-) -> bool
-    requires machine { caller.old.machine ≡ machine.now }
-    requires answering { AnswersAsTold C.declared C.plan machine.now.first.callbacks }
-    ensures { caller.new.machine ≡ caller.old.machine }
-{
-    matches!(machine.call(rt, caller, Call::Put { sem }), Ok(Reply::Done))
-}
-
-// Enters a stax and leaves it so often, each time however long others keep the caller out, and counts how often it did.
-fn enters<C: Handler, A: Allocator, R: Wait>(
-    rt: &R,
-    machine: &MachineOf<C, A>,
-    mut caller: CallerOf<C, A>,
-    stax: StaxId,
-    times: u32,
-) -> (CallerOf<C, A>, u32)
-    requires machine { caller.machine ≡ machine.now }
-    ensures machine { result.0.machine ≡ machine.now }
-{
-    let mut done = 0;
-    for _ in 0..times {
-        done += u32::from(goes_through(rt, machine, &mut caller, stax));
-    }
-    (caller, done)
-}
-
-fn goes_through<C: Handler, A: Allocator, R: Wait>(
-    rt: &R,
-    machine: &MachineOf<C, A>,
-    caller: &mut CallerOf<C, A>,
-    stax: StaxId,
-) -> bool
-    requires machine { caller.old.machine ≡ machine.now }
-    ensures { caller.new.machine ≡ caller.old.machine }
-{
-    match machine.lock_stax(rt, caller, stax) {
-        Ok(pass) => machine.unlock_stax(caller, pass).is_ok(),
-        Err(_) => false,
+    match task {
+        Task::Turns(times, turn) => turns(rt, machine, caller, times, turn),
+        Task::HoldsAPut => holds_a_put(machine, caller, signs),
+        Task::Beside(turn) => takes_turn_beside(rt, machine, caller, signs, turn),
     }
 }
 
-// Locks a mutex and unlocks it so often, each time however long another caller has it, and counts how often it did.
-fn locks<C: Handler, A: Allocator, R: Wait>(
-    rt: &R,
-    machine: &MachineOf<C, A>,
-    mut caller: CallerOf<C, A>,
-    mutex: MutexId,
-    times: u32,
-) -> (CallerOf<C, A>, u32)
-    requires machine { caller.machine ≡ machine.now }
-    requires answering { AnswersAsTold C.declared C.plan machine.now.first.callbacks }
-    ensures machine { result.0.machine ≡ machine.now }
-{
-    let mut done = 0;
-    for _ in 0..times {
-        done += u32::from(has_once(rt, machine, &mut caller, mutex));
-    }
-    (caller, done)
-}
-
-fn has_once<C: Handler, A: Allocator, R: Wait>(
+// Unlocks a mutex with its pass; 1 where there is a pass, and it is spent.
+fn spends<C: Handler, A: Allocator, R: Wait>(
     rt: &R,
     machine: &MachineOf<C, A>,
     caller: &mut CallerOf<C, A>,
-    mutex: MutexId,
-) -> bool
+    pass: Option<MutexPass>,
+) -> u32
     requires machine { caller.old.machine ≡ machine.now }
     requires answering { AnswersAsTold C.declared C.plan machine.now.first.callbacks }
-    ensures { caller.new.machine ≡ caller.old.machine }
+    ensures { caller.new.machine ≡ machine.now }
 {
-    match machine.lock_mutex(rt, caller, mutex, None) {
-        Ok(Ended::Locked(pass)) => machine.unlock_mutex(rt, caller, pass).is_ok(),
-        _ => false,
+    match pass {
+        Some(pass) => u32::from(machine.unlock_mutex(rt, caller, pass).is_ok()),
+        None => 0,
+    }
+}
+
+// What goes to a host thread and works there on what all threads share.
+pub trait Worker<M>: Drop {
+    ghost fits: { Self → M → Type 0 };
+
+    // It comes back with the number of what was answered as the task wants it.
+    fn work<R: Wait>(self, rt: &R, shared: &M, signs: &Signs, task: Task) -> (Self, u32)
+        requires { fits self shared.now }
+        ensures { fits result.0 shared.now };
+}
+
+// A caller with its pass of a mutex, if it has one, which go to another host thread together.
+#[derive(Drop)]
+pub struct Hand<C: Drop, A: Allocator> {
+    pub caller: CallerOf<C, A>,
+    pub pass: Option<MutexPass>,
+}
+
+impl<C: Handler, A: Allocator> Worker<MachineOf<C, A>> for Hand<C, A> {
+    ghost use Rattle.std.specs.Prelude.{◌≡◌};
+    ghost use Rattle.evl_kernel.specs.Callbacks.{AnswersAsTold};
+
+    ghost fits = { λ hand m. (hand.caller.machine ≡ m) × AnswersAsTold C.declared C.plan m.first.callbacks };
+
+    // Spends the pass, and then does the task.
+    fn work<R: Wait>(
+        self,
+        rt: &R,
+        shared: &MachineOf<C, A>,
+        signs: &Signs,
+        task: Task,
+    ) -> (Hand<C, A>, u32) {
+        let Hand { mut caller, pass } = self;
+        let spent = spends(rt, shared, &mut caller, pass);
+        let (caller, done) = works(rt, shared, caller, signs, task);
+        (Hand { caller, pass: None }, done.saturating_add(spent))
     }
 }
 
 // Both work at once.
-pub fn both_work<M: Sync, W: Worker<M> + Send, R: Threads + Wait + Sync>(
+fn both_work<M: Sync, W: Worker<M> + Send, R: Threads + Wait + Sync>(
     rt: &R,
     shared: &M,
     first: W,
@@ -391,33 +287,19 @@ pub fn both_work<M: Sync, W: Worker<M> + Send, R: Threads + Wait + Sync>(
     )
 }
 
-// Both callers work at once on a machine.
-fn both_call<C: Handler + Send, R: Threads + Wait + Sync>(
+// Both hands work at once on a machine: their callers come back, with of how much each was told.
+pub fn both_call<C: Handler + Send, R: Threads + Wait + Sync>(
     rt: &R,
     machine: &MachineOf<C, Global>,
-    first: CallerOf<C, Global>,
-    second: CallerOf<C, Global>,
-    signs: &Signs,
+    first: Hand<C, Global>,
+    second: Hand<C, Global>,
     tasks: (Task, Task),
-) -> ((CallerOf<C, Global>, u32), (CallerOf<C, Global>, u32))
-    requires machine { (first.machine ≡ machine.now) × (second.machine ≡ machine.now) }
+) -> (CallerOf<C, Global>, CallerOf<C, Global>, (u32, u32))
+    requires machine { (first.caller.machine ≡ machine.now) × (second.caller.machine ≡ machine.now) }
     requires answering { AnswersAsTold C.declared C.plan machine.now.first.callbacks }
-    ensures { (result.0.0.machine ≡ machine.now) × (result.1.0.machine ≡ machine.now) }
-{
-    both_work(rt, machine, first, second, signs, tasks)
-}
-
-// The same on a machine of stored callbacks.
-pub fn on_two_threads<R: Threads + Wait + Sync>(
-    rt: &R,
-    machine: &Machine,
-    first: Caller,
-    second: Caller,
-    tasks: (Task, Task),
-) -> ((Caller, u32), (Caller, u32))
-    requires { (first.machine ≡ machine.now.of) × (second.machine ≡ machine.now.of) }
-    ensures { (result.0.0.machine ≡ machine.now.of) × (result.1.0.machine ≡ machine.now.of) }
+    ensures { (result.0.machine ≡ machine.now) × (result.1.machine ≡ machine.now) }
 {
     let signs = Signs::new();
-    both_call(rt, &machine.of, first, second, &signs, tasks)
+    let (one, two) = both_work(rt, machine, first, second, &signs, tasks);
+    (one.0.caller, two.0.caller, (one.1, two.1))
 }

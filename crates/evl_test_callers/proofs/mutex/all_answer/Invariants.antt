@@ -2,5 +2,5 @@ use Rattle.std.proofs.Common.{All}
 use Rattle.evl_words.specs.MutexCalls.{IsSeatOf}
 use Rattle.evl_test_callers.proofs.mutex.all_answer.Given as goal
 
-abbrev pub invariant-loop-round : goal.invariant-loop-round
-invariant-loop-round l = All (λ seat. IsSeatOf seat l.word) l.seats.items
+abbrev pub invariant-loop-part : goal.invariant-loop-part
+invariant-loop-part l = All (λ seat. IsSeatOf seat l.word) l.seats.items
