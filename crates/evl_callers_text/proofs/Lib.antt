@@ -1,1 +1,3 @@
+pub mod GivenLaws
 mod ReadingLaws
+pub mod TableLaws

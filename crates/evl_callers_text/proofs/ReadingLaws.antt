@@ -1,5 +1,5 @@
 -- The steps of callers, made of marks and steps.
-use Rattle.std.proofs.Common.{◌≡◌, ℕ, List, [], ◌∷◌, ◌++◌, length, refl, sym, ◌∙◌, ap, append-nil, arith}
+use Rattle.std.proofs.Common.{◌≡◌, List, [], ◌∷◌, ◌++◌, length, refl, sym, ◌∙◌, ap, append-nil, arith}
 use Rattle.std.specs.Prelude.{Option}
 use Rattle.evl_callers_text.specs.Readings.{steps_as}
 use Rattle.evl_callers_text.specs.declared.acts.CallersStep.{CallersStep}

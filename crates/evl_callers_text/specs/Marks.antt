@@ -3,8 +3,6 @@ use Rattle.std.specs.Prelude.{Option, Some, None, String}
 use Rattle.std.specs.declared.alloc.Global.{Global}
 use Rattle.evl_base.specs.declared.call.Call.{Call}
 use Rattle.evl_base.specs.declared.call.Call.TheVariants as call
-use Rattle.evl_base.specs.declared.numbers.MutexId.{MutexId}
-use Rattle.evl_base.specs.declared.numbers.StaxId.{StaxId}
 use Rattle.evl_callers_text.specs.declared.acts.Act.{Act}
 use Rattle.evl_callers_text.specs.declared.acts.Act.TheVariants as act
 use Rattle.evl_callers_text.specs.declared.marks.Mark.{Mark}

@@ -2,8 +2,10 @@
 #![tactic(auto)]
 
 mod acts;
+mod documents;
 mod marks;
 mod reading;
+mod tables;
 mod words;
 
 pub use acts::{Act, CallersStep};

@@ -1,15 +1,19 @@
 //! Texts of callers, read: a board with its staxes, a limit, and steps of callers among those of a scenario.
-ghost use Rattle.std.specs.Prelude.{◌≡◌, IfOk, true};
+ghost use Rattle.std.specs.Prelude.{◌≡◌, ◌≤◌, IfOk, Some, string_bytes, true};
+ghost use Rattle.toml.specs.Data.{members_depth};
+ghost use Rattle.toml.specs.Parse.{parse_document};
+ghost use Rattle.toml.specs.View.{table_view};
 ghost use Rattle.evl_base.specs.Board.{board_fits};
 ghost use Rattle.evl_callers_text.specs.Readings.{IsRead, OpensAs, steps_as};
 
 use crate::acts::CallersStep;
-use crate::marks::{Mark, act_of, mark_step};
+use crate::documents::make_plain;
+use crate::marks::{Mark, act_of};
 use arrayvec::ArrayVec;
 use evl_base::Board;
 use evl_scenario::{Fault, Step, read_scenario};
 use std::alloc::{AllocError, Global};
-use toml::{Table, Value};
+use toml::Table;
 
 // A longer text is none.
 const MOST_BYTES: usize = 1_048_576;
@@ -22,63 +26,10 @@ pub struct CallersText {
     pub steps: Vec<CallersStep>,
 }
 
-// The limit of a stax.
-fn stax_limit(value: &Value) -> Option<u16> {
-    match value {
-        Value::Integer(number) => u16::try_from(*number).ok(),
-        _ => None,
-    }
-}
-
-// The limits of staxes.
-fn stax_limits(values: &[Value]) -> Option<ArrayVec<u16, 16>> {
-    let mut limits = ArrayVec::new();
-    for value in values {
-        let limit = stax_limit(value)?;
-        if limits.try_push(limit).is_err() {
-            return None;
-        }
-    }
-    Some(limits)
-}
-
-// The limits of the staxes that a value lists; none where there is no value.
-fn listed(value: Option<Value>) -> Option<ArrayVec<u16, 16>> {
-    match value {
-        Some(Value::Array(values)) => stax_limits(values.as_slice()),
-        Some(_) => None,
-        None => Some(ArrayVec::new()),
-    }
-}
-
-// The staxes of a document, which are taken away from its board.
-fn take_staxes(table: &mut Table) -> Option<ArrayVec<u16, 16>> {
-    match table.get_mut("board") {
-        Some(Value::Table(board)) => listed(board.remove("staxes")),
-        _ => Some(ArrayVec::new()),
-    }
-}
-
-// Puts each of these steps as that of a scenario.
-fn mark_all(alloc: Global, values: &mut Vec<Value>) -> Result<Vec<Option<Mark>>, AllocError> {
-    let mut marks = Vec::new(alloc);
-    for value in values.iter_mut() {
-        let mark = mark_step(alloc, value)?;
-        marks.push(mark)?;
-    }
-    Ok(marks)
-}
-
-// The same of all steps of a document.
-fn mark_steps(alloc: Global, table: &mut Table) -> Result<Vec<Option<Mark>>, AllocError> {
-    match table.get_mut("step") {
-        Some(Value::Array(values)) => mark_all(alloc, values),
-        _ => Ok(Vec::new(alloc)),
-    }
-}
-
 // The document that a text is.
-fn document_of(alloc: Global, bytes: &[u8]) -> Result<Table, Fault> {
+fn document_of(alloc: Global, bytes: &[u8]) -> Result<Table, Fault>
+    ensures { IfOk result (λ table. parse_document bytes.now ≡ Some (table_view table)) }
+{
     if bytes.len() > MOST_BYTES {
         return Err(Fault::Text);
     }
@@ -96,7 +47,9 @@ fn document_of(alloc: Global, bytes: &[u8]) -> Result<Table, Fault> {
 }
 
 // The text of a document in which each step is that of a scenario.
-fn text_of(alloc: Global, table: &Table) -> Result<String, Fault> {
+fn text_of(alloc: Global, table: &Table) -> Result<String, Fault>
+    ensures { IfOk result (λ text. members_depth (table_view table.now) ≤ 80 → parse_document (string_bytes text) ≡ Some (table_view table.now)) }
+{
     match toml::table_to_string(alloc, table) {
         Ok(text) => Ok(text),
         Err(toml::ser::Error::DateInvalid) => Err(Fault::Text),
@@ -179,15 +132,15 @@ fn read_marked(
 /// What a text of callers asks for, under a limit that may be handed in. Faults are those of a scenario.
 pub fn read_callers(alloc: Global, bytes: &[u8], limit: Option<u32>) -> Result<CallersText, Fault>
     ensures fits { IfOk result (λ t. board_fits t.board ≡ true) }
-    ensures opens { IfOk result (IsRead limit) }
+    ensures opens { IfOk result (IsRead limit bytes.now) }
 {
     let mut table = document_of(alloc, bytes)?;
-    let Some(staxes) = take_staxes(&mut table) else {
-        return Err(Fault::Board);
-    };
-    let Ok(marks) = mark_steps(alloc, &mut table) else {
-        return Err(Fault::Memory);
-    };
+    let (staxes, marks) = make_plain(alloc, &mut table)?;
     let text = text_of(alloc, &table)?;
-    read_marked(alloc, text.as_str(), limit, staxes, marks)
+    let read = read_marked(alloc, text.as_str(), limit, staxes, marks.all)?;
+    if marks.are_put {
+        Ok(read)
+    } else {
+        Err(Fault::Text)
+    }
 }
