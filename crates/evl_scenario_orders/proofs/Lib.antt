@@ -2,6 +2,7 @@ pub mod AskLaws
 pub mod CallLaws
 pub mod MomentLaws
 pub mod OutcomeLaws
+pub mod ScenarioLaws
 pub mod ShareLaws
 pub mod TextLaws
 pub mod ToldLaws

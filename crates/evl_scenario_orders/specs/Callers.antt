@@ -1,5 +1,6 @@
 -- The callers of a scenario as a machine: a caller's step is the kernel's.
-use Rattle.std.specs.Prelude.{ℕ, ◌≡◌, ◌+◌, Bool, not, ◌&&◌, if◌then◌else◌, List, [], ◌∷◌, ◌++◌, length, map, codes, Option, Some, None, option_and_then, Ok, take, drop, slice_get, slice_index, slice_index_or, slice_set, Result}
+use Rattle.std.specs.Prelude.{ℕ, ◌≡◌, ◌+◌, Bool, false, not, ◌&&◌, if◌then◌else◌, List, [], ◌∷◌, ◌++◌, length, map, codes, Option, Some, None, option_and_then, Ok, take, drop, slice_get, slice_index, slice_index_or, slice_set, Result}
+use Rattle.std.specs.Str.Lines.{lines}
 use Rattle.evl_base.specs.Reply.{outcome_text}
 use Rattle.evl_base.specs.declared.refusal.Refusal.{Refusal}
 use Rattle.evl_base.specs.declared.reply.Reply.{Reply}
@@ -10,6 +11,7 @@ use Rattle.evl_kernel.specs.Waits.{is_waiting, has_ended}
 use Rattle.evl_scenario.specs.Scenarios.{Script, scenario_of}
 use Rattle.evl_scenario.specs.declared.steps.Step.{Step}
 use Rattle.evl_orders.specs.Machines.{Machine}
+use Rattle.evl_scenario_orders.specs.Splits.{is_mixed, scenario_part, setup_count}
 use Rattle.evl_scenario_orders.specs.declared.callers.Callers.{Callers}
 
 -- how many steps of each caller were made, what it was answered, and the kernel's records
@@ -67,13 +69,12 @@ go c seen n = option_and_then (step_of seen n) (next_step c n (slice_index seen.
 abbrev pub machine : Callers → Machine Seen
 machine c = record { callers = length c.callers.items; go = go c }
 
--- there is a scenario of just this board, limit and steps, of which so many of the first are set up
-pub record IsSetUp (c : Callers) : Type 0 where
-  pub text : List ℕ
-  pub count : ℕ
+-- the text's scenario is of just this board, limit and steps, of which as many of the first are set up as stand so in the text
+pub record IsSetUp (text : List ℕ) (c : Callers) : Type 0 where
   pub script : Script
-  pub scenario : scenario_of None text ≡ Ok script
+  pub scenario : scenario_of None (scenario_part text) ≡ Ok script
+  pub unmixed : is_mixed (lines text) ≡ false
   pub board : c.board ≡ script.board
   pub limit : c.limit ≡ script.limit
-  pub setup : c.setup.items ≡ take count script.steps
-  pub steps : c.steps.items ≡ drop count script.steps
+  pub setup : c.setup.items ≡ take (setup_count text) script.steps
+  pub steps : c.steps.items ≡ drop (setup_count text) script.steps

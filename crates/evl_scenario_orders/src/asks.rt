@@ -9,6 +9,7 @@ ghost use Rattle.toml.specs.View.{items_view, table_view, view};
 ghost use Rattle.evl_scenario.specs.Tables.{all_given, has_only, value_or};
 ghost use Rattle.evl_scenario.specs.Values.{truth_from};
 ghost use Rattle.evl_scenario_orders.specs.Asks.{AreOfCallers, Asks, ask_table, caller_text, is_against, is_caller_text, is_line_of, is_stuck_line, never_in, never_text, some_line};
+ghost use Rattle.evl_scenario_orders.specs.Splits.{ask_part};
 
 use crate::callers::{Caller, Callers};
 use crate::searches::{Question, begins, behind, is_answered, some_line};
@@ -248,6 +249,7 @@ fn read_text(alloc: Global, callers: &Callers, text: &str) -> Result<Ask, AskFau
 
 /// What the table `[ask]` of a text of callers asks: nothing where there is none.
 pub fn read_ask(alloc: Global, callers: &Callers, bytes: &[u8]) -> Result<Ask, AskFault>
+    ensures asks { IfOk result (λ ask. IsSomeAnd (option_and_then ask_table (parse_document (ask_part bytes.now))) (λ table. Asks table ask)) }
     ensures who { IfOk result (λ ask. AreOfCallers callers.now.callers.items ask.never.items) }
 {
     let Ok(text) = str::from_utf8(bytes) else {

@@ -18,6 +18,7 @@ mod scenarios;
 mod searches;
 mod seen;
 mod splits;
+mod text_lines;
 mod texts;
 mod told;
 mod worlds;

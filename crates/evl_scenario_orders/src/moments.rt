@@ -22,8 +22,8 @@ pub struct Moment {
     pub(crate) standing: u64,
 }
 
-// As many zeros as callers.
-fn none_made(alloc: Global, callers: &[Caller]) -> Result<Vec<usize>, AllocError>
+/// As many zeros as callers.
+pub(crate) fn none_made(alloc: Global, callers: &[Caller]) -> Result<Vec<usize>, AllocError>
     ensures { IfOk result (λ made. made.items ≡ map (λ caller. 0) callers.now) }
 {
     let mut made = Vec::new(alloc);

@@ -1,4 +1,10 @@
 //! The text of callers, split: the scenario in it, how many of its steps are set up before, and what is asked.
+ghost use Rattle.std.specs.Prelude.{◌≡◌, ◌++◌, IfOk, OnOk, count_by, false, map, string_bytes};
+ghost use Rattle.evl_scenario.specs.Lines.{line_feed};
+ghost use Rattle.evl_scenario_orders.specs.Splits.{IsSplit, as_step, asked_lines, bare, is_asked, is_head, is_mixed, is_setup, joined, scenario_lines};
+
+use crate::searches::begins;
+use crate::text_lines::{lines_of, put_line};
 use std::alloc::{AllocError, Global};
 
 /// A text of callers in parts.
@@ -14,108 +20,116 @@ pub struct Split {
     pub ask: String,
 }
 
-// What a line begins.
-#[derive(Clone, Copy)]
-enum Head {
-    Setup,
-    Step,
-    Ask,
-    Other,
-    Nothing,
-}
-
-// Where a line stands: whether a step has begun, and whether it is in a table `[ask]`.
-#[derive(Clone, Copy)]
-struct Place {
-    has_steps: bool,
-    is_asked: bool,
-}
-
-// What a text begins that stands alone on a line.
-fn head_of(text: &str) -> Head {
-    if text == "[[setup]]" {
-        Head::Setup
-    } else if text == "[[step]]" {
-        Head::Step
-    } else if text == "[ask]" {
-        Head::Ask
-    } else if text.starts_with("[") {
-        Head::Other
-    } else {
-        Head::Nothing
-    }
-}
-
-// A line without the spaces around it and the comment behind it.
-fn bare(line: &str) -> &str {
+// A line without the comment behind it and the spaces around it.
+fn bare(line: &str) -> &str
+    ensures { result.now ≡ bare line.now }
+{
     match line.split_once('#') {
         Some((before, _)) => before.trim(),
         None => line.trim(),
     }
 }
 
-// Puts a line behind a text.
-fn put_line(text: &mut String, line: &str) -> Result<(), AllocError> {
-    text.push_str(line)?;
-    text.push_str("\n")
+// Whether just this stands on a line.
+fn is_head(line: &str, head: &str) -> bool
+    ensures { result ≡ is_head head.now line.now }
+{
+    bare(line) == head
 }
 
-// Puts the head of a step that is set up.
-fn put_setup(split: &mut Split, has_steps: bool) -> Result<(), AllocError> {
-    split.setup = split.setup.saturating_add(1);
-    split.is_mixed = split.is_mixed || has_steps;
-    put_line(&mut split.scenario, "[[step]]")
-}
-
-// Where a line stands that begins this.
-fn place_at(place: Place, head: Head) -> Place {
-    let has_steps = place.has_steps;
-    match head {
-        Head::Setup | Head::Other => Place {
-            has_steps,
-            is_asked: false,
-        },
-        Head::Step => Place {
-            has_steps: true,
-            is_asked: false,
-        },
-        Head::Ask => Place {
-            has_steps,
-            is_asked: true,
-        },
-        Head::Nothing => place,
-    }
-}
-
-// Puts a line of the text to its part. Where it stands.
-fn put_part(split: &mut Split, place: Place, line: &str) -> Result<Place, AllocError> {
-    let head = head_of(bare(line));
-    let next = place_at(place, head);
-    if next.is_asked {
-        put_line(&mut split.ask, line)?;
-    } else if matches!(head, Head::Setup) {
-        put_setup(split, next.has_steps)?;
+// Whether a line is in a table `[ask]`, where the one before it was or was not.
+fn is_asked(was: bool, line: &str) -> bool
+    ensures { result ≡ is_asked was line.now }
+{
+    if begins(b"[", bare(line).as_bytes()) {
+        is_head(line, "[ask]")
     } else {
-        put_line(&mut split.scenario, line)?;
+        was
     }
-    Ok(next)
+}
+
+// The lines of tables `[ask]`.
+fn ask_in(alloc: Global, lines: &[&str]) -> Result<String, AllocError>
+    ensures { IfOk result (λ text. string_bytes text ≡ joined (asked_lines false (map (λ line. line.now) lines.now))) }
+{
+    let mut text = String::new(alloc);
+    let mut was = false;
+    for line in lines {
+        was = is_asked(was, *line);
+        if was {
+            put_line(&mut text, *line)?;
+        }
+    }
+    Ok(text)
+}
+
+// Puts a line to a scenario.
+fn put_step(text: &mut String, line: &str) -> Result<(), AllocError>
+    ensures { OnOk result (string_bytes text.new ≡ string_bytes text.old ++ (as_step line.now ++ line_feed)) }
+{
+    if is_head(line, "[[setup]]") {
+        put_line(text, "[[step]]")
+    } else {
+        put_line(text, line)
+    }
+}
+
+// The other lines, in which each step that is set up is a step.
+fn scenario_in(alloc: Global, lines: &[&str]) -> Result<String, AllocError>
+    ensures { IfOk result (λ text. string_bytes text ≡ joined (scenario_lines false (map (λ line. line.now) lines.now))) }
+{
+    let mut text = String::new(alloc);
+    let mut was = false;
+    for line in lines {
+        was = is_asked(was, *line);
+        if !was {
+            put_step(&mut text, *line)?;
+        }
+    }
+    Ok(text)
+}
+
+// How many steps are set up.
+fn setups_of(lines: &[&str]) -> usize
+    ensures { result ≡ count_by is_setup (map (λ line. line.now) lines.now) }
+{
+    let mut count: usize = 0;
+    for line in lines {
+        if is_head(*line, "[[setup]]") {
+            count += 1;
+        }
+    }
+    count
+}
+
+// Whether a step stands before one that is set up.
+fn is_mixed(lines: &[&str]) -> bool
+    ensures { result ≡ is_mixed (map (λ line. line.now) lines.now) }
+{
+    let mut has_steps = false;
+    for line in lines {
+        let is_setup = is_head(*line, "[[setup]]");
+        if has_steps && is_setup {
+            return true;
+        }
+        has_steps = has_steps || is_head(*line, "[[step]]");
+    }
+    false
 }
 
 /// Splits the text of callers. A line is `[[setup]]`, `[[step]]` or `[ask]` where nothing else stands on it but spaces
 /// and a comment; a table `[ask]` goes on until another table begins. `AllocError` where memory couldn't grow.
-pub fn split_text(alloc: Global, text: &str) -> Result<Split, AllocError> {
-    let mut split = Split {
-        scenario: String::new(alloc),
-        setup: 0,
-        is_mixed: false,
-        ask: String::new(alloc),
-    };
-    let mut place = Place {
-        has_steps: false,
-        is_asked: false,
-    };
-    for line in text.lines() {
-        place = put_part(&mut split, place, line)?;
-    }
-    Ok(split)
+pub fn split_text(alloc: Global, text: &str) -> Result<Split, AllocError>
+    ensures { IfOk result (IsSplit text.now) }
+{
+    let all = lines_of(alloc, text)?;
+    let lines = all.as_slice();
+    let scenario = scenario_in(alloc, lines)?;
+    let ask = ask_in(alloc, lines)?;
+    Ok(Split {
+        scenario,
+        setup: setups_of(lines),
+        is_mixed: is_mixed(lines),
+        ask,
+    })
 }

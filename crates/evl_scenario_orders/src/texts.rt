@@ -1,5 +1,5 @@
 //! Texts of callers, read.
-ghost use Rattle.std.specs.Prelude.{◌≤◌, ◌+◌, IfOk, length};
+ghost use Rattle.std.specs.Prelude.{◌≡◌, ◌≤◌, ◌+◌, IfOk, length};
 ghost use Rattle.evl_scenario_orders.specs.Callers.{IsSetUp};
 ghost use Rattle.evl_scenario_orders.specs.Shares.{AreCallersOf};
 
@@ -20,7 +20,9 @@ pub enum TextFault {
 }
 
 // The text that these bytes are.
-fn text_of(bytes: &[u8]) -> Result<&str, TextFault> {
+fn text_of(bytes: &[u8]) -> Result<&str, TextFault>
+    ensures { IfOk result (λ text. text.now ≡ bytes.now) }
+{
     match str::from_utf8(bytes) {
         Ok(text) => Ok(text),
         Err(_) => Err(TextFault::Scenario(Fault::Text)),
@@ -32,8 +34,8 @@ pub fn read_callers(alloc: Global, bytes: &[u8]) -> Result<Callers, TextFault>
     // The history has room for all steps.
     ensures room { IfOk result (λ callers. length callers.setup.items + length callers.steps.items ≤ callers.limit) }
 
-    // Board, limit and steps are those of a scenario, of which the first ones are set up.
-    ensures scenario { IfOk result IsSetUp }
+    // Board, limit and steps are those of the scenario in the text, of which the first ones are set up.
+    ensures scenario { IfOk result (IsSetUp bytes.now) }
 
     // Each thread that has a step which isn't set up is a caller, with all of these.
     ensures callers { IfOk result (λ callers. AreCallersOf callers.steps.items callers.callers.items) }
