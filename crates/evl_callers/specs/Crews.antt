@@ -4,6 +4,8 @@ use Rattle.std.specs.List.{insert, remove}
 use Rattle.evl_base.specs.declared.call.Call.{Call}
 use Rattle.evl_base.specs.declared.refusal.Refusal.{Refusal}
 use Rattle.evl_base.specs.declared.reply.Reply.{Reply}
+use Rattle.evl_callers.specs.declared.passes.StepFault.{StepFault}
+use Rattle.evl_callers.specs.declared.passes.StepFault.TheVariants.{HasCore, HasNoCore, NoCaller}
 use Rattle.evl_machine.specs.Calls.{Called, CalledHeld, TookKernel}
 use Rattle.evl_machine.specs.Handles.{CallerState, HeldState, returned, turned_away}
 
@@ -31,6 +33,21 @@ has_core taken holder who = taken && (holder == who)
 -- the place of a thread's caller among those that haven't the core
 abbrev pub place_of : Bool → ℕ → ℕ → ℕ
 place_of taken holder who = if taken && nat_lt holder who then who - 1 else who
+
+-- why the caller of a thread can't make a call by itself, where so many callers haven't the core
+abbrev pub place_fault : Bool → ℕ → ℕ → ℕ → Option StepFault
+place_fault taken holder who count =
+    if has_core taken holder who then Some HasCore
+    else if nat_lt (place_of taken holder who) count then None
+    else Some NoCaller
+
+-- who has the core makes calls of the kernel
+abbrev pub call_fault : Bool → ℕ → ℕ → ℕ → Option StepFault
+call_fault taken holder who count = if has_core taken holder who then None else place_fault taken holder who count
+
+-- nobody else gives it
+abbrev pub give_fault : Bool → ℕ → ℕ → Option StepFault
+give_fault taken holder who = if has_core taken holder who then None else Some HasNoCore
 
 -- whose caller has the core
 abbrev pub holder_of : Bool → ℕ → Option ℕ

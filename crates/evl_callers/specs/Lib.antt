@@ -1,5 +1,7 @@
 pub mod Answers
 pub mod Crews
+pub mod Faults
+pub mod Holdings
 pub mod Names
 pub mod Plays
 pub mod Shown

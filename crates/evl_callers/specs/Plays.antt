@@ -1,19 +1,21 @@
 -- What is told of the steps of a text of callers, one after another.
-use Rattle.std.specs.Prelude.{◌≡◌, ◌⊎◌, ◌+◌, ℕ, ⊤, List, [], ◌∷◌, ◌++◌, codes, length, Option, None, is_some, Result, Ok, Err, string_bytes}
+use Rattle.std.specs.Prelude.{◌≡◌, ◌+◌, ℕ, ⊤, List, [], ◌∷◌, ◌++◌, codes, length, Option, Some, None, is_some, Result, Ok, Err, string_bytes}
 use Rattle.evl_base.specs.declared.refusal.Refusal.{Refusal}
 use Rattle.evl_callers.specs.Answers.{Makes}
 use Rattle.evl_callers.specs.Crews.{CrewState, crew_at, holder_of}
-use Rattle.evl_callers.specs.Shown.{closed_text, core_text, open_text, stax_text, step_text, word_text}
+use Rattle.evl_callers.specs.Faults.{step_fault}
+use Rattle.evl_callers.specs.Holdings.{Holdings, holdings_of, nothing_held}
+use Rattle.evl_callers.specs.Shown.{closed_text, mutex_asked, open_text, shown_text, step_text, thread_asked}
 use Rattle.evl_callers.specs.Views.{Looks}
 use Rattle.evl_callers.specs.declared.answers.Stop.{Stop}
 use Rattle.evl_callers.specs.declared.answers.Stop.TheVariants as stop
+use Rattle.evl_callers.specs.declared.passes.Passes.{Passes}
 use Rattle.evl_callers.specs.declared.passes.StepFault.{StepFault}
 use Rattle.evl_callers.specs.declared.playing.Ending.{Ending}
 use Rattle.evl_callers.specs.declared.playing.Ending.TheVariants as ending
 use Rattle.evl_callers.specs.declared.playing.Played.{Played}
 use Rattle.evl_callers.specs.declared.views.Question.{Question}
 use Rattle.evl_callers.specs.declared.views.Shows.{Shows}
-use Rattle.evl_callers.specs.declared.views.Shows.TheVariants as shows
 use Rattle.evl_callers.specs.declared.views.View.{View}
 use Rattle.evl_callers_text.specs.declared.acts.CallersStep.{CallersStep}
 use Rattle.evl_callers_text.specs.declared.reading.CallersText.{CallersText}
@@ -23,43 +25,45 @@ use Rattle.evl_machine.specs.Handles.{CallerState, HeldState, MachineState, newc
 use Rattle.evl_pipeline.specs.declared.plan.Plan.{Plan}
 use Rattle.evl_scenario.specs.Lines.{board_line_of, board_line_text, line_feed, play_lines}
 
--- what stands behind an answer: how the stax, the mutex's word or the core stands, if there is something to show
-abbrev pub IsShown : Shows → Option ℕ → View → List ℕ → Type 0
-IsShown shows.Nothing holder view text = text ≡ []
-IsShown (shows.Stax stax) holder view text = (text ≡ []) ⊎ ((count : ℕ) × (text ≡ stax_text stax.0 view.stage count))
-IsShown (shows.Mutex mutex) holder view text = text ≡ word_text mutex.0 view.word
-IsShown shows.Core holder view text = text ≡ core_text holder
-
--- the callers, and how many plays were told
+-- the callers, what names hold and who waits, how many staxes the board has, and how many plays were told
 pub record Run (C : Type 0) : Type 0 where
   pub crew : CrewState C
+  pub holdings : Holdings
+  pub staxes : ℕ
   pub plays : ℕ
 
-abbrev pub run_at : {C : Type 0} → List (CallerState C) → Option (HeldState C) → ℕ → ℕ → Run C
-run_at callers held holder plays = record { crew = crew_at callers held holder; plays = plays }
+abbrev pub run_at : {C : Type 0} → List (CallerState C) → Option (HeldState C) → ℕ → Passes → ℕ → ℕ → Run C
+run_at callers held holder passes staxes plays = record { crew = crew_at callers held holder; holdings = holdings_of passes; staxes = staxes; plays = plays }
+
+-- before the first step nobody has the core, no name holds a pass, nobody waits, and no play was told
+abbrev pub start_at : {C : Type 0} → List (CallerState C) → ℕ → Run C
+start_at callers staxes = record { crew = crew_at callers None 0; holdings = nothing_held; staxes = staxes; plays = 0 }
 
 abbrev pub whose : {C : Type 0} → CrewState C → Option ℕ
 whose crew = holder_of (is_some crew.held) crew.holder
 
--- behind an answer of a thread's caller stands what the step went to, as it is seen then, and the plays that weren't told below it
-pub record ShowsAfter {C : Type 0} (old : Run C) (who : ℕ) (told : List ℕ) (text : List ℕ) (new : Run C) : Type 0 where
+-- Behind an answer stands what the step went to, as it is seen then by who has the kernel, and the plays that weren't told below it
+pub record ShowsAfter {C : Type 0} (old : Run C) (who : ℕ) (told : List ℕ) (shown : Shows) (text : List ℕ) (new : Run C) : Type 0 where
   pub question : Question
   pub view : View
+  pub mutex : question.mutex ≡ mutex_asked shown
+  pub thread : question.thread ≡ thread_asked old.holdings shown
   pub counted : question.plays ≡ old.plays
   pub looked : Looks old.crew who question view new.crew
+  pub holdings : new.holdings ≡ old.holdings
+  pub staxes : new.staxes ≡ old.staxes
   pub plays : new.plays ≡ view.made
-  pub shows : Shows
-  pub shown : List ℕ
-  pub shown_is : IsShown shows (whose new.crew) view shown
-  pub text_is : text ≡ codes " -> " ++ (told ++ (shown ++ (line_feed ++ play_lines view.plays.items)))
+  pub text_is : text ≡ codes " -> " ++ (told ++ (shown_text old.staxes old.holdings (whose new.crew) view shown ++ (line_feed ++ play_lines view.plays.items)))
 
 -- the step of this number is made, and told by these lines
 pub record MakesStep {C : Type 0} (limit : ℕ) (old : Run C) (number : ℕ) (step : CallersStep) (lines : List ℕ) (new : Run C) : Type 0 where
   pub told : List ℕ
+  pub shown : Shows
   pub made : CrewState C
-  pub makes : Makes limit step.act old.crew step.who.0 told made
+  pub has : Holdings
+  pub makes : Makes limit step.act old.crew old.holdings step.who told shown made has
   pub behind : List ℕ
-  pub shows : ShowsAfter (record { crew = made; plays = old.plays }) step.who.0 told behind new
+  pub shows : ShowsAfter (record { crew = made; holdings = has; staxes = old.staxes; plays = old.plays }) step.who.0 told shown behind new
   pub lines_is : lines ≡ step_text number step ++ behind
 
 -- these steps are made one after another, from this number on
@@ -77,17 +81,18 @@ pub record HaveMade {C : Type 0} (limit : ℕ) (start : Run C) (steps : List Cal
   pub text_is : text ≡ before ++ lines
   pub made : MakesAll limit start 1 done lines now
 
--- the step of this number can't be made: all before it are
-pub record StopsAt {C : Type 0} (limit : ℕ) (start : Run C) (steps : List CallersStep) (before text : List ℕ) (number : ℕ) : Type 0 where
+-- the step of this number can't be made, for this reason: all before it are
+pub record StopsAt {C : Type 0} (limit : ℕ) (start : Run C) (steps : List CallersStep) (before text : List ℕ) (number : ℕ) (fault : StepFault) : Type 0 where
   pub now : Run C
   pub count : ℕ
   pub step : CallersStep
   pub rest : List CallersStep
   pub number_is : number ≡ count + 1
   pub made : HaveMade limit start steps before text now count (step ∷ rest)
+  pub why : step_fault step.act now.crew now.holdings step.who.0 ≡ Some fault
 
 abbrev pub StopsFor : {C : Type 0} → ℕ → Run C → List CallersStep → List ℕ → List ℕ → ℕ → Stop → Type 0
-StopsFor limit start steps before text number (stop.Fault fault) = StopsAt limit start steps before text number
+StopsFor limit start steps before text number (stop.Fault fault) = StopsAt limit start steps before text number fault
 StopsFor limit start steps before text number stop.Memory = ⊤
 
 -- a step that can't be made has no line
@@ -114,11 +119,11 @@ ClosesSo machine callers (ending.Fault number fault) told = ⊥
 
 -- how the steps end: all are made, and the machine's close is told; or one can't be made
 abbrev pub EndsSo : {C : Type 0} → MachineState C → Run C → List CallersStep → List ℕ → Ending → List ℕ → List ℕ → Type 0
-EndsSo machine start steps before (ending.Fault number fault) lines closing = StopsAt machine.first.limit start steps before lines number × (closing ≡ [])
+EndsSo machine start steps before (ending.Fault number fault) lines closing = StopsAt machine.first.limit start steps before lines number fault × (closing ≡ [])
 EndsSo machine start steps before closes lines closing = (callers : List (CallerState _)) × MakesEach machine.first.limit start steps before lines callers × ClosesSo machine callers closes closing
 
 -- what is told of a text of callers: the line of its board, and of a machine that is made over it what its new callers do, step by step
 pub record IsTold {C : Type 0} (declared : C → ℕ) (plan : C → Plan) (text : CallersText) (bank : List C) (told : Played) : Type 0 where
   pub machine : MachineState C
   pub opened : IsOpened declared plan text.board bank text.limit machine.first
-  pub ends : EndsSo machine (run_at (newcomers_of machine text.board.threads) None 0 0) text.steps.items (board_line_text (board_line_of text.board text.limit)) told.ending (string_bytes told.lines) (string_bytes told.closing)
+  pub ends : EndsSo machine (start_at (newcomers_of machine text.board.threads) (length text.board.staxes.items)) text.steps.items (board_line_text (board_line_of text.board text.limit)) told.ending (string_bytes told.lines) (string_bytes told.closing)

@@ -1,10 +1,15 @@
 -- What stands in a line behind the answer of a step.
-use Rattle.std.specs.Prelude.{ℕ, Bool, List, [], ◌++◌, codes, decimal, nat_eq, Option, Some, None, if◌then◌else◌}
+use Rattle.std.specs.Prelude.{ℕ, Bool, List, [], ◌++◌, codes, count_by, decimal, nat_eq, nat_lt, Option, Some, None, option_map, if◌then◌else◌}
 use Rattle.evl_base.specs.Refusal.{name_of}
+use Rattle.evl_base.specs.declared.numbers.MutexId.{MutexId}
 use Rattle.evl_base.specs.declared.numbers.ThreadId.{ThreadId}
 use Rattle.evl_base.specs.declared.refusal.Refusal.{Refusal}
 use Rattle.evl_base.specs.declared.stage.Stage.{Stage}
 use Rattle.evl_base.specs.declared.stage.Stage.TheVariants.{Inband, Oob}
+use Rattle.evl_callers.specs.Holdings.{Holdings, is_of_stax, stax_holder}
+use Rattle.evl_callers.specs.declared.views.Shows.{Shows}
+use Rattle.evl_callers.specs.declared.views.Shows.TheVariants as shows
+use Rattle.evl_callers.specs.declared.views.View.{View}
 use Rattle.evl_callers_text.specs.Acts.{act_text}
 use Rattle.evl_callers_text.specs.declared.acts.CallersStep.{CallersStep}
 use Rattle.evl_kernel.specs.Histories.{History}
@@ -43,6 +48,23 @@ word_text mutex (Some word) = codes " | mutex " ++ (decimal mutex ++ (codes ": "
 abbrev pub core_text : Option ℕ → List ℕ
 core_text None = codes " | core: free"
 core_text (Some who) = codes " | core: taken by T" ++ decimal who
+
+-- whose word is looked at
+abbrev pub mutex_asked : Shows → Option MutexId
+mutex_asked (shows.Mutex mutex) = Some mutex
+mutex_asked other = None
+
+-- whose stage: that of the first caller that holds the stax
+abbrev pub thread_asked : Holdings → Shows → Option ThreadId
+thread_asked had (shows.Stax stax) = option_map (λ seat. record { 0 = seat }) (stax_holder had stax.0)
+thread_asked had other = None
+
+-- What stands behind an answer: how the core, the mutex's word or the stax stands, which is counted from the passes that names hold. Of a stax that the board hasn't there is nothing
+abbrev pub shown_text : ℕ → Holdings → Option ℕ → View → Shows → List ℕ
+shown_text staxes had holder view shows.Nothing = []
+shown_text staxes had holder view (shows.Stax stax) = if nat_lt stax.0 staxes then stax_text stax.0 view.stage (count_by (is_of_stax stax.0) had.staxes) else []
+shown_text staxes had holder view (shows.Mutex mutex) = word_text mutex.0 view.word
+shown_text staxes had holder view shows.Core = core_text holder
 
 -- what is told in the end: of a closed machine with the lines of its kernel's history, and of one that isn't closed
 abbrev pub closed_text : History → List ℕ

@@ -1,9 +1,10 @@
 //! What a step is answered, as text, and what it went to.
-ghost use Rattle.std.specs.Prelude.{◌≡◌, ◌||◌, Err, IfOk, Ok, if◌then◌else◌, is_some, string_bytes};
+ghost use Rattle.std.specs.Prelude.{◌≡◌, IfErr, IfOk, OnOk, false, string_bytes, true};
 ghost use Rattle.evl_base.specs.Reply.{outcome_text};
-ghost use Rattle.evl_callers.specs.Answers.{BeginsLock, CallsSo, EntersStax, FinishesLock, GivesSo, LeavesBy, LocksMutex, Makes, TakesSo, UnlocksBy, UnlocksFastBy, begun_text, ended_text, given_text, left_text, taken_text, unlocked_text};
+ghost use Rattle.evl_callers.specs.Answers.{BeginsLock, CallsSo, EntersStax, FinishesLock, GivesSo, LeavesBy, LocksMutex, Makes, TakesSo, UnlocksBy, UnlocksFastBy, begun_text, ended_shows, ended_text, given_text, left_text, taken_text, unlocked_text, word_shown};
 ghost use Rattle.evl_callers.specs.Crews.{crew_at};
-ghost use Rattle.evl_callers.specs.Names.{is_named};
+ghost use Rattle.evl_callers.specs.Faults.{IsWhy, caller_fault, step_fault};
+ghost use Rattle.evl_callers.specs.Holdings.{awaited, holdings_of, is_held, lock_begun, lock_ended, mutex_given, mutex_left, stax_given, stax_left, with_mutex, with_stax};
 
 use crate::crew::Crew;
 use crate::passes::{Passes, StepFault};
@@ -26,12 +27,20 @@ pub enum Stop {
 }
 
 impl From<StepFault> for Stop {
+    ghost use Rattle.evl_callers.specs.declared.answers.Stop.{Stop};
+
+    ghost from_gives = { λ fault stop. stop ≡ Stop.Fault fault };
+
     fn from(fault: StepFault) -> Stop {
         Stop::Fault(fault)
     }
 }
 
 impl From<AllocError> for Stop {
+    ghost use Rattle.evl_callers.specs.declared.answers.Stop.{Stop};
+
+    ghost from_gives = { λ _ stop. stop ≡ Stop.Memory };
+
     fn from(_: AllocError) -> Stop {
         Stop::Memory
     }
@@ -45,16 +54,18 @@ pub struct Told {
 }
 
 // A text with what it shows.
-fn tell(alloc: Global, answer: &str, shows: Shows) -> Result<Told, Stop>
-    ensures { IfOk result (λ t. string_bytes t.answer ≡ answer.now) }
+fn tell(alloc: Global, answer: &str, shows: Shows) -> Result<Told, AllocError>
+    ensures told { IfOk result (λ t. string_bytes t.answer ≡ answer.now) }
+    ensures shown { IfOk result (λ t. t.shows ≡ shows) }
 {
     let answer = String::from_str(alloc, answer)?;
     Ok(Told { answer, shows })
 }
 
 // The answer of a call of the kernel.
-fn tell_reply(alloc: Global, answer: Answer) -> Result<Told, Stop>
-    ensures { IfOk result (λ t. string_bytes t.answer ≡ outcome_text answer.0) }
+fn tell_reply(alloc: Global, answer: Answer) -> Result<Told, AllocError>
+    ensures told { IfOk result (λ t. string_bytes t.answer ≡ outcome_text answer.0) }
+    ensures shown { IfOk result (λ t. t.shows ≡ Shows.Nothing) }
 {
     let mut text = String::new(alloc);
     write!(text, "{answer}")?;
@@ -70,16 +81,15 @@ fn keep_stax(
     passes: &mut Passes,
     name: String,
     pass: StaxPass,
-    stax: StaxId,
-) -> Result<Told, Stop>
-    ensures { IfOk result (λ t. string_bytes t.answer ≡ string_bytes name) }
+    shows: Shows,
+) -> Result<Told, AllocError>
+    ensures told { IfOk result (λ t. string_bytes t.answer ≡ string_bytes name) }
+    ensures shown { IfOk result (λ t. t.shows ≡ shows) }
+    ensures left { OnOk result (holdings_of passes.new ≡ with_stax (holdings_of passes.old) name pass) }
 {
     let answer = String::from_str(alloc, name.as_str())?;
     passes.put_stax(name, pass)?;
-    Ok(Told {
-        answer,
-        shows: Shows::Stax(stax),
-    })
+    Ok(Told { answer, shows })
 }
 
 // The same with the pass of a mutex.
@@ -88,21 +98,24 @@ fn keep_mutex(
     passes: &mut Passes,
     name: String,
     pass: MutexPass,
-) -> Result<Told, Stop>
-    ensures { IfOk result (λ t. string_bytes t.answer ≡ string_bytes name) }
+    shows: Shows,
+) -> Result<Told, AllocError>
+    ensures told { IfOk result (λ t. string_bytes t.answer ≡ string_bytes name) }
+    ensures shown { IfOk result (λ t. t.shows ≡ shows) }
+    ensures left { OnOk result (holdings_of passes.new ≡ with_mutex (holdings_of passes.old) name pass) }
 {
     let answer = String::from_str(alloc, name.as_str())?;
-    let shows = Shows::Mutex(pass.mutex());
     passes.put_mutex(name, pass)?;
     Ok(Told { answer, shows })
 }
 
 // A name that holds no pass.
-fn free_name(passes: &Passes, name: &String) -> Result<(), Stop>
-    ensures { result ≡ (if is_named (string_bytes name.now) passes.now.staxes.items || is_named (string_bytes name.now) passes.now.mutexes.items then Err (Stop.Fault StepFault.Held) else Ok tt) }
+fn free_name(passes: &Passes, name: &String) -> Result<(), StepFault>
+    ensures free { OnOk result (is_held (string_bytes name.now) (holdings_of passes.now) ≡ false) }
+    ensures held { IfErr result (λ fault. (fault ≡ StepFault.Held) × (is_held (string_bytes name.now) (holdings_of passes.now) ≡ true)) }
 {
     if passes.holds(name.as_str()) {
-        Err(Stop::Fault(StepFault::Held))
+        Err(StepFault::Held)
     } else {
         Ok(())
     }
@@ -115,11 +128,13 @@ fn tell_entered(
     name: String,
     stax: StaxId,
     answer: Result<StaxPass, Refusal>,
-) -> Result<Told, Stop>
-    ensures { IfOk result (λ t. string_bytes t.answer ≡ given_text (string_bytes name) answer) }
+) -> Result<Told, AllocError>
+    ensures told { IfOk result (λ t. string_bytes t.answer ≡ given_text (string_bytes name) answer) }
+    ensures shown { IfOk result (λ t. t.shows ≡ Shows.Stax stax) }
+    ensures left { OnOk result (holdings_of passes.new ≡ stax_given (holdings_of passes.old) name answer) }
 {
     match answer {
-        Ok(pass) => keep_stax(alloc, passes, name, pass, stax),
+        Ok(pass) => keep_stax(alloc, passes, name, pass, Shows::Stax(stax)),
         Err(refusal) => tell(alloc, refusal.name(), Shows::Stax(stax)),
     }
 }
@@ -133,11 +148,12 @@ fn lock_stax<C: Handler>(
     name: String,
 ) -> Result<Told, Stop>
     ensures same { crew.new.machine.now ≡ crew.old.machine.now }
-    ensures told { IfOk result (λ t. EntersStax stax.0 (string_bytes name) (crew_at crew.old.callers.items crew.old.held crew.old.holder) who.0 (string_bytes t.answer) (crew_at crew.new.callers.items crew.new.held crew.new.holder)) }
+    ensures told { IfOk result (λ t. EntersStax stax name (crew_at crew.old.callers.items crew.old.held crew.old.holder) (holdings_of passes.old) who (string_bytes t.answer) t.shows (crew_at crew.new.callers.items crew.new.held crew.new.holder) (holdings_of passes.new)) }
+    ensures refused { IfErr result (λ stop. IsWhy (step_fault (Act.TryLockStax stax name) (crew_at crew.old.callers.items crew.old.held crew.old.holder) (holdings_of passes.old) who.0) stop) }
 {
     free_name(passes, &name)?;
     let answer = crew.try_lock_stax(who, stax)?;
-    tell_entered(alloc, passes, name, stax, answer)
+    Ok(tell_entered(alloc, passes, name, stax, answer)?)
 }
 
 // The answer of `unlock_stax`. A pass that comes back stays with its name.
@@ -147,8 +163,10 @@ fn tell_left(
     name: String,
     stax: StaxId,
     answer: Result<bool, (Refusal, StaxPass)>,
-) -> Result<Told, Stop>
-    ensures { IfOk result (λ t. string_bytes t.answer ≡ left_text answer) }
+) -> Result<Told, AllocError>
+    ensures told { IfOk result (λ t. string_bytes t.answer ≡ left_text answer) }
+    ensures shown { IfOk result (λ t. t.shows ≡ Shows.Stax stax) }
+    ensures left { OnOk result (holdings_of passes.new ≡ stax_left (holdings_of passes.old) name answer) }
 {
     match answer {
         Ok(true) => tell(alloc, "done, others want in", Shows::Stax(stax)),
@@ -168,12 +186,13 @@ fn leave_stax<C: Handler>(
     name: String,
 ) -> Result<Told, Stop>
     ensures same { crew.new.machine.now ≡ crew.old.machine.now }
-    ensures told { IfOk result (λ t. (pass : StaxPass) × LeavesBy pass (crew_at crew.old.callers.items crew.old.held crew.old.holder) who.0 (string_bytes t.answer) (crew_at crew.new.callers.items crew.new.held crew.new.holder)) }
+    ensures told { IfOk result (λ t. LeavesBy name (crew_at crew.old.callers.items crew.old.held crew.old.holder) (holdings_of passes.old) who (string_bytes t.answer) t.shows (crew_at crew.new.callers.items crew.new.held crew.new.holder) (holdings_of passes.new)) }
+    ensures refused { IfErr result (λ stop. IsWhy (step_fault (Act.UnlockStax name) (crew_at crew.old.callers.items crew.old.held crew.old.holder) (holdings_of passes.old) who.0) stop) }
 {
-    let pass = passes.take_stax(name.as_str())?;
+    let pass = passes.take_stax(&name)?;
     let stax = pass.gate();
     let answer = crew.unlock_stax(who, pass)?;
-    tell_left(alloc, passes, name, stax, answer)
+    Ok(tell_left(alloc, passes, name, stax, answer)?)
 }
 
 // The answer of `try_lock_mutex`.
@@ -183,11 +202,13 @@ fn tell_locked(
     name: String,
     mutex: MutexId,
     answer: Result<MutexPass, Refusal>,
-) -> Result<Told, Stop>
-    ensures { IfOk result (λ t. string_bytes t.answer ≡ given_text (string_bytes name) answer) }
+) -> Result<Told, AllocError>
+    ensures told { IfOk result (λ t. string_bytes t.answer ≡ given_text (string_bytes name) answer) }
+    ensures shown { IfOk result (λ t. t.shows ≡ Shows.Mutex mutex) }
+    ensures left { OnOk result (holdings_of passes.new ≡ mutex_given (holdings_of passes.old) name answer) }
 {
     match answer {
-        Ok(pass) => keep_mutex(alloc, passes, name, pass),
+        Ok(pass) => keep_mutex(alloc, passes, name, pass, Shows::Mutex(mutex)),
         Err(refusal) => tell(alloc, refusal.name(), Shows::Mutex(mutex)),
     }
 }
@@ -201,11 +222,12 @@ fn lock_mutex<C: Handler>(
     name: String,
 ) -> Result<Told, Stop>
     ensures same { crew.new.machine.now ≡ crew.old.machine.now }
-    ensures told { IfOk result (λ t. LocksMutex mutex (string_bytes name) (crew_at crew.old.callers.items crew.old.held crew.old.holder) who.0 (string_bytes t.answer) (crew_at crew.new.callers.items crew.new.held crew.new.holder)) }
+    ensures told { IfOk result (λ t. LocksMutex mutex name (crew_at crew.old.callers.items crew.old.held crew.old.holder) (holdings_of passes.old) who (string_bytes t.answer) t.shows (crew_at crew.new.callers.items crew.new.held crew.new.holder) (holdings_of passes.new)) }
+    ensures refused { IfErr result (λ stop. IsWhy (step_fault (Act.TryLockMutex mutex name) (crew_at crew.old.callers.items crew.old.held crew.old.holder) (holdings_of passes.old) who.0) stop) }
 {
     free_name(passes, &name)?;
     let answer = crew.try_lock_mutex(who, mutex)?;
-    tell_locked(alloc, passes, name, mutex, answer)
+    Ok(tell_locked(alloc, passes, name, mutex, answer)?)
 }
 
 // The answer of a call that spends the pass of a mutex. A pass that comes back stays with its name.
@@ -213,16 +235,18 @@ fn tell_unlocked(
     alloc: Global,
     passes: &mut Passes,
     name: String,
-    mutex: MutexId,
+    shows: Shows,
     answer: Result<(), (Refusal, MutexPass)>,
-) -> Result<Told, Stop>
-    ensures { IfOk result (λ t. string_bytes t.answer ≡ unlocked_text answer) }
+) -> Result<Told, AllocError>
+    ensures told { IfOk result (λ t. string_bytes t.answer ≡ unlocked_text answer) }
+    ensures shown { IfOk result (λ t. t.shows ≡ shows) }
+    ensures left { OnOk result (holdings_of passes.new ≡ mutex_left (holdings_of passes.old) name answer) }
 {
     match answer {
-        Ok(()) => tell(alloc, "done", Shows::Mutex(mutex)),
+        Ok(()) => tell(alloc, "done", shows),
         Err((refusal, pass)) => {
             passes.put_mutex(name, pass)?;
-            tell(alloc, refusal.name(), Shows::Mutex(mutex))
+            tell(alloc, refusal.name(), shows)
         }
     }
 }
@@ -235,12 +259,13 @@ fn unlock_fast<C: Handler>(
     name: String,
 ) -> Result<Told, Stop>
     ensures same { crew.new.machine.now ≡ crew.old.machine.now }
-    ensures told { IfOk result (λ t. (pass : MutexPass) × UnlocksFastBy pass (crew_at crew.old.callers.items crew.old.held crew.old.holder) who.0 (string_bytes t.answer) (crew_at crew.new.callers.items crew.new.held crew.new.holder)) }
+    ensures told { IfOk result (λ t. UnlocksFastBy name (crew_at crew.old.callers.items crew.old.held crew.old.holder) (holdings_of passes.old) who (string_bytes t.answer) t.shows (crew_at crew.new.callers.items crew.new.held crew.new.holder) (holdings_of passes.new)) }
+    ensures refused { IfErr result (λ stop. IsWhy (step_fault (Act.UnlockMutexFast name) (crew_at crew.old.callers.items crew.old.held crew.old.holder) (holdings_of passes.old) who.0) stop) }
 {
-    let pass = passes.take_mutex(name.as_str())?;
+    let pass = passes.take_mutex(&name)?;
     let mutex = pass.mutex();
     let answer = crew.unlock_mutex_fast(who, pass)?;
-    tell_unlocked(alloc, passes, name, mutex, answer)
+    Ok(tell_unlocked(alloc, passes, name, Shows::Mutex(mutex), answer)?)
 }
 
 fn unlock<C: Handler>(
@@ -251,12 +276,13 @@ fn unlock<C: Handler>(
     name: String,
 ) -> Result<Told, Stop>
     ensures same { crew.new.machine.now ≡ crew.old.machine.now }
-    ensures told { IfOk result (λ t. (pass : MutexPass) × UnlocksBy pass (crew_at crew.old.callers.items crew.old.held crew.old.holder) who.0 (string_bytes t.answer) (crew_at crew.new.callers.items crew.new.held crew.new.holder)) }
+    ensures told { IfOk result (λ t. UnlocksBy name (crew_at crew.old.callers.items crew.old.held crew.old.holder) (holdings_of passes.old) who (string_bytes t.answer) t.shows (crew_at crew.new.callers.items crew.new.held crew.new.holder) (holdings_of passes.new)) }
+    ensures refused { IfErr result (λ stop. IsWhy (step_fault (Act.TryUnlockMutex name) (crew_at crew.old.callers.items crew.old.held crew.old.holder) (holdings_of passes.old) who.0) stop) }
 {
-    let pass = passes.take_mutex(name.as_str())?;
+    let pass = passes.take_mutex(&name)?;
     let mutex = pass.mutex();
     let answer = crew.try_unlock_mutex(who, pass)?;
-    tell_unlocked(alloc, passes, name, mutex, answer)
+    Ok(tell_unlocked(alloc, passes, name, Shows::Mutex(mutex), answer)?)
 }
 
 // The answer of `begin_lock_mutex`.
@@ -267,11 +293,13 @@ fn tell_begun(
     name: String,
     mutex: MutexId,
     answer: Result<Begun, Refusal>,
-) -> Result<Told, Stop>
-    ensures { IfOk result (λ t. string_bytes t.answer ≡ begun_text (string_bytes name) answer) }
+) -> Result<Told, AllocError>
+    ensures told { IfOk result (λ t. string_bytes t.answer ≡ begun_text (string_bytes name) answer) }
+    ensures shown { IfOk result (λ t. t.shows ≡ Shows.Mutex mutex) }
+    ensures left { OnOk result (holdings_of passes.new ≡ lock_begun (holdings_of passes.old) who mutex name answer) }
 {
     match answer {
-        Ok(Begun::Locked(pass)) => keep_mutex(alloc, passes, name, pass),
+        Ok(Begun::Locked(pass)) => keep_mutex(alloc, passes, name, pass, Shows::Mutex(mutex)),
         Ok(Begun::Waiting) => {
             passes.begin_wait(who, mutex)?;
             tell(alloc, "begun", Shows::Mutex(mutex))
@@ -290,15 +318,18 @@ fn begin<C: Handler>(
     name: String,
 ) -> Result<Told, Stop>
     ensures same { crew.new.machine.now ≡ crew.old.machine.now }
-    ensures told { IfOk result (λ t. BeginsLock mutex until (string_bytes name) (crew_at crew.old.callers.items crew.old.held crew.old.holder) who.0 (string_bytes t.answer) (crew_at crew.new.callers.items crew.new.held crew.new.holder)) }
+    ensures told { IfOk result (λ t. BeginsLock mutex until name (crew_at crew.old.callers.items crew.old.held crew.old.holder) (holdings_of passes.old) who (string_bytes t.answer) t.shows (crew_at crew.new.callers.items crew.new.held crew.new.holder) (holdings_of passes.new)) }
+    ensures refused { IfErr result (λ stop. IsWhy (step_fault (Act.BeginLockMutex mutex until name) (crew_at crew.old.callers.items crew.old.held crew.old.holder) (holdings_of passes.old) who.0) stop) }
 {
     free_name(passes, &name)?;
     let answer = crew.begin_lock_mutex(who, mutex, until)?;
-    tell_begun(alloc, passes, who, name, mutex, answer)
+    Ok(tell_begun(alloc, passes, who, name, mutex, answer)?)
 }
 
 // What a caller's wait is shown by.
-fn awaited(passes: &Passes, who: ThreadId) -> Shows {
+fn awaited(passes: &Passes, who: ThreadId) -> Shows
+    ensures { result ≡ word_shown (awaited (holdings_of passes.now) who) }
+{
     match passes.awaited(who) {
         Some(mutex) => Shows::Mutex(mutex),
         None => Shows::Nothing,
@@ -312,14 +343,17 @@ fn tell_ended(
     who: ThreadId,
     name: String,
     answer: Result<Ended, Refusal>,
-) -> Result<Told, Stop>
-    ensures { IfOk result (λ t. string_bytes t.answer ≡ ended_text (string_bytes name) answer) }
+) -> Result<Told, AllocError>
+    ensures told { IfOk result (λ t. string_bytes t.answer ≡ ended_text (string_bytes name) answer) }
+    ensures shown { IfOk result (λ t. t.shows ≡ ended_shows (holdings_of passes.old) who answer) }
+    ensures left { OnOk result (holdings_of passes.new ≡ lock_ended (holdings_of passes.old) who name answer) }
 {
     let shows = awaited(passes, who);
     match answer {
         Ok(Ended::Locked(pass)) => {
             passes.end_wait(who);
-            keep_mutex(alloc, passes, name, pass)
+            let shows = Shows::Mutex(pass.mutex());
+            keep_mutex(alloc, passes, name, pass, shows)
         }
         Ok(Ended::TimedOut) => {
             passes.end_wait(who);
@@ -337,16 +371,18 @@ fn finish<C: Handler>(
     name: String,
 ) -> Result<Told, Stop>
     ensures same { crew.new.machine.now ≡ crew.old.machine.now }
-    ensures told { IfOk result (λ t. FinishesLock (string_bytes name) (crew_at crew.old.callers.items crew.old.held crew.old.holder) who.0 (string_bytes t.answer) (crew_at crew.new.callers.items crew.new.held crew.new.holder)) }
+    ensures told { IfOk result (λ t. FinishesLock name (crew_at crew.old.callers.items crew.old.held crew.old.holder) (holdings_of passes.old) who (string_bytes t.answer) t.shows (crew_at crew.new.callers.items crew.new.held crew.new.holder) (holdings_of passes.new)) }
+    ensures refused { IfErr result (λ stop. IsWhy (step_fault (Act.FinishLockMutex name) (crew_at crew.old.callers.items crew.old.held crew.old.holder) (holdings_of passes.old) who.0) stop) }
 {
     free_name(passes, &name)?;
     let answer = crew.finish_lock_mutex(who)?;
-    tell_ended(alloc, passes, who, name, answer)
+    Ok(tell_ended(alloc, passes, who, name, answer)?)
 }
 
 // The answer of a take.
-fn tell_taken(alloc: Global, free: bool) -> Result<Told, Stop>
-    ensures { IfOk result (λ t. string_bytes t.answer ≡ taken_text free) }
+fn tell_taken(alloc: Global, free: bool) -> Result<Told, AllocError>
+    ensures told { IfOk result (λ t. string_bytes t.answer ≡ taken_text free) }
+    ensures shown { IfOk result (λ t. t.shows ≡ Shows.Core) }
 {
     if free {
         tell(alloc, "done", Shows::Core)
@@ -357,20 +393,22 @@ fn tell_taken(alloc: Global, free: bool) -> Result<Told, Stop>
 
 fn take<C: Handler>(alloc: Global, crew: &mut Crew<'_, C>, who: ThreadId) -> Result<Told, Stop>
     ensures same { crew.new.machine.now ≡ crew.old.machine.now }
-    ensures told { IfOk result (λ t. TakesSo (crew_at crew.old.callers.items crew.old.held crew.old.holder) who.0 (string_bytes t.answer) (crew_at crew.new.callers.items crew.new.held crew.new.holder)) }
+    ensures told { IfOk result (λ t. TakesSo (crew_at crew.old.callers.items crew.old.held crew.old.holder) who.0 (string_bytes t.answer) t.shows (crew_at crew.new.callers.items crew.new.held crew.new.holder)) }
+    ensures refused { IfErr result (λ stop. IsWhy (caller_fault Act.Take (crew_at crew.old.callers.items crew.old.held crew.old.holder) who.0) stop) }
 {
     match crew.take(who)? {
-        Ok(free) => tell_taken(alloc, free),
+        Ok(free) => Ok(tell_taken(alloc, free)?),
         Err(_) => Err(Stop::Memory),
     }
 }
 
 fn give<C: Handler>(alloc: Global, crew: &mut Crew<'_, C>, who: ThreadId) -> Result<Told, Stop>
     ensures same { crew.new.machine.now ≡ crew.old.machine.now }
-    ensures told { IfOk result (λ t. GivesSo (crew_at crew.old.callers.items crew.old.held crew.old.holder) who.0 (string_bytes t.answer) (crew_at crew.new.callers.items crew.new.held crew.new.holder)) }
+    ensures told { IfOk result (λ t. GivesSo (crew_at crew.old.callers.items crew.old.held crew.old.holder) who.0 (string_bytes t.answer) t.shows (crew_at crew.new.callers.items crew.new.held crew.new.holder)) }
+    ensures refused { IfErr result (λ stop. IsWhy (caller_fault Act.Give (crew_at crew.old.callers.items crew.old.held crew.old.holder) who.0) stop) }
 {
     match crew.give(who)? {
-        Ok(()) => tell(alloc, "done", Shows::Core),
+        Ok(()) => Ok(tell(alloc, "done", Shows::Core)?),
         Err(_) => Err(Stop::Memory),
     }
 }
@@ -382,10 +420,11 @@ fn call<C: Handler>(
     call: Call,
 ) -> Result<Told, Stop>
     ensures same { crew.new.machine.now ≡ crew.old.machine.now }
-    ensures told { IfOk result (λ t. CallsSo crew.old.machine.now.first.limit call (crew_at crew.old.callers.items crew.old.held crew.old.holder) who.0 (string_bytes t.answer) (crew_at crew.new.callers.items crew.new.held crew.new.holder)) }
+    ensures told { IfOk result (λ t. CallsSo crew.old.machine.now.first.limit call (crew_at crew.old.callers.items crew.old.held crew.old.holder) who.0 (string_bytes t.answer) t.shows (crew_at crew.new.callers.items crew.new.held crew.new.holder)) }
+    ensures refused { IfErr result (λ stop. IsWhy (caller_fault (Act.Call call) (crew_at crew.old.callers.items crew.old.held crew.old.holder) who.0) stop) }
 {
     let answer = crew.call(who, call)?;
-    tell_reply(alloc, Answer(answer))
+    Ok(tell_reply(alloc, Answer(answer))?)
 }
 
 /// Has a caller do what a step says.
@@ -397,7 +436,8 @@ pub fn make<C: Handler>(
     act: Act,
 ) -> Result<Told, Stop>
     ensures same { crew.new.machine.now ≡ crew.old.machine.now }
-    ensures told { IfOk result (λ t. Makes crew.old.machine.now.first.limit act (crew_at crew.old.callers.items crew.old.held crew.old.holder) who.0 (string_bytes t.answer) (crew_at crew.new.callers.items crew.new.held crew.new.holder)) }
+    ensures told { IfOk result (λ t. Makes crew.old.machine.now.first.limit act (crew_at crew.old.callers.items crew.old.held crew.old.holder) (holdings_of passes.old) who (string_bytes t.answer) t.shows (crew_at crew.new.callers.items crew.new.held crew.new.holder) (holdings_of passes.new)) }
+    ensures refused { IfErr result (λ stop. IsWhy (step_fault act (crew_at crew.old.callers.items crew.old.held crew.old.holder) (holdings_of passes.old) who.0) stop) }
 {
     match act {
         Act::Call(asked) => call(alloc, crew, who, asked),

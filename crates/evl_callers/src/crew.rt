@@ -1,8 +1,8 @@
 //! The callers of a machine on one host thread, of which one may have the core.
 ghost use Rattle.std.proofs.Props.{props};
-ghost use Rattle.std.specs.Prelude.{◌≡◌, ◌<◌, All, IfOk, IfSome, None, OnOk, Some, is_some, length};
+ghost use Rattle.std.specs.Prelude.{◌≡◌, ◌<◌, All, IfErr, IfOk, IfSome, None, OnErr, OnOk, Some, false, is_some, length};
 ghost use Rattle.std.specs.List.{insert};
-ghost use Rattle.evl_callers.specs.Crews.{CallsByHolder, CallsKernel, GivesCore, Steps, TakesCore, crew_at, has_core, holder_of, place_of};
+ghost use Rattle.evl_callers.specs.Crews.{CallsByHolder, CallsKernel, GivesCore, Steps, TakesCore, call_fault, crew_at, give_fault, has_core, holder_of, place_fault, place_of};
 ghost use Rattle.evl_callers.specs.Views.{Looks, LooksAt, LooksHeld};
 ghost use Rattle.evl_kernel.specs.Callbacks.{AnswersAsTold};
 ghost use Rattle.evl_machine.specs.Calls.{Called, stage_of_caller};
@@ -80,7 +80,8 @@ impl<'a, C: Handler> Crew<'a, C> {
 
     // The place of a caller that hasn't the core.
     fn place(&self, who: ThreadId) -> Result<usize, StepFault>
-        ensures { IfOk result (λ k. (k ≡ place_of (is_some self.now.held) self.now.holder who.0) × (k < length self.now.callers.items)) }
+        ensures place { IfOk result (λ k. (k ≡ place_of (is_some self.now.held) self.now.holder who.0) × (k < length self.now.callers.items)) }
+        ensures refused { IfErr result (λ e. place_fault (is_some self.now.held) self.now.holder who.0 (length self.now.callers.items) ≡ Some e) }
     {
         let number = usize::from(who.0);
         if self.has_core(who) {
@@ -102,6 +103,7 @@ impl<'a, C: Handler> Crew<'a, C> {
     fn call_at(&mut self, who: ThreadId, call: Call) -> Made<Result<Reply, Refusal>>
         ensures machine { self.new.machine.now ≡ self.old.machine.now }
         ensures stepped { IfOk result (λ r. Steps (crew_at self.old.callers.items self.old.held self.old.holder) who.0 (λ old new. Called self.old.machine.now.first.limit old call r new) (crew_at self.new.callers.items self.new.held self.new.holder)) }
+        ensures refused { IfErr result (λ e. place_fault (is_some self.old.held) self.old.holder who.0 (length self.old.callers.items) ≡ Some e) }
     {
         let place = self.place(who)?;
         Ok(steps_at::try_call(self.machine, &mut self.callers, place, call))
@@ -111,6 +113,7 @@ impl<'a, C: Handler> Crew<'a, C> {
     pub fn call(&mut self, who: ThreadId, call: Call) -> Made<Result<Reply, Refusal>>
         ensures machine { self.new.machine.now ≡ self.old.machine.now }
         ensures called { IfOk result (λ r. CallsKernel self.old.machine.now.first.limit (crew_at self.old.callers.items self.old.held self.old.holder) who.0 call r (crew_at self.new.callers.items self.new.held self.new.holder)) }
+        ensures refused { IfErr result (λ e. call_fault (is_some self.old.held) self.old.holder who.0 (length self.old.callers.items) ≡ Some e) }
     {
         if self.has_core(who) {
             self.call_by_holder(call)
@@ -123,6 +126,7 @@ impl<'a, C: Handler> Crew<'a, C> {
     fn call_by_holder(&mut self, call: Call) -> Made<Result<Reply, Refusal>>
         ensures machine { self.new.machine.now ≡ self.old.machine.now }
         ensures called { IfOk result (λ r. CallsByHolder (crew_at self.old.callers.items self.old.held self.old.holder) call r (crew_at self.new.callers.items self.new.held self.new.holder)) }
+        ensures refused { OnErr result (is_some self.old.held ≡ false) }
     {
         match &mut self.held {
             Some(held) => Ok(held.apply(call)),
@@ -134,6 +138,7 @@ impl<'a, C: Handler> Crew<'a, C> {
     pub fn try_lock_stax(&mut self, who: ThreadId, stax: StaxId) -> Made<Result<StaxPass, Refusal>>
         ensures machine { self.new.machine.now ≡ self.old.machine.now }
         ensures stepped { IfOk result (λ r. Steps (crew_at self.old.callers.items self.old.held self.old.holder) who.0 (λ old new. StaxCall old (λ o n. TriesStax o stax.0 (stage_of_caller old) r n) new) (crew_at self.new.callers.items self.new.held self.new.holder)) }
+        ensures refused { IfErr result (λ e. place_fault (is_some self.old.held) self.old.holder who.0 (length self.old.callers.items) ≡ Some e) }
     {
         let place = self.place(who)?;
         Ok(steps_at::try_lock_stax(self.machine, &mut self.callers, place, stax))
@@ -147,6 +152,7 @@ impl<'a, C: Handler> Crew<'a, C> {
     ) -> Made<Result<bool, (Refusal, StaxPass)>>
         ensures machine { self.new.machine.now ≡ self.old.machine.now }
         ensures stepped { IfOk result (λ r. Steps (crew_at self.old.callers.items self.old.held self.old.holder) who.0 (λ old new. StaxCall old (λ o n. LeavesStax o pass r n) new) (crew_at self.new.callers.items self.new.held self.new.holder)) }
+        ensures refused { IfErr result (λ e. place_fault (is_some self.old.held) self.old.holder who.0 (length self.old.callers.items) ≡ Some e) }
     {
         let place = self.place(who)?;
         Ok(steps_at::unlock_stax(self.machine, &mut self.callers, place, pass))
@@ -160,6 +166,7 @@ impl<'a, C: Handler> Crew<'a, C> {
     ) -> Made<Result<MutexPass, Refusal>>
         ensures machine { self.new.machine.now ≡ self.old.machine.now }
         ensures stepped { IfOk result (λ r. Steps (crew_at self.old.callers.items self.old.held self.old.holder) who.0 (λ old new. TriesToLock old mutex r new) (crew_at self.new.callers.items self.new.held self.new.holder)) }
+        ensures refused { IfErr result (λ e. place_fault (is_some self.old.held) self.old.holder who.0 (length self.old.callers.items) ≡ Some e) }
     {
         let place = self.place(who)?;
         Ok(steps_at::try_lock_mutex(self.machine, &mut self.callers, place, mutex))
@@ -173,6 +180,7 @@ impl<'a, C: Handler> Crew<'a, C> {
     ) -> Made<Result<(), (Refusal, MutexPass)>>
         ensures machine { self.new.machine.now ≡ self.old.machine.now }
         ensures stepped { IfOk result (λ r. Steps (crew_at self.old.callers.items self.old.held self.old.holder) who.0 (λ old new. UnlocksFast old pass r new) (crew_at self.new.callers.items self.new.held self.new.holder)) }
+        ensures refused { IfErr result (λ e. place_fault (is_some self.old.held) self.old.holder who.0 (length self.old.callers.items) ≡ Some e) }
     {
         let place = self.place(who)?;
         Ok(steps_at::unlock_mutex_fast(self.machine, &mut self.callers, place, pass))
@@ -186,6 +194,7 @@ impl<'a, C: Handler> Crew<'a, C> {
     ) -> Made<Result<(), (Refusal, MutexPass)>>
         ensures machine { self.new.machine.now ≡ self.old.machine.now }
         ensures stepped { IfOk result (λ r. Steps (crew_at self.old.callers.items self.old.held self.old.holder) who.0 (λ old new. TriesToUnlock old pass r new) (crew_at self.new.callers.items self.new.held self.new.holder)) }
+        ensures refused { IfErr result (λ e. place_fault (is_some self.old.held) self.old.holder who.0 (length self.old.callers.items) ≡ Some e) }
     {
         let place = self.place(who)?;
         Ok(steps_at::try_unlock_mutex(self.machine, &mut self.callers, place, pass))
@@ -200,6 +209,7 @@ impl<'a, C: Handler> Crew<'a, C> {
     ) -> Made<Result<Begun, Refusal>>
         ensures machine { self.new.machine.now ≡ self.old.machine.now }
         ensures stepped { IfOk result (λ r. Steps (crew_at self.old.callers.items self.old.held self.old.holder) who.0 (λ old new. BeginsToLock old mutex until r new) (crew_at self.new.callers.items self.new.held self.new.holder)) }
+        ensures refused { IfErr result (λ e. place_fault (is_some self.old.held) self.old.holder who.0 (length self.old.callers.items) ≡ Some e) }
     {
         let place = self.place(who)?;
         Ok(steps_at::begin_lock_mutex(self.machine, &mut self.callers, place, mutex, until))
@@ -209,6 +219,7 @@ impl<'a, C: Handler> Crew<'a, C> {
     pub fn finish_lock_mutex(&mut self, who: ThreadId) -> Made<Result<Ended, Refusal>>
         ensures machine { self.new.machine.now ≡ self.old.machine.now }
         ensures stepped { IfOk result (λ r. Steps (crew_at self.old.callers.items self.old.held self.old.holder) who.0 (λ old new. FinishesToLock old r new) (crew_at self.new.callers.items self.new.held self.new.holder)) }
+        ensures refused { IfErr result (λ e. place_fault (is_some self.old.held) self.old.holder who.0 (length self.old.callers.items) ≡ Some e) }
     {
         let place = self.place(who)?;
         Ok(steps_at::finish_lock_mutex(self.machine, &mut self.callers, place))
@@ -234,6 +245,7 @@ impl<'a, C: Handler> Crew<'a, C> {
     pub fn take(&mut self, who: ThreadId) -> Made<Result<bool, AllocError>>
         ensures machine { self.new.machine.now ≡ self.old.machine.now }
         ensures taken { IfOk result (λ answer. IfOk answer (λ free. TakesCore (crew_at self.old.callers.items self.old.held self.old.holder) who.0 free (crew_at self.new.callers.items self.new.held self.new.holder))) }
+        ensures refused { IfErr result (λ e. place_fault (is_some self.old.held) self.old.holder who.0 (length self.old.callers.items) ≡ Some e) }
     {
         let place = self.place(who)?;
         let caller = self.callers.remove(place);
@@ -253,6 +265,7 @@ impl<'a, C: Handler> Crew<'a, C> {
     /// `give` of who has the core.
     pub fn give(&mut self, who: ThreadId) -> Made<Result<(), AllocError>>
         ensures machine { self.new.machine.now ≡ self.old.machine.now }
+        ensures refused { IfErr result (λ e. give_fault (is_some self.old.held) self.old.holder who.0 ≡ Some e) }
         ensures given { IfOk result (λ answer. OnOk answer (GivesCore (crew_at self.old.callers.items self.old.held self.old.holder) who.0 (crew_at self.new.callers.items self.new.held self.new.holder))) }
     {
         if !self.has_core(who) {

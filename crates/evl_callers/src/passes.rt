@@ -1,7 +1,9 @@
 //! Passes by their names.
-ghost use Rattle.std.specs.Prelude.{◌≡◌, ◌==◌, ◌||◌, ◌++◌, [], ◌∷◌, IfErr, IfOk, MatchOption, None, OnOk, count_by, find, option_map, position};
+ghost use Rattle.std.specs.Prelude.{◌≡◌, IfErr, IfOk, MatchOption, OnOk, count_by, false, position, string_bytes, true};
 ghost use Rattle.std.specs.List.{remove};
-ghost use Rattle.evl_callers.specs.Names.{TakesPass, is_named, is_of_name};
+ghost use Rattle.evl_callers.specs.Faults.{fault_words};
+ghost use Rattle.evl_callers.specs.Holdings.{awaited, holdings_of, is_held, is_of_stax, is_wait_of, nothing_held, stax_holder, with_mutex, with_mutexes, with_stax, with_staxes, with_wait, without_wait};
+ghost use Rattle.evl_callers.specs.Names.{TakesPass, has_pass, is_named, is_of_name};
 
 use evl_base::{MutexId, StaxId, ThreadId};
 use evl_words::{MutexPass, StaxPass};
@@ -24,7 +26,9 @@ pub enum StepFault {
 
 impl StepFault {
     /// The key that is at fault, and what is wrong with it.
-    pub fn words(self) -> &'static str {
+    pub fn words(self) -> &'static str
+        ensures { result.now ≡ fault_words self }
+    {
         match self {
             StepFault::NoCaller => "who: there is no such thread",
             StepFault::HasCore => "who: it has the core, and makes calls of the kernel or gives it",
@@ -52,7 +56,9 @@ fn is_among<P>(passes: &[(String, P)], name: &str) -> bool
 
 impl Passes {
     /// None.
-    pub fn new(alloc: Global) -> Passes {
+    pub fn new(alloc: Global) -> Passes
+        ensures { holdings_of result ≡ nothing_held }
+    {
         Passes {
             staxes: Vec::new(alloc),
             mutexes: Vec::new(alloc),
@@ -80,30 +86,34 @@ impl Passes {
 
     /// Whether a name holds a pass.
     pub fn holds(&self, name: &str) -> bool
-        ensures { result ≡ (is_named name.now self.now.staxes.items || is_named name.now self.now.mutexes.items) }
+        ensures { result ≡ is_held name.now (holdings_of self.now) }
     {
         is_among(self.staxes.as_slice(), name) || is_among(self.mutexes.as_slice(), name)
     }
 
     /// The pass of a stax that a name holds, which is taken away.
-    pub fn take_stax(&mut self, name: &str) -> Result<StaxPass, StepFault>
-        ensures taken { IfOk result (λ pass. TakesPass name.now self.old.staxes.items pass self.new.staxes.items) }
+    pub fn take_stax(&mut self, name: &String) -> Result<StaxPass, StepFault>
+        ensures taken { IfOk result (λ pass. TakesPass (string_bytes name.now) self.old.staxes.items pass self.new.staxes.items) }
         ensures others { (self.new.mutexes ≡ self.old.mutexes) × (self.new.waits ≡ self.old.waits) }
-        ensures refused { IfErr result (λ e. (e ≡ StepFault.HoldsNothing) × (position (is_of_name name.now) self.old.staxes.items ≡ None) × (self.new ≡ self.old)) }
+        ensures left { holdings_of self.new ≡ with_staxes (holdings_of self.old) self.new.staxes.items }
+        ensures there { OnOk result (has_pass (string_bytes name.now) self.old.staxes.items ≡ true) }
+        ensures refused { IfErr result (λ e. (e ≡ StepFault.HoldsNothing) × (has_pass (string_bytes name.now) self.old.staxes.items ≡ false) × (self.new ≡ self.old)) }
     {
-        match self.stax_place(name) {
+        match self.stax_place(name.as_str()) {
             Some(place) => Ok(self.staxes.remove(place).1),
             None => Err(StepFault::HoldsNothing),
         }
     }
 
     /// The pass of a mutex that a name holds, which is taken away.
-    pub fn take_mutex(&mut self, name: &str) -> Result<MutexPass, StepFault>
-        ensures taken { IfOk result (λ pass. TakesPass name.now self.old.mutexes.items pass self.new.mutexes.items) }
+    pub fn take_mutex(&mut self, name: &String) -> Result<MutexPass, StepFault>
+        ensures taken { IfOk result (λ pass. TakesPass (string_bytes name.now) self.old.mutexes.items pass self.new.mutexes.items) }
         ensures others { (self.new.staxes ≡ self.old.staxes) × (self.new.waits ≡ self.old.waits) }
-        ensures refused { IfErr result (λ e. (e ≡ StepFault.HoldsNothing) × (position (is_of_name name.now) self.old.mutexes.items ≡ None) × (self.new ≡ self.old)) }
+        ensures left { holdings_of self.new ≡ with_mutexes (holdings_of self.old) self.new.mutexes.items }
+        ensures there { OnOk result (has_pass (string_bytes name.now) self.old.mutexes.items ≡ true) }
+        ensures refused { IfErr result (λ e. (e ≡ StepFault.HoldsNothing) × (has_pass (string_bytes name.now) self.old.mutexes.items ≡ false) × (self.new ≡ self.old)) }
     {
-        match self.mutex_place(name) {
+        match self.mutex_place(name.as_str()) {
             Some(place) => Ok(self.mutexes.remove(place).1),
             None => Err(StepFault::HoldsNothing),
         }
@@ -111,7 +121,7 @@ impl Passes {
 
     /// Has a name hold a pass of a stax.
     pub fn put_stax(&mut self, name: String, pass: StaxPass) -> Result<(), AllocError>
-        ensures held { OnOk result (self.new.staxes.items ≡ self.old.staxes.items ++ (name, pass) ∷ []) }
+        ensures held { OnOk result (holdings_of self.new ≡ with_stax (holdings_of self.old) name pass) }
         ensures others { (self.new.mutexes ≡ self.old.mutexes) × (self.new.waits ≡ self.old.waits) }
     {
         match self.staxes.push((name, pass)) {
@@ -122,7 +132,7 @@ impl Passes {
 
     /// Has a name hold a pass of a mutex.
     pub fn put_mutex(&mut self, name: String, pass: MutexPass) -> Result<(), AllocError>
-        ensures held { OnOk result (self.new.mutexes.items ≡ self.old.mutexes.items ++ (name, pass) ∷ []) }
+        ensures held { OnOk result (holdings_of self.new ≡ with_mutex (holdings_of self.old) name pass) }
         ensures others { (self.new.staxes ≡ self.old.staxes) × (self.new.waits ≡ self.old.waits) }
     {
         match self.mutexes.push((name, pass)) {
@@ -133,7 +143,7 @@ impl Passes {
 
     /// How many callers hold a stax.
     pub fn holders(&self, stax: StaxId) -> usize
-        ensures { result ≡ count_by (λ named. named.1.gate.0 == stax.0) self.now.staxes.items }
+        ensures { result ≡ count_by (is_of_stax stax.0) self.now.staxes.items }
     {
         self.staxes
             .iter()
@@ -143,7 +153,7 @@ impl Passes {
 
     /// The number of a caller that holds a stax.
     pub fn holder(&self, stax: StaxId) -> Option<u16>
-        ensures { result ≡ option_map (λ named. named.1.seat) (find (λ named. named.1.gate.0 == stax.0) self.now.staxes.items) }
+        ensures { result ≡ stax_holder (holdings_of self.now) stax.0 }
     {
         match self.staxes.iter().find(|named| named.1.gate() == stax) {
             Some(named) => Some(named.1.seat()),
@@ -153,7 +163,7 @@ impl Passes {
 
     /// A caller waits for a mutex from now on.
     pub fn begin_wait(&mut self, who: ThreadId, mutex: MutexId) -> Result<(), AllocError>
-        ensures waits { OnOk result (self.new.waits.items ≡ self.old.waits.items ++ (who, mutex) ∷ []) }
+        ensures waits { OnOk result (holdings_of self.new ≡ with_wait (holdings_of self.old) who mutex) }
         ensures others { (self.new.staxes ≡ self.old.staxes) × (self.new.mutexes ≡ self.old.mutexes) }
     {
         match self.waits.push((who, mutex)) {
@@ -164,14 +174,14 @@ impl Passes {
 
     // The place of a caller among those that wait.
     fn wait_place(&self, who: ThreadId) -> Option<usize>
-        ensures { result ≡ position (λ wait. wait.0.0 == who.0) self.now.waits.items }
+        ensures { result ≡ position (is_wait_of who.0) self.now.waits.items }
     {
         self.waits.iter().position(|wait| wait.0 == who)
     }
 
     /// For which mutex a caller waits.
     pub fn awaited(&self, who: ThreadId) -> Option<MutexId>
-        ensures { result ≡ option_map (λ wait. wait.1) (find (λ wait. wait.0.0 == who.0) self.now.waits.items) }
+        ensures { result ≡ awaited (holdings_of self.now) who }
     {
         match self.waits.iter().find(|wait| wait.0 == who) {
             Some(wait) => Some(wait.1),
@@ -181,7 +191,8 @@ impl Passes {
 
     /// A caller waits no more.
     pub fn end_wait(&mut self, who: ThreadId)
-        ensures waits { MatchOption (position (λ wait. wait.0.0 == who.0) self.old.waits.items) (self.new ≡ self.old) (λ place. self.new.waits.items ≡ remove self.old.waits.items place) }
+        ensures waits { MatchOption (position (is_wait_of who.0) self.old.waits.items) (self.new ≡ self.old) (λ place. self.new.waits.items ≡ remove self.old.waits.items place) }
+        ensures over { holdings_of self.new ≡ without_wait (holdings_of self.old) who }
         ensures others { (self.new.staxes ≡ self.old.staxes) × (self.new.mutexes ≡ self.old.mutexes) }
     {
         if let Some(place) = self.wait_place(who) {

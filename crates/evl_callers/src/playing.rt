@@ -1,7 +1,10 @@
 //! Texts of callers, played over a machine.
 ghost use Rattle.std.specs.Prelude.{◌≡◌, ◌++◌, ℕ, List, [], All, IfErr, IfOk, MatchResult, None, OnOk, codes, length, string_bytes};
-ghost use Rattle.evl_callers.specs.Plays.{ClosesSo, EndsSo, HaveMade, IsShown, IsStopped, IsTold, LeavesText, MakesEach, MakesStep, ShowsAfter, StopsFor, run_at};
-ghost use Rattle.evl_callers.specs.Shown.{closed_text, open_text, step_text};
+ghost use Rattle.evl_callers.specs.Faults.{IsWhy, step_fault};
+ghost use Rattle.evl_callers.specs.Crews.{crew_at};
+ghost use Rattle.evl_callers.specs.Holdings.{holdings_of, nothing_held};
+ghost use Rattle.evl_callers.specs.Plays.{ClosesSo, EndsSo, HaveMade, IsStopped, IsTold, LeavesText, MakesEach, MakesStep, ShowsAfter, StopsFor, run_at};
+ghost use Rattle.evl_callers.specs.Shown.{closed_text, mutex_asked, open_text, shown_text, step_text, thread_asked};
 ghost use Rattle.evl_kernel.specs.Callbacks.{AnswersAsTold};
 ghost use Rattle.evl_kernel.specs.KernelViews.{IsOpened};
 ghost use Rattle.evl_machine.specs.Handles.{newcomers_of};
@@ -13,7 +16,7 @@ use crate::crew::Crew;
 use crate::lines::{put_core, put_mutex, put_plays, put_stax};
 use crate::passes::{Passes, StepFault};
 use crate::views::{Question, Shows, View};
-use evl_base::{Board, Entry, Play, Refusal, ThreadId};
+use evl_base::{Board, Entry, Play, Refusal, StaxId, ThreadId};
 use evl_callers_text::{CallersStep, CallersText};
 use evl_kernel::KernelOf;
 use evl_machine::{CallerOf, MachineOf};
@@ -52,9 +55,21 @@ struct Report {
     staxes: usize,
 }
 
+// The first thread that holds a stax.
+fn holding(passes: &Passes, stax: StaxId) -> Option<ThreadId>
+    ensures { result ≡ thread_asked (holdings_of passes.now) (Shows.Stax stax) }
+{
+    match passes.holder(stax) {
+        Some(number) => Some(ThreadId(number)),
+        None => None,
+    }
+}
+
 // What is asked after a step that shows this.
 fn question(report: &Report, shows: Shows) -> Question
-    ensures { result.plays ≡ report.now.plays }
+    ensures plays { result.plays ≡ report.now.plays }
+    ensures mutex { result.mutex ≡ mutex_asked shows }
+    ensures thread { result.thread ≡ thread_asked (holdings_of report.now.passes) shows }
 {
     let plays = report.plays;
     match shows {
@@ -65,10 +80,7 @@ fn question(report: &Report, shows: Shows) -> Question
         },
         Shows::Stax(stax) => Question {
             mutex: None,
-            thread: match report.passes.holder(stax) {
-                Some(number) => Some(ThreadId(number)),
-                None => None,
-            },
+            thread: holding(&report.passes, stax),
             plays,
         },
         _ => Question {
@@ -86,8 +98,8 @@ fn put_shown(
     holder: Option<usize>,
     view: &View,
 ) -> Result<(), AllocError>
-    ensures plays { report.new.plays ≡ report.old.plays }
-    ensures shown { OnOk result ((shown : List ℕ) × IsShown shows holder view.now shown × (string_bytes report.new.text ≡ string_bytes report.old.text ++ shown)) }
+    ensures same { (report.new.plays ≡ report.old.plays) × (report.new.passes ≡ report.old.passes) × (report.new.staxes ≡ report.old.staxes) }
+    ensures shown { OnOk result (string_bytes report.new.text ≡ string_bytes report.old.text ++ shown_text report.old.staxes (holdings_of report.old.passes) holder view.now shows) }
 {
     match shows {
         Shows::Nothing => Ok(()),
@@ -122,7 +134,7 @@ fn put_told<C: Handler>(
     told: &Told,
 ) -> Result<(), AllocError>
     ensures same { crew.new.machine.now ≡ crew.old.machine.now }
-    ensures told { OnOk result ((text : List ℕ) × ShowsAfter (run_at crew.old.callers.items crew.old.held crew.old.holder report.old.plays) who.0 (string_bytes told.now.answer) text (run_at crew.new.callers.items crew.new.held crew.new.holder report.new.plays) × (string_bytes report.new.text ≡ string_bytes report.old.text ++ text)) }
+    ensures told { OnOk result ((text : List ℕ) × ShowsAfter (run_at crew.old.callers.items crew.old.held crew.old.holder report.old.passes report.old.staxes report.old.plays) who.0 (string_bytes told.now.answer) told.now.shows text (run_at crew.new.callers.items crew.new.held crew.new.holder report.new.passes report.new.staxes report.new.plays) × (string_bytes report.new.text ≡ string_bytes report.old.text ++ text)) }
 {
     let answer = told.answer.as_str();
     write!(report.text, " -> {answer}")?;
@@ -144,7 +156,7 @@ fn put_line<C: Handler>(
     told: &Told,
 ) -> Result<(), AllocError>
     ensures same { crew.new.machine.now ≡ crew.old.machine.now }
-    ensures told { OnOk result ((text : List ℕ) × ShowsAfter (run_at crew.old.callers.items crew.old.held crew.old.holder report.old.plays) who.0 (string_bytes told.now.answer) text (run_at crew.new.callers.items crew.new.held crew.new.holder report.new.plays) × (string_bytes report.new.text ≡ string_bytes report.old.text ++ (front.now ++ text))) }
+    ensures told { OnOk result ((text : List ℕ) × ShowsAfter (run_at crew.old.callers.items crew.old.held crew.old.holder report.old.passes report.old.staxes report.old.plays) who.0 (string_bytes told.now.answer) told.now.shows text (run_at crew.new.callers.items crew.new.held crew.new.holder report.new.passes report.new.staxes report.new.plays) × (string_bytes report.new.text ≡ string_bytes report.old.text ++ (front.now ++ text))) }
 {
     report.text.push_str(front)?;
     put_told(report, crew, who, told)
@@ -158,8 +170,9 @@ fn play_step<C: Handler>(
     step: CallersStep,
 ) -> Result<(), Stop>
     ensures same { crew.new.machine.now ≡ crew.old.machine.now }
-    ensures made { OnOk result ((lines : List ℕ) × MakesStep crew.old.machine.now.first.limit (run_at crew.old.callers.items crew.old.held crew.old.holder report.old.plays) number step lines (run_at crew.new.callers.items crew.new.held crew.new.holder report.new.plays) × (string_bytes report.new.text ≡ string_bytes report.old.text ++ lines)) }
+    ensures made { OnOk result ((lines : List ℕ) × MakesStep crew.old.machine.now.first.limit (run_at crew.old.callers.items crew.old.held crew.old.holder report.old.passes report.old.staxes report.old.plays) number step lines (run_at crew.new.callers.items crew.new.held crew.new.holder report.new.passes report.new.staxes report.new.plays) × (string_bytes report.new.text ≡ string_bytes report.old.text ++ lines)) }
     ensures stopped { IfErr result (λ stop. LeavesText stop (string_bytes report.old.text) (string_bytes report.new.text)) }
+    ensures refused { IfErr result (λ stop. IsWhy (step_fault step.act (crew_at crew.old.callers.items crew.old.held crew.old.holder) (holdings_of report.old.passes) step.who.0) stop) }
 {
     let Ok(front) = step_text(report.alloc, number, &step) else {
         return Err(Stop::Memory);
@@ -181,8 +194,8 @@ fn play_steps<C: Handler>(
     steps: Vec<CallersStep>,
 ) -> Result<(), (usize, Stop)>
     ensures same { crew.new.machine.now ≡ crew.old.machine.now }
-    ensures made { OnOk result (HaveMade crew.old.machine.now.first.limit (run_at crew.old.callers.items crew.old.held crew.old.holder report.old.plays) steps.items (string_bytes report.old.text) (string_bytes report.new.text) (run_at crew.new.callers.items crew.new.held crew.new.holder report.new.plays) (length steps.items) []) }
-    ensures stopped { IfErr result (λ e. StopsFor crew.old.machine.now.first.limit (run_at crew.old.callers.items crew.old.held crew.old.holder report.old.plays) steps.items (string_bytes report.old.text) (string_bytes report.new.text) e.0 e.1) }
+    ensures made { OnOk result (HaveMade crew.old.machine.now.first.limit (run_at crew.old.callers.items crew.old.held crew.old.holder report.old.passes report.old.staxes report.old.plays) steps.items (string_bytes report.old.text) (string_bytes report.new.text) (run_at crew.new.callers.items crew.new.held crew.new.holder report.new.passes report.new.staxes report.new.plays) (length steps.items) []) }
+    ensures stopped { IfErr result (λ e. StopsFor crew.old.machine.now.first.limit (run_at crew.old.callers.items crew.old.held crew.old.holder report.old.passes report.old.staxes report.old.plays) steps.items (string_bytes report.old.text) (string_bytes report.new.text) e.0 e.1) }
 {
     let count = steps.len();
     let mut number: usize = 0;
@@ -199,7 +212,9 @@ fn play_steps<C: Handler>(
 impl Report {
     // What is told before the first step.
     fn new(alloc: Global, board: &Board, limit: u32) -> Result<Report, AllocError>
-        ensures { IfOk result (λ report. (string_bytes report.text ≡ board_line_text (board_line_of board.now limit)) × (report.plays ≡ 0)) }
+        ensures line { IfOk result (λ report. string_bytes report.text ≡ board_line_text (board_line_of board.now limit)) }
+        ensures none { IfOk result (λ report. (report.plays ≡ 0) × (holdings_of report.passes ≡ nothing_held)) }
+        ensures staxes { IfOk result (λ report. report.staxes ≡ length board.now.staxes.items) }
     {
         let mut text = String::new(alloc);
         write_board_line(&mut text, board, limit)?;
@@ -241,7 +256,7 @@ fn play_over<C: Handler>(
     requires callers { All (λ c. c.machine ≡ machine.now) callers.items }
     requires answering { AnswersAsTold C.declared C.plan machine.now.first.callbacks }
     ensures belong { All (λ c. c.machine ≡ machine.now) result.1.items }
-    ensures played { let start = run_at callers.items None 0 report.old.plays in MatchResult result.0 (λ _. MakesEach machine.now.first.limit start steps.items (string_bytes report.old.text) (string_bytes report.new.text) result.1.items) (λ e. StopsFor machine.now.first.limit start steps.items (string_bytes report.old.text) (string_bytes report.new.text) e.0 e.1) }
+    ensures played { let start = run_at callers.items None 0 report.old.passes report.old.staxes report.old.plays in MatchResult result.0 (λ _. MakesEach machine.now.first.limit start steps.items (string_bytes report.old.text) (string_bytes report.new.text) result.1.items) (λ e. StopsFor machine.now.first.limit start steps.items (string_bytes report.old.text) (string_bytes report.new.text) e.0 e.1) }
 {
     let mut crew = Crew::new(machine, callers);
     let made = play_steps(report, &mut crew, steps);
@@ -375,7 +390,7 @@ fn told_over<C: Handler>(
 ) -> Result<Played, Refusal>
     requires callers { All (λ c. c.machine ≡ machine) callers.items }
     requires answering { AnswersAsTold C.declared C.plan machine.first.callbacks }
-    ensures { IfOk result (λ told. EndsSo machine (run_at callers.items None 0 report.plays) steps.items (string_bytes report.text) told.ending (string_bytes told.lines) (string_bytes told.closing)) }
+    ensures { IfOk result (λ told. EndsSo machine (run_at callers.items None 0 report.passes report.staxes report.plays) steps.items (string_bytes report.text) told.ending (string_bytes told.lines) (string_bytes told.closing)) }
 {
     let mut report = report;
     let (made, callers) = play_over(&mut report, &machine, callers, steps);

@@ -8,11 +8,11 @@ use Rattle.evl_callers.proofs.playing.play_steps.Goals as goal
 pub loop-step-preserved : goal.loop-step-preserved
 loop-step-preserved g c =
     let limit = c.args.crew.now.machine.now.first.limit in
-    let start = run_at c.args.crew.now.callers.items c.args.crew.now.held c.args.crew.now.holder c.args.report.now.plays in
+    let start = run_at c.args.crew.now.callers.items c.args.crew.now.held c.args.crew.now.holder c.args.report.now.passes c.args.report.now.staxes c.args.report.now.plays in
     let before = string_bytes c.args.report.now.text in
     let text = string_bytes c.loop-step.report.text in
-    let mid = run_at c.loop-step.crew.callers.items c.loop-step.crew.held c.loop-step.crew.holder c.loop-step.report.plays in
-    let now = run_at c.play_step.new.crew.callers.items c.play_step.new.crew.held c.play_step.new.crew.holder c.play_step.new.report.plays in
+    let mid = run_at c.loop-step.crew.callers.items c.loop-step.crew.held c.loop-step.crew.holder c.loop-step.report.passes c.loop-step.report.staxes c.loop-step.report.plays in
+    let now = run_at c.play_step.new.crew.callers.items c.play_step.new.crew.held c.play_step.new.crew.holder c.play_step.new.report.passes c.play_step.new.report.staxes c.play_step.new.report.plays in
     let step = c.in-Some.step in
     let rest = c.next.new.self.rest.items in
     let made = c.in-Ok.ensures.made in

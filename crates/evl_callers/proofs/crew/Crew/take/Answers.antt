@@ -8,7 +8,7 @@ pub returns-in-Ok-put_back-clause-taken : goal.returns-in-Ok-put_back-clause-tak
 returns-in-Ok-put_back-clause-taken g c =
     let xs = c.args.self.now.callers.items in
     let later = c.put_back.new.self.callers.items in
-    let there = c.in_ok-place.ensures in
+    let there = c.in_ok-place.ensures.place in
     record {
       made = subst (λ k. StepsAt xs k (λ before after. after ≡ turned_away before) later) there.0
           (back_at xs c.remove-caller.new.self.items later c.in_ok-place.place c.remove-caller.result c.in-Err.caller (λ before after. after ≡ turned_away before) there.1

@@ -1,11 +1,13 @@
-use Rattle.std.proofs.Common.{sym, ◌∙◌}
+use Rattle.std.proofs.Common.{List, ℕ, ap, sym, ◌∙◌}
+use Rattle.std.specs.Prelude.{position}
+use Rattle.evl_callers.specs.Names.{is_of_name}
 use Rattle.evl_callers.proofs.passes.Passes.take_stax.Goals as goal
 
 pub returns-in-Some-clause-taken : goal.returns-in-Some-clause-taken
 returns-in-Some-clause-taken c = record {
   place = c.in-Some.place;
   held = c.remove.result.0;
-  first = sym c.stax_place.ensures ∙ c.in-Some.is;
+  first = ap (λ (n : List ℕ). position (is_of_name n) c.args.self.now.staxes.items) (sym c.as_str.ensures.value) ∙ (sym c.stax_place.ensures ∙ c.in-Some.is);
   there = sym c.remove.ensures.value;
   others = c.remove.ensures.items;
 }
