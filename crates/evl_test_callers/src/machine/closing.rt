@@ -5,7 +5,6 @@ use super::acts::{Ask, Told, call_of, told_by};
 use super::rows::{answers, comes_back, one_of};
 use super::{BOTH_ATTACH, MUTEX, ONCE_FREE, SEM, board_of_two};
 use evl_base::{Board, Call, Entry, Refusal, Reply, ThreadId};
-use evl_kernel::Kernel;
 use evl_machine::{Caller, InWord, Machine};
 use std::alloc::Global;
 use std::sync::Wait;
@@ -121,19 +120,25 @@ fn is_get(entry: &Entry, thread: u16) -> bool {
     entry.caller == ThreadId(thread) && matches!(entry.call, Call::TryGet { .. })
 }
 
-// The machine with its callers, if it isn't closed, and for this reason.
-fn refused(machine: Machine, callers: Vec<Caller>, why: Refusal) -> Option<(Machine, Vec<Caller>)>
+// The machine with its callers, if it isn't closed; and whether that is for this reason, and all of them come back.
+fn refused(
+    machine: Machine,
+    callers: Vec<Caller>,
+    why: Refusal,
+) -> Option<(Machine, Vec<Caller>, bool)>
     requires { All (λ c. c.machine ≡ machine.of) callers.items }
     ensures { IfSome result (λ m. (m.0.of ≡ machine.of) × All (λ c. c.machine ≡ machine.of) m.1.items) }
 {
     let count = callers.len();
-    let Err((refusal, machine, callers)) = machine.close(callers) else {
-        return None;
-    };
-    if refusal == why && callers.len() == count {
-        Some((machine, callers))
-    } else {
-        None
+    match machine.close(callers) {
+        Ok(kernel) => {
+            drop(kernel);
+            None
+        }
+        Err((refusal, machine, callers)) => {
+            let told = refusal == why && callers.len() == count;
+            Some((machine, callers, told))
+        }
     }
 }
 
@@ -155,57 +160,67 @@ fn joins(
     }
 }
 
-// The machine with one caller more, if without that one it isn't closed.
+// The machine with one caller more, if without that one it isn't closed; and whether that is so for want of a caller.
 fn with_one_more(
     machine: Machine,
     callers: Vec<Caller>,
     away: &mut Vec<Caller>,
     is_last: bool,
-) -> Option<(Machine, Vec<Caller>)>
+) -> Option<(Machine, Vec<Caller>, bool)>
     requires callers { All (λ c. c.machine ≡ machine.of) callers.items }
     requires away { All (λ c. c.machine ≡ machine.of) away.old.items }
     ensures more { IfSome result (λ m. (m.0.of ≡ machine.of) × All (λ c. c.machine ≡ machine.of) m.1.items) }
     ensures away { All (λ c. c.machine ≡ machine.of) away.new.items }
 {
-    let Some((machine, mut callers)) = refused(machine, callers, Refusal::Invalid) else {
-        return None;
-    };
-    if joins(&machine, away, &mut callers, is_last) {
-        Some((machine, callers))
-    } else {
-        None
-    }
-}
-
-// The kernel of a machine of two callers, which is closed only once both are there; they come from the first one on, or
-// from the last one on.
-fn closed_with_both(
-    machine: Machine,
-    none: Vec<Caller>,
-    away: &mut Vec<Caller>,
-    is_last: bool,
-) -> Option<Kernel>
-    requires none { All (λ c. c.machine ≡ machine.of) none.items }
-    requires away { All (λ c. c.machine ≡ machine.of) away.old.items }
-{
-    let Some((machine, one)) = with_one_more(machine, none, away, is_last) else {
-        return None;
-    };
-    match with_one_more(machine, one, away, is_last) {
-        Some((machine, both)) => machine.close(both).ok(),
+    match refused(machine, callers, Refusal::Invalid) {
+        Some((machine, mut callers, told)) => {
+            let joined = joins(&machine, away, &mut callers, is_last);
+            Some((machine, callers, told && joined))
+        }
         None => None,
     }
 }
 
-// Whether the machine of the row is closed with both callers alone, in either order, and has its history.
-fn is_row_closed<R: Wait>(rt: &R, alloc: Global, is_last: bool) -> bool {
-    let Ok((machine, mut callers)) = made(alloc, board_of_two()) else {
+// Whether the machine of the row, which is closed with both callers, has its history.
+fn has_row(machine: Machine, both: Vec<Caller>) -> bool
+    requires { All (λ c. c.machine ≡ machine.of) both.items }
+{
+    match machine.close(both) {
+        Ok(kernel) => is_history_of_row(kernel.history()),
+        Err(_) => false,
+    }
+}
+
+// Whether a machine of two callers is closed only once both are there, and has the row's history then; they come from
+// the first one on, or from the last one on.
+fn closes_with_both(
+    machine: Machine,
+    none: Vec<Caller>,
+    away: &mut Vec<Caller>,
+    is_last: bool,
+) -> bool
+    requires none { All (λ c. c.machine ≡ machine.of) none.items }
+    requires away { All (λ c. c.machine ≡ machine.of) away.old.items }
+{
+    let Some((machine, one, first)) = with_one_more(machine, none, away, is_last) else {
         return false;
     };
-    let told = is_core_row(rt, &machine, &mut callers);
-    match closed_with_both(machine, Vec::new(alloc), &mut callers, is_last) {
-        Some(kernel) => told && is_history_of_row(kernel.history()),
-        None => false,
+    let Some((machine, both, second)) = with_one_more(machine, one, away, is_last) else {
+        return false;
+    };
+    let closed = has_row(machine, both);
+    first && second && closed
+}
+
+// Whether the machine of the row is closed with both callers alone, in either order, and has its history.
+fn is_row_closed<R: Wait>(rt: &R, alloc: Global, is_last: bool) -> bool {
+    match made(alloc, board_of_two()) {
+        Ok((machine, mut callers)) => {
+            let told = is_core_row(rt, &machine, &mut callers);
+            let closed = closes_with_both(machine, Vec::new(alloc), &mut callers, is_last);
+            told && closed
+        }
+        Err(_) => false,
     }
 }
 
@@ -227,12 +242,22 @@ fn drops_the_kernel(machine: &Machine, callers: &mut Vec<Caller>, is_last: bool)
     }
 }
 
+// Whether a machine isn't closed, since the core is busy.
+fn is_busy(machine: Machine, callers: Vec<Caller>) -> bool
+    requires { All (λ c. c.machine ≡ machine.of) callers.items }
+{
+    match refused(machine, callers, Refusal::CoreBusy) {
+        Some((_, _, told)) => told,
+        None => false,
+    }
+}
+
 // Whether a machine isn't closed of which one caller was dropped with the kernel.
 fn stays_busy(alloc: Global, is_last: bool) -> bool {
     match made(alloc, board_of_two()) {
         Ok((machine, mut callers)) => {
             let dropped = drops_the_kernel(&machine, &mut callers, is_last);
-            let busy = refused(machine, callers, Refusal::CoreBusy).is_some();
+            let busy = is_busy(machine, callers);
             dropped && busy
         }
         Err(_) => false,

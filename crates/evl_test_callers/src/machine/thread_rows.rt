@@ -124,6 +124,20 @@ fn kernel_has<C: Handler>(kernel: &KernelOf<C, Global>, left: Left) -> bool {
     }
 }
 
+// Whether a machine is closed, and its kernel has what is wanted.
+fn closes_with<C: Handler>(
+    machine: MachineOf<C, Global>,
+    callers: Vec<CallerOf<C, Global>>,
+    left: Left,
+) -> bool
+    requires { All (λ c. c.machine ≡ machine) callers.items }
+{
+    match machine.close(callers) {
+        Ok(kernel) => kernel_has(&kernel, left),
+        Err(_) => false,
+    }
+}
+
 // Whether a row over a new machine with these callbacks is answered as it is wanted, the machine is closed then, and
 // its kernel has what is wanted.
 pub fn is_row_over<C: Handler + Send, R: Threads + Wait + Sync>(
@@ -136,10 +150,8 @@ pub fn is_row_over<C: Handler + Send, R: Threads + Wait + Sync>(
     match made(alloc, alloc, board_of_two(), bank, limit) {
         Ok((machine, mut callers)) => {
             let told = answers_row(rt, &machine, &mut callers, row);
-            match machine.close(callers) {
-                Ok(kernel) => told && kernel_has(&kernel, row.left),
-                Err(_) => false,
-            }
+            let closed = closes_with(machine, callers, row.left);
+            told && closed
         }
         Err(_) => false,
     }
