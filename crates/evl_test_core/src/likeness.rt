@@ -35,7 +35,7 @@ fn is_listed<C: Handler, A: Allocator>(alloc: Global, kernel: &mut KernelOf<C, A
     attached && is_ready_alone(alloc, kernel)
 }
 
-// Two kernels come to one state by other calls, and then to another.
+// Whether two kernels come to one state by other calls, and then to another.
 fn meet<C: Handler, A: Allocator>(one: &mut KernelOf<C, A>, other: &mut KernelOf<C, A>) -> bool
     requires one { AnswersAsTold C.declared C.plan one.old.callbacks }
     requires other { AnswersAsTold C.declared C.plan other.old.callbacks }
@@ -50,15 +50,30 @@ fn meet<C: Handler, A: Allocator>(one: &mut KernelOf<C, A>, other: &mut KernelOf
     before && put && apart && got && met && told && !one.is_like(other)
 }
 
+// Whether a kernel meets a new one.
+fn meets_another(alloc: Global, kernel: &mut Kernel) -> bool
+    requires { AnswersAsTold (λ c. c.kinds.0) (λ c. c.plan.value) kernel.old.callbacks }
+    ensures { AnswersAsTold (λ c. c.kinds.0) (λ c. c.plan.value) kernel.new.callbacks }
+{
+    match made(alloc) {
+        Ok(mut other) => meet(kernel, &mut other),
+        Err(_) => false,
+    }
+}
+
+// Whether two new kernels meet, and the first one's ready list has its thread then.
+fn stand_alike(alloc: Global) -> bool {
+    match made(alloc) {
+        Ok(mut one) => {
+            let met = meets_another(alloc, &mut one);
+            let listed = is_listed(alloc, &mut one);
+            met && listed
+        }
+        Err(_) => false,
+    }
+}
+
 #[test]
 fn kernels_stand_alike(rt: HostRuntime) {
-    let alloc = rt.alloc();
-    let Ok(mut one) = made(alloc) else {
-        panic!(rt; "one");
-    };
-    let Ok(mut other) = made(alloc) else {
-        panic!(rt; "other");
-    };
-    let met = meet(&mut one, &mut other);
-    assert!(rt; met && is_listed(alloc, &mut one));
+    assert!(rt; stand_alike(rt.alloc()));
 }
