@@ -1,5 +1,5 @@
 -- How the callers of a machine stand on one host thread, and what a step does to them.
-use Rattle.std.specs.Prelude.{◌≡◌, ◌-◌, ◌==◌, ℕ, Bool, ◌&&◌, nat_lt, List, Option, Some, None, is_some, Result, MatchBool, if◌then◌else◌, slice_get, slice_set}
+use Rattle.std.specs.Prelude.{◌≡◌, ◌-◌, ◌==◌, ℕ, Bool, false, ◌&&◌, nat_lt, List, Option, Some, None, is_some, Result, MatchBool, if◌then◌else◌, slice_get, slice_set}
 use Rattle.std.specs.List.{insert, remove}
 use Rattle.evl_base.specs.declared.call.Call.{Call}
 use Rattle.evl_base.specs.declared.refusal.Refusal.{Refusal}
@@ -56,6 +56,7 @@ holder_of taken holder = if taken then Some holder else None
 module _ {C : Type 0} where
   -- the caller of a thread that hasn't the core does this, and nobody else does anything
   pub record Steps (old : CrewState C) (who : ℕ) (does : CallerState C → CallerState C → Type 0) (new : CrewState C) : Type 0 where
+    pub apart : has_core (is_some old.held) old.holder who ≡ false
     pub made : StepsAt old.callers (place_of (is_some old.held) old.holder who) does new.callers
     pub held : new.held ≡ old.held
     pub holder : new.holder ≡ old.holder
@@ -76,8 +77,9 @@ module _ {C : Type 0} where
       (CallsByHolder old asked reply new)
       (Steps old who (λ before after. Called limit before asked reply after) new)
 
-  -- a caller takes the core, and stands apart from the others then
+  -- a caller that hasn't the core takes it, and stands apart from the others then
   pub record GetsCore (old : CrewState C) (who : ℕ) (new : CrewState C) : Type 0 where
+    pub apart : has_core (is_some old.held) old.holder who ≡ false
     pub caller : CallerState C
     pub taker : HeldState C
     pub there : slice_get old.callers (place_of (is_some old.held) old.holder who) ≡ Some caller

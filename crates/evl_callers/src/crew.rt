@@ -81,6 +81,7 @@ impl<'a, C: Handler> Crew<'a, C> {
     // The place of a caller that hasn't the core.
     fn place(&self, who: ThreadId) -> Result<usize, StepFault>
         ensures place { IfOk result (λ k. (k ≡ place_of (is_some self.now.held) self.now.holder who.0) × (k < length self.now.callers.items)) }
+        ensures apart { OnOk result (has_core (is_some self.now.held) self.now.holder who.0 ≡ false) }
         ensures refused { IfErr result (λ e. place_fault (is_some self.now.held) self.now.holder who.0 (length self.now.callers.items) ≡ Some e) }
     {
         let number = usize::from(who.0);

@@ -10,6 +10,7 @@ returns-in-Ok-put_back-clause-taken g c =
     let later = c.put_back.new.self.callers.items in
     let there = c.in_ok-place.ensures.place in
     record {
+      apart = c.in_ok-place.ensures.apart;
       made = subst (λ k. StepsAt xs k (λ before after. after ≡ turned_away before) later) there.0
           (back_at xs c.remove-caller.new.self.items later c.in_ok-place.place c.remove-caller.result c.in-Err.caller (λ before after. after ≡ turned_away before) there.1
           c.remove-caller.ensures.value c.remove-caller.ensures.items c.in-Ok-put_back.ensures.back c.in-Err.ensures.taken);
