@@ -1,11 +1,11 @@
 -- Outcomes, where one of them gets more orders, or a new one comes.
-use Rattle.std.proofs.Common.{◌≡◌, ◌≢◌, ℕ, zero, suc, ◌+◌, ◌*◌, List, [], ◌∷◌, ◌++◌, get_or, refl, sym, ◌∙◌, ap, subst, arith}
+use Rattle.std.proofs.Common.{◌≡◌, ◌≢◌, ℕ, zero, suc, ◌+◌, ◌*◌, List, [], ◌∷◌, ◌++◌, get_or, map, refl, sym, ◌∙◌, ap, subst, arith}
 use Rattle.std.specs.Prelude.{All, AllPairs, Some, slice_get, slice_set, string_bytes, sum_by}
 use Rattle.std.proofs.lemmas.List.Sums.{sum_by-set}
 use Rattle.std.proofs.lemmas.List.Elements.{All-map}
 use Rattle.std.proofs.lemmas.List.Quantifiers.{all_pairs_push}
 use Rattle.std.proofs.lemmas.Option.{same_Some, none-some, slice_get_within, get_or_from_slice_get}
-use Rattle.evl_orders.specs.Tallies.{told_weight, texts, AreDistinct}
+use Rattle.evl_orders.specs.Tallies.{told_weight, texts, first_of, AreDistinct}
 use Rattle.evl_orders.specs.declared.tallies.Tally.{Tally}
 
 -- an outcome with more orders
@@ -39,3 +39,12 @@ distinct_push tallies tally all new =
     subst (AllPairs (λ one other. one ≢ other)) (sym (texts_push tallies tally))
     (all_pairs_push (λ (one other : List ℕ). one ≢ other) (texts tallies) (string_bytes tally.told) all
     (All-map (λ (text : List ℕ). text ≢ string_bytes tally.told) (λ (t : Tally). string_bytes t.told) tallies new))
+
+pub firsts_raised : (tallies : List Tally) (i more : ℕ) (tally : Tally) → slice_get tallies i ≡ Some tally → map first_of (slice_set tallies i (raised tally more)) ≡ map first_of tallies
+firsts_raised [] i more tally e = absurd (none-some tally e)
+firsts_raised (x ∷ tallies) zero more tally e = ap (λ (t : Tally). first_of t ∷ map first_of tallies) (sym (same_Some x tally e))
+firsts_raised (x ∷ tallies) (suc i) more tally e = ap (λ (ts : List (List ℕ × List ℕ)). first_of x ∷ ts) (firsts_raised tallies i more tally e)
+
+pub firsts_push : (tallies : List Tally) (tally : Tally) → map first_of (tallies ++ tally ∷ []) ≡ map first_of tallies ++ first_of tally ∷ []
+firsts_push [] tally = refl
+firsts_push (x ∷ tallies) tally = ap (λ (ts : List (List ℕ × List ℕ)). first_of x ∷ ts) (firsts_push tallies tally)

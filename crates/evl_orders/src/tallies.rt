@@ -1,6 +1,6 @@
 //! Outcomes as text, each once, with how many orders end so.
 ghost use Rattle.std.specs.Prelude.{ℕ, List, ◌∷◌, ◌++◌, [], ◌≡◌, ◌≢◌, ◌+◌, ◌*◌, ◌<◌, true, false, All, Some, OnOk, IfSome, IfNone, length, slice_get, slice_set, string_bytes, vec_len};
-ghost use Rattle.evl_orders.specs.Tallies.{AreDistinct, told_weight};
+ghost use Rattle.evl_orders.specs.Tallies.{AreDistinct, KeepsFirsts, told_weight};
 
 use crate::levels::OrdersError;
 
@@ -51,14 +51,15 @@ fn raise(tallies: &mut Vec<Tally>, place: usize, count: u128) -> Result<(), Orde
     }
 }
 
-/// Adds orders of an outcome: to those of the one that is told alike, if there is one. `Memory` where the list couldn't
-/// grow, `Count` where there are more orders than a count can tell.
+/// Adds orders of an outcome: to those of the one that is told alike, if there is one, which keeps its order. `Memory`
+/// where the list couldn't grow, `Count` where there are more orders than a count can tell.
 pub fn add_tally(tallies: &mut Vec<Tally>, tally: Tally) -> Result<(), OrdersError>
     requires { AreDistinct tallies.old.items }
 
     // Whatever is counted of outcomes counts these orders too.
     ensures sums { OnOk result ((f : List ℕ → ℕ) → told_weight f tallies.new.items ≡ told_weight f tallies.old.items + tally.count * f (string_bytes tally.told)) }
     ensures distinct { OnOk result (AreDistinct tallies.new.items) }
+    ensures firsts { OnOk result (KeepsFirsts tallies.old.items tally tallies.new.items) }
 {
     match place_of(tallies.as_slice(), tally.told.as_str()) {
         Some(place) => match raise(tallies, place, tally.count) {

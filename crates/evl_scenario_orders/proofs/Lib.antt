@@ -1,9 +1,11 @@
 pub mod AskLaws
 pub mod CallLaws
+pub mod FirstLaws
 pub mod MomentLaws
 pub mod OutcomeLaws
 pub mod ScenarioLaws
 pub mod ShareLaws
+pub mod SplitLaws
 pub mod TextLaws
 pub mod ToldLaws
 pub mod TrailLaws

@@ -1,5 +1,6 @@
 pub mod Asks
 pub mod Callers
+pub mod Firsts
 pub mod Moments
 pub mod Reports
 pub mod Scenarios

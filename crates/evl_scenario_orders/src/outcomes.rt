@@ -1,10 +1,12 @@
 //! The outcomes of all orders.
 ghost use Rattle.std.specs.Prelude.{ℕ, List, ◌≡◌, ◌+◌, ◌*◌, ◌<◌, ◌⊎◌, [], true, false, IfOk, OnOk, length, string_bytes, sum_by};
+ghost use Rattle.evl_orders.specs.Fronts.{AreLed, AreOver};
 ghost use Rattle.evl_orders.specs.Machines.{orders, runs};
 ghost use Rattle.evl_orders.specs.Tallies.{AreDistinct, told_weight};
 ghost use Rattle.evl_orders.specs.Weights.{total, weight};
 ghost use Rattle.evl_scenario_orders.specs.Asks.{is_stuck_line, some_line};
 ghost use Rattle.evl_scenario_orders.specs.Callers.{Seen, begun, first, machine};
+ghost use Rattle.evl_scenario_orders.specs.Firsts.{LeadThere, LeadsTo};
 ghost use Rattle.evl_scenario_orders.specs.Moments.{seen_at, trailed};
 ghost use Rattle.evl_scenario_orders.specs.Told.{told_text};
 
@@ -47,6 +49,7 @@ fn tally_at<B: BankMaker>(
     requires state { kernel.now.history.state ≡ trailed callers.now (begun callers.now (B.bank bank.now)) end.at.trail.items }
     ensures told { IfOk result (λ tally. string_bytes tally.told ≡ told_text callers.now (seen_at callers.now (B.bank bank.now) end.at)) }
     ensures count { IfOk result (λ tally. tally.count ≡ end.count) }
+    ensures order { IfOk result (λ tally. tally.order.items ≡ end.order.items) }
 {
     match told_of(alloc, kernel, callers, &end.at) {
         Ok(told) => Ok(Tally {
@@ -67,6 +70,7 @@ fn tally_of<B: BankMaker>(
 ) -> Result<Tally, AllocError>
     ensures told { IfOk result (λ tally. string_bytes tally.told ≡ told_text callers.now (seen_at callers.now (B.bank bank.now) end.at)) }
     ensures count { IfOk result (λ tally. tally.count ≡ end.count) }
+    ensures order { IfOk result (λ tally. tally.order.items ≡ end.order.items) }
 {
     match led(alloc, callers, bank, end.at.trail.as_slice()) {
         Ok(kernel) => {
@@ -89,9 +93,13 @@ fn put_end<B: BankMaker>(
     requires { AreDistinct all.old.items }
     ensures sums { OnOk result ((f : List ℕ → ℕ) → told_weight f all.new.items ≡ told_weight f all.old.items + end.count * f (told_text callers.now (seen_at callers.now (B.bank bank.now) end.at))) }
     ensures distinct { OnOk result (AreDistinct all.new.items) }
+    ensures lead { OnOk result ((s : Seen) → LeadThere callers.now s all.old.items → LeadsTo callers.now s (told_text callers.now (seen_at callers.now (B.bank bank.now) end.at)) end.order.items → LeadThere callers.now s all.new.items) }
 {
     match tally_of(alloc, callers, bank, end) {
-        Ok(tally) => add_tally(all, tally),
+        Ok(tally) => match add_tally(all, tally) {
+            Ok(()) => Ok(()),
+            Err(error) => Err(error),
+        },
         Err(_) => Err(OrdersError::Memory),
     }
 }
@@ -117,8 +125,11 @@ fn outcomes_at<B: BankMaker>(
     bank: &B,
     ends: Vec<Node<Moment>>,
 ) -> Result<Vec<Tally>, OrdersError>
+    requires led { AreLed (machine callers.now) (seen_at callers.now (B.bank bank.now)) (first callers.now (B.bank bank.now)) ends.items }
+    requires over { AreOver (machine callers.now) (seen_at callers.now (B.bank bank.now)) ends.items }
     ensures sums { IfOk result (λ all. (f : List ℕ → ℕ) → told_weight f all.items ≡ weight (seen_at callers.now (B.bank bank.now)) (λ seen. f (told_text callers.now seen)) ends.items) }
     ensures distinct { IfOk result (λ all. AreDistinct all.items) }
+    ensures lead { IfOk result (λ all. LeadThere callers.now (first callers.now (B.bank bank.now)) all.items) }
 {
     let mut all = Vec::new(alloc);
     for end in ends {
@@ -142,6 +153,8 @@ fn ends_of<B: BankMaker>(
     ensures whole { IfOk result (λ found. found.whole ≡ true → runs (machine callers.now) (first callers.now (B.bank bank.now)) found.steps ≡ []) }
     ensures cut { IfOk result (λ found. found.whole ≡ false → (length callers.now.steps.items < found.steps)
         ⊎ (most < length (runs (machine callers.now) (first callers.now (B.bank bank.now)) found.steps))) }
+    ensures led { IfOk result (λ found. AreLed (machine callers.now) (seen_at callers.now (B.bank bank.now)) (first callers.now (B.bank bank.now)) found.ends.items) }
+    ensures over { IfOk result (λ found. AreOver (machine callers.now) (seen_at callers.now (B.bank bank.now)) found.ends.items) }
 {
     let start = match first_moment(alloc, callers) {
         Ok(start) => start,
@@ -171,6 +184,9 @@ pub fn outcomes_of<B: BankMaker>(
 
     // No two are told alike.
     ensures distinct { IfOk result (λ found. AreDistinct found.all.items) }
+
+    // The order of each leads there from the first moment on, and nobody can make a step more.
+    ensures lead { IfOk result (λ found. LeadThere callers.now (first callers.now (B.bank bank.now)) found.all.items) }
 
     // There are so many orders.
     ensures count { IfOk result (λ found. found.count ≡ length (orders (machine callers.now) (first callers.now (B.bank bank.now)) found.steps)) }

@@ -1,9 +1,9 @@
-use Rattle.std.proofs.Common.{◌≡◌, ◌≢◌, ℕ, ◌<◌, List, length, sym, ◌∙◌, ap, subst, arith, All}
+use Rattle.std.proofs.Common.{◌≡◌, ◌≢◌, ℕ, ◌<◌, List, map, length, inl, inr, sym, ◌∙◌, ap, subst, arith, All}
 use Rattle.std.specs.Prelude.{Some, slice_get, string_bytes}
-use Rattle.evl_orders.specs.Tallies.{AreDistinct, told_weight}
+use Rattle.evl_orders.specs.Tallies.{AreDistinct, first_of, told_weight}
 use Rattle.evl_orders.specs.declared.tallies.Tally.{Tally}
 use Rattle.evl_orders.proofs.Fronts.{some_at}
-use Rattle.evl_orders.proofs.Tallying.{told_raised, distinct_raised, distinct_push}
+use Rattle.evl_orders.proofs.Tallying.{told_raised, distinct_raised, distinct_push, firsts_raised, firsts_push}
 use Rattle.evl_orders.proofs.tallies.add_tally.Goals as goal
 
 pub returns-in-Ok-clause-sums : goal.returns-in-Ok-clause-sums
@@ -28,3 +28,14 @@ returns-in-Ok-push-clause-distinct c =
     let apart = subst (λ (told : List ℕ). All (λ t. string_bytes t.told ≢ told) c.as_slice.result.now) c.as_str.ensures.value c.in-None.ensures.none in
     let none = subst (λ (ts : List Tally). All (λ t. string_bytes t.told ≢ string_bytes c.args.tally.told) ts) c.as_slice.ensures.value apart in
     subst AreDistinct (sym c.in-Ok-push.ensures.items) (distinct_push items c.args.tally c.requires none)
+
+pub returns-in-Ok-clause-firsts : goal.returns-in-Ok-clause-firsts
+returns-in-Ok-clause-firsts c =
+    let items = c.args.tallies.now.items in
+    let within : c.in-Some.place < length items = omega (arith, c.in-Some.ensures.within, ap length c.as_slice.ensures.value) in
+    let there = some_at items c.in-Some.place within in
+    inl (ap (λ (all : List Tally). map first_of all) (c.in-Ok.ensures there.0 there.1) ∙ firsts_raised items c.in-Some.place c.args.tally.count there.0 there.1)
+
+pub returns-in-Ok-push-clause-firsts : goal.returns-in-Ok-push-clause-firsts
+returns-in-Ok-push-clause-firsts c =
+    inr (ap (λ (all : List Tally). map first_of all) c.in-Ok-push.ensures.items ∙ firsts_push c.args.tallies.now.items c.args.tally)

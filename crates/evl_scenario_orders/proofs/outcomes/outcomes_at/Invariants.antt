@@ -1,6 +1,9 @@
 use Rattle.std.proofs.Common.{◌≡◌, ℕ, ◌+◌, List}
+use Rattle.evl_orders.specs.Fronts.{AreLed, AreOver}
 use Rattle.evl_orders.specs.Tallies.{AreDistinct, told_weight}
 use Rattle.evl_orders.specs.Weights.{weight}
+use Rattle.evl_scenario_orders.specs.Callers.{first, machine}
+use Rattle.evl_scenario_orders.specs.Firsts.{LeadThere}
 use Rattle.evl_scenario_orders.specs.Moments.{seen_at}
 use Rattle.evl_scenario_orders.specs.Told.{told_text}
 use Rattle.evl_scenario_orders.proofs.outcomes.outcomes_at.Given as goal
@@ -11,4 +14,7 @@ invariant-loop-end g l =
     record {
       distinct : AreDistinct l.all.items;
       sums : (f : List ℕ → ℕ) → told_weight f l.all.items + weight state (λ seen. f (told_text l.callers seen)) l.end-iterator.rest.items ≡ weight state (λ seen. f (told_text l.callers seen)) l.fn.ends.items;
+      led : AreLed (machine l.callers) state (first l.callers (g.B.BankMaker.bank l.bank)) l.end-iterator.rest.items;
+      over : AreOver (machine l.callers) state l.end-iterator.rest.items;
+      lead : LeadThere l.callers (first l.callers (g.B.BankMaker.bank l.bank)) l.all.items;
     }

@@ -1,0 +1,15 @@
+use Rattle.std.proofs.Common.{List, ℕ, sym, subst}
+use Rattle.evl_scenario_orders.specs.Firsts.{LeadsTo}
+use Rattle.evl_scenario_orders.specs.Moments.{seen_at}
+use Rattle.evl_scenario_orders.specs.Told.{told_text}
+use Rattle.evl_scenario_orders.proofs.FirstLaws.{still_lead}
+use Rattle.evl_scenario_orders.proofs.outcomes.put_end.Goals as goal
+
+pub returns-in-Ok-add_tally-clause-lead : goal.returns-in-Ok-add_tally-clause-lead
+returns-in-Ok-add_tally-clause-lead g c = λ s old one.
+    let callers = c.args.callers.now in
+    let told = told_text callers (seen_at callers (g.B.BankMaker.bank c.args.bank.now) c.args.end.at) in
+    let tally = c.in-Ok.tally in
+    still_lead callers s c.args.all.now.items tally c.add_tally.new.tallies.items c.in-Ok-add_tally.ensures.firsts old
+    (subst (λ (text : List ℕ). LeadsTo callers s text tally.order.items) (sym c.in-Ok.ensures.told)
+    (subst (λ (order : List ℕ). LeadsTo callers s told order) (sym c.in-Ok.ensures.order) one))
