@@ -4,7 +4,7 @@ ghost use Rattle.std.specs.Prelude.{◌≡◌, ◌<◌, All, IfErr, IfOk, IfSome
 ghost use Rattle.std.specs.List.{insert};
 ghost use Rattle.evl_callers.specs.Crews.{CallsByHolder, CallsKernel, GivesCore, Steps, TakesCore, call_fault, crew_at, give_fault, has_core, holder_of, place_fault, place_of};
 ghost use Rattle.evl_callers.specs.Views.{Looks, LooksAt, LooksHeld};
-ghost use Rattle.evl_kernel.specs.Callbacks.{AnswersAsTold};
+ghost use Rattle.evl_kernel.specs.Callbacks.{AnswersByPlan};
 ghost use Rattle.evl_machine.specs.Calls.{Called, stage_of_caller};
 ghost use Rattle.evl_machine.specs.MutexLocks.{BeginsToLock, FinishesToLock, TriesToLock, TriesToUnlock, UnlocksFast};
 ghost use Rattle.evl_machine.specs.StaxCalls.{StaxCall};
@@ -28,7 +28,7 @@ pub struct Crew<'a, C: Handler> {
     holder: usize,
     ghost belong: { All (λ c. c.machine ≡ machine.now) callers.items },
     ghost has: { IfSome held (λ h. h.caller.machine ≡ machine.now) } by { Prim.hlevel props },
-    ghost answering: { AnswersAsTold C.declared C.plan machine.now.first.callbacks },
+    ghost by_plan: { AnswersByPlan C.declared C.plan machine.now.first.callbacks },
 }
 
 /// What a call of a caller answers, or why it can't be made.
@@ -38,7 +38,7 @@ impl<'a, C: Handler> Crew<'a, C> {
     /// All callers of a machine, of which none has the core.
     pub fn new(machine: &'a MachineOf<C, Global>, callers: Vec<CallerOf<C, Global>>) -> Crew<'a, C>
         requires belong { All (λ c. c.machine ≡ machine.now) callers.items }
-        requires answering { AnswersAsTold C.declared C.plan machine.now.first.callbacks }
+        requires by_plan { AnswersByPlan C.declared C.plan machine.now.first.callbacks }
         ensures machine { result.machine.now ≡ machine.now }
         ensures all { crew_at result.callers.items result.held result.holder ≡ crew_at callers.items None 0 }
     {

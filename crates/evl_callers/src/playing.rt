@@ -5,7 +5,7 @@ ghost use Rattle.evl_callers.specs.Crews.{crew_at};
 ghost use Rattle.evl_callers.specs.Holdings.{holdings_of, nothing_held};
 ghost use Rattle.evl_callers.specs.Plays.{ClosesSo, EndsSo, HaveMade, IsStopped, IsTold, LeavesText, MakesEach, MakesStep, ShowsAfter, StopsFor, run_at};
 ghost use Rattle.evl_callers.specs.Shown.{closed_text, mutex_asked, open_text, shown_text, step_text, thread_asked};
-ghost use Rattle.evl_kernel.specs.Callbacks.{AnswersAsTold};
+ghost use Rattle.evl_kernel.specs.Callbacks.{AnswersByPlan};
 ghost use Rattle.evl_kernel.specs.KernelViews.{IsOpened};
 ghost use Rattle.evl_machine.specs.Handles.{newcomers_of};
 ghost use Rattle.evl_scenario.specs.Lines.{board_line_of, board_line_text};
@@ -238,7 +238,7 @@ fn made<C: Handler>(
     ensures opened { IfOk result (λ m. IsOpened C.declared C.plan board bank.items limit m.0.first) }
     ensures callers { IfOk result (λ m. m.1.items ≡ newcomers_of m.0 board.threads) }
     ensures belong { IfOk result (λ m. All (λ c. c.machine ≡ m.0) m.1.items) }
-    ensures answering { IfOk result (λ m. AnswersAsTold C.declared C.plan m.0.first.callbacks) }
+    ensures by_plan { IfOk result (λ m. AnswersByPlan C.declared C.plan m.0.first.callbacks) }
 {
     match MachineOf::over(alloc, alloc, board, bank, limit) {
         Ok(made) => Ok(made),
@@ -254,7 +254,7 @@ fn play_over<C: Handler>(
     steps: Vec<CallersStep>,
 ) -> (Result<(), (usize, Stop)>, Vec<CallerOf<C, Global>>)
     requires callers { All (λ c. c.machine ≡ machine.now) callers.items }
-    requires answering { AnswersAsTold C.declared C.plan machine.now.first.callbacks }
+    requires by_plan { AnswersByPlan C.declared C.plan machine.now.first.callbacks }
     ensures belong { All (λ c. c.machine ≡ machine.now) result.1.items }
     ensures played { let start = run_at callers.items None 0 report.old.passes report.old.staxes report.old.plays in MatchResult result.0 (λ _. MakesEach machine.now.first.limit start steps.items (string_bytes report.old.text) (string_bytes report.new.text) result.1.items) (λ e. StopsFor machine.now.first.limit start steps.items (string_bytes report.old.text) (string_bytes report.new.text) e.0 e.1) }
 {
@@ -389,7 +389,7 @@ fn told_over<C: Handler>(
     steps: Vec<CallersStep>,
 ) -> Result<Played, Refusal>
     requires callers { All (λ c. c.machine ≡ machine) callers.items }
-    requires answering { AnswersAsTold C.declared C.plan machine.first.callbacks }
+    requires by_plan { AnswersByPlan C.declared C.plan machine.first.callbacks }
     ensures { IfOk result (λ told. EndsSo machine (run_at callers.items None 0 report.passes report.staxes report.plays) steps.items (string_bytes report.text) told.ending (string_bytes told.lines) (string_bytes told.closing)) }
 {
     let mut report = report;

@@ -1,7 +1,7 @@
 //! Calls of the machine by the caller at a place.
 ghost use Rattle.std.specs.Prelude.{◌≡◌, ◌<◌, All, IfErr, length};
 ghost use Rattle.evl_callers.specs.Crews.{StepsAt};
-ghost use Rattle.evl_kernel.specs.Callbacks.{AnswersAsTold};
+ghost use Rattle.evl_kernel.specs.Callbacks.{AnswersByPlan};
 ghost use Rattle.evl_machine.specs.Calls.{Called, stage_of_caller};
 ghost use Rattle.evl_machine.specs.MutexLocks.{BeginsToLock, FinishesToLock, TriesToLock, TriesToUnlock, UnlocksFast};
 ghost use Rattle.evl_machine.specs.StaxCalls.{StaxCall};
@@ -22,7 +22,7 @@ pub fn try_call<C: Handler, A: Allocator, B: Allocator>(
 ) -> Result<Reply, Refusal>
     requires callers { All (λ c. c.machine ≡ machine.now) callers.old.items }
     requires there { place < length callers.old.items }
-    requires answering { AnswersAsTold C.declared C.plan machine.now.first.callbacks }
+    requires by_plan { AnswersByPlan C.declared C.plan machine.now.first.callbacks }
     ensures callers { All (λ c. c.machine ≡ machine.now) callers.new.items }
     ensures stepped { StepsAt callers.old.items place (λ old new. Called machine.now.first.limit old call result new) callers.new.items }
 {
@@ -68,7 +68,7 @@ pub fn try_lock_mutex<C: Handler, A: Allocator, B: Allocator>(
 ) -> Result<MutexPass, Refusal>
     requires callers { All (λ c. c.machine ≡ machine.now) callers.old.items }
     requires there { place < length callers.old.items }
-    requires answering { AnswersAsTold C.declared C.plan machine.now.first.callbacks }
+    requires by_plan { AnswersByPlan C.declared C.plan machine.now.first.callbacks }
     ensures callers { All (λ c. c.machine ≡ machine.now) callers.new.items }
     ensures stepped { StepsAt callers.old.items place (λ old new. TriesToLock old mutex result new) callers.new.items }
 {
@@ -84,7 +84,7 @@ pub fn unlock_mutex_fast<C: Handler, A: Allocator, B: Allocator>(
 ) -> Result<(), (Refusal, MutexPass)>
     requires callers { All (λ c. c.machine ≡ machine.now) callers.old.items }
     requires there { place < length callers.old.items }
-    requires answering { AnswersAsTold C.declared C.plan machine.now.first.callbacks }
+    requires by_plan { AnswersByPlan C.declared C.plan machine.now.first.callbacks }
     ensures callers { All (λ c. c.machine ≡ machine.now) callers.new.items }
     ensures stepped { StepsAt callers.old.items place (λ old new. UnlocksFast old pass result new) callers.new.items }
 {
@@ -100,7 +100,7 @@ pub fn try_unlock_mutex<C: Handler, A: Allocator, B: Allocator>(
 ) -> Result<(), (Refusal, MutexPass)>
     requires callers { All (λ c. c.machine ≡ machine.now) callers.old.items }
     requires there { place < length callers.old.items }
-    requires answering { AnswersAsTold C.declared C.plan machine.now.first.callbacks }
+    requires by_plan { AnswersByPlan C.declared C.plan machine.now.first.callbacks }
     ensures callers { All (λ c. c.machine ≡ machine.now) callers.new.items }
     ensures stepped { StepsAt callers.old.items place (λ old new. TriesToUnlock old pass result new) callers.new.items }
 {
@@ -117,7 +117,7 @@ pub fn begin_lock_mutex<C: Handler, A: Allocator, B: Allocator>(
 ) -> Result<Begun, Refusal>
     requires callers { All (λ c. c.machine ≡ machine.now) callers.old.items }
     requires there { place < length callers.old.items }
-    requires answering { AnswersAsTold C.declared C.plan machine.now.first.callbacks }
+    requires by_plan { AnswersByPlan C.declared C.plan machine.now.first.callbacks }
     ensures callers { All (λ c. c.machine ≡ machine.now) callers.new.items }
     ensures stepped { StepsAt callers.old.items place (λ old new. BeginsToLock old mutex until result new) callers.new.items }
 {
@@ -132,7 +132,7 @@ pub fn finish_lock_mutex<C: Handler, A: Allocator, B: Allocator>(
 ) -> Result<Ended, Refusal>
     requires callers { All (λ c. c.machine ≡ machine.now) callers.old.items }
     requires there { place < length callers.old.items }
-    requires answering { AnswersAsTold C.declared C.plan machine.now.first.callbacks }
+    requires by_plan { AnswersByPlan C.declared C.plan machine.now.first.callbacks }
     ensures callers { All (λ c. c.machine ≡ machine.now) callers.new.items }
     ensures stepped { StepsAt callers.old.items place (λ old new. FinishesToLock old result new) callers.new.items }
 {

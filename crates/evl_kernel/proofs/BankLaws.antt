@@ -17,7 +17,7 @@ use Rattle.evl_kernel.specs.declared.bank.Numbered.{Numbered}
 use Rattle.evl_kernel.specs.States.{Handler}
 use Rattle.evl_kernel.specs.Renamed.{renamed}
 use Rattle.evl_kernel.specs.LineCalls as line_call
-use Rattle.evl_kernel.specs.Callbacks.{Whereabouts, Stands, BringsNone, AnswersAsTold, handler_of, told}
+use Rattle.evl_kernel.specs.Callbacks.{Whereabouts, Stands, BringsNone, AnswersByPlan, handler_of, handlers_in}
 use Rattle.evl_kernel.specs.Records.{RecordsView, state_of, whereabouts, number_of, banked, kinds_at, AreAllowed, KeepsCallbacks}
 use Rattle.evl_kernel.proofs.StandingLaws.{OnlyOld, Stood, old-freed, new-requested}
 use Rattle.evl_kernel.proofs.RenamedLaws.{old-renamed, installed-renamed, free_refusal-renamed, freed-renamed, request_refusal-renamed, requested-renamed}
@@ -51,7 +51,7 @@ set-same (y ∷ ys) (suc i) x h = ap (λ zs. y ∷ zs) (set-same ys i x h)
 
 module _ {C : Type 0} where
   -- the place of which something is told
-  pub place_told : (bank : List (BankPlace C)) (n : ℕ) (h : Handler) → slice_get (told bank) n ≡ Some h → (place : BankPlace C) × (slice_get bank n ≡ Some place) × (handler_of place ≡ h)
+  pub place_told : (bank : List (BankPlace C)) (n : ℕ) (h : Handler) → slice_get (handlers_in bank) n ≡ Some h → (place : BankPlace C) × (slice_get bank n ≡ Some place) × (handler_of place ≡ h)
   place_told bank n h is = by (slice_get bank n) refl (sym (slice_get-map handler_of bank n) ∙ is)
     where
       by : (o : Option (BankPlace C)) → slice_get bank n ≡ o → option_map handler_of o ≡ Some h → (place : BankPlace C) × (slice_get bank n ≡ Some place) × (handler_of place ≡ h)
@@ -59,27 +59,27 @@ module _ {C : Type 0} where
       by (Some place) at e = (place, at, some_is e)
 
   -- what a callback that stands declares and answers is told of its place
-  pub place_of : (declared : C → ℕ) (plan : C → Plan) (w : Whereabouts C) (n : ℕ) (callback : C) → AnswersAsTold declared plan w → Stands w n callback
+  pub place_of : (declared : C → ℕ) (plan : C → Plan) (w : Whereabouts C) (n : ℕ) (callback : C) → AnswersByPlan declared plan w → Stands w n callback
       → (place : BankPlace C) × (slice_get w.bank n ≡ Some place) × (handler_of place ≡ record { kinds = declared callback; plan = plan callback })
   place_of declared plan w n callback answers stands = place_told w.bank n (record { kinds = declared callback; plan = plan callback }) (answers n callback stands)
 
   -- what is told of a place doesn't depend on whether its callback is there
-  pub told-set : (bank : List (BankPlace C)) (n : ℕ) (place new : BankPlace C) → slice_get bank n ≡ Some place → handler_of new ≡ handler_of place → told (slice_set bank n new) ≡ told bank
-  told-set bank n place new at same =
-      map-set handler_of bank n new ∙ (ap (λ h. slice_set (told bank) n h) same
-      ∙ set-same (told bank) n (handler_of place) (slice_get-map handler_of bank n ∙ ap (option_map handler_of) at))
+  pub handlers-set : (bank : List (BankPlace C)) (n : ℕ) (place new : BankPlace C) → slice_get bank n ≡ Some place → handler_of new ≡ handler_of place → handlers_in (slice_set bank n new) ≡ handlers_in bank
+  handlers-set bank n place new at same =
+      map-set handler_of bank n new ∙ (ap (λ h. slice_set (handlers_in bank) n h) same
+      ∙ set-same (handlers_in bank) n (handler_of place) (slice_get-map handler_of bank n ∙ ap (option_map handler_of) at))
 
-  kinds-told : (r : RecordsView C) (n : ℕ) → kinds_at (state_of r) n ≡ option_map_or (λ h. h.kinds) (slice_get (told r.bank) n) 0
+  kinds-told : (r : RecordsView C) (n : ℕ) → kinds_at (state_of r) n ≡ option_map_or (λ h. h.kinds) (slice_get (handlers_in r.bank) n) 0
   kinds-told r n = rw (slice_get-map banked r.bank n, slice_get-map handler_of r.bank n) (by (slice_get r.bank n))
     where
       by : (o : Option (BankPlace C)) → option_map_or (λ b. b.handler.kinds) (option_map banked o) 0 ≡ option_map_or (λ h. h.kinds) (option_map handler_of o) 0
       by None = refl
       by (Some place) = refl
 
-  pub kinds-kept : (r s : RecordsView C) (n : ℕ) → told s.bank ≡ told r.bank → kinds_at (state_of s) n ≡ kinds_at (state_of r) n
+  pub kinds-kept : (r s : RecordsView C) (n : ℕ) → handlers_in s.bank ≡ handlers_in r.bank → kinds_at (state_of s) n ≡ kinds_at (state_of r) n
   kinds-kept r s n same = kinds-told s n ∙ (ap (λ (hs : List Handler). option_map_or (λ h. h.kinds) (slice_get hs n) 0) same ∙ sym (kinds-told r n))
 
-  pub allowed-kept : (r s : RecordsView C) → OnlyOld r.lines s.lines → told s.bank ≡ told r.bank → AreAllowed (state_of r) → AreAllowed (state_of s)
+  pub allowed-kept : (r s : RecordsView C) → OnlyOld r.lines s.lines → handlers_in s.bank ≡ handlers_in r.bank → AreAllowed (state_of r) → AreAllowed (state_of s)
   allowed-kept r s only same allowed stage line at h =
       let was = old-renamed number_of r.lines s.lines only stage line at h in
       let then_ : is_allowed stage (kinds_at (state_of r) at.callback) ≡ true = subst (λ (n : ℕ). is_allowed stage (kinds_at (state_of r) n) ≡ true) (sym was.2) (allowed stage line was.0 was.1) in
@@ -110,7 +110,7 @@ module _ {C : Type 0} where
   pub freed_keeps : (r : RecordsView C) (line : ℕ) (stage : Stage) (at : Installed (Numbered C)) (place : BankPlace C)
       → installed_at r.lines stage line ≡ Some at → slice_get r.bank at.callback.number ≡ Some place
       → KeepsCallbacks r (after_free r line stage at place)
-  freed_keeps r line stage at place here there = record { brings = stood; told_is = told-set r.bank at.callback.number place _ there refl }
+  freed_keeps r line stage at place here there = record { brings = stood; handlers_are = handlers-set r.bank at.callback.number place _ there refl }
     where
       home : (number : ℕ) (callback : C) (p : BankPlace C) → p.callback ≡ Some callback
           → (slice_get r.bank number ≡ Some p) ⊎ ((number ≡ at.callback.number) × (record place { callback = Some at.callback.callback } ≡ p)) → Stands (whereabouts r) number callback
@@ -175,7 +175,7 @@ module _ {C : Type 0} where
   pub requested_keeps : (r : RecordsView C) (line : ℕ) (stage : Stage) (n tag : ℕ) (callback : C) (place : BankPlace C)
       → slice_get r.bank n ≡ Some place → place.callback ≡ Some callback
       → KeepsCallbacks r (after_request r line stage n tag callback place)
-  requested_keeps r line stage n tag callback place there has = record { brings = stood; told_is = told-set r.bank n place _ there refl }
+  requested_keeps r line stage n tag callback place there has = record { brings = stood; handlers_are = handlers-set r.bank n place _ there refl }
     where
       home : (number : ℕ) (other : C) (p : BankPlace C) → p.callback ≡ Some other
           → (slice_get r.bank number ≡ Some p) ⊎ ((number ≡ n) × (record place { callback = None } ≡ p)) → Stands (whereabouts r) number other
@@ -221,7 +221,7 @@ module _ {C : Type 0} where
   requested_allowed r line stage n tag callback place there none allowed v l at h =
       let s = after_request r line stage n tag callback place in
       let h' = subst (λ (p : Pipeline ℕ). installed_at p v l ≡ Some at) (requested-renamed number_of r.lines line stage (record { number = n; callback = callback }) tag) h in
-      subst (λ (k : ℕ). is_allowed v k ≡ true) (sym (kinds-kept r s at.callback (told-set r.bank n place _ there refl)))
+      subst (λ (k : ℕ). is_allowed v k ≡ true) (sym (kinds-kept r s at.callback (handlers-set r.bank n place _ there refl)))
       (by (new-requested (renamed number_of r.lines) line stage n tag v l at h'))
     where
       kinds_are : kinds_at (state_of r) n ≡ place.kinds.0
@@ -236,7 +236,7 @@ module _ {C : Type 0} where
   pub freed_allowed : (r : RecordsView C) (line : ℕ) (stage : Stage) (at : Installed (Numbered C)) (place : BankPlace C)
       → slice_get r.bank at.callback.number ≡ Some place → AreAllowed (state_of r) → AreAllowed (state_of (after_free r line stage at place))
   freed_allowed r line stage at place there allowed =
-      allowed-kept r (after_free r line stage at place) (old-freed r.lines line stage) (told-set r.bank at.callback.number place _ there refl) allowed
+      allowed-kept r (after_free r line stage at place) (old-freed r.lines line stage) (handlers-set r.bank at.callback.number place _ there refl) allowed
 
 module _ {C : Type 0} where
   -- what was freed stood on its line, and its place is in the bank
@@ -248,7 +248,7 @@ module _ {C : Type 0} where
     pub there : slice_get r.bank numbered.number ≡ Some place
 
   pub was_out : (declared : C → ℕ) (plan : C → Plan) (r : RecordsView C) (stage : Stage) (line : ℕ) (numbered : Numbered C)
-      → AnswersAsTold declared plan (whereabouts r) → option_map (λ at. at.callback) (installed_at r.lines stage line) ≡ Some numbered
+      → AnswersByPlan declared plan (whereabouts r) → option_map (λ at. at.callback) (installed_at r.lines stage line) ≡ Some numbered
       → WasOut r stage line numbered
   was_out declared plan r stage line numbered answers freed_one = by (installed_at r.lines stage line) refl freed_one
     where
@@ -302,7 +302,7 @@ module _ {C : Type 0} where
 
   -- a callback in its place declares what is told of the place
   pub declared_is : (declared : C → ℕ) (plan : C → Plan) (w : Whereabouts C) (n : ℕ) (place : BankPlace C) (callback : C)
-      → AnswersAsTold declared plan w → slice_get w.bank n ≡ Some place → place.callback ≡ Some callback → declared callback ≡ place.kinds.0
+      → AnswersByPlan declared plan w → slice_get w.bank n ≡ Some place → place.callback ≡ Some callback → declared callback ≡ place.kinds.0
   declared_is declared plan w n place callback answers there has =
       let told_here = answers n callback (inl (record { place = place; at = there; there = has })) in
       let same : handler_of place ≡ record { kinds = declared callback; plan = plan callback } =

@@ -6,7 +6,7 @@ use Rattle.evl_pipeline.specs.Lines.{Pipeline}
 use Rattle.evl_kernel.specs.declared.bank.BankPlace.{BankPlace}
 use Rattle.evl_kernel.specs.declared.bank.Numbered.{Numbered}
 use Rattle.evl_kernel.specs.States.{Handler}
-use Rattle.evl_kernel.specs.Callbacks.{Whereabouts, BringsNone, AnswersAsTold, AreFilled, handler_of}
+use Rattle.evl_kernel.specs.Callbacks.{Whereabouts, BringsNone, AnswersByPlan, AreFilled, handler_of}
 use Rattle.evl_kernel.specs.Records.{RecordsView, state_of, whereabouts, number_of, kinds_at, AreAllowed, KeepsCallbacks}
 use Rattle.evl_kernel.proofs.StandingLaws.{OnlyOld}
 use Rattle.evl_kernel.proofs.RenamedLaws.{old-renamed}
@@ -28,7 +28,7 @@ module _ {C : Type 0} where
 
   -- after a change of the lines that brings nothing
   pub keeps-old : (r : RecordsView C) (q : Pipeline (Numbered C)) → OnlyOld r.lines q → KeepsCallbacks r (record r { lines = q })
-  keeps-old r q only = record { brings = brings-old (whereabouts r) q only; told_is = refl }
+  keeps-old r q only = record { brings = brings-old (whereabouts r) q only; handlers_are = refl }
 
   pub allowed-old : (r : RecordsView C) (q : Pipeline (Numbered C)) → OnlyOld r.lines q → AreAllowed (state_of r) → AreAllowed (state_of (record r { lines = q }))
   allowed-old r q only allowed stage line at h =
@@ -36,24 +36,24 @@ module _ {C : Type 0} where
       subst (λ (n : ℕ). is_allowed stage (kinds_at (state_of r) n) ≡ true) (sym was.2) (allowed stage line was.0 was.1)
 
   pub keeps-none : (r : RecordsView C) → KeepsCallbacks r r
-  keeps-none r = record { brings = λ number callback stands. stands; told_is = refl }
+  keeps-none r = record { brings = λ number callback stands. stands; handlers_are = refl }
 
   -- one change after another
   pub keeps-both : (r s t : RecordsView C) → KeepsCallbacks r s → KeepsCallbacks s t → KeepsCallbacks r t
   keeps-both r s t first then_ = record {
     brings = λ number callback stands. first.brings number callback (then_.brings number callback stands);
-    told_is = then_.told_is ∙ first.told_is;
+    handlers_are = then_.handlers_are ∙ first.handlers_are;
   }
 
-  pub answers-kept : (declared : C → ℕ) (plan : C → Plan) (r s : RecordsView C) → KeepsCallbacks r s → AnswersAsTold declared plan (whereabouts r) → AnswersAsTold declared plan (whereabouts s)
+  pub answers-kept : (declared : C → ℕ) (plan : C → Plan) (r s : RecordsView C) → KeepsCallbacks r s → AnswersByPlan declared plan (whereabouts r) → AnswersByPlan declared plan (whereabouts s)
   answers-kept declared plan r s kept answers number callback stands =
-      ap (λ (hs : List Handler). slice_get hs number) kept.told_is ∙ answers number callback (kept.brings number callback stands)
+      ap (λ (hs : List Handler). slice_get hs number) kept.handlers_are ∙ answers number callback (kept.brings number callback stands)
 
   -- one more place is filled
   pub filled_more : (declared : C → ℕ) (plan : C → Plan) (callbacks : List C) (places : List (BankPlace C)) (callback : C) (place : BankPlace C)
       → AreFilled declared plan callbacks places → place.callback ≡ Some callback → handler_of place ≡ record { kinds = declared callback; plan = plan callback }
       → AreFilled declared plan (callbacks ++ callback ∷ []) (places ++ place ∷ [])
-  filled_more declared plan [] places callback place none has told_is =
-      (place, [], ap (λ (ps : List (BankPlace C)). ps ++ place ∷ []) none, has, told_is, refl)
-  filled_more declared plan (first ∷ callbacks) places callback place (its, others, split, its_callback, its_told, rest) has told_is =
-      (its, others ++ place ∷ [], ap (λ (ps : List (BankPlace C)). ps ++ place ∷ []) split, its_callback, its_told, filled_more declared plan callbacks others callback place rest has told_is)
+  filled_more declared plan [] places callback place none has handlers_are =
+      (place, [], ap (λ (ps : List (BankPlace C)). ps ++ place ∷ []) none, has, handlers_are, refl)
+  filled_more declared plan (first ∷ callbacks) places callback place (its, others, split, its_callback, its_told, rest) has handlers_are =
+      (its, others ++ place ∷ [], ap (λ (ps : List (BankPlace C)). ps ++ place ∷ []) split, its_callback, its_told, filled_more declared plan callbacks others callback place rest has handlers_are)

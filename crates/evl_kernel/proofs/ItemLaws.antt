@@ -32,7 +32,7 @@ use Rattle.evl_kernel.specs.Endings.{drop_step}
 use Rattle.evl_kernel.specs.Settling.{Left, left, deadline_left, answered, timer_given, item_played, due_played, going_on, is_of_clock, item_next, item_before, line_next, next_of, line_goes, next_play, one_inband}
 use Rattle.evl_kernel.specs.Fires.{Called}
 use Rattle.evl_kernel.specs.Settled.{settling, stage_of, waiting, left_after}
-use Rattle.evl_kernel.specs.Callbacks.{AnswersAsTold}
+use Rattle.evl_kernel.specs.Callbacks.{AnswersByPlan}
 use Rattle.evl_kernel.specs.Records.{RecordsView, state_of, whereabouts, number_of, kinds_at, AreTimersAllowed}
 use Rattle.evl_kernel.proofs.ClockLaws.{timer-renamed, next-renamed, count-renamed, fired-renamed}
 use Rattle.evl_kernel.proofs.PlayLaws.{plan_told, oob_pending, due_in, answered-none, answered-due, deadline-due, deadline-pending}
@@ -46,13 +46,13 @@ none_some e = cc
 
 module _ {C : Type 0} (declared : C → ℕ) (plan : C → Plan) where
   -- a callback in a timer declares and answers what is told of its number
-  timed_told : (r : RecordsView C) (n : ℕ) (at : Timer (Numbered C)) → AnswersAsTold declared plan (whereabouts r) → timer_at r.clock n ≡ Some at
+  timed_told : (r : RecordsView C) (n : ℕ) (at : Timer (Numbered C)) → AnswersByPlan declared plan (whereabouts r) → timer_at r.clock n ≡ Some at
       → (plan_at (state_of r) at.callback.number ≡ plan at.callback.callback) × (kinds_at (state_of r) at.callback.number ≡ declared at.callback.callback)
   timed_told r n at answers here = plan_told r at.callback.number (record { kinds = declared at.callback.callback; plan = plan at.callback.callback })
       (answers at.callback.number at.callback.callback (inr (inr (record { timer = n; at = at; there = here; number_is = refl; callback_is = refl }))))
 
   -- the callbacks of the timers are allowed by what they declare themselves
-  pub timers_declared : (r : RecordsView C) → AnswersAsTold declared plan (whereabouts r) → AreTimersAllowed (state_of r) → steps.AreAllowed (λ (n : Numbered C). declared n.callback) r.clock
+  pub timers_declared : (r : RecordsView C) → AnswersByPlan declared plan (whereabouts r) → AreTimersAllowed (state_of r) → steps.AreAllowed (λ (n : Numbered C). declared n.callback) r.clock
   timers_declared r answers allowed n at here =
       subst (λ (k : ℕ). is_timer_allowed k ≡ true) (timed_told r n at answers here).1
       (allowed n (named_timer number_of at) (timer-renamed number_of r.clock n ∙ ap (option_map (named_timer number_of)) here))
@@ -72,7 +72,7 @@ module _ {C : Type 0} (declared : C → ℕ) (plan : C → Plan) where
   Falls gives old n fire misses answer new = Fires (λ (n : Numbered C). declared n.callback) (λ (n : Numbered C). plan n.callback) (λ (n : Numbered C). gives n.callback) old n fire misses answer new
 
   pub timer_next : (gives : C → Fire → Answer → Type 0) (r t : RecordsView C) (id : TimerId) (fire : Fire) (misses : ℕ) (answer : Answer) (d : Clock (Numbered C))
-      → AnswersAsTold declared plan (whereabouts r) → next_due r.clock ≡ Some (timer id.0) → Falls gives r.clock id.0 fire misses answer d
+      → AnswersByPlan declared plan (whereabouts r) → next_due r.clock ≡ Some (timer id.0) → Falls gives r.clock id.0 fire misses answer d
       → state_of t ≡ answered (state_of (record r { clock = d })) fire.line.0 answer
       → due_played (state_of r) ≡ Some (play.Timer id fire.count misses answer.handled, state_of t)
   timer_next gives r t id fire misses answer d answers next f after =
@@ -88,7 +88,7 @@ module _ {C : Type 0} (declared : C → ℕ) (plan : C → Plan) where
       timer_step r id.0 at next f.stands ∙ (ap (λ (a : Answer). Some (with_answer r id.0 at a)) is_answer ∙ said)
 
   pub timer_called : (gives : C → Fire → Answer → Type 0) (r : RecordsView C) (id : TimerId) (fire : Fire) (misses : ℕ) (answer : Answer) (d : Clock (Numbered C))
-      → AnswersAsTold declared plan (whereabouts r) → Falls gives r.clock id.0 fire misses answer d
+      → AnswersByPlan declared plan (whereabouts r) → Falls gives r.clock id.0 fire misses answer d
       → Called gives (whereabouts r) (state_of r) (play.Timer id fire.count misses answer.handled)
   timer_called gives r id fire misses answer d answers f = (
     named_timer number_of f.at,
@@ -104,7 +104,7 @@ module _ {C : Type 0} (declared : C → ℕ) (plan : C → Plan) where
       answer_is : answer ≡ timer_given (state_of r) (named_timer number_of f.at)
       answer_is = f.has_fired.answered ∙ ap (λ (x : Plan). answer_of x (one_more f.at.count)) (sym (timed_told r id.0 f.at answers f.stands).0)
 
-  pub timer_nearer : (r t : RecordsView C) (fire : Fire) (answer : Answer) (d : Clock (Numbered C)) → AnswersAsTold declared plan (whereabouts r) → AreTimersAllowed (state_of r)
+  pub timer_nearer : (r t : RecordsView C) (fire : Fire) (answer : Answer) (d : Clock (Numbered C)) → AnswersByPlan declared plan (whereabouts r) → AreTimersAllowed (state_of r)
       → due_count d + 1 ≡ due_count r.clock → (steps.AreAllowed (λ (n : Numbered C). declared n.callback) r.clock → PostsNoOob answer.actions.items)
       → state_of t ≡ answered (state_of (record r { clock = d })) fire.line.0 answer → waiting (state_of t) < waiting (state_of r)
   timer_nearer r t fire answer d answers allowed fewer bounded after =

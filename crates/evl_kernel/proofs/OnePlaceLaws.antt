@@ -13,7 +13,7 @@ use Rattle.evl_kernel.specs.States.{State, Banked}
 use Rattle.evl_kernel.specs.declared.bank.BankPlace.{BankPlace}
 use Rattle.evl_kernel.specs.declared.bank.Numbered.{Numbered}
 use Rattle.evl_kernel.specs.Histories.{History, IsLegal, opened}
-use Rattle.evl_kernel.specs.Callbacks.{handler_of, told}
+use Rattle.evl_kernel.specs.Callbacks.{handler_of, handlers_in}
 use Rattle.evl_kernel.specs.Records.{RecordsView, state_of, whereabouts, banked, number_of}
 use Rattle.evl_kernel.specs.Renamed.{named, named_timer}
 use Rattle.evl_kernel.specs.Places as place
@@ -176,7 +176,7 @@ module _ {C : Type 0} (r : RecordsView C) (n : ℕ) where
   one_stands : IsInOnePlace (IsAt (state_of r) n) → IsInOnePlace (StandsAt (whereabouts r) n)
   one_stands one = record { place = one.place; is = stands_at one.place one.is; alone = λ other stands. one.alone other (known_at other stands) }
 
-pub are_in_one_place : {C : Type 0} (r : RecordsView C) (h : History) → IsLegal h → h.bank ≡ told r.bank → h.state ≡ state_of r → AreInOnePlace (whereabouts r)
+pub are_in_one_place : {C : Type 0} (r : RecordsView C) (h : History) → IsLegal h → h.bank ≡ handlers_in r.bank → h.state ≡ state_of r → AreInOnePlace (whereabouts r)
 are_in_one_place r h legal bank_is state_is number below =
     one_stands r number (subst (λ (s : State). IsInOnePlace (IsAt s number)) state_is
     (in_one_place h legal number (omega (arith, below, ap length bank_is, length-map r.bank handler_of))))

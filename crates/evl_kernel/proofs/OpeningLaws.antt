@@ -23,7 +23,7 @@ use Rattle.evl_kernel.specs.declared.bank.Numbered.{Numbered}
 use Rattle.evl_kernel.specs.States.{Elements, Handler}
 use Rattle.evl_kernel.specs.Openings.{all_opened, opening, at_home}
 use Rattle.evl_kernel.specs.Renamed.{named, renamed, renamed_clock}
-use Rattle.evl_kernel.specs.Callbacks.{Whereabouts, AnswersAsTold, AreFilled, told}
+use Rattle.evl_kernel.specs.Callbacks.{Whereabouts, AnswersByPlan, AreFilled, handlers_in}
 use Rattle.evl_kernel.specs.Records.{RanksAreKept, RecordsView, IsOpened, state_of, number_of, banked, AreAllowed, AreTimersAllowed, WaitsAreKept}
 use Rattle.evl_kernel.specs.Standing.{AreSound, in_flags, in_mutex, in_readers, in_sem, in_writers, stands_at, stands_for}
 use Rattle.evl_sched.specs.Ranks.{Ranked, fresh}
@@ -84,10 +84,10 @@ module _ {C : Type 0} (declared : C → ℕ) (plan : C → Plan) where
   abbrev pub handler_made : C → Handler
   handler_made callback = record { kinds = declared callback; plan = plan callback }
 
-  pub told-filled : (bank : List C) (places : List (BankPlace C)) → AreFilled declared plan bank places → told places ≡ map handler_made bank
-  told-filled [] places none = ap told none
-  told-filled (callback ∷ bank) places (place, others, split, has, is, rest) =
-      ap told split ∙ ((λ i. is i ∷ told-filled bank others rest i))
+  pub handlers-filled : (bank : List C) (places : List (BankPlace C)) → AreFilled declared plan bank places → handlers_in places ≡ map handler_made bank
+  handlers-filled [] places none = ap handlers_in none
+  handlers-filled (callback ∷ bank) places (place, others, split, has, is, rest) =
+      ap handlers_in split ∙ ((λ i. is i ∷ handlers-filled bank others rest i))
 
   pub banked-filled : (bank : List C) (places : List (BankPlace C)) → AreFilled declared plan bank places → map banked places ≡ map at_home (map handler_made bank)
   banked-filled [] places none = ap (map banked) none
@@ -96,17 +96,17 @@ module _ {C : Type 0} (declared : C → ℕ) (plan : C → Plan) where
 
   -- the callback of a place is the one that it was filled with
   filled-at : (bank : List C) (places : List (BankPlace C)) (n : ℕ) (place : BankPlace C) (callback : C) → AreFilled declared plan bank places
-      → slice_get places n ≡ Some place → place.callback ≡ Some callback → slice_get (told places) n ≡ Some (handler_made callback)
+      → slice_get places n ≡ Some place → place.callback ≡ Some callback → slice_get (handlers_in places) n ≡ Some (handler_made callback)
   filled-at [] places n place callback none at has = absurd (none_some (ap (λ (ps : List (BankPlace C)). slice_get ps n) (sym none) ∙ at))
   filled-at (first ∷ bank) places zero place callback (its, others, split, its_has, is, rest) at has =
       let same : its ≡ place = some_is (ap (λ (ps : List (BankPlace C)). slice_get ps 0) (sym split) ∙ at) in
       let one : first ≡ callback = some_is (sym its_has ∙ (ap (λ (p : BankPlace C). p.callback) same ∙ has)) in
-      ap (λ (ps : List (BankPlace C)). slice_get (told ps) 0) split ∙ (ap Some is ∙ ap (λ (x : C). Some (handler_made x)) one)
+      ap (λ (ps : List (BankPlace C)). slice_get (handlers_in ps) 0) split ∙ (ap Some is ∙ ap (λ (x : C). Some (handler_made x)) one)
   filled-at (first ∷ bank) places (suc n) place callback (its, others, split, its_has, is, rest) at has =
-      ap (λ (ps : List (BankPlace C)). slice_get (told ps) (suc n)) split
+      ap (λ (ps : List (BankPlace C)). slice_get (handlers_in ps) (suc n)) split
       ∙ filled-at bank others n place callback rest (ap (λ (ps : List (BankPlace C)). slice_get ps (suc n)) (sym split) ∙ at) has
 
-  pub answers-opening : (bank : List C) (w : Whereabouts C) (threads : ℕ) → AreFilled declared plan bank w.bank → w.lines ≡ lines.opening → w.clock ≡ clocks.opening threads → AnswersAsTold declared plan w
+  pub answers-opening : (bank : List C) (w : Whereabouts C) (threads : ℕ) → AreFilled declared plan bank w.bank → w.lines ≡ lines.opening → w.clock ≡ clocks.opening threads → AnswersByPlan declared plan w
   answers-opening bank w threads filled nothing no_timers number callback (inl home) = filled-at bank w.bank number home.place callback filled home.at home.there
   answers-opening bank w threads filled nothing no_timers number callback (inr (inr timed)) =
       absurd (no_timer-opening threads timed.timer timed.at (subst (λ (c : clocks.Clock (Numbered C)). clocks.timer_at c timed.timer ≡ Some timed.at) no_timers timed.there))
@@ -144,8 +144,8 @@ allowed-new r nothing stage line at h =
     absurd (nothing-opening stage line at (subst (λ (p : lines.Pipeline ℕ). lines.installed_at p stage line ≡ Some at) (ap (renamed number_of) nothing ∙ renamed-opening number_of) h))
 
 module _ {C : Type 0} (declared : C → ℕ) (plan : C → Plan) where
-  pub opening-told : (board : Board) (bank : List C) (r : RecordsView C) → IsOpened declared plan board bank r → opening board (told r.bank) ≡ opening board (map (handler_made declared plan) bank)
-  opening-told board bank r opened = ap (opening board) (told-filled declared plan bank r.bank opened.filled)
+  pub opening-handlers : (board : Board) (bank : List C) (r : RecordsView C) → IsOpened declared plan board bank r → opening board (handlers_in r.bank) ≡ opening board (map (handler_made declared plan) bank)
+  opening-handlers board bank r opened = ap (opening board) (handlers-filled declared plan bank r.bank opened.filled)
 
 -- nobody stands in a queue of a new element
 nobody_of : {C X : Type 0} (opened : C → X) (has : X → ℕ → Bool) → ((c : C) (t : ℕ) → has (opened c) t ≡ false) → (counts : List C) (n t : ℕ) → stands_at has (map opened counts) n t ≡ false

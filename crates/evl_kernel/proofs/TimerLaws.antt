@@ -24,11 +24,11 @@ use Rattle.evl_kernel.specs.TimerCalls as timer_call
 use Rattle.evl_kernel.specs.Effects.{known, tells}
 use Rattle.std.proofs.lemmas.Bool.{false≢true}
 use Rattle.evl_kernel.proofs.SetLaws.{set_here}
-use Rattle.evl_kernel.specs.Callbacks.{Stands, BringsNone, AnswersAsTold, told}
+use Rattle.evl_kernel.specs.Callbacks.{Stands, BringsNone, AnswersByPlan, handlers_in}
 use Rattle.evl_kernel.specs.Records.{RecordsView, state_of, whereabouts, number_of, banked, kinds_at, AreAllowed, AreTimersAllowed, KeepsCallbacks}
 use Rattle.evl_kernel.proofs.StandingLaws.{OnlyOld, old-posted, set-lookup}
 use Rattle.evl_kernel.proofs.ClockLaws.{timer-renamed, new-renamed, dropped-renamed, free-renamed, refusal-renamed, start-renamed, stop-renamed, is_due-renamed}
-use Rattle.evl_kernel.proofs.BankLaws.{get-set, set-same, told-set, kinds-kept, place_of, allowed-kept}
+use Rattle.evl_kernel.proofs.BankLaws.{get-set, set-same, handlers-set, kinds-kept, place_of, allowed-kept}
 
 none_some : {A : Type 0} {x : A} → None ≡ Some x → ⊥
 none_some e = cc
@@ -120,7 +120,7 @@ module _ {C : Type 0} where
 
   -- after a change of the clock that brings nothing
   pub keeps-clock : (r : RecordsView C) (d : Clock (Numbered C)) → OnlyOldTimers r.clock d → KeepsCallbacks r (with_clock r d)
-  keeps-clock r d only = record { brings = stood; told_is = refl }
+  keeps-clock r d only = record { brings = stood; handlers_are = refl }
     where
       stood : BringsNone (whereabouts r) (whereabouts (with_clock r d))
       stood number callback (inl home) = inl (record { place = home.place; at = home.at; there = home.there })
@@ -141,7 +141,7 @@ module _ {C : Type 0} where
       subst (λ (k : ℕ). is_timer_allowed (kinds_at (state_of r) k) ≡ true) (sym was.2) (allowed n was.0 was.1)
 
   -- what is told of the places stays, and no timer brings a callback
-  pub timers_allowed-kept : (r s : RecordsView C) → OnlyOldTimers r.clock s.clock → told s.bank ≡ told r.bank → AreTimersAllowed (state_of r) → AreTimersAllowed (state_of s)
+  pub timers_allowed-kept : (r s : RecordsView C) → OnlyOldTimers r.clock s.clock → handlers_in s.bank ≡ handlers_in r.bank → AreTimersAllowed (state_of r) → AreTimersAllowed (state_of s)
   timers_allowed-kept r s only same allowed n at h =
       let was = timers-renamed number_of r.clock s.clock only n at h in
       let then_ : is_timer_allowed (kinds_at (state_of r) at.callback) ≡ true = subst (λ (k : ℕ). is_timer_allowed (kinds_at (state_of r) k) ≡ true) (sym was.2) (allowed n was.0 was.1) in
@@ -171,7 +171,7 @@ module _ {C : Type 0} where
     pub place : BankPlace C
     pub there : slice_get r.bank numbered.number ≡ Some place
 
-  pub was_in : (declared : C → ℕ) (plan : C → Plan) (r : RecordsView C) (n : ℕ) (numbered : Numbered C) → AnswersAsTold declared plan (whereabouts r)
+  pub was_in : (declared : C → ℕ) (plan : C → Plan) (r : RecordsView C) (n : ℕ) (numbered : Numbered C) → AnswersByPlan declared plan (whereabouts r)
       → option_map (λ t. t.callback) (timer_at r.clock n) ≡ Some numbered → WasIn r n numbered
   was_in declared plan r n numbered answers taken = by (timer_at r.clock n) refl taken
     where
@@ -207,7 +207,7 @@ module _ {C : Type 0} where
       ) refl
 
   pub dropped_keeps : (r : RecordsView C) (n : ℕ) (numbered : Numbered C) (out : WasIn r n numbered) → KeepsCallbacks r (dropped_back r n numbered out.place)
-  dropped_keeps r n numbered out = record { brings = stood; told_is = told-set r.bank numbered.number out.place _ out.there refl }
+  dropped_keeps r n numbered out = record { brings = stood; handlers_are = handlers-set r.bank numbered.number out.place _ out.there refl }
     where
       home : (number : ℕ) (callback : C) (p : BankPlace C) → p.callback ≡ Some callback
           → (slice_get r.bank number ≡ Some p) ⊎ ((number ≡ numbered.number) × (record out.place { callback = Some numbered.callback } ≡ p)) → Stands (whereabouts r) number callback
@@ -235,11 +235,11 @@ module _ {C : Type 0} where
 
   pub dropped_allowed : (r : RecordsView C) (n : ℕ) (numbered : Numbered C) (out : WasIn r n numbered) → AreAllowed (state_of r) → AreAllowed (state_of (dropped_back r n numbered out.place))
   dropped_allowed r n numbered out allowed =
-      allowed-kept r (dropped_back r n numbered out.place) (λ stage line at h. (at, h, refl)) (told-set r.bank numbered.number out.place _ out.there refl) allowed
+      allowed-kept r (dropped_back r n numbered out.place) (λ stage line at h. (at, h, refl)) (handlers-set r.bank numbered.number out.place _ out.there refl) allowed
 
   pub dropped_timers_allowed : (r : RecordsView C) (n : ℕ) (numbered : Numbered C) (out : WasIn r n numbered) → AreTimersAllowed (state_of r) → AreTimersAllowed (state_of (dropped_back r n numbered out.place))
   dropped_timers_allowed r n numbered out allowed =
-      timers_allowed-kept r (dropped_back r n numbered out.place) (old-dropped r.clock n) (told-set r.bank numbered.number out.place _ out.there refl) allowed
+      timers_allowed-kept r (dropped_back r n numbered out.place) (old-dropped r.clock n) (handlers-set r.bank numbered.number out.place _ out.there refl) allowed
 
   pub dropped_sound : (r : RecordsView C) (n : ℕ) → IsSoundClock r.clock → IsSoundClock (dropped r.clock n)
   dropped_sound r n h = sound-with_timer r.clock n None h
@@ -273,7 +273,7 @@ module _ {C : Type 0} where
   new_limit r n tag callback place there allowed has free = rw (slice_get-map banked r.bank n, there, allowed, has, free-renamed number_of r.clock, free) refl
 
   pub new_keeps : (r : RecordsView C) (k n tag : ℕ) (callback : C) (place : BankPlace C) → slice_get r.bank n ≡ Some place → place.callback ≡ Some callback → KeepsCallbacks r (after_new r k n tag callback place)
-  new_keeps r k n tag callback place there has = record { brings = stood; told_is = told-set r.bank n place _ there refl }
+  new_keeps r k n tag callback place there has = record { brings = stood; handlers_are = handlers-set r.bank n place _ there refl }
     where
       home : (number : ℕ) (other : C) (p : BankPlace C) → p.callback ≡ Some other
           → (slice_get r.bank number ≡ Some p) ⊎ ((number ≡ n) × (record place { callback = None } ≡ p)) → Stands (whereabouts r) number other
@@ -301,14 +301,14 @@ module _ {C : Type 0} where
 
   pub new_allowed : (r : RecordsView C) (k n tag : ℕ) (callback : C) (place : BankPlace C) → slice_get r.bank n ≡ Some place → AreAllowed (state_of r) → AreAllowed (state_of (after_new r k n tag callback place))
   new_allowed r k n tag callback place there allowed =
-      allowed-kept r (after_new r k n tag callback place) (λ stage line at h. (at, h, refl)) (told-set r.bank n place _ there refl) allowed
+      allowed-kept r (after_new r k n tag callback place) (λ stage line at h. (at, h, refl)) (handlers-set r.bank n place _ there refl) allowed
 
   pub new_timers_allowed : (r : RecordsView C) (k n tag : ℕ) (callback : C) (place : BankPlace C) → slice_get r.bank n ≡ Some place → is_timer_allowed place.kinds.0 ≡ true
       → AreTimersAllowed (state_of r) → AreTimersAllowed (state_of (after_new r k n tag callback place))
   new_timers_allowed r k n tag callback place there declared allowed m at h =
       let s = after_new r k n tag callback place in
       let h' = subst (λ (c : Clock ℕ). timer_at c m ≡ Some at) (new-renamed number_of r.clock k (record { number = n; callback = callback }) tag) h in
-      subst (λ (x : ℕ). is_timer_allowed x ≡ true) (sym (kinds-kept r s at.callback (told-set r.bank n place _ there refl)))
+      subst (λ (x : ℕ). is_timer_allowed x ≡ true) (sym (kinds-kept r s at.callback (handlers-set r.bank n place _ there refl)))
       (by (new-timer (renamed_clock number_of r.clock) k n tag m at h'))
     where
       kinds_are : kinds_at (state_of r) n ≡ place.kinds.0

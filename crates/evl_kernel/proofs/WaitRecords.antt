@@ -199,16 +199,16 @@ module _ (threads : ℕ) (e : Elements) (waits : List (Option Wait)) (kept : Wai
 -- who is ready, and who waits, has nothing to do with callbacks
 module _ {C : Type 0} (r : RecordsView C) where
   pub keeps-sched : (q : Ranked) → KeepsCallbacks r (record r { sched = q })
-  keeps-sched q = record { brings = λ number callback stands. stands; told_is = refl }
+  keeps-sched q = record { brings = λ number callback stands. stands; handlers_are = refl }
 
   pub keeps-waits : (waits : List (Option Wait)) → KeepsCallbacks r (record r { waits = waits })
-  keeps-waits waits = record { brings = λ number callback stands. stands; told_is = refl }
+  keeps-waits waits = record { brings = λ number callback stands. stands; handlers_are = refl }
 
   pub keeps-elements : (e : ElementsView) → KeepsCallbacks r (record r { elements = e })
-  keeps-elements e = record { brings = λ number callback stands. stands; told_is = refl }
+  keeps-elements e = record { brings = λ number callback stands. stands; handlers_are = refl }
 
   pub keeps-changed : (e : ElementsView) (q : Ranked) (waits : List (Option Wait)) → KeepsCallbacks r (record r { elements = e; sched = q; waits = waits })
-  keeps-changed e q waits = record { brings = λ number callback stands. stands; told_is = refl }
+  keeps-changed e q waits = record { brings = λ number callback stands. stands; handlers_are = refl }
 
   -- what a thread that may begin a wait has
   pub may_begin_is : IsSound r → (thread rank : ℕ) (wants : Wanted) → stranger_refusal r.sched.sched thread ≡ None → rank ≡ ranks.rank_of r.sched thread

@@ -24,8 +24,8 @@ module _ {C : Type 0} where
   is_home place = is_some place.callback
 
   -- what the callback of each place declares and answers, wherever it is
-  abbrev pub told : List (BankPlace C) → List Handler
-  told bank = map handler_of bank
+  abbrev pub handlers_in : List (BankPlace C) → List Handler
+  handlers_in bank = map handler_of bank
 
   -- the callback of this number stands in its place, on a line, or in a timer
   pub record IsHome (w : Whereabouts C) (number : ℕ) (callback : C) : Type 0 where
@@ -56,9 +56,9 @@ module _ {C : Type 0} where
   BringsNone old new = (number : ℕ) (callback : C) → Stands new number callback → Stands old number callback
 
   -- each callback declares and answers what is told of its place
-  abbrev pub AnswersAsTold : (C → ℕ) → (C → Plan) → Whereabouts C → Type 0
-  AnswersAsTold declared plan w = (number : ℕ) (callback : C) → Stands w number callback
-      → slice_get (told w.bank) number ≡ Some (record { kinds = declared callback; plan = plan callback })
+  abbrev pub AnswersByPlan : (C → ℕ) → (C → Plan) → Whereabouts C → Type 0
+  AnswersByPlan declared plan w = (number : ℕ) (callback : C) → Stands w number callback
+      → slice_get (handlers_in w.bank) number ≡ Some (record { kinds = declared callback; plan = plan callback })
 
   -- the places of a new bank
   abbrev pub AreFilled : (C → ℕ) → (C → Plan) → List C → List (BankPlace C) → Type 0

@@ -25,7 +25,7 @@ use Rattle.evl_kernel.specs.Standing.{AreSound, stands_for}
 use Rattle.evl_kernel.specs.Waits.{wait_of, going_on}
 use Rattle.evl_kernel.specs.Renamed.{renamed, renamed_clock}
 use Rattle.evl_kernel.specs.Openings.{opening}
-use Rattle.evl_kernel.specs.Callbacks.{Whereabouts, handler_of, told, BringsNone, AreFilled}
+use Rattle.evl_kernel.specs.Callbacks.{Whereabouts, handler_of, handlers_in, BringsNone, AreFilled}
 
 pub record RecordsView (C : Type 0) : Type 0 where
   pub threads : ℕ
@@ -110,4 +110,4 @@ pub record IsOpened {C : Type 0} (declared : C → ℕ) (plan : C → Plan) (boa
 -- no callback came, and what is told of the places is the same
 pub record KeepsCallbacks {C : Type 0} (old new : RecordsView C) : Type 0 where
   pub brings : BringsNone (whereabouts old) (whereabouts new)
-  pub told_is : told new.bank ≡ told old.bank
+  pub handlers_are : handlers_in new.bank ≡ handlers_in old.bank

@@ -8,7 +8,7 @@ ghost use Rattle.evl_clock.specs.Clocks.{timer_at};
 ghost use Rattle.evl_clock.specs.Limits.{timer_count};
 ghost use Rattle.evl_mutex.specs.Owners.{owner_at};
 ghost use Rattle.evl_sched.specs.Threads.{stage_of};
-ghost use Rattle.evl_kernel.specs.Callbacks.{AnswersAsTold, BringsNone, told};
+ghost use Rattle.evl_kernel.specs.Callbacks.{AnswersByPlan, BringsNone, handlers_in};
 ghost use Rattle.evl_kernel.specs.Fires.{AddsByCalls};
 ghost use Rattle.evl_kernel.specs.Limits.{history_limit};
 ghost use Rattle.evl_kernel.specs.Openings.{can_open};
@@ -95,7 +95,7 @@ impl<C: Handler> KernelOf<C, Global> {
         limit: u32,
     ) -> Result<KernelOf<C, Global>, Refusal>
         ensures opened { IfOk result (λ k. IsOpened C.declared C.plan board bank.items limit k) }
-        ensures answering { IfOk result (λ k. AnswersAsTold C.declared C.plan k.callbacks) }
+        ensures by_plan { IfOk result (λ k. AnswersByPlan C.declared C.plan k.callbacks) }
         ensures places { IfOk result (λ k. AreInOnePlace k.callbacks) }
         ensures range { (result ≡ Err Refusal.Range) ↔ (can_open board (length bank.items) limit ≡ false) }
         ensures refusals { IfErr result (λ e. (e ≡ Refusal.Range) ⊎ (e ≡ Refusal.NoMemory)) }
@@ -116,7 +116,7 @@ impl<C: Handler, A: Allocator> KernelOf<C, A> {
     where
         A: Clone,
         ensures opened { IfOk result (λ k. IsOpened C.declared C.plan board bank.items limit k) }
-        ensures answering { IfOk result (λ k. AnswersAsTold C.declared C.plan k.callbacks) }
+        ensures by_plan { IfOk result (λ k. AnswersByPlan C.declared C.plan k.callbacks) }
         ensures places { IfOk result (λ k. AreInOnePlace k.callbacks) }
         ensures range { (result ≡ Err Refusal.Range) ↔ (can_open board (length bank.items) limit ≡ false) }
         ensures refusals { IfErr result (λ e. (e ≡ Refusal.Range) ⊎ (e ≡ Refusal.NoMemory)) }
@@ -172,7 +172,7 @@ impl<C: Handler, A: Allocator> KernelOf<C, A> {
     /// isn't `Finish`), `Unknown` (no such thread, line, callback, timer, group or element), `Range`, `Invalid`,
     /// `WrongStage`, then the call's own (Xenomai 4: EVL core).
     pub fn apply(&mut self, caller: ThreadId, call: Call) -> Result<Reply, Refusal>
-        requires answering { AnswersAsTold C.declared C.plan self.old.callbacks }
+        requires by_plan { AnswersByPlan C.declared C.plan self.old.callbacks }
         ensures entry { IsTrue (makes_entry result) → AddsEntry self.old.history caller.0 call result self.new.history }
         ensures none { IsFalse (makes_entry result) → self.new.history ≡ self.old.history }
         ensures full { (result ≡ Err Refusal.HistoryFull) ↔ (length self.old.history.entries ≡ self.old.limit) }
@@ -181,9 +181,9 @@ impl<C: Handler, A: Allocator> KernelOf<C, A> {
         ensures limit { self.new.limit ≡ self.old.limit }
         ensures room { self.old.room ≤ self.new.room + 1 }
         ensures legal { IsLegal self.new.history }
-        ensures answering { AnswersAsTold C.declared C.plan self.new.callbacks }
+        ensures by_plan { AnswersByPlan C.declared C.plan self.new.callbacks }
         ensures brings { BringsNone self.old.callbacks self.new.callbacks }
-        ensures told { told self.new.callbacks.bank ≡ told self.old.callbacks.bank }
+        ensures handlers { handlers_in self.new.callbacks.bank ≡ handlers_in self.old.callbacks.bank }
         ensures called { AddsByCalls C.gives self.old.callbacks self.old.history caller.0 call self.new.history }
         ensures places { AreInOnePlace self.new.callbacks }
     {

@@ -17,7 +17,7 @@ use Rattle.evl_kernel.specs.KernelViews.{KernelView}
 use Rattle.evl_machine.specs.declared.views.Account.{Account}
 use Rattle.evl_machine.specs.declared.views.ThreadView.{ThreadView}
 use Rattle.evl_machine.specs.ThreadRule.{ThreadRule, core_of}
-use Rattle.evl_machine.specs.Accounts.{Fits, HasNoStranger, account, calls_by, informed, lost_one, saw, threads_of}
+use Rattle.evl_machine.specs.Accounts.{Fits, HasNoStranger, account, calls_by, up_to_date, lost_one, saw, threads_of}
 use Rattle.evl_machine.specs.Events.{FailsToTake, Gives, Takes}
 use Rattle.evl_machine.specs.Seats.{AccountsFit, CoreMe, view}
 use Rattle.evl_machine.specs.CoreRule.{account_at}
@@ -138,7 +138,7 @@ module _ {C : Type 0} where
       ap (returned h) took.caller ∙ ap (λ mine. record c { account = account c.account.thread h mine (c.account.found ++ k.kernel.room ∷ []) c.account.lost }) (fits_first c k took).mine
 
   pub stays_open : (m : MachineState C) (xs : List (CallerState C)) (first : CallerState C) (others back : List (CallerState C)) (k : HeldState C) → xs ≡ first ∷ others → length xs < threads_of m.first.history → TookKernel first k
-      → Belongs first m → Takes m.first first.account k.caller.account → Gives k.caller.machine.first k.caller.account k.kernel (informed k.kernel.history k.caller.account)
+      → Belongs first m → Takes m.first first.account k.caller.account → Gives k.caller.machine.first k.caller.account k.kernel (up_to_date k.kernel.history k.caller.account)
       → back ≡ returned k.kernel.history k.caller ∷ others → KeepsOpen m xs Invalid back
   stays_open m xs first others back k are few took of takes gives now = subst (λ (ys : List (CallerState C)). KeepsOpen m ys Invalid back) (sym are) (inr (
     refl,
@@ -154,8 +154,8 @@ module _ {C : Type 0} where
       gives = (
         k.kernel,
         refl,
-        subst (λ (x : KernelView C). Gives x (saw k.kernel.history k.kernel.room first.account) k.kernel (informed k.kernel.history (saw k.kernel.history k.kernel.room first.account))) (ap (λ (x : MachineState C). x.first) of)
-            (subst (λ (s : CallerState C). Gives s.machine.first s.account k.kernel (informed k.kernel.history s.account)) took.caller gives),
+        subst (λ (x : KernelView C). Gives x (saw k.kernel.history k.kernel.room first.account) k.kernel (up_to_date k.kernel.history (saw k.kernel.history k.kernel.room first.account))) (ap (λ (x : MachineState C). x.first) of)
+            (subst (λ (s : CallerState C). Gives s.machine.first s.account k.kernel (up_to_date k.kernel.history s.account)) took.caller gives),
       );
     },
   ))

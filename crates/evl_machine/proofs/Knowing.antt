@@ -10,14 +10,14 @@ use Rattle.evl_kernel.specs.States.{Handler}
 use Rattle.evl_kernel.specs.Histories.{History}
 use Rattle.evl_kernel.specs.KernelViews.{KernelView}
 use Rattle.evl_mutex.specs.Mutexes.{is_open_to}
-use Rattle.evl_kernel.specs.Callbacks.{AnswersAsTold}
+use Rattle.evl_kernel.specs.Callbacks.{AnswersByPlan}
 use Rattle.evl_words.specs.Hands.{place}
 use Rattle.evl_words.specs.MutexWorld.{MutexView, owns}
 use Rattle.evl_words.specs.declared.mutex.place.MutexPlace.{MutexPlace}
 use Rattle.evl_machine.specs.declared.views.Account.{Account}
 use Rattle.evl_machine.specs.declared.views.CorePart.{CorePart}
 use Rattle.evl_machine.specs.declared.views.ThreadView.{ThreadView}
-use Rattle.evl_machine.specs.Accounts.{Fits, MadeBy, informed, lost_one}
+use Rattle.evl_machine.specs.Accounts.{Fits, MadeBy, up_to_date, lost_one}
 use Rattle.evl_machine.specs.CoreRule.{MayGive, account_at, after_loss, core_part}
 use Rattle.evl_machine.specs.MutexTokens.{AreItsPlaces, KeepsPlaces, note_in, part_of}
 use Rattle.evl_machine.specs.Noted.{HasTaken, IsSettled, number_of}
@@ -25,7 +25,7 @@ use Rattle.evl_machine.specs.ThreadRule.{mutex_of, put_core}
 use Rattle.evl_machine.specs.CoreWorld.{CoreKind, takes, gives}
 use Rattle.evl_machine.specs.Events.{FailsToTake, Gives, KernelEvent, Takes, at_rest, in_hand}
 use Rattle.evl_machine.specs.Seats.{CoreMe, AccountsFit, view}
-use Rattle.evl_machine.specs.Handles.{MachineState, Continues, account_of, seated}
+use Rattle.evl_machine.specs.Handles.{MachineState, Continues, account_of, resting}
 use Rattle.evl_machine.specs.Known.{ComesFrom, CoreHand, KernelMe, accounts_in, taken_in, first_of, past_of, room_of, seen, ceilings_of, mutex_count, KeptKnown, took_known, gave_known}
 use Rattle.evl_machine.proofs.Taking.{Took, loaded}
 use Rattle.evl_machine.proofs.TableTies.{takes_tied, gives_tied}
@@ -73,7 +73,7 @@ module _ {C : Type 0} where
   abbrev seen_hand : Slots C → CoreHand C → CoreMe (KernelView C)
   seen_hand cs hand = (view (taken_in hand) (accounts_in hand), cs)
 
-  pub takes_known : (first : KernelView C) (slots id : ℕ) (me : KernelMe C) (a : Account) → seen me ≡ seated a → (st : Step (Option (KernelView C))) → Allows (KeptKnown first) slots id me 0 (λ n. either (eqb n 0) 1 n) (took_known st me)
+  pub takes_known : (first : KernelView C) (slots id : ℕ) (me : KernelMe C) (a : Account) → seen me ≡ resting a → (st : Step (Option (KernelView C))) → Allows (KeptKnown first) slots id me 0 (λ n. either (eqb n 0) 1 n) (took_known st me)
   takes_known first slots id me a rests st =
       let o = is_one me.0 me.1 None a [] rests in
       takes_tied past_of room_of ComesFrom first ceilings_of mutex_count slots id o.number o.thread me o.me_is st
@@ -86,8 +86,8 @@ module _ {C : Type 0} where
   event_as k k' c c' kind found found' d d' e f g h event = subst (λ (z : (ℕ × CorePart (KernelView C)) × (ℕ × CorePart (KernelView C))). KernelEvent z.0.0 z.0.1 kind z.1.0 z.1.1) (λ i. ((e i, f i), (g i, h i))) event
 
   -- what a take tells
-  pub took_seen : (st : Step (Option (KernelView C))) (found : ℕ) (me me' : KernelMe C) (a : Account) → seen me ≡ seated a → took_known st me found me'
-      → (found ≡ 0 → Took past_of room_of (ComesFrom (first_of me.0)) (seen me) (seen me')) × (found ≢ 0 → seen me' ≡ seated (lost_one a)) × (first_of me'.0 ≡ first_of me.0)
+  pub took_seen : (st : Step (Option (KernelView C))) (found : ℕ) (me me' : KernelMe C) (a : Account) → seen me ≡ resting a → took_known st me found me'
+      → (found ≡ 0 → Took past_of room_of (ComesFrom (first_of me.0)) (seen me) (seen me')) × (found ≢ 0 → seen me' ≡ resting (lost_one a)) × (first_of me'.0 ≡ first_of me.0)
       × (found ≡ 0 → Takes (first_of me.0) a (account_of (seen me'))) × (found ≢ 0 → FailsToTake (first_of me.0) a (account_of (seen me')))
   took_seen st found me me' a rests told =
       let o = is_one me.0 me.1 None a [] rests in
@@ -105,7 +105,7 @@ module _ {C : Type 0} where
       let number : k ≡ a.thread = ap (λ (x : Account). x.thread) o.account_is in
       let from : v.core ≡ at_rest (first_of me.0) a v.core.note = part_is k v.core None a (first_of me.0) o.taken_is o.account_is (sym before) in
       let account : account_at k t.0.core ≡ account_of (seen me') = sym (ap account_of now) in
-      let lost : found ≢ 0 → seen me' ≡ seated (lost_one a) = λ ne. now ∙ (ap (seen_at k) (t.2.0.0.1 ne) ∙ lost_seen o) in (
+      let lost : found ≢ 0 → seen me' ≡ resting (lost_one a) = λ ne. now ∙ (ap (seen_at k) (t.2.0.0.1 ne) ∙ lost_seen o) in (
         (λ e.
             let q = t.2.0.0.0 e in (
               q.0,
@@ -141,7 +141,7 @@ module _ {C : Type 0} where
       taken_at y m = (Rattle.evl_machine.specs.Seats.after_take (past_of y) (room_of y) m.0, (0, Some y) ∷ [])
 
       -- a thread that was at rest has lost one take more, and knows nothing else
-      lost_seen : (o : IsOne me None a []) → seen_at o.number (after_loss o.thread.core, me.1) ≡ seated (lost_one a)
+      lost_seen : (o : IsOne me None a []) → seen_at o.number (after_loss o.thread.core, me.1) ≡ resting (lost_one a)
       lost_seen o = λ i. (view (o.taken_is i) (lost_one (o.account_is i) ∷ []), (o.me_is i).1)
 
   pub gives_known : (first : KernelView C) (slots id : ℕ) (me : KernelMe C) (a : Account) (k : KernelView C) → seen me ≡ loaded past_of room_of a k → ComesFrom (first_of me.0) k → Continues a k.history → IsSettled me.0 k.history.state → (st : Step (Option (KernelView C)))
@@ -160,7 +160,7 @@ module _ {C : Type 0} where
 
   -- what a give tells
   pub gave_seen : (st : Step (Option (KernelView C))) (found : ℕ) (me me' : KernelMe C) (a : Account) (k : KernelView C) → seen me ≡ loaded past_of room_of a k → gave_known st me found me'
-      → (seen me' ≡ seated (informed k.history a)) × (first_of me'.0 ≡ first_of me.0) × Gives (first_of me.0) a k (account_of (seen me'))
+      → (seen me' ≡ resting (up_to_date k.history a)) × (first_of me'.0 ≡ first_of me.0) × Gives (first_of me.0) a k (account_of (seen me'))
   gave_seen st found me me' a k is told =
       let o = is_one me.0 me.1 (Some a.seen) a ((0, Some k) ∷ []) is in
       let hand = ap (λ (z : KernelMe C). z.0) o.me_is in
@@ -169,7 +169,7 @@ module _ {C : Type 0} where
       let now : seen me' ≡ seen_at o.number (t.0.core, me'.1) = ap (seen_hand me'.1) t.1 in
       let before : first_of me.0 ≡ o.thread.core.first = ap first_of hand in
       let stays : t.0.core.first ≡ first_of me.0 = ap (λ (x : CorePart (KernelView C) × Slots C). x.0.first) gave.0 ∙ sym before in (
-        now ∙ (ap (seen_at o.number) gave.0 ∙ ap (λ (x : Account). seated (informed k.history x)) o.account_is),
+        now ∙ (ap (seen_at o.number) gave.0 ∙ ap (λ (x : Account). resting (up_to_date k.history x)) o.account_is),
         ap first_of t.1 ∙ stays,
         (
           gave.1,
@@ -204,7 +204,7 @@ module _ {C : Type 0} where
             owners = λ i p there. ap (λ (x : MutexView). owns x.held.role) (sym (ap (λ (h : CoreHand C). part_of h i) one') ∙ parts i ∙ ap (λ (h : CoreHand C). part_of h i) old.one) ∙ old.owners i p there;
           }
 
-  pub took_places : (st : Step (Option (KernelView C))) (found : ℕ) (me me' : KernelMe C) (a : Account) → seen me ≡ seated a → took_known st me found me' → KeepsPlaces me.0 me'.0
+  pub took_places : (st : Step (Option (KernelView C))) (found : ℕ) (me me' : KernelMe C) (a : Account) → seen me ≡ resting a → took_known st me found me' → KeepsPlaces me.0 me'.0
   took_places st found me me' a rests told =
       let o = is_one me.0 me.1 None a [] rests in
       let hand = ap (λ (z : KernelMe C). z.0) o.me_is in
@@ -212,7 +212,7 @@ module _ {C : Type 0} where
       keeps_places o.number o.thread t.0 me.0 me'.0 hand t.1 t.2.0.1
 
   -- a take that found a kernel has it in the slot, and has made no step on a word yet
-  pub took_holds : (st : Step (Option (KernelView C))) (found : ℕ) (me me' : KernelMe C) (a : Account) → seen me ≡ seated a → took_known st me found me' → found ≡ 0 → (y : KernelView C) × (me'.1 ≡ (0, Some y) ∷ []) × HasTaken a.thread y.history me'.0
+  pub took_holds : (st : Step (Option (KernelView C))) (found : ℕ) (me me' : KernelMe C) (a : Account) → seen me ≡ resting a → took_known st me found me' → found ≡ 0 → (y : KernelView C) × (me'.1 ≡ (0, Some y) ∷ []) × HasTaken a.thread y.history me'.0
   took_holds st found me me' a rests told free =
       let o = is_one me.0 me.1 None a [] rests in
       let t = told o.number o.thread (ap (λ (z : KernelMe C). z.0) o.me_is) in
@@ -249,14 +249,14 @@ module _ {C : Type 0} where
     board = g.board ∙ f.board;
     bank = g.bank ∙ f.bank;
     brings = λ number callback stands. f.brings number callback (g.brings number callback stands);
-    told_is = g.told_is ∙ f.told_is;
+    handlers_are = g.handlers_are ∙ f.handlers_are;
     limit = g.limit ∙ f.limit;
   }
 
   -- the callbacks of a kernel answer as is told, since those of the kernel as it was made do
-  pub answers_still : (declared : C → ℕ) (plan : C → Plan) (first k : KernelView C) → ComesFrom first k → AnswersAsTold declared plan first.callbacks → AnswersAsTold declared plan k.callbacks
+  pub answers_still : (declared : C → ℕ) (plan : C → Plan) (first k : KernelView C) → ComesFrom first k → AnswersByPlan declared plan first.callbacks → AnswersByPlan declared plan k.callbacks
   answers_still declared plan first k from answers number callback stands =
-      ap (λ (hs : List Handler). slice_get hs number) from.told_is ∙ answers number callback (from.brings number callback stands)
+      ap (λ (hs : List Handler). slice_get hs number) from.handlers_are ∙ answers number callback (from.brings number callback stands)
 
-  pub answers_there : (declared : C → ℕ) (plan : C → Plan) (m m' : MachineState C) → m' ≡ m → AnswersAsTold declared plan m.first.callbacks → AnswersAsTold declared plan m'.first.callbacks
-  answers_there declared plan m m' same answers = subst (λ (x : MachineState C). AnswersAsTold declared plan x.first.callbacks) (sym same) answers
+  pub answers_there : (declared : C → ℕ) (plan : C → Plan) (m m' : MachineState C) → m' ≡ m → AnswersByPlan declared plan m.first.callbacks → AnswersByPlan declared plan m'.first.callbacks
+  answers_there declared plan m m' same answers = subst (λ (x : MachineState C). AnswersByPlan declared plan x.first.callbacks) (sym same) answers

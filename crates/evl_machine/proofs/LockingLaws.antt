@@ -8,7 +8,7 @@ use Rattle.evl_base.specs.declared.refusal.Refusal.{Refusal}
 use Rattle.evl_base.specs.declared.refusal.Refusal.TheVariants.{NoMemory, HistoryFull, CoreBusy, Unknown, Invalid, Again, Busy, NotOwner, Deadlock, Limit, Range, TooBig, WrongStage, HoldsStax, Raced}
 use Rattle.evl_base.specs.declared.reply.Reply.{Reply}
 use Rattle.evl_pipeline.specs.declared.plan.Plan.{Plan}
-use Rattle.evl_kernel.specs.Callbacks.{AnswersAsTold, Stands, Whereabouts, told}
+use Rattle.evl_kernel.specs.Callbacks.{AnswersByPlan, Stands, Whereabouts, handlers_in}
 use Rattle.evl_kernel.specs.Histories.{History, IsLegal}
 use Rattle.evl_kernel.specs.KernelViews.{AddsEntry, KernelView, makes_entry}
 use Rattle.evl_words.specs.declared.mutex.MutexPass.{MutexPass}
@@ -42,12 +42,12 @@ module _ {C : Type 0} where
     board = ap (λ (h : History). h.board) same.history;
     bank = ap (λ (h : History). h.bank) same.history;
     brings = λ number callback stands. subst (λ (w : Whereabouts C). Stands w number callback) same.callbacks stands;
-    told_is = ap (λ (w : Whereabouts C). told w.bank) same.callbacks;
+    handlers_are = ap (λ (w : Whereabouts C). handlers_in w.bank) same.callbacks;
     limit = same.limit;
   }
 
-  pub answers_roomier : (declared : C → ℕ) (plan : C → Plan) (k k' : KernelView C) → IsRoomier k k' → AnswersAsTold declared plan k.callbacks → AnswersAsTold declared plan k'.callbacks
-  answers_roomier declared plan k k' same answers = subst (λ (w : Whereabouts C). AnswersAsTold declared plan w) (sym same.callbacks) answers
+  pub answers_roomier : (declared : C → ℕ) (plan : C → Plan) (k k' : KernelView C) → IsRoomier k k' → AnswersByPlan declared plan k.callbacks → AnswersByPlan declared plan k'.callbacks
+  answers_roomier declared plan k k' same answers = subst (λ (w : Whereabouts C). AnswersByPlan declared plan w) (sym same.callbacks) answers
 
   -- what the kernel's contract says of a reservation
   pub reserves : (k : KernelView C) (r : Result (Unit {0}) Refusal) (k' : KernelView C)

@@ -19,7 +19,7 @@ use Rattle.evl_machine.specs.ThreadRule.{newcomer_view}
 use Rattle.evl_machine.specs.Seats.{CoreMe}
 use Rattle.evl_machine.specs.Known.{ComesFrom, CoreHand, KernelMe, KeptKnown, first_known, first_of, past_of, room_of, seen, ceilings_of, mutex_count}
 use Rattle.evl_machine.specs.Ties.{mutex_tie}
-use Rattle.evl_machine.specs.Handles.{seated}
+use Rattle.evl_machine.specs.Handles.{resting}
 use Rattle.evl_machine.specs.Calls.{IsCaller}
 use Rattle.evl_machine.proofs.ThreadSteps.{opens_thread, splits_thread}
 use Rattle.evl_machine.proofs.TieOpens.{opens_ties}
@@ -31,7 +31,7 @@ module _ {C : Type 0} where
   opened_legal declared plan board bank limit k o = (subst (λ (es : List Entry). Run (opened k.history) es k.history.plays k.history.state) (sym o.entries) (o.plays, o.state), o.entries)
 
   pub comes_itself : (k : KernelView C) → ComesFrom k k
-  comes_itself k = record { board = refl; bank = refl; brings = λ number callback stands. stands; told_is = refl; limit = refl }
+  comes_itself k = record { board = refl; bank = refl; brings = λ number callback stands. stands; handlers_are = refl; limit = refl }
 
   pub opens_known : (k : KernelView C) (words : List ℕ) → words ≡ replicate (1 + mutex_count k) 0 → board_fits k.history.board ≡ true → IsLegal k.history → k.history.entries ≡ [] → KeptKnown k (opening words (Some k ∷ []) (first_known k))
   opens_known k words are fits legal none_yet = opens_thread past_of room_of ComesFrom (mutex_tie past_of (ceilings_of k)) k (mutex_count k) k (threads_of k.history) refl (λ i lt. threads_few k.history.board fits) legal none_yet (comes_itself k)
@@ -58,7 +58,7 @@ module _ {C : Type 0} where
   pub rest_goes : (k : KernelView C) (i n : ℕ) (me me' : KernelMe C) → i < n → me ≡ left_from k i n → me' ≡ (rest_of me.0, []) → me' ≡ left_from k (i + 1) n
   rest_goes k i n me me' less was now = now ∙ ap (λ (m : KernelMe C). hand_me (rest_of m.0)) was ∙ ap (λ h. hand_me (rest_of h)) (hand_step i n (new_view k n) less)
 
-  pub seat_comes : (k : KernelView C) (i n : ℕ) (me me' : KernelMe C) → i < n → threads_of k.history ≡ n → me ≡ left_from k i n → me' ≡ (first_place me.0, me.1) → (seen me' ≡ seated (newcomer k.history i)) × (first_of me'.0 ≡ k) × (me'.0 ≡ place i (new_view k (threads_of k.history)) ∷ [])
+  pub seat_comes : (k : KernelView C) (i n : ℕ) (me me' : KernelMe C) → i < n → threads_of k.history ≡ n → me ≡ left_from k i n → me' ≡ (first_place me.0, me.1) → (seen me' ≡ resting (newcomer k.history i)) × (first_of me'.0 ≡ k) × (me'.0 ≡ place i (new_view k (threads_of k.history)) ∷ [])
   seat_comes k i n me me' less same was now =
       let is : me' ≡ hand_me (place i (new_view k n) ∷ []) = now ∙ ap (λ (m : KernelMe C). first_me m) was ∙ ap (λ h. hand_me (first_place h)) (hand_step i n (new_view k n) less) in
       (ap seen is, ap (λ (m : KernelMe C). first_of m.0) is, ap (λ (m : KernelMe C). m.0) is ∙ ap (λ j. place i (new_view k j) ∷ []) (sym same))
@@ -66,6 +66,6 @@ module _ {C : Type 0} where
       first_me : KernelMe C → KernelMe C
       first_me m = (first_place m.0, m.1)
 
-  pub new_caller : (h : History) (t : ThreadId) (me : CoreMe (KernelView C)) → t.0 < threads_of h → IsLegal h → h.entries ≡ [] → me ≡ seated (newcomer h t.0) → IsCaller me t
+  pub new_caller : (h : History) (t : ThreadId) (me : CoreMe (KernelView C)) → t.0 < threads_of h → IsLegal h → h.entries ≡ [] → me ≡ resting (newcomer h t.0) → IsCaller me t
   new_caller h t me member legal none_yet e =
       is_caller (newcomer h t.0) me t e refl (record { legal = legal; member = member; mine = ap (calls_by t.0) none_yet; strangers = λ u far. ap (calls_by u) none_yet })

@@ -10,18 +10,18 @@ use Rattle.evl_base.specs.declared.numbers.ThreadId.{ThreadId}
 use Rattle.evl_base.specs.declared.refusal.Refusal.{Refusal}
 use Rattle.evl_base.specs.declared.reply.Reply.{Reply}
 use Rattle.evl_pipeline.specs.declared.plan.Plan.{Plan}
-use Rattle.evl_kernel.specs.Callbacks.{AnswersAsTold}
+use Rattle.evl_kernel.specs.Callbacks.{AnswersByPlan}
 use Rattle.evl_kernel.specs.Histories.{History, IsLegal}
 use Rattle.evl_kernel.specs.KernelViews.{KernelView}
 use Rattle.evl_words.specs.MutexCalls.{MutexSeatState}
 use Rattle.evl_words.specs.declared.mutex.place.MutexPlace.{MutexPlace}
 use Rattle.evl_machine.specs.declared.views.Account.{Account}
-use Rattle.evl_machine.specs.Accounts.{Fits, IsAccount, MadeBy, calls_by, informed, lost_one, saw}
+use Rattle.evl_machine.specs.Accounts.{Fits, IsAccount, MadeBy, calls_by, up_to_date, lost_one, saw}
 use Rattle.evl_machine.specs.Actors.{ActorState, AreHeldAt, AwaitsOneOf, IsActor, IsSameActor, SeatedActor, Suits, acting, call_refusal, stage_in}
 use Rattle.evl_machine.specs.Callers.{HasInHand, IsResting, caller_by, machine_by}
 use Rattle.evl_machine.specs.Calls.{ActsOnCore, Answered, Applied, AreOwnedAsRecorded, IsCaller, IsHeld, TookKernel}
 use Rattle.evl_machine.specs.Events.{FailsToTake, Gives, Takes}
-use Rattle.evl_machine.specs.Handles.{CallerState, Continues, HeldState, MachineState, account_of, caller_of, machine_of, returned, seated, shown, turned_away}
+use Rattle.evl_machine.specs.Handles.{CallerState, Continues, HeldState, MachineState, account_of, caller_of, machine_of, returned, resting, shown, turned_away}
 use Rattle.evl_machine.specs.Homes.{Home, mutex_home, stax_home, word_home, word_homes}
 use Rattle.evl_machine.specs.Known.{ComesFrom, KernelMe, first_of, mutex_count, seen}
 use Rattle.evl_machine.specs.Locking.{GoesAlong, HaveSeats}
@@ -57,15 +57,15 @@ module _ {C : Type 0} where
   }
 
   -- what came of a take of an actor at rest
-  pub opens_or_not : (x a : SeatedActor C) (me : KernelMe C) (out : Option (KernelView C)) → x ≡ a → IsCaller (seen a.me) a.thread → MatchOption out (seen me ≡ seated (lost_one (account_of (seen x.me)))) (λ k. TakenOut (seen x.me) k (seen me) × ComesFrom (first_of x.me.0) k) → first_of me.0 ≡ first_of x.me.0
-      → MatchOption out (seen me ≡ seated (lost_one (account_of (seen a.me)))) (λ k. Opens (first_of a.me.0) (account_of (seen a.me)) a.thread me k)
-  opens_or_not x a me out is rests took from = subst (λ (z : SeatedActor C). IsCaller (seen z.me) z.thread → MatchOption out (seen me ≡ seated (lost_one (account_of (seen z.me)))) (λ k. Opens (first_of z.me.0) (account_of (seen z.me)) z.thread me k)) is (by out took) rests
+  pub opens_or_not : (x a : SeatedActor C) (me : KernelMe C) (out : Option (KernelView C)) → x ≡ a → IsCaller (seen a.me) a.thread → MatchOption out (seen me ≡ resting (lost_one (account_of (seen x.me)))) (λ k. TakenOut (seen x.me) k (seen me) × ComesFrom (first_of x.me.0) k) → first_of me.0 ≡ first_of x.me.0
+      → MatchOption out (seen me ≡ resting (lost_one (account_of (seen a.me)))) (λ k. Opens (first_of a.me.0) (account_of (seen a.me)) a.thread me k)
+  opens_or_not x a me out is rests took from = subst (λ (z : SeatedActor C). IsCaller (seen z.me) z.thread → MatchOption out (seen me ≡ resting (lost_one (account_of (seen z.me)))) (λ k. Opens (first_of z.me.0) (account_of (seen z.me)) z.thread me k)) is (by out took) rests
     where
-      by : (o : Option (KernelView C)) → MatchOption o (seen me ≡ seated (lost_one (account_of (seen x.me)))) (λ k. TakenOut (seen x.me) k (seen me) × ComesFrom (first_of x.me.0) k) → IsCaller (seen x.me) x.thread → MatchOption o (seen me ≡ seated (lost_one (account_of (seen x.me)))) (λ k. Opens (first_of x.me.0) (account_of (seen x.me)) x.thread me k)
+      by : (o : Option (KernelView C)) → MatchOption o (seen me ≡ resting (lost_one (account_of (seen x.me)))) (λ k. TakenOut (seen x.me) k (seen me) × ComesFrom (first_of x.me.0) k) → IsCaller (seen x.me) x.thread → MatchOption o (seen me ≡ resting (lost_one (account_of (seen x.me)))) (λ k. Opens (first_of x.me.0) (account_of (seen x.me)) x.thread me k)
       by None same rests = same
       by (Some k) took rests = opens_by (first_of x.me.0) (account_of (seen x.me)) x.thread x.me me k rests refl refl took.0 took.1 from
 
-  pub opened_answers : {declared : C → ℕ} {plan : C → Plan} (first : KernelView C) (a : Account) (thread : ThreadId) (me : KernelMe C) (k : KernelView C) → Opens first a thread me k → AnswersAsTold declared plan first.callbacks → AnswersAsTold declared plan k.callbacks
+  pub opened_answers : {declared : C → ℕ} {plan : C → Plan} (first : KernelView C) (a : Account) (thread : ThreadId) (me : KernelMe C) (k : KernelView C) → Opens first a thread me k → AnswersByPlan declared plan first.callbacks → AnswersByPlan declared plan k.callbacks
   opened_answers {declared} {plan} first a thread me k opens answers = answers_still declared plan first k opens.comes answers
 
   -- what a caller has beside its seat at the core is told by what it knows
@@ -115,7 +115,7 @@ module _ {C : Type 0} where
       continues = record { added = went.added; longer = went.longer; own = added_own; legal = went.legal; before = saw_it }
 
       abbrev after : Account
-      after = informed k'.history (saw k.history k.room a)
+      after = up_to_date k'.history (saw k.history k.room a)
 
       told_after : IsAccount after
       told_after = given_account (saw k.history k.room a) k'.history continues
@@ -161,15 +161,15 @@ module _ {C : Type 0} where
 
       -- the same of a caller whose machine is told by where its seats belong
       pub visited_at : (id id' : TableId) (first' : KernelView C) (does : ActorState → KernelView C → ActorState → KernelView C → Type 0) (a' : Account) (old : CallerState C) → caller_of (machine_of id first x.staxes x.mutexes) a x.staxes x.mutexes ≡ old → id' ≡ id → first' ≡ first_of me.0 → Suits x a.seen → AreOwnedAsRecorded x.thread.0 x.mutexes k.history
-          → a' ≡ informed k'.history (account_of (seen me)) → does x k x' k' → Takes first a (account_of (seen me)) → Gives (first_of me.0) (account_of (seen me)) k' a'
+          → a' ≡ up_to_date k'.history (account_of (seen me)) → does x k x' k' → Takes first a (account_of (seen me)) → Gives (first_of me.0) (account_of (seen me)) k' a'
           → Visited old does (caller_of (machine_of id' first' x'.staxes x'.mutexes) a' x'.staxes x'.mutexes)
       visited_at id id' first' does a' old was same from suits owned is did took gave =
           let machine : machine_of id' first' x'.staxes x'.mutexes ≡ machine_of id first x.staxes x.mutexes = λ i. record { id = same i; first = (from ∙ opens.first_is) i; staxes = map stax_home (went.staxes i); mutexes = went.homes i } in
           subst (λ (z : CallerState C × MachineState C). Visited z.0 does (caller_of z.1 a' x'.staxes x'.mutexes)) (λ i. (was i, sym machine i))
-          (visited (machine_of id first x.staxes x.mutexes) does a' refl suits owned (is ∙ ap (informed k'.history) opens.account) did took (subst (λ (f : KernelView C). Gives f (account_of (seen me)) k' a') opens.first_is gave))
+          (visited (machine_of id first x.staxes x.mutexes) does a' refl suits owned (is ∙ ap (up_to_date k'.history) opens.account) did took (subst (λ (f : KernelView C). Gives f (account_of (seen me)) k' a') opens.first_is gave))
 
-      pub stage_at : (a' : Account) → a' ≡ informed k'.history (account_of (seen me)) → AreHeldAt (stage_in a'.seen a'.thread) x'.staxes
-      stage_at a' is = stage_after a' (is ∙ ap (informed k'.history) opens.account)
+      pub stage_at : (a' : Account) → a' ≡ up_to_date k'.history (account_of (seen me)) → AreHeldAt (stage_in a'.seen a'.thread) x'.staxes
+      stage_at a' is = stage_after a' (is ∙ ap (up_to_date k'.history) opens.account)
 
 -- each seat at home at words for so many threads is one of so many
 pub have_seats : (table : TableId) (threads count : ℕ) (seats : List MutexSeatState) → map mutex_home seats ≡ word_homes table threads count → HaveSeats threads seats
@@ -195,9 +195,9 @@ module _ {C : Type 0} (x o : SeatedActor C) (k : KernelView C) (opens : Opens (f
     pub comes_still : ComesFrom (first_of x'.me.0) k'
     comes_still = subst (λ (f : KernelView C). ComesFrom f k') (sym (core.first ∙ opens.first_is)) (still_comes (first_of x.me.0) (account_of (seen x.me)) (acting x) o.me k opens (acting x') k' along)
 
-    module _ (n : SeatedActor C) (given : (n.table ≡ x'.table) × (acting n ≡ acting x') × (first_of n.me.0 ≡ first_of x'.me.0)) (now : account_of (seen n.me) ≡ informed k'.history (account_of (seen x'.me))) where
-      account : account_of (seen n.me) ≡ informed k'.history (account_of (seen o.me))
-      account = now ∙ ap (λ (m : CoreMe (KernelView C)). informed k'.history (account_of m)) core.core
+    module _ (n : SeatedActor C) (given : (n.table ≡ x'.table) × (acting n ≡ acting x') × (first_of n.me.0 ≡ first_of x'.me.0)) (now : account_of (seen n.me) ≡ up_to_date k'.history (account_of (seen x'.me))) where
+      account : account_of (seen n.me) ≡ up_to_date k'.history (account_of (seen o.me))
+      account = now ∙ ap (λ (m : CoreMe (KernelView C)). up_to_date k'.history (account_of m)) core.core
 
       pub stage_back : AreHeldAt (stage_in (account_of (seen n.me)).seen (account_of (seen n.me)).thread) n.staxes
       stage_back = subst (λ (z : ActorState). AreHeldAt (stage_in (account_of (seen n.me)).seen (account_of (seen n.me)).thread) z.staxes) (sym given.1)
@@ -205,7 +205,7 @@ module _ {C : Type 0} (x o : SeatedActor C) (k : KernelView C) (opens : Opens (f
 
       pub suits_back : Suits (acting n) (account_of (seen n.me)).seen
       suits_back = subst (λ (z : ActorState). Suits z (account_of (seen n.me)).seen) (sym given.1)
-          (suits_after (first_of x.me.0) (account_of (seen x.me)) (acting x) o.me k opens (acting x') k' along (account_of (seen n.me)) (account ∙ ap (informed k'.history) opens.account))
+          (suits_after (first_of x.me.0) (account_of (seen x.me)) (acting x) o.me k opens (acting x') k' along (account_of (seen n.me)) (account ∙ ap (up_to_date k'.history) opens.account))
 
       pub visited_by : (does : ActorState → KernelView C → ActorState → KernelView C → Type 0) (old : CallerState C) → caller_by x ≡ old → o.table ≡ x.table → x'.table ≡ o.table → AreOwnedAsRecorded (acting o).thread.0 (acting o).mutexes k.history → does (acting o) k (acting x') k'
           → Takes (first_of x.me.0) (account_of (seen x.me)) (account_of (seen o.me)) → Gives (first_of x'.me.0) (account_of (seen x'.me)) k' (account_of (seen n.me)) → Visited old does (caller_by n)
@@ -218,7 +218,7 @@ module _ {C : Type 0} (x o : SeatedActor C) (k : KernelView C) (opens : Opens (f
           (subst (λ (z : ActorState). does z k (acting x') k') same did) took gives)
 
 -- a caller that didn't find the kernel has lost one take more
-module _ {C : Type 0} (x n : SeatedActor C) (same : (n.table ≡ x.table) × (acting n ≡ acting x) × (first_of n.me.0 ≡ first_of x.me.0)) (kept : n.thread ≡ x.thread) (knows : seen n.me ≡ seated (lost_one (account_of (seen x.me)))) where
+module _ {C : Type 0} (x n : SeatedActor C) (same : (n.table ≡ x.table) × (acting n ≡ acting x) × (first_of n.me.0 ≡ first_of x.me.0)) (kept : n.thread ≡ x.thread) (knows : seen n.me ≡ resting (lost_one (account_of (seen x.me)))) where
   pub caller_lost : caller_by n ≡ turned_away (caller_by x)
   caller_lost = λ i. caller_of (machine_of (same.0 i) (same.2 i) (same.1 i).staxes (same.1 i).mutexes) (account_of (knows i)) (same.1 i).staxes (same.1 i).mutexes
 
@@ -254,8 +254,8 @@ module _ {C : Type 0} where
     own_call = subst (λ (t : ℕ). Applied k t c r k') (sym opens.held.own ∙ ap (λ (y : Account). y.thread) opens.account) done
 
     -- what is told of the call
-    pub called_by : (a' : Account) → a' ≡ informed k'.history (account_of (seen me)) → Answered first.limit a c r a'
-    called_by a' now = subst (λ (y : Account). Answered first.limit a c r y) (sym (now ∙ ap (informed k'.history) opens.account))
+    pub called_by : (a' : Account) → a' ≡ up_to_date k'.history (account_of (seen me)) → Answered first.limit a c r a'
+    called_by a' now = subst (λ (y : Account). Answered first.limit a c r y) (sym (now ∙ ap (up_to_date k'.history) opens.account))
         (calls first.limit a c r k k' opens.comes.limit opens.was opens.fits (subst IsAccount opens.account opens.held.continues.before) own_call)
 
     pub acted_by : (me' : KernelMe C) (a' : Account) → me' ≡ me → Takes first a (account_of (seen me)) → Gives (first_of me'.0) (account_of (seen me')) k' a' → ActsOnCore first a r a'
@@ -320,7 +320,7 @@ took_it {C} m x o k old opens same was is owned =
     }
 
 -- an actor that has given the kernel back
-module _ {C : Type 0} (m : MachineState C) (a n : SeatedActor C) (k : KernelView C) (has : HasInHand m a k) (given : (n.table ≡ a.table) × (acting n ≡ acting a) × (first_of n.me.0 ≡ first_of a.me.0)) (now : account_of (seen n.me) ≡ informed k.history (account_of (seen a.me))) where
+module _ {C : Type 0} (m : MachineState C) (a n : SeatedActor C) (k : KernelView C) (has : HasInHand m a k) (given : (n.table ≡ a.table) × (acting n ≡ acting a) × (first_of n.me.0 ≡ first_of a.me.0)) (now : account_of (seen n.me) ≡ up_to_date k.history (account_of (seen a.me))) where
   pub given_suits : Suits (acting n) (account_of (seen n.me)).seen
   given_suits = subst (λ (z : ActorState × Account). Suits z.0 z.1.seen) (λ i. (sym given.1 i, sym now i)) has.3
 

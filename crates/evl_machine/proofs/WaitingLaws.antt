@@ -14,7 +14,7 @@ use Rattle.evl_machine.specs.declared.unfinished.Unfinished.TheVariants.{Element
 use Rattle.evl_machine.specs.declared.unfinished.WaitStep.{WaitStep}
 use Rattle.evl_machine.specs.declared.unfinished.WaitStep.TheVariants.{Begins}
 use Rattle.evl_machine.specs.declared.views.Account.{Account}
-use Rattle.evl_machine.specs.Accounts.{IsAccount, informed}
+use Rattle.evl_machine.specs.Accounts.{IsAccount, up_to_date}
 use Rattle.evl_machine.specs.Actors.{SeatedActor, call_refusal, keeps_stage, same_truth}
 use Rattle.evl_machine.specs.Calls.{Called, CalledAtLast, Enters, IsTurnedAway, KernelCall, own_refusal, wait_of_caller}
 use Rattle.evl_machine.specs.Handles.{CallerState, account_of}
@@ -53,12 +53,12 @@ module _ {C : Type 0} (first : KernelView C) where
 
 module _ {C : Type 0} where
   -- what a caller knows that took the kernel and gave it back, between which no call was made
-  pub look_opened : (first : KernelView C) (a : Account) (thread : ThreadId) (me : KernelMe C) (k : KernelView C) → Opens first a thread me k → has_ended k.history.state thread.0 ≡ false → (a' : Account) → a' ≡ informed k.history (account_of (seen me))
+  pub look_opened : (first : KernelView C) (a : Account) (thread : ThreadId) (me : KernelMe C) (k : KernelView C) → Opens first a thread me k → has_ended k.history.state thread.0 ≡ false → (a' : Account) → a' ≡ up_to_date k.history (account_of (seen me))
       → Takes first a (account_of (seen me)) → Gives (first_of me.0) (account_of (seen me)) k a' → Looks first a a'
   look_opened first a thread me k opens going a' now takes gives =
       let f = opens.fits in
       let own : a.thread ≡ thread.0 = sym (ap (λ (y : Account). y.thread) opens.account) ∙ opens.held.own in
-      let same : a' ≡ took k a = now ∙ (ap (informed k.history) opens.account ∙ (λ i. record (took k a) { mine = f.mine i })) in
+      let same : a' ≡ took k a = now ∙ (ap (up_to_date k.history) opens.account ∙ (λ i. record (took k a) { mine = f.mine i })) in
       let one : Look first a (took k a) = record {
         room = k.room;
         now = refl;

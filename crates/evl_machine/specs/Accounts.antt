@@ -55,8 +55,8 @@ pub record IsAccount (a : Account) : Type 0 where
 abbrev pub saw : History → ℕ → Account → Account
 saw h room a = record a { seen = h; found = a.found ++ room ∷ [] }
 
-abbrev pub informed : History → Account → Account
-informed h a = record a { seen = h; mine = calls_by a.thread h.entries }
+abbrev pub up_to_date : History → Account → Account
+up_to_date h a = record a { seen = h; mine = calls_by a.thread h.entries }
 
 -- the account once its caller found the core taken
 abbrev pub lost_one : Account → Account

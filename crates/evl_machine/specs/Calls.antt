@@ -23,7 +23,7 @@ use Rattle.evl_machine.specs.Unfinished.{unfinished}
 use Rattle.evl_machine.specs.Actors.{AreHeldAt, call_refusal, stage_in}
 use Rattle.evl_machine.specs.StaxSeats.{holds_stax}
 use Rattle.evl_machine.specs.MutexSeats.{holds_mutex, is_owner}
-use Rattle.evl_machine.specs.Handles.{CallerState, HeldState, Continues, account_of, returned, seated, holding, shown}
+use Rattle.evl_machine.specs.Handles.{CallerState, HeldState, Continues, account_of, returned, resting, holding, shown}
 
 -- a call of the kernel adds just its entry, or leaves the history: it is full, or no room was made for the call
 pub record Applied {C : Type 0} (old : KernelView C) (thread : ℕ) (c : Call) (r : Result Reply Refusal) (new : KernelView C) : Type 0 where
@@ -39,7 +39,7 @@ pub record Applied {C : Type 0} (old : KernelView C) (thread : ℕ) (c : Call) (
 
 -- a caller's seat is at rest, with the account of its own thread
 pub record IsCaller {S : Type 0} (me : CoreMe S) (thread : ThreadId) : Type 0 where
-  pub rests : me ≡ seated (account_of me)
+  pub rests : me ≡ resting (account_of me)
   pub own : (account_of me).thread ≡ thread.0
   pub account : IsAccount (account_of me)
 

@@ -4,7 +4,7 @@ use prog.Atomic.{either}
 use Rattle.atomic_table.specs.Table.{State, Me, Step}
 use Rattle.evl_kernel.specs.Histories.{History}
 use Rattle.evl_kernel.specs.KernelViews.{KernelView}
-use Rattle.evl_kernel.specs.Callbacks.{BringsNone, told}
+use Rattle.evl_kernel.specs.Callbacks.{BringsNone, handlers_in}
 use Rattle.evl_words.specs.Hands.{Hand, Told}
 use Rattle.evl_words.specs.MutexWorld.{MutexView, accepts, frees, offers, settles}
 use Rattle.evl_words.specs.MutexRule.{awaited, claimed, does, forgot, tried, unlocked}
@@ -25,7 +25,7 @@ pub record ComesFrom {C : Type 0} (first k : KernelView C) : Type 0 where
   pub board : k.history.board ≡ first.history.board
   pub bank : k.history.bank ≡ first.history.bank
   pub brings : BringsNone first.callbacks k.callbacks
-  pub told_is : told k.callbacks.bank ≡ told first.callbacks.bank
+  pub handlers_are : handlers_in k.callbacks.bank ≡ handlers_in first.callbacks.bank
   pub limit : k.limit ≡ first.limit
 
 abbrev pub CoreHand : Type 0 → Type 0

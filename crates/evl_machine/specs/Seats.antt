@@ -6,7 +6,7 @@ use Rattle.atomic_table.specs.Table.{Me}
 use Rattle.evl_kernel.specs.Histories.{History}
 use Rattle.evl_machine.specs.declared.views.Account.{Account}
 use Rattle.evl_machine.specs.declared.views.CoreView.{CoreView}
-use Rattle.evl_machine.specs.Accounts.{Fits, saw, informed}
+use Rattle.evl_machine.specs.Accounts.{Fits, saw, up_to_date}
 
 abbrev pub view : Option History → List Account → CoreView
 view taken accounts = record { taken = taken; accounts = accounts }
@@ -22,4 +22,4 @@ abbrev pub after_take : History → ℕ → CoreView → CoreView
 after_take h room v = view (Some h) (map (saw h room) v.accounts)
 
 abbrev pub after_give : History → CoreView → CoreView
-after_give h v = view None (map (informed h) v.accounts)
+after_give h v = view None (map (up_to_date h) v.accounts)

@@ -8,7 +8,7 @@ use Rattle.evl_kernel.specs.Histories.{History, IsLegal}
 use Rattle.evl_kernel.specs.KernelViews.{KernelView}
 use Rattle.evl_machine.specs.declared.views.Account.{Account}
 use Rattle.evl_machine.specs.Accounts.{Fits, HasNoStranger, IsAccount}
-use Rattle.evl_machine.specs.Handles.{CallerState, seated}
+use Rattle.evl_machine.specs.Handles.{CallerState, resting}
 use Rattle.evl_machine.specs.Known.{CoreHand, KernelMe, first_of, seen}
 use Rattle.evl_machine.specs.OneHistory.{OneHistory}
 
@@ -17,14 +17,14 @@ module _ {C : Type 0} where
   pub record IsTokenOf (id : TableId) (me : KernelMe C) (c : CallerState C) : Type 0 where
     pub table : id ≡ c.machine.id
     pub first : first_of me.0 ≡ c.machine.first
-    pub account : seen me ≡ seated c.account
+    pub account : seen me ≡ resting c.account
     pub sound : IsAccount c.account
 
   -- in this state of a table, the token of this number is one of which this account is read
   pub record IsKnownAt (s : State (Option (KernelView C)) (CoreHand C)) (id : ℕ) (a : Account) : Type 0 where
     pub me : KernelMe C
     pub at : get_elem? s.views id ≡ some me.0
-    pub account : seen me ≡ seated a
+    pub account : seen me ≡ resting a
     pub sound : IsAccount a
 
   -- there is one common history, which all accounts that are read of tokens fit; and of any two of them one is the beginning of the other

@@ -2,7 +2,7 @@
 ghost use Rattle.std.specs.Prelude.{◌≡◌, ◌==◌, ◌&&◌, nat_lt, true, false, Some, None, if◌then◌else◌, All, length, map};
 ghost use Rattle.evl_base.specs.declared.refusal.Refusal.TheVariants.{Busy, HoldsStax};
 ghost use Rattle.evl_base.specs.declared.stage.Stage.TheVariants.{Inband};
-ghost use Rattle.evl_kernel.specs.Callbacks.{AnswersAsTold};
+ghost use Rattle.evl_kernel.specs.Callbacks.{AnswersByPlan};
 ghost use Rattle.evl_kernel.specs.Families.{moves_caller, task_of};
 ghost use Rattle.evl_machine.specs.Actors.{AreHeldAt, ClaimsOneOf, IsSameActor, Suits, acting, call_refusal, keeps_stage};
 ghost use Rattle.evl_machine.specs.Calls.{Applied};
@@ -188,7 +188,7 @@ impl<C: Handler, A: Allocator> Actor<C, A> {
         kernel: &mut KernelBox<C, A>,
         call: Call,
     ) -> Result<Reply, Refusal>
-        requires answering { AnswersAsTold C.declared C.plan kernel.old.callbacks }
+        requires by_plan { AnswersByPlan C.declared C.plan kernel.old.callbacks }
         requires suits { Suits (acting self.old) kernel.old.history }
         requires stays { holds_stax self.old.staxes ≡ true → moves_caller (task_of call) ≡ false }
         requires there { ClaimsOneOf (length self.old.places) call }

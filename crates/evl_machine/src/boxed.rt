@@ -1,7 +1,7 @@
 //! The machine of stored callbacks. These types have no `Model`, since they name the callbacks' type; each keeps, as a
 //! fact, that the callbacks answer what is told of them.
 ghost use Rattle.std.specs.Prelude.{◌≡◌, ◌≢◌, ◌⊎◌, ◌↔◌, ⊤, false, is_some, length, map, nat_lt, All, IfOk, IfErr, MatchOption, MatchResult};
-ghost use Rattle.evl_kernel.specs.Callbacks.{AnswersAsTold};
+ghost use Rattle.evl_kernel.specs.Callbacks.{AnswersByPlan};
 ghost use Rattle.evl_kernel.specs.KernelViews.{IsOpened};
 ghost use Rattle.evl_kernel.specs.Openings.{can_open};
 ghost use Rattle.evl_machine.specs.Handles.{Belongs, newcomers_of, returned, turned_away};
@@ -34,20 +34,20 @@ type HeldCore<'a> = HeldOf<'a, Callback, Global>;
 #[derive(Drop)]
 pub struct Machine {
     pub of: MachineCore,
-    ghost answering: { AnswersAsTold (λ c. c.kinds.0) (λ c. c.plan.value) of.first.callbacks },
+    ghost by_plan: { AnswersByPlan (λ c. c.kinds.0) (λ c. c.plan.value) of.first.callbacks },
 }
 
 /// A caller that has the kernel. Where it is dropped without `give`, the core stays taken.
 #[derive(Drop)]
 pub struct Held<'a> {
     pub of: HeldCore<'a>,
-    ghost answering: { AnswersAsTold (λ c. c.kinds.0) (λ c. c.plan.value) of.caller.machine.first.callbacks },
+    ghost by_plan: { AnswersByPlan (λ c. c.kinds.0) (λ c. c.plan.value) of.caller.machine.first.callbacks },
 }
 
 impl Deref for Machine {
     type Target = MachineCore;
 
-    ghost deref_gives = { λ machine lent. (lent ≡ machine.of) × AnswersAsTold (λ c. c.kinds.0) (λ c. c.plan.value) lent.first.callbacks };
+    ghost deref_gives = { λ machine lent. (lent ≡ machine.of) × AnswersByPlan (λ c. c.kinds.0) (λ c. c.plan.value) lent.first.callbacks };
 
     /// The machine whose calls are these, and whose callbacks answer what is told of them.
     #[inline(always)]
@@ -85,7 +85,7 @@ impl Machine {
     pub fn close(self, callers: Vec<Caller>) -> Result<Kernel, (Refusal, Machine, Vec<Caller>)>
         requires { All (λ c. Belongs c self.of) callers.items }
         ensures closed { IfOk result (λ k. Closes self.of callers.items k) }
-        ensures answering { IfOk result (λ k. AnswersAsTold (λ c. c.kinds.0) (λ c. c.plan.value) k.callbacks) }
+        ensures by_plan { IfOk result (λ k. AnswersByPlan (λ c. c.kinds.0) (λ c. c.plan.value) k.callbacks) }
         ensures refused { IfErr result (λ e. KeepsOpen self.of callers.items e.0 e.2.items) }
         ensures again { IfErr result (λ e. (e.1.of ≡ self.of) × All (λ c. Belongs c self.of) e.2.items) }
     {

@@ -2,7 +2,7 @@
 ghost use Rattle.std.specs.Prelude.{◌≡◌, ◌≢◌, Err, Some};
 ghost use Rattle.evl_base.specs.declared.call.Call.TheVariants.{BeginGet, BeginRead, BeginTake, BeginWrite};
 ghost use Rattle.evl_base.specs.declared.refusal.Refusal.TheVariants.{CoreBusy};
-ghost use Rattle.evl_kernel.specs.Callbacks.{AnswersAsTold};
+ghost use Rattle.evl_kernel.specs.Callbacks.{AnswersByPlan};
 ghost use Rattle.evl_machine.specs.declared.unfinished.Unfinished.TheVariants.{Element};
 ghost use Rattle.evl_machine.specs.declared.unfinished.WaitStep.TheVariants.{Begins};
 ghost use Rattle.evl_machine.specs.Calls.{HoldsAtItsStage, wait_of_caller};
@@ -22,7 +22,7 @@ impl<C: Handler, A: Allocator> MachineOf<C, A> {
     /// Looks at the kernel until the caller's wait is over, and finishes it then.
     fn wait_out<R: Wait>(&self, rt: &R, caller: &mut CallerOf<C, A>) -> Result<Reply, Refusal>
         requires machine { Belongs caller.old self.now }
-        requires answering { AnswersAsTold C.declared C.plan self.now.first.callbacks }
+        requires by_plan { AnswersByPlan C.declared C.plan self.now.first.callbacks }
         requires waits { wait_of_caller caller.old ≡ Some Element }
         ensures machine { IsSameCaller caller.old caller.new }
         ensures waited { WaitsOut self.now.first.limit caller.old result caller.new }
@@ -46,7 +46,7 @@ impl<C: Handler, A: Allocator> MachineOf<C, A> {
         begin: Call,
     ) -> Result<Reply, Refusal>
         requires machine { Belongs caller.old self.now }
-        requires answering { AnswersAsTold C.declared C.plan self.now.first.callbacks }
+        requires by_plan { AnswersByPlan C.declared C.plan self.now.first.callbacks }
         requires begins { wait_step begin ≡ Begins Element }
         ensures machine { IsSameCaller caller.old caller.new }
         ensures waited { Waits self.now.first.limit caller.old begin result caller.new }
@@ -73,7 +73,7 @@ impl<C: Handler, A: Allocator> MachineOf<C, A> {
         until: Option<u64>,
     ) -> Result<Reply, Refusal>
         requires machine { Belongs caller.old self.now }
-        requires answering { AnswersAsTold C.declared C.plan self.now.first.callbacks }
+        requires by_plan { AnswersByPlan C.declared C.plan self.now.first.callbacks }
         ensures machine { IsSameCaller caller.old caller.new }
         ensures waited { Waits self.now.first.limit caller.old (BeginGet sem until) result caller.new }
         ensures stage { HoldsAtItsStage caller.new }
@@ -95,7 +95,7 @@ impl<C: Handler, A: Allocator> MachineOf<C, A> {
         until: Option<u64>,
     ) -> Result<Reply, Refusal>
         requires machine { Belongs caller.old self.now }
-        requires answering { AnswersAsTold C.declared C.plan self.now.first.callbacks }
+        requires by_plan { AnswersByPlan C.declared C.plan self.now.first.callbacks }
         ensures machine { IsSameCaller caller.old caller.new }
         ensures waited { Waits self.now.first.limit caller.old (BeginTake flags kind until) result caller.new }
         ensures stage { HoldsAtItsStage caller.new }
@@ -119,7 +119,7 @@ impl<C: Handler, A: Allocator> MachineOf<C, A> {
         until: Option<u64>,
     ) -> Result<Reply, Refusal>
         requires machine { Belongs caller.old self.now }
-        requires answering { AnswersAsTold C.declared C.plan self.now.first.callbacks }
+        requires by_plan { AnswersByPlan C.declared C.plan self.now.first.callbacks }
         ensures machine { IsSameCaller caller.old caller.new }
         ensures waited { Waits self.now.first.limit caller.old (BeginRead xbuf way len until) result caller.new }
         ensures stage { HoldsAtItsStage caller.new }
@@ -149,7 +149,7 @@ impl<C: Handler, A: Allocator> MachineOf<C, A> {
         until: Option<u64>,
     ) -> Result<Reply, Refusal>
         requires machine { Belongs caller.old self.now }
-        requires answering { AnswersAsTold C.declared C.plan self.now.first.callbacks }
+        requires by_plan { AnswersByPlan C.declared C.plan self.now.first.callbacks }
         ensures machine { IsSameCaller caller.old caller.new }
         ensures waited { Waits self.now.first.limit caller.old (BeginWrite xbuf way bytes until) result caller.new }
         ensures stage { HoldsAtItsStage caller.new }

@@ -1,6 +1,6 @@
 //! What lies in the slot: the kernel in a box, so that only a pointer moves where the kernel goes out or in.
 ghost use Rattle.std.specs.Prelude.{◌≡◌, IfOk};
-ghost use Rattle.evl_kernel.specs.Callbacks.{AnswersAsTold};
+ghost use Rattle.evl_kernel.specs.Callbacks.{AnswersByPlan};
 ghost use Rattle.evl_machine.specs.Calls.{Applied};
 ghost use Rattle.evl_machine.specs.Locking.{Reserves};
 
@@ -75,7 +75,7 @@ impl<C: Handler, A: Allocator> KernelBox<C, A> {
     /// One call of the kernel.
     #[inline(always)]
     pub(crate) fn apply(&mut self, caller: ThreadId, call: Call) -> Result<Reply, Refusal>
-        requires { AnswersAsTold C.declared C.plan self.old.callbacks }
+        requires { AnswersByPlan C.declared C.plan self.old.callbacks }
         ensures { Applied self.old caller.0 call result self.new }
     {
         self.kernel.apply(caller, call)

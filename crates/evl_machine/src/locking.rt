@@ -3,7 +3,7 @@
 ghost use Rattle.std.specs.Prelude.{◌≡◌, ◌<◌, IfSome, IsSomeAnd, None, Some, length, slice_get, true};
 ghost use Rattle.evl_base.specs.declared.call.Call.TheVariants.{Finish};
 ghost use Rattle.evl_base.specs.declared.stage.Stage.TheVariants.{Oob};
-ghost use Rattle.evl_kernel.specs.Callbacks.{AnswersAsTold};
+ghost use Rattle.evl_kernel.specs.Callbacks.{AnswersByPlan};
 ghost use Rattle.evl_machine.specs.Accounts.{threads_of};
 ghost use Rattle.evl_machine.specs.Actors.{AreHeldAt, IsActor, IsSameActor, Suits, acting, keeps_stage};
 ghost use Rattle.evl_machine.specs.AtSeats.{AtSeat};
@@ -53,7 +53,7 @@ pub(crate) fn lock_raised<C: Handler, A: Allocator>(
 ) -> Result<MutexPass, Refusal>
     requires table { (actor.old.table ≡ core.now.shared.table_id) × (first_of actor.old.me.0 ≡ core.now.shared.key.value) }
     requires taken { HasJustTaken actor.old kernel.old }
-    requires answering { AnswersAsTold C.declared C.plan kernel.old.callbacks }
+    requires by_plan { AnswersByPlan C.declared C.plan kernel.old.callbacks }
     requires held { AreHeldAt actor.old.stage actor.old.staxes }
     requires unrefused { mutex_refusal core.now.shared.key.value.history.board.mutexes.items (acting actor.old).mutexes mutex.0 ≡ None }
     requires free { IsSomeAnd (slice_get actor.old.places mutex.0) (λ p. p.depth ≡ 0) }
@@ -80,7 +80,7 @@ pub(crate) fn release<C: Handler, A: Allocator>(
 ) -> Result<(), (Refusal, MutexPass)>
     requires table { (actor.old.table ≡ core.now.shared.table_id) × (first_of actor.old.me.0 ≡ core.now.shared.key.value) }
     requires taken { HasJustTaken actor.old kernel.old }
-    requires answering { AnswersAsTold C.declared C.plan kernel.old.callbacks }
+    requires by_plan { AnswersByPlan C.declared C.plan kernel.old.callbacks }
     requires held { AreHeldAt actor.old.stage actor.old.staxes }
     requires seats { HaveSeats (threads_of kernel.old.history) (acting actor.old).mutexes }
     requires own { IsActor actor.old }
@@ -140,7 +140,7 @@ pub(crate) fn begin<C: Handler, A: Allocator>(
 ) -> Result<Begun, Refusal>
     requires table { (actor.old.table ≡ core.now.shared.table_id) × (first_of actor.old.me.0 ≡ core.now.shared.key.value) }
     requires taken { HasJustTaken actor.old kernel.old }
-    requires answering { AnswersAsTold C.declared C.plan kernel.old.callbacks }
+    requires by_plan { AnswersByPlan C.declared C.plan kernel.old.callbacks }
     requires held { AreHeldAt actor.old.stage actor.old.staxes }
     requires there { mutex.0 < length actor.old.places }
     requires kind { ceilings_of core.now.shared.key.value mutex.0 ≡ ceiling }
@@ -182,7 +182,7 @@ pub(crate) fn finish<C: Handler, A: Allocator>(
 ) -> Result<Ended, Refusal>
     requires table { (actor.old.table ≡ core.now.shared.table_id) × (first_of actor.old.me.0 ≡ core.now.shared.key.value) }
     requires taken { HasJustTaken actor.old kernel.old }
-    requires answering { AnswersAsTold C.declared C.plan kernel.old.callbacks }
+    requires by_plan { AnswersByPlan C.declared C.plan kernel.old.callbacks }
     requires held { AreHeldAt actor.old.stage actor.old.staxes }
     requires there { mutex.0 < length actor.old.places }
     requires waits { actor.old.wait ≡ Some (Mutex mutex) }
@@ -214,7 +214,7 @@ fn end_wait<C: Handler, A: Allocator>(
     actor: &mut Actor<C, A>,
     kernel: &mut KernelBox<C, A>,
 ) -> Result<Reply, Refusal>
-    requires answering { AnswersAsTold C.declared C.plan kernel.old.callbacks }
+    requires by_plan { AnswersByPlan C.declared C.plan kernel.old.callbacks }
     requires suits { Suits (acting actor.old) kernel.old.history }
     ensures applied { Applied kernel.old actor.old.thread.0 (Finish (keeps_stage (holds_stax actor.old.staxes) (holds_mutex (acting actor.old).mutexes))) result kernel.new }
     ensures suits { Suits (acting actor.new) kernel.new.history }

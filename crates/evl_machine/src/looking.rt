@@ -3,7 +3,7 @@ ghost use Rattle.std.specs.Prelude.{◌≡◌, ◌≢◌, ⊤, Err, MatchOption,
 ghost use Rattle.evl_base.specs.Board.{board_fits};
 ghost use Rattle.evl_base.specs.declared.call.Call.TheVariants.{Finish};
 ghost use Rattle.evl_base.specs.declared.refusal.Refusal.TheVariants.{Again, CoreBusy};
-ghost use Rattle.evl_kernel.specs.Callbacks.{AnswersAsTold};
+ghost use Rattle.evl_kernel.specs.Callbacks.{AnswersByPlan};
 ghost use Rattle.evl_machine.specs.Actors.{AreHeldAt, IsSameActor, Suits, acting, keeps_stage};
 ghost use Rattle.evl_machine.specs.Calls.{ActsOnCore, Answered, HoldsAtItsStage, IsCaller, KernelCall, wait_of_caller};
 ghost use Rattle.evl_machine.specs.declared.unfinished.Unfinished.TheVariants.{Element};
@@ -28,7 +28,7 @@ impl<C: Handler, A: Allocator> MachineOf<C, A> {
         requires suits { Suits (acting actor.old) (account_of (seen actor.old.me)).seen }
         requires waits { actor.old.wait ≡ Some Element }
         requires board { board_fits (first_of actor.old.me.0).history.board ≡ true }
-        requires answering { AnswersAsTold C.declared C.plan (first_of actor.old.me.0).callbacks }
+        requires by_plan { AnswersByPlan C.declared C.plan (first_of actor.old.me.0).callbacks }
         ensures same { (actor.new.table ≡ actor.old.table) × (first_of actor.new.me.0 ≡ first_of actor.old.me.0) × IsSameActor (acting actor.old) (acting actor.new) }
         ensures rests { IsCaller (seen actor.new.me) actor.new.thread }
         ensures suits { Suits (acting actor.new) (account_of (seen actor.new.me)).seen }
@@ -54,7 +54,7 @@ impl<C: Handler, A: Allocator> MachineOf<C, A> {
     pub(crate) fn end_wait(&self, caller: &mut CallerOf<C, A>) -> Option<Result<Reply, Refusal>>
         requires machine { Belongs caller.old self.now }
         requires waits { wait_of_caller caller.old ≡ Some Element }
-        requires answering { AnswersAsTold C.declared C.plan self.now.first.callbacks }
+        requires by_plan { AnswersByPlan C.declared C.plan self.now.first.callbacks }
         ensures looked { MatchOption result (Looked caller.old caller.new) (λ r. KernelCall self.now.first.limit caller.old (finish_of caller.old) r caller.new) }
         ensures told { MatchOption result ⊤ (λ r. (r ≢ Err Again) × (r ≢ Err CoreBusy)) }
         ensures stage { HoldsAtItsStage caller.new }

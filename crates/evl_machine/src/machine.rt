@@ -1,10 +1,10 @@
 //! The machine: the kernel behind the core's lock.
 ghost use Rattle.std.specs.Prelude.{◌≡◌, ◌≢◌, Err, IfErr, IfOk, MatchOption};
 ghost use Rattle.evl_base.specs.declared.refusal.Refusal.TheVariants.{CoreBusy};
-ghost use Rattle.evl_kernel.specs.Callbacks.{AnswersAsTold};
-ghost use Rattle.evl_machine.specs.Accounts.{informed, lost_one};
+ghost use Rattle.evl_kernel.specs.Callbacks.{AnswersByPlan};
+ghost use Rattle.evl_machine.specs.Accounts.{up_to_date, lost_one};
 ghost use Rattle.evl_machine.specs.Known.{ComesFrom, first_of, past_of, room_of, seen};
-ghost use Rattle.evl_machine.specs.Handles.{Belongs, Continues, IsSameCaller, Taken, account_of, holding, seated};
+ghost use Rattle.evl_machine.specs.Handles.{Belongs, Continues, IsSameCaller, Taken, account_of, holding, resting};
 ghost use Rattle.evl_machine.specs.Events.{FailsToTake, Gives, Takes};
 ghost use Rattle.std.specs.Prelude.{⊤, None, false, length, slice_get, true};
 ghost use Rattle.evl_kernel.specs.Families.{moves_caller, task_of};
@@ -54,10 +54,10 @@ impl<C: Drop, A: Allocator> MachineOf<C, A> {
     /// Takes the kernel out of the slot, unless a seat has it: then one take more of this one's is lost.
     #[inline]
     pub(crate) fn take_kernel(&self, seat: &mut CoreSeat<C, A>) -> Option<KernelBox<C, A>>
-        requires { (seat.old.table_id ≡ self.now.id) × (seen seat.old.me ≡ seated (account_of (seen seat.old.me))) }
+        requires { (seat.old.table_id ≡ self.now.id) × (seen seat.old.me ≡ resting (account_of (seen seat.old.me))) }
         ensures same { (seat.new.table_id ≡ seat.old.table_id) × (seat.new.id ≡ seat.old.id) × (first_of seat.new.me.0 ≡ first_of seat.old.me.0) }
         ensures event { MatchOption result (FailsToTake (first_of seat.old.me.0) (account_of (seen seat.old.me)) (account_of (seen seat.new.me))) (λ _. Takes (first_of seat.old.me.0) (account_of (seen seat.old.me)) (account_of (seen seat.new.me))) }
-        ensures taken { MatchOption result (seen seat.new.me ≡ seated (lost_one (account_of (seen seat.old.me)))) (λ k. Taken past_of room_of (seen seat.old.me) k (seen seat.new.me) × ComesFrom (first_of seat.old.me.0) k) }
+        ensures taken { MatchOption result (seen seat.new.me ≡ resting (lost_one (account_of (seen seat.old.me)))) (λ k. Taken past_of room_of (seen seat.old.me) k (seen seat.new.me) × ComesFrom (first_of seat.old.me.0) k) }
         ensures places { KeepsPlaces seat.old.me.0 seat.new.me.0 }
         ensures holder { MatchOption result ⊤ (λ k. HasTaken (account_of (seen seat.old.me)).thread k.history seat.new.me.0) }
     {
@@ -78,7 +78,7 @@ impl<C: Drop, A: Allocator> MachineOf<C, A> {
         requires settled { IsSettled seat.old.me.0 kernel.history.state }
         ensures same { (seat.new.table_id ≡ seat.old.table_id) × (seat.new.id ≡ seat.old.id) × (first_of seat.new.me.0 ≡ first_of seat.old.me.0) }
         ensures event { Gives (first_of seat.old.me.0) (account_of (seen seat.old.me)) kernel (account_of (seen seat.new.me)) }
-        ensures given { seen seat.new.me ≡ seated (informed kernel.history (account_of (seen seat.old.me))) }
+        ensures given { seen seat.new.me ≡ resting (up_to_date kernel.history (account_of (seen seat.old.me))) }
         ensures places { KeepsPlaces seat.old.me.0 seat.new.me.0 }
     {
         let table = &self.core.shared;
@@ -110,7 +110,7 @@ impl<C: Handler, A: Allocator> MachineOf<C, A> {
         requires there { ClaimsOneOf (length actor.old.places) call }
         requires free { call_refusal actor.old.wait (holds_stax actor.old.staxes) (holds_mutex (acting actor.old).mutexes) call ≡ None }
         requires board { board_fits (first_of actor.old.me.0).history.board ≡ true }
-        requires answering { AnswersAsTold C.declared C.plan (first_of actor.old.me.0).callbacks }
+        requires by_plan { AnswersByPlan C.declared C.plan (first_of actor.old.me.0).callbacks }
         ensures same { (actor.new.table ≡ actor.old.table) × (first_of actor.new.me.0 ≡ first_of actor.old.me.0) × IsSameActor (acting actor.old) (acting actor.new) }
         ensures rests { IsCaller (seen actor.new.me) actor.new.thread }
         ensures suits { Suits (acting actor.new) (account_of (seen actor.new.me)).seen }
@@ -138,7 +138,7 @@ impl<C: Handler, A: Allocator> MachineOf<C, A> {
     ) -> Result<Result<Reply, Refusal>, Call>
         requires machine { Belongs caller.old self.now }
         requires free { own_refusal caller.old call ≡ None }
-        requires answering { AnswersAsTold C.declared C.plan self.now.first.callbacks }
+        requires by_plan { AnswersByPlan C.declared C.plan self.now.first.callbacks }
         ensures called { KernelCall self.now.first.limit caller.old call (answer_of result) caller.new }
         ensures stage { HoldsAtItsStage caller.new }
         ensures entered { IfOk result (λ answer. answer ≢ Err CoreBusy) }
@@ -155,7 +155,7 @@ impl<C: Handler, A: Allocator> MachineOf<C, A> {
     #[inline(always)]
     pub fn try_call(&self, caller: &mut CallerOf<C, A>, call: Call) -> Result<Reply, Refusal>
         requires machine { Belongs caller.old self.now }
-        requires answering { AnswersAsTold C.declared C.plan self.now.first.callbacks }
+        requires by_plan { AnswersByPlan C.declared C.plan self.now.first.callbacks }
         ensures machine { IsSameCaller caller.old caller.new }
         ensures called { Called self.now.first.limit caller.old call result caller.new }
         ensures stage { HoldsAtItsStage caller.new }

@@ -1,6 +1,6 @@
 //! Making a machine, with a caller for each thread of its board.
 ghost use Rattle.std.specs.Prelude.{◌≡◌, ◌≤◌, ◌⊎◌, ◌↔◌, [], ◌∷◌, Some, false, length, IfOk, IfErr};
-ghost use Rattle.evl_kernel.specs.Callbacks.{AnswersAsTold};
+ghost use Rattle.evl_kernel.specs.Callbacks.{AnswersByPlan};
 ghost use Rattle.evl_kernel.specs.Histories.{IsLegal};
 ghost use Rattle.evl_kernel.specs.KernelViews.{IsOpened};
 ghost use Rattle.evl_kernel.specs.Openings.{can_open};
@@ -44,7 +44,7 @@ impl<C: Handler, A: Allocator> MachineOf<C, A> {
     where
         A: Clone,
         ensures opened { IfOk result (λ m. IsOpened C.declared C.plan board bank.items limit m.0.first) }
-        ensures answering { IfOk result (λ m. AnswersAsTold C.declared C.plan m.0.first.callbacks) }
+        ensures by_plan { IfOk result (λ m. AnswersByPlan C.declared C.plan m.0.first.callbacks) }
         ensures callers { IfOk result (λ m. m.1.items ≡ newcomers_of m.0 board.threads) }
         ensures range { (result ≡ Err Refusal.Range) ↔ (can_open board (length bank.items) limit ≡ false) }
         ensures refusals { IfErr result (λ e. (e ≡ Refusal.Range) ⊎ (e ≡ Refusal.NoMemory)) }
@@ -121,7 +121,7 @@ fn joined<C: Drop, A: Allocator + Clone>(
     } = parts;
     let count = elements.kinds.len();
     match core_of(alloc, kernel, count) {
-        Ok((core, root)) => Ok(seated(core, root, callers, elements, threads)),
+        Ok((core, root)) => Ok(with_seats(core, root, callers, elements, threads)),
         Err(_) => Err(Refusal::NoMemory),
     }
 }
@@ -159,7 +159,7 @@ fn zeros<A: Allocator + Clone>(alloc: &A, mutexes: usize) -> Result<Vec<u64, A>,
 }
 
 /// A machine of this core and these elements, and a caller for each thread.
-fn seated<C: Drop, A: Allocator>(
+fn with_seats<C: Drop, A: Allocator>(
     core: CoreLock<C, A>,
     root: CoreSeat<C, A>,
     mut callers: Vec<CallerOf<C, A>, A>,

@@ -1,7 +1,7 @@
 //! What a caller does with a mutex by the kernel: it takes the kernel once, and gives it back.
 ghost use Rattle.std.specs.Prelude.{◌≡◌, ◌<◌, Err, None, Some, length, true};
 ghost use Rattle.evl_base.specs.declared.refusal.Refusal.TheVariants.{CoreBusy};
-ghost use Rattle.evl_kernel.specs.Callbacks.{AnswersAsTold};
+ghost use Rattle.evl_kernel.specs.Callbacks.{AnswersByPlan};
 ghost use Rattle.evl_machine.specs.declared.unfinished.Unfinished.TheVariants.{Mutex};
 ghost use Rattle.evl_machine.specs.Calls.{HoldsAtItsStage, wait_of_caller};
 ghost use Rattle.evl_machine.specs.Ceilings.{has_ceiling};
@@ -31,7 +31,7 @@ impl<C: Handler, A: Allocator> MachineOf<C, A> {
         requires machine { Belongs caller.old self.now }
         requires unrefused { own_lock_refusal caller.old mutex ≡ None }
         requires ceiling { has_ceiling (kind_of caller.old mutex) ≡ true }
-        requires answering { AnswersAsTold C.declared C.plan self.now.first.callbacks }
+        requires by_plan { AnswersByPlan C.declared C.plan self.now.first.callbacks }
         ensures machine { IsSameCaller caller.old caller.new }
         ensures visits { Visits (result ≡ Err CoreBusy) caller.old (λ a k a' k'. LocksRaised (kinds_of caller.old) a k mutex result a' k') caller.new }
         ensures stage { HoldsAtItsStage caller.new }
@@ -57,7 +57,7 @@ impl<C: Handler, A: Allocator> MachineOf<C, A> {
         requires machine { Belongs caller.old self.now }
         requires unrefused { own_lock_refusal caller.old mutex ≡ None }
         requires kind { has_ceiling (kind_of caller.old mutex) ≡ ceiling }
-        requires answering { AnswersAsTold C.declared C.plan self.now.first.callbacks }
+        requires by_plan { AnswersByPlan C.declared C.plan self.now.first.callbacks }
         ensures machine { IsSameCaller caller.old caller.new }
         ensures visits { Visits (result ≡ Err CoreBusy) caller.old (λ a k a' k'. Begins ceiling a k mutex until result a' k') caller.new }
         ensures stage { HoldsAtItsStage caller.new }
@@ -82,7 +82,7 @@ impl<C: Handler, A: Allocator> MachineOf<C, A> {
         requires machine { Belongs caller.old self.now }
         requires there { mutex.0 < length caller.old.mutexes }
         requires waits { wait_of_caller caller.old ≡ Some (Mutex mutex) }
-        requires answering { AnswersAsTold C.declared C.plan self.now.first.callbacks }
+        requires by_plan { AnswersByPlan C.declared C.plan self.now.first.callbacks }
         ensures machine { IsSameCaller caller.old caller.new }
         ensures visits { Visits (result ≡ Err CoreBusy) caller.old (λ a k a' k'. Finishes a k mutex result a' k') caller.new }
         ensures stage { HoldsAtItsStage caller.new }
@@ -107,7 +107,7 @@ impl<C: Handler, A: Allocator> MachineOf<C, A> {
         requires machine { Belongs caller.old self.now }
         requires once { HasOnce caller.old.mutexes pass }
         requires idle { wait_of_caller caller.old ≡ None }
-        requires answering { AnswersAsTold C.declared C.plan self.now.first.callbacks }
+        requires by_plan { AnswersByPlan C.declared C.plan self.now.first.callbacks }
         ensures machine { IsSameCaller caller.old caller.new }
         ensures visits { HandsOn caller.old pass result caller.new }
         ensures stage { HoldsAtItsStage caller.new }

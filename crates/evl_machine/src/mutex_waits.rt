@@ -1,6 +1,6 @@
 //! Locking a mutex, and giving it back, however long it takes.
 ghost use Rattle.std.specs.Prelude.{◌≡◌, false};
-ghost use Rattle.evl_kernel.specs.Callbacks.{AnswersAsTold};
+ghost use Rattle.evl_kernel.specs.Callbacks.{AnswersByPlan};
 ghost use Rattle.evl_machine.specs.Calls.{HoldsAtItsStage};
 ghost use Rattle.evl_machine.specs.Handles.{Belongs, IsSameCaller};
 ghost use Rattle.evl_machine.specs.MutexLocks.{BeginsToLock, FinishesToLock};
@@ -26,7 +26,7 @@ impl<C: Handler, A: Allocator> MachineOf<C, A> {
         until: Option<u64>,
     ) -> Result<Begun, Refusal>
         requires machine { Belongs caller.old self.now }
-        requires answering { AnswersAsTold C.declared C.plan self.now.first.callbacks }
+        requires by_plan { AnswersByPlan C.declared C.plan self.now.first.callbacks }
         ensures machine { IsSameCaller caller.old caller.new }
         ensures begun { Lasts (λ c r c'. BeginsToLock c mutex until r c') caller.old result caller.new }
         ensures stage { HoldsAtItsStage caller.new }
@@ -44,7 +44,7 @@ impl<C: Handler, A: Allocator> MachineOf<C, A> {
     /// Finishes the caller's wait for a mutex, once it is over.
     fn finish_at_last<R: Wait>(&self, rt: &R, caller: &mut CallerOf<C, A>) -> Result<Ended, Refusal>
         requires machine { Belongs caller.old self.now }
-        requires answering { AnswersAsTold C.declared C.plan self.now.first.callbacks }
+        requires by_plan { AnswersByPlan C.declared C.plan self.now.first.callbacks }
         ensures machine { IsSameCaller caller.old caller.new }
         ensures finished { Lasts FinishesToLock caller.old result caller.new }
         ensures stage { HoldsAtItsStage caller.new }
@@ -71,7 +71,7 @@ impl<C: Handler, A: Allocator> MachineOf<C, A> {
         until: Option<u64>,
     ) -> Result<Ended, Refusal>
         requires machine { Belongs caller.old self.now }
-        requires answering { AnswersAsTold C.declared C.plan self.now.first.callbacks }
+        requires by_plan { AnswersByPlan C.declared C.plan self.now.first.callbacks }
         ensures machine { IsSameCaller caller.old caller.new }
         ensures waited { WaitsForMutex caller.old mutex until result caller.new }
         ensures lasts { passes result ≡ false }
@@ -96,7 +96,7 @@ impl<C: Handler, A: Allocator> MachineOf<C, A> {
         pass: MutexPass,
     ) -> Result<(), (Refusal, MutexPass)>
         requires machine { Belongs caller.old self.now }
-        requires answering { AnswersAsTold C.declared C.plan self.now.first.callbacks }
+        requires by_plan { AnswersByPlan C.declared C.plan self.now.first.callbacks }
         ensures machine { IsSameCaller caller.old caller.new }
         ensures unlocked { UnlocksAtLast caller.old pass result caller.new }
         ensures stage { HoldsAtItsStage caller.new }

@@ -1,6 +1,6 @@
 //! What a caller at rest does with a mutex by itself: a step of the mutex's word, or none.
 ghost use Rattle.std.specs.Prelude.{◌≡◌, ◌≢◌, ◌<◌, None, Ok, false};
-ghost use Rattle.evl_kernel.specs.Callbacks.{AnswersAsTold};
+ghost use Rattle.evl_kernel.specs.Callbacks.{AnswersByPlan};
 ghost use Rattle.evl_words.specs.declared.mutex.Unlock.TheVariants.{Done};
 ghost use Rattle.evl_machine.specs.Calls.{HoldsAtItsStage, wait_of_caller};
 ghost use Rattle.evl_machine.specs.Ceilings.{has_ceiling};
@@ -118,7 +118,7 @@ impl<C: Handler, A: Allocator> MachineOf<C, A> {
         requires idle { wait_of_caller caller.old ≡ None }
         requires own { unlock_refusal caller.old.mutexes pass ≡ None }
         requires stays { is_handed_on (kind_of caller.old pass.mutex) (depth_at caller.old.mutexes pass.mutex.0) ≡ false }
-        requires answering { AnswersAsTold C.declared C.plan self.now.first.callbacks }
+        requires by_plan { AnswersByPlan C.declared C.plan self.now.first.callbacks }
         ensures machine { IsSameCaller caller.old caller.new }
         ensures unlocked { UnlocksAtWord caller.old pass result caller.new }
         ensures stage { HoldsAtItsStage caller.new }

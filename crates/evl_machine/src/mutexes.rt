@@ -1,6 +1,6 @@
 //! Locking mutexes and unlocking them, without waiting.
 ghost use Rattle.std.specs.Prelude.{IfErr};
-ghost use Rattle.evl_kernel.specs.Callbacks.{AnswersAsTold};
+ghost use Rattle.evl_kernel.specs.Callbacks.{AnswersByPlan};
 ghost use Rattle.evl_machine.specs.Calls.{HoldsAtItsStage};
 ghost use Rattle.evl_machine.specs.Handles.{Belongs, IsSameCaller};
 ghost use Rattle.evl_machine.specs.MutexLocks.{BeginsToLock, FastAnswer, FinishesToLock, TriesToLock, TriesToUnlock, UnlocksFast};
@@ -29,7 +29,7 @@ impl<C: Handler, A: Allocator> MachineOf<C, A> {
         mutex: MutexId,
     ) -> Result<MutexPass, Refusal>
         requires machine { Belongs caller.old self.now }
-        requires answering { AnswersAsTold C.declared C.plan self.now.first.callbacks }
+        requires by_plan { AnswersByPlan C.declared C.plan self.now.first.callbacks }
         ensures machine { IsSameCaller caller.old caller.new }
         ensures locked { TriesToLock caller.old mutex result caller.new }
         ensures full { IfErr result (FullOnly caller.new) }
@@ -52,7 +52,7 @@ impl<C: Handler, A: Allocator> MachineOf<C, A> {
     #[inline(never)]
     fn lock_rarely(&self, caller: &mut CallerOf<C, A>, mutex: MutexId) -> Result<MutexPass, Refusal>
         requires machine { Belongs caller.old self.now }
-        requires answering { AnswersAsTold C.declared C.plan self.now.first.callbacks }
+        requires by_plan { AnswersByPlan C.declared C.plan self.now.first.callbacks }
         ensures machine { IsSameCaller caller.old caller.new }
         ensures locked { TriesToLock caller.old mutex result caller.new }
         ensures full { IfErr result (FullOnly caller.new) }
@@ -83,7 +83,7 @@ impl<C: Handler, A: Allocator> MachineOf<C, A> {
         until: Option<u64>,
     ) -> Result<Begun, Refusal>
         requires machine { Belongs caller.old self.now }
-        requires answering { AnswersAsTold C.declared C.plan self.now.first.callbacks }
+        requires by_plan { AnswersByPlan C.declared C.plan self.now.first.callbacks }
         ensures machine { IsSameCaller caller.old caller.new }
         ensures begun { BeginsToLock caller.old mutex until result caller.new }
         ensures full { IfErr result (FullOnly caller.new) }
@@ -105,7 +105,7 @@ impl<C: Handler, A: Allocator> MachineOf<C, A> {
     /// of them leave the wait to be finished later.
     pub fn finish_lock_mutex(&self, caller: &mut CallerOf<C, A>) -> Result<Ended, Refusal>
         requires machine { Belongs caller.old self.now }
-        requires answering { AnswersAsTold C.declared C.plan self.now.first.callbacks }
+        requires by_plan { AnswersByPlan C.declared C.plan self.now.first.callbacks }
         ensures machine { IsSameCaller caller.old caller.new }
         ensures finished { FinishesToLock caller.old result caller.new }
         ensures full { IfErr result (FullOnly caller.new) }
@@ -182,7 +182,7 @@ impl<C: Handler, A: Allocator> MachineOf<C, A> {
         pass: MutexPass,
     ) -> Result<(), (Refusal, MutexPass)>
         requires machine { Belongs caller.old self.now }
-        requires answering { AnswersAsTold C.declared C.plan self.now.first.callbacks }
+        requires by_plan { AnswersByPlan C.declared C.plan self.now.first.callbacks }
         ensures machine { IsSameCaller caller.old caller.new }
         ensures unlocked { TriesToUnlock caller.old pass result caller.new }
         ensures full { IfErr result (λ e. FullOnly caller.new e.0) }

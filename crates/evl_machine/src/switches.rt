@@ -3,7 +3,7 @@ ghost use Rattle.std.specs.Prelude.{◌≡◌, ◌≢◌, Err};
 ghost use Rattle.evl_base.specs.declared.call.Call.TheVariants.{SetStage};
 ghost use Rattle.evl_base.specs.declared.refusal.Refusal.TheVariants.{CoreBusy};
 ghost use Rattle.evl_base.specs.declared.stage.Stage.TheVariants.{Inband, Oob};
-ghost use Rattle.evl_kernel.specs.Callbacks.{AnswersAsTold};
+ghost use Rattle.evl_kernel.specs.Callbacks.{AnswersByPlan};
 ghost use Rattle.evl_machine.specs.Calls.{CalledAtLast, HoldsAtItsStage};
 ghost use Rattle.evl_machine.specs.Handles.{Belongs, IsSameCaller};
 
@@ -21,7 +21,7 @@ impl<C: Handler, A: Allocator> MachineOf<C, A> {
     /// is the kernel's, of which `NoMemory` and `HistoryFull` make no entry.
     pub fn switch_oob<R: Wait>(&self, rt: &R, caller: &mut CallerOf<C, A>) -> Result<Reply, Refusal>
         requires machine { Belongs caller.old self.now }
-        requires answering { AnswersAsTold C.declared C.plan self.now.first.callbacks }
+        requires by_plan { AnswersByPlan C.declared C.plan self.now.first.callbacks }
         ensures machine { IsSameCaller caller.old caller.new }
         ensures called { CalledAtLast self.now.first.limit caller.old (SetStage Oob) result caller.new }
         ensures stage { HoldsAtItsStage caller.new }
@@ -41,7 +41,7 @@ impl<C: Handler, A: Allocator> MachineOf<C, A> {
         caller: &mut CallerOf<C, A>,
     ) -> Result<Reply, Refusal>
         requires machine { Belongs caller.old self.now }
-        requires answering { AnswersAsTold C.declared C.plan self.now.first.callbacks }
+        requires by_plan { AnswersByPlan C.declared C.plan self.now.first.callbacks }
         ensures machine { IsSameCaller caller.old caller.new }
         ensures called { CalledAtLast self.now.first.limit caller.old (SetStage Inband) result caller.new }
         ensures stage { HoldsAtItsStage caller.new }

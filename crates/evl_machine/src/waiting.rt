@@ -1,6 +1,6 @@
 //! Calls that wait for the core.
 ghost use Rattle.std.specs.Prelude.{◌≡◌, ◌≢◌, Err};
-ghost use Rattle.evl_kernel.specs.Callbacks.{AnswersAsTold};
+ghost use Rattle.evl_kernel.specs.Callbacks.{AnswersByPlan};
 ghost use Rattle.evl_base.specs.declared.refusal.Refusal.TheVariants.{CoreBusy};
 ghost use Rattle.evl_machine.specs.Handles.{Belongs, IsSameCaller};
 ghost use Rattle.evl_machine.specs.Calls.{CalledAtLast, HoldsAtItsStage};
@@ -27,7 +27,7 @@ impl<C: Handler, A: Allocator> MachineOf<C, A> {
         call: Call,
     ) -> Result<Reply, Refusal>
         requires machine { Belongs caller.old self.now }
-        requires answering { AnswersAsTold C.declared C.plan self.now.first.callbacks }
+        requires by_plan { AnswersByPlan C.declared C.plan self.now.first.callbacks }
         ensures machine { IsSameCaller caller.old caller.new }
         ensures called { CalledAtLast self.now.first.limit caller.old call result caller.new }
         ensures stage { HoldsAtItsStage caller.new }

@@ -1,6 +1,6 @@
 //! A kernel over callbacks that keep their plans.
 ghost use Rattle.std.specs.Prelude.{◌≡◌, ◌⊎◌, ◌↔◌, ◌+◌, ◌≤◌, ◌<◌, length, false, Err, IsTrue, IsFalse, IfOk, IfErr, OnOk};
-ghost use Rattle.evl_kernel.specs.Callbacks.{BringsNone, told};
+ghost use Rattle.evl_kernel.specs.Callbacks.{BringsNone, handlers_in};
 ghost use Rattle.evl_kernel.specs.Fires.{AddsByCalls};
 ghost use Rattle.evl_kernel.specs.Histories.{IsLegal};
 ghost use Rattle.evl_kernel.specs.KernelViews.{AddsEntry, IsKernelAnswer, IsOpened, makes_entry};
@@ -21,7 +21,7 @@ pub struct PlannedKernel {
 }
 
 impl Model for PlannedKernel {
-    ghost use Rattle.evl_kernel.specs.Callbacks.{AnswersAsTold};
+    ghost use Rattle.evl_kernel.specs.Callbacks.{AnswersByPlan};
     ghost use Rattle.evl_kernel.specs.KernelViews.{KernelView};
     ghost use Rattle.evl_plans.specs.declared.planned.Planned.{Planned};
 
@@ -29,7 +29,7 @@ impl Model for PlannedKernel {
 
     ghost view = { λ k. k.kernel };
 
-    ghost invariant = { λ k. AnswersAsTold (λ p. p.kinds.0) (λ p. p.plan) k.kernel.callbacks };
+    ghost invariant = { λ k. AnswersByPlan (λ p. p.kinds.0) (λ p. p.plan) k.kernel.callbacks };
 }
 
 impl PlannedKernel {
@@ -63,7 +63,7 @@ impl PlannedKernel {
         ensures limit { self.new.limit ≡ self.old.limit }
         ensures room { self.old.room ≤ self.new.room + 1 }
         ensures brings { BringsNone self.old.callbacks self.new.callbacks }
-        ensures told { told self.new.callbacks.bank ≡ told self.old.callbacks.bank }
+        ensures handlers { handlers_in self.new.callbacks.bank ≡ handlers_in self.old.callbacks.bank }
         ensures called { AddsByCalls (λ p fire answer. answer ≡ answer_of p.plan fire.count) self.old.callbacks self.old.history caller.0 call self.new.history }
         ensures places { AreInOnePlace self.new.callbacks }
     {

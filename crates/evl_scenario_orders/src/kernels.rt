@@ -1,6 +1,6 @@
 //! A kernel that is led along steps.
 ghost use Rattle.std.specs.Prelude.{◌≡◌, IfOk, OnOk};
-ghost use Rattle.evl_kernel.specs.Callbacks.{AnswersAsTold};
+ghost use Rattle.evl_kernel.specs.Callbacks.{AnswersByPlan};
 ghost use Rattle.evl_kernel.specs.KernelViews.{makes_entry};
 ghost use Rattle.evl_kernel.specs.Openings.{opening};
 ghost use Rattle.evl_kernel.specs.Replays.{stepped};
@@ -74,8 +74,8 @@ pub(crate) fn make_step<C: Handler>(
     kernel: &mut KernelOf<C, Global>,
     step: &Step,
 ) -> Result<Answer, AllocError>
-    requires { AnswersAsTold C.declared C.plan kernel.old.callbacks }
-    ensures answering { AnswersAsTold C.declared C.plan kernel.new.callbacks }
+    requires { AnswersByPlan C.declared C.plan kernel.old.callbacks }
+    ensures by_plan { AnswersByPlan C.declared C.plan kernel.new.callbacks }
     ensures reply { IfOk result (λ answer. answer.0 ≡ (stepped kernel.old.history.state step.now.who.0 step.now.call).reply) }
     ensures state { OnOk result (kernel.new.history.state ≡ (stepped kernel.old.history.state step.now.who.0 step.now.call).after) }
     ensures bank { OnOk result (kernel.new.history.bank ≡ kernel.old.history.bank) }
@@ -98,8 +98,8 @@ fn set_up<C: Handler>(
     kernel: &mut KernelOf<C, Global>,
     steps: &[Step],
 ) -> Result<(), AllocError>
-    requires { AnswersAsTold C.declared C.plan kernel.old.callbacks }
-    ensures answering { AnswersAsTold C.declared C.plan kernel.new.callbacks }
+    requires { AnswersByPlan C.declared C.plan kernel.old.callbacks }
+    ensures by_plan { AnswersByPlan C.declared C.plan kernel.new.callbacks }
     ensures state { OnOk result (kernel.new.history.state ≡ set_up kernel.old.history.state steps.now) }
     ensures bank { OnOk result (kernel.new.history.bank ≡ kernel.old.history.bank) }
 {
@@ -119,8 +119,8 @@ fn make_at<C: Handler>(
     callers: &Callers,
     place: usize,
 ) -> Result<(), AllocError>
-    requires { AnswersAsTold C.declared C.plan kernel.old.callbacks }
-    ensures answering { AnswersAsTold C.declared C.plan kernel.new.callbacks }
+    requires { AnswersByPlan C.declared C.plan kernel.old.callbacks }
+    ensures by_plan { AnswersByPlan C.declared C.plan kernel.new.callbacks }
     ensures state { OnOk result (kernel.new.history.state ≡ made_at callers.now kernel.old.history.state place) }
     ensures bank { OnOk result (kernel.new.history.bank ≡ kernel.old.history.bank) }
 {
@@ -140,8 +140,8 @@ fn make_all<C: Handler>(
     callers: &Callers,
     places: &[usize],
 ) -> Result<(), AllocError>
-    requires { AnswersAsTold C.declared C.plan kernel.old.callbacks }
-    ensures answering { AnswersAsTold C.declared C.plan kernel.new.callbacks }
+    requires { AnswersByPlan C.declared C.plan kernel.old.callbacks }
+    ensures by_plan { AnswersByPlan C.declared C.plan kernel.new.callbacks }
     ensures state { OnOk result (kernel.new.history.state ≡ trailed callers.now kernel.old.history.state places.now) }
     ensures bank { OnOk result (kernel.new.history.bank ≡ kernel.old.history.bank) }
 {
@@ -160,7 +160,7 @@ fn opened<B: BankMaker>(
     callers: &Callers,
     bank: &B,
 ) -> Result<KernelOf<B::Made, Global>, AllocError>
-    ensures answering { IfOk result (λ kernel. AnswersAsTold B.Made.declared B.Made.plan kernel.callbacks) }
+    ensures by_plan { IfOk result (λ kernel. AnswersByPlan B.Made.declared B.Made.plan kernel.callbacks) }
     ensures state { IfOk result (λ kernel. kernel.history.state ≡ opening callers.now.board (B.bank bank.now)) }
     ensures bank { IfOk result (λ kernel. kernel.history.bank ≡ B.bank bank.now) }
 {
@@ -181,8 +181,8 @@ fn lead<C: Handler>(
     callers: &Callers,
     places: &[usize],
 ) -> Result<(), AllocError>
-    requires { AnswersAsTold C.declared C.plan kernel.old.callbacks }
-    ensures answering { AnswersAsTold C.declared C.plan kernel.new.callbacks }
+    requires { AnswersByPlan C.declared C.plan kernel.old.callbacks }
+    ensures by_plan { AnswersByPlan C.declared C.plan kernel.new.callbacks }
     ensures state { OnOk result (kernel.new.history.state ≡ trailed callers.now (set_up kernel.old.history.state callers.now.setup.items) places.now) }
     ensures bank { OnOk result (kernel.new.history.bank ≡ kernel.old.history.bank) }
 {
@@ -204,8 +204,8 @@ fn led_on<C: Handler>(
     callers: &Callers,
     places: &[usize],
 ) -> Result<KernelOf<C, Global>, AllocError>
-    requires { AnswersAsTold C.declared C.plan kernel.callbacks }
-    ensures answering { IfOk result (λ led. AnswersAsTold C.declared C.plan led.callbacks) }
+    requires { AnswersByPlan C.declared C.plan kernel.callbacks }
+    ensures by_plan { IfOk result (λ led. AnswersByPlan C.declared C.plan led.callbacks) }
     ensures state { IfOk result (λ led. led.history.state ≡ trailed callers.now (set_up kernel.history.state callers.now.setup.items) places.now) }
     ensures bank { IfOk result (λ led. led.history.bank ≡ kernel.history.bank) }
 {
@@ -226,7 +226,7 @@ pub(crate) fn led<B: BankMaker>(
     bank: &B,
     places: &[usize],
 ) -> Result<KernelOf<B::Made, Global>, AllocError>
-    ensures answering { IfOk result (λ kernel. AnswersAsTold B.Made.declared B.Made.plan kernel.callbacks) }
+    ensures by_plan { IfOk result (λ kernel. AnswersByPlan B.Made.declared B.Made.plan kernel.callbacks) }
     ensures state { IfOk result (λ kernel. kernel.history.state ≡ trailed callers.now (begun callers.now (B.bank bank.now)) places.now) }
     ensures bank { IfOk result (λ kernel. kernel.history.bank ≡ B.bank bank.now) }
 {

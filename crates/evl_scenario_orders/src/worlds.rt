@@ -1,6 +1,6 @@
 //! The callers of a scenario as a world.
 ghost use Rattle.std.specs.Prelude.{◌≡◌, ◌<◌, Some, IfOk, IfSome, length, option_map, slice_get, slice_index};
-ghost use Rattle.evl_kernel.specs.Callbacks.{AnswersAsTold};
+ghost use Rattle.evl_kernel.specs.Callbacks.{AnswersByPlan};
 ghost use Rattle.evl_kernel.specs.Replays.{stepped};
 ghost use Rattle.evl_kernel.specs.States.{State};
 ghost use Rattle.evl_scenario_orders.specs.Callers.{after, begun, go, step_of};
@@ -37,7 +37,7 @@ fn after_step<C: Handler>(
     place: usize,
     step: &Step,
 ) -> Result<Moment, AllocError>
-    requires answering { AnswersAsTold C.declared C.plan kernel.old.callbacks }
+    requires by_plan { AnswersByPlan C.declared C.plan kernel.old.callbacks }
     requires caller { caller < length callers.now.callers.items }
     requires fits { IsMoment callers.now moment.now }
     requires step { slice_get callers.now.steps.items place ≡ Some step.now }
@@ -68,7 +68,7 @@ fn step_kernel<B: BankMaker>(
     place: usize,
     step: &Step,
 ) -> Result<Option<Moment>, AllocError>
-    requires answering { AnswersAsTold B.Made.declared B.Made.plan kernel.old.callbacks }
+    requires by_plan { AnswersByPlan B.Made.declared B.Made.plan kernel.old.callbacks }
     requires state { kernel.old.history.state ≡ trailed callers.now (begun callers.now (B.bank bank.now)) moment.now.trail.items }
     requires caller { caller < length callers.now.callers.items }
     requires fits { IsMoment callers.now moment.now }

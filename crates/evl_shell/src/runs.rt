@@ -2,7 +2,7 @@
 ghost use Rattle.std.specs.Prelude.{◌≡◌, ◌≤◌, ◌++◌, length, List, ℕ, [], true, false, Ok, Err, OnOk, OnErr, IfOk, IfErr, drop, string_bytes};
 ghost use Rattle.std.specs.Io.KnownBytes.{Appends};
 ghost use Rattle.evl_kernel.specs.Limits.{callback_limit};
-ghost use Rattle.evl_kernel.specs.Callbacks.{AnswersAsTold};
+ghost use Rattle.evl_kernel.specs.Callbacks.{AnswersByPlan};
 ghost use Rattle.evl_kernel.specs.KernelViews.{IsOpened};
 ghost use Rattle.evl_shell.specs.Sinks.{Passes};
 ghost use Rattle.evl_scenario.specs.Faults.{IsRefusal};
@@ -41,8 +41,8 @@ fn number_after(before: usize, count: usize) -> Option<usize>
 // Makes the call of a step, which goes into the kernel's history. `NoMemory` is all that it is refused for, and only
 // where the kernel had no room: any other refusal of the call is told.
 fn make_call<C: Handler>(kernel: &mut KernelOf<C, Global>, step: Step) -> Result<Called, Refusal>
-    requires answering { AnswersAsTold C.declared C.plan kernel.old.callbacks }
-    ensures answering { AnswersAsTold C.declared C.plan kernel.new.callbacks }
+    requires by_plan { AnswersByPlan C.declared C.plan kernel.old.callbacks }
+    ensures by_plan { AnswersByPlan C.declared C.plan kernel.new.callbacks }
     ensures memory { IfErr result (λ e. kernel.old.room ≡ 0) }
     ensures turn { IfOk result (λ called. Tells kernel.old kernel.new called.number.0 called.answer.0 (turn kernel.old.limit (moment kernel.old) step)) }
 {
@@ -100,8 +100,8 @@ fn play_step<C: Handler, S: Sink>(
     out: &mut S,
 ) -> Result<(), Fault>
     requires working { S.has_failed out.old ≡ false }
-    requires answering { AnswersAsTold C.declared C.plan kernel.old.callbacks }
-    ensures answering { AnswersAsTold C.declared C.plan kernel.new.callbacks }
+    requires by_plan { AnswersByPlan C.declared C.plan kernel.old.callbacks }
+    ensures by_plan { AnswersByPlan C.declared C.plan kernel.new.callbacks }
     ensures ok { OnOk result (Passes (S.told out.old) chunks.old (S.told out.new) chunks.new (turn_lines step (turn kernel.old.limit (moment kernel.old) step))) }
     ensures turns { OnOk result (Turns kernel.old kernel.new (turn kernel.old.limit (moment kernel.old) step)) }
     ensures working { OnOk result (S.has_failed out.new ≡ false) }
@@ -136,7 +136,7 @@ fn play_steps<C: Handler, S: Sink>(
     out: &mut S,
 ) -> Result<(), Fault>
     requires working { S.has_failed out.old ≡ false }
-    requires answering { AnswersAsTold C.declared C.plan kernel.old.callbacks }
+    requires by_plan { AnswersByPlan C.declared C.plan kernel.old.callbacks }
     ensures ok { OnOk result (Passes (S.told out.old) chunks.old (S.told out.new) chunks.new (lines_from kernel.old.limit (moment kernel.old) steps.items)) }
     ensures working { OnOk result (S.has_failed out.new ≡ false) }
     ensures stopped { IfErr result (Stopped (S.told out.old) chunks.old (S.told out.new) (lines_from kernel.old.limit (moment kernel.old) steps.items) (S.has_failed out.new)) }
@@ -159,7 +159,7 @@ fn play_opened<C: Handler, S: Sink>(
     out: &mut S,
 ) -> Result<(), Fault>
     requires working { S.has_failed out.old ≡ false }
-    requires answering { AnswersAsTold C.declared C.plan kernel.old.callbacks }
+    requires by_plan { AnswersByPlan C.declared C.plan kernel.old.callbacks }
     requires whole { AreLines (string_bytes texts.old.line) }
     ensures ok { OnOk result (Passes (S.told out.old) chunks.old (S.told out.new) chunks.new (string_bytes texts.old.line ++ lines_from kernel.old.limit (moment kernel.old) steps.items)) }
     ensures working { OnOk result (S.has_failed out.new ≡ false) }
@@ -185,7 +185,7 @@ fn open<C: Handler>(
 ) -> Result<KernelOf<C, Global>, Refusal>
     ensures line { OnOk result (string_bytes texts.new.line ≡ board_line_text (board_line_of board limit)) }
     ensures opened { IfOk result (IsOpened C.declared C.plan board bank.items limit) }
-    ensures answering { IfOk result (λ k. AnswersAsTold C.declared C.plan k.callbacks) }
+    ensures by_plan { IfOk result (λ k. AnswersByPlan C.declared C.plan k.callbacks) }
 {
     match texts.write_board(&board, limit) {
         Ok(()) => KernelOf::new(alloc, board, bank, limit),

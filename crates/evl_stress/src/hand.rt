@@ -1,6 +1,6 @@
 //! A host thread's caller, and what it does by chance.
 ghost use Rattle.std.specs.Prelude.{◌≡◌};
-ghost use Rattle.evl_kernel.specs.Callbacks.{AnswersAsTold};
+ghost use Rattle.evl_kernel.specs.Callbacks.{AnswersByPlan};
 
 use crate::session::Session;
 use crate::tools::Tools;
@@ -147,7 +147,7 @@ impl<C: Handler, A: Allocator> Hand<C, A> {
     /// Does its duty, and comes back.
     pub fn does<R: Wait>(self, rt: &R, machine: &MachineOf<C, A>, watch: &Watch) -> Hand<C, A>
         requires machine { self.caller.machine ≡ machine.now }
-        requires answering { AnswersAsTold C.declared C.plan machine.now.first.callbacks }
+        requires by_plan { AnswersByPlan C.declared C.plan machine.now.first.callbacks }
         ensures { result.caller.machine ≡ machine.now }
     {
         let Hand {

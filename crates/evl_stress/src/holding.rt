@@ -1,6 +1,6 @@
 //! The core, taken for two calls.
 ghost use Rattle.std.specs.Prelude.{◌≡◌};
-ghost use Rattle.evl_kernel.specs.Callbacks.{AnswersAsTold};
+ghost use Rattle.evl_kernel.specs.Callbacks.{AnswersByPlan};
 
 use crate::boards::MUTEXES;
 use crate::session::Session;
@@ -16,7 +16,7 @@ fn applies<C: Handler, A: Allocator>(
     first: Call,
     second: Call,
 ) -> CallerOf<C, A>
-    requires { AnswersAsTold C.declared C.plan held.caller.machine.first.callbacks }
+    requires { AnswersByPlan C.declared C.plan held.caller.machine.first.callbacks }
     ensures { result.machine ≡ held.entry.caller.machine }
 {
     let mut held = held;

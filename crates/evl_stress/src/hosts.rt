@@ -1,6 +1,6 @@
 //! Host threads that work at once on what they share.
 ghost use Rattle.std.specs.Prelude.{◌≡◌, All, IfOk, length};
-ghost use Rattle.evl_kernel.specs.Callbacks.{AnswersAsTold};
+ghost use Rattle.evl_kernel.specs.Callbacks.{AnswersByPlan};
 
 use crate::hand::Hand;
 use crate::watch::Watch;
@@ -23,9 +23,9 @@ pub trait Worker<M>: Drop {
 
 impl<C: Handler, A: Allocator> Worker<MachineOf<C, A>> for Hand<C, A> {
     ghost use Rattle.std.specs.Prelude.{◌≡◌};
-    ghost use Rattle.evl_kernel.specs.Callbacks.{AnswersAsTold};
+    ghost use Rattle.evl_kernel.specs.Callbacks.{AnswersByPlan};
 
-    ghost fits = { λ h m. (h.caller.machine ≡ m) × AnswersAsTold C.declared C.plan m.first.callbacks };
+    ghost fits = { λ h m. (h.caller.machine ≡ m) × AnswersByPlan C.declared C.plan m.first.callbacks };
 
     fn work<R: Wait>(self, rt: &R, shared: &MachineOf<C, A>, watch: &Watch) -> Hand<C, A> {
         self.does(rt, shared, watch)

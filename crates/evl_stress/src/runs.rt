@@ -3,7 +3,7 @@ ghost use Rattle.std.specs.Prelude.{◌≡◌, ◌≤◌, All, IfOk, length};
 ghost use Rattle.evl_kernel.specs.Limits.{callback_limit};
 ghost use denote.Param.Send.{IsSync};
 ghost use Rattle.evl_bank.specs.Bank.{program_bank};
-ghost use Rattle.evl_kernel.specs.Callbacks.{AnswersAsTold};
+ghost use Rattle.evl_kernel.specs.Callbacks.{AnswersByPlan};
 ghost use Rattle.evl_shell.specs.Histories.{AreSound};
 ghost use Rattle.evl_shell.specs.Runs.{handlers_of};
 ghost use Rattle.evl_stress.specs.Boards.{shared_board};
@@ -130,7 +130,7 @@ fn all_rounds<C: Handler + Send, R: Threads + Wait + Sync>(
     hands: Vec<Hand<C, Global>>,
 ) -> Result<Vec<Hand<C, Global>>, AllocError>
     requires machine { All (λ h. h.caller.machine ≡ machine.now) hands.items }
-    requires answering { AnswersAsTold C.declared C.plan machine.now.first.callbacks }
+    requires by_plan { AnswersByPlan C.declared C.plan machine.now.first.callbacks }
     requires shared { IsSync R.row }
     ensures machine { IfOk result (λ back. All (λ h. h.caller.machine ≡ machine.now) back.items) }
     ensures all { IfOk result (λ back. length back.items ≡ length hands.items) }
@@ -154,7 +154,7 @@ fn all_call<C: Handler + Send, R: Threads + Wait + Sync>(
     events: &mut Vec<Event>,
 ) -> Result<Vec<CallerOf<C, Global>>, AllocError>
     requires machine { All (λ c. c.machine ≡ machine.now) callers.items }
-    requires answering { AnswersAsTold C.declared C.plan machine.now.first.callbacks }
+    requires by_plan { AnswersByPlan C.declared C.plan machine.now.first.callbacks }
     requires shared { IsSync R.row }
     ensures machine { IfOk result (λ back. All (λ c. c.machine ≡ machine.now) back.items) }
     ensures all { IfOk result (λ back. length back.items ≡ length callers.items) }

@@ -19,12 +19,12 @@ pub struct Session<'m, C: Handler, A: Allocator> {
 
 impl<'m, C: Handler, A: Allocator> Model for Session<'m, C, A> {
     ghost use Rattle.std.specs.Prelude.{◌≡◌};
-    ghost use Rattle.evl_kernel.specs.Callbacks.{AnswersAsTold};
+    ghost use Rattle.evl_kernel.specs.Callbacks.{AnswersByPlan};
     ghost use Rattle.evl_machine.specs.Handles.{MachineState};
 
     ghost Value = { MachineState C };
 
     ghost view = { λ s. s.machine.now };
 
-    ghost invariant = { λ s. (s.caller.machine ≡ s.machine.now) × AnswersAsTold C.declared C.plan s.machine.now.first.callbacks };
+    ghost invariant = { λ s. (s.caller.machine ≡ s.machine.now) × AnswersByPlan C.declared C.plan s.machine.now.first.callbacks };
 }

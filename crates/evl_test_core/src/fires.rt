@@ -1,6 +1,6 @@
 //! Which fires a handler is given, and how often it is called.
 ghost use Rattle.std.specs.Prelude.{◌≡◌, []};
-ghost use Rattle.evl_kernel.specs.Callbacks.{AnswersAsTold};
+ghost use Rattle.evl_kernel.specs.Callbacks.{AnswersByPlan};
 ghost use Rattle.evl_pipeline.specs.Plans.{answer_of};
 
 use crate::handlers::{does, quiet, quiet_plan};
@@ -123,8 +123,8 @@ fn gives_the_fire<C: Handler, A: Allocator>(
     given: &Cell<Given>,
     calls: u64,
 ) -> bool
-    requires { AnswersAsTold C.declared C.plan kernel.old.callbacks }
-    ensures { AnswersAsTold C.declared C.plan kernel.new.callbacks }
+    requires { AnswersByPlan C.declared C.plan kernel.old.callbacks }
+    ensures { AnswersByPlan C.declared C.plan kernel.new.callbacks }
 {
     does(kernel, Call::Arrive { line: LINE }) && has(given, calls, 0)
 }
@@ -134,7 +134,7 @@ fn gives_two_fires<C: Handler, A: Allocator>(
     kernel: &mut KernelOf<C, A>,
     given: &Cell<Given>,
 ) -> bool
-    requires { AnswersAsTold C.declared C.plan kernel.old.callbacks }
+    requires { AnswersByPlan C.declared C.plan kernel.old.callbacks }
 {
     let request = Call::Request {
         line: LINE,

@@ -1,6 +1,6 @@
 //! Room for calls, over memory that is too short for it.
 ghost use Rattle.std.specs.Prelude.{◌≡◌};
-ghost use Rattle.evl_kernel.specs.Callbacks.{AnswersAsTold};
+ghost use Rattle.evl_kernel.specs.Callbacks.{AnswersByPlan};
 
 use crate::handlers::{board_of, entries, makes_room, reserve};
 use crate::rows::{KernelRow, on_a_quiet_kernel};
@@ -12,15 +12,15 @@ use std::alloc::Allocator;
 
 // Whether room for a hundred calls is refused for want of memory.
 fn has_no_room<C: Handler, A: Allocator>(kernel: &mut KernelOf<C, A>) -> bool
-    requires { AnswersAsTold C.declared C.plan kernel.old.callbacks }
-    ensures { AnswersAsTold C.declared C.plan kernel.new.callbacks }
+    requires { AnswersByPlan C.declared C.plan kernel.old.callbacks }
+    ensures { AnswersByPlan C.declared C.plan kernel.new.callbacks }
 {
     matches!(reserve(kernel, 100), Err(Refusal::NoMemory))
 }
 
 // Whether a kernel without calls refuses to make room for a hundred, and is as before.
 fn stays_as_it_is<C: Handler, A: Allocator>(kernel: &mut KernelOf<C, A>) -> bool
-    requires { AnswersAsTold C.declared C.plan kernel.old.callbacks }
+    requires { AnswersByPlan C.declared C.plan kernel.old.callbacks }
 {
     has_no_room(kernel) && entries(kernel) == 0 && makes_room(kernel, 1)
 }

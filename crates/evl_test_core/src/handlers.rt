@@ -1,6 +1,6 @@
 //! Plans, answers, handlers and boards for tests, and calls of thread 0.
 ghost use Rattle.std.specs.Prelude.{◌≡◌, [], ◌∷◌, true};
-ghost use Rattle.evl_kernel.specs.Callbacks.{AnswersAsTold};
+ghost use Rattle.evl_kernel.specs.Callbacks.{AnswersByPlan};
 ghost use Rattle.evl_pipeline.specs.Plans.{answer_of};
 
 use arrayvec::ArrayVec;
@@ -148,16 +148,16 @@ pub(crate) fn apply<C: Handler, A: Allocator>(
     kernel: &mut KernelOf<C, A>,
     call: Call,
 ) -> Result<Reply, Refusal>
-    requires answering { AnswersAsTold C.declared C.plan kernel.old.callbacks }
-    ensures answering { AnswersAsTold C.declared C.plan kernel.new.callbacks }
+    requires by_plan { AnswersByPlan C.declared C.plan kernel.old.callbacks }
+    ensures by_plan { AnswersByPlan C.declared C.plan kernel.new.callbacks }
 {
     kernel.apply(CALLER, call)
 }
 
 /// Whether one call of thread 0 is done.
 pub(crate) fn does<C: Handler, A: Allocator>(kernel: &mut KernelOf<C, A>, call: Call) -> bool
-    requires answering { AnswersAsTold C.declared C.plan kernel.old.callbacks }
-    ensures answering { AnswersAsTold C.declared C.plan kernel.new.callbacks }
+    requires by_plan { AnswersByPlan C.declared C.plan kernel.old.callbacks }
+    ensures by_plan { AnswersByPlan C.declared C.plan kernel.new.callbacks }
 {
     matches!(apply(kernel, call), Ok(Reply::Done))
 }
@@ -167,16 +167,16 @@ pub(crate) fn reserve<C: Handler, A: Allocator>(
     kernel: &mut KernelOf<C, A>,
     n: usize,
 ) -> Result<(), Refusal>
-    requires answering { AnswersAsTold C.declared C.plan kernel.old.callbacks }
-    ensures answering { AnswersAsTold C.declared C.plan kernel.new.callbacks }
+    requires by_plan { AnswersByPlan C.declared C.plan kernel.old.callbacks }
+    ensures by_plan { AnswersByPlan C.declared C.plan kernel.new.callbacks }
 {
     kernel.reserve(n)
 }
 
 /// Whether room was made for so many calls.
 pub(crate) fn makes_room<C: Handler, A: Allocator>(kernel: &mut KernelOf<C, A>, n: usize) -> bool
-    requires answering { AnswersAsTold C.declared C.plan kernel.old.callbacks }
-    ensures answering { AnswersAsTold C.declared C.plan kernel.new.callbacks }
+    requires by_plan { AnswersByPlan C.declared C.plan kernel.old.callbacks }
+    ensures by_plan { AnswersByPlan C.declared C.plan kernel.new.callbacks }
 {
     reserve(kernel, n).is_ok()
 }

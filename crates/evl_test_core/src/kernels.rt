@@ -1,5 +1,5 @@
 //! Kernels over stored closures.
-ghost use Rattle.evl_kernel.specs.Callbacks.{AnswersAsTold};
+ghost use Rattle.evl_kernel.specs.Callbacks.{AnswersByPlan};
 
 use crate::handlers::{
     SEM, apply, asks, board_of, does, entries, makes_room, plan, plays, quiet_bank, reserve,
@@ -16,22 +16,22 @@ const STAGE: Stage = Stage::Inband;
 
 // Whether a call of thread 0 finds the history full.
 fn finds_it_full<C: Handler, A: Allocator>(kernel: &mut KernelOf<C, A>, call: Call) -> bool
-    requires { AnswersAsTold C.declared C.plan kernel.old.callbacks }
+    requires { AnswersByPlan C.declared C.plan kernel.old.callbacks }
 {
     matches!(apply(kernel, call), Err(Refusal::HistoryFull))
 }
 
 // Whether no room is made for so many calls, since the history has no place for them.
 fn finds_no_place<C: Handler, A: Allocator>(kernel: &mut KernelOf<C, A>, n: usize) -> bool
-    requires answering { AnswersAsTold C.declared C.plan kernel.old.callbacks }
-    ensures answering { AnswersAsTold C.declared C.plan kernel.new.callbacks }
+    requires by_plan { AnswersByPlan C.declared C.plan kernel.old.callbacks }
+    ensures by_plan { AnswersByPlan C.declared C.plan kernel.new.callbacks }
 {
     matches!(reserve(kernel, n), Err(Refusal::HistoryFull))
 }
 
 // Whether room is made for three calls and not for four, and three calls fill the history.
 fn has_three_places<C: Handler, A: Allocator>(kernel: &mut KernelOf<C, A>) -> bool
-    requires { AnswersAsTold C.declared C.plan kernel.old.callbacks }
+    requires { AnswersByPlan C.declared C.plan kernel.old.callbacks }
 {
     let over = finds_no_place(kernel, 4);
     let room = makes_room(kernel, 3);
@@ -63,7 +63,7 @@ fn reserve_limits(rt: HostRuntime) {
 
 // Whether the semaphore's count is 1.
 fn is_posted<C: Handler, A: Allocator>(kernel: &mut KernelOf<C, A>) -> bool
-    requires { AnswersAsTold C.declared C.plan kernel.old.callbacks }
+    requires { AnswersByPlan C.declared C.plan kernel.old.callbacks }
 {
     matches!(apply(kernel, Call::Peek { sem: SEM }), Ok(Reply::Count(1)))
 }
@@ -80,8 +80,8 @@ fn is_handled<C, A: Allocator>(kernel: &KernelOf<C, A>) -> bool {
 
 // Whether the stalled stage keeps an event of the line of callback 0.
 fn keeps_its_line<C: Handler, A: Allocator>(kernel: &mut KernelOf<C, A>) -> bool
-    requires { AnswersAsTold C.declared C.plan kernel.old.callbacks }
-    ensures { AnswersAsTold C.declared C.plan kernel.new.callbacks }
+    requires { AnswersByPlan C.declared C.plan kernel.old.callbacks }
+    ensures { AnswersByPlan C.declared C.plan kernel.new.callbacks }
 {
     let request = Call::Request {
         line: LINE,
@@ -97,7 +97,7 @@ fn keeps_its_line<C: Handler, A: Allocator>(kernel: &mut KernelOf<C, A>) -> bool
 
 // Whether the line is played, and posts the semaphore, once its stage is no more stalled.
 fn posts_its_line<C: Handler, A: Allocator>(kernel: &mut KernelOf<C, A>) -> bool
-    requires { AnswersAsTold C.declared C.plan kernel.old.callbacks }
+    requires { AnswersByPlan C.declared C.plan kernel.old.callbacks }
 {
     does(kernel, Call::Unstall { stage: STAGE }) && is_posted(kernel) && is_handled(kernel)
 }

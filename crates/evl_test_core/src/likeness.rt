@@ -1,6 +1,6 @@
 //! Kernels that stand alike, whatever calls led there, and the ready list.
 ghost use Rattle.std.specs.Prelude.{IfOk};
-ghost use Rattle.evl_kernel.specs.Callbacks.{AnswersAsTold};
+ghost use Rattle.evl_kernel.specs.Callbacks.{AnswersByPlan};
 
 use crate::handlers::{ATTACH, SEM, board_of, does};
 use evl_base::{Call, Refusal, ThreadId};
@@ -14,7 +14,7 @@ const GET: Call = Call::TryGet { sem: SEM };
 
 // A kernel of two threads and a semaphore, with no callbacks.
 fn made(alloc: Global) -> Result<Kernel, Refusal>
-    ensures { IfOk result (λ k. AnswersAsTold (λ c. c.kinds.0) (λ c. c.plan.value) k.callbacks) }
+    ensures { IfOk result (λ k. AnswersByPlan (λ c. c.kinds.0) (λ c. c.plan.value) k.callbacks) }
 {
     Kernel::new(alloc, board_of(2, 0), Vec::new(alloc), 10)
 }
@@ -28,8 +28,8 @@ fn is_ready_alone<C, A: Allocator>(alloc: Global, kernel: &KernelOf<C, A>) -> bo
 
 // Whether a thread that is attached out-of-band stands in the ready list.
 fn is_listed<C: Handler, A: Allocator>(alloc: Global, kernel: &mut KernelOf<C, A>) -> bool
-    requires { AnswersAsTold C.declared C.plan kernel.old.callbacks }
-    ensures { AnswersAsTold C.declared C.plan kernel.new.callbacks }
+    requires { AnswersByPlan C.declared C.plan kernel.old.callbacks }
+    ensures { AnswersByPlan C.declared C.plan kernel.new.callbacks }
 {
     let attached = does(kernel, ATTACH);
     attached && is_ready_alone(alloc, kernel)
@@ -37,9 +37,9 @@ fn is_listed<C: Handler, A: Allocator>(alloc: Global, kernel: &mut KernelOf<C, A
 
 // Whether two kernels come to one state by other calls, and then to another.
 fn meet<C: Handler, A: Allocator>(one: &mut KernelOf<C, A>, other: &mut KernelOf<C, A>) -> bool
-    requires one { AnswersAsTold C.declared C.plan one.old.callbacks }
-    requires other { AnswersAsTold C.declared C.plan other.old.callbacks }
-    ensures { AnswersAsTold C.declared C.plan one.new.callbacks }
+    requires one { AnswersByPlan C.declared C.plan one.old.callbacks }
+    requires other { AnswersByPlan C.declared C.plan other.old.callbacks }
+    ensures { AnswersByPlan C.declared C.plan one.new.callbacks }
 {
     let before = one.is_like(other);
     let put = does(one, PUT);
@@ -52,8 +52,8 @@ fn meet<C: Handler, A: Allocator>(one: &mut KernelOf<C, A>, other: &mut KernelOf
 
 // Whether a kernel meets a new one.
 fn meets_another(alloc: Global, kernel: &mut Kernel) -> bool
-    requires { AnswersAsTold (λ c. c.kinds.0) (λ c. c.plan.value) kernel.old.callbacks }
-    ensures { AnswersAsTold (λ c. c.kinds.0) (λ c. c.plan.value) kernel.new.callbacks }
+    requires { AnswersByPlan (λ c. c.kinds.0) (λ c. c.plan.value) kernel.old.callbacks }
+    ensures { AnswersByPlan (λ c. c.kinds.0) (λ c. c.plan.value) kernel.new.callbacks }
 {
     match made(alloc) {
         Ok(mut other) => meet(kernel, &mut other),

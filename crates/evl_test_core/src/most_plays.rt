@@ -1,6 +1,6 @@
 //! The most plays that one call can be followed by, over a bank of 64 callbacks.
 ghost use Rattle.std.specs.Prelude.{◌≡◌, [], ◌∷◌, true};
-ghost use Rattle.evl_kernel.specs.Callbacks.{AnswersAsTold};
+ghost use Rattle.evl_kernel.specs.Callbacks.{AnswersByPlan};
 
 use crate::handlers::{CALLER, asks, bare_board, does, plan, plays, quiet, quiet_plan};
 use crate::rows::{KernelRow, on_a_board};
@@ -71,8 +71,8 @@ fn widest_board() -> Board {
 
 // Whether a callback stands on a line out-of-band, of which an event is pending then.
 fn stands<C: Handler, A: Allocator>(kernel: &mut KernelOf<C, A>, number: u8) -> bool
-    requires { AnswersAsTold C.declared C.plan kernel.old.callbacks }
-    ensures { AnswersAsTold C.declared C.plan kernel.new.callbacks }
+    requires { AnswersByPlan C.declared C.plan kernel.old.callbacks }
+    ensures { AnswersByPlan C.declared C.plan kernel.new.callbacks }
 {
     let line = LineNo(u16::from(number));
     let request = Call::Request {
@@ -88,8 +88,8 @@ fn stands<C: Handler, A: Allocator>(kernel: &mut KernelOf<C, A>, number: u8) -> 
 
 // Whether a callback stands in a timer, which is due.
 fn is_due<C: Handler, A: Allocator>(kernel: &mut KernelOf<C, A>, callback: u8) -> bool
-    requires { AnswersAsTold C.declared C.plan kernel.old.callbacks }
-    ensures { AnswersAsTold C.declared C.plan kernel.new.callbacks }
+    requires { AnswersByPlan C.declared C.plan kernel.old.callbacks }
+    ensures { AnswersByPlan C.declared C.plan kernel.new.callbacks }
 {
     let made = kernel.apply(CALLER, Call::NewTimer { callback, tag: 0 });
     let Ok(Reply::Number(number)) = made else {
@@ -105,8 +105,8 @@ fn is_due<C: Handler, A: Allocator>(kernel: &mut KernelOf<C, A>, callback: u8) -
 
 // Whether a thread waits in-band to read, with a deadline that has come.
 fn waits<C: Handler, A: Allocator>(kernel: &mut KernelOf<C, A>, thread: ThreadId) -> bool
-    requires { AnswersAsTold C.declared C.plan kernel.old.callbacks }
-    ensures { AnswersAsTold C.declared C.plan kernel.new.callbacks }
+    requires { AnswersByPlan C.declared C.plan kernel.old.callbacks }
+    ensures { AnswersByPlan C.declared C.plan kernel.new.callbacks }
 {
     let attach = Call::Attach {
         policy: Policy::Weak(0),
@@ -125,8 +125,8 @@ fn waits<C: Handler, A: Allocator>(kernel: &mut KernelOf<C, A>, thread: ThreadId
 
 // Whether three callbacks stand on lines, each with a pending event.
 fn lines_stand<C: Handler, A: Allocator>(kernel: &mut KernelOf<C, A>) -> bool
-    requires { AnswersAsTold C.declared C.plan kernel.old.callbacks }
-    ensures { AnswersAsTold C.declared C.plan kernel.new.callbacks }
+    requires { AnswersByPlan C.declared C.plan kernel.old.callbacks }
+    ensures { AnswersByPlan C.declared C.plan kernel.new.callbacks }
 {
     let mut all = true;
     for number in 1..OF_LINES {
@@ -137,8 +137,8 @@ fn lines_stand<C: Handler, A: Allocator>(kernel: &mut KernelOf<C, A>) -> bool
 
 // Whether all other callbacks stand in timers, each of which is due.
 fn timers_are_due<C: Handler, A: Allocator>(kernel: &mut KernelOf<C, A>) -> bool
-    requires { AnswersAsTold C.declared C.plan kernel.old.callbacks }
-    ensures { AnswersAsTold C.declared C.plan kernel.new.callbacks }
+    requires { AnswersByPlan C.declared C.plan kernel.old.callbacks }
+    ensures { AnswersByPlan C.declared C.plan kernel.new.callbacks }
 {
     let mut all = true;
     for callback in OF_LINES..CALLBACKS {
@@ -149,8 +149,8 @@ fn timers_are_due<C: Handler, A: Allocator>(kernel: &mut KernelOf<C, A>) -> bool
 
 // Whether all threads but the caller wait, each with a deadline that has come.
 fn threads_wait<C: Handler, A: Allocator>(kernel: &mut KernelOf<C, A>) -> bool
-    requires { AnswersAsTold C.declared C.plan kernel.old.callbacks }
-    ensures { AnswersAsTold C.declared C.plan kernel.new.callbacks }
+    requires { AnswersByPlan C.declared C.plan kernel.old.callbacks }
+    ensures { AnswersByPlan C.declared C.plan kernel.new.callbacks }
 {
     let mut all = true;
     for thread in 1..MAX_THREADS as u16 {
@@ -161,8 +161,8 @@ fn threads_wait<C: Handler, A: Allocator>(kernel: &mut KernelOf<C, A>) -> bool
 
 // Whether all that can be played waits for the stalled out-of-band stage.
 fn is_laid_up<C: Handler, A: Allocator>(kernel: &mut KernelOf<C, A>) -> bool
-    requires { AnswersAsTold C.declared C.plan kernel.old.callbacks }
-    ensures { AnswersAsTold C.declared C.plan kernel.new.callbacks }
+    requires { AnswersByPlan C.declared C.plan kernel.old.callbacks }
+    ensures { AnswersByPlan C.declared C.plan kernel.new.callbacks }
 {
     let request = Call::Request {
         line: HANDED,

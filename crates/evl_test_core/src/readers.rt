@@ -1,5 +1,5 @@
 //! What the readers of a kernel tell of its date, its threads and its elements.
-ghost use Rattle.evl_kernel.specs.Callbacks.{AnswersAsTold};
+ghost use Rattle.evl_kernel.specs.Callbacks.{AnswersByPlan};
 
 use crate::handlers::{ATTACH, CALLER, SEM, apply, board_of, does};
 use crate::rows::{KernelRow, on_a_quiet_kernel};
@@ -47,7 +47,7 @@ fn awaits_sem<C, A: Allocator>(kernel: &KernelOf<C, A>) -> bool {
 
 // Thread 0 is attached, and then waits for the semaphore, which stands at 0, until after the date has moved.
 fn goes_and_waits<C: Handler, A: Allocator>(kernel: &mut KernelOf<C, A>) -> bool
-    requires { AnswersAsTold C.declared C.plan kernel.old.callbacks }
+    requires { AnswersByPlan C.declared C.plan kernel.old.callbacks }
 {
     let before = stands(kernel, None, false) && holds(kernel, 0, 0);
     let attached = does(kernel, ATTACH);

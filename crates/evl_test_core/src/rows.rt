@@ -1,6 +1,6 @@
 //! New kernels and new pipelines, lent to what is asked of them, so that each is made in one place.
 ghost use Rattle.std.specs.Prelude.{◌≡◌};
-ghost use Rattle.evl_kernel.specs.Callbacks.{AnswersAsTold};
+ghost use Rattle.evl_kernel.specs.Callbacks.{AnswersByPlan};
 
 use crate::handlers::{board_of, quiet_bank};
 use evl_base::{Board, Refusal};
@@ -10,14 +10,14 @@ use std::alloc::{Allocator, Global};
 
 /// What is asked of a kernel.
 pub(crate) trait KernelRow: Drop {
-    ghost use Rattle.evl_kernel.specs.Callbacks.{AnswersAsTold};
+    ghost use Rattle.evl_kernel.specs.Callbacks.{AnswersByPlan};
 
     /// What is told of it.
     type Told;
 
     /// What the kernel comes to.
     fn ask<C: Handler, A: Allocator>(self, kernel: &mut KernelOf<C, A>) -> Self::Told
-        requires { AnswersAsTold C.declared C.plan kernel.old.callbacks };
+        requires { AnswersByPlan C.declared C.plan kernel.old.callbacks };
 }
 
 /// What a new kernel comes to, over a board of one semaphore at this count, with a history of so many calls; or why

@@ -1,5 +1,5 @@
 //! Waits of a kernel, as its readers tell of them.
-ghost use Rattle.evl_kernel.specs.Callbacks.{AnswersAsTold};
+ghost use Rattle.evl_kernel.specs.Callbacks.{AnswersByPlan};
 
 use crate::handlers::{ATTACH, CALLER, SEM, apply, board_of, does, plays};
 use crate::rows::{KernelRow, on_a_quiet_kernel};
@@ -19,8 +19,8 @@ fn tells<C, A: Allocator>(kernel: &KernelOf<C, A>, thread: ThreadId, told: [bool
 
 // Whether a wait for the semaphore begins, with a deadline that has come.
 fn begins<C: Handler, A: Allocator>(kernel: &mut KernelOf<C, A>) -> bool
-    requires { AnswersAsTold C.declared C.plan kernel.old.callbacks }
-    ensures { AnswersAsTold C.declared C.plan kernel.new.callbacks }
+    requires { AnswersByPlan C.declared C.plan kernel.old.callbacks }
+    ensures { AnswersByPlan C.declared C.plan kernel.new.callbacks }
 {
     let call = Call::BeginGet {
         sem: SEM,
@@ -31,7 +31,7 @@ fn begins<C: Handler, A: Allocator>(kernel: &mut KernelOf<C, A>) -> bool
 
 // Whether thread 0 finishes a wait that has timed out.
 fn finishes_late<C: Handler, A: Allocator>(kernel: &mut KernelOf<C, A>) -> bool
-    requires { AnswersAsTold C.declared C.plan kernel.old.callbacks }
+    requires { AnswersByPlan C.declared C.plan kernel.old.callbacks }
 {
     matches!(
         apply(kernel, Call::Finish { keep: false }),
@@ -41,8 +41,8 @@ fn finishes_late<C: Handler, A: Allocator>(kernel: &mut KernelOf<C, A>) -> bool
 
 // A wait that is served at once, with no play.
 fn is_served<C: Handler, A: Allocator>(kernel: &mut KernelOf<C, A>) -> bool
-    requires { AnswersAsTold C.declared C.plan kernel.old.callbacks }
-    ensures { AnswersAsTold C.declared C.plan kernel.new.callbacks }
+    requires { AnswersByPlan C.declared C.plan kernel.old.callbacks }
+    ensures { AnswersByPlan C.declared C.plan kernel.new.callbacks }
 {
     let attached = does(kernel, ATTACH);
     let begun = begins(kernel);
@@ -55,7 +55,7 @@ fn is_served<C: Handler, A: Allocator>(kernel: &mut KernelOf<C, A>) -> bool
 
 // A wait whose deadline has come, with two plays.
 fn times_out<C: Handler, A: Allocator>(kernel: &mut KernelOf<C, A>) -> bool
-    requires { AnswersAsTold C.declared C.plan kernel.old.callbacks }
+    requires { AnswersByPlan C.declared C.plan kernel.old.callbacks }
 {
     begins(kernel)
         && tells(kernel, CALLER, [true, true, true])

@@ -1,6 +1,6 @@
 //! Rows over memory of which one request is refused: the first, the second, and so on until a run makes no more.
 ghost use Rattle.std.specs.Prelude.{◌≡◌};
-ghost use Rattle.evl_kernel.specs.Callbacks.{AnswersAsTold};
+ghost use Rattle.evl_kernel.specs.Callbacks.{AnswersByPlan};
 
 use crate::refusing::Refusing;
 use crate::rows::{ROWS, Row};
@@ -39,8 +39,8 @@ enum Asked {
 
 // Whether the call of a step is refused for memory.
 fn is_call_refused<C: Handler, A: Allocator>(kernel: &mut KernelOf<C, A>, step: Step) -> bool
-    requires { AnswersAsTold C.declared C.plan kernel.old.callbacks }
-    ensures { AnswersAsTold C.declared C.plan kernel.new.callbacks }
+    requires { AnswersByPlan C.declared C.plan kernel.old.callbacks }
+    ensures { AnswersByPlan C.declared C.plan kernel.new.callbacks }
 {
     let Step { who, call } = step;
     matches!(kernel.apply(who, call), Err(Refusal::NoMemory))
@@ -51,24 +51,24 @@ fn refusal_of_room<C: Handler, A: Allocator>(
     kernel: &mut KernelOf<C, A>,
     calls: usize,
 ) -> Option<Refusal>
-    requires { AnswersAsTold C.declared C.plan kernel.old.callbacks }
-    ensures { AnswersAsTold C.declared C.plan kernel.new.callbacks }
+    requires { AnswersByPlan C.declared C.plan kernel.old.callbacks }
+    ensures { AnswersByPlan C.declared C.plan kernel.new.callbacks }
 {
     kernel.reserve(calls).err()
 }
 
 // Whether room for some calls is refused for memory.
 fn lacks_room<C: Handler, A: Allocator>(kernel: &mut KernelOf<C, A>, calls: usize) -> bool
-    requires { AnswersAsTold C.declared C.plan kernel.old.callbacks }
-    ensures { AnswersAsTold C.declared C.plan kernel.new.callbacks }
+    requires { AnswersByPlan C.declared C.plan kernel.old.callbacks }
+    ensures { AnswersByPlan C.declared C.plan kernel.new.callbacks }
 {
     matches!(refusal_of_room(kernel, calls), Some(Refusal::NoMemory))
 }
 
 // Whether what is asked is refused for memory.
 fn is_refused<C: Handler, A: Allocator>(kernel: &mut KernelOf<C, A>, asked: Asked) -> bool
-    requires { AnswersAsTold C.declared C.plan kernel.old.callbacks }
-    ensures { AnswersAsTold C.declared C.plan kernel.new.callbacks }
+    requires { AnswersByPlan C.declared C.plan kernel.old.callbacks }
+    ensures { AnswersByPlan C.declared C.plan kernel.new.callbacks }
 {
     match asked {
         Asked::Call(step) => is_call_refused(kernel, step),
@@ -84,8 +84,8 @@ fn is_refused_once<C: Handler, A: Allocator>(
     asked: Asked,
     again: Asked,
 ) -> Option<bool>
-    requires { AnswersAsTold C.declared C.plan kernel.old.callbacks }
-    ensures { AnswersAsTold C.declared C.plan kernel.new.callbacks }
+    requires { AnswersByPlan C.declared C.plan kernel.old.callbacks }
+    ensures { AnswersByPlan C.declared C.plan kernel.new.callbacks }
 {
     let Ok(before) = shown(alloc, kernel) else {
         return None;
@@ -105,8 +105,8 @@ fn is_room_refused_once<C: Handler, A: Allocator>(
     calls: usize,
     reserves: bool,
 ) -> Option<bool>
-    requires { AnswersAsTold C.declared C.plan kernel.old.callbacks }
-    ensures { AnswersAsTold C.declared C.plan kernel.new.callbacks }
+    requires { AnswersByPlan C.declared C.plan kernel.old.callbacks }
+    ensures { AnswersByPlan C.declared C.plan kernel.new.callbacks }
 {
     if reserves {
         is_refused_once(alloc, kernel, Asked::Room(calls), Asked::Room(calls))
@@ -122,7 +122,7 @@ fn refusals<C: Handler, A: Allocator>(
     steps: Vec<Step>,
     again: Vec<Step>,
 ) -> Option<u32>
-    requires { AnswersAsTold C.declared C.plan kernel.old.callbacks }
+    requires { AnswersByPlan C.declared C.plan kernel.old.callbacks }
 {
     let mut count = 0u32;
     for (step, once_more) in steps.into_iter().zip(again) {
@@ -176,7 +176,7 @@ fn met_by_calls<C: Handler, A: Allocator>(
     row: &Row,
     reserves: bool,
 ) -> Option<Site>
-    requires { AnswersAsTold C.declared C.plan kernel.old.callbacks }
+    requires { AnswersByPlan C.declared C.plan kernel.old.callbacks }
 {
     let steps = steps_of(alloc, row)?;
     let again = steps_of(alloc, row)?;

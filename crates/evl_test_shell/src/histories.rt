@@ -1,7 +1,7 @@
 //! Traces that are written from the histories of kernels: the program, playing the scenario of such a history, writes
 //! just its trace.
 ghost use Rattle.std.specs.Prelude.{◌≡◌, [], ◌∷◌, true};
-ghost use Rattle.evl_kernel.specs.Callbacks.{AnswersAsTold};
+ghost use Rattle.evl_kernel.specs.Callbacks.{AnswersByPlan};
 
 use crate::endings::ends;
 use arrayvec::ArrayVec;
@@ -84,8 +84,8 @@ fn plan(action: Action) -> Plan
 
 // A thread makes a call, whatever it answers.
 fn make<C: Handler, A: Allocator>(kernel: &mut KernelOf<C, A>, who: u16, call: Call)
-    requires answering { AnswersAsTold C.declared C.plan kernel.old.callbacks }
-    ensures answering { AnswersAsTold C.declared C.plan kernel.new.callbacks }
+    requires by_plan { AnswersByPlan C.declared C.plan kernel.old.callbacks }
+    ensures by_plan { AnswersByPlan C.declared C.plan kernel.new.callbacks }
 {
     let _answer = kernel.apply(ThreadId(who), call);
 }
@@ -117,7 +117,7 @@ const CALLS: &str = r#"board threads=2 sems=1 flags=0 xbufs=0 mutexes=0 groups=0
 
 // The calls that have no plays.
 fn make_calls<C: Handler, A: Allocator>(kernel: &mut KernelOf<C, A>)
-    requires answering { AnswersAsTold C.declared C.plan kernel.old.callbacks }
+    requires by_plan { AnswersByPlan C.declared C.plan kernel.old.callbacks }
 {
     make(kernel, 0, Call::TryGet { sem: SEM });
     make(kernel, 1, Call::Put { sem: SEM });
@@ -154,8 +154,8 @@ const PLAYS: &str = r#"board threads=2 sems=1 flags=0 xbufs=0 mutexes=0 groups=0
 
 // Callback 0 on line 9, and callback 1 on line 5.
 fn request<C: Handler, A: Allocator>(kernel: &mut KernelOf<C, A>)
-    requires answering { AnswersAsTold C.declared C.plan kernel.old.callbacks }
-    ensures answering { AnswersAsTold C.declared C.plan kernel.new.callbacks }
+    requires by_plan { AnswersByPlan C.declared C.plan kernel.old.callbacks }
+    ensures by_plan { AnswersByPlan C.declared C.plan kernel.new.callbacks }
 {
     let quiet = Call::Request {
         line: LineNo(9),
@@ -175,7 +175,7 @@ fn request<C: Handler, A: Allocator>(kernel: &mut KernelOf<C, A>)
 
 // The calls that have plays.
 fn make_plays<C: Handler, A: Allocator>(kernel: &mut KernelOf<C, A>)
-    requires answering { AnswersAsTold C.declared C.plan kernel.old.callbacks }
+    requires by_plan { AnswersByPlan C.declared C.plan kernel.old.callbacks }
 {
     request(kernel);
     make(kernel, 1, Call::Arrive { line: LineNo(5) });
@@ -194,7 +194,7 @@ enum Row {
 }
 
 fn make_row<C: Handler, A: Allocator>(kernel: &mut KernelOf<C, A>, row: Row)
-    requires answering { AnswersAsTold C.declared C.plan kernel.old.callbacks }
+    requires by_plan { AnswersByPlan C.declared C.plan kernel.old.callbacks }
 {
     match row {
         Row::Calls => make_calls(kernel),

@@ -1,6 +1,6 @@
 //! What a caller does in a row, and what it is told. Of the caller its machine alone is told by the clauses.
 ghost use Rattle.std.specs.Prelude.{◌≡◌};
-ghost use Rattle.evl_kernel.specs.Callbacks.{AnswersAsTold};
+ghost use Rattle.evl_kernel.specs.Callbacks.{AnswersByPlan};
 
 use crate::boards::{FLAGS, SEM, XBUF};
 use crate::passes::{Passes, WRITTEN};
@@ -126,7 +126,7 @@ fn asks<C: Handler, A: Allocator>(
     ask: Ask,
 ) -> Told
     requires machine { caller.old.machine ≡ machine.now }
-    requires answering { AnswersAsTold C.declared C.plan machine.now.first.callbacks }
+    requires by_plan { AnswersByPlan C.declared C.plan machine.now.first.callbacks }
     ensures { caller.new.machine ≡ machine.now }
 {
     told_by(machine.try_call(caller, call_of(ask)))
@@ -166,7 +166,7 @@ fn locks<C: Handler, A: Allocator>(
     mutex: MutexId,
 ) -> Told
     requires machine { caller.old.machine ≡ machine.now }
-    requires answering { AnswersAsTold C.declared C.plan machine.now.first.callbacks }
+    requires by_plan { AnswersByPlan C.declared C.plan machine.now.first.callbacks }
     ensures { caller.new.machine ≡ machine.now }
 {
     passes.locked(machine.try_lock_mutex(caller, mutex))
@@ -180,7 +180,7 @@ fn begins<C: Handler, A: Allocator>(
     until: Option<u64>,
 ) -> Told
     requires machine { caller.old.machine ≡ machine.now }
-    requires answering { AnswersAsTold C.declared C.plan machine.now.first.callbacks }
+    requires by_plan { AnswersByPlan C.declared C.plan machine.now.first.callbacks }
     ensures { caller.new.machine ≡ machine.now }
 {
     passes.begun(machine.begin_lock_mutex(caller, mutex, until))
@@ -192,7 +192,7 @@ fn finishes<C: Handler, A: Allocator>(
     passes: &mut Passes,
 ) -> Told
     requires machine { caller.old.machine ≡ machine.now }
-    requires answering { AnswersAsTold C.declared C.plan machine.now.first.callbacks }
+    requires by_plan { AnswersByPlan C.declared C.plan machine.now.first.callbacks }
     ensures { caller.new.machine ≡ machine.now }
 {
     passes.ended(machine.finish_lock_mutex(caller))
@@ -205,7 +205,7 @@ fn unlocks_fast<C: Handler, A: Allocator>(
     mutex: MutexId,
 ) -> Told
     requires machine { caller.old.machine ≡ machine.now }
-    requires answering { AnswersAsTold C.declared C.plan machine.now.first.callbacks }
+    requires by_plan { AnswersByPlan C.declared C.plan machine.now.first.callbacks }
     ensures { caller.new.machine ≡ machine.now }
 {
     match passes.of_mutex(mutex) {
@@ -221,7 +221,7 @@ fn unlocks<C: Handler, A: Allocator>(
     mutex: MutexId,
 ) -> Told
     requires machine { caller.old.machine ≡ machine.now }
-    requires answering { AnswersAsTold C.declared C.plan machine.now.first.callbacks }
+    requires by_plan { AnswersByPlan C.declared C.plan machine.now.first.callbacks }
     ensures { caller.new.machine ≡ machine.now }
 {
     match passes.of_mutex(mutex) {
@@ -237,7 +237,7 @@ fn asks_at_last<C: Handler, A: Allocator, R: Wait>(
     ask: Ask,
 ) -> Told
     requires machine { caller.old.machine ≡ machine.now }
-    requires answering { AnswersAsTold C.declared C.plan machine.now.first.callbacks }
+    requires by_plan { AnswersByPlan C.declared C.plan machine.now.first.callbacks }
     ensures { caller.new.machine ≡ machine.now }
 {
     told_by(machine.call(rt, caller, call_of(ask)))
@@ -252,7 +252,7 @@ fn locks_at_last<C: Handler, A: Allocator, R: Wait>(
     until: Option<u64>,
 ) -> Told
     requires machine { caller.old.machine ≡ machine.now }
-    requires answering { AnswersAsTold C.declared C.plan machine.now.first.callbacks }
+    requires by_plan { AnswersByPlan C.declared C.plan machine.now.first.callbacks }
     ensures { caller.new.machine ≡ machine.now }
 {
     passes.ended(machine.lock_mutex(rt, caller, mutex, until))
@@ -266,7 +266,7 @@ fn unlocks_at_last<C: Handler, A: Allocator, R: Wait>(
     mutex: MutexId,
 ) -> Told
     requires machine { caller.old.machine ≡ machine.now }
-    requires answering { AnswersAsTold C.declared C.plan machine.now.first.callbacks }
+    requires by_plan { AnswersByPlan C.declared C.plan machine.now.first.callbacks }
     ensures { caller.new.machine ≡ machine.now }
 {
     match passes.of_mutex(mutex) {
@@ -295,7 +295,7 @@ fn switches<C: Handler, A: Allocator, R: Wait>(
     stage: Stage,
 ) -> Told
     requires machine { caller.old.machine ≡ machine.now }
-    requires answering { AnswersAsTold C.declared C.plan machine.now.first.callbacks }
+    requires by_plan { AnswersByPlan C.declared C.plan machine.now.first.callbacks }
     ensures { caller.new.machine ≡ machine.now }
 {
     match stage {
@@ -311,7 +311,7 @@ fn gets<C: Handler, A: Allocator, R: Wait>(
     until: Option<u64>,
 ) -> Told
     requires machine { caller.old.machine ≡ machine.now }
-    requires answering { AnswersAsTold C.declared C.plan machine.now.first.callbacks }
+    requires by_plan { AnswersByPlan C.declared C.plan machine.now.first.callbacks }
     ensures { caller.new.machine ≡ machine.now }
 {
     told_by(machine.get_sem(rt, caller, SEM, until))
@@ -324,7 +324,7 @@ fn takes_flags<C: Handler, A: Allocator, R: Wait>(
     until: Option<u64>,
 ) -> Told
     requires machine { caller.old.machine ≡ machine.now }
-    requires answering { AnswersAsTold C.declared C.plan machine.now.first.callbacks }
+    requires by_plan { AnswersByPlan C.declared C.plan machine.now.first.callbacks }
     ensures { caller.new.machine ≡ machine.now }
 {
     told_by(machine.wait_flags(rt, caller, FLAGS, Take::Any, until))
@@ -337,7 +337,7 @@ fn reads<C: Handler, A: Allocator, R: Wait>(
     until: Option<u64>,
 ) -> Told
     requires machine { caller.old.machine ≡ machine.now }
-    requires answering { AnswersAsTold C.declared C.plan machine.now.first.callbacks }
+    requires by_plan { AnswersByPlan C.declared C.plan machine.now.first.callbacks }
     ensures { caller.new.machine ≡ machine.now }
 {
     told_by(machine.read_xbuf(rt, caller, XBUF, Way::In, 1, until))
@@ -351,7 +351,7 @@ fn writes<C: Handler, A: Allocator, R: Wait>(
     until: Option<u64>,
 ) -> Told
     requires machine { caller.old.machine ≡ machine.now }
-    requires answering { AnswersAsTold C.declared C.plan machine.now.first.callbacks }
+    requires by_plan { AnswersByPlan C.declared C.plan machine.now.first.callbacks }
     ensures { caller.new.machine ≡ machine.now }
 {
     told_by(machine.write_xbuf(rt, caller, XBUF, Way::Out, bytes, until))
@@ -365,7 +365,7 @@ fn reads_written<C: Handler, A: Allocator, R: Wait>(
     until: Option<u64>,
 ) -> Told
     requires machine { caller.old.machine ≡ machine.now }
-    requires answering { AnswersAsTold C.declared C.plan machine.now.first.callbacks }
+    requires by_plan { AnswersByPlan C.declared C.plan machine.now.first.callbacks }
     ensures { caller.new.machine ≡ machine.now }
 {
     match machine.read_xbuf(rt, caller, XBUF, Way::Out, 9, until) {
@@ -392,7 +392,7 @@ fn waits_for<C: Handler, A: Allocator, R: Wait>(
     until: Option<u64>,
 ) -> Told
     requires machine { caller.old.machine ≡ machine.now }
-    requires answering { AnswersAsTold C.declared C.plan machine.now.first.callbacks }
+    requires by_plan { AnswersByPlan C.declared C.plan machine.now.first.callbacks }
     ensures { caller.new.machine ≡ machine.now }
 {
     match element {
@@ -416,7 +416,7 @@ pub fn does<C: Handler, A: Allocator, R: Wait>(
     act: Act,
 ) -> Told
     requires machine { caller.old.machine ≡ machine.now }
-    requires answering { AnswersAsTold C.declared C.plan machine.now.first.callbacks }
+    requires by_plan { AnswersByPlan C.declared C.plan machine.now.first.callbacks }
     ensures { caller.new.machine ≡ machine.now }
 {
     match act {

@@ -1,6 +1,6 @@
 //! The last caller of a row: it has the core while others call, calls itself meanwhile, and looks at what is left.
 ghost use Rattle.std.specs.Prelude.{◌≡◌, All};
-ghost use Rattle.evl_kernel.specs.Callbacks.{AnswersAsTold};
+ghost use Rattle.evl_kernel.specs.Callbacks.{AnswersByPlan};
 
 use crate::acts::{Act, Told, call_of, told_by};
 use crate::boards::FIRST;
@@ -73,7 +73,7 @@ pub fn answers_held<C: Handler, A: Allocator, R: Wait>(
 ) -> (bool, CallerOf<C, A>)
     requires holder { holder.machine ≡ machine.now }
     requires others { All (λ c. c.machine ≡ machine.now) others.old.items }
-    requires answering { AnswersAsTold C.declared C.plan machine.now.first.callbacks }
+    requires by_plan { AnswersByPlan C.declared C.plan machine.now.first.callbacks }
     ensures holder { result.1.machine ≡ machine.now }
     ensures others { All (λ c. c.machine ≡ machine.now) others.new.items }
 {
@@ -88,7 +88,7 @@ pub fn answers_held<C: Handler, A: Allocator, R: Wait>(
 
 // What is told of a call by the caller that has the kernel; of no other act.
 fn applies_one<C: Handler, A: Allocator>(held: &mut HeldOf<'_, C, A>, act: Act) -> Told
-    requires { AnswersAsTold C.declared C.plan held.old.caller.machine.first.callbacks }
+    requires { AnswersByPlan C.declared C.plan held.old.caller.machine.first.callbacks }
     ensures { held.new.caller ≡ held.old.caller }
 {
     match act {
@@ -99,7 +99,7 @@ fn applies_one<C: Handler, A: Allocator>(held: &mut HeldOf<'_, C, A>, act: Act) 
 
 // Whether the calls are answered as it is wanted.
 fn applies_all<C: Handler, A: Allocator>(held: &mut HeldOf<'_, C, A>, steps: &[Step]) -> bool
-    requires { AnswersAsTold C.declared C.plan held.old.caller.machine.first.callbacks }
+    requires { AnswersByPlan C.declared C.plan held.old.caller.machine.first.callbacks }
     ensures { held.new.caller ≡ held.old.caller }
 {
     for step in steps {
@@ -115,7 +115,7 @@ fn applied<C: Handler, A: Allocator>(
     held: HeldOf<'_, C, A>,
     steps: &[Step],
 ) -> (bool, CallerOf<C, A>)
-    requires { AnswersAsTold C.declared C.plan held.caller.machine.first.callbacks }
+    requires { AnswersByPlan C.declared C.plan held.caller.machine.first.callbacks }
     ensures { result.1.machine ≡ held.entry.caller.machine }
 {
     let mut held = held;
@@ -130,7 +130,7 @@ pub fn applies<C: Handler, A: Allocator>(
     steps: &[Step],
 ) -> (bool, CallerOf<C, A>)
     requires machine { holder.machine ≡ machine.now }
-    requires answering { AnswersAsTold C.declared C.plan machine.now.first.callbacks }
+    requires by_plan { AnswersByPlan C.declared C.plan machine.now.first.callbacks }
     ensures { result.1.machine ≡ machine.now }
 {
     match machine.take(holder) {

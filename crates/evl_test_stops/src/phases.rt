@@ -1,6 +1,6 @@
 //! Phases of a row as data: who calls what and is told what, beside whom, and what is left then.
 ghost use Rattle.std.specs.Prelude.{◌≡◌, All, IfSome};
-ghost use Rattle.evl_kernel.specs.Callbacks.{AnswersAsTold};
+ghost use Rattle.evl_kernel.specs.Callbacks.{AnswersByPlan};
 
 use crate::acts::{Act, Told, does};
 use crate::boards::seen_of;
@@ -76,7 +76,7 @@ fn answer<C: Handler, A: Allocator, R: Wait>(
     act: Act,
 ) -> Told
     requires callers { All (λ c. c.machine ≡ machine.now) callers.old.items }
-    requires answering { AnswersAsTold C.declared C.plan machine.now.first.callbacks }
+    requires by_plan { AnswersByPlan C.declared C.plan machine.now.first.callbacks }
     ensures { All (λ c. c.machine ≡ machine.now) callers.new.items }
 {
     if number >= callers.len() {
@@ -94,7 +94,7 @@ pub fn answers<C: Handler, A: Allocator, R: Wait>(
     steps: &[Step],
 ) -> bool
     requires callers { All (λ c. c.machine ≡ machine.now) callers.old.items }
-    requires answering { AnswersAsTold C.declared C.plan machine.now.first.callbacks }
+    requires by_plan { AnswersByPlan C.declared C.plan machine.now.first.callbacks }
     ensures { All (λ c. c.machine ≡ machine.now) callers.new.items }
 {
     for (number, act, wanted) in steps {
@@ -139,7 +139,7 @@ fn answers_beside<C: Handler, A: Allocator, R: Wait>(
     steps: &[Step],
 ) -> bool
     requires callers { All (λ c. c.machine ≡ machine.now) callers.old.items }
-    requires answering { AnswersAsTold C.declared C.plan machine.now.first.callbacks }
+    requires by_plan { AnswersByPlan C.declared C.plan machine.now.first.callbacks }
     ensures { All (λ c. c.machine ≡ machine.now) callers.new.items }
 {
     let Some(holder) = last_of(machine, callers) else {
@@ -157,7 +157,7 @@ fn last_applies<C: Handler, A: Allocator>(
     steps: &[Step],
 ) -> bool
     requires callers { All (λ c. c.machine ≡ machine.now) callers.old.items }
-    requires answering { AnswersAsTold C.declared C.plan machine.now.first.callbacks }
+    requires by_plan { AnswersByPlan C.declared C.plan machine.now.first.callbacks }
     ensures { All (λ c. c.machine ≡ machine.now) callers.new.items }
 {
     let Some(holder) = last_of(machine, callers) else {
@@ -256,7 +256,7 @@ fn answers_after_last<C: Handler, A: Allocator, R: Wait>(
     steps: &[Step],
 ) -> bool
     requires callers { All (λ c. c.machine ≡ machine.now) callers.old.items }
-    requires answering { AnswersAsTold C.declared C.plan machine.now.first.callbacks }
+    requires by_plan { AnswersByPlan C.declared C.plan machine.now.first.callbacks }
     ensures { All (λ c. c.machine ≡ machine.now) callers.new.items }
 {
     let dropped = last_is_dropped(machine, callers);
@@ -273,7 +273,7 @@ fn answers_after_first<C: Handler, A: Allocator, R: Wait>(
     steps: &[Step],
 ) -> bool
     requires callers { All (λ c. c.machine ≡ machine.now) callers.old.items }
-    requires answering { AnswersAsTold C.declared C.plan machine.now.first.callbacks }
+    requires by_plan { AnswersByPlan C.declared C.plan machine.now.first.callbacks }
     ensures { All (λ c. c.machine ≡ machine.now) callers.new.items }
 {
     let dropped = first_is_dropped(machine, callers);
@@ -292,7 +292,7 @@ pub fn answers_by<C: Handler, A: Allocator, R: Wait>(
     steps: &[Step],
 ) -> bool
     requires callers { All (λ c. c.machine ≡ machine.now) callers.old.items }
-    requires answering { AnswersAsTold C.declared C.plan machine.now.first.callbacks }
+    requires by_plan { AnswersByPlan C.declared C.plan machine.now.first.callbacks }
     ensures { All (λ c. c.machine ≡ machine.now) callers.new.items }
 {
     let taken = memory.taken_for(side);

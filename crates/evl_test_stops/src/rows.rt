@@ -1,6 +1,6 @@
 //! A row: phases over a new machine.
 ghost use Rattle.std.specs.Prelude.{◌≡◌, All, IfOk};
-ghost use Rattle.evl_kernel.specs.Callbacks.{AnswersAsTold};
+ghost use Rattle.evl_kernel.specs.Callbacks.{AnswersByPlan};
 
 use crate::boards::board_with;
 use crate::memory::Memory;
@@ -25,7 +25,7 @@ fn made<C: Handler, A: Allocator + Clone>(
     limit: u32,
 ) -> Result<(MachineOf<C, A>, Vec<CallerOf<C, A>, A>), Refusal>
     ensures callers { IfOk result (λ m. All (λ c. c.machine ≡ m.0) m.1.items) }
-    ensures answering { IfOk result (λ m. AnswersAsTold C.declared C.plan m.0.first.callbacks) }
+    ensures by_plan { IfOk result (λ m. AnswersByPlan C.declared C.plan m.0.first.callbacks) }
 {
     match MachineOf::over(alloc, boxes, board, bank, limit) {
         Ok(made) => Ok(made),
@@ -43,7 +43,7 @@ fn is_phase<C: Handler, A: Allocator, R: Wait>(
     phase: &Phase<'_>,
 ) -> bool
     requires callers { All (λ c. c.machine ≡ machine.now) callers.old.items }
-    requires answering { AnswersAsTold C.declared C.plan machine.now.first.callbacks }
+    requires by_plan { AnswersByPlan C.declared C.plan machine.now.first.callbacks }
     ensures { All (λ c. c.machine ≡ machine.now) callers.new.items }
 {
     let told = answers_by(rt, memory, machine, callers, passes, phase.0, phase.1);
@@ -61,7 +61,7 @@ fn are_phases<C: Handler, A: Allocator, R: Wait>(
     phases: &[Phase<'_>],
 ) -> bool
     requires callers { All (λ c. c.machine ≡ machine.now) callers.old.items }
-    requires answering { AnswersAsTold C.declared C.plan machine.now.first.callbacks }
+    requires by_plan { AnswersByPlan C.declared C.plan machine.now.first.callbacks }
     ensures { All (λ c. c.machine ≡ machine.now) callers.new.items }
 {
     for phase in phases {

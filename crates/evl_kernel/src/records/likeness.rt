@@ -1,6 +1,6 @@
 //! Whether the records of two kernels stand alike.
 ghost use Rattle.std.specs.Prelude.{◌≡◌, true};
-ghost use Rattle.evl_kernel.specs.Callbacks.{told};
+ghost use Rattle.evl_kernel.specs.Callbacks.{handlers_in};
 ghost use Rattle.evl_kernel.specs.Records.{state_of};
 
 use super::Records;
@@ -11,7 +11,7 @@ use std::alloc::Allocator;
 impl<C, A: Allocator> Records<C, A> {
     /// Whether the records of both mean the same, where their callbacks declare and answer the same.
     pub(crate) fn is_like(&self, other: &Records<C, A>) -> bool
-        ensures alike { result ≡ true → told self.now.bank ≡ told other.now.bank → state_of self.now ≡ state_of other.now }
+        ensures alike { result ≡ true → handlers_in self.now.bank ≡ handlers_in other.now.bank → state_of self.now ≡ state_of other.now }
         ensures other { state_of self.now ≡ state_of other.now → result ≡ true }
     {
         if self.threads != other.threads {

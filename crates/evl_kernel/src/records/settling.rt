@@ -1,7 +1,7 @@
 //! Settling: one play after another until nothing is playable.
 ghost use Rattle.std.specs.Prelude.{◌≡◌, ◌+◌, ◌≤◌, ◌<◌, ◌*◌, ◌-◌, false, None, Some, IfSome, IfNone, length, vec_len, vec_capacity};
 ghost use Rattle.evl_clock.specs.Dues.{next_due};
-ghost use Rattle.evl_kernel.specs.Callbacks.{AnswersAsTold};
+ghost use Rattle.evl_kernel.specs.Callbacks.{AnswersByPlan};
 ghost use Rattle.evl_kernel.specs.Records.{KeepsCallbacks, state_of, whereabouts};
 ghost use Rattle.evl_kernel.specs.Fires.{Called};
 ghost use Rattle.evl_kernel.specs.Limits.{inband_limit, play_limit};
@@ -71,7 +71,7 @@ impl<C: Handler, A: Allocator> Records<C, A> {
     /// Plays the next due item of the clock, if something is due.
     #[inline(never)]
     fn play_item(&mut self, lists: &mut ServedLists) -> Option<Play>
-        requires answering { AnswersAsTold C.declared C.plan (whereabouts self.old) }
+        requires by_plan { AnswersByPlan C.declared C.plan (whereabouts self.old) }
         ensures played { IfSome result (λ play. due_played (state_of self.old) ≡ Some (play, state_of self.new)) }
         ensures nearer { IfSome result (λ play. waiting (state_of self.new) < waiting (state_of self.old)) }
         ensures called { IfSome result (λ play. Called C.gives (whereabouts self.old) (state_of self.old) play) }
@@ -103,7 +103,7 @@ impl<C: Handler, A: Allocator> Records<C, A> {
     /// Plays the line that is next after so many in-band plays of this call, if a line is playable; an eligible thread
     /// holds in-band lines back.
     fn play_line(&mut self, inband: u8, lists: &mut ServedLists) -> Option<Play>
-        requires answering { AnswersAsTold C.declared C.plan (whereabouts self.old) }
+        requires by_plan { AnswersByPlan C.declared C.plan (whereabouts self.old) }
         requires few { inband ≤ inband_limit }
         ensures played { IfSome result (λ play. line_goes (settling self.old inband false) ≡ Some (play, settling self.new (inband + one_inband (stage_of play)) (is_of_clock play))) }
         ensures nearer { IfSome result (λ play. left_after (state_of self.new) (inband + one_inband (stage_of play)) < left_after (state_of self.old) inband) }
@@ -132,7 +132,7 @@ impl<C: Handler, A: Allocator> Records<C, A> {
     /// Plays what is next after so many in-band plays of this call, if something is playable: behind a play of the
     /// clock or of a due item what is due, else a line.
     fn play_next(&mut self, inband: u8, of_clock: bool, lists: &mut ServedLists) -> Option<Play>
-        requires answering { AnswersAsTold C.declared C.plan (whereabouts self.old) }
+        requires by_plan { AnswersByPlan C.declared C.plan (whereabouts self.old) }
         requires few { inband ≤ inband_limit }
         ensures played { IfSome result (λ play. next_play (settling self.old inband of_clock) ≡ Some (play, settling self.new (inband + one_inband (stage_of play)) (is_of_clock play))) }
         ensures nearer { IfSome result (λ play. left_after (state_of self.new) (inband + one_inband (stage_of play)) < left_after (state_of self.old) inband) }
@@ -152,7 +152,7 @@ impl<C: Handler, A: Allocator> Records<C, A> {
     /// Plays until nothing is playable, and appends the plays. Where nothing pends, nothing is looked for.
     #[inline(always)]
     pub(super) fn settle<B: Allocator>(&mut self, plays: &mut Vec<Play, B>, lists: &mut ServedLists)
-        requires answering { AnswersAsTold C.declared C.plan (whereabouts self.old) }
+        requires by_plan { AnswersByPlan C.declared C.plan (whereabouts self.old) }
         requires room { vec_len plays.old + play_limit ≤ vec_capacity plays.old }
         ensures settled { Appends C.gives (whereabouts self.old) plays.old.items (state_of self.old) plays.new.items (state_of self.new) }
         ensures capacity { vec_capacity plays.old ≤ vec_capacity plays.new }
@@ -167,7 +167,7 @@ impl<C: Handler, A: Allocator> Records<C, A> {
     /// Plays until nothing is playable, and appends the plays. A stalled out-of-band stage holds both stages back.
     #[inline(never)]
     fn play_pending<B: Allocator>(&mut self, plays: &mut Vec<Play, B>, lists: &mut ServedLists)
-        requires answering { AnswersAsTold C.declared C.plan (whereabouts self.old) }
+        requires by_plan { AnswersByPlan C.declared C.plan (whereabouts self.old) }
         requires room { vec_len plays.old + play_limit ≤ vec_capacity plays.old }
         ensures settled { Appends C.gives (whereabouts self.old) plays.old.items (state_of self.old) plays.new.items (state_of self.new) }
         ensures capacity { vec_capacity plays.old ≤ vec_capacity plays.new }

@@ -1,7 +1,7 @@
 //! The calls on the date and the timers.
 ghost use Rattle.std.specs.Prelude.{◌≡◌, ◌<◌, length, map, None, Some, slice_set, slice_index_or};
 ghost use Rattle.evl_clock.specs.Timers.{is_timer_allowed};
-ghost use Rattle.evl_kernel.specs.Callbacks.{AnswersAsTold};
+ghost use Rattle.evl_kernel.specs.Callbacks.{AnswersByPlan};
 ghost use Rattle.evl_kernel.specs.KernelViews.{Has, IsAnswer};
 ghost use Rattle.evl_kernel.specs.Records.{KeepsCallbacks, state_of, whereabouts};
 ghost use Rattle.evl_kernel.specs.TimerCalls as timer_call;
@@ -111,7 +111,7 @@ impl<C: Handler, A: Allocator> Records<C, A> {
     /// applies: `Unknown` (no such callback), `Invalid` (a kind that isn't allowed for timers), `Busy` (the callback is
     /// out), `Limit` (there are 64 timers).
     pub(super) fn new_timer(&mut self, callback: u8, tag: u32) -> Result<Reply, Refusal>
-        requires answering { AnswersAsTold C.declared C.plan (whereabouts self.old) }
+        requires by_plan { AnswersByPlan C.declared C.plan (whereabouts self.old) }
         ensures answer { IsAnswer result }
         ensures served { Has (state_of self.old) (timer_call.new_timer (state_of self.old) callback tag) result (state_of self.new) }
         ensures stands { KeepsCallbacks self.old self.new }
@@ -141,7 +141,7 @@ impl<C: Handler, A: Allocator> Records<C, A> {
     /// A timer is taken away, whatever it does, and its callback goes back into its bank place; line 0 stays pending.
     /// `Unknown` where there is no such timer.
     pub(super) fn drop_timer(&mut self, timer: TimerId) -> Result<Reply, Refusal>
-        requires answering { AnswersAsTold C.declared C.plan (whereabouts self.old) }
+        requires by_plan { AnswersByPlan C.declared C.plan (whereabouts self.old) }
         ensures answer { IsAnswer result }
         ensures served { Has (state_of self.old) (timer_call.drop_timer (state_of self.old) timer.0) result (state_of self.new) }
         ensures stands { KeepsCallbacks self.old self.new }

@@ -1,6 +1,6 @@
 //! What a caller does in a row, and what it is told. Of the caller its machine alone is told by the clauses.
 ghost use Rattle.std.specs.Prelude.{◌≡◌};
-ghost use Rattle.evl_kernel.specs.Callbacks.{AnswersAsTold};
+ghost use Rattle.evl_kernel.specs.Callbacks.{AnswersByPlan};
 
 use evl_base::{Call, LineNo, MutexId, Policy, Refusal, Reply, SemId, Stage, StaxId};
 use evl_machine::{CallerOf, Ended, MachineOf};
@@ -85,7 +85,7 @@ fn tries<C: Handler, A: Allocator>(
     ask: Ask,
 ) -> Told
     requires machine { caller.old.machine ≡ machine.now }
-    requires answering { AnswersAsTold C.declared C.plan machine.now.first.callbacks }
+    requires by_plan { AnswersByPlan C.declared C.plan machine.now.first.callbacks }
     ensures { caller.new.machine ≡ machine.now }
 {
     told_by(machine.try_call(caller, call_of(ask)))
@@ -98,7 +98,7 @@ fn calls<C: Handler, A: Allocator, R: Wait>(
     ask: Ask,
 ) -> Told
     requires machine { caller.old.machine ≡ machine.now }
-    requires answering { AnswersAsTold C.declared C.plan machine.now.first.callbacks }
+    requires by_plan { AnswersByPlan C.declared C.plan machine.now.first.callbacks }
     ensures { caller.new.machine ≡ machine.now }
 {
     told_by(machine.call(rt, caller, call_of(ask)))
@@ -121,7 +121,7 @@ fn locks<C: Handler, A: Allocator>(
     mutex: MutexId,
 ) -> Told
     requires machine { caller.old.machine ≡ machine.now }
-    requires answering { AnswersAsTold C.declared C.plan machine.now.first.callbacks }
+    requires by_plan { AnswersByPlan C.declared C.plan machine.now.first.callbacks }
     ensures { caller.new.machine ≡ machine.now }
 {
     done(machine.try_lock_mutex(caller, mutex).is_ok())
@@ -133,7 +133,7 @@ fn locks_fast<C: Handler, A: Allocator>(
     mutex: MutexId,
 ) -> Told
     requires machine { caller.old.machine ≡ machine.now }
-    requires answering { AnswersAsTold C.declared C.plan machine.now.first.callbacks }
+    requires by_plan { AnswersByPlan C.declared C.plan machine.now.first.callbacks }
     ensures { caller.new.machine ≡ machine.now }
 {
     match machine.try_lock_mutex(caller, mutex) {
@@ -149,7 +149,7 @@ fn gets<C: Handler, A: Allocator, R: Wait>(
     sem: SemId,
 ) -> Told
     requires machine { caller.old.machine ≡ machine.now }
-    requires answering { AnswersAsTold C.declared C.plan machine.now.first.callbacks }
+    requires by_plan { AnswersByPlan C.declared C.plan machine.now.first.callbacks }
     ensures { caller.new.machine ≡ machine.now }
 {
     told_by(machine.get_sem(rt, caller, sem, None))
@@ -177,7 +177,7 @@ fn has_once<C: Handler, A: Allocator, R: Wait>(
     mutex: MutexId,
 ) -> Told
     requires machine { caller.old.machine ≡ machine.now }
-    requires answering { AnswersAsTold C.declared C.plan machine.now.first.callbacks }
+    requires by_plan { AnswersByPlan C.declared C.plan machine.now.first.callbacks }
     ensures { caller.new.machine ≡ machine.now }
 {
     match machine.lock_mutex(rt, caller, mutex, None) {
@@ -194,7 +194,7 @@ pub fn does<C: Handler, A: Allocator, R: Wait>(
     act: Act,
 ) -> Told
     requires machine { caller.old.machine ≡ machine.now }
-    requires answering { AnswersAsTold C.declared C.plan machine.now.first.callbacks }
+    requires by_plan { AnswersByPlan C.declared C.plan machine.now.first.callbacks }
     ensures { caller.new.machine ≡ machine.now }
 {
     match act {

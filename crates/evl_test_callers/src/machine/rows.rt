@@ -1,6 +1,6 @@
 //! Rows of a machine as data: which caller does what, and what it is told.
 ghost use Rattle.std.specs.Prelude.{◌≡◌, All, IfOk, IfSome};
-ghost use Rattle.evl_kernel.specs.Callbacks.{AnswersAsTold};
+ghost use Rattle.evl_kernel.specs.Callbacks.{AnswersByPlan};
 
 use super::acts::{Act, Told, does};
 use super::board_of_two;
@@ -22,7 +22,7 @@ pub fn made<C: Handler, A: Allocator + Clone>(
     limit: u32,
 ) -> Result<(MachineOf<C, A>, Vec<CallerOf<C, A>, A>), Refusal>
     ensures callers { IfOk result (λ m. All (λ c. c.machine ≡ m.0) m.1.items) }
-    ensures answering { IfOk result (λ m. AnswersAsTold C.declared C.plan m.0.first.callbacks) }
+    ensures by_plan { IfOk result (λ m. AnswersByPlan C.declared C.plan m.0.first.callbacks) }
 {
     match MachineOf::over(alloc, boxes, board, bank, limit) {
         Ok(made) => Ok(made),
@@ -39,7 +39,7 @@ fn answer<C: Handler, A: Allocator, R: Wait>(
     act: Act,
 ) -> Told
     requires callers { All (λ c. c.machine ≡ machine.now) callers.old.items }
-    requires answering { AnswersAsTold C.declared C.plan machine.now.first.callbacks }
+    requires by_plan { AnswersByPlan C.declared C.plan machine.now.first.callbacks }
     ensures { All (λ c. c.machine ≡ machine.now) callers.new.items }
 {
     if number >= callers.len() {
@@ -56,7 +56,7 @@ pub fn answers<C: Handler, A: Allocator, R: Wait>(
     steps: &[Step],
 ) -> bool
     requires callers { All (λ c. c.machine ≡ machine.now) callers.old.items }
-    requires answering { AnswersAsTold C.declared C.plan machine.now.first.callbacks }
+    requires by_plan { AnswersByPlan C.declared C.plan machine.now.first.callbacks }
     ensures { All (λ c. c.machine ≡ machine.now) callers.new.items }
 {
     for (number, act, wanted) in steps {
@@ -76,7 +76,7 @@ pub fn rounds<C: Handler, A: Allocator, R: Wait>(
     steps: &[Step],
 ) -> bool
     requires callers { All (λ c. c.machine ≡ machine.now) callers.old.items }
-    requires answering { AnswersAsTold C.declared C.plan machine.now.first.callbacks }
+    requires by_plan { AnswersByPlan C.declared C.plan machine.now.first.callbacks }
     ensures { All (λ c. c.machine ≡ machine.now) callers.new.items }
 {
     for _ in 0..times {

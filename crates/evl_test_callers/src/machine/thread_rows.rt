@@ -1,6 +1,6 @@
 //! Rows of two host threads as data: what is done before and after them on one, what each does, and what they leave.
 ghost use Rattle.std.specs.Prelude.{◌≡◌, All};
-ghost use Rattle.evl_kernel.specs.Callbacks.{AnswersAsTold};
+ghost use Rattle.evl_kernel.specs.Callbacks.{AnswersByPlan};
 
 use super::board_of_two;
 use super::closing::{is_attach, is_put};
@@ -44,7 +44,7 @@ fn pass_of<C: Handler, A: Allocator>(
     mutex: Option<MutexId>,
 ) -> Option<MutexPass>
     requires machine { caller.old.machine ≡ machine.now }
-    requires answering { AnswersAsTold C.declared C.plan machine.now.first.callbacks }
+    requires by_plan { AnswersByPlan C.declared C.plan machine.now.first.callbacks }
     ensures { caller.new.machine ≡ machine.now }
 {
     match mutex {
@@ -61,7 +61,7 @@ fn told_on_threads<C: Handler + Send, R: Threads + Wait + Sync>(
     row: &ThreadRow<'_>,
 ) -> bool
     requires callers { All (λ c. c.machine ≡ machine.now) callers.old.items }
-    requires answering { AnswersAsTold C.declared C.plan machine.now.first.callbacks }
+    requires by_plan { AnswersByPlan C.declared C.plan machine.now.first.callbacks }
     ensures { All (λ c. c.machine ≡ machine.now) callers.new.items }
 {
     let Some(second) = one_of(machine, callers, true) else {
@@ -93,7 +93,7 @@ fn answers_row<C: Handler + Send, R: Threads + Wait + Sync>(
     row: &ThreadRow<'_>,
 ) -> bool
     requires callers { All (λ c. c.machine ≡ machine.now) callers.old.items }
-    requires answering { AnswersAsTold C.declared C.plan machine.now.first.callbacks }
+    requires by_plan { AnswersByPlan C.declared C.plan machine.now.first.callbacks }
     ensures { All (λ c. c.machine ≡ machine.now) callers.new.items }
 {
     let before = answers(rt, machine, callers, row.before);

@@ -1,6 +1,6 @@
 //! Callers on two host threads.
 ghost use Rattle.std.specs.Prelude.{◌≡◌, ◌≤◌};
-ghost use Rattle.evl_kernel.specs.Callbacks.{AnswersAsTold};
+ghost use Rattle.evl_kernel.specs.Callbacks.{AnswersByPlan};
 
 use super::acts::{Act, Ask, Told, call_of, does};
 use super::{LINE, MUTEX, OTHER, SEM, STAX};
@@ -117,7 +117,7 @@ fn takes_turn<C: Handler, A: Allocator, R: Wait>(
     turn: Turn,
 ) -> bool
     requires machine { caller.old.machine ≡ machine.now }
-    requires answering { AnswersAsTold C.declared C.plan machine.now.first.callbacks }
+    requires by_plan { AnswersByPlan C.declared C.plan machine.now.first.callbacks }
     ensures { caller.new.machine ≡ machine.now }
 {
     for (act, wanted) in acts_of(turn) {
@@ -137,7 +137,7 @@ fn turns<C: Handler, A: Allocator, R: Wait>(
     turn: Turn,
 ) -> (CallerOf<C, A>, u32)
     requires machine { caller.machine ≡ machine.now }
-    requires answering { AnswersAsTold C.declared C.plan machine.now.first.callbacks }
+    requires by_plan { AnswersByPlan C.declared C.plan machine.now.first.callbacks }
     ensures machine { result.0.machine ≡ machine.now }
 {
     let mut done = 0;
@@ -155,7 +155,7 @@ fn holds_a_put<C: Handler, A: Allocator>(
     signs: &Signs,
 ) -> (CallerOf<C, A>, u32)
     requires machine { caller.machine ≡ machine.now }
-    requires answering { AnswersAsTold C.declared C.plan machine.now.first.callbacks }
+    requires by_plan { AnswersByPlan C.declared C.plan machine.now.first.callbacks }
     ensures machine { result.0.machine ≡ machine.now }
 {
     match machine.take(caller) {
@@ -179,7 +179,7 @@ fn takes_turn_beside<C: Handler, A: Allocator, R: Wait>(
     turn: Turn,
 ) -> (CallerOf<C, A>, u32)
     requires machine { caller.machine ≡ machine.now }
-    requires answering { AnswersAsTold C.declared C.plan machine.now.first.callbacks }
+    requires by_plan { AnswersByPlan C.declared C.plan machine.now.first.callbacks }
     ensures machine { result.0.machine ≡ machine.now }
 {
     let taken = wait_for(&signs.taken);
@@ -197,7 +197,7 @@ fn works<C: Handler, A: Allocator, R: Wait>(
     task: Task,
 ) -> (CallerOf<C, A>, u32)
     requires machine { caller.machine ≡ machine.now }
-    requires answering { AnswersAsTold C.declared C.plan machine.now.first.callbacks }
+    requires by_plan { AnswersByPlan C.declared C.plan machine.now.first.callbacks }
     ensures machine { result.0.machine ≡ machine.now }
 {
     match task {
@@ -215,7 +215,7 @@ fn spends<C: Handler, A: Allocator, R: Wait>(
     pass: Option<MutexPass>,
 ) -> u32
     requires machine { caller.old.machine ≡ machine.now }
-    requires answering { AnswersAsTold C.declared C.plan machine.now.first.callbacks }
+    requires by_plan { AnswersByPlan C.declared C.plan machine.now.first.callbacks }
     ensures { caller.new.machine ≡ machine.now }
 {
     match pass {
@@ -243,9 +243,9 @@ pub struct Hand<C: Drop, A: Allocator> {
 
 impl<C: Handler, A: Allocator> Worker<MachineOf<C, A>> for Hand<C, A> {
     ghost use Rattle.std.specs.Prelude.{◌≡◌};
-    ghost use Rattle.evl_kernel.specs.Callbacks.{AnswersAsTold};
+    ghost use Rattle.evl_kernel.specs.Callbacks.{AnswersByPlan};
 
-    ghost fits = { λ hand m. (hand.caller.machine ≡ m) × AnswersAsTold C.declared C.plan m.first.callbacks };
+    ghost fits = { λ hand m. (hand.caller.machine ≡ m) × AnswersByPlan C.declared C.plan m.first.callbacks };
 
     // Spends the pass, and then does the task.
     fn work<R: Wait>(
@@ -296,7 +296,7 @@ pub fn both_call<C: Handler + Send, R: Threads + Wait + Sync>(
     tasks: (Task, Task),
 ) -> (CallerOf<C, Global>, CallerOf<C, Global>, (u32, u32))
     requires machine { (first.caller.machine ≡ machine.now) × (second.caller.machine ≡ machine.now) }
-    requires answering { AnswersAsTold C.declared C.plan machine.now.first.callbacks }
+    requires by_plan { AnswersByPlan C.declared C.plan machine.now.first.callbacks }
     ensures { (result.0.machine ≡ machine.now) × (result.1.machine ≡ machine.now) }
 {
     let signs = Signs::new();

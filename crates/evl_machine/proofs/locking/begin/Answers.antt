@@ -26,11 +26,11 @@ settle-pass-requires-clause-won g c = won_at _ _ _ c.args.mutex.0 c.claim.ensure
 pub invariant_of-actor : goal.invariant_of-actor
 invariant_of-actor g c = actor_at_mutexes _ _ _ _ _ _ c.actor.invariant (ap (λ (a : SeatedActor _). a.table) c.actor.view_is ∙ c.requires.table.0) (ap (λ (a : SeatedActor _). first_of a.me.0) c.actor.view_is ∙ c.requires.table.1) (core_twice c.claim.ensures.core c.settle-pass.ensures.core) c.settle-pass.ensures.table
 
-pub apply-raised-requires-clause-answering : goal.apply-raised-requires-clause-answering
-apply-raised-requires-clause-answering g c = answers_roomier _ _ _ _ c.reserve.ensures.same c.requires.answering
+pub apply-raised-requires-clause-by_plan : goal.apply-raised-requires-clause-by_plan
+apply-raised-requires-clause-by_plan g c = answers_roomier _ _ _ _ c.reserve.ensures.same c.requires.by_plan
 
-pub apply-requires-clause-answering : goal.apply-requires-clause-answering
-apply-requires-clause-answering g c = answers_roomier _ _ _ _ c.reserve.ensures.same c.requires.answering
+pub apply-requires-clause-by_plan : goal.apply-requires-clause-by_plan
+apply-requires-clause-by_plan g c = answers_roomier _ _ _ _ c.reserve.ensures.same c.requires.by_plan
 
 pub returns-in_err-apply-in-Queued-clause-along : goal.returns-in_err-apply-in-Queued-clause-along
 returns-in_err-apply-in-Queued-clause-along g c =

@@ -22,8 +22,8 @@ forget-requires-clause-table g c = (at_table_of _ _ c.actor.view_is _ _ c.actor.
 pub forget-requires-clause-holder : goal.forget-requires-clause-holder
 forget-requires-clause-holder g c = holds_for _ _ c.actor.view_is c.args.core.now.shared.table_id c.args.core.now.shared.key.value (taken_holds _ _ _ c.requires.taken.taken) c.args.mutex.0
 
-pub end_wait-ended-requires-clause-answering : goal.end_wait-ended-requires-clause-answering
-end_wait-ended-requires-clause-answering g c = answers_roomier _ _ _ _ c.reserve.ensures.same c.requires.answering
+pub end_wait-ended-requires-clause-by_plan : goal.end_wait-ended-requires-clause-by_plan
+end_wait-ended-requires-clause-by_plan g c = answers_roomier _ _ _ _ c.reserve.ensures.same c.requires.by_plan
 
 pub invariant_of-actor : goal.invariant_of-actor
 invariant_of-actor g c = actor_at_mutexes _ _ _ _ _ _ c.actor.invariant (ap (λ (a : SeatedActor _). a.table) c.actor.view_is ∙ c.requires.table.0) (ap (λ (a : SeatedActor _). first_of a.me.0) c.actor.view_is ∙ c.requires.table.1) c.forget.ensures.core c.forget.ensures.table
@@ -45,8 +45,8 @@ accept-requires-clause-table g c = (at_table_of _ _ c.actor.view_is _ _ c.actor.
 pub accept-requires-clause-holder : goal.accept-requires-clause-holder
 accept-requires-clause-holder g c = holds_for _ _ c.actor.view_is c.args.core.now.shared.table_id c.args.core.now.shared.key.value (taken_holds _ _ _ c.requires.taken.taken) c.args.mutex.0
 
-pub end_wait-over-requires-clause-answering : goal.end_wait-over-requires-clause-answering
-end_wait-over-requires-clause-answering g c = answers_roomier _ _ _ _ c.reserve.ensures.same c.requires.answering
+pub end_wait-over-requires-clause-by_plan : goal.end_wait-over-requires-clause-by_plan
+end_wait-over-requires-clause-by_plan g c = answers_roomier _ _ _ _ c.reserve.ensures.same c.requires.by_plan
 
 pub invariant_of-actor-2 : goal.invariant_of-actor-2
 invariant_of-actor-2 g c = actor_at_mutexes _ _ _ _ _ _ c.actor.invariant (ap (λ (a : SeatedActor _). a.table) c.actor.view_is ∙ c.requires.table.0) (ap (λ (a : SeatedActor _). first_of a.me.0) c.actor.view_is ∙ c.requires.table.1) c.accept.ensures.core c.accept.ensures.table

@@ -29,8 +29,8 @@ pub returns-in_err-pass-clause-along : goal.returns-in_err-pass-clause-along
 returns-in_err-pass-clause-along g c =
     along_none _ _ (ap acting c.actor.view_is) _ _ _ c.reserve.ensures.same c.requires.held c.requires.taken.suits c.requires.taken.legal c.try_held.ensures.seats
 
-pub apply-raised-requires-clause-answering : goal.apply-raised-requires-clause-answering
-apply-raised-requires-clause-answering g c = answers_roomier _ _ _ _ c.reserve.ensures.same c.requires.answering
+pub apply-raised-requires-clause-by_plan : goal.apply-raised-requires-clause-by_plan
+apply-raised-requires-clause-by_plan g c = answers_roomier _ _ _ _ c.reserve.ensures.same c.requires.by_plan
 
 pub returns-clause-core : goal.returns-clause-core
 returns-clause-core g c =

@@ -10,7 +10,7 @@ pub loop-step-init : goal.loop-step-init
 loop-step-init g c =
     let given = c.into_iter-step-iterator.ensures.into_iter_gives in
     let k = c.args.kernel.now in
-    (c.requires.answering, c.requires.working, [], ap (lines_from k.limit (moment k)) given.0, inl refl, Passes-nil _ _)
+    (c.requires.by_plan, c.requires.working, [], ap (lines_from k.limit (moment k)) given.0, inl refl, Passes-nil _ _)
 
 pub returns-in-Err-clause-stopped : goal.returns-in-Err-clause-stopped
 returns-in-Err-clause-stopped g c =
@@ -21,7 +21,7 @@ returns-in-Err-clause-stopped g c =
     c.in-Err.ensures.stopped
 
 pub play_step-requires : goal.play_step-requires
-play_step-requires g c = record { working = c.loop-step.invariant.1; answering = c.loop-step.invariant.0 }
+play_step-requires g c = record { working = c.loop-step.invariant.1; by_plan = c.loop-step.invariant.0 }
 
 pub loop-step-preserved : goal.loop-step-preserved
 loop-step-preserved g c =
@@ -31,7 +31,7 @@ loop-step-preserved g c =
     let passed = Passes-on _ _ _ _ _ _ kept.2 _ _ _
     (lines_from-next k.limit _ _ c.play_step.new.kernel.limit _ _ _ kept.2 _ kept.3 c.in-Some.ensures.steps.0 turned.after turned.limit) kept.5
     c.in-Ok.ensures.ok in
-    (c.play_step.ensures.answering, c.in-Ok.ensures.working, passed.0, passed.1, passed.3 kept.4 (step_lines-whole _ _ _ _), passed.2)
+    (c.play_step.ensures.by_plan, c.in-Ok.ensures.working, passed.0, passed.1, passed.3 kept.4 (step_lines-whole _ _ _ _), passed.2)
 
 pub returns-clause-ok : goal.returns-clause-ok
 returns-clause-ok g c =

@@ -1,5 +1,5 @@
-use Rattle.evl_kernel.specs.Callbacks.{AnswersAsTold}
+use Rattle.evl_kernel.specs.Callbacks.{AnswersByPlan}
 use Rattle.evl_test_core.proofs.most_plays.lines_stand.Given as goal
 
 abbrev pub invariant-loop-number : goal.invariant-loop-number
-invariant-loop-number g l = AnswersAsTold g.C.Handler.declared g.C.Handler.plan l.kernel.callbacks
+invariant-loop-number g l = AnswersByPlan g.C.Handler.declared g.C.Handler.plan l.kernel.callbacks

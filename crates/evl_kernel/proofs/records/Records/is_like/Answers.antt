@@ -1,5 +1,5 @@
 use Rattle.std.proofs.Common.{◌≡◌, map, refl, sym, ap, ◌∙◌}
-use Rattle.evl_kernel.specs.Callbacks.{is_home, told}
+use Rattle.evl_kernel.specs.Callbacks.{is_home, handlers_in}
 use Rattle.evl_kernel.specs.Records.{banked, state_of}
 use Rattle.evl_kernel.specs.RecordsInside.{records_view}
 use Rattle.evl_kernel.proofs.LikenessLaws.{banked-alike, homes-alike, state-alike}

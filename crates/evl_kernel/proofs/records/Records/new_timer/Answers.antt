@@ -95,8 +95,8 @@ returns-in-Err-clause-served g c =
     let out = (c.in-Some-take_out.ensures.taken place there).1 in
     let back = c.put_back.ensures.put (record place { callback = None }) (taken_there c.self.inside.bank.items c.take_out.new.bank.items c.args.callback place there out)
     ∙ restored c.self.inside.bank.items c.take_out.new.bank.items c.args.callback place c.in-Some-take_out.taken c.in-Err.numbered.callback there has (ap (λ (m : Numbered g.row.C.Denot). m.callback) c.in-Err.ensures.returned) out in
-    let answering = rw (← c.self.view_is) at c.requires.answering in
-    let declared = declared_is g.C.Handler.declared g.C.Handler.plan _ c.args.callback place c.in-Some-take_out.taken answering there has in
+    let by_plan = rw (← c.self.view_is) at c.requires.by_plan in
+    let declared = declared_is g.C.Handler.declared g.C.Handler.plan _ c.args.callback place c.in-Some-take_out.taken by_plan there has in
     let full = is_full c.self.inside.clock (g.C.Handler.declared c.in-Some-take_out.taken) c.in-Err.refusal (ap is_timer_allowed declared ∙ allowed) c.in-Err.ensures.refused in
     rw (← c.self.view_is, back, c.in-Err.ensures.unchanged, full.0) (new_limit r c.args.callback c.args.tag c.in-Some-take_out.taken place there allowed has full.1, refl)
 

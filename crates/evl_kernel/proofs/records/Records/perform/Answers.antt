@@ -5,9 +5,9 @@ use Rattle.evl_kernel.proofs.HistoryLaws.{performed_err, performed_ok}
 use Rattle.evl_kernel.proofs.SettlingLaws.{appends_before}
 use Rattle.evl_kernel.proofs.records.Records.perform.Goals as goal
 
-pub settle-requires-clause-answering : goal.settle-requires-clause-answering
-settle-requires-clause-answering g c =
-    answers-kept g.C.Handler.declared g.C.Handler.plan c.args.self.now c.answer-reply.new.self c.answer-reply.ensures.stands c.requires.answering
+pub settle-requires-clause-by_plan : goal.settle-requires-clause-by_plan
+settle-requires-clause-by_plan g c =
+    answers-kept g.C.Handler.declared g.C.Handler.plan c.args.self.now c.answer-reply.new.self c.answer-reply.ensures.stands c.requires.by_plan
 
 pub returns-then-is_ok-clause-performed : goal.returns-then-is_ok-clause-performed
 returns-then-is_ok-clause-performed g c =

@@ -54,18 +54,18 @@ pub returns-in-Timer-clause-played : goal.returns-in-Timer-clause-played
 returns-in-Timer-clause-played g c =
     let fell = rw c.in-Timer.is at c.in_ok-thread.ensures.due in
     rw (← c.self.view_is) (timer_next g.C.Handler.declared g.C.Handler.plan g.C.Handler.gives (records_view c.self.inside) c.respond.new.self c.in-Timer.id c.in-Timer.fire c.in-Timer.missed c.in-Timer.answer c.next_due.new.self
-    (rw (← c.self.view_is) at c.requires.answering) fell.0 fell.1 c.respond.ensures.answered)
+    (rw (← c.self.view_is) at c.requires.by_plan) fell.0 fell.1 c.respond.ensures.answered)
 
 pub returns-in-Timer-clause-nearer : goal.returns-in-Timer-clause-nearer
 returns-in-Timer-clause-nearer g c =
     rw (← c.self.view_is) (timer_nearer g.C.Handler.declared g.C.Handler.plan (records_view c.self.inside) c.respond.new.self c.in-Timer.fire c.in-Timer.answer c.next_due.new.self
-    (rw (← c.self.view_is) at c.requires.answering) c.self.invariant.timers_allowed c.in_ok-thread.ensures.fewer (rw c.in-Timer.is at c.in_ok-thread.ensures.bounded).1 c.respond.ensures.answered)
+    (rw (← c.self.view_is) at c.requires.by_plan) c.self.invariant.timers_allowed c.in_ok-thread.ensures.fewer (rw c.in-Timer.is at c.in_ok-thread.ensures.bounded).1 c.respond.ensures.answered)
 
 pub returns-in-Timer-clause-called : goal.returns-in-Timer-clause-called
 returns-in-Timer-clause-called g c =
     let fell = rw c.in-Timer.is at c.in_ok-thread.ensures.due in
     rw (← c.self.view_is) (timer_called g.C.Handler.declared g.C.Handler.plan g.C.Handler.gives (records_view c.self.inside) c.in-Timer.id c.in-Timer.fire c.in-Timer.missed c.in-Timer.answer c.next_due.new.self
-    (rw (← c.self.view_is) at c.requires.answering) fell.1)
+    (rw (← c.self.view_is) at c.requires.by_plan) fell.1)
 
 pub returns-in-Timer-clause-stands : goal.returns-in-Timer-clause-stands
 returns-in-Timer-clause-stands g c =

@@ -41,12 +41,12 @@ invariant_of-self-in-Some-Line g c = record {
 pub returns-in-Some-Line-clause-played : goal.returns-in-Some-Line-clause-played
 returns-in-Some-Line-clause-played g c =
     rw (← c.self.view_is) (line_next g.C.Handler.declared g.C.Handler.plan g.C.Handler.gives (records_view c.self.inside) c.respond.new.self c.args.inband c.date-date.result c.in-Some-Line.fire c.in-Some-Line.answer c.next.new.self
-    (rw (← c.self.view_is) at c.requires.answering) (rw (c.in-Some-Line.field-0-is, c.eligible-eligible.ensures.eligible) at c.in-Some-Line.ensures.plays) c.respond.ensures.answered)
+    (rw (← c.self.view_is) at c.requires.by_plan) (rw (c.in-Some-Line.field-0-is, c.eligible-eligible.ensures.eligible) at c.in-Some-Line.ensures.plays) c.respond.ensures.answered)
 
 pub returns-in-Some-Line-clause-nearer : goal.returns-in-Some-Line-clause-nearer
 returns-in-Some-Line-clause-nearer g c =
     rw (← c.self.view_is) (line_nearer g.C.Handler.declared g.C.Handler.plan g.C.Handler.gives (records_view c.self.inside) c.respond.new.self c.args.inband c.date-date.result c.in-Some-Line.fire c.in-Some-Line.answer c.next.new.self
-    (rw (← c.self.view_is) at c.requires.answering) c.self.invariant.allowed (rw (c.in-Some-Line.field-0-is, c.eligible-eligible.ensures.eligible) at c.in-Some-Line.ensures.plays) (rw c.in-Some-Line.field-0-is at c.in-Some-Line.ensures.bounded) c.respond.ensures.answered)
+    (rw (← c.self.view_is) at c.requires.by_plan) c.self.invariant.allowed (rw (c.in-Some-Line.field-0-is, c.eligible-eligible.ensures.eligible) at c.in-Some-Line.ensures.plays) (rw c.in-Some-Line.field-0-is at c.in-Some-Line.ensures.bounded) c.respond.ensures.answered)
 
 pub returns-in-Some-Line-clause-stands : goal.returns-in-Some-Line-clause-stands
 returns-in-Some-Line-clause-stands g c =
@@ -57,4 +57,4 @@ returns-in-Some-Line-clause-stands g c =
 pub returns-in-Some-Line-clause-called : goal.returns-in-Some-Line-clause-called
 returns-in-Some-Line-clause-called g c =
     rw (← c.self.view_is) (line_called g.C.Handler.declared g.C.Handler.plan g.C.Handler.gives (records_view c.self.inside) c.args.inband c.date-date.result c.in-Some-Line.fire c.in-Some-Line.answer c.next.new.self
-    (rw (← c.self.view_is) at c.date-date.ensures.date) (rw (← c.self.view_is) at c.requires.answering) (rw (c.in-Some-Line.field-0-is, c.eligible-eligible.ensures.eligible) at c.in-Some-Line.ensures.plays))
+    (rw (← c.self.view_is) at c.date-date.ensures.date) (rw (← c.self.view_is) at c.requires.by_plan) (rw (c.in-Some-Line.field-0-is, c.eligible-eligible.ensures.eligible) at c.in-Some-Line.ensures.plays))

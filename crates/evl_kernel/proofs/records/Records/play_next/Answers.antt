@@ -9,10 +9,10 @@ use Rattle.evl_kernel.proofs.records.Records.play_next.Goals.{then-of_clock+in_d
 pub returns-in-Some-clause-played : goal.returns-in-Some-clause-played
 returns-in-Some-clause-played g c = rw c.if-of_clock.true (item_goes c.args.self.now c.play_item.new.self c.args.inband c.in-Some.play c.in-Some.ensures.played)
 
-pub play_line-requires-clause-answering : goal.play_line-requires-clause-answering
-play_line-requires-clause-answering g c = elim c.if-of_clock.branch [
-  | then-of_clock+in_default w ↦ rw (w.self-is, w.in_default.ensures.ended.1) c.requires.answering
-  | else-of_clock w ↦ rw w.self-is c.requires.answering
+pub play_line-requires-clause-by_plan : goal.play_line-requires-clause-by_plan
+play_line-requires-clause-by_plan g c = elim c.if-of_clock.branch [
+  | then-of_clock+in_default w ↦ rw (w.self-is, w.in_default.ensures.ended.1) c.requires.by_plan
+  | else-of_clock w ↦ rw w.self-is c.requires.by_plan
 ]
 
 -- nothing has changed

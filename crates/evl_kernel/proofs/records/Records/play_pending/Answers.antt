@@ -24,9 +24,9 @@ loop-play-init g c =
       stands = keeps-none c.args.self.now;
     }
 
-pub play_next-requires-clause-answering : goal.play_next-requires-clause-answering
-play_next-requires-clause-answering g c =
-    answers-kept g.C.Handler.declared g.C.Handler.plan c.args.self.now c.loop-play.self c.loop-play.invariant.stands c.requires.answering
+pub play_next-requires-clause-by_plan : goal.play_next-requires-clause-by_plan
+play_next-requires-clause-by_plan g c =
+    answers-kept g.C.Handler.declared g.C.Handler.plan c.args.self.now c.loop-play.self c.loop-play.invariant.stands c.requires.by_plan
 
 pub loop-play-preserved : goal.loop-play-preserved
 loop-play-preserved g c =

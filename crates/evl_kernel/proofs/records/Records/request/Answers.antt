@@ -43,7 +43,7 @@ invariant_of-self-in-Ok g c =
     let asked_of = asked c.self.inside.bank.items c.args.callback c.in-Some.kinds (sym c.kinds_in.ensures ∙ c.in-Some.is) in
     let place = asked_of.0 in
     let there = asked_of.1 in
-    let answering = rw (← c.self.view_is) at c.requires.answering in
+    let by_plan = rw (← c.self.view_is) at c.requires.by_plan in
     let none : request_refusal r.lines c.args.line.0 c.args.stage place.kinds.0 ≡ None = rw asked_of.2 (sym c.request_refusal.ensures.refusal ∙ c.in_default-request_refusal.is) in
     let has : place.callback ≡ Some c.in-Some-take_out.taken = sym (c.in-Some-take_out.ensures.taken place there).0 in
     record {
@@ -51,7 +51,7 @@ invariant_of-self-in-Ok g c =
           (requested_allowed r c.args.line.0 c.args.stage c.args.callback c.args.tag c.in-Some-take_out.taken place there none c.self.invariant.allowed);
       timers_allowed = rw ((c.in-Some-take_out.ensures.taken place there).1)
           (timers_allowed-kept r (after_request r c.args.line.0 c.args.stage c.args.callback c.args.tag c.in-Some-take_out.taken place) (λ n at h. (at, h, refl))
-          (requested_keeps r c.args.line.0 c.args.stage c.args.callback c.args.tag c.in-Some-take_out.taken place there has).told_is c.self.invariant.timers_allowed);
+          (requested_keeps r c.args.line.0 c.args.stage c.args.callback c.args.tag c.in-Some-take_out.taken place there has).handlers_are c.self.invariant.timers_allowed);
       clock_sound = c.self.invariant.clock_sound;
       ranks = c.self.invariant.ranks;
       waits = c.self.invariant.waits;
@@ -63,7 +63,7 @@ returns-in-Ok-clause-served g c =
     let asked_of = asked c.self.inside.bank.items c.args.callback c.in-Some.kinds (sym c.kinds_in.ensures ∙ c.in-Some.is) in
     let place = asked_of.0 in
     let there = asked_of.1 in
-    let answering = rw (← c.self.view_is) at c.requires.answering in
+    let by_plan = rw (← c.self.view_is) at c.requires.by_plan in
     let none : request_refusal r.lines c.args.line.0 c.args.stage place.kinds.0 ≡ None = rw asked_of.2 (sym c.request_refusal.ensures.refusal ∙ c.in_default-request_refusal.is) in
     let has : place.callback ≡ Some c.in-Some-take_out.taken = sym (c.in-Some-take_out.ensures.taken place there).0 in
     rw (← c.self.view_is, (c.in-Some-take_out.ensures.taken place there).1, c.in-Ok.ensures.ok.1)
@@ -75,7 +75,7 @@ returns-in-Ok-clause-stands g c =
     let asked_of = asked c.self.inside.bank.items c.args.callback c.in-Some.kinds (sym c.kinds_in.ensures ∙ c.in-Some.is) in
     let place = asked_of.0 in
     let there = asked_of.1 in
-    let answering = rw (← c.self.view_is) at c.requires.answering in
+    let by_plan = rw (← c.self.view_is) at c.requires.by_plan in
     let none : request_refusal r.lines c.args.line.0 c.args.stage place.kinds.0 ≡ None = rw asked_of.2 (sym c.request_refusal.ensures.refusal ∙ c.in_default-request_refusal.is) in
     let has : place.callback ≡ Some c.in-Some-take_out.taken = sym (c.in-Some-take_out.ensures.taken place there).0 in
     rw (← c.self.view_is, (c.in-Some-take_out.ensures.taken place there).1, c.in-Ok.ensures.ok.1)
@@ -87,11 +87,11 @@ put_back-requires g c =
     let asked_of = asked c.self.inside.bank.items c.args.callback c.in-Some.kinds (sym c.kinds_in.ensures ∙ c.in-Some.is) in
     let place = asked_of.0 in
     let there = asked_of.1 in
-    let answering = rw (← c.self.view_is) at c.requires.answering in
+    let by_plan = rw (← c.self.view_is) at c.requires.by_plan in
     let none : request_refusal r.lines c.args.line.0 c.args.stage place.kinds.0 ≡ None = rw asked_of.2 (sym c.request_refusal.ensures.refusal ∙ c.in_default-request_refusal.is) in
     let has : place.callback ≡ Some c.in-Some-take_out.taken = sym (c.in-Some-take_out.ensures.taken place there).0 in
     let some = c.in-Err.ensures.refused in
-    absurd (never none (rw (declared_is g.C.Handler.declared g.C.Handler.plan _ c.args.callback place c.in-Some-take_out.taken answering there has) at some))
+    absurd (never none (rw (declared_is g.C.Handler.declared g.C.Handler.plan _ c.args.callback place c.in-Some-take_out.taken by_plan there has) at some))
 
 pub invariant_of-self-in-Err : goal.invariant_of-self-in-Err
 invariant_of-self-in-Err g c =
@@ -99,11 +99,11 @@ invariant_of-self-in-Err g c =
     let asked_of = asked c.self.inside.bank.items c.args.callback c.in-Some.kinds (sym c.kinds_in.ensures ∙ c.in-Some.is) in
     let place = asked_of.0 in
     let there = asked_of.1 in
-    let answering = rw (← c.self.view_is) at c.requires.answering in
+    let by_plan = rw (← c.self.view_is) at c.requires.by_plan in
     let none : request_refusal r.lines c.args.line.0 c.args.stage place.kinds.0 ≡ None = rw asked_of.2 (sym c.request_refusal.ensures.refusal ∙ c.in_default-request_refusal.is) in
     let has : place.callback ≡ Some c.in-Some-take_out.taken = sym (c.in-Some-take_out.ensures.taken place there).0 in
     let some = c.in-Err.ensures.refused in
-    absurd (never none (rw (declared_is g.C.Handler.declared g.C.Handler.plan _ c.args.callback place c.in-Some-take_out.taken answering there has) at some))
+    absurd (never none (rw (declared_is g.C.Handler.declared g.C.Handler.plan _ c.args.callback place c.in-Some-take_out.taken by_plan there has) at some))
 
 pub returns-in-Err-clause-served : goal.returns-in-Err-clause-served
 returns-in-Err-clause-served g c =
@@ -111,11 +111,11 @@ returns-in-Err-clause-served g c =
     let asked_of = asked c.self.inside.bank.items c.args.callback c.in-Some.kinds (sym c.kinds_in.ensures ∙ c.in-Some.is) in
     let place = asked_of.0 in
     let there = asked_of.1 in
-    let answering = rw (← c.self.view_is) at c.requires.answering in
+    let by_plan = rw (← c.self.view_is) at c.requires.by_plan in
     let none : request_refusal r.lines c.args.line.0 c.args.stage place.kinds.0 ≡ None = rw asked_of.2 (sym c.request_refusal.ensures.refusal ∙ c.in_default-request_refusal.is) in
     let has : place.callback ≡ Some c.in-Some-take_out.taken = sym (c.in-Some-take_out.ensures.taken place there).0 in
     let some = c.in-Err.ensures.refused in
-    absurd (never none (rw (declared_is g.C.Handler.declared g.C.Handler.plan _ c.args.callback place c.in-Some-take_out.taken answering there has) at some))
+    absurd (never none (rw (declared_is g.C.Handler.declared g.C.Handler.plan _ c.args.callback place c.in-Some-take_out.taken by_plan there has) at some))
 
 pub returns-in-Err-clause-stands : goal.returns-in-Err-clause-stands
 returns-in-Err-clause-stands g c =
@@ -123,8 +123,8 @@ returns-in-Err-clause-stands g c =
     let asked_of = asked c.self.inside.bank.items c.args.callback c.in-Some.kinds (sym c.kinds_in.ensures ∙ c.in-Some.is) in
     let place = asked_of.0 in
     let there = asked_of.1 in
-    let answering = rw (← c.self.view_is) at c.requires.answering in
+    let by_plan = rw (← c.self.view_is) at c.requires.by_plan in
     let none : request_refusal r.lines c.args.line.0 c.args.stage place.kinds.0 ≡ None = rw asked_of.2 (sym c.request_refusal.ensures.refusal ∙ c.in_default-request_refusal.is) in
     let has : place.callback ≡ Some c.in-Some-take_out.taken = sym (c.in-Some-take_out.ensures.taken place there).0 in
     let some = c.in-Err.ensures.refused in
-    absurd (never none (rw (declared_is g.C.Handler.declared g.C.Handler.plan _ c.args.callback place c.in-Some-take_out.taken answering there has) at some))
+    absurd (never none (rw (declared_is g.C.Handler.declared g.C.Handler.plan _ c.args.callback place c.in-Some-take_out.taken by_plan there has) at some))

@@ -4,4 +4,4 @@ use Rattle.evl_machine.proofs.Knowing.{answers_there}
 use Rattle.evl_machine.proofs.boxed.Machine.take.Goals as goal
 
 pub invariant_of-result : goal.invariant_of-result
-invariant_of-result g c = record { answering = answers_there (λ x. x.kinds.0) (λ x. x.plan.value) c.args.self.now.of c.in-Ok.of.caller.machine (ap (λ (s : CallerState _). s.machine) c.in-Ok.ensures.taken.caller ∙ c.requires) c.args.self.now.answering }
+invariant_of-result g c = record { by_plan = answers_there (λ x. x.kinds.0) (λ x. x.plan.value) c.args.self.now.of c.in-Ok.of.caller.machine (ap (λ (s : CallerState _). s.machine) c.in-Ok.ensures.taken.caller ∙ c.requires) c.args.self.now.by_plan }

@@ -6,8 +6,8 @@ use Rattle.evl_machine.proofs.Knowing.{answers_still}
 use Rattle.evl_machine.proofs.Visits.{held_call}
 use Rattle.evl_machine.proofs.held.HeldOf.apply.Goals as goal
 
-pub apply-requires-clause-answering : goal.apply-requires-clause-answering
-apply-requires-clause-answering g c =
+pub apply-requires-clause-by_plan : goal.apply-requires-clause-by_plan
+apply-requires-clause-by_plan g c =
     let first = sym (ap (λ (m : MachineState _). m.first) c.self.invariant.0) ∙ ap (λ (h : HeldState _). h.caller.machine.first) c.self.view_is in
     answers_still _ _ c.args.self.now.caller.machine.first c.self.inside.kernel (subst (λ (f : KernelView _). ComesFrom f c.self.inside.kernel) first c.self.invariant.2) c.requires
 

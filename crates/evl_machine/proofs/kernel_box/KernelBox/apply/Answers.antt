@@ -1,5 +1,5 @@
 use Rattle.std.proofs.Common.{◌≡◌, sym, ◌∙◌, subst}
-use Rattle.evl_kernel.specs.Callbacks.{AnswersAsTold}
+use Rattle.evl_kernel.specs.Callbacks.{AnswersByPlan}
 use Rattle.evl_kernel.specs.KernelViews.{KernelView}
 use Rattle.evl_machine.specs.Calls.{Applied}
 use Rattle.evl_machine.proofs.Calling.{applies}
@@ -8,7 +8,7 @@ use Rattle.evl_machine.proofs.kernel_box.KernelBox.apply.Goals as goal
 pub apply-requires : goal.apply-requires
 apply-requires g c =
     let same : c.deref_mut.result.now ≡ c.args.self.now = c.deref_mut.ensures.value ∙ c.self.view_is in
-    record { answering = subst (λ (k : KernelView _). AnswersAsTold g.C.Handler.declared g.C.Handler.plan k.callbacks) (sym same) c.requires }
+    record { by_plan = subst (λ (k : KernelView _). AnswersByPlan g.C.Handler.declared g.C.Handler.plan k.callbacks) (sym same) c.requires }
 
 pub returns : goal.returns
 returns g c =

@@ -1,6 +1,6 @@
 use Rattle.std.proofs.Common.{◌≡◌, true, ap, sym, ◌∙◌, subst}
 use Rattle.evl_base.specs.Board.{board_fits}
-use Rattle.evl_kernel.specs.Callbacks.{AnswersAsTold}
+use Rattle.evl_kernel.specs.Callbacks.{AnswersByPlan}
 use Rattle.evl_kernel.specs.KernelViews.{KernelView}
 use Rattle.evl_machine.specs.Actors.{ActorState, acting, call_refusal}
 use Rattle.evl_machine.specs.Callers.{machine_by}
@@ -13,10 +13,10 @@ use Rattle.evl_machine.proofs.Staying.{at_stage}
 use Rattle.evl_machine.proofs.Visits.{same_actor}
 use Rattle.evl_machine.proofs.machine.MachineOf.attempt.Goals as goal
 
-pub call_with-requires-clause-answering : goal.call_with-requires-clause-answering
-call_with-requires-clause-answering g c =
+pub call_with-requires-clause-by_plan : goal.call_with-requires-clause-by_plan
+call_with-requires-clause-by_plan g c =
     let same = ap (λ (s : CallerState _). s.machine.first) c.caller.view_is ∙ ap (λ (m : MachineState _). m.first) c.requires.machine in
-    subst (λ (first : KernelView _). AnswersAsTold g.C.Handler.declared g.C.Handler.plan first.callbacks) (sym same) c.requires.answering
+    subst (λ (first : KernelView _). AnswersByPlan g.C.Handler.declared g.C.Handler.plan first.callbacks) (sym same) c.requires.by_plan
 
 pub call_with-requires-clause-board : goal.call_with-requires-clause-board
 call_with-requires-clause-board g c =

@@ -31,8 +31,8 @@ returns-in_default-clause-called g c = called_none _ _ _ _ c.args.call c.require
 pub returns-in_default-clause-acted : goal.returns-in_default-clause-acted
 returns-in_default-clause-acted g c = found_taken _ _ _ c.in_default.ensures.event
 
-pub apply-reply-requires-clause-answering : goal.apply-reply-requires-clause-answering
-apply-reply-requires-clause-answering g c = answers_still _ _ _ _ c.in-Some.ensures.opened.comes c.requires.answering
+pub apply-reply-requires-clause-by_plan : goal.apply-reply-requires-clause-by_plan
+apply-reply-requires-clause-by_plan g c = answers_still _ _ _ _ c.in-Some.ensures.opened.comes c.requires.by_plan
 
 pub apply-reply-requires-clause-suits : goal.apply-reply-requires-clause-suits
 apply-reply-requires-clause-suits g c = suits_opened c.args.actor.now c.open.new.actor c.in-Some.kernel c.in-Some.ensures.opened c.requires.suits c.in-Some.ensures.same.1
@@ -88,7 +88,7 @@ returns-clause-held g c = subst (λ (z : ActorState). AreHeldAt z.stage z.staxes
 pub returns-clause-called : goal.returns-clause-called
 returns-clause-called g c =
     let e = c.apply-reply.ensures in
-    let now = c.shut.ensures.account ∙ ap (λ (m : CoreMe (KernelView _)). Rattle.evl_machine.specs.Accounts.informed c.apply-reply.new.kernel.history (account_of m)) (ap seen e.seat.1) in
+    let now = c.shut.ensures.account ∙ ap (λ (m : CoreMe (KernelView _)). Rattle.evl_machine.specs.Accounts.up_to_date c.apply-reply.new.kernel.history (account_of m)) (ap seen e.seat.1) in
     called_by _ _ _ c.open.new.actor.me c.in-Some.kernel c.in-Some.ensures.opened c.args.call _ _ (subst (λ (t : ThreadId). Applied c.in-Some.kernel t.0 c.args.call c.apply-reply.result c.apply-reply.new.kernel) c.in-Some.ensures.kept.0 e.applied) _ now
 
 pub returns-clause-acted : goal.returns-clause-acted

@@ -71,8 +71,8 @@ pub returns-then-not-finished-clause-looked : goal.returns-then-not-finished-cla
 returns-then-not-finished-clause-looked g c =
     look_opened _ _ _ c.open.new.actor.me c.in-Some.kernel c.in-Some.ensures.opened (subst (λ (t : ThreadId). has_ended c.in-Some.kernel.history.state t.0 ≡ false) c.in-Some.ensures.kept.0 (goes_on _ _ _ _ _ c.actor.view_is c.kernel.ensures c.finished.ensures.ended c.if-not-finished.true)) _ c.shut.ensures.account c.in-Some.ensures.event c.shut.ensures.event
 
-pub apply-reply-requires-clause-answering : goal.apply-reply-requires-clause-answering
-apply-reply-requires-clause-answering g c = answers_still _ _ _ _ c.in-Some.ensures.opened.comes c.requires.answering
+pub apply-reply-requires-clause-by_plan : goal.apply-reply-requires-clause-by_plan
+apply-reply-requires-clause-by_plan g c = answers_still _ _ _ _ c.in-Some.ensures.opened.comes c.requires.by_plan
 
 pub apply-reply-requires-clause-suits : goal.apply-reply-requires-clause-suits
 apply-reply-requires-clause-suits g c = suits_opened c.args.actor.now c.open.new.actor c.in-Some.kernel c.in-Some.ensures.opened c.requires.suits c.in-Some.ensures.same.1
@@ -122,7 +122,7 @@ returns-clause-held g c = subst (λ (z : ActorState). AreHeldAt z.stage z.staxes
 pub returns-clause-looked : goal.returns-clause-looked
 returns-clause-looked g c =
     let e = c.apply-reply.ensures in
-    let now = c.shut-2.ensures.account ∙ ap (λ (m : CoreMe (KernelView _)). Rattle.evl_machine.specs.Accounts.informed c.apply-reply.new.kernel.history (account_of m)) (ap seen e.seat.1) in
+    let now = c.shut-2.ensures.account ∙ ap (λ (m : CoreMe (KernelView _)). Rattle.evl_machine.specs.Accounts.up_to_date c.apply-reply.new.kernel.history (account_of m)) (ap seen e.seat.1) in
     let keep = c.keeps_stage-keep.ensures ∙ ap (λ (a : ActorState). keeps_stage (holds_stax a.staxes) (holds_mutex a.mutexes)) c.in-Some.ensures.same.1 in
     subst (λ keep. Answered (first_of c.args.actor.now.me.0).limit (account_of (seen c.args.actor.now.me)) (Finish keep) c.apply-reply.result (account_of (seen c.shut-2.new.actor.me))) keep
     (called_by _ _ _ c.open.new.actor.me c.in-Some.kernel c.in-Some.ensures.opened (Finish c.keeps_stage-keep.result) _ _ (subst (λ (t : ThreadId). Applied c.in-Some.kernel t.0 (Finish c.keeps_stage-keep.result) c.apply-reply.result c.apply-reply.new.kernel) c.in-Some.ensures.kept.0 e.applied) _ now)

@@ -1,6 +1,6 @@
 use Rattle.std.proofs.Common.{slice_get, refl, ap, inl, inr, sym, ◌∙◌, subst}
 use Rattle.evl_base.specs.declared.numbers.ThreadId.{ThreadId}
-use Rattle.evl_kernel.specs.Callbacks.{AnswersAsTold}
+use Rattle.evl_kernel.specs.Callbacks.{AnswersByPlan}
 use Rattle.evl_kernel.specs.KernelViews.{KernelView}
 use Rattle.evl_machine.specs.Actors.{acting}
 use Rattle.evl_machine.specs.Ceilings.{has_ceiling}
@@ -18,10 +18,10 @@ lock_raised-result-requires-clause-table g c =
     let machine = ap (λ (s : CallerState _). s.machine) c.caller.view_is ∙ c.requires.machine ∙ sym c.self.view_is in
     (c.in-Some.ensures.same.0 ∙ ap (λ (m : MachineState _). m.id) machine, c.in-Some.ensures.same.2 ∙ ap (λ (m : MachineState _). m.first) machine)
 
-pub lock_raised-result-requires-clause-answering : goal.lock_raised-result-requires-clause-answering
-lock_raised-result-requires-clause-answering g c =
+pub lock_raised-result-requires-clause-by_plan : goal.lock_raised-result-requires-clause-by_plan
+lock_raised-result-requires-clause-by_plan g c =
     let same = ap (λ (s : CallerState _). s.machine.first) c.caller.view_is ∙ ap (λ (m : MachineState _). m.first) c.requires.machine in
-    opened_answers _ _ _ c.open.new.actor.me c.in-Some.kernel c.in-Some.ensures.opened (subst (λ (first : KernelView _). AnswersAsTold g.C.Handler.declared g.C.Handler.plan first.callbacks) (sym same) c.requires.answering)
+    opened_answers _ _ _ c.open.new.actor.me c.in-Some.kernel c.in-Some.ensures.opened (subst (λ (first : KernelView _). AnswersByPlan g.C.Handler.declared g.C.Handler.plan first.callbacks) (sym same) c.requires.by_plan)
 
 pub lock_raised-result-requires-clause-unrefused : goal.lock_raised-result-requires-clause-unrefused
 lock_raised-result-requires-clause-unrefused g c =

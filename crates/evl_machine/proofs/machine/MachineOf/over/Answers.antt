@@ -1,12 +1,12 @@
 use Rattle.std.proofs.Common.{sym, subst}
-use Rattle.evl_kernel.specs.Callbacks.{AnswersAsTold}
+use Rattle.evl_kernel.specs.Callbacks.{AnswersByPlan}
 use Rattle.evl_kernel.specs.KernelViews.{KernelView}
 use Rattle.evl_machine.specs.Homes.{AreHomes}
 use Rattle.evl_machine.proofs.Newcomers.{gate_homes, made_bounds}
 use Rattle.evl_machine.proofs.machine.MachineOf.over.Goals as goal
 
-pub returns-in_ok-made-in-Ok-clause-answering : goal.returns-in_ok-made-in-Ok-clause-answering
-returns-in_ok-made-in-Ok-clause-answering g c = subst (λ (k : KernelView _). AnswersAsTold g.C.Handler.declared g.C.Handler.plan k.callbacks) (sym c.in_ok-made-in-Ok.ensures.first) c.in_ok-kernel.ensures.answering
+pub returns-in_ok-made-in-Ok-clause-by_plan : goal.returns-in_ok-made-in-Ok-clause-by_plan
+returns-in_ok-made-in-Ok-clause-by_plan g c = subst (λ (k : KernelView _). AnswersByPlan g.C.Handler.declared g.C.Handler.plan k.callbacks) (sym c.in_ok-made-in-Ok.ensures.first) c.in_ok-kernel.ensures.by_plan
 
 pub returns-in_ok-made-in-Ok-clause-homes : goal.returns-in_ok-made-in-Ok-clause-homes
 returns-in_ok-made-in-Ok-clause-homes g c =

@@ -3,7 +3,7 @@ use Rattle.std.specs.List.{range_with_len}
 use Rattle.evl_machine.specs.Known.{mutex_count}
 use Rattle.evl_machine.specs.Makings.{new_places}
 use Rattle.evl_machine.proofs.Newcomers.{staxes_of}
-use Rattle.evl_machine.proofs.making.seated.Goals as goal
+use Rattle.evl_machine.proofs.making.with_seats.Goals as goal
 
 pub seat_callers-requires-clause-seats : goal.seat_callers-requires-clause-seats
 seat_callers-requires-clause-seats g c = (
