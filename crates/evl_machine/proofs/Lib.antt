@@ -30,6 +30,7 @@ pub mod Tokens
 pub mod Crossing
 pub mod CoreLaws
 pub mod OneWorldLaws
+pub mod RuleWorld
 pub mod MutexPlaces
 pub mod MutexTokens
 pub mod Settling

@@ -1,7 +1,8 @@
 -- The world of the one table: the core's word and slot, each mutex's word with its history, and what each thread knows; and the atomic steps on it.
-use Rattle.std.specs.Prelude.{◌≡◌, ◌≢◌, ℕ, ◌<◌, ◌==◌, if◌then◌else◌, Bool, true, false, List, [], ◌∷◌, ◌++◌, length, map, replicate, slice_index, slice_set, Some, MatchBool}
+use Rattle.std.specs.Prelude.{◌≡◌, ◌≢◌, ℕ, ◌<◌, ◌==◌, if◌then◌else◌, Bool, true, false, List, [], ◌∷◌, ◌++◌, length, map, replicate, slice_index, slice_set, Option, Some, MatchBool}
 use mathlib.Core.Option.{some}
 use lib.ListN.{get_elem?}
+use Rattle.atomic_table.specs.Table.{State}
 use Rattle.evl_kernel.specs.Histories.{History}
 use Rattle.evl_words.specs.Dealings.{DealingEvent, acts, cuts, gathers}
 use Rattle.evl_words.specs.Events.{Event, seat_after}
@@ -113,6 +114,12 @@ module _ {S B : Type 0} (past : S → History) (room : S → ℕ) (comes : B →
 pub record OneDealing (S B : Type 0) : Type 0 where
   pub world : OneWorld S B
   pub hands : List (Hand (ThreadView B MutexView))
+
+-- a table is this world: the core's word before those of the mutexes, the one slot, and the hands of its tokens
+pub record LiesSo {S B : Type 0} (s : State (Option S) (Hand (ThreadView B MutexView))) (d : OneDealing S B) : Type 0 where
+  pub words : s.words ≡ d.world.word ∷ d.world.mutexes
+  pub slot : s.homes ≡ d.world.slot ∷ []
+  pub hands : s.views ≡ d.hands
 
 module _ {S B : Type 0} (past : S → History) (room : S → ℕ) (comes : B → S → Type 0) (ceilings : ℕ → Bool) (m : ℕ) where
   -- a token of one thread makes a step, or hands of threads are split and joined

@@ -15,7 +15,7 @@ ghost use Rattle.evl_words.specs.Machine.{Run};
 ghost use Rattle.evl_words.specs.Events.{Event};
 ghost use Rattle.evl_words.specs.Dealings.{DealingEvent};
 ghost use Rattle.evl_machine.specs.CoreWorld.{CoreWorld, CoreDealing, CoreKind, CoreHappens, CoreDealingStep, IsCoreWorld, StandsDealt, opened_core};
-ghost use Rattle.evl_machine.specs.OneWorld.{OneDealing, OneDealingStep, OneKind, StandsInOne, opened_one};
+ghost use Rattle.evl_machine.specs.OneWorld.{LiesSo, OneDealing, OneDealingStep, OneKind, StandsInOne, opened_one};
 ghost use Rattle.evl_machine.specs.Known.{ComesFrom, CoreHand, KeptKnown, ceilings_of, mutex_count, past_of, room_of};
 ghost use Rattle.evl_machine.specs.QuietCore.{LiesQuiet};
 ghost use Rattle.evl_machine.specs.TiedCore.{LiesTied};
@@ -39,6 +39,14 @@ pub fn core_world_stands<C>()
 /// exchange unlocks.
 pub fn one_world_stands<C>()
     ensures { (first k : KernelView C) → board_fits k.history.board ≡ true → IsLegal k.history → k.history.entries ≡ [] → ComesFrom first k → (events : List (DealingEvent (OneKind (KernelView C)))) (t : OneDealing (KernelView C) (KernelView C)) → Run (OneDealingStep past_of room_of ComesFrom (ceilings_of first) (mutex_count first)) (opened_one past_of room_of ComesFrom (ceilings_of first) (mutex_count first) first k) events t → StandsInOne past_of room_of ComesFrom (ceilings_of first) (mutex_count first) first t }
+{}
+
+/// What the running rule of a machine's table keeps is what holds of the one world, no less and no more: the table lies
+/// as some world, with the hands of its tokens, that keeps its conditions; and any table that lies as such a world is
+/// within the rule.
+pub fn rule_is_one_world<C>()
+    ensures world { (first : KernelView C) → (s : State (Option (KernelView C)) (CoreHand C)) → KeptKnown first s → (d : OneDealing (KernelView C) (KernelView C)) × LiesSo s d × StandsInOne past_of room_of ComesFrom (ceilings_of first) (mutex_count first) first d }
+    ensures rule { (first : KernelView C) → (s : State (Option (KernelView C)) (CoreHand C)) → (d : OneDealing (KernelView C) (KernelView C)) → LiesSo s d → StandsInOne past_of room_of ComesFrom (ceilings_of first) (mutex_count first) first d → KeptKnown first s }
 {}
 
 /// Whenever the core of a running machine is free, the kernel lies in the slot with a legal history, and a line is
