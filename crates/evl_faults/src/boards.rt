@@ -47,7 +47,7 @@ fn check_board_item(
     if fits_board(alloc, key.as_bytes(), value.as_bytes())? {
         return Ok(());
     }
-    let want = board_wanted(key);
+    let want = board_wanted(alloc, key)?;
     let words = format!(in alloc; "{key} = {value}: {want} is wanted")?;
     finding.note(Fault::Board, item.value.0, words)
 }
@@ -70,7 +70,7 @@ fn check_opening_item(
     if key != "limit" || fits_limit(alloc, value.as_bytes())? {
         return Ok(());
     }
-    let want = board_wanted(key);
+    let want = board_wanted(alloc, key)?;
     let words = format!(in alloc; "{key} = {value}: {want} is wanted")?;
     finding.note(Fault::Board, item.value.0, words)
 }
@@ -107,9 +107,8 @@ pub fn check_board(
             Some(heading) => heading.name.0,
             None => 0,
         };
-        let words = format!(in alloc;
-            "the board needs a key \"threads\": a number from 1 to 256 is wanted there"
-        )?;
+        let want = board_wanted(alloc, "threads")?;
+        let words = format!(in alloc; "the board needs a key \"threads\": {want} is wanted there")?;
         finding.note(Fault::Board, at, words)?;
     }
     Ok(())

@@ -16,3 +16,4 @@ mod words;
 pub use checks::check;
 pub use found::{Found, Place};
 pub use reports::report;
+pub use words::{is_optional, keys_of};

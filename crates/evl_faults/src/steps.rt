@@ -3,8 +3,8 @@ use crate::found::Finding;
 use crate::items::{Item, Items, Section, slice};
 use crate::judges::{fits_step, is_step};
 use crate::near::near_text;
-use crate::words::{WORDS, is_optional, keys_of, wanted};
-use evl_scenario::Fault;
+use crate::words::{is_optional, keys_of, wanted};
+use evl_scenario::{Fault, STEP_WORDS};
 use std::alloc::{AllocError, Global};
 use std::str;
 
@@ -165,7 +165,7 @@ fn note_step(
     match keys_of(word) {
         Some(keys) => note_keys(alloc, finding, number, items, word, keys, call.key.0),
         None => {
-            let hint = near_text(alloc, word, WORDS.as_slice())?;
+            let hint = near_text(alloc, word, STEP_WORDS.as_slice())?;
             let words = format!(in alloc; "step {number}: there is no call \"{word}\"{hint}")?;
             finding.note(fault_of(number), call.value.0, words)
         }

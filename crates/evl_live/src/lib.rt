@@ -11,5 +11,5 @@ mod small;
 mod states;
 
 pub use answers::answer_line;
-pub use helps::{FORMS, Form, write_call_of, write_forms};
+pub use helps::{write_call_of, write_forms};
 pub use session::Session;

@@ -26,6 +26,6 @@ pub use lines::{
     Answer, BoardLine, ElementCounts, EntryNumber, OwnerCounts, PlayLine, StepLine, board_line,
 };
 pub use scenarios::{Scenario, read_scenario};
-pub use steps::Step;
+pub use steps::{STEP_WORDS, Step, step_keys_of};
 pub use tracing::{trace_history, write_board_line, write_entry};
 pub use writing::{Unwritten, without_staxes, write_opening, write_scenario, write_step};

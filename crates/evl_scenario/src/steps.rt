@@ -1,5 +1,5 @@
 //! The steps of a scenario.
-ghost use Rattle.std.specs.Prelude.{◌≡◌, ◌≤◌, map};
+ghost use Rattle.std.specs.Prelude.{◌≡◌, ◌≤◌, map, option_map};
 ghost use Rattle.toml.specs.View.{view, table_view};
 ghost use Rattle.evl_scenario.specs.Steps.{word_of, clock_word, thread_word, sem_word, flag_word, buffer_word, wait_word, keys_of, call_of, step_of};
 
@@ -50,6 +50,46 @@ pub enum StepWord {
     Raise,
     Finish,
 }
+
+/// The words of steps, by families of calls.
+pub const STEP_WORDS: [&str; 36] = [
+    "request",
+    "free",
+    "arrive",
+    "post",
+    "stall",
+    "unstall",
+    "tick",
+    "now",
+    "new_timer",
+    "start_timer",
+    "stop_timer",
+    "drop_timer",
+    "overruns",
+    "attach",
+    "detach",
+    "set_policy",
+    "set_stage",
+    "pick",
+    "rank_of",
+    "try_get",
+    "put",
+    "peek",
+    "begin_get",
+    "try_take",
+    "post_flags",
+    "peek_flags",
+    "begin_take",
+    "write",
+    "read",
+    "room",
+    "begin_write",
+    "begin_read",
+    "claim",
+    "release",
+    "raise",
+    "finish",
+];
 
 /// A call, and the thread that makes it.
 #[derive(Debug, Drop)]
@@ -198,6 +238,16 @@ fn step_keys(word: StepWord) -> &'static [&'static str]
         StepWord::Release => &["do", "who", "mutex"],
         StepWord::Raise => &["do", "who", "mutex"],
         StepWord::Finish => &["do", "who", "keep"],
+    }
+}
+
+/// The keys that a step with this word may have, of which `do` and `who` come first; none where there is no such word.
+pub fn step_keys_of(word: &str) -> Option<&'static [&'static str]>
+    ensures { option_map (λ keys. map (λ key. key.now) keys.now) result ≡ option_map keys_of (word_of word.now) }
+{
+    match read_word(word) {
+        Some(known) => Some(step_keys(known)),
+        None => None,
     }
 }
 

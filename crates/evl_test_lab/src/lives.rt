@@ -1,8 +1,8 @@
 //! Machines that are driven line by line.
-use evl_live::{FORMS, Form, Session, answer_line};
+use evl_live::{Session, answer_line, write_forms};
 use evl_plans::trace_plans;
 use evl_runs::program_plans;
-use evl_scenario::Fault;
+use evl_scenario::{Fault, STEP_WORDS};
 use std::alloc::{AllocError, Global};
 
 /// The board, and a step that comes first.
@@ -132,22 +132,14 @@ fn is_driven_again(alloc: Global, lines: &[(&str, &str)]) -> bool {
     }
 }
 
-// Writes the keys of a form without brackets.
-fn write_plain(line: &mut String, keys: &str) -> Result<(), AllocError> {
-    for part in keys.split_whitespace() {
-        let front = part.strip_prefix("[").unwrap_or(part);
-        let plain = front.strip_suffix("]").unwrap_or(front);
-        write!(line, " {plain}")?;
-    }
-    Ok(())
-}
-
-// A line of a form.
-fn line_of(alloc: Global, form: Form) -> Result<String, AllocError> {
+// A form without its brackets, and without its line feed.
+fn line_of(alloc: Global, form: &str) -> Result<String, AllocError> {
     let mut line = String::new(alloc);
-    let word = form.word;
-    write!(line, "T0 {word}")?;
-    write_plain(&mut line, form.keys)?;
+    for letter in form.chars() {
+        if letter != '[' && letter != ']' {
+            line.push(letter)?;
+        }
+    }
     Ok(line)
 }
 
@@ -160,27 +152,37 @@ fn is_line_read(alloc: Global, session: &mut Session, line: &str) -> bool {
 }
 
 // Whether a line of a form is read.
-fn is_read(alloc: Global, session: &mut Session, form: Form) -> bool {
+fn is_read(alloc: Global, session: &mut Session, form: &str) -> bool {
     match line_of(alloc, form) {
         Ok(line) => is_line_read(alloc, session, line.as_str()),
         Err(_) => false,
     }
 }
 
-// Whether a line of each form is read.
-fn are_read(alloc: Global, session: &mut Session) -> bool {
-    for form in FORMS.iter() {
-        if !is_read(alloc, session, *form) {
+// Whether a line of each form is read, and each call has a form.
+fn are_read(alloc: Global, session: &mut Session, forms: &str) -> bool {
+    for form in forms.lines() {
+        if !is_read(alloc, session, form) {
             return false;
         }
     }
-    true
+    forms.lines().count() == STEP_WORDS.len()
+}
+
+// The forms of all calls.
+fn forms(alloc: Global) -> Result<String, AllocError> {
+    let mut told = String::new(alloc);
+    write_forms(&mut told)?;
+    Ok(told)
 }
 
 // Whether each form is one of a call.
 fn are_forms_read(alloc: Global) -> bool {
     match open(alloc, FIRST) {
-        Ok(mut session) => are_read(alloc, &mut session),
+        Ok(mut session) => match forms(alloc) {
+            Ok(forms) => are_read(alloc, &mut session, forms.as_str()),
+            Err(_) => false,
+        },
         Err(_) => false,
     }
 }
