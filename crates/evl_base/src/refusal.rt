@@ -1,58 +1,43 @@
 //! Why a call was refused.
-ghost use Rattle.std.specs.Prelude.{◌≡◌};
+ghost use Rattle.std.specs.Prelude.{◌≡◌, Some};
 ghost use Rattle.evl_base.specs.Refusal.{number_of, name_of};
 
-use thiserror::Error;
+use std::fmt;
 
 /// Why a call was refused. An entry is made of each refusal that isn't said to have none, but for those that a caller's
 /// own values decide.
-#[derive(Clone, Copy, Debug, PartialEq, Eq, Error)]
+#[derive(Clone, Copy, Debug, PartialEq, Eq)]
 pub enum Refusal {
     /// A growth was refused; no entry.
-    #[error("NoMemory")]
     NoMemory,
     /// The history is at its limit, or has fewer places left than were asked for; no entry.
-    #[error("HistoryFull")]
     HistoryFull,
     /// The core's word stood taken; no entry.
-    #[error("CoreBusy")]
     CoreBusy,
     /// There is no such line, callback, element, thread, group or timer, or nothing there to free.
-    #[error("Unknown")]
     Unknown,
     /// Not allowed in this form.
-    #[error("Invalid")]
     Invalid,
     /// It can't be done now without waiting.
-    #[error("Again")]
     Again,
     /// In use.
-    #[error("Busy")]
     Busy,
     /// Held by another.
-    #[error("NotOwner")]
     NotOwner,
     /// The wait would close a ring, or the owner of a mutex that doesn't nest tries again.
-    #[error("Deadlock")]
     Deadlock,
     /// A stated bound is reached.
-    #[error("Limit")]
     Limit,
     /// A number is out of its range.
-    #[error("Range")]
     Range,
     /// Longer than the ring.
-    #[error("TooBig")]
     TooBig,
     /// The caller is on the other stage.
-    #[error("WrongStage")]
     WrongStage,
     /// The stage can't change while a stax is held; no entry.
-    #[error("HoldsStax")]
     HoldsStax,
     /// The gate's word changed between the load and the exchange, from `first` to `second`, each of which would let the
     /// caller in; no entry.
-    #[error("Raced")]
     Raced { first: u64, second: u64 },
 }
 
@@ -101,5 +86,13 @@ impl Refusal {
             Refusal::HoldsStax => "HoldsStax",
             Refusal::Raced { .. } => "Raced",
         }
+    }
+}
+
+impl fmt::Display for Refusal {
+    ghost output = { λ refusal. Some (name_of refusal) };
+
+    fn fmt<W: fmt::Write>(&self, f: &mut fmt::Formatter<W>) -> fmt::Result {
+        f.write_str(self.name())
     }
 }
