@@ -11,7 +11,7 @@ use arrayvec::ArrayVec;
 /// The elements of a kernel, as they are opened.
 #[derive(Debug, Drop)]
 pub struct Board {
-    /// How many threads there are, 1 to 256.
+    /// How many threads there are, 1 to `MAX_THREADS`.
     pub threads: u16,
     /// The opening count of each semaphore, 0 to 2,147,483,647.
     pub sems: ArrayVec<u32, 64>,

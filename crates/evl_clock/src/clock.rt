@@ -80,8 +80,8 @@ fn no_agenda<A: Allocator>(alloc: A, threads: usize) -> Result<Vec<Entry, A>, Al
 }
 
 impl<C: Drop, A: Allocator + Clone> ClockOf<C, A> {
-    /// A clock at date 0 with no timers and no deadlines. It has room for 64 timers and for the deadlines of 256
-    /// threads. `NoMemory` where that room was refused.
+    /// A clock at date 0 with no timers and no deadlines. It has room for 64 timers and for the deadlines of
+    /// `MAX_THREADS` threads. `NoMemory` where that room was refused.
     pub fn new(alloc: A) -> Result<ClockOf<C, A>, Refusal>
         ensures opening { IfOk result (λ c. c ≡ opening thread_count) }
         ensures refusal { IfErr result (λ e. e ≡ Refusal.NoMemory) }
@@ -89,8 +89,8 @@ impl<C: Drop, A: Allocator + Clone> ClockOf<C, A> {
         ClockOf::for_threads(alloc, MAX_THREADS)
     }
 
-    /// The same with room for the deadlines of so many threads alone, or of 256 where there are more. `NoMemory` where
-    /// that room was refused.
+    /// The same with room for the deadlines of so many threads alone, or of `MAX_THREADS` where there are more.
+    /// `NoMemory` where that room was refused.
     pub fn for_threads(alloc: A, threads: usize) -> Result<ClockOf<C, A>, Refusal>
         ensures opening { IfOk result (λ c. c ≡ opening threads) }
         ensures refusal { IfErr result (λ e. e ≡ Refusal.NoMemory) }

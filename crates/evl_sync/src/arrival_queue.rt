@@ -10,7 +10,7 @@ use evl_base::{MAX_THREADS, ThreadId};
 use std::marker::Model;
 
 /// Threads that wait, in the order of their arrival. To a contract it is the list of their numbers, the first one at
-/// its head. It has a place for each of 256 threads and takes no memory.
+/// its head. It has places for `MAX_THREADS` threads and takes no memory.
 #[derive(Drop)]
 pub struct ArrivalQueue {
     threads: ArrayVec<u16, MAX_THREADS>,
@@ -80,7 +80,7 @@ impl ArrivalQueue {
         there
     }
 
-    /// How many wait, at most 256.
+    /// How many wait, at most `MAX_THREADS`.
     pub fn len(&self) -> usize
         ensures count { result ≡ length self.now }
         ensures few { result ≤ thread_limit }

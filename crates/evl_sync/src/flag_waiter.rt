@@ -8,7 +8,7 @@ use std::default::Default;
 /// A waiting thread, with the effective rank that it had when its wait began, and which bits it wants.
 #[derive(Clone, Copy, Debug)]
 pub struct FlagWaiter {
-    /// The number of the thread, 0 to 255.
+    /// The number of the thread, below `MAX_THREADS`.
     pub thread: u16,
     /// Its rank at the beginning of the wait.
     pub rank: u16,

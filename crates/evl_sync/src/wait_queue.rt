@@ -12,7 +12,7 @@ use evl_base::{MAX_THREADS, ThreadId};
 use std::marker::Model;
 
 /// Threads that wait: greater ranks first, those of one rank in the order of their arrival. To a contract it is the
-/// list of them, the first one at its head. It has a place for each of 256 threads and takes no memory.
+/// list of them, the first one at its head. It has places for `MAX_THREADS` threads and takes no memory.
 #[derive(Drop)]
 pub struct WaitQueue {
     waiters: ArrayVec<Waiter, MAX_THREADS>,
@@ -100,7 +100,7 @@ impl WaitQueue {
         leave(&mut self.waiters, thread.0)
     }
 
-    /// How many wait, at most 256.
+    /// How many wait, at most `MAX_THREADS`.
     pub fn len(&self) -> usize
         ensures count { result ≡ length self.now }
         ensures few { result ≤ thread_limit }

@@ -5,7 +5,7 @@ use crate::ranked::Ranked;
 /// move it.
 #[derive(Clone, Copy, Debug, Default, PartialEq, Eq)]
 pub struct Waiter {
-    /// The number of the thread, 0 to 255.
+    /// The number of the thread, below `MAX_THREADS`.
     pub thread: u16,
     /// Its rank at the beginning of the wait.
     pub rank: u16,

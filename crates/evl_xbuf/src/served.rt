@@ -27,8 +27,8 @@ pub struct Turn {
     end: u16,
 }
 
-/// Whom a call served, in the order in which they were served. To a contract it is the list of these services. It has a
-/// place for each of 256 threads and takes no memory.
+/// Whom a call served, in the order in which they were served. To a contract it is the list of these services. It has
+/// places for `MAX_THREADS` threads and takes no memory.
 #[derive(Drop)]
 pub struct Served {
     turns: ArrayVec<Turn, MAX_THREADS>,
@@ -66,7 +66,7 @@ impl Served {
         self.bytes.clear();
     }
 
-    /// How many were served, at most 256.
+    /// How many were served, at most `MAX_THREADS`.
     pub fn len(&self) -> usize
         ensures count { result ≡ length self.now }
         ensures few { result ≤ thread_limit }

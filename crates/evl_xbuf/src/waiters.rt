@@ -5,7 +5,7 @@ use evl_base::Bytes;
 /// A thread that waits to write.
 #[derive(Drop)]
 pub struct Writer {
-    /// The number of the thread, 0 to 255.
+    /// The number of the thread, below `MAX_THREADS`.
     pub thread: u16,
     /// What it writes, all at once.
     pub bytes: Bytes,
@@ -14,7 +14,7 @@ pub struct Writer {
 /// A thread that waits to read.
 #[derive(Clone, Copy, Debug, Default)]
 pub struct Reader {
-    /// The number of the thread, 0 to 255.
+    /// The number of the thread, below `MAX_THREADS`.
     pub thread: u16,
     /// How many bytes it takes at most.
     pub len: u16,

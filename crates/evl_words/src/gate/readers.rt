@@ -12,7 +12,7 @@ impl StaxPass {
         self.gate
     }
 
-    /// The number of the seat that holds the gate by it, from 0 to 255.
+    /// The number of the seat that holds the gate by it, below `MAX_THREADS`.
     pub fn seat(&self) -> u16
         ensures { result ≡ self.now.seat }
     {
@@ -28,7 +28,7 @@ impl StaxSeat {
         self.gate
     }
 
-    /// Its number among the gate's seats, from 0 to 255.
+    /// Its number among the gate's seats, below `MAX_THREADS`.
     pub fn number(&self) -> u16
         ensures { result ≡ self.now.number }
     {

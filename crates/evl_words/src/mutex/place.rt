@@ -32,7 +32,7 @@ impl MutexPlace {
         self.mutex
     }
 
-    /// Its number among the mutex's seats, from 0 to 255.
+    /// Its number among the mutex's seats, below `MAX_THREADS`.
     pub fn number(&self) -> u16
         ensures { result ≡ self.now.number }
     {

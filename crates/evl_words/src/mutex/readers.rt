@@ -12,7 +12,7 @@ impl MutexPass {
         self.mutex
     }
 
-    /// The number of the seat that holds the mutex by it, from 0 to 255.
+    /// The number of the seat that holds the mutex by it, below `MAX_THREADS`.
     pub fn seat(&self) -> u16
         ensures { result ≡ self.now.seat }
     {
@@ -28,7 +28,7 @@ impl MutexSeat {
         self.here.mutex()
     }
 
-    /// Its number among the mutex's seats, from 0 to 255.
+    /// Its number among the mutex's seats, below `MAX_THREADS`.
     pub fn number(&self) -> u16
         ensures { result ≡ self.now.number }
     {
