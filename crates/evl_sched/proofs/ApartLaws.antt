@@ -7,7 +7,7 @@ use Rattle.evl_sched.specs.declared.contenders.Alone.{Alone}
 use Rattle.evl_sched.specs.declared.place.Place.{Place}
 use Rattle.evl_sched.specs.Apart.{IsApart, is_alone, with_alone}
 use Rattle.evl_sched.specs.Places.{IsNotAfter, goes_before, place_of}
-use Rattle.evl_sched.specs.Queues.{IsFirstPlace, StandsFirst}
+use Rattle.evl_sched.specs.Queues.{IsFirstPlace}
 use Rattle.evl_sched.proofs.QueueChanges.{not_after, not_after_both, not_before}
 use Rattle.evl_sched.proofs.QueueLaws.{is_same}
 
