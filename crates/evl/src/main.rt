@@ -7,7 +7,7 @@ use std::env;
 use std::io::{self, ErrorKind, Write};
 use std::process::ExitCode;
 
-/// The status of words that are refused.
+// The status of words that are refused.
 const REFUSED: u8 = 3;
 
 // Does what the words ask for, and answers the status.

@@ -41,7 +41,7 @@ impl fmt::Display for Call {
     }
 }
 
-/// The text of a call on a line or a stage that installs nothing, or of one of those below.
+// The text of a call on a line or a stage that installs nothing, or of one of those below.
 #[derive(Drop)]
 struct LineText<'a>(&'a Call);
 
@@ -67,7 +67,7 @@ impl<'a> fmt::Display for LineText<'a> {
     }
 }
 
-/// The text of a call on the clock and its timers, or of one of those below.
+// The text of a call on the clock and its timers, or of one of those below.
 #[derive(Drop)]
 struct ClockText<'a>(&'a Call);
 
@@ -103,7 +103,7 @@ impl<'a> fmt::Display for ClockText<'a> {
     }
 }
 
-/// The text of a call on threads, or of one of those below.
+// The text of a call on threads, or of one of those below.
 #[derive(Drop)]
 struct ThreadText<'a>(&'a Call);
 
@@ -125,7 +125,7 @@ impl<'a> fmt::Display for ThreadText<'a> {
     }
 }
 
-/// The text of a call on flag groups, or of one of those below.
+// The text of a call on flag groups, or of one of those below.
 #[derive(Drop)]
 struct FlagText<'a>(&'a Call);
 
@@ -161,7 +161,7 @@ impl<'a> fmt::Display for FlagText<'a> {
     }
 }
 
-/// The text of a call on cross-buffers, or of one of those below.
+// The text of a call on cross-buffers, or of one of those below.
 #[derive(Drop)]
 struct BufferText<'a>(&'a Call);
 
@@ -200,7 +200,7 @@ impl<'a> fmt::Display for BufferText<'a> {
     }
 }
 
-/// The text of a call that begins a wait for a cross-buffer, or of one of those below.
+// The text of a call that begins a wait for a cross-buffer, or of one of those below.
 #[derive(Drop)]
 struct TransferText<'a>(&'a Call);
 
@@ -244,7 +244,7 @@ impl<'a> fmt::Display for TransferText<'a> {
     }
 }
 
-/// The text of a call on mutexes, or of one of those below.
+// The text of a call on mutexes, or of one of those below.
 #[derive(Drop)]
 struct MutexText<'a>(&'a Call);
 
@@ -274,7 +274,7 @@ impl<'a> fmt::Display for MutexText<'a> {
     }
 }
 
-/// The text of a call on semaphores, or of the one below.
+// The text of a call on semaphores, or of the one below.
 #[derive(Drop)]
 struct SemText<'a>(&'a Call);
 
@@ -298,8 +298,8 @@ impl<'a> fmt::Display for SemText<'a> {
     }
 }
 
-/// The text of the call that ends a wait. The calls of the families above are named, so that a new call is in one of
-/// them or here.
+// The text of the call that ends a wait. The calls of the families above are named, so that a new call is in one of
+// them or here.
 #[derive(Drop)]
 struct FinishText<'a>(&'a Call);
 

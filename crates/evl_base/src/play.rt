@@ -30,7 +30,7 @@ pub enum Play {
     },
 }
 
-/// Whether a callback handled its fire.
+// Whether a callback handled its fire.
 #[derive(Drop)]
 struct Handled(bool);
 

@@ -10,7 +10,7 @@ use evl_mutex::RankChanges;
 use std::alloc::Allocator;
 use std::marker::Model;
 
-/// How many words of 32 bits there are, with a bit for each thread.
+// How many words of 32 bits there are, with a bit for each thread.
 const WORDS: u16 = (MAX_THREADS / 32) as u16;
 
 /// The threads whose effective rank may be another one than the scheduler was given. To a contract it is a set of

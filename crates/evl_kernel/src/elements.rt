@@ -72,7 +72,7 @@ impl<A: Allocator> Elements<A> {
     }
 }
 
-/// A cross-buffer with rings of each of these sizes.
+// A cross-buffer with rings of each of these sizes.
 fn opened_xbufs<A: Allocator + Clone>(
     alloc: A,
     sizes: &[(u16, u16)],
@@ -96,7 +96,7 @@ fn opened_xbufs<A: Allocator + Clone>(
     Ok(xbufs)
 }
 
-/// A cross-buffer with rings of these sizes.
+// A cross-buffer with rings of these sizes.
 fn opened_xbuf<A: Allocator + Clone>(alloc: &A, pair: (u16, u16)) -> Result<XbufOf<A>, Refusal>
     requires fit { sizes_fit pair ≡ true }
     ensures xbuf { IfOk result (λ xbuf. xbuf ≡ cross_buffers.opened pair.0 pair.1) }
@@ -106,7 +106,7 @@ fn opened_xbuf<A: Allocator + Clone>(alloc: &A, pair: (u16, u16)) -> Result<Xbuf
     XbufOf::new(rings, pair.0, pair.1)
 }
 
-/// A semaphore of each count.
+// A semaphore of each count.
 fn opened_sems<A: Allocator>(alloc: A, counts: &[u32]) -> Result<Vec<Sem, A>, AllocError>
     ensures sems { IfOk result (λ sems. sems.items ≡ map semaphores.opened counts.now) }
 {
@@ -117,7 +117,7 @@ fn opened_sems<A: Allocator>(alloc: A, counts: &[u32]) -> Result<Vec<Sem, A>, Al
     Ok(sems)
 }
 
-/// A flag group of each of these bits.
+// A flag group of each of these bits.
 fn opened_flags<A: Allocator>(alloc: A, openings: &[u32]) -> Result<Vec<FlagGroup, A>, AllocError>
     ensures flags { IfOk result (λ flags. flags.items ≡ map flag_groups.opened openings.now) }
 {

@@ -32,17 +32,17 @@ use evl_pipeline::{Callback, Handler};
 use std::alloc::{Allocator, Global};
 use std::marker::Model;
 
-/// The greatest limit of a history.
+// The greatest limit of a history.
 const MAX_LIMIT: u32 = 1_000_000;
 
-/// The most callbacks of a bank.
+// The most callbacks of a bank.
 const MAX_CALLBACKS: usize = 64;
 
-/// The most plays that one call makes: five for each of 64 in-band ones, and one for each line, each of 64 timers and
-/// each deadline.
+// The most plays that one call makes: five for each of 64 in-band ones, and one for each line, each of 64 timers and
+// each deadline.
 const MAX_PLAYS: usize = 5 * 64 + LINES + 64 + MAX_THREADS;
 
-/// The most boxes that the bytes of one call's reply take: the caller's and the entry's.
+// The most boxes that the bytes of one call's reply take: the caller's and the entry's.
 const MAX_BOXES: usize = 2;
 
 /// The kernel: its records, with all calls that it answered and all plays that it made (Xenomai 4: EVL core; the
@@ -74,7 +74,7 @@ impl<C, A: Allocator> Model for KernelOf<C, A> {
     ghost invariant = { KernelIsSound };
 }
 
-/// Whether a board, a number of callbacks and a limit are within their limits.
+// Whether a board, a number of callbacks and a limit are within their limits.
 fn can_open(board: &Board, callbacks: usize, limit: u32) -> bool
     ensures fits { result ≡ can_open board.now callbacks limit }
     ensures limit { result ≡ true → limit ≤ history_limit }
@@ -338,7 +338,7 @@ impl<C, A: Allocator> KernelOf<C, A> {
     }
 }
 
-/// The same answer once more, for the entry: its bytes, if it has any, lie in a box that was kept.
+// The same answer once more, for the entry: its bytes, if it has any, lie in a box that was kept.
 fn copied_reply<A: Allocator>(
     reply: &Result<Reply, Refusal>,
     spares: &mut Spares<A>,

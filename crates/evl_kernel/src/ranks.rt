@@ -32,7 +32,7 @@ pub(crate) fn hand_on<A: Allocator>(
     }
 }
 
-/// Gives an attached thread this rank, where it has another one.
+// Gives an attached thread this rank, where it has another one.
 fn hand_to<A: Allocator>(sched: &mut SchedOf<A>, thread: ThreadId, rank: u16)
     ensures given { is_attached sched.old.sched thread.0 ≡ true → rank_of sched.new thread.0 ≡ rank }
     ensures others { (t : ℕ) → t ≢ thread.0 → given_to sched.new t ≡ given_to sched.old t }
@@ -69,7 +69,7 @@ pub(crate) fn base_changed<A: Allocator>(
     hand_on(elements, changes, sched);
 }
 
-/// The base rank of a thread, or 0 where it isn't attached.
+// The base rank of a thread, or 0 where it isn't attached.
 fn base_rank<A: Allocator>(sched: &SchedOf<A>, thread: ThreadId) -> u16
     ensures base { result ≡ base_of sched.now.sched thread.0 }
 {

@@ -98,7 +98,7 @@ impl<C: Handler, A: Allocator> Records<C, A> {
     }
 }
 
-/// The elements of a board, its threads' waits, the lines and the clock.
+// The elements of a board, its threads' waits, the lines and the clock.
 type Parts<C, A> = (
     Elements<A>,
     Vec<WaitPlace, A>,
@@ -106,7 +106,7 @@ type Parts<C, A> = (
     ClockOf<Numbered<C>, A>,
 );
 
-/// The elements, the waits, the lines and the clock of a board, as they are at the beginning.
+// The elements, the waits, the lines and the clock of a board, as they are at the beginning.
 fn parts_over<C: Handler, A: Allocator + Clone>(
     alloc: &A,
     boxes: Global,
@@ -125,7 +125,7 @@ fn parts_over<C: Handler, A: Allocator + Clone>(
     Ok((waiting.0, waiting.1, playing.0, playing.1))
 }
 
-/// The threads of a board as the scheduler has them at the beginning, none of which is noted.
+// The threads of a board as the scheduler has them at the beginning, none of which is noted.
 fn scheduling_over<A: Allocator + Clone>(
     alloc: A,
     board: &Board,
@@ -138,14 +138,14 @@ fn scheduling_over<A: Allocator + Clone>(
     Ok((changes, sched))
 }
 
-/// The same allocator once more.
+// The same allocator once more.
 fn another<A: Allocator + Clone>(alloc: &A) -> Result<A, Refusal>
     ensures refusal { IfErr result (λ e. e ≡ Refusal.NoMemory) }
 {
     alloc.clone().map_err(|_| Refusal::NoMemory)
 }
 
-/// The elements of a board and its threads' waits, of which there are none.
+// The elements of a board and its threads' waits, of which there are none.
 fn waiting_over<A: Allocator + Clone>(
     alloc: &A,
     boxes: Global,
@@ -162,7 +162,7 @@ fn waiting_over<A: Allocator + Clone>(
     Ok((elements, waits))
 }
 
-/// The lines, and the clock of so many threads, as they are at the beginning.
+// The lines, and the clock of so many threads, as they are at the beginning.
 fn playing_over<C: Handler, A: Allocator + Clone>(
     alloc: &A,
     threads: u16,
@@ -176,7 +176,7 @@ fn playing_over<C: Handler, A: Allocator + Clone>(
     Ok((pipeline, clock))
 }
 
-/// A place for the wait of each of so many threads; nobody waits.
+// A place for the wait of each of so many threads; nobody waits.
 fn no_waits<A: Allocator + Clone>(
     alloc: &A,
     boxes: Global,
@@ -199,7 +199,7 @@ fn no_waits<A: Allocator + Clone>(
     Ok(waits)
 }
 
-/// Every callback in its bank place.
+// Every callback in its bank place.
 #[tactic(auto, using(crate::proofs::CallbackLaws::filled_more))]
 fn placed<C: Handler, A: Allocator + Clone>(
     alloc: &A,

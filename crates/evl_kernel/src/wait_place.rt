@@ -120,7 +120,7 @@ impl WaitPlace {
         }
     }
 
-    /// Takes the wait away, and says for what it was; the box is there afterwards.
+    // Takes the wait away, and says for what it was; the box is there afterwards.
     fn clear(&mut self) -> Option<Awaited>
         ensures on { result ≡ option_map (λ w. w.on) self.old }
         ensures none { self.new ≡ None }
@@ -137,7 +137,7 @@ impl WaitPlace {
     }
 }
 
-/// The answer that ends a wait; bytes that were read lie in the thread's box.
+// The answer that ends a wait; bytes that were read lie in the thread's box.
 fn told(own: &mut Option<Transfer>, outcome: Outcome<'_>) -> Reply
     requires there { IsSome own.old }
     requires fits { FitsBox (Some outcome) }

@@ -10,7 +10,7 @@ use std::alloc::AllocError;
 use std::io::{self, Read, Write};
 use std::rt::Files;
 
-/// The status of a text that is refused, or isn't played to its end.
+// The status of a text that is refused, or isn't played to its end.
 const AT_FAULT: u8 = 2;
 
 // Prints what is told of the steps, and answers whether one is at fault.

@@ -8,7 +8,7 @@ use std::fs;
 use std::io::{self, Write};
 use std::rt::Files;
 
-/// The status of a file or a bank that is at fault.
+// The status of a file or a bank that is at fault.
 const AT_FAULT: u8 = 2;
 
 // Tells the faults of a text, or its warnings where it has none, and whether it has a fault.

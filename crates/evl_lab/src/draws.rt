@@ -14,10 +14,10 @@ use std::alloc::{AllocError, Global};
 use std::io::{self, Read, Write};
 use std::rt::Files;
 
-/// The status of a text that can't be drawn.
+// The status of a text that can't be drawn.
 const AT_FAULT: u8 = 2;
 
-/// What stands between the lines of callers and what is told of their machine's end.
+// What stands between the lines of callers and what is told of their machine's end.
 const CLOSING: &str = "\nclose -> ";
 
 // What marks come from: a trace alone, a scenario that was played, or the lines of callers.

@@ -2,7 +2,7 @@
 use evl_live::{write_call_of, write_forms};
 use std::io::{self, Write};
 
-/// The status of a word that is no call's.
+// The status of a word that is no call's.
 const REFUSED: u8 = 3;
 
 // Prints a form of each call.

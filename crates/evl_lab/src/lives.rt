@@ -11,13 +11,13 @@ use std::fs;
 use std::io::{self, Read, Write};
 use std::rt::Files;
 
-/// The status of a scenario or a bank that is refused.
+// The status of a scenario or a bank that is refused.
 const AT_FAULT: u8 = 2;
 
-/// How many bytes are asked for at a time.
+// How many bytes are asked for at a time.
 const PART: usize = 65_536;
 
-/// The scenario that comes first where none is named.
+// The scenario that comes first where none is named.
 const DEFAULT: &str = "limit = 1000000
 [board]
 threads = 8

@@ -23,13 +23,13 @@ use std::env;
 use std::io::{self, Write};
 use std::process::ExitCode;
 
-/// The status of an output that failed.
+// The status of an output that failed.
 const FAILED: u8 = 1;
 
-/// The status of words that are refused.
+// The status of words that are refused.
 const REFUSED: u8 = 3;
 
-/// The status of a program without memory.
+// The status of a program without memory.
 const NO_MEMORY: u8 = 4;
 
 // Answers words that ask for nothing that is done: they are refused, or ask for help.

@@ -16,10 +16,10 @@ use std::alloc::{AllocError, Global};
 use std::io::{self, Read, Write};
 use std::rt::Files;
 
-/// The status where an outcome is against what is asked.
+// The status where an outcome is against what is asked.
 const AGAINST: u8 = 1;
 
-/// The status of a text that is refused, or isn't gone through.
+// The status of a text that is refused, or isn't gone through.
 const AT_FAULT: u8 = 2;
 
 // The same callbacks once more.

@@ -11,7 +11,7 @@ use clap::ArgMatches;
 use std::io::{self, Read, Write};
 use std::rt::Files;
 
-/// The status of words that are refused.
+// The status of words that are refused.
 const REFUSED: u8 = 3;
 
 /// Does what the words ask for, and answers the status.

@@ -13,7 +13,7 @@ use std::alloc::AllocError;
 use std::io::{self, Read, Write};
 use std::rt::Files;
 
-/// The status of a scenario that is refused, or whose trace differs.
+// The status of a scenario that is refused, or whose trace differs.
 const AT_FAULT: u8 = 2;
 
 // Tells the end of a play that is no fault.

@@ -4,7 +4,7 @@ use evl_base::{Entry, LINES, LineNo, MutexId, Reply, Stage, ThreadId, TimerId};
 use evl_clock::TimerState;
 use std::alloc::AllocError;
 
-/// The timers of a machine.
+// The timers of a machine.
 const TIMERS: u16 = 64;
 
 // The entry with which a thread last began to wait.

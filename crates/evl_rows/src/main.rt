@@ -8,7 +8,7 @@ use evl_shell::Over;
 use std::rt::Files;
 use std::{env, fs, io};
 
-/// The status of a scenario that was refused.
+// The status of a scenario that was refused.
 const REFUSED: u8 = 2;
 
 // Whether the program ends so on a scenario: its status, what it writes and what it says.

@@ -1,7 +1,7 @@
 //! The parts of a call's text.
 use std::alloc::{AllocError, Global};
 
-/// The most keys of a call.
+// The most keys of a call.
 const MOST_KEYS: usize = 8;
 
 // A value at the front of a text, and what stands from the next key on: a value may have spaces in it.

@@ -28,7 +28,7 @@ impl<'a> fmt::Display for StepTable<'a> {
     }
 }
 
-/// The word of a step with this call.
+// The word of a step with this call.
 fn step_word(call: &Call) -> &'static str
     ensures { result.now ≡ call_word call.now }
 {
@@ -72,7 +72,7 @@ fn step_word(call: &Call) -> &'static str
     }
 }
 
-/// The keys of a call on lines, or of one of those below.
+// The keys of a call on lines, or of one of those below.
 #[derive(Drop)]
 struct LineKeys<'a>(&'a Call);
 
@@ -114,7 +114,7 @@ impl<'a> fmt::Display for LineKeys<'a> {
     }
 }
 
-/// The keys of a call on the clock and its timers, or of one of those below.
+// The keys of a call on the clock and its timers, or of one of those below.
 #[derive(Drop)]
 struct ClockKeys<'a>(&'a Call);
 
@@ -160,7 +160,7 @@ impl<'a> fmt::Display for ClockKeys<'a> {
     }
 }
 
-/// The keys of a call on threads, or of one of those below.
+// The keys of a call on threads, or of one of those below.
 #[derive(Drop)]
 struct ThreadKeys<'a>(&'a Call);
 
@@ -187,7 +187,7 @@ impl<'a> fmt::Display for ThreadKeys<'a> {
     }
 }
 
-/// The keys of a call on flag groups, or of one of those below.
+// The keys of a call on flag groups, or of one of those below.
 #[derive(Drop)]
 struct FlagKeys<'a>(&'a Call);
 
@@ -220,7 +220,7 @@ impl<'a> fmt::Display for FlagKeys<'a> {
     }
 }
 
-/// The keys of a call on cross-buffers, or of one of those below.
+// The keys of a call on cross-buffers, or of one of those below.
 #[derive(Drop)]
 struct BufferKeys<'a>(&'a Call);
 
@@ -249,7 +249,7 @@ impl<'a> fmt::Display for BufferKeys<'a> {
     }
 }
 
-/// The keys of a call that begins a wait for a cross-buffer, or of one of those below.
+// The keys of a call that begins a wait for a cross-buffer, or of one of those below.
 #[derive(Drop)]
 struct TransferKeys<'a>(&'a Call);
 
@@ -291,7 +291,7 @@ impl<'a> fmt::Display for TransferKeys<'a> {
     }
 }
 
-/// The keys of the bytes of a write and of its deadline.
+// The keys of the bytes of a write and of its deadline.
 #[derive(Drop)]
 struct BytesAndUntil<'a> {
     bytes: &'a [u8],
@@ -311,7 +311,7 @@ impl<'a> fmt::Display for BytesAndUntil<'a> {
     }
 }
 
-/// The keys of a call on mutexes, or of one of those below.
+// The keys of a call on mutexes, or of one of those below.
 #[derive(Drop)]
 struct MutexKeys<'a>(&'a Call);
 
@@ -345,7 +345,7 @@ impl<'a> fmt::Display for MutexKeys<'a> {
     }
 }
 
-/// The keys of a call on semaphores, or of the one below.
+// The keys of a call on semaphores, or of the one below.
 #[derive(Drop)]
 struct SemKeys<'a>(&'a Call);
 
@@ -378,8 +378,8 @@ impl<'a> fmt::Display for SemKeys<'a> {
     }
 }
 
-/// The keys of the call that ends a wait. The calls of the families above are named, so that a new call is in one of
-/// them or here.
+// The keys of the call that ends a wait. The calls of the families above are named, so that a new call is in one of
+// them or here.
 #[derive(Drop)]
 struct FinishKeys<'a>(&'a Call);
 

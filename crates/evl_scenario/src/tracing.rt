@@ -8,7 +8,7 @@ use evl_base::{Board, Call, Entry, Play, Refusal, Reply, ThreadId};
 use std::alloc::{AllocError, Allocator};
 use std::fmt;
 
-/// Who made a call, and the call.
+// Who made a call, and the call.
 #[derive(Drop)]
 struct MadeCall<'a> {
     who: ThreadId,
@@ -28,7 +28,7 @@ impl<'a> fmt::Display for MadeCall<'a> {
     }
 }
 
-/// What an entry says that its call answered.
+// What an entry says that its call answered.
 #[derive(Drop)]
 struct Answered<'a>(&'a Result<Reply, Refusal>);
 
@@ -46,7 +46,7 @@ impl<'a> fmt::Display for Answered<'a> {
     }
 }
 
-/// The line of an entry, with its number in the history.
+// The line of an entry, with its number in the history.
 #[derive(Drop)]
 struct EntryLine<'a> {
     number: usize,

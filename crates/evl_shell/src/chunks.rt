@@ -9,7 +9,7 @@ use evl_scenario::Fault;
 use std::alloc::Global;
 use std::marker::Model;
 
-/// How many bytes wait before they are handed on.
+// How many bytes wait before they are handed on.
 const CHUNK: usize = 4096;
 
 /// The bytes that wait for the sink: fewer than a chunk between two calls.

@@ -15,10 +15,10 @@ use evl_scenario::Fault;
 use std::alloc::Global;
 use std::io::{Read, Write};
 
-/// One byte more than a scenario may have.
+// One byte more than a scenario may have.
 const MOST_READ: usize = 1_048_577;
 
-/// How many bytes are asked for at a time.
+// How many bytes are asked for at a time.
 const PART: usize = 4096;
 
 /// Why the program stopped before the end of a trace.

@@ -6,7 +6,7 @@ use std::alloc::Allocator;
 
 pub const THREADS: u16 = 256;
 
-// The plain program: what was told of each thread. Who owns what, the records are asked.
+/// The plain program: what was told of each thread. Who owns what, the records are asked.
 #[derive(Drop)]
 pub struct Plain {
     base: [u16; 256],
@@ -34,7 +34,7 @@ impl Plain {
         }
     }
 
-    // Whether a thread waits for this mutex.
+    /// Whether a thread waits for this mutex.
     pub fn wants(&self, thread: u16, mutex: MutexId) -> bool {
         self.wanted.get(thread as usize) == Some(&Some(mutex))
     }
@@ -85,7 +85,7 @@ impl Plain {
         rank
     }
 
-    // Whether the records tell just these ranks, one by one and all at once.
+    /// Whether the records tell just these ranks, one by one and all at once.
     pub fn is_like<A: Allocator>(&self, owners: &OwnersOf<A>, kinds: &[MutexKind]) -> bool {
         let mut ranks = [7; 257];
         owners.ranks(&mut ranks);
@@ -100,7 +100,7 @@ impl Plain {
     }
 }
 
-// A thread begins to wait for another one.
+/// A thread begins to wait for another one.
 pub fn claim<A: Allocator>(
     owners: &mut OwnersOf<A>,
     plain: &mut Plain,
@@ -123,7 +123,7 @@ fn release<A: Allocator>(owners: &mut OwnersOf<A>, plain: &mut Plain, mutex: Mut
     }
 }
 
-// A thread waits for a mutex no more.
+/// A thread waits for a mutex no more.
 pub fn leave<A: Allocator>(
     owners: &mut OwnersOf<A>,
     plain: &mut Plain,
@@ -136,7 +136,7 @@ pub fn leave<A: Allocator>(
     }
 }
 
-// A thread has another base rank.
+/// A thread has another base rank.
 pub fn set_base<A: Allocator>(owners: &mut OwnersOf<A>, plain: &mut Plain, thread: u16, rank: u16) {
     if owners.set_base(ThreadId(thread), rank).is_ok() {
         plain.set_base(thread, rank);

@@ -5,7 +5,7 @@ ghost use Rattle.evl_test_orders.specs.Free.{worth};
 use evl_orders::{World, explore};
 use std::alloc::{AllocError, Global};
 
-/// The callers.
+// The callers.
 #[derive(Clone, Copy, Drop)]
 struct Free;
 

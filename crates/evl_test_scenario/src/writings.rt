@@ -3,7 +3,7 @@ use evl_base::{Board, Call, Entry, Reply, ThreadId};
 use evl_scenario::{Step, Unwritten, read_scenario, write_scenario};
 use std::alloc::{AllocError, Global};
 
-/// A scenario with each call, as it is written.
+// A scenario with each call, as it is written.
 const EACH_CALL: &str = r#"limit = 1000000
 
 [board]
@@ -240,7 +240,7 @@ who = 0
 keep = false
 "#;
 
-/// A scenario without elements or steps.
+// A scenario without elements or steps.
 const NOTHING: &str = r#"limit = 1
 
 [board]

@@ -49,7 +49,7 @@ pub struct GateHold {
     pub stage: Option<Stage>,
 }
 
-/// The seats that a token of the gate's table has, each with its view.
+// The seats that a token of the gate's table has, each with its view.
 type Hand = LinkedList<Place<View<WordEntry<GateCall, GateReply>, GateHold>>>;
 
 /// A caller's place at a gate, which it holds at most once.

@@ -82,7 +82,7 @@ pub struct MutexHold {
     pub role: MutexRole,
 }
 
-/// The seats that a token of the word's table has, each with its view.
+// The seats that a token of the word's table has, each with its view.
 type Hand = LinkedList<Place<View<WordEntry<MutexCall, MutexReply>, MutexHold>>>;
 
 /// A thread's place at a mutex, with its token of the mutex's table.

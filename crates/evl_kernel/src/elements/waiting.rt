@@ -203,8 +203,8 @@ impl<A: Allocator> Elements<A> {
         }
     }
 
-    /// A thread waits for a cross-buffer no more this way, if it did and there is such a cross-buffer; whom that served
-    /// is told.
+    // A thread waits for a cross-buffer no more this way, if it did and there is such a cross-buffer; whom that served
+    // is told.
     fn leave_xbuf(&mut self, thread: ThreadId, xbuf: XbufId, way: Way, told: &mut Served)
         requires nobody { told.old ≡ [] }
         ensures left { self.new.elements ≡ if_done self.old.elements (element self.old.elements (on_xbuf xbuf.0 (through.drop thread.0 way))) }

@@ -188,7 +188,7 @@ impl<C, A: Allocator> Records<C, A> {
         }
     }
 
-    /// The waits of those who were served have ended, in this order, each with the bits that it took.
+    // The waits of those who were served have ended, in this order, each with the bits that it took.
     fn wake_all(&mut self, served: &[Served])
         requires away { (thread : _) → is_served thread (all_served (pairs served.now)) ≡ true → (on : AwaitedOne) → stands_for (elements (state_of self.old)) on thread ≡ false }
         ensures woken { state_of self.new ≡ all_woken (state_of self.old) (all_served (pairs served.now)) }

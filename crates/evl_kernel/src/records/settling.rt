@@ -15,11 +15,11 @@ use evl_clock::Due;
 use evl_pipeline::{Action, Answer, Handler, Ran};
 use std::alloc::Allocator;
 
-/// The most in-band plays of one call.
+// The most in-band plays of one call.
 const MAX_INBAND: u8 = 64;
 
 impl<C: Drop, A: Allocator> Records<C, A> {
-    /// Carries out one action of a callback on a line: what its call does, and nothing where that would be refused.
+    // Carries out one action of a callback on a line: what its call does, and nothing where that would be refused.
     #[inline(never)]
     fn act(&mut self, line: LineNo, action: Action, lists: &mut ServedLists)
         ensures acted { state_of self.new ≡ acted (state_of self.old) line.0 action }
@@ -44,7 +44,7 @@ impl<C: Drop, A: Allocator> Records<C, A> {
         }
     }
 
-    /// Carries out the actions of an answer, in order.
+    // Carries out the actions of an answer, in order.
     #[inline(always)]
     fn carry_out(&mut self, line: LineNo, actions: &[Action], lists: &mut ServedLists)
         ensures acted { state_of self.new ≡ all_acted (state_of self.old) line.0 actions.now }
@@ -55,7 +55,7 @@ impl<C: Drop, A: Allocator> Records<C, A> {
         }
     }
 
-    /// Carries out what a callback on a line answered; nothing where it didn't handle its fire.
+    // Carries out what a callback on a line answered; nothing where it didn't handle its fire.
     #[inline(always)]
     fn respond(&mut self, line: LineNo, answer: &Answer, lists: &mut ServedLists)
         ensures answered { state_of self.new ≡ answered (state_of self.old) line.0 answer.now }
@@ -68,7 +68,7 @@ impl<C: Drop, A: Allocator> Records<C, A> {
 }
 
 impl<C: Handler, A: Allocator> Records<C, A> {
-    /// Plays the next due item of the clock, if something is due.
+    // Plays the next due item of the clock, if something is due.
     #[inline(never)]
     fn play_item(&mut self, lists: &mut ServedLists) -> Option<Play>
         requires by_plan { AnswersByPlan C.declared C.plan (whereabouts self.old) }
@@ -100,8 +100,8 @@ impl<C: Handler, A: Allocator> Records<C, A> {
         }
     }
 
-    /// Plays the line that is next after so many in-band plays of this call, if a line is playable; an eligible thread
-    /// holds in-band lines back.
+    // Plays the line that is next after so many in-band plays of this call, if a line is playable; an eligible thread
+    // holds in-band lines back.
     fn play_line(&mut self, inband: u8, lists: &mut ServedLists) -> Option<Play>
         requires by_plan { AnswersByPlan C.declared C.plan (whereabouts self.old) }
         requires few { inband ≤ inband_limit }
@@ -129,8 +129,8 @@ impl<C: Handler, A: Allocator> Records<C, A> {
         }
     }
 
-    /// Plays what is next after so many in-band plays of this call, if something is playable: behind a play of the
-    /// clock or of a due item what is due, else a line.
+    // Plays what is next after so many in-band plays of this call, if something is playable: behind a play of the
+    // clock or of a due item what is due, else a line.
     fn play_next(&mut self, inband: u8, of_clock: bool, lists: &mut ServedLists) -> Option<Play>
         requires by_plan { AnswersByPlan C.declared C.plan (whereabouts self.old) }
         requires few { inband ≤ inband_limit }
@@ -164,7 +164,7 @@ impl<C: Handler, A: Allocator> Records<C, A> {
         self.play_pending(plays, lists);
     }
 
-    /// Plays until nothing is playable, and appends the plays. A stalled out-of-band stage holds both stages back.
+    // Plays until nothing is playable, and appends the plays. A stalled out-of-band stage holds both stages back.
     #[inline(never)]
     fn play_pending<B: Allocator>(&mut self, plays: &mut Vec<Play, B>, lists: &mut ServedLists)
         requires by_plan { AnswersByPlan C.declared C.plan (whereabouts self.old) }
@@ -186,14 +186,14 @@ impl<C: Handler, A: Allocator> Records<C, A> {
     }
 }
 
-/// Whether a play is the clock's, or that of a due item.
+// Whether a play is the clock's, or that of a due item.
 fn is_of_clock(play: &Play) -> bool
     ensures { result ≡ is_of_clock play.now }
 {
     !matches!(play, Play::Line { .. })
 }
 
-/// Whether a play is an in-band one, as a number.
+// Whether a play is an in-band one, as a number.
 fn counted_inband(play: &Play) -> u8
     ensures { result ≡ one_inband (stage_of play.now) }
 {

@@ -10,7 +10,7 @@ use crate::ranks;
 use evl_base::{Policy, Refusal, Reply, Stage, ThreadId};
 use std::alloc::Allocator;
 
-/// The nanoseconds of a second.
+// The nanoseconds of a second.
 const NANOSECONDS: u64 = 1_000_000_000;
 
 impl<C, A: Allocator> Records<C, A> {
@@ -126,7 +126,7 @@ impl<C, A: Allocator> Records<C, A> {
     }
 }
 
-/// A rank, as a reply.
+// A rank, as a reply.
 fn told(rank: u16) -> Reply
     ensures number { result ≡ Reply.Number rank }
 {

@@ -13,8 +13,8 @@ use evl_base::{ActionKinds, LineNo, Refusal, Reply, Stage, TimerId};
 use evl_pipeline::Handler;
 use std::alloc::Allocator;
 
-/// Whether a timer's callback may declare these kinds of action: it neither hands its event on in-band nor posts an
-/// out-of-band line.
+// Whether a timer's callback may declare these kinds of action: it neither hands its event on in-band nor posts an
+// out-of-band line.
 fn is_timer_allowed(kinds: ActionKinds) -> bool
     ensures allowed { result ≡ is_timer_allowed kinds.0 }
 {
@@ -69,7 +69,7 @@ impl<C, A: Allocator> Records<C, A> {
         }
     }
 
-    /// An event of line 0, the clock's.
+    // An event of line 0, the clock's.
     fn post_clock(&mut self)
         ensures posted { state_of self.new ≡ timer_call.posted_clock (state_of self.old) }
         ensures stands { KeepsCallbacks self.old self.new }

@@ -68,7 +68,7 @@ impl<C, A: Allocator> Records<C, A> {
         Ok(Reply::Begun)
     }
 
-    /// A wait for a semaphore or a flag group begins, with the thread's rank.
+    // A wait for a semaphore or a flag group begins, with the thread's rank.
     fn begin_ranked(&mut self, thread: ThreadId, rank: u16, wanted: &Wanted, until: Option<u64>)
         requires ranked { is_ranked wanted.now ≡ true }
         requires idle { wait_at (state_of self.old) thread.0 ≡ None }
@@ -87,7 +87,7 @@ impl<C, A: Allocator> Records<C, A> {
         self.suspend(thread, until);
     }
 
-    /// A wait to write begins; where the bytes are written at once, the waits of those whom that serves end.
+    // A wait to write begins; where the bytes are written at once, the waits of those whom that serves end.
     fn begin_write(
         &mut self,
         thread: ThreadId,
@@ -115,7 +115,7 @@ impl<C, A: Allocator> Records<C, A> {
         self.suspend(thread, until);
     }
 
-    /// A wait to read begins; where something is read at once, the waits of those whom that serves end.
+    // A wait to read begins; where something is read at once, the waits of those whom that serves end.
     fn begin_read(
         &mut self,
         thread: ThreadId,
@@ -146,7 +146,7 @@ impl<C, A: Allocator> Records<C, A> {
         }
     }
 
-    /// Whether a thread of the board is named, where an owner is named.
+    // Whether a thread of the board is named, where an owner is named.
     fn is_named(&self, wanted: &Wanted) -> bool
         ensures named { result ≡ is_named (state_of self.now) wanted.now }
     {
@@ -156,8 +156,8 @@ impl<C, A: Allocator> Records<C, A> {
         }
     }
 
-    /// The rank of a thread that may begin this wait. The first that applies: `Unknown` (no such thread), `Invalid` (it
-    /// isn't attached, a mask has no bits, or the owner can't be named), `WrongStage` (it is on the other stage).
+    // The rank of a thread that may begin this wait. The first that applies: `Unknown` (no such thread), `Invalid` (it
+    // isn't attached, a mask has no bits, or the owner can't be named), `WrongStage` (it is on the other stage).
     fn may_begin(&self, thread: ThreadId, wanted: &Wanted) -> Result<u16, Refusal>
         ensures ok { IfOk result (λ rank. (waiter_refusal (state_of self.now) thread.0 wanted.now ≡ None) × (rank ≡ rank_of (state_of self.now) thread.0)) }
         ensures refused { IfErr result (λ e. waiter_refusal (state_of self.now) thread.0 wanted.now ≡ Some e) }
@@ -223,8 +223,8 @@ impl<C, A: Allocator> Records<C, A> {
         self.wake_served(told);
     }
 
-    /// A thread leaves the queue in which it waits, if it waits in one; whom that serves wait on, and are told into a
-    /// list where nobody stands yet. Where it was a mutex's, the ranks are handed on.
+    // A thread leaves the queue in which it waits, if it waits in one; whom that serves wait on, and are told into a
+    // list where nobody stands yet. Where it was a mutex's, the ranks are handed on.
     fn leave_queue(&mut self, thread: ThreadId, told: &mut Served)
         requires nobody { told.old ≡ [] }
         ensures left { state_of self.new ≡ with_elements (state_of self.old) (left_by (elements (state_of self.old)) thread.0 (wait_at (state_of self.old) thread.0)) }
@@ -269,7 +269,7 @@ impl<C, A: Allocator> Records<C, A> {
         }
     }
 
-    /// Whether a thread goes in-band at the end of its wait.
+    // Whether a thread goes in-band at the end of its wait.
     fn goes_inband(&self, thread: ThreadId, keep: bool) -> bool
         ensures goes { result ≡ goes_inband (state_of self.now) thread.0 keep }
     {

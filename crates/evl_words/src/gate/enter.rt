@@ -15,7 +15,7 @@ use std::alloc::Allocator;
 use std::marker::Brand;
 
 impl<A: Allocator> StaxGate<A> {
-    /// A step that looks at the word before an exchange. What refuses the seat is an entry.
+    // A step that looks at the word before an exchange. What refuses the seat is an entry.
     fn look_as<W: Wanting>(&self, seat: &mut StaxSeat, stage: Stage) -> Result<u64, Refusal>
         requires mine { IsSeatOf seat.old self.now }
         requires free { seat.old.view.held.stage ≡ None }
@@ -31,7 +31,7 @@ impl<A: Allocator> StaxGate<A> {
             None => Ok(word),
         }
     }
-    /// The exchange of a word that would let the seat in. Where it found another word, that one decides.
+    // The exchange of a word that would let the seat in. Where it found another word, that one decides.
     fn exchange_as<W: Wanting>(
         &self,
         seat: &mut StaxSeat,

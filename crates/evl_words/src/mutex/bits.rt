@@ -12,7 +12,7 @@ pub const OFFERED: u64 = 1 << 30;
 /// The claim mark; alone it says that a seat has won and not yet settled.
 pub const CLAIM_MARK: u64 = 1 << 31;
 
-/// The bits of the owner's number.
+// The bits of the owner's number.
 const NUMBER_MASK: u64 = (1 << 16) - 1;
 
 /// What a claim on this word is answered.
