@@ -40,42 +40,8 @@ refused_keeps (begins x until) refusal before = refl
 refused_keeps (ends keep) refusal before = refl
 
 answered : (call : Call) (reply : Reply) (before : Option Awaited) → kept (awaited_after (task_of call) (Ok reply) before) ≡ wait_after (kept before) (wait_step call) (Ok reply)
-answered (Request line stage callback tag) reply before = refl
-answered (Free line stage) reply before = refl
-answered (Arrive line) reply before = refl
-answered (Post stage line) reply before = refl
-answered (Stall stage) reply before = refl
-answered (Unstall stage) reply before = refl
-answered (Tick delta) reply before = refl
 answered Now reply before = refl
-answered (NewTimer callback tag) reply before = refl
-answered (StartTimer timer date interval) reply before = refl
-answered (StopTimer timer) reply before = refl
-answered (DropTimer timer) reply before = refl
-answered (Overruns timer) reply before = refl
-answered (Attach policy stage) reply before = refl
-answered Detach reply before = refl
-answered (SetPolicy policy) reply before = refl
-answered (SetStage stage) reply before = refl
-answered Pick reply before = refl
-answered (RankOf thread) reply before = refl
-answered (TryGet sem) reply before = refl
-answered (Put sem) reply before = refl
-answered (Peek sem) reply before = refl
-answered (BeginGet sem until) reply before = refl
-answered (TryTake flags kind) reply before = refl
-answered (PostFlags flags bits) reply before = refl
-answered (PeekFlags flags) reply before = refl
-answered (BeginTake flags kind until) reply before = refl
-answered (Write xbuf way bytes) reply before = refl
-answered (Read xbuf way len) reply before = refl
-answered (Room xbuf way) reply before = refl
-answered (BeginWrite xbuf way bytes until) reply before = refl
-answered (BeginRead xbuf way len until) reply before = refl
-answered (Claim mutex owner until) reply before = refl
-answered (Release mutex) reply before = refl
-answered (Raise mutex) reply before = refl
-answered (Finish keep) reply before = refl
+answered _ reply before = refl
 
 goes : (call : Call) (reply : Result Reply Refusal) (before : Option Awaited) → kept (awaited_after (task_of call) reply before) ≡ wait_after (kept before) (wait_step call) reply
 goes call (Ok reply) before = answered call reply before

@@ -125,42 +125,11 @@ plain_finish true same free = absurd (cc)
 plain_finish false same free = refl
 
 pub touches_none : (s : State) (k : ℕ) (stax mutex : Bool) (c : Call) → call_refusal (kept (awaited_at s k)) stax mutex c ≡ None → touches_mutex s k (task_of c) ≡ false
-touches_none s k stax mutex (Request line stage callback tag) free = refl
-touches_none s k stax mutex (Free line stage) free = refl
-touches_none s k stax mutex (Arrive line) free = refl
-touches_none s k stax mutex (Post stage line) free = refl
-touches_none s k stax mutex (Stall stage) free = refl
-touches_none s k stax mutex (Unstall stage) free = refl
-touches_none s k stax mutex (Tick delta) free = refl
-touches_none s k stax mutex Now free = refl
-touches_none s k stax mutex (NewTimer callback tag) free = refl
-touches_none s k stax mutex (StartTimer timer date interval) free = refl
-touches_none s k stax mutex (StopTimer timer) free = refl
-touches_none s k stax mutex (DropTimer timer) free = refl
-touches_none s k stax mutex (Overruns timer) free = refl
-touches_none s k stax mutex (Attach policy stage) free = refl
-touches_none s k stax mutex Detach free = refl
-touches_none s k stax mutex (SetPolicy policy) free = refl
-touches_none s k stax mutex (SetStage stage) free = refl
-touches_none s k stax mutex Pick free = refl
-touches_none s k stax mutex (RankOf thread) free = refl
-touches_none s k stax mutex (TryGet sem) free = refl
-touches_none s k stax mutex (Put sem) free = refl
-touches_none s k stax mutex (Peek sem) free = refl
-touches_none s k stax mutex (BeginGet sem until) free = refl
-touches_none s k stax mutex (TryTake flags kind) free = refl
-touches_none s k stax mutex (PostFlags flags bits) free = refl
-touches_none s k stax mutex (PeekFlags flags) free = refl
-touches_none s k stax mutex (BeginTake flags kind until) free = refl
-touches_none s k stax mutex (Write xbuf way bytes) free = refl
-touches_none s k stax mutex (Read xbuf way len) free = refl
-touches_none s k stax mutex (Room xbuf way) free = refl
-touches_none s k stax mutex (BeginWrite xbuf way bytes until) free = refl
-touches_none s k stax mutex (BeginRead xbuf way len until) free = refl
 touches_none s k stax mutex (Claim id owner until) free = absurd (cc)
 touches_none s k stax mutex (Release id) free = absurd (cc)
 touches_none s k stax mutex (Raise id) free = absurd (cc)
 touches_none s k stax mutex (Finish keep) free = got_no_mutex (wait_at s k) (plain_finish (waits_for_mutex (kept (awaited_at s k))) (same_truth keep (keeps_stage stax mutex)) free)
+touches_none s k stax mutex _ free = refl
 
 module _ {C : Type 0} where
   -- what an entered call did

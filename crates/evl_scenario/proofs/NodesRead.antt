@@ -29,42 +29,8 @@ board_nodes board = unwrap_or (filled (board_pairs board) no_nodes) no_nodes
 -- the keys of a step differ
 step_filled : (who : ThreadId) (call : Call) → filled (step_pairs (record { who = who; call = call })) no_nodes ≡ Some (step_nodes (record { who = who; call = call }))
 unfolding at_key
-step_filled who (Request line stage callback tag) = refl
-step_filled who (Free line stage) = refl
-step_filled who (Arrive line) = refl
-step_filled who (Post stage line) = refl
-step_filled who (Stall stage) = refl
-step_filled who (Unstall stage) = refl
-step_filled who (Tick delta) = refl
 step_filled who Now = refl
-step_filled who (NewTimer callback tag) = refl
-step_filled who (StartTimer timer date interval) = refl
-step_filled who (StopTimer timer) = refl
-step_filled who (DropTimer timer) = refl
-step_filled who (Overruns timer) = refl
-step_filled who (Attach policy stage) = refl
-step_filled who Detach = refl
-step_filled who (SetPolicy policy) = refl
-step_filled who (SetStage stage) = refl
-step_filled who Pick = refl
-step_filled who (RankOf thread) = refl
-step_filled who (TryGet sem) = refl
-step_filled who (Put sem) = refl
-step_filled who (Peek sem) = refl
-step_filled who (BeginGet sem until) = refl
-step_filled who (TryTake flags kind) = refl
-step_filled who (PostFlags flags bits) = refl
-step_filled who (PeekFlags flags) = refl
-step_filled who (BeginTake flags kind until) = refl
-step_filled who (Write xbuf way bytes) = refl
-step_filled who (Read xbuf way len) = refl
-step_filled who (Room xbuf way) = refl
-step_filled who (BeginWrite xbuf way bytes until) = refl
-step_filled who (BeginRead xbuf way len until) = refl
-step_filled who (Claim mutex owner until) = refl
-step_filled who (Release mutex) = refl
-step_filled who (Raise mutex) = refl
-step_filled who (Finish keep) = refl
+step_filled who _ = refl
 
 -- ---- the document
 

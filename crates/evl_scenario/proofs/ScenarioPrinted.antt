@@ -95,42 +95,8 @@ call_written (Raise mutex) h = ((refl, half-written mutex.0 h), tt)
 call_written (Finish keep) h = ((refl, tt), tt)
 
 word_plain : (call : Call) → IsPlain (call_word call)
-word_plain (Request line stage callback tag) = refl
-word_plain (Free line stage) = refl
-word_plain (Arrive line) = refl
-word_plain (Post stage line) = refl
-word_plain (Stall stage) = refl
-word_plain (Unstall stage) = refl
-word_plain (Tick delta) = refl
 word_plain Now = refl
-word_plain (NewTimer callback tag) = refl
-word_plain (StartTimer timer date interval) = refl
-word_plain (StopTimer timer) = refl
-word_plain (DropTimer timer) = refl
-word_plain (Overruns timer) = refl
-word_plain (Attach policy stage) = refl
-word_plain Detach = refl
-word_plain (SetPolicy policy) = refl
-word_plain (SetStage stage) = refl
-word_plain Pick = refl
-word_plain (RankOf thread) = refl
-word_plain (TryGet sem) = refl
-word_plain (Put sem) = refl
-word_plain (Peek sem) = refl
-word_plain (BeginGet sem until) = refl
-word_plain (TryTake flags kind) = refl
-word_plain (PostFlags flags bits) = refl
-word_plain (PeekFlags flags) = refl
-word_plain (BeginTake flags kind until) = refl
-word_plain (Write xbuf way bytes) = refl
-word_plain (Read xbuf way len) = refl
-word_plain (Room xbuf way) = refl
-word_plain (BeginWrite xbuf way bytes until) = refl
-word_plain (BeginRead xbuf way len until) = refl
-word_plain (Claim mutex owner until) = refl
-word_plain (Release mutex) = refl
-word_plain (Raise mutex) = refl
-word_plain (Finish keep) = refl
+word_plain _ = refl
 
 step_written : (step : Step) → StepFits step → ArePairs (step_pairs step)
 step_written step h = ((refl, word_plain step.call), ((refl, half-written step.who.0 h.0), call_written step.call h.1))
