@@ -2,7 +2,7 @@
 use Rattle.std.proofs.Common.{◌≡◌, ℕ, ◌==◌, Bool, true, false, if◌then◌else◌, cond, List, [], ◌∷◌, Option, Some, None, option_map, Result, Ok, Err, refl, sym, ap, ◌∙◌}
 use Rattle.evl_base.specs.Board.{board_fits}
 use Rattle.evl_base.specs.declared.call.Call.{Call}
-use Rattle.evl_base.specs.declared.call.Call.TheVariants.{Request, Free, Arrive, Post, Stall, Unstall, Tick, Now, NewTimer, StartTimer, StopTimer, DropTimer, Overruns, Attach, Detach, SetPolicy, SetStage, Pick, RankOf, TryGet, Put, Peek, BeginGet, TryTake, PostFlags, PeekFlags, BeginTake, Write, Read, Room, BeginWrite, BeginRead, Claim, Release, Raise, Finish}
+use Rattle.evl_base.specs.declared.call.Call.TheVariants.{Now}
 use Rattle.evl_base.specs.declared.entry.Entry.{Entry}
 use Rattle.evl_base.specs.declared.numbers.MutexId.{MutexId}
 use Rattle.evl_base.specs.declared.refusal.Refusal.{Refusal}
