@@ -22,12 +22,12 @@ use Rattle.evl_machine.specs.declared.in_word.InWord.{InWord}
 use Rattle.evl_machine.specs.Actors.{SeatedActor}
 use Rattle.evl_machine.specs.Callers.{HasInHand}
 use Rattle.evl_machine.specs.Handles.{MachineState, account_of}
-use Rattle.evl_machine.specs.InWord.{Agrees, IsRead, in_word, looked_known, owner_of}
+use Rattle.evl_machine.specs.InWord.{Agrees, IsRead, SaysTied, in_word, looked_known, owner_of}
 use Rattle.evl_machine.specs.Known.{CoreHand, KernelMe, KeptKnown, ceilings_of, mutex_count, seen, taken_in}
 use Rattle.evl_machine.specs.Noted.{Stood}
 use Rattle.evl_machine.specs.Seats.{CoreMe}
 use Rattle.evl_machine.specs.ThreadRule.{core_of}
-use Rattle.evl_machine.specs.Ties.{StandsNoted}
+use Rattle.evl_machine.specs.Ties.{AreTied, StandsNoted}
 
 -- a word that is written anew stays
 same_word : (words : List ℕ) (i : ℕ) → set words i (get_or words i 0) ≡ words
@@ -106,3 +106,14 @@ module _ {C : Type 0} where
   pub agreed_if : (machine : MachineState C) (a : SeatedActor C) (k : KernelView C) → HasInHand machine a k → (i : ℕ) (o : Option InWord) → MatchOption o ⊤ (IsRead a.me.0 i) → MatchOption o ⊤ (Agrees k.history.state i)
   agreed_if machine a k has i None said = said
   agreed_if machine a k has i (Some w) said = agreed machine a k has i w said
+
+  -- and the word that it reads is tied to what the kernel records
+  tied : (machine : MachineState C) (a : SeatedActor C) (k : KernelView C) → HasInHand machine a k → (i : ℕ) (w : InWord) → IsRead a.me.0 i w → SaysTied (ceilings_of machine.first) k.history.state i w
+  tied machine a k has i w (word, said, stood) =
+      let h = (account_of (seen a.me)).seen in
+      let taken : taken_in a.me.0 ≡ Some h = ap (λ (x : CoreMe (KernelView C)). x.0.taken) has.1.holds in
+      (word, said, subst (λ (f : KernelView C). AreTied (ceilings_of f) k.history.state i word) (sym (ap (λ (m : MachineState C). m.first) has.0)) (has.4 h taken i word (stood h taken)))
+
+  pub tied_if : (machine : MachineState C) (a : SeatedActor C) (k : KernelView C) → HasInHand machine a k → (i : ℕ) (o : Option InWord) → MatchOption o ⊤ (IsRead a.me.0 i) → MatchOption o ⊤ (SaysTied (ceilings_of machine.first) k.history.state i)
+  tied_if machine a k has i None said = said
+  tied_if machine a k has i (Some w) said = tied machine a k has i w said

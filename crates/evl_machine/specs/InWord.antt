@@ -1,5 +1,5 @@
 -- What stands in a mutex's word, and what a look at it tells the caller that has the kernel.
-use Rattle.std.specs.Prelude.{◌≡◌, ℕ, ◌-◌, ◌==◌, true, false, Option, Some, None, if◌then◌else◌}
+use Rattle.std.specs.Prelude.{◌≡◌, ℕ, ◌-◌, ◌==◌, Bool, true, false, Option, Some, None, if◌then◌else◌}
 use Rattle.std.specs.Option.{option_map}
 use Rattle.atomic_table.specs.Table.{Step}
 use Rattle.evl_base.specs.declared.numbers.ThreadId.{ThreadId}
@@ -12,7 +12,7 @@ use Rattle.evl_kernel.specs.States.{State}
 use Rattle.evl_kernel.specs.KernelViews.{KernelView}
 use Rattle.evl_kernel.specs.MutexEffects.{record_at}
 use Rattle.evl_machine.specs.declared.in_word.InWord.{InWord}
-use Rattle.evl_machine.specs.Ties.{is_claimed}
+use Rattle.evl_machine.specs.Ties.{AreTied, is_claimed}
 use Rattle.evl_machine.specs.Known.{CoreHand, KernelMe}
 use Rattle.evl_machine.specs.Noted.{Stood}
 
@@ -29,6 +29,10 @@ in_word word = record { owner = if number_in word == 0 then None else Some (reco
 -- whom a state has recorded as the owner of the mutex i stands in its word, and where somebody waits for the mutex, so does the mark
 abbrev pub Agrees : State → ℕ → InWord → Type 0
 Agrees s i w = (m : Mutex) → record_at s i ≡ Some m → ((o : ℕ) → m.owner ≡ Some o → option_map (λ (t : ThreadId). t.0) w.owner ≡ Some o) × (is_nobody m.waiters ≡ false → w.is_claimed ≡ true)
+
+-- It says what some word does that is tied to what a state has recorded of the mutex i
+abbrev pub SaysTied : (ℕ → Bool) → State → ℕ → InWord → Type 0
+SaysTied ceilings s i w = (word : ℕ) × (w ≡ in_word word) × AreTied ceilings s i word
 
 module _ {C : Type 0} where
   -- it is what the word of the mutex i said when this stood of it

@@ -9,8 +9,8 @@ ghost use Rattle.evl_machine.specs.Homes.{AreHomes};
 ghost use Rattle.evl_machine.specs.Events.{FailsToTake, Gives, Takes};
 ghost use Rattle.evl_machine.specs.Calls.{CalledHeld, HoldsAtItsStage, TookKernel};
 ghost use Rattle.evl_machine.specs.Closings.{Closes, KeepsOpen};
-ghost use Rattle.evl_machine.specs.InWord.{Agrees};
-ghost use Rattle.evl_machine.specs.Known.{mutex_count};
+ghost use Rattle.evl_machine.specs.InWord.{Agrees, SaysTied};
+ghost use Rattle.evl_machine.specs.Known.{ceilings_of, mutex_count};
 
 use crate::caller::CallerOf;
 use crate::held::HeldOf;
@@ -130,11 +130,13 @@ impl<'a> Held<'a> {
     }
 
     /// What stands in a mutex's word, by one load; none where there is no such mutex. It is what the kernel records:
-    /// whom it has as the owner stands there, and where somebody waits, so does the mark.
+    /// whom it has as the owner stands there, and where somebody waits, so does the mark; where nobody is recorded,
+    /// a mutex with a ceiling is free.
     pub fn in_word(&mut self, mutex: MutexId) -> Option<InWord>
         ensures same { self.new.of ≡ self.old.of }
         ensures there { is_some result ≡ nat_lt mutex.0 (mutex_count self.old.of.caller.machine.first) }
         ensures agrees { MatchOption result ⊤ (Agrees self.old.of.kernel.history.state mutex.0) }
+        ensures tied { MatchOption result ⊤ (SaysTied (ceilings_of self.old.of.caller.machine.first) self.old.of.kernel.history.state mutex.0) }
     {
         self.of.in_word(mutex)
     }

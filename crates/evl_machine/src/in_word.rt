@@ -1,7 +1,7 @@
 //! What stands in a mutex's word, looked at by the caller that has the kernel.
 ghost use Rattle.std.specs.Prelude.{ℕ, ◌≡◌, ◌+◌, ◌<◌, ⊤, MatchOption, is_some, nat_lt};
-ghost use Rattle.evl_machine.specs.InWord.{Agrees, IsRead, in_word, owner_of};
-ghost use Rattle.evl_machine.specs.Known.{first_of, mutex_count};
+ghost use Rattle.evl_machine.specs.InWord.{Agrees, IsRead, SaysTied, in_word, owner_of};
+ghost use Rattle.evl_machine.specs.Known.{ceilings_of, first_of, mutex_count};
 ghost use Rattle.evl_machine.specs.Noted.{Stood};
 
 use crate::actor::Actor;
@@ -86,11 +86,13 @@ impl<C: Drop, A: Allocator> MachineOf<C, A> {
 
 impl<'a, C: Drop, A: Allocator> HeldOf<'a, C, A> {
     /// What stands in a mutex's word, by one load; none where there is no such mutex. It is what the kernel records:
-    /// whom it has as the owner stands there, and where somebody waits, so does the mark.
+    /// whom it has as the owner stands there, and where somebody waits, so does the mark; where nobody is recorded,
+    /// a mutex with a ceiling is free.
     pub fn in_word(&mut self, mutex: MutexId) -> Option<InWord>
         ensures same { self.new ≡ self.old }
         ensures there { is_some result ≡ nat_lt mutex.0 (mutex_count self.old.caller.machine.first) }
         ensures agrees { MatchOption result ⊤ (Agrees self.old.kernel.history.state mutex.0) }
+        ensures tied { MatchOption result ⊤ (SaysTied (ceilings_of self.old.caller.machine.first) self.old.kernel.history.state mutex.0) }
     {
         self.machine.look(&mut self.actor, mutex)
     }

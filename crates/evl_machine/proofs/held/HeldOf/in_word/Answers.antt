@@ -4,9 +4,9 @@ use Rattle.evl_kernel.specs.KernelViews.{KernelView}
 use Rattle.evl_machine.specs.Actors.{SeatedActor, acting}
 use Rattle.evl_machine.specs.Callers.{HasInHand}
 use Rattle.evl_machine.specs.Handles.{HeldState, MachineState, account_of, caller_of}
-use Rattle.evl_machine.specs.InWord.{Agrees}
-use Rattle.evl_machine.specs.Known.{seen}
-use Rattle.evl_machine.proofs.InWords.{agreed_if}
+use Rattle.evl_machine.specs.InWord.{Agrees, SaysTied}
+use Rattle.evl_machine.specs.Known.{ceilings_of, seen}
+use Rattle.evl_machine.proofs.InWords.{agreed_if, tied_if}
 use Rattle.evl_machine.proofs.held.HeldOf.in_word.Goals as goal
 
 pub look-requires : goal.look-requires
@@ -22,3 +22,8 @@ pub returns-clause-agrees : goal.returns-clause-agrees
 returns-clause-agrees g c =
     subst (λ (k : KernelView _). MatchOption c.look.result ⊤ (Agrees k.history.state c.args.mutex.0)) (ap (λ (h : HeldState _). h.kernel) c.self.view_is)
     (agreed_if c.self.inside.machine.now c.self.inside.actor c.self.inside.kernel c.self.invariant c.args.mutex.0 c.look.result c.look.ensures.stood)
+
+pub returns-clause-tied : goal.returns-clause-tied
+returns-clause-tied g c =
+    subst (λ (h : HeldState _). MatchOption c.look.result ⊤ (SaysTied (ceilings_of h.caller.machine.first) h.kernel.history.state c.args.mutex.0)) c.self.view_is
+    (tied_if c.self.inside.machine.now c.self.inside.actor c.self.inside.kernel c.self.invariant c.args.mutex.0 c.look.result c.look.ensures.stood)
