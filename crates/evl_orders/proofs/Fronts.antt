@@ -1,17 +1,18 @@
 -- A world is gone through caller by caller, node by node, and step by step.
-use Rattle.std.proofs.Common.{◌≡◌, ℕ, zero, suc, ◌+◌, ◌*◌, Bool, true, false, cond, not, ◌&&◌, ◌||◌, List, [], ◌∷◌, ◌++◌, refl, sym, ◌∙◌, ap, subst, arith, zero-add, add-zero, add-one, append_assoc, append-nil}
-use Rattle.std.specs.Prelude.{◌<◌, ◌≤◌, All, Some, None, is_none, is_some, if◌then◌else◌, length, slice_get, slice_set}
+use Rattle.std.proofs.Common.{◌≡◌, ℕ, zero, suc, ◌+◌, ◌*◌, Bool, true, false, cond, not, ◌&&◌, ◌||◌, List, [], ◌∷◌, ◌++◌, refl, sym, ◌∙◌, ap, subst, arith, zero-add, add-zero, add-one, append_assoc, append-nil, length-append}
+use Rattle.std.specs.Prelude.{◌<◌, ◌≤◌, All, AllPairs, Some, None, is_none, is_some, if◌then◌else◌, length, slice_get, slice_set}
 use Rattle.std.specs.List.{list_all}
 use Rattle.std.specs.Option.{option_map_or}
 use Rattle.std.proofs.lemmas.List.Sums.{sum_by_push, sum_by-cons}
 use Rattle.std.proofs.lemmas.List.Folds.{list_all-append}
-use Rattle.std.proofs.lemmas.List.Elements.{All-nil, All-cons, All-head, All-tail, All-same, All-push, All-pop}
+use Rattle.std.proofs.lemmas.List.Elements.{All-nil, All-cons, All-head, All-tail, All-same, All-push, All-pop, All-weaker, All-get_or}
+use Rattle.std.proofs.lemmas.List.Quantifiers.{all_pairs_push}
 use Rattle.evl_orders.specs.Machines.{Machine, below, led, is_over, runs, orders}
 use Rattle.evl_orders.specs.Weights.{total, weight, ahead_by, ahead, at_end}
-use Rattle.evl_orders.specs.Fronts.{AreFit, IsLed, AreLed, AreOver, AddsSteps, LeadsOn, IsFront}
+use Rattle.evl_orders.specs.Fronts.{AreFit, AreLong, AreShortest, IsLed, AreLed, AreOver, AddsSteps, LeadsOn, IsFront}
 use Rattle.evl_orders.specs.declared.nodes.Node.{Node}
 use Rattle.evl_orders.proofs.Leads.{led_more}
-use Rattle.evl_orders.proofs.Weighing.{raised, weight_raised, fit_raised, led_raised}
+use Rattle.evl_orders.proofs.Weighing.{raised, weight_raised, fit_raised, led_raised, long_raised}
 use Rattle.evl_orders.proofs.Totals.{total_runs_zero, total_runs_more, total_orders_zero, total_orders_more, total_of_ones, none_left}
 
 -- whether any of these callers can make a step
@@ -48,6 +49,7 @@ module _ {M S : Type 0} (m : Machine S) (state : M → S) (fits : M → Type 0) 
     fit = fit;
     sums = λ f. omega arith;
     led_there = λ s one all. all;
+    longer = λ long. long;
   }
 
   -- a caller that can make no step
@@ -59,6 +61,7 @@ module _ {M S : Type 0} (m : Machine S) (state : M → S) (fits : M → Type 0) 
         let same : weight state f nodes ≡ weight state f nodes + node.count * 0 = omega arith in
         same ∙ ap (λ n. weight state f nodes + node.count * n) (sym nothing);
     led_there = λ s one all. all;
+    longer = λ long. long;
   }
 
   -- what one step adds
@@ -76,6 +79,7 @@ module _ {M S : Type 0} (m : Machine S) (state : M → S) (fits : M → Type 0) 
         ∙ (weight_raised state f old i before.count node there
         ∙ ap (λ n. weight state f old + before.count * n) (ap f same ∙ sym (one_ahead before c t f goes)));
     led_there = λ s one all. subst (AreLed m state s) (sym made) (led_raised m state s old i before.count node there all);
+    longer = λ long. subst (AreLong (length before.order.items + 1)) (sym made) (long_raised (length before.order.items + 1) old i before.count node there long);
   }
 
   -- a step to a new state
@@ -93,6 +97,10 @@ module _ {M S : Type 0} (m : Machine S) (state : M → S) (fits : M → Type 0) 
         subst (AreLed m state s) (sym made)
         (All-push (λ (n : Node M). IsLed m state s n) old node all
         (ap (led m s) order ∙ led_more m s (state before.at) (state node.at) before.order.items c one (leads ∙ ap (λ x. Some (state x)) (sym same))));
+    longer = λ long.
+        subst (AreLong (length before.order.items + 1)) (sym made)
+        (All-push (λ (n : Node M). length n.order.items ≡ length before.order.items + 1) old node long
+        (ap length order ∙ length-append before.order.items (c ∷ [])));
   }
 
   -- one caller more
@@ -109,6 +117,7 @@ module _ {M S : Type 0} (m : Machine S) (state : M → S) (fits : M → Type 0) 
         ∙ spread (weight state f old) node.count (ahead_by m f (state node.at) callers) (ahead_by m f (state node.at) (c ∷ [])) (ahead_by m f (state node.at) (callers ++ c ∷ []))
         (both ∙ ap (λ n. ahead_by m f (state node.at) callers + n) (sym single)));
     led_there = λ s is all. one.led_there s is (done.led_there s is all);
+    longer = λ long. one.longer (done.longer long);
   }
     where
       spread : (w k a b ab : ℕ) → ab ≡ a + b → w + k * a + k * b ≡ w + k * ab
@@ -121,6 +130,16 @@ module _ {M S : Type 0} (m : Machine S) (state : M → S) (fits : M → Type 0) 
       ∙ ap (λ b. not (list_all p callers && b)) (sym (all_single p c))
       ∙ ap not (sym (list_all-append p callers (c ∷ [])))
 
+  -- how many steps a node's order has
+  abbrev IsLong : ℕ → Node M → Type 0
+  IsLong k n = length n.order.items ≡ k
+
+  abbrev IsBelow : ℕ → Node M → Type 0
+  IsBelow k n = length n.order.items < k
+
+  abbrev Rises : Node M → Node M → Type 0
+  Rises one other = length one.order.items ≤ length other.order.items
+
   -- no nodes yet
   pub leads_none : (ends : List (Node M)) → LeadsOn m state fits [] [] ends ends
   leads_none ends = record {
@@ -130,6 +149,8 @@ module _ {M S : Type 0} (m : Machine S) (state : M → S) (fits : M → Type 0) 
     led_there = λ s all. all;
     led_ends = λ s all ends. ends;
     over = λ all. all;
+    longer = λ k long. All-nil (IsLong (k + 1));
+    shortest = λ k long before. record { below = All-weaker (IsBelow k) (IsBelow (k + 1)) (λ n h. omega (arith, h)) ends before.below; rise = before.rise };
   }
 
   -- the ends behind a node
@@ -157,6 +178,20 @@ module _ {M S : Type 0} (m : Machine S) (state : M → S) (fits : M → Type 0) 
       over_if true h = refl
       over_if false h = absurd (cc)
 
+  -- an end of so many steps stands behind those of no more
+  shortest_kept : (k : ℕ) (goes : Bool) (ends new : List (Node M)) (node : Node M) → IsKept goes ends node new → IsLong k node
+      → AreShortest (k + 1) ends → AreShortest (k + 1) new
+  shortest_kept k goes ends new node e long all = record {
+    below = all_kept (IsBelow (k + 1)) goes ends new node e all.below (omega (arith, long));
+    rise = risen goes e;
+  }
+    where
+      risen : (b : Bool) → IsKept b ends node new → AllPairs Rises new
+      risen true e = subst (AllPairs Rises) (sym e) all.rise
+      risen false e =
+          subst (AllPairs Rises) (sym e)
+          (all_pairs_push Rises ends node all.rise (λ i d h. omega (arith, long, All-get_or (IsBelow (k + 1)) ends i d h all.below)))
+
   -- one node more
   pub leads_more : (done : List (Node M)) (node : Node M) (goes : Bool) (mid next old ends new : List (Node M)) → LeadsOn m state fits done mid old ends
       → AddsSteps m state fits node (below m.callers) mid next → goes ≡ not (is_over m (state node.at)) → IsKept goes ends node new
@@ -181,6 +216,13 @@ module _ {M S : Type 0} (m : Machine S) (state : M → S) (fits : M → Type 0) 
         let both = All-pop (λ (n : Node M). IsLed m state s n) (done ++ node ∷ []) done (Some node) refl all in
         all_kept (λ (n : Node M). IsLed m state s n) goes ends new node kept (before.led_ends s both.0 known) both.1;
     over = λ known. over_kept goes ends new node kept is (before.over known);
+    longer = λ k long.
+        let both = All-pop (IsLong k) (done ++ node ∷ []) done (Some node) refl long in
+        let same : length node.order.items + 1 ≡ k + 1 = ap (λ n. n + 1) both.1 in
+        subst (λ n. AreLong n next) same (adds.longer (subst (λ n. AreLong n mid) (sym same) (before.longer k both.0)));
+    shortest = λ k long known.
+        let both = All-pop (IsLong k) (done ++ node ∷ []) done (Some node) refl long in
+        shortest_kept k goes ends new node kept both.1 (before.shortest k both.0 known);
   }
     where
       joined : (w v u a k ak : ℕ) → w ≡ v + k → v ≡ u + a → ak ≡ a + k → w ≡ u + ak
@@ -199,6 +241,8 @@ module _ {M S : Type 0} (m : Machine S) (state : M → S) (fits : M → Type 0) 
         All-cons (λ (n : Node M). IsLed m state (state node.at) n) node [] (ap (led m (state node.at)) none) (All-nil (λ (n : Node M). IsLed m state (state node.at) n));
     led_ends = All-nil (λ (n : Node M). IsLed m state (state node.at) n);
     over = All-nil (λ (n : Node M). is_over m (state n.at) ≡ true);
+    long = All-cons (IsLong 0) node [] (ap length none) (All-nil (IsLong 0));
+    shortest = record { below = All-nil (IsBelow 0); rise = λ i j d less within. absurd (omega (arith, within)) };
   }
 
   -- one step more
@@ -216,6 +260,8 @@ module _ {M S : Type 0} (m : Machine S) (state : M → S) (fits : M → Type 0) 
     led_there = leads.led_there s front.led_there;
     led_ends = leads.led_ends s front.led_there front.led_ends;
     over = leads.over front.over;
+    long = leads.longer steps front.long;
+    shortest = leads.shortest steps front.long front.shortest;
   }
 
   -- no nodes are left
@@ -297,6 +343,14 @@ module _ {M S : Type 0} (m : Machine S) (state : M → S) (fits : M → Type 0) 
 
     pub cut_at : (most : ℕ) → most < length level → most < length (runs m s told)
     cut_at most more = omega (arith, more, front_few s steps level ends front, ap (λ k. length (runs m s k)) count)
+
+    -- somebody goes on from a node
+    pub more_at : 0 < length level → 0 < length (runs m s told)
+    more_at some = omega (arith, some, front_few s steps level ends front, ap (λ k. length (runs m s k)) count)
+
+    pub shortest_at : AreShortest told found
+    shortest_at =
+        subst (λ k. AreShortest k found) (sym count) (subst (λ (ns : List (Node M)). AreShortest steps ns) (sym same) front.shortest)
 
     pub led_at : AreLed m state s found
     led_at = All-same (λ (n : Node M). IsLed m state s n) found ends same front.led_ends

@@ -1,12 +1,12 @@
 -- Sums over nodes, where one of them is led to by more orders.
-use Rattle.std.proofs.Common.{◌≡◌, ℕ, ◌+◌, ◌*◌, List, get_or, ap, subst, arith}
+use Rattle.std.proofs.Common.{◌≡◌, ℕ, ◌+◌, ◌*◌, List, get_or, length, ap, subst, arith}
 use Rattle.std.specs.Prelude.{◌<◌, Some, slice_get, slice_set, sum_by}
 use Rattle.std.proofs.lemmas.List.Sums.{sum_by-set}
 use Rattle.std.proofs.lemmas.List.Elements.{All-set, All-get_or}
 use Rattle.std.proofs.lemmas.Option.{slice_get_within, get_or_from_slice_get}
 use Rattle.evl_orders.specs.Machines.{Machine}
 use Rattle.evl_orders.specs.Weights.{weight}
-use Rattle.evl_orders.specs.Fronts.{AreFit, IsLed, AreLed}
+use Rattle.evl_orders.specs.Fronts.{AreFit, AreLong, IsLed, AreLed}
 use Rattle.evl_orders.specs.declared.nodes.Node.{Node}
 
 -- a node with more orders
@@ -38,3 +38,10 @@ fit_raised {M} fits nodes i more node e fit =
     let there : get_or nodes i node ≡ node = get_or_from_slice_get nodes i node node e in
     let one : P node = subst P there (All-get_or P nodes i node (slice_get_within nodes i node e) fit) in
     All-set P nodes i (raised node more) (one.0, omega (arith, one.1)) fit
+
+pub long_raised : {M : Type 0} (k : ℕ) (nodes : List (Node M)) (i more : ℕ) (node : Node M)
+    → slice_get nodes i ≡ Some node → AreLong k nodes → AreLong k (slice_set nodes i (raised node more))
+long_raised {M} k nodes i more node e long =
+    let P : Node M → Type 0 = λ n. length n.order.items ≡ k in
+    let there : get_or nodes i node ≡ node = get_or_from_slice_get nodes i node node e in
+    All-set P nodes i (raised node more) (subst P there (All-get_or P nodes i node (slice_get_within nodes i node e) long)) long

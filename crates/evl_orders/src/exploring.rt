@@ -1,6 +1,6 @@
 //! All orders of a world.
-ghost use Rattle.std.specs.Prelude.{ℕ, [], ◌∷◌, ◌++◌, if◌then◌else◌, ◌≡◌, ◌+◌, ◌<◌, ◌⊎◌, ◌||◌, true, false, not, is_some, length, vec_len, OnOk, IfOk};
-ghost use Rattle.evl_orders.specs.Fronts.{AddsSteps, AreFit, AreLed, AreOver, IsFront, LeadsOn};
+ghost use Rattle.std.specs.Prelude.{ℕ, [], ◌∷◌, ◌++◌, if◌then◌else◌, ◌≡◌, ◌+◌, ◌<◌, ◌≤◌, ◌⊎◌, ◌||◌, true, false, min, not, is_some, length, vec_len, OnOk, IfOk};
+ghost use Rattle.evl_orders.specs.Fronts.{AddsSteps, AreFit, AreLed, AreOver, AreShortest, IsFront, IsGone, LeadsOn};
 ghost use Rattle.evl_orders.specs.Machines.{below, is_over, orders, runs};
 ghost use Rattle.evl_orders.specs.Weights.{total, weight};
 
@@ -139,6 +139,7 @@ fn first_front<W: World>(
     requires { W.fits world.now start }
     ensures front { IfOk result (λ front. IsFront (W.machine world.now) (W.state world.now) (W.fits world.now) (W.state world.now start) front.steps front.level.nodes.items front.ends.items) }
     ensures steps { IfOk result (λ front. front.steps ≡ 0) }
+    ensures moments { IfOk result (λ front. front.moments ≡ 0) }
 {
     let level = first_level(alloc, start)?;
     Ok(Front {
@@ -159,6 +160,7 @@ fn next_front<W: World>(
     ensures front { IfOk result (λ next. (s : W.State) → IsFront (W.machine world.now) (W.state world.now) (W.fits world.now) s front.steps front.level.nodes.items front.ends.items
         → IsFront (W.machine world.now) (W.state world.now) (W.fits world.now) s next.steps next.level.nodes.items next.ends.items) }
     ensures steps { IfOk result (λ next. next.steps ≡ front.steps + 1) }
+    ensures moments { IfOk result (λ next. next.moments ≡ min (front.moments + vec_len front.level.nodes) 18446744073709551615) }
 {
     let Front {
         level,
@@ -185,6 +187,7 @@ fn next_front<W: World>(
 fn found<M: Drop>(front: Front<M>) -> Explored<M>
     ensures ends { result.ends.items ≡ front.ends.items }
     ensures steps { result.steps ≡ front.steps }
+    ensures moments { result.moments ≡ front.moments }
     ensures whole { result.whole ≡ true → front.level.nodes.items ≡ [] }
     ensures cut { result.whole ≡ false → 0 < vec_len front.level.nodes }
 {
@@ -204,7 +207,7 @@ fn found<M: Drop>(front: Front<M>) -> Explored<M>
 }
 
 /// Goes through all orders of fewer than `steps` steps from a moment, and no further than where a number of steps leads
-/// to more than `most` states. `Memory` where memory couldn't grow, `Count` where more orders lead to one state than a
+/// to more than `most` moments. `Memory` where memory couldn't grow, `Count` where more orders lead to one state than a
 /// count can tell.
 pub fn explore<W: World>(
     alloc: Global,
@@ -220,16 +223,23 @@ pub fn explore<W: World>(
     ensures counted { IfOk result (λ found. (f : W.State → ℕ) → weight (W.state world.now) f found.ends.items
         ≡ total f (orders (W.machine world.now) (W.state world.now start) found.steps)) }
 
+    // It goes no further than asked; each step on is made from one moment at least and from no more than `most`, and so
+    // many moments are told.
+    ensures asked { IfOk result (λ found. found.steps ≤ steps) }
+    ensures gone { IfOk result (λ found. IsGone (W.machine world.now) (W.state world.now) (W.state world.now start) most found.steps found.moments) }
+
     // Where nothing was cut off, no run has as many steps.
     ensures whole { IfOk result (λ found. found.whole ≡ true → runs (W.machine world.now) (W.state world.now start) found.steps ≡ []) }
 
     // Else it came as far as was asked, or there are more runs of so many steps than `most`.
     ensures cut { IfOk result (λ found. found.whole ≡ false → (found.steps ≡ steps)
         ⊎ (most < length (runs (W.machine world.now) (W.state world.now start) found.steps))) }
+    ensures more { IfOk result (λ found. found.whole ≡ false → 0 < length (runs (W.machine world.now) (W.state world.now start) found.steps)) }
 
-    // Each end is where its order leads, and nobody can make a step there.
+    // Each end is where its order leads, and nobody can make a step there; those of the shortest orders stand first.
     ensures led { IfOk result (λ found. AreLed (W.machine world.now) (W.state world.now) (W.state world.now start) found.ends.items) }
     ensures over { IfOk result (λ found. AreOver (W.machine world.now) (W.state world.now) found.ends.items) }
+    ensures shortest { IfOk result (λ found. AreShortest found.steps found.ends.items) }
 {
     let mut front = match first_front(alloc, world, start) {
         Ok(front) => front,

@@ -1,5 +1,5 @@
 use Rattle.std.proofs.Common.{◌≡◌}
-use Rattle.evl_orders.specs.Fronts.{IsFront}
+use Rattle.evl_orders.specs.Fronts.{IsFront, IsGone}
 use Rattle.evl_orders.proofs.exploring.explore.Given as goal
 
 abbrev pub invariant-loop-step : goal.invariant-loop-step
@@ -7,4 +7,5 @@ invariant-loop-step g l =
     record {
       front : IsFront (g.W.World.machine l.world) (g.W.World.state l.world) (g.W.World.fits l.world) (g.W.World.state l.world l.fn.start) l.front.steps l.front.level.nodes.items l.front.ends.items;
       steps : l.front.steps ≡ l._step;
+      gone : IsGone (g.W.World.machine l.world) (g.W.World.state l.world) (g.W.World.state l.world l.fn.start) l.most l.front.steps l.front.moments;
     }
