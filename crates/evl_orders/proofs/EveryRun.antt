@@ -31,7 +31,7 @@ all_below zero = All-nil (λ c. c < 0)
 all_below (suc n) =
     All-push (λ c. c < suc n) (below n) n (All-weaker (λ c. c < n) (λ c. c < suc n) (λ c h. omega arith) (below n) (all_below n)) (omega arith)
 
-below_or_at : (n c : ℕ) → c < suc n → (c < n) ⊎ (c ≡ n)
+pub below_or_at : (n c : ℕ) → c < suc n → (c < n) ⊎ (c ≡ n)
 below_or_at zero zero h = inr refl
 below_or_at zero (suc c) h = absurd (omega arith)
 below_or_at (suc n) zero h = inl (omega arith)

@@ -1,5 +1,5 @@
 -- How far it was gone, step by step.
-use Rattle.std.proofs.Common.{◌≡◌, ℕ, zero, suc, ◌+◌, ◌⊎◌, inl, inr, List, [], ◌∷◌, ◌++◌, get_or, length, refl, sym, ◌∙◌, ap, subst, arith, length-append}
+use Rattle.std.proofs.Common.{◌≡◌, ℕ, ◌+◌, inl, inr, List, [], ◌∷◌, ◌++◌, get_or, length, sym, ◌∙◌, ap, subst, arith, length-append}
 use Rattle.std.specs.Prelude.{◌<◌, ◌≤◌, min}
 use Rattle.std.proofs.Math.Seq.{get_or-append_seam}
 use Rattle.std.proofs.lemmas.List.{get_or_append_left}
@@ -8,6 +8,7 @@ use Rattle.std.proofs.lemmas.List.Sums.{sum_by_push}
 use Rattle.evl_orders.specs.Machines.{Machine}
 use Rattle.evl_orders.specs.Fronts.{IsGone, StandFor}
 use Rattle.evl_orders.specs.declared.nodes.Node.{Node}
+use Rattle.evl_orders.proofs.EveryRun.{below_or_at}
 
 module _ {M S : Type 0} (m : Machine S) (state : M → S) (s : S) (most : ℕ) where
   -- no step yet
@@ -21,14 +22,6 @@ module _ {M S : Type 0} (m : Machine S) (state : M → S) (s : S) (most : ℕ) w
     counted = zeroed;
   }
 
-  -- which of two a number is
-  last_or_before : (k n : ℕ) → k < n + 1 → (k < n) ⊎ (k ≡ n)
-  last_or_before zero zero h = inr refl
-  last_or_before zero (suc n) h = inl (omega arith)
-  last_or_before (suc k) zero h = absurd (omega (arith, h))
-  last_or_before (suc k) (suc n) h =
-      elim (last_or_before k n (omega (arith, h))) as (λ v. (suc k < suc n) ⊎ (suc k ≡ suc n)) [ inl lt ↦ inl (omega (arith, lt)) | inr e ↦ inr (ap suc e) ]
-
   -- one step more, from these nodes
   pub gone_more : (steps moments next_steps next_moments : ℕ) (nodes : List (Node M)) → IsGone m state s most steps moments → StandFor m state s steps nodes
       → 0 < length nodes → length nodes ≤ most → next_steps ≡ steps + 1 → next_moments ≡ min (moments + length nodes) 18446744073709551615
@@ -39,7 +32,7 @@ module _ {M S : Type 0} (m : Machine S) (state : M → S) (s : S) (most : ℕ) w
     some = All-push (λ (ns : List (Node M)). 0 < length ns) gone.levels nodes gone.some some;
     few = All-push (λ (ns : List (Node M)). length ns ≤ most) gone.levels nodes gone.few few;
     stand = λ k h.
-        elim (last_or_before k steps (omega (arith, h, next))) as (λ v. StandFor m state s k (get_or (gone.levels ++ nodes ∷ []) k [])) [
+        elim (below_or_at steps k (omega (arith, h, next))) as (λ v. StandFor m state s k (get_or (gone.levels ++ nodes ∷ []) k [])) [
           | inl lt ↦ subst (StandFor m state s k) (sym (get_or_append_left gone.levels (nodes ∷ []) [] k (omega (arith, lt, gone.each)))) (gone.stand k lt)
           | inr e ↦
               let at : k ≡ length gone.levels = omega (arith, e, gone.each) in

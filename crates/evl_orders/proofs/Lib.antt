@@ -8,3 +8,4 @@ pub mod Once
 pub mod Ends
 pub mod Merges
 pub mod Tallying
+pub mod TooMany

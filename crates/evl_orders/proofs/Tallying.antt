@@ -1,7 +1,7 @@
 -- Outcomes, where one of them gets more orders, or a new one comes.
 use Rattle.std.proofs.Common.{◌≡◌, ◌≢◌, ℕ, zero, suc, ◌+◌, ◌*◌, List, [], ◌∷◌, ◌++◌, get_or, map, refl, sym, ◌∙◌, ap, subst, arith}
-use Rattle.std.specs.Prelude.{All, AllPairs, Some, slice_get, slice_set, string_bytes, sum_by}
-use Rattle.std.proofs.lemmas.List.Sums.{sum_by-set}
+use Rattle.std.specs.Prelude.{◌≤◌, All, AllPairs, Some, slice_get, slice_set, string_bytes, sum_by}
+use Rattle.std.proofs.lemmas.List.Sums.{get_or-le-sum_by, sum_by-set}
 use Rattle.std.proofs.lemmas.List.Elements.{All-map}
 use Rattle.std.proofs.lemmas.List.Quantifiers.{all_pairs_push}
 use Rattle.std.proofs.lemmas.Option.{same_Some, none-some, slice_get_within, get_or_from_slice_get}
@@ -48,3 +48,9 @@ firsts_raised (x ∷ tallies) (suc i) more tally e = ap (λ (ts : List (List ℕ
 pub firsts_push : (tallies : List Tally) (tally : Tally) → map first_of (tallies ++ tally ∷ []) ≡ map first_of tallies ++ first_of tally ∷ []
 firsts_push [] tally = refl
 firsts_push (x ∷ tallies) tally = ap (λ (ts : List (List ℕ × List ℕ)). first_of x ∷ ts) (firsts_push tallies tally)
+
+-- the orders of one outcome are among those of all
+pub told_within : (tallies : List Tally) (i : ℕ) (tally : Tally) → slice_get tallies i ≡ Some tally → tally.count ≤ told_weight (λ text. 1) tallies
+told_within tallies i tally e =
+    let f : Tally → ℕ = λ t. t.count * 1 in
+    omega (arith, get_or-le-sum_by f tallies i tally (slice_get_within tallies i tally e), ap f (get_or_from_slice_get tallies i tally tally e))

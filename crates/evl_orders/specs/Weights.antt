@@ -1,5 +1,5 @@
 -- Numbers of states, summed over runs and over nodes.
-use Rattle.std.specs.Prelude.{ℕ, ◌*◌, List, cond, sum_by}
+use Rattle.std.specs.Prelude.{ℕ, ◌*◌, ◌^◌, List, cond, sum_by}
 use Rattle.std.specs.Option.{option_map_or}
 use Rattle.evl_orders.specs.Machines.{Machine, Run, below, is_over}
 use Rattle.evl_orders.specs.declared.nodes.Node.{Node}
@@ -18,6 +18,10 @@ ahead_by m f s callers = sum_by (λ c. option_map_or f (m.go s c) 0) callers
 
 abbrev pub ahead : {S : Type 0} → Machine S → (S → ℕ) → S → ℕ
 ahead m f s = ahead_by m f s (below m.callers)
+
+-- more orders than this less one no count tells
+abbrev pub count_limit : ℕ
+count_limit = 2 ^ 128
 
 -- at the states in which nobody can make a step
 abbrev pub at_end : {S : Type 0} → Machine S → (S → ℕ) → S → ℕ

@@ -1,8 +1,8 @@
 //! All orders of a world.
-ghost use Rattle.std.specs.Prelude.{ℕ, [], ◌∷◌, ◌++◌, if◌then◌else◌, ◌≡◌, ◌+◌, ◌<◌, ◌≤◌, ◌⊎◌, ◌||◌, true, false, min, not, is_some, length, vec_len, OnOk, IfOk};
+ghost use Rattle.std.specs.Prelude.{ℕ, [], ◌∷◌, ◌++◌, if◌then◌else◌, ◌≡◌, ◌+◌, ◌<◌, ◌≤◌, ◌⊎◌, ◌||◌, true, false, min, not, is_some, length, vec_len, OnOk, IfOk, IfErr, ◌*◌};
 ghost use Rattle.evl_orders.specs.Fronts.{AddsSteps, AreFit, AreLed, AreOver, AreShortest, IsFront, IsGone, LeadsOn};
 ghost use Rattle.evl_orders.specs.Machines.{below, is_over, orders, runs};
-ghost use Rattle.evl_orders.specs.Weights.{total, weight};
+ghost use Rattle.evl_orders.specs.Weights.{ahead, ahead_by, count_limit, total, weight};
 
 use crate::levels::{Level, OrdersError, add_orders, first_level};
 use crate::nodes::Node;
@@ -43,6 +43,7 @@ fn add_next<W: World>(
     requires node { W.fits world.now node.now.at }
     requires count { 0 < node.now.count }
     requires nodes { AreFit (W.fits world.now) next.old.nodes.items }
+    ensures uncounted { IfErr result (λ error. error ≡ OrdersError.Count → count_limit ≤ weight (W.state world.now) (λ s. 1) next.old.nodes.items + node.now.count * ahead_by (W.machine world.now) (λ s. 1) (W.state world.now node.now.at) (caller ∷ [])) }
     ensures goes { IfOk result (λ goes. goes ≡ is_some ((W.machine world.now).go (W.state world.now node.now.at) caller)) }
     ensures adds { IfOk result (λ goes. AddsSteps (W.machine world.now) (W.state world.now) (W.fits world.now) node.now (caller ∷ []) next.old.nodes.items next.new.nodes.items) }
 {
@@ -75,6 +76,7 @@ fn add_nexts<W: World>(
     requires node { W.fits world.now node.now.at }
     requires count { 0 < node.now.count }
     requires nodes { AreFit (W.fits world.now) next.old.nodes.items }
+    ensures uncounted { IfErr result (λ error. error ≡ OrdersError.Count → count_limit ≤ weight (W.state world.now) (λ s. 1) next.old.nodes.items + node.now.count * ahead (W.machine world.now) (λ s. 1) (W.state world.now node.now.at)) }
     ensures goes { IfOk result (λ goes. goes ≡ not (is_over (W.machine world.now) (W.state world.now node.now.at))) }
     ensures adds { IfOk result (λ goes. AddsSteps (W.machine world.now) (W.state world.now) (W.fits world.now) node.now (below (W.machine world.now).callers) next.old.nodes.items next.new.nodes.items) }
 {
@@ -95,7 +97,8 @@ fn keep_end<M: Drop>(
     node: Node<M>,
     goes_on: bool,
 ) -> Result<(), OrdersError>
-    ensures { OnOk result (ends.new.items ≡ (if goes_on then ends.old.items else ends.old.items ++ node ∷ [])) }
+    ensures memory { IfErr result (λ error. error ≡ OrdersError.Memory) }
+    ensures kept { OnOk result (ends.new.items ≡ (if goes_on then ends.old.items else ends.old.items ++ node ∷ [])) }
 {
     if goes_on {
         return Ok(());
@@ -114,7 +117,8 @@ fn next_level<W: World>(
     ends: &mut Vec<Node<W::Moment>>,
 ) -> Result<Level<W::Moment>, OrdersError>
     requires { AreFit (W.fits world.now) level.nodes.items }
-    ensures { IfOk result (λ next. LeadsOn (W.machine world.now) (W.state world.now) (W.fits world.now) level.nodes.items next.nodes.items ends.old.items ends.new.items) }
+    ensures uncounted { IfErr result (λ error. error ≡ OrdersError.Count → count_limit ≤ weight (W.state world.now) (ahead (W.machine world.now) (λ s. 1)) level.nodes.items) }
+    ensures leads { IfOk result (λ next. LeadsOn (W.machine world.now) (W.state world.now) (W.fits world.now) level.nodes.items next.nodes.items ends.old.items ends.new.items) }
 {
     let mut next = Level::new(alloc);
     for node in level.into_nodes() {
@@ -156,7 +160,10 @@ fn next_front<W: World>(
     world: &W,
     front: Front<W::Moment>,
 ) -> Result<Front<W::Moment>, OrdersError>
-    requires { AreFit (W.fits world.now) front.level.nodes.items }
+    requires fit { AreFit (W.fits world.now) front.level.nodes.items }
+    requires steps { front.steps < 18446744073709551615 }
+    ensures uncounted { IfErr result (λ error. error ≡ OrdersError.Count → (s : W.State) → IsFront (W.machine world.now) (W.state world.now) (W.fits world.now) s front.steps front.level.nodes.items front.ends.items
+        → count_limit ≤ length (runs (W.machine world.now) s (front.steps + 1))) }
     ensures front { IfOk result (λ next. (s : W.State) → IsFront (W.machine world.now) (W.state world.now) (W.fits world.now) s front.steps front.level.nodes.items front.ends.items
         → IsFront (W.machine world.now) (W.state world.now) (W.fits world.now) s next.steps next.level.nodes.items next.ends.items) }
     ensures steps { IfOk result (λ next. next.steps ≡ front.steps + 1) }
@@ -168,9 +175,6 @@ fn next_front<W: World>(
         steps,
         moments,
     } = front;
-    if steps == usize::MAX {
-        return Err(OrdersError::Count);
-    }
     let gone = moments.saturating_add(level.nodes.len());
     match next_level(alloc, world, level, &mut ends) {
         Ok(next) => Ok(Front {
@@ -240,6 +244,9 @@ pub fn explore<W: World>(
     ensures led { IfOk result (λ found. AreLed (W.machine world.now) (W.state world.now) (W.state world.now start) found.ends.items) }
     ensures over { IfOk result (λ found. AreOver (W.machine world.now) (W.state world.now) found.ends.items) }
     ensures shortest { IfOk result (λ found. AreShortest found.steps found.ends.items) }
+
+    // It is `Count` only where some number of steps, no more than asked, has more runs than a count can tell.
+    ensures uncounted { IfErr result (λ error. error ≡ OrdersError.Count → (k : ℕ) × (k ≤ steps) × (count_limit ≤ length (runs (W.machine world.now) (W.state world.now start) k))) }
 {
     let mut front = match first_front(alloc, world, start) {
         Ok(front) => front,

@@ -1,6 +1,7 @@
 //! The moments that are reached by one number of steps.
-ghost use Rattle.std.specs.Prelude.{ℕ, [], ◌∷◌, ◌++◌, ◌≡◌, ◌+◌, ◌<◌, Some, OnOk, IfSome, IfOk, slice_get, slice_set, vec_len};
+ghost use Rattle.std.specs.Prelude.{ℕ, [], ◌∷◌, ◌++◌, ◌≡◌, ◌+◌, ◌<◌, ◌≤◌, Some, OnOk, IfSome, IfOk, IfErr, slice_get, slice_set, vec_len};
 ghost use Rattle.evl_orders.specs.Fronts.{AddsSteps, AreFit};
+ghost use Rattle.evl_orders.specs.Weights.{count_limit, weight};
 
 use crate::nodes::Node;
 use crate::worlds::World;
@@ -64,7 +65,8 @@ fn place_of<W: World>(
 // Adds orders to those of the node at a place.
 fn add_at<M: Drop>(nodes: &mut Vec<Node<M>>, place: usize, count: u128) -> Result<(), OrdersError>
     requires { place < vec_len nodes.old }
-    ensures { OnOk result ((node : _) → slice_get nodes.old.items place ≡ Some node → nodes.new.items ≡ slice_set nodes.old.items place (record node { count = node.count + count })) }
+    ensures uncounted { IfErr result (λ error. (node : _) → slice_get nodes.old.items place ≡ Some node → count_limit ≤ node.count + count) }
+    ensures raised { OnOk result ((node : _) → slice_get nodes.old.items place ≡ Some node → nodes.new.items ≡ slice_set nodes.old.items place (record node { count = node.count + count })) }
 {
     match nodes[place].count.checked_add(count) {
         Some(sum) => {
@@ -148,7 +150,8 @@ pub(crate) fn add_orders<W: World>(
     requires moment { W.fits world.now moment }
     requires count { 0 < before.now.count }
     requires leads { (W.machine world.now).go (W.state world.now before.now.at) caller ≡ Some (W.state world.now moment) }
-    ensures { OnOk result (AddsSteps (W.machine world.now) (W.state world.now) (W.fits world.now) before.now (caller ∷ []) level.old.nodes.items level.new.nodes.items) }
+    ensures uncounted { IfErr result (λ error. error ≡ OrdersError.Count → count_limit ≤ weight (W.state world.now) (λ s. 1) level.old.nodes.items + before.now.count) }
+    ensures adds { OnOk result (AddsSteps (W.machine world.now) (W.state world.now) (W.fits world.now) before.now (caller ∷ []) level.old.nodes.items level.new.nodes.items) }
 {
     let digest = world.digest(&moment);
     match place_of(world, level, digest, &moment) {

@@ -1,6 +1,7 @@
 //! Outcomes as text, each once, with how many orders end so.
-ghost use Rattle.std.specs.Prelude.{ℕ, List, ◌∷◌, ◌++◌, [], ◌≡◌, ◌≢◌, ◌+◌, ◌*◌, ◌<◌, true, false, All, Some, OnOk, IfSome, IfNone, length, slice_get, slice_set, string_bytes, vec_len};
+ghost use Rattle.std.specs.Prelude.{ℕ, List, ◌∷◌, ◌++◌, [], ◌≡◌, ◌≢◌, ◌+◌, ◌*◌, ◌<◌, ◌≤◌, true, false, All, Some, OnOk, IfErr, IfSome, IfNone, length, slice_get, slice_set, string_bytes, vec_len};
 ghost use Rattle.evl_orders.specs.Tallies.{AreDistinct, KeepsFirsts, told_weight};
+ghost use Rattle.evl_orders.specs.Weights.{count_limit};
 
 use crate::levels::OrdersError;
 
@@ -40,7 +41,8 @@ fn place_of(tallies: &[Tally], told: &str) -> Option<usize>
 // Adds orders to those of the outcome at a place.
 fn raise(tallies: &mut Vec<Tally>, place: usize, count: u128) -> Result<(), OrdersError>
     requires { place < vec_len tallies.old }
-    ensures { OnOk result ((tally : _) → slice_get tallies.old.items place ≡ Some tally → tallies.new.items ≡ slice_set tallies.old.items place (record tally { count = tally.count + count })) }
+    ensures uncounted { IfErr result (λ error. (tally : _) → slice_get tallies.old.items place ≡ Some tally → count_limit ≤ tally.count + count) }
+    ensures raised { OnOk result ((tally : _) → slice_get tallies.old.items place ≡ Some tally → tallies.new.items ≡ slice_set tallies.old.items place (record tally { count = tally.count + count })) }
 {
     match tallies[place].count.checked_add(count) {
         Some(sum) => {
@@ -60,6 +62,9 @@ pub fn add_tally(tallies: &mut Vec<Tally>, tally: Tally) -> Result<(), OrdersErr
     ensures sums { OnOk result ((f : List ℕ → ℕ) → told_weight f tallies.new.items ≡ told_weight f tallies.old.items + tally.count * f (string_bytes tally.told)) }
     ensures distinct { OnOk result (AreDistinct tallies.new.items) }
     ensures firsts { OnOk result (KeepsFirsts tallies.old.items tally tallies.new.items) }
+
+    // It is `Count` only where the outcomes have more orders together than a count can tell.
+    ensures uncounted { IfErr result (λ error. error ≡ OrdersError.Count → count_limit ≤ told_weight (λ text. 1) tallies.old.items + tally.count) }
 {
     match place_of(tallies.as_slice(), tally.told.as_str()) {
         Some(place) => match raise(tallies, place, tally.count) {

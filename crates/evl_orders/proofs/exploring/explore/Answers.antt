@@ -1,4 +1,4 @@
-use Rattle.std.proofs.Common.{arith, inr}
+use Rattle.std.proofs.Common.{◌+◌, arith, inr}
 use Rattle.evl_orders.proofs.Fronts.{counted_at, whole_at, cut_at, more_at, led_at, over_at}
 use Rattle.evl_orders.proofs.Going.{gone_none, gone_more}
 use Rattle.evl_orders.proofs.exploring.explore.Goals as goal
@@ -114,3 +114,10 @@ loop-step-preserved g c =
           (omega (arith, level.ok.0, c.len-count.ensures, c.if-count-eq0.false)) (omega (arith, level.ok.0, c.len-count.ensures, c.if-count-most.false))
           c.in-Ok-next_front.ensures.steps (omega (arith, level.ok.0, c.in-Ok-next_front.ensures.moments));
     }
+
+pub returns-in-Err-next_front-clause-uncounted : goal.returns-in-Err-next_front-clause-uncounted
+returns-in-Err-next_front-clause-uncounted g c = λ e. (
+  c.loop-step.front.steps + 1,
+  omega (arith, c.loop-step-test.true, c.loop-step.invariant.steps),
+  c.in-Err-next_front.ensures.uncounted e (g.W.World.state c.args.world.now c.args.start) c.loop-step.invariant.front,
+)
