@@ -80,24 +80,9 @@ fn steps_of(
 fn with_staxes(board: Board, staxes: ArrayVec<u16, 16>) -> Board
     ensures { result ≡ record board { staxes = staxes } }
 {
-    let Board {
-        threads,
-        sems,
-        flags,
-        xbufs,
-        mutexes,
-        groups,
-        staxes: _,
-    } = board;
-    Board {
-        threads,
-        sems,
-        flags,
-        xbufs,
-        mutexes,
-        groups,
-        staxes,
-    }
+    let mut board = board;
+    board.staxes = staxes;
+    board
 }
 
 // What the text of a scenario asks for, with these staxes and marks.
