@@ -70,7 +70,10 @@ class Played(ctypes.Structure):
 def _load():
     named = os.environ.get("EVL_LIBRARY")
     near = [os.path.join(HERE, it) for it in PLACES]
-    library = ctypes.CDLL(named or next(filter(os.path.exists, near), "libevl.so"))
+    try:
+        library = ctypes.CDLL(named or next(filter(os.path.exists, near), "libevl.so"))
+    except OSError as why:
+        raise ImportError(f"{why} (./library builds libevl.so, ./install installs it; EVL_LIBRARY may say where it lies)") from None
     size, pointer = ctypes.c_size_t, ctypes.c_void_p
     library.evl_c_play.argtypes = [ctypes.c_char_p, size, ctypes.c_uint32, size, pointer, size, pointer]
     library.evl_c_play_over.argtypes = [pointer, size, *library.evl_c_play.argtypes]
