@@ -3,10 +3,11 @@ ghost use Rattle.std.specs.Prelude.{◌≡◌, Some};
 ghost use Rattle.evl_base.specs.Refusal.{number_of, name_of};
 
 use std::fmt;
+use thiserror::Error;
 
 /// Why a call was refused. An entry is made of each refusal that isn't said to have none, but for those that a caller's
 /// own values decide.
-#[derive(Clone, Copy, Debug, PartialEq, Eq)]
+#[derive(Clone, Copy, Debug, PartialEq, Eq, Error)]
 pub enum Refusal {
     /// A growth was refused; no entry.
     NoMemory,
