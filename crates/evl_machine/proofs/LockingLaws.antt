@@ -5,7 +5,7 @@ use Rattle.evl_base.specs.declared.call.Call.TheVariants.{Raise}
 use Rattle.evl_base.specs.declared.mutex_kind.MutexKind.{MutexKind}
 use Rattle.evl_base.specs.declared.numbers.MutexId.{MutexId}
 use Rattle.evl_base.specs.declared.refusal.Refusal.{Refusal}
-use Rattle.evl_base.specs.declared.refusal.Refusal.TheVariants.{NoMemory, HistoryFull, CoreBusy, Unknown, Invalid, Again, Busy, NotOwner, Deadlock, Limit, Range, TooBig, WrongStage, HoldsStax, Raced}
+use Rattle.evl_base.specs.declared.refusal.Refusal.TheVariants.{NoMemory, HistoryFull}
 use Rattle.evl_base.specs.declared.reply.Reply.{Reply}
 use Rattle.evl_pipeline.specs.declared.plan.Plan.{Plan}
 use Rattle.evl_kernel.specs.Callbacks.{AnswersByPlan, Stands, Whereabouts, handlers_in}
@@ -146,37 +146,13 @@ module _ {C : Type 0} where
       by (Ok reply) is = entered (ap makes_entry is)
       by (Err NoMemory) is = absurd (memory is)
       by (Err HistoryFull) is = absurd (full is)
-      by (Err CoreBusy) is = entered (ap makes_entry is)
-      by (Err Unknown) is = entered (ap makes_entry is)
-      by (Err Invalid) is = entered (ap makes_entry is)
-      by (Err Again) is = entered (ap makes_entry is)
-      by (Err Busy) is = entered (ap makes_entry is)
-      by (Err NotOwner) is = entered (ap makes_entry is)
-      by (Err Deadlock) is = entered (ap makes_entry is)
-      by (Err Limit) is = entered (ap makes_entry is)
-      by (Err Range) is = entered (ap makes_entry is)
-      by (Err TooBig) is = entered (ap makes_entry is)
-      by (Err WrongStage) is = entered (ap makes_entry is)
-      by (Err HoldsStax) is = entered (ap makes_entry is)
-      by (Err (Raced first second)) is = entered (ap makes_entry is)
+      by (Err _) is = entered (ap makes_entry is)
 
   -- a call that is never refused with an entry is refused for want of room
   pub no_room : (k k' : KernelView C) (t : ℕ) (c : Call) (refusal : Refusal) → (EntersOne k t c (Err refusal) k' → ⊥) → Applied k t c (Err refusal) k' → EntersNone k k' × FindsNoRoom k refusal
   no_room k k' t c NoMemory never done = (done.refused refl, (done.memory refl, λ at. let no : Err NoMemory ≡ Err HistoryFull = done.filled at in absurd (cc)))
   no_room k k' t c HistoryFull never done = (done.refused refl, done.full refl)
-  no_room k k' t c CoreBusy never done = absurd (never (refl, done.entered refl))
-  no_room k k' t c Unknown never done = absurd (never (refl, done.entered refl))
-  no_room k k' t c Invalid never done = absurd (never (refl, done.entered refl))
-  no_room k k' t c Again never done = absurd (never (refl, done.entered refl))
-  no_room k k' t c Busy never done = absurd (never (refl, done.entered refl))
-  no_room k k' t c NotOwner never done = absurd (never (refl, done.entered refl))
-  no_room k k' t c Deadlock never done = absurd (never (refl, done.entered refl))
-  no_room k k' t c Limit never done = absurd (never (refl, done.entered refl))
-  no_room k k' t c Range never done = absurd (never (refl, done.entered refl))
-  no_room k k' t c TooBig never done = absurd (never (refl, done.entered refl))
-  no_room k k' t c WrongStage never done = absurd (never (refl, done.entered refl))
-  no_room k k' t c HoldsStax never done = absurd (never (refl, done.entered refl))
-  no_room k k' t c (Raced first second) never done = absurd (never (refl, done.entered refl))
+  no_room k k' t c _ never done = absurd (never (refl, done.entered refl))
 
 module _ {C : Type 0} (x a : ActorState) (is : x ≡ a) (k k2 : KernelView C) where
   -- a try that took a mutex with a ceiling, and its entry, which the kernel accepted

@@ -3,7 +3,7 @@ use Rattle.std.proofs.Common.{◌≡◌, ◌⊎◌, ℕ, Bool, true, false, List
 use Rattle.std.specs.Prelude.{All}
 use Rattle.evl_base.specs.declared.stage.Stage.{Stage}
 use Rattle.evl_base.specs.declared.refusal.Refusal.{Refusal}
-use Rattle.evl_base.specs.declared.refusal.Refusal.TheVariants.{NoMemory, HistoryFull, CoreBusy, Unknown, Invalid, Again, Busy, NotOwner, Deadlock, Limit, Range, TooBig, WrongStage, HoldsStax, Raced}
+use Rattle.evl_base.specs.declared.refusal.Refusal.TheVariants.{Again, Busy, Limit, Raced}
 use Rattle.evl_words.specs.declared.gate.StaxPass.{StaxPass}
 use Rattle.evl_words.specs.declared.gate.GateHold.{GateHold}
 use Rattle.evl_words.specs.GateCalls.{SeatState, FailsToEnter}
@@ -30,17 +30,7 @@ fails_held was is stage Again (free, calls) held at = absurd (holds_none is was.
 fails_held was is stage Limit (free, calls) held at = absurd (holds_none is was.view.held.limit held calls.held at)
 fails_held was is stage (Raced first second) (free, same, races) held at = ap (λ (h : GateHold). h.stage) (sym same) ∙ at
 fails_held was is stage Busy (holds, same) held at = ap (λ (s : SeatState). s.view.held.stage) (sym same) ∙ at
-fails_held was is stage NoMemory fails held at = absurd fails
-fails_held was is stage HistoryFull fails held at = absurd fails
-fails_held was is stage CoreBusy fails held at = absurd fails
-fails_held was is stage Unknown fails held at = absurd fails
-fails_held was is stage Invalid fails held at = absurd fails
-fails_held was is stage NotOwner fails held at = absurd fails
-fails_held was is stage Deadlock fails held at = absurd fails
-fails_held was is stage Range fails held at = absurd fails
-fails_held was is stage TooBig fails held at = absurd fails
-fails_held was is stage WrongStage fails held at = absurd fails
-fails_held was is stage HoldsStax fails held at = absurd fails
+fails_held was is stage _ fails held at = absurd fails
 
 enters_held : (stage : Stage) (result : Result StaxPass Refusal) (was is : SeatState) → Enters stage result was is → StaysAt stage was is
 enters_held stage (Ok pass) was is (event, fits, calls) held at = inl (same (sym (ap (λ (h : GateHold). h.stage) calls.held) ∙ at))

@@ -8,7 +8,7 @@ use native.Mathlib.Decide.{ℕ_discrete}
 use mir.Val.{bool_byte}
 use Rattle.evl_base.specs.declared.stage.Stage.{Stage}
 use Rattle.evl_base.specs.declared.refusal.Refusal.{Refusal}
-use Rattle.evl_base.specs.declared.refusal.Refusal.TheVariants.{NoMemory, HistoryFull, CoreBusy, Unknown, Invalid, Again, Busy, NotOwner, Deadlock, Limit, Range, TooBig, WrongStage, HoldsStax, Raced}
+use Rattle.evl_base.specs.declared.refusal.Refusal.TheVariants.{Again, Busy, Limit, NotOwner, Raced}
 use Rattle.evl_words.specs.declared.gate.StaxPass.{StaxPass}
 use Rattle.evl_words.specs.declared.gate.GateCall.TheVariants.{Enter}
 use Rattle.evl_words.specs.declared.gate.GateReply.TheVariants.{Entered}
@@ -55,21 +55,11 @@ has_passes s = elim (is_held s) as (λ b. nat_lt 0 (passes_of b) ≡ b) [ true �
 module _ (was : SeatState) (stage : Stage) (is : SeatState) where
   -- a seat that fails to enter holds as many as before, and is refused in its own right only where it holds the gate
   pub fails : (refusal : Refusal) → FailsToEnter was stage is refusal → (stax_passes is ≡ stax_passes was) × MatchOption (if is_held was then Some Busy else None) (Unit {0}) (λ r. (refusal ≡ r) × (is ≡ was))
-  fails NoMemory h = absurd h
-  fails HistoryFull h = absurd h
-  fails CoreBusy h = absurd h
-  fails Unknown h = absurd h
-  fails Invalid h = absurd h
   fails Again h = (ap (λ held. passes_of (is_some held.stage)) h.1.held ∙ sym (ap (λ o. passes_of (is_some o)) h.0), rw (h.0) tt)
   fails Busy h = (ap stax_passes h.1, rw (h.0) (refl, h.1))
-  fails NotOwner h = absurd h
-  fails Deadlock h = absurd h
   fails Limit h = (ap (λ held. passes_of (is_some held.stage)) h.1.held ∙ sym (ap (λ o. passes_of (is_some o)) h.0), rw (h.0) tt)
-  fails Range h = absurd h
-  fails TooBig h = absurd h
-  fails WrongStage h = absurd h
-  fails HoldsStax h = absurd h
   fails (Raced first second) h = (ap (λ held. passes_of (is_some held.stage)) h.1, rw (h.0) tt)
+  fails _ h = absurd h
 
   -- so it has as many passes more as it is given
   pub entered_passes : (result : Result StaxPass Refusal) → Entering stage result was is → stax_passes is ≡ stax_passes was + passes_of (is_ok result)

@@ -2,7 +2,7 @@
 use Rattle.std.proofs.Common.{◌≡◌, ℕ, Bool, true, false, List, Some, None, Result, Ok, Err, is_err, refl, ◌∙◌, ap}
 use Rattle.evl_base.specs.Reply.{outcome_text}
 use Rattle.evl_base.specs.declared.refusal.Refusal.{Refusal}
-use Rattle.evl_base.specs.declared.refusal.Refusal.TheVariants.{NoMemory, HistoryFull, CoreBusy, Unknown, Invalid, Again, Busy, NotOwner, Deadlock, Limit, Range, TooBig, WrongStage, HoldsStax, Raced}
+use Rattle.evl_base.specs.declared.refusal.Refusal.TheVariants.{Raced}
 use Rattle.evl_base.specs.declared.reply.Reply.{Reply}
 use Rattle.evl_base.specs.declared.reply.Reply.TheVariants.{Done, Begun, Count, Bits, Number, Bytes, Chosen, Handed, TimedOut}
 use Rattle.evl_traces.specs.Entries.{names_refusal}
@@ -20,21 +20,8 @@ named (Ok (Handed None more)) = refl
 named (Ok (Handed (Some thread) true)) = refl
 named (Ok (Handed (Some thread) false)) = refl
 named (Ok TimedOut) = refl
-named (Err NoMemory) = refl
-named (Err HistoryFull) = refl
-named (Err CoreBusy) = refl
-named (Err Unknown) = refl
-named (Err Invalid) = refl
-named (Err Again) = refl
-named (Err Busy) = refl
-named (Err NotOwner) = refl
-named (Err Deadlock) = refl
-named (Err Limit) = refl
-named (Err Range) = refl
-named (Err TooBig) = refl
-named (Err WrongStage) = refl
-named (Err HoldsStax) = refl
 named (Err (Raced first second)) = refl
+named (Err _) = refl
 
 pub refusals_are_told : (answer : List ℕ) (told : Bool) (outcome : Result Reply Refusal) → told ≡ names_refusal answer → answer ≡ outcome_text outcome → told ≡ is_err outcome
 refusals_are_told answer told outcome is same = is ∙ ap names_refusal same ∙ named outcome
