@@ -57,15 +57,19 @@ module _ {S B : Type 0} (past : S → History) (room : S → ℕ) (comes : B →
       let long = t.long in
       let slot = only x homes views t.locked in
       let word_at : (i word : ℕ) → Type 0 = λ i word. (log : List MutexEntry) × IsMutexWorld (record { word = word; log = log; views = map (mutex_of i) views }) in
-      let logs = chosen m (HasLog xs views) [] (λ i lt. subst (word_at i) (further x xs i) (t.parts i (omega (arith, lt, long)))) in
-      (record { world = record { word = x; slot = slot.0; mutexes = xs; logs = logs.0; views = views }; hands = hands },
-      record { words = refl; slot = slot.1; hands = refl },
-      (record {
-        count = omega (arith, long);
-        locked = subst (λ hs. CoreKept past comes first x hs (map core_of views)) slot.1 t.locked;
-        parts = logs.1;
-        ties = λ i lt. subst (λ (z : List (Slot S) × ℕ). mutex_tie past ceilings i x z.0 (map core_of views) z.1) (λ j. (slot.1 j, further x xs i j)) (t.ties i (omega (arith, lt, long)));
-      }, deals))
+      let logs = chosen m (HasLog xs views) [] (λ i lt. subst (word_at i) (further x xs i) (t.parts i (omega (arith, lt, long)))) in (
+        record { world = record { word = x; slot = slot.0; mutexes = xs; logs = logs.0; views = views }; hands = hands },
+        record { words = refl; slot = slot.1; hands = refl },
+        (
+          record {
+            count = omega (arith, long);
+            locked = subst (λ hs. CoreKept past comes first x hs (map core_of views)) slot.1 t.locked;
+            parts = logs.1;
+            ties = λ i lt. subst (λ (z : List (Slot S) × ℕ). mutex_tie past ceilings i x z.0 (map core_of views) z.1) (λ j. (slot.1 j, further x xs i j)) (t.ties i (omega (arith, lt, long)));
+          },
+          deals,
+        ),
+      )
 
   pub rule_to_world : (s : State (Option S) (Hand (ThreadView B MutexView))) → MachineRule past comes (mutex_tie past ceilings) first m s → (d : OneDealing S B) × LiesSo s d × StandsInOne past room comes ceilings m first d
   rule_to_world s kept = lies s.words s.homes s.views kept.views kept.deals kept.kept
