@@ -44,6 +44,7 @@ pub mod MutexAccepts
 pub mod Visits
 pub mod Opened
 pub mod LockingTies
+pub mod KernelVisits
 pub mod WordCalls
 pub mod MutexLocks
 pub mod MutexUnlocks

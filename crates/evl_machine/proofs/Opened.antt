@@ -25,15 +25,15 @@ use Rattle.evl_words.specs.declared.mutex.place.MutexPlace.{MutexPlace}
 use Rattle.evl_machine.specs.declared.unfinished.Unfinished.{Unfinished}
 use Rattle.evl_machine.specs.declared.views.Account.{Account}
 use Rattle.evl_machine.specs.Accounts.{IsAccount, saw, threads_of}
-use Rattle.evl_machine.specs.Actors.{ActorState, IsActor, SeatedActor, Suits, acting}
+use Rattle.evl_machine.specs.Actors.{ActorState, SeatedActor, Suits, acting}
 use Rattle.evl_machine.specs.Callers.{IsResting, caller_by, machine_by}
 use Rattle.evl_machine.specs.Calls.{AreOwnedAsRecorded, stage_of_caller, wait_of_caller}
 use Rattle.evl_machine.specs.Ceilings.{has_ceiling}
 use Rattle.evl_machine.specs.Handles.{CallerState, account_of}
 use Rattle.evl_machine.specs.Homes.{mutex_home, word_home, word_homes}
-use Rattle.evl_machine.specs.InHand.{Opens}
+use Rattle.evl_machine.specs.InHand.{HasOpened}
 use Rattle.evl_machine.specs.JustTaken.{HasJustTaken}
-use Rattle.evl_machine.specs.Known.{ComesFrom, CoreHand, KernelMe, first_of, mutex_count, seen}
+use Rattle.evl_machine.specs.Known.{ComesFrom, CoreHand, first_of, mutex_count, seen}
 use Rattle.evl_machine.specs.Locking.{HaveSeats}
 use Rattle.evl_machine.specs.MutexLocks.{kind_of, lock_refusal, own_lock_refusal, spend_refusal}
 use Rattle.evl_machine.specs.MutexPlaces.{depth_in, place_passes}
@@ -131,47 +131,44 @@ module _ {C : Type 0} where
       let long : length old.mutexes ≡ length o.places = ap (λ (s : CallerState C). length s.mutexes) (sym was) ∙ long_as x.table x.me.0 x.places ∙ ap length (sym same) in
       omega (arith, less, long)
 
-  pub opened_fits : (first : KernelView C) (a : Account) (thread : ThreadId) (me : KernelMe C) (k : KernelView C) → Opens first a thread me k → {key : KernelView C} → first ≡ key → board_fits key.history.board ≡ true → board_fits k.history.board ≡ true
-  opened_fits first a thread me k opens {key} from fits = ap board_fits (opens.comes.board ∙ ap (λ (f : KernelView C). f.history.board) from) ∙ fits
-
-  pub opened_seats : (x o : SeatedActor C) (k : KernelView C) → Opens (first_of x.me.0) (account_of (seen x.me)) x.thread o.me k → acting o ≡ acting x → (table : TableId) (count : ℕ) (key : KernelView C)
+  pub opened_seats : {x o : SeatedActor C} {k : KernelView C} → HasOpened x o k → (table : TableId) (count : ℕ) (key : KernelView C)
       → map mutex_home (acting x).mutexes ≡ word_homes table (threads_of key.history) count → first_of x.me.0 ≡ key → HaveSeats (threads_of k.history) (acting o).mutexes
-  opened_seats x o k opens same table count key homes from =
-      let threads : threads_of key.history ≡ threads_of k.history = sym (ap (λ (b : Board). b.threads) (opens.comes.board ∙ ap (λ (f : KernelView C). f.history.board) from)) in
-      subst (λ (z : ℕ × ActorState). HaveSeats z.0 z.1.mutexes) (λ i. (threads i, sym same i)) (have_seats table (threads_of key.history) count (acting x).mutexes homes)
+  opened_seats {x} {o} {k} opened table count key homes from =
+      let threads : threads_of key.history ≡ threads_of k.history = sym (ap (λ (b : Board). b.threads) (opened.opens.comes.board ∙ ap (λ (f : KernelView C). f.history.board) from)) in
+      subst (λ (z : ℕ × ActorState). HaveSeats z.0 z.1.mutexes) (λ i. (threads i, sym opened.same.1 i)) (have_seats table (threads_of key.history) count (acting x).mutexes homes)
 
-  -- an account is its thread's
-  pub own_thread : (first : KernelView C) (a : Account) (thread : ThreadId) (me : KernelMe C) (k : KernelView C) → Opens first a thread me k → {t : ℕ} → thread.0 ≡ t → a.thread ≡ t
-  own_thread first a thread me k opens same = sym (ap (λ (y : Account). y.thread) opens.account) ∙ opens.held.own ∙ same
+  module _ {x o : SeatedActor C} {k : KernelView C} (opened : HasOpened x o k) where
+    -- the account that a take found is its thread's
+    own_thread : (account_of (seen x.me)).thread ≡ o.thread.0
+    own_thread = sym (ap (λ (y : Account). y.thread) opened.opens.account) ∙ opened.opens.held.own ∙ ap (λ (t : ThreadId). t.0) (sym opened.thread)
 
-  -- what an actor knows just after its take
-  pub just_took : (x o : SeatedActor C) (k : KernelView C) → Opens (first_of x.me.0) (account_of (seen x.me)) x.thread o.me k → Suits (acting x) (account_of (seen x.me)).seen → (o.table ≡ x.table) × (acting o ≡ acting x) × (first_of o.me.0 ≡ first_of x.me.0) → o.thread ≡ x.thread
-      → HasTaken (account_of (seen x.me)).thread k.history o.me.0 → {key : KernelView C} → first_of x.me.0 ≡ key → board_fits key.history.board ≡ true → HasJustTaken o k
-  just_took x o k opens suits same kept has from fits =
-      let a = account_of (seen x.me) in
-      let own : a.thread ≡ o.thread.0 = own_thread (first_of x.me.0) a x.thread o.me k opens (ap (λ (t : ThreadId). t.0) (sym kept)) in
-      let after : IsAccount (saw k.history k.room a) = subst IsAccount opens.account opens.held.continues.before in
-      record {
-        taken = subst (λ n. HasTaken n k.history o.me.0) own has;
-        comes = subst (λ (f : KernelView C). ComesFrom f k) (sym same.2) opens.comes;
-        member = subst (λ n. n < threads_of k.history) own after.member;
-        legal = opens.held.continues.legal;
-        fits = opened_fits (first_of x.me.0) a x.thread o.me k opens from fits;
-        suits = suits_opened x o k opens suits same.1;
-      }
+    -- what an actor knows just after its take
+    pub just_took : Suits (acting x) (account_of (seen x.me)).seen → {key : KernelView C} → first_of x.me.0 ≡ key → board_fits key.history.board ≡ true → HasJustTaken o k
+    just_took suits from fits =
+        let opens = opened.opens in
+        let after : IsAccount (saw k.history k.room (account_of (seen x.me))) = subst IsAccount opens.account opens.held.continues.before in
+        record {
+          taken = subst (λ n. HasTaken n k.history o.me.0) own_thread opened.holder;
+          comes = subst (λ (f : KernelView C). ComesFrom f k) (sym opened.same.2) opens.comes;
+          member = subst (λ n. n < threads_of k.history) own_thread after.member;
+          legal = opens.held.continues.legal;
+          fits = ap board_fits (opens.comes.board ∙ ap (λ (f : KernelView C). f.history.board) from) ∙ fits;
+          suits = suits_opened opened suits;
+        }
 
-  -- of a mutex that its seats hold no other owner is recorded
-  pub owned_seats : (o : SeatedActor C) (k : KernelView C) (t : ℕ) → IsActor o → t ≡ o.thread.0 → HasTaken t k.history o.me.0 → AreOwnedAsRecorded (acting o).thread.0 (acting o).mutexes k.history
-  owned_seats o k t own same has i s m there owner at = by (slice_get o.places i) refl (sym there ∙ slice_get-map (seat_at o.table o.me.0) o.places i)
-    where
-      by : (p : Option MutexPlace) → slice_get o.places i ≡ p → Some s ≡ option_map (seat_at o.table o.me.0) p → is_open_to o.thread.0 m ≡ true
-      by None is seat = absurd (none-some s (sym seat))
-      by (Some p) is seat =
-          let depth : nat_lt 0 p.depth ≡ true = ap is_owner (same_Some (seat_at o.table o.me.0 p) s (sym seat)) ∙ owner in
-          let within = slice_get_within o.places i p is in
-          let less : i < mutex_count (first_of o.me.0) = subst (λ n. i < n) own.places.all within in
-          let mine : owns (part_of o.me.0 i).held.role ≡ true = ap (λ (x : MutexView). owns x.held.role) (ap (λ (h : CoreHand C). part_of h i) own.places.its.one) ∙ own.places.its.owners i p is ∙ depth in
-          subst (λ n. is_open_to n m ≡ true) same (has.owned i less mine m at)
+    -- of a mutex that its seats hold no other owner is recorded
+    pub owned_seats : AreOwnedAsRecorded (acting o).thread.0 (acting o).mutexes k.history
+    owned_seats i s m there owner at = by (slice_get o.places i) refl (sym there ∙ slice_get-map (seat_at o.table o.me.0) o.places i)
+      where
+        by : (p : Option MutexPlace) → slice_get o.places i ≡ p → Some s ≡ option_map (seat_at o.table o.me.0) p → is_open_to o.thread.0 m ≡ true
+        by None is seat = absurd (none-some s (sym seat))
+        by (Some p) is seat =
+            let own = opened.own in
+            let depth : nat_lt 0 p.depth ≡ true = ap is_owner (same_Some (seat_at o.table o.me.0 p) s (sym seat)) ∙ owner in
+            let within = slice_get_within o.places i p is in
+            let less : i < mutex_count (first_of o.me.0) = subst (λ n. i < n) own.places.all within in
+            let mine : owns (part_of o.me.0 i).held.role ≡ true = ap (λ (x : MutexView). owns x.held.role) (ap (λ (h : CoreHand C). part_of h i) own.places.its.one) ∙ own.places.its.owners i p is ∙ depth in
+            subst (λ n. is_open_to n m ≡ true) own_thread (opened.holder.owned i less mine m at)
 
   -- a caller's own stage and wait are its actor's
   pub opened_actor : (x o : SeatedActor C) (old : CallerState C) → caller_by x ≡ old → IsResting x → acting o ≡ acting x → acting o ≡ actor_of old

@@ -1,5 +1,6 @@
 -- A caller that took the kernel and gave it back: what is told of it, and what it is afterwards.
 use Rattle.std.proofs.Common.{◌≡◌, ◌++◌, ℕ, List, Result, map, MatchOption, Option, Some, None, true, slice_get, refl, sym, ap, ◌∙◌, subst}
+use Rattle.std.specs.Bool.{⊤}
 use Rattle.std.specs.List.{range_with_len}
 use Rattle.std.specs.Option.{option_map}
 use Rattle.std.proofs.lemmas.Option.{none-some, same_Some, slice_get-map}
@@ -9,8 +10,6 @@ use Rattle.evl_base.specs.declared.call.Call.{Call}
 use Rattle.evl_base.specs.declared.numbers.ThreadId.{ThreadId}
 use Rattle.evl_base.specs.declared.refusal.Refusal.{Refusal}
 use Rattle.evl_base.specs.declared.reply.Reply.{Reply}
-use Rattle.evl_pipeline.specs.declared.plan.Plan.{Plan}
-use Rattle.evl_kernel.specs.Callbacks.{AnswersByPlan}
 use Rattle.evl_kernel.specs.Histories.{History, IsLegal}
 use Rattle.evl_kernel.specs.KernelViews.{KernelView}
 use Rattle.evl_words.specs.MutexCalls.{MutexSeatState}
@@ -19,13 +18,13 @@ use Rattle.evl_machine.specs.declared.views.Account.{Account}
 use Rattle.evl_machine.specs.Accounts.{Fits, IsAccount, MadeBy, calls_by, up_to_date, lost_one, saw}
 use Rattle.evl_machine.specs.Actors.{ActorState, AreHeldAt, AwaitsOneOf, IsActor, IsSameActor, SeatedActor, Suits, acting, call_refusal, stage_in}
 use Rattle.evl_machine.specs.Callers.{HasInHand, IsResting, caller_by, machine_by}
-use Rattle.evl_machine.specs.Calls.{ActsOnCore, Answered, Applied, AreOwnedAsRecorded, IsCaller, IsHeld, TookKernel}
+use Rattle.evl_machine.specs.Calls.{Applied, AreOwnedAsRecorded, IsCaller, IsHeld, TookKernel}
 use Rattle.evl_machine.specs.Events.{FailsToTake, Gives, Takes}
 use Rattle.evl_machine.specs.Handles.{CallerState, Continues, HeldState, MachineState, account_of, caller_of, machine_of, returned, resting, shown, turned_away}
 use Rattle.evl_machine.specs.Homes.{Home, mutex_home, stax_home, word_home, word_homes}
 use Rattle.evl_machine.specs.Known.{ComesFrom, KernelMe, first_of, mutex_count, seen}
 use Rattle.evl_machine.specs.Locking.{GoesAlong, HaveSeats}
-use Rattle.evl_machine.specs.InHand.{Opens}
+use Rattle.evl_machine.specs.InHand.{HasMissed, HasOpened, HasShut, IsSameAside, Opens}
 use Rattle.evl_machine.specs.MutexTokens.{IsAtTable, KeepsPlaces, TellsTheSame}
 use Rattle.evl_machine.specs.MutexSeats.{holds_mutex}
 use Rattle.evl_machine.specs.Noted.{HasTaken, IsSettled, ceilings_in}
@@ -34,12 +33,11 @@ use Rattle.evl_machine.specs.StaxSeats.{holds_stax}
 use Rattle.evl_machine.specs.Unfinished.{unfinished}
 use Rattle.evl_machine.specs.Visits.{FindsTaken, Visited, actor_of}
 use Rattle.evl_machine.proofs.Accounts.{goes_on_more, made_by-append}
-use Rattle.evl_machine.proofs.Calling.{TakenOut, calls, fits_one, given_account, held_applied, is_held, lost_caller, mine_after, takes_hold, took_and_gave}
-use Rattle.evl_machine.proofs.Knowing.{answers_still, comes_on}
-use Rattle.evl_machine.proofs.LockingLaws.{along_call, along_none, same_kernel, the_same}
+use Rattle.evl_machine.proofs.Calling.{TakenOut, fits_one, given_account, gives_caller, held_applied, is_held, lost_caller, mine_after, takes_hold}
+use Rattle.evl_machine.proofs.Knowing.{comes_on}
 use Rattle.evl_machine.proofs.LockingTies.{other_call_stays, still_settled}
 use Rattle.evl_machine.proofs.QuietCore.{ends_quiet}
-use Rattle.evl_machine.proofs.SeatsAt.{at_own_table, still_at_table}
+use Rattle.evl_machine.proofs.SeatsAt.{acting_kept, at_own_table, still_at_table}
 use Rattle.evl_machine.proofs.Settling.{settled_fresh, stay_same}
 use Rattle.evl_machine.proofs.Staying.{at_stage, fits_stage, suits_found}
 
@@ -56,17 +54,49 @@ module _ {C : Type 0} where
     was = subst IsAccount knows is.account;
   }
 
-  -- what came of a take of an actor at rest
-  pub opens_or_not : (x a : SeatedActor C) (me : KernelMe C) (out : Option (KernelView C)) → x ≡ a → IsCaller (seen a.me) a.thread → MatchOption out (seen me ≡ resting (lost_one (account_of (seen x.me)))) (λ k. TakenOut (seen x.me) k (seen me) × ComesFrom (first_of x.me.0) k) → first_of me.0 ≡ first_of x.me.0
-      → MatchOption out (seen me ≡ resting (lost_one (account_of (seen a.me)))) (λ k. Opens (first_of a.me.0) (account_of (seen a.me)) a.thread me k)
-  opens_or_not x a me out is rests took from = subst (λ (z : SeatedActor C). IsCaller (seen z.me) z.thread → MatchOption out (seen me ≡ resting (lost_one (account_of (seen z.me)))) (λ k. Opens (first_of z.me.0) (account_of (seen z.me)) z.thread me k)) is (by out took) rests
-    where
-      by : (o : Option (KernelView C)) → MatchOption o (seen me ≡ resting (lost_one (account_of (seen x.me)))) (λ k. TakenOut (seen x.me) k (seen me) × ComesFrom (first_of x.me.0) k) → IsCaller (seen x.me) x.thread → MatchOption o (seen me ≡ resting (lost_one (account_of (seen x.me)))) (λ k. Opens (first_of x.me.0) (account_of (seen x.me)) x.thread me k)
-      by None same rests = same
-      by (Some k) took rests = opens_by (first_of x.me.0) (account_of (seen x.me)) x.thread x.me me k rests refl refl took.0 took.1 from
+  -- an actor of which only what it knows of the core has changed
+  module _ (x a : SeatedActor C) (table : TableId) (me : KernelMe C) (was : x ≡ a) (is : IsActor x) (same : table ≡ x.table) (from : first_of me.0 ≡ first_of x.me.0) (kept : KeepsPlaces x.me.0 me.0) where
+    abbrev now : SeatedActor C
+    now = record x { table = table; me = me }
 
-  pub opened_answers : {declared : C → ℕ} {plan : C → Plan} (first : KernelView C) (a : Account) (thread : ThreadId) (me : KernelMe C) (k : KernelView C) → Opens first a thread me k → AnswersByPlan declared plan first.callbacks → AnswersByPlan declared plan k.callbacks
-  opened_answers {declared} {plan} first a thread me k opens answers = answers_still declared plan first k opens.comes answers
+    pub actor_kept : IsActor now
+    actor_kept = record {
+      held = is.held;
+      awaits = is.awaits;
+      staxes = is.staxes;
+      places = still_at_table x.table (first_of x.me.0) (first_of me.0) table x.me.0 me.0 x.places same from kept is.places;
+    }
+
+    same_aside : IsSameAside x now
+    same_aside = (same, acting_kept x table me same kept, from)
+
+    -- what came of a take
+    pub opened_or_missed : (out : Option (KernelView C)) → IsCaller (seen a.me) a.thread
+        → MatchOption out (FailsToTake (first_of x.me.0) (account_of (seen x.me)) (account_of (seen me))) (λ _. Takes (first_of x.me.0) (account_of (seen x.me)) (account_of (seen me)))
+        → MatchOption out (seen me ≡ resting (lost_one (account_of (seen x.me)))) (λ k. TakenOut (seen x.me) k (seen me) × ComesFrom (first_of x.me.0) k)
+        → MatchOption out ⊤ (λ k. HasTaken (account_of (seen x.me)).thread k.history me.0) → MatchOption out (HasMissed a now) (HasOpened a now)
+    opened_or_missed out rests event taken holder = subst (λ (z : SeatedActor C). IsCaller (seen z.me) z.thread → MatchOption out (HasMissed z now) (HasOpened z now)) was (by out event taken holder) rests
+      where
+        by : (o : Option (KernelView C)) → MatchOption o (FailsToTake (first_of x.me.0) (account_of (seen x.me)) (account_of (seen me))) (λ _. Takes (first_of x.me.0) (account_of (seen x.me)) (account_of (seen me)))
+            → MatchOption o (seen me ≡ resting (lost_one (account_of (seen x.me)))) (λ k. TakenOut (seen x.me) k (seen me) × ComesFrom (first_of x.me.0) k)
+            → MatchOption o ⊤ (λ k. HasTaken (account_of (seen x.me)).thread k.history me.0) → IsCaller (seen x.me) x.thread → MatchOption o (HasMissed x now) (HasOpened x now)
+        by None event lost holder rests = record { same = same_aside; thread = refl; lost = lost; own = actor_kept; event = event }
+        by (Some k) event took holder rests = record {
+          same = same_aside;
+          thread = refl;
+          places = refl;
+          opens = opens_by (first_of x.me.0) (account_of (seen x.me)) x.thread x.me me k rests refl refl took.0 took.1 from;
+          holder = holder;
+          own = actor_kept;
+          event = event;
+        }
+
+    -- what came of a give
+    pub has_shut : (k : KernelView C) → IsHeld (seen a.me) a.thread k → seen me ≡ resting (up_to_date k.history (account_of (seen x.me))) → Gives (first_of x.me.0) (account_of (seen x.me)) k (account_of (seen me)) → HasShut a k now
+    has_shut k held given gave = subst (λ (z : SeatedActor C). IsHeld (seen z.me) z.thread k → HasShut z k now) was by held
+      where
+        by : IsHeld (seen x.me) x.thread k → HasShut x k now
+        by held = record { same = same_aside; rests = gives_caller (seen x.me) (seen me) x.thread k held given; held = is.held; account = ap account_of given; event = gave }
 
   -- what a caller has beside its seat at the core is told by what it knows
   pub same_actor : (m : MachineState C) (a : Account) (x : ActorState) → a.thread ≡ x.thread.0 → IsAccount a → Suits x a.seen → actor_of (caller_of m a x.staxes x.mutexes) ≡ x
@@ -180,95 +210,36 @@ have_seats table threads count seats homes i s there =
     by None is = absurd (none-some (mutex_home s) (sym is))
     by (Some j) is = ap (λ (h : Home). h.bound) (same_Some (mutex_home s) (word_home table threads j) is)
 
--- who acts for a thread: at rest, once it has taken the kernel, once it has done something with it, and at rest again
-module _ {C : Type 0} (x o : SeatedActor C) (k : KernelView C) (opens : Opens (first_of x.me.0) (account_of (seen x.me)) x.thread o.me k) (suits : Suits (acting x) (account_of (seen x.me)).seen) (same : acting o ≡ acting x) where
-  pub suits_opened : Suits (acting o) k.history
-  suits_opened = subst (λ (z : ActorState). Suits z k.history) (sym same) (opened_suits (first_of x.me.0) (account_of (seen x.me)) (acting x) o.me k opens suits)
-
-  module _ (x' : SeatedActor C) (k' : KernelView C) (core : TellsTheSame o.me x'.me) (went : GoesAlong (acting o) k (acting x') k') where
-    along : GoesAlong (acting x) k (acting x') k'
-    along = subst (λ (z : ActorState). GoesAlong z k (acting x') k') same went
-
-    pub has_still : IsHeld (seen x'.me) x'.thread k'
-    has_still = subst (λ (z : CoreMe (KernelView C) × ThreadId). IsHeld z.0 z.1 k') (λ i. (sym core.core i, sym along.thread i)) (still_held (first_of x.me.0) (account_of (seen x.me)) (acting x) o.me k opens (acting x') k' along)
-
-    pub comes_still : ComesFrom (first_of x'.me.0) k'
-    comes_still = subst (λ (f : KernelView C). ComesFrom f k') (sym (core.first ∙ opens.first_is)) (still_comes (first_of x.me.0) (account_of (seen x.me)) (acting x) o.me k opens (acting x') k' along)
-
-    module _ (n : SeatedActor C) (given : (n.table ≡ x'.table) × (acting n ≡ acting x') × (first_of n.me.0 ≡ first_of x'.me.0)) (now : account_of (seen n.me) ≡ up_to_date k'.history (account_of (seen x'.me))) where
-      account : account_of (seen n.me) ≡ up_to_date k'.history (account_of (seen o.me))
-      account = now ∙ ap (λ (m : CoreMe (KernelView C)). up_to_date k'.history (account_of m)) core.core
-
-      pub stage_back : AreHeldAt (stage_in (account_of (seen n.me)).seen (account_of (seen n.me)).thread) n.staxes
-      stage_back = subst (λ (z : ActorState). AreHeldAt (stage_in (account_of (seen n.me)).seen (account_of (seen n.me)).thread) z.staxes) (sym given.1)
-          (stage_at (first_of x.me.0) (account_of (seen x.me)) (acting x) o.me k opens (acting x') k' along (account_of (seen n.me)) account)
-
-      pub suits_back : Suits (acting n) (account_of (seen n.me)).seen
-      suits_back = subst (λ (z : ActorState). Suits z (account_of (seen n.me)).seen) (sym given.1)
-          (suits_after (first_of x.me.0) (account_of (seen x.me)) (acting x) o.me k opens (acting x') k' along (account_of (seen n.me)) (account ∙ ap (up_to_date k'.history) opens.account))
-
-      pub visited_by : (does : ActorState → KernelView C → ActorState → KernelView C → Type 0) (old : CallerState C) → caller_by x ≡ old → o.table ≡ x.table → x'.table ≡ o.table → AreOwnedAsRecorded (acting o).thread.0 (acting o).mutexes k.history → does (acting o) k (acting x') k'
-          → Takes (first_of x.me.0) (account_of (seen x.me)) (account_of (seen o.me)) → Gives (first_of x'.me.0) (account_of (seen x'.me)) k' (account_of (seen n.me)) → Visited old does (caller_by n)
-      visited_by does old was opened stayed owned did took gave =
-          let a = account_of (seen n.me) in
-          let first : first_of n.me.0 ≡ first_of o.me.0 = given.2 ∙ core.first in
-          let gives : Gives (first_of o.me.0) (account_of (seen o.me)) k' a = subst (λ (z : KernelView C × CoreMe (KernelView C)). Gives z.0 (account_of z.1) k' a) (λ i. (core.first i, core.core i)) gave in
-          subst (λ (z : ActorState). Visited old does (caller_of (machine_of n.table (first_of n.me.0) z.staxes z.mutexes) a z.staxes z.mutexes)) (sym given.1)
-          (visited_at (first_of x.me.0) (account_of (seen x.me)) (acting x) o.me k opens (acting x') k' along x.table n.table (first_of n.me.0) does a old was (given.0 ∙ stayed ∙ opened) first suits (subst (λ (z : ActorState). AreOwnedAsRecorded z.thread.0 z.mutexes k.history) same owned) account
-          (subst (λ (z : ActorState). does z k (acting x') k') same did) took gives)
-
--- a caller that didn't find the kernel has lost one take more
-module _ {C : Type 0} (x n : SeatedActor C) (same : (n.table ≡ x.table) × (acting n ≡ acting x) × (first_of n.me.0 ≡ first_of x.me.0)) (kept : n.thread ≡ x.thread) (knows : seen n.me ≡ resting (lost_one (account_of (seen x.me)))) where
-  pub caller_lost : caller_by n ≡ turned_away (caller_by x)
-  caller_lost = λ i. caller_of (machine_of (same.0 i) (same.2 i) (same.1 i).staxes (same.1 i).mutexes) (account_of (knows i)) (same.1 i).staxes (same.1 i).mutexes
-
-  pub suits_lost : Suits (acting x) (account_of (seen x.me)).seen → Suits (acting n) (account_of (seen n.me)).seen
-  suits_lost suits = subst (λ (z : ActorState × CoreMe (KernelView C)). Suits z.0 (account_of z.1).seen) (λ i. (sym same.1 i, sym knows i)) suits
-
-  pub rests_lost : IsCaller (seen x.me) x.thread → IsCaller (seen n.me) n.thread
-  rests_lost is = subst (IsCaller (seen n.me)) (sym kept) (lost_caller (seen x.me) (seen n.me) x.thread is knows)
-
-  pub resting_lost : IsResting x → IsResting n
-  resting_lost is = (rests_lost is.0, suits_lost is.1)
-
-  pub finds_taken : (old : CallerState C) → caller_by x ≡ old → FailsToTake (first_of x.me.0) (account_of (seen x.me)) (account_of (seen n.me)) → FindsTaken old (caller_by n)
-  finds_taken old was fails = subst (λ (z : CallerState C). FindsTaken z (caller_by n)) was (caller_lost, fails)
+-- who acts for a thread knows its stage and wait in the kernel that it took
+pub suits_opened : {C : Type 0} {x o : SeatedActor C} {k : KernelView C} → HasOpened x o k → Suits (acting x) (account_of (seen x.me)).seen → Suits (acting o) k.history
+suits_opened {C} {x} {o} {k} opened suits = subst (λ (z : ActorState). Suits z k.history) (sym opened.same.1) (opened_suits (first_of x.me.0) (account_of (seen x.me)) (acting x) o.me k opened.opens suits)
 
 -- held staxes are held at the stage of the caller's thread, where it is at rest
 pub stage_resting : {C : Type 0} (a : SeatedActor C) → AreHeldAt a.stage a.staxes → IsResting a → AreHeldAt (stage_in (account_of (seen a.me)).seen (account_of (seen a.me)).thread) a.staxes
 stage_resting a held rests = at_stage (acting a) (account_of (seen a.me)).seen (account_of (seen a.me)).thread a.staxes held rests.1 rests.0.own
 
--- a call of the kernel is something that may be done with it
-module _ {C : Type 0} where
-  pub none_along : (o : SeatedActor C) (k : KernelView C) → Suits (acting o) k.history → AreHeldAt o.stage o.staxes → IsLegal k.history → GoesAlong (acting o) k (acting o) k
-  none_along o k suits held legal = along_none (acting o) (acting o) refl k k (acting o).mutexes (same_kernel k) held suits legal (the_same (acting o).mutexes)
+-- a caller that didn't find the kernel has lost one take more
+module _ {C : Type 0} {x n : SeatedActor C} (missed : HasMissed x n) where
+  pub caller_lost : caller_by n ≡ turned_away (caller_by x)
+  caller_lost = let same = missed.same in λ i. caller_of (machine_of (same.0 i) (same.2 i) (same.1 i).staxes (same.1 i).mutexes) (account_of (missed.lost i)) (same.1 i).staxes (same.1 i).mutexes
 
-  pub call_along : (o x' : SeatedActor C) (k k' : KernelView C) (c : Call) (r : Result Reply Refusal) → Applied k o.thread.0 c r k' → IsSameActor (acting o) (acting x') → Suits (acting x') k'.history → AreHeldAt x'.stage x'.staxes → GoesAlong (acting o) k (acting x') k'
-  call_along o x' k k' c r done same suits held = along_call (acting o) (acting o) refl k k (acting o).mutexes c r (acting x') k' (same_kernel k) (the_same (acting o).mutexes) done same suits held
+  pub suits_lost : Suits (acting x) (account_of (seen x.me)).seen → Suits (acting n) (account_of (seen n.me)).seen
+  suits_lost suits = subst (λ (z : ActorState × CoreMe (KernelView C)). Suits z.0 (account_of z.1).seen) (λ i. (sym missed.same.1 i, sym missed.lost i)) suits
 
-  pub same_core : (me me' : KernelMe C) → me' ≡ me → TellsTheSame me me'
-  same_core me me' same = record { core = ap seen same; first = ap (λ (m : KernelMe C). first_of m.0) same }
+  pub rests_lost : IsCaller (seen x.me) x.thread → IsCaller (seen n.me) n.thread
+  rests_lost is = subst (IsCaller (seen n.me)) (sym missed.thread) (lost_caller (seen x.me) (seen n.me) x.thread is missed.lost)
 
-  module _ (first : KernelView C) (a : Account) (thread : ThreadId) (me : KernelMe C) (k : KernelView C) (opens : Opens first a thread me k) (c : Call) (r : Result Reply Refusal) (k' : KernelView C) (done : Applied k thread.0 c r k') where
-    own_call : Applied k a.thread c r k'
-    own_call = subst (λ (t : ℕ). Applied k t c r k') (sym opens.held.own ∙ ap (λ (y : Account). y.thread) opens.account) done
+  pub resting_lost : IsResting x → IsResting n
+  resting_lost is = (rests_lost is.0, suits_lost is.1)
 
-    -- what is told of the call
-    pub called_by : (a' : Account) → a' ≡ up_to_date k'.history (account_of (seen me)) → Answered first.limit a c r a'
-    called_by a' now = subst (λ (y : Account). Answered first.limit a c r y) (sym (now ∙ ap (up_to_date k'.history) opens.account))
-        (calls first.limit a c r k k' opens.comes.limit opens.was opens.fits (subst IsAccount opens.account opens.held.continues.before) own_call)
+  pub stage_lost : IsResting x → AreHeldAt (stage_in (account_of (seen n.me)).seen (account_of (seen n.me)).thread) n.staxes
+  stage_lost is = stage_resting n missed.own.held (resting_lost is)
 
-    pub acted_by : (me' : KernelMe C) (a' : Account) → me' ≡ me → Takes first a (account_of (seen me)) → Gives (first_of me'.0) (account_of (seen me')) k' a' → ActsOnCore first a r a'
-    acted_by me' a' same took gave = took_and_gave first (first_of me'.0) a (account_of (seen me)) a' r k' done.answers took (ap (λ (m : KernelMe C). first_of m.0) same ∙ opens.first_is) (subst (λ (m : KernelMe C). Gives (first_of me'.0) (account_of (seen m)) k' a') same gave)
+  pub finds_taken : {old : CallerState C} → caller_by x ≡ old → FindsTaken old (caller_by n)
+  finds_taken was = subst (λ (z : CallerState C). FindsTaken z (caller_by n)) was (caller_lost, missed.event)
 
--- an actor whose token has changed, and keeps its places
-pub actor_kept : {C : Type 0} (a : SeatedActor C) (table : TableId) (me : KernelMe C) → IsActor a → table ≡ a.table → first_of me.0 ≡ first_of a.me.0 → KeepsPlaces a.me.0 me.0 → IsActor (record a { table = table; me = me })
-actor_kept a table me is same from kept = record {
-  held = is.held;
-  awaits = is.awaits;
-  staxes = is.staxes;
-  places = still_at_table a.table (first_of a.me.0) (first_of me.0) table a.me.0 me.0 a.places same from kept is.places;
-}
+pub same_core : {C : Type 0} (me me' : KernelMe C) → me' ≡ me → TellsTheSame me me'
+same_core me me' same = record { core = ap seen same; first = ap (λ (m : KernelMe _). first_of m.0) same }
 
 -- an actor after a step on a mutex's word
 pub actor_at_mutexes : {C : Type 0} (a : SeatedActor C) (id : TableId) (first : KernelView C) (table : TableId) (me : KernelMe C) (places : List MutexPlace) → IsActor a → a.table ≡ id → first_of a.me.0 ≡ first → TellsTheSame a.me me → IsAtTable id first table me.0 places → IsActor (record a { table = table; me = me; places = places })
@@ -293,21 +264,23 @@ held_call {C} m a a' k k' c r has seat same free done suits = (
 )
 
 -- and before any call of it
-pub has_taken_it : {C : Type 0} (m : MachineState C) (x o : SeatedActor C) (k : KernelView C) (opens : Opens (first_of x.me.0) (account_of (seen x.me)) x.thread o.me k) → Suits (acting x) (account_of (seen x.me)).seen → (o.table ≡ x.table) × (acting o ≡ acting x) × (first_of o.me.0 ≡ first_of x.me.0) → o.thread ≡ x.thread
-    → machine_by x ≡ m → HasTaken (account_of (seen x.me)).thread k.history o.me.0 → board_fits m.first.history.board ≡ true → HasInHand m o k
-has_taken_it {C} m x o k opens suits same kept is holder fits = (
-  sym is ∙ (λ i. machine_of (sym same.0 i) (sym same.2 i) (sym same.1 i).staxes (sym same.1 i).mutexes),
-  subst (λ (t : ThreadId). IsHeld (seen o.me) t k) (sym kept) opens.held,
-  subst (λ (f : KernelView C). ComesFrom f k) (sym same.2) opens.comes,
-  suits_opened x o k opens suits same.1,
-  settled_fresh k.history o.me.0 k.history.state holder.taken holder.fresh (stay_same (ceilings_in o.me.0) k.history.state k.history.state refl),
-  ap board_fits (opens.comes.board ∙ ap (λ (s : MachineState C). s.first.history.board) is) ∙ fits,
-)
+pub has_taken_it : {C : Type 0} {m : MachineState C} {x o : SeatedActor C} {k : KernelView C} → HasOpened x o k → Suits (acting x) (account_of (seen x.me)).seen → machine_by x ≡ m → board_fits m.first.history.board ≡ true → HasInHand m o k
+has_taken_it {C} {m} {x} {o} {k} opened suits is fits =
+    let same = opened.same in (
+      sym is ∙ (λ i. machine_of (sym same.0 i) (sym same.2 i) (sym same.1 i).staxes (sym same.1 i).mutexes),
+      subst (λ (t : ThreadId). IsHeld (seen o.me) t k) (sym opened.thread) opened.opens.held,
+      subst (λ (f : KernelView C). ComesFrom f k) (sym same.2) opened.opens.comes,
+      suits_opened opened suits,
+      settled_fresh k.history o.me.0 k.history.state opened.holder.taken opened.holder.fresh (stay_same (ceilings_in o.me.0) k.history.state k.history.state refl),
+      ap board_fits (opened.opens.comes.board ∙ ap (λ (s : MachineState C). s.first.history.board) is) ∙ fits,
+    )
 
-pub took_it : {C : Type 0} (m : MachineState C) (x o : SeatedActor C) (k : KernelView C) (old : CallerState C) → Opens (first_of x.me.0) (account_of (seen x.me)) x.thread o.me k → acting o ≡ acting x → caller_by x ≡ old → old.machine ≡ m → AreOwnedAsRecorded (acting o).thread.0 (acting o).mutexes k.history
+pub took_it : {C : Type 0} {m : MachineState C} {x o : SeatedActor C} {k : KernelView C} {old : CallerState C} → HasOpened x o k → caller_by x ≡ old → old.machine ≡ m → AreOwnedAsRecorded (acting o).thread.0 (acting o).mutexes k.history
     → TookKernel old (record { caller = caller_of m (account_of (seen o.me)) o.staxes (acting o).mutexes; kernel = k })
-took_it {C} m x o k old opens same was is owned =
+took_it {C} {m} {x} {o} {k} {old} opened was is owned =
     let a = account_of (seen x.me) in
+    let opens = opened.opens in
+    let same = opened.same.1 in
     subst (λ (z : CallerState C). TookKernel z (record { caller = caller_of m (account_of (seen o.me)) o.staxes (acting o).mutexes; kernel = k })) was
     record {
       caller = λ i. caller_of (sym (ap (λ (s : CallerState C). s.machine) was ∙ is) i) (opens.account i) (same i).staxes (same i).mutexes;

@@ -3,11 +3,8 @@ use Rattle.evl_machine.specs.Handles.{MachineState}
 use Rattle.evl_machine.proofs.Visits.{given_back, given_event, given_suits, stage_resting}
 use Rattle.evl_machine.proofs.held.HeldOf.give.Goals as goal
 
-pub shut-requires-clause-machine : goal.shut-requires-clause-machine
-shut-requires-clause-machine g c = sym (ap (λ (m : MachineState _). m.id) c.self.invariant.0)
-
-pub shut-requires-clause-settled : goal.shut-requires-clause-settled
-shut-requires-clause-settled g c = c.self.invariant.4
+pub shut-requires : goal.shut-requires
+shut-requires g c = let is = c.self.invariant in record { machine = sym (ap (λ (m : MachineState _). m.id) is.0); comes = is.2; held = is.1; settled = is.4 }
 
 pub invariant_of-result : goal.invariant_of-result
 invariant_of-result g c = (c.shut.ensures.rests, given_suits c.self.inside.machine.now c.self.inside.actor c.shut.new.actor c.self.inside.kernel c.self.invariant c.shut.ensures.same c.shut.ensures.account)

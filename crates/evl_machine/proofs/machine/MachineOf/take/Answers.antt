@@ -1,12 +1,11 @@
 use Rattle.std.proofs.Common.{ap, sym, ◌∙◌, subst}
 use Rattle.evl_base.specs.Board.{board_fits}
-use Rattle.evl_base.specs.declared.numbers.ThreadId.{ThreadId}
 use Rattle.evl_kernel.specs.KernelViews.{KernelView}
 use Rattle.evl_machine.specs.declared.views.Account.{Account}
 use Rattle.evl_machine.specs.Events.{FailsToTake, Takes}
 use Rattle.evl_machine.specs.Handles.{CallerState, MachineState, account_of, turned_away}
 use Rattle.evl_machine.specs.Known.{seen}
-use Rattle.evl_machine.proofs.Opened.{owned_seats, own_thread}
+use Rattle.evl_machine.proofs.Opened.{owned_seats}
 use Rattle.evl_machine.proofs.Visits.{caller_lost, has_taken_it, took_it}
 use Rattle.evl_machine.proofs.machine.MachineOf.take.Goals as goal
 
@@ -15,10 +14,10 @@ open-requires-clause-machine g c = ap (λ (s : CallerState _). s.machine.id) c.c
 
 pub invariant_of-result : goal.invariant_of-result
 invariant_of-result g c =
-    has_taken_it c.args.self.now c.caller.inside.actor c.open.new.actor c.in-Some.kernel c.in-Some.ensures.opened c.caller.invariant.1 c.in-Some.ensures.same c.in-Some.ensures.kept.0 (ap (λ (s : CallerState _). s.machine) c.caller.view_is ∙ c.requires) c.in-Some.ensures.holder (ap (λ (s : MachineState _). board_fits s.first.history.board) (sym c.self.view_is) ∙ c.self.invariant.4)
+    has_taken_it c.in-Some.ensures c.caller.invariant.1 (ap (λ (s : CallerState _). s.machine) c.caller.view_is ∙ c.requires) (ap (λ (s : MachineState _). board_fits s.first.history.board) (sym c.self.view_is) ∙ c.self.invariant.4)
 
 pub returns-in-Some-clause-taken : goal.returns-in-Some-clause-taken
-returns-in-Some-clause-taken g c = took_it c.args.self.now c.caller.inside.actor c.open.new.actor c.in-Some.kernel c.args.caller c.in-Some.ensures.opened c.in-Some.ensures.same.1 c.caller.view_is c.requires (owned_seats c.open.new.actor c.in-Some.kernel _ c.in-Some.ensures.own (own_thread _ _ _ _ _ c.in-Some.ensures.opened (ap (λ (t : ThreadId). t.0) (sym c.in-Some.ensures.kept.0))) c.in-Some.ensures.holder)
+returns-in-Some-clause-taken g c = took_it c.in-Some.ensures c.caller.view_is c.requires (owned_seats c.in-Some.ensures)
 
 pub returns-in-Some-clause-event : goal.returns-in-Some-clause-event
 returns-in-Some-clause-event g c =
@@ -27,7 +26,7 @@ returns-in-Some-clause-event g c =
     subst (λ (z : KernelView _ × Account). Takes z.0 z.1 (account_of (seen c.open.new.actor.me))) (λ i. (first i, account i)) c.in-Some.ensures.event
 
 pub returns-in-None-clause-taken : goal.returns-in-None-clause-taken
-returns-in-None-clause-taken g c = caller_lost c.caller.inside.actor c.open.new.actor c.in-None.ensures.same c.in-None.ensures.kept.0 c.in-None.ensures.opened ∙ ap turned_away c.caller.view_is
+returns-in-None-clause-taken g c = caller_lost c.in-None.ensures ∙ ap turned_away c.caller.view_is
 
 pub returns-in-None-clause-event : goal.returns-in-None-clause-event
 returns-in-None-clause-event g c =
