@@ -3,7 +3,7 @@ use crate::endings::{NO_WORDS, ends, ends_over, taken_at_fault};
 use crate::texts::{BOARD, TEXT, TRACE, puts, spaces};
 use crate::writers::{Ended, Narrow};
 use evl_bank::play_program;
-use evl_shell::Over;
+use evl_shell::{Over, play};
 use std::rt::Files;
 
 #[test]
@@ -93,6 +93,31 @@ fn ends_whatever_becomes_of_its_line(rt: HostRuntime) {
     let alloc = rt.alloc();
     assert!(rt; says(&rt, Narrow::new(alloc, 1, 5, true), "evl:"));
     assert!(rt; says(&rt, Narrow::new(alloc, 3, 0, false), "evl: bad board\n"));
+}
+
+// Whether `play` ends so with no callbacks, and a plain writer for its line.
+fn plays<F: Files + AllocGlobal>(rt: &F, text: &str, status: u8, line: &str) -> bool {
+    let alloc = rt.alloc();
+    let mut out = Over::new(Vec::new(alloc));
+    let mut err = Vec::new(alloc);
+    let mut input = text.as_bytes();
+    let words = NO_WORDS.as_slice();
+    let ended = play(
+        rt,
+        alloc,
+        words,
+        Vec::new(alloc),
+        &mut input,
+        &mut out,
+        &mut err,
+    );
+    ended == status && err.as_slice() == line.as_bytes()
+}
+
+#[test]
+fn plays_over_a_plain_writer(rt: HostRuntime) {
+    assert!(rt; plays(&rt, BOARD, 0, ""));
+    assert!(rt; plays(&rt, "", 2, "evl: bad board\n"));
 }
 
 // How many bytes of an input the program leaves unread; none where it doesn't refuse it as a bad text.
