@@ -49,6 +49,8 @@ struct Place {
     heading: Option<usize>,
     // The last key that stands in no brackets.
     top: (usize, usize),
+    // How many were open where the last key stands.
+    key_depth: usize,
     // Whether a value is being read: that of the last key.
     is_value: bool,
 }
@@ -108,6 +110,7 @@ impl Items {
         } else {
             place.within
         };
+        place.key_depth = place.depth;
         place.is_value = true;
         self.items.push(Item {
             section,
@@ -167,7 +170,11 @@ impl Items {
                 place.depth = place.depth.saturating_add(1);
             }
             Kind::EndBracket | Kind::EndBrace => {
-                self.note_value(token);
+                if place.depth > place.key_depth {
+                    self.note_value(token);
+                } else {
+                    place.is_value = false;
+                }
                 place.depth = place.depth.saturating_sub(1);
             }
             Kind::Comma => {}
@@ -198,6 +205,7 @@ pub fn items_of(alloc: Global, text: &[u8]) -> Result<Items, AllocError> {
         depth: 0,
         heading: None,
         top: (0, 0),
+        key_depth: 0,
         is_value: false,
     };
     for (index, token) in tokens.iter().enumerate() {
