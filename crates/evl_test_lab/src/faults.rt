@@ -30,6 +30,23 @@ a.toml:14:9: step 3: delta = "01": a number from 0 to 18446744073709551615, abov
 a.toml:16:1: step 4: put needs a key "sem": a number from 0 to 65535 is wanted there
 "#;
 
+/// Steps in a list, with an unknown word and values that can't stand where they do.
+const LISTED: &str = r#"step = [
+  { do = "attach", who = 1, policy = "fifo 10", stage = "oob" }, { do = "puut", who = 0, sem = 0 },
+  { do = "post_flags", who = 0, flags = 0, bits = [1] }, { who = 0, do = "now" },
+]
+[board]
+threads = 2
+xbufs = [[8, 8], [0, 8]]
+"#;
+
+/// What is told of them.
+const LISTED_TOLD: &str =
+    r#"a.toml:7:9: xbufs = [[8, 8], [0, 8]]: a list of at most 16 pairs of numbers from 1 to 256 is wanted
+a.toml:2:73: step 2: there is no call "puut"; did you mean "put"?
+a.toml:3:51: step 3: bits = [1]: a number from 0 to 4294967295 is wanted
+"#;
+
 /// A step for each word, with all of its keys.
 const EACH_WORD: &str = r#"step = [
   { do = "request", who = 0, line = 7, stage = "oob", callback = 3, tag = 4 },
@@ -70,6 +87,11 @@ fn is_told(alloc: Global, text: &str, told: &str) -> bool {
 #[test]
 fn each_fault_is_told(rt: HostRuntime) {
     assert!(rt; is_told(rt.alloc(), FAULTY, TOLD));
+}
+
+#[test]
+fn faults_of_a_list_of_steps_are_told(rt: HostRuntime) {
+    assert!(rt; is_told(rt.alloc(), LISTED, LISTED_TOLD));
 }
 
 #[test]
