@@ -4,7 +4,7 @@ ghost use Rattle.evl_kernel.specs.Callbacks.{AnswersByPlan};
 ghost use Rattle.evl_pipeline.specs.Plans.{answer_of};
 
 use crate::handlers::{does, quiet, quiet_plan};
-use crate::rows::{KernelRow, PipelineRow, on_a_kernel, on_a_pipeline};
+use crate::rows::{PipelineRow, Row, on_a_kernel, on_a_pipeline};
 use bitflags::Flags;
 use evl_base::{ActionKinds, Call, LineNo, Stage};
 use evl_kernel::KernelOf;
@@ -21,9 +21,9 @@ const STAGE: Stage = Stage::Oob;
 
 const TAG: u32 = 40;
 
-// What a handler was given: how many fires, and the last one.
+/// What a handler was given: how many fires, and the last one.
 #[derive(Clone, Copy)]
-struct Given {
+pub(crate) struct Given {
     calls: u64,
     last: Option<Fire>,
 }
@@ -129,8 +129,8 @@ fn gives_the_fire<C: Handler, A: Allocator>(
     does(kernel, Call::Arrive { line: LINE }) && has(given, calls, 0)
 }
 
-// Whether the first two events are given to callback 0.
-fn gives_two_fires<C: Handler, A: Allocator>(
+/// Whether the first two events are given to callback 0.
+pub(crate) fn gives_two_fires<C: Handler, A: Allocator>(
     kernel: &mut KernelOf<C, A>,
     given: &Cell<Given>,
 ) -> bool
@@ -148,19 +148,6 @@ fn gives_two_fires<C: Handler, A: Allocator>(
     requested && first && second
 }
 
-#[derive(Drop)]
-struct TwoFires<'a> {
-    given: &'a Cell<Given>,
-}
-
-impl<'a> KernelRow for TwoFires<'a> {
-    type Told = bool;
-
-    fn ask<C: Handler, A: Allocator>(self, kernel: &mut KernelOf<C, A>) -> bool {
-        gives_two_fires(kernel, self.given)
-    }
-}
-
 #[test]
 fn a_kernel_hands_on_the_fire(rt: HostRuntime) {
     let given = nothing();
@@ -168,7 +155,7 @@ fn a_kernel_hands_on_the_fire(rt: HostRuntime) {
     let Ok(bank) = Vec::from_array(alloc, [keeping(&given)]) else {
         panic!(rt; "bank");
     };
-    let row = TwoFires { given: &given };
+    let row = Row::TwoFires(&given);
     assert!(rt; on_a_kernel(alloc, alloc, 0, bank, 100, row) == Ok(true));
 }
 

@@ -3,7 +3,7 @@ ghost use Rattle.std.specs.Prelude.{◌≡◌};
 ghost use Rattle.evl_kernel.specs.Callbacks.{AnswersByPlan};
 
 use crate::handlers::{board_of, entries, makes_room, reserve};
-use crate::rows::{KernelRow, on_a_quiet_kernel};
+use crate::rows::{Row, on_a_quiet_kernel};
 use evl_base::Refusal;
 use evl_kernel::KernelOf;
 use evl_pipeline::Handler;
@@ -18,22 +18,11 @@ fn has_no_room<C: Handler, A: Allocator>(kernel: &mut KernelOf<C, A>) -> bool
     matches!(reserve(kernel, 100), Err(Refusal::NoMemory))
 }
 
-// Whether a kernel without calls refuses to make room for a hundred, and is as before.
-fn stays_as_it_is<C: Handler, A: Allocator>(kernel: &mut KernelOf<C, A>) -> bool
+/// Whether a kernel without calls refuses to make room for a hundred, and is as before.
+pub(crate) fn stays_as_it_is<C: Handler, A: Allocator>(kernel: &mut KernelOf<C, A>) -> bool
     requires { AnswersByPlan C.declared C.plan kernel.old.callbacks }
 {
     has_no_room(kernel) && entries(kernel) == 0 && makes_room(kernel, 1)
-}
-
-#[derive(Drop)]
-struct NoRoom;
-
-impl KernelRow for NoRoom {
-    type Told = bool;
-
-    fn ask<C: Handler, A: Allocator>(self, kernel: &mut KernelOf<C, A>) -> bool {
-        stays_as_it_is(kernel)
-    }
 }
 
 // A new kernel, over memory for a few calls.
@@ -43,6 +32,6 @@ fn room_is_refused_in_short_memory(rt: HostRuntime) {
     let Ok(heap) = LocalHeap::new(alloc, 320 * 4096) else {
         panic!(rt; "heap");
     };
-    assert!(rt; on_a_quiet_kernel(&heap, alloc, board_of(1, 0), 100, NoRoom) == Ok(true));
+    assert!(rt; on_a_quiet_kernel(&heap, alloc, board_of(1, 0), 100, Row::NoRoom) == Ok(true));
     assert!(rt; heap.used() == 0);
 }

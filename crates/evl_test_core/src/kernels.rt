@@ -4,7 +4,7 @@ ghost use Rattle.evl_kernel.specs.Callbacks.{AnswersByPlan};
 use crate::handlers::{
     SEM, apply, asks, board_of, does, entries, makes_room, plan, plays, quiet_bank, reserve,
 };
-use crate::rows::{KernelRow, on_a_kernel, on_a_quiet_kernel};
+use crate::rows::{Row, on_a_kernel, on_a_quiet_kernel};
 use evl_base::{ActionKinds, Call, LineNo, Refusal, Reply, Stage};
 use evl_kernel::KernelOf;
 use evl_pipeline::{Action, Callback, Fire, Handler};
@@ -29,8 +29,8 @@ fn finds_no_place<C: Handler, A: Allocator>(kernel: &mut KernelOf<C, A>, n: usiz
     matches!(reserve(kernel, n), Err(Refusal::HistoryFull))
 }
 
-// Whether room is made for three calls and not for four, and three calls fill the history.
-fn has_three_places<C: Handler, A: Allocator>(kernel: &mut KernelOf<C, A>) -> bool
+/// Whether room is made for three calls and not for four, and three calls fill the history.
+pub(crate) fn has_three_places<C: Handler, A: Allocator>(kernel: &mut KernelOf<C, A>) -> bool
     requires { AnswersByPlan C.declared C.plan kernel.old.callbacks }
 {
     let over = finds_no_place(kernel, 4);
@@ -39,26 +39,14 @@ fn has_three_places<C: Handler, A: Allocator>(kernel: &mut KernelOf<C, A>) -> bo
     let second = does(kernel, Call::Put { sem: SEM });
     let third = does(kernel, Call::Put { sem: SEM });
     let full = finds_it_full(kernel, Call::Put { sem: SEM });
-    room && over && first && second && third && full
-}
-
-#[derive(Drop)]
-struct ThreePlaces;
-
-impl KernelRow for ThreePlaces {
-    type Told = bool;
-
-    // The same, and the history has the three calls then.
-    fn ask<C: Handler, A: Allocator>(self, kernel: &mut KernelOf<C, A>) -> bool {
-        has_three_places(kernel) && entries(kernel) == 3
-    }
+    room && over && first && second && third && full && entries(kernel) == 3
 }
 
 // Room is made for as many calls as the history has places; the calls that follow find it.
 #[test]
 fn reserve_limits(rt: HostRuntime) {
     let alloc = rt.alloc();
-    assert!(rt; on_a_quiet_kernel(alloc, alloc, board_of(1, 0), 3, ThreePlaces) == Ok(true));
+    assert!(rt; on_a_quiet_kernel(alloc, alloc, board_of(1, 0), 3, Row::ThreePlaces) == Ok(true));
 }
 
 // Whether the semaphore's count is 1.
@@ -102,16 +90,11 @@ fn posts_its_line<C: Handler, A: Allocator>(kernel: &mut KernelOf<C, A>) -> bool
     does(kernel, Call::Unstall { stage: STAGE }) && is_posted(kernel) && is_handled(kernel)
 }
 
-#[derive(Drop)]
-struct StalledLine;
-
-impl KernelRow for StalledLine {
-    type Told = bool;
-
-    // Callback 0 posts the semaphore as soon as its stage is no more stalled.
-    fn ask<C: Handler, A: Allocator>(self, kernel: &mut KernelOf<C, A>) -> bool {
-        keeps_its_line(kernel) && posts_its_line(kernel)
-    }
+/// Whether callback 0 posts the semaphore as soon as its stage is no more stalled.
+pub(crate) fn plays_a_stalled_line<C: Handler, A: Allocator>(kernel: &mut KernelOf<C, A>) -> bool
+    requires { AnswersByPlan C.declared C.plan kernel.old.callbacks }
+{
+    keeps_its_line(kernel) && posts_its_line(kernel)
 }
 
 // A stored closure posts the semaphore, and a stalled in-band stage keeps its line.
@@ -125,7 +108,7 @@ fn a_kernel_calls_its_closures(rt: HostRuntime) {
     let Ok(bank) = Vec::from_array(alloc, [posts]) else {
         panic!(rt; "bank");
     };
-    assert!(rt; on_a_kernel(alloc, alloc, 0, bank, 100, StalledLine) == Ok(true));
+    assert!(rt; on_a_kernel(alloc, alloc, 0, bank, 100, Row::StalledLine) == Ok(true));
 }
 
 #[test]
@@ -134,5 +117,5 @@ fn a_bank_has_a_range(rt: HostRuntime) {
     let Ok(bank) = quiet_bank(&alloc, 65) else {
         panic!(rt; "bank");
     };
-    assert!(rt; on_a_kernel(alloc, alloc, 0, bank, 1, ThreePlaces) == Err(Refusal::Range));
+    assert!(rt; on_a_kernel(alloc, alloc, 0, bank, 1, Row::ThreePlaces) == Err(Refusal::Range));
 }

@@ -1,23 +1,16 @@
 //! Kernels that stand alike, whatever calls led there, and the ready list.
-ghost use Rattle.std.specs.Prelude.{IfOk};
 ghost use Rattle.evl_kernel.specs.Callbacks.{AnswersByPlan};
 
 use crate::handlers::{ATTACH, SEM, board_of, does};
-use evl_base::{Call, Refusal, ThreadId};
-use evl_kernel::{Kernel, KernelOf};
-use evl_pipeline::Handler;
+use crate::rows::leave;
+use evl_base::{Call, ThreadId};
+use evl_kernel::KernelOf;
+use evl_pipeline::{Callback, Handler};
 use std::alloc::{Allocator, Global};
 
 const PUT: Call = Call::Put { sem: SEM };
 
 const GET: Call = Call::TryGet { sem: SEM };
-
-// A kernel of two threads and a semaphore, with no callbacks.
-fn made(alloc: Global) -> Result<Kernel, Refusal>
-    ensures { IfOk result (λ k. AnswersByPlan (λ c. c.kinds.0) (λ c. c.plan.value) k.callbacks) }
-{
-    Kernel::new(alloc, board_of(2, 0), Vec::new(alloc), 10)
-}
 
 // Whether the ready list has just the calling thread.
 fn is_ready_alone<C, A: Allocator>(alloc: Global, kernel: &KernelOf<C, A>) -> bool {
@@ -50,23 +43,28 @@ fn meet<C: Handler, A: Allocator>(one: &mut KernelOf<C, A>, other: &mut KernelOf
     before && put && apart && got && met && told && !one.is_like(other)
 }
 
-// Whether a kernel meets a new one.
-fn meets_another(alloc: Global, kernel: &mut Kernel) -> bool
-    requires { AnswersByPlan (λ c. c.kinds.0) (λ c. c.plan.value) kernel.old.callbacks }
-    ensures { AnswersByPlan (λ c. c.kinds.0) (λ c. c.plan.value) kernel.new.callbacks }
+// Whether a kernel of two threads and a semaphore meets a new one.
+fn meets_another<C: Handler>(alloc: Global, bank: Vec<C>, kernel: &mut KernelOf<C, Global>) -> bool
+    requires { AnswersByPlan C.declared C.plan kernel.old.callbacks }
+    ensures { AnswersByPlan C.declared C.plan kernel.new.callbacks }
 {
-    match made(alloc) {
-        Ok(mut other) => meet(kernel, &mut other),
+    match KernelOf::new(alloc, board_of(2, 0), bank, 10) {
+        Ok(mut other) => {
+            let met = meet(kernel, &mut other);
+            leave(other);
+            met
+        }
         Err(_) => false,
     }
 }
 
-// Whether two new kernels meet, and the first one's ready list has its thread then.
-fn stand_alike(alloc: Global) -> bool {
-    match made(alloc) {
+// Whether two new kernels with these callbacks meet, and the first one's ready list has its thread then.
+fn stand_alike<C: Handler>(alloc: Global, first: Vec<C>, second: Vec<C>) -> bool {
+    match KernelOf::new(alloc, board_of(2, 0), first, 10) {
         Ok(mut one) => {
-            let met = meets_another(alloc, &mut one);
+            let met = meets_another(alloc, second, &mut one);
             let listed = is_listed(alloc, &mut one);
+            leave(one);
             met && listed
         }
         Err(_) => false,
@@ -75,5 +73,7 @@ fn stand_alike(alloc: Global) -> bool {
 
 #[test]
 fn kernels_stand_alike(rt: HostRuntime) {
-    assert!(rt; stand_alike(rt.alloc()));
+    let alloc = rt.alloc();
+    let first: Vec<Callback> = Vec::new(alloc);
+    assert!(rt; stand_alike(alloc, first, Vec::new(alloc)));
 }

@@ -3,7 +3,7 @@ ghost use Rattle.std.specs.Prelude.{◌≡◌, [], ◌∷◌, true};
 ghost use Rattle.evl_kernel.specs.Callbacks.{AnswersByPlan};
 
 use crate::handlers::{CALLER, asks, bare_board, does, plan, plays, quiet, quiet_plan};
-use crate::rows::{KernelRow, on_a_board};
+use crate::rows::{Row, on_a_board};
 use arrayvec::ArrayVec;
 use bitflags::Flags;
 use evl_base::{
@@ -178,18 +178,13 @@ fn is_laid_up<C: Handler, A: Allocator>(kernel: &mut KernelOf<C, A>) -> bool
     stalled && requested && stand && due && wait
 }
 
-#[derive(Drop)]
-struct MostPlays;
-
-impl KernelRow for MostPlays {
-    type Told = bool;
-
-    // One call is followed by all plays that there can be; the in-band line stays pending.
-    fn ask<C: Handler, A: Allocator>(self, kernel: &mut KernelOf<C, A>) -> bool {
-        let ready = is_laid_up(kernel) && plays(kernel) == 0;
-        let done = does(kernel, Call::Unstall { stage: Stage::Oob });
-        ready && done && plays(kernel) == MOST && kernel.pending(Stage::Inband, HANDED)
-    }
+/// Whether one call is followed by all plays that there can be; the in-band line stays pending.
+pub(crate) fn makes_the_most_plays<C: Handler, A: Allocator>(kernel: &mut KernelOf<C, A>) -> bool
+    requires { AnswersByPlan C.declared C.plan kernel.old.callbacks }
+{
+    let ready = is_laid_up(kernel) && plays(kernel) == 0;
+    let done = does(kernel, Call::Unstall { stage: Stage::Oob });
+    ready && done && plays(kernel) == MOST && kernel.pending(Stage::Inband, HANDED)
 }
 
 // Callback 0 posts four lines out-of-band, callback 1 hands its line on in-band, all others ask for nothing.
@@ -215,5 +210,5 @@ fn one_call_makes_the_most_plays(rt: HostRuntime) {
         let callback = Callback::new(ActionKinds::from_bits_retain(0), &quiet_plan(1), run);
         assert!(rt; bank.push(callback).is_ok());
     }
-    assert!(rt; on_a_board(alloc, alloc, widest_board(), bank, 1000, MostPlays) == Ok(true));
+    assert!(rt; on_a_board(alloc, alloc, widest_board(), bank, 1000, Row::MostPlays) == Ok(true));
 }

@@ -2,7 +2,7 @@
 ghost use Rattle.evl_kernel.specs.Callbacks.{AnswersByPlan};
 
 use crate::handlers::{ATTACH, CALLER, SEM, apply, board_of, does};
-use crate::rows::{KernelRow, on_a_quiet_kernel};
+use crate::rows::{Row, on_a_quiet_kernel};
 use evl_base::{Board, Call, FlagId, Reply, ThreadId, Way, XbufId};
 use evl_kernel::{Awaited, KernelOf};
 use evl_pipeline::Handler;
@@ -45,8 +45,8 @@ fn awaits_sem<C, A: Allocator>(kernel: &KernelOf<C, A>) -> bool {
     }
 }
 
-// Thread 0 is attached, and then waits for the semaphore, which stands at 0, until after the date has moved.
-fn goes_and_waits<C: Handler, A: Allocator>(kernel: &mut KernelOf<C, A>) -> bool
+/// Thread 0 is attached, and then waits for the semaphore, which stands at 0, until after the date has moved.
+pub(crate) fn goes_and_waits<C: Handler, A: Allocator>(kernel: &mut KernelOf<C, A>) -> bool
     requires { AnswersByPlan C.declared C.plan kernel.old.callbacks }
 {
     let before = stands(kernel, None, false) && holds(kernel, 0, 0);
@@ -61,17 +61,6 @@ fn goes_and_waits<C: Handler, A: Allocator>(kernel: &mut KernelOf<C, A>) -> bool
     before && attached && runs && begun && blocked
 }
 
-#[derive(Drop)]
-struct OneThread;
-
-impl KernelRow for OneThread {
-    type Told = bool;
-
-    fn ask<C: Handler, A: Allocator>(self, kernel: &mut KernelOf<C, A>) -> bool {
-        goes_and_waits(kernel)
-    }
-}
-
 // A board of one thread with a semaphore, a flag group and a cross-buffer.
 fn board() -> Board {
     let mut board = board_of(1, 0);
@@ -83,5 +72,5 @@ fn board() -> Board {
 #[test]
 fn readers_tell_how_a_machine_stands(rt: HostRuntime) {
     let alloc = rt.alloc();
-    assert!(rt; on_a_quiet_kernel(alloc, alloc, board(), 10, OneThread) == Ok(true));
+    assert!(rt; on_a_quiet_kernel(alloc, alloc, board(), 10, Row::OneThread) == Ok(true));
 }

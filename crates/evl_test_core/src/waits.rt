@@ -2,7 +2,7 @@
 ghost use Rattle.evl_kernel.specs.Callbacks.{AnswersByPlan};
 
 use crate::handlers::{ATTACH, CALLER, SEM, apply, board_of, does, plays};
-use crate::rows::{KernelRow, on_a_quiet_kernel};
+use crate::rows::{Row, on_a_quiet_kernel};
 use evl_base::{Call, Reply, ThreadId};
 use evl_kernel::KernelOf;
 use evl_pipeline::Handler;
@@ -65,21 +65,16 @@ fn times_out<C: Handler, A: Allocator>(kernel: &mut KernelOf<C, A>) -> bool
         && tells(kernel, CALLER, [false, false, false])
 }
 
-#[derive(Drop)]
-struct TwoWaits;
-
-impl KernelRow for TwoWaits {
-    type Told = bool;
-
-    // The first wait is served by the semaphore, which stood at 1.
-    fn ask<C: Handler, A: Allocator>(self, kernel: &mut KernelOf<C, A>) -> bool {
-        is_served(kernel) && times_out(kernel)
-    }
+/// Whether the readers tell of two waits; the first one is served by the semaphore, which stood at 1.
+pub(crate) fn tells_of_two_waits<C: Handler, A: Allocator>(kernel: &mut KernelOf<C, A>) -> bool
+    requires { AnswersByPlan C.declared C.plan kernel.old.callbacks }
+{
+    is_served(kernel) && times_out(kernel)
 }
 
 // A wait that is served at once, then one whose deadline has come; of a stranger all readers tell false.
 #[test]
 fn readers_tell_of_waits(rt: HostRuntime) {
     let alloc = rt.alloc();
-    assert!(rt; on_a_quiet_kernel(alloc, alloc, board_of(1, 1), 10, TwoWaits) == Ok(true));
+    assert!(rt; on_a_quiet_kernel(alloc, alloc, board_of(1, 1), 10, Row::TwoWaits) == Ok(true));
 }
