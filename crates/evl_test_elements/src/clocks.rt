@@ -134,6 +134,33 @@ fn is_numbered<C: Handler, A: Allocator>(
     }
 }
 
+// Whether timers of all these callbacks are, in their order.
+fn are_numbered<C: Handler, A: Allocator>(clock: &mut ClockOf<C, A>, callbacks: Vec<C>) -> bool {
+    let mut number = 0u16;
+    for callback in callbacks {
+        if !is_numbered(clock, callback, number) {
+            return false;
+        }
+        number = number.saturating_add(1);
+    }
+    number == 65
+}
+
+// Whether a clock with these callbacks takes no more of its heap than a new one.
+fn only_new_takes<C: Handler, A: Allocator + Clone>(
+    alloc: A,
+    heap: &LocalHeap,
+    callbacks: Vec<C>,
+) -> bool {
+    match ClockOf::new(alloc) {
+        Ok(mut clock) => {
+            let used = heap.used();
+            are_numbered(&mut clock, callbacks) && heap.used() == used
+        }
+        Err(_) => false,
+    }
+}
+
 // The 65th timer is refused, and its callback comes back. Only a new clock takes memory.
 #[test]
 fn sixty_five_timers(rt: HostRuntime) {
@@ -145,16 +172,13 @@ fn sixty_five_timers(rt: HostRuntime) {
     let Ok(heap) = LocalHeap::new(rt.alloc(), 65536) else {
         panic!(rt; "heap")
     };
-    let Ok(mut clock) = ClockOf::new(&heap) else {
-        panic!(rt; "clock")
-    };
-    let used = heap.used();
-    for number in 0u16..65 {
+    let mut callbacks = Vec::new(rt.alloc());
+    for _ in 0..65 {
         let Ok(run) = Box::new(rt.alloc(), |_: Fire| quiet()) else {
             panic!(rt; "box")
         };
         let callback = Callback::new(ActionKinds::POST_SEM, &quiet_plan(), run);
-        assert!(rt; is_numbered(&mut clock, callback, number));
+        assert!(rt; callbacks.push(callback).is_ok());
     }
-    assert!(rt; heap.used() == used);
+    assert!(rt; only_new_takes(&heap, &heap, callbacks));
 }

@@ -68,130 +68,143 @@ fn is_told<A: Allocator>(owners: &mut OwnersOf<A>, step: Step) -> bool {
     }
 }
 
-// Whether each step is, of new records of so many threads.
-fn is_row<A: Allocator + Clone>(
-    alloc: A,
-    threads: u16,
-    kinds: &[MutexKind],
-    steps: &[Step],
-) -> bool {
-    let Ok(mut owners) = OwnersOf::new(alloc, threads, kinds) else {
-        return false;
-    };
+// Whether each step is.
+fn are_told<A: Allocator>(owners: &mut OwnersOf<A>, steps: &[Step]) -> bool {
     for step in steps {
-        if !is_told(&mut owners, *step) {
+        if !is_told(owners, *step) {
             return false;
         }
     }
     true
 }
 
+// The same of new records of so many threads.
+fn is_row<A: Allocator + Clone>(
+    alloc: A,
+    threads: u16,
+    kinds: &[MutexKind],
+    steps: &[Step],
+) -> bool {
+    match OwnersOf::new(alloc, threads, kinds) {
+        Ok(mut owners) => are_told(&mut owners, steps),
+        Err(_) => false,
+    }
+}
+
+const CHAIN: [Step; 6] = [
+    Step::SetBase(THREE, 590),
+    Step::Claim(FIRST, TWO, ONE, Ok(())),
+    Step::Claim(SECOND, THREE, TWO, Ok(())),
+    Step::Effective(ONE, 590),
+    Step::DropWaiter(THREE),
+    Step::Effective(ONE, 0),
+];
+
 #[test]
 fn a_rank_goes_along_a_chain(rt: HostRuntime) {
-    let steps = [
-        Step::SetBase(THREE, 590),
-        Step::Claim(FIRST, TWO, ONE, Ok(())),
-        Step::Claim(SECOND, THREE, TWO, Ok(())),
-        Step::Effective(ONE, 590),
-        Step::DropWaiter(THREE),
-        Step::Effective(ONE, 0),
-    ];
-    assert!(rt; is_row(rt.alloc(), 4, &NORMAL, &steps));
+    assert!(rt; is_row(rt.alloc(), 4, &NORMAL, &CHAIN));
 }
+
+const RING: [Step; 5] = [
+    Step::Claim(FIRST, TWO, ONE, Ok(())),
+    Step::Claim(SECOND, ONE, TWO, Err(Refusal::Deadlock)),
+    Step::Claim(SECOND, TWO, ONE, Err(Refusal::Busy)),
+    Step::Owner(FIRST, Some(ONE)),
+    Step::Owner(SECOND, None),
+];
 
 #[test]
 fn a_ring_is_refused(rt: HostRuntime) {
-    let steps = [
-        Step::Claim(FIRST, TWO, ONE, Ok(())),
-        Step::Claim(SECOND, ONE, TWO, Err(Refusal::Deadlock)),
-        Step::Claim(SECOND, TWO, ONE, Err(Refusal::Busy)),
-        Step::Owner(FIRST, Some(ONE)),
-        Step::Owner(SECOND, None),
-    ];
-    assert!(rt; is_row(rt.alloc(), 4, &NORMAL, &steps));
+    assert!(rt; is_row(rt.alloc(), 4, &NORMAL, &RING));
 }
+
+const FIRST_IS_NEXT: [Step; 5] = [
+    Step::SetBase(THREE, 590),
+    Step::Claim(FIRST, TWO, ONE, Ok(())),
+    Step::Claim(FIRST, THREE, ONE, Ok(())),
+    Step::Release(FIRST, TWO, Err(Refusal::NotOwner)),
+    Step::Release(FIRST, ONE, Ok((Some(THREE), true))),
+];
 
 #[test]
 fn the_first_waiter_is_next(rt: HostRuntime) {
-    let steps = [
-        Step::SetBase(THREE, 590),
-        Step::Claim(FIRST, TWO, ONE, Ok(())),
-        Step::Claim(FIRST, THREE, ONE, Ok(())),
-        Step::Release(FIRST, TWO, Err(Refusal::NotOwner)),
-        Step::Release(FIRST, ONE, Ok((Some(THREE), true))),
-    ];
-    assert!(rt; is_row(rt.alloc(), 4, &NORMAL, &steps));
+    assert!(rt; is_row(rt.alloc(), 4, &NORMAL, &FIRST_IS_NEXT));
 }
+
+const CEILING: [Step; 5] = [
+    Step::Raise(FIRST, TWO),
+    Step::Claim(SECOND, TWO, ONE, Ok(())),
+    Step::Effective(TWO, 562),
+    Step::Effective(ONE, 0),
+    Step::Lower(FIRST, TWO),
+];
 
 #[test]
 fn a_ceiling_counts_for_its_owner(rt: HostRuntime) {
     let Ok(heap) = LocalHeap::new(rt.alloc(), 65536) else {
         panic!(rt; "heap")
     };
-    let steps = [
-        Step::Raise(FIRST, TWO),
-        Step::Claim(SECOND, TWO, ONE, Ok(())),
-        Step::Effective(TWO, 562),
-        Step::Effective(ONE, 0),
-        Step::Lower(FIRST, TWO),
-    ];
-    assert!(rt; is_row(&heap, 3, &KINDS, &steps));
+    assert!(rt; is_row(&heap, 3, &KINDS, &CEILING));
 }
+
+const LEFT: [Step; 10] = [
+    Step::Claim(FIRST, TWO, ONE, Ok(())),
+    Step::Has(SECOND, true),
+    Step::Has(MutexId(2), false),
+    Step::OwnsAny(ONE, true),
+    Step::OwnsAny(TWO, false),
+    Step::Next(FIRST, Some(TWO)),
+    Step::Leave(SECOND, TWO),
+    Step::Next(FIRST, Some(TWO)),
+    Step::Leave(FIRST, TWO),
+    Step::Next(FIRST, None),
+];
 
 #[test]
 fn a_mutex_is_left(rt: HostRuntime) {
-    let steps = [
-        Step::Claim(FIRST, TWO, ONE, Ok(())),
-        Step::Has(SECOND, true),
-        Step::Has(MutexId(2), false),
-        Step::OwnsAny(ONE, true),
-        Step::OwnsAny(TWO, false),
-        Step::Next(FIRST, Some(TWO)),
-        Step::Leave(SECOND, TWO),
-        Step::Next(FIRST, Some(TWO)),
-        Step::Leave(FIRST, TWO),
-        Step::Next(FIRST, None),
-    ];
-    assert!(rt; is_row(rt.alloc(), 4, &NORMAL, &steps));
+    assert!(rt; is_row(rt.alloc(), 4, &NORMAL, &LEFT));
 }
+
+const ALL_RANKS: [Step; 4] = [
+    Step::SetBase(THREE, 520),
+    Step::Raise(FIRST, TWO),
+    Step::Claim(SECOND, THREE, ONE, Ok(())),
+    Step::Ranks([0, 520, 562, 520]),
+];
 
 #[test]
 fn all_ranks_at_once(rt: HostRuntime) {
-    let steps = [
-        Step::SetBase(THREE, 520),
-        Step::Raise(FIRST, TWO),
-        Step::Claim(SECOND, THREE, ONE, Ok(())),
-        Step::Ranks([0, 520, 562, 520]),
-    ];
-    assert!(rt; is_row(rt.alloc(), 4, &KINDS, &steps));
+    assert!(rt; is_row(rt.alloc(), 4, &KINDS, &ALL_RANKS));
 }
+
+const LOSING: [Step; 9] = [
+    Step::SetBase(TWO, 530),
+    Step::SetBase(THREE, 590),
+    Step::Claim(FIRST, TWO, ONE, Ok(())),
+    Step::Claim(SECOND, THREE, ONE, Ok(())),
+    Step::Effective(ONE, 590),
+    Step::Leave(SECOND, THREE),
+    Step::Ranks([0, 530, 530, 590]),
+    Step::Leave(FIRST, TWO),
+    Step::Ranks([0, 0, 530, 590]),
+];
 
 #[test]
 fn one_of_two_mutexes_loses_its_waiters(rt: HostRuntime) {
-    let steps = [
-        Step::SetBase(TWO, 530),
-        Step::SetBase(THREE, 590),
-        Step::Claim(FIRST, TWO, ONE, Ok(())),
-        Step::Claim(SECOND, THREE, ONE, Ok(())),
-        Step::Effective(ONE, 590),
-        Step::Leave(SECOND, THREE),
-        Step::Ranks([0, 530, 530, 590]),
-        Step::Leave(FIRST, TWO),
-        Step::Ranks([0, 0, 530, 590]),
-    ];
-    assert!(rt; is_row(rt.alloc(), 4, &NORMAL, &steps));
+    assert!(rt; is_row(rt.alloc(), 4, &NORMAL, &LOSING));
 }
+
+const CEILING_IN_A_CHAIN: [Step; 7] = [
+    Step::SetBase(THREE, 520),
+    Step::Raise(FIRST, TWO),
+    Step::Claim(SECOND, TWO, ONE, Ok(())),
+    Step::Claim(FIRST, THREE, TWO, Ok(())),
+    Step::Ranks([0, 520, 562, 520]),
+    Step::Release(FIRST, TWO, Ok((Some(THREE), false))),
+    Step::Ranks([0, 0, 0, 562]),
+];
 
 #[test]
 fn a_ceiling_in_a_chain_goes_no_further(rt: HostRuntime) {
-    let steps = [
-        Step::SetBase(THREE, 520),
-        Step::Raise(FIRST, TWO),
-        Step::Claim(SECOND, TWO, ONE, Ok(())),
-        Step::Claim(FIRST, THREE, TWO, Ok(())),
-        Step::Ranks([0, 520, 562, 520]),
-        Step::Release(FIRST, TWO, Ok((Some(THREE), false))),
-        Step::Ranks([0, 0, 0, 562]),
-    ];
-    assert!(rt; is_row(rt.alloc(), 4, &KINDS, &steps));
+    assert!(rt; is_row(rt.alloc(), 4, &KINDS, &CEILING_IN_A_CHAIN));
 }

@@ -87,40 +87,49 @@ fn is_row<A: Allocator + Clone>(alloc: A, groups: &[u8], steps: &[Step]) -> bool
     }
 }
 
+const INBAND_AND_BACK: [Step; 11] = [
+    Step::Attach(ONE, Policy::Fifo(99), Ok(())),
+    Step::Base(ONE, 611),
+    Step::Eligible(true),
+    Step::SetStage(ONE, Stage::Inband),
+    Step::Stage(ONE, Stage::Inband),
+    Step::Eligible(false),
+    Step::SetStage(ONE, Stage::Oob),
+    Step::SetPolicy(ONE, Policy::Weak(0)),
+    Step::Pick(ONE),
+    Step::Detach(ONE),
+    Step::Rank(ONE, Err(Refusal::Invalid)),
+];
+
 #[test]
 fn a_thread_goes_inband_and_back(rt: HostRuntime) {
-    let steps = [
-        Step::Attach(ONE, Policy::Fifo(99), Ok(())),
-        Step::Base(ONE, 611),
-        Step::Eligible(true),
-        Step::SetStage(ONE, Stage::Inband),
-        Step::Stage(ONE, Stage::Inband),
-        Step::Eligible(false),
-        Step::SetStage(ONE, Stage::Oob),
-        Step::SetPolicy(ONE, Policy::Weak(0)),
-        Step::Pick(ONE),
-        Step::Detach(ONE),
-        Step::Rank(ONE, Err(Refusal::Invalid)),
-    ];
-    assert!(rt; is_row(rt.alloc(), &[], &steps));
+    assert!(rt; is_row(rt.alloc(), &[], &INBAND_AND_BACK));
 }
+
+const BLOCKED: [Step; 10] = [
+    Step::Attach(ONE, Policy::Fifo(10), Ok(())),
+    Step::Attach(TWO, QUOTA, Ok(())),
+    Step::Block(ONE),
+    Step::Pick(TWO),
+    Step::Ready(ONE),
+    Step::Pick(ONE),
+    Step::Boost(TWO, 600),
+    Step::Rank(TWO, Ok(600)),
+    Step::Pick(TWO),
+    Step::Refill,
+];
 
 #[test]
 fn a_blocked_thread_comes_back(rt: HostRuntime) {
-    let steps = [
-        Step::Attach(ONE, Policy::Fifo(10), Ok(())),
-        Step::Attach(TWO, QUOTA, Ok(())),
-        Step::Block(ONE),
-        Step::Pick(TWO),
-        Step::Ready(ONE),
-        Step::Pick(ONE),
-        Step::Boost(TWO, 600),
-        Step::Rank(TWO, Ok(600)),
-        Step::Pick(TWO),
-        Step::Refill,
-    ];
-    assert!(rt; is_row(rt.alloc(), &[10], &steps));
+    assert!(rt; is_row(rt.alloc(), &[10], &BLOCKED));
 }
+
+// What is told once 256 threads are attached.
+const FULL: [Step; 3] = [
+    Step::Attach(ThreadId(256), RR, Err(Refusal::Unknown)),
+    Step::Charge(100),
+    Step::Pick(ONE),
+];
 
 // Whether 256 threads are attached, and no more; the first one is charged, and the next one picked.
 fn is_full<A: Allocator>(sched: &mut SchedOf<A>) -> bool {
@@ -129,12 +138,7 @@ fn is_full<A: Allocator>(sched: &mut SchedOf<A>) -> bool {
             return false;
         }
     }
-    let steps = [
-        Step::Attach(ThreadId(256), RR, Err(Refusal::Unknown)),
-        Step::Charge(100),
-        Step::Pick(ONE),
-    ];
-    are_told(sched, &steps)
+    are_told(sched, &FULL)
 }
 
 // Whether a scheduler that is full takes no more of its heap than a new one.
