@@ -1,0 +1,470 @@
+//! What a caller does in a row, and what it is told. Of the caller its machine alone is told by the clauses.
+ghost use Rattle.std.specs.Prelude.{◌≡◌};
+ghost use Rattle.evl_kernel.specs.Callbacks.{AnswersByPlan};
+
+use crate::boards::{FLAGS, XBUF};
+use crate::passes::{Passes, WRITTEN};
+use evl_base::{
+    Call, FlagId, LineNo, MutexId, Policy, Refusal, Reply, SemId, Stage, StaxId, Take, ThreadId,
+    Transfer, Way,
+};
+use evl_machine::{CallerOf, MachineOf};
+use evl_pipeline::Handler;
+use std::alloc::Allocator;
+use std::sync::Wait;
+
+// A call of the kernel.
+#[derive(Clone, Copy)]
+pub enum Ask {
+    Attach(Policy, Stage),
+    SetStage(Stage),
+    Put(SemId),
+    Peek(SemId),
+    TryGet(SemId),
+    BeginGet(SemId),
+    Finish(bool),
+    Tick(u64),
+    PostFlags(FlagId, u32),
+    RankOf(ThreadId),
+    Request(LineNo, Stage),
+    Arrive(LineNo),
+}
+
+pub fn call_of(ask: Ask) -> Call {
+    match ask {
+        Ask::Attach(policy, stage) => Call::Attach { policy, stage },
+        Ask::SetStage(stage) => Call::SetStage { stage },
+        Ask::Put(sem) => Call::Put { sem },
+        Ask::Peek(sem) => Call::Peek { sem },
+        Ask::TryGet(sem) => Call::TryGet { sem },
+        Ask::BeginGet(sem) => Call::BeginGet { sem, until: None },
+        Ask::Finish(keep) => Call::Finish { keep },
+        Ask::Tick(delta) => Call::Tick { delta },
+        Ask::PostFlags(flags, bits) => Call::PostFlags { flags, bits },
+        Ask::RankOf(thread) => Call::RankOf { thread },
+        Ask::Request(line, stage) => Call::Request {
+            line,
+            stage,
+            callback: 0,
+            tag: 0,
+        },
+        Ask::Arrive(line) => Call::Arrive { line },
+    }
+}
+
+// What a caller does: without waiting, and (the last ones) by the forms that wait.
+#[derive(Clone, Copy)]
+pub enum Act {
+    Call(Ask),
+    Enter(StaxId),
+    Leave(u16),
+    Lock(MutexId),
+    Begin(MutexId, Option<u64>),
+    Finish,
+    UnlockFast(MutexId),
+    Unlock(MutexId),
+    // The pass of the mutex is lost.
+    Lose(MutexId),
+    CallAtLast(Ask),
+    LockAtLast(MutexId, Option<u64>),
+    UnlockAtLast(MutexId),
+    EnterAtLast(StaxId),
+    // Enters a stax and leaves it, however long others keep it out.
+    Through(StaxId),
+    Switch(Stage),
+    WaitFor(Element, Option<u64>),
+}
+
+// For what a caller waits: a semaphore, bits of a flag group, a byte to read, room for two bytes that it writes, or
+// what was written there.
+#[derive(Clone, Copy)]
+pub enum Element {
+    Sem(SemId),
+    Flags,
+    Read,
+    Write,
+    Written,
+}
+
+// What it is told.
+#[derive(Clone, Copy, PartialEq)]
+pub enum Told {
+    Done,
+    Begun,
+    Count(i64),
+    Bits(u32),
+    Number(u64),
+    // Just the bytes that a caller writes.
+    Written,
+    TimedOut,
+    Passed,
+    Waiting,
+    Left(bool),
+    Refused(Refusal),
+    Nothing,
+}
+
+pub const BUSY: Told = Told::Refused(Refusal::Busy);
+
+pub const CORE_BUSY: Told = Told::Refused(Refusal::CoreBusy);
+
+pub const FULL: Told = Told::Refused(Refusal::HistoryFull);
+
+pub const SHORT: Told = Told::Refused(Refusal::NoMemory);
+
+// What the kernel's answer tells.
+pub fn told_by(answer: Result<Reply, Refusal>) -> Told {
+    match answer {
+        Ok(Reply::Done) => Told::Done,
+        Ok(Reply::Begun) => Told::Begun,
+        Ok(Reply::Count(count)) => Told::Count(count),
+        Ok(Reply::Bits(bits)) => Told::Bits(bits),
+        Ok(Reply::Number(number)) => Told::Number(number),
+        Ok(Reply::TimedOut) => Told::TimedOut,
+        Ok(_) => Told::Nothing,
+        Err(refusal) => Told::Refused(refusal),
+    }
+}
+
+fn done(is_done: bool) -> Told {
+    if is_done { Told::Done } else { Told::Nothing }
+}
+
+fn loses(passes: &mut Passes, mutex: MutexId) -> Told {
+    done(passes.of_mutex(mutex).is_some())
+}
+
+fn asks<C: Handler, A: Allocator>(
+    machine: &MachineOf<C, A>,
+    caller: &mut CallerOf<C, A>,
+    ask: Ask,
+) -> Told
+    requires machine { caller.old.machine ≡ machine.now }
+    requires by_plan { AnswersByPlan C.declared C.plan machine.now.first.callbacks }
+    ensures { caller.new.machine ≡ machine.now }
+{
+    told_by(machine.try_call(caller, call_of(ask)))
+}
+
+fn enters<C: Handler, A: Allocator>(
+    machine: &MachineOf<C, A>,
+    caller: &mut CallerOf<C, A>,
+    passes: &mut Passes,
+    stax: StaxId,
+) -> Told
+    requires machine { caller.old.machine ≡ machine.now }
+    ensures { caller.new.machine ≡ machine.now }
+{
+    passes.entered(machine.try_lock_stax(caller, stax))
+}
+
+fn leaves<C: Handler, A: Allocator>(
+    machine: &MachineOf<C, A>,
+    caller: &mut CallerOf<C, A>,
+    passes: &mut Passes,
+    number: u16,
+) -> Told
+    requires machine { caller.old.machine ≡ machine.now }
+    ensures { caller.new.machine ≡ machine.now }
+{
+    match passes.of_caller(number) {
+        Some(pass) => passes.left(machine.unlock_stax(caller, pass)),
+        None => Told::Nothing,
+    }
+}
+
+fn locks<C: Handler, A: Allocator>(
+    machine: &MachineOf<C, A>,
+    caller: &mut CallerOf<C, A>,
+    passes: &mut Passes,
+    mutex: MutexId,
+) -> Told
+    requires machine { caller.old.machine ≡ machine.now }
+    requires by_plan { AnswersByPlan C.declared C.plan machine.now.first.callbacks }
+    ensures { caller.new.machine ≡ machine.now }
+{
+    passes.locked(machine.try_lock_mutex(caller, mutex))
+}
+
+fn begins<C: Handler, A: Allocator>(
+    machine: &MachineOf<C, A>,
+    caller: &mut CallerOf<C, A>,
+    passes: &mut Passes,
+    mutex: MutexId,
+    until: Option<u64>,
+) -> Told
+    requires machine { caller.old.machine ≡ machine.now }
+    requires by_plan { AnswersByPlan C.declared C.plan machine.now.first.callbacks }
+    ensures { caller.new.machine ≡ machine.now }
+{
+    passes.begun(machine.begin_lock_mutex(caller, mutex, until))
+}
+
+fn finishes<C: Handler, A: Allocator>(
+    machine: &MachineOf<C, A>,
+    caller: &mut CallerOf<C, A>,
+    passes: &mut Passes,
+) -> Told
+    requires machine { caller.old.machine ≡ machine.now }
+    requires by_plan { AnswersByPlan C.declared C.plan machine.now.first.callbacks }
+    ensures { caller.new.machine ≡ machine.now }
+{
+    passes.ended(machine.finish_lock_mutex(caller))
+}
+
+fn unlocks_fast<C: Handler, A: Allocator>(
+    machine: &MachineOf<C, A>,
+    caller: &mut CallerOf<C, A>,
+    passes: &mut Passes,
+    mutex: MutexId,
+) -> Told
+    requires machine { caller.old.machine ≡ machine.now }
+    requires by_plan { AnswersByPlan C.declared C.plan machine.now.first.callbacks }
+    ensures { caller.new.machine ≡ machine.now }
+{
+    match passes.of_mutex(mutex) {
+        Some(pass) => passes.unlocked(machine.unlock_mutex_fast(caller, pass)),
+        None => Told::Nothing,
+    }
+}
+
+fn unlocks<C: Handler, A: Allocator>(
+    machine: &MachineOf<C, A>,
+    caller: &mut CallerOf<C, A>,
+    passes: &mut Passes,
+    mutex: MutexId,
+) -> Told
+    requires machine { caller.old.machine ≡ machine.now }
+    requires by_plan { AnswersByPlan C.declared C.plan machine.now.first.callbacks }
+    ensures { caller.new.machine ≡ machine.now }
+{
+    match passes.of_mutex(mutex) {
+        Some(pass) => passes.unlocked(machine.try_unlock_mutex(caller, pass)),
+        None => Told::Nothing,
+    }
+}
+
+fn asks_at_last<C: Handler, A: Allocator, R: Wait>(
+    rt: &R,
+    machine: &MachineOf<C, A>,
+    caller: &mut CallerOf<C, A>,
+    ask: Ask,
+) -> Told
+    requires machine { caller.old.machine ≡ machine.now }
+    requires by_plan { AnswersByPlan C.declared C.plan machine.now.first.callbacks }
+    ensures { caller.new.machine ≡ machine.now }
+{
+    told_by(machine.call(rt, caller, call_of(ask)))
+}
+
+fn locks_at_last<C: Handler, A: Allocator, R: Wait>(
+    rt: &R,
+    machine: &MachineOf<C, A>,
+    caller: &mut CallerOf<C, A>,
+    passes: &mut Passes,
+    mutex: MutexId,
+    until: Option<u64>,
+) -> Told
+    requires machine { caller.old.machine ≡ machine.now }
+    requires by_plan { AnswersByPlan C.declared C.plan machine.now.first.callbacks }
+    ensures { caller.new.machine ≡ machine.now }
+{
+    passes.ended(machine.lock_mutex(rt, caller, mutex, until))
+}
+
+fn unlocks_at_last<C: Handler, A: Allocator, R: Wait>(
+    rt: &R,
+    machine: &MachineOf<C, A>,
+    caller: &mut CallerOf<C, A>,
+    passes: &mut Passes,
+    mutex: MutexId,
+) -> Told
+    requires machine { caller.old.machine ≡ machine.now }
+    requires by_plan { AnswersByPlan C.declared C.plan machine.now.first.callbacks }
+    ensures { caller.new.machine ≡ machine.now }
+{
+    match passes.of_mutex(mutex) {
+        Some(pass) => passes.unlocked(machine.unlock_mutex(rt, caller, pass)),
+        None => Told::Nothing,
+    }
+}
+
+fn enters_at_last<C: Handler, A: Allocator, R: Wait>(
+    rt: &R,
+    machine: &MachineOf<C, A>,
+    caller: &mut CallerOf<C, A>,
+    passes: &mut Passes,
+    stax: StaxId,
+) -> Told
+    requires machine { caller.old.machine ≡ machine.now }
+    ensures { caller.new.machine ≡ machine.now }
+{
+    passes.entered(machine.lock_stax(rt, caller, stax))
+}
+
+fn goes_through<C: Handler, A: Allocator, R: Wait>(
+    rt: &R,
+    machine: &MachineOf<C, A>,
+    caller: &mut CallerOf<C, A>,
+    stax: StaxId,
+) -> Told
+    requires machine { caller.old.machine ≡ machine.now }
+    ensures { caller.new.machine ≡ machine.now }
+{
+    match machine.lock_stax(rt, caller, stax) {
+        Ok(pass) => done(machine.unlock_stax(caller, pass).is_ok()),
+        Err(_) => Told::Nothing,
+    }
+}
+
+fn switches<C: Handler, A: Allocator, R: Wait>(
+    rt: &R,
+    machine: &MachineOf<C, A>,
+    caller: &mut CallerOf<C, A>,
+    stage: Stage,
+) -> Told
+    requires machine { caller.old.machine ≡ machine.now }
+    requires by_plan { AnswersByPlan C.declared C.plan machine.now.first.callbacks }
+    ensures { caller.new.machine ≡ machine.now }
+{
+    match stage {
+        Stage::Inband => told_by(machine.switch_inband(rt, caller)),
+        Stage::Oob => told_by(machine.switch_oob(rt, caller)),
+    }
+}
+
+fn gets<C: Handler, A: Allocator, R: Wait>(
+    rt: &R,
+    machine: &MachineOf<C, A>,
+    caller: &mut CallerOf<C, A>,
+    sem: SemId,
+    until: Option<u64>,
+) -> Told
+    requires machine { caller.old.machine ≡ machine.now }
+    requires by_plan { AnswersByPlan C.declared C.plan machine.now.first.callbacks }
+    ensures { caller.new.machine ≡ machine.now }
+{
+    told_by(machine.get_sem(rt, caller, sem, until))
+}
+
+fn takes_flags<C: Handler, A: Allocator, R: Wait>(
+    rt: &R,
+    machine: &MachineOf<C, A>,
+    caller: &mut CallerOf<C, A>,
+    until: Option<u64>,
+) -> Told
+    requires machine { caller.old.machine ≡ machine.now }
+    requires by_plan { AnswersByPlan C.declared C.plan machine.now.first.callbacks }
+    ensures { caller.new.machine ≡ machine.now }
+{
+    told_by(machine.wait_flags(rt, caller, FLAGS, Take::Any, until))
+}
+
+fn reads<C: Handler, A: Allocator, R: Wait>(
+    rt: &R,
+    machine: &MachineOf<C, A>,
+    caller: &mut CallerOf<C, A>,
+    until: Option<u64>,
+) -> Told
+    requires machine { caller.old.machine ≡ machine.now }
+    requires by_plan { AnswersByPlan C.declared C.plan machine.now.first.callbacks }
+    ensures { caller.new.machine ≡ machine.now }
+{
+    told_by(machine.read_xbuf(rt, caller, XBUF, Way::In, 1, until))
+}
+
+fn writes<C: Handler, A: Allocator, R: Wait>(
+    rt: &R,
+    machine: &MachineOf<C, A>,
+    caller: &mut CallerOf<C, A>,
+    bytes: Transfer,
+    until: Option<u64>,
+) -> Told
+    requires machine { caller.old.machine ≡ machine.now }
+    requires by_plan { AnswersByPlan C.declared C.plan machine.now.first.callbacks }
+    ensures { caller.new.machine ≡ machine.now }
+{
+    told_by(machine.write_xbuf(rt, caller, XBUF, Way::Out, bytes, until))
+}
+
+// Reads, in-band, what was written by `writes`.
+fn reads_written<C: Handler, A: Allocator, R: Wait>(
+    rt: &R,
+    machine: &MachineOf<C, A>,
+    caller: &mut CallerOf<C, A>,
+    until: Option<u64>,
+) -> Told
+    requires machine { caller.old.machine ≡ machine.now }
+    requires by_plan { AnswersByPlan C.declared C.plan machine.now.first.callbacks }
+    ensures { caller.new.machine ≡ machine.now }
+{
+    match machine.read_xbuf(rt, caller, XBUF, Way::Out, 9, until) {
+        Ok(Reply::Bytes(read)) => told_of(read.as_slice()),
+        _ => Told::Nothing,
+    }
+}
+
+fn told_of(read: &[u8]) -> Told {
+    if read == WRITTEN {
+        Told::Written
+    } else {
+        Told::Nothing
+    }
+}
+
+// Waits for an element; the bytes that are written come from the passes' allocator.
+fn waits_for<C: Handler, A: Allocator, R: Wait>(
+    rt: &R,
+    machine: &MachineOf<C, A>,
+    caller: &mut CallerOf<C, A>,
+    passes: &Passes,
+    element: Element,
+    until: Option<u64>,
+) -> Told
+    requires machine { caller.old.machine ≡ machine.now }
+    requires by_plan { AnswersByPlan C.declared C.plan machine.now.first.callbacks }
+    ensures { caller.new.machine ≡ machine.now }
+{
+    match element {
+        Element::Sem(sem) => gets(rt, machine, caller, sem, until),
+        Element::Flags => takes_flags(rt, machine, caller, until),
+        Element::Read => reads(rt, machine, caller, until),
+        Element::Write => match passes.bytes() {
+            Some(bytes) => writes(rt, machine, caller, bytes, until),
+            None => Told::Nothing,
+        },
+        Element::Written => reads_written(rt, machine, caller, until),
+    }
+}
+
+// What a caller does.
+pub fn does<C: Handler, A: Allocator, R: Wait>(
+    rt: &R,
+    machine: &MachineOf<C, A>,
+    caller: &mut CallerOf<C, A>,
+    passes: &mut Passes,
+    act: Act,
+) -> Told
+    requires machine { caller.old.machine ≡ machine.now }
+    requires by_plan { AnswersByPlan C.declared C.plan machine.now.first.callbacks }
+    ensures { caller.new.machine ≡ machine.now }
+{
+    match act {
+        Act::Call(ask) => asks(machine, caller, ask),
+        Act::Enter(stax) => enters(machine, caller, passes, stax),
+        Act::Leave(number) => leaves(machine, caller, passes, number),
+        Act::Lock(mutex) => locks(machine, caller, passes, mutex),
+        Act::Begin(mutex, until) => begins(machine, caller, passes, mutex, until),
+        Act::Finish => finishes(machine, caller, passes),
+        Act::UnlockFast(mutex) => unlocks_fast(machine, caller, passes, mutex),
+        Act::Unlock(mutex) => unlocks(machine, caller, passes, mutex),
+        Act::Lose(mutex) => loses(passes, mutex),
+        Act::CallAtLast(ask) => asks_at_last(rt, machine, caller, ask),
+        Act::LockAtLast(mutex, until) => locks_at_last(rt, machine, caller, passes, mutex, until),
+        Act::UnlockAtLast(mutex) => unlocks_at_last(rt, machine, caller, passes, mutex),
+        Act::EnterAtLast(stax) => enters_at_last(rt, machine, caller, passes, stax),
+        Act::Through(stax) => goes_through(rt, machine, caller, stax),
+        Act::Switch(stage) => switches(rt, machine, caller, stage),
+        Act::WaitFor(element, until) => waits_for(rt, machine, caller, passes, element, until),
+    }
+}

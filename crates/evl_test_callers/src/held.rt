@@ -1,0 +1,124 @@
+//! The last caller of a row: it has the core while others call, calls itself meanwhile, and looks at what is left.
+ghost use Rattle.std.specs.Prelude.{◌≡◌, All};
+ghost use Rattle.evl_kernel.specs.Callbacks.{AnswersByPlan};
+
+use crate::acts::{Act, Told, call_of, told_by};
+use crate::boards::FIRST;
+use crate::passes::Passes;
+use crate::phases::{Look, Seen, Step, answers};
+use evl_base::ThreadId;
+use evl_machine::{CallerOf, HeldOf, MachineOf};
+use evl_pipeline::Handler;
+use std::alloc::Allocator;
+use std::sync::Wait;
+
+// Whether the steps are answered as it is wanted while this caller has the core.
+pub fn answers_held<C: Handler, A: Allocator, R: Wait>(
+    rt: &R,
+    machine: &MachineOf<C, A>,
+    holder: CallerOf<C, A>,
+    others: &mut Vec<CallerOf<C, A>, A>,
+    passes: &mut Passes,
+    steps: &[Step],
+) -> (bool, CallerOf<C, A>)
+    requires holder { holder.machine ≡ machine.now }
+    requires others { All (λ c. c.machine ≡ machine.now) others.old.items }
+    requires by_plan { AnswersByPlan C.declared C.plan machine.now.first.callbacks }
+    ensures holder { result.1.machine ≡ machine.now }
+    ensures others { All (λ c. c.machine ≡ machine.now) others.new.items }
+{
+    match machine.take(holder) {
+        Ok(held) => {
+            let told = answers(rt, machine, others, passes, steps);
+            (told, held.give())
+        }
+        Err(holder) => (false, holder),
+    }
+}
+
+// What is told of a call by the caller that has the kernel; of no other act.
+fn applies_one<C: Handler, A: Allocator>(held: &mut HeldOf<'_, C, A>, act: Act) -> Told
+    requires { AnswersByPlan C.declared C.plan held.old.caller.machine.first.callbacks }
+    ensures { held.new.caller ≡ held.old.caller }
+{
+    match act {
+        Act::Call(ask) => told_by(held.apply(call_of(ask))),
+        _ => Told::Nothing,
+    }
+}
+
+// Whether the calls are answered as it is wanted.
+fn applies_all<C: Handler, A: Allocator>(held: &mut HeldOf<'_, C, A>, steps: &[Step]) -> bool
+    requires { AnswersByPlan C.declared C.plan held.old.caller.machine.first.callbacks }
+    ensures { held.new.caller ≡ held.old.caller }
+{
+    for step in steps {
+        if applies_one(held, step.1) != step.2 {
+            return false;
+        }
+    }
+    true
+}
+
+// What is seen by who has the kernel.
+fn look_by<C: Handler, A: Allocator>(held: &mut HeldOf<'_, C, A>) -> Look
+    ensures { held.new.caller ≡ held.old.caller }
+{
+    let word = held.in_word(FIRST);
+    let kernel = held.kernel();
+    Look {
+        seen: Seen {
+            entries: kernel.history().len(),
+            word,
+            owner: kernel.owner(FIRST),
+            waiters: kernel.waiters(FIRST),
+        },
+        is_over: kernel.finished(ThreadId(0)),
+    }
+}
+
+fn where_told(told: bool, look: Look) -> Option<Look> {
+    if told { Some(look) } else { None }
+}
+
+// What a caller sees that has the kernel, behind calls that are answered as it is wanted; then it gives the kernel back.
+fn looked<C: Handler, A: Allocator>(
+    held: HeldOf<'_, C, A>,
+    steps: &[Step],
+) -> (Option<Look>, CallerOf<C, A>)
+    requires { AnswersByPlan C.declared C.plan held.caller.machine.first.callbacks }
+    ensures { result.1.machine ≡ held.entry.caller.machine }
+{
+    let mut held = held;
+    let told = applies_all(&mut held, steps);
+    let look = look_by(&mut held);
+    let holder = held.give();
+    (where_told(told, look), holder)
+}
+
+// What this caller sees behind its own calls, all under one take; none where one is answered otherwise than is wanted,
+// or the core is taken.
+pub fn looks<C: Handler, A: Allocator>(
+    machine: &MachineOf<C, A>,
+    holder: CallerOf<C, A>,
+    steps: &[Step],
+) -> (Option<Look>, CallerOf<C, A>)
+    requires machine { holder.machine ≡ machine.now }
+    requires by_plan { AnswersByPlan C.declared C.plan machine.now.first.callbacks }
+    ensures { result.1.machine ≡ machine.now }
+{
+    match machine.take(holder) {
+        Ok(held) => looked(held, steps),
+        Err(holder) => (None, holder),
+    }
+}
+
+// Whether this caller gets the kernel, with which it is dropped.
+pub fn drops_the_kernel<C: Handler, A: Allocator>(
+    machine: &MachineOf<C, A>,
+    holder: CallerOf<C, A>,
+) -> bool
+    requires { holder.machine ≡ machine.now }
+{
+    machine.take(holder).is_ok()
+}
