@@ -85,8 +85,8 @@ fn trace_over(alloc: Global, bank: &str, text: &str) -> Vec<u8> {
     }
 }
 
-// The trace of a scenario over the program's callbacks; empty where it is at fault.
-fn trace_of_program(alloc: Global, text: &str) -> Vec<u8> {
+/// The trace of a scenario over the program's callbacks; empty where it is at fault.
+pub(crate) fn trace_of_program(alloc: Global, text: &str) -> Vec<u8> {
     match program_plans(alloc) {
         Ok(plans) => trace_of(alloc, plans.as_slice(), text),
         Err(_) => Vec::new(alloc),

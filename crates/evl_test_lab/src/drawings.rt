@@ -1,6 +1,7 @@
 //! Traces that are read and drawn.
 use evl_drawing::{
-    Condition, Lane, Moment, marks_of, told_moments, write_rows, write_svg, write_table, write_told,
+    Condition, Lane, Mark, Moment, marks_of, told_moments, write_rows, write_svg, write_table,
+    write_told,
 };
 use evl_moments::moments_of;
 use evl_runs::write_events;
@@ -36,79 +37,112 @@ const EVENTS: &str = r#"{"traceEvents": [
 ]}
 "#;
 
-// The table of a trace, where it has one.
-fn table(alloc: Global, trace: &str) -> Result<Option<Vec<u8>>, AllocError> {
-    let Ok(lines) = read_lines(alloc, trace) else {
-        return Ok(None);
-    };
-    let marks = marks_of(alloc, lines.as_slice())?;
-    Ok(Some(write_table(alloc, marks.as_slice())?))
+/// Lines of callers: of a pass that is named as a refusal might be, a refused step, a wait, and the core.
+const TOLD: &str = "board threads=2 sems=0 flags=0 xbufs=0 mutexes=1 groups=0 limit=100
+1 T0 try_lock_stax stax=0 as=Pass -> Pass | stax 0: in-band, 1 holder
+2 T1 try_lock_stax stax=0 as=p1 -> Limit | stax 0: in-band, 1 holder
+3 T1 begin_lock_mutex mutex=0 until=none as=m1 -> begun | mutex 0: T0, claimed
+4 T1 finish_lock_mutex as=m1 -> m1 | mutex 0: T1
+5 T0 unlock_stax pass=Pass -> done | stax 0: free
+6 T0 take -> done | core: taken by T0
+";
+
+/// The same in characters.
+const TOLD_ROWS: &str = "T0          o   oo
+T1           x()  
+mutex 0       ..  
+stax 0      ..  . 
+core             .
+
+o answered  ( a wait begins  ) a wait ends  x refused  # played  - not handled
+. named by the call above
+";
+
+// What is made of marks.
+#[derive(Clone, Copy)]
+enum Form {
+    Table,
+    Events,
+    Rows,
+    Picture,
+    // The picture of callers' lines.
+    TellingPicture,
 }
 
-// Whether a trace has this table.
-fn has_table(alloc: Global, trace: &str, wanted: &str) -> bool {
-    match table(alloc, trace) {
-        Ok(Some(text)) => text.as_slice() == wanted.as_bytes(),
-        _ => false,
-    }
-}
-
-// The trace events of the lines of a trace.
-fn events_of(alloc: Global, lines: &[TraceLine<'_>]) -> Result<String, AllocError> {
-    match marks_of(alloc, lines) {
-        Ok(marks) => write_events(alloc, marks.as_slice()),
+// The picture of callers' lines.
+fn told_picture(alloc: Global, marks: &[Mark<'_>]) -> Result<Vec<u8>, AllocError> {
+    match told_moments(alloc, marks) {
+        Ok(moments) => write_told(alloc, marks, moments.as_slice()),
         Err(error) => Err(error),
     }
 }
 
-// Whether the lines of a trace have these events.
-fn have_events(alloc: Global, lines: &[TraceLine<'_>], wanted: &str) -> bool {
-    match events_of(alloc, lines) {
-        Ok(text) => text.as_str() == wanted,
-        Err(_) => false,
+// Marks in a form.
+fn written(alloc: Global, marks: &[Mark<'_>], form: Form) -> Result<Vec<u8>, AllocError> {
+    match form {
+        Form::Table => write_table(alloc, marks),
+        Form::Events => Ok(write_events(alloc, marks)?.into_bytes()),
+        Form::Rows => Ok(write_rows(alloc, marks)?.into_bytes()),
+        Form::Picture => write_svg(alloc, marks, &[]),
+        Form::TellingPicture => told_picture(alloc, marks),
     }
 }
 
-// Whether a trace has these events.
-fn has_events(alloc: Global, trace: &str, wanted: &str) -> bool {
+// The marks of lines in a form.
+fn of_lines(alloc: Global, lines: &[TraceLine<'_>], form: Form) -> Result<Vec<u8>, AllocError> {
+    match marks_of(alloc, lines) {
+        Ok(marks) => written(alloc, marks.as_slice(), form),
+        Err(error) => Err(error),
+    }
+}
+
+// The marks of a trace in a form; nothing where it can't be read.
+fn drawn(alloc: Global, trace: &str, form: Form) -> Result<Vec<u8>, AllocError> {
     match read_lines(alloc, trace) {
-        Ok(lines) => have_events(alloc, lines.as_slice(), wanted),
+        Ok(lines) => of_lines(alloc, lines.as_slice(), form),
+        Err(_) => Ok(Vec::new(alloc)),
+    }
+}
+
+// Whether this is made of a trace.
+fn is_drawn(alloc: Global, trace: &str, form: Form, wanted: &str) -> bool {
+    match drawn(alloc, trace, form) {
+        Ok(text) => text.as_slice() == wanted.as_bytes(),
         Err(_) => false,
     }
 }
 
-// The picture of a trace, where it has one.
-fn picture(alloc: Global, trace: &str) -> Result<Option<Vec<u8>>, AllocError> {
-    let Ok(lines) = read_lines(alloc, trace) else {
-        return Ok(None);
-    };
-    let marks = marks_of(alloc, lines.as_slice())?;
-    Ok(Some(write_svg(alloc, marks.as_slice(), &[])?))
-}
-
-// Whether a picture begins and ends as SVG does.
-fn is_svg(picture: Result<Option<Vec<u8>>, AllocError>) -> bool {
-    match picture {
-        Ok(Some(text)) => {
-            text.as_slice().starts_with(b"<svg ") && text.as_slice().ends_with(b"</svg>\n")
-        }
-        _ => false,
+// Whether what is made of a trace begins and ends as SVG does.
+fn is_svg(alloc: Global, trace: &str, form: Form) -> bool {
+    match drawn(alloc, trace, form) {
+        Ok(text) => text.as_slice().starts_with(b"<svg ") && text.as_slice().ends_with(b"</svg>\n"),
+        Err(_) => false,
     }
 }
 
 #[test]
 fn each_line_has_its_row(rt: HostRuntime) {
-    assert!(rt; has_table(rt.alloc(), TRACE, TABLE));
+    assert!(rt; is_drawn(rt.alloc(), TRACE, Form::Table, TABLE));
 }
 
 #[test]
 fn each_mark_is_an_event(rt: HostRuntime) {
-    assert!(rt; has_events(rt.alloc(), TRACE, EVENTS));
+    assert!(rt; is_drawn(rt.alloc(), TRACE, Form::Events, EVENTS));
 }
 
 #[test]
 fn a_trace_is_drawn(rt: HostRuntime) {
-    assert!(rt; is_svg(picture(rt.alloc(), TRACE)));
+    assert!(rt; is_svg(rt.alloc(), TRACE, Form::Picture));
+}
+
+#[test]
+fn words_have_their_lanes(rt: HostRuntime) {
+    assert!(rt; is_drawn(rt.alloc(), TOLD, Form::Rows, TOLD_ROWS));
+}
+
+#[test]
+fn callers_are_drawn(rt: HostRuntime) {
+    assert!(rt; is_svg(rt.alloc(), TOLD, Form::TellingPicture));
 }
 
 #[test]
@@ -151,58 +185,6 @@ fn moments_tell_how_a_thread_stands(rt: HostRuntime) {
     assert!(rt; stands_so(rt.alloc()));
 }
 
-/// Lines of callers: of a pass that is named as a refusal might be, a refused step, a wait, and the core.
-const TOLD: &str = "board threads=2 sems=0 flags=0 xbufs=0 mutexes=1 groups=0 limit=100
-1 T0 try_lock_stax stax=0 as=Pass -> Pass | stax 0: in-band, 1 holder
-2 T1 try_lock_stax stax=0 as=p1 -> Limit | stax 0: in-band, 1 holder
-3 T1 begin_lock_mutex mutex=0 until=none as=m1 -> begun | mutex 0: T0, claimed
-4 T1 finish_lock_mutex as=m1 -> m1 | mutex 0: T1
-5 T0 unlock_stax pass=Pass -> done | stax 0: free
-6 T0 take -> done | core: taken by T0
-";
-
-/// The same in characters.
-const TOLD_ROWS: &str = "T0          o   oo
-T1           x()  
-mutex 0       ..  
-stax 0      ..  . 
-core             .
-
-o answered  ( a wait begins  ) a wait ends  x refused  # played  - not handled
-. named by the call above
-";
-
-// Callers' lines in characters, where they are read.
-fn rows(alloc: Global, told: &str) -> Result<Option<String>, AllocError> {
-    let Ok(lines) = read_lines(alloc, told) else {
-        return Ok(None);
-    };
-    let marks = marks_of(alloc, lines.as_slice())?;
-    Ok(Some(write_rows(alloc, marks.as_slice())?))
-}
-
-// Whether callers' lines have these characters.
-fn has_rows(alloc: Global, told: &str, wanted: &str) -> bool {
-    match rows(alloc, told) {
-        Ok(Some(text)) => text.as_str() == wanted,
-        _ => false,
-    }
-}
-
-#[test]
-fn words_have_their_lanes(rt: HostRuntime) {
-    assert!(rt; has_rows(rt.alloc(), TOLD, TOLD_ROWS));
-}
-
-// How the words stand after each of callers' lines; nothing where they can't be read.
-fn words_of(alloc: Global, told: &str) -> Result<Vec<Moment>, AllocError> {
-    let Ok(lines) = read_lines(alloc, told) else {
-        return Ok(Vec::new(alloc));
-    };
-    let marks = marks_of(alloc, lines.as_slice())?;
-    told_moments(alloc, marks.as_slice())
-}
-
 // Whether a stax stands as it is shown until it is free, and a mutex as its word was shown last.
 fn stand_as_shown(moments: &[Moment]) -> bool {
     let stax = Lane::Stax(0);
@@ -219,10 +201,26 @@ fn core_stands(moments: &[Moment]) -> bool {
         && stands(moments, 5, Lane::Core) == Some((Condition::Taken, Some(0)))
 }
 
-// Whether the words stand as callers' lines show them.
-fn words_stand(alloc: Global, told: &str) -> bool {
-    match words_of(alloc, told) {
+// Whether the words stand as marks show them.
+fn stand_by_marks(alloc: Global, marks: &[Mark<'_>]) -> bool {
+    match told_moments(alloc, marks) {
         Ok(moments) => stand_as_shown(moments.as_slice()) && core_stands(moments.as_slice()),
+        Err(_) => false,
+    }
+}
+
+// Whether they stand as lines show them.
+fn stand_by_lines(alloc: Global, lines: &[TraceLine<'_>]) -> bool {
+    match marks_of(alloc, lines) {
+        Ok(marks) => stand_by_marks(alloc, marks.as_slice()),
+        Err(_) => false,
+    }
+}
+
+// Whether they stand as callers' lines show them.
+fn words_stand(alloc: Global, told: &str) -> bool {
+    match read_lines(alloc, told) {
+        Ok(lines) => stand_by_lines(alloc, lines.as_slice()),
         Err(_) => false,
     }
 }
@@ -230,19 +228,4 @@ fn words_stand(alloc: Global, told: &str) -> bool {
 #[test]
 fn words_stand_as_they_were_shown(rt: HostRuntime) {
     assert!(rt; words_stand(rt.alloc(), TOLD));
-}
-
-// The picture of callers' lines, where they are read.
-fn told_picture(alloc: Global, told: &str) -> Result<Option<Vec<u8>>, AllocError> {
-    let Ok(lines) = read_lines(alloc, told) else {
-        return Ok(None);
-    };
-    let marks = marks_of(alloc, lines.as_slice())?;
-    let moments = told_moments(alloc, marks.as_slice())?;
-    Ok(Some(write_told(alloc, marks.as_slice(), moments.as_slice())?))
-}
-
-#[test]
-fn callers_are_drawn(rt: HostRuntime) {
-    assert!(rt; is_svg(told_picture(rt.alloc(), TOLD)));
 }

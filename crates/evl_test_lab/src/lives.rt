@@ -1,6 +1,6 @@
 //! Machines that are driven line by line.
+use crate::banks::trace_of_program;
 use evl_live::{Session, answer_line, write_forms};
-use evl_plans::trace_plans;
 use evl_runs::program_plans;
 use evl_scenario::{Fault, STEP_WORDS};
 use std::alloc::{AllocError, Global};
@@ -52,19 +52,11 @@ fn open(alloc: Global, text: &str) -> Result<Session, Fault> {
     }
 }
 
-// Answers a line.
-fn answer(alloc: Global, session: &mut Session, line: &str) -> Result<String, AllocError> {
-    let mut told = String::new(alloc);
-    answer_line(alloc, session, line.as_bytes(), &mut told)?;
-    Ok(told)
-}
-
 // Whether a line is answered so.
 fn is_answered(alloc: Global, session: &mut Session, line: &str, wanted: &str) -> bool {
-    match answer(alloc, session, line) {
-        Ok(told) => told.as_str() == wanted,
-        Err(_) => false,
-    }
+    let mut told = String::new(alloc);
+    let done = answer_line(alloc, session, line.as_bytes(), &mut told).is_ok();
+    done && told.as_str() == wanted
 }
 
 // Whether each line is answered so, in order.
@@ -77,28 +69,10 @@ fn are_answered(alloc: Global, session: &mut Session, lines: &[(&str, &str)]) ->
     true
 }
 
-// Whether a scenario's lines are answered so.
-fn is_driven(alloc: Global, lines: &[(&str, &str)]) -> bool {
-    match open(alloc, FIRST) {
-        Ok(mut session) => are_answered(alloc, &mut session, lines),
-        Err(_) => false,
-    }
-}
-
-// The trace of a scenario over the program's callbacks.
-fn played(alloc: Global, text: &str) -> Result<Vec<u8>, Fault> {
-    match program_plans(alloc) {
-        Ok(plans) => trace_plans(alloc, plans.as_slice(), text.as_bytes(), None),
-        Err(_) => Err(Fault::Memory),
-    }
-}
-
 // Whether a scenario has this trace.
 fn plays_as(alloc: Global, text: &str, trace: &str) -> bool {
-    match played(alloc, text) {
-        Ok(bytes) => bytes.as_slice() == trace.as_bytes(),
-        Err(_) => false,
-    }
+    let made = trace_of_program(alloc, text);
+    made.as_slice() == trace.as_bytes()
 }
 
 // Whether the scenario of what was asked has this trace.
@@ -124,39 +98,28 @@ fn answers_and_plays(alloc: Global, session: &mut Session, lines: &[(&str, &str)
     is_answered && is_played
 }
 
-// Whether a machine that was driven so plays again.
-fn is_driven_again(alloc: Global, lines: &[(&str, &str)]) -> bool {
-    match open(alloc, FIRST) {
-        Ok(mut session) => answers_and_plays(alloc, &mut session, lines),
-        Err(_) => false,
-    }
-}
-
-// A form without its brackets, and without its line feed.
-fn line_of(alloc: Global, form: &str) -> Result<String, AllocError> {
-    let mut line = String::new(alloc);
+// Writes a form without its brackets, and without its line feed.
+fn write_line(line: &mut String, form: &str) -> Result<(), AllocError> {
     for letter in form.chars() {
         if letter != '[' && letter != ']' {
             line.push(letter)?;
         }
     }
-    Ok(line)
+    Ok(())
 }
 
 // Whether a line is read.
 fn is_line_read(alloc: Global, session: &mut Session, line: &str) -> bool {
-    match answer(alloc, session, line) {
-        Ok(told) => !told.as_str().starts_with("!"),
-        Err(_) => false,
-    }
+    let mut told = String::new(alloc);
+    let done = answer_line(alloc, session, line.as_bytes(), &mut told).is_ok();
+    done && !told.as_str().starts_with("!")
 }
 
 // Whether a line of a form is read.
 fn is_read(alloc: Global, session: &mut Session, form: &str) -> bool {
-    match line_of(alloc, form) {
-        Ok(line) => is_line_read(alloc, session, line.as_str()),
-        Err(_) => false,
-    }
+    let mut line = String::new(alloc);
+    let written = write_line(&mut line, form).is_ok();
+    written && is_line_read(alloc, session, line.as_str())
 }
 
 // Whether a line of each form is read, and each call has a form.
@@ -169,60 +132,84 @@ fn are_read(alloc: Global, session: &mut Session, forms: &str) -> bool {
     forms.lines().count() == STEP_WORDS.len()
 }
 
-// The forms of all calls.
-fn forms(alloc: Global) -> Result<String, AllocError> {
-    let mut told = String::new(alloc);
-    write_forms(&mut told)?;
-    Ok(told)
+// The same of the forms of all calls.
+fn are_forms_read(alloc: Global, session: &mut Session) -> bool {
+    let mut forms = String::new(alloc);
+    let written = write_forms(&mut forms).is_ok();
+    written && are_read(alloc, session, forms.as_str())
 }
 
-// Whether each form is one of a call.
-fn are_forms_read(alloc: Global) -> bool {
+// What is asked of a machine.
+#[derive(Clone, Copy)]
+enum Asked<'a> {
+    // Whether each line is answered so.
+    Lines(&'a [(&'a str, &'a str)]),
+    // The same, and whether what it was asked plays again.
+    Again(&'a [(&'a str, &'a str)]),
+    // Whether a line of each form is read, and each call has a form.
+    Forms,
+}
+
+// What a machine comes to.
+fn comes_to(alloc: Global, session: &mut Session, asked: Asked<'_>) -> bool {
+    match asked {
+        Asked::Lines(lines) => are_answered(alloc, session, lines),
+        Asked::Again(lines) => answers_and_plays(alloc, session, lines),
+        Asked::Forms => are_forms_read(alloc, session),
+    }
+}
+
+// The same of a new one: the one place where a machine is let go.
+fn is_driven(alloc: Global, asked: Asked<'_>) -> bool {
     match open(alloc, FIRST) {
-        Ok(mut session) => match forms(alloc) {
-            Ok(forms) => are_read(alloc, &mut session, forms.as_str()),
-            Err(_) => false,
-        },
+        Ok(mut session) => comes_to(alloc, &mut session, asked),
         Err(_) => false,
     }
 }
 
 #[test]
 fn lines_are_answered(rt: HostRuntime) {
-    assert!(rt; is_driven(rt.alloc(), LINES.as_slice()));
+    assert!(rt; is_driven(rt.alloc(), Asked::Lines(&LINES)));
 }
 
 #[test]
 fn what_was_asked_plays_again(rt: HostRuntime) {
-    assert!(rt; is_driven_again(rt.alloc(), LINES.as_slice()));
+    assert!(rt; is_driven(rt.alloc(), Asked::Again(&LINES)));
 }
 
 #[test]
 fn each_form_is_read(rt: HostRuntime) {
-    assert!(rt; are_forms_read(rt.alloc()));
+    assert!(rt; is_driven(rt.alloc(), Asked::Forms));
 }
+
+// A form, and what its key takes.
+const HELP: [(&str, &str); 1] = [(
+    "? put",
+    "T0 put sem=0\n  sem: a number from 0 to 65535 is wanted\n",
+)];
 
 #[test]
 fn help_tells_what_keys_take(rt: HostRuntime) {
-    let wanted = "T0 put sem=0\n  sem: a number from 0 to 65535 is wanted\n";
-    assert!(rt; is_driven(rt.alloc(), &[("? put", wanted)]));
+    assert!(rt; is_driven(rt.alloc(), Asked::Lines(&HELP)));
 }
+
+// A thread that waits, and how all stands then.
+const STANDING: [(&str, &str); 3] = [
+    (
+        "T1 attach policy=fifo 10 stage=oob",
+        "2 T1 attach policy=fifo 10 stage=oob -> done\n",
+    ),
+    (
+        "T1 begin_get sem=0",
+        "3 T1 begin_get sem=0 until=none -> begun\n",
+    ),
+    (
+        "ps",
+        "T0 inband\nT1 oob, served: begin_get sem=0 until=none\noob, pending\ninband, pending\n",
+    ),
+];
 
 #[test]
 fn the_state_is_told(rt: HostRuntime) {
-    let lines = [
-        (
-            "T1 attach policy=fifo 10 stage=oob",
-            "2 T1 attach policy=fifo 10 stage=oob -> done\n",
-        ),
-        (
-            "T1 begin_get sem=0",
-            "3 T1 begin_get sem=0 until=none -> begun\n",
-        ),
-        (
-            "ps",
-            "T0 inband\nT1 oob, served: begin_get sem=0 until=none\noob, pending\ninband, pending\n",
-        ),
-    ];
-    assert!(rt; is_driven(rt.alloc(), lines.as_slice()));
+    assert!(rt; is_driven(rt.alloc(), Asked::Lines(&STANDING)));
 }

@@ -1,9 +1,9 @@
 //! What is told of scenarios that were played.
 use evl_plans::Planned;
 use evl_runs::{first_difference, program_plans, write_json};
-use evl_traces::read_lines;
+use evl_traces::{TraceLine, read_lines};
 use evl_warnings::warnings;
-use std::alloc::{AllocError, Global};
+use std::alloc::Global;
 
 /// A trace with numbers, a text in place of a number, bytes, and plays.
 const TRACE: &str = "board threads=2 sems=1 flags=0 xbufs=1 mutexes=0 groups=0 limit=2
@@ -41,18 +41,18 @@ a.toml: at the end: warning: line 5 is still pending inband
 a.toml: step 3: warning: T1 calls while T2 is picked
 ";
 
-// The lines of JSON of a trace, where it is one.
-fn json(alloc: Global, trace: &str) -> Result<String, AllocError> {
-    match read_lines(alloc, trace) {
-        Ok(lines) => write_json(alloc, "a \"b\"", lines.as_slice()),
-        Err(_) => Ok(String::new(alloc)),
+// Whether the lines of a trace are told so.
+fn are_told(alloc: Global, lines: &[TraceLine<'_>], wanted: &str) -> bool {
+    match write_json(alloc, "a \"b\"", lines) {
+        Ok(text) => text.as_str() == wanted,
+        Err(_) => false,
     }
 }
 
 // Whether a trace is told so.
 fn is_told(alloc: Global, trace: &str, wanted: &str) -> bool {
-    match json(alloc, trace) {
-        Ok(text) => text.as_str() == wanted,
+    match read_lines(alloc, trace) {
+        Ok(lines) => are_told(alloc, lines.as_slice(), wanted),
         Err(_) => false,
     }
 }
@@ -66,19 +66,11 @@ fn difference(alloc: Global, stored: &str, made: &str) -> usize {
     }
 }
 
-// What is warned of in a scenario.
-fn warned(alloc: Global, plans: &[Planned], text: &str) -> Result<String, AllocError> {
-    let mut told = String::new(alloc);
-    warnings(alloc, "a.toml", text.as_bytes(), plans, &mut told)?;
-    Ok(told)
-}
-
 // Whether just this is warned of, over callbacks.
 fn is_warned_over(alloc: Global, plans: &[Planned], text: &str, wanted: &str) -> bool {
-    match warned(alloc, plans, text) {
-        Ok(told) => told.as_str() == wanted,
-        Err(_) => false,
-    }
+    let mut told = String::new(alloc);
+    let done = warnings(alloc, "a.toml", text.as_bytes(), plans, &mut told).is_ok();
+    done && told.as_str() == wanted
 }
 
 // Whether just this is warned of, over the program's callbacks.
