@@ -179,12 +179,56 @@ fn texts_after(
 {
     match machine.close(callers) {
         Ok(kernel) => texts_of(alloc, &kernel, threads, events),
-        Err((refusal, _, _)) => Err(Failure::Refused(refusal)),
+        Err((refusal, machine, callers)) => {
+            leave(machine.of, callers);
+            Err(Failure::Refused(refusal))
+        }
     }
 }
 
-/// All callers of a machine do what their host threads are for, and the machine is closed. `Differs` where a mutex's
-/// word didn't say what is recorded.
+/// A machine goes, with its callers.
+fn leave<C: Drop>(machine: MachineOf<C, Global>, callers: Vec<CallerOf<C, Global>>) {
+    drop(machine);
+    drop(callers);
+}
+
+/// Why there are no texts of what was called, as the watch has it.
+fn failure_of(watch: &Watch) -> Option<Failure> {
+    if !watch.is_all_told() {
+        return Some(Failure::Refused(Refusal::NoMemory));
+    }
+    match watch.differing() {
+        0 => None,
+        takes => Some(Failure::Differs(takes)),
+    }
+}
+
+/// All callers do what their host threads are for, and come back with what they tell of their calls. `Differs` where a
+/// mutex's word didn't say what is recorded.
+fn called<C: Handler + Send, R: Threads + Wait + Sync>(
+    rt: &R,
+    alloc: Global,
+    order: Order,
+    machine: &MachineOf<C, Global>,
+    callers: Vec<CallerOf<C, Global>>,
+) -> Result<(Vec<CallerOf<C, Global>>, Vec<Event>), Failure>
+    requires machine { All (λ c. c.machine ≡ machine.now) callers.items }
+    requires by_plan { AnswersByPlan C.declared C.plan machine.now.first.callbacks }
+    requires shared { IsSync R.row }
+    ensures { IfOk result (λ back. All (λ c. c.machine ≡ machine.now) back.0.items) }
+{
+    let watch = Watch::new(u32::from(order.threads));
+    let mut events = Vec::new(alloc);
+    let Ok(back) = all_call(rt, alloc, order, machine, &watch, callers, &mut events) else {
+        return Err(Failure::Refused(Refusal::NoMemory));
+    };
+    match failure_of(&watch) {
+        None => Ok((back, events)),
+        Some(failure) => Err(failure),
+    }
+}
+
+/// All callers of a machine do what their host threads are for, and the machine is closed.
 fn played<R: Threads + Wait + Sync>(
     rt: &R,
     alloc: Global,
@@ -199,17 +243,12 @@ fn played<R: Threads + Wait + Sync>(
     requires shared { IsSync R.row }
     ensures { IfOk result (λ texts. IsPlayedSo machine.of.first.history.bank texts) }
 {
-    let watch = Watch::new(u32::from(order.threads));
-    let mut events = Vec::new(alloc);
-    let Ok(back) = all_call(rt, alloc, order, &machine.of, &watch, callers, &mut events) else {
-        return Err(Failure::Refused(Refusal::NoMemory));
-    };
-    if !watch.is_all_told() {
-        return Err(Failure::Refused(Refusal::NoMemory));
-    }
-    match watch.differing() {
-        0 => texts_after(alloc, threads, machine, back, events),
-        takes => Err(Failure::Differs(takes)),
+    match called(rt, alloc, order, &machine.of, callers) {
+        Ok((back, events)) => texts_after(alloc, threads, machine, back, events),
+        Err(failure) => {
+            leave(machine.of, Vec::new(alloc));
+            Err(failure)
+        }
     }
 }
 
