@@ -2,11 +2,25 @@
 use crate::writers::Narrow;
 use evl_bank::play_program;
 use evl_shell::Over;
-use std::io::Read;
+use std::io::{Read, Write};
 use std::rt::Files;
 
 /// The program's name alone.
 pub(crate) const NO_WORDS: [&str; 1] = ["evl"];
+
+/// What the program does on words and an input: its status, and the writers that it had.
+pub(crate) fn ended<F: Files + AllocGlobal, I: Read, O: Write, E: Write>(
+    rt: &F,
+    words: &[&str],
+    input: &mut I,
+    out: O,
+    err: E,
+) -> (u8, O, E) {
+    let mut out = Over::new(out);
+    let mut err = Over::new(err);
+    let status = play_program(rt, rt.alloc(), words, input, &mut out, &mut err);
+    (status, out.into_inner(), err.into_inner())
+}
 
 /// Whether the program ends so on words and an input: its status, what it writes and what it says.
 pub(crate) fn ends_over<F: Files + AllocGlobal, I: Read>(
@@ -17,11 +31,10 @@ pub(crate) fn ends_over<F: Files + AllocGlobal, I: Read>(
     written: &[u8],
     said: &[u8],
 ) -> bool {
-    let mut out = Over::new(Vec::new(rt.alloc()));
-    let mut err = Over::new(Vec::new(rt.alloc()));
-    let done = play_program(rt, rt.alloc(), words, input, &mut out, &mut err);
-    let is_written = out.into_inner().as_slice() == written;
-    done == status && is_written && err.into_inner().as_slice() == said
+    let out: Vec<u8> = Vec::new(rt.alloc());
+    let err: Vec<u8> = Vec::new(rt.alloc());
+    let (done, out, err) = ended(rt, words, input, out, err);
+    done == status && out.as_slice() == written && err.as_slice() == said
 }
 
 /// The same on a text.
@@ -62,12 +75,10 @@ pub(crate) fn taken_at_fault<F: Files + AllocGlobal>(
     text: &str,
     out: Narrow,
 ) -> Option<Vec<u8>> {
-    let mut out = Over::new(out);
-    let mut err = Over::new(Vec::new(rt.alloc()));
+    let err: Vec<u8> = Vec::new(rt.alloc());
     let mut input = text.as_bytes();
-    let status = play_program(rt, rt.alloc(), words, &mut input, &mut out, &mut err);
-    let writer = out.into_inner();
-    if status == 1 && err.into_inner().as_slice() == b"evl: write fault\n".as_slice() {
+    let (status, writer, err) = ended(rt, words, &mut input, out, err);
+    if status == 1 && err.as_slice() == b"evl: write fault\n".as_slice() {
         Some(writer.taken)
     } else {
         None

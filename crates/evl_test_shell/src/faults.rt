@@ -1,48 +1,21 @@
 //! Texts that are refused: what fault each is, that nothing is written, and which fault goes first.
-use crate::texts::{BOARD, comes_to, spaces};
-use evl_shell::{Fault, Over, run};
-use std::alloc::{AllocError, Global};
+use crate::texts::{BOARD, TRACE, came, comes_to, parts_come_to, spaces};
+use evl_shell::Fault;
+use std::alloc::Global;
 
 const TRY_GET: &str =
     "limit = 100\n[board]\nthreads = 1\nsems = [0]\n[[step]]\ndo = \"try_get\"\nwho = 0\nsem = 0\n";
 
-// Whether a text is refused as a whole, with nothing written.
-fn is_bad_text(alloc: Global, text: &[u8]) -> bool {
-    comes_to(alloc, text, None, Err(Fault::Text))
-}
-
-fn is_bad_board(alloc: Global, text: &str) -> bool {
-    comes_to(alloc, text.as_bytes(), None, Err(Fault::Board))
-}
-
-// The board with these steps.
-fn with_steps(alloc: Global, steps: &str) -> Result<Vec<u8>, AllocError> {
-    let mut text = Vec::new(alloc);
-    text.extend_from_slice(BOARD.as_bytes())?;
-    text.extend_from_slice(steps.as_bytes())?;
-    Ok(text)
-}
-
 // Whether just this step of a board with these steps is refused, with nothing written.
 fn is_bad_step(alloc: Global, steps: &str, number: u32) -> bool {
-    match with_steps(alloc, steps) {
-        Ok(text) => comes_to(alloc, text.as_slice(), None, Err(Fault::Step(number))),
-        Err(_) => false,
-    }
+    parts_come_to(alloc, &[BOARD, steps], Err(Fault::Step(number)))
 }
 
 // Whether a scenario is played under a limit that is handed in.
 fn is_limit(alloc: Global, limit: u32) -> bool {
-    let mut out = Over::new(Vec::new(alloc));
-    let done = run(
-        alloc,
-        TRY_GET.as_bytes(),
-        Some(limit),
-        Vec::new(alloc),
-        &mut out,
-    )
-    .is_ok();
-    done && !out.into_inner().is_empty()
+    let out: Vec<u8> = Vec::new(alloc);
+    let (answer, _, trace) = came(alloc, TRY_GET.as_bytes(), Some(limit), out);
+    answer == Ok(()) && !trace.is_empty()
 }
 
 #[test]
@@ -62,7 +35,7 @@ fn bad_texts(rt: HostRuntime) {
         b"limit = 9223372036854775808\n[board]\nthreads = 1\n",
     ];
     for text in texts {
-        assert!(rt; is_bad_text(rt.alloc(), text));
+        assert!(rt; comes_to(rt.alloc(), text, None, Err(Fault::Text)));
     }
 }
 
@@ -104,7 +77,8 @@ fn bad_boards(rt: HostRuntime) {
         "[board]\nthreads = 1\n[step]\ndo = \"put\"\n",
     ];
     for text in texts {
-        assert!(rt; is_bad_board(rt.alloc(), text), "{text}");
+        let wanted = Err(Fault::Board);
+        assert!(rt; comes_to(rt.alloc(), text.as_bytes(), None, wanted), "{text}");
     }
 }
 
@@ -142,50 +116,30 @@ fn later_bad_steps(rt: HostRuntime) {
     assert!(rt; is_bad_step(rt.alloc(), steps, 2));
 }
 
-// A step by a thread that is written so.
-fn put_by(alloc: Global, who: &str) -> Result<String, AllocError> {
-    let mut step = String::from_str(alloc, "[[step]]\ndo = \"put\"\nsem = 0\nwho = ")?;
-    step.push_str(who)?;
-    step.push_str("\n")?;
-    Ok(step)
-}
-
-// Whether a step by a thread that is written so is a bad one; none where there is no memory for it.
-fn is_bad_who(alloc: Global, who: &str) -> Option<bool> {
-    match put_by(alloc, who) {
-        Ok(step) => Some(is_bad_step(alloc, step.as_str(), 1)),
-        Err(_) => None,
-    }
+// Whether a put by a thread that is written so comes to this.
+fn put_comes_to(alloc: Global, who: &str, wanted: Result<&str, Fault>) -> bool {
+    let put = "[[step]]\ndo = \"put\"\nsem = 0\nwho = ";
+    parts_come_to(alloc, &[BOARD, put, who, "\n"], wanted)
 }
 
 #[test]
 fn forms_of_no_number(rt: HostRuntime) {
     let alloc = rt.alloc();
-    assert!(rt; is_bad_who(alloc, "\"0\"") == Some(false));
+    assert!(rt; put_comes_to(alloc, "\"0\"", Ok(TRACE)));
     let forms = [
         "65536", "-1", "0.0", "\"00\"", "\"+1\"", "\"\"", "\" 0\"", "\"0x0\"", "\"1_0\"", "true",
         "[0]",
     ];
     for form in forms {
-        assert!(rt; is_bad_who(alloc, form) == Some(true), "{form}");
+        assert!(rt; put_comes_to(alloc, form, Err(Fault::Step(1))), "{form}");
     }
-}
-
-// A text whose limit is written so.
-fn limited_by(alloc: Global, limit: &str) -> Result<String, AllocError> {
-    let mut text = String::from_str(alloc, "limit = ")?;
-    text.push_str(limit)?;
-    text.push_str("\n[board]\nthreads = 1\n")?;
-    Ok(text)
 }
 
 // Whether a text whose limit is written so is played, and its first line tells a limit of 10.
 fn is_limit_ten(alloc: Global, limit: &str) -> bool {
     let trace = "board threads=1 sems=0 flags=0 xbufs=0 mutexes=0 groups=0 limit=10\n";
-    match limited_by(alloc, limit) {
-        Ok(text) => comes_to(alloc, text.as_bytes(), None, Ok(trace)),
-        Err(_) => false,
-    }
+    let parts = ["limit = ", limit, "\n[board]\nthreads = 1\n"];
+    parts_come_to(alloc, &parts, Ok(trace))
 }
 
 #[test]
@@ -198,9 +152,10 @@ fn forms_of_numbers(rt: HostRuntime) {
 #[test]
 fn faults_in_order(rt: HostRuntime) {
     let alloc = rt.alloc();
-    let board_first = "[board]\nthreads = 0\n[[step]]\ncolour = 1\n";
-    assert!(rt; is_bad_board(alloc, board_first));
-    assert!(rt; is_bad_text(alloc, b"[board]\nthreads = 0\n[[step]]\ncolour =\n"));
+    let board_first = b"[board]\nthreads = 0\n[[step]]\ncolour = 1\n";
+    assert!(rt; comes_to(alloc, board_first, None, Err(Fault::Board)));
+    let no_text = b"[board]\nthreads = 0\n[[step]]\ncolour =\n";
+    assert!(rt; comes_to(alloc, no_text, None, Err(Fault::Text)));
     let own_limit = b"limit = 0\n[board]\nthreads = 1\n";
     assert!(rt; comes_to(alloc, own_limit, Some(5), Err(Fault::Board)));
 }

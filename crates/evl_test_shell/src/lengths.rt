@@ -1,6 +1,5 @@
 //! Scenarios whose traces have a given number of bytes.
-use crate::texts::{BOARD, puts};
-use evl_shell::{Over, run};
+use crate::texts::{BOARD, came, puts};
 use std::alloc::Global;
 
 /// A scenario of some puts between a head and a tail, and how many bytes its trace has.
@@ -51,11 +50,9 @@ pub(crate) const LONG: Length = Length {
 
 // The trace of a text, if it is played.
 fn trace_of(alloc: Global, text: &str) -> Option<Vec<u8>> {
-    let mut out = Over::new(Vec::new(alloc));
-    match run(alloc, text.as_bytes(), None, Vec::new(alloc), &mut out) {
-        Ok(()) => Some(out.into_inner()),
-        Err(_) => None,
-    }
+    let out: Vec<u8> = Vec::new(alloc);
+    let (answer, _, trace) = came(alloc, text.as_bytes(), None, out);
+    if answer == Ok(()) { Some(trace) } else { None }
 }
 
 /// The scenario's text and its trace, of just so many bytes; none where it isn't played so.

@@ -1,7 +1,7 @@
 //! Runs into sinks that take little, fail, or tell how they were used.
-use crate::texts::{BOARD, TEXT, TRACE, puts};
+use crate::texts::{BOARD, TEXT, TRACE, came, puts};
 use crate::writers::Narrow;
-use evl_shell::{Fault, Over, Sink, run};
+use evl_shell::Fault;
 use std::alloc::Global;
 
 /// A run of a text into a writer: whether it ends so, and with the sink failed just then; and the writer.
@@ -11,10 +11,8 @@ pub(crate) fn ends(
     out: Narrow,
     answer: Result<(), Fault>,
 ) -> (bool, Narrow) {
-    let mut out = Over::new(out);
-    let came = run(alloc, text.as_bytes(), None, Vec::new(alloc), &mut out);
-    let is_so = came == answer && out.failed() == answer.is_err();
-    (is_so, out.into_inner())
+    let (came, failed, writer) = came(alloc, text.as_bytes(), None, out);
+    (came == answer && failed == answer.is_err(), writer)
 }
 
 // Whether a run ends in a write fault where it has to, and the writer took just so many bytes; and the writer.

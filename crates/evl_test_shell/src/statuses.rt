@@ -1,9 +1,7 @@
 //! The program's statuses and lines, over inputs, sinks and error streams that are whole or fail.
-use crate::endings::{NO_WORDS, ends, ends_over, taken_at_fault};
+use crate::endings::{NO_WORDS, ended, ends, ends_over, taken_at_fault};
 use crate::texts::{BOARD, TEXT, TRACE, puts, spaces};
 use crate::writers::{Ended, Narrow};
-use evl_bank::play_program;
-use evl_shell::{Over, play};
 use std::rt::Files;
 
 #[test]
@@ -81,11 +79,10 @@ fn ends_at_a_write_fault(rt: HostRuntime) {
 // Whether the line of a bad board comes so far over a narrow writer.
 fn says<F: Files + AllocGlobal>(rt: &F, err: Narrow, line: &str) -> bool {
     let words = NO_WORDS.as_slice();
-    let mut out = Over::new(Vec::new(rt.alloc()));
-    let mut said = Over::new(err);
+    let out: Vec<u8> = Vec::new(rt.alloc());
     let mut input = "".as_bytes();
-    let status = play_program(rt, rt.alloc(), words, &mut input, &mut out, &mut said);
-    status == 2 && said.into_inner().taken.as_slice() == line.as_bytes()
+    let (status, _, said) = ended(rt, words, &mut input, out, err);
+    status == 2 && said.taken.as_slice() == line.as_bytes()
 }
 
 #[test]

@@ -1,6 +1,7 @@
 //! Scenarios' texts, and what they come to.
-use evl_shell::{Fault, Over, run};
+use evl_shell::{Fault, Over, Sink, run};
 use std::alloc::{AllocError, Global};
+use std::io::Write;
 
 /// A board with one semaphore.
 pub(crate) const BOARD: &str = "[board]\nthreads = 1\nsems = [0]\n";
@@ -57,6 +58,19 @@ pub(crate) fn spaces(alloc: Global, count: usize) -> Result<Vec<u8>, AllocError>
     Ok(text)
 }
 
+/// What a run of a text over no callbacks comes to, whether the sink has failed, and the writer that it had.
+pub(crate) fn came<W: Write>(
+    alloc: Global,
+    text: &[u8],
+    limit: Option<u32>,
+    writer: W,
+) -> (Result<(), Fault>, bool, W) {
+    let mut out = Over::new(writer);
+    let answer = run(alloc, text, limit, Vec::new(alloc), &mut out);
+    let failed = out.failed();
+    (answer, failed, out.into_inner())
+}
+
 /// Whether a text comes to this: to its trace and nothing else, or to its fault with nothing written.
 pub(crate) fn comes_to(
     alloc: Global,
@@ -64,11 +78,27 @@ pub(crate) fn comes_to(
     limit: Option<u32>,
     wanted: Result<&str, Fault>,
 ) -> bool {
-    let mut out = Over::new(Vec::new(alloc));
-    let answer = run(alloc, text, limit, Vec::new(alloc), &mut out);
-    let written = out.into_inner();
+    let out: Vec<u8> = Vec::new(alloc);
+    let (answer, _, written) = came(alloc, text, limit, out);
     match wanted {
         Ok(trace) => answer == Ok(()) && written.as_slice() == trace.as_bytes(),
         Err(fault) => answer == Err(fault) && written.is_empty(),
+    }
+}
+
+// Texts behind one another.
+fn joined(alloc: Global, parts: &[&str]) -> Result<String, AllocError> {
+    let mut text = String::new(alloc);
+    for part in parts {
+        text.push_str(part)?;
+    }
+    Ok(text)
+}
+
+/// The same of texts behind one another.
+pub(crate) fn parts_come_to(alloc: Global, parts: &[&str], wanted: Result<&str, Fault>) -> bool {
+    match joined(alloc, parts) {
+        Ok(text) => comes_to(alloc, text.as_bytes(), None, wanted),
+        Err(_) => false,
     }
 }

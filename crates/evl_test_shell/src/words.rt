@@ -1,9 +1,7 @@
 //! The program's words: a file, a limit, help, and what is refused.
-use crate::endings::{ends_by, taken_at_fault};
+use crate::endings::{ended, ends_by, taken_at_fault};
 use crate::texts::FIRST_SEMAPHORE;
 use crate::writers::Narrow;
-use evl_bank::play_program;
-use evl_shell::Over;
 use std::rt::Files;
 
 const UNDER_THREE: &str =
@@ -32,11 +30,11 @@ fn turns_away<F: Files + AllocGlobal>(
     writes: bool,
     says: bool,
 ) -> bool {
-    let mut out = Over::new(Vec::new(rt.alloc()));
-    let mut err = Over::new(Vec::new(rt.alloc()));
+    let out: Vec<u8> = Vec::new(rt.alloc());
+    let err: Vec<u8> = Vec::new(rt.alloc());
     let mut input = FIRST_SEMAPHORE.as_bytes();
-    let done = play_program(rt, rt.alloc(), words, &mut input, &mut out, &mut err);
-    done == status && out.into_inner().is_empty() != writes && err.into_inner().is_empty() != says
+    let (done, out, err) = ended(rt, words, &mut input, out, err);
+    done == status && out.is_empty() != writes && err.is_empty() != says
 }
 
 #[test]
