@@ -4,14 +4,8 @@ use evl_clock::TimerState;
 use evl_kernel::KernelOf;
 use std::alloc::{AllocError, Allocator, Global};
 
-// One more than there can be of each.
-const LINES: u16 = 4097;
-
-const TIMERS: u16 = 65;
-
-const THREADS: u16 = 257;
-
-const MUTEXES: u16 = 33;
+// One more than there can be of lines, of which there are most.
+const NUMBERS: u16 = 4097;
 
 // What is told of the whole.
 fn whole<C, A: Allocator>(kernel: &KernelOf<C, A>) -> [u64; 4] {
@@ -63,42 +57,23 @@ fn of_mutex<C, A: Allocator>(kernel: &KernelOf<C, A>, mutex: MutexId) -> [u64; 2
     [owner, kernel.waiters(mutex) as u64]
 }
 
-fn add_lines<C, A: Allocator>(
+// What is told of the line, the timer, the thread and the mutex of a number comes to the list.
+fn add<C, A: Allocator>(
     told: &mut Vec<u64>,
     kernel: &KernelOf<C, A>,
+    number: u16,
 ) -> Result<(), AllocError> {
-    for line in 0..LINES {
-        told.extend_from_slice(of_line(kernel, LineNo(line)).as_slice())?;
-    }
-    Ok(())
+    told.extend_from_slice(of_line(kernel, LineNo(number)).as_slice())?;
+    told.extend_from_slice(of_timer(kernel, TimerId(number)).as_slice())?;
+    told.extend_from_slice(of_thread(kernel, ThreadId(number)).as_slice())?;
+    told.extend_from_slice(of_mutex(kernel, MutexId(number)).as_slice())
 }
 
-fn add_timers<C, A: Allocator>(
-    told: &mut Vec<u64>,
-    kernel: &KernelOf<C, A>,
-) -> Result<(), AllocError> {
-    for timer in 0..TIMERS {
-        told.extend_from_slice(of_timer(kernel, TimerId(timer)).as_slice())?;
-    }
-    Ok(())
-}
-
-fn add_threads<C, A: Allocator>(
-    told: &mut Vec<u64>,
-    kernel: &KernelOf<C, A>,
-) -> Result<(), AllocError> {
-    for thread in 0..THREADS {
-        told.extend_from_slice(of_thread(kernel, ThreadId(thread)).as_slice())?;
-    }
-    Ok(())
-}
-
-fn add_mutexes<C, A: Allocator>(
-    told: &mut Vec<u64>,
-    kernel: &KernelOf<C, A>,
-) -> Result<(), AllocError> {
-    for mutex in 0..MUTEXES {
-        told.extend_from_slice(of_mutex(kernel, MutexId(mutex)).as_slice())?;
+// The same of each number.
+fn add_all<C, A: Allocator>(told: &mut Vec<u64>, kernel: &KernelOf<C, A>) -> Result<(), AllocError> {
+    told.extend_from_slice(whole(kernel).as_slice())?;
+    for number in 0..NUMBERS {
+        add(told, kernel, number)?;
     }
     Ok(())
 }
@@ -109,11 +84,7 @@ pub(crate) fn shown<C, A: Allocator>(
     kernel: &KernelOf<C, A>,
 ) -> Result<Vec<u64>, AllocError> {
     let mut told = Vec::new(alloc);
-    told.extend_from_slice(whole(kernel).as_slice())?;
-    add_lines(&mut told, kernel)?;
-    add_timers(&mut told, kernel)?;
-    add_threads(&mut told, kernel)?;
-    add_mutexes(&mut told, kernel)?;
+    add_all(&mut told, kernel)?;
     Ok(told)
 }
 
