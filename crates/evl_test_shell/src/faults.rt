@@ -78,7 +78,10 @@ fn bad_boards(rt: HostRuntime) {
     ];
     for text in texts {
         let wanted = Err(Fault::Board);
-        assert!(rt; comes_to(rt.alloc(), text.as_bytes(), None, wanted), "{text}");
+        assert!(rt;
+            comes_to(rt.alloc(), text.as_bytes(), None, wanted),
+            "{text}"
+        );
     }
 }
 
