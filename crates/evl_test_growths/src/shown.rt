@@ -70,7 +70,10 @@ fn add<C, A: Allocator>(
 }
 
 // The same of each number.
-fn add_all<C, A: Allocator>(told: &mut Vec<u64>, kernel: &KernelOf<C, A>) -> Result<(), AllocError> {
+fn add_all<C, A: Allocator>(
+    told: &mut Vec<u64>,
+    kernel: &KernelOf<C, A>,
+) -> Result<(), AllocError> {
     told.extend_from_slice(whole(kernel).as_slice())?;
     for number in 0..NUMBERS {
         add(told, kernel, number)?;
