@@ -15,4 +15,4 @@ returns g c =
     let e = c.apply.ensures in
     let same : c.deref_mut.result.now ≡ c.args.self.now = c.deref_mut.ensures.value ∙ c.self.view_is in
     subst (λ (k : KernelView _). Applied k c.args.caller.0 c.args.call c.apply.result c.apply.new.self) same
-    (applies _ _ _ _ _ e.entry e.none e.full e.memory e.room e.answers e.brings e.told e.limit e.legal)
+    (applies _ _ _ _ _ e.entry e.none e.full e.memory e.room e.answers e.brings e.handlers e.limit e.legal)
