@@ -3,6 +3,7 @@ pub mod CallLaws
 pub mod FirstLaws
 pub mod MomentLaws
 pub mod OutcomeLaws
+pub mod RisingLaws
 pub mod ScenarioLaws
 pub mod ShareLaws
 pub mod SplitLaws

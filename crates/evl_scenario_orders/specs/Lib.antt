@@ -2,6 +2,7 @@ pub mod Asks
 pub mod Callers
 pub mod Firsts
 pub mod Moments
+pub mod Outcomes
 pub mod Reports
 pub mod Scenarios
 pub mod Shares

@@ -3,6 +3,7 @@ ghost use Rattle.std.specs.Prelude.{◌≡◌, All, IfOk, None, false, position,
 ghost use Rattle.evl_orders.specs.Machines.{orders};
 ghost use Rattle.evl_scenario_orders.specs.Asks.{is_against};
 ghost use Rattle.evl_scenario_orders.specs.Callers.{first, machine};
+ghost use Rattle.evl_scenario_orders.specs.Outcomes.{AreOutcomes};
 ghost use Rattle.evl_scenario_orders.specs.Told.{told_text};
 
 use crate::asks::{Ask, first_against};
@@ -28,6 +29,7 @@ pub fn ask_all<B: BankMaker>(
     ask: &Ask,
     most: usize,
 ) -> Result<Asked, OrdersError>
+    ensures outcomes { IfOk result (λ asked. AreOutcomes callers.now (B.bank bank.now) most asked.outcomes) }
     ensures against { IfOk result (λ asked. asked.against ≡ position (λ outcome. is_against ask.now (string_bytes outcome.told)) asked.outcomes.all.items) }
 
     // Where no outcome is, no order ends so.

@@ -1,6 +1,6 @@
 //! The outcomes of all orders.
-ghost use Rattle.std.specs.Prelude.{ℕ, List, ◌≡◌, ◌+◌, ◌*◌, ◌<◌, ◌⊎◌, [], true, false, IfOk, OnOk, length, string_bytes, sum_by};
-ghost use Rattle.evl_orders.specs.Fronts.{AreLed, AreOver};
+ghost use Rattle.std.specs.Prelude.{ℕ, List, ◌≡◌, ◌+◌, ◌*◌, ◌<◌, ◌≤◌, ◌⊎◌, [], true, false, IfOk, OnOk, length, string_bytes, sum_by};
+ghost use Rattle.evl_orders.specs.Fronts.{AreLed, AreOver, AreShortest, IsGone};
 ghost use Rattle.evl_orders.specs.Machines.{orders, runs};
 ghost use Rattle.evl_orders.specs.Tallies.{AreDistinct, told_weight};
 ghost use Rattle.evl_orders.specs.Weights.{total, weight};
@@ -8,6 +8,7 @@ ghost use Rattle.evl_scenario_orders.specs.Asks.{is_stuck_line, some_line};
 ghost use Rattle.evl_scenario_orders.specs.Callers.{Seen, begun, first, machine};
 ghost use Rattle.evl_scenario_orders.specs.Firsts.{LeadThere, LeadsTo};
 ghost use Rattle.evl_scenario_orders.specs.Moments.{seen_at, trailed};
+ghost use Rattle.evl_scenario_orders.specs.Outcomes.{AreOutcomes, AreRisen, AreRising};
 ghost use Rattle.evl_scenario_orders.specs.Told.{told_text};
 
 use crate::asks::tells_stuck;
@@ -93,6 +94,7 @@ fn put_end<B: BankMaker>(
     requires { AreDistinct all.old.items }
     ensures sums { OnOk result ((f : List ℕ → ℕ) → told_weight f all.new.items ≡ told_weight f all.old.items + end.count * f (told_text callers.now (seen_at callers.now (B.bank bank.now) end.at))) }
     ensures distinct { OnOk result (AreDistinct all.new.items) }
+    ensures rise { OnOk result ((k : ℕ) → AreRisen k all.old.items → k ≤ length end.order.items → AreRisen (length end.order.items) all.new.items) }
     ensures lead { OnOk result ((s : Seen) → LeadThere callers.now s all.old.items → LeadsTo callers.now s (told_text callers.now (seen_at callers.now (B.bank bank.now) end.at)) end.order.items → LeadThere callers.now s all.new.items) }
 {
     match tally_of(alloc, callers, bank, end) {
@@ -127,9 +129,11 @@ fn outcomes_at<B: BankMaker>(
 ) -> Result<Vec<Tally>, OrdersError>
     requires led { AreLed (machine callers.now) (seen_at callers.now (B.bank bank.now)) (first callers.now (B.bank bank.now)) ends.items }
     requires over { AreOver (machine callers.now) (seen_at callers.now (B.bank bank.now)) ends.items }
+    requires shortest { (k : ℕ) × AreShortest k ends.items }
     ensures sums { IfOk result (λ all. (f : List ℕ → ℕ) → told_weight f all.items ≡ weight (seen_at callers.now (B.bank bank.now)) (λ seen. f (told_text callers.now seen)) ends.items) }
     ensures distinct { IfOk result (λ all. AreDistinct all.items) }
     ensures lead { IfOk result (λ all. LeadThere callers.now (first callers.now (B.bank bank.now)) all.items) }
+    ensures rise { IfOk result (λ all. AreRising all.items) }
 {
     let mut all = Vec::new(alloc);
     for end in ends {
@@ -155,6 +159,10 @@ fn ends_of<B: BankMaker>(
         ⊎ (most < length (runs (machine callers.now) (first callers.now (B.bank bank.now)) found.steps))) }
     ensures led { IfOk result (λ found. AreLed (machine callers.now) (seen_at callers.now (B.bank bank.now)) (first callers.now (B.bank bank.now)) found.ends.items) }
     ensures over { IfOk result (λ found. AreOver (machine callers.now) (seen_at callers.now (B.bank bank.now)) found.ends.items) }
+    ensures asked { IfOk result (λ found. found.steps ≤ length callers.now.steps.items + 1) }
+    ensures gone { IfOk result (λ found. IsGone (machine callers.now) (seen_at callers.now (B.bank bank.now)) (first callers.now (B.bank bank.now)) most found.steps found.moments) }
+    ensures more { IfOk result (λ found. found.whole ≡ false → 0 < length (runs (machine callers.now) (first callers.now (B.bank bank.now)) found.steps)) }
+    ensures shortest { IfOk result (λ found. AreShortest found.steps found.ends.items) }
 {
     let start = match first_moment(alloc, callers) {
         Ok(start) => start,
@@ -178,24 +186,7 @@ pub fn outcomes_of<B: BankMaker>(
     bank: &B,
     most: usize,
 ) -> Result<Outcomes, OrdersError>
-    // Whatever is counted of what is told: the outcomes, each as often as its count says, give what all orders give.
-    ensures counted { IfOk result (λ found. (f : List ℕ → ℕ) → told_weight f found.all.items
-        ≡ total (λ seen. f (told_text callers.now seen)) (orders (machine callers.now) (first callers.now (B.bank bank.now)) found.steps)) }
-
-    // No two are told alike.
-    ensures distinct { IfOk result (λ found. AreDistinct found.all.items) }
-
-    // The order of each leads there from the first moment on, and nobody can make a step more.
-    ensures lead { IfOk result (λ found. LeadThere callers.now (first callers.now (B.bank bank.now)) found.all.items) }
-
-    // There are so many orders.
-    ensures count { IfOk result (λ found. found.count ≡ length (orders (machine callers.now) (first callers.now (B.bank bank.now)) found.steps)) }
-
-    // Where nothing was cut off, no run has as many steps; else more than `most` runs have, or it went further than all
-    // steps together.
-    ensures whole { IfOk result (λ found. found.whole ≡ true → runs (machine callers.now) (first callers.now (B.bank bank.now)) found.steps ≡ []) }
-    ensures cut { IfOk result (λ found. found.whole ≡ false → (length callers.now.steps.items < found.steps)
-        ⊎ (most < length (runs (machine callers.now) (first callers.now (B.bank bank.now)) found.steps))) }
+    ensures { IfOk result (AreOutcomes callers.now (B.bank bank.now) most) }
 {
     let Explored {
         ends,

@@ -5,6 +5,7 @@ use Rattle.evl_scenario_orders.specs.Callers.{Seen, first}
 use Rattle.evl_scenario_orders.specs.Moments.{seen_at}
 use Rattle.evl_scenario_orders.specs.Told.{told_text}
 use Rattle.evl_scenario_orders.proofs.FirstLaws.{end_leads, led_on, over_on, weight_on}
+use Rattle.evl_scenario_orders.proofs.RisingLaws.{risen_on}
 use Rattle.evl_scenario_orders.proofs.outcomes.outcomes_at.Goals as goal
 
 pub loop-end-preserved : goal.loop-end-preserved
@@ -22,5 +23,6 @@ loop-end-preserved g c =
       sums = λ f. weight_on callers start state rest others end split (λ (seen : Seen). f (told_text callers seen)) _ _ _ (c.in-Ok.ensures.sums f) (c.loop-end.invariant.sums f);
       led = led_on callers start state rest others end split c.loop-end.invariant.led;
       over = over_on callers start state rest others end split c.loop-end.invariant.over;
+      behind = risen_on c.loop-end.all.items rest others end split c.loop-end.invariant.behind c.put_end.new.all.items c.in-Ok.ensures.rise;
       lead = c.in-Ok.ensures.lead start c.loop-end.invariant.lead (end_leads callers start state rest others end split c.loop-end.invariant.led c.loop-end.invariant.over);
     }

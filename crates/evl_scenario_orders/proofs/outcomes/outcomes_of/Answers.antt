@@ -10,16 +10,26 @@ use Rattle.evl_orders.specs.declared.nodes.Node.{Node}
 use Rattle.evl_scenario_orders.proofs.OutcomeLaws.{weight_of_ones}
 use Rattle.evl_scenario_orders.proofs.outcomes.outcomes_of.Goals as goal
 
-pub returns-in-Ok-outcomes_at-clause-counted : goal.returns-in-Ok-outcomes_at-clause-counted
-returns-in-Ok-outcomes_at-clause-counted g c = λ f.
-    c.in-Ok-outcomes_at.ensures.sums f ∙ c.in-Ok.ensures.counted (λ seen. f (told_text c.args.callers.now seen))
-
-pub returns-in-Ok-outcomes_at-clause-count : goal.returns-in-Ok-outcomes_at-clause-count
-returns-in-Ok-outcomes_at-clause-count g c =
+pub returns-in-Ok-outcomes_at : goal.returns-in-Ok-outcomes_at
+returns-in-Ok-outcomes_at g c =
     let callers = c.args.callers.now in
     let bank = g.B.BankMaker.bank c.args.bank.now in
     let found = c.in-Ok.found in
-    (c.in-Ok-count_of.ensures ∙ ap (λ (ends : List (Node Moment)). sum_by (λ end. end.count) ends) c.as_slice.ensures.value)
-    ∙ (sym (weight_of_ones (seen_at callers bank) found.ends.items)
-    ∙ (c.in-Ok.ensures.counted (λ seen. 1)
-    ∙ total_of_ones (orders (machine callers) (first callers bank) found.steps)))
+    let ends = c.in-Ok.ensures in
+    let told = c.in-Ok-outcomes_at.ensures in
+    record {
+      counted = λ f. told.sums f ∙ ends.counted (λ seen. f (told_text callers seen));
+      distinct = told.distinct;
+      lead = told.lead;
+      rise = told.rise;
+      count =
+          (c.in-Ok-count_of.ensures ∙ ap (λ (ends : List (Node Moment)). sum_by (λ end. end.count) ends) c.as_slice.ensures.value)
+          ∙ (sym (weight_of_ones (seen_at callers bank) found.ends.items)
+          ∙ (ends.counted (λ seen. 1)
+          ∙ total_of_ones (orders (machine callers) (first callers bank) found.steps)));
+      asked = ends.asked;
+      gone = ends.gone;
+      whole = ends.whole;
+      cut = ends.cut;
+      more = ends.more;
+    }
