@@ -1,5 +1,6 @@
 -- The callers of a scenario as a machine: a caller's step is the kernel's.
-use Rattle.std.specs.Prelude.{ℕ, ◌≡◌, ◌+◌, Bool, false, not, ◌&&◌, if◌then◌else◌, List, [], ◌∷◌, ◌++◌, length, map, codes, Option, Some, None, option_and_then, Ok, take, drop, slice_get, slice_index, slice_index_or, slice_set, Result}
+use Rattle.std.specs.Prelude.{ℕ, ◌≡◌, ◌+◌, ◌<◌, ◌⊎◌, Bool, true, false, not, ◌&&◌, if◌then◌else◌, List, [], ◌∷◌, ◌++◌, length, map, codes, Option, Some, None, option_and_then, Ok, Err, take, drop, slice_get, slice_index, slice_index_or, slice_set, Result}
+use Rattle.std.specs.Str.{is_utf8}
 use Rattle.std.specs.Str.Lines.{lines}
 use Rattle.evl_base.specs.Reply.{outcome_text}
 use Rattle.evl_base.specs.declared.refusal.Refusal.{Refusal}
@@ -9,10 +10,13 @@ use Rattle.evl_kernel.specs.Openings.{opening}
 use Rattle.evl_kernel.specs.Replays.{Outcome, stepped}
 use Rattle.evl_kernel.specs.Waits.{is_waiting, has_ended}
 use Rattle.evl_scenario.specs.Scenarios.{Script, scenario_of}
+use Rattle.evl_scenario.specs.declared.faults.Fault.TheVariants.{Memory, Text}
 use Rattle.evl_scenario.specs.declared.steps.Step.{Step}
 use Rattle.evl_orders.specs.Machines.{Machine}
 use Rattle.evl_scenario_orders.specs.Splits.{is_mixed, scenario_part, setup_count}
 use Rattle.evl_scenario_orders.specs.declared.callers.Callers.{Callers}
+use Rattle.evl_scenario_orders.specs.declared.texts.TextFault.{TextFault}
+use Rattle.evl_scenario_orders.specs.declared.texts.TextFault.TheVariants.{Scenario, Mixed, Limit}
 
 -- how many steps of each caller were made, what it was answered, and the kernel's records
 pub record Seen : Type 0 where
@@ -78,3 +82,11 @@ pub record IsSetUp (text : List ℕ) (c : Callers) : Type 0 where
   pub limit : c.limit ≡ script.limit
   pub setup : c.setup.items ≡ take (setup_count text) script.steps
   pub steps : c.steps.items ≡ drop (setup_count text) script.steps
+
+-- Why a text of callers is refused: it isn't UTF-8; or else a step stands before one that is set up; or else its scenario
+-- can't be read, or has more steps than its history may have entries. Or memory ran out.
+abbrev pub IsRefused : List ℕ → TextFault → Type 0
+IsRefused text (Scenario fault) =
+    (fault ≡ Memory) ⊎ (((is_utf8 text ≡ false) × (fault ≡ Text)) ⊎ ((is_mixed (lines text) ≡ false) × (scenario_of None (scenario_part text) ≡ Err fault)))
+IsRefused text Mixed = is_mixed (lines text) ≡ true
+IsRefused text Limit = (is_mixed (lines text) ≡ false) × (script : Script) × (scenario_of None (scenario_part text) ≡ Ok script) × (script.limit < length script.steps)

@@ -1,6 +1,7 @@
 //! Texts of callers, read.
-ghost use Rattle.std.specs.Prelude.{◌≡◌, ◌≤◌, ◌+◌, IfOk, length};
-ghost use Rattle.evl_scenario_orders.specs.Callers.{IsSetUp};
+ghost use Rattle.std.specs.Prelude.{◌≡◌, ◌≤◌, ◌+◌, IfErr, IfOk, false, length};
+ghost use Rattle.std.specs.Str.{is_utf8};
+ghost use Rattle.evl_scenario_orders.specs.Callers.{IsRefused, IsSetUp};
 ghost use Rattle.evl_scenario_orders.specs.Shares.{AreCallersOf};
 
 use crate::callers::Callers;
@@ -21,7 +22,8 @@ pub enum TextFault {
 
 // The text that these bytes are.
 fn text_of(bytes: &[u8]) -> Result<&str, TextFault>
-    ensures { IfOk result (λ text. text.now ≡ bytes.now) }
+    ensures text { IfOk result (λ text. text.now ≡ bytes.now) }
+    ensures other { IfErr result (λ fault. (fault ≡ TextFault.Scenario Fault.Text) × (is_utf8 bytes.now ≡ false)) }
 {
     match str::from_utf8(bytes) {
         Ok(text) => Ok(text),
@@ -39,6 +41,9 @@ pub fn read_callers(alloc: Global, bytes: &[u8]) -> Result<Callers, TextFault>
 
     // Each thread that has a step which isn't set up is a caller, with all of these.
     ensures callers { IfOk result (λ callers. AreCallersOf callers.steps.items callers.callers.items) }
+
+    // It is refused only for what is wrong with it, or for want of memory.
+    ensures refused { IfErr result (IsRefused bytes.now) }
 {
     let text = text_of(bytes)?;
     let Ok(split) = split_text(alloc, text) else {
