@@ -3,6 +3,7 @@ use Rattle.std.specs.Prelude.{ℕ, ◌≡◌, ◌==◌, Bool, true, false, ◌&&
 use Rattle.std.specs.Fmt.{decimal}
 use Rattle.std.specs.List.{list_any}
 use Rattle.std.specs.Str.{bytes_eq}
+use Rattle.std.specs.Str.Iter.{HasSubslice}
 use Rattle.std.specs.Cmp.Lexicographic.{pointwise}
 use Rattle.std.specs.Option.{option_map_or}
 use Rattle.toml.specs.Data.{Data, Members, no_members, get_member, as_array, as_str, as_table}
@@ -64,9 +65,14 @@ caller_text who = codes "T" ++ decimal who
 abbrev pub is_caller_text : List Caller → List ℕ → Bool
 is_caller_text callers who = list_any (λ caller. bytes_eq (caller_text caller.who.0) who) callers
 
+-- one of these callers, and just one answer: no arrow stands in it
+pub record IsAnswerOf (callers : List Caller) (never : Never) : Type 0 where
+  pub who : is_caller_text callers (string_bytes never.who) ≡ true
+  pub single : HasSubslice (string_bytes never.answer) (codes " -> ") → ⊥
+
 -- what is asked is asked of these callers
 abbrev pub AreOfCallers : List Caller → List Never → Type 0
-AreOfCallers callers never = All (λ one. is_caller_text callers (string_bytes one.who) ≡ true) never
+AreOfCallers callers never = All (IsAnswerOf callers) never
 
 -- the texts at `never`
 abbrev pub never_in : Option Data → Option (List (List ℕ))

@@ -3,12 +3,13 @@ ghost use Rattle.std.specs.Prelude.{◌≡◌, ◌++◌, IfOk, IfSome, IsSomeAnd
 ghost use Rattle.std.specs.BTreeMap.{keys};
 ghost use Rattle.std.specs.List.{list_all, list_any};
 ghost use Rattle.std.specs.Str.{bytes_eq};
+ghost use Rattle.std.specs.Str.Iter.{HasSubslice};
 ghost use Rattle.toml.specs.Data.{as_str, get_member};
 ghost use Rattle.toml.specs.Parse.{parse_document};
 ghost use Rattle.toml.specs.View.{items_view, table_view, view};
 ghost use Rattle.evl_scenario.specs.Tables.{all_given, has_only, value_or};
 ghost use Rattle.evl_scenario.specs.Values.{truth_from};
-ghost use Rattle.evl_scenario_orders.specs.Asks.{AreOfCallers, Asks, ask_table, caller_text, is_against, is_caller_text, is_line_of, is_stuck_line, never_in, never_text, some_line};
+ghost use Rattle.evl_scenario_orders.specs.Asks.{AreOfCallers, Asks, IsAnswerOf, ask_table, caller_text, is_against, is_caller_text, is_line_of, is_stuck_line, never_in, never_text, some_line};
 ghost use Rattle.evl_scenario_orders.specs.Splits.{ask_part};
 
 use crate::callers::{Caller, Callers};
@@ -72,6 +73,7 @@ fn is_name(alloc: Global, callers: &[Caller], who: &str) -> Result<bool, AllocEr
 fn never_of(alloc: Global, who: &str, answer: &str) -> Result<Never, AllocError>
     ensures text { IfOk result (λ never. never_text never ≡ who.now ++ (codes " -> " ++ answer.now)) }
     ensures who { IfOk result (λ never. string_bytes never.who ≡ who.now) }
+    ensures answer { IfOk result (λ never. string_bytes never.answer ≡ answer.now) }
 {
     let who = String::from_str(alloc, who)?;
     let answer = String::from_str(alloc, answer)?;
@@ -80,7 +82,8 @@ fn never_of(alloc: Global, who: &str, answer: &str) -> Result<Never, AllocError>
 
 // The caller and the answer in a text: just one arrow stands between them.
 fn parts_of(text: &str) -> Option<(&str, &str)>
-    ensures { IfSome result (λ parts. text.now ≡ parts.0.now ++ (codes " -> " ++ parts.1.now)) }
+    ensures text { IfSome result (λ parts. text.now ≡ parts.0.now ++ (codes " -> " ++ parts.1.now)) }
+    ensures single { IfSome result (λ parts. HasSubslice parts.1.now (codes " -> ") → ⊥) }
 {
     match text.split_once(" -> ") {
         Some((who, answer)) => {
@@ -102,7 +105,7 @@ fn read_never(
     value: &Value,
 ) -> Result<Never, AskFault>
     ensures text { IfOk result (λ never. as_str (view value.now) ≡ Some (never_text never)) }
-    ensures who { IfOk result (λ never. is_caller_text callers.now.callers.items (string_bytes never.who) ≡ true) }
+    ensures who { IfOk result (IsAnswerOf callers.now.callers.items) }
 {
     let Some(text) = value.as_str() else {
         return Err(AskFault::Table);
