@@ -1,6 +1,6 @@
 -- The orders of outcomes, where one of them gets more orders, or a new one comes.
-use Rattle.std.proofs.Common.{◌≡◌, ℕ, ◌+◌, ◌*◌, true, List, [], ◌∷◌, map, refl, sym, ◌∙◌, ap, subst, inl, inr, arith}
-use Rattle.std.specs.Prelude.{All, sum_by, string_bytes}
+use Rattle.std.proofs.Common.{◌≡◌, ℕ, ◌+◌, ◌*◌, true, List, [], ◌∷◌, map, refl, sym, ap, subst, inl, inr, arith}
+use Rattle.std.specs.Prelude.{All, string_bytes}
 use Rattle.std.proofs.lemmas.List.Elements.{All-cons, All-head, All-map, All-nil, All-push, All-tail}
 use Rattle.std.proofs.lemmas.List.Sums.{sum_by-cons}
 use Rattle.evl_orders.specs.Fronts.{AreLed, AreOver, IsLed}

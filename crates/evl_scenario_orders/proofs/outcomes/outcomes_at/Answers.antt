@@ -1,6 +1,3 @@
-use Rattle.std.proofs.Common.{ℕ, List, ◌≡◌, ◌∷◌}
-use Rattle.evl_orders.specs.Tallies.{told_weight}
-use Rattle.evl_orders.specs.Weights.{weight}
 use Rattle.evl_scenario_orders.specs.Callers.{Seen, first}
 use Rattle.evl_scenario_orders.specs.Moments.{seen_at}
 use Rattle.evl_scenario_orders.specs.Told.{told_text}
