@@ -5,7 +5,7 @@ ghost use Rattle.evl_kernel.specs.KernelViews.{AddsEntry, IsOpened, makes_entry}
 ghost use Rattle.evl_kernel.specs.Openings.{can_open};
 ghost use Rattle.evl_scenario.specs.Scenarios.{scenario_of};
 ghost use Rattle.evl_scenario.specs.Traces.{history_trace};
-ghost use Rattle.evl_scenario.specs.Writings.{IsUnwritten, script_of_history};
+ghost use Rattle.evl_scenario.specs.Writings.{IsUnwritten, scenario_text, script_of_history};
 ghost use Rattle.evl_c.specs.Boards.{board_of, is_board};
 
 use crate::boards::{BoardForm, read_board};
@@ -97,7 +97,8 @@ impl Held {
     /// The scenario of all calls so far. `Board` and `Limit` where no scenario has these, `TooLong` where it would be
     /// longer than one may be, `Memory` where a growth was refused.
     pub fn scenario(&self, alloc: Global) -> Result<String, Unwritten>
-        ensures text { IfOk result (λ text. scenario_of None (string_bytes text) ≡ Ok (script_of_history self.now.history.board self.now.limit self.now.history.entries)) }
+        ensures text { IfOk result (λ text. string_bytes text ≡ scenario_text (script_of_history self.now.history.board self.now.limit self.now.history.entries)) }
+        ensures reads_back { IfOk result (λ text. scenario_of None (string_bytes text) ≡ Ok (script_of_history self.now.history.board self.now.limit self.now.history.entries)) }
         ensures refused { IfErr result (λ e. IsUnwritten e (script_of_history self.now.history.board self.now.limit self.now.history.entries)) }
     {
         write_scenario(
