@@ -1,8 +1,12 @@
 //! A kernel over plans, with what its scenario and its trace begin with.
-ghost use Rattle.std.specs.Prelude.{◌≡◌, ◌⊎◌, ◌↔◌, length, true, false, None, Ok, Err, IsTrue, IsFalse, IfOk, IfErr, string_bytes};
+ghost use Rattle.std.specs.Prelude.{◌≡◌, ◌⊎◌, ◌↔◌, ◌+◌, ◌≤◌, length, true, false, None, Ok, Err, IsTrue, IsFalse, IfOk, IfErr, string_bytes};
+ghost use Rattle.evl_kernel.specs.Callbacks.{BringsNone, handlers_in};
+ghost use Rattle.evl_kernel.specs.Fires.{AddsByCalls};
 ghost use Rattle.evl_kernel.specs.Histories.{IsLegal};
-ghost use Rattle.evl_kernel.specs.KernelViews.{AddsEntry, IsOpened, makes_entry};
+ghost use Rattle.evl_kernel.specs.KernelViews.{AddsEntry, IsKernelAnswer, IsOpened, makes_entry};
 ghost use Rattle.evl_kernel.specs.Openings.{can_open};
+ghost use Rattle.evl_kernel.specs.Places.{AreInOnePlace};
+ghost use Rattle.evl_pipeline.specs.Plans.{answer_of};
 ghost use Rattle.evl_scenario.specs.Scenarios.{scenario_of};
 ghost use Rattle.evl_scenario.specs.Traces.{history_trace};
 ghost use Rattle.evl_scenario.specs.Writings.{IsUnwritten, scenario_text, script_of_history};
@@ -65,7 +69,14 @@ impl Held {
         ensures none { IsFalse (makes_entry result) → self.new.history ≡ self.old.history }
         ensures full { (result ≡ Err Refusal.HistoryFull) ↔ (length self.old.history.entries ≡ self.old.limit) }
         ensures legal { IsLegal self.new.history }
+        ensures memory { result ≡ Err Refusal.NoMemory → self.old.room ≡ 0 }
+        ensures answers { IsKernelAnswer result }
         ensures limit { self.new.limit ≡ self.old.limit }
+        ensures room { self.old.room ≤ self.new.room + 1 }
+        ensures brings { BringsNone self.old.callbacks self.new.callbacks }
+        ensures handlers { handlers_in self.new.callbacks.bank ≡ handlers_in self.old.callbacks.bank }
+        ensures called { AddsByCalls (λ p fire answer. answer ≡ answer_of p.plan fire.count) self.old.callbacks self.old.history caller.0 call self.new.history }
+        ensures places { AreInOnePlace self.new.callbacks }
     {
         self.machine.apply(caller, call)
     }
