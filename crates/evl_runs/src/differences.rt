@@ -31,8 +31,9 @@ fn are_alike(one: Option<&str>, other: Option<&str>) -> bool {
     }
 }
 
-/// The first line at which two traces differ in more than the numbers of entries; none where they don't. `AllocError`
-/// where memory couldn't grow.
+/// The first line at which two traces differ in more than the numbers of entries; none where they don't. Lines are cut
+/// as by `str::lines`: a carriage return in front of a line feed, and a line feed that is missing at the end, are no
+/// difference. `AllocError` where memory couldn't grow.
 pub fn first_difference<'a>(
     alloc: Global,
     stored: &'a str,
