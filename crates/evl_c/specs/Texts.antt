@@ -10,7 +10,7 @@ use Rattle.evl_c.specs.Windows.{window}
 abbrev pub TellsText : List ℕ → ℕ → List ℕ → List ℕ → ℕ → Type 0
 TellsText text start old new told = (new ≡ window text start old) × (told ≡ length text)
 
--- the same of the text of a scenario, which is one for each script and so the same at every call; read, it asks for just this
+-- the same of the one text that a script has as a scenario, whatever the call; read as one, it asks for just this
 pub record TellsScenario (script : Script) (start : ℕ) (old new : List ℕ) (told : ℕ) : Type 0 where
   pub reads : scenario_of None (scenario_text script) ≡ Ok script
   pub tells : TellsText (scenario_text script) start old new told
