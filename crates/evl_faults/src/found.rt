@@ -1,4 +1,7 @@
 //! A fault that was found.
+ghost use Rattle.std.specs.Prelude.{◌≡◌, true, OnOk, Some};
+ghost use Rattle.evl_faults.specs.Faults.{are_of_steps, is_of_step};
+
 use evl_scenario::Fault;
 use std::alloc::AllocError;
 use std::fmt;
@@ -11,6 +14,10 @@ pub struct Place {
 }
 
 impl fmt::Display for Place {
+    ghost use Rattle.evl_faults.specs.Faults.{place_text};
+
+    ghost output = { λ place. Some (place_text place) };
+
     fn fmt<W: fmt::Write>(&self, f: &mut fmt::Formatter<W>) -> fmt::Result {
         let Place { line, column } = *self;
         write!(f, "{line}:{column}")
@@ -50,7 +57,9 @@ pub struct Finding<'a> {
 
 impl<'a> Finding<'a> {
     /// Notes a fault at a byte. `AllocError` where the list couldn't grow.
-    pub fn note(&mut self, fault: Fault, at: usize, words: String) -> Result<(), AllocError> {
+    pub fn note(&mut self, fault: Fault, at: usize, words: String) -> Result<(), AllocError>
+        ensures { OnOk result (is_of_step fault ≡ true → are_of_steps self.old.found.items ≡ true → are_of_steps self.new.found.items ≡ true) }
+    {
         let place = place_of(self.text, at);
         self.found.push(Found {
             fault,
