@@ -1,4 +1,8 @@
 //! The keys of steps and of boards, and what value is wanted at each key.
+ghost use Rattle.std.specs.Prelude.{◌≡◌, drop, map, option_map};
+ghost use Rattle.evl_scenario.specs.Steps.{keys_of, word_of};
+ghost use Rattle.evl_faults.specs.Faults.{may_lack};
+
 use evl_base::MAX_THREADS;
 use evl_scenario::step_keys_of;
 use std::alloc::{AllocError, Global};
@@ -9,13 +13,24 @@ pub const BOARD_KEYS: [&str; 6] = ["threads", "sems", "flags", "xbufs", "mutexes
 /// The keys beside the board.
 pub const OPENING_KEYS: [&str; 3] = ["limit", "board", "step"];
 
+// The keys behind the first two.
+fn behind_two(keys: &'static [&'static str]) -> &'static [&'static str]
+    ensures { result.now ≡ drop 2 keys.now }
+{
+    keys.get(2..).unwrap_or(&[])
+}
+
 /// The keys of a step with this word, but for `do` and `who`; none where there is no such word.
-pub fn keys_of(word: &str) -> Option<&'static [&'static str]> {
-    step_keys_of(word)?.get(2..)
+pub fn keys_of(word: &str) -> Option<&'static [&'static str]>
+    ensures { option_map (λ keys. map (λ key. key.now) keys.now) result ≡ option_map (drop 2) (option_map keys_of (word_of word.now)) }
+{
+    Some(behind_two(step_keys_of(word)?))
 }
 
 /// Whether a key of a step may be left out.
-pub fn is_optional(key: &str) -> bool {
+pub fn is_optional(key: &str) -> bool
+    ensures { result ≡ may_lack key.now }
+{
     matches!(key, "tag" | "until" | "keep")
 }
 
