@@ -1,7 +1,7 @@
 //! The faults of a text: told exactly where it can't be played.
-ghost use Rattle.std.specs.Prelude.{◌≡◌, true, None, Some, IfOk};
+ghost use Rattle.std.specs.Prelude.{◌≡◌, true, Err, None, Some, IfOk};
 ghost use Rattle.evl_scenario.specs.Scenarios.{scenario_of};
-ghost use Rattle.evl_faults.specs.Faults.{first_fault, refusal_in};
+ghost use Rattle.evl_faults.specs.Faults.{are_of_steps, first_fault, is_of_step, refusal_in};
 
 use crate::boards::check_board;
 use crate::found::{Finding, Found, Place};
@@ -40,22 +40,54 @@ fn plainly(alloc: Global, fault: Fault) -> Result<String, AllocError> {
     }
 }
 
-// All faults that are found in a text that was refused for this one.
-fn all_found(alloc: Global, text: &[u8], fault: Fault) -> Result<Vec<Found>, AllocError> {
+// The fault of a text that can't be read.
+fn found_in_text(alloc: Global, text: &[u8]) -> Result<Vec<Found>, AllocError> {
     let mut finding = Finding {
         text,
         found: Vec::new(alloc),
     };
-    if fault == Fault::Text {
-        let (at, words) = syntax(alloc, text)?;
-        finding.note(Fault::Text, at, words)?;
-    } else {
-        let items = items_of(alloc, text)?;
-        check_board(alloc, &mut finding, &items)?;
-        check_steps(alloc, &mut finding, &items)?;
-    }
+    let (at, words) = syntax(alloc, text)?;
+    finding.note(Fault::Text, at, words)?;
     let Finding { text: _, found } = finding;
     Ok(found)
+}
+
+// The faults of the board, of what stands beside it, and of the steps.
+fn found_in_board(alloc: Global, text: &[u8]) -> Result<Vec<Found>, AllocError> {
+    let mut finding = Finding {
+        text,
+        found: Vec::new(alloc),
+    };
+    let items = items_of(alloc, text)?;
+    check_board(alloc, &mut finding, &items)?;
+    check_steps(alloc, &mut finding, &items)?;
+    let Finding { text: _, found } = finding;
+    Ok(found)
+}
+
+// The faults of the steps: the board of a text that is refused for a step is without fault.
+fn found_in_steps(alloc: Global, text: &[u8]) -> Result<Vec<Found>, AllocError>
+    ensures { IfOk result (λ found. are_of_steps found.items ≡ true) }
+{
+    let mut finding = Finding {
+        text,
+        found: Vec::new(alloc),
+    };
+    let items = items_of(alloc, text)?;
+    check_steps(alloc, &mut finding, &items)?;
+    let Finding { text: _, found } = finding;
+    Ok(found)
+}
+
+// All faults that are found in a text that was refused for this one.
+fn all_found(alloc: Global, text: &[u8], fault: Fault) -> Result<Vec<Found>, AllocError>
+    ensures { IfOk result (λ found. is_of_step fault ≡ true → are_of_steps found.items ≡ true) }
+{
+    match fault {
+        Fault::Text => found_in_text(alloc, text),
+        Fault::Step(_) => found_in_steps(alloc, text),
+        _ => found_in_board(alloc, text),
+    }
 }
 
 // Whether the first of some faults is this one.
@@ -70,7 +102,8 @@ fn begins_with(found: &[Found], fault: Fault) -> bool
 
 // A fault in front of others.
 fn in_front(fault: Fault, words: String, others: Vec<Found>) -> Result<Vec<Found>, AllocError>
-    ensures { IfOk result (λ found. first_fault found.items ≡ Some fault) }
+    ensures first { IfOk result (λ found. first_fault found.items ≡ Some fault) }
+    ensures steps { IfOk result (λ found. is_of_step fault ≡ true → are_of_steps others.items ≡ true → are_of_steps found.items ≡ true) }
 {
     let mut found = others;
     found.insert(
@@ -86,7 +119,8 @@ fn in_front(fault: Fault, words: String, others: Vec<Found>) -> Result<Vec<Found
 
 // The faults of a text that was refused for this one, which is the first of them.
 fn explain(alloc: Global, text: &[u8], fault: Fault) -> Result<Vec<Found>, AllocError>
-    ensures { IfOk result (λ found. first_fault found.items ≡ Some fault) }
+    ensures first { IfOk result (λ found. first_fault found.items ≡ Some fault) }
+    ensures steps { IfOk result (λ found. is_of_step fault ≡ true → are_of_steps found.items ≡ true) }
 {
     let found = all_found(alloc, text, fault)?;
     if begins_with(found.as_slice(), fault) {
@@ -98,9 +132,10 @@ fn explain(alloc: Global, text: &[u8], fault: Fault) -> Result<Vec<Found>, Alloc
 
 /// The faults of a scenario's text, each with its place and what was wanted. There is one exactly where the text can't
 /// be played, and the first is the one that it is refused for: of the text, of the board, or of the first step that
-/// can't be read. `AllocError` where memory couldn't grow.
+/// can't be read; in that last case none is of the text or the board. `AllocError` where memory couldn't grow.
 pub fn check(alloc: Global, text: &[u8]) -> Result<Vec<Found>, AllocError>
-    ensures { IfOk result (λ found. first_fault found.items ≡ refusal_in (scenario_of None text.now)) }
+    ensures first { IfOk result (λ found. first_fault found.items ≡ refusal_in (scenario_of None text.now)) }
+    ensures steps { IfOk result (λ found. (fault : Fault) → scenario_of None text.now ≡ Err fault → is_of_step fault ≡ true → are_of_steps found.items ≡ true) }
 {
     match read_scenario(alloc, text, None) {
         Ok(_) => Ok(Vec::new(alloc)),

@@ -65,8 +65,18 @@ pub fn slice(text: &[u8], range: (usize, usize)) -> &[u8] {
     }
 }
 
-// What a heading of this name begins.
-fn section_named(name: &[u8], brackets: usize, steps: &mut usize) -> Section {
+// A name without the quotes around it.
+fn bare(name: &[u8]) -> &[u8] {
+    match name {
+        [b'"', inner @ .., b'"'] => inner,
+        [b'\'', inner @ .., b'\''] => inner,
+        _ => name,
+    }
+}
+
+// What a heading of this name, which may stand in quotes, begins.
+fn section_named(quoted: &[u8], brackets: usize, steps: &mut usize) -> Section {
+    let name = bare(quoted);
     if name == b"step".as_slice() && brackets == 2 {
         *steps = steps.saturating_add(1);
         Section::Step(*steps)
@@ -135,7 +145,7 @@ impl Items {
         if place.section != Section::Opening {
             return place.section;
         }
-        let key = slice(text, place.top);
+        let key = bare(slice(text, place.top));
         if key == b"board".as_slice() {
             return Section::Board;
         }

@@ -1,4 +1,7 @@
 //! The faults of steps.
+ghost use Rattle.std.specs.Prelude.{◌≡◌, true, OnOk};
+ghost use Rattle.evl_faults.specs.Faults.{are_of_steps, is_of_step};
+
 use crate::found::Finding;
 use crate::items::{Item, Items, Section, slice};
 use crate::judges::{fits_step, is_step};
@@ -25,7 +28,9 @@ pub fn bare(text: &str) -> &str {
 }
 
 // The fault of a step.
-fn fault_of(number: usize) -> Fault {
+fn fault_of(number: usize) -> Fault
+    ensures { is_of_step result ≡ true }
+{
     Fault::Step(u32::try_from(number).unwrap_or(u32::MAX))
 }
 
@@ -67,7 +72,9 @@ fn note_unknown(
     items: &[Item],
     word: &str,
     keys: &[&str],
-) -> Result<usize, AllocError> {
+) -> Result<usize, AllocError>
+    ensures { OnOk result (are_of_steps finding.old.found.items ≡ true → are_of_steps finding.new.found.items ≡ true) }
+{
     let mut count: usize = 0;
     for item in items {
         let key = bare(shown(finding.text, item.key));
@@ -94,7 +101,9 @@ fn note_missing(
     at: usize,
     word: &str,
     key: &str,
-) -> Result<(), AllocError> {
+) -> Result<(), AllocError>
+    ensures { OnOk result (are_of_steps finding.old.found.items ≡ true → are_of_steps finding.new.found.items ≡ true) }
+{
     if is_optional(key) || item_at(finding.text, items, key).is_some() {
         return Ok(());
     }
@@ -113,7 +122,9 @@ fn note_values(
     items: &[Item],
     word: &str,
     keys: &[&str],
-) -> Result<(), AllocError> {
+) -> Result<(), AllocError>
+    ensures { OnOk result (are_of_steps finding.old.found.items ≡ true → are_of_steps finding.new.found.items ≡ true) }
+{
     for item in items {
         let key = bare(shown(finding.text, item.key));
         let value = shown(finding.text, item.value);
@@ -138,7 +149,9 @@ fn note_keys(
     word: &str,
     keys: &[&str],
     at: usize,
-) -> Result<(), AllocError> {
+) -> Result<(), AllocError>
+    ensures { OnOk result (are_of_steps finding.old.found.items ≡ true → are_of_steps finding.new.found.items ≡ true) }
+{
     let unknown = note_unknown(alloc, finding, number, items, word, keys)?;
     if unknown == 0 {
         note_missing(alloc, finding, number, items, at, word, "who")?;
@@ -156,7 +169,9 @@ fn note_step(
     number: usize,
     items: &[Item],
     at: usize,
-) -> Result<(), AllocError> {
+) -> Result<(), AllocError>
+    ensures { OnOk result (are_of_steps finding.old.found.items ≡ true → are_of_steps finding.new.found.items ≡ true) }
+{
     let Some(call) = item_at(finding.text, items, "do") else {
         let words = format!(in alloc; "step {number}: there is no key \"do\"")?;
         return finding.note(fault_of(number), at, words);
@@ -178,7 +193,9 @@ fn check_step(
     finding: &mut Finding<'_>,
     number: usize,
     items: &[Item],
-) -> Result<(), AllocError> {
+) -> Result<(), AllocError>
+    ensures { OnOk result (are_of_steps finding.old.found.items ≡ true → are_of_steps finding.new.found.items ≡ true) }
+{
     let mut pairs = Vec::new(alloc);
     for item in items {
         pairs.push((
@@ -207,7 +224,9 @@ pub fn check_steps(
     alloc: Global,
     finding: &mut Finding<'_>,
     items: &Items,
-) -> Result<(), AllocError> {
+) -> Result<(), AllocError>
+    ensures { OnOk result (are_of_steps finding.old.found.items ≡ true → are_of_steps finding.new.found.items ≡ true) }
+{
     let mut from = 0usize;
     for (index, item) in items.items.iter().enumerate() {
         let behind = index.saturating_add(1);
