@@ -1,5 +1,5 @@
 //! How many calls a machine's history may have, and a thousand rounds of calls that nothing stops.
-use crate::acts::{Act, Ask, Told};
+use crate::acts::Told;
 use crate::boards::{ATTACHED, GET, NORMAL, PUT, board_with};
 use crate::leaving::why_none;
 use crate::phases::{Left, Phase, Side, Step};
