@@ -3,5 +3,5 @@ use Rattle.evl_machine.specs.Makings.{AreMade}
 use Rattle.evl_machine.proofs.making.joined.Goals as goal
 
 -- src/making.rt:126:32
-pub resting-requires-clause-made : goal.resting-requires-clause-made
-resting-requires-clause-made g c = subst (λ k. AreMade k.history.board c.args.parts.elements) (sym c.in-Ok.ensures.key) c.requires.made
+pub with_seats-requires-clause-made : goal.with_seats-requires-clause-made
+with_seats-requires-clause-made g c = subst (λ k. AreMade k.history.board c.args.parts.elements) (sym c.in-Ok.ensures.key) c.requires.made
