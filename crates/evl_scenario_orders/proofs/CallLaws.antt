@@ -11,7 +11,7 @@ use Rattle.evl_kernel.specs.Histories.{History}
 use Rattle.evl_kernel.specs.KernelViews.{AddsEntry}
 use Rattle.evl_kernel.specs.Limits.{play_limit}
 use Rattle.evl_kernel.specs.Replays.{Outcome, outcome_of, stepped}
-use Rattle.evl_kernel.specs.Serving.{by_plan}
+use Rattle.evl_kernel.specs.Serving.{what_call_does}
 use Rattle.evl_kernel.specs.States.{State}
 use Rattle.evl_kernel.proofs.Walking.{step_is_stepped}
 
@@ -41,4 +41,4 @@ refused_effect most s own (Ok (given, changed)) e is = cc
 
 -- a refusal leaves the records
 pub refused : (s : State) (who : ℕ) (call : Call) (e : Refusal) → (stepped s who call).reply ≡ Err e → (stepped s who call).after ≡ s
-refused s who call e is = refused_effect play_limit s (by_plan s who call).touches (by_plan s who call).effect e is
+refused s who call e is = refused_effect play_limit s (what_call_does s who call).touches (what_call_does s who call).effect e is
