@@ -294,5 +294,12 @@ pub fn both_call<C: Handler + Send, R: Threads + Wait + Sync>(
 {
     let signs = Signs::new();
     let (one, two) = both_work(rt, machine, first, second, &signs, tasks);
-    (one.0.caller, two.0.caller, (one.1, two.1))
+    let (first, first_count) = one;
+    let (second, second_count) = two;
+    let Hand { caller, passes: _ } = first;
+    let Hand {
+        caller: other,
+        passes: _,
+    } = second;
+    (caller, other, (first_count, second_count))
 }
