@@ -12,8 +12,10 @@ TellsText text start old new told = (new ≡ window text start old) × (told ≡
 
 -- the same of the one text that a script has as a scenario, whatever the call; read as one, it asks for just this
 pub record TellsScenario (script : Script) (start : ℕ) (old new : List ℕ) (told : ℕ) : Type 0 where
-  pub reads : scenario_of None (scenario_text script) ≡ Ok script
-  pub tells : TellsText (scenario_text script) start old new told
+  pub text : List ℕ
+  pub one : text ≡ scenario_text script
+  pub reads : scenario_of None text ≡ Ok script
+  pub tells : TellsText text start old new told
 
 -- the status that tells why a scenario can't be written
 abbrev pub status_of : Unwritten → ℕ
