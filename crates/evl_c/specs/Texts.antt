@@ -1,7 +1,7 @@
 -- What C is told of a text.
 use Rattle.std.specs.Prelude.{◌≡◌, ℕ, List, length, None, Ok}
 use Rattle.evl_scenario.specs.Scenarios.{Script, scenario_of}
-use Rattle.evl_scenario.specs.Writings.{IsUnwritten, scenario_text}
+use Rattle.evl_scenario.specs.Writings.{IsUnwritten}
 use Rattle.evl_scenario.specs.declared.writing.Unwritten.{Unwritten}
 use Rattle.evl_scenario.specs.declared.writing.Unwritten.TheVariants.{Board, Limit, TooLong, Memory}
 use Rattle.evl_c.specs.Windows.{window}
@@ -10,10 +10,9 @@ use Rattle.evl_c.specs.Windows.{window}
 abbrev pub TellsText : List ℕ → ℕ → List ℕ → List ℕ → ℕ → Type 0
 TellsText text start old new told = (new ≡ window text start old) × (told ≡ length text)
 
--- the same of the one text that a script has as a scenario, whatever the call; read as one, it asks for just this
+-- the same of a text that, read as a scenario, asks for just this
 pub record TellsScenario (script : Script) (start : ℕ) (old new : List ℕ) (told : ℕ) : Type 0 where
   pub text : List ℕ
-  pub one : text ≡ scenario_text script
   pub reads : scenario_of None text ≡ Ok script
   pub tells : TellsText text start old new told
 
