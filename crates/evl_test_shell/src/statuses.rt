@@ -2,6 +2,7 @@
 use crate::endings::{NO_WORDS, ended, ends, ends_over, taken_at_fault};
 use crate::texts::{BOARD, TEXT, TRACE, puts, spaces};
 use crate::writers::{Ended, Narrow};
+use evl_shell::{Over, play};
 use std::rt::Files;
 
 #[test]
