@@ -1,53 +1,20 @@
-//! Plays rows: scenarios, each with what is wanted of it. The words are their names. The scenario of a row lies in
-//! `NAME.toml`; beside it lies its trace, `NAME.trace`, or, where it is to be refused, the line that says why,
-//! `NAME.fault`.
+//! Plays rows, each with what is wanted of it. The words are their names: the text of a row lies in `NAME.toml`, and
+//! is one of callers where its folder is `callers/`, otherwise a scenario.
 #![tactic(auto)]
 
-use evl_bank::play_program;
-use evl_shell::Over;
+mod callers;
+mod files;
+mod scenarios;
+
 use std::rt::Files;
-use std::{env, fs, io};
-
-// The status of a scenario that was refused.
-const REFUSED: u8 = 2;
-
-// Whether the program ends so on a scenario: its status, what it writes and what it says.
-fn ends<R: Files + AllocGlobal>(
-    rt: &R,
-    scenario: &[u8],
-    status: u8,
-    written: &[u8],
-    said: &[u8],
-) -> bool {
-    let words = ["evl"];
-    let mut out = Over::new(Vec::new(rt.alloc()));
-    let mut err = Over::new(Vec::new(rt.alloc()));
-    let mut input = scenario;
-    let ended = play_program(
-        rt,
-        rt.alloc(),
-        words.as_slice(),
-        &mut input,
-        &mut out,
-        &mut err,
-    );
-    ended == status && out.into_inner().as_slice() == written && err.into_inner().as_slice() == said
-}
-
-// What lies in the file of this name with this ending.
-fn read_file<R: Files + AllocGlobal>(rt: &R, name: &str, ending: &str) -> io::Result<Vec<u8>> {
-    let path = format!(in rt.alloc(); "{name}.{ending}")?;
-    fs::read(rt, path)
-}
+use std::{env, io};
 
 // Whether the row of this name is played as is wanted.
 fn is_as_wanted<R: Files + AllocGlobal>(rt: &R, name: &str) -> io::Result<bool> {
-    let scenario = read_file(rt, name, "toml")?;
-    if let Ok(trace) = read_file(rt, name, "trace") {
-        return Ok(ends(rt, scenario.as_slice(), 0, trace.as_slice(), b""));
+    match name.strip_prefix("callers/") {
+        Some(text) => callers::is_as_wanted(rt, name, text),
+        None => scenarios::is_as_wanted(rt, name),
     }
-    let fault = read_file(rt, name, "fault")?;
-    Ok(ends(rt, scenario.as_slice(), REFUSED, b"", fault.as_slice()))
 }
 
 fn main(rt: HostRuntime) -> io::Result<()> {

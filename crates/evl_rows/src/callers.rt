@@ -1,18 +1,10 @@
-//! Plays texts of callers, each with what is wanted to be told of it. The words are their names: the text lies in
-//! `NAME.toml`, and what is told of it in `NAME.told`.
-#![tactic(auto)]
-
+//! Texts of callers. Beside each lies what is told of it, `NAME.told`.
+use crate::files::read_file;
 use evl_callers::{Ending, Played, play_callers};
 use evl_callers_text::read_callers;
 use evl_runs::program_plans;
+use std::io;
 use std::rt::Files;
-use std::{env, fs, io};
-
-// What lies in the file of this name with this ending.
-fn read_file<R: Files + AllocGlobal>(rt: &R, name: &str, ending: &str) -> io::Result<Vec<u8>> {
-    let path = format!(in rt.alloc(); "{name}.{ending}")?;
-    fs::read(rt, path)
-}
 
 // Writes how the steps ended behind what is told of them.
 fn put_end(told: &mut String, name: &str, played: &Played) -> io::Result<()> {
@@ -38,24 +30,12 @@ fn told_of<R: AllocGlobal>(rt: &R, name: &str, text: &[u8]) -> io::Result<Option
     Ok(Some(told))
 }
 
-// Whether just what is wanted is told of the text of this name.
-fn is_as_wanted<R: Files + AllocGlobal>(rt: &R, name: &str) -> io::Result<bool> {
-    let text = read_file(rt, name, "toml")?;
-    let wanted = read_file(rt, name, "told")?;
+/// Whether just what is wanted is told of the text that lies at this path, and is told of by this name.
+pub fn is_as_wanted<R: Files + AllocGlobal>(rt: &R, path: &str, name: &str) -> io::Result<bool> {
+    let text = read_file(rt, path, "toml")?;
+    let wanted = read_file(rt, path, "told")?;
     match told_of(rt, name, text.as_slice())? {
         Some(told) => Ok(told.as_str().as_bytes() == wanted.as_slice()),
         None => Ok(false),
     }
-}
-
-fn main(rt: HostRuntime) -> io::Result<()> {
-    for name in env::args(&rt)?.skip(1) {
-        let told = match is_as_wanted(&rt, name.as_str()) {
-            Ok(true) => "as wanted",
-            Ok(false) => "otherwise",
-            Err(_) => "not played",
-        };
-        println!(rt; "{name}: {told}")?;
-    }
-    Ok(())
 }
