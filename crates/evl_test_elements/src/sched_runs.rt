@@ -1,9 +1,10 @@
 //! Random calls of the scheduler and of the plain one.
-use crate::plain::Plain;
+ghost use Rattle.std.specs.Prelude.{◌<◌};
+
+use crate::dice::Dice;
+use crate::plain_sched::Plain;
 use evl_base::{Policy, Stage, ThreadId};
 use evl_sched::Sched;
-use rand_core::utils::NextWord;
-use rand_pcg::Pcg32;
 use std::alloc::Global;
 
 // The two, and where the random numbers come from.
@@ -11,30 +12,22 @@ use std::alloc::Global;
 struct Both {
     sched: Sched,
     plain: Plain,
-    words: Pcg32,
+    dice: Dice,
 }
 
 impl Both {
-    // A number below `n`.
-    fn below(&mut self, n: u16) -> u16 {
-        match (self.words.next_word() & 0xffff).checked_rem(u32::from(n)) {
-            Some(number) => (number & 0xffff) as u16,
-            None => 0,
-        }
-    }
-
     // A policy that is allowed where there are three groups.
     fn policy(&mut self) -> Policy {
-        let prio = (self.below(6) & 7) as u8 + 1;
-        match self.below(4) {
+        let prio = self.dice.below(6) as u8 + 1;
+        match self.dice.below(4) {
             0 => Policy::Fifo(prio),
             1 => Policy::Rr {
                 prio,
-                slice: u64::from(self.below(20)) + 1,
+                slice: u64::from(self.dice.below(20)) + 1,
             },
             2 => Policy::Weak(prio),
             _ => Policy::Quota {
-                group: self.below(3),
+                group: self.dice.below(3),
                 prio,
             },
         }
@@ -42,7 +35,7 @@ impl Both {
 
     // A rank of policies, or a greater one.
     fn rank(&mut self) -> u16 {
-        match self.below(6) {
+        match self.dice.below(6) {
             0 => 260,
             1 => 515,
             2 => 517,
@@ -53,7 +46,7 @@ impl Both {
     }
 
     fn stage(&mut self) -> Stage {
-        if self.below(4) == 0 {
+        if self.dice.below(4) == 0 {
             Stage::Inband
         } else {
             Stage::Oob
@@ -63,7 +56,7 @@ impl Both {
     // A random call of what makes threads ready or not; whether both took it.
     fn move_one(&mut self, thread: u16) -> bool {
         let named = ThreadId(thread);
-        match self.below(5) {
+        match self.dice.below(5) {
             0 => {
                 let stage = self.stage();
                 self.sched.set_stage(named, stage).is_ok() == self.plain.set_stage(thread, stage)
@@ -85,7 +78,7 @@ impl Both {
     fn seat_one(&mut self, thread: u16) -> bool {
         let named = ThreadId(thread);
         let policy = self.policy();
-        match self.below(5) {
+        match self.dice.below(5) {
             0 => self.sched.detach(named).is_ok() == self.plain.detach(thread),
             1 => self.sched.set_policy(named, policy).is_ok()
                 == self.plain.set_policy(thread, policy),
@@ -99,18 +92,18 @@ impl Both {
 
     // A random call of what changes ranks, slices and budgets.
     fn rank_one(&mut self, thread: u16) {
-        match self.below(8) {
+        match self.dice.below(8) {
             0 => {
                 self.sched.refill();
                 self.plain.refill();
             }
             1 | 2 => {
-                let delta = u64::from(self.below(60)) * 1_000_000;
+                let delta = u64::from(self.dice.below(60)) * 1_000_000;
                 self.sched.charge(delta);
                 self.plain.charge(delta);
             }
             3 | 4 => {
-                let delta = u64::from(self.below(30));
+                let delta = u64::from(self.dice.below(30));
                 self.sched.charge(delta);
                 self.plain.charge(delta);
             }
@@ -139,10 +132,12 @@ impl Both {
     }
 
     // Whether so many random calls leave them alike, each.
-    fn run_alike(&mut self, threads: u16, calls: u16) -> bool {
+    fn run_alike(&mut self, threads: u16, calls: u16) -> bool
+        requires { 0 < threads }
+    {
         for _ in 0..calls {
-            let thread = self.below(threads);
-            let took = match self.below(3) {
+            let thread = self.dice.below(threads);
+            let took = match self.dice.below(3) {
                 0 => self.seat_one(thread),
                 1 => self.move_one(thread),
                 _ => {
@@ -173,7 +168,9 @@ impl Both {
 }
 
 // Whether a run of so many threads is alike.
-fn is_alike(alloc: Global, seed: u64, threads: u16, calls: u16) -> bool {
+fn is_alike(alloc: Global, seed: u64, threads: u16, calls: u16) -> bool
+    requires { 0 < threads }
+{
     let percents = [1u8, 2, 3];
     let budgets = [10_000_000u64, 20_000_000, 30_000_000];
     let Ok(sched) = Sched::new(alloc, threads, &percents) else {
@@ -182,12 +179,8 @@ fn is_alike(alloc: Global, seed: u64, threads: u16, calls: u16) -> bool {
     let Ok(plain) = Plain::new(alloc, threads, &budgets) else {
         return false;
     };
-    let words = Pcg32::new(seed, 1);
-    let mut both = Both {
-        sched,
-        plain,
-        words,
-    };
+    let dice = Dice::new(seed);
+    let mut both = Both { sched, plain, dice };
     both.run_alike(threads, calls) && both.end_alike(threads)
 }
 

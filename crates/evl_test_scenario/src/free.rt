@@ -1,6 +1,6 @@
 //! Four callers of six steps, none of whom ever waits: each merge of their steps is an order.
 ghost use Rattle.std.specs.Prelude.{◌≡◌, ◌≤◌};
-ghost use Rattle.evl_test_orders.specs.Free.{worth};
+ghost use Rattle.evl_test_scenario.specs.Free.{worth};
 
 use evl_orders::{World, explore};
 use std::alloc::{AllocError, Global};
@@ -24,7 +24,7 @@ fn worth(caller: u16) -> u32
 
 impl World for Free {
     ghost use Rattle.std.specs.Prelude.{⊤};
-    ghost use Rattle.evl_test_orders.specs.Free.{machine};
+    ghost use Rattle.evl_test_scenario.specs.Free.{machine};
 
     type Moment = u32;
 

@@ -1,6 +1,6 @@
 //! Worlds of two callers, by a table.
 ghost use Rattle.std.specs.Prelude.{◌≡◌};
-ghost use Rattle.evl_test_orders.specs.Tables.{if_somewhere};
+ghost use Rattle.evl_test_scenario.specs.Tables.{if_somewhere};
 
 use evl_orders::World;
 use std::alloc::{AllocError, Global};
@@ -23,7 +23,7 @@ fn if_somewhere(state: u8) -> Option<u8>
 
 impl World for Table {
     ghost use Rattle.std.specs.Prelude.{⊤};
-    ghost use Rattle.evl_test_orders.specs.Tables.{machine};
+    ghost use Rattle.evl_test_scenario.specs.Tables.{machine};
 
     type Moment = u8;
 
