@@ -113,11 +113,6 @@ fn a_clock_has_deadlines_for_its_threads(rt: HostRuntime) {
     assert!(rt; has_two_deadlines::<Callback, Global>(rt.alloc()));
 }
 
-// Whether a clock is refused for want of memory.
-fn is_refused<C: Handler, A: Allocator + Clone>(alloc: A) -> bool {
-    matches!(ClockOf::<C, A>::new(alloc), Err(Refusal::NoMemory))
-}
-
 // Whether a timer is made of this number below 64, or the 65th is refused and its callback comes back.
 fn is_numbered<C: Handler, A: Allocator>(
     clock: &mut ClockOf<C, A>,
@@ -146,16 +141,39 @@ fn are_numbered<C: Handler, A: Allocator>(clock: &mut ClockOf<C, A>, callbacks: 
     number == 65
 }
 
-// Whether a clock with these callbacks takes no more of its heap than a new one.
-fn only_new_takes<C: Handler, A: Allocator + Clone>(
-    alloc: A,
+// Whether timers of these callbacks take no more of a clock's heap than a new clock did.
+fn only_new_takes<C: Handler, A: Allocator>(
+    clock: &mut ClockOf<C, A>,
     heap: &LocalHeap,
     callbacks: Vec<C>,
 ) -> bool {
+    let used = heap.used();
+    are_numbered(clock, callbacks) && heap.used() == used
+}
+
+// Whether a new clock comes so far with these callbacks, or why there is none.
+fn is_numbered_on_new<C: Handler, A: Allocator + Clone>(
+    alloc: A,
+    heap: &LocalHeap,
+    callbacks: Vec<C>,
+) -> Result<bool, Refusal> {
     match ClockOf::new(alloc) {
-        Ok(mut clock) => {
-            let used = heap.used();
-            are_numbered(&mut clock, callbacks) && heap.used() == used
+        Ok(mut clock) => Ok(only_new_takes(&mut clock, heap, callbacks)),
+        Err(refusal) => Err(refusal),
+    }
+}
+
+// Whether it comes to this over a heap of this size, which is empty then.
+fn comes_to<C: Handler>(
+    alloc: Global,
+    size: usize,
+    callbacks: Vec<C>,
+    told: Result<bool, Refusal>,
+) -> bool {
+    match LocalHeap::new(alloc, size) {
+        Ok(heap) => {
+            let came = is_numbered_on_new(&heap, &heap, callbacks) == told;
+            came && heap.used() == 0
         }
         Err(_) => false,
     }
@@ -164,14 +182,8 @@ fn only_new_takes<C: Handler, A: Allocator + Clone>(
 // The 65th timer is refused, and its callback comes back. Only a new clock takes memory.
 #[test]
 fn sixty_five_timers(rt: HostRuntime) {
-    let Ok(short) = LocalHeap::new(rt.alloc(), 64) else {
-        panic!(rt; "short heap")
-    };
-    assert!(rt; is_refused::<Callback, &LocalHeap>(&short));
-    assert!(rt; short.used() == 0);
-    let Ok(heap) = LocalHeap::new(rt.alloc(), 65536) else {
-        panic!(rt; "heap")
-    };
+    let none: Vec<Callback> = Vec::new(rt.alloc());
+    assert!(rt; comes_to(rt.alloc(), 64, none, Err(Refusal::NoMemory)));
     let mut callbacks = Vec::new(rt.alloc());
     for _ in 0..65 {
         let Ok(run) = Box::new(rt.alloc(), |_: Fire| quiet()) else {
@@ -180,5 +192,5 @@ fn sixty_five_timers(rt: HostRuntime) {
         let callback = Callback::new(ActionKinds::POST_SEM, &quiet_plan(), run);
         assert!(rt; callbacks.push(callback).is_ok());
     }
-    assert!(rt; only_new_takes(&heap, &heap, callbacks));
+    assert!(rt; comes_to(rt.alloc(), 65536, callbacks, Ok(true)));
 }

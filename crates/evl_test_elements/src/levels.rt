@@ -1,6 +1,7 @@
 //! Numbers that come and go, in sets of one, two and three levels.
-ghost use Rattle.std.specs.Prelude.{◌≡◌, ◌<◌, ◌≤◌};
+ghost use Rattle.std.specs.Prelude.{◌≡◌, ◌<◌, ◌≤◌, []};
 
+use crate::numbers::stays_alike;
 use evl_bitmap::{Bitmap, Level, Word};
 use linked_list_allocator::LocalHeap;
 use std::alloc::{AllocError, Allocator};
@@ -93,17 +94,74 @@ fn keeps_neighbours<L: Level>(set: &mut L, limit: u16) -> bool
     all
 }
 
-fn two_levels<A: Allocator>(alloc: A) -> Result<bool, AllocError> {
-    let mut set = Bitmap::new(alloc, 32, Word::new())?;
-    let keeps_each = keeps_neighbours(&mut set, 1024);
-    Ok(keeps_each && keeps_a_word(&mut set) && keeps_words(&mut set))
+/// What is asked of an empty set: that it keeps its numbers, or does as a list over random calls.
+#[derive(Clone, Copy)]
+pub(crate) enum Asked {
+    Keeps,
+    Random(u64),
 }
 
-fn three_levels<A: Allocator + Clone>(alloc: A) -> Result<bool, AllocError> {
-    let used = Bitmap::new(alloc.clone()?, 4, Word::new())?;
-    let mut set = Bitmap::new(alloc, 128, used)?;
-    let keeps_each = keeps_neighbours(&mut set, 4096);
-    Ok(keeps_each && keeps_a_word(&mut set) && keeps_words(&mut set) && keeps_many(&mut set))
+// Whether a set of two levels does, beside a list that takes its memory from here.
+fn do_two<L: Level, A: Allocator>(alloc: A, set: &mut L, asked: Asked) -> bool
+    requires { 1024 ≤ L.limit set.old }
+{
+    match asked {
+        Asked::Keeps => keeps_neighbours(set, 1024) && keeps_a_word(set) && keeps_words(set),
+        Asked::Random(seed) => stays_alike(alloc, set, 1024, seed),
+    }
+}
+
+// Whether numbers come and go in each level of three.
+fn keeps_all<L: Level>(set: &mut L) -> bool
+    requires { 4096 ≤ L.limit set.old }
+{
+    keeps_neighbours(set, 4096) && keeps_a_word(set) && keeps_words(set) && keeps_many(set)
+}
+
+// Whether a set of three levels does.
+fn do_three<L: Level, A: Allocator>(alloc: A, set: &mut L, asked: Asked) -> bool
+    requires { 4096 ≤ L.limit set.old }
+{
+    match asked {
+        Asked::Keeps => keeps_all(set),
+        Asked::Random(seed) => stays_alike(alloc, set, 4096, seed),
+    }
+}
+
+/// Whether a new set of two levels does.
+pub(crate) fn two_levels<A: Allocator + Clone>(alloc: A, asked: Asked) -> Result<bool, AllocError> {
+    match Bitmap::new(alloc.clone()?, 32, Word::new()) {
+        Ok(mut set) => Ok(do_two(alloc, &mut set, asked)),
+        Err(refused) => Err(refused),
+    }
+}
+
+// Whether a set over these words does.
+fn over_words<A: Allocator>(
+    alloc: A,
+    copy: A,
+    used: Bitmap<Word, A>,
+    asked: Asked,
+) -> Result<bool, AllocError>
+    requires room { 128 ≤ used.limit }
+    requires empty { used.members ≡ [] }
+{
+    match Bitmap::new(alloc, 128, used) {
+        Ok(mut set) => Ok(do_three(copy, &mut set, asked)),
+        Err(refused) => Err(refused),
+    }
+}
+
+/// Whether a new set of three levels does.
+pub(crate) fn three_levels<A: Allocator + Clone>(
+    alloc: A,
+    asked: Asked,
+) -> Result<bool, AllocError> {
+    let copy = alloc.clone()?;
+    match Bitmap::new(alloc.clone()?, 4, Word::new()) {
+        Ok(used) => over_words(alloc, copy, used, asked),
+        Err(refused) => Err(refused),
+    }
 }
 
 #[test]
@@ -114,12 +172,12 @@ fn one_word(rt: HostRuntime) {
 
 #[test]
 fn thirty_two_words(rt: HostRuntime) {
-    assert!(rt; two_levels(rt.alloc()) == Ok(true));
+    assert!(rt; two_levels(rt.alloc(), Asked::Keeps) == Ok(true));
 }
 
 #[test]
 fn a_hundred_and_twenty_eight_words(rt: HostRuntime) {
-    assert!(rt; three_levels(rt.alloc()) == Ok(true));
+    assert!(rt; three_levels(rt.alloc(), Asked::Keeps) == Ok(true));
 }
 
 // Where the words of either level get no memory, all that was taken goes back.
@@ -129,7 +187,7 @@ fn a_short_heap_is_refused(rt: HostRuntime) {
         let Ok(heap) = LocalHeap::new(rt.alloc(), size) else {
             panic!(rt; "heap");
         };
-        assert!(rt; three_levels(&heap).is_err());
+        assert!(rt; three_levels(&heap, Asked::Keeps).is_err());
         assert!(rt; heap.used() == 0);
     }
 }

@@ -2,8 +2,9 @@
 ghost use Rattle.std.specs.Prelude.{◌≡◌, ◌<◌, ◌≤◌};
 
 use crate::dice::Dice;
-use evl_bitmap::{Bitmap, Level, Word};
-use std::alloc::{AllocError, Allocator};
+use crate::levels::{Asked, three_levels, two_levels};
+use evl_bitmap::Level;
+use std::alloc::Allocator;
 
 // The plain program: a list in rising order.
 #[derive(Drop)]
@@ -80,8 +81,13 @@ fn is_alike<L: Level, A: Allocator>(
     plain.is_like(set, number)
 }
 
-// Whether a set of numbers below a limit, which is empty, and a list stay alike over two thousand random calls.
-fn stays_alike<L: Level, A: Allocator>(alloc: A, set: &mut L, limit: u16, seed: u64) -> bool
+/// Whether a set of numbers below a limit, which is empty, and a list stay alike over two thousand random calls.
+pub(crate) fn stays_alike<L: Level, A: Allocator>(
+    alloc: A,
+    set: &mut L,
+    limit: u16,
+    seed: u64,
+) -> bool
     requires some { 0 < limit }
     requires room { limit ≤ L.limit set.old }
 {
@@ -96,21 +102,10 @@ fn stays_alike<L: Level, A: Allocator>(alloc: A, set: &mut L, limit: u16, seed: 
     alike
 }
 
-fn two_levels<A: Allocator + Clone>(alloc: A, seed: u64) -> Result<bool, AllocError> {
-    let mut set = Bitmap::new(alloc.clone()?, 32, Word::new())?;
-    Ok(stays_alike(alloc, &mut set, 1024, seed))
-}
-
-fn three_levels<A: Allocator + Clone>(alloc: A, seed: u64) -> Result<bool, AllocError> {
-    let used = Bitmap::new(alloc.clone()?, 4, Word::new())?;
-    let mut set = Bitmap::new(alloc.clone()?, 128, used)?;
-    Ok(stays_alike(alloc, &mut set, 4096, seed))
-}
-
 #[test]
 fn a_bitmap_is_a_list_in_rising_order(rt: HostRuntime) {
     for seed in [1, 2, 3] {
-        assert!(rt; two_levels(rt.alloc(), seed) == Ok(true));
-        assert!(rt; three_levels(rt.alloc(), seed) == Ok(true));
+        assert!(rt; two_levels(rt.alloc(), Asked::Random(seed)) == Ok(true));
+        assert!(rt; three_levels(rt.alloc(), Asked::Random(seed)) == Ok(true));
     }
 }

@@ -167,28 +167,40 @@ impl Both {
     }
 }
 
-// Whether a run of so many threads is alike.
-fn is_alike(alloc: Global, seed: u64, threads: u16, calls: u16) -> bool
+// Whether a run of both over so many threads is alike.
+fn is_alike(sched: Sched, plain: Plain, seed: u64, threads: u16, calls: u16) -> bool
     requires { 0 < threads }
 {
-    let percents = [1u8, 2, 3];
-    let budgets = [10_000_000u64, 20_000_000, 30_000_000];
-    let Ok(sched) = Sched::new(alloc, threads, &percents) else {
-        return false;
-    };
-    let Ok(plain) = Plain::new(alloc, threads, &budgets) else {
-        return false;
-    };
     let dice = Dice::new(seed);
     let mut both = Both { sched, plain, dice };
     both.run_alike(threads, calls) && both.end_alike(threads)
+}
+
+// Whether a run of a new scheduler and a plain one is.
+fn is_alike_beside(alloc: Global, plain: Plain, seed: u64, threads: u16, calls: u16) -> bool
+    requires { 0 < threads }
+{
+    match Sched::new(alloc, threads, &[1, 2, 3]) {
+        Ok(sched) => is_alike(sched, plain, seed, threads, calls),
+        Err(_) => false,
+    }
+}
+
+// Whether a run of two new ones is.
+fn is_run_alike(alloc: Global, seed: u64, threads: u16, calls: u16) -> bool
+    requires { 0 < threads }
+{
+    match Plain::new(alloc, threads, &[10_000_000, 20_000_000, 30_000_000]) {
+        Ok(plain) => is_alike_beside(alloc, plain, seed, threads, calls),
+        Err(_) => false,
+    }
 }
 
 // Whether all of so many runs are, of 4 to 256 threads.
 fn are_alike(alloc: Global, runs: u16, calls: u16) -> bool {
     for run in 0..runs {
         let threads = run % 64 * 4 + 4;
-        if !is_alike(alloc, u64::from(run), threads, calls) {
+        if !is_run_alike(alloc, u64::from(run), threads, calls) {
             return false;
         }
     }

@@ -2,7 +2,7 @@
 use evl_base::{Policy, Refusal, Stage, ThreadId};
 use evl_sched::SchedOf;
 use linked_list_allocator::LocalHeap;
-use std::alloc::Allocator;
+use std::alloc::{Allocator, Global};
 
 const ONE: ThreadId = ThreadId(1);
 
@@ -15,9 +15,9 @@ const RR: Policy = Policy::Rr {
 
 const QUOTA: Policy = Policy::Quota { group: 0, prio: 5 };
 
-// What is done, and what it is told.
+/// What is done, and what it is told.
 #[derive(Clone, Copy)]
-enum Step {
+pub(crate) enum Step {
     Attach(ThreadId, Policy, Result<(), Refusal>),
     Detach(ThreadId),
     SetPolicy(ThreadId, Policy),
@@ -28,6 +28,8 @@ enum Step {
     Charge(u64),
     Refill,
     Pick(ThreadId),
+    // who is picked, and blocked then
+    Next(ThreadId),
     Eligible(bool),
     Base(ThreadId, u16),
     Rank(ThreadId, Result<u16, Refusal>),
@@ -62,6 +64,11 @@ fn is_told<A: Allocator>(sched: &mut SchedOf<A>, step: Step) -> bool {
             true
         }
         Step::Pick(thread) => sched.pick() == Some(thread),
+        Step::Next(thread) => {
+            let picked = sched.pick() == Some(thread);
+            sched.block(thread);
+            picked
+        }
         Step::Eligible(told) => sched.eligible() == told,
         Step::Base(thread, rank) => sched.base(thread) == Ok(rank),
         Step::Rank(thread, told) => sched.rank(thread) == told,
@@ -79,12 +86,38 @@ fn are_told<A: Allocator>(sched: &mut SchedOf<A>, steps: &[Step]) -> bool {
     true
 }
 
-// Whether they are, of a new scheduler of three threads.
-fn is_row<A: Allocator + Clone>(alloc: A, groups: &[u8], steps: &[Step]) -> bool {
-    match SchedOf::new(alloc, 3, groups) {
-        Ok(mut sched) => are_told(&mut sched, steps),
-        Err(_) => false,
+// What is asked of a new scheduler: that each step is told what it says, or that it is full and takes no more of its
+// heap.
+#[derive(Clone, Copy)]
+enum Asked<'a> {
+    Steps(&'a [Step]),
+    Full(&'a LocalHeap),
+}
+
+// Whether it is so.
+fn is_so<A: Allocator>(sched: &mut SchedOf<A>, asked: Asked<'_>) -> bool {
+    match asked {
+        Asked::Steps(steps) => are_told(sched, steps),
+        Asked::Full(heap) => only_new_takes(sched, heap),
     }
+}
+
+// Whether it is so of a new one, or why there is none.
+fn is_so_of_new<A: Allocator + Clone>(
+    alloc: A,
+    threads: u16,
+    groups: &[u8],
+    asked: Asked<'_>,
+) -> Result<bool, Refusal> {
+    match SchedOf::new(alloc, threads, groups) {
+        Ok(mut sched) => Ok(is_so(&mut sched, asked)),
+        Err(refusal) => Err(refusal),
+    }
+}
+
+/// Whether each step is told what it says, of a new scheduler of eight threads.
+pub(crate) fn is_row(alloc: Global, groups: &[u8], steps: &[Step]) -> bool {
+    is_so_of_new(alloc, 8, groups, Asked::Steps(steps)) == Ok(true)
 }
 
 const INBAND_AND_BACK: [Step; 11] = [
@@ -142,31 +175,25 @@ fn is_full<A: Allocator>(sched: &mut SchedOf<A>) -> bool {
 }
 
 // Whether a scheduler that is full takes no more of its heap than a new one.
-fn only_new_takes<A: Allocator + Clone>(alloc: A, heap: &LocalHeap) -> bool {
-    match SchedOf::new(alloc, 256, &[10, 20]) {
-        Ok(mut sched) => {
-            let used = heap.used();
-            is_full(&mut sched) && heap.used() == used
+fn only_new_takes<A: Allocator>(sched: &mut SchedOf<A>, heap: &LocalHeap) -> bool {
+    let used = heap.used();
+    is_full(sched) && heap.used() == used
+}
+
+// Whether a scheduler of 256 threads, over a heap of this size, comes to this, and the heap is empty then.
+fn comes_to(alloc: Global, size: usize, groups: &[u8], told: Result<bool, Refusal>) -> bool {
+    match LocalHeap::new(alloc, size) {
+        Ok(heap) => {
+            let came = is_so_of_new(&heap, 256, groups, Asked::Full(&heap)) == told;
+            came && heap.used() == 0
         }
         Err(_) => false,
     }
 }
 
-// Whether a scheduler is refused for want of memory.
-fn is_refused<A: Allocator + Clone>(alloc: A) -> bool {
-    matches!(SchedOf::new(alloc, 256, &[]), Err(Refusal::NoMemory))
-}
-
 // Only a new scheduler takes memory.
 #[test]
 fn only_new_takes_memory(rt: HostRuntime) {
-    let Ok(heap) = LocalHeap::new(rt.alloc(), 262144) else {
-        panic!(rt; "heap")
-    };
-    assert!(rt; only_new_takes(&heap, &heap));
-    let Ok(short) = LocalHeap::new(rt.alloc(), 64) else {
-        panic!(rt; "short heap")
-    };
-    assert!(rt; is_refused(&short));
-    assert!(rt; short.used() == 0);
+    assert!(rt; comes_to(rt.alloc(), 262144, &[10, 20], Ok(true)));
+    assert!(rt; comes_to(rt.alloc(), 64, &[], Err(Refusal::NoMemory)));
 }
