@@ -4,6 +4,8 @@ pub mod MutexLaws
 pub mod SoundLaws
 pub mod NotedLaws
 pub mod RankLaws
+pub mod RefusalLaws
+pub mod WalkLaws
 pub mod LendingLaws
 pub mod LoweringLaws
 pub mod RaiseLaws

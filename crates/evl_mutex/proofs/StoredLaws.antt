@@ -1,12 +1,12 @@
 -- The ranks that are kept are the effective ranks, and what is known of them after each change.
-use Rattle.std.proofs.Common.{◌≡◌, ◌≢◌, ℕ, zero, suc, max, ◌<◌, ◌==◌, Bool, true, false, not, ◌&&◌, ◌||◌, ◌⊎◌, inl, inr, List, [], ◌∷◌, length, map, slice_get, slice_set, slice_index, slice_index_or, replicate, Option, Some, None, is_some, unwrap_or, if◌then◌else◌, refl, sym, ap, ◌∙◌, subst, arith}
+use Rattle.std.proofs.Common.{◌≡◌, ◌≢◌, ℕ, zero, suc, max, ◌<◌, ◌==◌, Bool, true, false, not, ◌||◌, ◌⊎◌, inl, inr, List, [], ◌∷◌, length, map, slice_get, slice_set, slice_index, slice_index_or, replicate, Option, Some, None, is_some, if◌then◌else◌, refl, sym, ap, ◌∙◌, subst, arith}
 use Rattle.std.specs.Option.{option_and, option_map_or}
 use Rattle.std.proofs.lemmas.Bool.{false≢true}
 use Rattle.std.proofs.lemmas.List.{length-set, get_or-set_same, get_or-set_other}
 use Rattle.evl_base.specs.declared.mutex_kind.MutexKind.{MutexKind}
 use Rattle.evl_mutex.specs.declared.waiter.Waiter.{Waiter}
 use Rattle.evl_mutex.specs.declared.mutex_record.MutexRecord.{MutexRecord}
-use Rattle.evl_mutex.specs.Queues.{is_nobody, dropped, stands_in, AreApart}
+use Rattle.evl_mutex.specs.Queues.{is_nobody, stands_in, AreApart}
 use Rattle.evl_mutex.specs.Mutexes as mutex
 use Rattle.evl_mutex.specs.Mutexes.{Mutex, has_ceiling, ceiling_of, drop_waiter, is_waited_for_by, opened, released}
 use Rattle.evl_mutex.specs.Chains.{waits_for, Follows}
