@@ -1,7 +1,7 @@
 -- The agenda of a list of dates: ordered, and what becomes of it where one date is written.
-use Rattle.std.proofs.Common.{◌≡◌, ℕ, suc, zero, ◌+◌, ◌-◌, ◌≤◌, ◌<◌, ◌==◌, ◌⊎◌, inl, inr, Bool, true, false, nat_lt, List, [], ◌∷◌, length, take, insert, remove, Option, Some, None, IfSome, if◌then◌else◌, slice_get, slice_index_or, slice_set, refl, sym, ap, ◌∙◌, subst, arith}
+use Rattle.std.proofs.Common.{◌≡◌, ◌≢◌, ℕ, suc, zero, ◌+◌, ◌-◌, ◌≤◌, ◌<◌, ◌==◌, ◌⊎◌, inl, inr, Bool, true, false, nat_lt, List, [], ◌∷◌, length, take, insert, remove, Option, Some, None, IfSome, if◌then◌else◌, slice_get, slice_index_or, slice_set, refl, sym, ap, ◌∙◌, subst, arith}
 use Rattle.std.specs.List.{AllByRecursion}
-use Rattle.std.proofs.lemmas.Bool.Decides.{nat_tests}
+use Rattle.std.proofs.lemmas.Bool.{eq-eqb, eqb-false, eqb-true, lt-ltb, ltb-false, ltb-true, ne_eqb}
 use Rattle.std.proofs.lemmas.List.{get_or-set_same, length-set, set-get_or, set-set}
 use Rattle.evl_pipeline.proofs.PortLaws.{within}
 use Rattle.evl_clock.specs.declared.agenda.Entry.{Entry}
@@ -16,24 +16,27 @@ pub before-of : (a b : Entry) → is_before a b ≡ true → Before a b
 before-of a b e = by (a.date == b.date) refl e
   where
     by : (q : Bool) → (a.date == b.date) ≡ q → (if q then nat_lt a.place b.place else nat_lt a.date b.date) ≡ true → Before a b
-    by true same e = inr (grind (arith, nat_tests), grind (arith, nat_tests))
-    by false unlike e = inl (grind (arith, nat_tests))
+    by true same e = inr (eqb-true a.date b.date same, ltb-true a.place b.place e)
+    by false unlike e = inl (ltb-true a.date b.date e)
 
 before_is : (a b : Entry) → Before a b → is_before a b ≡ true
 before_is a b (inl h) =
-    let no : (a.date == b.date) ≡ false = grind (arith, nat_tests) in
-    ap (λ q. if q then nat_lt a.place b.place else nat_lt a.date b.date) no ∙ grind (arith, nat_tests)
+    let no : (a.date == b.date) ≡ false = ne_eqb a.date b.date (λ same. omega arith) in
+    ap (λ q. if q then nat_lt a.place b.place else nat_lt a.date b.date) no ∙ lt-ltb a.date b.date h
 before_is a b (inr h) =
-    let yes : (a.date == b.date) ≡ true = grind (arith, nat_tests) in
-    ap (λ q. if q then nat_lt a.place b.place else nat_lt a.date b.date) yes ∙ grind (arith, nat_tests)
+    let yes : (a.date == b.date) ≡ true = eq-eqb a.date b.date h.0 in
+    ap (λ q. if q then nat_lt a.place b.place else nat_lt a.date b.date) yes ∙ lt-ltb a.place b.place h.1
 
 -- what is no more before than after is at equal dates in a higher place, or in the same
 pub not-before : (a b : Entry) → is_before a b ≡ false → (b.date < a.date) ⊎ ((a.date ≡ b.date) × (b.place ≤ a.place))
 not-before a b e = by (a.date == b.date) refl e
   where
     by : (q : Bool) → (a.date == b.date) ≡ q → (if q then nat_lt a.place b.place else nat_lt a.date b.date) ≡ false → (b.date < a.date) ⊎ ((a.date ≡ b.date) × (b.place ≤ a.place))
-    by true same e = inr (grind (arith, nat_tests), grind (arith, nat_tests))
-    by false unlike e = inl (grind (arith, nat_tests))
+    by true same e = inr (eqb-true a.date b.date same, ltb-false a.place b.place e)
+    by false unlike e =
+        let other : a.date ≢ b.date = eqb-false a.date b.date unlike in
+        let least : b.date ≤ a.date = ltb-false a.date b.date e in
+        inl (omega arith)
 
 trans : (a b c : Entry) → Before a b → Before b c → Before a c
 trans a b c (inl h) (inl k) = inl (omega arith)
