@@ -82,19 +82,21 @@ impl<C: Handler, A: Allocator> Records<C, A> {
         ensures opened { IfOk result (λ r. IsOpened C.declared C.plan board.now bank.items r) }
         ensures refusal { IfErr result (λ e. e ≡ Refusal.NoMemory) }
     {
-        let parts = parts_over(&alloc, boxes, board)?;
         let bank = placed(&alloc, bank)?;
-        let scheduling = scheduling_over(alloc, board)?;
-        Ok(Records {
-            threads: board.threads,
-            elements: parts.0,
-            changes: scheduling.0,
-            bank,
-            pipeline: parts.2,
-            clock: parts.3,
-            sched: scheduling.1,
-            waits: parts.1,
-        })
+        let scheduling = scheduling_over(&alloc, board)?;
+        match parts_over(alloc, boxes, board) {
+            Ok(parts) => Ok(Records {
+                threads: board.threads,
+                elements: parts.0,
+                changes: scheduling.0,
+                bank,
+                pipeline: parts.2,
+                clock: parts.3,
+                sched: scheduling.1,
+                waits: parts.1,
+            }),
+            Err(refusal) => Err(refusal),
+        }
     }
 }
 
@@ -108,7 +110,7 @@ type Parts<C, A> = (
 
 // The elements, the waits, the lines and the clock of a board, as they are at the beginning.
 fn parts_over<C: Handler, A: Allocator + Clone>(
-    alloc: &A,
+    alloc: A,
     boxes: Global,
     board: &Board,
 ) -> Result<Parts<C, A>, Refusal>
@@ -120,21 +122,23 @@ fn parts_over<C: Handler, A: Allocator + Clone>(
     ensures clock { IfOk result (λ made. made.3 ≡ clocks.opening board.now.threads) }
     ensures refusal { IfErr result (λ e. e ≡ Refusal.NoMemory) }
 {
-    let waiting = waiting_over(alloc, boxes, board)?;
-    let playing = playing_over(alloc, board.threads)?;
-    Ok((waiting.0, waiting.1, playing.0, playing.1))
+    let waiting = waiting_over(&alloc, boxes, board)?;
+    match playing_over(alloc, board.threads) {
+        Ok(playing) => Ok((waiting.0, waiting.1, playing.0, playing.1)),
+        Err(refusal) => Err(refusal),
+    }
 }
 
 // The threads of a board as the scheduler has them at the beginning, none of which is noted.
 fn scheduling_over<A: Allocator + Clone>(
-    alloc: A,
+    alloc: &A,
     board: &Board,
 ) -> Result<(ChangedThreads<A>, SchedOf<A>), Refusal>
     ensures sched { IfOk result (λ made. made.1 ≡ fresh board.now.threads board.now.groups.items) }
     ensures refusal { IfErr result (λ e. e ≡ Refusal.NoMemory) }
 {
-    let changes = ChangedThreads::new(another(&alloc)?)?;
-    let sched = SchedOf::new(alloc, board.threads, board.groups.as_slice())?;
+    let changes = ChangedThreads::new(another(alloc)?)?;
+    let sched = SchedOf::new(another(alloc)?, board.threads, board.groups.as_slice())?;
     Ok((changes, sched))
 }
 
@@ -164,16 +168,18 @@ fn waiting_over<A: Allocator + Clone>(
 
 // The lines, and the clock of so many threads, as they are at the beginning.
 fn playing_over<C: Handler, A: Allocator + Clone>(
-    alloc: &A,
+    alloc: A,
     threads: u16,
 ) -> Result<(PipelineOf<Numbered<C>, A>, ClockOf<Numbered<C>, A>), Refusal>
     ensures lines { IfOk result (λ made. made.0 ≡ lines.opening) }
     ensures clock { IfOk result (λ made. made.1 ≡ clocks.opening threads) }
     ensures refusal { IfErr result (λ e. e ≡ Refusal.NoMemory) }
 {
-    let pipeline = PipelineOf::new(another(alloc)?)?;
-    let clock = ClockOf::for_threads(another(alloc)?, usize::from(threads))?;
-    Ok((pipeline, clock))
+    let clock = ClockOf::for_threads(another(&alloc)?, usize::from(threads))?;
+    match PipelineOf::new(alloc) {
+        Ok(pipeline) => Ok((pipeline, clock)),
+        Err(refusal) => Err(refusal),
+    }
 }
 
 // A place for the wait of each of so many threads; nobody waits.
