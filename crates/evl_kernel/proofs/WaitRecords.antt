@@ -9,8 +9,6 @@ use Rattle.evl_base.specs.declared.refusal.Refusal.{Refusal}
 use Rattle.evl_base.specs.declared.refusal.Refusal.TheVariants.{Unknown, Deadlock}
 use Rattle.evl_base.specs.declared.reply.Reply.{Reply}
 use Rattle.evl_base.specs.declared.reply.Reply.TheVariants.{Begun, TimedOut}
-use Rattle.evl_base.specs.declared.stage.Stage.{Stage}
-use Rattle.evl_base.specs.declared.stage.Stage.TheVariants.{Inband, Oob}
 use Rattle.evl_sched.specs.Calls.{stranger_refusal}
 use Rattle.evl_sched.specs.Ranks as ranks
 use Rattle.evl_sched.specs.Ranks.{Ranked}
@@ -34,7 +32,7 @@ use Rattle.evl_kernel.specs.Mutexes.{mutex, mutex_wakes}
 use Rattle.evl_kernel.specs.ElementsViews.{ElementsView, owners_of}
 use Rattle.evl_sync.specs.Semaphores.{Semaphore}
 use Rattle.evl_sync.specs.FlagGroups.{FlagGroup}
-use Rattle.evl_xbuf.specs.Xbufs.{Xbuf, stage_refusal}
+use Rattle.evl_xbuf.specs.Xbufs.{Xbuf, same_stage}
 use Rattle.evl_kernel.specs.Elements.{ElementStep, element, elements, serves, stepping, stepping_to, wakes, with_elements}
 use Rattle.evl_kernel.specs.Beginnings.{awaited, begin_refusal, begin_step, beginning, form_refusal, is_named, is_there, may_name, range_refusal, ring_refusal, would_ring, size_refusal, stage_wanted, step_of_waiter, waiter_refusal}
 use Rattle.evl_kernel.specs.Endings.{drop_step, outcome_of, leaving_queue, left_by, served_by_leaving}
@@ -212,15 +210,11 @@ module _ {C : Type 0} (r : RecordsView C) where
 
   -- what a thread that may begin a wait has
   pub may_begin_is : IsSound r → (thread rank : ℕ) (wants : Wanted) → stranger_refusal r.sched.sched thread ≡ None → rank ≡ ranks.rank_of r.sched thread
-      → form_refusal wants ≡ None → may_name (state_of r) thread wants ≡ true → stage_of r.sched.sched thread ≡ stage_wanted wants → (waiter_refusal (state_of r) thread wants ≡ None) × (rank ≡ rank_of (state_of r) thread)
+      → form_refusal wants ≡ None → may_name (state_of r) thread wants ≡ true → same_stage (stage_wanted wants) (stage_of r.sched.sched thread) ≡ true → (waiter_refusal (state_of r) thread wants ≡ None) × (rank ≡ rank_of (state_of r) thread)
   may_begin_is h thread rank wants passed is form may same = (
-    rw (passed, form, may) (ap (stage_refusal (stage_wanted wants)) same ∙ own (stage_wanted wants)),
+    rw (passed, form, may, same) refl,
     is ∙ given_as r h thread (attached_of r.sched.sched thread passed),
   )
-    where
-      own : (stage : Stage) → stage_refusal stage stage ≡ None
-      own Inband = refl
-      own Oob = refl
 
 -- the elements change, and nothing else of the records
 module _ {C : Type 0} (r : RecordsView C) (h : IsSound r) where

@@ -16,6 +16,7 @@ mod readers;
 mod semaphores;
 mod waiting;
 
+use crate::allocators::another;
 use evl_base::{Board, Refusal};
 use evl_mutex::OwnersOf;
 use evl_sync::{FlagGroup, Sem};
@@ -50,8 +51,8 @@ impl<A: Allocator> Elements<A> {
         ensures base { IfOk result (λ elements. elements.base ≡ replicate board.now.threads 0) }
         ensures refusal { IfErr result (λ e. e ≡ Refusal.NoMemory) }
     {
-        let for_sems = alloc.clone().map_err(|_| Refusal::NoMemory)?;
-        let for_flags = alloc.clone().map_err(|_| Refusal::NoMemory)?;
+        let for_sems = another(&alloc)?;
+        let for_flags = another(&alloc)?;
         let sems = match opened_sems(for_sems, board.sems.as_slice()) {
             Ok(sems) => sems,
             Err(_) => return Err(Refusal::NoMemory),
@@ -60,9 +61,12 @@ impl<A: Allocator> Elements<A> {
             Ok(flags) => flags,
             Err(_) => return Err(Refusal::NoMemory),
         };
-        let for_owners = alloc.clone().map_err(|_| Refusal::NoMemory)?;
-        let xbufs = opened_xbufs(alloc, board.xbufs.as_slice())?;
+        let for_owners = another(&alloc)?;
         let owners = OwnersOf::new(for_owners, board.threads, board.mutexes.as_slice())?;
+        let xbufs = match opened_xbufs(alloc, board.xbufs.as_slice()) {
+            Ok(xbufs) => xbufs,
+            Err(refusal) => return Err(refusal),
+        };
         Ok(Elements {
             sems,
             flags,
@@ -81,7 +85,7 @@ fn opened_xbufs<A: Allocator + Clone>(
     ensures xbufs { IfOk result (λ xbufs. xbufs.items ≡ map (λ pair. cross_buffers.opened pair.0 pair.1) sizes.now) }
     ensures refusal { IfErr result (λ e. e ≡ Refusal.NoMemory) }
 {
-    let for_rings = alloc.clone().map_err(|_| Refusal::NoMemory)?;
+    let for_rings = another(&alloc)?;
     let mut xbufs = Vec::new(alloc);
     for pair in sizes {
         let xbuf = match opened_xbuf(&for_rings, *pair) {
@@ -102,7 +106,7 @@ fn opened_xbuf<A: Allocator + Clone>(alloc: &A, pair: (u16, u16)) -> Result<Xbuf
     ensures xbuf { IfOk result (λ xbuf. xbuf ≡ cross_buffers.opened pair.0 pair.1) }
     ensures refusal { IfErr result (λ e. e ≡ Refusal.NoMemory) }
 {
-    let rings = alloc.clone().map_err(|_| Refusal::NoMemory)?;
+    let rings = another(alloc)?;
     XbufOf::new(rings, pair.0, pair.1)
 }
 

@@ -21,6 +21,7 @@ ghost use Rattle.evl_kernel.specs.KernelViews.{AddsEntry, IsOpened, IsKernelAnsw
 mod likeness;
 mod readers;
 
+use crate::allocators::another;
 use crate::records::Records;
 use crate::served_lists::ServedLists;
 use evl_base::{
@@ -82,6 +83,16 @@ fn can_open(board: &Board, callbacks: usize, limit: u32) -> bool
     board.check().is_ok() && callbacks <= MAX_CALLBACKS && 1 <= limit && limit <= MAX_LIMIT
 }
 
+// The same allocator three times more.
+fn three_more<A: Allocator + Clone>(alloc: &A) -> Result<(A, A, A), Refusal>
+    ensures refusal { IfErr result (λ e. e ≡ Refusal.NoMemory) }
+{
+    let first = another(alloc)?;
+    let second = another(alloc)?;
+    let third = another(alloc)?;
+    Ok((first, second, third))
+}
+
 impl<C: Handler> KernelOf<C, Global> {
     /// A kernel with the elements of the board, the callbacks of the bank in their places, and an empty history of at
     /// most `limit` entries.
@@ -124,20 +135,25 @@ impl<C: Handler, A: Allocator> KernelOf<C, A> {
         if !can_open(&board, bank.len(), limit) {
             return Err(Refusal::Range);
         }
-        let for_history = alloc.clone().map_err(|_| Refusal::NoMemory)?;
-        let for_plays = alloc.clone().map_err(|_| Refusal::NoMemory)?;
-        let for_spares = alloc.clone().map_err(|_| Refusal::NoMemory)?;
+        let allocs = three_more(&alloc)?;
         let lists = ServedLists::new(boxes)?;
-        let records = Records::new(alloc, boxes, &board, bank)?;
-        Ok(KernelOf {
-            board,
-            records,
-            history: Vec::new(for_history),
-            plays: Vec::new(for_plays),
-            spares: Spares::new(for_spares, boxes),
-            lists,
-            limit: limit as usize,
-        })
+        match Records::new(alloc, boxes, &board, bank) {
+            Ok(records) => {
+                let history = Vec::new(allocs.0);
+                let plays = Vec::new(allocs.1);
+                let spares = Spares::new(allocs.2, boxes);
+                Ok(KernelOf {
+                    board,
+                    records,
+                    history,
+                    plays,
+                    spares,
+                    lists,
+                    limit: limit as usize,
+                })
+            }
+            Err(refusal) => Err(refusal),
+        }
     }
 
     /// Makes room for the entries and plays of the next `n` calls of `apply`, which then answer neither `NoMemory` nor

@@ -1,5 +1,5 @@
 //! The kernel's records: what its calls read and change, apart from its history.
-ghost use Rattle.std.specs.Prelude.{◌≡◌, ◌≤◌, ℕ, None, true, false, length, IfOk, IfErr, option_map, replicate};
+ghost use Rattle.std.specs.Prelude.{◌≡◌, ◌≤◌, ◌++◌, ◌∷◌, [], ℕ, None, true, false, length, IfOk, IfErr, option_map, replicate};
 ghost use Rattle.std.specs.Option.{option_map_or};
 ghost use Rattle.evl_base.specs.Board.{board_fits};
 ghost use Rattle.evl_pipeline.specs.Counts.{count_at};
@@ -29,6 +29,7 @@ mod threads;
 mod timers;
 mod waiting;
 
+use crate::allocators::another;
 use crate::bank::{BankPlace, Numbered};
 use crate::changed_threads::ChangedThreads;
 use crate::elements::Elements;
@@ -142,13 +143,6 @@ fn scheduling_over<A: Allocator + Clone>(
     Ok((changes, sched))
 }
 
-// The same allocator once more.
-fn another<A: Allocator + Clone>(alloc: &A) -> Result<A, Refusal>
-    ensures refusal { IfErr result (λ e. e ≡ Refusal.NoMemory) }
-{
-    alloc.clone().map_err(|_| Refusal::NoMemory)
-}
-
 // The elements of a board and its threads' waits, of which there are none.
 fn waiting_over<A: Allocator + Clone>(
     alloc: &A,
@@ -193,16 +187,26 @@ fn no_waits<A: Allocator + Clone>(
 {
     let mut waits = Vec::new(another(alloc)?);
     for _ in 0..threads {
-        let place = match WaitPlace::new(boxes) {
-            Ok(place) => place,
-            Err(refusal) => return Err(refusal),
-        };
-        match waits.push(place) {
+        match add_place(&mut waits, boxes) {
             Ok(()) => {}
-            Err(_) => return Err(Refusal::NoMemory),
+            Err(refusal) => return Err(refusal),
         }
     }
     Ok(waits)
+}
+
+// One place more, where nobody waits.
+fn add_place<A: Allocator>(waits: &mut Vec<WaitPlace, A>, boxes: Global) -> Result<(), Refusal>
+    ensures more { IfOk result (λ _. waits.new.items ≡ waits.old.items ++ None ∷ []) }
+    ensures refusal { IfErr result (λ e. e ≡ Refusal.NoMemory) }
+{
+    match WaitPlace::new(boxes) {
+        Ok(place) => match waits.push(place) {
+            Ok(()) => Ok(()),
+            Err(_) => Err(Refusal::NoMemory),
+        },
+        Err(refusal) => Err(refusal),
+    }
 }
 
 // Every callback in its bank place.
@@ -221,7 +225,10 @@ fn placed<C: Handler, A: Allocator + Clone>(
             plan: Snapshot::of(callback.told()),
             callback: Some(callback),
         };
-        places.push(place).map_err(|_| Refusal::NoMemory)?;
+        match places.push(place) {
+            Ok(()) => {}
+            Err(_) => return Err(Refusal::NoMemory),
+        }
     }
     Ok(places)
 }

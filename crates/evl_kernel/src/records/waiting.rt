@@ -2,6 +2,7 @@
 ghost use Rattle.std.specs.Prelude.{ℕ, ◌≡◌, ◌<◌, ◌≤◌, ◌+◌, [], None, Some, Ok, Err, true, false, map, IfErr, IfOk};
 ghost use Rattle.evl_sched.specs.Threads.{unready};
 ghost use Rattle.evl_clock.specs.Clocks.{with_deadline};
+ghost use Rattle.evl_xbuf.specs.Xbufs.{same_stage};
 ghost use Rattle.evl_kernel.specs.Beginnings.{begin_refusal, beginning, is_named, is_ranked, waiter_refusal};
 ghost use Rattle.evl_kernel.specs.CrossBuffers.{service_told};
 ghost use Rattle.evl_kernel.specs.Elements.{elements, with_elements};
@@ -163,21 +164,21 @@ impl<C, A: Allocator> Records<C, A> {
         ensures refused { IfErr result (λ e. waiter_refusal (state_of self.now) thread.0 wanted.now ≡ Some e) }
         ensures answer { IfErr result (λ e. IsAnswer (Err e)) }
     {
-        match self.sched.rank(thread) {
-            Err(refusal) => Err(refusal),
-            Ok(rank) => {
-                if !wanted.is_allowed() {
-                    return Err(Refusal::Invalid);
-                }
-                if !self.may_name(thread, wanted) {
-                    return Err(Refusal::Invalid);
-                }
-                match (self.sched.stage(thread), wanted.stage()) {
-                    (Stage::Oob, Stage::Oob) | (Stage::Inband, Stage::Inband) => Ok(rank),
-                    _ => Err(Refusal::WrongStage),
-                }
-            }
+        let rank = match self.sched.rank(thread) {
+            Ok(rank) => rank,
+            Err(refusal) => return Err(refusal),
+        };
+        if !wanted.is_allowed() {
+            return Err(Refusal::Invalid);
         }
+        if !self.may_name(thread, wanted) {
+            return Err(Refusal::Invalid);
+        }
+        let stage = self.sched.stage(thread);
+        if !are_same(wanted.stage(), stage) {
+            return Err(Refusal::WrongStage);
+        }
+        Ok(rank)
     }
 
     /// A thread is blocked, until a date where there is one; a date that isn't after now posts line 0 at once.
@@ -277,5 +278,15 @@ impl<C, A: Allocator> Records<C, A> {
             Some(Policy::Weak(_)) => !keep && !waits::has_got_mutex(&self.waits, thread),
             _ => false,
         }
+    }
+}
+
+// Whether both are the same stage.
+fn are_same(one: Stage, other: Stage) -> bool
+    ensures same { result ≡ same_stage one other }
+{
+    match one {
+        Stage::Inband => other == Stage::Inband,
+        Stage::Oob => other == Stage::Oob,
     }
 }
