@@ -209,7 +209,11 @@ fn play_scenario<C: Handler, S: Sink>(
     let (board, limit, steps) = scenario.into_parts();
     let mut texts = Texts::new(alloc);
     match open(alloc, &mut texts, board, bank, limit) {
-        Ok(mut kernel) => play_opened(&mut texts, &mut kernel, steps, chunks, out),
+        Ok(mut kernel) => {
+            let played = play_opened(&mut texts, &mut kernel, steps, chunks, out);
+            drop(kernel);
+            played
+        }
         Err(_) => Err(chunks.give_up(out)),
     }
 }
