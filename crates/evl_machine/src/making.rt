@@ -52,13 +52,21 @@ impl<C: Handler, A: Allocator> MachineOf<C, A> {
     {
         let threads = board.threads;
         let parts: Result<Parts<C, A>, AllocError> = Parts::of(&alloc, &board);
-        let kernel = KernelOf::over(alloc, boxes, board, bank, limit)?;
-        match parts {
-            Ok(parts) => {
-                let made = joined(kernel, parts, threads)?;
-                Ok(made)
+        match KernelOf::over(alloc, boxes, board, bank, limit) {
+            Ok(kernel) => match parts {
+                Ok(parts) => {
+                    let made = joined(kernel, parts, threads)?;
+                    Ok(made)
+                }
+                Err(_) => {
+                    drop(kernel);
+                    Err(Refusal::NoMemory)
+                }
+            },
+            Err(refusal) => {
+                drop(parts);
+                Err(refusal)
             }
-            Err(_) => Err(Refusal::NoMemory),
         }
     }
 }
