@@ -307,7 +307,9 @@ fn leave<C: Handler>(machine: MachineOf<C, Global>, callers: Vec<CallerOf<C, Glo
 fn told_closed<C: Handler>(alloc: Global, kernel: KernelOf<C, Global>) -> Result<String, AllocError>
     ensures { IfOk result (λ text. string_bytes text ≡ closed_text kernel.history) }
 {
-    closing_of(alloc, &kernel)
+    let told = closing_of(alloc, &kernel);
+    drop(kernel);
+    told
 }
 
 // What is told of a machine that isn't closed, which goes with its callers.

@@ -180,7 +180,11 @@ fn drive_plans<R: AllocGlobal + Print, I: Read, E: Write>(
     requires { length plans.items ≤ 64 }
 {
     match Session::open(rt.alloc(), text, limit, plans) {
-        Ok(mut session) => drive_opened(rt, &mut session, input),
+        Ok(mut session) => {
+            let status = drive_opened(rt, &mut session, input);
+            drop(session);
+            status
+        }
         Err(fault) => tell_fault(err, fault),
     }
 }

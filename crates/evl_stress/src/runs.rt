@@ -178,7 +178,11 @@ fn texts_after(
     ensures { IfOk result (λ texts. IsPlayedSo machine.of.first.history.bank texts) }
 {
     match machine.close(callers) {
-        Ok(kernel) => texts_of(alloc, &kernel, threads, events),
+        Ok(kernel) => {
+            let texts = texts_of(alloc, &kernel, threads, events);
+            drop(kernel);
+            texts
+        }
         Err((refusal, machine, callers)) => {
             leave(machine.of, callers);
             Err(Failure::Refused(refusal))

@@ -199,7 +199,11 @@ fn met_by_row<C: Handler, A: Allocator + Clone>(
 ) -> Option<Site> {
     let (board, limit) = board_of(alloc, row)?;
     match KernelOf::over(memory, alloc, board, bank, limit) {
-        Ok(mut kernel) => met_by_calls(alloc, &mut kernel, row, reserves),
+        Ok(mut kernel) => {
+            let met = met_by_calls(alloc, &mut kernel, row, reserves);
+            drop(kernel);
+            met
+        }
         Err(Refusal::NoMemory) => Some(Site::Opening),
         Err(_) => None,
     }
