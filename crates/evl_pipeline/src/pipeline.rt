@@ -53,9 +53,9 @@ impl<C: Drop, A: Allocator + Clone> PipelineOf<C, A> {
     fn with_room(alloc: A) -> Result<PipelineOf<C, A>, AllocError>
         ensures opening { IfOk result (λ p. p ≡ opening) }
     {
+        let spurious = ByLine::new(alloc.clone()?)?;
         let oob = SideOf::new(alloc.clone()?)?;
-        let inband = SideOf::new(alloc.clone()?)?;
-        let spurious = ByLine::new(alloc)?;
+        let inband = SideOf::new(alloc)?;
         Ok(PipelineOf {
             oob,
             inband,
