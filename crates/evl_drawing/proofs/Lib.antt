@@ -1,2 +1,4 @@
+mod LaneLaws
+mod TableLaws
 mod TitleLaws
 pub mod PageLaws

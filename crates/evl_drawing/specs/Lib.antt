@@ -1,2 +1,4 @@
+pub mod Lanes
 pub mod Marks
+pub mod Tables
 pub mod Titles

@@ -1,28 +1,18 @@
--- The lines that a picture has marks for.
-use Rattle.std.specs.Prelude.{ℕ, Bool, true, false, List, [], ◌∷◌, ◌++◌, Option, Some, None, option_to_list}
+-- The marks of a picture: what each tells of its line.
+use Rattle.std.specs.Prelude.{ℕ, Bool, true, false, List, Option, Some, None, filter_map, if◌then◌else◌}
+use Rattle.evl_base.specs.declared.play.Play.TheVariants as play
+use Rattle.evl_base.specs.declared.play.Play as played
 use Rattle.evl_traces.specs.declared.traces.Says.{Says}
 use Rattle.evl_traces.specs.declared.traces.Says.TheVariants.{Board, Entry, Play}
 use Rattle.evl_traces.specs.declared.traces.TraceLine.{TraceLine}
+use Rattle.evl_drawing.specs.declared.lanes.Lane.{Lane}
+use Rattle.evl_drawing.specs.declared.lanes.Lane.TheVariants.{Thread, Timer, Clock, Stage}
 use Rattle.evl_drawing.specs.declared.marks.Mark.{Mark}
 use Rattle.evl_drawing.specs.declared.marks.Shape.{Shape}
 use Rattle.evl_drawing.specs.declared.marks.Shape.TheVariants.{Played, Unhandled}
 
 abbrev pub line_of : Mark → List ℕ
 line_of mark = mark.line.now
-
--- a line that tells a call or a play is marked, and that of the board isn't
-abbrev pub marked_by : Says → List ℕ → Option (List ℕ)
-marked_by (Board line) text = None
-marked_by (Entry line) text = Some text
-marked_by (Play p) text = Some text
-
-abbrev pub marked : TraceLine → Option (List ℕ)
-marked line = marked_by line.says line.text.now
-
--- the lines of the calls and the plays, in order
-abbrev pub called_lines : List TraceLine → List (List ℕ)
-called_lines [] = []
-called_lines (line ∷ rest) = option_to_list (marked line) ++ called_lines rest
 
 -- a mark that isn't a play's
 abbrev pub is_called : Shape → Bool
@@ -32,3 +22,40 @@ is_called _ = true
 
 abbrev pub is_entry : Mark → Bool
 is_entry mark = is_called mark.shape
+
+abbrev pub play_lane : played.Play → Lane
+play_lane play.Clock = Clock
+play_lane (play.Timer timer count missed handled) = Timer timer.0
+play_lane (play.Deadline thread) = Thread thread.0
+play_lane (play.Line line stage count handled) = Stage stage
+
+abbrev pub fire_shape : Bool → Shape
+fire_shape true = Played
+fire_shape false = Unhandled
+
+abbrev pub play_shape : played.Play → Shape
+play_shape (play.Timer timer count missed handled) = fire_shape handled
+play_shape (play.Line line stage count handled) = fire_shape handled
+play_shape _ = Played
+
+-- what is told of a mark: its line, its lane, and how it looks and what it names, where it is a play's
+pub record Told : Type 0 where
+  pub line : List ℕ
+  pub lane : Lane
+  pub play : Option (Shape × Option Lane)
+
+abbrev pub told_of : Mark → Told
+told_of mark = record { line = mark.line.now; lane = mark.lane; play = if is_entry mark then None else Some (mark.shape, mark.names) }
+
+-- a call is marked in the lane of its thread, a play in its own, where it names nothing; a board isn't marked
+abbrev pub marked_by : Says → List ℕ → Option Told
+marked_by (Board line) text = None
+marked_by (Entry line) text = Some (record { line = text; lane = Thread line.thread; play = None })
+marked_by (Play p) text = Some (record { line = text; lane = play_lane p; play = Some (play_shape p, None) })
+
+abbrev pub marked : TraceLine → Option Told
+marked line = marked_by line.says line.text.now
+
+-- of the lines of a trace, in order
+abbrev pub all_marked : List TraceLine → List Told
+all_marked lines = filter_map marked lines

@@ -1,4 +1,7 @@
 //! The sheet that marks are drawn on: bands of lanes, one below the other.
+ghost use Rattle.std.specs.Prelude.{◌≡◌, IfOk, OnOk};
+ghost use Rattle.evl_drawing.specs.Lanes.{AreLanesOf, put_touched};
+
 use crate::lanes::{Lane, add_lane, index_of};
 use crate::marks::{Mark, Shape};
 use crate::moments::Condition;
@@ -57,14 +60,25 @@ pub struct Sheet {
     shows: Shows,
 }
 
-/// The lanes of some marks, from the top. `AllocError` where the list couldn't grow.
-pub fn lanes_of(alloc: Global, marks: &[Mark<'_>]) -> Result<Vec<Lane>, AllocError> {
+// Puts the lanes that a mark touches among sorted ones.
+fn add_touched(lanes: &mut Vec<Lane>, mark: &Mark<'_>) -> Result<(), AllocError>
+    ensures { OnOk result (lanes.new.items ≡ put_touched mark.now lanes.old.items) }
+{
+    add_lane(lanes, mark.lane)?;
+    match mark.names {
+        Some(lane) => add_lane(lanes, lane),
+        None => Ok(()),
+    }
+}
+
+/// The lanes of some marks, from the top: those in which they stand, and those that their calls name, each once.
+/// `AllocError` where the list couldn't grow.
+pub fn lanes_of(alloc: Global, marks: &[Mark<'_>]) -> Result<Vec<Lane>, AllocError>
+    ensures { IfOk result (λ lanes. AreLanesOf marks.now lanes.items) }
+{
     let mut lanes = Vec::new(alloc);
     for mark in marks {
-        add_lane(&mut lanes, mark.lane)?;
-        if let Some(lane) = mark.names {
-            add_lane(&mut lanes, lane)?;
-        }
+        add_touched(&mut lanes, mark)?;
     }
     Ok(lanes)
 }

@@ -1,5 +1,9 @@
 //! The lanes of a picture.
-ghost use Rattle.std.specs.Prelude.{◌≤◌, length};
+ghost use Rattle.std.specs.Prelude.{◌≡◌, ◌≤◌, false, not, length, slice_get, OnOk};
+ghost use Rattle.std.specs.List.{prefix_len};
+ghost use Rattle.std.specs.Option.{option_map_or};
+ghost use Rattle.evl_drawing.specs.Lanes as lanes;
+ghost use Rattle.evl_drawing.specs.Lanes.{is_above, put};
 
 use evl_base::Stage;
 use std::alloc::{AllocError, Global};
@@ -21,6 +25,11 @@ pub enum Lane {
 }
 
 impl fmt::Display for Lane {
+    ghost use Rattle.std.specs.Prelude.{Some};
+    ghost use Rattle.evl_drawing.specs.Lanes.{lane_text};
+
+    ghost output = { λ lane. Some (lane_text lane) };
+
     fn fmt<W: fmt::Write>(&self, f: &mut fmt::Formatter<W>) -> fmt::Result {
         match *self {
             Lane::Thread(number) => write!(f, "T{number}"),
@@ -39,7 +48,9 @@ impl fmt::Display for Lane {
 }
 
 // Where a lane stands among the lanes of a picture, from the top.
-fn place(lane: Lane) -> (u8, u16) {
+fn place(lane: Lane) -> (u8, u16)
+    ensures { result ≡ lanes.place lane }
+{
     match lane {
         Lane::Thread(number) => (0, number),
         Lane::Mutex(number) => (1, number),
@@ -56,7 +67,9 @@ fn place(lane: Lane) -> (u8, u16) {
 }
 
 // Which of two kinds of lanes with a number goes first.
-fn is_before(one: Lane, other: Lane) -> bool {
+fn is_above(one: Lane, other: Lane) -> bool
+    ensures { result ≡ is_above one other }
+{
     let (kind, number) = place(one);
     let (other_kind, other_number) = place(other);
     kind < other_kind || (kind == other_kind && number < other_number)
@@ -64,20 +77,33 @@ fn is_before(one: Lane, other: Lane) -> bool {
 
 // The index at which a lane stands in a sorted list, or is to be put.
 fn index_for(lanes: &[Lane], lane: Lane) -> usize
-    ensures { result ≤ length lanes.now }
+    ensures index { result ≡ prefix_len (λ other. is_above other lane) lanes.now }
+    ensures within { result ≤ length lanes.now }
 {
     for (i, other) in lanes.iter().enumerate() {
-        if !is_before(*other, lane) {
+        if !is_above(*other, lane) {
             return i;
         }
     }
     lanes.len()
 }
 
+// Whether a lane stands at an index.
+fn stands_at(lanes: &[Lane], lane: Lane, at: usize) -> bool
+    ensures { result ≡ option_map_or (λ other. not (is_above lane other)) (slice_get lanes.now at) false }
+{
+    match lanes.get(at) {
+        Some(other) => !is_above(lane, *other),
+        None => false,
+    }
+}
+
 /// Puts a lane into a sorted list, where it isn't there yet. `AllocError` where the list couldn't grow.
-pub fn add_lane(lanes: &mut Vec<Lane>, lane: Lane) -> Result<(), AllocError> {
+pub fn add_lane(lanes: &mut Vec<Lane>, lane: Lane) -> Result<(), AllocError>
+    ensures { OnOk result (lanes.new.items ≡ put lane lanes.old.items) }
+{
     let at = index_for(lanes.as_slice(), lane);
-    if lanes.get(at).copied() == Some(lane) {
+    if stands_at(lanes.as_slice(), lane, at) {
         return Ok(());
     }
     lanes.insert(at, lane)?;

@@ -1,6 +1,7 @@
 //! The marks of a picture: one for each entry and play of a trace.
-ghost use Rattle.std.specs.Prelude.{◌≡◌, option_map, map, IfOk};
-ghost use Rattle.evl_drawing.specs.Marks.{called_lines, line_of, marked};
+ghost use Rattle.std.specs.Prelude.{◌≡◌, true, option_map, map, IfOk};
+ghost use Rattle.evl_drawing.specs.Marks as marks;
+ghost use Rattle.evl_drawing.specs.Marks.{all_marked, is_called, marked, play_lane, play_shape, told_of};
 
 use crate::lanes::Lane;
 use crate::words::{outcome, shown};
@@ -100,7 +101,9 @@ fn refuses(call: &str, answer: &str) -> bool {
 }
 
 // How the mark of an entry looks.
-fn entry_shape(entry: &EntryLine<'_>) -> Shape {
+fn entry_shape(entry: &EntryLine<'_>) -> Shape
+    ensures { is_called result ≡ true }
+{
     let answer = outcome(entry.answer);
     if refuses(entry.call, answer) {
         Shape::Refused
@@ -114,7 +117,9 @@ fn entry_shape(entry: &EntryLine<'_>) -> Shape {
 }
 
 // How a fire looks.
-fn fire_shape(handled: bool) -> Shape {
+fn fire_shape(handled: bool) -> Shape
+    ensures { result ≡ marks.fire_shape handled }
+{
     if handled {
         Shape::Played
     } else {
@@ -123,7 +128,10 @@ fn fire_shape(handled: bool) -> Shape {
 }
 
 // The lane of a play, and how it looks.
-fn play_place(play: Play) -> (Lane, Shape) {
+fn play_place(play: Play) -> (Lane, Shape)
+    ensures lane { result.0 ≡ play_lane play }
+    ensures shape { result.1 ≡ play_shape play }
+{
     match play {
         Play::Clock => (Lane::Clock, Shape::Played),
         Play::Timer { timer, handled, .. } => (Lane::Timer(timer.0), fire_shape(handled)),
@@ -134,7 +142,7 @@ fn play_place(play: Play) -> (Lane, Shape) {
 
 // The mark of a line, where it is that of an entry or a play.
 fn mark_of<'a>(line: &TraceLine<'a>) -> Option<Mark<'a>>
-    ensures { option_map line_of result ≡ marked line.now }
+    ensures { option_map told_of result ≡ marked line.now }
 {
     match line.says {
         Says::Board(_) => None,
@@ -156,10 +164,10 @@ fn mark_of<'a>(line: &TraceLine<'a>) -> Option<Mark<'a>>
     }
 }
 
-/// The marks of the lines of a trace: one for each entry and each play, in order, with its line. `AllocError` where the
-/// list couldn't grow.
+/// The marks of the lines of a trace: one for each entry and each play, in order, with its line, its lane, and how it
+/// looks. `AllocError` where the list couldn't grow.
 pub fn marks_of<'a>(alloc: Global, lines: &[TraceLine<'a>]) -> Result<Vec<Mark<'a>>, AllocError>
-    ensures { IfOk result (λ marks. map line_of marks.items ≡ called_lines lines.now) }
+    ensures { IfOk result (λ marks. map told_of marks.items ≡ all_marked lines.now) }
 {
     let mut marks = Vec::new(alloc);
     for line in lines {
