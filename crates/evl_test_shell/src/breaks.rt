@@ -59,24 +59,34 @@ fn is_broken_at_each(alloc: Global, length: &Length, most: usize) -> bool {
     }
 }
 
+// The same for each of these sizes.
+fn is_broken_by_all(alloc: Global, length: &Length, sizes: &[usize]) -> bool {
+    for most in sizes {
+        if !is_broken_at_each(alloc, length, *most) {
+            return false;
+        }
+    }
+    true
+}
+
 #[test]
 fn each_write_of_a_short_trace_fails_once(rt: HostRuntime) {
-    for most in [1, 5, ALL] {
-        assert!(rt; is_broken_at_each(rt.alloc(), &SHORTEST, most), "{most}");
+    assert!(rt; is_broken_by_all(rt.alloc(), &SHORTEST, &[1, 5, ALL]));
+}
+
+// The same of each of these scenarios.
+fn are_broken_by_all(alloc: Global, lengths: &[Length], sizes: &[usize]) -> bool {
+    for length in lengths {
+        if !is_broken_by_all(alloc, length, sizes) {
+            return false;
+        }
     }
+    true
 }
 
 #[test]
 fn each_write_of_a_trace_fails_once(rt: HostRuntime) {
-    for length in ABOUT_A_PART.as_slice() {
-        for most in [500, ALL] {
-            assert!(rt;
-                is_broken_at_each(rt.alloc(), length, most),
-                "{most} {}",
-                length.bytes
-            );
-        }
-    }
+    assert!(rt; are_broken_by_all(rt.alloc(), &ABOUT_A_PART, &[500, ALL]));
 }
 
 #[test]
@@ -84,22 +94,29 @@ fn each_write_of_a_long_trace_fails_once(rt: HostRuntime) {
     assert!(rt; is_broken_at_each(rt.alloc(), &LONG, ALL));
 }
 
-// How many writes of one byte take a scenario's trace.
-fn writes_of_one_byte(alloc: Global, length: &Length) -> Option<usize> {
-    let (text, trace) = played(alloc, length)?;
-    writes_of(alloc, text.as_str(), trace.as_slice(), 1)
+// Whether as many writes of one byte as it has take a scenario's trace.
+fn goes_by_bytes(alloc: Global, length: &Length) -> bool {
+    match played(alloc, length) {
+        Some((text, trace)) => {
+            writes_of(alloc, text.as_str(), trace.as_slice(), 1) == Some(length.bytes)
+        }
+        None => false,
+    }
+}
+
+// The same of each of these.
+fn go_by_bytes(alloc: Global, lengths: &[Length]) -> bool {
+    for length in lengths {
+        if !goes_by_bytes(alloc, length) {
+            return false;
+        }
+    }
+    true
 }
 
 #[test]
 fn a_trace_goes_by_single_bytes(rt: HostRuntime) {
-    let alloc = rt.alloc();
-    assert!(rt; writes_of_one_byte(alloc, &SHORTEST) == Some(SHORTEST.bytes));
-    assert!(rt; writes_of_one_byte(alloc, &LONG) == Some(LONG.bytes));
-    for length in ABOUT_A_PART.as_slice() {
-        assert!(rt;
-            writes_of_one_byte(alloc, length) == Some(length.bytes),
-            "{}",
-            length.bytes
-        );
-    }
+    assert!(rt; goes_by_bytes(rt.alloc(), &SHORTEST));
+    assert!(rt; goes_by_bytes(rt.alloc(), &LONG));
+    assert!(rt; go_by_bytes(rt.alloc(), &ABOUT_A_PART));
 }

@@ -18,25 +18,45 @@ fn is_limit(alloc: Global, limit: u32) -> bool {
     answer == Ok(()) && !trace.is_empty()
 }
 
+// Limits, and whether each may be handed in.
+const LIMITS: [(u32, bool); 4] = [(0, false), (1, true), (1_000_000, true), (1_000_001, false)];
+
+// Whether each limit may or may not, as it says.
+fn are_limits(alloc: Global, limits: &[(u32, bool)]) -> bool {
+    for (limit, wanted) in limits {
+        if is_limit(alloc, *limit) != *wanted {
+            return false;
+        }
+    }
+    true
+}
+
 #[test]
 fn limits_that_are_handed_in(rt: HostRuntime) {
-    for (limit, wanted) in [(0, false), (1, true), (1_000_000, true), (1_000_001, false)] {
-        assert!(rt; is_limit(rt.alloc(), limit) == wanted);
+    assert!(rt; are_limits(rt.alloc(), &LIMITS));
+}
+
+const BAD_TEXTS: [&[u8]; 5] = [
+    b"\xff",
+    b"[board]\nthreads = 0\n# \xff",
+    b"[board",
+    b"[board]\nthreads = 1\nthreads = 1\n",
+    b"limit = 9223372036854775808\n[board]\nthreads = 1\n",
+];
+
+// Whether each of these texts comes to this fault, with nothing written.
+fn are_bad(alloc: Global, texts: &[&[u8]], fault: Fault) -> bool {
+    for text in texts {
+        if !comes_to(alloc, *text, None, Err(fault)) {
+            return false;
+        }
     }
+    true
 }
 
 #[test]
 fn bad_texts(rt: HostRuntime) {
-    let texts: [&[u8]; 5] = [
-        b"\xff",
-        b"[board]\nthreads = 0\n# \xff",
-        b"[board",
-        b"[board]\nthreads = 1\nthreads = 1\n",
-        b"limit = 9223372036854775808\n[board]\nthreads = 1\n",
-    ];
-    for text in texts {
-        assert!(rt; comes_to(rt.alloc(), text, None, Err(Fault::Text)));
-    }
+    assert!(rt; are_bad(rt.alloc(), &BAD_TEXTS, Fault::Text));
 }
 
 // Whether so many spaces are refused for this fault, with nothing written.
@@ -49,68 +69,71 @@ fn are_spaces(alloc: Global, count: usize, fault: Fault) -> bool {
 
 #[test]
 fn longest_text(rt: HostRuntime) {
-    for (count, fault) in [(1_048_577, Fault::Text), (1_048_576, Fault::Board)] {
-        assert!(rt; are_spaces(rt.alloc(), count, fault));
-    }
+    assert!(rt; are_spaces(rt.alloc(), 1_048_577, Fault::Text));
+    assert!(rt; are_spaces(rt.alloc(), 1_048_576, Fault::Board));
 }
+
+const BAD_BOARDS: [&[u8]; 18] = [
+    b"",
+    b"colour = 1\n[board]\nthreads = 1\n",
+    b"[board]\nthreads = 1\nstaxes = [1]\n",
+    b"[board]\nsems = [0]\n",
+    b"[board]\nthreads = 0\n",
+    b"[board]\nthreads = 257\n",
+    b"[board]\nthreads = 1\nsems = [2147483648]\n",
+    b"[board]\nthreads = 1\nsems = [-1]\n",
+    b"[board]\nthreads = 1\nsems = 0\n",
+    b"[board]\nthreads = 1\nxbufs = [[1]]\n",
+    b"[board]\nthreads = 1\nxbufs = [[1, 2, 3]]\n",
+    b"[board]\nthreads = 1\nxbufs = [[1, 257]]\n",
+    b"[board]\nthreads = 1\nmutexes = [\"ceiling 05\"]\n",
+    b"[board]\nthreads = 1\ngroups = [101]\n",
+    b"limit = 0\n[board]\nthreads = 1\n",
+    b"limit = 1000001\n[board]\nthreads = 1\n",
+    b"step = [1]\n[board]\nthreads = 1\n",
+    b"[board]\nthreads = 1\n[step]\ndo = \"put\"\n",
+];
 
 #[test]
 fn bad_boards(rt: HostRuntime) {
-    let texts = [
-        "",
-        "colour = 1\n[board]\nthreads = 1\n",
-        "[board]\nthreads = 1\nstaxes = [1]\n",
-        "[board]\nsems = [0]\n",
-        "[board]\nthreads = 0\n",
-        "[board]\nthreads = 257\n",
-        "[board]\nthreads = 1\nsems = [2147483648]\n",
-        "[board]\nthreads = 1\nsems = [-1]\n",
-        "[board]\nthreads = 1\nsems = 0\n",
-        "[board]\nthreads = 1\nxbufs = [[1]]\n",
-        "[board]\nthreads = 1\nxbufs = [[1, 2, 3]]\n",
-        "[board]\nthreads = 1\nxbufs = [[1, 257]]\n",
-        "[board]\nthreads = 1\nmutexes = [\"ceiling 05\"]\n",
-        "[board]\nthreads = 1\ngroups = [101]\n",
-        "limit = 0\n[board]\nthreads = 1\n",
-        "limit = 1000001\n[board]\nthreads = 1\n",
-        "step = [1]\n[board]\nthreads = 1\n",
-        "[board]\nthreads = 1\n[step]\ndo = \"put\"\n",
-    ];
-    for text in texts {
-        let wanted = Err(Fault::Board);
-        assert!(rt;
-            comes_to(rt.alloc(), text.as_bytes(), None, wanted),
-            "{text}"
-        );
+    assert!(rt; are_bad(rt.alloc(), &BAD_BOARDS, Fault::Board));
+}
+
+const BAD_STEPS: [&str; 19] = [
+    "[[step]]\ncolour = 1\n",
+    "[[step]]\ndo = \"get\"\nwho = 0\nsem = 0\n",
+    "[[step]]\ndo = \"put\"\nwho = 0\n",
+    "[[step]]\ndo = \"put\"\nsem = 0\n",
+    "[[step]]\ndo = \"put\"\nwho = 0\nsem = 0\nuntil = 1\n",
+    "[[step]]\ndo = \"arrive\"\nwho = 0\nline = 65536\n",
+    "[[step]]\ndo = \"begin_get\"\nwho = 0\n",
+    "[[step]]\ndo = \"begin_get\"\nwho = 0\nsem = 0\nuntil = \"None\"\n",
+    "[[step]]\ndo = \"begin_get\"\nwho = 0\nsem = 0\nuntil = \"18446744073709551616\"\n",
+    "[[step]]\ndo = \"finish\"\nwho = 0\nkeep = \"false\"\n",
+    "[[step]]\ndo = \"finish\"\nwho = 0\nsem = 0\n",
+    "[[step]]\ndo = \"attach\"\nwho = 0\npolicy = \"quota 65536 1\"\nstage = \"oob\"\n",
+    "[[step]]\ndo = \"attach\"\nwho = 0\npolicy = \"quota  0 5\"\nstage = \"oob\"\n",
+    "[[step]]\ndo = \"stall\"\nwho = 0\nstage = \"Oob\"\n",
+    "[[step]]\ndo = \"stall\"\nwho = 0\nstage = 1\n",
+    "[[step]]\ndo = \"arrive\"\nwho = 0\nline = 0\nstage = \"oob\"\n",
+    "[[step]]\ndo = \"request\"\nwho = 0\nline = 5\nstage = \"oob\"\ncallback = 256\n",
+    "[[step]]\ndo = \"request\"\nwho = 0\nline = 5\nstage = \"oob\"\n",
+    "[[step]]\ndo = \"request\"\nwho = 0\nline = 5\nstage = \"oob\"\ncallback = 0\ntag = 4294967296\n",
+];
+
+// Whether each of these steps is refused.
+fn are_bad_steps(alloc: Global, steps: &[&str]) -> bool {
+    for step in steps {
+        if !is_bad_step(alloc, step, 1) {
+            return false;
+        }
     }
+    true
 }
 
 #[test]
 fn bad_steps(rt: HostRuntime) {
-    let steps = [
-        "[[step]]\ncolour = 1\n",
-        "[[step]]\ndo = \"get\"\nwho = 0\nsem = 0\n",
-        "[[step]]\ndo = \"put\"\nwho = 0\n",
-        "[[step]]\ndo = \"put\"\nsem = 0\n",
-        "[[step]]\ndo = \"put\"\nwho = 0\nsem = 0\nuntil = 1\n",
-        "[[step]]\ndo = \"arrive\"\nwho = 0\nline = 65536\n",
-        "[[step]]\ndo = \"begin_get\"\nwho = 0\n",
-        "[[step]]\ndo = \"begin_get\"\nwho = 0\nsem = 0\nuntil = \"None\"\n",
-        "[[step]]\ndo = \"begin_get\"\nwho = 0\nsem = 0\nuntil = \"18446744073709551616\"\n",
-        "[[step]]\ndo = \"finish\"\nwho = 0\nkeep = \"false\"\n",
-        "[[step]]\ndo = \"finish\"\nwho = 0\nsem = 0\n",
-        "[[step]]\ndo = \"attach\"\nwho = 0\npolicy = \"quota 65536 1\"\nstage = \"oob\"\n",
-        "[[step]]\ndo = \"attach\"\nwho = 0\npolicy = \"quota  0 5\"\nstage = \"oob\"\n",
-        "[[step]]\ndo = \"stall\"\nwho = 0\nstage = \"Oob\"\n",
-        "[[step]]\ndo = \"stall\"\nwho = 0\nstage = 1\n",
-        "[[step]]\ndo = \"arrive\"\nwho = 0\nline = 0\nstage = \"oob\"\n",
-        "[[step]]\ndo = \"request\"\nwho = 0\nline = 5\nstage = \"oob\"\ncallback = 256\n",
-        "[[step]]\ndo = \"request\"\nwho = 0\nline = 5\nstage = \"oob\"\n",
-        "[[step]]\ndo = \"request\"\nwho = 0\nline = 5\nstage = \"oob\"\ncallback = 0\ntag = 4294967296\n",
-    ];
-    for step in steps {
-        assert!(rt; is_bad_step(rt.alloc(), step, 1), "{step}");
-    }
+    assert!(rt; are_bad_steps(rt.alloc(), &BAD_STEPS));
 }
 
 #[test]
@@ -125,17 +148,24 @@ fn put_comes_to(alloc: Global, who: &str, wanted: Result<&str, Fault>) -> bool {
     parts_come_to(alloc, &[BOARD, put, who, "\n"], wanted)
 }
 
+const NO_NUMBERS: [&str; 11] = [
+    "65536", "-1", "0.0", "\"00\"", "\"+1\"", "\"\"", "\" 0\"", "\"0x0\"", "\"1_0\"", "true", "[0]",
+];
+
+// Whether a put by a thread that is written in one of these forms is refused, each.
+fn are_no_numbers(alloc: Global, forms: &[&str]) -> bool {
+    for form in forms {
+        if !put_comes_to(alloc, form, Err(Fault::Step(1))) {
+            return false;
+        }
+    }
+    true
+}
+
 #[test]
 fn forms_of_no_number(rt: HostRuntime) {
-    let alloc = rt.alloc();
-    assert!(rt; put_comes_to(alloc, "\"0\"", Ok(TRACE)));
-    let forms = [
-        "65536", "-1", "0.0", "\"00\"", "\"+1\"", "\"\"", "\" 0\"", "\"0x0\"", "\"1_0\"", "true",
-        "[0]",
-    ];
-    for form in forms {
-        assert!(rt; put_comes_to(alloc, form, Err(Fault::Step(1))), "{form}");
-    }
+    assert!(rt; put_comes_to(rt.alloc(), "\"0\"", Ok(TRACE)));
+    assert!(rt; are_no_numbers(rt.alloc(), &NO_NUMBERS));
 }
 
 // Whether a text whose limit is written so is played, and its first line tells a limit of 10.
@@ -145,11 +175,21 @@ fn is_limit_ten(alloc: Global, limit: &str) -> bool {
     parts_come_to(alloc, &parts, Ok(trace))
 }
 
+const TENS: [&str; 4] = ["+10", "1_0", "0xA", "\"10\""];
+
+// Whether each of these is a limit of 10.
+fn are_tens(alloc: Global, forms: &[&str]) -> bool {
+    for form in forms {
+        if !is_limit_ten(alloc, form) {
+            return false;
+        }
+    }
+    true
+}
+
 #[test]
 fn forms_of_numbers(rt: HostRuntime) {
-    for form in ["+10", "1_0", "0xA", "\"10\""] {
-        assert!(rt; is_limit_ten(rt.alloc(), form), "{form}");
-    }
+    assert!(rt; are_tens(rt.alloc(), &TENS));
 }
 
 #[test]

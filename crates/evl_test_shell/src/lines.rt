@@ -39,30 +39,40 @@ fn is_named(alloc: Global, refusal: Refusal, name: &str) -> bool {
     is_named_in_a_line(alloc, refusal, name) && is_text(refusal.to_string(alloc), name)
 }
 
+const RACED: Refusal = Refusal::Raced {
+    first: 3,
+    second: 4,
+};
+
+const NAMES: [(Refusal, &str); 15] = [
+    (Refusal::NoMemory, "NoMemory"),
+    (Refusal::HistoryFull, "HistoryFull"),
+    (Refusal::CoreBusy, "CoreBusy"),
+    (Refusal::Unknown, "Unknown"),
+    (Refusal::Invalid, "Invalid"),
+    (Refusal::Again, "Again"),
+    (Refusal::Busy, "Busy"),
+    (Refusal::NotOwner, "NotOwner"),
+    (Refusal::Deadlock, "Deadlock"),
+    (Refusal::Limit, "Limit"),
+    (Refusal::Range, "Range"),
+    (Refusal::TooBig, "TooBig"),
+    (Refusal::WrongStage, "WrongStage"),
+    (Refusal::HoldsStax, "HoldsStax"),
+    (RACED, "Raced"),
+];
+
+// Whether each refusal has its name.
+fn are_named(alloc: Global, names: &[(Refusal, &str)]) -> bool {
+    for (refusal, name) in names {
+        if !is_named(alloc, *refusal, name) {
+            return false;
+        }
+    }
+    true
+}
+
 #[test]
 fn each_refusal_has_its_name(rt: HostRuntime) {
-    let raced = Refusal::Raced {
-        first: 3,
-        second: 4,
-    };
-    let names = [
-        (Refusal::NoMemory, "NoMemory"),
-        (Refusal::HistoryFull, "HistoryFull"),
-        (Refusal::CoreBusy, "CoreBusy"),
-        (Refusal::Unknown, "Unknown"),
-        (Refusal::Invalid, "Invalid"),
-        (Refusal::Again, "Again"),
-        (Refusal::Busy, "Busy"),
-        (Refusal::NotOwner, "NotOwner"),
-        (Refusal::Deadlock, "Deadlock"),
-        (Refusal::Limit, "Limit"),
-        (Refusal::Range, "Range"),
-        (Refusal::TooBig, "TooBig"),
-        (Refusal::WrongStage, "WrongStage"),
-        (Refusal::HoldsStax, "HoldsStax"),
-        (raced, "Raced"),
-    ];
-    for (refusal, name) in names {
-        assert!(rt; is_named(rt.alloc(), refusal, name), "{name}");
-    }
+    assert!(rt; are_named(rt.alloc(), &NAMES));
 }

@@ -47,41 +47,48 @@ fn is_unread_at_each<F: Files + AllocGlobal>(rt: &F, length: &Length, most: usiz
     }
 }
 
+// The same of each of some scenarios, by parts of at most 100 bytes and by all that is asked for.
+fn are_unread_at_each<F: Files + AllocGlobal>(rt: &F, lengths: &[Length]) -> bool {
+    for length in lengths {
+        let parts = is_unread_at_each(rt, length, 100);
+        if !parts || !is_unread_at_each(rt, length, 1_000_000) {
+            return false;
+        }
+    }
+    true
+}
+
 #[test]
 fn each_read_of_an_input_fails_once(rt: HostRuntime) {
     assert!(rt; is_unread_at_each(&rt, &SHORTEST, 1));
     assert!(rt; is_unread_at_each(&rt, &LONG, 1_000_000));
-    for length in ABOUT_A_PART.as_slice() {
-        for most in [100, 1_000_000] {
-            assert!(rt;
-                is_unread_at_each(&rt, length, most),
-                "{most} {}",
-                length.bytes
-            );
-        }
-    }
-}
-
-// How many reads of one byte give a scenario.
-fn reads_of_one_byte<F: Files + AllocGlobal>(rt: &F, length: &Length) -> Option<(usize, usize)> {
-    let (text, trace) = played(rt.alloc(), length)?;
-    let reads = reads_of(rt, text.as_str(), trace.as_slice(), 1)?;
-    Some((reads, text.len()))
+    assert!(rt; are_unread_at_each(&rt, &ABOUT_A_PART));
 }
 
 // Whether each byte is read alone, and then the end.
 fn is_read_by_bytes<F: Files + AllocGlobal>(rt: &F, length: &Length) -> bool {
-    match reads_of_one_byte(rt, length) {
-        Some((reads, bytes)) => reads == bytes.saturating_add(1),
+    match played(rt.alloc(), length) {
+        Some((text, trace)) => {
+            let reads = reads_of(rt, text.as_str(), trace.as_slice(), 1);
+            reads == Some(text.len().saturating_add(1))
+        }
         None => false,
     }
+}
+
+// The same of each of these.
+fn are_read_by_bytes<F: Files + AllocGlobal>(rt: &F, lengths: &[Length]) -> bool {
+    for length in lengths {
+        if !is_read_by_bytes(rt, length) {
+            return false;
+        }
+    }
+    true
 }
 
 #[test]
 fn an_input_comes_by_single_bytes(rt: HostRuntime) {
     assert!(rt; is_read_by_bytes(&rt, &SHORTEST));
     assert!(rt; is_read_by_bytes(&rt, &LONG));
-    for length in ABOUT_A_PART.as_slice() {
-        assert!(rt; is_read_by_bytes(&rt, length), "{}", length.bytes);
-    }
+    assert!(rt; are_read_by_bytes(&rt, &ABOUT_A_PART));
 }
