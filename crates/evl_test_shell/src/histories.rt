@@ -87,7 +87,7 @@ fn make<C: Handler, A: Allocator>(kernel: &mut KernelOf<C, A>, who: u16, call: C
     requires by_plan { AnswersByPlan C.declared C.plan kernel.old.callbacks }
     ensures by_plan { AnswersByPlan C.declared C.plan kernel.new.callbacks }
 {
-    let _answer = kernel.apply(ThreadId(who), call);
+    drop(kernel.apply(ThreadId(who), call));
 }
 
 // Whether the history of a kernel over the board is traced so, and the program writes the same where it plays its

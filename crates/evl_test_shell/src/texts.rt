@@ -36,6 +36,14 @@ who = 0
 sem = 0
 "#;
 
+// Some puts and a tail come to a text.
+fn add_puts(text: &mut String, count: u32, tail: &str) -> Result<(), AllocError> {
+    for _ in 0..count {
+        text.push_str("[[step]]\ndo = \"put\"\nwho = 0\nsem = 0\n")?;
+    }
+    text.push_str(tail)
+}
+
 /// Some puts between a head and a tail.
 pub(crate) fn puts(
     alloc: Global,
@@ -44,11 +52,10 @@ pub(crate) fn puts(
     tail: &str,
 ) -> Result<String, AllocError> {
     let mut text = String::from_str(alloc, head)?;
-    for _ in 0..count {
-        text.push_str("[[step]]\ndo = \"put\"\nwho = 0\nsem = 0\n")?;
+    match add_puts(&mut text, count, tail) {
+        Ok(()) => Ok(text),
+        Err(refused) => Err(refused),
     }
-    text.push_str(tail)?;
-    Ok(text)
 }
 
 /// So many spaces.
@@ -71,6 +78,14 @@ pub(crate) fn came<W: Write>(
     (answer, failed, out.into_inner())
 }
 
+// Whether a run that answered and wrote so has come to this.
+fn has_come(answer: Result<(), Fault>, written: &[u8], wanted: Result<&str, Fault>) -> bool {
+    match wanted {
+        Ok(trace) => answer == Ok(()) && written == trace.as_bytes(),
+        Err(fault) => answer == Err(fault) && written.is_empty(),
+    }
+}
+
 /// Whether a text comes to this: to its trace and nothing else, or to its fault with nothing written.
 pub(crate) fn comes_to(
     alloc: Global,
@@ -80,10 +95,7 @@ pub(crate) fn comes_to(
 ) -> bool {
     let out: Vec<u8> = Vec::new(alloc);
     let (answer, _, written) = came(alloc, text, limit, out);
-    match wanted {
-        Ok(trace) => answer == Ok(()) && written.as_slice() == trace.as_bytes(),
-        Err(fault) => answer == Err(fault) && written.is_empty(),
-    }
+    has_come(answer, written.as_slice(), wanted)
 }
 
 // Texts behind one another.
