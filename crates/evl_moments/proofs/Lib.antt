@@ -1,1 +1,2 @@
 pub mod PendingLaws
+mod RunLaws
