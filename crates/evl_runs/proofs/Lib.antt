@@ -1,0 +1,2 @@
+mod DifferenceLaws
+mod EventLaws
