@@ -83,7 +83,11 @@ fn play(
 {
     let (board, limit, steps) = scenario.into_parts();
     match PlannedKernel::new(alloc, board, bank, limit) {
-        Ok(mut kernel) => make_steps(alloc, &mut kernel, steps, lanes),
+        Ok(mut kernel) => {
+            let made = make_steps(alloc, &mut kernel, steps, lanes);
+            drop(kernel);
+            made
+        }
         Err(Refusal::Range) => Ok(Vec::new(alloc)),
         Err(_) => Err(AllocError),
     }
