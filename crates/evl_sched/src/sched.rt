@@ -63,11 +63,11 @@ impl<A: Allocator + Clone> SchedOf<A> {
         ensures fresh { IfOk result (λ s. s ≡ fresh threads groups.now) }
     {
         let seats = no_seats(alloc.clone()?, threads as usize)?;
-        let order = Order::new(alloc.clone()?, threads)?;
         let given = no_ranks(alloc.clone()?, threads as usize)?;
+        let groups = opened(alloc.clone()?, groups)?;
         let members = ThreadSet::new(alloc.clone()?, threads)?;
         let spare = ThreadSet::new(alloc.clone()?, threads)?;
-        let groups = opened(alloc, groups)?;
+        let order = Order::new(alloc, threads)?;
         Ok(SchedOf {
             seats,
             order,
