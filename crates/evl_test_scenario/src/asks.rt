@@ -45,55 +45,76 @@ fn first(alloc: Global, asked: &str) -> Result<Option<usize>, AskFault> {
     }
 }
 
+// What is asked, and the first outcome that is against it.
+const FIRST: [(&str, Option<usize>); 4] = [
+    ("", None),
+    ("[ask]\nalways_ends = true\n", Some(0)),
+    ("[ask]\nnever = [\"T1 -> timed out\"]\n", None),
+    ("[ask]\nnever = [\n\"T2 -> done\",\n]\n", Some(1)),
+];
+
+// Whether these are.
+fn are_first(alloc: Global, rows: &[(&str, Option<usize>)]) -> bool {
+    for (asked, wanted) in rows {
+        if first(alloc, asked) != Ok(*wanted) {
+            return false;
+        }
+    }
+    true
+}
+
 #[test]
 fn what_is_told_of_outcomes_is_asked(rt: HostRuntime) {
-    assert_eq!(rt; first(rt.alloc(), ""), Ok(None));
-    assert_eq!(rt;
-        first(rt.alloc(), "[ask]\nalways_ends = true\n"),
-        Ok(Some(0))
-    );
-    assert_eq!(rt;
-        first(rt.alloc(), "[ask]\nnever = [\"T1 -> timed out\"]\n"),
-        Ok(None)
-    );
-    assert_eq!(rt;
-        first(rt.alloc(), "[ask]\nnever = [\n\"T2 -> done\",\n]\n"),
-        Ok(Some(1))
-    );
+    assert!(rt; are_first(rt.alloc(), &FIRST));
+}
+
+// Whether just an answer of the first caller that is done is meant.
+fn is_one_answer(ask: &Ask) -> bool {
+    is_against(ask, "T1 -> done\n")
+        && is_against(ask, "T2 -> begun\nT1 -> begun -> done -> Busy\n")
+        && !is_against(ask, "T11 -> done\nT2 -> done\nT1 -> done not\n")
+        && !is_against(ask, "stuck: T1 waits\nT1\n")
+}
+
+// Whether it is by what is asked.
+fn means_one_answer(alloc: Global, asked: &str) -> bool {
+    match read(alloc, asked) {
+        Ok(ask) => is_one_answer(&ask),
+        Err(_) => false,
+    }
 }
 
 #[test]
 fn just_one_answer_of_a_caller_is_meant(rt: HostRuntime) {
-    let ask = read(rt.alloc(), "[ask]\nnever = [\"T1 -> done\"]\n").expect(&rt, "an ask");
-    assert!(rt; is_against(&ask, "T1 -> done\n"));
-    assert!(rt; is_against(&ask, "T2 -> begun\nT1 -> begun -> done -> Busy\n"));
-    assert!(rt; !is_against(&ask, "T11 -> done\nT2 -> done\nT1 -> done not\n"));
-    assert!(rt; !is_against(&ask, "stuck: T1 waits\nT1\n"));
+    assert!(rt; means_one_answer(rt.alloc(), "[ask]\nnever = [\"T1 -> done\"]\n"));
+}
+
+// What is asked, and why it can't be read.
+const REFUSED: [(&str, AskFault); 5] = [
+    (
+        "[ask]\nnever = [\"T1 -> done\", \"T7 -> done\"]\n",
+        AskFault::Never(2),
+    ),
+    (
+        "[ask]\nnever = [\"T1 -> begun -> done\"]\n",
+        AskFault::Never(1),
+    ),
+    ("[ask]\nnever = [\"T1\"]\n", AskFault::Never(1)),
+    ("[ask]\nalways = true\n", AskFault::Table),
+    ("[ask]\nalways_ends = 1\n", AskFault::Table),
+];
+
+// Whether each is refused so.
+fn are_refused(alloc: Global, rows: &[(&str, AskFault)]) -> bool {
+    for (asked, fault) in rows {
+        if fault_of(alloc, asked) != Some(*fault) {
+            return false;
+        }
+    }
+    true
 }
 
 #[test]
 fn what_cant_be_asked_is_refused(rt: HostRuntime) {
-    assert_eq!(rt;
-        fault_of(
-            rt.alloc(),
-            "[ask]\nnever = [\"T1 -> done\", \"T7 -> done\"]\n"
-        ),
-        Some(AskFault::Never(2))
-    );
-    assert_eq!(rt;
-        fault_of(rt.alloc(), "[ask]\nnever = [\"T1 -> begun -> done\"]\n"),
-        Some(AskFault::Never(1))
-    );
-    assert_eq!(rt;
-        fault_of(rt.alloc(), "[ask]\nnever = [\"T1\"]\n"),
-        Some(AskFault::Never(1))
-    );
-    assert_eq!(rt;
-        fault_of(rt.alloc(), "[ask]\nalways = true\n"),
-        Some(AskFault::Table)
-    );
-    assert_eq!(rt;
-        fault_of(rt.alloc(), "[ask]\nalways_ends = 1\n"),
-        Some(AskFault::Table)
-    );
+    assert!(rt; are_refused(rt.alloc(), &REFUSED));
 }

@@ -1,6 +1,5 @@
 //! Texts of callers, read.
-use evl_callers_text::{CallersText, read_callers};
-use evl_scenario::Fault;
+use evl_callers_text::{CallersStep, CallersText, read_callers};
 use std::alloc::{AllocError, Global};
 
 // A text with each word that is a caller's, and a call of the kernel.
@@ -31,45 +30,69 @@ T0 tick delta=5
 T0 give
 ";
 
+// A step's line.
+fn put_step(told: &mut String, step: &CallersStep) -> Result<(), AllocError> {
+    let who = step.who.0;
+    write!(told, "T{who} ")?;
+    step.act.put(told)?;
+    told.push_str("\n")
+}
+
 // The steps of a text, a line each.
-fn put_steps(told: &mut String, text: &CallersText) -> Result<(), AllocError> {
-    for step in &text.steps {
-        let who = step.who.0;
-        write!(told, "T{who} ")?;
-        step.act.put(told)?;
-        told.push_str("\n")?;
+fn put_steps(told: &mut String, steps: &[CallersStep]) -> Result<(), AllocError> {
+    for step in steps {
+        put_step(told, step)?;
     }
     Ok(())
 }
 
-// The same of a text that is read first.
-fn steps_of(alloc: Global, text: &str) -> Result<String, Fault> {
-    let text = read_callers(alloc, text.as_bytes(), None)?;
+// Whether its steps are told so.
+fn has_steps(alloc: Global, text: &CallersText, wanted: &str) -> bool {
     let mut told = String::new(alloc);
-    match put_steps(&mut told, &text) {
-        Ok(()) => Ok(told),
-        Err(_) => Err(Fault::Memory),
+    let put = put_steps(&mut told, text.steps.as_slice()).is_ok();
+    put && told.as_str() == wanted
+}
+
+// Whether these are the board and the limit of a text.
+fn has_board(text: &CallersText, limit: u32) -> bool {
+    let board = &text.board;
+    let staxes = board.staxes.as_slice() == [2, 1000].as_slice();
+    staxes && board.threads == 2 && text.limit == limit
+}
+
+// What is asked of the text.
+#[derive(Clone, Copy)]
+enum Asked {
+    Steps(&'static str),
+    Board(u32),
+}
+
+fn is_so(alloc: Global, text: &CallersText, asked: Asked) -> bool {
+    match asked {
+        Asked::Steps(told) => has_steps(alloc, text, told),
+        Asked::Board(limit) => has_board(text, limit),
+    }
+}
+
+// The same of the text that is read, with a limit that is handed in.
+fn is_read_so(alloc: Global, limit: Option<u32>, asked: Asked) -> bool {
+    match read_callers(alloc, EACH_WORD.as_bytes(), limit) {
+        Ok(text) => is_so(alloc, &text, asked),
+        Err(_) => false,
     }
 }
 
 #[test]
 fn each_word_is_read(rt: HostRuntime) {
-    let told = steps_of(rt.alloc(), EACH_WORD).expect(&rt, "steps");
-    assert_eq!(rt; told.as_str(), EACH_TOLD);
+    assert!(rt; is_read_so(rt.alloc(), None, Asked::Steps(EACH_TOLD)));
 }
 
 #[test]
 fn a_board_has_staxes(rt: HostRuntime) {
-    let text = read_callers(rt.alloc(), EACH_WORD.as_bytes(), None).expect(&rt, "a text");
-    assert_eq!(rt; text.board.staxes.len(), 2);
-    assert_eq!(rt; text.board.staxes.get(0).copied(), Some(2));
-    assert_eq!(rt; text.board.staxes.get(1).copied(), Some(1000));
-    assert_eq!(rt; text.board.threads, 2);
-    assert_eq!(rt; text.limit, 1000);
+    assert!(rt; is_read_so(rt.alloc(), None, Asked::Board(1000)));
 }
 
 #[test]
 fn a_limit_is_handed_in(rt: HostRuntime) {
-    let text = read_callers(rt.alloc(), EACH_WORD.as_bytes(), Some(7)).expect(&rt, "a text");
-    assert_eq!(rt; text.limit, 7);
+    assert!(rt; is_read_so(rt.alloc(), Some(7), Asked::Board(7)));
 }

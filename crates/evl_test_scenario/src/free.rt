@@ -2,7 +2,7 @@
 ghost use Rattle.std.specs.Prelude.{◌≡◌, ◌≤◌};
 ghost use Rattle.evl_test_scenario.specs.Free.{worth};
 
-use evl_orders::{World, explore};
+use evl_orders::{Explored, World, explore};
 use std::alloc::{AllocError, Global};
 
 // The callers.
@@ -61,11 +61,23 @@ impl World for Free {
     }
 }
 
+// Whether these are all merges, and end at one moment.
+fn are_all_merges(found: &Explored<u32>) -> bool {
+    let [end] = found.ends.as_slice() else {
+        return false;
+    };
+    found.whole && found.moments == 2401 && end.count == 2_308_743_493_056
+}
+
+// Whether the callers' orders are.
+fn have_all_merges(alloc: Global) -> bool {
+    match explore(alloc, &Free, 0, 25, 1000) {
+        Ok(found) => are_all_merges(&found),
+        Err(_) => false,
+    }
+}
+
 #[test]
 fn all_merges_are_counted(rt: HostRuntime) {
-    let found = explore(rt.alloc(), &Free, 0, 25, 1000).expect(&rt, "memory");
-    assert!(rt; found.whole);
-    assert_eq!(rt; found.moments, 2401);
-    assert_eq!(rt; found.ends.len(), 1);
-    assert_eq!(rt; found.ends[0].count, 2_308_743_493_056);
+    assert!(rt; have_all_merges(rt.alloc()));
 }

@@ -1,6 +1,8 @@
 //! Orders of scenarios' callers.
 use evl_orders::OrdersError;
-use evl_scenario_orders::{NoCallbacks, is_stuck, outcomes_of, read_callers, write_report};
+use evl_scenario_orders::{
+    Callers, NoCallbacks, Outcomes, is_stuck, outcomes_of, read_callers, write_report,
+};
 use std::alloc::Global;
 
 // Two locks, which two threads take in opposite orders.
@@ -43,31 +45,60 @@ fn counts(alloc: Global, text: &str) -> Result<(u128, usize, u128), OrdersError>
 
 #[test]
 fn two_orders_of_puts_end_alike(rt: HostRuntime) {
-    assert_eq!(rt; counts(rt.alloc(), PUTS), Ok((6, 1, 0)));
+    assert!(rt; counts(rt.alloc(), PUTS) == Ok((6, 1, 0)));
 }
 
 #[test]
 fn two_locks_can_end_stuck(rt: HostRuntime) {
-    assert_eq!(rt; counts(rt.alloc(), TWO_LOCKS), Ok((38, 2, 18)));
+    assert!(rt; counts(rt.alloc(), TWO_LOCKS) == Ok((38, 2, 18)));
 }
+
+// What a report has to tell: at its beginning, or somewhere.
+#[derive(Clone, Copy)]
+enum Wanted {
+    AtFirst(&'static str),
+    Somewhere(&'static str),
+}
+
+// Whether the report of these outcomes tells it.
+fn tells(alloc: Global, callers: &Callers, outcomes: &Outcomes, wanted: Wanted) -> bool {
+    match write_report(alloc, callers, &NoCallbacks, outcomes) {
+        Ok(report) => match wanted {
+            Wanted::AtFirst(told) => report.as_str().starts_with(told),
+            Wanted::Somewhere(told) => report.as_str().contains(told),
+        },
+        Err(_) => false,
+    }
+}
+
+// Whether that of some callers does.
+fn tells_of_callers(alloc: Global, callers: &Callers, wanted: Wanted) -> bool {
+    match outcomes_of(alloc, callers, &NoCallbacks, 10_000) {
+        Ok(outcomes) => tells(alloc, callers, &outcomes, wanted),
+        Err(_) => false,
+    }
+}
+
+// Whether that of a text does.
+fn tells_of_text(alloc: Global, text: &str, wanted: Wanted) -> bool {
+    match read_callers(alloc, text.as_bytes()) {
+        Ok(callers) => tells_of_callers(alloc, &callers, wanted),
+        Err(_) => false,
+    }
+}
+
+const COUNTS: Wanted = Wanted::AtFirst("# 6 orders, 1 outcome\n# outcome 1: 6 orders\n");
 
 #[test]
 fn a_report_begins_with_counts(rt: HostRuntime) {
-    let callers = read_callers(rt.alloc(), PUTS.as_bytes()).expect(&rt, "callers");
-    let outcomes = outcomes_of(rt.alloc(), &callers, &NoCallbacks, 10_000).expect(&rt, "outcomes");
-    let report = write_report(rt.alloc(), &callers, &NoCallbacks, &outcomes).expect(&rt, "memory");
-    assert!(rt;
-        report
-            .as_str()
-            .starts_with("# 6 orders, 1 outcome\n# outcome 1: 6 orders\n")
-    );
+    assert!(rt; tells_of_text(rt.alloc(), PUTS, COUNTS));
 }
+
+const FIRST_STUCK: Wanted = Wanted::Somewhere(
+    "# outcome 1: 18 orders\n# stuck: T1 waits for sem 1\n# stuck: T2 waits for sem 0\n",
+);
 
 #[test]
 fn a_report_tells_first_who_is_stuck(rt: HostRuntime) {
-    let callers = read_callers(rt.alloc(), TWO_LOCKS.as_bytes()).expect(&rt, "callers");
-    let outcomes = outcomes_of(rt.alloc(), &callers, &NoCallbacks, 10_000).expect(&rt, "outcomes");
-    let report = write_report(rt.alloc(), &callers, &NoCallbacks, &outcomes).expect(&rt, "memory");
-    let told = "# outcome 1: 18 orders\n# stuck: T1 waits for sem 1\n# stuck: T2 waits for sem 0\n";
-    assert!(rt; report.as_str().contains(told));
+    assert!(rt; tells_of_text(rt.alloc(), TWO_LOCKS, FIRST_STUCK));
 }
