@@ -169,7 +169,28 @@ fn site_of(reserves: bool, room: bool, calls: u32) -> Option<Site> {
     }
 }
 
-// Where the calls of a row met the refusal; none where something else came of them than the row's trace.
+// Where these steps of a row met the refusal, which are made once more where memory was refused; none where something
+// else came of them than the row's trace.
+fn met_by_steps<C: Handler, A: Allocator>(
+    alloc: Global,
+    kernel: &mut KernelOf<C, A>,
+    row: &Row,
+    reserves: bool,
+    steps: (Vec<Step>, Vec<Step>),
+) -> Option<Site>
+    requires { AnswersByPlan C.declared C.plan kernel.old.callbacks }
+{
+    let (steps, again) = steps;
+    let room = is_room_refused_once(alloc, kernel, steps.len(), reserves);
+    let calls = refusals(alloc, kernel, steps, again);
+    let is_traced = is_traced(alloc, kernel, row);
+    match (room, calls) {
+        (Some(room), Some(calls)) if is_traced => site_of(reserves, room, calls),
+        _ => None,
+    }
+}
+
+// Where the calls of a row did.
 fn met_by_calls<C: Handler, A: Allocator>(
     alloc: Global,
     kernel: &mut KernelOf<C, A>,
@@ -178,14 +199,9 @@ fn met_by_calls<C: Handler, A: Allocator>(
 ) -> Option<Site>
     requires { AnswersByPlan C.declared C.plan kernel.old.callbacks }
 {
-    let steps = steps_of(alloc, row)?;
-    let again = steps_of(alloc, row)?;
-    let room = is_room_refused_once(alloc, kernel, steps.len(), reserves)?;
-    let calls = refusals(alloc, kernel, steps, again)?;
-    if is_traced(alloc, kernel, row) {
-        site_of(reserves, room, calls)
-    } else {
-        None
+    match (steps_of(alloc, row), steps_of(alloc, row)) {
+        (Some(steps), Some(again)) => met_by_steps(alloc, kernel, row, reserves, (steps, again)),
+        _ => None,
     }
 }
 
@@ -244,8 +260,32 @@ impl<'a> BankUser for Run<'a> {
     }
 }
 
-// Where a row meets the refusal of the request behind so many; none where it is met by nobody, or something stays
-// taken.
+// Where a row meets the refusal of this memory; none where it is met by nobody, or something stays taken.
+fn met_over<R: Threads + Wait + Sync>(
+    rt: &R,
+    alloc: Global,
+    memory: &Refusing<LocalHeap>,
+    row: &Row,
+    reserves: bool,
+) -> Option<Site> {
+    let run = Run {
+        alloc,
+        memory,
+        row,
+        reserves,
+    };
+    match with_program_bank(rt, alloc, run) {
+        Ok(Some(met)) if is_all_back(memory, met != Site::Nowhere) => Some(met),
+        _ => None,
+    }
+}
+
+// Whether the memory has refused its request, where that was met, and nothing stays taken.
+fn is_all_back(memory: &Refusing<LocalHeap>, is_met: bool) -> bool {
+    memory.has_refused() == is_met && memory.inner().used() == 0
+}
+
+// The same of memory that refuses the request behind so many.
 fn met<R: Threads + Wait + Sync>(
     rt: &R,
     alloc: Global,
@@ -253,22 +293,9 @@ fn met<R: Threads + Wait + Sync>(
     reserves: bool,
     granted: u64,
 ) -> Option<Site> {
-    let heap = LocalHeap::new(alloc, ENOUGH).ok()?;
-    let memory = Refusing::after(heap, granted);
-    let run = Run {
-        alloc,
-        memory: &memory,
-        row,
-        reserves,
-    };
-    let Ok(Some(met)) = with_program_bank(rt, alloc, run) else {
-        return None;
-    };
-    let is_met = met != Site::Nowhere;
-    if memory.has_refused() == is_met && memory.inner().used() == 0 {
-        Some(met)
-    } else {
-        None
+    match LocalHeap::new(alloc, ENOUGH) {
+        Ok(heap) => met_over(rt, alloc, &Refusing::after(heap, granted), row, reserves),
+        Err(_) => None,
     }
 }
 
