@@ -1,5 +1,5 @@
 //! The kernel and its history.
-ghost use Rattle.std.specs.Prelude.{◌≡◌, ◌⊎◌, ◌↔◌, ◌+◌, ◌≤◌, ◌<◌, length, true, false, None, option_map, IsTrue, IsFalse, OnOk, IfOk, IfErr};
+ghost use Rattle.std.specs.Prelude.{◌≡◌, ◌⊎◌, ◌↔◌, ◌+◌, ◌-◌, ◌≤◌, ◌<◌, length, vec_len, vec_capacity, true, false, None, option_map, IsTrue, IsFalse, OnOk, OnErr, IfOk, IfErr};
 ghost use Rattle.std.specs.Option.{option_map_or};
 ghost use Rattle.evl_pipeline.specs.Counts.{count_at};
 ghost use Rattle.evl_pipeline.specs.Limits.{line_count};
@@ -10,6 +10,7 @@ ghost use Rattle.evl_mutex.specs.Owners.{owner_at};
 ghost use Rattle.evl_sched.specs.Threads.{stage_of};
 ghost use Rattle.evl_kernel.specs.Callbacks.{AnswersByPlan, BringsNone, handlers_in};
 ghost use Rattle.evl_kernel.specs.Fires.{AddsByCalls};
+ghost use Rattle.evl_kernel.specs.Insides.{calls_in};
 ghost use Rattle.evl_kernel.specs.Limits.{history_limit};
 ghost use Rattle.evl_kernel.specs.Openings.{can_open};
 ghost use Rattle.evl_kernel.specs.Histories.{IsLegal};
@@ -175,11 +176,7 @@ impl<C: Handler, A: Allocator> KernelOf<C, A> {
         if n > self.limit - self.history.len() {
             return Err(Refusal::HistoryFull);
         }
-        self.history.reserve(n).map_err(|_| Refusal::NoMemory)?;
-        self.plays
-            .reserve(n * MAX_PLAYS)
-            .map_err(|_| Refusal::NoMemory)?;
-        self.spares.keep(n * MAX_BOXES)
+        make_room(&mut self.history, &mut self.plays, &mut self.spares, n)
     }
 
     /// Answers a call of a thread, settles, and enters the call with its answer into the history. `HistoryFull` exactly
@@ -206,11 +203,7 @@ impl<C: Handler, A: Allocator> KernelOf<C, A> {
         if self.history.len() == self.limit {
             return Err(Refusal::HistoryFull);
         }
-        self.history.reserve(1).map_err(|_| Refusal::NoMemory)?;
-        self.plays
-            .reserve(MAX_PLAYS)
-            .map_err(|_| Refusal::NoMemory)?;
-        self.spares.keep(MAX_BOXES)?;
+        make_room(&mut self.history, &mut self.plays, &mut self.spares, 1)?;
         let before = self.plays.len();
         let reply = self.records.perform(
             caller,
@@ -352,6 +345,33 @@ impl<C, A: Allocator> KernelOf<C, A> {
     {
         self.records.waiters(mutex)
     }
+}
+
+// Makes room for the entries, the plays and the bytes of so many calls. `NoMemory` where it was refused.
+fn make_room<A: Allocator>(
+    history: &mut Vec<Entry, A>,
+    plays: &mut Vec<Play, A>,
+    spares: &mut Spares<A>,
+    n: usize,
+) -> Result<(), Refusal>
+    requires few { n ≤ history_limit }
+    ensures entries { history.new.items ≡ history.old.items }
+    ensures plays { plays.new.items ≡ plays.old.items }
+    ensures room { OnOk result (n ≤ calls_in (vec_capacity history.new - vec_len history.new) (vec_capacity plays.new - vec_len plays.new) spares.new) }
+    ensures keeps { calls_in (vec_capacity history.old - vec_len history.old) (vec_capacity plays.old - vec_len plays.old) spares.old
+        ≤ calls_in (vec_capacity history.new - vec_len history.new) (vec_capacity plays.new - vec_len plays.new) spares.new }
+    ensures memory { OnErr result (calls_in (vec_capacity history.old - vec_len history.old) (vec_capacity plays.old - vec_len plays.old) spares.old < n) }
+    ensures refusal { IfErr result (λ e. e ≡ Refusal.NoMemory) }
+{
+    match history.reserve(n) {
+        Ok(()) => {}
+        Err(_) => return Err(Refusal::NoMemory),
+    }
+    match plays.reserve(n * MAX_PLAYS) {
+        Ok(()) => {}
+        Err(_) => return Err(Refusal::NoMemory),
+    }
+    spares.keep(n * MAX_BOXES)
 }
 
 // The same answer once more, for the entry: its bytes, if it has any, lie in a box that was kept.

@@ -28,7 +28,10 @@ impl<A: Allocator> Elements<A> {
     pub(crate) fn there(&self, xbuf: XbufId, way: Way) -> Option<usize>
         ensures there { result ≡ option_map (λ x. length (stream x way).there) (slice_get self.now.elements.xbufs xbuf.0) }
     {
-        Some(self.xbufs.get(usize::from(xbuf.0))?.there(way))
+        match self.xbufs.get(usize::from(xbuf.0)) {
+            Some(xbuf) => Some(xbuf.there(way)),
+            None => None,
+        }
     }
 
     // Who stands at a place of a semaphore's queue.
@@ -49,14 +52,20 @@ impl<A: Allocator> Elements<A> {
     fn writer(&self, xbuf: XbufId, way: Way, place: usize) -> Option<ThreadId>
         ensures waiter { option_map (λ t. t.0) result ≡ slice_get (queue_at (λ x. map (λ w. w.thread) (stream x way).writers) self.now.elements.xbufs xbuf.0) place }
     {
-        self.xbufs.get(usize::from(xbuf.0))?.writer(way, place)
+        match self.xbufs.get(usize::from(xbuf.0)) {
+            Some(xbuf) => xbuf.writer(way, place),
+            None => None,
+        }
     }
 
     // Who stands at a place among those who wait to read from a way of a cross-buffer.
     fn reader(&self, xbuf: XbufId, way: Way, place: usize) -> Option<ThreadId>
         ensures waiter { option_map (λ t. t.0) result ≡ slice_get (queue_at (λ x. map (λ r. r.thread) (stream x way).readers) self.now.elements.xbufs xbuf.0) place }
     {
-        self.xbufs.get(usize::from(xbuf.0))?.reader(way, place)
+        match self.xbufs.get(usize::from(xbuf.0)) {
+            Some(xbuf) => xbuf.reader(way, place),
+            None => None,
+        }
     }
 
     /// Who stands at a place of the queue of an element, the first one at 0.
