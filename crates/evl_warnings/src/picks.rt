@@ -1,72 +1,131 @@
 //! The warning of a step by a thread that isn't the picked one.
-use evl_base::{Call, Refusal, Stage, ThreadId};
+ghost use Rattle.std.specs.Prelude.{◌≡◌, ◌++◌, string_bytes, IfOk, OnOk, option_map};
+ghost use Rattle.std.specs.Option.{option_or};
+ghost use Rattle.evl_shell.specs.Moments as shell;
+ghost use Rattle.evl_shell.specs.Moments.{moment};
+ghost use Rattle.evl_warnings.specs.Runs as runs;
+ghost use Rattle.evl_warnings.specs.Runs.{Makes, entries_from, first_unpicked, state_from, unpicked_at};
+ghost use Rattle.evl_warnings.specs.Warnings.{unpicked_text};
+
+use crate::ends::write_place;
+use evl_base::{Call, Refusal, Reply, Stage};
 use evl_plans::PlannedKernel;
 use evl_scenario::Step;
 use std::alloc::AllocError;
 
-/// A step that an out-of-band thread made while another was picked: its number, from 1, and who was.
+/// A step that an out-of-band thread made while another was picked: its number, from 1, who made it, and who was.
 #[derive(Clone, Copy, Debug, PartialEq, Eq)]
 pub struct Unpicked {
     pub number: usize,
-    pub who: ThreadId,
-    pub picked: ThreadId,
+    pub who: u16,
+    pub picked: u16,
 }
 
 // Whether a call comes from a thread, and not from what happens around it.
-fn is_of_thread(call: &Call) -> bool {
-    !matches!(
-        call,
-        Call::Arrive { .. } | Call::Tick { .. } | Call::Post { .. }
-    )
+fn is_of_thread(call: &Call) -> bool
+    ensures { result ≡ runs.is_of_thread call.now }
+{
+    match call {
+        Call::Arrive { .. } => false,
+        Call::Tick { .. } => false,
+        Call::Post { .. } => false,
+        _ => true,
+    }
 }
 
 // Whether a step is one that its thread makes while it runs out-of-band.
-fn runs_oob(kernel: &PlannedKernel, step: &Step) -> bool {
+fn runs_oob(kernel: &PlannedKernel, step: &Step) -> bool
+    ensures { result ≡ runs.runs_oob kernel.now.history.state step.now }
+{
     let read = kernel.kernel();
-    is_of_thread(&step.call) && !read.waits(step.who) && read.stage(step.who) == Stage::Oob
+    if !is_of_thread(&step.call) || read.waits(step.who) {
+        return false;
+    }
+    match read.stage(step.who) {
+        Stage::Oob => true,
+        Stage::Inband => false,
+    }
 }
 
 // Who is picked while an out-of-band thread makes this step, where that is somebody else.
-fn picked_instead(kernel: &PlannedKernel, step: &Step) -> Option<ThreadId> {
+fn picked_instead(kernel: &PlannedKernel, step: &Step) -> Option<u16>
+    ensures { result ≡ runs.picked_instead kernel.now.history.state step.now }
+{
     if !runs_oob(kernel, step) {
         return None;
     }
-    let picked = kernel.kernel().picked()?;
-    if picked == step.who {
-        None
-    } else {
-        Some(picked)
+    match kernel.kernel().picked() {
+        Some(picked) => other_than(step.who.0, picked.0),
+        None => None,
     }
 }
 
+// A thread, where it is another one than this.
+fn other_than(who: u16, thread: u16) -> Option<u16>
+    ensures { result ≡ runs.other_than who thread }
+{
+    if thread == who { None } else { Some(thread) }
+}
+
 // The step with this number, where an out-of-band thread makes it while another is picked.
-fn unpicked_step(kernel: &PlannedKernel, step: &Step, number: usize) -> Option<Unpicked> {
+fn unpicked_step(kernel: &PlannedKernel, step: &Step, number: usize) -> Option<Unpicked>
+    ensures { result ≡ unpicked_at kernel.now.history.state number step.now }
+{
     match picked_instead(kernel, step) {
         Some(picked) => Some(Unpicked {
             number,
-            who: step.who,
+            who: step.who.0,
             picked,
         }),
         None => None,
     }
 }
 
+// The step that was found, or else this one, if it is such a step.
+fn first_of(
+    found: Option<Unpicked>,
+    kernel: &PlannedKernel,
+    step: &Step,
+    number: usize,
+) -> Option<Unpicked>
+    ensures { result ≡ option_or found (unpicked_at kernel.now.history.state number step.now) }
+{
+    match found {
+        Some(first) => Some(first),
+        None => unpicked_step(kernel, step, number),
+    }
+}
+
 /// Writes that a thread calls while another is picked.
-pub fn write_unpicked(told: &mut String, name: &str, found: Unpicked) -> Result<(), AllocError> {
-    let number = found.number;
-    let thread = found.who.0;
-    let other = found.picked.0;
-    write!(told, "{name}: step {number}: warning: ")?;
-    write!(told, "T{thread} calls while T{other} is picked\n")?;
-    Ok(())
+pub fn write_unpicked(told: &mut String, name: &str, found: Unpicked) -> Result<(), AllocError>
+    ensures { OnOk result (string_bytes told.new ≡ string_bytes told.old ++ unpicked_text name.now found) }
+{
+    let thread = found.who;
+    let other = found.picked;
+    write_place(told, name, found.number)?;
+    write!(told, "T{thread} calls while T{other} is picked\n")
+}
+
+// Whether a call was refused for want of memory.
+fn wants_memory(answer: &Result<Reply, Refusal>) -> bool
+    ensures { result ≡ shell.wants_memory answer.now }
+{
+    match answer {
+        Err(Refusal::NoMemory) => true,
+        _ => false,
+    }
 }
 
 // Makes a step.
-fn make_step(kernel: &mut PlannedKernel, step: Step) -> Result<(), AllocError> {
+fn make_step(kernel: &mut PlannedKernel, step: Step) -> Result<(), AllocError>
+    ensures { OnOk result (Makes kernel.old kernel.new step) }
+{
     let Step { who, call } = step;
-    match kernel.apply(who, call) {
-        Err(Refusal::NoMemory) => Err(AllocError),
-        _ => Ok(()),
+    let answer = kernel.apply(who, call);
+    if wants_memory(&answer) {
+        Err(AllocError)
+    } else {
+        Ok(())
     }
 }
 
@@ -75,15 +134,18 @@ fn make_step(kernel: &mut PlannedKernel, step: Step) -> Result<(), AllocError> {
 pub fn make_steps(
     kernel: &mut PlannedKernel,
     steps: Vec<Step>,
-) -> Result<Option<Unpicked>, AllocError> {
+) -> Result<Option<Unpicked>, AllocError>
+    ensures found { IfOk result (λ found. found ≡ first_unpicked 0 kernel.old.limit (moment kernel.old) steps.items) }
+    ensures entries { OnOk result (kernel.new.history.entries ≡ kernel.old.history.entries ++ entries_from kernel.old.limit (moment kernel.old) steps.items) }
+    ensures state { OnOk result (kernel.new.history.state ≡ state_from kernel.old.limit (moment kernel.old) steps.items) }
+{
+    let count = steps.len();
     let mut found = None;
     let mut number: usize = 0;
     for step in steps {
-        number = number.saturating_add(1);
-        if found.is_none() {
-            found = unpicked_step(kernel, &step, number);
-        }
+        found = first_of(found, kernel, &step, number + 1);
         make_step(kernel, step)?;
+        number += 1;
     }
     Ok(found)
 }
