@@ -2,3 +2,5 @@ mod StepLaws
 mod OpeningLaws
 mod TellingLaws
 mod GrowthLaws
+mod LineLaws
+mod AnswerLaws

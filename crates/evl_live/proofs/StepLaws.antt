@@ -1,5 +1,5 @@
 -- What a step makes of a history under a limit.
-use Rattle.std.proofs.Common.{arith, ◌≡◌, ◌≢◌, ◌↔◌, ◌≤◌, ◌<◌, ◌+◌, ◌-◌, ◌∙◌, ℕ, suc, Bool, true, false, IsTrue, IsFalse, List, [], ◌∷◌, ◌++◌, length, map, take, Result, Err, refl, sym, ap, subst}
+use Rattle.std.proofs.Common.{arith, ◌≡◌, ◌≢◌, ◌↔◌, ◌≤◌, ◌<◌, ◌+◌, ◌-◌, ◌∙◌, ℕ, suc, Bool, true, false, IsTrue, IsFalse, List, [], ◌∷◌, ◌++◌, length, map, take, Result, Err, inl, inr, refl, sym, ap, subst}
 use Rattle.std.proofs.lemmas.Bool.{false≢true}
 use Rattle.std.proofs.lemmas.List.{append_assoc, length-append, map-append}
 use Rattle.evl_base.specs.declared.entry.Entry.{Entry}
@@ -10,7 +10,7 @@ use Rattle.evl_kernel.specs.Histories.{History}
 use Rattle.evl_kernel.specs.KernelViews.{AddsEntry, entry_of, makes_entry}
 use Rattle.evl_scenario.specs.Writings.{step_of_entry}
 use Rattle.evl_scenario.specs.declared.steps.Step.{Step}
-use Rattle.evl_live.specs.Sessions.{Enters, KeepsWithin, asked_under}
+use Rattle.evl_live.specs.Sessions.{Enters, KeepsWithin, MayEnter, asked_under}
 
 -- ---- one step
 
@@ -21,6 +21,12 @@ enters old new step r (plays, adds) = record {
   extends = adds.extends;
   asked = (refl, refl);
 }
+
+pub may_enter : (old new : History) (step : Step) → Enters old step new → MayEnter old step new
+may_enter old new step enters = inr enters
+
+pub may_stay : (old new : History) (step : Step) → new ≡ old → MayEnter old step new
+may_stay old new step same = inl same
 
 pub is_not_full : (r : Result Reply Refusal) (count limit : ℕ) → makes_entry r ≡ true → ((r ≡ Err HistoryFull) ↔ (count ≡ limit)) → count ≢ limit
 is_not_full r count limit makes full at = false≢true (sym (ap makes_entry (full.1 at)) ∙ makes)

@@ -1,5 +1,5 @@
 -- What a driven machine is, what it was opened with, and what it tells of a call.
-use Rattle.std.specs.Prelude.{◌≡◌, ◌≤◌, ◌-◌, ℕ, List, [], ◌∷◌, ◌++◌, length, map, take, None, Err}
+use Rattle.std.specs.Prelude.{◌≡◌, ◌⊎◌, ◌≤◌, ◌-◌, ℕ, List, [], ◌∷◌, ◌++◌, length, map, take, None, Err}
 use Rattle.evl_base.specs.declared.board.Board.{Board}
 use Rattle.evl_base.specs.declared.entry.Entry.{Entry}
 use Rattle.evl_base.specs.declared.play.Play.{Play}
@@ -48,6 +48,10 @@ pub record Enters (old : History) (step : Step) (new : History) : Type 0 where
   pub plays : List Play
   pub extends : Extends old new entry plays
   pub asked : (entry.caller ≡ step.who) × (entry.call ≡ step.call)
+
+-- The history has one entry more, that of this step, or is as it was.
+abbrev pub MayEnter : History → Step → History → Type 0
+MayEnter old step new = (new ≡ old) ⊎ Enters old step new
 
 -- The history has one entry more, that of this step, and what was told behind the text before are the lines of that entry and of its plays.
 pub record TellsEntry (old new : History) (step : Step) (before after : List ℕ) : Type 0 where

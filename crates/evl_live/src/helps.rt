@@ -1,4 +1,7 @@
 //! What the calls look like.
+ghost use Rattle.std.specs.Prelude.{◌≡◌, ◌++◌, None, codes, is_some, string_bytes, IfOk, OnOk};
+ghost use Rattle.evl_scenario.specs.Steps.{word_of};
+
 use evl_faults::{check, is_optional, keys_of};
 use evl_scenario::STEP_WORDS;
 use std::alloc::{AllocError, Global};
@@ -93,21 +96,37 @@ fn write_keys(
     Ok(())
 }
 
-/// Writes the form of a call, and what each of its keys takes, and answers whether there is such a call. `AllocError`
-/// where memory couldn't grow.
-pub fn write_call_of(alloc: Global, told: &mut String, word: &str) -> Result<bool, AllocError> {
-    let Some(keys) = keys_of(word) else {
-        return Ok(false);
-    };
-    write_form(told, word, keys)?;
-    write_keys(alloc, told, word, keys)?;
-    Ok(true)
+// The keys of a call; none where there is no such call.
+#[tactic(auto, using(crate::proofs::AnswerLaws::is_word))]
+fn keys_of_call(word: &str) -> Option<&'static [&'static str]>
+    ensures { is_some result ≡ is_some (word_of word.now) }
+{
+    keys_of(word)
+}
+
+/// Writes the form of a call, and what each of its keys takes, and answers whether there is such a call; of none
+/// nothing is written. `AllocError` where memory couldn't grow.
+pub fn write_call_of(alloc: Global, told: &mut String, word: &str) -> Result<bool, AllocError>
+    ensures answers { IfOk result (λ is_call. is_call ≡ is_some (word_of word.now)) }
+    ensures none { OnOk result (word_of word.now ≡ None → string_bytes told.new ≡ string_bytes told.old) }
+{
+    match keys_of_call(word) {
+        Some(keys) => {
+            write_form(told, word, keys)?;
+            write_keys(alloc, told, word, keys)?;
+            Ok(true)
+        }
+        None => Ok(false),
+    }
 }
 
 /// Writes the form of a call, and what each of its keys takes; of another word that there is no such call.
-pub fn write_help_of(alloc: Global, told: &mut String, word: &str) -> Result<(), AllocError> {
+pub fn write_help_of(alloc: Global, told: &mut String, word: &str) -> Result<(), AllocError>
+    ensures none { OnOk result (word_of word.now ≡ None → string_bytes told.new ≡ string_bytes told.old ++ codes "! 3: there is no such call; ? tells all\n") }
+{
     if write_call_of(alloc, told, word)? {
         return Ok(());
     }
-    told.push_str("! 3: there is no such call; ? tells all\n")
+    told.push_str("! 3: there is no such call; ? tells all\n")?;
+    Ok(())
 }

@@ -6,10 +6,10 @@ ghost use Rattle.evl_kernel.specs.KernelViews.{makes_entry};
 ghost use Rattle.evl_scenario.specs.Lines.{line_around, step_text};
 ghost use Rattle.evl_scenario.specs.Scenarios.{Script, scenario_of};
 ghost use Rattle.evl_scenario.specs.Traces.{entry_lines, history_trace};
-ghost use Rattle.evl_scenario.specs.Writings.{script_of_history, step_of_entry};
+ghost use Rattle.evl_scenario.specs.Writings.{IsUnwritten, scenario_text, script_of_history, step_of_entry};
 ghost use Rattle.evl_shell.specs.Histories.{PlaysAgain};
 ghost use Rattle.evl_shell.specs.Runs.{handlers_of};
-ghost use Rattle.evl_live.specs.Sessions.{Enters, KeepsWithin, Opens, TellsEntry, TellsFull, TellsTrace, asked_under};
+ghost use Rattle.evl_live.specs.Sessions.{Enters, KeepsWithin, MayEnter, Opens, TellsEntry, TellsFull, TellsTrace, asked_under};
 
 use evl_base::{Board, Play, Refusal, Reply};
 use evl_kernel::KernelOf;
@@ -58,6 +58,7 @@ fn take_step(machine: &mut PlannedKernel, step: Step) -> Result<bool, AllocError
     ensures room { IfOk result (λ entered. IsTrue entered → length machine.old.history.entries ≢ machine.old.limit) }
     ensures same { IfOk result (λ entered. IsFalse entered → machine.new.history ≡ machine.old.history) }
     ensures full { IfOk result (λ entered. IsFalse entered → length machine.old.history.entries ≡ machine.old.limit) }
+    ensures failed { IfErr result (λ e. machine.new.history ≡ machine.old.history) }
     ensures limit { machine.new.limit ≡ machine.old.limit }
     ensures keeps { KeepsWithin machine.old.limit machine.old.history machine.new.history }
 {
@@ -88,6 +89,7 @@ fn make_steps(machine: &mut PlannedKernel, steps: Vec<Step>) -> Result<(), Fault
 }
 
 // The board and the limit of a scenario, and a machine of the same that has made its steps.
+#[tactic(auto, using(crate::proofs::OpeningLaws::few_open))]
 fn open_scenarios(
     alloc: Global,
     kept: Scenario,
@@ -96,6 +98,7 @@ fn open_scenarios(
 ) -> Result<Session, Fault>
     requires same { kept ≡ played }
     ensures opened { IfOk result (Opens kept (handlers_of (λ p. p.kinds.0) (λ p. p.plan) bank.items)) }
+    ensures few { IfOk result (λ s. length bank.items ≤ 64) }
     ensures refused { IfErr result (λ e. e ≡ Fault.Memory) }
 {
     let (board, limit, _) = kept.into_parts();
@@ -109,7 +112,10 @@ fn open_scenarios(
             limit,
             machine,
         }),
-        Err(_) => Err(Fault::Memory),
+        Err(_) => {
+            drop(machine);
+            Err(Fault::Memory)
+        }
     }
 }
 
@@ -164,7 +170,7 @@ fn text_of(alloc: Global, step: &Step) -> Result<String, AllocError>
 impl Session {
     /// A machine of the scenario's board that has made its steps, over a bank of at most 64 callbacks, under a limit
     /// that may be handed in. `Text`, `Board` and `Step` say what is wrong with the text, `Memory` that a growth was
-    /// refused.
+    /// refused, or that the bank has more callbacks.
     pub fn open(
         alloc: Global,
         text: &[u8],
@@ -172,6 +178,7 @@ impl Session {
         bank: Vec<Planned>,
     ) -> Result<Session, Fault>
         ensures opened { IfOk result (λ s. (script : Script) × (scenario_of limit text.now ≡ Ok script) × Opens script (handlers_of (λ p. p.kinds.0) (λ p. p.plan) bank.items) s) }
+        ensures few { IfOk result (λ s. length bank.items ≤ 64) }
         ensures refused { IfErr result (λ e. (e ≡ Fault.Memory) ⊎ (scenario_of limit text.now ≡ Err e)) }
     {
         let kept = read_scenario(alloc, text, limit)?;
@@ -215,20 +222,23 @@ impl Session {
     /// no scenario has this board or limit, `TooLong` where it would be longer than one may be, `Memory` where a growth
     /// was refused.
     pub fn scenario(&self, alloc: Global) -> Result<String, Unwritten>
-        ensures { IfOk result (λ text. scenario_of None (string_bytes text) ≡ Ok (script_of_history self.now.board self.now.limit self.now.history.entries)) }
+        ensures text { IfOk result (λ text. string_bytes text ≡ scenario_text (script_of_history self.now.board self.now.limit self.now.history.entries)) }
+        ensures reads_back { IfOk result (λ text. scenario_of None (string_bytes text) ≡ Ok (script_of_history self.now.board self.now.limit self.now.history.entries)) }
+        ensures refused { IfErr result (λ e. IsUnwritten e (script_of_history self.now.board self.now.limit self.now.history.entries)) }
     {
         let entries = self.machine.kernel().history();
         write_scenario(alloc, &self.board, self.limit, entries)
     }
 
     // Makes a step, and writes its lines behind what was told.
-    #[tactic(auto, using(crate::proofs::TellingLaws::tells))]
+    #[tactic(auto, using(crate::proofs::TellingLaws::tells, crate::proofs::StepLaws::may_enter, crate::proofs::StepLaws::may_stay))]
     fn make_step(&mut self, alloc: Global, step: Step, told: &mut String) -> Result<(), AllocError>
         ensures entry { OnOk result (length self.old.history.entries ≢ self.old.limit → TellsEntry self.old.history self.new.history step (string_bytes told.old) (string_bytes told.new)) }
         ensures full { OnOk result (length self.old.history.entries ≡ self.old.limit → TellsFull self.old self.new step (string_bytes told.old) (string_bytes told.new)) }
         ensures board { self.new.board ≡ self.old.board }
         ensures limit { self.new.limit ≡ self.old.limit }
         ensures bank { self.new.history.bank ≡ self.old.history.bank }
+        ensures history { MayEnter self.old.history step self.new.history }
         ensures legal { IsLegal self.old.history }
     {
         let from = self.machine.kernel().plays().len();
@@ -242,7 +252,8 @@ impl Session {
 
     /// Makes a step, and writes its lines behind what was told: those of its entry and its plays, which are those by
     /// which the trace of all that was asked grows; or where the history is at its limit the line of a step without an
-    /// entry. `AllocError` where memory couldn't grow.
+    /// entry. `AllocError` where memory couldn't grow: the step may have its entry then, nothing else has been changed,
+    /// and what was told isn't known.
     #[tactic(auto, using(crate::proofs::GrowthLaws::tells_trace_on))]
     pub fn make(&mut self, alloc: Global, step: Step, told: &mut String) -> Result<(), AllocError>
         ensures entry { OnOk result (length self.old.history.entries ≢ self.old.limit → TellsEntry self.old.history self.new.history step (string_bytes told.old) (string_bytes told.new)) }
@@ -251,6 +262,7 @@ impl Session {
         ensures board { self.new.board ≡ self.old.board }
         ensures limit { self.new.limit ≡ self.old.limit }
         ensures bank { self.new.history.bank ≡ self.old.history.bank }
+        ensures history { MayEnter self.old.history step self.new.history }
     {
         self.make_step(alloc, step, told)
     }

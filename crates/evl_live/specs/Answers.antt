@@ -1,0 +1,64 @@
+-- What a line is answered.
+use Rattle.std.specs.Prelude.{◌≡◌, ◌⊎◌, ◌==◌, ◌||◌, ℕ, Bool, false, List, [], ◌∷◌, ◌++◌, codes, if◌then◌else◌}
+use Rattle.std.specs.Str.{is_utf8}
+use Rattle.evl_kernel.specs.Histories.{History}
+use Rattle.evl_scenario.specs.Lines.{line_feed}
+use Rattle.evl_scenario.specs.Scenarios.{Script}
+use Rattle.evl_scenario.specs.Writings.{IsUnwritten, scenario_text, script_of_history}
+use Rattle.evl_scenario.specs.declared.steps.Step.{Step}
+use Rattle.evl_scenario.specs.declared.writing.Unwritten.TheVariants as unwritten
+use Rattle.evl_live.specs.Sessions.{Driven, Enters, TellsEntry}
+
+-- ---- the line
+
+-- a space, or a carriage return
+abbrev pub is_blank : ℕ → Bool
+is_blank c = c == 32 || c == 13
+
+-- a byte before what is left of those behind it
+abbrev pub kept_before : ℕ → List ℕ → List ℕ
+kept_before c [] = if is_blank c then [] else c ∷ []
+kept_before c (d ∷ rest) = c ∷ d ∷ rest
+
+-- the line without blanks at its end
+abbrev pub trimmed : List ℕ → List ℕ
+trimmed [] = []
+trimmed (c ∷ rest) = kept_before c (trimmed rest)
+
+-- a line that may ask for a call begins with T, or with a space
+abbrev pub may_call : List ℕ → Bool
+may_call [] = false
+may_call (c ∷ rest) = c == 84 || c == 32
+
+-- ---- the machine
+
+-- It stays, or has one entry more, whose lines were told behind the text before.
+abbrev pub GoesOn : Driven → Driven → List ℕ → List ℕ → Type 0
+GoesOn old new before after = (new ≡ old) ⊎ ((step : Step) × TellsEntry old.history new.history step before after)
+
+-- Its history stays, or has one entry more.
+abbrev pub MayGoOn : History → History → Type 0
+MayGoOn old new = (new ≡ old) ⊎ ((step : Step) × Enters old step new)
+
+-- Lines were told behind the text before, and the machine stays, or these are the lines of its one new entry.
+pub record Answers (old new : Driven) (before after : List ℕ) : Type 0 where
+  pub lines : List ℕ
+  pub told : after ≡ before ++ lines
+  pub goes_on : GoesOn old new [] lines
+
+-- ---- what is told
+
+-- a comment is told as it is, or by its sign where it is no UTF-8
+abbrev pub comment_text : List ℕ → List ℕ
+comment_text line = (if is_utf8 line then line else codes "#") ++ line_feed
+
+-- what the machine was asked so far
+abbrev pub script_of : Driven → Script
+script_of driven = script_of_history driven.board driven.limit driven.history.entries
+
+-- The scenario was told, or why there is none.
+abbrev pub TellsScenario : Script → List ℕ → List ℕ → Type 0
+TellsScenario script before after =
+    (after ≡ before ++ scenario_text script)
+    ⊎ ((IsUnwritten unwritten.TooLong script × (after ≡ before ++ codes "! 1: the scenario would have more than 1048576 bytes\n"))
+    ⊎ ((IsUnwritten unwritten.Board script ⊎ IsUnwritten unwritten.Limit script) × (after ≡ before ++ codes "! 1: no scenario has this board and limit\n")))
