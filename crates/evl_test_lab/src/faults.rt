@@ -108,7 +108,8 @@ fn a_text_that_is_no_toml_is_told(rt: HostRuntime) {
 #[test]
 fn names_in_quotes_are_no_faults(rt: HostRuntime) {
     let step = "[\"board\"]\nthreads = 1\n[[\"step\"]]\ndo = \"put\"\nwho = 0\n";
-    let told = "a.toml:4:1: step 1: put needs a key \"sem\": a number from 0 to 65535 is wanted there\n";
+    let told =
+        "a.toml:4:1: step 1: put needs a key \"sem\": a number from 0 to 65535 is wanted there\n";
     assert!(rt; is_told(rt.alloc(), step, told));
     let board = "['board']\nthreads = 257\n";
     let wanted = "a.toml:2:11: threads = 257: a number from 1 to 256 is wanted\n";
