@@ -152,7 +152,7 @@ impl<C, A: Allocator> Actor<C, A> {
         self.places.is_free(mutex)
     }
 
-    /// What refuses to spend a pass with no step: it isn't its own, or it doesn't have the mutex.
+    // What refuses to spend a pass with no step: it isn't its own, or it doesn't have the mutex.
     #[inline(always)]
     fn pass_refusal(&self, pass: &MutexPass) -> Option<Refusal>
         ensures refused { result ≡ unlock_refusal (acting self.now).mutexes pass.now }
@@ -206,7 +206,7 @@ impl<C: Handler, A: Allocator> Actor<C, A> {
     }
 }
 
-/// What refuses who has a mutex of this kind so often, and tries again.
+// What refuses who has a mutex of this kind so often, and tries again.
 fn owner_refusal(kind: MutexKind, depth: u8) -> Option<Refusal>
     ensures { result ≡ owner_refusal kind depth }
 {

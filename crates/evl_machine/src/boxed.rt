@@ -49,7 +49,7 @@ impl Deref for Machine {
 
     ghost deref_gives = { λ machine lent. (lent ≡ machine.of) × AnswersByPlan (λ c. c.kinds.0) (λ c. c.plan.value) lent.first.callbacks };
 
-    /// The machine whose calls are these, and whose callbacks answer what is told of them.
+    // The machine whose calls are these, and whose callbacks answer what is told of them.
     #[inline(always)]
     fn deref(&self) -> &MachineCore {
         &self.of

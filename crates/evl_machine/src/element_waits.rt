@@ -19,7 +19,7 @@ use std::sync::Wait;
 use std::thread;
 
 impl<C: Handler, A: Allocator> MachineOf<C, A> {
-    /// Looks at the kernel until the caller's wait is over, and finishes it then.
+    // Looks at the kernel until the caller's wait is over, and finishes it then.
     fn wait_out<R: Wait>(&self, rt: &R, caller: &mut CallerOf<C, A>) -> Result<Reply, Refusal>
         requires machine { Belongs caller.old self.now }
         requires by_plan { AnswersByPlan C.declared C.plan self.now.first.callbacks }
@@ -38,7 +38,7 @@ impl<C: Handler, A: Allocator> MachineOf<C, A> {
         unreachable!()
     }
 
-    /// A call that begins a wait for an element, and where it does, the wait to its end.
+    // A call that begins a wait for an element, and where it does, the wait to its end.
     fn wait_for<R: Wait>(
         &self,
         rt: &R,
@@ -165,7 +165,7 @@ impl<C: Handler, A: Allocator> MachineOf<C, A> {
     }
 }
 
-/// Whether an answer begins a wait.
+// Whether an answer begins a wait.
 fn begins_wait(answer: &Result<Reply, Refusal>) -> bool
     ensures { result ≡ begins_wait answer.now }
 {

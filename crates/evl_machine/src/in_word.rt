@@ -19,7 +19,7 @@ pub struct InWord {
     pub is_claimed: bool,
 }
 
-/// Who owns a mutex, by what a claim would be answered.
+// Who owns a mutex, by what a claim would be answered.
 fn owner_of(told: Claim) -> Option<ThreadId>
     ensures { result ≡ owner_of told }
 {
@@ -30,7 +30,7 @@ fn owner_of(told: Claim) -> Option<ThreadId>
     }
 }
 
-/// What a word says.
+// What a word says.
 fn read(word: u64) -> InWord
     ensures { result ≡ in_word word }
 {
@@ -40,7 +40,7 @@ fn read(word: u64) -> InWord
     }
 }
 
-/// A mutex's word, by a load after which the thread knows what it knew before.
+// A mutex's word, by a load after which the thread knows what it knew before.
 fn look_at<C: Drop, A: Allocator>(
     core: &CoreLock<C, A>,
     seat: &mut CoreSeat<C, A>,
@@ -57,7 +57,7 @@ fn look_at<C: Drop, A: Allocator>(
 }
 
 impl<C: Drop, A: Allocator> Actor<C, A> {
-    /// A mutex's word, by a load after which it knows what it knew before.
+    // A mutex's word, by a load after which it knows what it knew before.
     fn look_at(&mut self, core: &CoreLock<C, A>, mutex: MutexId) -> u64
         requires table { self.old.table ≡ core.now.shared.table_id }
         requires first { first_of self.old.me.0 ≡ core.now.shared.key.value }
@@ -70,7 +70,7 @@ impl<C: Drop, A: Allocator> Actor<C, A> {
 }
 
 impl<C: Drop, A: Allocator> MachineOf<C, A> {
-    /// What stands in a mutex's word; none where there is no such mutex.
+    // What stands in a mutex's word; none where there is no such mutex.
     fn look(&self, actor: &mut Actor<C, A>, mutex: MutexId) -> Option<InWord>
         requires machine { (actor.old.table ≡ self.now.id) × (first_of actor.old.me.0 ≡ self.now.first) }
         ensures same { actor.new ≡ actor.old }

@@ -24,7 +24,7 @@ impl<C, A: Allocator> Model for KernelBox<C, A> {
     ghost view = { λ b. b.kernel.value };
 }
 
-/// This in a box of its own. (What it consists of doesn't matter here, so that dropping it is one step.)
+// This in a box of its own. (What it consists of doesn't matter here, so that dropping it is one step.)
 fn boxed<T: Drop, A: Allocator + Clone>(alloc: &A, value: T) -> Result<Box<T, A>, AllocError>
     ensures { IfOk result (λ made. made.value ≡ value) }
 {

@@ -102,7 +102,7 @@ pub(crate) fn release<C: Handler, A: Allocator>(
     }
 }
 
-/// Offers a mutex to its next owner, or frees it where there is none.
+// Offers a mutex to its next owner, or frees it where there is none.
 fn hand_on<C: Drop, A: Allocator>(
     core: &CoreLock<C, A>,
     actor: &mut Actor<C, A>,
@@ -209,7 +209,7 @@ pub(crate) fn finish<C: Handler, A: Allocator>(
     Ok(Ended::Locked(pass))
 }
 
-/// Has the kernel end the thread's wait. The thread keeps its stage where it holds a stax or a mutex.
+// Has the kernel end the thread's wait. The thread keeps its stage where it holds a stax or a mutex.
 fn end_wait<C: Handler, A: Allocator>(
     actor: &mut Actor<C, A>,
     kernel: &mut KernelBox<C, A>,

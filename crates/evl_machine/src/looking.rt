@@ -21,8 +21,8 @@ use evl_pipeline::Handler;
 use std::alloc::Allocator;
 
 impl<C: Handler, A: Allocator> MachineOf<C, A> {
-    /// Finishes the wait of an actor's thread where it is over, in the take in which that is seen; none where it goes
-    /// on, or where another one has the kernel.
+    // Finishes the wait of an actor's thread where it is over, in the take in which that is seen; none where it goes
+    // on, or where another one has the kernel.
     fn end_with(&self, actor: &mut Actor<C, A>) -> Option<Result<Reply, Refusal>>
         requires caller { (actor.old.table ≡ self.now.id) × IsCaller (seen actor.old.me) actor.old.thread }
         requires suits { Suits (acting actor.old) (account_of (seen actor.old.me)).seen }

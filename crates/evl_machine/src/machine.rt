@@ -101,7 +101,7 @@ impl<C: Drop, A: Allocator> MachineOf<C, A> {
 }
 
 impl<C: Handler, A: Allocator> MachineOf<C, A> {
-    /// One call of the kernel by an actor; the call comes back where another one has it.
+    // One call of the kernel by an actor; the call comes back where another one has it.
     #[inline(always)]
     fn call_with(&self, actor: &mut Actor<C, A>, call: Call) -> Result<Result<Reply, Refusal>, Call>
         requires caller { (actor.old.table ≡ self.now.id) × IsCaller (seen actor.old.me) actor.old.thread }

@@ -71,8 +71,8 @@ impl<C: Handler, A: Allocator> MachineOf<C, A> {
     }
 }
 
-/// What a machine is made of beside its kernel: its elements with each thread's seats and places, room for its callers,
-/// and the allocator of its core.
+// What a machine is made of beside its kernel: its elements with each thread's seats and places, room for its callers,
+// and the allocator of its core.
 #[derive(Drop)]
 struct Parts<C, A: Allocator> {
     alloc: A,
@@ -81,7 +81,7 @@ struct Parts<C, A: Allocator> {
 }
 
 impl<C, A: Allocator + Clone> Parts<C, A> {
-    /// The parts for a board within its limits.
+    // The parts for a board within its limits.
     fn of(alloc: &A, board: &Board) -> Result<Parts<C, A>, AllocError>
         ensures fits { IfOk result (λ p. board_fits board.now ≡ true) }
         ensures room { IfOk result (λ p. (p.callers.items ≡ []) × (board.now.threads ≤ vec_capacity p.callers)) }
@@ -106,7 +106,7 @@ impl<C, A: Allocator + Clone> Parts<C, A> {
     }
 }
 
-/// A machine of this new kernel and these parts, and a caller for each thread.
+// A machine of this new kernel and these parts, and a caller for each thread.
 fn joined<C: Drop, A: Allocator + Clone>(
     kernel: KernelOf<C, A>,
     parts: Parts<C, A>,
@@ -134,7 +134,7 @@ fn joined<C: Drop, A: Allocator + Clone>(
     }
 }
 
-/// The core's lock with this kernel in its slot, the words of so many mutexes, and the token that acts for all threads.
+// The core's lock with this kernel in its slot, the words of so many mutexes, and the token that acts for all threads.
 fn core_of<C: Drop, A: Allocator + Clone>(
     alloc: A,
     kernel: KernelOf<C, A>,
@@ -157,7 +157,7 @@ fn core_of<C: Drop, A: Allocator + Clone>(
     }
 }
 
-/// A 0 for the lock, and one for each of so many mutexes.
+// A 0 for the lock, and one for each of so many mutexes.
 fn zeros<A: Allocator + Clone>(alloc: &A, mutexes: usize) -> Result<Vec<u64, A>, AllocError>
     ensures { IfOk result (λ z. z.items ≡ replicate (1 + mutexes) 0) }
 {
@@ -166,7 +166,7 @@ fn zeros<A: Allocator + Clone>(alloc: &A, mutexes: usize) -> Result<Vec<u64, A>,
     Ok(words)
 }
 
-/// A machine of this core and these elements, and a caller for each thread.
+// A machine of this core and these elements, and a caller for each thread.
 fn with_seats<C: Drop, A: Allocator>(
     core: CoreLock<C, A>,
     root: CoreSeat<C, A>,
@@ -203,7 +203,7 @@ fn with_seats<C: Drop, A: Allocator>(
     )
 }
 
-/// One slot, in which this lies. (What it consists of doesn't matter here, so that dropping it is one step.)
+// One slot, in which this lies. (What it consists of doesn't matter here, so that dropping it is one step.)
 fn one_slot<T: Drop, A: Allocator + Clone>(
     alloc: &A,
     value: T,
@@ -215,7 +215,7 @@ fn one_slot<T: Drop, A: Allocator + Clone>(
     Ok(slots)
 }
 
-/// Gives each thread's token, and its seats at the staxes and places at the mutexes, to a caller of its own.
+// Gives each thread's token, and its seats at the staxes and places at the mutexes, to a caller of its own.
 fn seat_callers<C: Drop, A: Allocator>(
     core: &CoreLock<C, A>,
     root: CoreSeat<C, A>,
@@ -243,7 +243,7 @@ fn seat_callers<C: Drop, A: Allocator>(
     }
 }
 
-/// The first of some things is taken away.
+// The first of some things is taken away.
 fn first_of<S: Drop, A: Allocator>(things: &mut Vec<S, A>) -> S
     requires { 0 < vec_len things.old }
     ensures { things.old.items ≡ result ∷ things.new.items }

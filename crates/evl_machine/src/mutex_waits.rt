@@ -17,7 +17,7 @@ use std::sync::Wait;
 use std::thread;
 
 impl<C: Handler, A: Allocator> MachineOf<C, A> {
-    /// Begins to lock a mutex, until the answer doesn't pass.
+    // Begins to lock a mutex, until the answer doesn't pass.
     fn begin_at_last<R: Wait>(
         &self,
         rt: &R,
@@ -41,7 +41,7 @@ impl<C: Handler, A: Allocator> MachineOf<C, A> {
         unreachable!()
     }
 
-    /// Finishes the caller's wait for a mutex, once it is over.
+    // Finishes the caller's wait for a mutex, once it is over.
     fn finish_at_last<R: Wait>(&self, rt: &R, caller: &mut CallerOf<C, A>) -> Result<Ended, Refusal>
         requires machine { Belongs caller.old self.now }
         requires by_plan { AnswersByPlan C.declared C.plan self.now.first.callbacks }
@@ -116,7 +116,7 @@ impl<C: Handler, A: Allocator> MachineOf<C, A> {
     }
 }
 
-/// Whether an answer is a refusal that may pass.
+// Whether an answer is a refusal that may pass.
 fn passes<T>(answer: &Result<T, Refusal>) -> bool
     ensures { result ≡ passes answer.now }
 {

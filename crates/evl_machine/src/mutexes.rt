@@ -47,7 +47,7 @@ impl<C: Handler, A: Allocator> MachineOf<C, A> {
         }
     }
 
-    /// Locks a mutex where the caller may have it, or it may have a ceiling, or something refuses it.
+    // Locks a mutex where the caller may have it, or it may have a ceiling, or something refuses it.
     #[cold]
     #[inline(never)]
     fn lock_rarely(&self, caller: &mut CallerOf<C, A>, mutex: MutexId) -> Result<MutexPass, Refusal>
@@ -147,8 +147,8 @@ impl<C: Handler, A: Allocator> MachineOf<C, A> {
         }
     }
 
-    /// Spends a pass without the kernel where the caller may have another one, or the mutex a ceiling, or something
-    /// refuses it.
+    // Spends a pass without the kernel where the caller may have another one, or the mutex a ceiling, or something
+    // refuses it.
     #[cold]
     #[inline(never)]
     fn unlock_rarely(
@@ -201,7 +201,7 @@ impl<C: Handler, A: Allocator> MachineOf<C, A> {
     }
 }
 
-/// What a word answered, as a call without the kernel tells it: a pass comes back where others claim the mutex.
+// What a word answered, as a call without the kernel tells it: a pass comes back where others claim the mutex.
 #[inline(always)]
 fn fast_answer(told: Unlock) -> Result<(), (Refusal, MutexPass)>
     ensures { FastAnswer result told }

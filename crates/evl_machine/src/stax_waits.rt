@@ -16,7 +16,7 @@ use std::sync::Wait;
 use std::thread;
 
 impl<C: Drop, A: Allocator> MachineOf<C, A> {
-    /// Sets the claim mark of a stax.
+    // Sets the claim mark of a stax.
     fn mark_stax(&self, caller: &mut CallerOf<C, A>, stax: StaxId)
         requires machine { Belongs caller.old self.now }
         requires there { stax.0 < length caller.old.staxes }
@@ -27,7 +27,7 @@ impl<C: Drop, A: Allocator> MachineOf<C, A> {
         self.gates.claim(&mut caller.actor.staxes, stax);
     }
 
-    /// One try of a stax. The answer where it lasts; where it may pass, whether the claim mark was set by then.
+    // One try of a stax. The answer where it lasts; where it may pass, whether the claim mark was set by then.
     fn try_marking(
         &self,
         caller: &mut CallerOf<C, A>,
@@ -83,7 +83,7 @@ impl<C: Drop, A: Allocator> MachineOf<C, A> {
     }
 }
 
-/// Whether a refusal may pass.
+// Whether a refusal may pass.
 fn may_pass(refusal: Refusal) -> bool
     ensures { result ≡ may_pass refusal }
 {
@@ -93,8 +93,8 @@ fn may_pass(refusal: Refusal) -> bool
     )
 }
 
-/// Whether the claim mark is wanted after this refusal: it wasn't set by then, and callers of the other stage hold the
-/// stax.
+// Whether the claim mark is wanted after this refusal: it wasn't set by then, and callers of the other stage hold the
+// stax.
 fn wants_mark(marked: bool, refusal: Refusal) -> bool
     ensures { result ≡ (not marked && is_again refusal) }
 {

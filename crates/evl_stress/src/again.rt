@@ -7,7 +7,7 @@ use std::alloc::Global;
 use std::sync::Wait;
 use std::thread::Threads;
 
-/// Plays a scenario and looks whether this is its trace.
+// Plays a scenario and looks whether this is its trace.
 #[derive(Drop)]
 struct Player<'a> {
     alloc: Global,

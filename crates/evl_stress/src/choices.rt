@@ -7,19 +7,19 @@ use evl_base::{
 };
 use std::alloc::Global;
 
-/// How many lines, timers and threads calls speak of.
+// How many lines, timers and threads calls speak of.
 const LINES: u16 = 6;
 
 const TIMERS: u16 = 4;
 
 const THREADS: u16 = 9;
 
-/// The callback that posts this line; it doesn't stand on the line, so that it doesn't post itself on and on.
+// The callback that posts this line; it doesn't stand on the line, so that it doesn't post itself on and on.
 const POSTING: u8 = 4;
 
 const POSTED: u16 = 4;
 
-/// The longest ticks, and how far deadlines lie ahead, in nanoseconds.
+// The longest ticks, and how far deadlines lie ahead, in nanoseconds.
 const TICK: u32 = 2000;
 
 /// How far deadlines lie ahead at most, in nanoseconds.
@@ -65,7 +65,7 @@ fn thread(dice: &mut Dice) -> ThreadId {
     ThreadId(dice.short(THREADS))
 }
 
-/// Some of three bits.
+// Some of three bits.
 fn bits(dice: &mut Dice) -> u32 {
     dice.below(8)
 }
@@ -241,7 +241,7 @@ fn cross_buffer_call(dice: &mut Dice, alloc: Global) -> Call {
     }
 }
 
-/// What no caller may ask for by a call of its own.
+// What no caller may ask for by a call of its own.
 fn mutex_call(dice: &mut Dice, date: u64) -> Call {
     match dice.below(3) {
         0 => Call::Claim {

@@ -39,12 +39,12 @@ pub struct Order {
 }
 
 impl Order {
-    /// The threads of the board: those that choose, and the one that helps.
+    // The threads of the board: those that choose, and the one that helps.
     fn board_threads(self) -> u16 {
         self.threads.saturating_add(1)
     }
 
-    /// How the hands do what they choose.
+    // How the hands do what they choose.
     fn manner(self) -> Manner {
         Manner {
             is_patient: self.limit >= LIMIT,
@@ -52,7 +52,7 @@ impl Order {
         }
     }
 
-    /// What the host thread of a caller is for, the first ones choosing and the last one helping.
+    // What the host thread of a caller is for, the first ones choosing and the last one helping.
     fn duty(self, place: u16) -> Duty {
         if place < self.threads {
             Duty::Chooses(self.choices)
@@ -62,7 +62,7 @@ impl Order {
     }
 }
 
-/// A hand for each caller, in their order.
+// A hand for each caller, in their order.
 fn hands_of<C: Handler, A: Allocator>(
     alloc: Global,
     order: Order,
@@ -96,7 +96,7 @@ fn hands_of<C: Handler, A: Allocator>(
     Ok(hands)
 }
 
-/// The callers of some hands, in their order; what the hands tell of their calls comes to the others' tellings.
+// The callers of some hands, in their order; what the hands tell of their calls comes to the others' tellings.
 fn callers_of<C: Handler, A: Allocator>(
     alloc: Global,
     machine: &MachineOf<C, A>,
@@ -121,7 +121,7 @@ fn callers_of<C: Handler, A: Allocator>(
     Ok(callers)
 }
 
-/// All hands do what they are for, in so many rounds, in each on host threads of its own.
+// All hands do what they are for, in so many rounds, in each on host threads of its own.
 fn all_rounds<C: Handler + Send, R: Threads + Wait + Sync>(
     rt: &R,
     rounds: u32,
@@ -143,7 +143,7 @@ fn all_rounds<C: Handler + Send, R: Threads + Wait + Sync>(
     Ok(hands)
 }
 
-/// All callers do what their host threads are for, and come back, with what they tell of their calls.
+// All callers do what their host threads are for, and come back, with what they tell of their calls.
 fn all_call<C: Handler + Send, R: Threads + Wait + Sync>(
     rt: &R,
     alloc: Global,
@@ -164,7 +164,7 @@ fn all_call<C: Handler + Send, R: Threads + Wait + Sync>(
     callers_of(alloc, machine, hands, events)
 }
 
-/// The texts of what the callers did, once all are back and the machine is closed.
+// The texts of what the callers did, once all are back and the machine is closed.
 fn texts_after(
     alloc: Global,
     threads: u16,
@@ -190,13 +190,13 @@ fn texts_after(
     }
 }
 
-/// A machine goes, with its callers.
+// A machine goes, with its callers.
 fn leave<C: Drop>(machine: MachineOf<C, Global>, callers: Vec<CallerOf<C, Global>>) {
     drop(machine);
     drop(callers);
 }
 
-/// Why there are no texts of what was called, as the watch has it.
+// Why there are no texts of what was called, as the watch has it.
 fn failure_of(watch: &Watch) -> Option<Failure> {
     if !watch.is_all_told() {
         return Some(Failure::Refused(Refusal::NoMemory));
@@ -207,8 +207,8 @@ fn failure_of(watch: &Watch) -> Option<Failure> {
     }
 }
 
-/// All callers do what their host threads are for, and come back with what they tell of their calls. `Differs` where a
-/// mutex's word didn't say what is recorded.
+// All callers do what their host threads are for, and come back with what they tell of their calls. `Differs` where a
+// mutex's word didn't say what is recorded.
 fn called<C: Handler + Send, R: Threads + Wait + Sync>(
     rt: &R,
     alloc: Global,
@@ -232,7 +232,7 @@ fn called<C: Handler + Send, R: Threads + Wait + Sync>(
     }
 }
 
-/// All callers of a machine do what their host threads are for, and the machine is closed.
+// All callers of a machine do what their host threads are for, and the machine is closed.
 fn played<R: Threads + Wait + Sync>(
     rt: &R,
     alloc: Global,
@@ -256,7 +256,7 @@ fn played<R: Threads + Wait + Sync>(
     }
 }
 
-/// A run over a bank of callbacks.
+// A run over a bank of callbacks.
 fn run_over<R: Threads + Wait + Sync>(
     rt: &R,
     alloc: Global,
@@ -275,7 +275,7 @@ fn run_over<R: Threads + Wait + Sync>(
     }
 }
 
-/// Runs host threads as an order says.
+// Runs host threads as an order says.
 #[derive(Clone, Copy)]
 struct Runner {
     alloc: Global,

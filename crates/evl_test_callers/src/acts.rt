@@ -13,7 +13,7 @@ use evl_pipeline::Handler;
 use std::alloc::Allocator;
 use std::sync::Wait;
 
-// A call of the kernel.
+/// A call of the kernel.
 #[derive(Clone, Copy)]
 pub enum Ask {
     Attach(Policy, Stage),
@@ -52,7 +52,7 @@ pub fn call_of(ask: Ask) -> Call {
     }
 }
 
-// What a caller does: without waiting, and (the last ones) by the forms that wait.
+/// What a caller does: without waiting, and (the last ones) by the forms that wait.
 #[derive(Clone, Copy)]
 pub enum Act {
     Call(Ask),
@@ -75,8 +75,8 @@ pub enum Act {
     WaitFor(Element, Option<u64>),
 }
 
-// For what a caller waits: a semaphore, bits of a flag group, a byte to read, room for two bytes that it writes, or
-// what was written there.
+/// For what a caller waits: a semaphore, bits of a flag group, a byte to read, room for two bytes that it writes, or
+/// what was written there.
 #[derive(Clone, Copy)]
 pub enum Element {
     Sem(SemId),
@@ -86,7 +86,7 @@ pub enum Element {
     Written,
 }
 
-// What it is told.
+/// What it is told.
 #[derive(Clone, Copy, PartialEq)]
 pub enum Told {
     Done,
@@ -112,7 +112,7 @@ pub const FULL: Told = Told::Refused(Refusal::HistoryFull);
 
 pub const SHORT: Told = Told::Refused(Refusal::NoMemory);
 
-// What the kernel's answer tells.
+/// What the kernel's answer tells.
 pub fn told_by(answer: Result<Reply, Refusal>) -> Told {
     match answer {
         Ok(Reply::Done) => Told::Done,
@@ -437,7 +437,7 @@ fn waits_for<C: Handler, A: Allocator, R: Wait>(
     }
 }
 
-// What a caller does.
+/// What a caller does.
 pub fn does<C: Handler, A: Allocator, R: Wait>(
     rt: &R,
     machine: &MachineOf<C, A>,

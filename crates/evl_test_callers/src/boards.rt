@@ -16,7 +16,7 @@ pub const FLAGS: FlagId = FlagId(0);
 
 pub const XBUF: XbufId = XbufId(0);
 
-// Staxes for one thread, and for two.
+/// Staxes for one thread, and for two.
 pub const STAX: StaxId = StaxId(0);
 
 pub const WIDE: StaxId = StaxId(1);
@@ -39,10 +39,10 @@ pub const GET: Act = Act::Call(Ask::TryGet(SEM));
 
 pub const PEEK: Act = Act::Call(Ask::Peek(SEM));
 
-// Two callers are attached.
+/// Two callers are attached.
 pub const ATTACHED: [Step; 2] = [(0, ATTACH, Told::Done), (1, ATTACH, Told::Done)];
 
-// The same, and the history has just as many entries as it has room for: the next one asks for memory.
+/// The same, and the history has just as many entries as it has room for: the next one asks for memory.
 pub const GROWN: [Step; 4] = [
     (0, ATTACH, Told::Done),
     (1, ATTACH, Told::Done),
@@ -50,7 +50,7 @@ pub const GROWN: [Step; 4] = [
     (2, PUT, Told::Done),
 ];
 
-// The first caller has the first mutex, and the second one waits for it.
+/// The first caller has the first mutex, and the second one waits for it.
 pub const CONTENDED: [Step; 4] = [
     (0, ATTACH, Told::Done),
     (1, ATTACH, Told::Done),
@@ -58,7 +58,7 @@ pub const CONTENDED: [Step; 4] = [
     (1, Act::Begin(FIRST, None), Told::Waiting),
 ];
 
-// What the first two are told once the core is free, which one of them had for one put.
+/// What the first two are told once the core is free, which one of them had for one put.
 pub const ONCE_FREE: [Step; 5] = [
     (1, GET, Told::Done),
     (1, PUT, Told::Done),
@@ -67,8 +67,8 @@ pub const ONCE_FREE: [Step; 5] = [
     (1, PEEK, Told::Count(0)),
 ];
 
-// So many threads, two semaphores of count 0, a flag group, a cross-buffer with rings of four bytes, two mutexes of
-// which the second is a normal one, and the staxes.
+/// So many threads, two semaphores of count 0, a flag group, a cross-buffer with rings of four bytes, two mutexes of
+/// which the second is a normal one, and the staxes.
 pub fn board_with(threads: u16, first: MutexKind) -> Board {
     let mut sems = ArrayVec::new();
     sems.push(0);
@@ -94,7 +94,7 @@ pub fn board_with(threads: u16, first: MutexKind) -> Board {
     }
 }
 
-// What is seen where this is left, if it is looked at, and whether the first thread's wait is to be over then.
+/// What is seen where this is left, if it is looked at, and whether the first thread's wait is to be over then.
 pub fn seen_of(left: Left) -> Option<(Seen, bool)> {
     match left {
         Left::Unseen => None,

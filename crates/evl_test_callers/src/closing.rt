@@ -149,7 +149,7 @@ fn is_history(history: &[Entry], count: usize, puts: (usize, usize)) -> bool {
     attached && calls.len() == count && puts_by(calls, 0) == puts.0 && puts_by(calls, 1) == puts.1
 }
 
-// What is asked of the kernel, once the machine is closed.
+/// What is asked of the kernel, once the machine is closed.
 #[derive(Clone, Copy)]
 pub enum End {
     Unasked,
@@ -178,7 +178,7 @@ fn has_at_last<C: Handler, A: Allocator>(kernel: KernelOf<C, A>, end: End) -> bo
     has
 }
 
-// Whether a machine is closed, and its kernel has what is wanted.
+/// Whether a machine is closed, and its kernel has what is wanted.
 pub fn closes_with<C: Handler>(
     machine: MachineOf<C, Global>,
     callers: Vec<CallerOf<C, Global>>,

@@ -12,7 +12,7 @@ use evl_pipeline::Handler;
 use std::alloc::Allocator;
 use std::sync::Wait;
 
-// Whether the steps are answered as it is wanted while this caller has the core.
+/// Whether the steps are answered as it is wanted while this caller has the core.
 pub fn answers_held<C: Handler, A: Allocator, R: Wait>(
     rt: &R,
     machine: &MachineOf<C, A>,
@@ -96,8 +96,8 @@ fn looked<C: Handler, A: Allocator>(
     (where_told(told, look), holder)
 }
 
-// What this caller sees behind its own calls, all under one take; none where one is answered otherwise than is wanted,
-// or the core is taken.
+/// What this caller sees behind its own calls, all under one take; none where one is answered otherwise than is wanted,
+/// or the core is taken.
 pub fn looks<C: Handler, A: Allocator>(
     machine: &MachineOf<C, A>,
     holder: CallerOf<C, A>,
@@ -113,7 +113,7 @@ pub fn looks<C: Handler, A: Allocator>(
     }
 }
 
-// Whether this caller gets the kernel, with which it is dropped.
+/// Whether this caller gets the kernel, with which it is dropped.
 pub fn drops_the_kernel<C: Handler, A: Allocator>(
     machine: &MachineOf<C, A>,
     holder: CallerOf<C, A>,

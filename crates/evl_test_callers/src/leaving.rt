@@ -5,18 +5,18 @@ use evl_kernel::KernelOf;
 use evl_machine::{CallerOf, MachineOf};
 use std::alloc::Allocator;
 
-// A machine goes, with its callers.
+/// A machine goes, with its callers.
 pub fn leave<C: Drop, A: Allocator>(machine: MachineOf<C, A>, callers: Vec<CallerOf<C, A>, A>) {
     drop(machine);
     drop(callers);
 }
 
-// A kernel goes.
+/// A kernel goes.
 pub fn leave_kernel<C: Drop, A: Allocator>(kernel: KernelOf<C, A>) {
     drop(kernel);
 }
 
-// Why there is no machine; none where there is one, which goes.
+/// Why there is no machine; none where there is one, which goes.
 pub fn why_none<C: Drop, A: Allocator>(
     made: Result<(MachineOf<C, A>, Vec<CallerOf<C, A>, A>), Refusal>,
 ) -> Option<Refusal> {

@@ -3,7 +3,7 @@ use crate::phases::Side;
 use linked_list_allocator::LocalHeap;
 use std::alloc::Global;
 
-// A heap, and where lies what isn't taken from it.
+/// A heap, and where lies what isn't taken from it.
 #[derive(Clone, Copy)]
 pub struct Memory<'a> {
     pub heap: &'a LocalHeap,
@@ -11,7 +11,7 @@ pub struct Memory<'a> {
 }
 
 impl<'a> Memory<'a> {
-    // All that the heap has left where there is to be no memory, and else nothing.
+    /// All that the heap has left where there is to be no memory, and else nothing.
     pub fn taken_for(self, side: Side) -> Vec<Vec<u8, &'a LocalHeap>> {
         let mut pieces = Vec::new(self.boxes);
         if matches!(side, Side::Short | Side::AppliedShort) {

@@ -7,10 +7,10 @@ use evl_machine::{Begun, Ended};
 use evl_words::{MutexPass, StaxPass};
 use std::alloc::Global;
 
-// The bytes that a caller writes.
+/// The bytes that a caller writes.
 pub const WRITTEN: &[u8] = b"ab";
 
-// A mutex is unlocked with the pass of it that came first, a stax is left with the pass of the caller of this number.
+/// A mutex is unlocked with the pass of it that came first, a stax is left with the pass of the caller of this number.
 #[derive(Drop)]
 pub struct Passes {
     alloc: Global,
@@ -51,14 +51,14 @@ impl Passes {
         }
     }
 
-    // The bytes to be written, in a box of their own.
+    /// The bytes to be written, in a box of their own.
     pub fn bytes(&self) -> Option<Transfer> {
         let mut bytes = Transfer::empty(self.alloc).ok()?;
         bytes.set(WRITTEN);
         Some(bytes)
     }
 
-    // The first pass of a mutex, which is taken away.
+    /// The first pass of a mutex, which is taken away.
     pub fn of_mutex(&mut self, mutex: MutexId) -> Option<MutexPass> {
         match place_of_mutex(self.mutexes.as_slice(), mutex) {
             Some(place) => Some(self.mutexes.remove(place)),
@@ -66,7 +66,7 @@ impl Passes {
         }
     }
 
-    // The first stax pass of the caller of this number, which is taken away.
+    /// The first stax pass of the caller of this number, which is taken away.
     pub fn of_caller(&mut self, number: u16) -> Option<StaxPass> {
         match place_of_caller(self.staxes.as_slice(), number) {
             Some(place) => Some(self.staxes.remove(place)),

@@ -13,10 +13,10 @@ use evl_pipeline::Handler;
 use std::alloc::Allocator;
 use std::sync::Wait;
 
-// A step: by which caller, what it does, and what it is told.
+/// A step: by which caller, what it does, and what it is told.
 pub type Step = (usize, Act, Told);
 
-// What stands still while the steps of a phase are made.
+/// What stands still while the steps of a phase are made.
 #[derive(Clone, Copy, PartialEq)]
 pub enum Side {
     // Nothing.
@@ -35,7 +35,7 @@ pub enum Side {
     Lost,
 }
 
-// What is seen: how many entries, what stands in the word of the first mutex, and what the kernel records of it.
+/// What is seen: how many entries, what stands in the word of the first mutex, and what the kernel records of it.
 #[derive(Clone, Copy, PartialEq)]
 pub struct Seen {
     pub entries: usize,
@@ -44,14 +44,14 @@ pub struct Seen {
     pub waiters: usize,
 }
 
-// What a caller sees that has the core, and whether the first thread's wait is over and unfinished.
+/// What a caller sees that has the core, and whether the first thread's wait is over and unfinished.
 #[derive(Clone, Copy)]
 pub struct Look {
     pub seen: Seen,
     pub is_over: bool,
 }
 
-// What is left: how many entries, and who has the first mutex.
+/// What is left: how many entries, and who has the first mutex.
 #[derive(Clone, Copy)]
 pub enum Left {
     // It isn't looked at.
@@ -70,7 +70,7 @@ pub enum Left {
     Marked(usize, u16),
 }
 
-// Steps beside a side, and what is left.
+/// Steps beside a side, and what is left.
 pub type Phase<'a> = (Side, &'a [Step], Left);
 
 // What the caller at this place is told.
@@ -92,7 +92,7 @@ fn answer<C: Handler, A: Allocator, R: Wait>(
     does(rt, machine, &mut callers[number], passes, act)
 }
 
-// Whether each step is answered as it is wanted.
+/// Whether each step is answered as it is wanted.
 pub fn answers<C: Handler, A: Allocator, R: Wait>(
     rt: &R,
     machine: &MachineOf<C, A>,
@@ -112,7 +112,7 @@ pub fn answers<C: Handler, A: Allocator, R: Wait>(
     true
 }
 
-// The first caller, which is taken away.
+/// The first caller, which is taken away.
 pub fn first_of<C: Handler, A: Allocator>(
     machine: &MachineOf<C, A>,
     callers: &mut Vec<CallerOf<C, A>, A>,
@@ -127,7 +127,7 @@ pub fn first_of<C: Handler, A: Allocator>(
     Some(callers.remove(0))
 }
 
-// The last caller, which is taken away.
+/// The last caller, which is taken away.
 pub fn last_of<C: Handler, A: Allocator>(
     machine: &MachineOf<C, A>,
     callers: &mut Vec<CallerOf<C, A>, A>,
@@ -139,7 +139,7 @@ pub fn last_of<C: Handler, A: Allocator>(
     callers.pop()
 }
 
-// Whether there is room for the last caller, which was away.
+/// Whether there is room for the last caller, which was away.
 pub fn comes_back<C: Handler, A: Allocator>(
     machine: &MachineOf<C, A>,
     callers: &mut Vec<CallerOf<C, A>, A>,
@@ -193,7 +193,7 @@ fn last_looks<C: Handler, A: Allocator>(
     }
 }
 
-// Whether the last caller gets the core, and is dropped with it.
+/// Whether the last caller gets the core, and is dropped with it.
 pub fn last_is_dropped<C: Handler, A: Allocator>(
     machine: &MachineOf<C, A>,
     callers: &mut Vec<CallerOf<C, A>, A>,
@@ -218,7 +218,7 @@ fn first_is_dropped<C: Handler, A: Allocator>(
     first_of(machine, callers).is_some()
 }
 
-// Whether this is left, where it is looked at.
+/// Whether this is left, where it is looked at.
 pub fn is_left<C: Handler, A: Allocator>(
     machine: &MachineOf<C, A>,
     callers: &mut Vec<CallerOf<C, A>, A>,
@@ -245,7 +245,7 @@ fn is_seen(look: Option<Look>, seen: Seen, is_over: bool) -> bool {
     }
 }
 
-// Whether the steps beside this side are answered as it is wanted.
+/// Whether the steps beside this side are answered as it is wanted.
 pub fn answers_by<C: Handler, A: Allocator, R: Wait>(
     rt: &R,
     memory: Memory<'_>,

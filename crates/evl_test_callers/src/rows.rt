@@ -17,7 +17,7 @@ use std::sync::Wait;
 // Memory enough for a row.
 const ENOUGH: usize = 4_194_304;
 
-// A machine over a board and a bank, with its callers.
+/// A machine over a board and a bank, with its callers.
 pub fn made<C: Handler, A: Allocator + Clone>(
     alloc: A,
     boxes: Global,
@@ -114,8 +114,8 @@ fn is_row_over<R: Wait>(
     )
 }
 
-// Whether the phases are answered as it is wanted by a new machine, whose first mutex is of this kind and whose history
-// has so many entries at most, and leave what is wanted.
+/// Whether the phases are answered as it is wanted by a new machine, whose first mutex is of this kind and whose history
+/// has so many entries at most, and leave what is wanted.
 pub fn is_row<R: Wait>(
     rt: &R,
     boxes: Global,

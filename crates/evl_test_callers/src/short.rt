@@ -3,7 +3,7 @@ use evl_base::Refusal;
 use linked_list_allocator::LocalHeap;
 use std::alloc::Global;
 
-// What is made over a heap, its boxes over the other allocator.
+/// What is made over a heap, its boxes over the other allocator.
 pub trait Making {
     // Why it isn't made, if it isn't.
     fn refusal(heap: &LocalHeap, boxes: Global) -> Option<Refusal>;
@@ -18,7 +18,7 @@ fn made_within<M: Making>(heap: &LocalHeap, boxes: Global) -> Option<bool> {
     }
 }
 
-// The same over a heap of this size, to which all that was taken goes back; none where it doesn't.
+/// The same over a heap of this size, to which all that was taken goes back; none where it doesn't.
 pub fn made_in<M: Making>(alloc: Global, size: usize) -> Option<bool> {
     match LocalHeap::new(alloc, size) {
         Ok(heap) => {
@@ -29,7 +29,7 @@ pub fn made_in<M: Making>(alloc: Global, size: usize) -> Option<bool> {
     }
 }
 
-// Whether each of so many heaps, whose sizes grow by 16 bytes, has it or is too small for it, and both come.
+/// Whether each of so many heaps, whose sizes grow by 16 bytes, has it or is too small for it, and both come.
 pub fn is_made_where_it_fits<M: Making>(alloc: Global, from: usize, steps: usize) -> bool {
     let mut refused = false;
     let mut made = false;

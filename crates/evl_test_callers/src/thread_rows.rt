@@ -14,7 +14,7 @@ use std::alloc::Global;
 use std::sync::Wait;
 use std::thread::Threads;
 
-// What two host threads do, and of how much each is told, between steps on one; the first one takes all passes with it.
+/// What two host threads do, and of how much each is told, between steps on one; the first one takes all passes with it.
 #[derive(Clone, Copy)]
 pub struct ThreadRow<'a> {
     pub before: &'a [Step],
@@ -77,8 +77,8 @@ fn answers_row<C: Handler + Send, R: Threads + Wait + Sync>(
     before && told && after
 }
 
-// Whether a row over a new machine with these callbacks is answered as it is wanted, the machine is closed then, and
-// its kernel has what is wanted.
+/// Whether a row over a new machine with these callbacks is answered as it is wanted, the machine is closed then, and
+/// its kernel has what is wanted.
 pub fn is_row_over<C: Handler + Send, R: Threads + Wait + Sync>(
     rt: &R,
     alloc: Global,
@@ -96,7 +96,7 @@ pub fn is_row_over<C: Handler + Send, R: Threads + Wait + Sync>(
     }
 }
 
-// The same with no callbacks.
+/// The same with no callbacks.
 pub fn is_thread_row<R: Threads + Wait + Sync>(
     rt: &R,
     alloc: Global,

@@ -17,7 +17,7 @@ use std::thread::Threads;
 // The most turns that a host thread waits for another one's sign.
 const MOST_TURNS: u32 = 1_000_000_000;
 
-// Where each of two host threads tells the other how far it is.
+/// Where each of two host threads tells the other how far it is.
 #[derive(Drop)]
 pub struct Signs {
     pub taken: AtomicBool,
@@ -44,7 +44,7 @@ fn wait_for(sign: &AtomicBool) -> bool {
     false
 }
 
-// What a host thread does with its caller.
+/// What a host thread does with its caller.
 #[derive(Clone, Copy)]
 pub enum Task {
     // Takes a turn so often.
@@ -55,7 +55,7 @@ pub enum Task {
     Beside(Turn),
 }
 
-// A turn.
+/// A turn.
 #[derive(Clone, Copy)]
 pub enum Turn {
     Puts,
@@ -219,7 +219,7 @@ fn works<C: Handler, A: Allocator, R: Wait>(
     }
 }
 
-// What goes to a host thread and works there on what all threads share.
+/// What goes to a host thread and works there on what all threads share.
 pub trait Worker<M>: Drop {
     ghost fits: { Self → M → Type 0 };
 
@@ -229,7 +229,7 @@ pub trait Worker<M>: Drop {
         ensures { fits result.0 shared.now };
 }
 
-// A caller with the passes that it has, which go to another host thread together.
+/// A caller with the passes that it has, which go to another host thread together.
 #[derive(Drop)]
 pub struct Hand<C: Drop, A: Allocator> {
     pub caller: CallerOf<C, A>,
@@ -280,7 +280,7 @@ fn both_work<M: Sync, W: Worker<M> + Send, R: Threads + Wait + Sync>(
     )
 }
 
-// Both hands work at once on a machine: their callers come back, with of how much each was told.
+/// Both hands work at once on a machine: their callers come back, with of how much each was told.
 pub fn both_call<C: Handler + Send, R: Threads + Wait + Sync>(
     rt: &R,
     machine: &MachineOf<C, Global>,

@@ -5,7 +5,7 @@ use evl_plans::{BankFault, Part, Planned, read_bank, trace_plans};
 use evl_runs::program_plans;
 use std::alloc::Global;
 
-/// The program's eight callbacks as a bank, as banks/program.toml has them.
+// The program's eight callbacks as a bank, as banks/program.toml has them.
 const PROGRAM: &str = r#"[[callback]]
 [[callback]]
 do = [{ post_sem = 0 }]
@@ -23,7 +23,7 @@ do = [{ stop_timer = 0 }]
 [[callback]]
 "#;
 
-/// A scenario in which each of the callbacks is called.
+// A scenario in which each of the callbacks is called.
 const CALLS: &str = r#"step = [
   { do = "request", who = 0, line = 10, stage = "oob", callback = 0 }, { do = "request", who = 0, line = 11, stage = "oob", callback = 1 },
   { do = "request", who = 0, line = 12, stage = "oob", callback = 2 }, { do = "request", who = 0, line = 13, stage = "oob", callback = 3 },
@@ -41,7 +41,7 @@ sems = [0]
 flags = [0]
 "#;
 
-/// A bank that the program doesn't have, and a scenario that it is called in.
+// A bank that the program doesn't have, and a scenario that it is called in.
 const ONE: &str = r#"[[callback]]
 accepts = "2"
 do = [{ every = 1, post_sem = 1 }, { every = 2, post_flags = "0", bits = 6 }]

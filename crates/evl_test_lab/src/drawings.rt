@@ -8,21 +8,21 @@ use evl_runs::write_events;
 use evl_traces::{Misread, TraceLine, read_lines};
 use std::alloc::{AllocError, Global};
 
-/// A trace with a call that is answered, one that is refused, and a play.
+// A trace with a call that is answered, one that is refused, and a play.
 const TRACE: &str = "board threads=2 sems=1 flags=0 xbufs=0 mutexes=0 groups=0 limit=100
 1 T0 try_get sem=0 -> Again
 2 T1 arrive line=5 -> done
   line 5 oob count 1 none
 ";
 
-/// The same as a table.
+// The same as a table.
 const TABLE: &str = "row,lane,shows,line
 1,T0,refused,1 T0 try_get sem=0 -> Again
 2,T1,answered,2 T1 arrive line=5 -> done
 3,out-of-band,unhandled,line 5 oob count 1 none
 ";
 
-/// The same as trace events.
+// The same as trace events.
 const EVENTS: &str = r#"{"traceEvents": [
 {"ph": "M", "name": "thread_name", "pid": 1, "tid": 0, "args": {"name": "T0"}},
 {"ph": "M", "name": "thread_sort_index", "pid": 1, "tid": 0, "args": {"sort_index": 0}},
@@ -37,7 +37,7 @@ const EVENTS: &str = r#"{"traceEvents": [
 ]}
 "#;
 
-/// Lines of callers: of a pass that is named as a refusal might be, a refused step, a wait, and the core.
+// Lines of callers: of a pass that is named as a refusal might be, a refused step, a wait, and the core.
 const TOLD: &str = "board threads=2 sems=0 flags=0 xbufs=0 mutexes=1 groups=0 limit=100
 1 T0 try_lock_stax stax=0 as=Pass -> Pass | stax 0: in-band, 1 holder
 2 T1 try_lock_stax stax=0 as=p1 -> Limit | stax 0: in-band, 1 holder
@@ -47,7 +47,7 @@ const TOLD: &str = "board threads=2 sems=0 flags=0 xbufs=0 mutexes=1 groups=0 li
 6 T0 take -> done | core: taken by T0
 ";
 
-/// The same in characters.
+// The same in characters.
 const TOLD_ROWS: &str = "T0          o   oo
 T1           x()  
 mutex 0       ..  
@@ -151,7 +151,7 @@ fn another_line_is_refused(rt: HostRuntime) {
     assert!(rt; matches!(&read, Err(Misread::Line(2))));
 }
 
-/// A thread that is attached, and then goes in-band.
+// A thread that is attached, and then goes in-band.
 const TWO_MOMENTS: &str = r#"
 step = [
   { do = "attach", who = 1, policy = "fifo 10", stage = "oob" },

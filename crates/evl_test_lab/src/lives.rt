@@ -5,7 +5,7 @@ use evl_runs::program_plans;
 use evl_scenario::{Fault, STEP_WORDS};
 use std::alloc::{AllocError, Global};
 
-/// The board, and a step that comes first.
+// The board, and a step that comes first.
 const FIRST: &str = "[board]
 threads = 2
 sems = [0]
@@ -15,7 +15,7 @@ who = 0
 sem = 0
 ";
 
-/// Lines, and what they are answered.
+// Lines, and what they are answered.
 const LINES: [(&str, &str); 10] = [
     ("T1 peek sem=0", "2 T1 peek sem=0 -> count 1\n"),
     (

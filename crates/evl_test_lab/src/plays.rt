@@ -5,7 +5,7 @@ use evl_traces::{TraceLine, read_lines};
 use evl_warnings::warnings;
 use std::alloc::Global;
 
-/// A trace with numbers, a text in place of a number, bytes, and plays.
+// A trace with numbers, a text in place of a number, bytes, and plays.
 const TRACE: &str = "board threads=2 sems=1 flags=0 xbufs=1 mutexes=0 groups=0 limit=2
 1 T0 attach policy=fifo 10 stage=oob -> done
 2 T1 write xbuf=0 way=in bytes=0012 -> done
@@ -14,15 +14,15 @@ const TRACE: &str = "board threads=2 sems=1 flags=0 xbufs=1 mutexes=0 groups=0 l
 - T0 begin_get sem=0 until=none -> HistoryFull
 ";
 
-/// The same as lines of JSON.
+// The same as lines of JSON.
 const JSON: &str =
     r#"{"file": "a \"b\"", "number": 1, "who": 0, "call": "attach", "keys": {"policy": "fifo 10", "stage": "oob"}, "answer": "done", "refused": false, "plays": []}
 {"file": "a \"b\"", "number": 2, "who": 1, "call": "write", "keys": {"xbuf": 0, "way": "in", "bytes": "0012"}, "answer": "done", "refused": false, "plays": [{"play": "line", "line": 5, "stage": "oob", "count": 1, "handled": false}, {"play": "clock"}]}
 {"file": "a \"b\"", "number": null, "who": 0, "call": "begin_get", "keys": {"sem": 0, "until": null}, "answer": "HistoryFull", "refused": true, "plays": []}
 "#;
 
-/// A scenario of which something is told: T1 calls while T2 is picked and waits, a semaphore isn't there, a thread is
-/// busy, and a line is pending in the end.
+// A scenario of which something is told: T1 calls while T2 is picked and waits, a semaphore isn't there, a thread is
+// busy, and a line is pending in the end.
 const ODD: &str = r#"step = [
   { do = "attach", who = 1, policy = "fifo 10", stage = "oob" }, { do = "attach", who = 2, policy = "fifo 20", stage = "oob" },
   { do = "begin_get", who = 1, sem = 0 }, { do = "put", who = 1, sem = 0 }, { do = "put", who = 0, sem = 7 },

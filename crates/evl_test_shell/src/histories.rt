@@ -20,7 +20,7 @@ const SEM: SemId = SemId(0);
 
 const POST: Action = Action::PostSem(SEM);
 
-/// Two threads, a semaphore at 0 and a stage exclusion lock.
+// Two threads, a semaphore at 0 and a stage exclusion lock.
 fn board() -> Board {
     let mut sems = ArrayVec::new();
     sems.push(0);

@@ -81,7 +81,7 @@ impl<A: Allocator> Gates<A> {
     }
 }
 
-/// Leaves a gate, and takes its mark away where the last one to leave found it.
+// Leaves a gate, and takes its mark away where the last one to leave found it.
 #[inline(always)]
 fn leave<A: Allocator>(
     gate: &StaxGate<A>,

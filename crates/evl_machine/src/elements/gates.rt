@@ -47,7 +47,7 @@ impl<A: Allocator + Clone> Gates<A> {
     }
 }
 
-/// The gates of staxes with these limits, and their seats, thread by thread.
+// The gates of staxes with these limits, and their seats, thread by thread.
 fn made_gates<A: Allocator + Clone>(
     alloc: A,
     limits: &[u16],
@@ -72,7 +72,7 @@ fn made_gates<A: Allocator + Clone>(
     Ok((gates, lists))
 }
 
-/// Each thread's seats, of which none holds its gate.
+// Each thread's seats, of which none holds its gate.
 fn counted<A: Allocator>(
     alloc: A,
     lists: Vec<Vec<StaxSeat, A>, A>,

@@ -47,7 +47,7 @@ impl<A: Allocator + Clone> Elements<A> {
     }
 }
 
-/// The places of each thread at so many mutexes.
+// The places of each thread at so many mutexes.
 fn all_places<A: Allocator + Clone>(
     alloc: &A,
     mutexes: u16,

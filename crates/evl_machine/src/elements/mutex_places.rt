@@ -127,7 +127,7 @@ impl<A: Allocator> MutexPlaces<A> {
     }
 }
 
-/// The number of passes, once one place's has changed.
+// The number of passes, once one place's has changed.
 fn recounted(passes: u16, before: u8, after: u8) -> u16
     requires room { (before ≤ passes) × (passes ≤ 8160) }
     ensures count { result + before ≡ passes + after }

@@ -180,7 +180,7 @@ pub(crate) fn offer<C: Drop, A: Allocator>(
     offer_as::<Brand, C, A>(core, seat, places, pass, next, more)
 }
 
-/// The same, where it is picked to whom.
+// The same, where it is picked to whom.
 fn offer_as<H: Handing, C: Drop, A: Allocator>(
     core: &CoreLock<C, A>,
     seat: &mut CoreSeat<C, A>,
@@ -276,7 +276,7 @@ pub(crate) fn accept<C: Drop, A: Allocator>(
     Ok(take_offer(core, seat, places, mutex))
 }
 
-/// The load before an acceptance.
+// The load before an acceptance.
 fn await_offer<C: Drop, A: Allocator>(
     core: &CoreLock<C, A>,
     seat: &mut CoreSeat<C, A>,
@@ -302,7 +302,7 @@ fn await_offer<C: Drop, A: Allocator>(
     }
 }
 
-/// Takes what the thread has seen offered to it.
+// Takes what the thread has seen offered to it.
 fn take_offer<C: Drop, A: Allocator>(
     core: &CoreLock<C, A>,
     seat: &mut CoreSeat<C, A>,
