@@ -7,15 +7,15 @@
  *   evl_close(&kernel);
  *
  * What is said here of each function is proved of the export that it calls (crates/evl_c), but for when memory runs out, of
- * which no proof speaks; the functions in this file fill structs and look for null pointers. Who calls owes what the C types say, as in evl.h, and that an evl_kernel is either
- * EVL_NO_KERNEL or what a function of this file left in it, in one place: a copy of it is no second kernel. A kernel is given
- * to one call at a time, of the thread that made it. Nothing here is called from a signal handler.
+ * which no proof speaks; the functions in this file fill structs and look for null pointers. Who calls owes what the C types
+ * say, as in evl.h, and that an evl_kernel is either EVL_NO_KERNEL or what a function of this file left in it, in one place: a
+ * copy of it is no second kernel. A kernel is given to one call at a time, of the thread that made it. Nothing here is called
+ * from a signal handler.
  */
 #ifndef EVL_KERNEL_H
 #define EVL_KERNEL_H
 
-#include <evl.h>
-#include <stdbool.h>
+#include <evl_calls.h>
 
 #ifdef __cplusplus
 extern "C" {
@@ -31,12 +31,6 @@ typedef struct evl_kernel {
   void *at;
 } evl_kernel;
 #define EVL_NO_KERNEL {false, NULL}
-
-/* Stages, and the ways through a cross-buffer. */
-#define EVL_INBAND 0u
-#define EVL_OOB 1u
-#define EVL_IN 0u  /* written in-band, read out-of-band */
-#define EVL_OUT 1u /* written out-of-band, read in-band */
 
 /* Kinds of mutexes. */
 #define EVL_NORMAL 0u
@@ -67,37 +61,6 @@ typedef struct evl_board {
   const uint8_t *groups; /* percents of the quota groups, 1 to 100 */
   size_t group_count;    /* up to 16 */
 } evl_board;
-
-/* The calls, which docs/SCENARIOS.md describes. */
-enum evl_call_kind {
-  EVL_CALL_REQUEST, EVL_CALL_FREE, EVL_CALL_ARRIVE, EVL_CALL_POST, EVL_CALL_STALL, EVL_CALL_UNSTALL,
-  EVL_CALL_TICK, EVL_CALL_NOW, EVL_CALL_NEW_TIMER, EVL_CALL_START_TIMER, EVL_CALL_STOP_TIMER, EVL_CALL_DROP_TIMER,
-  EVL_CALL_OVERRUNS,
-  EVL_CALL_ATTACH, EVL_CALL_DETACH, EVL_CALL_SET_POLICY, EVL_CALL_SET_STAGE, EVL_CALL_PICK, EVL_CALL_RANK_OF,
-  EVL_CALL_TRY_GET, EVL_CALL_PUT, EVL_CALL_PEEK, EVL_CALL_BEGIN_GET,
-  EVL_CALL_TRY_TAKE, EVL_CALL_POST_FLAGS, EVL_CALL_PEEK_FLAGS, EVL_CALL_BEGIN_TAKE,
-  EVL_CALL_WRITE, EVL_CALL_READ, EVL_CALL_ROOM, EVL_CALL_BEGIN_WRITE, EVL_CALL_BEGIN_READ,
-  EVL_CALL_CLAIM, EVL_CALL_RELEASE, EVL_CALL_RAISE, EVL_CALL_FINISH
-};
-
-/*
- * A call, as the functions evl_call_.. make it. All of its numbers are in their ranges, also those that its kind doesn't use.
- * A take's `choice` above 2 is taken as 2, and a finish's above 1 as 1.
- */
-typedef struct evl_call {
-  uint8_t kind;     /* EVL_CALL_REQUEST to EVL_CALL_FINISH */
-  uint8_t stage;    /* EVL_INBAND or EVL_OOB */
-  uint8_t way;      /* EVL_IN or EVL_OUT */
-  uint8_t choice;   /* a policy's or a take's kind, or whether `finish` keeps the stage: up to 3 */
-  uint8_t prio;     /* of a policy */
-  uint8_t callback; /* of `request` and `new_timer` */
-  uint8_t timed;    /* 1: the wait has the deadline `date`; else 0 */
-  uint16_t element; /* the line, timer, semaphore, flag group, cross-buffer, mutex or thread */
-  uint16_t other;   /* the owner of `claim`, a policy's group, the length of a read */
-  uint32_t bits;    /* bits, or a tag */
-  uint64_t date;    /* a date, a deadline, or the delta of `tick` */
-  uint64_t span;    /* an interval, or a policy's slice */
-} evl_call;
 
 /* Kinds of answers. */
 #define EVL_REFUSED 0u /* refused, as `refusal` says */
@@ -267,13 +230,6 @@ static inline uint32_t evl_apply(evl_kernel *kernel, uint16_t who, const evl_cal
   return evl_c_apply(kernel, who, call, bytes == NULL ? &none : bytes, length, out == NULL ? &none : out, out_length, answer);
 }
 
-/* Inlined also where a compiler would rather not, so that what is known of a call where it stands costs nothing. */
-#if defined(__GNUC__)
-#define EVL_INLINE static inline __attribute__((always_inline))
-#else
-#define EVL_INLINE static inline
-#endif
-
 /* What evl_do answers where nothing was called. */
 static inline evl_answer evl_not_called(uint32_t status) {
   evl_answer answer = {0, EVL_NOT_CALLED, false, -1, 0, 0, 0, 0};
@@ -288,19 +244,6 @@ EVL_INLINE evl_answer evl_do_bytes(evl_kernel *kernel, uint16_t who, evl_call ca
   uint32_t status = evl_apply(kernel, who, &call, bytes, length, out, out_length, &answer);
   if (status != EVL_DONE) answer = evl_not_called(status);
   return answer;
-}
-
-/* Whether a call has an element and nothing else, so that evl_c_apply_bare makes it in fewer steps. */
-#define EVL_KIND_BIT(kind) (UINT64_C(1) << (kind))
-#define EVL_BARE_KINDS                                                                                                       \
-  (EVL_KIND_BIT(EVL_CALL_ARRIVE) | EVL_KIND_BIT(EVL_CALL_STOP_TIMER) | EVL_KIND_BIT(EVL_CALL_DROP_TIMER) |                   \
-   EVL_KIND_BIT(EVL_CALL_OVERRUNS) | EVL_KIND_BIT(EVL_CALL_RANK_OF) | EVL_KIND_BIT(EVL_CALL_TRY_GET) |                       \
-   EVL_KIND_BIT(EVL_CALL_PUT) | EVL_KIND_BIT(EVL_CALL_PEEK) | EVL_KIND_BIT(EVL_CALL_BEGIN_GET) |                             \
-   EVL_KIND_BIT(EVL_CALL_PEEK_FLAGS) | EVL_KIND_BIT(EVL_CALL_RELEASE) | EVL_KIND_BIT(EVL_CALL_RAISE))
-EVL_INLINE bool evl_is_bare(evl_call call) {
-  return call.kind <= EVL_CALL_FINISH && (EVL_BARE_KINDS >> call.kind & 1) != 0 &&
-         (call.stage | call.way | call.choice | call.prio | call.callback | call.timed | call.other) == 0 &&
-         call.bits == 0 && (call.date | call.span) == 0;
 }
 
 /* The same of a call without bytes. */
@@ -340,10 +283,73 @@ static inline uint32_t evl_scenario(evl_kernel *kernel, size_t start, uint8_t *o
   return evl_c_scenario(kernel, start, out == NULL ? &none : out, out_length, length);
 }
 
+/*
+ * Questions, which change nothing. Where there is no kernel, or no such thing, the number is -1, the count INT64_MIN, the
+ * truth false and the date 0; but nobody waits (0) for a mutex that isn't there, and a thread that isn't there is in-band.
+ */
+static inline evl_reading evl_ask(evl_kernel *kernel, unsigned kind, uint16_t element, unsigned stage, unsigned way,
+                                  unsigned on, size_t place) {
+  evl_question question;
+  evl_reading reading = {false, 0, 0};
+  question.kind = (uint8_t)kind;
+  question.stage = (uint8_t)(stage > EVL_OOB ? 2 : stage);
+  question.way = (uint8_t)(way > EVL_OUT ? 2 : way);
+  question.on = (uint8_t)(on > EVL_ON_MUTEX ? 5 : on);
+  question.element = element;
+  question.place = place;
+  if (kernel != NULL) (void)evl_c_ask(kernel, &question, &reading);
+  return reading;
+}
+static inline int64_t evl_number_in(evl_reading reading) { return reading.there ? (int64_t)reading.number : -1; }
+
+static inline uint64_t evl_see_now(evl_kernel *kernel) { return evl_ask(kernel, EVL_SEE_NOW, 0, 0, 0, 0, 0).number; }
+static inline int64_t evl_see_picked(evl_kernel *kernel) {
+  return evl_number_in(evl_ask(kernel, EVL_SEE_PICKED, 0, 0, 0, 0, 0));
+}
+static inline int64_t evl_see_rank(evl_kernel *kernel, uint16_t thread) {
+  return evl_number_in(evl_ask(kernel, EVL_SEE_RANK, thread, 0, 0, 0, 0));
+}
+static inline bool evl_see_ready(evl_kernel *kernel, uint16_t thread) {
+  return evl_ask(kernel, EVL_SEE_READY, thread, 0, 0, 0, 0).there;
+}
+static inline bool evl_see_waits(evl_kernel *kernel, uint16_t thread) {
+  return evl_ask(kernel, EVL_SEE_WAITS, thread, 0, 0, 0, 0).there;
+}
+static inline bool evl_see_finished(evl_kernel *kernel, uint16_t thread) {
+  return evl_ask(kernel, EVL_SEE_FINISHED, thread, 0, 0, 0, 0).there;
+}
+static inline bool evl_see_timed_out(evl_kernel *kernel, uint16_t thread) {
+  return evl_ask(kernel, EVL_SEE_TIMED_OUT, thread, 0, 0, 0, 0).there;
+}
+static inline int64_t evl_see_stage(evl_kernel *kernel, uint16_t thread) {
+  return evl_number_in(evl_ask(kernel, EVL_SEE_STAGE, thread, 0, 0, 0, 0));
+}
+static inline int64_t evl_see_count(evl_kernel *kernel, uint16_t sem) {
+  evl_reading reading = evl_ask(kernel, EVL_SEE_COUNT, sem, 0, 0, 0, 0);
+  return reading.there ? reading.count : INT64_MIN;
+}
+static inline int64_t evl_see_bits(evl_kernel *kernel, uint16_t flags) {
+  return evl_number_in(evl_ask(kernel, EVL_SEE_BITS, flags, 0, 0, 0, 0));
+}
+static inline int64_t evl_see_stored(evl_kernel *kernel, uint16_t xbuf, unsigned way) {
+  return evl_number_in(evl_ask(kernel, EVL_SEE_STORED, xbuf, 0, way, 0, 0));
+}
+static inline int64_t evl_see_owner(evl_kernel *kernel, uint16_t mutex) {
+  return evl_number_in(evl_ask(kernel, EVL_SEE_OWNER, mutex, 0, 0, 0, 0));
+}
+static inline int64_t evl_see_waiters(evl_kernel *kernel, uint16_t mutex) {
+  return evl_number_in(evl_ask(kernel, EVL_SEE_WAITERS, mutex, 0, 0, 0, 0));
+}
+/* Who stands at a place of a queue, the first at 0: on is EVL_ON_SEM to EVL_ON_MUTEX, and way that of a cross-buffer. */
+static inline int64_t evl_see_waiter(evl_kernel *kernel, unsigned on, uint16_t element, unsigned way, size_t place) {
+  return evl_number_in(evl_ask(kernel, EVL_SEE_WAITER, element, 0, way, on, place));
+}
+static inline bool evl_see_pending(evl_kernel *kernel, unsigned stage, uint16_t line) {
+  return evl_ask(kernel, EVL_SEE_PENDING, line, stage, 0, 0, 0).there;
+}
+
 #ifdef __cplusplus
 }
 #endif
-
-#include <evl_calls.h>
 
 #endif

@@ -72,34 +72,39 @@ impl<C: Handler, A: Allocator> MachineOf<C, A> {
 }
 
 // What a machine is made of beside its kernel: its elements with each thread's seats and places, room for its callers,
-// and the allocator of its core.
+// and the words and the allocator of its core.
 #[derive(Drop)]
 struct Parts<C, A: Allocator> {
     alloc: A,
+    words: Vec<u64, A>,
     elements: Elements<A>,
     callers: Vec<CallerOf<C, A>, A>,
 }
 
 impl<C, A: Allocator + Clone> Parts<C, A> {
-    // The parts for a board within its limits.
+    // The parts for a board within its limits. What has the most parts is made last.
     fn of(alloc: &A, board: &Board) -> Result<Parts<C, A>, AllocError>
         ensures fits { IfOk result (λ p. board_fits board.now ≡ true) }
+        ensures words { IfOk result (λ p. p.words.items ≡ replicate (1 + length board.now.mutexes.items) 0) }
         ensures room { IfOk result (λ p. (p.callers.items ≡ []) × (board.now.threads ≤ vec_capacity p.callers)) }
         ensures made { IfOk result (λ p. AreMade board.now p.elements) }
     {
         if board.check().is_err() {
             return Err(AllocError);
         }
-        let limits = board.staxes.as_slice();
+        let mutexes = board.mutexes.as_slice();
+        let own = alloc.clone()?;
+        let words = zeros(alloc, mutexes.len())?;
+        let callers = Vec::with_capacity(alloc.clone()?, usize::from(board.threads))?;
         let elements = Elements::new(
             alloc.clone()?,
-            limits,
-            board.mutexes.as_slice(),
+            board.staxes.as_slice(),
+            mutexes,
             board.threads,
         )?;
-        let callers = Vec::with_capacity(alloc.clone()?, usize::from(board.threads))?;
         Ok(Parts {
-            alloc: alloc.clone()?,
+            alloc: own,
+            words,
             elements,
             callers,
         })
@@ -115,6 +120,7 @@ fn joined<C: Drop, A: Allocator + Clone>(
     requires new { IsLegal kernel.history × (kernel.history.entries ≡ []) }
     requires threads { threads_of kernel.history ≡ threads }
     requires board { board_fits kernel.history.board ≡ true }
+    requires words { parts.words.items ≡ replicate (1 + length kernel.history.board.mutexes.items) 0 }
     requires room { (parts.callers.items ≡ []) × (threads ≤ vec_capacity parts.callers) }
     requires made { AreMade kernel.history.board parts.elements }
     ensures first { IfOk result (λ m. m.0.first ≡ kernel) }
@@ -124,33 +130,32 @@ fn joined<C: Drop, A: Allocator + Clone>(
 {
     let Parts {
         alloc,
+        words,
         elements,
         callers,
     } = parts;
-    let count = elements.kinds.len();
-    match core_of(alloc, kernel, count) {
+    match core_of(alloc, kernel, words) {
         Ok((core, root)) => Ok(with_seats(core, root, callers, elements, threads)),
         Err(_) => Err(Refusal::NoMemory),
     }
 }
 
-// The core's lock with this kernel in its slot, the words of so many mutexes, and the token that acts for all threads.
+// The core's lock with this kernel in its slot, its words, and the token that acts for all threads.
 fn core_of<C: Drop, A: Allocator + Clone>(
     alloc: A,
     kernel: KernelOf<C, A>,
-    mutexes: usize,
+    words: Vec<u64, A>,
 ) -> Result<(CoreLock<C, A>, CoreSeat<C, A>), AllocError>
     requires new { IsLegal kernel.history × (kernel.history.entries ≡ []) }
     requires board { board_fits kernel.history.board ≡ true }
-    requires mutexes { mutexes ≡ length kernel.history.board.mutexes.items }
+    requires words { words.items ≡ replicate (1 + length kernel.history.board.mutexes.items) 0 }
     ensures key { IfOk result (λ m. m.0.shared.key.value ≡ kernel) }
-    ensures table { IfOk result (λ m. (m.0.shared.table_id.words ≡ 1 + mutexes) × (m.0.shared.table_id.slots ≡ 1) × (m.1.table_id ≡ m.0.shared.table_id)) }
+    ensures table { IfOk result (λ m. (m.0.shared.table_id.words ≡ 1 + length kernel.history.board.mutexes.items) × (m.0.shared.table_id.slots ≡ 1) × (m.1.table_id ≡ m.0.shared.table_id)) }
     ensures root { IfOk result (λ m. m.1.me ≡ (first_known m.0.shared.key.value, [])) }
 {
     let key = Snapshot::of(&kernel);
     let kernel = KernelBox::new(&alloc, kernel)?;
     let slots = one_slot(&alloc, kernel)?;
-    let words = zeros(&alloc, mutexes)?;
     match Table::new(alloc, words.as_slice(), slots, &key) {
         Ok(made) => Ok(made),
         Err(_) => Err(AllocError),

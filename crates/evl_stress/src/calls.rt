@@ -20,7 +20,7 @@ impl<C: Handler, A: Allocator> Session<'_, C, A> {
     fn tries_call(&mut self, call: Call)
         ensures { self.new ≡ self.old }
     {
-        let _ = self.machine.try_call(&mut self.caller, call);
+        drop(self.machine.try_call(&mut self.caller, call));
     }
 
     /// A call that begins no wait, sometimes only where the core is free.
@@ -31,7 +31,7 @@ impl<C: Handler, A: Allocator> Session<'_, C, A> {
         if self.tools.dice.one_in(3) {
             self.tries_call(call);
         } else {
-            let _ = self.calls(rt, call);
+            drop(self.calls(rt, call));
         }
     }
 

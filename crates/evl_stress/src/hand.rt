@@ -78,12 +78,12 @@ impl<C: Handler, A: Allocator> Session<'_, C, A> {
         ensures { self.new ≡ self.old }
     {
         let stage = Stage::Oob;
-        let _ = self.calls(rt, Call::Unstall { stage });
-        let _ = self.calls(rt, Call::Tick { delta: LONG });
-        let _ = self.calls(rt, Call::Put { sem: SemId(0) });
-        let _ = self.calls(rt, Call::Put { sem: SemId(1) });
+        drop(self.calls(rt, Call::Unstall { stage }));
+        drop(self.calls(rt, Call::Tick { delta: LONG }));
+        drop(self.calls(rt, Call::Put { sem: SemId(0) }));
+        drop(self.calls(rt, Call::Put { sem: SemId(1) }));
         let flags = FlagId(0);
-        let _ = self.calls(rt, Call::PostFlags { flags, bits: 1 });
+        drop(self.calls(rt, Call::PostFlags { flags, bits: 1 }));
     }
 
     // Helps whenever nobody goes on by itself, until all are done.

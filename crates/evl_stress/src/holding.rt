@@ -20,8 +20,8 @@ fn applies<C: Handler, A: Allocator>(
     ensures { result.machine ≡ held.entry.caller.machine }
 {
     let mut held = held;
-    let _ = held.apply(first);
-    let _ = held.apply(second);
+    drop(held.apply(first));
+    drop(held.apply(second));
     held.give()
 }
 

@@ -178,7 +178,7 @@ impl<C: Handler, A: Allocator> Session<'_, C, A> {
         }
         if self.tools.dice.one_in(3) {
             let tick = short_tick(&mut self.tools.dice);
-            let _ = self.calls(rt, tick);
+            drop(self.calls(rt, tick));
         }
         let way = self.tools.dice.below(4);
         self.spends(rt, way, pass);

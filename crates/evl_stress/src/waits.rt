@@ -63,7 +63,7 @@ impl<C: Handler, A: Allocator> Session<'_, C, A> {
         }
         self.learns_date(rt);
         self.watch.falls_asleep();
-        let _ = self.waits_for_one(rt);
+        drop(self.waits_for_one(rt));
         self.watch.wakes_up();
     }
 
