@@ -1,9 +1,10 @@
 /*
  * The out-of-band core, simulated, for C99 and C++17 (docs/EMBEDDING.md).
  *
- * What is said here of each function is proved of the export that it calls (crates/evl_c), but for when memory runs out,
- * of which no proof speaks; the functions in this file only look for null pointers. Who calls owes what the C types say: a pointer with a length leads to that many bytes, which
- * nobody else writes meanwhile, and a buffer that is written overlaps no other argument.
+ * What is said here of each function is proved of the export that it calls (crates/evl_c), but for when memory runs out, of
+ * which no proof speaks; the functions in this file only look for null pointers. Who calls owes what the C types say: a
+ * pointer with a length leads to that many bytes, which nobody else writes meanwhile, and a buffer that is written overlaps no
+ * other argument.
  *
  * Nothing is kept from one call to the next, so any number of threads may call at once. Memory comes from malloc and
  * goes back to free before the call returns. Not to be called from a signal handler.
