@@ -60,14 +60,16 @@ fn write_stage(told: &mut String, session: &Session, stage: Stage) -> Result<(),
     if kernel.stalled(stage) {
         told.push_str(" stalled")?;
     }
-    told.push_str(", pending")?;
+    let mut is_quiet = true;
     let lines = u16::try_from(LINES).unwrap_or(0);
     for line in 0..lines {
         if kernel.pending(stage, LineNo(line)) {
-            write!(told, " {line}")?;
+            told.push_str(if is_quiet { ", pending " } else { " " })?;
+            write!(told, "{line}")?;
+            is_quiet = false;
         }
     }
-    told.push_str("\n")
+    told.push_str(if is_quiet { ", nothing pending\n" } else { "\n" })
 }
 
 // Writes a timer that runs or has ended.

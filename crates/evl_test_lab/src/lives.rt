@@ -205,7 +205,7 @@ const STANDING: [(&str, &str); 3] = [
     ),
     (
         "ps",
-        "T0 inband\nT1 oob, served: begin_get sem=0 until=none\noob, pending\ninband, pending\n",
+        "T0 inband\nT1 oob, served: begin_get sem=0 until=none\noob, nothing pending\ninband, nothing pending\n",
     ),
 ];
 
