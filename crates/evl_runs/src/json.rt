@@ -127,6 +127,14 @@ fn put_play(json: &mut String, play: Play) -> Result<(), AllocError> {
     }
 }
 
+// Writes what stands before plays that no entry stands before.
+fn put_no_entry(alloc: Global, json: &mut String, file: &str) -> Result<(), AllocError> {
+    json.push_str("{\"file\": ")?;
+    put_text(alloc, json, file)?;
+    json.push_str(", \"number\": null, \"who\": null, \"call\": null, \"keys\": {}, ")?;
+    json.push_str("\"answer\": null, \"refused\": false, \"plays\": [")
+}
+
 // Ends the line of the entry before, if there is one.
 fn end_entry(json: &mut String, plays: Option<usize>) -> Result<(), AllocError> {
     match plays {
@@ -136,8 +144,8 @@ fn end_entry(json: &mut String, plays: Option<usize>) -> Result<(), AllocError> 
 }
 
 /// Writes a line of JSON for each entry of a trace: its file, number, thread, call with its keys, answer, whether that
-/// is a refusal, and its plays. A number is a number, `none` is null, anything else a text. `AllocError` where memory
-/// couldn't grow.
+/// is a refusal, and its plays. A number is a number, `none` is null, anything else a text. Plays before the first entry
+/// have a line whose call is null. `AllocError` where memory couldn't grow.
 pub fn write_json(
     alloc: Global,
     file: &str,
@@ -154,12 +162,13 @@ pub fn write_json(
                 plays = Some(0);
             }
             Says::Play(play) => {
-                let before = plays.unwrap_or(0);
-                if before > 0 {
-                    json.push_str(", ")?;
+                match plays {
+                    None => put_no_entry(alloc, &mut json, file)?,
+                    Some(0) => {}
+                    Some(_) => json.push_str(", ")?,
                 }
                 put_play(&mut json, play)?;
-                plays = Some(before.saturating_add(1));
+                plays = Some(plays.unwrap_or(0).saturating_add(1));
             }
         }
     }

@@ -87,6 +87,12 @@ fn each_entry_is_a_line_of_json(rt: HostRuntime) {
 }
 
 #[test]
+fn plays_before_the_first_entry_have_a_line(rt: HostRuntime) {
+    let wanted = "{\"file\": \"a \\\"b\\\"\", \"number\": null, \"who\": null, \"call\": null, \"keys\": {}, \"answer\": null, \"refused\": false, \"plays\": [{\"play\": \"clock\"}, {\"play\": \"clock\"}]}\n";
+    assert!(rt; is_told(rt.alloc(), "  clock\n  clock\n", wanted));
+}
+
+#[test]
 fn numbers_alone_are_no_difference(rt: HostRuntime) {
     let traces = [
         ("1 T0 now -> number 0\n", "2 T0 now -> number 0\n", 0),
