@@ -1,13 +1,11 @@
 //! `lab orders`: every order in which the callers of a scenario may come.
-ghost use Rattle.std.specs.Prelude.{◌≡◌, IfOk, map};
-ghost use Rattle.evl_lab.specs.Banks.{handler_of};
 
 use crate::banks::read_plans;
 use crate::plays::{tell_fault, tell_refused};
 use crate::texts::read_text;
 use crate::words::Asked;
 use evl_orders::OrdersError;
-use evl_plans::Planned;
+use evl_plans::{Planned, copied_bank};
 use evl_scenario_orders::{
     Ask, AskFault, Asked as Answered, BankMaker, Callers, TextFault, ask_all, read_ask,
     read_callers, write_report,
@@ -22,17 +20,6 @@ const AGAINST: u8 = 1;
 // The status of a text that is refused, or isn't gone through.
 const AT_FAULT: u8 = 2;
 
-// The same callbacks once more.
-fn copied_plans(alloc: Global, plans: &[Planned]) -> Result<Vec<Planned>, AllocError>
-    ensures { IfOk result (λ made. map handler_of made.items ≡ map handler_of plans.now) }
-{
-    let mut made = Vec::new(alloc);
-    for planned in plans {
-        made.push(planned.copied())?;
-    }
-    Ok(made)
-}
-
 // Callbacks that are copied for each kernel.
 #[derive(Drop)]
 struct Copies<'a> {
@@ -41,14 +28,14 @@ struct Copies<'a> {
 
 impl<'a> BankMaker for Copies<'a> {
     ghost use Rattle.std.specs.Prelude.{map};
-    ghost use Rattle.evl_lab.specs.Banks.{handler_of};
+    ghost use Rattle.evl_plans.specs.Told.{told};
 
     type Made = Planned;
 
-    ghost bank = { λ copies. map handler_of copies.plans.now };
+    ghost bank = { λ copies. map told copies.plans.now };
 
     fn make(&self, alloc: Global) -> Result<Vec<Planned>, AllocError> {
-        copied_plans(alloc, self.plans)
+        copied_bank(alloc, self.plans)
     }
 }
 

@@ -69,7 +69,11 @@ fn write_stage(told: &mut String, session: &Session, stage: Stage) -> Result<(),
             is_quiet = false;
         }
     }
-    told.push_str(if is_quiet { ", nothing pending\n" } else { "\n" })
+    told.push_str(if is_quiet {
+        ", nothing pending\n"
+    } else {
+        "\n"
+    })
 }
 
 // Writes a timer that runs or has ended.

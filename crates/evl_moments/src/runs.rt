@@ -2,38 +2,17 @@
 ghost use Rattle.std.specs.Prelude.{◌≡◌, None, IfOk, map};
 ghost use Rattle.evl_plans.specs.Told.{told};
 ghost use Rattle.evl_scenario.specs.Scenarios.{scenario_of};
-ghost use Rattle.evl_shell.specs.Moments as shell;
 ghost use Rattle.evl_shell.specs.Moments.{moment};
 ghost use Rattle.evl_shell.specs.Runs.{turn};
 ghost use Rattle.evl_moments.specs.Moments.{script_shown, shown, shown_at, shown_from, shown_of};
 
 use crate::moments::moment_of;
-use evl_base::{Refusal, Reply};
+use evl_base::Refusal;
 use evl_drawing::{Lane, Moment};
-use evl_plans::{Planned, PlannedKernel};
+use evl_plans::{Planned, PlannedKernel, copied_bank};
 use evl_scenario::{Fault, Scenario, Step, read_scenario};
+use evl_shell::wants_memory;
 use std::alloc::{AllocError, Global};
-
-// The same callbacks once more.
-fn copied_bank(alloc: Global, bank: &[Planned]) -> Result<Vec<Planned>, AllocError>
-    ensures { IfOk result (λ copied. map told copied.items ≡ map told bank.now) }
-{
-    let mut copied = Vec::new(alloc);
-    for planned in bank {
-        copied.push(planned.copied())?;
-    }
-    Ok(copied)
-}
-
-// Whether a call was refused for want of memory.
-fn wants_memory(answer: &Result<Reply, Refusal>) -> bool
-    ensures { result ≡ shell.wants_memory answer.now }
-{
-    match answer {
-        Err(Refusal::NoMemory) => true,
-        _ => false,
-    }
-}
 
 // Makes a step, and answers how the lanes stand then.
 fn made(

@@ -17,5 +17,5 @@ pub use banks::read_bank;
 pub use faults::{BankFault, Part};
 pub use kernels::PlannedKernel;
 pub use made::kind_of;
-pub use planned::Planned;
+pub use planned::{Planned, copied_bank};
 pub use traces::trace_plans;

@@ -18,5 +18,5 @@ pub use histories::{know_bank, trace_kernel};
 pub use laws::{histories_play_again, staxes_leave_no_trace};
 pub use plays::{Stop, conclude, stopped};
 pub use programs::{play, play_into};
-pub use runs::run;
+pub use runs::{run, wants_memory};
 pub use sinks::{Over, Sink};

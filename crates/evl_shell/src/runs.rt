@@ -21,8 +21,8 @@ use evl_pipeline::{Callback, Handler};
 use evl_scenario::{Answer, EntryNumber, Fault, Scenario, Step, read_scenario};
 use std::alloc::Global;
 
-// Whether an answer stands for want of memory.
-fn wants_memory(answer: &Result<Reply, Refusal>) -> bool
+/// Whether an answer stands for want of memory, so that its call made no entry and changed nothing.
+pub fn wants_memory(answer: &Result<Reply, Refusal>) -> bool
     ensures { result ≡ moments.wants_memory answer.now }
 {
     match answer {

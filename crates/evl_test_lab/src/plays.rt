@@ -88,7 +88,8 @@ fn each_entry_is_a_line_of_json(rt: HostRuntime) {
 
 #[test]
 fn plays_before_the_first_entry_have_a_line(rt: HostRuntime) {
-    let wanted = "{\"file\": \"a \\\"b\\\"\", \"number\": null, \"who\": null, \"call\": null, \"keys\": {}, \"answer\": null, \"refused\": false, \"plays\": [{\"play\": \"clock\"}, {\"play\": \"clock\"}]}\n";
+    let wanted =
+        "{\"file\": \"a \\\"b\\\"\", \"number\": null, \"who\": null, \"call\": null, \"keys\": {}, \"answer\": null, \"refused\": false, \"plays\": [{\"play\": \"clock\"}, {\"play\": \"clock\"}]}\n";
     assert!(rt; is_told(rt.alloc(), "  clock\n  clock\n", wanted));
 }
 

@@ -1,16 +1,16 @@
 //! The warning of a step by a thread that isn't the picked one.
 ghost use Rattle.std.specs.Prelude.{◌≡◌, ◌++◌, string_bytes, IfOk, OnOk, option_map};
 ghost use Rattle.std.specs.Option.{option_or};
-ghost use Rattle.evl_shell.specs.Moments as shell;
 ghost use Rattle.evl_shell.specs.Moments.{moment};
 ghost use Rattle.evl_warnings.specs.Runs as runs;
 ghost use Rattle.evl_warnings.specs.Runs.{Makes, entries_from, first_unpicked, state_from, unpicked_at};
 ghost use Rattle.evl_warnings.specs.Warnings.{unpicked_text};
 
 use crate::ends::write_place;
-use evl_base::{Call, Refusal, Reply, Stage};
+use evl_base::{Call, Stage};
 use evl_plans::PlannedKernel;
 use evl_scenario::Step;
+use evl_shell::wants_memory;
 use std::alloc::AllocError;
 
 /// A step that an out-of-band thread made while another was picked: its number, from 1, who made it, and who was.
@@ -104,16 +104,6 @@ pub fn write_unpicked(told: &mut String, name: &str, found: Unpicked) -> Result<
     let other = found.picked;
     write_place(told, name, found.number)?;
     write!(told, "T{thread} calls while T{other} is picked\n")
-}
-
-// Whether a call was refused for want of memory.
-fn wants_memory(answer: &Result<Reply, Refusal>) -> bool
-    ensures { result ≡ shell.wants_memory answer.now }
-{
-    match answer {
-        Err(Refusal::NoMemory) => true,
-        _ => false,
-    }
 }
 
 // Makes a step.

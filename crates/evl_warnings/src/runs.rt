@@ -8,20 +8,9 @@ ghost use Rattle.evl_warnings.specs.Warnings.{run_lines, script_lines, unpicked_
 use crate::ends::warn_of_end;
 use crate::picks::{Unpicked, make_steps, write_unpicked};
 use evl_base::Refusal;
-use evl_plans::{Planned, PlannedKernel};
+use evl_plans::{Planned, PlannedKernel, copied_bank};
 use evl_scenario::{Fault, Scenario, Step, read_scenario};
 use std::alloc::{AllocError, Global};
-
-// The same callbacks once more.
-fn copied_bank(alloc: Global, bank: &[Planned]) -> Result<Vec<Planned>, AllocError>
-    ensures { IfOk result (λ copied. map plans.told copied.items ≡ map plans.told bank.now) }
-{
-    let mut copied = Vec::new(alloc);
-    for planned in bank {
-        copied.push(planned.copied())?;
-    }
-    Ok(copied)
-}
 
 // Warns of a step while another thread was picked, if there is one.
 fn warn_of_pick(told: &mut String, name: &str, found: Option<Unpicked>) -> Result<(), AllocError>
