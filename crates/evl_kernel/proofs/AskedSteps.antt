@@ -21,7 +21,7 @@ use Rattle.evl_kernel.specs.Waits.{all_woken}
 use Rattle.evl_kernel.specs.Elements.{ElementStep, on_sem, on_flags, on_xbuf, on_mutex, at_nth, element, elements, with_elements, touched, wakes}
 use Rattle.evl_kernel.specs.OwnerCalls.{raiser_refusal}
 use Rattle.evl_kernel.specs.Families.{Task, on_element, on_staged, task_of}
-use Rattle.evl_kernel.proofs.ElementSteps.{nth-made, ok_is}
+use Rattle.evl_kernel.proofs.ElementSteps.{nth-made}
 use Rattle.evl_kernel.proofs.LeavesLaws.{Leaves}
 use Rattle.evl_kernel.proofs.QueueLaws.{IsAsked, asks_get, asks_put, asks_take, asks_post, asks_write, asks_read, asks_release}
 use Rattle.evl_kernel.proofs.SetLaws.{set_same}

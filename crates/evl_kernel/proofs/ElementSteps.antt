@@ -4,7 +4,7 @@ use Rattle.std.specs.Option.{option_map_or}
 use Rattle.evl_base.specs.declared.refusal.Refusal.{Refusal}
 use Rattle.evl_base.specs.declared.refusal.Refusal.TheVariants.{Unknown, Again, Busy, NotOwner, Range, Invalid, TooBig, WrongStage}
 use Rattle.evl_base.specs.declared.reply.Reply.{Reply}
-use Rattle.evl_base.specs.declared.reply.Reply.TheVariants.{Begun, Bits, Count, Done, Number}
+use Rattle.evl_base.specs.declared.reply.Reply.TheVariants.{Begun, Bits, Done}
 use Rattle.evl_base.specs.declared.way.Way.{Way}
 use Rattle.evl_sync.specs.Steps.{stepped, unless}
 use Rattle.evl_sync.specs.FlagGroups as flags

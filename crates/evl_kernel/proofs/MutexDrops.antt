@@ -8,7 +8,6 @@ use Rattle.evl_base.specs.declared.refusal.Refusal.{Refusal}
 use Rattle.evl_base.specs.declared.refusal.Refusal.TheVariants.{Busy}
 use Rattle.evl_base.specs.declared.reply.Reply.{Reply}
 use Rattle.evl_base.specs.declared.reply.Reply.TheVariants.{Done, TimedOut, Begun, Count, Bits, Number, Bytes, Chosen, Handed}
-use Rattle.evl_base.specs.declared.stage.Stage.{Stage}
 use Rattle.evl_pipeline.specs.declared.action.Action.TheVariants.{PostFlags}
 use Rattle.evl_pipeline.specs.Lines as lines
 use Rattle.evl_mutex.specs.Mutexes.{IsSoundMutex, ceiling_of}

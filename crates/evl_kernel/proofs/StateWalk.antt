@@ -6,7 +6,6 @@ use Rattle.evl_base.specs.declared.play.Play.{Play}
 use Rattle.evl_base.specs.declared.refusal.Refusal.{Refusal}
 use Rattle.evl_base.specs.declared.refusal.Refusal.TheVariants.{Busy}
 use Rattle.evl_base.specs.declared.reply.Reply.{Reply}
-use Rattle.evl_base.specs.declared.stage.Stage.{Stage}
 use Rattle.evl_pipeline.specs.Lines as lines
 use Rattle.evl_clock.specs.Clocks.{Clock}
 use Rattle.evl_kernel.specs.declared.waits.Wanted.{Wanted}
