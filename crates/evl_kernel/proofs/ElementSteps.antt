@@ -4,7 +4,7 @@ use Rattle.std.specs.Option.{option_map_or}
 use Rattle.evl_base.specs.declared.refusal.Refusal.{Refusal}
 use Rattle.evl_base.specs.declared.refusal.Refusal.TheVariants.{Unknown, Again, Busy, NotOwner, Range, Invalid, TooBig, WrongStage}
 use Rattle.evl_base.specs.declared.reply.Reply.{Reply}
-use Rattle.evl_base.specs.declared.reply.Reply.TheVariants.{Begun, Bits, Count, Done, Number}
+use Rattle.evl_base.specs.declared.reply.Reply.TheVariants.{Begun, Bits, Done}
 use Rattle.evl_base.specs.declared.way.Way.{Way}
 use Rattle.evl_sync.specs.Steps.{stepped, unless}
 use Rattle.evl_sync.specs.FlagGroups as flags
@@ -106,22 +106,22 @@ module _ {X P A B : Type 0} (machine : X → P → Answered X) (with_kind : List
   nth-same (Ok answer) is same = tt
   nth-same (Err refusal) is same = (nth-refused machine (λ ys. (with_kind ys).elements) xs n step q refusal here (sym is), ap with_kind (ap (slice_set xs n) same ∙ set_same xs n q here))
 
--- a look changes nothing
-module _ (e : Elements) (n : ℕ) where
-  pub sem_peeked : (q : Semaphore) → slice_get e.sems n ≡ Some q → element e (on_sem n semaphore.peek) ≡ Ok (Count (sem.peek q), e)
-  sem_peeked q here =
-      nth-done sem_machine (λ sems. record e { sems = sems }) e.sems n semaphore.peek q q (Count (sem.peek q)) here refl
-      ∙ ap (λ (sems : List Semaphore). Ok (Count (sem.peek q), record e { sems = sems })) (set_same e.sems n q here)
+-- a step that leaves its element as it is leaves all as they are
+module _ (e : Elements) (n : ℕ) (reply : Reply) where
+  pub sem_told : (step : SemStep) (q : Semaphore) → slice_get e.sems n ≡ Some q → sem_machine q step ≡ Ok (reply, q) → element e (on_sem n step) ≡ Ok (reply, e)
+  sem_told step q here is =
+      nth-done sem_machine (λ sems. record e { sems = sems }) e.sems n step q q reply here is
+      ∙ ap (λ (sems : List Semaphore). Ok (reply, record e { sems = sems })) (set_same e.sems n q here)
 
-  pub bits_peeked : (f : FlagGroup) → slice_get e.flags n ≡ Some f → element e (on_flags n group.peek) ≡ Ok (Bits f.bits, e)
-  bits_peeked f here =
-      nth-done flag_group (λ flags. record e { flags = flags }) e.flags n group.peek f f (Bits f.bits) here refl
-      ∙ ap (λ (flags : List FlagGroup). Ok (Bits f.bits, record e { flags = flags })) (set_same e.flags n f here)
+  pub flags_told : (step : FlagStep) (f : FlagGroup) → slice_get e.flags n ≡ Some f → flag_group f step ≡ Ok (reply, f) → element e (on_flags n step) ≡ Ok (reply, e)
+  flags_told step f here is =
+      nth-done flag_group (λ flags. record e { flags = flags }) e.flags n step f f reply here is
+      ∙ ap (λ (flags : List FlagGroup). Ok (reply, record e { flags = flags })) (set_same e.flags n f here)
 
-  pub room_told : (way : Way) (x : Xbuf) → slice_get e.xbufs n ≡ Some x → element e (on_xbuf n (through.room way)) ≡ Ok (Number (streams.room (stream x way)), e)
-  room_told way x here =
-      nth-done cross_buffer (λ xbufs. record e { xbufs = xbufs }) e.xbufs n (through.room way) x x (Number (streams.room (stream x way))) here refl
-      ∙ ap (λ (xbufs : List Xbuf). Ok (Number (streams.room (stream x way)), record e { xbufs = xbufs })) (set_same e.xbufs n x here)
+  pub xbuf_told : (step : XbufStep) (x : Xbuf) → slice_get e.xbufs n ≡ Some x → cross_buffer x step ≡ Ok (reply, x) → element e (on_xbuf n step) ≡ Ok (reply, e)
+  xbuf_told step x here is =
+      nth-done cross_buffer (λ xbufs. record e { xbufs = xbufs }) e.xbufs n step x x reply here is
+      ∙ ap (λ (xbufs : List Xbuf). Ok (reply, record e { xbufs = xbufs })) (set_same e.xbufs n x here)
 
 -- the refusals of elements make entries
 abbrev Enters : Refusal → Type 0
@@ -142,9 +142,7 @@ sem_enters q semaphore.put refusal = by q.waiters
     by : (ws : List Waiter) → replied (λ (u : Option ℕ). Done) (sem.put_before q ws) ≡ Err refusal → Enters refusal
     by [] e = raised (nat_lt q.count 2147483647) e
     by (w ∷ ws) e = absurd (ok_err e)
-sem_enters q semaphore.peek refusal = λ e. absurd (ok_err e)
-sem_enters q (semaphore.begin w) refusal = λ e. absurd (ok_err e)
-sem_enters q (semaphore.drop thread) refusal = λ e. absurd (ok_err e)
+sem_enters q _ refusal = λ e. absurd (ok_err e)
 
 pub flags_enter : (f : FlagGroup) (step : FlagStep) (refusal : Refusal) → flag_group f step ≡ Err refusal → Enters refusal
 flags_enter f (group.take kind) refusal = by (is_empty_mask kind) (taken kind f.bits)
@@ -159,9 +157,7 @@ flags_enter f (group.post bits) refusal = by (bits == 0)
     by : (none : Bool) → replied (λ (served : List (ℕ × ℕ)). Done) (unless (if none then Some Invalid else None) (Ok (flags.walked (flags.post bits f)))) ≡ Err refusal → Enters refusal
     by true e = subst Enters (err_is e) (refl, tt)
     by false e = absurd (ok_err e)
-flags_enter f group.peek refusal = λ e. absurd (ok_err e)
-flags_enter f (group.begin w) refusal = λ e. absurd (ok_err e)
-flags_enter f (group.drop thread) refusal = λ e. absurd (ok_err e)
+flags_enter f _ refusal = λ e. absurd (ok_err e)
 
 module _ (x : Xbuf) (way : Way) {A : Type 0} (f : A → Reply) (refusal : Refusal) where
   -- from the other stage, or as its way refuses
@@ -196,7 +192,6 @@ xbufs_enter x (through.read stage way len) refusal = by (nat_lt 256 len)
     by true = λ e. subst Enters (err_is e) (refl, tt)
     by false = way_enters x way (λ got. bytes_told got.0) refusal (same_stage (reading_stage way) stage) (streams.try_read len (stream x way))
         (λ e. reads_enter (streams.can_read (stream x way) len) (streams.with_bytes (streams.given (stream x way) len) (streams.served (streams.read (stream x way) len))) e)
-xbufs_enter x (through.room way) refusal = λ e. absurd (ok_err e)
 xbufs_enter x (through.begin_write thread way bytes) refusal =
     let s = stream x way in
     way_enters x way (λ served. Begun) refusal (same_stage (writing_stage way) (writing_stage way)) (streams.begin_write thread bytes s)
@@ -207,7 +202,7 @@ xbufs_enter x (through.begin_read thread way len) refusal = by (nat_lt 256 len)
         (unless (if same_stage (reading_stage way) (reading_stage way) then None else Some WrongStage) (Ok (beside x way (streams.begin_read thread len (stream x way)))))) ≡ Err refusal → Enters refusal
     by true = λ e. subst Enters (err_is e) (refl, tt)
     by false = way_enters x way (λ got. Begun) refusal (same_stage (reading_stage way) (reading_stage way)) (Ok (streams.begin_read thread len (stream x way))) (λ e is. absurd (ok_err is))
-xbufs_enter x (through.drop thread way) refusal = λ e. absurd (ok_err e)
+xbufs_enter x _ refusal = λ e. absurd (ok_err e)
 
 pub mutex_enters : (m : Mutex) (step : MutexStep) (refusal : Refusal) → mutex_machine m step ≡ Err refusal → Enters refusal
 mutex_enters m (recorded.claim w owner) refusal = λ e. absurd (ok_err e)

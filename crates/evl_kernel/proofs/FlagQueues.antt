@@ -101,9 +101,6 @@ take_left f g reply kind h = by (is_empty_mask kind) (taken kind f.bits) refl
     by false None is e = absurd (err_ok e)
     by false (Some n) is e = subst (λ (x : FlagGroup). Left f x []) (ap (λ (x : Reply × FlagGroup). x.1) (ok_is e)) (less_bits f kind n (sym is) h)
 
-pub bits_left : (f g : FlagGroup) (reply : Reply) → IsSoundGroup f → machine f group.peek ≡ Ok (reply, g) → Left f g []
-bits_left f g reply h is = subst (λ (x : FlagGroup). Left f x []) (ap (λ (x : Reply × FlagGroup). x.1) (ok_is is)) (record { sound = h; goes = same_queue in_flags f f (λ t. refl) })
-
 pub post_left : (f g : FlagGroup) (reply : Reply) (bits : ℕ) → IsSoundGroup f → machine f (group.post bits) ≡ Ok (reply, g) → Left f g (flag_wakes f (group.post bits))
 post_left f g reply bits h = by (bits == 0)
   where

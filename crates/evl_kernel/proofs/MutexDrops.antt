@@ -1,15 +1,13 @@
 -- What settling does to mutexes, and every call that isn't about one: waits for them end by their deadlines alone.
-use Rattle.std.proofs.Common.{◌≡◌, ◌≤◌, ◌⊎◌, ⊎_elim, ℕ, ◌==◌, ◌&&◌, Bool, true, false, not, List, [], ◌++◌, Option, Some, None, is_some, Result, Ok, Err, slice_get, slice_set, slice_index_or, refl, sym, ap, ◌∙◌, subst, arith}
+use Rattle.std.proofs.Common.{◌≡◌, ◌≤◌, ◌⊎◌, inl, inr, ⊎_elim, ℕ, ◌==◌, ◌&&◌, Bool, true, false, not, List, [], ◌++◌, Option, Some, None, is_some, Result, Ok, Err, slice_get, slice_set, slice_index_or, refl, sym, ap, ◌∙◌, subst, arith}
 use Rattle.std.specs.Option.{option_map_or}
 use Rattle.std.proofs.lemmas.Bool.{false≢true}
 use Rattle.evl_base.specs.Limits.{thread_limit}
 use Rattle.evl_base.specs.declared.call.Call.{Call}
-use Rattle.evl_base.specs.declared.call.Call.TheVariants as call
 use Rattle.evl_base.specs.declared.refusal.Refusal.{Refusal}
 use Rattle.evl_base.specs.declared.refusal.Refusal.TheVariants.{Busy}
 use Rattle.evl_base.specs.declared.reply.Reply.{Reply}
 use Rattle.evl_base.specs.declared.reply.Reply.TheVariants.{Done, TimedOut, Begun, Count, Bits, Number, Bytes, Chosen, Handed}
-use Rattle.evl_base.specs.declared.stage.Stage.{Stage}
 use Rattle.evl_pipeline.specs.declared.action.Action.TheVariants.{PostFlags}
 use Rattle.evl_pipeline.specs.Lines as lines
 use Rattle.evl_mutex.specs.Mutexes.{IsSoundMutex, ceiling_of}
@@ -35,7 +33,8 @@ use Rattle.evl_kernel.specs.Serving.{general_refusal, answer, ends_a_wait}
 use Rattle.evl_kernel.specs.Settling.{acted, deadline_left, given, nothing}
 use Rattle.evl_kernel.specs.Histories.{Follows, Step}
 use Rattle.evl_kernel.specs.MutexRests.{is_for, is_done, got_it, OnlyLeft, SettlingOnlyDrops, OthersOnlyDrop, is_of_mutexes, left_by, wants_mutex, touches_mutex}
-use Rattle.evl_kernel.proofs.QueueLaws.{Begins, IsAsked, begin_goes, asks_get, asks_put, asks_peek, asks_take, asks_post, asks_bits, asks_write, asks_read, asks_room, asks_release}
+use Rattle.evl_kernel.proofs.QueueLaws.{Begins, begin_goes}
+use Rattle.evl_kernel.proofs.AskedSteps.{AsksPlainly, IsCalled, asks, leaves-told}
 use Rattle.evl_kernel.proofs.LeavesLaws.{Leaves, leaves-refused, leaves-unless, leaves-known}
 use Rattle.evl_kernel.proofs.ClockSteps.{KeptByClock, leaves-clock}
 use Rattle.evl_kernel.proofs.OpeningLaws.{threads_few}
@@ -110,24 +109,6 @@ settling_drops h legal fits caller asked reply plays new step = by (answer h.sta
         )
 
 -- A call that isn't about a mutex
-
-abbrev pub AsksPlainly : Task → Type 0
-AsksPlainly (on_element step) = IsAsked step
-AsksPlainly (on_staged step_from) = (caller : ℕ) (stage : Stage) → IsAsked (step_from caller stage)
-AsksPlainly _ = Unit {0}
-
-pub is_asked : (asked : Call) → AsksPlainly (task_of asked)
-is_asked (call.TryGet sem) = asks_get sem.0
-is_asked (call.Put sem) = asks_put sem.0
-is_asked (call.Peek sem) = asks_peek sem.0
-is_asked (call.TryTake flags kind) = asks_take flags.0 kind
-is_asked (call.PostFlags flags bits) = asks_post flags.0 bits
-is_asked (call.PeekFlags flags) = asks_bits flags.0
-is_asked (call.Write xbuf way bytes) = λ caller stage. asks_write xbuf.0 stage way bytes.items
-is_asked (call.Read xbuf way len) = λ caller stage. asks_read xbuf.0 stage way len
-is_asked (call.Room xbuf way) = asks_room xbuf.0 way
-is_asked (call.Release mutex) = λ caller stage. asks_release mutex.0 caller
-is_asked _ = tt
 
 module _ (n : ℕ) (base : State) where
   since_home : (s : State) (number : ℕ) → Since n base s → Since n base (come_home s number)
@@ -268,15 +249,19 @@ module _ (n count : ℕ) (few : count ≤ thread_limit) (s : State) (h : IsPrope
       by (Ok reply) = goes (goes_inband s caller keep)
       by (Err refusal) = tt
 
+  since_called : (step : ElementStep) → IsCalled step → is_of_mutexes step ≡ false → Leaves (Since n s) (touched s (Some caller) step).effect
+  since_called step (inl tells) other = leaves-told (Since n s) s (Some caller) step tells (since_same n s)
+  since_called step (inr plain) other = since_touched n count few s h (Some caller) step plain.0 other
+
   since_answer : (asked : Call) → touches_mutex s caller (task_of asked) ≡ false → Leaves (Since n s) (answer s caller asked)
-  since_answer asked other = leaves-refused (Since n s) (general_refusal s caller asked) _ (λ passed. by (task_of asked) refl (is_asked asked) other passed)
+  since_answer asked other = leaves-refused (Since n s) (general_refusal s caller asked) _ (λ passed. by (task_of asked) refl (asks asked) other passed)
     where
       by : (task : Task) → task_of asked ≡ task → AsksPlainly task → touches_mutex s caller task ≡ false → general_refusal s caller asked ≡ None → Leaves (Since n s) (performing s caller task).effect
       by (on_lines step) is plain other passed = since_line n s s step (since_same n s)
       by (on_clock step) is plain other passed = leaves-clock (Since n s) (since_by_clock n s) s step (since_same n s)
       by (on_threads step) is plain other passed = leaves-threads (Since n s) (λ x q hx. hx) s caller step (since_same n s)
-      by (on_element step) is plain other passed = since_touched n count few s h (Some caller) step plain other
-      by (on_staged step_from) is plain other passed = since_touched n count few s h (Some caller) (step_from caller (stage_of s.sched caller)) (plain caller (stage_of s.sched caller)) other
+      by (on_element step) is plain other passed = since_called step plain other
+      by (on_staged step_from) is plain other passed = since_called (step_from caller (stage_of s.sched caller)) (plain caller (stage_of s.sched caller)) other
       by (raises k) is plain other passed = absurd (false≢true (sym other))
       by (begins wants until) is plain other passed = since_beginning wants until other (passed_all s caller asked (ap ends_a_wait is) passed)
       by (ends keep) is plain other passed = since_finish keep other

@@ -41,7 +41,7 @@ use Rattle.evl_kernel.specs.MutexEnds.{ends_rightly, MutexWaitsEndRightly}
 use Rattle.evl_kernel.proofs.LeavesLaws.{Leaves, leaves-refused}
 use Rattle.evl_kernel.proofs.OpeningLaws.{threads_few}
 use Rattle.evl_kernel.proofs.QueueSteps.{Gone}
-use Rattle.evl_kernel.proofs.QueueLaws.{Begins, Dropped, IsAsked, asked_goes, begin_goes, drop_goes, asks_get, asks_put, asks_peek, asks_take, asks_post, asks_bits, asks_write, asks_read, asks_room, asks_release, asks_raise}
+use Rattle.evl_kernel.proofs.QueueLaws.{Begins, Dropped, IsAsked, asked_goes, begin_goes, drop_goes, asks_get, asks_put, asks_take, asks_post, asks_write, asks_read, asks_release, asks_raise}
 use Rattle.evl_kernel.proofs.BeginLaws.{free_to_begin}
 use Rattle.evl_kernel.proofs.ThreadSteps.{leaves-threads}
 use Rattle.evl_kernel.proofs.StateWalk.{KeptByEach, KeptByOwn, run_holds}
@@ -135,13 +135,10 @@ module _ (count : ℕ) (few : count ≤ thread_limit) where
         by_step : (step : ElementStep) → IsAsked step → Leaves AllRightly (touched s by step).effect
         by_step step (asks_get n) = beside step (asks_get n) refl
         by_step step (asks_put n) = beside step (asks_put n) refl
-        by_step step (asks_peek n) = beside step (asks_peek n) refl
         by_step step (asks_take n kind) = beside step (asks_take n kind) refl
         by_step step (asks_post n bits) = beside step (asks_post n bits) refl
-        by_step step (asks_bits n) = beside step (asks_bits n) refl
         by_step step (asks_write n stage way bytes) = beside step (asks_write n stage way bytes) refl
         by_step step (asks_read n stage way len) = beside step (asks_read n stage way len) refl
-        by_step step (asks_room n way) = beside step (asks_room n way) refl
         by_step step (asks_release n thread) = on_mutexes n (mutex_step.release thread) (λ m. ((released m).next, refl))
         by_step step (asks_raise n thread) = on_mutexes n (mutex_step.raise thread) (λ m. (None, refl))
 

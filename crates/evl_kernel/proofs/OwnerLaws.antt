@@ -56,10 +56,11 @@ use Rattle.evl_kernel.proofs.OpeningLaws.{sound_of, threads_few}
 use Rattle.evl_kernel.proofs.OwnerSteps.{OfAll, OfNewcomers, OfRecorded, all_after}
 use Rattle.evl_kernel.proofs.ProperLaws.{IsProper}
 use Rattle.evl_kernel.proofs.ProperSteps.{kept_by_each as proper_by_each, kept_by_own as proper_by_own, over_none, passed_all, proper_opening, stands_nowhere}
-use Rattle.evl_kernel.proofs.QueueLaws.{IsAsked, asks_get, asks_put, asks_peek, asks_take, asks_post, asks_bits, asks_write, asks_read, asks_room, asks_raise, asks_release}
+use Rattle.evl_kernel.proofs.QueueLaws.{IsAsked, asks_get, asks_put, asks_take, asks_post, asks_write, asks_read, asks_raise, asks_release}
 use Rattle.evl_kernel.proofs.QueueSteps.{was_at_it}
 use Rattle.evl_kernel.proofs.RankLaws.{attached_of}
-use Rattle.evl_kernel.proofs.StateWalk.{KeptByEach, KeptByOwn, MayRaise, run_holds}
+use Rattle.evl_kernel.proofs.AskedSteps.{MayRaise}
+use Rattle.evl_kernel.proofs.StateWalk.{KeptByEach, KeptByOwn, run_holds}
 use Rattle.evl_kernel.proofs.WaitRecords.{index_there}
 
 same_number : (m n : ℕ) → (m == n) ≡ true → m ≡ n
@@ -183,13 +184,10 @@ seated_touched s by step named h = seated_stepping (λ x. x) s step (λ e here. 
 asked_named : (s : State) (step : ElementStep) → IsAsked step → MayRaise s step → OfNewcomers (HasSeat s.sched.seats) step
 asked_named s step (asks_get n) may = tt
 asked_named s step (asks_put n) may = tt
-asked_named s step (asks_peek n) may = tt
 asked_named s step (asks_take n kind) may = tt
 asked_named s step (asks_post n bits) may = tt
-asked_named s step (asks_bits n) may = tt
 asked_named s step (asks_write n stage way bytes) may = tt
 asked_named s step (asks_read n stage way len) may = tt
-asked_named s step (asks_room n way) may = tt
 asked_named s step (asks_release n thread) may = tt
 asked_named s step (asks_raise n thread) may = attached_of s.sched thread (passes (if is_some (slice_get (elements s).mutexes n) then None else Some Unknown) (stranger_refusal s.sched thread) may).1
 

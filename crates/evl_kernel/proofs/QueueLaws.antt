@@ -51,17 +51,15 @@ use Rattle.evl_kernel.proofs.MutexQueues as mutexes
 use Rattle.evl_kernel.proofs.XbufQueues as queues
 use Rattle.evl_kernel.proofs.XbufSteps.{of_xbuf, reader_drops, was_there, writer_drops, xbuf_comes, xbuf_goes, xbufs_sound}
 
--- a step of an element that calls and callbacks ask for: no wait begins by it, and none ends by its deadline
+-- a step of an element that calls and callbacks ask for and that changes it: no wait begins by it, and none ends by its
+-- deadline
 pub data IsAsked : ElementStep → Type 0 where
   asks_get : (n : ℕ) → IsAsked (on_sem n semaphore.get)
   asks_put : (n : ℕ) → IsAsked (on_sem n semaphore.put)
-  asks_peek : (n : ℕ) → IsAsked (on_sem n semaphore.peek)
   asks_take : (n : ℕ) (kind : Take) → IsAsked (on_flags n (group.take kind))
   asks_post : (n bits : ℕ) → IsAsked (on_flags n (group.post bits))
-  asks_bits : (n : ℕ) → IsAsked (on_flags n group.peek)
   asks_write : (n : ℕ) (stage : Stage) (way : Way) (bytes : List ℕ) → IsAsked (on_xbuf n (through.write stage way bytes))
   asks_read : (n : ℕ) (stage : Stage) (way : Way) (len : ℕ) → IsAsked (on_xbuf n (through.read stage way len))
-  asks_room : (n : ℕ) (way : Way) → IsAsked (on_xbuf n (through.room way))
   asks_release : (n thread : ℕ) → IsAsked (on_mutex n (recorded.release thread))
   asks_raise : (n thread : ℕ) → IsAsked (on_mutex n (recorded.raise thread))
 
@@ -123,15 +121,12 @@ module _ (e : Elements) (h : AreSound e) (after : Elements) (reply : Reply) wher
   pub asked_goes : (step : ElementStep) → IsAsked step → element e step ≡ Ok (reply, after) → Stepped e (wakes e step) after
   asked_goes step (asks_get n) is = of_sem_step n semaphore.get (λ q p here made. sems.get_left q p reply (h.sems n q here) made) is
   asked_goes step (asks_put n) is = of_sem_step n semaphore.put (λ q p here made. sems.put_left q p reply (h.sems n q here) made) is
-  asked_goes step (asks_peek n) is = of_sem_step n semaphore.peek (λ q p here made. sems.peek_left q p reply (h.sems n q here) made) is
   asked_goes step (asks_take n kind) is = of_flags_step n (group.take kind) (λ f g here made. flag_queues.take_left f g reply kind (h.flags n f here) made) is
   asked_goes step (asks_post n bits) is = of_flags_step n (group.post bits) (λ f g here made. flag_queues.post_left f g reply bits (h.flags n f here) made) is
   asked_goes step (asks_write n stage way bytes) is = of_xbuf_step n (through.write stage way bytes) (λ x y here made. queues.write_left x y reply (h.xbufs n x here) stage way bytes made) is
   asked_goes step (asks_read n stage way len) is = of_xbuf_step n (through.read stage way len) (λ x y here made. queues.read_left_of x y reply (h.xbufs n x here) stage way len made) is
-  asked_goes step (asks_room n way) is = of_xbuf_step n (through.room way) (λ x y here made. queues.room_left x y reply (h.xbufs n x here) way made) is
   asked_goes step (asks_release n thread) is = of_mutex_step n (recorded.release thread) (λ m p here made. mutexes.release_left (owners_in e) n m here h.mutexes thread p reply made) is
   asked_goes step (asks_raise n thread) is = of_mutex_step n (recorded.raise thread) (λ m p here made. mutexes.raise_left (owners_in e) n m here h.mutexes thread p reply made) is
-  asked_goes step (asks_bits n) is = of_flags_step n group.peek (λ f g here made. flag_queues.bits_left f g reply (h.flags n f here) made) is
 
 -- a thread that waits for a mutex names another one, which is the recorded owner or may be, and waits for itself by that
 -- along no owners

@@ -43,9 +43,6 @@ get_left q p reply h = by (q.count == 0)
     by true is = absurd (err_ok is)
     by false is = subst (λ (x : Semaphore). Left q x []) (ap (λ (x : Reply × Semaphore). x.1) (ok_is is)) (less_count q h)
 
-pub peek_left : (q p : Semaphore) (reply : Reply) → IsSoundSemaphore q → machine q semaphore.peek ≡ Ok (reply, p) → Left q p []
-peek_left q p reply h is = subst (λ (x : Semaphore). Left q x []) (ap (λ (x : Reply × Semaphore). x.1) (ok_is is)) (record { sound = h; goes = same_queue in_sem q q (λ t. refl) })
-
 -- the head waiter goes
 head_goes : (w : Waiter) (ws : List Waiter) → IsKept (λ (x : Waiter). x.thread) (λ x. x.rank) (w ∷ ws)
     → OneGoes (λ t. stands_in (λ (x : Waiter). x.thread) t (w ∷ ws)) (λ t. stands_in (λ (x : Waiter). x.thread) t ws) ((w.thread, Done) ∷ [])

@@ -1,13 +1,11 @@
 -- What each call, each play and each run keeps, where each kind of change keeps it.
-use Rattle.std.proofs.Common.{◌≡◌, ℕ, Bool, true≢false, false, not, List, [], ◌∷◌, Option, Some, None, Result, Ok, Err, slice_get, refl, sym, subst}
+use Rattle.std.proofs.Common.{◌≡◌, inl, inr, ℕ, Bool, true≢false, false, not, List, [], ◌∷◌, Option, Some, None, Result, Ok, Err, slice_get, refl, sym, subst}
 use Rattle.evl_base.specs.declared.call.Call.{Call}
-use Rattle.evl_base.specs.declared.call.Call.TheVariants as call
 use Rattle.evl_base.specs.declared.entry.Entry.{Entry}
 use Rattle.evl_base.specs.declared.play.Play.{Play}
 use Rattle.evl_base.specs.declared.refusal.Refusal.{Refusal}
 use Rattle.evl_base.specs.declared.refusal.Refusal.TheVariants.{Busy}
 use Rattle.evl_base.specs.declared.reply.Reply.{Reply}
-use Rattle.evl_base.specs.declared.stage.Stage.{Stage}
 use Rattle.evl_pipeline.specs.Lines as lines
 use Rattle.evl_clock.specs.Clocks.{Clock}
 use Rattle.evl_kernel.specs.declared.waits.Wanted.{Wanted}
@@ -24,39 +22,13 @@ use Rattle.evl_kernel.specs.Families.{LineStep, request, free, arrive, post, sta
 use Rattle.evl_kernel.specs.Serving.{general_refusal, answer}
 use Rattle.evl_kernel.specs.Settling.{deadline_left}
 use Rattle.evl_kernel.specs.Histories.{Run, Follows}
-use Rattle.evl_kernel.proofs.QueueLaws.{IsAsked, asks_get, asks_put, asks_peek, asks_take, asks_post, asks_bits, asks_write, asks_read, asks_room, asks_raise, asks_release}
+use Rattle.evl_kernel.proofs.QueueLaws.{IsAsked, asks_raise}
+use Rattle.evl_kernel.proofs.AskedSteps.{AsksPlainly, IsCalled, MayRaise, asks, leaves-told}
 use Rattle.evl_kernel.proofs.LeavesLaws.{Leaves, leaves-refused, leaves-unless, leaves-known}
 use Rattle.evl_kernel.proofs.ClockSteps.{leaves-clock}
 use Rattle.evl_kernel.specs.OwnerCalls.{raiser_refusal}
 use Rattle.evl_kernel.specs.MutexRests.{is_of_mutexes}
 use Rattle.evl_kernel.proofs.PlayWalk.{KeptByPlays, holds-home, kept_by_clock, settles_holds}
-
--- where the step is a raise, nothing refuses its thread
-abbrev pub MayRaise : State → ElementStep → Type 0
-MayRaise s (on_mutex n (mutex.raise thread)) = raiser_refusal s thread n ≡ None
-MayRaise s _ = Unit {0}
-
--- a step that is asked for, and is no raise
-abbrev IsPlain : ElementStep → Type 0
-IsPlain step = IsAsked step × ((s : State) → MayRaise s step)
-
-abbrev AsksPlainly : Task → Type 0
-AsksPlainly (on_element step) = IsPlain step
-AsksPlainly (on_staged step_from) = (caller : ℕ) (stage : Stage) → IsPlain (step_from caller stage)
-AsksPlainly _ = Unit {0}
-
-asks : (asked : Call) → AsksPlainly (task_of asked)
-asks (call.TryGet sem) = (asks_get sem.0, λ s. tt)
-asks (call.Put sem) = (asks_put sem.0, λ s. tt)
-asks (call.Peek sem) = (asks_peek sem.0, λ s. tt)
-asks (call.TryTake flags kind) = (asks_take flags.0 kind, λ s. tt)
-asks (call.PostFlags flags bits) = (asks_post flags.0 bits, λ s. tt)
-asks (call.PeekFlags flags) = (asks_bits flags.0, λ s. tt)
-asks (call.Write xbuf way bytes) = λ caller stage. (asks_write xbuf.0 stage way bytes.items, λ s. tt)
-asks (call.Read xbuf way len) = λ caller stage. (asks_read xbuf.0 stage way len, λ s. tt)
-asks (call.Room xbuf way) = (asks_room xbuf.0 way, λ s. tt)
-asks (call.Release mutex) = λ caller stage. (asks_release mutex.0 caller, λ s. tt)
-asks _ = tt
 
 -- each kind of change keeps this
 pub record KeptByEach (P : State → Type 0) : Type 0 where
@@ -106,6 +78,10 @@ module _ (P : State → Type 0) (k : KeptByEach P) where
   holds-line s (stall stage) h = k.lined s _ h
   holds-line s (unstall stage) h = k.lined s _ h
 
+  holds-called : (s : State) (caller : ℕ) (step : ElementStep) → IsCalled step → P s → Leaves P (touched s (Some caller) step).effect
+  holds-called s caller step (inl tells) h = leaves-told P s (Some caller) step tells h
+  holds-called s caller step (inr plain) h = k.asked s (Some caller) step plain.0 (plain.1 s) h
+
   pub holds-answer : (s : State) (caller : ℕ) (asked : Call) → KeptByOwn P s caller asked → P s → Leaves P (answer s caller asked)
   holds-answer s caller asked own h = leaves-refused P (general_refusal s caller asked) _ (λ passed. by (task_of asked) refl (asks asked) passed)
     where
@@ -113,8 +89,8 @@ module _ (P : State → Type 0) (k : KeptByEach P) where
       by (on_lines step) is plain passed = holds-line s step h
       by (on_clock step) is plain passed = leaves-clock P (kept_by_clock P by_plays) s step h
       by (on_threads step) is plain passed = own.threads step is passed h
-      by (on_element step) is plain passed = k.asked s (Some caller) step plain.0 (plain.1 s) h
-      by (on_staged step_from) is plain passed = k.asked s (Some caller) (step_from caller (stage_of s.sched caller)) (plain caller (stage_of s.sched caller)).0 ((plain caller (stage_of s.sched caller)).1 s) h
+      by (on_element step) is plain passed = holds-called s caller step plain h
+      by (on_staged step_from) is plain passed = holds-called s caller (step_from caller (stage_of s.sched caller)) (plain caller (stage_of s.sched caller)) h
       by (raises n) is plain passed = leaves-refused P (raiser_refusal s caller n) _ (λ may. k.asked s (Some caller) (on_mutex n (mutex.raise caller)) (asks_raise n caller) may h)
       by (begins wants until) is plain passed = own.begun wants until is passed h
       by (ends keep) is plain passed = own.ended keep is h

@@ -246,9 +246,6 @@ module _ (x y : Xbuf) (said : Reply) (h : IsSoundXbuf x) where
       by None None true is =
           subst (λ (z : Xbuf). Left x z (map service_told (served (read (stream x way) len)).0)) (ap (λ (p : Reply × Xbuf). p.1) (ok_is is)) (read_left x h way len)
 
-  pub room_left : (way : Way) → machine x (through.room way) ≡ Ok (said, y) → Left x y (xbuf_wakes x (through.room way))
-  room_left way is = subst (λ (z : Xbuf). Left x z []) (ap (λ (p : Reply × Xbuf). p.1) (ok_is is)) (left_as_it_is x h)
-
 -- a wait that begins: it is served, or it goes on
 pub record Begun (x y : Xbuf) (queue : Queue) (thread : ℕ) (told : Option Reply) (woken : List (ℕ × Reply)) : Type 0 where
   pub sound : IsSoundXbuf y

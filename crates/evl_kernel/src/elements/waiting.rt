@@ -12,6 +12,7 @@ ghost use Rattle.evl_kernel.specs.Endings.{drop_step, is_of_mutex};
 ghost use Rattle.evl_kernel.specs.Standing.{stands_for};
 ghost use Rattle.evl_mutex.specs.Changes.{ChangesAreNoted};
 ghost use Rattle.evl_mutex.specs.Owners.{rank_of};
+ghost use Rattle.evl_xbuf.specs.Xbufs.{reading_stage, writing_stage};
 
 use super::Elements;
 use crate::waits::{Awaited, Wanted};
@@ -122,10 +123,7 @@ impl<A: Allocator> Elements<A> {
         ensures served { serves self.old.elements (on_xbuf xbuf.0 (through.begin_write thread.0 way bytes.now)) ≡ done_at_once (if result then Some told.new else None) }
         ensures woken { wakes self.old.elements (on_xbuf xbuf.0 (through.begin_write thread.0 way bytes.now)) ≡ map service_told (served_in (if result then Some told.new else None)) }
     {
-        let stage = match way {
-            Way::In => Stage::Inband,
-            Way::Out => Stage::Oob,
-        };
+        let stage = writing_stage(way);
         let place = usize::from(xbuf.0);
         match self.xbufs[place].begin_write_telling(thread, stage, way, bytes, told) {
             Ok(done) => done,
@@ -153,10 +151,7 @@ impl<A: Allocator> Elements<A> {
         ensures served { serves self.old.elements (on_xbuf xbuf.0 (through.begin_read thread.0 way len)) ≡ read_at_once (option_map (λ got. (got.items, told.new)) result) }
         ensures woken { wakes self.old.elements (on_xbuf xbuf.0 (through.begin_read thread.0 way len)) ≡ map service_told (served_beside (option_map (λ got. (got.items, told.new)) result)) }
     {
-        let stage = match way {
-            Way::In => Stage::Oob,
-            Way::Out => Stage::Inband,
-        };
+        let stage = reading_stage(way);
         let place = usize::from(xbuf.0);
         match self.xbufs[place].begin_read_telling(thread, stage, way, len, told) {
             Ok(got) => got,
@@ -215,5 +210,25 @@ impl<A: Allocator> Elements<A> {
         if place < self.xbufs.len() {
             self.xbufs[place].drop_waiter_telling(thread, way, told);
         }
+    }
+}
+
+// The stage that writes this way.
+fn writing_stage(way: Way) -> Stage
+    ensures stage { result ≡ writing_stage way }
+{
+    match way {
+        Way::In => Stage::Inband,
+        Way::Out => Stage::Oob,
+    }
+}
+
+// The stage that reads this way.
+fn reading_stage(way: Way) -> Stage
+    ensures stage { result ≡ reading_stage way }
+{
+    match way {
+        Way::In => Stage::Oob,
+        Way::Out => Stage::Inband,
     }
 }

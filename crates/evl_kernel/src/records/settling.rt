@@ -26,20 +26,12 @@ impl<C: Drop, A: Allocator> Records<C, A> {
         ensures stands { KeepsCallbacks self.old self.new }
     {
         match action {
-            Action::PostSem(sem) => {
-                let _ = self.put(sem);
-            }
-            Action::Propagate => {
-                let _ = self.post(Stage::Inband, line);
-            }
-            Action::PostOob(other) => {
-                let _ = self.post(Stage::Oob, other);
-            }
-            Action::StopTimer(timer) => {
-                let _ = self.stop_timer(timer);
-            }
+            Action::PostSem(sem) => drop(self.put(sem)),
+            Action::Propagate => drop(self.post(Stage::Inband, line)),
+            Action::PostOob(other) => drop(self.post(Stage::Oob, other)),
+            Action::StopTimer(timer) => drop(self.stop_timer(timer)),
             Action::PostFlags(flags, bits) => {
-                let _ = self.post_flags(flags, bits, &mut *lists.of_flags);
+                drop(self.post_flags(flags, bits, &mut *lists.of_flags));
             }
         }
     }

@@ -2,6 +2,7 @@ use Rattle.evl_base.specs.declared.reply.Reply.TheVariants.{Done}
 use Rattle.evl_kernel.specs.RecordsInside.{records_view}
 use Rattle.evl_kernel.specs.Elements.{on_flags}
 use Rattle.evl_kernel.specs.FlagGroups as group
+use Rattle.evl_kernel.proofs.ElementSteps.{element_enters}
 use Rattle.evl_kernel.proofs.QueueLaws.{asks_post}
 use Rattle.evl_kernel.proofs.WaitRecords.{asked_away, asked_done, asked_sound, refused_as}
 use Rattle.evl_kernel.proofs.records.Records.post_flags.Goals as goal
@@ -22,3 +23,6 @@ pub returns-in-Ok-clause-served : goal.returns-in-Ok-clause-served
 returns-in-Ok-clause-served g c =
     rw (c.wake_all.ensures.woken, c.as_slice.ensures.value, ← c.self.view_is)
     (asked_done (records_view c.self.inside) c.self.invariant (on_flags c.args.flags.0 (group.post c.args.bits)) (asks_post c.args.flags.0 c.args.bits) Done c.post.new.self c.in-Ok.ensures.step _ c.in-Ok.ensures.served)
+
+pub returns-in-Err-clause-answer : goal.returns-in-Err-clause-answer
+returns-in-Err-clause-answer g c = element_enters c.self.inside.elements.elements (on_flags c.args.flags.0 (group.post c.args.bits)) c.in-Err.refusal c.in-Err.ensures.refused.0

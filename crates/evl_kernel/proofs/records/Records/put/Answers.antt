@@ -2,6 +2,7 @@ use Rattle.evl_base.specs.declared.reply.Reply.TheVariants.{Done}
 use Rattle.evl_kernel.specs.RecordsInside.{records_view}
 use Rattle.evl_kernel.specs.Elements.{on_sem}
 use Rattle.evl_kernel.specs.Semaphores as semaphore
+use Rattle.evl_kernel.proofs.ElementSteps.{element_enters}
 use Rattle.evl_kernel.proofs.QueueLaws.{asks_put}
 use Rattle.evl_kernel.proofs.WaitRecords.{alone_served, asked_away, asked_done, asked_sound, refused_as}
 use Rattle.evl_kernel.proofs.records.Records.put.Goals as goal
@@ -30,3 +31,6 @@ pub returns-in-Ok-Some-clause-served : goal.returns-in-Ok-Some-clause-served
 returns-in-Ok-Some-clause-served g c =
     rw (c.wake.ensures.woken, ← c.self.view_is)
     (asked_done (records_view c.self.inside) c.self.invariant (on_sem c.args.sem.0 semaphore.put) (asks_put c.args.sem.0) Done c.put.new.self c.in-Ok-Some.ensures.step _ (rw c.in-Ok-Some.field-0-is at c.in-Ok-Some.ensures.served))
+
+pub returns-in-Err-clause-answer : goal.returns-in-Err-clause-answer
+returns-in-Err-clause-answer g c = element_enters c.self.inside.elements.elements (on_sem c.args.sem.0 semaphore.put) c.in-Err.refusal c.in-Err.ensures.refused.0

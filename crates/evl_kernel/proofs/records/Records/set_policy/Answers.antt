@@ -1,3 +1,4 @@
+use Rattle.std.proofs.Common.{refl}
 use Rattle.evl_kernel.proofs.SchedLaws.{set_policy_answers}
 use Rattle.evl_kernel.specs.ElementsViews.{owners_of}
 use Rattle.evl_kernel.proofs.ChangedLaws.{given-policy_set}
@@ -8,3 +9,6 @@ returns-in-Err-clause-answer g c = set_policy_answers c.self.inside.sched.sched 
 
 pub base_changed-requires-clause-given : goal.base_changed-requires-clause-given
 base_changed-requires-clause-given g c = given-policy_set (owners_of c.self.inside.elements) c.self.inside.sched c.set_policy.new.self c.args.thread.0 c.self.invariant.ranks c.args.policy c.in-Ok.ensures.state
+
+pub returns-in-Err-clause-served : goal.returns-in-Err-clause-served
+returns-in-Err-clause-served g c = rw (← c.self.view_is, c.in-Err.ensures.refused, c.in-Err.ensures.unchanged) (refl, refl)

@@ -3,6 +3,7 @@ use Rattle.evl_base.specs.declared.reply.Reply.TheVariants.{Bits}
 use Rattle.evl_kernel.specs.RecordsInside.{records_view}
 use Rattle.evl_kernel.specs.Elements.{on_flags}
 use Rattle.evl_kernel.specs.FlagGroups as group
+use Rattle.evl_kernel.proofs.ElementSteps.{element_enters}
 use Rattle.evl_kernel.proofs.QueueLaws.{take_wakes, asks_take}
 use Rattle.evl_kernel.proofs.WaitRecords.{asked_done, asked_sound, refused_as}
 use Rattle.evl_kernel.proofs.records.Records.try_take.Goals as goal
@@ -15,3 +16,6 @@ invariant_of-self-2 g c = asked_sound (records_view c.self.inside) c.self.invari
 
 pub returns-clause-served : goal.returns-clause-served
 returns-clause-served g c = rw (← c.self.view_is) (asked_done (records_view c.self.inside) c.self.invariant (on_flags c.args.flags.0 (group.take c.args.kind)) (asks_take c.args.flags.0 c.args.kind) (Bits c.in-Ok.bits) c.try_take.new.self c.in-Ok.ensures.step [] (take_wakes c.self.inside.elements.elements c.args.flags.0 c.args.kind))
+
+pub returns-in-Err-clause-answer : goal.returns-in-Err-clause-answer
+returns-in-Err-clause-answer g c = element_enters c.self.inside.elements.elements (on_flags c.args.flags.0 (group.take c.args.kind)) c.in-Err.refusal c.in-Err.ensures.refused.0
