@@ -1,20 +1,26 @@
 -- The text of a scenario is lines of TOML, and what it is read as.
-use Rattle.std.proofs.Common.{arith, ℕ, ◌<◌, ◌^◌, lt-ltb, true, false, List, [], ◌∷◌, ◌++◌, codes, pos, Option, Some, None, refl, inl, inr}
-use Rattle.std.proofs.lemmas.Bool.{cases_lt, le-ltb}
+use Rattle.std.proofs.Common.{arith, ℕ, ◌≡◌, ◌<◌, ◌^◌, nat_lt, lt-ltb, Bool, true, false, ◌&&◌, List, [], ◌∷◌, ◌++◌, length, map, codes, pos, Option, Some, None, refl, inl, inr}
+use Rattle.std.proofs.lemmas.Bool.{and_parts, cases_lt, le-ltb}
 use Rattle.std.specs.Int.{w64}
+use Rattle.std.specs.List.{list_all}
 use Rattle.std.specs.Prelude.{FitsSigned}
+use Rattle.toml_parser.specs.Lexical.{is_bare}
 use Rattle.toml.specs.Text.{IsLinesText}
 use Rattle.toml.proofs.ReadLines.{AllPrinted}
 use Rattle.evl_base.specs.Stage.{stage_text}
 use Rattle.evl_base.specs.Way.{way_text}
 use Rattle.evl_base.specs.declared.call.Call.{Call}
-use Rattle.evl_base.specs.declared.call.Call.TheVariants.{Request, Free, Arrive, Post, Stall, Unstall, Tick, Now, NewTimer, StartTimer, StopTimer, DropTimer, Overruns, Attach, Detach, SetPolicy, SetStage, Pick, RankOf, TryGet, Put, Peek, BeginGet, TryTake, PostFlags, PeekFlags, BeginTake, Write, Read, Room, BeginWrite, BeginRead, Claim, Release, Raise, Finish}
 use Rattle.evl_base.specs.declared.stage.Stage.{Stage}
 use Rattle.evl_base.specs.declared.stage.Stage.TheVariants.{Inband, Oob}
 use Rattle.evl_base.specs.declared.way.Way.{Way}
 use Rattle.evl_base.specs.declared.way.Way.TheVariants.{In, Out}
-use Rattle.evl_scenario.specs.Widths.{UntilFits, CallFits, StepFits, StepsFit}
-use Rattle.evl_scenario.specs.Writings.{wide, until_data, call_pairs, call_word, step_pairs, pairs_text, tables_text}
+use Rattle.evl_scenario.specs.Calls.{Parts, parts, fields_of, name_of, word_in, parts_of, told_by}
+use Rattle.evl_scenario.specs.Fields as kind
+use Rattle.evl_scenario.specs.Fields.{Kind, Value, Key, Values, told_as, told}
+use Rattle.evl_scenario.specs.Widths.{AllFit, Fits, UntilFits, CallFits, StepFits, StepsFit}
+use Rattle.evl_scenario.specs.Writings.{wide, until_data, data_of, pair_of, call_pairs, step_pairs, pairs_text, tables_text}
+use Rattle.evl_scenario.specs.declared.steps.StepWord.{StepWord}
+use Rattle.evl_scenario.specs.declared.steps.StepWord.TheVariants.{Pick}
 use Rattle.evl_scenario.specs.declared.steps.Step.{Step}
 use Rattle.evl_scenario.proofs.LinesPrinted.{IsWritten, ArePairs, pairs_lines, element_line, pairs_printed, printed-append}
 use Rattle.evl_scenario.proofs.NodesRead.{step_expressions, steps_expressions}
@@ -54,52 +60,47 @@ way-plain : (w : Way) → IsPlain (way_text w)
 way-plain In = refl
 way-plain Out = refl
 
+value-written : (kind : Kind) (v : Value kind) → Fits (told_as kind v) → IsWritten 2 (data_of (told_as kind v))
+value-written kind.byte n h = byte-written n h
+value-written kind.half n h = half-written n h
+value-written kind.word n h = word-written n h
+value-written kind.number n h = wide-written n h
+value-written kind.stage s h = stage-plain s
+value-written kind.policy p h = policy-plain p h
+value-written kind.take t h = take-plain t h
+value-written kind.way w h = way-plain w
+value-written kind.bytes b h = plain-hex b.items h.0
+value-written kind.until u h = until-written u h
+value-written kind.truth b h = tt
+
 -- ---- steps
 
-call_written : (call : Call) → CallFits call → ArePairs (call_pairs call)
-call_written (Request line stage callback tag) h = ((refl, half-written line.0 h.0), ((refl, stage-plain stage), ((refl, byte-written callback h.1), ((refl, word-written tag h.2), tt))))
-call_written (Free line stage) h = ((refl, half-written line.0 h), ((refl, stage-plain stage), tt))
-call_written (Arrive line) h = ((refl, half-written line.0 h), tt)
-call_written (Post stage line) h = ((refl, stage-plain stage), ((refl, half-written line.0 h), tt))
-call_written (Stall stage) h = ((refl, stage-plain stage), tt)
-call_written (Unstall stage) h = ((refl, stage-plain stage), tt)
-call_written (Tick delta) h = ((refl, wide-written delta h), tt)
-call_written Now h = tt
-call_written (NewTimer callback tag) h = ((refl, byte-written callback h.0), ((refl, word-written tag h.1), tt))
-call_written (StartTimer timer date interval) h = ((refl, half-written timer.0 h.0), ((refl, wide-written date h.1), ((refl, wide-written interval h.2), tt)))
-call_written (StopTimer timer) h = ((refl, half-written timer.0 h), tt)
-call_written (DropTimer timer) h = ((refl, half-written timer.0 h), tt)
-call_written (Overruns timer) h = ((refl, half-written timer.0 h), tt)
-call_written (Attach policy stage) h = ((refl, policy-plain policy h), ((refl, stage-plain stage), tt))
-call_written Detach h = tt
-call_written (SetPolicy policy) h = ((refl, policy-plain policy h), tt)
-call_written (SetStage stage) h = ((refl, stage-plain stage), tt)
-call_written Pick h = tt
-call_written (RankOf thread) h = ((refl, half-written thread.0 h), tt)
-call_written (TryGet sem) h = ((refl, half-written sem.0 h), tt)
-call_written (Put sem) h = ((refl, half-written sem.0 h), tt)
-call_written (Peek sem) h = ((refl, half-written sem.0 h), tt)
-call_written (BeginGet sem until) h = ((refl, half-written sem.0 h.0), ((refl, until-written until h.1), tt))
-call_written (TryTake flags kind) h = ((refl, half-written flags.0 h.0), ((refl, take-plain kind h.1), tt))
-call_written (PostFlags flags bits) h = ((refl, half-written flags.0 h.0), ((refl, word-written bits h.1), tt))
-call_written (PeekFlags flags) h = ((refl, half-written flags.0 h), tt)
-call_written (BeginTake flags kind until) h = ((refl, half-written flags.0 h.0), ((refl, take-plain kind h.1), ((refl, until-written until h.2), tt)))
-call_written (Write xbuf way bytes) h = ((refl, half-written xbuf.0 h.0), ((refl, way-plain way), ((refl, plain-hex bytes.items h.1.0), tt)))
-call_written (Read xbuf way len) h = ((refl, half-written xbuf.0 h.0), ((refl, way-plain way), ((refl, half-written len h.1), tt)))
-call_written (Room xbuf way) h = ((refl, half-written xbuf.0 h), ((refl, way-plain way), tt))
-call_written (BeginWrite xbuf way bytes until) h = ((refl, half-written xbuf.0 h.0), ((refl, way-plain way), ((refl, plain-hex bytes.items h.1.0), ((refl, until-written until h.2), tt))))
-call_written (BeginRead xbuf way len until) h = ((refl, half-written xbuf.0 h.0), ((refl, way-plain way), ((refl, half-written len h.1), ((refl, until-written until h.2), tt))))
-call_written (Claim mutex owner until) h = ((refl, half-written mutex.0 h.0), ((refl, half-written owner.0 h.1), ((refl, until-written until h.2), tt)))
-call_written (Release mutex) h = ((refl, half-written mutex.0 h), tt)
-call_written (Raise mutex) h = ((refl, half-written mutex.0 h), tt)
-call_written (Finish keep) h = ((refl, tt), tt)
+-- the names of keys are written as they are
+abbrev are_bare : List Key → Bool
+are_bare keys = list_all (λ key. nat_lt 0 (length key.name) && list_all is_bare key.name) keys
 
-word_plain : (call : Call) → IsPlain (call_word call)
-word_plain Now = refl
-word_plain _ = refl
+fields_bare : (step : StepWord) → are_bare (fields_of step) ≡ true
+fields_bare Pick = refl
+fields_bare _ = refl
+
+told_written : (keys : List Key) (values : Values keys) → are_bare keys ≡ true → AllFit (told keys values) → ArePairs (map pair_of (told keys values))
+told_written [] values bare h = tt
+told_written (key ∷ keys) values bare h =
+    let (here, more) = and_parts (nat_lt 0 (length key.name) && list_all is_bare key.name) (are_bare keys) bare in
+    ((here, value-written key.kind values.0 h.0), told_written keys values.1 more h.1)
+
+parts_written : (p : Parts) → AllFit (told_by p) → ArePairs (map pair_of (told_by p))
+parts_written (parts step values) h = told_written (fields_of step) values (fields_bare step) h
+
+call_written : (call : Call) → CallFits call → ArePairs (call_pairs call)
+call_written call h = parts_written (parts_of call) h
+
+name_plain : (step : StepWord) → IsPlain (name_of step)
+name_plain Pick = refl
+name_plain _ = refl
 
 step_written : (step : Step) → StepFits step → ArePairs (step_pairs step)
-step_written step h = ((refl, word_plain step.call), ((refl, half-written step.who.0 h.0), call_written step.call h.1))
+step_written step h = ((refl, name_plain (word_in (parts_of step.call))), ((refl, half-written step.who.0 h.0), call_written step.call h.1))
 
 -- the tables of steps are lines of TOML
 pub steps_lines : (steps : List Step) → StepsFit steps → IsLinesText false true (steps_expressions steps) (tables_text steps)

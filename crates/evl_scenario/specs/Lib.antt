@@ -11,3 +11,5 @@ pub mod Transfers
 pub mod Writings
 pub mod Traces
 pub mod Widths
+pub mod Fields
+pub mod Calls

@@ -6,13 +6,7 @@ use Rattle.std.specs.Str.Parse.{digits_value}
 use Rattle.toml.specs.Data.{Data, integer, string, Items, no_items, item, as_str, as_bool, as_array}
 use Rattle.evl_base.specs.declared.mutex_kind.MutexKind.{MutexKind}
 use Rattle.evl_base.specs.declared.mutex_kind.MutexKind.TheVariants.{Normal, Recursive, Ceiling}
-use Rattle.evl_base.specs.declared.numbers.FlagId.{FlagId}
-use Rattle.evl_base.specs.declared.numbers.LineNo.{LineNo}
-use Rattle.evl_base.specs.declared.numbers.MutexId.{MutexId}
-use Rattle.evl_base.specs.declared.numbers.SemId.{SemId}
 use Rattle.evl_base.specs.declared.numbers.ThreadId.{ThreadId}
-use Rattle.evl_base.specs.declared.numbers.TimerId.{TimerId}
-use Rattle.evl_base.specs.declared.numbers.XbufId.{XbufId}
 use Rattle.evl_base.specs.declared.stage.Stage.{Stage}
 use Rattle.evl_base.specs.declared.stage.Stage.TheVariants.{Inband, Oob}
 
@@ -50,24 +44,6 @@ byte_from value = below (2 ^ 8) (number_from value)
 
 abbrev pub thread_from : Data → Option ThreadId
 thread_from value = option_map (λ n. record { 0 = n }) (half_word_from value)
-
-abbrev pub line_from : Data → Option LineNo
-line_from value = option_map (λ n. record { 0 = n }) (half_word_from value)
-
-abbrev pub sem_from : Data → Option SemId
-sem_from value = option_map (λ n. record { 0 = n }) (half_word_from value)
-
-abbrev pub flag_from : Data → Option FlagId
-flag_from value = option_map (λ n. record { 0 = n }) (half_word_from value)
-
-abbrev pub xbuf_from : Data → Option XbufId
-xbuf_from value = option_map (λ n. record { 0 = n }) (half_word_from value)
-
-abbrev pub mutex_from : Data → Option MutexId
-mutex_from value = option_map (λ n. record { 0 = n }) (half_word_from value)
-
-abbrev pub timer_from : Data → Option TimerId
-timer_from value = option_map (λ n. record { 0 = n }) (half_word_from value)
 
 abbrev pub stage_of : List ℕ → Option Stage
 stage_of text =

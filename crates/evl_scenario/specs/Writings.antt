@@ -12,13 +12,12 @@ use Rattle.evl_base.specs.Take.{take_text}
 use Rattle.evl_base.specs.Way.{way_text}
 use Rattle.evl_base.specs.declared.board.Board.{Board}
 use Rattle.evl_base.specs.declared.call.Call.{Call}
-use Rattle.evl_base.specs.declared.call.Call.TheVariants.{Request, Free, Arrive, Post, Stall, Unstall, Tick, Now, NewTimer, StartTimer, StopTimer, DropTimer, Overruns, Attach, Detach, SetPolicy, SetStage, Pick, RankOf, TryGet, Put, Peek, BeginGet, TryTake, PostFlags, PeekFlags, BeginTake, Write, Read, Room, BeginWrite, BeginRead, Claim, Release, Raise, Finish}
 use Rattle.evl_base.specs.declared.entry.Entry.{Entry}
 use Rattle.evl_base.specs.declared.mutex_kind.MutexKind.{MutexKind}
 use Rattle.evl_base.specs.declared.mutex_kind.MutexKind.TheVariants.{Normal, Recursive, Ceiling}
-use Rattle.evl_base.specs.declared.stage.Stage.{Stage}
-use Rattle.evl_base.specs.declared.way.Way.{Way}
 use Rattle.evl_scenario.specs.Boards.{is_limit}
+use Rattle.evl_scenario.specs.Calls.{name_of, word_in, parts_of, told_in}
+use Rattle.evl_scenario.specs.Fields.{Told, a_byte, a_half, a_word, a_number, a_stage, a_policy, a_take, a_way, a_bytes, a_until, a_truth, Line}
 use Rattle.evl_scenario.specs.Scenarios.{Script}
 use Rattle.evl_scenario.specs.declared.steps.Step.{Step}
 use Rattle.evl_scenario.specs.declared.writing.Unwritten.{Unwritten}
@@ -55,101 +54,30 @@ list_data one xs = array (items_of (map one xs))
 abbrev pub Pair : Type 0
 Pair = List ℕ × Data
 
-abbrev pub line_pair : ℕ → Pair
-line_pair line = (codes "line", whole line)
+-- what is written of a value
+abbrev pub data_of : Told → Data
+data_of (a_byte n) = whole n
+data_of (a_half n) = whole n
+data_of (a_word n) = whole n
+data_of (a_number n) = wide n
+data_of (a_stage stage) = string (stage_text stage)
+data_of (a_policy policy) = string (policy_text policy)
+data_of (a_take take) = string (take_text take)
+data_of (a_way way) = string (way_text way)
+data_of (a_bytes sent) = string (encode_lower sent.items)
+data_of (a_until until) = until_data until
+data_of (a_truth truth) = boolean truth
 
-abbrev pub stage_pair : Stage → Pair
-stage_pair stage = (codes "stage", string (stage_text stage))
-
-abbrev pub until_pair : Option ℕ → Pair
-until_pair until = (codes "until", until_data until)
-
-abbrev pub xbuf_pairs : ℕ → Way → List Pair → List Pair
-xbuf_pairs xbuf way more = (codes "xbuf", whole xbuf) ∷ (codes "way", string (way_text way)) ∷ more
-
-abbrev pub bytes_pair : List ℕ → Pair
-bytes_pair bytes = (codes "bytes", string (encode_lower bytes))
+abbrev pub pair_of : Line → Pair
+pair_of line = (line.0, data_of line.1)
 
 -- the step word of a call
 abbrev pub call_word : Call → List ℕ
-call_word (Request line stage callback tag) = codes "request"
-call_word (Free line stage) = codes "free"
-call_word (Arrive line) = codes "arrive"
-call_word (Post stage line) = codes "post"
-call_word (Stall stage) = codes "stall"
-call_word (Unstall stage) = codes "unstall"
-call_word (Tick delta) = codes "tick"
-call_word Now = codes "now"
-call_word (NewTimer callback tag) = codes "new_timer"
-call_word (StartTimer timer date interval) = codes "start_timer"
-call_word (StopTimer timer) = codes "stop_timer"
-call_word (DropTimer timer) = codes "drop_timer"
-call_word (Overruns timer) = codes "overruns"
-call_word (Attach policy stage) = codes "attach"
-call_word Detach = codes "detach"
-call_word (SetPolicy policy) = codes "set_policy"
-call_word (SetStage stage) = codes "set_stage"
-call_word Pick = codes "pick"
-call_word (RankOf thread) = codes "rank_of"
-call_word (TryGet sem) = codes "try_get"
-call_word (Put sem) = codes "put"
-call_word (Peek sem) = codes "peek"
-call_word (BeginGet sem until) = codes "begin_get"
-call_word (TryTake flags kind) = codes "try_take"
-call_word (PostFlags flags bits) = codes "post_flags"
-call_word (PeekFlags flags) = codes "peek_flags"
-call_word (BeginTake flags kind until) = codes "begin_take"
-call_word (Write xbuf way bytes) = codes "write"
-call_word (Read xbuf way len) = codes "read"
-call_word (Room xbuf way) = codes "room"
-call_word (BeginWrite xbuf way bytes until) = codes "begin_write"
-call_word (BeginRead xbuf way len until) = codes "begin_read"
-call_word (Claim mutex owner until) = codes "claim"
-call_word (Release mutex) = codes "release"
-call_word (Raise mutex) = codes "raise"
-call_word (Finish keep) = codes "finish"
+call_word call = name_of (word_in (parts_of call))
 
 -- the keys of a call with their values, in the order of a trace
 abbrev pub call_pairs : Call → List Pair
-call_pairs (Request line stage callback tag) =
-    line_pair line.0 ∷ stage_pair stage ∷ (codes "callback", whole callback) ∷ (codes "tag", whole tag) ∷ []
-call_pairs (Free line stage) = line_pair line.0 ∷ stage_pair stage ∷ []
-call_pairs (Arrive line) = line_pair line.0 ∷ []
-call_pairs (Post stage line) = stage_pair stage ∷ line_pair line.0 ∷ []
-call_pairs (Stall stage) = stage_pair stage ∷ []
-call_pairs (Unstall stage) = stage_pair stage ∷ []
-call_pairs (Tick delta) = (codes "delta", wide delta) ∷ []
-call_pairs Now = []
-call_pairs (NewTimer callback tag) = (codes "callback", whole callback) ∷ (codes "tag", whole tag) ∷ []
-call_pairs (StartTimer timer date interval) =
-    (codes "timer", whole timer.0) ∷ (codes "date", wide date) ∷ (codes "interval", wide interval) ∷ []
-call_pairs (StopTimer timer) = (codes "timer", whole timer.0) ∷ []
-call_pairs (DropTimer timer) = (codes "timer", whole timer.0) ∷ []
-call_pairs (Overruns timer) = (codes "timer", whole timer.0) ∷ []
-call_pairs (Attach policy stage) = (codes "policy", string (policy_text policy)) ∷ stage_pair stage ∷ []
-call_pairs Detach = []
-call_pairs (SetPolicy policy) = (codes "policy", string (policy_text policy)) ∷ []
-call_pairs (SetStage stage) = stage_pair stage ∷ []
-call_pairs Pick = []
-call_pairs (RankOf thread) = (codes "thread", whole thread.0) ∷ []
-call_pairs (TryGet sem) = (codes "sem", whole sem.0) ∷ []
-call_pairs (Put sem) = (codes "sem", whole sem.0) ∷ []
-call_pairs (Peek sem) = (codes "sem", whole sem.0) ∷ []
-call_pairs (BeginGet sem until) = (codes "sem", whole sem.0) ∷ until_pair until ∷ []
-call_pairs (TryTake flags kind) = (codes "flags", whole flags.0) ∷ (codes "kind", string (take_text kind)) ∷ []
-call_pairs (PostFlags flags bits) = (codes "flags", whole flags.0) ∷ (codes "bits", whole bits) ∷ []
-call_pairs (PeekFlags flags) = (codes "flags", whole flags.0) ∷ []
-call_pairs (BeginTake flags kind until) =
-    (codes "flags", whole flags.0) ∷ (codes "kind", string (take_text kind)) ∷ until_pair until ∷ []
-call_pairs (Write xbuf way bytes) = xbuf_pairs xbuf.0 way (bytes_pair bytes.items ∷ [])
-call_pairs (Read xbuf way len) = xbuf_pairs xbuf.0 way ((codes "len", whole len) ∷ [])
-call_pairs (Room xbuf way) = xbuf_pairs xbuf.0 way []
-call_pairs (BeginWrite xbuf way bytes until) = xbuf_pairs xbuf.0 way (bytes_pair bytes.items ∷ until_pair until ∷ [])
-call_pairs (BeginRead xbuf way len until) = xbuf_pairs xbuf.0 way ((codes "len", whole len) ∷ until_pair until ∷ [])
-call_pairs (Claim mutex owner until) = (codes "mutex", whole mutex.0) ∷ (codes "owner", whole owner.0) ∷ until_pair until ∷ []
-call_pairs (Release mutex) = (codes "mutex", whole mutex.0) ∷ []
-call_pairs (Raise mutex) = (codes "mutex", whole mutex.0) ∷ []
-call_pairs (Finish keep) = (codes "keep", boolean keep) ∷ []
+call_pairs call = map pair_of (told_in call)
 
 abbrev pub step_pairs : Step → List Pair
 step_pairs step = (codes "do", string (call_word step.call)) ∷ (codes "who", whole step.who.0) ∷ call_pairs step.call

@@ -6,6 +6,7 @@
 mod boards;
 mod calls;
 mod faults;
+mod fields;
 mod lines;
 mod lists;
 mod policies;
@@ -21,11 +22,12 @@ mod values;
 mod widths;
 mod writing;
 
+pub use calls::STEP_WORDS;
 pub use faults::Fault;
 pub use lines::{
     Answer, BoardLine, ElementCounts, EntryNumber, OwnerCounts, PlayLine, StepLine, board_line,
 };
 pub use scenarios::{Scenario, read_scenario};
-pub use steps::{STEP_WORDS, Step, step_keys_of};
+pub use steps::{Step, step_keys_of};
 pub use tracing::{trace_history, write_board_line, write_entry};
 pub use writing::{Unwritten, without_staxes, write_opening, write_scenario, write_step};

@@ -2,9 +2,9 @@
 ghost use Rattle.std.specs.Prelude.{◌≡◌, Option, option_map};
 ghost use Rattle.toml.specs.Data.{Data};
 ghost use Rattle.toml.specs.View.{view, items_view};
-ghost use Rattle.evl_scenario.specs.Values.{number_from, text_number, word_from, half_word_from, byte_from, around_space, past_front, two_sizes, mutex_kind_from, ring_sizes_from, thread_from, line_from, sem_from, flag_from, xbuf_from, mutex_from, stage_from, timer_from, truth_from, until_from, until_of};
+ghost use Rattle.evl_scenario.specs.Values.{number_from, text_number, word_from, half_word_from, byte_from, around_space, past_front, two_sizes, mutex_kind_from, ring_sizes_from, thread_from, stage_from, truth_from, until_from, until_of};
 
-use evl_base::{FlagId, LineNo, MutexId, MutexKind, SemId, Stage, ThreadId, TimerId, XbufId};
+use evl_base::{MutexKind, Stage, ThreadId};
 use toml::Value;
 
 /// A value that a TOML value may stand for.
@@ -91,54 +91,6 @@ impl FromToml for ThreadId {
 
     fn from_toml(value: &Value) -> Option<ThreadId> {
         Some(ThreadId(u16::try_from(number(value)?).ok()?))
-    }
-}
-
-impl FromToml for LineNo {
-    ghost gives = { line_from };
-
-    fn from_toml(value: &Value) -> Option<LineNo> {
-        Some(LineNo(u16::try_from(number(value)?).ok()?))
-    }
-}
-
-impl FromToml for SemId {
-    ghost gives = { sem_from };
-
-    fn from_toml(value: &Value) -> Option<SemId> {
-        Some(SemId(u16::try_from(number(value)?).ok()?))
-    }
-}
-
-impl FromToml for FlagId {
-    ghost gives = { flag_from };
-
-    fn from_toml(value: &Value) -> Option<FlagId> {
-        Some(FlagId(u16::try_from(number(value)?).ok()?))
-    }
-}
-
-impl FromToml for XbufId {
-    ghost gives = { xbuf_from };
-
-    fn from_toml(value: &Value) -> Option<XbufId> {
-        Some(XbufId(u16::try_from(number(value)?).ok()?))
-    }
-}
-
-impl FromToml for MutexId {
-    ghost gives = { mutex_from };
-
-    fn from_toml(value: &Value) -> Option<MutexId> {
-        Some(MutexId(u16::try_from(number(value)?).ok()?))
-    }
-}
-
-impl FromToml for TimerId {
-    ghost gives = { timer_from };
-
-    fn from_toml(value: &Value) -> Option<TimerId> {
-        Some(TimerId(u16::try_from(number(value)?).ok()?))
     }
 }
 

@@ -1,28 +1,16 @@
 //! What is known of the numbers of a step by the types of its fields. Nothing is computed here.
 ghost use Rattle.std.specs.Prelude.{◌≡◌, ◌<◌, ◌^◌};
 ghost use Rattle.hex.specs.Hex.{IsBytes};
-ghost use Rattle.evl_scenario.specs.Widths.{AreWords, BoardHolds, BytesFit, CallFits, PolicyFits, StepFits, TakeFits, UntilFits};
+ghost use Rattle.evl_scenario.specs.Fields.{all_told, seen};
+ghost use Rattle.evl_scenario.specs.Widths.{AllFit, AreWords, BoardHolds, BytesFit, Fits, PolicyFits, StepFits, TakeFits, UntilFits};
 
+use crate::calls::fields_in;
+use crate::fields::{Field, Fields};
 use evl_base::{Board, Call, Policy, Take, ThreadId, Transfer};
 
 // A number of 16 bits.
 fn know_half(number: u16)
     ensures { number < 2 ^ 16 }
-{}
-
-// A number of 64 bits.
-fn know_moment(number: u64)
-    ensures { number < 2 ^ 64 }
-{}
-
-// A number of 8 bits.
-fn know_byte(number: u8)
-    ensures { number < 2 ^ 8 }
-{}
-
-// A number of 32 bits.
-fn know_word(number: u32)
-    ensures { number < 2 ^ 32 }
 {}
 
 // The numbers of a policy.
@@ -79,57 +67,48 @@ fn know_bytes(bytes: &Transfer)
     know_each(bytes.as_slice())
 }
 
-/// Knows what is told of each field, by the list of the calls with their fields.
-macro_rules! know {
-    ($call:expr, [$($variant:ident { $($field:ident: $known:expr),* })*]) => {
-        match $call {
-            $(Call::$variant { $($field,)* .. } => { $($known;)* })*
-        }
-    };
+// What stands behind a key.
+fn know_field(field: Field<'_>)
+    ensures { Fits (seen field.entry) }
+{
+    match field {
+        Field::Byte(_number) => {}
+        Field::Half(_number) => {}
+        Field::Word(_number) => {}
+        Field::Number(_number) => {}
+        Field::Stage(_stage) => {}
+        Field::Policy(policy) => know_policy(policy),
+        Field::Take(take) => know_take(take),
+        Field::Way(_way) => {}
+        Field::Bytes(bytes) => know_bytes(bytes),
+        Field::Until(until) => know_until(until),
+        Field::Truth(_truth) => {}
+    }
 }
 
-// The numbers of a call.
-fn know_call(call: &Call)
-    ensures { CallFits call.now }
+// What stands behind the keys of a call.
+fn know_fields(fields: Fields<'_>)
+    ensures { AllFit (all_told fields.entry) }
 {
-    know!(call, [
-        Request { line: know_half(line.0), callback: know_byte(*callback), tag: know_word(*tag) }
-        Free { line: know_half(line.0) }
-        Arrive { line: know_half(line.0) }
-        Post { line: know_half(line.0) }
-        Stall {}
-        Unstall {}
-        Tick { delta: know_moment(*delta) }
-        Now {}
-        NewTimer { callback: know_byte(*callback), tag: know_word(*tag) }
-        StartTimer { timer: know_half(timer.0), date: know_moment(*date), interval: know_moment(*interval) }
-        StopTimer { timer: know_half(timer.0) }
-        DropTimer { timer: know_half(timer.0) }
-        Overruns { timer: know_half(timer.0) }
-        Attach { policy: know_policy(*policy) }
-        Detach {}
-        SetPolicy { policy: know_policy(*policy) }
-        SetStage {}
-        Pick {}
-        RankOf { thread: know_half(thread.0) }
-        TryGet { sem: know_half(sem.0) }
-        Put { sem: know_half(sem.0) }
-        Peek { sem: know_half(sem.0) }
-        BeginGet { sem: know_half(sem.0), until: know_until(*until) }
-        TryTake { flags: know_half(flags.0), kind: know_take(*kind) }
-        PostFlags { flags: know_half(flags.0), bits: know_word(*bits) }
-        PeekFlags { flags: know_half(flags.0) }
-        BeginTake { flags: know_half(flags.0), kind: know_take(*kind), until: know_until(*until) }
-        Write { xbuf: know_half(xbuf.0), bytes: know_bytes(bytes) }
-        Read { xbuf: know_half(xbuf.0), len: know_half(*len) }
-        Room { xbuf: know_half(xbuf.0) }
-        BeginWrite { xbuf: know_half(xbuf.0), bytes: know_bytes(bytes), until: know_until(*until) }
-        BeginRead { xbuf: know_half(xbuf.0), len: know_half(*len), until: know_until(*until) }
-        Claim { mutex: know_half(mutex.0), owner: know_half(owner.0), until: know_until(*until) }
-        Release { mutex: know_half(mutex.0) }
-        Raise { mutex: know_half(mutex.0) }
-        Finish {}
-    ])
+    match fields {
+        Fields::Zero => {}
+        Fields::One(a) => know_field(a.field),
+        Fields::Two(a, b) => {
+            know_field(a.field);
+            know_field(b.field)
+        }
+        Fields::Three(a, b, c) => {
+            know_field(a.field);
+            know_field(b.field);
+            know_field(c.field)
+        }
+        Fields::Four(a, b, c, d) => {
+            know_field(a.field);
+            know_field(b.field);
+            know_field(c.field);
+            know_field(d.field)
+        }
+    }
 }
 
 /// The numbers of a step are those of its fields' types.
@@ -137,7 +116,7 @@ pub fn know_step(who: ThreadId, call: &Call)
     ensures { StepFits (record { who = who; call = call.now }) }
 {
     know_half(who.0);
-    know_call(call)
+    know_fields(fields_in(call))
 }
 
 fn know_words(words: &[u32])

@@ -1,20 +1,21 @@
 -- In the text of a call no arrow stands, and no line feed.
-use Rattle.std.proofs.Common.{arith, ◌≡◌, ℕ, zero, suc, ◌<◌, ◌^◌, ◌/◌, ◌%◌, ◌==◌, nat_le, Bool, true, false, not, ◌&&◌, List, [], ◌∷◌, ◌++◌, length, codes, decimal, slice_index, if◌then◌else◌, Option, Some, None, inl, inr, refl, ◌∙◌}
+use Rattle.std.proofs.Common.{arith, ◌≡◌, ℕ, zero, suc, ◌<◌, ◌^◌, ◌/◌, ◌%◌, ◌==◌, nat_le, Bool, true, false, not, ◌&&◌, List, [], ◌∷◌, ◌++◌, length, codes, decimal, slice_index, if◌then◌else◌, Option, Some, None, inl, inr, refl, sym, subst, append_assoc, ◌∙◌}
 use Rattle.std.proofs.lemmas.Bool.{and_parts, cases_lt}
 use Rattle.std.proofs.lemmas.Bool.Decides.{nat_tests}
 use Rattle.std.proofs.lemmas.Fmt.{decimal_is_IsNumeral}
+use Rattle.std.proofs.lemmas.List.{append-nil}
 use Rattle.std.proofs.lemmas.List.Folds.{list_all-append}
 use Rattle.std.specs.Char.{digit_value}
 use Rattle.std.specs.List.{list_all}
 use Rattle.std.specs.Str.Parse.{AllDigits}
 use Rattle.hex.specs.Hex.{IsBytes, encode_lower, encode_with, lower_digits}
-use Rattle.evl_base.specs.Call.{call_text, line_and_stage_text, stage_and_line_text, date_and_interval_text, flags_and_kind_text, xbuf_and_way_text, way_and_length_text, until_text, owner_and_until_text, truth_text}
+use Rattle.evl_base.specs.Call.{call_text, until_text, truth_text}
 use Rattle.evl_base.specs.Policy.{policy_text}
 use Rattle.evl_base.specs.Stage.{stage_text}
 use Rattle.evl_base.specs.Take.{take_text}
 use Rattle.evl_base.specs.Way.{bytes_text, way_text}
 use Rattle.evl_base.specs.declared.call.Call.{Call}
-use Rattle.evl_base.specs.declared.call.Call.TheVariants.{Request, Free, Arrive, Post, Stall, Unstall, Tick, Now, NewTimer, StartTimer, StopTimer, DropTimer, Overruns, Attach, Detach, SetPolicy, SetStage, Pick, RankOf, TryGet, Put, Peek, BeginGet, TryTake, PostFlags, PeekFlags, BeginTake, Write, Read, Room, BeginWrite, BeginRead, Claim, Release, Raise, Finish}
+use Rattle.evl_base.specs.declared.call.Call.TheVariants.{Now}
 use Rattle.evl_base.specs.declared.policy.Policy.{Policy}
 use Rattle.evl_base.specs.declared.policy.Policy.TheVariants.{Fifo, Rr, Quota, Weak}
 use Rattle.evl_base.specs.declared.stage.Stage.{Stage}
@@ -23,7 +24,12 @@ use Rattle.evl_base.specs.declared.take.Take.{Take}
 use Rattle.evl_base.specs.declared.take.Take.TheVariants.{Any, Of, Exact}
 use Rattle.evl_base.specs.declared.way.Way.{Way}
 use Rattle.evl_base.specs.declared.way.Way.TheVariants.{In, Out}
-use Rattle.evl_scenario.specs.Widths.{BytesFit, CallFits, PolicyFits, TakeFits, UntilFits}
+use Rattle.evl_scenario.specs.Calls.{Parts, parts, fields_of, name_of, parts_of, told_by}
+use Rattle.evl_scenario.specs.Fields as kind
+use Rattle.evl_scenario.specs.Fields.{Kind, Value, Key, Values, told_as, told}
+use Rattle.evl_scenario.specs.Widths.{AllFit, BytesFit, CallFits, Fits, PolicyFits, TakeFits, UntilFits}
+use Rattle.evl_scenario.specs.declared.steps.StepWord.{StepWord}
+use Rattle.evl_scenario.specs.declared.steps.StepWord.TheVariants.{Pick}
 use Rattle.evl_traces.specs.Parts.{Lacks}
 
 -- a byte from the space on, but for the point of an arrow
@@ -112,69 +118,66 @@ either_inner false a b p q = q
 bytes_inner : (bytes : List ℕ) → BytesFit bytes → IsInner (bytes_text bytes)
 bytes_inner bytes fits = either_inner (length bytes == 0) (codes "-") (encode_lower bytes) (literal (codes "-") refl) (literal (encode_lower bytes) (inner_hex bytes fits.0))
 
--- ---- keys of several calls
-
-line_and_stage_inner : (line : ℕ) (stage : Stage) → line < 2 ^ 64 → IsInner (line_and_stage_text line stage)
-line_and_stage_inner line stage h = join (literal (codes "line=") refl) (join (number line h) (join (literal (codes " stage=") refl) (stage_inner stage)))
-
-stage_and_line_inner : (stage : Stage) (line : ℕ) → line < 2 ^ 64 → IsInner (stage_and_line_text stage line)
-stage_and_line_inner stage line h = join (literal (codes "stage=") refl) (join (stage_inner stage) (join (literal (codes " line=") refl) (number line h)))
-
-date_and_interval_inner : (date interval : ℕ) → date < 2 ^ 64 → interval < 2 ^ 64 → IsInner (date_and_interval_text date interval)
-date_and_interval_inner date interval h k = join (literal (codes "date=") refl) (join (number date h) (join (literal (codes " interval=") refl) (number interval k)))
-
-flags_and_kind_inner : (flags : ℕ) (kind : Take) → flags < 2 ^ 64 → TakeFits kind → IsInner (flags_and_kind_text flags kind)
-flags_and_kind_inner flags kind h k = join (literal (codes "flags=") refl) (join (number flags h) (join (literal (codes " kind=") refl) (take_inner kind k)))
-
-xbuf_and_way_inner : (xbuf : ℕ) (way : Way) → xbuf < 2 ^ 64 → IsInner (xbuf_and_way_text xbuf way)
-xbuf_and_way_inner xbuf way h = join (literal (codes "xbuf=") refl) (join (number xbuf h) (join (literal (codes " way=") refl) (way_inner way)))
-
-way_and_length_inner : (xbuf : ℕ) (way : Way) (len : ℕ) → xbuf < 2 ^ 64 → len < 2 ^ 64 → IsInner (way_and_length_text xbuf way len)
-way_and_length_inner xbuf way len h k =
-    join (literal (codes "xbuf=") refl) (join (number xbuf h) (join (literal (codes " way=") refl) (join (way_inner way) (join (literal (codes " len=") refl) (number len k)))))
-
-owner_and_until_inner : (owner : ℕ) (until : Option ℕ) → owner < 2 ^ 64 → UntilFits until → IsInner (owner_and_until_text owner until)
-owner_and_until_inner owner until h k = join (literal (codes "owner=") refl) (join (number owner h) (join (literal (codes " until=") refl) (until_inner until k)))
-
 -- ---- calls
 
+-- the text of a value in a trace
+abbrev value_said : (kind : Kind) → Value kind → List ℕ
+value_said kind.byte n = decimal n
+value_said kind.half n = decimal n
+value_said kind.word n = decimal n
+value_said kind.number n = decimal n
+value_said kind.stage s = stage_text s
+value_said kind.policy p = policy_text p
+value_said kind.take t = take_text t
+value_said kind.way w = way_text w
+value_said kind.bytes b = bytes_text b.items
+value_said kind.until u = until_text u
+value_said kind.truth b = truth_text b
+
+value_inner : (kind : Kind) (v : Value kind) → Fits (told_as kind v) → IsInner (value_said kind v)
+value_inner kind.byte n h = number n (omega (arith, h))
+value_inner kind.half n h = number n (omega (arith, h))
+value_inner kind.word n h = number n (omega (arith, h))
+value_inner kind.number n h = number n h
+value_inner kind.stage s h = stage_inner s
+value_inner kind.policy p h = policy_inner p h
+value_inner kind.take t h = take_inner t h
+value_inner kind.way w h = way_inner w
+value_inner kind.bytes b h = bytes_inner b.items h
+value_inner kind.until u h = until_inner u h
+value_inner kind.truth b h = truth_inner b
+
+-- a space, the key and its value, for each of these keys
+abbrev said : (keys : List Key) → Values keys → List ℕ
+said [] values = []
+said (key ∷ keys) values = codes " " ++ (key.name ++ (codes "=" ++ (value_said key.kind values.0 ++ said keys values.1)))
+
+abbrev parts_said : Parts → List ℕ
+parts_said (parts step values) = name_of step ++ said (fields_of step) values
+
+-- a call says the name of its word, and its keys with their values
+call_said : (call : Call) → call_text call ≡ parts_said (parts_of call)
+call_said Now = refl
+call_said _ = simp (append_assoc, append-nil) refl
+
+said_inner : (keys : List Key) (values : Values keys) → list_all (λ key. list_all is_inner key.name) keys ≡ true → AllFit (told keys values) → IsInner (said keys values)
+said_inner [] values names fits = literal [] refl
+said_inner (key ∷ keys) values names fits =
+    let (here, more) = and_parts (list_all is_inner key.name) (list_all (λ k. list_all is_inner k.name) keys) names in
+    let rest = join (value_inner key.kind values.0 fits.0) (said_inner keys values.1 more fits.1) in
+    join (literal (codes " ") refl) (join (literal key.name here) (join (literal (codes "=") refl) rest))
+
+names_inner : (step : StepWord) → (list_all is_inner (name_of step) && list_all (λ key. list_all is_inner key.name) (fields_of step)) ≡ true
+names_inner Pick = refl
+names_inner _ = refl
+
+parts_inner : (p : Parts) → AllFit (told_by p) → IsInner (parts_said p)
+parts_inner (parts step values) fits =
+    let (name, keys) = and_parts (list_all is_inner (name_of step)) (list_all (λ key. list_all is_inner key.name) (fields_of step)) (names_inner step) in
+    join (literal (name_of step) name) (said_inner (fields_of step) values keys fits)
+
 call_inner : (call : Call) → CallFits call → IsInner (call_text call)
-call_inner (Request line stage callback tag) fits = join (literal (codes "request ") refl) (join (line_and_stage_inner line.0 stage (omega (arith, fits.0))) (join (literal (codes " callback=") refl) (join (number callback (omega (arith, fits.1))) (join (literal (codes " tag=") refl) (number tag (omega (arith, fits.2)))))))
-call_inner (Free line stage) fits = join (literal (codes "free ") refl) (line_and_stage_inner line.0 stage (omega (arith, fits)))
-call_inner (Arrive line) fits = join (literal (codes "arrive line=") refl) (number line.0 (omega (arith, fits)))
-call_inner (Post stage line) fits = join (literal (codes "post ") refl) (stage_and_line_inner stage line.0 (omega (arith, fits)))
-call_inner (Stall stage) fits = join (literal (codes "stall stage=") refl) (stage_inner stage)
-call_inner (Unstall stage) fits = join (literal (codes "unstall stage=") refl) (stage_inner stage)
-call_inner (Tick delta) fits = join (literal (codes "tick delta=") refl) (number delta (omega (arith, fits)))
-call_inner Now fits = literal (codes "now") refl
-call_inner (NewTimer callback tag) fits = join (literal (codes "new_timer callback=") refl) (join (number callback (omega (arith, fits.0))) (join (literal (codes " tag=") refl) (number tag (omega (arith, fits.1)))))
-call_inner (StartTimer timer date interval) fits = join (literal (codes "start_timer timer=") refl) (join (number timer.0 (omega (arith, fits.0))) (join (literal (codes " ") refl) (date_and_interval_inner date interval (omega (arith, fits.1)) (omega (arith, fits.2)))))
-call_inner (StopTimer timer) fits = join (literal (codes "stop_timer timer=") refl) (number timer.0 (omega (arith, fits)))
-call_inner (DropTimer timer) fits = join (literal (codes "drop_timer timer=") refl) (number timer.0 (omega (arith, fits)))
-call_inner (Overruns timer) fits = join (literal (codes "overruns timer=") refl) (number timer.0 (omega (arith, fits)))
-call_inner (Attach policy stage) fits = join (literal (codes "attach policy=") refl) (join (policy_inner policy fits) (join (literal (codes " stage=") refl) (stage_inner stage)))
-call_inner Detach fits = literal (codes "detach") refl
-call_inner (SetPolicy policy) fits = join (literal (codes "set_policy policy=") refl) (policy_inner policy fits)
-call_inner (SetStage stage) fits = join (literal (codes "set_stage stage=") refl) (stage_inner stage)
-call_inner Pick fits = literal (codes "pick") refl
-call_inner (RankOf thread) fits = join (literal (codes "rank_of thread=") refl) (number thread.0 (omega (arith, fits)))
-call_inner (TryGet sem) fits = join (literal (codes "try_get sem=") refl) (number sem.0 (omega (arith, fits)))
-call_inner (Put sem) fits = join (literal (codes "put sem=") refl) (number sem.0 (omega (arith, fits)))
-call_inner (Peek sem) fits = join (literal (codes "peek sem=") refl) (number sem.0 (omega (arith, fits)))
-call_inner (BeginGet sem until) fits = join (literal (codes "begin_get sem=") refl) (join (number sem.0 (omega (arith, fits.0))) (join (literal (codes " until=") refl) (until_inner until fits.1)))
-call_inner (TryTake flags kind) fits = join (literal (codes "try_take ") refl) (flags_and_kind_inner flags.0 kind (omega (arith, fits.0)) (fits.1))
-call_inner (PostFlags flags bits) fits = join (literal (codes "post_flags flags=") refl) (join (number flags.0 (omega (arith, fits.0))) (join (literal (codes " bits=") refl) (number bits (omega (arith, fits.1)))))
-call_inner (PeekFlags flags) fits = join (literal (codes "peek_flags flags=") refl) (number flags.0 (omega (arith, fits)))
-call_inner (BeginTake flags kind until) fits = join (literal (codes "begin_take ") refl) (join (flags_and_kind_inner flags.0 kind (omega (arith, fits.0)) (fits.1)) (join (literal (codes " until=") refl) (until_inner until fits.2)))
-call_inner (Write xbuf way bytes) fits = join (literal (codes "write ") refl) (join (xbuf_and_way_inner xbuf.0 way (omega (arith, fits.0))) (join (literal (codes " bytes=") refl) (bytes_inner bytes.items (fits.1))))
-call_inner (Read xbuf way len) fits = join (literal (codes "read ") refl) (way_and_length_inner xbuf.0 way len (omega (arith, fits.0)) (omega (arith, fits.1)))
-call_inner (Room xbuf way) fits = join (literal (codes "room ") refl) (xbuf_and_way_inner xbuf.0 way (omega (arith, fits)))
-call_inner (BeginWrite xbuf way bytes until) fits = join (literal (codes "begin_write ") refl) (join (xbuf_and_way_inner xbuf.0 way (omega (arith, fits.0))) (join (literal (codes " bytes=") refl) (join (bytes_inner bytes.items (fits.1)) (join (literal (codes " until=") refl) (until_inner until fits.2)))))
-call_inner (BeginRead xbuf way len until) fits = join (literal (codes "begin_read ") refl) (join (way_and_length_inner xbuf.0 way len (omega (arith, fits.0)) (omega (arith, fits.1))) (join (literal (codes " until=") refl) (until_inner until fits.2)))
-call_inner (Claim mutex owner until) fits = join (literal (codes "claim mutex=") refl) (join (number mutex.0 (omega (arith, fits.0))) (join (literal (codes " ") refl) (owner_and_until_inner owner.0 until (omega (arith, fits.1)) (fits.2))))
-call_inner (Release mutex) fits = join (literal (codes "release mutex=") refl) (number mutex.0 (omega (arith, fits)))
-call_inner (Raise mutex) fits = join (literal (codes "raise mutex=") refl) (number mutex.0 (omega (arith, fits)))
-call_inner (Finish keep) fits = join (literal (codes "finish keep=") refl) (truth_inner keep)
+call_inner call fits = subst IsInner (sym (call_said call)) (parts_inner (parts_of call) fits)
 
 inner_point : (c : ℕ) → is_inner c ≡ true → not (c == 62) ≡ true
 inner_point c h = (and_parts (nat_le 32 c) (not (c == 62)) h).1
