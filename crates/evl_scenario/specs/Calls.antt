@@ -6,7 +6,7 @@ use Rattle.evl_base.specs.declared.call.Call.TheVariants as make
 use Rattle.evl_scenario.specs.declared.steps.StepWord.{StepWord}
 use Rattle.evl_scenario.specs.declared.steps.StepWord.TheVariants as word
 use Rattle.evl_scenario.specs.Fields as kind
-use Rattle.evl_scenario.specs.Fields.{Key, Values, Line, required, optional, told}
+use Rattle.evl_scenario.specs.Fields.{Key, Values, Keyed, required, optional, told}
 
 -- ---- words
 
@@ -125,7 +125,7 @@ pub data Parts : Type 0 where
 abbrev pub word_in : Parts → StepWord
 word_in (parts step values) = step
 
-abbrev pub told_by : Parts → List Line
+abbrev pub told_by : Parts → List Keyed
 told_by (parts step values) = told (fields_of step) values
 
 -- what makes a call
@@ -168,5 +168,5 @@ parts_of (make.Raise mutex) = parts word.Raise (mutex.0, tt)
 parts_of (make.Finish keep) = parts word.Finish (keep, tt)
 
 -- the keys of a call with their values
-abbrev pub told_in : Call → List Line
+abbrev pub told_in : Call → List Keyed
 told_in call = told_by (parts_of call)

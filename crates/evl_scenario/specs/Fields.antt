@@ -119,10 +119,10 @@ told_as until x = a_until x
 told_as truth x = a_truth x
 
 -- a key with what stands behind it
-abbrev pub Line : Type 0
-Line = List ℕ × Told
+abbrev pub Keyed : Type 0
+Keyed = List ℕ × Told
 
-abbrev pub told : (keys : List Key) → Values keys → List Line
+abbrev pub told : (keys : List Key) → Values keys → List Keyed
 told [] values = []
 told (key ∷ keys) values = (key.name, told_as key.kind values.0) ∷ told keys values.1
 
@@ -141,12 +141,12 @@ seen (field.Bytes x) = a_bytes x.now
 seen (field.Until x) = a_until x
 seen (field.Truth x) = a_truth x
 
-abbrev pub told_of : Named → Line
+abbrev pub told_of : Named → Keyed
 told_of named = (named.key.now, seen named.field)
 
-abbrev pub all_told : Fields → List Line
+abbrev pub all_told : Fields → List Keyed
 all_told fields.Zero = []
-all_told (fields.One a) = told_of a ∷ []
-all_told (fields.Two a b) = told_of a ∷ told_of b ∷ []
-all_told (fields.Three a b c) = told_of a ∷ told_of b ∷ told_of c ∷ []
-all_told (fields.Four a b c d) = told_of a ∷ told_of b ∷ told_of c ∷ told_of d ∷ []
+all_told (fields.One first) = told_of first ∷ []
+all_told (fields.Two first second) = told_of first ∷ told_of second ∷ []
+all_told (fields.Three first second third) = told_of first ∷ told_of second ∷ told_of third ∷ []
+all_told (fields.Four first second third fourth) = told_of first ∷ told_of second ∷ told_of third ∷ told_of fourth ∷ []

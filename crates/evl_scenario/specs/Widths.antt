@@ -9,7 +9,7 @@ use Rattle.evl_base.specs.declared.policy.Policy.TheVariants.{Fifo, Rr, Quota, W
 use Rattle.evl_base.specs.declared.take.Take.{Take}
 use Rattle.evl_base.specs.declared.take.Take.TheVariants.{Any, Of, Exact}
 use Rattle.evl_scenario.specs.Calls.{told_in}
-use Rattle.evl_scenario.specs.Fields.{Told, a_byte, a_half, a_word, a_number, a_stage, a_policy, a_take, a_way, a_bytes, a_until, a_truth, Line}
+use Rattle.evl_scenario.specs.Fields.{Told, a_byte, a_half, a_word, a_number, a_stage, a_policy, a_take, a_way, a_bytes, a_until, a_truth, Keyed}
 use Rattle.evl_scenario.specs.declared.steps.Step.{Step}
 
 abbrev pub PolicyFits : Policy → Type 0
@@ -45,9 +45,9 @@ Fits (a_bytes sent) = BytesFit sent.items
 Fits (a_until until) = UntilFits until
 Fits (a_truth truth) = Unit {0}
 
-abbrev pub AllFit : List Line → Type 0
+abbrev pub AllFit : List Keyed → Type 0
 AllFit [] = Unit {0}
-AllFit (line ∷ rest) = Fits line.1 × AllFit rest
+AllFit (keyed ∷ rest) = Fits keyed.1 × AllFit rest
 
 abbrev pub CallFits : Call → Type 0
 CallFits call = AllFit (told_in call)

@@ -17,7 +17,7 @@ use Rattle.evl_base.specs.declared.mutex_kind.MutexKind.{MutexKind}
 use Rattle.evl_base.specs.declared.mutex_kind.MutexKind.TheVariants.{Normal, Recursive, Ceiling}
 use Rattle.evl_scenario.specs.Boards.{is_limit}
 use Rattle.evl_scenario.specs.Calls.{name_of, word_in, parts_of, told_in}
-use Rattle.evl_scenario.specs.Fields.{Told, a_byte, a_half, a_word, a_number, a_stage, a_policy, a_take, a_way, a_bytes, a_until, a_truth, Line}
+use Rattle.evl_scenario.specs.Fields.{Told, a_byte, a_half, a_word, a_number, a_stage, a_policy, a_take, a_way, a_bytes, a_until, a_truth, Keyed}
 use Rattle.evl_scenario.specs.Scenarios.{Script}
 use Rattle.evl_scenario.specs.declared.steps.Step.{Step}
 use Rattle.evl_scenario.specs.declared.writing.Unwritten.{Unwritten}
@@ -68,8 +68,8 @@ data_of (a_bytes sent) = string (encode_lower sent.items)
 data_of (a_until until) = until_data until
 data_of (a_truth truth) = boolean truth
 
-abbrev pub pair_of : Line → Pair
-pair_of line = (line.0, data_of line.1)
+abbrev pub pair_of : Keyed → Pair
+pair_of keyed = (keyed.0, data_of keyed.1)
 
 -- the step word of a call
 abbrev pub call_word : Call → List ℕ

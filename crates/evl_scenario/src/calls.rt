@@ -158,10 +158,12 @@ macro_rules! told {
 /// So many keys.
 macro_rules! listed {
     () => { Fields::Zero };
-    ($a:expr) => { Fields::One($a) };
-    ($a:expr, $b:expr) => { Fields::Two($a, $b) };
-    ($a:expr, $b:expr, $c:expr) => { Fields::Three($a, $b, $c) };
-    ($a:expr, $b:expr, $c:expr, $d:expr) => { Fields::Four($a, $b, $c, $d) };
+    ($first:expr) => { Fields::One($first) };
+    ($first:expr, $second:expr) => { Fields::Two($first, $second) };
+    ($first:expr, $second:expr, $third:expr) => { Fields::Three($first, $second, $third) };
+    ($first:expr, $second:expr, $third:expr, $fourth:expr) => {
+        Fields::Four($first, $second, $third, $fourth)
+    };
 }
 
 /// The keys of a call with what stands behind them.

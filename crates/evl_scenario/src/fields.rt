@@ -1,4 +1,4 @@
-//! The fields of a call: each key with what stands behind it, what fits there, and how it is written.
+//! The fields of a call: each key with what stands behind it, and how it is written.
 ghost use Rattle.std.specs.Prelude.{Some};
 ghost use Rattle.evl_scenario.specs.Fields.{all_told, told_of};
 
@@ -87,10 +87,12 @@ impl<'a> fmt::Display for Fields<'a> {
     fn fmt<W: fmt::Write>(&self, f: &mut fmt::Formatter<W>) -> fmt::Result {
         match self {
             Fields::Zero => Ok(()),
-            Fields::One(a) => a.fmt(f),
-            Fields::Two(a, b) => write!(f, "{a}{b}"),
-            Fields::Three(a, b, c) => write!(f, "{a}{b}{c}"),
-            Fields::Four(a, b, c, d) => write!(f, "{a}{b}{c}{d}"),
+            Fields::One(first) => first.fmt(f),
+            Fields::Two(first, second) => write!(f, "{first}{second}"),
+            Fields::Three(first, second, third) => write!(f, "{first}{second}{third}"),
+            Fields::Four(first, second, third, fourth) => {
+                write!(f, "{first}{second}{third}{fourth}")
+            }
         }
     }
 }

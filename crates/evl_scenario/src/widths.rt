@@ -92,21 +92,21 @@ fn know_fields(fields: Fields<'_>)
 {
     match fields {
         Fields::Zero => {}
-        Fields::One(a) => know_field(a.field),
-        Fields::Two(a, b) => {
-            know_field(a.field);
-            know_field(b.field)
+        Fields::One(first) => know_field(first.field),
+        Fields::Two(first, second) => {
+            know_field(first.field);
+            know_field(second.field)
         }
-        Fields::Three(a, b, c) => {
-            know_field(a.field);
-            know_field(b.field);
-            know_field(c.field)
+        Fields::Three(first, second, third) => {
+            know_field(first.field);
+            know_field(second.field);
+            know_field(third.field)
         }
-        Fields::Four(a, b, c, d) => {
-            know_field(a.field);
-            know_field(b.field);
-            know_field(c.field);
-            know_field(d.field)
+        Fields::Four(first, second, third, fourth) => {
+            know_field(first.field);
+            know_field(second.field);
+            know_field(third.field);
+            know_field(fourth.field)
         }
     }
 }
