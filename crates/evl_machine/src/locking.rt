@@ -66,7 +66,7 @@ pub(crate) fn lock_raised<C: Handler, A: Allocator>(
 {
     kernel.reserve()?;
     let pass = mutex_steps::try_held(core, &mut actor.seat, &mut actor.places, mutex)?;
-    drop(actor.apply(kernel, Call::Raise { mutex }));
+    let _raised = actor.apply(kernel, Call::Raise { mutex });
     Ok(pass)
 }
 
@@ -155,7 +155,7 @@ pub(crate) fn begin<C: Handler, A: Allocator>(
         Claim::Won => {
             let pass = mutex_steps::settle(core, &mut actor.seat, &mut actor.places, mutex);
             if ceiling {
-                drop(actor.apply(kernel, Call::Raise { mutex }));
+                let _raised = actor.apply(kernel, Call::Raise { mutex });
             }
             Ok(Begun::Locked(pass))
         }
@@ -199,7 +199,7 @@ pub(crate) fn finish<C: Handler, A: Allocator>(
         let Ok(()) = mutex_steps::forget(core, &mut actor.seat, &actor.places, mutex) else {
             unreachable!()
         };
-        drop(end_wait(actor, kernel));
+        let _ended = end_wait(actor, kernel);
         return Ok(Ended::TimedOut);
     }
     let Ok(pass) = mutex_steps::accept(core, &mut actor.seat, &mut actor.places, mutex) else {
