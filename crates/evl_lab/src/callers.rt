@@ -1,6 +1,7 @@
 //! `lab callers`: callers of both stages in a text, one step after another.
 use crate::banks::read_plans;
 use crate::plays::{tell_fault, tell_refused};
+use crate::statuses::AT_FAULT;
 use crate::texts::read_text;
 use evl_base::Refusal;
 use evl_callers::{Ending, Played, play_callers};
@@ -9,9 +10,6 @@ use evl_plans::Planned;
 use std::alloc::AllocError;
 use std::io::{self, Read, Write};
 use std::rt::Files;
-
-// The status of a text that is refused, or isn't played to its end.
-const AT_FAULT: u8 = 2;
 
 // Prints what is told of the steps, and answers whether one is at fault.
 fn tell_played<R: AllocGlobal + Print, E: Write>(

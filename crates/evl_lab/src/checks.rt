@@ -1,5 +1,6 @@
 //! `lab check`: the faults of scenarios, and the warnings of a dry run.
 use crate::banks::read_plans;
+use crate::statuses::AT_FAULT;
 use evl_faults::report;
 use evl_plans::Planned;
 use evl_warnings::warnings;
@@ -7,9 +8,6 @@ use std::alloc::{AllocError, Global};
 use std::fs;
 use std::io::{self, Write};
 use std::rt::Files;
-
-// The status of a file or a bank that is at fault.
-const AT_FAULT: u8 = 2;
 
 // Tells the faults of a text, or its warnings where it has none, and whether it has a fault.
 fn tell_faults(

@@ -1,4 +1,5 @@
 //! `lab draw`: the picture of a trace, of a scenario, which is played, or of what `lab callers` tells.
+use crate::statuses::AT_FAULT;
 use crate::texts::{put, read_text};
 use crate::words::{Drawing, Form};
 use evl_drawing::{
@@ -13,9 +14,6 @@ use evl_traces::{Misread, TraceLine, read_lines};
 use std::alloc::{AllocError, Global};
 use std::io::{self, Read, Write};
 use std::rt::Files;
-
-// The status of a text that can't be drawn.
-const AT_FAULT: u8 = 2;
 
 // What stands between the lines of callers and what is told of their machine's end.
 const CLOSING: &str = "\nclose -> ";

@@ -2,17 +2,15 @@
 ghost use Rattle.std.specs.Prelude.{◌≤◌, length};
 
 use crate::banks::read_plans;
+use crate::plays::{tell_fault, tell_refused};
+use crate::statuses::AT_FAULT;
 use crate::words::Driving;
 use evl_live::{Session, answer_line};
 use evl_plans::Planned;
-use evl_scenario::Fault;
 use std::alloc::{AllocError, Global};
 use std::fs;
 use std::io::{self, Read, Write};
 use std::rt::Files;
-
-// The status of a scenario or a bank that is refused.
-const AT_FAULT: u8 = 2;
 
 // How many bytes are asked for at a time.
 const PART: usize = 65_536;
@@ -146,26 +144,10 @@ fn drive_opened<R: AllocGlobal + Print, I: Read>(
     Ok(0)
 }
 
-// Tells which step can't be read.
-fn tell_step<E: Write>(err: &mut E, number: u32) -> io::Result<u8> {
-    writeln!(err, "lab: bad step {number}")?;
-    Ok(AT_FAULT)
-}
-
 // Tells why no machine is opened.
-fn tell_unopened<E: Write>(err: &mut E, why: &str) -> io::Result<u8> {
-    writeln!(err, "lab: {why}")?;
+fn tell_unopened(told: io::Result<bool>) -> io::Result<u8> {
+    told?;
     Ok(AT_FAULT)
-}
-
-// Tells why a scenario can't come first.
-fn tell_fault<E: Write>(err: &mut E, fault: Fault) -> io::Result<u8> {
-    match fault {
-        Fault::Text => tell_unopened(err, "bad text"),
-        Fault::Board => tell_unopened(err, "bad board"),
-        Fault::Step(number) => tell_step(err, number),
-        Fault::Memory | Fault::Write => Err(AllocError.into()),
-    }
 }
 
 // Opens a machine over these callbacks and drives it.
@@ -185,7 +167,7 @@ fn drive_plans<R: AllocGlobal + Print, I: Read, E: Write>(
             drop(session);
             status
         }
-        Err(fault) => tell_fault(err, fault),
+        Err(fault) => tell_unopened(tell_fault(err, "lab", fault)),
     }
 }
 
@@ -214,7 +196,7 @@ fn drive_file<R: Files + AllocGlobal + Print, I: Read, E: Write>(
 ) -> io::Result<u8> {
     match fs::read(rt, path) {
         Ok(text) => drive_text(rt, driving, text.as_slice(), input, err),
-        Err(_) => tell_unopened(err, "no file"),
+        Err(_) => tell_unopened(tell_refused(err, "lab", "no file")),
     }
 }
 

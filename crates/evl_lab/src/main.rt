@@ -12,6 +12,7 @@ mod lives;
 mod orders;
 mod parts;
 mod plays;
+mod statuses;
 mod texts;
 mod words;
 
@@ -19,18 +20,10 @@ use clap::Error;
 use clap::error::ErrorKind;
 use commands::read_words;
 use parts::do_part;
+use statuses::{FAILED, NO_MEMORY, REFUSED};
 use std::env;
 use std::io::{self, Write};
 use std::process::ExitCode;
-
-// The status of an output that failed.
-const FAILED: u8 = 1;
-
-// The status of words that are refused.
-const REFUSED: u8 = 3;
-
-// The status of a program without memory.
-const NO_MEMORY: u8 = 4;
 
 // Answers words that ask for nothing that is done: they are refused, or ask for help.
 fn turn_away(rt: &HostRuntime, error: &Error) -> io::Result<u8> {

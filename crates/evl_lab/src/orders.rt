@@ -2,6 +2,7 @@
 
 use crate::banks::read_plans;
 use crate::plays::{tell_fault, tell_refused};
+use crate::statuses::{AGAINST, AT_FAULT};
 use crate::texts::read_text;
 use crate::words::Asked;
 use evl_orders::OrdersError;
@@ -13,12 +14,6 @@ use evl_scenario_orders::{
 use std::alloc::{AllocError, Global};
 use std::io::{self, Read, Write};
 use std::rt::Files;
-
-// The status where an outcome is against what is asked.
-const AGAINST: u8 = 1;
-
-// The status of a text that is refused, or isn't gone through.
-const AT_FAULT: u8 = 2;
 
 // Callbacks that are copied for each kernel.
 #[derive(Drop)]

@@ -3,6 +3,7 @@ ghost use Rattle.std.specs.Prelude.{◌≤◌, length};
 
 use crate::banks::read_plans;
 use crate::compares::compare;
+use crate::statuses::AT_FAULT;
 use crate::texts::read_text;
 use crate::words::{Playing, Telling};
 use evl_plans::{Planned, trace_plans};
@@ -12,9 +13,6 @@ use evl_traces::{Misread, TraceLine, read_lines};
 use std::alloc::AllocError;
 use std::io::{self, Read, Write};
 use std::rt::Files;
-
-// The status of a scenario that is refused, or whose trace differs.
-const AT_FAULT: u8 = 2;
 
 // Tells the end of a play that is no fault.
 fn tell_done<E: Write>(err: &mut E, name: &str) -> io::Result<bool> {
