@@ -5,6 +5,7 @@
 mod actions;
 mod banks;
 mod callbacks;
+mod copies;
 mod faults;
 mod kernels;
 mod made;
@@ -14,8 +15,9 @@ mod tables;
 mod traces;
 
 pub use banks::read_bank;
+pub use copies::copied_bank;
 pub use faults::{BankFault, Part};
 pub use kernels::PlannedKernel;
 pub use made::kind_of;
-pub use planned::{Planned, copied_bank};
+pub use planned::Planned;
 pub use traces::trace_plans;

@@ -1,13 +1,11 @@
 //! Callbacks as their plans: what one answers is computed from its plan.
-ghost use Rattle.std.specs.Prelude.{◌≡◌, ◌≤◌, length, map, All, IfOk};
+ghost use Rattle.std.specs.Prelude.{◌≡◌, ◌≤◌, length, All};
 ghost use Rattle.evl_pipeline.specs.Plans as plans;
 ghost use Rattle.evl_pipeline.specs.Plans.{IsSound, answer_of};
-ghost use Rattle.evl_plans.specs.Told.{told};
 
 use arrayvec::ArrayVec;
 use evl_base::ActionKinds;
 use evl_pipeline::{Action, Answer, Fire, Handler, Plan};
-use std::alloc::{AllocError, Global};
 use std::snapshot::Snapshot;
 
 /// A callback that keeps its plan, and the kinds of action that it declares.
@@ -83,15 +81,4 @@ impl Handler for Planned {
     fn told(&self) -> &Snapshot<Plan> {
         &self.shown
     }
-}
-
-/// The same callbacks once more. `AllocError` where memory couldn't grow.
-pub fn copied_bank(alloc: Global, bank: &[Planned]) -> Result<Vec<Planned>, AllocError>
-    ensures { IfOk result (λ copied. map told copied.items ≡ map told bank.now) }
-{
-    let mut copied = Vec::new(alloc);
-    for planned in bank {
-        copied.push(planned.copied())?;
-    }
-    Ok(copied)
 }
