@@ -1,17 +1,19 @@
-//! Lists into which an element tells whom it served.
+//! Lists into which an element tells whom it served, and what was read of it.
 ghost use Rattle.std.specs.Prelude.{◌≡◌, IfErr};
 ghost use Rattle.evl_base.specs.declared.refusal.Refusal.{Refusal};
 
 use arrayvec::ArrayVec;
-use evl_base::{MAX_THREADS, Refusal};
+use evl_base::{Bytes, MAX_THREADS, Refusal};
 use std::alloc::Global;
 
-/// The lists into which an element tells whom it served: a flag group and a cross-buffer. They are kept between calls,
-/// as each takes 2 KiB to make; whoever uses one empties it first, of those whom the call before served.
+/// The lists into which an element tells whom it served, a flag group and a cross-buffer, and what was read of a
+/// cross-buffer. They are kept between calls, as each takes time to make; whoever uses one empties it first of what
+/// the call before told.
 #[derive(Drop)]
 pub(crate) struct ServedLists {
     pub(crate) of_flags: Box<ArrayVec<evl_sync::Served, MAX_THREADS>>,
     pub(crate) of_xbufs: Box<evl_xbuf::Served>,
+    pub(crate) read: Box<Bytes>,
 }
 
 impl ServedLists {
@@ -21,6 +23,11 @@ impl ServedLists {
     {
         let of_flags = Box::new(boxes, ArrayVec::new()).map_err(|_| Refusal::NoMemory)?;
         let of_xbufs = Box::new(boxes, evl_xbuf::Served::new()).map_err(|_| Refusal::NoMemory)?;
-        Ok(ServedLists { of_flags, of_xbufs })
+        let read = Box::new(boxes, ArrayVec::new()).map_err(|_| Refusal::NoMemory)?;
+        Ok(ServedLists {
+            of_flags,
+            of_xbufs,
+            read,
+        })
     }
 }

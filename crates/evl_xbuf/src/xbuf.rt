@@ -13,6 +13,7 @@ mod telling;
 
 use crate::served::Served;
 use crate::stream::Stream;
+use arrayvec::ArrayVec;
 use evl_base::{Bytes, Refusal, Stage, ThreadId, Way};
 use std::alloc::{AllocError, Allocator};
 use std::marker::Model;
@@ -85,9 +86,10 @@ impl<A: Allocator> XbufOf<A> {
         ensures step { stepped (λ told. (told.0.items, told.1)) result self.new ≡ try_read stage way len self.old }
         ensures refused { IfErr result (λ e. self.new ≡ self.old) }
     {
+        let mut got = ArrayVec::new();
         let mut told = Served::new();
-        match self.try_read_telling(stage, way, len, &mut told) {
-            Ok(bytes) => Ok((bytes, told)),
+        match self.try_read_telling(stage, way, len, &mut got, &mut told) {
+            Ok(()) => Ok((got, told)),
             Err(refusal) => Err(refusal),
         }
     }

@@ -35,28 +35,30 @@ impl<A: Allocator> Elements<A> {
         self.xbufs[place].try_write_telling(stage, way, bytes, told)
     }
 
-    /// Reads so many bytes from a stage, or as many as are there, and tells whom that served, into a list where nobody
-    /// stands yet. The first that applies: `Unknown` (no such cross-buffer), `Range` (more than one transfer carries),
-    /// `WrongStage` (the other stage reads this way), `Again` (nothing is there).
+    /// Reads so many bytes from a stage, or as many as are there, in the place of those that `got` had, and tells whom
+    /// that served, into a list where nobody stands yet. The first that applies: `Unknown` (no such cross-buffer),
+    /// `Range` (more than one transfer carries), `WrongStage` (the other stage reads this way), `Again` (nothing is
+    /// there).
     pub(crate) fn read(
         &mut self,
         stage: Stage,
         xbuf: XbufId,
         way: Way,
         len: u16,
+        got: &mut Bytes,
         told: &mut Served,
-    ) -> Result<Bytes, Refusal>
+    ) -> Result<(), Refusal>
         requires nobody { told.old ≡ [] }
-        ensures step { IfOk result (λ got. element self.old.elements (on_xbuf xbuf.0 (through.read stage way len)) ≡ Ok (bytes_told got.items, self.new.elements)) }
+        ensures step { IfOk result (λ _. element self.old.elements (on_xbuf xbuf.0 (through.read stage way len)) ≡ Ok (bytes_told got.new.items, self.new.elements)) }
         ensures owners { owners_of self.new ≡ owners_of self.old }
-        ensures served { IfOk result (λ got. wakes self.old.elements (on_xbuf xbuf.0 (through.read stage way len)) ≡ map service_told told.new) }
+        ensures served { IfOk result (λ _. wakes self.old.elements (on_xbuf xbuf.0 (through.read stage way len)) ≡ map service_told told.new) }
         ensures refused { IfErr result (λ e. (element self.old.elements (on_xbuf xbuf.0 (through.read stage way len)) ≡ Err e) × (self.new ≡ self.old)) }
     {
         let place = usize::from(xbuf.0);
         if place >= self.xbufs.len() {
             return Err(Refusal::Unknown);
         }
-        self.xbufs[place].try_read_telling(stage, way, len, told)
+        self.xbufs[place].try_read_telling(stage, way, len, got, told)
     }
 
     /// How many bytes are free. `Unknown` where there is no such cross-buffer.

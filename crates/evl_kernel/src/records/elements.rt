@@ -15,6 +15,7 @@ ghost use Rattle.evl_kernel.specs.Waits.{all_woken};
 ghost use Rattle.evl_kernel.specs.declared.waits.Awaited.{Awaited as AwaitedOne};
 
 use super::Records;
+use crate::served_lists::ServedLists;
 use crate::wait_place::Outcome;
 use arrayvec::ArrayVec;
 use evl_base::{FlagId, MAX_THREADS, Refusal, Reply, SemId, Spares, Take, ThreadId, Way, XbufId};
@@ -53,14 +54,6 @@ impl<C, A: Allocator> Records<C, A> {
         }
     }
 
-    /// Tells a count, or minus the number of waiters. `Unknown` where there is no such semaphore.
-    pub(super) fn peek(&self, sem: SemId) -> Result<Reply, Refusal>
-        ensures answer { IsAnswer result }
-        ensures served { Has (state_of self.now) (stepping (state_of self.now) (on_sem sem.0 semaphore.peek)) result (state_of self.now) }
-    {
-        self.elements.peek(sem)
-    }
-
     /// Takes bits, and tells which. The first that applies: `Unknown` (no such flag group), `Invalid` (a mask without
     /// bits), `Again` (there is nothing to take).
     pub(super) fn try_take(&mut self, flags: FlagId, kind: Take) -> Result<Reply, Refusal>
@@ -94,17 +87,6 @@ impl<C, A: Allocator> Records<C, A> {
                 self.wake_all(told.as_slice());
                 Ok(Reply::Done)
             }
-        }
-    }
-
-    /// Tells the bits of a flag group. `Unknown` where there is no such flag group.
-    pub(super) fn peek_flags(&self, flags: FlagId) -> Result<Reply, Refusal>
-        ensures answer { IsAnswer result }
-        ensures served { Has (state_of self.now) (stepping (state_of self.now) (on_flags flags.0 group.peek)) result (state_of self.now) }
-    {
-        match self.elements.bits(flags) {
-            Err(refusal) => Err(refusal),
-            Ok(bits) => Ok(Reply::Bits(bits)),
         }
     }
 
@@ -142,7 +124,7 @@ impl<C, A: Allocator> Records<C, A> {
         way: Way,
         len: u16,
         spares: &mut Spares<A>,
-        told: &mut xbuf::Served,
+        lists: &mut ServedLists,
     ) -> Result<Reply, Refusal>
         requires boxes { 1 ≤ spares.old }
         ensures boxes { spares.old ≤ spares.new + 1 }
@@ -151,24 +133,15 @@ impl<C, A: Allocator> Records<C, A> {
         ensures stands { KeepsCallbacks self.old self.new }
     {
         let stage = self.sched.stage(thread);
+        let got = &mut *lists.read;
+        let told = &mut *lists.of_xbufs;
         told.clear();
-        match self.elements.read(stage, xbuf, way, len, told) {
+        match self.elements.read(stage, xbuf, way, len, got, told) {
             Err(refusal) => Err(refusal),
-            Ok(bytes) => {
+            Ok(()) => {
                 self.wake_served(told);
-                Ok(Reply::Bytes(spares.take(bytes.as_slice())))
+                Ok(Reply::Bytes(spares.take(got.as_slice())))
             }
-        }
-    }
-
-    /// Tells how many bytes are free. `Unknown` where there is no such cross-buffer.
-    pub(super) fn room(&self, xbuf: XbufId, way: Way) -> Result<Reply, Refusal>
-        ensures answer { IsAnswer result }
-        ensures served { Has (state_of self.now) (stepping (state_of self.now) (on_xbuf xbuf.0 (through.room way))) result (state_of self.now) }
-    {
-        match self.elements.room(xbuf, way) {
-            Err(refusal) => Err(refusal),
-            Ok(free) => Ok(Reply::Number(u64::from(free))),
         }
     }
 

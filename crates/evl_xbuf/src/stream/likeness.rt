@@ -3,6 +3,7 @@ ghost use Rattle.std.specs.Prelude.{◌≡◌, ◌≤◌, true, length};
 
 use super::{Stream, first_of};
 use crate::waiters::{Reader, Writer};
+use arrayvec::ArrayVec;
 use circular_buffer::HeapCircularBuffer;
 use evl_base::Bytes;
 use evl_sync::{Alike, are_alike};
@@ -44,7 +45,9 @@ fn all_of<A: Allocator>(ring: &HeapCircularBuffer<u8, A>) -> Bytes
     ensures all { result.items ≡ ring.now.items }
 {
     let (front, back) = ring.as_slices();
-    first_of(front, back, ring.len())
+    let mut bytes = ArrayVec::new();
+    first_of(front, back, ring.len(), &mut bytes);
+    bytes
 }
 
 fn are_bytes_alike(ours: &[u8], theirs: &[u8]) -> bool

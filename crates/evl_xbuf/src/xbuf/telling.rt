@@ -37,18 +37,20 @@ impl<A: Allocator> XbufOf<A> {
         }
     }
 
-    /// Reads as `try_read` does, and tells whom that served into a list where nobody stands yet. (Xenomai 4: EVL
-    /// cross-buffer; this profile)
+    /// Reads as `try_read` does, in the place of the bytes that `got` had, and tells whom that served into a list where
+    /// nobody stands yet. (Xenomai 4: EVL cross-buffer; this profile)
     pub fn try_read_telling(
         &mut self,
         stage: Stage,
         way: Way,
         len: u16,
+        got: &mut Bytes,
         told: &mut Served,
-    ) -> Result<Bytes, Refusal>
+    ) -> Result<(), Refusal>
         requires nobody { told.old ≡ [] }
-        ensures step { stepped (λ bytes. (bytes.items, told.new)) result self.new ≡ try_read stage way len self.old }
+        ensures step { stepped (λ _. (got.new.items, told.new)) result self.new ≡ try_read stage way len self.old }
         ensures refused { IfErr result (λ e. self.new ≡ self.old) }
+        ensures kept { IfErr result (λ e. got.new ≡ got.old) }
     {
         if len > MAX_TRANSFER {
             return Err(Refusal::Range);
@@ -57,8 +59,8 @@ impl<A: Allocator> XbufOf<A> {
             return Err(Refusal::WrongStage);
         }
         match way {
-            Way::In => self.inbound.try_read(len, told),
-            Way::Out => self.outbound.try_read(len, told),
+            Way::In => self.inbound.try_read(len, got, told),
+            Way::Out => self.outbound.try_read(len, got, told),
         }
     }
 
