@@ -215,8 +215,8 @@ static void try_refusals(void) {
   require(evl_apply(&kernel, 0, NULL, NULL, 0, NULL, 0, &answer) == EVL_NULL, "null call");
   require(evl_apply(&kernel, 0, &call, NULL, 1, NULL, 0, &answer) == EVL_NULL, "null bytes");
   require(evl_apply(&kernel, 0, &call, NULL, 0, NULL, 1, &answer) == EVL_NULL, "null buffer");
-  call.kind = 36;
-  require(evl_apply(&kernel, 0, &call, NULL, 0, NULL, 0, &answer) == EVL_BAD_NUMBER && answer.kind == 3, "kind 36");
+  call.kind = EVL_CALL_FINISH + 1;
+  require(evl_apply(&kernel, 0, &call, NULL, 0, NULL, 0, &answer) == EVL_BAD_NUMBER && answer.kind == 3, "a kind behind the last");
   call = evl_call_stall(9);
   require(evl_apply(&kernel, 0, &call, NULL, 0, NULL, 0, &answer) == EVL_BAD_NUMBER, "stage 9");
   require(evl_do(&kernel, 0, evl_call_now()).kind == EVL_NUMBER && evl_do(&kernel, 1, evl_call_now()).kind == EVL_NUMBER, "two calls");
@@ -224,6 +224,10 @@ static void try_refusals(void) {
   require(evl_event_at(&kernel, 0, &event) == EVL_BAD_NUMBER, "no play");
   require(evl_trace(&kernel, 6, out, 7, &length) == EVL_DONE && memcmp(out, "threads", 7) == 0 && out[7] == 7, "a part");
   require(evl_trace(&kernel, SIZE_MAX, NULL, 0, &length) == EVL_DONE && length > 80, "no room");
+  require(evl_call_text(EVL_CALL_CLAIM, 6, out, 5, &length) == EVL_DONE && memcmp(out, "mutexds\7", 8) == 0 && length == 23, "a word");
+  require(evl_call_text(EVL_CALL_FINISH + 1, 0, out, 8, &length) == EVL_BAD_NUMBER && length == 23, "a word behind the last");
+  require(evl_call_text(EVL_CALL_NOW, 0, NULL, 8, &length) == EVL_NULL, "a word and a null buffer");
+  require(evl_call_text(EVL_CALL_NOW, 0, NULL, 0, &length) == EVL_DONE && length == 3, "a word without keys");
   board.threads = 0;
   require(evl_open(&kernel, &board, NULL, 0, 9) == EVL_BAD_BOARD && !kernel.is_open, "no threads");
   evl_close(&kernel);

@@ -87,6 +87,11 @@ def test_refusals():
         raise AssertionError(board)
 
 
+def test_words():
+    assert list(evl.WORDS)[:6] == ["request", "free", "arrive", "post", "stall", "unstall"]
+    assert evl.WORDS["claim"] == (32, ["mutex", "owner", "until"]) and evl.WORDS["now"] == (7, [])
+
+
 def test_all_values():
     kernel = evl.Kernel(threads=2, xbufs=[(16, 16)], limit=9)
     assert kernel.attach(0, policy="fifo 1", stage="oob").text == "done"

@@ -152,6 +152,7 @@ uint32_t evl_c_event(evl_kernel *kernel, size_t index, evl_event *event);
 uint32_t evl_c_ask(evl_kernel *kernel, const evl_question *question, evl_reading *reading);
 uint32_t evl_c_trace(evl_kernel *kernel, size_t start, uint8_t *out, size_t out_length, size_t *length);
 uint32_t evl_c_scenario(evl_kernel *kernel, size_t start, uint8_t *out, size_t out_length, size_t *length);
+uint32_t evl_c_call_text(uint8_t kind, size_t start, uint8_t *out, size_t out_length, size_t *length);
 
 /* The callbacks of the program (docs/SCENARIOS.md, "The bank"). */
 #define EVL_PROGRAM_BANK 8u
@@ -281,6 +282,18 @@ static inline uint32_t evl_scenario(evl_kernel *kernel, size_t start, uint8_t *o
   uint8_t none = 0;
   if (kernel == NULL || length == NULL || (out == NULL && out_length != 0)) return EVL_NULL;
   return evl_c_scenario(kernel, start, out == NULL ? &none : out, out_length, length);
+}
+
+/*
+ * Writes the word of the calls of a kind (enum evl_call_kind), and behind it the keys that a step with this word has, with
+ * blanks between ("claim mutex owner until"), as evl_trace writes a trace.
+ *
+ * EVL_BAD_NUMBER: no call has this kind; EVL_NULL. But for EVL_DONE out and *length are as before.
+ */
+static inline uint32_t evl_call_text(uint8_t kind, size_t start, uint8_t *out, size_t out_length, size_t *length) {
+  uint8_t none = 0;
+  if (length == NULL || (out == NULL && out_length != 0)) return EVL_NULL;
+  return evl_c_call_text(kind, start, out == NULL ? &none : out, out_length, length);
 }
 
 /*

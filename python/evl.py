@@ -83,13 +83,26 @@ def _load():
     library.evl_c_event.argtypes = [pointer, size, pointer]
     library.evl_c_ask.argtypes = [pointer, pointer, pointer]
     library.evl_c_trace.argtypes = library.evl_c_scenario.argtypes = [pointer, size, pointer, size, pointer]
+    library.evl_c_call_text.argtypes = [ctypes.c_uint8, size, pointer, size, pointer]
     library.evl_c_close.restype = None
-    for name in ("play", "play_over", "open", "apply", "event", "ask", "trace", "scenario"):
+    for name in ("play", "play_over", "open", "apply", "event", "ask", "trace", "scenario", "call_text"):
         getattr(library, f"evl_c_{name}").restype = ctypes.c_uint32
     return library
 
 
 _LIBRARY = _load()
+
+
+def _words():
+    """The words of the calls, each with its kind and its keys."""
+    words, text, length = {}, ctypes.create_string_buffer(256), ctypes.c_size_t()
+    while len(words) < 256 and not _LIBRARY.evl_c_call_text(len(words), 0, text, 256, ctypes.byref(length)):
+        word, *keys = text.raw[: length.value].decode().split()
+        words[word] = (len(words), keys)
+    return words
+
+
+WORDS = _words()
 
 
 def _refuse(answer, step):
@@ -181,15 +194,6 @@ POLICIES = {"fifo": (0, "prio"), "rr": (1, "prio span"), "quota": (2, "other pri
 TAKES = {"any": (0, ""), "of": (1, "bits"), "exact": (2, "bits")}
 FIELDS = {"tag": "bits", "bits": "bits", "callback": "callback", "delta": "date", "date": "date", "interval": "span", "owner": "other", "len": "other"}
 OPTIONAL = {"tag", "until", "keep"}
-
-# The words of the calls, each with its keys, by their kinds.
-WORDS = """request line stage callback tag; free line stage; arrive line; post stage line; stall stage; unstall stage; tick delta;
-now; new_timer callback tag; start_timer timer date interval; stop_timer timer; drop_timer timer; overruns timer;
-attach policy stage; detach; set_policy policy; set_stage stage; pick; rank_of thread; try_get sem; put sem; peek sem;
-begin_get sem until; try_take flags kind; post_flags flags bits; peek_flags flags; begin_take flags kind until;
-write xbuf way bytes; read xbuf way len; room xbuf way; begin_write xbuf way bytes until; begin_read xbuf way len until;
-claim mutex owner until; release mutex; raise mutex; finish keep"""
-WORDS = {word: (kind, keys) for kind, (word, *keys) in enumerate(it.split() for it in WORDS.split(";"))}
 
 
 def _put(form, name, value):

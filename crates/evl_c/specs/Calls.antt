@@ -1,7 +1,8 @@
--- Which calls C's forms are.
-use Rattle.std.specs.Prelude.{ℕ, Bool, nat_le, nat_eq, not, ◌&&◌, ◌||◌, List, length, Option, Some, None, if◌then◌else◌}
+-- Which calls C's forms are: the kind of a form is the place of a word among evl_scenario's words, and each kind of value behind
+-- a key of the word has its place in the form.
+use Rattle.std.specs.Prelude.{ℕ, Bool, true, false, nat_le, nat_lt, nat_eq, not, ◌&&◌, ◌||◌, List, [], ◌∷◌, length, slice_get, Option, Some, None, if◌then◌else◌}
+use Rattle.std.specs.Option.{unwrap_or}
 use Rattle.evl_base.specs.declared.call.Call.{Call}
-use Rattle.evl_base.specs.declared.call.Call.TheVariants.{Request, Free, Arrive, Post, Stall, Unstall, Tick, Now, NewTimer, StartTimer, StopTimer, DropTimer, Overruns, Attach, Detach, SetPolicy, SetStage, Pick, RankOf, TryGet, Put, Peek, BeginGet, TryTake, PostFlags, PeekFlags, BeginTake, Write, Read, Room, BeginWrite, BeginRead, Claim, Release, Raise, Finish}
 use Rattle.evl_base.specs.declared.policy.Policy.{Policy}
 use Rattle.evl_base.specs.declared.policy.Policy.TheVariants.{Fifo, Rr, Quota, Weak}
 use Rattle.evl_base.specs.declared.stage.Stage.{Stage}
@@ -10,11 +11,16 @@ use Rattle.evl_base.specs.declared.take.Take.{Take}
 use Rattle.evl_base.specs.declared.take.Take.TheVariants.{Any, Of, Exact}
 use Rattle.evl_base.specs.declared.way.Way.{Way}
 use Rattle.evl_base.specs.declared.way.Way.TheVariants.{In, Out}
+use Rattle.evl_scenario.specs.Calls.{words, fields_of, call_with}
+use Rattle.evl_scenario.specs.Fields as kind
+use Rattle.evl_scenario.specs.Fields.{Kind, Value, Key, Values}
+use Rattle.evl_scenario.specs.declared.calls.StepWord.{StepWord}
+use Rattle.evl_scenario.specs.declared.calls.StepWord.TheVariants.{Finish}
 use Rattle.evl_c.specs.declared.calls.CallForm.{CallForm}
 
 -- whether each number is in its range, and one transfer carries the bytes
 abbrev pub is_call : CallForm → List ℕ → Bool
-is_call form bytes = nat_le form.kind 35 && (nat_le form.stage 1 && (nat_le form.way 1 && (nat_le form.choice 3
+is_call form bytes = nat_lt form.kind (length words) && (nat_le form.stage 1 && (nat_le form.way 1 && (nat_le form.choice 3
     && (nat_le form.timed 1 && nat_le (length bytes) 256))))
 
 abbrev pub stage_of : CallForm → Stage
@@ -37,84 +43,49 @@ policy_of form =
     if nat_eq form.choice 2 then Quota form.other form.prio else
     Weak form.prio
 
--- 0 to 5: lines and stages
-abbrev pub line_call : CallForm → Call
-line_call form =
-    if nat_eq form.kind 0 then Request (record { 0 = form.element }) (stage_of form) form.callback form.bits else
-    if nat_eq form.kind 1 then Free (record { 0 = form.element }) (stage_of form) else
-    if nat_eq form.kind 2 then Arrive (record { 0 = form.element }) else
-    if nat_eq form.kind 3 then Post (stage_of form) (record { 0 = form.element }) else
-    if nat_eq form.kind 4 then Stall (stage_of form) else
-    Unstall (stage_of form)
+-- whether a kind is that of bytes
+abbrev pub is_bytes : Kind → Bool
+is_bytes kind.bytes = true
+is_bytes other = false
 
--- 6 to 12: the clock and its timers
-abbrev pub clock_call : CallForm → Call
-clock_call form =
-    if nat_eq form.kind 6 then Tick form.date else
-    if nat_eq form.kind 7 then Now else
-    if nat_eq form.kind 8 then NewTimer form.callback form.bits else
-    if nat_eq form.kind 9 then StartTimer (record { 0 = form.element }) form.date form.span else
-    if nat_eq form.kind 10 then StopTimer (record { 0 = form.element }) else
-    if nat_eq form.kind 11 then DropTimer (record { 0 = form.element }) else
-    Overruns (record { 0 = form.element })
+-- the value of a kind in a form that these bytes go with
+abbrev pub value_in : (which : Kind) → CallForm → List ℕ → Value which
+value_in kind.byte form bytes = form.callback
+value_in kind.half form bytes = form.element
+value_in kind.word form bytes = form.bits
+value_in kind.number form bytes = form.date
+value_in kind.stage form bytes = stage_of form
+value_in kind.policy form bytes = policy_of form
+value_in kind.take form bytes = take_of form
+value_in kind.way form bytes = way_of form
+value_in kind.bytes form bytes = record { items = bytes }
+value_in kind.until form bytes = until_of form
+value_in kind.truth form bytes = not (nat_eq form.choice 0)
 
--- 13 to 18: threads
-abbrev pub thread_call : CallForm → Call
-thread_call form =
-    if nat_eq form.kind 13 then Attach (policy_of form) (stage_of form) else
-    if nat_eq form.kind 14 then Detach else
-    if nat_eq form.kind 15 then SetPolicy (policy_of form) else
-    if nat_eq form.kind 16 then SetStage (stage_of form) else
-    if nat_eq form.kind 17 then Pick else
-    RankOf (record { 0 = form.element })
+-- the form for the keys behind one of this kind: the second number of 16 bits is `other`, and of 64 bits `span`
+abbrev pub behind : Kind → CallForm → CallForm
+behind kind.half form = record form { element = form.other }
+behind kind.number form = record form { date = form.span }
+behind kind.until form = record form { date = form.span }
+behind other form = form
 
--- 19 to 22: semaphores
-abbrev pub sem_call : CallForm → Call
-sem_call form =
-    if nat_eq form.kind 19 then TryGet (record { 0 = form.element }) else
-    if nat_eq form.kind 20 then Put (record { 0 = form.element }) else
-    if nat_eq form.kind 21 then Peek (record { 0 = form.element }) else
-    BeginGet (record { 0 = form.element }) (until_of form)
+-- the values of a form at these keys
+abbrev pub values_in : (keys : List Key) → CallForm → List ℕ → Values keys
+values_in [] form bytes = tt
+values_in (key ∷ keys) form bytes = (value_in key.kind form bytes, values_in keys (behind key.kind form) bytes)
 
--- 23 to 26: flag groups
-abbrev pub flag_call : CallForm → Call
-flag_call form =
-    if nat_eq form.kind 23 then TryTake (record { 0 = form.element }) (take_of form) else
-    if nat_eq form.kind 24 then PostFlags (record { 0 = form.element }) form.bits else
-    if nat_eq form.kind 25 then PeekFlags (record { 0 = form.element }) else
-    BeginTake (record { 0 = form.element }) (take_of form) (until_of form)
+-- the call of a word that a form stands for; one word by itself, so that this is opened only where the word is known
+abbrev pub filled : StepWord → CallForm → List ℕ → Call
+filled Finish form bytes = call_with Finish (values_in (fields_of Finish) form bytes)
+filled word form bytes = call_with word (values_in (fields_of word) form bytes)
 
--- 28, 29 and 31: cross-buffers, without bytes
-abbrev pub xbuf_call : CallForm → Call
-xbuf_call form =
-    if nat_eq form.kind 28 then Read (record { 0 = form.element }) (way_of form) form.other else
-    if nat_eq form.kind 29 then Room (record { 0 = form.element }) (way_of form) else
-    BeginRead (record { 0 = form.element }) (way_of form) form.other (until_of form)
+-- the word of a form, whose place among all is the form's kind; `finish` where there is none
+abbrev pub word_of : CallForm → StepWord
+word_of form = unwrap_or (slice_get words form.kind) Finish
 
--- 32 to 35: mutexes, and the end of a wait
-abbrev pub mutex_call : CallForm → Call
-mutex_call form =
-    if nat_eq form.kind 32 then Claim (record { 0 = form.element }) (record { 0 = form.other }) (until_of form) else
-    if nat_eq form.kind 33 then Release (record { 0 = form.element }) else
-    if nat_eq form.kind 34 then Raise (record { 0 = form.element }) else
-    Finish (not (nat_eq form.choice 0))
-
-abbrev pub plain_call : CallForm → Call
-plain_call form =
-    if nat_le form.kind 5 then line_call form else
-    if nat_le form.kind 12 then clock_call form else
-    if nat_le form.kind 18 then thread_call form else
-    if nat_le form.kind 22 then sem_call form else
-    if nat_le form.kind 26 then flag_call form else
-    if nat_le form.kind 31 then xbuf_call form else
-    mutex_call form
-
--- the call that a form stands for: in the order of evl_base's calls, 27 and 30 with the bytes
+-- the call that a form stands for
 abbrev pub call_of : CallForm → List ℕ → Call
-call_of form bytes =
-    if nat_eq form.kind 27 then Write (record { 0 = form.element }) (way_of form) (record { items = bytes }) else
-    if nat_eq form.kind 30 then BeginWrite (record { 0 = form.element }) (way_of form) (record { items = bytes }) (until_of form) else
-    plain_call form
+call_of form bytes = filled (word_of form) form bytes
 
 -- kinds of calls on semaphores, flag groups and mutexes that have an element and nothing else: a `begin_get` where it has no
 -- deadline

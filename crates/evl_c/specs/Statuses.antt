@@ -1,6 +1,9 @@
 -- The statuses with which exports for kernels end, and the calls that take memory.
-use Rattle.std.specs.Prelude.{ℕ, Bool, nat_eq, ◌||◌, ◌==◌, List, [], ◌∷◌}
+use Rattle.std.specs.Prelude.{ℕ, Bool, ◌==◌, List, [], ◌∷◌}
 use Rattle.std.specs.List.{list_any}
+use Rattle.evl_scenario.specs.Calls.{fields_of}
+use Rattle.evl_scenario.specs.declared.calls.StepWord.{StepWord}
+use Rattle.evl_c.specs.Calls.{is_bytes, word_of}
 use Rattle.evl_c.specs.declared.calls.CallForm.{CallForm}
 
 -- a status is one of these
@@ -27,6 +30,14 @@ of_trace = 0 ∷ 4 ∷ 6 ∷ []
 abbrev pub of_scenario : List ℕ
 of_scenario = 0 ∷ 2 ∷ 4 ∷ 6 ∷ 8 ∷ []
 
--- a call brings bytes of its own, for which memory is asked: `write` and `begin_write`
+-- of `evl_c_call_text`: done, bad number
+abbrev pub of_call_text : List ℕ
+of_call_text = 0 ∷ 7 ∷ []
+
+-- calls of this word bring bytes of their own, for which memory is asked: there is a key for them
+abbrev pub word_brings_bytes : StepWord → Bool
+word_brings_bytes word = list_any (λ key. is_bytes key.kind) (fields_of word)
+
+-- the call of this form does
 abbrev pub brings_bytes : CallForm → Bool
-brings_bytes form = nat_eq form.kind 27 || nat_eq form.kind 30
+brings_bytes form = word_brings_bytes (word_of form)

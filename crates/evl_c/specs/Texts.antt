@@ -1,7 +1,10 @@
 -- What C is told of a text.
-use Rattle.std.specs.Prelude.{◌≡◌, ℕ, List, length, None, Ok}
+use Rattle.std.specs.Prelude.{◌≡◌, ℕ, List, ◌∷◌, length, map, None, Ok, codes}
+use Rattle.std.specs.List.{join_by}
+use Rattle.evl_scenario.specs.Calls.{name_of, fields_of}
 use Rattle.evl_scenario.specs.Scenarios.{Script, scenario_of}
 use Rattle.evl_scenario.specs.Writings.{IsUnwritten}
+use Rattle.evl_scenario.specs.declared.calls.StepWord.{StepWord}
 use Rattle.evl_scenario.specs.declared.writing.Unwritten.{Unwritten}
 use Rattle.evl_scenario.specs.declared.writing.Unwritten.TheVariants.{Board, Limit, TooLong, Memory}
 use Rattle.evl_c.specs.Windows.{window}
@@ -15,6 +18,10 @@ pub record TellsScenario (script : Script) (start : ℕ) (old new : List ℕ) (t
   pub text : List ℕ
   pub reads : scenario_of None text ≡ Ok script
   pub tells : TellsText text start old new told
+
+-- the text of a word: its name and its keys, with blanks between
+abbrev pub text_of : StepWord → List ℕ
+text_of word = join_by (λ text. text) (codes " ") (name_of word ∷ map (λ key. key.name) (fields_of word))
 
 -- the status that tells why a scenario can't be written
 abbrev pub status_of : Unwritten → ℕ

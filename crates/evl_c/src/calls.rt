@@ -1,5 +1,5 @@
 //! Calls as C gives them.
-ghost use Rattle.std.specs.Prelude.{◌≡◌, ◌≤◌, length, true, Err, IfErr, IfOk};
+ghost use Rattle.std.specs.Prelude.{◌≡◌, ◌≤◌, length, nat_eq, true, if◌then◌else◌, None, Some, Err, IfErr, IfOk};
 ghost use Rattle.evl_base.specs.declared.refusal.Refusal.{Refusal};
 ghost use Rattle.evl_c.specs.Calls as calls;
 ghost use Rattle.evl_c.specs.Statuses as statuses;
@@ -8,13 +8,14 @@ use evl_base::{
     Call, FlagId, LineNo, MutexId, Policy, Refusal, SemId, Stage, Take, ThreadId, TimerId,
     Transfer, Way, XbufId,
 };
+use evl_scenario::{STEP_WORDS, StepWord, each_call, numbered_word};
 use std::alloc::Global;
 
 /// A call (include/evl.h: `evl_call`). Numbers that its kind doesn't use aren't looked at, but are in their ranges.
 #[repr(C)]
 #[derive(Clone, Copy)]
 pub struct CallForm {
-    /// Which call: 0 to 35.
+    /// Which call: the place of its word among all, from 0.
     pub kind: u8,
     /// The stage: 0 or 1.
     pub stage: u8,
@@ -40,6 +41,52 @@ pub struct CallForm {
     pub span: u64,
 }
 
+/// The value of a kind in a form that these bytes go with.
+macro_rules! value {
+    ($form:ident $alloc:ident $bytes:ident Byte) => { $form.callback };
+    ($form:ident $alloc:ident $bytes:ident Word) => { $form.bits };
+    ($form:ident $alloc:ident $bytes:ident Stage) => { stage_of($form) };
+    ($form:ident $alloc:ident $bytes:ident Policy) => { policy_of($form) };
+    ($form:ident $alloc:ident $bytes:ident Take) => { take_of($form) };
+    ($form:ident $alloc:ident $bytes:ident Way) => { way_of($form) };
+    ($form:ident $alloc:ident $bytes:ident Bytes) => { transfer($alloc, $bytes)? };
+    ($form:ident $alloc:ident $bytes:ident Truth) => { $form.choice != 0 };
+}
+
+/// A call, key by key, of the values in a form: of the places for numbers of 16 and of 64 bits each key takes the next.
+macro_rules! filled {
+    ($word:ident $from:tt $halves:tt $numbers:tt [] $($done:tt)*) => { Ok(Call::$word { $($done)* }) };
+    ($word:ident ($form:ident $($from:ident)*) [$half:ident $($halves:ident)*] $numbers:tt
+        [{ $key:ident Half $($id:ident)? } $($keys:tt)*] $($done:tt)*) => {
+        filled!($word ($form $($from)*) [$($halves)*] $numbers [$($keys)*] $($done)* $key: $($id)?($form.$half),)
+    };
+    ($word:ident ($form:ident $($from:ident)*) $halves:tt [$number:ident $($numbers:ident)*]
+        [{ $key:ident Number } $($keys:tt)*] $($done:tt)*) => {
+        filled!($word ($form $($from)*) $halves [$($numbers)*] [$($keys)*] $($done)* $key: $form.$number,)
+    };
+    ($word:ident ($form:ident $($from:ident)*) $halves:tt [$number:ident $($numbers:ident)*]
+        [{ $key:ident Until } $($keys:tt)*] $($done:tt)*) => {
+        filled!($word ($form $($from)*) $halves [$($numbers)*] [$($keys)*]
+            $($done)* $key: until_of($form.timed, $form.$number),)
+    };
+    ($word:ident ($($from:ident)*) $halves:tt $numbers:tt [{ $key:ident $kind:ident } $($keys:tt)*] $($done:tt)*) => {
+        filled!($word ($($from)*) $halves $numbers [$($keys)*] $($done)* $key: value!($($from)* $kind),)
+    };
+}
+
+/// The call of a word, of the values in a form.
+macro_rules! call {
+    (($word:ident $from:tt) [$($family:ident {
+        $($variant:ident $name:literal { $($key:ident: $kind:ident $($id:ident)? $(= $default:expr)?),* })*
+    })*]) => {
+        match $word {
+            $($(StepWord::$variant => {
+                filled!($variant $from [element other] [date span] [$({ $key $kind $($id)? })*])
+            })*)*
+        }
+    };
+}
+
 // The stage of a call.
 fn stage_of(form: &CallForm) -> Stage
     ensures { result ≡ calls.stage_of form.now }
@@ -59,14 +106,10 @@ fn way_of(form: &CallForm) -> Way
 }
 
 // The deadline of a wait, if it has one.
-fn until_of(form: &CallForm) -> Option<u64>
-    ensures { result ≡ calls.until_of form.now }
+fn until_of(timed: u8, date: u64) -> Option<u64>
+    ensures { result ≡ (if nat_eq timed 0 then None else Some date) }
 {
-    if form.timed == 0 {
-        None
-    } else {
-        Some(form.date)
-    }
+    if timed == 0 { None } else { Some(date) }
 }
 
 // Which bits a call takes.
@@ -98,169 +141,6 @@ fn policy_of(form: &CallForm) -> Policy
     }
 }
 
-// A call on lines and stages.
-fn line_call(form: &CallForm) -> Call
-    ensures { result ≡ calls.line_call form.now }
-{
-    let line = LineNo(form.element);
-    let stage = stage_of(form);
-    match form.kind {
-        0 => Call::Request {
-            line,
-            stage,
-            callback: form.callback,
-            tag: form.bits,
-        },
-        1 => Call::Free { line, stage },
-        2 => Call::Arrive { line },
-        3 => Call::Post { stage, line },
-        4 => Call::Stall { stage },
-        _ => Call::Unstall { stage },
-    }
-}
-
-// A call on the clock and its timers.
-fn clock_call(form: &CallForm) -> Call
-    ensures { result ≡ calls.clock_call form.now }
-{
-    let timer = TimerId(form.element);
-    match form.kind {
-        6 => Call::Tick { delta: form.date },
-        7 => Call::Now,
-        8 => Call::NewTimer {
-            callback: form.callback,
-            tag: form.bits,
-        },
-        9 => Call::StartTimer {
-            timer,
-            date: form.date,
-            interval: form.span,
-        },
-        10 => Call::StopTimer { timer },
-        11 => Call::DropTimer { timer },
-        _ => Call::Overruns { timer },
-    }
-}
-
-// A call on threads.
-fn thread_call(form: &CallForm) -> Call
-    ensures { result ≡ calls.thread_call form.now }
-{
-    let policy = policy_of(form);
-    let stage = stage_of(form);
-    match form.kind {
-        13 => Call::Attach { policy, stage },
-        14 => Call::Detach,
-        15 => Call::SetPolicy { policy },
-        16 => Call::SetStage { stage },
-        17 => Call::Pick,
-        _ => Call::RankOf {
-            thread: ThreadId(form.element),
-        },
-    }
-}
-
-// A call on semaphores.
-fn sem_call(form: &CallForm) -> Call
-    ensures { result ≡ calls.sem_call form.now }
-{
-    let sem = SemId(form.element);
-    match form.kind {
-        19 => Call::TryGet { sem },
-        20 => Call::Put { sem },
-        21 => Call::Peek { sem },
-        _ => Call::BeginGet {
-            sem,
-            until: until_of(form),
-        },
-    }
-}
-
-// A call on flag groups.
-fn flag_call(form: &CallForm) -> Call
-    ensures { result ≡ calls.flag_call form.now }
-{
-    let flags = FlagId(form.element);
-    match form.kind {
-        23 => Call::TryTake {
-            flags,
-            kind: take_of(form),
-        },
-        24 => Call::PostFlags {
-            flags,
-            bits: form.bits,
-        },
-        25 => Call::PeekFlags { flags },
-        _ => Call::BeginTake {
-            flags,
-            kind: take_of(form),
-            until: until_of(form),
-        },
-    }
-}
-
-// A call on cross-buffers that carries no bytes.
-fn xbuf_call(form: &CallForm) -> Call
-    ensures { result ≡ calls.xbuf_call form.now }
-{
-    let xbuf = XbufId(form.element);
-    let way = way_of(form);
-    match form.kind {
-        28 => Call::Read {
-            xbuf,
-            way,
-            len: form.other,
-        },
-        29 => Call::Room { xbuf, way },
-        _ => Call::BeginRead {
-            xbuf,
-            way,
-            len: form.other,
-            until: until_of(form),
-        },
-    }
-}
-
-// A call on mutexes, or the end of a wait.
-fn mutex_call(form: &CallForm) -> Call
-    ensures { result ≡ calls.mutex_call form.now }
-{
-    let mutex = MutexId(form.element);
-    match form.kind {
-        32 => Call::Claim {
-            mutex,
-            owner: ThreadId(form.other),
-            until: until_of(form),
-        },
-        33 => Call::Release { mutex },
-        34 => Call::Raise { mutex },
-        _ => Call::Finish {
-            keep: form.choice != 0,
-        },
-    }
-}
-
-// A call that carries no bytes.
-fn plain_call(form: &CallForm) -> Call
-    ensures { result ≡ calls.plain_call form.now }
-{
-    if form.kind <= 5 {
-        line_call(form)
-    } else if form.kind <= 12 {
-        clock_call(form)
-    } else if form.kind <= 18 {
-        thread_call(form)
-    } else if form.kind <= 22 {
-        sem_call(form)
-    } else if form.kind <= 26 {
-        flag_call(form)
-    } else if form.kind <= 31 {
-        xbuf_call(form)
-    } else {
-        mutex_call(form)
-    }
-}
-
 // Bytes in a box of their own. `NoMemory` where it was refused.
 fn transfer(alloc: Global, bytes: &[u8]) -> Result<Transfer, Refusal>
     requires { length bytes.now ≤ 256 }
@@ -272,11 +152,27 @@ fn transfer(alloc: Global, bytes: &[u8]) -> Result<Transfer, Refusal>
     Ok(made)
 }
 
+// The word of a form.
+fn word_of(form: &CallForm) -> StepWord
+    ensures { result ≡ calls.word_of form.now }
+{
+    numbered_word(form.kind as usize).unwrap_or(StepWord::Finish)
+}
+
+// The call of a word that a form stands for. `NoMemory` where it carries bytes and a box for them was refused.
+fn filled(word: StepWord, alloc: Global, form: &CallForm, bytes: &[u8]) -> Result<Call, Refusal>
+    requires { length bytes.now ≤ 256 }
+    ensures call { IfOk result (λ call. call ≡ calls.filled word form.now bytes.now) }
+    ensures refusal { IfErr result (λ e. (e ≡ Refusal.NoMemory) × (statuses.word_brings_bytes word ≡ true)) }
+{
+    each_call!(call(word (form alloc bytes)))
+}
+
 /// Whether a form is a call: its numbers are in their ranges, and there are at most 256 bytes.
 pub fn is_call(form: &CallForm, bytes: &[u8]) -> bool
     ensures { result ≡ calls.is_call form.now bytes.now }
 {
-    form.kind <= 35
+    (form.kind as usize) < STEP_WORDS.len()
         && form.stage <= 1
         && form.way <= 1
         && form.choice <= 3
@@ -290,18 +186,5 @@ pub fn read_call(alloc: Global, form: &CallForm, bytes: &[u8]) -> Result<Call, R
     ensures call { IfOk result (λ call. call ≡ calls.call_of form.now bytes.now) }
     ensures refusal { IfErr result (λ e. (e ≡ Refusal.NoMemory) × (statuses.brings_bytes form.now ≡ true)) }
 {
-    match form.kind {
-        27 => Ok(Call::Write {
-            xbuf: XbufId(form.element),
-            way: way_of(form),
-            bytes: transfer(alloc, bytes)?,
-        }),
-        30 => Ok(Call::BeginWrite {
-            xbuf: XbufId(form.element),
-            way: way_of(form),
-            bytes: transfer(alloc, bytes)?,
-            until: until_of(form),
-        }),
-        _ => Ok(plain_call(form)),
-    }
+    filled(word_of(form), alloc, form, bytes)
 }

@@ -30,4 +30,4 @@ pub use handles::KernelHandle;
 pub use opens::{evl_c_close, evl_c_open};
 pub use plays::{Played, evl_c_play, evl_c_play_over};
 pub use readings::{QuestionForm, ReadingForm};
-pub use texts::{evl_c_scenario, evl_c_trace};
+pub use texts::{evl_c_call_text, evl_c_scenario, evl_c_trace};

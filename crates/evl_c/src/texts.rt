@@ -1,18 +1,30 @@
-//! Scenarios and traces of kernels, for C.
-ghost use Rattle.std.specs.Prelude.{◌≡◌, ◌≢◌, ◌↔◌, true, None, Ok, length, IsSomeAnd, string_bytes};
+//! Texts for C: scenarios and traces of kernels, and of each call its word and its keys.
+ghost use Rattle.std.specs.Prelude.{◌≡◌, ◌≢◌, ◌↔◌, true, None, Ok, length, slice_get, IsSomeAnd, string_bytes};
+ghost use Rattle.evl_scenario.specs.Calls.{words};
 ghost use Rattle.evl_scenario.specs.Scenarios.{scenario_of};
 ghost use Rattle.evl_scenario.specs.Traces.{history_trace};
 ghost use Rattle.evl_scenario.specs.Writings.{script_of_history};
 ghost use Rattle.evl_c.specs.Handles.{held};
-ghost use Rattle.evl_c.specs.Statuses.{is_among, of_scenario, of_trace};
+ghost use Rattle.evl_c.specs.Statuses.{is_among, of_call_text, of_scenario, of_trace};
 ghost use Rattle.evl_c.specs.Texts as texts;
 ghost use Rattle.evl_c.specs.Texts.{TellsScenario, TellsText, Unwrites};
 ghost use Rattle.evl_c.specs.Windows.{window};
 
 use crate::handles::KernelHandle;
 use crate::windows::put_window;
-use evl_scenario::Unwritten;
+use evl_scenario::{StepWord, Unwritten, each_call, numbered_word};
 use std::alloc::Global;
+
+/// The text of a word.
+macro_rules! text {
+    (($word:ident) [$($family:ident {
+        $($variant:ident $name:literal { $($key:ident: $kind:ident $($id:ident)? $(= $default:expr)?),* })*
+    })*]) => {
+        match $word {
+            $($(StepWord::$variant => concat!($name $(, " ", stringify!($key))*),)*)*
+        }
+    };
+}
 
 // Puts a text, from a byte on, into a buffer, and tells its length.
 fn tell_text(text: &String, start: usize, out: &mut [u8], length: &mut usize)
@@ -100,4 +112,31 @@ pub extern "C" fn evl_c_scenario(
         }
         Err(fault) => status_of(fault),
     }
+}
+
+// The text of a word: its name and its keys, with blanks between.
+fn text_of(word: StepWord) -> &'static str
+    ensures { result.now ≡ texts.text_of word }
+{
+    each_call!(text(word))
+}
+
+/// Puts the text of a call's word, from the byte `start` on, into the buffer, as much as there is room for: the word's
+/// name and its keys, with blanks between.
+///
+/// 0: done, and `length` is the whole text's. 7: no call has this kind. But for 0 nothing is written.
+#[unsafe(no_mangle)]
+pub extern "C" fn evl_c_call_text(kind: u8, start: usize, out: &mut [u8], length: &mut usize) -> u32
+    ensures told { result ≡ 0 → IsSomeAnd (slice_get words kind) (λ word. TellsText (texts.text_of word) start out.old out.new length.new) }
+    ensures numbers { (result ≡ 7) ↔ (slice_get words kind ≡ None) }
+    ensures statuses { is_among of_call_text result ≡ true }
+    ensures refused { result ≢ 0 → (out.new ≡ out.old) × (length.new ≡ length.old) }
+{
+    let Some(word) = numbered_word(kind as usize) else {
+        return 7;
+    };
+    let text = text_of(word);
+    put_window(text.as_bytes(), start, out);
+    *length = text.len();
+    0
 }

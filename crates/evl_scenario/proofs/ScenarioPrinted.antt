@@ -19,8 +19,8 @@ use Rattle.evl_scenario.specs.Fields as kind
 use Rattle.evl_scenario.specs.Fields.{Kind, Value, Key, Values, told_as, told}
 use Rattle.evl_scenario.specs.Widths.{AllFit, Fits, UntilFits, CallFits, StepFits, StepsFit}
 use Rattle.evl_scenario.specs.Writings.{wide, until_data, data_of, pair_of, call_pairs, step_pairs, pairs_text, tables_text}
-use Rattle.evl_scenario.specs.declared.steps.StepWord.{StepWord}
-use Rattle.evl_scenario.specs.declared.steps.StepWord.TheVariants.{Pick}
+use Rattle.evl_scenario.specs.declared.calls.StepWord.{StepWord}
+use Rattle.evl_scenario.specs.declared.calls.StepWord.TheVariants.{Pick}
 use Rattle.evl_scenario.specs.declared.steps.Step.{Step}
 use Rattle.evl_scenario.proofs.LinesPrinted.{IsWritten, ArePairs, pairs_lines, element_line, pairs_printed, printed-append}
 use Rattle.evl_scenario.proofs.NodesRead.{step_expressions, steps_expressions}

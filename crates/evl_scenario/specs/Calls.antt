@@ -3,8 +3,8 @@
 use Rattle.std.specs.Prelude.{ℕ, false, List, [], ◌∷◌, None, codes}
 use Rattle.evl_base.specs.declared.call.Call.{Call}
 use Rattle.evl_base.specs.declared.call.Call.TheVariants as make
-use Rattle.evl_scenario.specs.declared.steps.StepWord.{StepWord}
-use Rattle.evl_scenario.specs.declared.steps.StepWord.TheVariants as word
+use Rattle.evl_scenario.specs.declared.calls.StepWord.{StepWord}
+use Rattle.evl_scenario.specs.declared.calls.StepWord.TheVariants as word
 use Rattle.evl_scenario.specs.Fields as kind
 use Rattle.evl_scenario.specs.Fields.{Key, Values, Keyed, required, optional, told}
 

@@ -1,6 +1,6 @@
 //! The calls of steps: one list of them, and what is made of it: the words, the keys, the call that a table stands for,
 //! and what stands behind the keys of a call.
-ghost use Rattle.std.specs.Prelude.{◌≡◌, ◌≤◌, map};
+ghost use Rattle.std.specs.Prelude.{◌≡◌, ◌≤◌, map, slice_get};
 ghost use Rattle.toml.specs.View.{table_view};
 ghost use Rattle.evl_scenario.specs.Calls.{told_in, words, clock_words, thread_words, sem_words, flag_words, buffer_words, wait_words};
 ghost use Rattle.evl_scenario.specs.Fields.{all_told};
@@ -10,7 +10,6 @@ ghost use Rattle.evl_scenario.specs.Transfers.{bytes_from};
 ghost use Rattle.evl_scenario.specs.Writings.{call_word};
 
 use crate::fields::{Field, Fields, Named};
-use crate::steps::StepWord;
 use crate::tables::{at, at_or};
 use evl_base::{
     Bytes, Call, FlagId, LineNo, MutexId, SemId, Spares, ThreadId, TimerId, Transfer, XbufId,
@@ -18,9 +17,52 @@ use evl_base::{
 use std::alloc::Global;
 use toml::Table;
 
+/// A word that names a call of the kernel (Dovetail: interrupt pipeline; Xenomai 4: EVL elements; the words are this
+/// profile's).
+#[derive(Clone, Copy, PartialEq, Eq, Debug)]
+pub enum StepWord {
+    Request,
+    Free,
+    Arrive,
+    Post,
+    Stall,
+    Unstall,
+    Tick,
+    Now,
+    NewTimer,
+    StartTimer,
+    StopTimer,
+    DropTimer,
+    Overruns,
+    Attach,
+    Detach,
+    SetPolicy,
+    SetStage,
+    Pick,
+    RankOf,
+    TryGet,
+    Put,
+    Peek,
+    BeginGet,
+    TryTake,
+    PostFlags,
+    PeekFlags,
+    BeginTake,
+    Write,
+    Read,
+    Room,
+    BeginWrite,
+    BeginRead,
+    Claim,
+    Release,
+    Raise,
+    Finish,
+}
+
 /// The list of the calls, by families, handed to a macro behind what is given to it: each with its word, the name of
 /// that, and its keys in the order in which they are written. A key has the kind of what stands behind it, the type
 /// round a number of the kernel, and what stands in where it may be left out.
+#[macro_export]
 macro_rules! each_call {
     ($made:ident $given:tt) => {
         $made!($given [
@@ -81,6 +123,11 @@ macro_rules! each_call {
 /// The names of all words.
 macro_rules! names {
     (() [$($family:ident { $($variant:ident $name:literal $keys:tt)* })*]) => { [$($($name),*),*] };
+}
+
+/// All words.
+macro_rules! variants {
+    (() [$($family:ident { $($variant:ident $name:literal $keys:tt)* })*]) => { [$($(StepWord::$variant),*),*] };
 }
 
 /// The keys of a word.
@@ -182,6 +229,22 @@ macro_rules! fields {
 
 /// The words of steps, by families of calls.
 pub const STEP_WORDS: [&str; 36] = each_call!(names());
+
+// The word at a place.
+#[inline(always)]
+fn word_at(all: &[StepWord], place: usize) -> Option<StepWord>
+    ensures { result ≡ slice_get all.now place }
+{
+    all.get(place).copied()
+}
+
+/// The word of a step with this number: its place among all words, from 0.
+#[inline(always)]
+pub fn numbered_word(number: usize) -> Option<StepWord>
+    ensures { result ≡ slice_get words number }
+{
+    word_at(&each_call!(variants()), number)
+}
 
 // The word of a step on lines that a text is, or of one of those below.
 pub(crate) fn line_word(text: &str) -> Option<StepWord>

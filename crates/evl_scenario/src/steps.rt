@@ -9,48 +9,6 @@ use evl_base::{Call, Spares, ThreadId};
 use std::alloc::Global;
 use toml::{Table, Value};
 
-/// A word that names a call of the kernel (Dovetail: interrupt pipeline; Xenomai 4: EVL elements; the words are this
-/// profile's).
-#[derive(Clone, Copy, PartialEq, Eq, Debug)]
-pub enum StepWord {
-    Request,
-    Free,
-    Arrive,
-    Post,
-    Stall,
-    Unstall,
-    Tick,
-    Now,
-    NewTimer,
-    StartTimer,
-    StopTimer,
-    DropTimer,
-    Overruns,
-    Attach,
-    Detach,
-    SetPolicy,
-    SetStage,
-    Pick,
-    RankOf,
-    TryGet,
-    Put,
-    Peek,
-    BeginGet,
-    TryTake,
-    PostFlags,
-    PeekFlags,
-    BeginTake,
-    Write,
-    Read,
-    Room,
-    BeginWrite,
-    BeginRead,
-    Claim,
-    Release,
-    Raise,
-    Finish,
-}
-
 /// A call, and the thread that makes it.
 #[derive(Debug, Drop)]
 pub struct Step {

@@ -25,16 +25,16 @@ use Rattle.evl_base.specs.declared.take.Take.TheVariants.{Any, Of, Exact}
 use Rattle.evl_base.specs.declared.way.Way.{Way}
 use Rattle.evl_base.specs.declared.way.Way.TheVariants.{In, Out}
 use Rattle.evl_scenario.specs.Calls.{Parts, parts, fields_of, name_of, parts_of, told_by}
-use Rattle.evl_scenario.specs.Fields as kind
-use Rattle.evl_scenario.specs.Fields.{Kind, Value, Key, Values, told_as, told}
+use Rattle.evl_scenario.specs.Fields.{Told, a_byte, a_half, a_word, a_number, a_stage, a_policy, a_take, a_way, a_bytes, a_until, a_truth, Key, Values, told_as, told}
 use Rattle.evl_scenario.specs.Widths.{AllFit, BytesFit, CallFits, Fits, PolicyFits, TakeFits, UntilFits}
-use Rattle.evl_scenario.specs.declared.steps.StepWord.{StepWord}
-use Rattle.evl_scenario.specs.declared.steps.StepWord.TheVariants.{Pick}
+use Rattle.evl_scenario.specs.declared.calls.StepWord.{StepWord}
+use Rattle.evl_scenario.specs.declared.calls.StepWord.TheVariants.{Pick}
 use Rattle.evl_traces.specs.Parts.{Lacks}
+use Rattle.evl_traces.specs.Values.{value_text}
 
--- a byte from the space on, but for the point of an arrow
+-- a byte from the space on, but for the point of an arrow and an equals sign
 abbrev is_inner : ℕ → Bool
-is_inner c = nat_le 32 c && not (c == 62)
+is_inner c = nat_le 32 c && (not (c == 62) && not (c == 61))
 
 record IsInner (text : List ℕ) : Type 0 where
   all : list_all is_inner text ≡ true
@@ -120,81 +120,105 @@ bytes_inner bytes fits = either_inner (length bytes == 0) (codes "-") (encode_lo
 
 -- ---- calls
 
--- the text of a value in a trace
-abbrev value_said : (kind : Kind) → Value kind → List ℕ
-value_said kind.byte n = decimal n
-value_said kind.half n = decimal n
-value_said kind.word n = decimal n
-value_said kind.number n = decimal n
-value_said kind.stage s = stage_text s
-value_said kind.policy p = policy_text p
-value_said kind.take t = take_text t
-value_said kind.way w = way_text w
-value_said kind.bytes b = bytes_text b.items
-value_said kind.until u = until_text u
-value_said kind.truth b = truth_text b
+value_inner : (value : Told) → Fits value → IsInner (value_text value)
+value_inner (a_byte n) h = number n (omega (arith, h))
+value_inner (a_half n) h = number n (omega (arith, h))
+value_inner (a_word n) h = number n (omega (arith, h))
+value_inner (a_number n) h = number n h
+value_inner (a_stage s) h = stage_inner s
+value_inner (a_policy p) h = policy_inner p h
+value_inner (a_take t) h = take_inner t h
+value_inner (a_way w) h = way_inner w
+value_inner (a_bytes b) h = bytes_inner b.items h
+value_inner (a_until u) h = until_inner u h
+value_inner (a_truth b) h = truth_inner b
 
-value_inner : (kind : Kind) (v : Value kind) → Fits (told_as kind v) → IsInner (value_said kind v)
-value_inner kind.byte n h = number n (omega (arith, h))
-value_inner kind.half n h = number n (omega (arith, h))
-value_inner kind.word n h = number n (omega (arith, h))
-value_inner kind.number n h = number n h
-value_inner kind.stage s h = stage_inner s
-value_inner kind.policy p h = policy_inner p h
-value_inner kind.take t h = take_inner t h
-value_inner kind.way w h = way_inner w
-value_inner kind.bytes b h = bytes_inner b.items h
-value_inner kind.until u h = until_inner u h
-value_inner kind.truth b h = truth_inner b
+-- no equals sign stands in a value
+lacks_equals : (text : List ℕ) → list_all is_inner text ≡ true → Lacks 61 text
+lacks_equals [] h = refl
+lacks_equals (c ∷ rest) h =
+    let (here, more) = and_parts (is_inner c) (list_all is_inner rest) h in
+    let apart : not (c == 61) ≡ true = (and_parts (not (c == 62)) (not (c == 61)) (and_parts (nat_le 32 c) (not (c == 62) && not (c == 61)) here).1).1 in
+    rw (apart, lacks_equals rest more) refl
+
+pub value-no_equals : (value : Told) → Fits value → Lacks 61 (value_text value)
+value-no_equals value fits = lacks_equals (value_text value) (value_inner value fits).all
+
+-- ---- whole calls
+
+-- a byte from the space on, but for the point of an arrow
+abbrev is_said : ℕ → Bool
+is_said c = nat_le 32 c && not (c == 62)
+
+record IsSaid (text : List ℕ) : Type 0 where
+  all : list_all is_said text ≡ true
+
+literal_said : (text : List ℕ) → list_all is_said text ≡ true → IsSaid text
+literal_said text h = record { all = h }
+
+join_said : {a b : List ℕ} → IsSaid a → IsSaid b → IsSaid (a ++ b)
+join_said {a} {b} p q = record { all = list_all-append is_said a b ∙ rw (p.all, q.all) refl }
+
+said_byte : (c : ℕ) → is_inner c ≡ true → is_said c ≡ true
+said_byte c h =
+    let (high, others) = and_parts (nat_le 32 c) (not (c == 62) && not (c == 61)) h in
+    rw (high, (and_parts (not (c == 62)) (not (c == 61)) others).0) refl
+
+said_bytes : (text : List ℕ) → list_all is_inner text ≡ true → list_all is_said text ≡ true
+said_bytes [] h = refl
+said_bytes (c ∷ rest) h = let (here, more) = and_parts (is_inner c) (list_all is_inner rest) h in rw (said_byte c here, said_bytes rest more) refl
+
+inner_said : {text : List ℕ} → IsInner text → IsSaid text
+inner_said {text} h = record { all = said_bytes text h.all }
 
 -- a space, the key and its value, for each of these keys
-abbrev said : (keys : List Key) → Values keys → List ℕ
+abbrev pub said : (keys : List Key) → Values keys → List ℕ
 said [] values = []
-said (key ∷ keys) values = codes " " ++ (key.name ++ (codes "=" ++ (value_said key.kind values.0 ++ said keys values.1)))
+said (key ∷ keys) values = codes " " ++ (key.name ++ (codes "=" ++ (value_text (told_as key.kind values.0) ++ said keys values.1)))
 
-abbrev parts_said : Parts → List ℕ
+abbrev pub parts_said : Parts → List ℕ
 parts_said (parts step values) = name_of step ++ said (fields_of step) values
 
 -- a call says the name of its word, and its keys with their values
-call_said : (call : Call) → call_text call ≡ parts_said (parts_of call)
+pub call_said : (call : Call) → call_text call ≡ parts_said (parts_of call)
 call_said Now = refl
 call_said _ = simp (append_assoc, append-nil) refl
 
-said_inner : (keys : List Key) (values : Values keys) → list_all (λ key. list_all is_inner key.name) keys ≡ true → AllFit (told keys values) → IsInner (said keys values)
-said_inner [] values names fits = literal [] refl
-said_inner (key ∷ keys) values names fits =
+all_said : (keys : List Key) (values : Values keys) → list_all (λ key. list_all is_inner key.name) keys ≡ true → AllFit (told keys values) → IsSaid (said keys values)
+all_said [] values names fits = literal_said [] refl
+all_said (key ∷ keys) values names fits =
     let (here, more) = and_parts (list_all is_inner key.name) (list_all (λ k. list_all is_inner k.name) keys) names in
-    let rest = join (value_inner key.kind values.0 fits.0) (said_inner keys values.1 more fits.1) in
-    join (literal (codes " ") refl) (join (literal key.name here) (join (literal (codes "=") refl) rest))
+    let rest = join_said (inner_said (value_inner (told_as key.kind values.0) fits.0)) (all_said keys values.1 more fits.1) in
+    join_said (literal_said (codes " ") refl) (join_said (inner_said (literal key.name here)) (join_said (literal_said (codes "=") refl) rest))
 
 names_inner : (step : StepWord) → (list_all is_inner (name_of step) && list_all (λ key. list_all is_inner key.name) (fields_of step)) ≡ true
 names_inner Pick = refl
 names_inner _ = refl
 
-parts_inner : (p : Parts) → AllFit (told_by p) → IsInner (parts_said p)
-parts_inner (parts step values) fits =
+whole_said : (p : Parts) → AllFit (told_by p) → IsSaid (parts_said p)
+whole_said (parts step values) fits =
     let (name, keys) = and_parts (list_all is_inner (name_of step)) (list_all (λ key. list_all is_inner key.name) (fields_of step)) (names_inner step) in
-    join (literal (name_of step) name) (said_inner (fields_of step) values keys fits)
+    join_said (inner_said (literal (name_of step) name)) (all_said (fields_of step) values keys fits)
 
-call_inner : (call : Call) → CallFits call → IsInner (call_text call)
-call_inner call fits = subst IsInner (sym (call_said call)) (parts_inner (parts_of call) fits)
+call_bytes : (call : Call) → CallFits call → IsSaid (call_text call)
+call_bytes call fits = subst IsSaid (sym (call_said call)) (whole_said (parts_of call) fits)
 
-inner_point : (c : ℕ) → is_inner c ≡ true → not (c == 62) ≡ true
-inner_point c h = (and_parts (nat_le 32 c) (not (c == 62)) h).1
+said_point : (c : ℕ) → is_said c ≡ true → not (c == 62) ≡ true
+said_point c h = (and_parts (nat_le 32 c) (not (c == 62)) h).1
 
-inner_feed : (c : ℕ) → is_inner c ≡ true → not (c == 10) ≡ true
-inner_feed c h = grind (arith, nat_tests)
+said_feed : (c : ℕ) → is_said c ≡ true → not (c == 10) ≡ true
+said_feed c h = grind (arith, nat_tests)
 
-lacks_point : (text : List ℕ) → list_all is_inner text ≡ true → Lacks 62 text
+lacks_point : (text : List ℕ) → list_all is_said text ≡ true → Lacks 62 text
 lacks_point [] h = refl
-lacks_point (c ∷ rest) h = let (here, more) = and_parts (is_inner c) (list_all is_inner rest) h in rw (inner_point c here, lacks_point rest more) refl
+lacks_point (c ∷ rest) h = let (here, more) = and_parts (is_said c) (list_all is_said rest) h in rw (said_point c here, lacks_point rest more) refl
 
-lacks_feed : (text : List ℕ) → list_all is_inner text ≡ true → Lacks 10 text
+lacks_feed : (text : List ℕ) → list_all is_said text ≡ true → Lacks 10 text
 lacks_feed [] h = refl
-lacks_feed (c ∷ rest) h = let (here, more) = and_parts (is_inner c) (list_all is_inner rest) h in rw (inner_feed c here, lacks_feed rest more) refl
+lacks_feed (c ∷ rest) h = let (here, more) = and_parts (is_said c) (list_all is_said rest) h in rw (said_feed c here, lacks_feed rest more) refl
 
 pub call-no_arrow : (call : Call) → CallFits call → Lacks 62 (call_text call)
-call-no_arrow call fits = lacks_point (call_text call) (call_inner call fits).all
+call-no_arrow call fits = lacks_point (call_text call) (call_bytes call fits).all
 
 pub call-one_line : (call : Call) → CallFits call → Lacks 10 (call_text call)
-call-one_line call fits = lacks_feed (call_text call) (call_inner call fits).all
+call-one_line call fits = lacks_feed (call_text call) (call_bytes call fits).all

@@ -3,3 +3,4 @@ pub mod Plays
 pub mod Entries
 pub mod Lines
 pub mod Says
+pub mod Values

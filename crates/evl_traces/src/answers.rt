@@ -18,7 +18,8 @@ fn is_capital(text: &str) -> bool
 /// Whether the text of an answer names a refusal: these begin with a capital letter, and the texts of replies don't.
 #[tactic(auto, using(crate::proofs::RefusalLaws::refusals_are_told))]
 pub fn is_refused(answer: &str) -> bool
-    ensures { (outcome : Result Reply Refusal) → answer.now ≡ outcome_text outcome → result ≡ is_err outcome }
+    ensures told { (outcome : Result Reply Refusal) → answer.now ≡ outcome_text outcome → result ≡ is_err outcome }
+    ensures named { result ≡ names_refusal answer.now }
 {
     is_capital(answer)
 }
