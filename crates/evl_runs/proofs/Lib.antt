@@ -1,2 +1,7 @@
+mod CallLaws
 mod DifferenceLaws
 mod EventLaws
+mod JoinLaws
+mod JsonLaws
+mod KeyLaws
+mod Rows
