@@ -8,3 +8,5 @@ pub mod refusing;
 mod rows;
 #[cfg(test)]
 mod shown;
+#[cfg(test)]
+mod texts;
