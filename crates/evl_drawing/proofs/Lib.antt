@@ -1,4 +1,5 @@
 mod LaneLaws
+mod RowLaws
 mod TableLaws
 mod TitleLaws
 pub mod PageLaws

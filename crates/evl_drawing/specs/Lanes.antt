@@ -74,3 +74,8 @@ put_named (Some lane) lanes = put lane lanes
 -- the lanes that a mark touches, among sorted ones
 abbrev pub put_touched : Mark → List Lane → List Lane
 put_touched mark lanes = put_named mark.names (put mark.lane lanes)
+
+-- the one list of lanes that `AreLanesOf` marks (`lanes_are`)
+abbrev pub lanes_in : List Mark → List Lane
+lanes_in [] = []
+lanes_in (mark ∷ rest) = put_touched mark (lanes_in rest)

@@ -1,5 +1,8 @@
 //! The sheet that marks are drawn on: bands of lanes, one below the other.
-ghost use Rattle.std.specs.Prelude.{◌≡◌, IfOk, OnOk};
+ghost use Rattle.std.specs.Prelude.{◌≡◌, ◌≤◌, ◌+◌, ◌*◌, ◌++◌, min, is_some, length, string_bytes, IfOk, OnOk};
+ghost use Rattle.evl_drawing.specs.Frames as frames;
+ghost use Rattle.evl_drawing.specs.Frames.{band_count, band_depth, band_height, band_top, capped, date_row, frame_text, lane_height, lane_ink, lane_line, lane_name, legend_height, line_text, longest, most_shown, picture_width, place_on};
+ghost use Rattle.evl_drawing.specs.Drawings.{shape_text};
 ghost use Rattle.evl_drawing.specs.Lanes.{AreLanesOf, put_touched};
 
 use crate::lanes::{Lane, add_lane, index_of};
@@ -84,7 +87,9 @@ pub fn lanes_of(alloc: Global, marks: &[Mark<'_>]) -> Result<Vec<Lane>, AllocErr
 }
 
 // How many characters of a line are shown at most.
-fn most_shown(shows: Shows) -> usize {
+fn most_shown(shows: Shows) -> usize
+    ensures { result ≡ most_shown shows }
+{
     match shows {
         Shows::Words => MOST_TOLD,
         _ => MOST_SHOWN,
@@ -92,29 +97,45 @@ fn most_shown(shows: Shows) -> usize {
 }
 
 // So many steps from a place.
-fn steps(from: usize, step: usize, count: usize) -> usize {
+fn steps(from: usize, step: usize, count: usize) -> usize
+    ensures { result ≡ capped (from + step * count) }
+{
     from.saturating_add(step.saturating_mul(count))
+}
+
+// How many characters of their lines are shown, where at most so many are.
+fn shown_of(marks: &[Mark<'_>], most: usize) -> usize
+    ensures { result ≡ min most (longest marks.now) }
+{
+    let mut shown = 0;
+    for mark in marks {
+        shown = mark.line.len().max(shown).min(most);
+    }
+    shown
 }
 
 impl Sheet {
     /// The sheet for some marks, and what it shows of how lanes stand. `AllocError` where its list couldn't grow.
-    pub fn of(alloc: Global, marks: &[Mark<'_>], shows: Shows) -> Result<Sheet, AllocError> {
-        let most = most_shown(shows);
+    pub fn of(alloc: Global, marks: &[Mark<'_>], shows: Shows) -> Result<Sheet, AllocError>
+        ensures lanes { IfOk result (λ sheet. AreLanesOf marks.now sheet.lanes.items) }
+        ensures shown { IfOk result (λ sheet. sheet.shown ≡ min (most_shown shows) (longest marks.now)) }
+        ensures count { IfOk result (λ sheet. sheet.count ≡ length marks.now) }
+        ensures shows { IfOk result (λ sheet. sheet.shows ≡ shows) }
+    {
         let lanes = lanes_of(alloc, marks)?;
-        let mut shown = 0;
-        for mark in marks {
-            shown = mark.line.len().max(shown).min(most);
-        }
         Ok(Sheet {
             lanes,
-            shown,
+            shown: shown_of(marks, most_shown(shows)),
             count: marks.len(),
             shows,
         })
     }
 
     // So much room, where it is told how lanes stand.
-    fn room(&self, room: usize) -> usize {
+    fn room(&self, room: usize) -> usize
+        ensures room { result ≡ frames.room self.now.shows room }
+        ensures within { result ≤ room }
+    {
         match self.shows {
             Shows::Waits => 0,
             _ => room,
@@ -122,17 +143,23 @@ impl Sheet {
     }
 
     // How high a lane is.
-    fn lane(&self) -> usize {
+    fn lane(&self) -> usize
+        ensures { result ≡ lane_height self.now }
+    {
         self.room(STRIP).saturating_add(LANE)
     }
 
     // The room for the legend.
-    fn top(&self) -> usize {
+    fn top(&self) -> usize
+        ensures { result ≡ legend_height self.now }
+    {
         self.room(SECOND).saturating_add(TOP)
     }
 
     // How high the dates and lanes of a band are.
-    fn depth(&self) -> usize {
+    fn depth(&self) -> usize
+        ensures { result ≡ band_depth self.now }
+    {
         steps(
             self.room(DATES).saturating_add(LANE / 2),
             self.lane(),
@@ -141,22 +168,30 @@ impl Sheet {
     }
 
     // How high a band is, with the lines below it.
-    fn height(&self) -> usize {
+    fn height(&self) -> usize
+        ensures { result ≡ band_height self.now }
+    {
         steps(self.depth().saturating_add(BETWEEN), CHARACTER, self.shown)
     }
 
     // Where the band of a column begins.
-    fn band_top(&self, column: usize) -> usize {
+    fn band_top(&self, column: usize) -> usize
+        ensures { result ≡ band_top self.now column }
+    {
         steps(self.top(), self.height(), column / COLUMNS)
     }
 
     /// Whether it shows the waits beside how lanes stand.
-    pub fn shows_waits(&self) -> bool {
+    pub fn shows_waits(&self) -> bool
+        ensures { result ≡ frames.shows_waits self.now.shows }
+    {
         self.shows == Shows::Words
     }
 
     /// Where the number above a lane stands: left of the tie, where it is the tied call that changes the number.
-    pub fn number_place(&self) -> &'static str {
+    pub fn number_place(&self) -> &'static str
+        ensures { result.now ≡ frames.number_place self.now.shows }
+    {
         match self.shows {
             Shows::Words => "x=\"-2\" text-anchor=\"end\"",
             _ => "x=\"-7\"",
@@ -164,22 +199,30 @@ impl Sheet {
     }
 
     /// Whether it has this lane.
-    pub fn has(&self, lane: Lane) -> bool {
+    pub fn has(&self, lane: Lane) -> bool
+        ensures { result ≡ is_some (place_on self.now lane) }
+    {
         index_of(self.lanes.as_slice(), lane).is_some()
     }
 
     /// Where the dates of the band of a column stand, from the top.
-    pub fn date_row(&self, column: usize) -> usize {
+    pub fn date_row(&self, column: usize) -> usize
+        ensures { result ≡ date_row self.now column }
+    {
         self.band_top(column).saturating_add(DATES)
     }
 
     /// Where a column stands, from the left.
-    pub fn across(&self, column: usize) -> usize {
+    pub fn across(&self, column: usize) -> usize
+        ensures { result ≡ frames.across column }
+    {
         steps(LEFT + COLUMN / 2, COLUMN, column % COLUMNS)
     }
 
     /// Where a lane stands in the band of a column, from the top.
-    pub fn down(&self, column: usize, lane: Lane) -> usize {
+    pub fn down(&self, column: usize, lane: Lane) -> usize
+        ensures { result ≡ frames.down self.now column lane }
+    {
         let index = index_of(self.lanes.as_slice(), lane).unwrap_or(0);
         let first = self.room(DATES).saturating_add(LANE);
         let top = self.band_top(column).saturating_add(first);
@@ -187,23 +230,31 @@ impl Sheet {
     }
 
     /// How far the lines below a band are below a lane.
-    pub fn below(&self, column: usize, lane: Lane) -> usize {
+    pub fn below(&self, column: usize, lane: Lane) -> usize
+        ensures { result ≡ frames.below self.now column lane }
+    {
         let foot = self.band_top(column).saturating_add(self.depth());
         foot.saturating_sub(self.down(column, lane))
     }
 
     // How many columns the widest band has.
-    fn columns(&self) -> usize {
+    fn columns(&self) -> usize
+        ensures { result ≡ min 60 self.now.count }
+    {
         self.count.min(COLUMNS)
     }
 
     // How wide the picture is: a legend has its place in it, however few marks there are.
-    fn width(&self) -> usize {
+    fn width(&self) -> usize
+        ensures { result ≡ picture_width self.now }
+    {
         steps(LEFT + BETWEEN, COLUMN, self.columns().max(38))
     }
 
     // How many bands there are.
-    fn bands(&self) -> usize {
+    fn bands(&self) -> usize
+        ensures { result ≡ band_count self.now }
+    {
         self.count / COLUMNS + if self.count % COLUMNS == 0 { 0 } else { 1 }
     }
 
@@ -224,20 +275,50 @@ impl Sheet {
     }
 
     /// The lanes of the band that begins at a column.
-    pub fn frame(&self, alloc: Global, column: usize) -> Result<String, AllocError> {
+    pub fn frame(&self, alloc: Global, column: usize) -> Result<String, AllocError>
+        ensures { IfOk result (λ text. string_bytes text ≡ frame_text self.now column) }
+    {
         let mut text = String::new(alloc);
         let end = steps(LEFT, COLUMN, self.count.saturating_sub(column).min(COLUMNS));
         for lane in &self.lanes {
-            let y = self.down(column, *lane);
-            let base = y.saturating_add(3);
-            let ink = lane_ink(*lane);
-            write!(
-                text,
-                "<path d=\"M{LEFT} {y}H{end}\" stroke=\"{ink}\"/><text x=\"8\" y=\"{base}\" font-size=\"11\">{lane}</text>\n"
-            )?;
+            self.put_lane(&mut text, column, end, *lane)?;
         }
         Ok(text)
     }
+
+    // Appends a lane of the band of a column, which ends here.
+    fn put_lane(
+        &self,
+        text: &mut String,
+        column: usize,
+        end: usize,
+        lane: Lane,
+    ) -> Result<(), AllocError>
+        ensures { OnOk result (string_bytes text.new ≡ string_bytes text.old ++ lane_line self.now column end lane) }
+    {
+        let y = self.down(column, lane);
+        put_line(text, y, end, lane_ink(lane))?;
+        put_lane_name(text, y.saturating_add(3), lane)
+    }
+}
+
+// Appends a line so far down, up to here.
+fn put_line(text: &mut String, y: usize, end: usize, ink: &str) -> Result<(), AllocError>
+    ensures { OnOk result (string_bytes text.new ≡ string_bytes text.old ++ line_text y end ink.now) }
+{
+    write!(text, "<path d=\"M{LEFT} {y}H{end}\" stroke=\"{ink}\"/>")?;
+    Ok(())
+}
+
+// Appends the name of a lane, so far down.
+fn put_lane_name(text: &mut String, y: usize, lane: Lane) -> Result<(), AllocError>
+    ensures { OnOk result (string_bytes text.new ≡ string_bytes text.old ++ lane_name y lane) }
+{
+    write!(
+        text,
+        "<text x=\"8\" y=\"{y}\" font-size=\"11\">{lane}</text>\n"
+    )?;
+    Ok(())
 }
 
 // Appends the legend of the shapes.
@@ -332,7 +413,9 @@ fn put_words(text: &mut String, lanes: &[Lane]) -> Result<(), AllocError> {
 }
 
 // The colour of the line of a lane.
-fn lane_ink(lane: Lane) -> &'static str {
+fn lane_ink(lane: Lane) -> &'static str
+    ensures { result.now ≡ lane_ink lane }
+{
     match lane {
         Lane::Thread(_) => "#b8c4d6",
         Lane::Stage(_) => "#d8c48c",
@@ -341,7 +424,9 @@ fn lane_ink(lane: Lane) -> &'static str {
 }
 
 /// The drawing of a shape, around the place where it stands.
-pub fn shape_text(shape: Shape) -> &'static str {
+pub fn shape_text(shape: Shape) -> &'static str
+    ensures { result.now ≡ shape_text shape }
+{
     match shape {
         Shape::Answered => "<circle r=\"5\" fill=\"#1f5fa8\"/>",
         Shape::Begun => {

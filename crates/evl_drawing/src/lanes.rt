@@ -1,9 +1,9 @@
 //! The lanes of a picture.
-ghost use Rattle.std.specs.Prelude.{◌≡◌, ◌≤◌, false, not, length, slice_get, OnOk};
+ghost use Rattle.std.specs.Prelude.{◌≡◌, ◌≤◌, false, not, length, position, replicate, slice_get, IfOk, OnOk};
 ghost use Rattle.std.specs.List.{prefix_len};
 ghost use Rattle.std.specs.Option.{option_map_or};
 ghost use Rattle.evl_drawing.specs.Lanes as lanes;
-ghost use Rattle.evl_drawing.specs.Lanes.{is_above, put};
+ghost use Rattle.evl_drawing.specs.Lanes.{is_above, is_lane, put};
 
 use evl_base::Stage;
 use std::alloc::{AllocError, Global};
@@ -75,6 +75,15 @@ fn is_above(one: Lane, other: Lane) -> bool
     kind < other_kind || (kind == other_kind && number < other_number)
 }
 
+/// Whether two are one lane.
+pub fn is_lane(one: Lane, other: Lane) -> bool
+    ensures { result ≡ is_lane one other }
+{
+    let (kind, number) = place(one);
+    let (other_kind, other_number) = place(other);
+    kind == other_kind && number == other_number
+}
+
 // The index at which a lane stands in a sorted list, or is to be put.
 fn index_for(lanes: &[Lane], lane: Lane) -> usize
     ensures index { result ≡ prefix_len (λ other. is_above other lane) lanes.now }
@@ -111,11 +120,15 @@ pub fn add_lane(lanes: &mut Vec<Lane>, lane: Lane) -> Result<(), AllocError>
 }
 
 /// The index of a lane in a list, where it is there.
-pub fn index_of(lanes: &[Lane], lane: Lane) -> Option<usize> {
-    lanes.iter().position(|other| *other == lane)
+pub fn index_of(lanes: &[Lane], lane: Lane) -> Option<usize>
+    ensures { result ≡ position (is_lane lane) lanes.now }
+{
+    lanes.iter().position(|other| is_lane(lane, *other))
 }
 
 /// A copy of a list with a note for each lane that nothing is open there.
-pub fn closed(alloc: Global, lanes: &[Lane]) -> Result<Vec<bool>, AllocError> {
+pub fn closed(alloc: Global, lanes: &[Lane]) -> Result<Vec<bool>, AllocError>
+    ensures { IfOk result (λ notes. notes.items ≡ replicate (length lanes.now) false) }
+{
     vec![in alloc; false; lanes.len()]
 }

@@ -1,5 +1,8 @@
 //! How a machine stands after the calls of a picture.
-use crate::lanes::Lane;
+ghost use Rattle.std.specs.Prelude.{◌≡◌};
+ghost use Rattle.evl_drawing.specs.Strips.{standing_of};
+
+use crate::lanes::{Lane, is_lane};
 
 /// How a lane stands after a call.
 #[derive(Clone, Copy, PartialEq, Eq, Debug)]
@@ -48,10 +51,14 @@ pub struct Moment {
 
 impl Moment {
     /// How a lane stands, where it shows something.
-    pub fn standing(&self, lane: Lane) -> Option<Standing> {
-        self.standings
-            .iter()
-            .find(|standing| standing.lane == lane)
-            .copied()
+    pub fn standing(&self, lane: Lane) -> Option<Standing>
+        ensures { result ≡ standing_of lane self.now }
+    {
+        for standing in &self.standings {
+            if is_lane(lane, standing.lane) {
+                return Some(*standing);
+            }
+        }
+        None
     }
 }

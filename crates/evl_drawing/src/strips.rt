@@ -1,10 +1,19 @@
 //! The strips below the lanes of a picture, which show how each stands, and the dates above them.
+ghost use Rattle.std.specs.Prelude.{◌≡◌, ◌<◌, ◌++◌, IfOk, OnOk, option_map, string_bytes};
+ghost use Rattle.evl_drawing.specs.Drawings as drawings;
+ghost use Rattle.evl_drawing.specs.Frames as frames;
+ghost use Rattle.evl_drawing.specs.Frames.{date_text, number_sign, number_text};
+ghost use Rattle.evl_drawing.specs.Strips as strips;
+ghost use Rattle.evl_drawing.specs.Strips.{date_mark, is_number, moment_text, standing_text, strip_at, tells_number, told_date, told_number, told_standing};
+
 use crate::frames::{COLUMNS, Sheet};
 use crate::moments::{Condition, Moment, Standing};
 use std::alloc::{AllocError, Global};
 
 /// The strip of a condition, around the place where a mark stands.
-pub fn strip_text(condition: Condition) -> &'static str {
+pub fn strip_text(condition: Condition) -> &'static str
+    ensures { result.now ≡ drawings.strip_text condition }
+{
     match condition {
         Condition::Inband => "<path d=\"M-8 10h16\" stroke=\"#8a6d00\" stroke-width=\"1.5\"/>",
         Condition::Blocked => {
@@ -34,7 +43,9 @@ pub fn strip_text(condition: Condition) -> &'static str {
 }
 
 // What stands before the number above a lane: T is that of a thread, + that of pending events.
-fn number_sign(condition: Condition) -> &'static str {
+fn number_sign(condition: Condition) -> &'static str
+    ensures { result.now ≡ number_sign condition }
+{
     match condition {
         Condition::Owned | Condition::Claimed | Condition::Taken => "T",
         Condition::Stalled | Condition::Pending => "+",
@@ -48,7 +59,9 @@ fn put_number(
     sheet: &Sheet,
     standing: Standing,
     number: u16,
-) -> Result<(), AllocError> {
+) -> Result<(), AllocError>
+    ensures { OnOk result (string_bytes text.new ≡ string_bytes text.old ++ number_text sheet.now standing.condition number) }
+{
     let place = sheet.number_place();
     let sign = number_sign(standing.condition);
     write!(
@@ -58,8 +71,23 @@ fn put_number(
     Ok(())
 }
 
+// Whether two numbers are the same, or neither is there.
+fn is_number(one: Option<u16>, other: Option<u16>) -> bool
+    ensures { result ≡ is_number one other }
+{
+    match one {
+        None => other.is_none(),
+        Some(number) => match other {
+            None => false,
+            Some(another) => number == another,
+        },
+    }
+}
+
 // Whether a lane's number is told in a column: where it is another than before, or a band begins.
-fn tells_number(column: usize, standing: Standing, before: Option<&Moment>) -> bool {
+fn tells_number(column: usize, standing: Standing, before: Option<&Moment>) -> bool
+    ensures { result ≡ tells_number column standing (option_map (λ moment. moment.now) before.entry) }
+{
     if column % COLUMNS == 0 {
         return true;
     }
@@ -67,9 +95,43 @@ fn tells_number(column: usize, standing: Standing, before: Option<&Moment>) -> b
         None => true,
         Some(moment) => match moment.standing(standing.lane) {
             None => true,
-            Some(earlier) => earlier.number != standing.number,
+            Some(earlier) => !is_number(earlier.number, standing.number),
         },
     }
+}
+
+// Appends the number of a lane, where it has one that is told.
+fn put_told_number(
+    text: &mut String,
+    sheet: &Sheet,
+    standing: Standing,
+    tells: bool,
+) -> Result<(), AllocError>
+    ensures { OnOk result (string_bytes text.new ≡ string_bytes text.old ++ told_number sheet.now standing tells standing.number) }
+{
+    if !tells {
+        return Ok(());
+    }
+    match standing.number {
+        Some(number) => put_number(text, sheet, standing, number),
+        None => Ok(()),
+    }
+}
+
+// Appends the strip of a lane in a column.
+fn put_strip(
+    text: &mut String,
+    sheet: &Sheet,
+    column: usize,
+    standing: Standing,
+) -> Result<(), AllocError>
+    ensures { OnOk result (string_bytes text.new ≡ string_bytes text.old ++ strip_at sheet.now column standing) }
+{
+    let x = sheet.across(column);
+    let y = sheet.down(column, standing.lane);
+    let strip = strip_text(standing.condition);
+    write!(text, "<g transform=\"translate({x},{y})\">{strip}")?;
+    Ok(())
 }
 
 // Appends how one lane stands in a column.
@@ -79,47 +141,67 @@ fn put_standing(
     column: usize,
     standing: Standing,
     before: Option<&Moment>,
-) -> Result<(), AllocError> {
-    let x = sheet.across(column);
-    let y = sheet.down(column, standing.lane);
-    let strip = strip_text(standing.condition);
-    write!(text, "<g transform=\"translate({x},{y})\">{strip}")?;
-    if let Some(number) = standing.number
-        && tells_number(column, standing, before)
-    {
-        put_number(text, sheet, standing, number)?;
-    }
+) -> Result<(), AllocError>
+    ensures { OnOk result (string_bytes text.new ≡ string_bytes text.old ++ standing_text sheet.now column (option_map (λ moment. moment.now) before.entry) standing) }
+{
+    put_strip(text, sheet, column, standing)?;
+    put_told_number(
+        text,
+        sheet,
+        standing,
+        tells_number(column, standing, before),
+    )?;
     text.push_str("</g>\n")
 }
 
-// A date in the greatest unit that tells it whole.
-fn date_text(alloc: Global, date: u64) -> Result<String, AllocError> {
-    let units = [(1_000_000_000u64, "s"), (1_000_000, "ms"), (1_000, "us")];
-    for (nanoseconds, word) in units {
-        if date != 0 && date % nanoseconds == 0 {
-            let count = date / nanoseconds;
-            return format!(in alloc; "{count} {word}");
-        }
+// The greatest unit that tells a date whole: how many nanoseconds it has, and its word.
+fn unit_of(date: u64) -> (u64, &'static str)
+    ensures nanoseconds { result.0 ≡ (frames.unit_of date).0 }
+    ensures word { result.1.now ≡ (frames.unit_of date).1 }
+    ensures some { 0 < result.0 }
+{
+    if date == 0 {
+        (1, "ns")
+    } else if date % 1_000_000_000 == 0 {
+        (1_000_000_000, "s")
+    } else if date % 1_000_000 == 0 {
+        (1_000_000, "ms")
+    } else if date % 1_000 == 0 {
+        (1_000, "us")
+    } else {
+        (1, "ns")
     }
-    format!(in alloc; "{date} ns")
 }
 
-// Appends the date, where it is another than before, or a band begins.
+// A date in the greatest unit that tells it whole.
+fn date_text(alloc: Global, date: u64) -> Result<String, AllocError>
+    ensures { IfOk result (λ text. string_bytes text ≡ date_text date) }
+{
+    let (nanoseconds, word) = unit_of(date);
+    let count = date / nanoseconds;
+    format!(in alloc; "{count} {word}")
+}
+
+// Whether the moment before had this date.
+fn was_date(date: u64, before: Option<&Moment>) -> bool
+    ensures { result ≡ strips.was_date date (option_map (λ moment. moment.now) before.entry) }
+{
+    match before {
+        Some(moment) => moment.date == date,
+        None => false,
+    }
+}
+
+// Appends the date of a column.
 fn put_date(
     alloc: Global,
     text: &mut String,
     sheet: &Sheet,
     column: usize,
     date: u64,
-    before: Option<&Moment>,
-) -> Result<(), AllocError> {
-    let same = match before {
-        Some(moment) => moment.date == date,
-        None => false,
-    };
-    if same && column % COLUMNS != 0 {
-        return Ok(());
-    }
+) -> Result<(), AllocError>
+    ensures { OnOk result (string_bytes text.new ≡ string_bytes text.old ++ date_mark sheet.now column date) }
+{
     let told = date_text(alloc, date)?;
     let x = sheet.across(column);
     let y = sheet.date_row(column);
@@ -131,6 +213,40 @@ fn put_date(
     Ok(())
 }
 
+// The same, where it is another than before, or a band begins.
+fn put_told_date(
+    alloc: Global,
+    text: &mut String,
+    sheet: &Sheet,
+    column: usize,
+    date: u64,
+    before: Option<&Moment>,
+) -> Result<(), AllocError>
+    ensures { OnOk result (string_bytes text.new ≡ string_bytes text.old ++ told_date sheet.now column date (option_map (λ moment. moment.now) before.entry)) }
+{
+    if was_date(date, before) && column % COLUMNS != 0 {
+        return Ok(());
+    }
+    put_date(alloc, text, sheet, column, date)
+}
+
+// Appends how one lane stands in a column, where the picture has this lane.
+fn put_told_standing(
+    text: &mut String,
+    sheet: &Sheet,
+    column: usize,
+    standing: Standing,
+    before: Option<&Moment>,
+) -> Result<(), AllocError>
+    ensures { OnOk result (string_bytes text.new ≡ string_bytes text.old ++ told_standing sheet.now column (option_map (λ moment. moment.now) before.entry) standing) }
+{
+    if sheet.has(standing.lane) {
+        put_standing(text, sheet, column, standing, before)
+    } else {
+        Ok(())
+    }
+}
+
 /// Appends the date and how each lane stands in a column, with what was before it. `AllocError` where memory couldn't
 /// grow.
 pub fn put_moment(
@@ -140,12 +256,12 @@ pub fn put_moment(
     column: usize,
     moment: &Moment,
     before: Option<&Moment>,
-) -> Result<(), AllocError> {
-    put_date(alloc, text, sheet, column, moment.date, before)?;
+) -> Result<(), AllocError>
+    ensures { OnOk result (string_bytes text.new ≡ string_bytes text.old ++ moment_text sheet.now column moment.now (option_map (λ earlier. earlier.now) before.entry)) }
+{
+    put_told_date(alloc, text, sheet, column, moment.date, before)?;
     for standing in &moment.standings {
-        if sheet.has(standing.lane) {
-            put_standing(text, sheet, column, *standing, before)?;
-        }
+        put_told_standing(text, sheet, column, *standing, before)?;
     }
     Ok(())
 }

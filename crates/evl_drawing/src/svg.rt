@@ -1,6 +1,7 @@
 //! A picture as SVG.
-ghost use Rattle.std.specs.Prelude.{◌≡◌, map, IfOk, OnOk};
-ghost use Rattle.evl_drawing.specs.Marks.{line_of};
+ghost use Rattle.std.specs.Prelude.{◌≡◌, ◌+◌, ◌%◌, ◌==◌, [], map, string_bytes, IfOk, OnOk, if◌then◌else◌};
+ghost use Rattle.evl_drawing.specs.Frames.{capped, frame_text, tie_down, tie_text};
+ghost use Rattle.evl_drawing.specs.Marks.{is_entry, line_of};
 ghost use Rattle.evl_drawing.specs.Titles.{Adds, AddsTitle, Holds, HoldsTitles, title_text};
 
 use crate::escapes::{put_escaped, title};
@@ -26,17 +27,24 @@ fn label(alloc: Global, line: &str, most: usize) -> Result<Vec<u8>, AllocError> 
     Ok(text)
 }
 
+// A tie to a lane so far down.
+fn tie_to(alloc: Global, down: usize) -> Result<String, AllocError>
+    ensures { IfOk result (λ text. string_bytes text ≡ tie_down down) }
+{
+    format!(in alloc;
+        "<path d=\"M0 0V{down}\" stroke=\"#1f5fa8\"/><path d=\"M-4 {down}l4 -4l4 4l-4 4Z\" fill=\"#ffffff\" stroke=\"#1f5fa8\"/>"
+    )
+}
+
 // The tie of a mark to the lane of what its call names.
-fn tie(alloc: Global, sheet: &Sheet, column: usize, mark: &Mark<'_>) -> Result<String, AllocError> {
+fn tie(alloc: Global, sheet: &Sheet, column: usize, mark: &Mark<'_>) -> Result<String, AllocError>
+    ensures { IfOk result (λ text. string_bytes text ≡ tie_text sheet.now column mark.now) }
+{
     match mark.names {
         None => Ok(String::new(alloc)),
         Some(lane) => {
-            let down = sheet
-                .down(column, lane)
-                .saturating_sub(sheet.down(column, mark.lane));
-            format!(in alloc;
-                "<path d=\"M0 0V{down}\" stroke=\"#1f5fa8\"/><path d=\"M-4 {down}l4 -4l4 4l-4 4Z\" fill=\"#ffffff\" stroke=\"#1f5fa8\"/>"
-            )
+            let from = sheet.down(column, mark.lane);
+            tie_to(alloc, sheet.down(column, lane).saturating_sub(from))
         }
     }
 }
@@ -119,7 +127,9 @@ fn note(open: &mut [bool], lanes: &[Lane], mark: &Mark<'_>) {
 }
 
 // The lanes of the band of a column, where it is the first one there.
-fn frame(alloc: Global, sheet: &Sheet, column: usize) -> Result<String, AllocError> {
+fn frame(alloc: Global, sheet: &Sheet, column: usize) -> Result<String, AllocError>
+    ensures { IfOk result (λ text. string_bytes text ≡ (if column % 60 == 0 then frame_text sheet.now column else [])) }
+{
     if column % COLUMNS == 0 {
         sheet.frame(alloc, column)
     } else {
@@ -193,7 +203,9 @@ fn put_mark(
 }
 
 // One more entry, where a mark is that of one.
-fn counted(entries: usize, mark: &Mark<'_>) -> usize {
+fn counted(entries: usize, mark: &Mark<'_>) -> usize
+    ensures { result ≡ (if is_entry mark.now then capped (entries + 1) else entries) }
+{
     if is_entry(mark) {
         entries.saturating_add(1)
     } else {
