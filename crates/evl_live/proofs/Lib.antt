@@ -4,3 +4,8 @@ mod TellingLaws
 mod GrowthLaws
 mod LineLaws
 mod AnswerLaws
+mod StateLaws
+mod LastLaws
+mod PairLaws
+mod WordLaws
+mod HeardLaws

@@ -1,5 +1,5 @@
 -- What a line is answered.
-use Rattle.std.specs.Prelude.{◌≡◌, ◌⊎◌, ◌==◌, ◌||◌, ℕ, Bool, false, List, [], ◌∷◌, ◌++◌, codes, if◌then◌else◌}
+use Rattle.std.specs.Prelude.{◌≡◌, ◌≢◌, ◌⊎◌, ◌==◌, ◌||◌, ℕ, Bool, false, List, [], ◌∷◌, ◌++◌, codes, length, if◌then◌else◌, Option, Some, None}
 use Rattle.std.specs.Str.{is_utf8}
 use Rattle.evl_kernel.specs.Histories.{History}
 use Rattle.evl_scenario.specs.Lines.{line_feed}
@@ -7,7 +7,7 @@ use Rattle.evl_scenario.specs.Scenarios.{Script}
 use Rattle.evl_scenario.specs.Writings.{IsUnwritten, scenario_text, script_of_history}
 use Rattle.evl_scenario.specs.declared.steps.Step.{Step}
 use Rattle.evl_scenario.specs.declared.writing.Unwritten.TheVariants as unwritten
-use Rattle.evl_live.specs.Sessions.{Driven, Enters, TellsEntry}
+use Rattle.evl_live.specs.Sessions.{Driven, Enters, TellsEntry, TellsFull}
 
 -- ---- the line
 
@@ -39,6 +39,16 @@ GoesOn old new before after = (new ≡ old) ⊎ ((step : Step) × TellsEntry old
 -- Its history stays, or has one entry more.
 abbrev pub MayGoOn : History → History → Type 0
 MayGoOn old new = (new ≡ old) ⊎ ((step : Step) × Enters old step new)
+
+-- The call of this step was made: its entry's lines were told, or that the history is full.
+pub record Makes (old new : Driven) (step : Step) (before after : List ℕ) : Type 0 where
+  pub entry : length old.history.entries ≢ old.limit → TellsEntry old.history new.history step before after
+  pub full : length old.history.entries ≡ old.limit → TellsFull old new step before after
+
+-- The step that a line asks for was made; where it asks for none the machine stays.
+abbrev pub Does : Driven → Driven → Option Step → List ℕ → List ℕ → Type 0
+Does old new (Some step) before after = Makes old new step before after
+Does old new None before after = new ≡ old
 
 -- Lines were told behind the text before, and the machine stays, or these are the lines of its one new entry.
 pub record Answers (old new : Driven) (before after : List ℕ) : Type 0 where

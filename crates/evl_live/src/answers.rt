@@ -1,8 +1,10 @@
 //! What a line is answered.
-ghost use Rattle.std.specs.Prelude.{◌≡◌, ◌<◌, ◌+◌, ◌++◌, ◌∷◌, [], List, ℕ, codes, false, string_bytes, IfErr, OnOk, if◌then◌else◌};
+ghost use Rattle.std.specs.Prelude.{◌≡◌, ◌<◌, ◌+◌, ◌++◌, ◌∷◌, [], List, ℕ, codes, false, string_bytes, true, IfErr, OnOk, if◌then◌else◌};
 ghost use Rattle.std.specs.Str.{is_utf8};
 ghost use Rattle.evl_live.specs.Answers as answers;
-ghost use Rattle.evl_live.specs.Answers.{Answers, GoesOn, MayGoOn, TellsScenario, comment_text, may_call, script_of};
+ghost use Rattle.evl_live.specs.Answers.{Answers, Does, GoesOn, Makes, MayGoOn, TellsScenario, comment_text, may_call, script_of};
+ghost use Rattle.evl_live.specs.Lines.{step_of_line, unread_text};
+ghost use Rattle.evl_live.specs.States.{state_text};
 
 use crate::helps::{write_help, write_help_of};
 use crate::lines::{Heard, Unread, read_step_line};
@@ -34,7 +36,9 @@ fn write_own_scenario(alloc: Global, told: &mut String, session: &Session) -> Re
 }
 
 // Writes why a line can't be read.
-fn write_unread(told: &mut String, unread: &Unread) -> Result<(), AllocError> {
+fn write_unread(told: &mut String, unread: &Unread) -> Result<(), AllocError>
+    ensures { OnOk result (string_bytes told.new ≡ string_bytes told.old ++ unread_text unread.now) }
+{
     let column = unread.column;
     let words = &unread.words;
     write!(told, "! {column}: {words}\n")?;
@@ -42,7 +46,7 @@ fn write_unread(told: &mut String, unread: &Unread) -> Result<(), AllocError> {
 }
 
 // Makes a step, and writes its lines.
-#[tactic(auto, using(crate::proofs::AnswerLaws::goes_on, crate::proofs::AnswerLaws::may_go_on))]
+#[tactic(auto, using(crate::proofs::AnswerLaws::goes_on, crate::proofs::AnswerLaws::makes, crate::proofs::AnswerLaws::may_go_on))]
 fn make(
     alloc: Global,
     session: &mut Session,
@@ -50,6 +54,7 @@ fn make(
     told: &mut String,
 ) -> Result<(), AllocError>
     ensures goes_on { OnOk result (GoesOn session.old session.new (string_bytes told.old) (string_bytes told.new)) }
+    ensures makes { OnOk result (Makes session.old session.new step (string_bytes told.old) (string_bytes told.new)) }
     ensures board { session.new.board ≡ session.old.board }
     ensures limit { session.new.limit ≡ session.old.limit }
     ensures history { MayGoOn session.old.history session.new.history }
@@ -58,6 +63,7 @@ fn make(
 }
 
 // Answers a line that may ask for a call.
+#[tactic(auto, using(crate::proofs::AnswerLaws::does_step, crate::proofs::AnswerLaws::does_none))]
 fn answer_call(
     alloc: Global,
     session: &mut Session,
@@ -65,6 +71,7 @@ fn answer_call(
     told: &mut String,
 ) -> Result<(), AllocError>
     ensures goes_on { OnOk result (GoesOn session.old session.new (string_bytes told.old) (string_bytes told.new)) }
+    ensures asked { OnOk result (Does session.old session.new (step_of_line line.now) (string_bytes told.old) (string_bytes told.new)) }
     ensures board { session.new.board ≡ session.old.board }
     ensures limit { session.new.limit ≡ session.old.limit }
     ensures history { MayGoOn session.old.history session.new.history }
@@ -141,6 +148,7 @@ fn answer_other(
     ensures none { text.now ≡ [] → OnOk result (string_bytes told.new ≡ string_bytes told.old) }
     ensures comment { (rest : List ℕ) → text.now ≡ 35 ∷ rest → OnOk result (string_bytes told.new ≡ string_bytes told.old ++ comment_text text.now) }
     ensures scenario { text.now ≡ codes "scenario" → OnOk result (TellsScenario (script_of session.now) (string_bytes told.old) (string_bytes told.new)) }
+    ensures state { text.now ≡ codes "ps" → OnOk result (string_bytes told.new ≡ string_bytes told.old ++ state_text session.now) }
 {
     match text {
         b"" => Ok(()),
@@ -164,10 +172,12 @@ fn answer_text(
     told: &mut String,
 ) -> Result<(), AllocError>
     ensures goes_on { OnOk result (GoesOn session.old session.new (string_bytes told.old) (string_bytes told.new)) }
+    ensures asked { may_call text.now ≡ true → OnOk result (Does session.old session.new (step_of_line text.now) (string_bytes told.old) (string_bytes told.new)) }
     ensures stays { may_call text.now ≡ false → session.new ≡ session.old }
     ensures none { text.now ≡ [] → OnOk result (string_bytes told.new ≡ string_bytes told.old) }
     ensures comment { (rest : List ℕ) → text.now ≡ 35 ∷ rest → OnOk result (string_bytes told.new ≡ string_bytes told.old ++ comment_text text.now) }
     ensures scenario { text.now ≡ codes "scenario" → OnOk result (TellsScenario (script_of session.old) (string_bytes told.old) (string_bytes told.new)) }
+    ensures state { text.now ≡ codes "ps" → OnOk result (string_bytes told.new ≡ string_bytes told.old ++ state_text session.old) }
     ensures board { session.new.board ≡ session.old.board }
     ensures limit { session.new.limit ≡ session.old.limit }
     ensures history { MayGoOn session.old.history session.new.history }
@@ -183,7 +193,7 @@ fn answer_text(
 /// the machine is doing, `scenario` with the scenario of the calls so far, a line that begins with `#` with itself, an
 /// empty one with nothing, and one that can't be read with `!`, the byte, from 1, and what was wanted there; that
 /// changes nothing. `AllocError` where memory couldn't grow: then nothing is told, but a call may have been made.
-#[tactic(auto, using(crate::proofs::AnswerLaws::answered, crate::proofs::AnswerLaws::told_none, crate::proofs::AnswerLaws::told_behind, crate::proofs::AnswerLaws::tells_scenario))]
+#[tactic(auto, using(crate::proofs::AnswerLaws::answered, crate::proofs::AnswerLaws::does_behind, crate::proofs::AnswerLaws::told_none, crate::proofs::AnswerLaws::told_behind, crate::proofs::AnswerLaws::tells_scenario))]
 pub fn answer_line(
     alloc: Global,
     session: &mut Session,
@@ -191,11 +201,13 @@ pub fn answer_line(
     told: &mut String,
 ) -> Result<(), AllocError>
     ensures told { OnOk result (Answers session.old session.new (string_bytes told.old) (string_bytes told.new)) }
+    ensures asked { may_call (answers.trimmed line.now) ≡ true → OnOk result (Does session.old session.new (step_of_line (answers.trimmed line.now)) (string_bytes told.old) (string_bytes told.new)) }
     ensures failed { IfErr result (λ e. string_bytes told.new ≡ string_bytes told.old) }
     ensures stays { may_call (answers.trimmed line.now) ≡ false → session.new ≡ session.old }
     ensures none { answers.trimmed line.now ≡ [] → OnOk result (string_bytes told.new ≡ string_bytes told.old) }
     ensures comment { (rest : List ℕ) → answers.trimmed line.now ≡ 35 ∷ rest → OnOk result (string_bytes told.new ≡ string_bytes told.old ++ comment_text (answers.trimmed line.now)) }
     ensures scenario { answers.trimmed line.now ≡ codes "scenario" → OnOk result (TellsScenario (script_of session.old) (string_bytes told.old) (string_bytes told.new)) }
+    ensures state { answers.trimmed line.now ≡ codes "ps" → OnOk result (string_bytes told.new ≡ string_bytes told.old ++ state_text session.old) }
     ensures board { session.new.board ≡ session.old.board }
     ensures limit { session.new.limit ≡ session.old.limit }
     ensures history { MayGoOn session.old.history session.new.history }

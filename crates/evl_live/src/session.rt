@@ -202,7 +202,8 @@ impl Session {
 
     /// How many mutexes the board has.
     pub fn mutexes(&self) -> usize
-        ensures { result ≡ length self.now.board.mutexes.items }
+        ensures count { result ≡ length self.now.board.mutexes.items }
+        ensures few { result ≤ 32 }
     {
         self.board.mutexes.len()
     }

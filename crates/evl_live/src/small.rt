@@ -1,4 +1,7 @@
 //! The small scenario that a line stands for: one step, each of its keys on a line of its own.
+ghost use Rattle.std.specs.Prelude.{◌≡◌, ◌++◌, IfOk, OnOk, flat_map};
+ghost use Rattle.evl_live.specs.Lines.{bare_line, pair_line, pair_line_of, quoted_line, small_text};
+
 use crate::places::{Pair, Part, bytes_at};
 use std::alloc::{AllocError, Global};
 
@@ -7,7 +10,9 @@ use std::alloc::{AllocError, Global};
 pub const WORD_LINE: usize = 4;
 
 // Writes a key with a value in quotes on a line.
-fn put_quoted(text: &mut Vec<u8>, key: &[u8], value: &[u8]) -> Result<(), AllocError> {
+fn put_quoted(text: &mut Vec<u8>, key: &[u8], value: &[u8]) -> Result<(), AllocError>
+    ensures { OnOk result (text.new.items ≡ text.old.items ++ quoted_line key.now value.now) }
+{
     text.extend_from_slice(key)?;
     text.extend_from_slice(b" = \"")?;
     text.extend_from_slice(value)?;
@@ -15,7 +20,9 @@ fn put_quoted(text: &mut Vec<u8>, key: &[u8], value: &[u8]) -> Result<(), AllocE
 }
 
 // Writes a key with a value as it is on a line.
-fn put_bare(text: &mut Vec<u8>, key: &[u8], value: &[u8]) -> Result<(), AllocError> {
+fn put_bare(text: &mut Vec<u8>, key: &[u8], value: &[u8]) -> Result<(), AllocError>
+    ensures { OnOk result (text.new.items ≡ text.old.items ++ bare_line key.now value.now) }
+{
     text.extend_from_slice(key)?;
     text.extend_from_slice(b" = ")?;
     text.extend_from_slice(value)?;
@@ -23,7 +30,9 @@ fn put_bare(text: &mut Vec<u8>, key: &[u8], value: &[u8]) -> Result<(), AllocErr
 }
 
 // Writes a key with its value: a truth value without quotes, and no bytes where the line has a dash.
-fn put_pair(text: &mut Vec<u8>, key: &[u8], value: &[u8]) -> Result<(), AllocError> {
+fn put_pair(text: &mut Vec<u8>, key: &[u8], value: &[u8]) -> Result<(), AllocError>
+    ensures { OnOk result (text.new.items ≡ text.old.items ++ pair_line key.now value.now) }
+{
     if key == b"keep".as_slice() && (value == b"true".as_slice() || value == b"false".as_slice()) {
         return put_bare(text, key, value);
     }
@@ -33,6 +42,16 @@ fn put_pair(text: &mut Vec<u8>, key: &[u8], value: &[u8]) -> Result<(), AllocErr
     put_quoted(text, key, value)
 }
 
+// Writes keys with their values.
+fn put_pairs(text: &mut Vec<u8>, line: &[u8], pairs: &[Pair]) -> Result<(), AllocError>
+    ensures { OnOk result (text.new.items ≡ text.old.items ++ flat_map (pair_line_of line.now) pairs.now) }
+{
+    for pair in pairs {
+        put_pair(text, bytes_at(line, pair.key), bytes_at(line, pair.value))?;
+    }
+    Ok(())
+}
+
 /// The small scenario of a word, a thread's number and keys with values. `AllocError` where memory couldn't grow.
 pub fn small_scenario(
     alloc: Global,
@@ -40,17 +59,13 @@ pub fn small_scenario(
     word: Part,
     thread: Part,
     pairs: &[Pair],
-) -> Result<Vec<u8>, AllocError> {
+) -> Result<Vec<u8>, AllocError>
+    ensures { IfOk result (λ text. text.items ≡ small_text line.now word thread pairs.now) }
+{
     let mut text = Vec::new(alloc);
     text.extend_from_slice(b"[board]\nthreads = 1\n[[step]]\n")?;
     put_quoted(&mut text, b"do", bytes_at(line, word))?;
     put_quoted(&mut text, b"who", bytes_at(line, thread))?;
-    for pair in pairs {
-        put_pair(
-            &mut text,
-            bytes_at(line, pair.key),
-            bytes_at(line, pair.value),
-        )?;
-    }
+    put_pairs(&mut text, line, pairs)?;
     Ok(text)
 }
