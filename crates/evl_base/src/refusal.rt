@@ -1,5 +1,6 @@
 //! Why a call was refused.
-ghost use Rattle.std.specs.Prelude.{◌≡◌, Some};
+ghost use Rattle.std.specs.Prelude.{◌≡◌, Some, slice_get};
+ghost use Rattle.evl_base.specs.Refusal as refusal;
 ghost use Rattle.evl_base.specs.Refusal.{number_of, name_of};
 
 use std::fmt;
@@ -42,7 +43,44 @@ pub enum Refusal {
     Raced { first: u64, second: u64 },
 }
 
+// The refusal at a place.
+fn at(all: &[Refusal], place: usize) -> Option<Refusal>
+    ensures { result ≡ slice_get all.now place }
+{
+    all.get(place).copied()
+}
+
 impl Refusal {
+    /// The refusal with this number in the table of refusals, `Raced` with zeros; none where no refusal has it.
+    pub fn numbered(number: u16) -> Option<Refusal>
+        ensures { result ≡ refusal.numbered number }
+    {
+        let all = [
+            Refusal::NoMemory,
+            Refusal::HistoryFull,
+            Refusal::CoreBusy,
+            Refusal::Unknown,
+            Refusal::Invalid,
+            Refusal::Again,
+            Refusal::Busy,
+            Refusal::NotOwner,
+            Refusal::Deadlock,
+            Refusal::Limit,
+            Refusal::Range,
+            Refusal::TooBig,
+            Refusal::WrongStage,
+            Refusal::HoldsStax,
+            Refusal::Raced {
+                first: 0,
+                second: 0,
+            },
+        ];
+        if number == 0 {
+            return None;
+        }
+        at(&all, number as usize - 1)
+    }
+
     /// The number in the table of refusals.
     pub fn number(self) -> u16
         ensures { result ≡ number_of self }
