@@ -181,7 +181,7 @@ module _ (base : ℕ → ℕ) (lent : ℕ → ℕ) (ahead : List (Option ℕ)) w
           handed-at w.thread ∙ ap (λ b. if b then Some w.thread else ahead_in (slice_set ahead w.thread None) w.thread) ((let P : List Waiter → Type 0 = AreApart in subst P is_queue (here o n m at is).apart).0)
           ∙ not_noted ahead w.thread
 
-      pub right-handed : (t : ℕ) → t ≢ w.thread → (m.owner ≡ Some t → ⊥) → IsRight base next lent t → IsRight base handed lent t
+      pub right-handed : (t : ℕ) → ((from : ℕ) → stands_in from ws ≡ true → t ≢ w.thread) → (m.owner ≡ Some t → ⊥) → IsRight base next lent t → IsRight base handed lent t
       right-handed t ne away right = lent-moved base next handed lent t (lent t) came goes right
         where
           came : (from : ℕ) → handed from ≡ Some t → next from ≡ Some t
@@ -195,7 +195,7 @@ module _ (base : ℕ → ℕ) (lent : ℕ → ℕ) (ahead : List (Option ℕ)) w
 
               by_test : (b : Bool) → stands_in from ws ≡ b → (from ≡ w.thread) ⊎ (from ≢ w.thread)
                   → (if stands_in from ws then Some w.thread else ahead_in (slice_set ahead w.thread None) from) ≡ Some t → next from ≡ Some t
-              by_test true at_behind self e = absurd (ne (one (ap (λ b. if b then Some w.thread else ahead_in (slice_set ahead w.thread None) from) (sym at_behind) ∙ e)))
+              by_test true at_behind self e = absurd (ne from at_behind (one (ap (λ b. if b then Some w.thread else ahead_in (slice_set ahead w.thread None) from) (sym at_behind) ∙ e)))
               by_test false at_behind (inl self) e =
                   absurd (nothing (ap (ahead_in (slice_set ahead w.thread None)) self ∙ not_noted ahead w.thread) (ap (λ b. if b then Some w.thread else ahead_in (slice_set ahead w.thread None) from) (sym at_behind) ∙ e))
               by_test false at_behind (inr differs) e =
@@ -218,14 +218,16 @@ module _ (base : ℕ → ℕ) (lent : ℕ → ℕ) (ahead : List (Option ℕ)) w
               by_test false at_behind (inr differs) =
                   handed-at from ∙ ap (λ b. if b then Some w.thread else ahead_in (slice_set ahead w.thread None) from) at_behind ∙ get_or-set_other ahead w.thread from None None differs ∙ e
 
-    pub right-released : ((t : ℕ) → IsRight base next lent t) → (t : ℕ) → ((released m).next ≡ Some t → ⊥) → (option_and (released m).next m.owner ≡ Some t → ⊥)
+    -- all but the next owner, where more wait, and the one before
+    pub right-released : ((t : ℕ) → IsRight base next lent t) → (t : ℕ) → ((if (released m).more then (released m).next else None) ≡ Some t → ⊥) → (option_and (released m).next m.owner ≡ Some t → ⊥)
         → IsRight base (ahead_in (noted_behind (released m).after.waiters (released m).next (unnoted ahead (released m).next))) lent t
-    right-released right t not_next away = by_queue m.waiters refl not_next away
+    right-released right t not_served away = by_queue m.waiters refl not_served away
       where
-        by_queue : (ws : List Waiter) → m.waiters ≡ ws → ((mutex.handed_to m ws).next ≡ Some t → ⊥) → (option_and (mutex.handed_to m ws).next m.owner ≡ Some t → ⊥)
+        by_queue : (ws : List Waiter) → m.waiters ≡ ws → ((if (mutex.handed_to m ws).more then (mutex.handed_to m ws).next else None) ≡ Some t → ⊥) → (option_and (mutex.handed_to m ws).next m.owner ≡ Some t → ⊥)
             → IsRight base (ahead_in (noted_behind (mutex.handed_to m ws).after.waiters (mutex.handed_to m ws).next (unnoted ahead (mutex.handed_to m ws).next))) lent t
-        by_queue [] e not_next away = right t
-        by_queue (w ∷ ws) e not_next away = right-handed w ws e t (λ here. not_next (ap Some (sym here))) away (right t)
+        by_queue [] e not_served away = right t
+        by_queue (w ∷ []) e not_served away = right-handed w [] e t (λ from stands. absurd (false≢true stands)) away (right t)
+        by_queue (w ∷ v ∷ vs) e not_served away = right-handed w (v ∷ vs) e t (λ from stands here. not_served (ap Some (sym here))) away (right t)
 
     -- the next owner is a thread, and waits for nobody
     pub released-next : (t : ℕ) → (released m).next ≡ Some t

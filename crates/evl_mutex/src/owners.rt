@@ -302,7 +302,9 @@ impl<A: Allocator> OwnersOf<A> {
         let (next, more) = self.mutexes[place].hand_on();
         notes::forget(&mut self.ahead, next);
         notes::note_behind(&mut self.ahead, &self.mutexes[place].waiters, next);
-        mending::settle(&self.base, &self.ahead, &mut self.lent, changes, next);
+        // who is handed a mutex for which nobody waits any more lends as before
+        let served = if more { next } else { None };
+        mending::settle(&self.base, &self.ahead, &mut self.lent, changes, served);
         mending::mend(
             &self.base,
             &self.ahead,
