@@ -53,9 +53,7 @@ impl<C: Drop, A: Allocator> Records<C, A> {
         ensures answered { state_of self.new ≡ answered (state_of self.old) line.0 answer.now }
         ensures stands { KeepsCallbacks self.old self.new }
     {
-        if answer.handled {
-            self.carry_out(line, answer.actions.as_slice(), lists);
-        }
+        self.carry_out(line, answer.carried_out(), lists);
     }
 }
 
