@@ -36,8 +36,12 @@ static void tell(const char *form, ...) {
   require(told_length < sizeof told, "too much was told");
 }
 
-static const char *const refusals[] = {"",      "NoMemory", "HistoryFull", "CoreBusy", "Unknown", "Invalid", "Again",
-                                       "Busy",  "NotOwner", "Deadlock",    "Limit",    "Range",   "TooBig",  "WrongStage"};
+static void tell_refusal(uint16_t number) {
+  char name[32];
+  size_t length = 0;
+  require(evl_refusal_text(number, 0, (uint8_t *)name, sizeof name, &length) == EVL_DONE && length < sizeof name, "a refusal");
+  tell("%.*s\n", (int)length, name);
+}
 
 static void tell_thread(const char *word, int32_t thread, const char *more) {
   if (thread < 0) tell("%s none\n", word);
@@ -46,7 +50,7 @@ static void tell_thread(const char *word, int32_t thread, const char *more) {
 
 static void tell_answer(const evl_answer *answer, const uint8_t *bytes) {
   switch (answer->kind) {
-    case EVL_REFUSED: tell("%s\n", refusals[answer->refusal]); break;
+    case EVL_REFUSED: tell_refusal(answer->refusal); break;
     case EVL_IS_DONE: tell("done\n"); break;
     case EVL_BEGUN: tell("begun\n"); break;
     case EVL_COUNT: tell("count %" PRId64 "\n", answer->count); break;
@@ -228,6 +232,9 @@ static void try_refusals(void) {
   require(evl_call_text(EVL_CALL_FINISH + 1, 0, out, 8, &length) == EVL_BAD_NUMBER && length == 23, "a word behind the last");
   require(evl_call_text(EVL_CALL_NOW, 0, NULL, 8, &length) == EVL_NULL, "a word and a null buffer");
   require(evl_call_text(EVL_CALL_NOW, 0, NULL, 0, &length) == EVL_DONE && length == 3, "a word without keys");
+  require(evl_refusal_text(EVL_REFUSAL_NOT_OWNER, 3, out, 4, &length) == EVL_DONE && memcmp(out, "Owne", 4) == 0 && length == 8, "a name");
+  require(evl_refusal_text(0, 0, out, 8, &length) == EVL_BAD_NUMBER && evl_refusal_text(999, 0, out, 8, &length) == EVL_BAD_NUMBER && length == 8, "no refusal");
+  require(evl_refusal_text(EVL_REFUSAL_LIMIT, 0, out, 8, NULL) == EVL_NULL, "a name and a null length");
   board.threads = 0;
   require(evl_open(&kernel, &board, NULL, 0, 9) == EVL_BAD_BOARD && !kernel.is_open, "no threads");
   evl_close(&kernel);

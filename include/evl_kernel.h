@@ -153,6 +153,7 @@ uint32_t evl_c_ask(evl_kernel *kernel, const evl_question *question, evl_reading
 uint32_t evl_c_trace(evl_kernel *kernel, size_t start, uint8_t *out, size_t out_length, size_t *length);
 uint32_t evl_c_scenario(evl_kernel *kernel, size_t start, uint8_t *out, size_t out_length, size_t *length);
 uint32_t evl_c_call_text(uint8_t kind, size_t start, uint8_t *out, size_t out_length, size_t *length);
+uint32_t evl_c_refusal_text(uint16_t number, size_t start, uint8_t *out, size_t out_length, size_t *length);
 
 /* The callbacks of the program (docs/SCENARIOS.md, "The bank"). */
 #define EVL_PROGRAM_BANK 8u
@@ -294,6 +295,13 @@ static inline uint32_t evl_call_text(uint8_t kind, size_t start, uint8_t *out, s
   uint8_t none = 0;
   if (length == NULL || (out == NULL && out_length != 0)) return EVL_NULL;
   return evl_c_call_text(kind, start, out == NULL ? &none : out, out_length, length);
+}
+
+/* The same of the name that a trace has for the refusal with a number (EVL_REFUSAL_..): "NotOwner". */
+static inline uint32_t evl_refusal_text(uint16_t number, size_t start, uint8_t *out, size_t out_length, size_t *length) {
+  uint8_t none = 0;
+  if (length == NULL || (out == NULL && out_length != 0)) return EVL_NULL;
+  return evl_c_refusal_text(number, start, out == NULL ? &none : out, out_length, length);
 }
 
 /*

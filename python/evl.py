@@ -84,8 +84,9 @@ def _load():
     library.evl_c_ask.argtypes = [pointer, pointer, pointer]
     library.evl_c_trace.argtypes = library.evl_c_scenario.argtypes = [pointer, size, pointer, size, pointer]
     library.evl_c_call_text.argtypes = [ctypes.c_uint8, size, pointer, size, pointer]
+    library.evl_c_refusal_text.argtypes = [ctypes.c_uint16, size, pointer, size, pointer]
     library.evl_c_close.restype = None
-    for name in ("play", "play_over", "open", "apply", "event", "ask", "trace", "scenario", "call_text"):
+    for name in ("play", "play_over", "open", "apply", "event", "ask", "trace", "scenario", "call_text", "refusal_text"):
         getattr(library, f"evl_c_{name}").restype = ctypes.c_uint32
     return library
 
@@ -93,16 +94,19 @@ def _load():
 _LIBRARY = _load()
 
 
-def _words():
-    """The words of the calls, each with its kind and its keys."""
-    words, text, length = {}, ctypes.create_string_buffer(256), ctypes.c_size_t()
-    while len(words) < 256 and not _LIBRARY.evl_c_call_text(len(words), 0, text, 256, ctypes.byref(length)):
-        word, *keys = text.raw[: length.value].decode().split()
-        words[word] = (len(words), keys)
-    return words
+def _texts(tell, first):
+    """What the library tells of the numbers from the first on, up to one of which it tells nothing."""
+    text, length = ctypes.create_string_buffer(256), ctypes.c_size_t()
+    for number in range(first, 256):
+        if tell(number, 0, text, 256, ctypes.byref(length)):
+            return
+        yield text.raw[: length.value].decode()
 
 
-WORDS = _words()
+# the words of the calls, each with its kind and its keys
+WORDS = {word: (kind, keys) for kind, (word, *keys) in enumerate(it.split() for it in _texts(_LIBRARY.evl_c_call_text, 0))}
+# the names of the refusals, by their numbers
+REFUSALS = ["-", *_texts(_LIBRARY.evl_c_refusal_text, 1)]
 
 
 def _refuse(answer, step):
@@ -188,7 +192,6 @@ class _Reading(ctypes.Structure):
 
 
 STAGES, WAYS = ["inband", "oob"], ["in", "out"]
-REFUSALS = """- NoMemory HistoryFull CoreBusy Unknown Invalid Again Busy NotOwner Deadlock Limit Range TooBig WrongStage""".split()
 MUTEXES = {"normal": 0, "recursive": 1, "ceiling": 2}
 POLICIES = {"fifo": (0, "prio"), "rr": (1, "prio span"), "quota": (2, "other prio"), "weak": (3, "prio")}
 TAKES = {"any": (0, ""), "of": (1, "bits"), "exact": (2, "bits")}

@@ -30,9 +30,9 @@ of_trace = 0 ∷ 4 ∷ 6 ∷ []
 abbrev pub of_scenario : List ℕ
 of_scenario = 0 ∷ 2 ∷ 4 ∷ 6 ∷ 8 ∷ []
 
--- of `evl_c_call_text`: done, bad number
-abbrev pub of_call_text : List ℕ
-of_call_text = 0 ∷ 7 ∷ []
+-- of `evl_c_call_text` and `evl_c_refusal_text`: done, bad number
+abbrev pub of_numbered_text : List ℕ
+of_numbered_text = 0 ∷ 7 ∷ []
 
 -- calls of this word bring bytes of their own, for which memory is asked: there is a key for them
 abbrev pub word_brings_bytes : StepWord → Bool

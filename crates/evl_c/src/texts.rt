@@ -1,17 +1,19 @@
-//! Texts for C: scenarios and traces of kernels, and of each call its word and its keys.
+//! Texts for C: scenarios and traces of kernels, of each call its word and its keys, and the names of refusals.
 ghost use Rattle.std.specs.Prelude.{◌≡◌, ◌≢◌, ◌↔◌, true, None, Ok, length, slice_get, IsSomeAnd, string_bytes};
+ghost use Rattle.evl_base.specs.Refusal.{name_of, numbered};
 ghost use Rattle.evl_scenario.specs.Calls.{words};
 ghost use Rattle.evl_scenario.specs.Scenarios.{scenario_of};
 ghost use Rattle.evl_scenario.specs.Traces.{history_trace};
 ghost use Rattle.evl_scenario.specs.Writings.{script_of_history};
 ghost use Rattle.evl_c.specs.Handles.{held};
-ghost use Rattle.evl_c.specs.Statuses.{is_among, of_call_text, of_scenario, of_trace};
+ghost use Rattle.evl_c.specs.Statuses.{is_among, of_numbered_text, of_scenario, of_trace};
 ghost use Rattle.evl_c.specs.Texts as texts;
 ghost use Rattle.evl_c.specs.Texts.{TellsScenario, TellsText, Unwrites};
 ghost use Rattle.evl_c.specs.Windows.{window};
 
 use crate::handles::KernelHandle;
 use crate::windows::put_window;
+use evl_base::Refusal;
 use evl_scenario::{StepWord, Unwritten, each_call, numbered_word};
 use std::alloc::Global;
 
@@ -27,10 +29,10 @@ macro_rules! text {
 }
 
 // Puts a text, from a byte on, into a buffer, and tells its length.
-fn tell_text(text: &String, start: usize, out: &mut [u8], length: &mut usize)
-    ensures { TellsText (string_bytes text.now) start out.old out.new length.new }
+fn tell_text(text: &str, start: usize, out: &mut [u8], length: &mut usize)
+    ensures { TellsText text.now start out.old out.new length.new }
 {
-    put_window(text.as_str().as_bytes(), start, out);
+    put_window(text.as_bytes(), start, out);
     *length = text.len();
 }
 
@@ -59,7 +61,7 @@ pub extern "C" fn evl_c_trace(
     kernel.put(there);
     match text {
         Ok(text) => {
-            tell_text(&text, start, out, length);
+            tell_text(text.as_str(), start, out, length);
             0
         }
         Err(_) => 4,
@@ -107,7 +109,7 @@ pub extern "C" fn evl_c_scenario(
     kernel.put(there);
     match text {
         Ok(text) => {
-            tell_text(&text, start, out, length);
+            tell_text(text.as_str(), start, out, length);
             0
         }
         Err(fault) => status_of(fault),
@@ -129,14 +131,30 @@ fn text_of(word: StepWord) -> &'static str
 pub extern "C" fn evl_c_call_text(kind: u8, start: usize, out: &mut [u8], length: &mut usize) -> u32
     ensures told { result ≡ 0 → IsSomeAnd (slice_get words kind) (λ word. TellsText (texts.text_of word) start out.old out.new length.new) }
     ensures numbers { (result ≡ 7) ↔ (slice_get words kind ≡ None) }
-    ensures statuses { is_among of_call_text result ≡ true }
+    ensures statuses { is_among of_numbered_text result ≡ true }
     ensures refused { result ≢ 0 → (out.new ≡ out.old) × (length.new ≡ length.old) }
 {
     let Some(word) = numbered_word(kind as usize) else {
         return 7;
     };
-    let text = text_of(word);
-    put_window(text.as_bytes(), start, out);
-    *length = text.len();
+    tell_text(text_of(word), start, out, length);
+    0
+}
+
+/// Puts the name of a refusal, as it stands in a trace, from the byte `start` on, into the buffer, as much as there is
+/// room for.
+///
+/// 0: done, and `length` is the whole name's. 7: no refusal has this number. But for 0 nothing is written.
+#[unsafe(no_mangle)]
+pub extern "C" fn evl_c_refusal_text(number: u16, start: usize, out: &mut [u8], length: &mut usize) -> u32
+    ensures told { result ≡ 0 → IsSomeAnd (numbered number) (λ refusal. TellsText (name_of refusal) start out.old out.new length.new) }
+    ensures numbers { (result ≡ 7) ↔ (numbered number ≡ None) }
+    ensures statuses { is_among of_numbered_text result ≡ true }
+    ensures refused { result ≢ 0 → (out.new ≡ out.old) × (length.new ≡ length.old) }
+{
+    let Some(refusal) = Refusal::numbered(number) else {
+        return 7;
+    };
+    tell_text(refusal.name(), start, out, length);
     0
 }

@@ -307,6 +307,14 @@ fn plays_have_their_texts(rt: HostRuntime) {
     }
 }
 
+// Whether the refusal with this number has this name.
+fn is_numbered(number: u16, name: &str) -> bool {
+    match Refusal::numbered(number) {
+        Some(refusal) => refusal.number() == number && refusal.name() == name,
+        None => false,
+    }
+}
+
 #[test]
 fn refusals_have_their_numbers_and_names(rt: HostRuntime) {
     let table = [
@@ -335,7 +343,9 @@ fn refusals_have_their_numbers_and_names(rt: HostRuntime) {
     ];
     for (refusal, number, name) in table {
         assert!(rt; refusal.number() == number && refusal.name() == name);
+        assert!(rt; is_numbered(number, name));
     }
+    assert!(rt; Refusal::numbered(0).is_none() && Refusal::numbered(16).is_none());
 }
 
 // Whether a value is shown so.
