@@ -215,20 +215,22 @@ pub fn tell(
     }
 }
 
+// What a play of the clock tells, and each other one where it has nothing to tell.
+const CLOCK_PLAY: PlayForm = PlayForm {
+    kind: 0,
+    stage: 0,
+    handled: false,
+    element: 0,
+    count: 0,
+    missed: 0,
+};
+
 /// What a play tells.
 pub fn play_form(play: &Play) -> PlayForm
     ensures { result ≡ answers.play_form play.now }
 {
-    let none = PlayForm {
-        kind: 0,
-        stage: 0,
-        handled: false,
-        element: 0,
-        count: 0,
-        missed: 0,
-    };
     match *play {
-        Play::Clock => none,
+        Play::Clock => CLOCK_PLAY,
         Play::Timer {
             timer,
             count,
@@ -240,12 +242,12 @@ pub fn play_form(play: &Play) -> PlayForm
             element: timer.0,
             count,
             missed,
-            ..none
+            ..CLOCK_PLAY
         },
         Play::Deadline { thread } => PlayForm {
             kind: 2,
             element: thread.0,
-            ..none
+            ..CLOCK_PLAY
         },
         Play::Line {
             line,
@@ -258,7 +260,7 @@ pub fn play_form(play: &Play) -> PlayForm
             handled,
             element: line.0,
             count,
-            ..none
+            ..CLOCK_PLAY
         },
     }
 }

@@ -146,7 +146,12 @@ pub extern "C" fn evl_c_call_text(kind: u8, start: usize, out: &mut [u8], length
 ///
 /// 0: done, and `length` is the whole name's. 7: no refusal has this number. But for 0 nothing is written.
 #[unsafe(no_mangle)]
-pub extern "C" fn evl_c_refusal_text(number: u16, start: usize, out: &mut [u8], length: &mut usize) -> u32
+pub extern "C" fn evl_c_refusal_text(
+    number: u16,
+    start: usize,
+    out: &mut [u8],
+    length: &mut usize,
+) -> u32
     ensures told { result ≡ 0 → IsSomeAnd (numbered number) (λ refusal. TellsText (name_of refusal) start out.old out.new length.new) }
     ensures numbers { (result ≡ 7) ↔ (numbered number ≡ None) }
     ensures statuses { is_among of_numbered_text result ≡ true }
