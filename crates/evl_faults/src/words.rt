@@ -1,7 +1,8 @@
 //! The keys of steps and of boards, and what value is wanted at each key.
-ghost use Rattle.std.specs.Prelude.{◌≡◌, drop, map, option_map};
+ghost use Rattle.std.specs.Prelude.{◌≡◌, drop, map, option_map, string_bytes, IfOk};
 ghost use Rattle.evl_scenario.specs.Steps.{keys_of, word_of};
 ghost use Rattle.evl_faults.specs.Faults.{may_lack};
+ghost use Rattle.evl_faults.specs.Words.{board_wanted_text, sample_text, wanted_text};
 
 use evl_base::MAX_THREADS;
 use evl_scenario::step_keys_of;
@@ -35,7 +36,10 @@ pub fn is_optional(key: &str) -> bool
 }
 
 /// What value is wanted at a key of a step.
-pub fn wanted(key: &str) -> &'static str {
+#[tactic(auto, unfolding(crate::specs::Words::wanted_text))]
+pub fn wanted(key: &str) -> &'static str
+    ensures { result.now ≡ wanted_text key.now }
+{
     match key {
         "callback" => "a number from 0 to 255",
         "tag" | "bits" => "a number from 0 to 4294967295",
@@ -53,7 +57,10 @@ pub fn wanted(key: &str) -> &'static str {
 }
 
 /// A value that can stand at a key of a step.
-pub fn sample(key: &str) -> &'static [u8] {
+#[tactic(auto, unfolding(crate::specs::Words::sample_text))]
+pub fn sample(key: &str) -> &'static [u8]
+    ensures { result.now ≡ sample_text key.now }
+{
     match key {
         "stage" => b"\"oob\"",
         "policy" => b"\"fifo 1\"",
@@ -66,7 +73,10 @@ pub fn sample(key: &str) -> &'static [u8] {
 }
 
 /// What value is wanted at a key of a board, or at `limit`. `AllocError` where memory couldn't grow.
-pub fn board_wanted(alloc: Global, key: &str) -> Result<String, AllocError> {
+#[tactic(auto, unfolding(crate::specs::Words::board_wanted_text))]
+pub fn board_wanted(alloc: Global, key: &str) -> Result<String, AllocError>
+    ensures { IfOk result (λ words. string_bytes words ≡ board_wanted_text key.now) }
+{
     match key {
         "threads" => format!(in alloc; "a number from 1 to {MAX_THREADS}"),
         "sems" => format!(in alloc; "a list of at most 64 numbers from 0 to 2147483647"),
