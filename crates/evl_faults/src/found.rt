@@ -1,6 +1,7 @@
 //! A fault that was found.
-ghost use Rattle.std.specs.Prelude.{◌≡◌, true, OnOk, Some};
+ghost use Rattle.std.specs.Prelude.{◌≡◌, true, [], ◌∷◌, string_bytes, OnOk, Some};
 ghost use Rattle.evl_faults.specs.Faults.{are_of_steps, is_of_step};
+ghost use Rattle.evl_faults.specs.Told.{Adds, place_at, told_at};
 
 use evl_scenario::Fault;
 use std::alloc::AllocError;
@@ -33,16 +34,20 @@ pub struct Found {
 }
 
 /// The place of a byte of a text.
-pub fn place_of(text: &[u8], at: usize) -> Place {
+#[tactic(auto, unfolding(crate::specs::Told::place_at))]
+pub fn place_of(text: &[u8], at: usize) -> Place
+    ensures { result ≡ place_at text.now at }
+{
+    let before = text.get(..at).unwrap_or(text);
     let mut place = Place { line: 1, column: 1 };
-    for byte in text.iter().take(at) {
+    for byte in before {
         if *byte == b'\n' {
             place = Place {
-                line: place.line.saturating_add(1),
+                line: place.line + 1,
                 column: 1,
             };
         } else {
-            place.column = place.column.saturating_add(1);
+            place.column += 1;
         }
     }
     place
@@ -58,7 +63,8 @@ pub struct Finding<'a> {
 impl<'a> Finding<'a> {
     /// Notes a fault at a byte. `AllocError` where the list couldn't grow.
     pub fn note(&mut self, fault: Fault, at: usize, words: String) -> Result<(), AllocError>
-        ensures { OnOk result (is_of_step fault ≡ true → are_of_steps self.old.found.items ≡ true → are_of_steps self.new.found.items ≡ true) }
+        ensures told { OnOk result (Adds self.old self.new (told_at self.old.text.now fault at (string_bytes words) ∷ [])) }
+        ensures steps { OnOk result (is_of_step fault ≡ true → are_of_steps self.old.found.items ≡ true → are_of_steps self.new.found.items ≡ true) }
     {
         let place = place_of(self.text, at);
         self.found.push(Found {
