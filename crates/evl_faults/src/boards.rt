@@ -3,7 +3,7 @@ use crate::found::Finding;
 use crate::items::{Heading, Item, Items, Section};
 use crate::judges::{fits_board, fits_limit};
 use crate::near::near_text;
-use crate::steps::{bare, shown};
+use crate::steps::{named, shown};
 use crate::words::{BOARD_KEYS, OPENING_KEYS, board_wanted};
 use evl_scenario::Fault;
 use std::alloc::{AllocError, Global};
@@ -17,7 +17,7 @@ fn check_heading(
     if heading.section != Section::Other {
         return Ok(());
     }
-    let name = bare(shown(finding.text, heading.name));
+    let name = named(finding.text, heading.name);
     let hint = near_text(alloc, name, OPENING_KEYS.as_slice())?;
     let words = if name == "step" {
         format!(in alloc; "a step is headed [[step]]")?
@@ -35,7 +35,7 @@ fn check_board_item(
     finding: &mut Finding<'_>,
     item: Item,
 ) -> Result<(), AllocError> {
-    let key = bare(shown(finding.text, item.key));
+    let key = named(finding.text, item.key);
     let value = shown(finding.text, item.value);
     if !BOARD_KEYS.contains(&key) {
         let hint = near_text(alloc, key, BOARD_KEYS.as_slice())?;
@@ -58,7 +58,7 @@ fn check_opening_item(
     finding: &mut Finding<'_>,
     item: Item,
 ) -> Result<(), AllocError> {
-    let key = bare(shown(finding.text, item.key));
+    let key = named(finding.text, item.key);
     let value = shown(finding.text, item.value);
     if !OPENING_KEYS.contains(&key) && !key.starts_with("board.") {
         let hint = near_text(alloc, key, OPENING_KEYS.as_slice())?;
@@ -78,7 +78,7 @@ fn check_opening_item(
 // Whether the board says how many threads there are.
 fn has_threads(text: &[u8], items: &[Item]) -> bool {
     for item in items {
-        let key = bare(shown(text, item.key));
+        let key = named(text, item.key);
         if (item.section == Section::Board && key == "threads") || key == "board.threads" {
             return true;
         }

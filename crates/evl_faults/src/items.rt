@@ -1,4 +1,7 @@
 //! The keys of a scenario's text, each with its value and where they stand.
+ghost use Rattle.std.specs.Prelude.{◌≡◌};
+ghost use Rattle.evl_faults.specs.Steps.{bytes_between, unquoted};
+
 use crate::tokens::{Kind, Token, tokens_of};
 use std::alloc::{AllocError, Global};
 
@@ -56,17 +59,16 @@ struct Place {
 }
 
 /// The text between two bytes; empty where there is none.
-pub fn slice(text: &[u8], range: (usize, usize)) -> &[u8] {
-    let (from, to) = range;
-    if from <= to && to <= text.len() {
-        &text[from..to]
-    } else {
-        &[]
-    }
+pub fn slice(text: &[u8], range: (usize, usize)) -> &[u8]
+    ensures { result.now ≡ bytes_between text.now range }
+{
+    text.get(range.0..range.1).unwrap_or(&[])
 }
 
-// A name without the quotes around it.
-fn bare(name: &[u8]) -> &[u8] {
+/// A name without the quotes around it.
+pub fn bare(name: &[u8]) -> &[u8]
+    ensures { result.now ≡ unquoted name.now }
+{
     match name {
         [b'"', inner @ .., b'"'] => inner,
         [b'\'', inner @ .., b'\''] => inner,

@@ -1,9 +1,12 @@
 //! The faults of steps.
-ghost use Rattle.std.specs.Prelude.{◌≡◌, true, OnOk};
-ghost use Rattle.evl_faults.specs.Faults.{are_of_steps, is_of_step};
+ghost use Rattle.std.specs.Prelude.{◌≡◌, true, map, string_bytes, IfOk, OnOk};
+ghost use Rattle.evl_faults.specs.Faults.{are_of_steps};
+ghost use Rattle.evl_faults.specs.Steps as steps;
+ghost use Rattle.evl_faults.specs.Steps.{name_between, text_between};
+ghost use Rattle.evl_faults.specs.Words.{names_text};
 
 use crate::found::Finding;
-use crate::items::{Item, Items, Section, slice};
+use crate::items::{Item, Items, Section, bare, slice};
 use crate::judges::{fits_step, is_step};
 use crate::near::near_text;
 use crate::words::{is_optional, keys_of, wanted};
@@ -11,33 +14,43 @@ use evl_scenario::{Fault, STEP_WORDS};
 use std::alloc::{AllocError, Global};
 use std::str;
 
-/// The text between two bytes, as far as it is text.
-pub fn shown(text: &[u8], range: (usize, usize)) -> &str {
-    str::from_utf8(slice(text, range)).unwrap_or("")
+// The bytes, if they are text.
+fn as_text(bytes: &[u8]) -> &str
+    ensures { result.now ≡ steps.as_text bytes.now }
+{
+    match str::from_utf8(bytes) {
+        Ok(text) => text,
+        Err(_) => "",
+    }
 }
 
-/// A text without the quotes around it.
-pub fn bare(text: &str) -> &str {
-    match text.strip_prefix('"') {
-        Some(rest) => rest.strip_suffix('"').unwrap_or(rest),
-        None => match text.strip_prefix('\'') {
-            Some(rest) => rest.strip_suffix('\'').unwrap_or(rest),
-            None => text,
-        },
-    }
+/// The text between two bytes, as far as it is text.
+pub fn shown(text: &[u8], range: (usize, usize)) -> &str
+    ensures { result.now ≡ text_between text.now range }
+{
+    as_text(slice(text, range))
+}
+
+/// The same without the quotes around it.
+pub fn named(text: &[u8], range: (usize, usize)) -> &str
+    ensures { result.now ≡ name_between text.now range }
+{
+    as_text(bare(slice(text, range)))
 }
 
 // The fault of a step.
 fn fault_of(number: usize) -> Fault
-    ensures { is_of_step result ≡ true }
+    ensures { result ≡ steps.fault_of number }
 {
     Fault::Step(u32::try_from(number).unwrap_or(u32::MAX))
 }
 
 // The item of a step at a key.
-fn item_at(text: &[u8], items: &[Item], key: &str) -> Option<Item> {
+fn item_at(text: &[u8], items: &[Item], key: &str) -> Option<Item>
+    ensures { result ≡ steps.item_at text.now items.now key.now }
+{
     for item in items {
-        if bare(shown(text, item.key)) == key {
+        if named(text, item.key) == key {
             return Some(*item);
         }
     }
@@ -45,23 +58,32 @@ fn item_at(text: &[u8], items: &[Item], key: &str) -> Option<Item> {
 }
 
 // The names of keys, with a comma between two of them.
-fn listed(alloc: Global, keys: &[&str]) -> Result<String, AllocError> {
+fn listed(alloc: Global, keys: &[&str]) -> Result<String, AllocError>
+    ensures { IfOk result (λ names. string_bytes names ≡ names_text (map (λ key. key.now) keys.now)) }
+{
     let mut text = String::new(alloc);
-    for key in keys {
-        if !text.is_empty() {
-            text.push_str(", ")?;
+    match keys {
+        [] => text.push_str("none but do and who")?,
+        [first, rest @ ..] => {
+            text.push_str(first)?;
+            for key in rest {
+                write!(text, ", {key}")?;
+            }
         }
-        text.push_str(key)?;
-    }
-    if text.is_empty() {
-        text.push_str("none but do and who")?;
     }
     Ok(text)
 }
 
 // Whether a key is one of these.
-fn is_among(keys: &[&str], key: &str) -> bool {
-    keys.iter().any(|known| key == *known)
+fn is_among(keys: &[&str], key: &str) -> bool
+    ensures { result ≡ steps.is_among (map (λ known. known.now) keys.now) key.now }
+{
+    for known in keys {
+        if key == *known {
+            return true;
+        }
+    }
+    false
 }
 
 // Notes the keys that a step's word doesn't have, and answers how many there are.
@@ -77,7 +99,7 @@ fn note_unknown(
 {
     let mut count: usize = 0;
     for item in items {
-        let key = bare(shown(finding.text, item.key));
+        let key = named(finding.text, item.key);
         if key == "do" || key == "who" || is_among(keys, key) {
             continue;
         }
@@ -126,7 +148,7 @@ fn note_values(
     ensures { OnOk result (are_of_steps finding.old.found.items ≡ true → are_of_steps finding.new.found.items ≡ true) }
 {
     for item in items {
-        let key = bare(shown(finding.text, item.key));
+        let key = named(finding.text, item.key);
         let value = shown(finding.text, item.value);
         if key != "who" && !is_among(keys, key) {
             continue;
@@ -176,7 +198,7 @@ fn note_step(
         let words = format!(in alloc; "step {number}: there is no key \"do\"")?;
         return finding.note(fault_of(number), at, words);
     };
-    let word = bare(shown(finding.text, call.value));
+    let word = named(finding.text, call.value);
     match keys_of(word) {
         Some(keys) => note_keys(alloc, finding, number, items, word, keys, call.key.0),
         None => {
