@@ -47,21 +47,29 @@ is_scenario text = is_ok (scenario_of None text)
 abbrev pub pair_line : List ℕ → List ℕ → List ℕ
 pair_line key value = key ++ (codes " = " ++ (value ++ line_feed))
 
+-- a value at another key than this one
+abbrev pub pair_beside : List ℕ → List ℕ → List ℕ → List ℕ
+pair_beside key other value = if bytes_eq key other then [] else pair_line other value
+
 -- whether a value can stand at a key of a board
-abbrev pub fits_board : List ℕ → List ℕ → Bool
+unfoldable pub fits_board : List ℕ → List ℕ → Bool
 fits_board key value =
-    is_scenario (codes "[board]\n" ++ ((if bytes_eq key (codes "threads") then [] else codes "threads = 1\n") ++ pair_line key value))
+    is_scenario (codes "[board]\n" ++ (pair_beside key (codes "threads") (codes "1") ++ pair_line key value))
 
 -- whether a value can stand at the limit
-abbrev pub fits_limit : List ℕ → Bool
+unfoldable pub fits_limit : List ℕ → Bool
 fits_limit value = is_scenario (pair_line (codes "limit") value ++ codes "[board]\nthreads = 1\n")
 
 abbrev pub step_head : List ℕ
 step_head = codes "[board]\nthreads = 1\n[[step]]\n"
 
+-- a key with its value as they stand in a text
+abbrev pub item_line : List ℕ → Item → List ℕ
+item_line text item = pair_line (bytes_between text item.key) (bytes_between text item.value)
+
 -- whether a step of these keys and values can be read
-abbrev pub is_step : List (List ℕ × List ℕ) → Bool
-is_step pairs = is_scenario (step_head ++ flat_map (λ pair. pair_line pair.0 pair.1) pairs)
+unfoldable pub is_step : List ℕ → List Item → Bool
+is_step text items = is_scenario (step_head ++ flat_map (item_line text) items)
 
 -- the keys of a step with this word, but for its word and its thread
 abbrev pub own_keys : List ℕ → Option (List (List ℕ))
@@ -75,11 +83,14 @@ abbrev pub other_lines : List ℕ → Option (List (List ℕ)) → List ℕ
 other_lines key None = []
 other_lines key (Some keys) = flat_map (other_line key) keys
 
+-- the beginning of a step with this word
+unfoldable pub word_head : List ℕ → List ℕ
+word_head word = step_head ++ (codes "do = \"" ++ (word ++ codes "\"\n"))
+
 -- whether a value can stand at a key of a step with this word, whatever stands at the others
 unfoldable pub fits_step : List ℕ → List ℕ → List ℕ → Bool
 fits_step word key value =
-    is_scenario (step_head ++ (codes "do = \"" ++ (word ++ (codes "\"\n" ++ (pair_line key value
-    ++ ((if bytes_eq key (codes "who") then [] else codes "who = 0\n") ++ other_lines key (own_keys word)))))))
+    is_scenario (word_head word ++ (pair_line key value ++ (pair_beside key (codes "who") (codes "0") ++ other_lines key (own_keys word))))
 
 -- ---- a step's faults
 
@@ -102,72 +113,100 @@ first_byte (item ∷ rest) = item.key.0
 unfoldable pub step_words : List (List ℕ)
 step_words = map name_of words
 
--- the faults of the step of this number
+-- a key that its word has
+abbrev pub is_own : List (List ℕ) → List ℕ → Bool
+is_own keys key = bytes_eq key (codes "who") || is_among keys key
+
+-- a key that its word doesn't have
+abbrev pub is_unknown : List ℕ → List (List ℕ) → Item → Bool
+is_unknown text keys item = let key = name_between text item.key in not (bytes_eq key (codes "do") || is_own keys key)
+
+-- a value that can't stand at its key
+abbrev pub is_misfit : List ℕ → List ℕ → List (List ℕ) → Item → Bool
+is_misfit text word keys item = let key = name_between text item.key in is_own keys key && not (fits_step word key (text_between text item.value))
+
+-- ---- the words of a step's faults
+
+abbrev pub in_step : ℕ → List ℕ → List ℕ
+in_step number words = codes "step " ++ (decimal number ++ words)
+
+-- a key that the step's word doesn't have
+unfoldable pub unknown_text : ℕ → List ℕ → List (List ℕ) → List ℕ → List ℕ
+unknown_text number word keys key =
+    in_step number (codes ": " ++ (word ++ (codes " has no key \"" ++ (key ++ (codes "\"" ++ (hint_text key keys ++ (codes " (keys: " ++ (names_text keys ++ codes ")"))))))))
+
+-- a key that is missing
+unfoldable pub missing_text : ℕ → List ℕ → List ℕ → List ℕ
+missing_text number word key =
+    in_step number (codes ": " ++ (word ++ (codes " needs a key \"" ++ (key ++ (codes "\": " ++ (wanted_text key ++ codes " is wanted there"))))))
+
+-- a value that can't stand at its key
+unfoldable pub misfit_text : ℕ → List ℕ → List ℕ → List ℕ
+misfit_text number key value = in_step number (codes ": " ++ (key ++ (codes " = " ++ (value ++ (codes ": " ++ (wanted_text key ++ codes " is wanted"))))))
+
+-- a word that no call has
+unfoldable pub no_call_text : ℕ → List ℕ → List ℕ
+no_call_text number word = in_step number (codes ": there is no call \"" ++ (word ++ (codes "\"" ++ hint_text word step_words)))
+
+-- no word
+unfoldable pub no_word_text : ℕ → List ℕ
+no_word_text number = in_step number (codes ": there is no key \"do\"")
+
+-- anything else
+unfoldable pub unread_text : ℕ → List ℕ
+unread_text number = in_step number (codes " can't be read")
+
+-- ---- the faults of a step
+
+-- of the step of this number
 module _ (text : List ℕ) (number : ℕ) where
   -- what is said of it at a byte
   abbrev pub step_told : ℕ → List ℕ → Told
-  step_told at words = told_at text (fault_of number) at (codes "step " ++ (decimal number ++ words))
+  step_told at words = told_at text (fault_of number) at words
 
   -- a key that its word doesn't have
-  abbrev pub is_unknown : List (List ℕ) → Item → Bool
-  is_unknown keys item =
-      let key = name_between text item.key in
-      not (bytes_eq key (codes "do") || (bytes_eq key (codes "who") || is_among keys key))
-
-  abbrev pub unknown_words : List ℕ → List (List ℕ) → List ℕ → List ℕ
-  unknown_words word keys key =
-      codes ": " ++ (word ++ (codes " has no key \"" ++ (key ++ (codes "\"" ++ (hint_text key keys ++ (codes " (keys: " ++ (names_text keys ++ codes ")")))))))
-
-  abbrev pub unknown_told : List ℕ → List (List ℕ) → Item → Told
-  unknown_told word keys item = step_told item.key.0 (unknown_words word keys (name_between text item.key))
-
-  abbrev pub unknown_faults : List ℕ → List (List ℕ) → List Item → List Told
-  unknown_faults word keys items = map (unknown_told word keys) (filter (is_unknown keys) items)
+  unfoldable pub unknown_faults : List ℕ → List (List ℕ) → Item → List Told
+  unknown_faults word keys item =
+      if is_unknown text keys item then step_told item.key.0 (unknown_text number word keys (name_between text item.key)) ∷ [] else []
 
   -- a key that is missing, unless it may be
-  abbrev pub missing_told : List Item → ℕ → List ℕ → List ℕ → List Told
-  missing_told items at word key =
-      if may_lack key || is_some (item_at text items key) then []
-      else step_told at (codes ": " ++ (word ++ (codes " needs a key \"" ++ (key ++ (codes "\": " ++ (wanted_text key ++ codes " is wanted there")))))) ∷ []
+  unfoldable pub missing_faults : List Item → ℕ → List ℕ → List ℕ → List Told
+  missing_faults items at word key =
+      if may_lack key || is_some (item_at text items key) then [] else step_told at (missing_text number word key) ∷ []
 
-  -- a value that can't stand where it does
-  abbrev pub is_misfit : List ℕ → List (List ℕ) → Item → Bool
-  is_misfit word keys item =
-      let key = name_between text item.key in
-      (bytes_eq key (codes "who") || is_among keys key) && not (fits_step word key (text_between text item.value))
+  -- a value that can't stand at its key
+  unfoldable pub misfit_faults : List ℕ → List (List ℕ) → Item → List Told
+  misfit_faults word keys item =
+      if is_misfit text word keys item
+      then step_told item.value.0 (misfit_text number (name_between text item.key) (text_between text item.value)) ∷ []
+      else []
 
-  abbrev pub misfit_words : List ℕ → List ℕ → List ℕ
-  misfit_words key value = codes ": " ++ (key ++ (codes " = " ++ (value ++ (codes ": " ++ (wanted_text key ++ codes " is wanted")))))
+  -- of missing keys it is told where no key is unknown
+  abbrev pub lacking_faults : List Item → ℕ → List ℕ → List (List ℕ) → List Told
+  lacking_faults items at word keys = if list_any (is_unknown text keys) items then [] else flat_map (missing_faults items at word) (codes "who" ∷ keys)
 
-  abbrev pub misfit_told : Item → Told
-  misfit_told item = step_told item.value.0 (misfit_words (name_between text item.key) (text_between text item.value))
-
-  abbrev pub misfit_faults : List ℕ → List (List ℕ) → List Item → List Told
-  misfit_faults word keys items = map misfit_told (filter (is_misfit word keys) items)
-
-  -- of a step whose word is known: what is missing is told where each key is known
-  abbrev pub key_faults : List Item → ℕ → List ℕ → List (List ℕ) → List Told
+  -- of a step whose word is known
+  unfoldable pub key_faults : List Item → ℕ → List ℕ → List (List ℕ) → List Told
   key_faults items at word keys =
-      unknown_faults word keys items
-      ++ ((if list_any (is_unknown keys) items then [] else flat_map (missing_told items at word) (codes "who" ∷ keys))
-      ++ misfit_faults word keys items)
+      flat_map (unknown_faults word keys) items ++ (lacking_faults items at word keys ++ flat_map (misfit_faults word keys) items)
 
+  -- of a word that may be known
   abbrev pub word_faults : List Item → Item → List ℕ → Option (List (List ℕ)) → List Told
   word_faults items call word (Some keys) = key_faults items call.key.0 word keys
-  word_faults items call word None =
-      step_told call.value.0 (codes ": there is no call \"" ++ (word ++ (codes "\"" ++ hint_text word step_words))) ∷ []
+  word_faults items call word None = step_told call.value.0 (no_call_text number word) ∷ []
 
   -- of a step that can't be read: its word comes first
   abbrev pub call_faults : List Item → ℕ → Option Item → List Told
-  call_faults items at None = step_told at (codes ": there is no key \"do\"") ∷ []
+  call_faults items at None = step_told at (no_word_text number) ∷ []
   call_faults items at (Some call) = let word = name_between text call.value in word_faults items call word (own_keys word)
 
-  abbrev pub or_plain : ℕ → List Told → List Told
-  or_plain at [] = step_told at (codes " can't be read") ∷ []
-  or_plain at (fault ∷ rest) = fault ∷ rest
+  -- where nothing else is found
+  abbrev pub or_unread : ℕ → List Told → List Told
+  or_unread at [] = step_told at (unread_text number) ∷ []
+  or_unread at (fault ∷ rest) = fault ∷ rest
 
   -- of any step
-  abbrev pub step_faults : List Item → List Told
+  unfoldable pub step_faults : List Item → List Told
   step_faults items =
-      if is_step (map (λ item. (bytes_between text item.key, bytes_between text item.value)) items) then []
-      else or_plain (first_byte items) (call_faults items (first_byte items) (item_at text items (codes "do")))
+      if is_step text items then []
+      else or_unread (first_byte items) (call_faults items (first_byte items) (item_at text items (codes "do")))

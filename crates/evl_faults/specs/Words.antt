@@ -60,13 +60,16 @@ edits text word = levenshtein_row nat_eq (chars text) (chars word) (length (char
 abbrev pub is_near : List ℕ → List ℕ → Bool
 is_near text word = nat_le (edits text word) 2 && nat_lt (edits text word) (length word)
 
--- no near word is nearer
+abbrev pub near_words : List ℕ → List (List ℕ) → List (List ℕ)
+near_words text words = filter (is_near text) words
+
+-- of these words none is nearer
 abbrev pub is_nearest : List ℕ → List (List ℕ) → List ℕ → Bool
-is_nearest text words word = list_all (λ other. nat_le (edits text word) (edits text other)) (filter (is_near text) words)
+is_nearest text words word = list_all (λ other. nat_le (edits text word) (edits text other)) words
 
 -- the first of the nearest words, if one is near
-abbrev pub nearest : List ℕ → List (List ℕ) → Option (List ℕ)
-nearest text words = find (λ word. is_near text word && is_nearest text words word) words
+unfoldable pub nearest : List ℕ → List (List ℕ) → Option (List ℕ)
+nearest text words = let near = near_words text words in find (is_nearest text near) near
 
 abbrev pub hint_for : Option (List ℕ) → List ℕ
 hint_for None = []
