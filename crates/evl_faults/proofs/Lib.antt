@@ -1,3 +1,4 @@
 pub mod NearLaws
 pub mod PlaceLaws
+pub mod RunLaws
 pub mod StepLaws

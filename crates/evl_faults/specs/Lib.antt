@@ -1,3 +1,4 @@
+pub mod Boards
 pub mod Faults
 pub mod Steps
 pub mod Told

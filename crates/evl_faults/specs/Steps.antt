@@ -1,6 +1,6 @@
 -- The faults of steps, in the order in which they are told.
-use Rattle.std.specs.Prelude.{ℕ, ◌-◌, ◌==◌, nat_le, Bool, not, ◌&&◌, ◌||◌, List, [], ◌∷◌, ◌++◌, codes, decimal, drop, filter, find, flat_map, is_some, length, map, min, option_map, slice_index, slice_range, string_bytes, if◌then◌else◌, Option, None, Some, is_ok}
-use Rattle.std.specs.List.{list_any}
+use Rattle.std.specs.Prelude.{ℕ, ◌+◌, ◌-◌, ◌==◌, nat_le, Bool, not, ◌&&◌, ◌||◌, List, [], ◌∷◌, ◌++◌, codes, decimal, drop, filter, find, flat_map, is_some, length, map, min, option_map, slice_index, slice_range, string_bytes, if◌then◌else◌, Option, None, Some, is_ok}
+use Rattle.std.specs.List.{list_any, prefix_len}
 use Rattle.std.specs.Str.{bytes_eq, is_utf8}
 use Rattle.evl_scenario.specs.Calls.{name_of, words}
 use Rattle.evl_scenario.specs.Lines.{line_feed}
@@ -12,6 +12,8 @@ use Rattle.evl_faults.specs.Faults.{may_lack}
 use Rattle.evl_faults.specs.Told.{Told, told_at}
 use Rattle.evl_faults.specs.Words.{hint_text, names_text, sample_text, wanted_text}
 use Rattle.evl_faults.specs.declared.items.Item.{Item}
+use Rattle.evl_faults.specs.declared.items.Section.{Section}
+use Rattle.evl_faults.specs.declared.items.Section.TheVariants.{Step as InStep}
 
 -- ---- what stands in a text
 
@@ -210,3 +212,40 @@ module _ (text : List ℕ) (number : ℕ) where
   step_faults items =
       if is_step text items then []
       else or_unread (first_byte items) (call_faults items (first_byte items) (item_at text items (codes "do")))
+
+-- ---- the faults of all steps
+
+-- the step in which an item stands, from 1; 0 where it stands in none
+abbrev pub number_of : Section → ℕ
+number_of (InStep number) = number
+number_of _ = 0
+
+abbrev pub is_beside : Item → Item → Bool
+is_beside first item = number_of item.section == number_of first.section
+
+-- how many items in front stand in one step
+abbrev pub run_length : List Item → ℕ
+run_length [] = 0
+run_length (first ∷ rest) = 1 + prefix_len (is_beside first) rest
+
+-- an item in front of runs
+abbrev pub onto_run : Item → List (List Item) → List (List Item)
+onto_run item [] = (item ∷ []) ∷ []
+onto_run item ([] ∷ runs) = (item ∷ []) ∷ runs
+onto_run item ((next ∷ run) ∷ runs) = if is_beside item next then (item ∷ next ∷ run) ∷ runs else (item ∷ []) ∷ (next ∷ run) ∷ runs
+
+-- items cut where the next one stands in another step
+abbrev pub runs : List Item → List (List Item)
+runs [] = []
+runs (item ∷ rest) = onto_run item (runs rest)
+
+abbrev pub first_number : List Item → ℕ
+first_number [] = 0
+first_number (item ∷ rest) = number_of item.section
+
+-- of items that stand in one step, or in none
+unfoldable pub run_faults : List ℕ → List Item → List Told
+run_faults text items = if first_number items == 0 then [] else step_faults text (first_number items) items
+
+unfoldable pub all_step_faults : List ℕ → List Item → List Told
+all_step_faults text items = flat_map (run_faults text) (runs items)

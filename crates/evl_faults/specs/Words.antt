@@ -45,6 +45,13 @@ board_wanted_text key =
     else if bytes_eq key (codes "groups") then codes "a list of at most 16 numbers from 1 to 100"
     else codes "a number from 1 to 1000000"
 
+unfoldable pub board_keys : List (List ℕ)
+board_keys = codes "threads" ∷ codes "sems" ∷ codes "flags" ∷ codes "xbufs" ∷ codes "mutexes" ∷ codes "groups" ∷ []
+
+-- the keys beside the board
+unfoldable pub opening_keys : List (List ℕ)
+opening_keys = codes "limit" ∷ codes "board" ∷ codes "step" ∷ []
+
 -- the names of keys, with a comma between two of them
 abbrev pub names_text : List (List ℕ) → List ℕ
 names_text [] = codes "none but do and who"

@@ -6,7 +6,7 @@ ghost use Rattle.evl_faults.specs.Faults.{are_of_steps, first_fault, is_of_step,
 use crate::boards::check_board;
 use crate::found::{Finding, Found, Place};
 use crate::items::items_of;
-use crate::steps::check_steps;
+use crate::runs::check_steps;
 use evl_scenario::{Fault, read_scenario};
 use std::alloc::{AllocError, Global};
 
@@ -60,7 +60,7 @@ fn found_in_board(alloc: Global, text: &[u8]) -> Result<Vec<Found>, AllocError> 
     };
     let items = items_of(alloc, text)?;
     check_board(alloc, &mut finding, &items)?;
-    check_steps(alloc, &mut finding, &items)?;
+    check_steps(alloc, &mut finding, items.items.as_slice())?;
     let Finding { text: _, found } = finding;
     Ok(found)
 }
@@ -74,7 +74,7 @@ fn found_in_steps(alloc: Global, text: &[u8]) -> Result<Vec<Found>, AllocError>
         found: Vec::new(alloc),
     };
     let items = items_of(alloc, text)?;
-    check_steps(alloc, &mut finding, &items)?;
+    check_steps(alloc, &mut finding, items.items.as_slice())?;
     let Finding { text: _, found } = finding;
     Ok(found)
 }

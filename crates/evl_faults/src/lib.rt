@@ -9,6 +9,7 @@ mod items;
 mod judges;
 mod near;
 mod reports;
+mod runs;
 mod steps;
 mod tokens;
 mod words;

@@ -8,7 +8,7 @@ ghost use Rattle.evl_faults.specs.Told.{Adds};
 ghost use Rattle.evl_faults.specs.Words.{hint_text, names_text};
 
 use crate::found::Finding;
-use crate::items::{Item, Items, Section, bare, slice};
+use crate::items::{Item, bare, slice};
 use crate::judges::{fits_step, is_step};
 use crate::near::near_text;
 use crate::words::{is_optional, keys_of, wanted};
@@ -76,8 +76,8 @@ fn listed(alloc: Global, keys: &[&str]) -> Result<String, AllocError>
     Ok(text)
 }
 
-// Whether a key is one of these.
-fn is_among(keys: &[&str], key: &str) -> bool
+/// Whether a key is one of these.
+pub fn is_among(keys: &[&str], key: &str) -> bool
     ensures { result ≡ steps.is_among (map (λ known. known.now) keys.now) key.now }
 {
     for known in keys {
@@ -429,8 +429,8 @@ fn first_byte(items: &[Item]) -> usize
     }
 }
 
-// Notes the faults of a step, where it can't be read.
-fn check_step(
+/// Notes the faults of a step, where it can't be read.
+pub fn check_step(
     alloc: Global,
     finding: &mut Finding<'_>,
     number: usize,
@@ -449,29 +449,5 @@ fn check_step(
         return Ok(());
     }
     note_unread(alloc, finding, number, at)?;
-    Ok(())
-}
-
-/// Notes the faults of all steps. `AllocError` where memory couldn't grow.
-pub fn check_steps(
-    alloc: Global,
-    finding: &mut Finding<'_>,
-    items: &Items,
-) -> Result<(), AllocError>
-    ensures { OnOk result (are_of_steps finding.old.found.items ≡ true → are_of_steps finding.new.found.items ≡ true) }
-{
-    let mut from = 0usize;
-    for (index, item) in items.items.iter().enumerate() {
-        let behind = index.saturating_add(1);
-        let next = items.items.get(behind).map(|item| item.section);
-        if next == Some(item.section) {
-            continue;
-        }
-        if let Section::Step(number) = item.section {
-            let own = items.items.as_slice().get(from..behind).unwrap_or(&[]);
-            check_step(alloc, finding, number, own)?;
-        }
-        from = behind;
-    }
     Ok(())
 }

@@ -2,17 +2,31 @@
 ghost use Rattle.std.specs.Prelude.{◌≡◌, drop, map, option_map, string_bytes, IfOk};
 ghost use Rattle.evl_scenario.specs.Steps.{keys_of, word_of};
 ghost use Rattle.evl_faults.specs.Faults.{may_lack};
-ghost use Rattle.evl_faults.specs.Words.{board_wanted_text, sample_text, wanted_text};
+ghost use Rattle.evl_faults.specs.Words.{board_keys, board_wanted_text, opening_keys, sample_text, wanted_text};
 
 use evl_base::MAX_THREADS;
 use evl_scenario::step_keys_of;
 use std::alloc::{AllocError, Global};
 
+const BOARD_KEYS: [&str; 6] = ["threads", "sems", "flags", "xbufs", "mutexes", "groups"];
+
+const OPENING_KEYS: [&str; 3] = ["limit", "board", "step"];
+
 /// The keys of a board.
-pub const BOARD_KEYS: [&str; 6] = ["threads", "sems", "flags", "xbufs", "mutexes", "groups"];
+#[tactic(auto, unfolding(crate::specs::Words::board_keys))]
+pub fn board_keys() -> &'static [&'static str]
+    ensures { map (λ key. key.now) result.now ≡ board_keys }
+{
+    &BOARD_KEYS
+}
 
 /// The keys beside the board.
-pub const OPENING_KEYS: [&str; 3] = ["limit", "board", "step"];
+#[tactic(auto, unfolding(crate::specs::Words::opening_keys))]
+pub fn opening_keys() -> &'static [&'static str]
+    ensures { map (λ key. key.now) result.now ≡ opening_keys }
+{
+    &OPENING_KEYS
+}
 
 // The keys behind the first two.
 fn behind_two(keys: &'static [&'static str]) -> &'static [&'static str]
