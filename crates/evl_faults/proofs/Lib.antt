@@ -1,3 +1,4 @@
+pub mod CheckLaws
 pub mod NearLaws
 pub mod PlaceLaws
 pub mod RunLaws

@@ -1,4 +1,5 @@
 pub mod Boards
+pub mod Checks
 pub mod Faults
 pub mod Steps
 pub mod Told

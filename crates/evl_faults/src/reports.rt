@@ -1,6 +1,8 @@
 //! What is told of the faults of a file.
-ghost use Rattle.std.specs.Prelude.{◌≡◌, ◌++◌, None, is_err, string_bytes, IfOk, OnOk};
+ghost use Rattle.std.specs.Prelude.{◌≡◌, ◌++◌, Err, None, is_err, string_bytes, IfOk, OnOk};
 ghost use Rattle.evl_scenario.specs.Scenarios.{scenario_of};
+ghost use Rattle.evl_scenario.specs.declared.faults.Fault.{Fault};
+ghost use Rattle.evl_faults.specs.Checks.{TellsLines};
 ghost use Rattle.evl_faults.specs.Faults.{TellsFaults, found_lines, refusal_in};
 
 use crate::checks::check;
@@ -29,6 +31,7 @@ pub fn report(
     report: &mut String,
 ) -> Result<bool, AllocError>
     ensures answers { IfOk result (λ is_at_fault. is_at_fault ≡ is_err (scenario_of None text.now)) }
+    ensures words { OnOk result ((fault : Fault) → scenario_of None text.now ≡ Err fault → TellsLines name.now text.now fault (string_bytes report.old) (string_bytes report.new)) }
     ensures told { OnOk result (TellsFaults name.now (refusal_in (scenario_of None text.now)) (string_bytes report.old) (string_bytes report.new)) }
 {
     let found = check(alloc, text)?;
