@@ -1,6 +1,5 @@
 -- What was found, put together.
-use Rattle.std.proofs.Common.{◌≡◌, ◌≢◌, ◌∙◌, ◌⊎◌, inl, inr, List, [], ◌∷◌, ◌++◌, map, Option, Some, None, refl, sym, ap, append_assoc}
-use Rattle.evl_scenario.specs.declared.faults.Fault.{Fault}
+use Rattle.std.proofs.Common.{◌≡◌, ◌∙◌, List, [], ◌∷◌, ◌++◌, map, refl, ap}
 use Rattle.evl_faults.specs.Checks.{first_told}
 use Rattle.evl_faults.specs.Faults.{first_fault}
 use Rattle.evl_faults.specs.Told.{Adds, Told, told}

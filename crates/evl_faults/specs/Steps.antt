@@ -1,5 +1,5 @@
 -- The faults of steps, in the order in which they are told.
-use Rattle.std.specs.Prelude.{ℕ, ◌+◌, ◌-◌, ◌==◌, nat_le, Bool, not, ◌&&◌, ◌||◌, List, [], ◌∷◌, ◌++◌, codes, decimal, drop, filter, find, flat_map, is_some, length, map, min, option_map, slice_index, slice_range, string_bytes, if◌then◌else◌, Option, None, Some, is_ok}
+use Rattle.std.specs.Prelude.{ℕ, ◌+◌, ◌-◌, ◌==◌, nat_le, Bool, not, ◌&&◌, ◌||◌, List, [], ◌∷◌, ◌++◌, codes, decimal, drop, find, flat_map, is_some, length, map, min, option_map, slice_index, slice_range, if◌then◌else◌, Option, None, Some, is_ok}
 use Rattle.std.specs.List.{list_any, prefix_len}
 use Rattle.std.specs.Str.{bytes_eq, is_utf8}
 use Rattle.evl_scenario.specs.Calls.{name_of, words}

@@ -1,4 +1,4 @@
-use Rattle.std.proofs.Common.{arith, rules, map, option_map}
+use Rattle.std.proofs.Common.{option_map}
 use Rattle.evl_faults.proofs.NearLaws.{near_done}
 use Rattle.evl_faults.proofs.near.near.Goals as goal
 
