@@ -1,4 +1,6 @@
+mod HeadLaws
 mod LaneLaws
+mod PictureLaws
 mod RowLaws
 mod TableLaws
 mod TitleLaws

@@ -1,7 +1,9 @@
 pub mod Drawings
 pub mod Frames
+pub mod Heads
 pub mod Lanes
 pub mod Marks
+pub mod Pictures
 pub mod Rows
 pub mod Strips
 pub mod Tables

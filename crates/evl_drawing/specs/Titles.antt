@@ -17,24 +17,7 @@ escaped (c ∷ rest) = escaped_byte c ++ escaped rest
 abbrev pub title_text : List ℕ → List ℕ
 title_text line = codes "<title>" ++ (escaped line ++ codes "</title>")
 
--- the part stands in the text
-pub record Holds (part text : List ℕ) : Type 0 where
-  pub front : List ℕ
-  pub back : List ℕ
-  pub whole : text ≡ front ++ (part ++ back)
-
 -- the titles of these lines stand in the text, one behind the other
 abbrev pub HoldsTitles : List (List ℕ) → List ℕ → Type 0
 HoldsTitles [] text = Unit {0}
 HoldsTitles (line ∷ rest) text = (front : List ℕ) × (back : List ℕ) × (text ≡ front ++ (title_text line ++ back)) × HoldsTitles rest back
-
--- something was appended
-pub record Adds (old new : List ℕ) : Type 0 where
-  pub more : List ℕ
-  pub whole : new ≡ old ++ more
-
--- something was appended in which the title of a line stands
-pub record AddsTitle (line old new : List ℕ) : Type 0 where
-  pub more : List ℕ
-  pub whole : new ≡ old ++ more
-  pub holds : Holds (title_text line) more

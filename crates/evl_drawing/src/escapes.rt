@@ -1,8 +1,8 @@
 //! Texts in XML.
-ghost use Rattle.std.specs.Prelude.{◌≡◌, ◌++◌, IfOk, OnOk};
+ghost use Rattle.std.specs.Prelude.{◌≡◌, ◌++◌, OnOk};
 ghost use Rattle.evl_drawing.specs.Titles.{escaped, escaped_byte, title_text};
 
-use std::alloc::{AllocError, Global};
+use std::alloc::AllocError;
 
 // Appends a byte as XML has it in a text.
 fn put_byte(text: &mut Vec<u8>, byte: u8) -> Result<(), AllocError>
@@ -26,13 +26,18 @@ pub fn put_escaped(buffer: &mut Vec<u8>, text: &[u8]) -> Result<(), AllocError>
     Ok(())
 }
 
-/// The title element of the mark of a line.
-pub fn title(alloc: Global, line: &str) -> Result<Vec<u8>, AllocError>
-    ensures { IfOk result (λ text. text.items ≡ title_text line.now) }
+/// Appends a text as it is.
+pub fn put_text(buffer: &mut Vec<u8>, text: &str) -> Result<(), AllocError>
+    ensures { OnOk result (buffer.new.items ≡ buffer.old.items ++ text.now) }
 {
-    let mut text = Vec::new(alloc);
-    text.extend_from_slice(b"<title>")?;
-    put_escaped(&mut text, line.as_bytes())?;
-    text.extend_from_slice(b"</title>")?;
-    Ok(text)
+    buffer.extend_from_slice(text.as_bytes())
+}
+
+/// Appends the title element of the mark of a line.
+pub fn put_title(buffer: &mut Vec<u8>, line: &str) -> Result<(), AllocError>
+    ensures { OnOk result (buffer.new.items ≡ buffer.old.items ++ title_text line.now) }
+{
+    buffer.extend_from_slice(b"<title>")?;
+    put_escaped(buffer, line.as_bytes())?;
+    buffer.extend_from_slice(b"</title>")
 }

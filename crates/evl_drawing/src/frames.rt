@@ -1,14 +1,14 @@
 //! The sheet that marks are drawn on: bands of lanes, one below the other.
 ghost use Rattle.std.specs.Prelude.{◌≡◌, ◌≤◌, ◌+◌, ◌*◌, ◌++◌, min, is_some, length, string_bytes, IfOk, OnOk};
 ghost use Rattle.evl_drawing.specs.Frames as frames;
-ghost use Rattle.evl_drawing.specs.Frames.{band_count, band_depth, band_height, band_top, capped, date_row, frame_text, lane_height, lane_ink, lane_line, lane_name, legend_height, line_text, longest, most_shown, picture_width, place_on};
+ghost use Rattle.evl_drawing.specs.Frames.{band_count, band_depth, band_height, band_top, capped, date_row, frame_text, lane_height, lane_ink, lane_line, lane_name, layout, layout_of, legend_height, line_text, longest, most_shown, picture_height, picture_width, place_on};
 ghost use Rattle.evl_drawing.specs.Drawings.{shape_text};
+ghost use Rattle.evl_drawing.specs.Heads.{head_text, second_legend};
 ghost use Rattle.evl_drawing.specs.Lanes.{AreLanesOf, put_touched};
 
+use crate::heads::{opening, put_conditions, put_shapes, put_words};
 use crate::lanes::{Lane, add_lane, index_of};
 use crate::marks::{Mark, Shape};
-use crate::moments::Condition;
-use crate::strips::strip_text;
 use std::alloc::{AllocError, Global};
 
 /// How many marks stand side by side in a band.
@@ -96,8 +96,8 @@ fn most_shown(shows: Shows) -> usize
     }
 }
 
-// So many steps from a place.
-fn steps(from: usize, step: usize, count: usize) -> usize
+/// So many steps from a place.
+pub fn steps(from: usize, step: usize, count: usize) -> usize
     ensures { result ≡ capped (from + step * count) }
 {
     from.saturating_add(step.saturating_mul(count))
@@ -117,10 +117,7 @@ fn shown_of(marks: &[Mark<'_>], most: usize) -> usize
 impl Sheet {
     /// The sheet for some marks, and what it shows of how lanes stand. `AllocError` where its list couldn't grow.
     pub fn of(alloc: Global, marks: &[Mark<'_>], shows: Shows) -> Result<Sheet, AllocError>
-        ensures lanes { IfOk result (λ sheet. AreLanesOf marks.now sheet.lanes.items) }
-        ensures shown { IfOk result (λ sheet. sheet.shown ≡ min (most_shown shows) (longest marks.now)) }
-        ensures count { IfOk result (λ sheet. sheet.count ≡ length marks.now) }
-        ensures shows { IfOk result (λ sheet. sheet.shows ≡ shows) }
+        ensures { IfOk result (λ sheet. layout sheet ≡ layout_of shows marks.now) }
     {
         let lanes = lanes_of(alloc, marks)?;
         Ok(Sheet {
@@ -144,21 +141,21 @@ impl Sheet {
 
     // How high a lane is.
     fn lane(&self) -> usize
-        ensures { result ≡ lane_height self.now }
+        ensures { result ≡ lane_height (layout self.now) }
     {
         self.room(STRIP).saturating_add(LANE)
     }
 
     // The room for the legend.
     fn top(&self) -> usize
-        ensures { result ≡ legend_height self.now }
+        ensures { result ≡ legend_height (layout self.now) }
     {
         self.room(SECOND).saturating_add(TOP)
     }
 
     // How high the dates and lanes of a band are.
     fn depth(&self) -> usize
-        ensures { result ≡ band_depth self.now }
+        ensures { result ≡ band_depth (layout self.now) }
     {
         steps(
             self.room(DATES).saturating_add(LANE / 2),
@@ -169,14 +166,14 @@ impl Sheet {
 
     // How high a band is, with the lines below it.
     fn height(&self) -> usize
-        ensures { result ≡ band_height self.now }
+        ensures { result ≡ band_height (layout self.now) }
     {
         steps(self.depth().saturating_add(BETWEEN), CHARACTER, self.shown)
     }
 
     // Where the band of a column begins.
     fn band_top(&self, column: usize) -> usize
-        ensures { result ≡ band_top self.now column }
+        ensures { result ≡ band_top (layout self.now) column }
     {
         steps(self.top(), self.height(), column / COLUMNS)
     }
@@ -200,14 +197,14 @@ impl Sheet {
 
     /// Whether it has this lane.
     pub fn has(&self, lane: Lane) -> bool
-        ensures { result ≡ is_some (place_on self.now lane) }
+        ensures { result ≡ is_some (place_on (layout self.now) lane) }
     {
         index_of(self.lanes.as_slice(), lane).is_some()
     }
 
     /// Where the dates of the band of a column stand, from the top.
     pub fn date_row(&self, column: usize) -> usize
-        ensures { result ≡ date_row self.now column }
+        ensures { result ≡ date_row (layout self.now) column }
     {
         self.band_top(column).saturating_add(DATES)
     }
@@ -221,7 +218,7 @@ impl Sheet {
 
     /// Where a lane stands in the band of a column, from the top.
     pub fn down(&self, column: usize, lane: Lane) -> usize
-        ensures { result ≡ frames.down self.now column lane }
+        ensures { result ≡ frames.down (layout self.now) column lane }
     {
         let index = index_of(self.lanes.as_slice(), lane).unwrap_or(0);
         let first = self.room(DATES).saturating_add(LANE);
@@ -231,7 +228,7 @@ impl Sheet {
 
     /// How far the lines below a band are below a lane.
     pub fn below(&self, column: usize, lane: Lane) -> usize
-        ensures { result ≡ frames.below self.now column lane }
+        ensures { result ≡ frames.below (layout self.now) column lane }
     {
         let foot = self.band_top(column).saturating_add(self.depth());
         foot.saturating_sub(self.down(column, lane))
@@ -246,37 +243,49 @@ impl Sheet {
 
     // How wide the picture is: a legend has its place in it, however few marks there are.
     fn width(&self) -> usize
-        ensures { result ≡ picture_width self.now }
+        ensures { result ≡ picture_width (layout self.now) }
     {
         steps(LEFT + BETWEEN, COLUMN, self.columns().max(38))
     }
 
     // How many bands there are.
     fn bands(&self) -> usize
-        ensures { result ≡ band_count self.now }
+        ensures { result ≡ band_count (layout self.now) }
     {
         self.count / COLUMNS + if self.count % COLUMNS == 0 { 0 } else { 1 }
     }
 
+    // How high the picture is.
+    fn whole_height(&self) -> usize
+        ensures { result ≡ picture_height (layout self.now) }
+    {
+        steps(self.top(), self.height(), self.bands())
+    }
+
     /// The beginning of the picture, up to its legend.
-    pub fn head(&self, alloc: Global) -> Result<String, AllocError> {
-        let width = self.width();
-        let height = steps(self.top(), self.height(), self.bands());
-        let mut text = format!(in alloc;
-            "<svg xmlns=\"http://www.w3.org/2000/svg\" width=\"{width}\" height=\"{height}\" viewBox=\"0 0 {width} {height}\" font-family=\"DejaVu Sans Mono, monospace\" font-size=\"9\">\n<rect width=\"100%\" height=\"100%\" fill=\"#ffffff\"/>\n"
-        )?;
+    pub fn head(&self, alloc: Global) -> Result<String, AllocError>
+        ensures { IfOk result (λ text. string_bytes text ≡ head_text (layout self.now)) }
+    {
+        let mut text = opening(alloc, self.width(), self.whole_height())?;
         put_shapes(&mut text)?;
-        match self.shows {
-            Shows::Waits => {}
-            Shows::Machine => put_conditions(&mut text)?,
-            Shows::Words => put_words(&mut text, self.lanes.as_slice())?,
-        }
+        self.put_second(&mut text)?;
         Ok(text)
+    }
+
+    // Appends the second line of the legend, where it is told how lanes stand.
+    fn put_second(&self, text: &mut String) -> Result<(), AllocError>
+        ensures { OnOk result (string_bytes text.new ≡ string_bytes text.old ++ second_legend self.now.shows self.now.lanes.items) }
+    {
+        match self.shows {
+            Shows::Waits => Ok(()),
+            Shows::Machine => put_conditions(text),
+            Shows::Words => put_words(text, self.lanes.as_slice()),
+        }
     }
 
     /// The lanes of the band that begins at a column.
     pub fn frame(&self, alloc: Global, column: usize) -> Result<String, AllocError>
-        ensures { IfOk result (λ text. string_bytes text ≡ frame_text self.now column) }
+        ensures { IfOk result (λ text. string_bytes text ≡ frame_text (layout self.now) column) }
     {
         let mut text = String::new(alloc);
         let end = steps(LEFT, COLUMN, self.count.saturating_sub(column).min(COLUMNS));
@@ -294,7 +303,7 @@ impl Sheet {
         end: usize,
         lane: Lane,
     ) -> Result<(), AllocError>
-        ensures { OnOk result (string_bytes text.new ≡ string_bytes text.old ++ lane_line self.now column end lane) }
+        ensures { OnOk result (string_bytes text.new ≡ string_bytes text.old ++ lane_line (layout self.now) column end lane) }
     {
         let y = self.down(column, lane);
         put_line(text, y, end, lane_ink(lane))?;
@@ -318,97 +327,6 @@ fn put_lane_name(text: &mut String, y: usize, lane: Lane) -> Result<(), AllocErr
         text,
         "<text x=\"8\" y=\"{y}\" font-size=\"11\">{lane}</text>\n"
     )?;
-    Ok(())
-}
-
-// Appends the legend of the shapes.
-fn put_shapes(text: &mut String) -> Result<(), AllocError> {
-    let shapes = [
-        (Shape::Answered, "answered"),
-        (Shape::Begun, "a wait begins"),
-        (Shape::Ended, "a wait ends"),
-        (Shape::Refused, "refused"),
-        (Shape::Played, "played"),
-        (Shape::Unhandled, "not handled"),
-    ];
-    let mut at: usize = 16;
-    for (shape, word) in shapes {
-        let drawn = shape_text(shape);
-        write!(
-            text,
-            "<g transform=\"translate({at},18)\">{drawn}<text x=\"10\" y=\"3\">{word}</text></g>\n"
-        )?;
-        at = steps(at.saturating_add(32), CHARACTER, word.len());
-    }
-    Ok(())
-}
-
-// Appends a condition with its word, so far from the left.
-fn put_condition(
-    text: &mut String,
-    at: usize,
-    condition: Condition,
-    word: &str,
-) -> Result<(), AllocError> {
-    let drawn = strip_text(condition);
-    write!(
-        text,
-        "<g transform=\"translate({at},28)\">{drawn}<text x=\"12\" y=\"13\">{word}</text></g>\n"
-    )?;
-    Ok(())
-}
-
-// Where the next condition of a legend stands, from the left.
-fn behind_word(at: usize, word: &str) -> usize {
-    steps(at.saturating_add(36), CHARACTER, word.len())
-}
-
-// Appends the legend of the conditions.
-fn put_conditions(text: &mut String) -> Result<(), AllocError> {
-    let conditions = [
-        (Condition::Picked, "picked"),
-        (Condition::Ready, "ready"),
-        (Condition::Blocked, "blocked"),
-        (Condition::Inband, "in-band"),
-        (Condition::Owned, "owned"),
-        (Condition::Stalled, "stalled"),
-        (Condition::Pending, "events pending"),
-        (Condition::Runs, "timer runs"),
-    ];
-    let mut at: usize = 20;
-    for (condition, word) in conditions {
-        put_condition(text, at, condition, word)?;
-        at = behind_word(at, word);
-    }
-    Ok(())
-}
-
-// Whether a condition is one of the word of a lane.
-fn is_of_word(condition: Condition, lane: Lane) -> bool {
-    match lane {
-        Lane::Mutex(_) => matches!(condition, Condition::Owned | Condition::Claimed),
-        Lane::Stax(_) => matches!(condition, Condition::Inband | Condition::Oob),
-        Lane::Core => matches!(condition, Condition::Taken),
-        _ => false,
-    }
-}
-
-// Appends the legend of how words stand, of those that have a lane.
-fn put_words(text: &mut String, lanes: &[Lane]) -> Result<(), AllocError> {
-    let conditions = [
-        (Condition::Owned, "owned"),
-        (Condition::Claimed, "claimed"),
-        (Condition::Inband, "held in-band"),
-        (Condition::Oob, "held out-of-band"),
-        (Condition::Taken, "taken"),
-    ];
-    let mut at: usize = 20;
-    for (condition, word) in conditions {
-        if lanes.iter().any(|lane| is_of_word(condition, *lane)) {
-            put_condition(text, at, condition, word)?;
-            at = behind_word(at, word);
-        }
-    }
     Ok(())
 }
 

@@ -1,12 +1,12 @@
 //! The lanes of a picture.
-ghost use Rattle.std.specs.Prelude.{◌≡◌, ◌≤◌, false, not, length, position, replicate, slice_get, IfOk, OnOk};
+ghost use Rattle.std.specs.Prelude.{◌≡◌, ◌≤◌, false, not, length, position, slice_get, OnOk};
 ghost use Rattle.std.specs.List.{prefix_len};
 ghost use Rattle.std.specs.Option.{option_map_or};
 ghost use Rattle.evl_drawing.specs.Lanes as lanes;
 ghost use Rattle.evl_drawing.specs.Lanes.{is_above, is_lane, put};
 
 use evl_base::Stage;
-use std::alloc::{AllocError, Global};
+use std::alloc::AllocError;
 use std::fmt;
 
 /// What a lane of a picture is of.
@@ -124,11 +124,4 @@ pub fn index_of(lanes: &[Lane], lane: Lane) -> Option<usize>
     ensures { result ≡ position (is_lane lane) lanes.now }
 {
     lanes.iter().position(|other| is_lane(lane, *other))
-}
-
-/// A copy of a list with a note for each lane that nothing is open there.
-pub fn closed(alloc: Global, lanes: &[Lane]) -> Result<Vec<bool>, AllocError>
-    ensures { IfOk result (λ notes. notes.items ≡ replicate (length lanes.now) false) }
-{
-    vec![in alloc; false; lanes.len()]
 }

@@ -4,6 +4,8 @@
 
 mod escapes;
 mod frames;
+mod heads;
+mod labels;
 mod lanes;
 mod marks;
 mod moments;
@@ -13,6 +15,7 @@ mod strips;
 mod svg;
 mod tables;
 mod told;
+mod waits;
 mod words;
 
 pub use frames::lanes_of;

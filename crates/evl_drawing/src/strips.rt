@@ -2,7 +2,7 @@
 ghost use Rattle.std.specs.Prelude.{◌≡◌, ◌<◌, ◌++◌, IfOk, OnOk, option_map, string_bytes};
 ghost use Rattle.evl_drawing.specs.Drawings as drawings;
 ghost use Rattle.evl_drawing.specs.Frames as frames;
-ghost use Rattle.evl_drawing.specs.Frames.{date_text, number_sign, number_text};
+ghost use Rattle.evl_drawing.specs.Frames.{date_text, layout, number_sign, number_text};
 ghost use Rattle.evl_drawing.specs.Strips as strips;
 ghost use Rattle.evl_drawing.specs.Strips.{date_mark, is_number, moment_text, standing_text, strip_at, tells_number, told_date, told_number, told_standing};
 
@@ -60,7 +60,7 @@ fn put_number(
     standing: Standing,
     number: u16,
 ) -> Result<(), AllocError>
-    ensures { OnOk result (string_bytes text.new ≡ string_bytes text.old ++ number_text sheet.now standing.condition number) }
+    ensures { OnOk result (string_bytes text.new ≡ string_bytes text.old ++ number_text (layout sheet.now) standing.condition number) }
 {
     let place = sheet.number_place();
     let sign = number_sign(standing.condition);
@@ -107,7 +107,7 @@ fn put_told_number(
     standing: Standing,
     tells: bool,
 ) -> Result<(), AllocError>
-    ensures { OnOk result (string_bytes text.new ≡ string_bytes text.old ++ told_number sheet.now standing tells standing.number) }
+    ensures { OnOk result (string_bytes text.new ≡ string_bytes text.old ++ told_number (layout sheet.now) standing tells standing.number) }
 {
     if !tells {
         return Ok(());
@@ -125,7 +125,7 @@ fn put_strip(
     column: usize,
     standing: Standing,
 ) -> Result<(), AllocError>
-    ensures { OnOk result (string_bytes text.new ≡ string_bytes text.old ++ strip_at sheet.now column standing) }
+    ensures { OnOk result (string_bytes text.new ≡ string_bytes text.old ++ strip_at (layout sheet.now) column standing) }
 {
     let x = sheet.across(column);
     let y = sheet.down(column, standing.lane);
@@ -142,7 +142,7 @@ fn put_standing(
     standing: Standing,
     before: Option<&Moment>,
 ) -> Result<(), AllocError>
-    ensures { OnOk result (string_bytes text.new ≡ string_bytes text.old ++ standing_text sheet.now column (option_map (λ moment. moment.now) before.entry) standing) }
+    ensures { OnOk result (string_bytes text.new ≡ string_bytes text.old ++ standing_text (layout sheet.now) column (option_map (λ moment. moment.now) before.entry) standing) }
 {
     put_strip(text, sheet, column, standing)?;
     put_told_number(
@@ -200,7 +200,7 @@ fn put_date(
     column: usize,
     date: u64,
 ) -> Result<(), AllocError>
-    ensures { OnOk result (string_bytes text.new ≡ string_bytes text.old ++ date_mark sheet.now column date) }
+    ensures { OnOk result (string_bytes text.new ≡ string_bytes text.old ++ date_mark (layout sheet.now) column date) }
 {
     let told = date_text(alloc, date)?;
     let x = sheet.across(column);
@@ -222,7 +222,7 @@ fn put_told_date(
     date: u64,
     before: Option<&Moment>,
 ) -> Result<(), AllocError>
-    ensures { OnOk result (string_bytes text.new ≡ string_bytes text.old ++ told_date sheet.now column date (option_map (λ moment. moment.now) before.entry)) }
+    ensures { OnOk result (string_bytes text.new ≡ string_bytes text.old ++ told_date (layout sheet.now) column date (option_map (λ moment. moment.now) before.entry)) }
 {
     if was_date(date, before) && column % COLUMNS != 0 {
         return Ok(());
@@ -238,7 +238,7 @@ fn put_told_standing(
     standing: Standing,
     before: Option<&Moment>,
 ) -> Result<(), AllocError>
-    ensures { OnOk result (string_bytes text.new ≡ string_bytes text.old ++ told_standing sheet.now column (option_map (λ moment. moment.now) before.entry) standing) }
+    ensures { OnOk result (string_bytes text.new ≡ string_bytes text.old ++ told_standing (layout sheet.now) column (option_map (λ moment. moment.now) before.entry) standing) }
 {
     if sheet.has(standing.lane) {
         put_standing(text, sheet, column, standing, before)
@@ -257,7 +257,7 @@ pub fn put_moment(
     moment: &Moment,
     before: Option<&Moment>,
 ) -> Result<(), AllocError>
-    ensures { OnOk result (string_bytes text.new ≡ string_bytes text.old ++ moment_text sheet.now column moment.now (option_map (λ earlier. earlier.now) before.entry)) }
+    ensures { OnOk result (string_bytes text.new ≡ string_bytes text.old ++ moment_text (layout sheet.now) column moment.now (option_map (λ earlier. earlier.now) before.entry)) }
 {
     put_told_date(alloc, text, sheet, column, moment.date, before)?;
     for standing in &moment.standings {

@@ -1,31 +1,23 @@
 //! A picture as SVG.
-ghost use Rattle.std.specs.Prelude.{◌≡◌, ◌+◌, ◌%◌, ◌==◌, [], map, string_bytes, IfOk, OnOk, if◌then◌else◌};
-ghost use Rattle.evl_drawing.specs.Frames.{capped, frame_text, tie_down, tie_text};
+ghost use Rattle.std.specs.Prelude.{◌≡◌, ◌+◌, ◌++◌, ◌%◌, ◌==◌, [], map, option_map, string_bytes, IfOk, OnOk, if◌then◌else◌};
+ghost use Rattle.evl_drawing.specs.Frames.{capped, layout, tie_down, tie_text};
+ghost use Rattle.evl_drawing.specs.Heads.{place_text};
 ghost use Rattle.evl_drawing.specs.Marks.{is_entry, line_of};
-ghost use Rattle.evl_drawing.specs.Titles.{Adds, AddsTitle, Holds, HoldsTitles, title_text};
+ghost use Rattle.evl_drawing.specs.Pictures as pictures;
+ghost use Rattle.evl_drawing.specs.Pictures.{band_frame, body_text, column_text, columns_text, lead_text, mark_text, stood_text, svg_text};
+ghost use Rattle.evl_drawing.specs.Titles.{HoldsTitles};
+ghost use Rattle.evl_drawing.specs.declared.frames.Shows.TheVariants.{Words};
 
-use crate::escapes::{put_escaped, title};
+use crate::escapes::{put_text, put_title};
 use crate::frames::{COLUMNS, Sheet, Shows, shape_text};
-use crate::lanes::{Lane, closed, index_of};
-use crate::marks::{Mark, Shape};
+use crate::labels::{label_ink, put_label};
+use crate::lanes::Lane;
+use crate::marks::Mark;
 use crate::moments::Moment;
 use crate::pages::is_entry;
 use crate::strips::put_moment;
+use crate::waits::{no_waits, note, put_waits};
 use std::alloc::{AllocError, Global};
-
-// What is shown of a line.
-fn label(alloc: Global, line: &str, most: usize) -> Result<Vec<u8>, AllocError> {
-    let mut text = Vec::new(alloc);
-    let shown = line.trim_start();
-    if shown.len() <= most {
-        put_escaped(&mut text, shown.as_bytes())?;
-        return Ok(text);
-    }
-    let front: String = shown.chars().take(most.saturating_sub(1)).collect(alloc)?;
-    put_escaped(&mut text, front.as_str().as_bytes())?;
-    text.extend_from_slice("…".as_bytes())?;
-    Ok(text)
-}
 
 // A tie to a lane so far down.
 fn tie_to(alloc: Global, down: usize) -> Result<String, AllocError>
@@ -38,7 +30,7 @@ fn tie_to(alloc: Global, down: usize) -> Result<String, AllocError>
 
 // The tie of a mark to the lane of what its call names.
 fn tie(alloc: Global, sheet: &Sheet, column: usize, mark: &Mark<'_>) -> Result<String, AllocError>
-    ensures { IfOk result (λ text. string_bytes text ≡ tie_text sheet.now column mark.now) }
+    ensures { IfOk result (λ text. string_bytes text ≡ tie_text (layout sheet.now) column mark.now) }
 {
     match mark.names {
         None => Ok(String::new(alloc)),
@@ -49,86 +41,69 @@ fn tie(alloc: Global, sheet: &Sheet, column: usize, mark: &Mark<'_>) -> Result<S
     }
 }
 
-// The drawing of a mark, behind its title: the tie, the shape, and the line below the band.
-fn body(
-    alloc: Global,
-    sheet: &Sheet,
-    column: usize,
-    mark: &Mark<'_>,
-) -> Result<Vec<u8>, AllocError> {
-    let below = sheet.below(column, mark.lane);
-    let tied = tie(alloc, sheet, column, mark)?;
-    let drawn = shape_text(mark.shape);
-    let ink = if mark.shape == Shape::Refused {
-        "#b3261e"
-    } else {
-        "#202020"
-    };
-    let opening = format!(in alloc;
-        "<path d=\"M0 0V{below}\" stroke=\"#e4e4e4\" stroke-dasharray=\"1 3\"/>{tied}{drawn}<text transform=\"translate(-3,{below}) rotate(90)\" fill=\"{ink}\">"
-    )?;
-    let shown = label(alloc, mark.line, sheet.shown)?;
-    let mut text = Vec::new(alloc);
-    text.extend_from_slice(opening.as_str().as_bytes())?;
-    text.extend_from_slice(shown.as_slice())?;
-    text.extend_from_slice(b"</text></g>\n")?;
-    Ok(text)
+// A dotted line from a mark, so far down.
+fn lead(alloc: Global, pixels: usize) -> Result<String, AllocError>
+    ensures { IfOk result (λ text. string_bytes text ≡ lead_text pixels) }
+{
+    format!(in alloc; "<path d=\"M0 0V{pixels}\" stroke=\"#e4e4e4\" stroke-dasharray=\"1 3\"/>")
 }
 
-// A mark, with the line that it stands for as its title.
-fn mark_text(
+// The beginning of a mark that stands here.
+fn place(alloc: Global, x: usize, y: usize) -> Result<String, AllocError>
+    ensures { IfOk result (λ text. string_bytes text ≡ place_text x y) }
+{
+    format!(in alloc; "<g transform=\"translate({x},{y})\">")
+}
+
+// Appends the drawing of a mark, behind its title.
+fn put_body(
     alloc: Global,
     sheet: &Sheet,
     column: usize,
     mark: &Mark<'_>,
-) -> Result<Vec<u8>, AllocError>
-    ensures { IfOk result (λ text. Holds (title_text mark.now.line.now) text.items) }
+    text: &mut Vec<u8>,
+) -> Result<(), AllocError>
+    ensures { OnOk result (text.new.items ≡ text.old.items ++ body_text (layout sheet.now) column mark.now) }
+{
+    let below = sheet.below(column, mark.lane);
+    let led = lead(alloc, below)?;
+    let tied = tie(alloc, sheet, column, mark)?;
+    put_text(text, led.as_str())?;
+    put_text(text, tied.as_str())?;
+    put_text(text, shape_text(mark.shape))?;
+    put_label(
+        alloc,
+        text,
+        sheet.shown,
+        below,
+        label_ink(mark.shape),
+        mark.line,
+    )?;
+    Ok(())
+}
+
+// Appends a mark, with the line that it stands for as its title.
+fn put_mark(
+    alloc: Global,
+    sheet: &Sheet,
+    column: usize,
+    mark: &Mark<'_>,
+    text: &mut Vec<u8>,
+) -> Result<(), AllocError>
+    ensures { OnOk result (text.new.items ≡ text.old.items ++ mark_text (layout sheet.now) column mark.now) }
 {
     let x = sheet.across(column);
     let y = sheet.down(column, mark.lane);
-    let opening = format!(in alloc; "<g transform=\"translate({x},{y})\">")?;
-    let titled = title(alloc, mark.line)?;
-    let drawn = body(alloc, sheet, column, mark)?;
-    let mut text = Vec::new(alloc);
-    text.extend_from_slice(opening.as_str().as_bytes())?;
-    text.extend_from_slice(titled.as_slice())?;
-    text.extend_from_slice(drawn.as_slice())?;
-    Ok(text)
-}
-
-// The waits that go on in a column.
-fn waits(alloc: Global, sheet: &Sheet, column: usize, open: &[bool]) -> Result<String, AllocError> {
-    let mut text = String::new(alloc);
-    let left = sheet.across(column).saturating_sub(8);
-    for (lane, is_open) in sheet.lanes.iter().zip(open) {
-        if *is_open {
-            let top = sheet.down(column, *lane).saturating_sub(3);
-            write!(
-                text,
-                "<rect x=\"{left}\" y=\"{top}\" width=\"16\" height=\"6\" fill=\"#c9d9f0\"/>\n"
-            )?;
-        }
-    }
-    Ok(text)
-}
-
-// Notes whether a wait goes on in the lane of a mark.
-fn note(open: &mut [bool], lanes: &[Lane], mark: &Mark<'_>) {
-    let goes_on = match mark.shape {
-        Shape::Begun => true,
-        Shape::Ended => false,
-        _ => return,
-    };
-    if let Some(index) = index_of(lanes, mark.lane)
-        && index < open.len()
-    {
-        open[index] = goes_on;
-    }
+    let placed = place(alloc, x, y)?;
+    put_text(text, placed.as_str())?;
+    put_title(text, mark.line)?;
+    put_body(alloc, sheet, column, mark, text)?;
+    Ok(())
 }
 
 // The lanes of the band of a column, where it is the first one there.
 fn frame(alloc: Global, sheet: &Sheet, column: usize) -> Result<String, AllocError>
-    ensures { IfOk result (λ text. string_bytes text ≡ (if column % 60 == 0 then frame_text sheet.now column else [])) }
+    ensures { IfOk result (λ text. string_bytes text ≡ band_frame (layout sheet.now) column) }
 {
     if column % COLUMNS == 0 {
         sheet.frame(alloc, column)
@@ -137,69 +112,51 @@ fn frame(alloc: Global, sheet: &Sheet, column: usize) -> Result<String, AllocErr
     }
 }
 
-// How the lanes stand in a column: as the waits that are open tell, or as after this many entries, where that is known.
-// And how many entries stand before the column: as many, where it is a play's.
+// How lanes stand in a column: the waits that go on there, and how the machine stood after it and before it.
 #[derive(Clone, Copy, Drop)]
 struct Known<'a> {
-    open: &'a [bool],
-    moments: &'a [Moment],
-    entries: usize,
-    before: usize,
+    waits: &'a [(Lane, bool)],
+    after: Option<&'a Moment>,
+    before: Option<&'a Moment>,
 }
 
-impl Known<'_> {
-    // How the machine stood after so many entries.
-    fn after(&self, entries: usize) -> Option<&Moment> {
-        self.moments.get(entries.checked_sub(1)?)
-    }
-}
-
-// What stands before the mark of a column: the lanes of its band, where it is the first one there, and how they stand.
-fn background(
+// Appends how lanes stand in a column.
+fn put_stood(
     alloc: Global,
     sheet: &Sheet,
     column: usize,
     known: &Known<'_>,
-) -> Result<String, AllocError> {
-    let mut text = frame(alloc, sheet, column)?;
-    let now = known.after(known.entries);
-    if let Some(moment) = now {
-        let before = known.after(known.before);
-        put_moment(alloc, &mut text, sheet, column, moment, before)?;
-    }
-    if now.is_none() || sheet.shows_waits() {
-        let going_on = waits(alloc, sheet, column, known.open)?;
-        text.push_str(going_on.as_str())?;
-    }
-    Ok(text)
-}
-
-// Appends what stands before the mark of a column.
-fn put_background(
-    alloc: Global,
-    sheet: &Sheet,
-    column: usize,
-    known: &Known<'_>,
-    text: &mut Vec<u8>,
+    text: &mut String,
 ) -> Result<(), AllocError>
-    ensures { OnOk result (Adds text.old.items text.new.items) }
+    ensures { OnOk result (string_bytes text.new ≡ string_bytes text.old ++ stood_text (layout sheet.now) column known.now.waits.now (option_map (λ moment. moment.now) known.now.after) (option_map (λ moment. moment.now) known.now.before)) }
 {
-    let behind = background(alloc, sheet, column, known)?;
-    text.extend_from_slice(behind.as_str().as_bytes())
+    let Some(moment) = known.after else {
+        return put_waits(text, sheet, column, known.waits);
+    };
+    put_moment(alloc, text, sheet, column, moment, known.before)?;
+    if sheet.shows_waits() {
+        put_waits(text, sheet, column, known.waits)
+    } else {
+        Ok(())
+    }
 }
 
-// Appends the mark of a column.
-fn put_mark(
+// Appends the column of a mark: the lanes of its band, where it is the first one there, how they stand, and the mark.
+fn put_column(
     alloc: Global,
     sheet: &Sheet,
     column: usize,
     mark: &Mark<'_>,
+    known: &Known<'_>,
     text: &mut Vec<u8>,
 ) -> Result<(), AllocError>
-    ensures { OnOk result (AddsTitle mark.now.line.now text.old.items text.new.items) }
+    ensures { OnOk result (text.new.items ≡ text.old.items ++ column_text (layout sheet.now) column known.now.waits.now (option_map (λ moment. moment.now) known.now.after) (option_map (λ moment. moment.now) known.now.before) mark.now) }
 {
-    let drawn = mark_text(alloc, sheet, column, mark)?;
-    text.extend_from_slice(drawn.as_slice())
+    let mut behind = frame(alloc, sheet, column)?;
+    put_stood(alloc, sheet, column, known, &mut behind)?;
+    put_text(text, behind.as_str())?;
+    put_mark(alloc, sheet, column, mark, text)?;
+    Ok(())
 }
 
 // One more entry, where a mark is that of one.
@@ -213,30 +170,35 @@ fn counted(entries: usize, mark: &Mark<'_>) -> usize
     }
 }
 
-// Appends all marks, each behind what stands before it.
-fn put_marks(
+// How the machine stood after so many entries, where that is known.
+fn moment_after(moments: &[Moment], entries: usize) -> Option<&Moment>
+    ensures { option_map (λ moment. moment.now) result ≡ pictures.moment_after moments.now entries }
+{
+    moments.get(entries.checked_sub(1)?)
+}
+
+// Appends the columns of all marks.
+fn put_columns(
     alloc: Global,
     sheet: &Sheet,
     marks: &[Mark<'_>],
     moments: &[Moment],
     text: &mut Vec<u8>,
 ) -> Result<(), AllocError>
-    ensures { OnOk result (HoldsTitles (map line_of marks.now) text.new.items) }
+    ensures { OnOk result (text.new.items ≡ text.old.items ++ columns_text (layout sheet.now) moments.now [] marks.now) }
 {
-    let mut open = closed(alloc, sheet.lanes.as_slice())?;
+    let mut waits = no_waits(alloc, sheet.lanes.as_slice())?;
     let mut entries: usize = 0;
     for (column, mark) in marks.iter().enumerate() {
-        let before = entries;
+        let before = moment_after(moments, entries);
         entries = counted(entries, mark);
         let known = Known {
-            open: open.as_slice(),
-            moments,
-            entries,
+            waits: waits.as_slice(),
+            after: moment_after(moments, entries),
             before,
         };
-        put_background(alloc, sheet, column, &known, text)?;
-        put_mark(alloc, sheet, column, mark, text)?;
-        note(open.as_mut_slice(), sheet.lanes.as_slice(), mark);
+        put_column(alloc, sheet, column, mark, &known, text)?;
+        note(waits.as_mut_slice(), mark);
     }
     Ok(())
 }
@@ -248,15 +210,27 @@ fn picture(
     moments: &[Moment],
     shows: Shows,
 ) -> Result<Vec<u8>, AllocError>
-    ensures { IfOk result (λ text. HoldsTitles (map line_of marks.now) text.items) }
+    ensures text { IfOk result (λ text. text.items ≡ svg_text shows moments.now marks.now) }
+    ensures titles { IfOk result (λ text. HoldsTitles (map line_of marks.now) text.items) }
 {
     let sheet = Sheet::of(alloc, marks, shows)?;
     let head = sheet.head(alloc)?;
     let mut text = Vec::new(alloc);
-    text.extend_from_slice(head.as_str().as_bytes())?;
-    put_marks(alloc, &sheet, marks, moments, &mut text)?;
+    put_text(&mut text, head.as_str())?;
+    put_columns(alloc, &sheet, marks, moments, &mut text)?;
     text.extend_from_slice(b"</svg>\n")?;
     Ok(text)
+}
+
+// What is shown of how a machine stands, by the moments that are known.
+fn shown_with(moments: &[Moment]) -> Shows
+    ensures { result ≡ pictures.shown_with moments.now }
+{
+    if moments.is_empty() {
+        Shows::Waits
+    } else {
+        Shows::Machine
+    }
 }
 
 /// The picture of some marks as SVG: a band of lanes for each 60 of them, with the title of each mark, in order. Where
@@ -267,13 +241,10 @@ pub fn write_svg(
     marks: &[Mark<'_>],
     moments: &[Moment],
 ) -> Result<Vec<u8>, AllocError>
-    ensures { IfOk result (λ text. HoldsTitles (map line_of marks.now) text.items) }
+    ensures text { IfOk result (λ text. text.items ≡ svg_text (pictures.shown_with moments.now) moments.now marks.now) }
+    ensures titles { IfOk result (λ text. HoldsTitles (map line_of marks.now) text.items) }
 {
-    if moments.is_empty() {
-        picture(alloc, marks, moments, Shows::Waits)
-    } else {
-        picture(alloc, marks, moments, Shows::Machine)
-    }
+    picture(alloc, marks, moments, shown_with(moments))
 }
 
 /// The same of the marks of callers' lines: dates, strips of how the words stood after each entry, and the waits.
@@ -283,7 +254,8 @@ pub fn write_told(
     marks: &[Mark<'_>],
     moments: &[Moment],
 ) -> Result<Vec<u8>, AllocError>
-    ensures { IfOk result (λ text. HoldsTitles (map line_of marks.now) text.items) }
+    ensures text { IfOk result (λ text. text.items ≡ svg_text Words moments.now marks.now) }
+    ensures titles { IfOk result (λ text. HoldsTitles (map line_of marks.now) text.items) }
 {
     picture(alloc, marks, moments, Shows::Words)
 }

@@ -1,4 +1,5 @@
 use Rattle.std.proofs.Common.{arith, Bor, option_map}
+use Rattle.evl_drawing.specs.Frames.{layout}
 use Rattle.evl_drawing.specs.Strips.{told_standing}
 use Rattle.evl_drawing.specs.declared.moments.Moment.{Moment}
 use Rattle.evl_drawing.proofs.RowLaws.{item_more}
@@ -6,5 +7,5 @@ use Rattle.evl_drawing.proofs.strips.put_moment.Goals as goal
 
 pub loop-standing-preserved : goal.loop-standing-preserved
 loop-standing-preserved c =
-    item_more (told_standing c.args.sheet.now c.args.column (option_map (λ (earlier : Bor Moment). earlier.now) c.args.before)) c.deref-standing-items.result.now
+    item_more (told_standing (layout c.args.sheet.now) c.args.column (option_map (λ (earlier : Bor Moment). earlier.now) c.args.before)) c.deref-standing-items.result.now
     c.loop-standing.standing-index _ _ _ _ (omega arith) c.in_ok-put_told_standing.ensures c.loop-standing.invariant
