@@ -25,45 +25,48 @@ fn tell_faults(
 }
 
 // Prints the faults or warnings of a text, and tells whether it has a fault.
-fn check_text<R: AllocGlobal + Print>(
-    rt: &R,
+fn check_text<O: Write>(
+    alloc: Global,
     plans: &[Planned],
     name: &str,
     text: &[u8],
+    out: &mut O,
 ) -> io::Result<bool> {
-    let mut told = String::new(rt.alloc());
-    let is_at_fault = tell_faults(rt.alloc(), plans, name, text, &mut told)?;
-    rt.print(told.as_str())?;
+    let mut told = String::new(alloc);
+    let is_at_fault = tell_faults(alloc, plans, name, text, &mut told)?;
+    out.write_all(told.as_bytes())?;
     Ok(is_at_fault)
 }
 
 // Tells that a file can't be read.
-fn tell_unread<R: Print>(rt: &R, name: &str) -> io::Result<bool> {
-    rt.println(format_args!("{name}: can't be read"))?;
+fn tell_unread<O: Write>(out: &mut O, name: &str) -> io::Result<bool> {
+    writeln!(out, "{name}: can't be read")?;
     Ok(true)
 }
 
 // Prints the faults or warnings of a file, and tells whether it has a fault.
-fn check_file<R: Files + AllocGlobal + Print>(
+fn check_file<R: Files + AllocGlobal, O: Write>(
     rt: &R,
     plans: &[Planned],
     name: &str,
+    out: &mut O,
 ) -> io::Result<bool> {
     match fs::read(rt, name) {
-        Ok(text) => check_text(rt, plans, name, text.as_slice()),
-        Err(_) => tell_unread(rt, name),
+        Ok(text) => check_text(rt.alloc(), plans, name, text.as_slice(), out),
+        Err(_) => tell_unread(out, name),
     }
 }
 
 // Prints the faults or warnings of files, and answers the status.
-fn check_each<R: Files + AllocGlobal + Print>(
+fn check_each<R: Files + AllocGlobal, O: Write>(
     rt: &R,
     plans: &[Planned],
     names: &[&str],
+    out: &mut O,
 ) -> io::Result<u8> {
     let mut status = 0;
     for name in names {
-        if check_file(rt, plans, name)? {
+        if check_file(rt, plans, name, out)? {
             status = AT_FAULT;
         }
     }
@@ -72,14 +75,15 @@ fn check_each<R: Files + AllocGlobal + Print>(
 
 /// Prints the faults of files, a line each, or where a file has none the warnings of a dry run over a bank, and answers
 /// the status: 2 where a file is at fault or can't be read, or the bank is.
-pub fn check_files<R: Files + AllocGlobal + Print, E: Write>(
+pub fn check_files<R: Files + AllocGlobal, O: Write, E: Write>(
     rt: &R,
     bank: Option<&str>,
     names: &[&str],
+    out: &mut O,
     err: &mut E,
 ) -> io::Result<u8> {
     match read_plans(rt, bank, err) {
-        Ok(Some(plans)) => check_each(rt, plans.as_slice(), names),
+        Ok(Some(plans)) => check_each(rt, plans.as_slice(), names, out),
         Ok(None) => Ok(AT_FAULT),
         Err(error) => Err(error),
     }

@@ -1,6 +1,8 @@
 //! `lab play --against`: traces beside those that were made before.
-use crate::texts::stem_of;
+use crate::endings::{tell_done, tell_refused};
+use crate::texts::{stem_of, text_in};
 use evl_runs::{Difference, first_difference};
+use std::alloc::Global;
 use std::fs;
 use std::io::{self, Write};
 use std::rt::Files;
@@ -18,56 +20,63 @@ fn tell_missing<E: Write>(err: &mut E, name: &str, folder: &str) -> io::Result<b
 }
 
 // Tells a line of a trace, or that it has ended.
-fn tell_line<R: Print>(rt: &R, sign: &str, line: Option<&str>) -> io::Result<()> {
+fn tell_line<O: Write>(out: &mut O, sign: &str, line: Option<&str>) -> io::Result<()> {
     let text = line.unwrap_or("(the end)");
-    rt.println(format_args!("{sign} {text}"))
+    writeln!(out, "{sign} {text}")
 }
 
 // Tells a difference.
-fn tell_difference<R: Print, E: Write>(
-    rt: &R,
+fn tell_difference<O: Write>(
     name: &str,
     difference: Difference<'_>,
+    out: &mut O,
+) -> io::Result<()> {
+    let Difference { line, stored, made } = difference;
+    writeln!(out, "{name}: line {line}")?;
+    tell_line(out, "-", stored)?;
+    tell_line(out, "+", made)
+}
+
+// Tells that a trace differs, and where.
+fn tell_differs<O: Write, E: Write>(
+    name: &str,
+    difference: Difference<'_>,
+    out: &mut O,
     err: &mut E,
 ) -> io::Result<bool> {
-    let Difference { line, stored, made } = difference;
-    rt.println(format_args!("{name}: line {line}"))?;
-    tell_line(rt, "-", stored)?;
-    tell_line(rt, "+", made)?;
-    writeln!(err, "{name}: differs")?;
-    Ok(true)
+    tell_difference(name, difference, out)?;
+    tell_refused(err, name, "differs")
 }
 
 // Tells the first difference of two traces, and answers whether there is one.
-fn compare_texts<R: AllocGlobal + Print, E: Write>(
-    rt: &R,
+fn compare_texts<O: Write, E: Write>(
+    alloc: Global,
     name: &str,
     stored: &str,
     trace: &str,
+    out: &mut O,
     err: &mut E,
 ) -> io::Result<bool> {
-    match first_difference(rt.alloc(), stored, trace)? {
-        Some(difference) => tell_difference(rt, name, difference, err),
-        None => {
-            writeln!(err, "{name}: done")?;
-            Ok(false)
-        }
+    match first_difference(alloc, stored, trace)? {
+        Some(difference) => tell_differs(name, difference, out, err),
+        None => tell_done(err, name),
     }
 }
 
 /// Tells the first difference of a scenario's trace from the one that a folder has of the same name, and answers
 /// whether there is one, or no such trace.
-pub fn compare<R: Files + AllocGlobal + Print, E: Write>(
+pub fn compare<R: Files + AllocGlobal, O: Write, E: Write>(
     rt: &R,
     name: &str,
     folder: &str,
     trace: &str,
+    out: &mut O,
     err: &mut E,
 ) -> io::Result<bool> {
     match read_stored(rt, folder, stem_of(name)) {
         Ok(bytes) => {
-            let stored = std::str::from_utf8(bytes.as_slice()).unwrap_or("");
-            compare_texts(rt, name, stored, trace, err)
+            let stored = text_in(bytes.as_slice());
+            compare_texts(rt.alloc(), name, stored, trace, out, err)
         }
         Err(_) => tell_missing(err, name, folder),
     }

@@ -1,6 +1,6 @@
 //! `lab draw`: the picture of a trace, of a scenario, which is played, or of what `lab callers` tells.
 use crate::statuses::AT_FAULT;
-use crate::texts::{put, read_text};
+use crate::texts::{read_text, text_in};
 use crate::words::{Drawing, Form};
 use evl_drawing::{
     Mark, Moment, lanes_of, marks_of, page, page_count, page_moments, told_moments, write_rows,
@@ -66,11 +66,12 @@ fn picture_of(
 }
 
 // Writes the picture of a page of marks, from 1, and says so where there are several.
-fn draw_svg<R: AllocGlobal + Print, E: Write>(
-    rt: &R,
+fn draw_svg<O: Write, E: Write>(
+    alloc: Global,
     marks: &[Mark<'_>],
     source: Source<'_>,
     number: u32,
+    out: &mut O,
     err: &mut E,
 ) -> io::Result<u8> {
     let all = page_count(marks);
@@ -85,66 +86,68 @@ fn draw_svg<R: AllocGlobal + Print, E: Write>(
     if all > 1 {
         writeln!(err, "lab: page {number} of {all}")?;
     }
-    match picture_of(rt.alloc(), marks, source, chosen.saturating_sub(1)) {
-        Ok(picture) => put(rt, picture.as_slice())?,
+    match picture_of(alloc, marks, source, chosen.saturating_sub(1)) {
+        Ok(picture) => out.write_all(picture.as_slice())?,
         Err(error) => return Err(error.into()),
     }
     Ok(0)
 }
 
 // Writes marks as trace events.
-fn draw_events<R: AllocGlobal + Print>(rt: &R, marks: &[Mark<'_>]) -> io::Result<u8> {
-    match write_events(rt.alloc(), marks) {
-        Ok(events) => rt.print(events.as_str())?,
+fn draw_events<O: Write>(alloc: Global, marks: &[Mark<'_>], out: &mut O) -> io::Result<u8> {
+    match write_events(alloc, marks) {
+        Ok(events) => out.write_all(events.as_bytes())?,
         Err(error) => return Err(error.into()),
     }
     Ok(0)
 }
 
 // Writes the table of marks.
-fn draw_table<R: AllocGlobal + Print>(rt: &R, marks: &[Mark<'_>]) -> io::Result<u8> {
-    match write_table(rt.alloc(), marks) {
-        Ok(table) => put(rt, table.as_slice())?,
+fn draw_table<O: Write>(alloc: Global, marks: &[Mark<'_>], out: &mut O) -> io::Result<u8> {
+    match write_table(alloc, marks) {
+        Ok(table) => out.write_all(table.as_slice())?,
         Err(error) => return Err(error.into()),
     }
     Ok(0)
 }
 
 // Writes marks in characters.
-fn draw_rows<R: AllocGlobal + Print>(rt: &R, marks: &[Mark<'_>]) -> io::Result<u8> {
-    match write_rows(rt.alloc(), marks) {
-        Ok(rows) => rt.print(rows.as_str())?,
+fn draw_rows<O: Write>(alloc: Global, marks: &[Mark<'_>], out: &mut O) -> io::Result<u8> {
+    match write_rows(alloc, marks) {
+        Ok(rows) => out.write_all(rows.as_bytes())?,
         Err(error) => return Err(error.into()),
     }
     Ok(0)
 }
 
 // Writes marks in a form.
-fn draw_marks<R: AllocGlobal + Print, E: Write>(
-    rt: &R,
+fn draw_marks<O: Write, E: Write>(
+    alloc: Global,
     marks: &[Mark<'_>],
     source: Source<'_>,
     drawing: Drawing,
+    out: &mut O,
     err: &mut E,
 ) -> io::Result<u8> {
     match drawing.form {
-        Form::Svg => draw_svg(rt, marks, source, drawing.page, err),
-        Form::Events => draw_events(rt, marks),
-        Form::Table => draw_table(rt, marks),
-        Form::Rows => draw_rows(rt, marks),
+        Form::Svg => draw_svg(alloc, marks, source, drawing.page, out, err),
+        Form::Events => draw_events(alloc, marks, out),
+        Form::Table => draw_table(alloc, marks, out),
+        Form::Rows => draw_rows(alloc, marks, out),
     }
 }
 
 // Writes the picture of the lines of a trace, with how the lanes stand as far as their source tells it.
-fn draw_lines<R: AllocGlobal + Print, E: Write>(
-    rt: &R,
+fn draw_lines<O: Write, E: Write>(
+    alloc: Global,
     lines: &[TraceLine<'_>],
     source: Source<'_>,
     drawing: Drawing,
+    out: &mut O,
     err: &mut E,
 ) -> io::Result<u8> {
-    match marks_of(rt.alloc(), lines) {
-        Ok(marks) => draw_marks(rt, marks.as_slice(), source, drawing, err),
+    match marks_of(alloc, lines) {
+        Ok(marks) => draw_marks(alloc, marks.as_slice(), source, drawing, out, err),
         Err(error) => Err(error.into()),
     }
 }
@@ -180,49 +183,52 @@ fn trace_of(alloc: Global, text: &str) -> Result<Vec<u8>, Fault> {
 }
 
 // Writes the picture of a trace that was made of a scenario.
-fn draw_trace<R: AllocGlobal + Print, E: Write>(
-    rt: &R,
+fn draw_trace<O: Write, E: Write>(
+    alloc: Global,
     trace: &[u8],
     scenario: &str,
     drawing: Drawing,
+    out: &mut O,
     err: &mut E,
 ) -> io::Result<u8> {
-    match read_lines(rt.alloc(), std::str::from_utf8(trace).unwrap_or("")) {
+    match read_lines(alloc, text_in(trace)) {
         Ok(lines) => {
             let source = Source::Scenario(scenario);
-            draw_lines(rt, lines.as_slice(), source, drawing, err)
+            draw_lines(alloc, lines.as_slice(), source, drawing, out, err)
         }
         Err(_) => Err(AllocError.into()),
     }
 }
 
 // Plays a text that is no trace, since this line is none of one, and writes the picture of its trace.
-fn draw_scenario<R: AllocGlobal + Print, E: Write>(
-    rt: &R,
+fn draw_scenario<O: Write, E: Write>(
+    alloc: Global,
     text: &str,
     line: usize,
     drawing: Drawing,
+    out: &mut O,
     err: &mut E,
 ) -> io::Result<u8> {
-    match trace_of(rt.alloc(), text) {
-        Ok(trace) => draw_trace(rt, trace.as_slice(), text, drawing, err),
+    match trace_of(alloc, text) {
+        Ok(trace) => draw_trace(alloc, trace.as_slice(), text, drawing, out, err),
         Err(fault) => tell_neither(err, line, fault),
     }
 }
 
 // Writes the picture of the lines that a text has, or of the text as a scenario.
-fn draw_whole<R: AllocGlobal + Print, E: Write>(
-    rt: &R,
+fn draw_whole<O: Write, E: Write>(
+    alloc: Global,
     read: &str,
     source: Source<'_>,
     text: &str,
     drawing: Drawing,
+    out: &mut O,
     err: &mut E,
 ) -> io::Result<u8> {
-    match read_lines(rt.alloc(), read) {
-        Ok(lines) => draw_lines(rt, lines.as_slice(), source, drawing, err),
+    match read_lines(alloc, read) {
+        Ok(lines) => draw_lines(alloc, lines.as_slice(), source, drawing, out, err),
         Err(Misread::Memory) => Err(AllocError.into()),
-        Err(Misread::Line(line)) => draw_scenario(rt, text, line, drawing, err),
+        Err(Misread::Line(line)) => draw_scenario(alloc, text, line, drawing, out, err),
     }
 }
 
@@ -234,29 +240,39 @@ fn with_line_feed(alloc: Global, text: &str) -> Result<String, AllocError> {
 }
 
 // Writes the picture of the lines of callers, which stand at the front of a text.
-fn draw_callers<R: AllocGlobal + Print, E: Write>(
-    rt: &R,
+fn draw_callers<O: Write, E: Write>(
+    alloc: Global,
     front: &str,
     text: &str,
     drawing: Drawing,
+    out: &mut O,
     err: &mut E,
 ) -> io::Result<u8> {
-    match with_line_feed(rt.alloc(), front) {
-        Ok(told) => draw_whole(rt, told.as_str(), Source::Callers, text, drawing, err),
+    match with_line_feed(alloc, front) {
+        Ok(told) => draw_whole(
+            alloc,
+            told.as_str(),
+            Source::Callers,
+            text,
+            drawing,
+            out,
+            err,
+        ),
         Err(error) => Err(error.into()),
     }
 }
 
 // Writes the picture of a trace, of a scenario, or of callers up to where their machine is closed.
-fn draw_text<R: AllocGlobal + Print, E: Write>(
-    rt: &R,
+fn draw_text<O: Write, E: Write>(
+    alloc: Global,
     text: &str,
     drawing: Drawing,
+    out: &mut O,
     err: &mut E,
 ) -> io::Result<u8> {
     match text.split_once(CLOSING) {
-        Some((front, _)) => draw_callers(rt, front, text, drawing, err),
-        None => draw_whole(rt, text, Source::Trace, text, drawing, err),
+        Some((front, _)) => draw_callers(alloc, front, text, drawing, out, err),
+        None => draw_whole(alloc, text, Source::Trace, text, drawing, out, err),
     }
 }
 
@@ -267,29 +283,31 @@ fn tell_undrawn<E: Write>(err: &mut E, why: &str) -> io::Result<u8> {
 }
 
 // Writes the picture of a text.
-fn draw_bytes<R: AllocGlobal + Print, E: Write>(
-    rt: &R,
+fn draw_bytes<O: Write, E: Write>(
+    alloc: Global,
     bytes: &[u8],
     drawing: Drawing,
+    out: &mut O,
     err: &mut E,
 ) -> io::Result<u8> {
     match std::str::from_utf8(bytes) {
-        Ok(text) => draw_text(rt, text, drawing, err),
+        Ok(text) => draw_text(alloc, text, drawing, out, err),
         Err(_) => tell_undrawn(err, "the text is no UTF-8"),
     }
 }
 
 /// Draws the trace that a file holds, or that of its scenario, or what is told of callers there, or of the input where
 /// none is named. The status is 2 where it holds none of these.
-pub fn draw<R: Files + AllocGlobal + Print, I: Read, E: Write>(
+pub fn draw<R: Files + AllocGlobal, I: Read, O: Write, E: Write>(
     rt: &R,
     drawing: Drawing,
     file: Option<&str>,
     input: &mut I,
+    out: &mut O,
     err: &mut E,
 ) -> io::Result<u8> {
     match read_text(rt, file, input) {
-        Ok(given) => draw_bytes(rt, given.as_slice(), drawing, err),
+        Ok(given) => draw_bytes(rt.alloc(), given.as_slice(), drawing, out, err),
         Err(_) => tell_undrawn(err, "no file"),
     }
 }

@@ -1,23 +1,22 @@
 //! `lab help`: what calls look like.
+use crate::statuses::REFUSED;
 use evl_live::{write_call_of, write_forms};
+use std::alloc::Global;
 use std::io::{self, Write};
 
-// The status of a word that is no call's.
-const REFUSED: u8 = 3;
-
 // Prints a form of each call.
-fn print_forms<R: AllocGlobal + Print>(rt: &R) -> io::Result<u8> {
-    let mut told = String::new(rt.alloc());
+fn print_forms<O: Write>(alloc: Global, out: &mut O) -> io::Result<u8> {
+    let mut told = String::new(alloc);
     write_forms(&mut told)?;
-    rt.print(told.as_str())?;
+    out.write_all(told.as_bytes())?;
     Ok(0)
 }
 
 // Prints the form of a call and what its keys take, and tells whether there is such a call.
-fn print_call<R: AllocGlobal + Print>(rt: &R, word: &str) -> io::Result<bool> {
-    let mut told = String::new(rt.alloc());
-    let is_call = write_call_of(rt.alloc(), &mut told, word)?;
-    rt.print(told.as_str())?;
+fn print_call<O: Write>(alloc: Global, word: &str, out: &mut O) -> io::Result<bool> {
+    let mut told = String::new(alloc);
+    let is_call = write_call_of(alloc, &mut told, word)?;
+    out.write_all(told.as_bytes())?;
     Ok(is_call)
 }
 
@@ -29,15 +28,16 @@ fn tell_no_call<E: Write>(err: &mut E, word: &str) -> io::Result<u8> {
 
 /// Prints a form of each call, or of one with what its keys take, and answers the status: 3 where there is no such
 /// call.
-pub fn help<R: AllocGlobal + Print, E: Write>(
-    rt: &R,
+pub fn help<O: Write, E: Write>(
+    alloc: Global,
     word: Option<&str>,
+    out: &mut O,
     err: &mut E,
 ) -> io::Result<u8> {
     let Some(call) = word else {
-        return print_forms(rt);
+        return print_forms(alloc, out);
     };
-    if print_call(rt, call)? {
+    if print_call(alloc, call, out)? {
         return Ok(0);
     }
     tell_no_call(err, call)

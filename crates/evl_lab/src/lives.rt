@@ -2,7 +2,7 @@
 ghost use Rattle.std.specs.Prelude.{◌≤◌, length};
 
 use crate::banks::read_plans;
-use crate::plays::{tell_fault, tell_refused};
+use crate::endings::{tell_fault, tell_refused};
 use crate::statuses::AT_FAULT;
 use crate::words::Driving;
 use evl_live::{Session, answer_line};
@@ -44,14 +44,15 @@ fn answer_lines(
 }
 
 // Answers the whole lines at the front of what waits, prints the answers, and tells how many bytes these lines have.
-fn answer_whole<R: AllocGlobal + Print>(
-    rt: &R,
+fn answer_whole<O: Write>(
+    alloc: Global,
     session: &mut Session,
     waiting: &[u8],
+    out: &mut O,
 ) -> io::Result<usize> {
-    let mut told = String::new(rt.alloc());
-    let from = answer_lines(rt.alloc(), session, waiting, &mut told)?;
-    rt.print(told.as_str())?;
+    let mut told = String::new(alloc);
+    let from = answer_lines(alloc, session, waiting, &mut told)?;
+    out.write_all(told.as_bytes())?;
     Ok(from)
 }
 
@@ -70,75 +71,80 @@ fn read_part<I: Read>(input: &mut I, buffer: &mut [u8], waiting: &mut Vec<u8>) -
 }
 
 // Answers the whole lines of what waits, and keeps what isn't one.
-fn answer_part<R: AllocGlobal + Print>(
-    rt: &R,
+fn answer_part<O: Write>(
+    alloc: Global,
     session: &mut Session,
     waiting: &mut Vec<u8>,
+    out: &mut O,
 ) -> io::Result<()> {
-    let from = answer_whole(rt, session, waiting.as_slice())?;
-    keep_rest(rt.alloc(), waiting, from)?;
+    let from = answer_whole(alloc, session, waiting.as_slice(), out)?;
+    keep_rest(alloc, waiting, from)?;
     Ok(())
 }
 
 // Answers the lines of the input up to its end, and leaves what has no line feed there.
-fn answer_parts<R: AllocGlobal + Print, I: Read>(
-    rt: &R,
+fn answer_parts<I: Read, O: Write>(
+    alloc: Global,
     session: &mut Session,
     input: &mut I,
     buffer: &mut [u8],
     waiting: &mut Vec<u8>,
+    out: &mut O,
 ) -> io::Result<()> {
     for _ in 0..u64::MAX {
         if !read_part(input, buffer, waiting)? {
             return Ok(());
         }
-        answer_part(rt, session, waiting)?;
+        answer_part(alloc, session, waiting, out)?;
     }
     Ok(())
 }
 
 // Answers the last line, where it has no line feed.
-fn answer_last<R: AllocGlobal + Print>(
-    rt: &R,
+fn answer_last<O: Write>(
+    alloc: Global,
     session: &mut Session,
     line: &[u8],
+    out: &mut O,
 ) -> io::Result<()> {
-    let mut told = String::new(rt.alloc());
-    answer_line(rt.alloc(), session, line, &mut told)?;
-    rt.print(told.as_str())
+    let mut told = String::new(alloc);
+    answer_line(alloc, session, line, &mut told)?;
+    out.write_all(told.as_bytes())
 }
 
 // Answers the lines of the input up to its end.
-fn drive<R: AllocGlobal + Print, I: Read>(
-    rt: &R,
+fn drive<I: Read, O: Write>(
+    alloc: Global,
     session: &mut Session,
     input: &mut I,
     buffer: &mut [u8],
+    out: &mut O,
 ) -> io::Result<()> {
-    let mut waiting = Vec::new(rt.alloc());
-    match answer_parts(rt, session, input, buffer, &mut waiting) {
-        Ok(()) => answer_last(rt, session, waiting.as_slice()),
+    let mut waiting = Vec::new(alloc);
+    match answer_parts(alloc, session, input, buffer, &mut waiting, out) {
+        Ok(()) => answer_last(alloc, session, waiting.as_slice(), out),
         Err(error) => Err(error),
     }
 }
 
 // Prints the trace of what a machine was asked before the first line.
-fn print_trace<R: AllocGlobal + Print>(rt: &R, session: &Session) -> io::Result<()> {
-    match session.trace(rt.alloc()) {
-        Ok(trace) => rt.print(trace.as_str()),
+fn print_trace<O: Write>(alloc: Global, session: &Session, out: &mut O) -> io::Result<()> {
+    match session.trace(alloc) {
+        Ok(trace) => out.write_all(trace.as_bytes()),
         Err(error) => Err(error.into()),
     }
 }
 
 // Prints the trace of the scenario that comes first, and answers the lines of the input.
-fn drive_opened<R: AllocGlobal + Print, I: Read>(
-    rt: &R,
+fn drive_opened<I: Read, O: Write>(
+    alloc: Global,
     session: &mut Session,
     input: &mut I,
+    out: &mut O,
 ) -> io::Result<u8> {
-    print_trace(rt, session)?;
-    match vec![in rt.alloc(); 0u8; PART] {
-        Ok(mut buffer) => drive(rt, session, input, buffer.as_mut_slice())?,
+    print_trace(alloc, session, out)?;
+    match vec![in alloc; 0u8; PART] {
+        Ok(mut buffer) => drive(alloc, session, input, buffer.as_mut_slice(), out)?,
         Err(error) => return Err(error.into()),
     }
     Ok(0)
@@ -151,19 +157,20 @@ fn tell_unopened(told: io::Result<bool>) -> io::Result<u8> {
 }
 
 // Opens a machine over these callbacks and drives it.
-fn drive_plans<R: AllocGlobal + Print, I: Read, E: Write>(
-    rt: &R,
+fn drive_plans<I: Read, O: Write, E: Write>(
+    alloc: Global,
     text: &[u8],
     limit: Option<u32>,
     plans: Vec<Planned>,
     input: &mut I,
+    out: &mut O,
     err: &mut E,
 ) -> io::Result<u8>
     requires { length plans.items ≤ 64 }
 {
-    match Session::open(rt.alloc(), text, limit, plans) {
+    match Session::open(alloc, text, limit, plans) {
         Ok(mut session) => {
-            let status = drive_opened(rt, &mut session, input);
+            let status = drive_opened(alloc, &mut session, input, out);
             drop(session);
             status
         }
@@ -172,43 +179,46 @@ fn drive_plans<R: AllocGlobal + Print, I: Read, E: Write>(
 }
 
 // Drives a machine of the scenario with this text.
-fn drive_text<R: Files + AllocGlobal + Print, I: Read, E: Write>(
+fn drive_text<R: Files + AllocGlobal, I: Read, O: Write, E: Write>(
     rt: &R,
     driving: Driving<'_>,
     text: &[u8],
     input: &mut I,
+    out: &mut O,
     err: &mut E,
 ) -> io::Result<u8> {
     match read_plans(rt, driving.bank, err) {
-        Ok(Some(plans)) => drive_plans(rt, text, driving.limit, plans, input, err),
+        Ok(Some(plans)) => { drive_plans(rt.alloc(), text, driving.limit, plans, input, out, err) }
         Ok(None) => Ok(AT_FAULT),
         Err(error) => Err(error),
     }
 }
 
 // Drives a machine of the scenario that a file holds.
-fn drive_file<R: Files + AllocGlobal + Print, I: Read, E: Write>(
+fn drive_file<R: Files + AllocGlobal, I: Read, O: Write, E: Write>(
     rt: &R,
     driving: Driving<'_>,
     path: &str,
     input: &mut I,
+    out: &mut O,
     err: &mut E,
 ) -> io::Result<u8> {
     match fs::read(rt, path) {
-        Ok(text) => drive_text(rt, driving, text.as_slice(), input, err),
+        Ok(text) => drive_text(rt, driving, text.as_slice(), input, out, err),
         Err(_) => tell_unopened(tell_refused(err, "lab", "no file")),
     }
 }
 
 /// Drives a machine by the lines of the input, and answers the status: 2 where its scenario or bank is at fault.
-pub fn live<R: Files + AllocGlobal + Print, I: Read, E: Write>(
+pub fn live<R: Files + AllocGlobal, I: Read, O: Write, E: Write>(
     rt: &R,
     driving: Driving<'_>,
     input: &mut I,
+    out: &mut O,
     err: &mut E,
 ) -> io::Result<u8> {
     match driving.file {
-        Some(path) => drive_file(rt, driving, path, input, err),
-        None => drive_text(rt, driving, DEFAULT.as_bytes(), input, err),
+        Some(path) => drive_file(rt, driving, path, input, out, err),
+        None => drive_text(rt, driving, DEFAULT.as_bytes(), input, out, err),
     }
 }

@@ -7,6 +7,7 @@ mod checks;
 mod commands;
 mod compares;
 mod draws;
+mod endings;
 mod helps;
 mod lives;
 mod orders;
@@ -21,26 +22,34 @@ use clap::error::ErrorKind;
 use commands::read_words;
 use parts::do_part;
 use statuses::{FAILED, NO_MEMORY, REFUSED};
+use std::alloc::Global;
 use std::env;
 use std::io::{self, Write};
 use std::process::ExitCode;
 
 // Answers words that ask for nothing that is done: they are refused, or ask for help.
-fn turn_away(rt: &HostRuntime, error: &Error) -> io::Result<u8> {
-    let text = error.to_string(rt.alloc())?;
+fn turn_away<O: Write, E: Write>(
+    alloc: Global,
+    error: &Error,
+    out: &mut O,
+    err: &mut E,
+) -> io::Result<u8> {
+    let text = error.to_string(alloc)?;
     if error.kind() == ErrorKind::DisplayHelp {
-        rt.print(text.as_str())?;
+        out.write_all(text.as_bytes())?;
         return Ok(0);
     }
-    rt.stderr().write_all(text.as_str().as_bytes())?;
+    err.write_all(text.as_bytes())?;
     Ok(REFUSED)
 }
 
 // Does what the words ask for, and answers the status.
 fn do_words(rt: &HostRuntime, words: &[&str]) -> io::Result<u8> {
+    let mut out = io::writer(rt);
+    let mut err = rt.stderr();
     match read_words(rt.alloc(), words) {
-        Ok(matches) => do_part(rt, &matches, &mut rt.stdin(), &mut rt.stderr()),
-        Err(error) => turn_away(rt, &error),
+        Ok(matches) => do_part(rt, &matches, &mut rt.stdin(), &mut out, &mut err),
+        Err(error) => turn_away(rt.alloc(), &error, &mut out, &mut err),
     }
 }
 

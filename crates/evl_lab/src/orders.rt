@@ -1,7 +1,7 @@
 //! `lab orders`: every order in which the callers of a scenario may come.
 
 use crate::banks::read_plans;
-use crate::plays::{tell_fault, tell_refused};
+use crate::endings::{tell_fault, tell_refused};
 use crate::statuses::{AGAINST, AT_FAULT};
 use crate::texts::read_text;
 use crate::words::Asked;
@@ -76,31 +76,33 @@ fn tell_against<E: Write>(err: &mut E, name: &str, against: Option<usize>) -> io
 }
 
 // Prints the outcomes.
-fn print_outcomes<R: AllocGlobal + Print>(
-    rt: &R,
+fn print_outcomes<O: Write>(
+    alloc: Global,
     callers: &Callers,
     bank: &Copies<'_>,
     answered: &Answered,
+    out: &mut O,
 ) -> io::Result<()> {
-    match write_report(rt.alloc(), callers, bank, &answered.outcomes) {
-        Ok(report) => rt.print(report.as_str()),
+    match write_report(alloc, callers, bank, &answered.outcomes) {
+        Ok(report) => out.write_all(report.as_bytes()),
         Err(error) => Err(error.into()),
     }
 }
 
 // Goes through all orders, and answers the status.
-fn go_through<R: AllocGlobal + Print, E: Write>(
-    rt: &R,
+fn go_through<O: Write, E: Write>(
+    alloc: Global,
     asked: &Asked<'_>,
     callers: &Callers,
     ask: &Ask,
     plans: &[Planned],
+    out: &mut O,
     err: &mut E,
 ) -> io::Result<u8> {
     let bank = Copies { plans };
-    match ask_all(rt.alloc(), callers, &bank, ask, asked.most) {
+    match ask_all(alloc, callers, &bank, ask, asked.most) {
         Ok(answered) => {
-            print_outcomes(rt, callers, &bank, &answered)?;
+            print_outcomes(alloc, callers, &bank, &answered, out)?;
             tell_against(err, asked.name(), answered.against)
         }
         Err(OrdersError::Count) => {
@@ -112,16 +114,17 @@ fn go_through<R: AllocGlobal + Print, E: Write>(
 }
 
 // Goes through all orders of callers, and answers the status.
-fn tell_callers<R: AllocGlobal + Print, E: Write>(
-    rt: &R,
+fn tell_callers<O: Write, E: Write>(
+    alloc: Global,
     asked: &Asked<'_>,
     callers: &Callers,
     plans: &[Planned],
     text: &[u8],
+    out: &mut O,
     err: &mut E,
 ) -> io::Result<u8> {
-    match read_ask(rt.alloc(), callers, text) {
-        Ok(ask) => go_through(rt, asked, callers, &ask, plans, err),
+    match read_ask(alloc, callers, text) {
+        Ok(ask) => go_through(alloc, asked, callers, &ask, plans, out, err),
         Err(fault) => {
             tell_ask_fault(err, asked.name(), fault)?;
             Ok(AT_FAULT)
@@ -130,15 +133,16 @@ fn tell_callers<R: AllocGlobal + Print, E: Write>(
 }
 
 // Goes through all orders of a text, and answers the status.
-fn tell_text<R: AllocGlobal + Print, E: Write>(
-    rt: &R,
+fn tell_text<O: Write, E: Write>(
+    alloc: Global,
     asked: &Asked<'_>,
     plans: &[Planned],
     text: &[u8],
+    out: &mut O,
     err: &mut E,
 ) -> io::Result<u8> {
-    match read_callers(rt.alloc(), text) {
-        Ok(callers) => tell_callers(rt, asked, &callers, plans, text, err),
+    match read_callers(alloc, text) {
+        Ok(callers) => tell_callers(alloc, asked, &callers, plans, text, out, err),
         Err(fault) => {
             tell_text_fault(err, asked.name(), fault)?;
             Ok(AT_FAULT)
@@ -147,15 +151,16 @@ fn tell_text<R: AllocGlobal + Print, E: Write>(
 }
 
 // Goes through all orders of a file, or of the input where none is named, and answers the status.
-fn tell_file<R: Files + AllocGlobal + Print, I: Read, E: Write>(
+fn tell_file<R: Files + AllocGlobal, I: Read, O: Write, E: Write>(
     rt: &R,
     asked: &Asked<'_>,
     plans: &[Planned],
     input: &mut I,
+    out: &mut O,
     err: &mut E,
 ) -> io::Result<u8> {
     match read_text(rt, asked.file, input) {
-        Ok(text) => tell_text(rt, asked, plans, text.as_slice(), err),
+        Ok(text) => tell_text(rt.alloc(), asked, plans, text.as_slice(), out, err),
         Err(_) => {
             tell_refused(err, asked.name(), "no file")?;
             Ok(AT_FAULT)
@@ -166,14 +171,15 @@ fn tell_file<R: Files + AllocGlobal + Print, I: Read, E: Write>(
 /// Goes through every order in which the callers of a scenario may come, over a bank, prints how each ends, and answers
 /// the status: 1 where one is against what is asked, 2 where the text is refused or can't be read, or the bank is at
 /// fault.
-pub fn orders<R: Files + AllocGlobal + Print, I: Read, E: Write>(
+pub fn orders<R: Files + AllocGlobal, I: Read, O: Write, E: Write>(
     rt: &R,
     asked: &Asked<'_>,
     input: &mut I,
+    out: &mut O,
     err: &mut E,
 ) -> io::Result<u8> {
     match read_plans(rt, asked.bank, err) {
-        Ok(Some(plans)) => tell_file(rt, asked, plans.as_slice(), input, err),
+        Ok(Some(plans)) => tell_file(rt, asked, plans.as_slice(), input, out, err),
         Ok(None) => Ok(AT_FAULT),
         Err(error) => Err(error),
     }

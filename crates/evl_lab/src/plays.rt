@@ -3,133 +3,129 @@ ghost use Rattle.std.specs.Prelude.{◌≤◌, length};
 
 use crate::banks::read_plans;
 use crate::compares::compare;
+use crate::endings::{tell_done, tell_fault, tell_refused};
 use crate::statuses::AT_FAULT;
-use crate::texts::read_text;
+use crate::texts::{read_text, text_in};
 use crate::words::{Playing, Telling};
 use evl_plans::{Planned, trace_plans};
 use evl_runs::write_json;
-use evl_scenario::Fault;
 use evl_traces::{Misread, TraceLine, read_lines};
-use std::alloc::AllocError;
+use std::alloc::{AllocError, Global};
 use std::io::{self, Read, Write};
 use std::rt::Files;
 
-// Tells the end of a play that is no fault.
-fn tell_done<E: Write>(err: &mut E, name: &str) -> io::Result<bool> {
-    writeln!(err, "{name}: done")?;
-    Ok(false)
-}
-
-/// Tells why a scenario wasn't played.
-pub fn tell_refused<E: Write>(err: &mut E, name: &str, why: &str) -> io::Result<bool> {
-    writeln!(err, "{name}: {why}")?;
-    Ok(true)
-}
-
-// Tells which step of a scenario is at fault.
-fn tell_step<E: Write>(err: &mut E, name: &str, number: u32) -> io::Result<bool> {
-    writeln!(err, "{name}: bad step {number}")?;
-    Ok(true)
-}
-
-/// Tells the fault of a scenario.
-pub fn tell_fault<E: Write>(err: &mut E, name: &str, fault: Fault) -> io::Result<bool> {
-    match fault {
-        Fault::Text => tell_refused(err, name, "bad text"),
-        Fault::Board => tell_refused(err, name, "bad board"),
-        Fault::Step(number) => tell_step(err, name, number),
-        Fault::Memory | Fault::Write => Err(AllocError.into()),
-    }
-}
-
-// Prints the lines of a trace as JSON.
-fn print_lines<R: AllocGlobal + Print>(
-    rt: &R,
+// Writes the lines of a trace as JSON.
+fn put_lines<O: Write>(
+    alloc: Global,
     name: &str,
     lines: &[TraceLine<'_>],
+    out: &mut O,
 ) -> io::Result<()> {
-    match write_json(rt.alloc(), name, lines) {
-        Ok(json) => rt.print(json.as_str()),
+    match write_json(alloc, name, lines) {
+        Ok(json) => out.write_all(json.as_bytes()),
         Err(error) => Err(error.into()),
     }
 }
 
-// Prints a trace as JSON.
-fn print_json<R: AllocGlobal + Print>(rt: &R, name: &str, trace: &str) -> io::Result<()> {
-    match read_lines(rt.alloc(), trace) {
-        Ok(lines) => print_lines(rt, name, lines.as_slice()),
+// Writes a text as JSON, where it is lines of a trace.
+fn put_json<O: Write>(alloc: Global, name: &str, text: &str, out: &mut O) -> io::Result<()> {
+    match read_lines(alloc, text) {
+        Ok(lines) => put_lines(alloc, name, lines.as_slice(), out),
         Err(Misread::Memory) => Err(AllocError.into()),
         Err(Misread::Line(_)) => Ok(()),
     }
 }
 
-// Tells what is asked for of a trace.
-fn tell_trace<R: Files + AllocGlobal + Print, E: Write>(
-    rt: &R,
-    telling: Telling<'_>,
+// Tells a trace.
+fn tell_whole<O: Write, E: Write>(
     name: &str,
-    trace: &str,
+    trace: &[u8],
+    out: &mut O,
     err: &mut E,
 ) -> io::Result<bool> {
-    match telling {
-        Telling::Trace => rt.print(trace)?,
-        Telling::Json => print_json(rt, name, trace)?,
-        Telling::Against(folder) => return compare(rt, name, folder, trace, err),
-    }
+    out.write_all(trace)?;
     tell_done(err, name)
 }
 
+// Tells a trace as JSON.
+fn tell_json<O: Write, E: Write>(
+    alloc: Global,
+    name: &str,
+    trace: &[u8],
+    out: &mut O,
+    err: &mut E,
+) -> io::Result<bool> {
+    put_json(alloc, name, text_in(trace), out)?;
+    tell_done(err, name)
+}
+
+// Tells what is asked for of a trace.
+fn tell_trace<R: Files + AllocGlobal, O: Write, E: Write>(
+    rt: &R,
+    telling: Telling<'_>,
+    name: &str,
+    trace: &[u8],
+    out: &mut O,
+    err: &mut E,
+) -> io::Result<bool> {
+    match telling {
+        Telling::Trace => tell_whole(name, trace, out, err),
+        Telling::Json => tell_json(rt.alloc(), name, trace, out, err),
+        Telling::Against(folder) => compare(rt, name, folder, text_in(trace), out, err),
+    }
+}
+
 // Plays a scenario's text, and answers whether it is at fault.
-fn play_text<R: Files + AllocGlobal + Print, E: Write>(
+fn play_text<R: Files + AllocGlobal, O: Write, E: Write>(
     rt: &R,
     plans: &[Planned],
     playing: Playing<'_>,
     name: &str,
     text: &[u8],
+    out: &mut O,
     err: &mut E,
 ) -> io::Result<bool>
     requires { length plans.now ≤ 64 }
 {
     match trace_plans(rt.alloc(), plans, text, playing.limit) {
-        Ok(trace) => {
-            let shown = std::str::from_utf8(trace.as_slice()).unwrap_or("");
-            tell_trace(rt, playing.telling, name, shown, err)
-        }
+        Ok(trace) => tell_trace(rt, playing.telling, name, trace.as_slice(), out, err),
         Err(fault) => tell_fault(err, name, fault),
     }
 }
 
 // Plays a file, or the input where it is `-`, and answers whether it is at fault.
-fn play_file<R: Files + AllocGlobal + Print, I: Read, E: Write>(
+fn play_file<R: Files + AllocGlobal, I: Read, O: Write, E: Write>(
     rt: &R,
     plans: &[Planned],
     playing: Playing<'_>,
     name: &str,
     input: &mut I,
+    out: &mut O,
     err: &mut E,
 ) -> io::Result<bool>
     requires { length plans.now ≤ 64 }
 {
     match read_text(rt, Some(name), input) {
-        Ok(text) => play_text(rt, plans, playing, name, text.as_slice(), err),
+        Ok(text) => play_text(rt, plans, playing, name, text.as_slice(), out, err),
         Err(_) => tell_refused(err, name, "no file"),
     }
 }
 
 // Plays files, and answers whether one is at fault.
-fn play_each<R: Files + AllocGlobal + Print, I: Read, E: Write>(
+fn play_each<R: Files + AllocGlobal, I: Read, O: Write, E: Write>(
     rt: &R,
     plans: &[Planned],
     playing: Playing<'_>,
     files: &[&str],
     input: &mut I,
+    out: &mut O,
     err: &mut E,
 ) -> io::Result<bool>
     requires { length plans.now ≤ 64 }
 {
     let mut is_at_fault = false;
     for file in files {
-        if play_file(rt, plans, playing, file, input, err)? {
+        if play_file(rt, plans, playing, file, input, out, err)? {
             is_at_fault = true;
         }
     }
@@ -137,35 +133,37 @@ fn play_each<R: Files + AllocGlobal + Print, I: Read, E: Write>(
 }
 
 // Plays files, or the input where none is named, and answers the status.
-fn play_over<R: Files + AllocGlobal + Print, I: Read, E: Write>(
+fn play_over<R: Files + AllocGlobal, I: Read, O: Write, E: Write>(
     rt: &R,
     plans: &[Planned],
     playing: Playing<'_>,
     files: &[&str],
     input: &mut I,
+    out: &mut O,
     err: &mut E,
 ) -> io::Result<u8>
     requires { length plans.now ≤ 64 }
 {
     let is_at_fault = if files.is_empty() {
-        play_file(rt, plans, playing, "-", input, err)?
+        play_file(rt, plans, playing, "-", input, out, err)?
     } else {
-        play_each(rt, plans, playing, files, input, err)?
+        play_each(rt, plans, playing, files, input, out, err)?
     };
     Ok(if is_at_fault { AT_FAULT } else { 0 })
 }
 
 /// Plays scenarios over a bank, tells of each what is asked for and on `err` how it ended, and answers the status: 2
 /// where one is refused, can't be read or differs, or the bank is at fault.
-pub fn play_files<R: Files + AllocGlobal + Print, I: Read, E: Write>(
+pub fn play_files<R: Files + AllocGlobal, I: Read, O: Write, E: Write>(
     rt: &R,
     playing: Playing<'_>,
     files: &[&str],
     input: &mut I,
+    out: &mut O,
     err: &mut E,
 ) -> io::Result<u8> {
     match read_plans(rt, playing.bank, err) {
-        Ok(Some(plans)) => play_over(rt, plans.as_slice(), playing, files, input, err),
+        Ok(Some(plans)) => play_over(rt, plans.as_slice(), playing, files, input, out, err),
         Ok(None) => Ok(AT_FAULT),
         Err(error) => Err(error),
     }

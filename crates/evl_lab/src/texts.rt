@@ -1,11 +1,13 @@
-//! The texts that the program reads and writes.
+//! The texts that the program reads, and the names of files.
+
+use std::alloc::Global;
 use std::fs;
-use std::io::{self, Read, Write};
+use std::io::{self, Read};
 use std::rt::Files;
 
 // The text of the input.
-fn read_input<R: AllocGlobal, I: Read>(rt: &R, input: &mut I) -> io::Result<Vec<u8>> {
-    let mut text = Vec::new(rt.alloc());
+fn read_input<I: Read>(alloc: Global, input: &mut I) -> io::Result<Vec<u8>> {
+    let mut text = Vec::new(alloc);
     match input.read_to_end(&mut text) {
         Ok(_) => Ok(text),
         Err(error) => Err(error),
@@ -19,14 +21,14 @@ pub fn read_text<R: Files + AllocGlobal, I: Read>(
     input: &mut I,
 ) -> io::Result<Vec<u8>> {
     match file {
-        None | Some("-") => read_input(rt, input),
+        None | Some("-") => read_input(rt.alloc(), input),
         Some(path) => fs::read(rt, path),
     }
 }
 
-/// Writes bytes to the output.
-pub fn put<R: Print>(rt: &R, bytes: &[u8]) -> io::Result<()> {
-    io::writer(rt).write_all(bytes)
+/// The text that these bytes are; none where they are no UTF-8.
+pub fn text_in(bytes: &[u8]) -> &str {
+    std::str::from_utf8(bytes).unwrap_or("")
 }
 
 /// The name of a file without its folders and without `.toml` at its end.
