@@ -1,5 +1,10 @@
 //! The callbacks that a scenario is played over.
-ghost use Rattle.std.specs.Prelude.{◌≤◌, length, IfOk, IfSome};
+ghost use Rattle.std.specs.Prelude.{◌≡◌, ◌≤◌, Some, true, false, length, map, option_map, is_some, IfOk, IfSome, IsErrAnd};
+ghost use Rattle.std.specs.IoError.{error_kind};
+ghost use Rattle.std.specs.declared.io.ErrorKind.TheVariants.{OutOfMemory};
+ghost use Rattle.evl_bank.specs.Bank.{program_bank};
+ghost use Rattle.evl_plans.specs.Told.{told};
+ghost use Rattle.evl_lab.specs.Banks.{IsBank, IsReadAs};
 
 use evl_plans::{BankFault, Planned, read_bank};
 use evl_runs::program_plans;
@@ -15,12 +20,13 @@ fn tell_unread<E: Write>(err: &mut E, path: &str) -> io::Result<()> {
 }
 
 // Tells what is wrong in a bank.
-fn tell_fault<E: Write>(err: &mut E, path: &str, fault: BankFault) -> io::Result<()> {
-    if fault == BankFault::Memory {
-        return Err(AllocError.into());
+fn tell_fault<E: Write>(err: &mut E, path: &str, fault: BankFault) -> io::Result<()>
+    ensures { fault ≡ BankFault.Memory → IsErrAnd result (λ e. error_kind e ≡ OutOfMemory) }
+{
+    match fault {
+        BankFault::Memory => Err(AllocError.into()),
+        told => writeln!(err, "lab: {path}: {told}"),
     }
-    writeln!(err, "lab: {path}: {fault}")?;
-    Ok(())
 }
 
 // The callbacks of a bank's text; none where it is at fault, which is told.
@@ -30,7 +36,9 @@ fn read_text<E: Write>(
     text: &[u8],
     err: &mut E,
 ) -> io::Result<Option<Vec<Planned>>>
-    ensures { IfOk result (λ plans. IfSome plans (λ p. length p.items ≤ 64)) }
+    ensures few { IfOk result (λ plans. IfSome plans (λ p. length p.items ≤ 64)) }
+    ensures read { IfOk result (λ plans. IsReadAs text.now (option_map (λ p. map told p.items) plans)) }
+    ensures quiet { IfOk result (λ plans. is_some plans ≡ true → err.new ≡ err.old) }
 {
     match read_bank(alloc, text) {
         Ok(plans) => Ok(Some(plans)),
@@ -47,7 +55,9 @@ fn read_file<R: Files + AllocGlobal, E: Write>(
     path: &str,
     err: &mut E,
 ) -> io::Result<Option<Vec<Planned>>>
-    ensures { IfOk result (λ plans. IfSome plans (λ p. length p.items ≤ 64)) }
+    ensures few { IfOk result (λ plans. IfSome plans (λ p. length p.items ≤ 64)) }
+    ensures bank { IfOk result (λ plans. IfSome plans (λ p. IsBank (Some path.now) (map told p.items))) }
+    ensures quiet { IfOk result (λ plans. is_some plans ≡ true → err.new ≡ err.old) }
 {
     match fs::read(rt, path) {
         Ok(text) => read_text(rt.alloc(), path, text.as_slice(), err),
@@ -60,7 +70,8 @@ fn read_file<R: Files + AllocGlobal, E: Write>(
 
 // The program's callbacks.
 fn own_plans(alloc: Global) -> io::Result<Option<Vec<Planned>>>
-    ensures { IfOk result (λ plans. IfSome plans (λ p. length p.items ≤ 64)) }
+    ensures few { IfOk result (λ plans. IfSome plans (λ p. length p.items ≤ 64)) }
+    ensures bank { IfOk result (λ plans. option_map (λ p. map told p.items) plans ≡ Some program_bank) }
 {
     match program_plans(alloc) {
         Ok(plans) => Ok(Some(plans)),
@@ -75,7 +86,10 @@ pub fn read_plans<R: Files + AllocGlobal, E: Write>(
     bank: Option<&str>,
     err: &mut E,
 ) -> io::Result<Option<Vec<Planned>>>
-    ensures { IfOk result (λ plans. IfSome plans (λ p. length p.items ≤ 64)) }
+    ensures few { IfOk result (λ plans. IfSome plans (λ p. length p.items ≤ 64)) }
+    ensures bank { IfOk result (λ plans. IfSome plans (λ p. IsBank (option_map (λ file. file.now) bank.entry) (map told p.items))) }
+    ensures own { is_some bank.entry ≡ false → IfOk result (λ plans. is_some plans ≡ true) }
+    ensures quiet { IfOk result (λ plans. is_some plans ≡ true → err.new ≡ err.old) }
 {
     match bank {
         Some(path) => read_file(rt, path, err),

@@ -1,4 +1,9 @@
 //! `lab play --against`: traces beside those that were made before.
+ghost use Rattle.std.specs.Prelude.{◌≡◌, ◌++◌, List, ℕ, Option, Some, true, codes, option_map, IfOk, OnOk};
+ghost use Rattle.std.specs.Io.KnownBytes.{Appends};
+ghost use Rattle.evl_lab.specs.Endings.{line_about};
+ghost use Rattle.evl_lab.specs.Plays.{Compares, ComparesTexts, Tells, difference_text, difference_told, side_text};
+
 use crate::endings::{tell_done, tell_refused};
 use crate::texts::{stem_of, text_in};
 use evl_runs::{Difference, first_difference};
@@ -14,23 +19,26 @@ fn read_stored<R: Files + AllocGlobal>(rt: &R, folder: &str, stem: &str) -> io::
 }
 
 // Tells that a folder has no trace of a scenario.
-fn tell_missing<E: Write>(err: &mut E, name: &str, folder: &str) -> io::Result<bool> {
+fn tell_missing<E: Write>(err: &mut E, name: &str, folder: &str) -> io::Result<bool>
+    ensures answer { IfOk result (λ is_at_fault. is_at_fault ≡ true) }
+    ensures line { OnOk result (Appends (E.contents err.old) (E.contents err.new) (line_about name.now (codes "no trace in " ++ folder.now))) }
+{
     writeln!(err, "{name}: no trace in {folder}")?;
     Ok(true)
 }
 
 // Tells a line of a trace, or that it has ended.
-fn tell_line<O: Write>(out: &mut O, sign: &str, line: Option<&str>) -> io::Result<()> {
+fn tell_line<O: Write>(out: &mut O, sign: &str, line: Option<&str>) -> io::Result<()>
+    ensures { OnOk result (Appends (O.contents out.old) (O.contents out.new) (side_text sign.now (option_map (λ text. text.now) line.entry))) }
+{
     let text = line.unwrap_or("(the end)");
     writeln!(out, "{sign} {text}")
 }
 
 // Tells a difference.
-fn tell_difference<O: Write>(
-    name: &str,
-    difference: Difference<'_>,
-    out: &mut O,
-) -> io::Result<()> {
+fn tell_difference<O: Write>(name: &str, difference: Difference<'_>, out: &mut O) -> io::Result<()>
+    ensures { OnOk result (Appends (O.contents out.old) (O.contents out.new) (difference_text name.now difference.entry)) }
+{
     let Difference { line, stored, made } = difference;
     writeln!(out, "{name}: line {line}")?;
     tell_line(out, "-", stored)?;
@@ -43,7 +51,9 @@ fn tell_differs<O: Write, E: Write>(
     difference: Difference<'_>,
     out: &mut O,
     err: &mut E,
-) -> io::Result<bool> {
+) -> io::Result<bool>
+    ensures { IfOk result (Tells (λ told. told ≡ difference_told name.now (Some difference.entry)) (O.contents out.old) (O.contents out.new) (E.contents err.old) (E.contents err.new)) }
+{
     tell_difference(name, difference, out)?;
     tell_refused(err, name, "differs")
 }
@@ -56,7 +66,9 @@ fn compare_texts<O: Write, E: Write>(
     trace: &str,
     out: &mut O,
     err: &mut E,
-) -> io::Result<bool> {
+) -> io::Result<bool>
+    ensures { IfOk result (Tells (ComparesTexts name.now stored.now trace.now) (O.contents out.old) (O.contents out.new) (E.contents err.old) (E.contents err.new)) }
+{
     match first_difference(alloc, stored, trace)? {
         Some(difference) => tell_differs(name, difference, out, err),
         None => tell_done(err, name),
@@ -72,7 +84,9 @@ pub fn compare<R: Files + AllocGlobal, O: Write, E: Write>(
     trace: &str,
     out: &mut O,
     err: &mut E,
-) -> io::Result<bool> {
+) -> io::Result<bool>
+    ensures { IfOk result (Tells (λ told. (stored : Option (List ℕ)) × Compares name.now folder.now stored trace.now told) (O.contents out.old) (O.contents out.new) (E.contents err.old) (E.contents err.new)) }
+{
     match read_stored(rt, folder, stem_of(name)) {
         Ok(bytes) => {
             let stored = text_in(bytes.as_slice());

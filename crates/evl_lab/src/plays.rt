@@ -1,5 +1,14 @@
 //! `lab play`: the traces of scenarios.
-ghost use Rattle.std.specs.Prelude.{◌≤◌, length};
+ghost use Rattle.std.specs.Prelude.{◌≡◌, ◌≤◌, ◌⊎◌, ◌||◌, List, [], ◌∷◌, ℕ, false, length, IfOk, OnOk, map, option_map};
+ghost use Rattle.std.specs.Io.KnownBytes.{Appends};
+ghost use Rattle.evl_shell.specs.Runs.{trace_of};
+ghost use Rattle.evl_plans.specs.Told.{told};
+ghost use Rattle.evl_traces.specs.Says.{says_of};
+ghost use Rattle.evl_runs.specs.Json.{trace_json};
+ghost use Rattle.evl_lab.specs.Banks.{IsBank, Refuses};
+ghost use Rattle.evl_lab.specs.Texts.{is_input, names_or_input};
+ghost use Rattle.evl_lab.specs.Plays as plays;
+ghost use Rattle.evl_lab.specs.Plays.{IsJsonOf, IsPlayed, Plays, PlaysEach, Tells, TellsPlayed, TellsTrace};
 
 use crate::banks::read_plans;
 use crate::compares::compare;
@@ -20,7 +29,9 @@ fn put_lines<O: Write>(
     name: &str,
     lines: &[TraceLine<'_>],
     out: &mut O,
-) -> io::Result<()> {
+) -> io::Result<()>
+    ensures { OnOk result (Appends (O.contents out.old) (O.contents out.new) (trace_json name.now (map (λ line. says_of line.says) lines.now))) }
+{
     match write_json(alloc, name, lines) {
         Ok(json) => out.write_all(json.as_bytes()),
         Err(error) => Err(error.into()),
@@ -28,7 +39,9 @@ fn put_lines<O: Write>(
 }
 
 // Writes a text as JSON, where it is lines of a trace.
-fn put_json<O: Write>(alloc: Global, name: &str, text: &str, out: &mut O) -> io::Result<()> {
+fn put_json<O: Write>(alloc: Global, name: &str, text: &str, out: &mut O) -> io::Result<()>
+    ensures { OnOk result ((json : List ℕ) × IsJsonOf name.now text.now json × Appends (O.contents out.old) (O.contents out.new) json) }
+{
     match read_lines(alloc, text) {
         Ok(lines) => put_lines(alloc, name, lines.as_slice(), out),
         Err(Misread::Memory) => Err(AllocError.into()),
@@ -42,7 +55,9 @@ fn tell_whole<O: Write, E: Write>(
     trace: &[u8],
     out: &mut O,
     err: &mut E,
-) -> io::Result<bool> {
+) -> io::Result<bool>
+    ensures { IfOk result (Tells (TellsTrace Telling.Trace name.now trace.now) (O.contents out.old) (O.contents out.new) (E.contents err.old) (E.contents err.new)) }
+{
     out.write_all(trace)?;
     tell_done(err, name)
 }
@@ -54,7 +69,9 @@ fn tell_json<O: Write, E: Write>(
     trace: &[u8],
     out: &mut O,
     err: &mut E,
-) -> io::Result<bool> {
+) -> io::Result<bool>
+    ensures { IfOk result (Tells (TellsTrace Telling.Json name.now trace.now) (O.contents out.old) (O.contents out.new) (E.contents err.old) (E.contents err.new)) }
+{
     put_json(alloc, name, text_in(trace), out)?;
     tell_done(err, name)
 }
@@ -67,7 +84,9 @@ fn tell_trace<R: Files + AllocGlobal, O: Write, E: Write>(
     trace: &[u8],
     out: &mut O,
     err: &mut E,
-) -> io::Result<bool> {
+) -> io::Result<bool>
+    ensures { IfOk result (Tells (TellsTrace telling.entry name.now trace.now) (O.contents out.old) (O.contents out.new) (E.contents err.old) (E.contents err.new)) }
+{
     match telling {
         Telling::Trace => tell_whole(name, trace, out, err),
         Telling::Json => tell_json(rt.alloc(), name, trace, out, err),
@@ -86,6 +105,7 @@ fn play_text<R: Files + AllocGlobal, O: Write, E: Write>(
     err: &mut E,
 ) -> io::Result<bool>
     requires { length plans.now ≤ 64 }
+    ensures { IfOk result (Tells (TellsPlayed playing.entry.telling name.now (trace_of (map told plans.now) playing.entry.limit text.now)) (O.contents out.old) (O.contents out.new) (E.contents err.old) (E.contents err.new)) }
 {
     match trace_plans(rt.alloc(), plans, text, playing.limit) {
         Ok(trace) => tell_trace(rt, playing.telling, name, trace.as_slice(), out, err),
@@ -104,11 +124,20 @@ fn play_file<R: Files + AllocGlobal, I: Read, O: Write, E: Write>(
     err: &mut E,
 ) -> io::Result<bool>
     requires { length plans.now ≤ 64 }
+    ensures told { IfOk result (PlaysEach (IsPlayed playing.entry.telling (map told plans.now) playing.entry.limit) (name.now ∷ []) (I.remaining input.old) (O.contents out.old) (O.contents out.new) (E.contents err.old) (E.contents err.new)) }
+    ensures input { is_input name.now ≡ false → input.new ≡ input.old }
 {
     match read_text(rt, Some(name), input) {
         Ok(text) => play_text(rt, plans, playing, name, text.as_slice(), out, err),
         Err(_) => tell_refused(err, name, "no file"),
     }
+}
+
+// Whether one of two is so.
+fn either(one: bool, other: bool) -> bool
+    ensures { result ≡ (one || other) }
+{
+    one || other
 }
 
 // Plays files, and answers whether one is at fault.
@@ -122,18 +151,45 @@ fn play_each<R: Files + AllocGlobal, I: Read, O: Write, E: Write>(
     err: &mut E,
 ) -> io::Result<bool>
     requires { length plans.now ≤ 64 }
+    ensures { IfOk result (PlaysEach (IsPlayed playing.entry.telling (map told plans.now) playing.entry.limit) (map (λ file. file.now) files.now) (I.remaining input.old) (O.contents out.old) (O.contents out.new) (E.contents err.old) (E.contents err.new)) }
 {
     let mut is_at_fault = false;
     for file in files {
-        if play_file(rt, plans, playing, file, input, out, err)? {
-            is_at_fault = true;
-        }
+        let is_bad = play_file(rt, plans, playing, file, input, out, err)?;
+        is_at_fault = either(is_at_fault, is_bad);
     }
     Ok(is_at_fault)
 }
 
-// Plays files, or the input where none is named, and answers the status.
+// Plays files, or the input where none is named, and answers whether one is at fault.
 fn play_over<R: Files + AllocGlobal, I: Read, O: Write, E: Write>(
+    rt: &R,
+    plans: &[Planned],
+    playing: Playing<'_>,
+    files: &[&str],
+    input: &mut I,
+    out: &mut O,
+    err: &mut E,
+) -> io::Result<bool>
+    requires { length plans.now ≤ 64 }
+    ensures { IfOk result (PlaysEach (IsPlayed playing.entry.telling (map told plans.now) playing.entry.limit) (names_or_input (map (λ file. file.now) files.now)) (I.remaining input.old) (O.contents out.old) (O.contents out.new) (E.contents err.old) (E.contents err.new)) }
+{
+    if files.is_empty() {
+        play_file(rt, plans, playing, "-", input, out, err)
+    } else {
+        play_each(rt, plans, playing, files, input, out, err)
+    }
+}
+
+// The status of scenarios that were played.
+fn status_of(is_at_fault: bool) -> u8
+    ensures { result ≡ plays.status_of is_at_fault }
+{
+    if is_at_fault { AT_FAULT } else { 0 }
+}
+
+// Plays files over these callbacks, or the input where none is named, and answers the status.
+fn play_bank<R: Files + AllocGlobal, I: Read, O: Write, E: Write>(
     rt: &R,
     plans: &[Planned],
     playing: Playing<'_>,
@@ -143,13 +199,10 @@ fn play_over<R: Files + AllocGlobal, I: Read, O: Write, E: Write>(
     err: &mut E,
 ) -> io::Result<u8>
     requires { length plans.now ≤ 64 }
+    ensures { IsBank (option_map (λ file. file.now) playing.entry.bank) (map told plans.now) → IfOk result (Plays playing.entry (map (λ file. file.now) files.now) (I.remaining input.old) (O.contents out.old) (O.contents out.new) (E.contents err.old) (E.contents err.new)) }
 {
-    let is_at_fault = if files.is_empty() {
-        play_file(rt, plans, playing, "-", input, out, err)?
-    } else {
-        play_each(rt, plans, playing, files, input, out, err)?
-    };
-    Ok(if is_at_fault { AT_FAULT } else { 0 })
+    let is_at_fault = play_over(rt, plans, playing, files, input, out, err)?;
+    Ok(status_of(is_at_fault))
 }
 
 /// Plays scenarios over a bank, tells of each what is asked for and on `err` how it ended, and answers the status: 2
@@ -161,9 +214,11 @@ pub fn play_files<R: Files + AllocGlobal, I: Read, O: Write, E: Write>(
     input: &mut I,
     out: &mut O,
     err: &mut E,
-) -> io::Result<u8> {
+) -> io::Result<u8>
+    ensures { IfOk result (λ status. Refuses (option_map (λ file. file.now) playing.entry.bank) (O.contents out.old) (O.contents out.new) status ⊎ Plays playing.entry (map (λ file. file.now) files.now) (I.remaining input.old) (O.contents out.old) (O.contents out.new) (E.contents err.old) (E.contents err.new) status) }
+{
     match read_plans(rt, playing.bank, err) {
-        Ok(Some(plans)) => play_over(rt, plans.as_slice(), playing, files, input, out, err),
+        Ok(Some(plans)) => play_bank(rt, plans.as_slice(), playing, files, input, out, err),
         Ok(None) => Ok(AT_FAULT),
         Err(error) => Err(error),
     }

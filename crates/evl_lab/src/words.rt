@@ -1,4 +1,9 @@
-//! What the words behind `draw`, `play` and `live` ask for.
+//! What the words behind `draw`, `play`, `live` and `orders` ask for.
+ghost use Rattle.std.specs.Prelude.{◌≡◌, codes, option_map, unwrap_or};
+ghost use Rattle.clap.specs.Words.{first_value, found_of};
+ghost use Rattle.evl_lab.specs.Words as words;
+ghost use Rattle.evl_lab.specs.Words.{AsksFor};
+
 use clap::ArgMatches;
 
 /// The form of a picture.
@@ -50,13 +55,29 @@ pub struct Driving<'a> {
     pub limit: Option<u32>,
 }
 
+// Whether a word that takes no value stands there.
+fn is_set(matches: &ArgMatches<'_>, id: &str) -> bool
+    ensures { result ≡ words.is_set (found_of matches.now) id.now }
+{
+    matches.get_one(id).unwrap_or(false)
+}
+
+// The number behind a word.
+fn number_at(matches: &ArgMatches<'_>, id: &str) -> Option<u32>
+    ensures { result ≡ words.number_at (found_of matches.now) id.now }
+{
+    matches.get_one(id)
+}
+
 // The form that is asked for.
-fn form_of(matches: &ArgMatches<'_>) -> Form {
-    if matches.get_flag("perfetto") {
+fn form_of(matches: &ArgMatches<'_>) -> Form
+    ensures { result ≡ words.form_of (found_of matches.now) }
+{
+    if is_set(matches, "perfetto") {
         Form::Events
-    } else if matches.get_flag("csv") {
+    } else if is_set(matches, "csv") {
         Form::Table
-    } else if matches.get_flag("lanes") {
+    } else if is_set(matches, "lanes") {
         Form::Rows
     } else {
         Form::Svg
@@ -73,22 +94,29 @@ pub struct Asked<'a> {
 
 impl<'a> Asked<'a> {
     /// How the text is called in messages.
-    pub fn name(&self) -> &'a str {
+    pub fn name(&self) -> &'a str
+        ensures { result.now ≡ unwrap_or (option_map (λ file. file.now) self.now.file) (codes "-") }
+    {
         self.file.unwrap_or("-")
     }
 }
 
 /// What `draw` is asked for.
-pub fn drawing_of(matches: &ArgMatches<'_>) -> Drawing {
+pub fn drawing_of(matches: &ArgMatches<'_>) -> Drawing
+    ensures form { result.form ≡ words.form_of (found_of matches.now) }
+    ensures page { result.page ≡ unwrap_or (words.number_at (found_of matches.now) (codes "page")) 1 }
+{
     Drawing {
         form: form_of(matches),
-        page: matches.get_one("page").unwrap_or(1),
+        page: number_at(matches, "page").unwrap_or(1),
     }
 }
 
 // What is to be told of the scenarios that are played.
-fn telling_of<'a>(matches: &ArgMatches<'a>) -> Telling<'a> {
-    if matches.get_flag("json") {
+fn telling_of<'a>(matches: &ArgMatches<'a>) -> Telling<'a>
+    ensures { AsksFor (found_of matches.now) result }
+{
+    if is_set(matches, "json") {
         return Telling::Json;
     }
     match matches.get_str("against") {
@@ -98,29 +126,40 @@ fn telling_of<'a>(matches: &ArgMatches<'a>) -> Telling<'a> {
 }
 
 /// What `play` is asked for.
-pub fn playing_of<'a>(matches: &ArgMatches<'a>) -> Playing<'a> {
+pub fn playing_of<'a>(matches: &ArgMatches<'a>) -> Playing<'a>
+    ensures bank { option_map (λ file. file.now) result.bank ≡ first_value (found_of matches.now) (codes "bank") }
+    ensures limit { result.limit ≡ words.number_at (found_of matches.now) (codes "limit") }
+    ensures telling { AsksFor (found_of matches.now) result.telling }
+{
     Playing {
         bank: matches.get_str("bank"),
-        limit: matches.get_one("limit"),
+        limit: number_at(matches, "limit"),
         telling: telling_of(matches),
     }
 }
 
 /// What `live` is asked for.
-pub fn driving_of<'a>(matches: &ArgMatches<'a>) -> Driving<'a> {
+pub fn driving_of<'a>(matches: &ArgMatches<'a>) -> Driving<'a>
+    ensures file { option_map (λ file. file.now) result.file ≡ first_value (found_of matches.now) (codes "FILE") }
+    ensures bank { option_map (λ file. file.now) result.bank ≡ first_value (found_of matches.now) (codes "bank") }
+    ensures limit { result.limit ≡ words.number_at (found_of matches.now) (codes "limit") }
+{
     Driving {
         file: matches.get_str("FILE"),
         bank: matches.get_str("bank"),
-        limit: matches.get_one("limit"),
+        limit: number_at(matches, "limit"),
     }
 }
 
 /// What `orders` is asked for.
-pub fn asked_of<'a>(matches: &ArgMatches<'a>) -> Asked<'a> {
-    let most: u32 = matches.get_one("most").unwrap_or(100_000);
+pub fn asked_of<'a>(matches: &ArgMatches<'a>) -> Asked<'a>
+    ensures bank { option_map (λ file. file.now) result.bank ≡ first_value (found_of matches.now) (codes "bank") }
+    ensures most { result.most ≡ unwrap_or (words.number_at (found_of matches.now) (codes "most")) 100000 }
+    ensures file { option_map (λ file. file.now) result.file ≡ first_value (found_of matches.now) (codes "FILE") }
+{
     Asked {
         bank: matches.get_str("bank"),
-        most: most as usize,
+        most: number_at(matches, "most").unwrap_or(100_000) as usize,
         file: matches.get_str("FILE"),
     }
 }

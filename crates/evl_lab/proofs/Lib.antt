@@ -1,0 +1,3 @@
+pub mod PlayLemmas
+pub mod TextLemmas
+pub mod WordLemmas
