@@ -17,7 +17,11 @@ use std::sync::Wait;
 #[derive(Clone, Copy)]
 pub enum Ask {
     Attach(Policy, Stage),
+    Detach,
     SetStage(Stage),
+    Claim(MutexId, ThreadId),
+    Release(MutexId),
+    Raise(MutexId),
     Put(SemId),
     Peek(SemId),
     TryGet(SemId),
@@ -33,7 +37,15 @@ pub enum Ask {
 pub fn call_of(ask: Ask) -> Call {
     match ask {
         Ask::Attach(policy, stage) => Call::Attach { policy, stage },
+        Ask::Detach => Call::Detach,
         Ask::SetStage(stage) => Call::SetStage { stage },
+        Ask::Claim(mutex, owner) => Call::Claim {
+            mutex,
+            owner,
+            until: None,
+        },
+        Ask::Release(mutex) => Call::Release { mutex },
+        Ask::Raise(mutex) => Call::Raise { mutex },
         Ask::Put(sem) => Call::Put { sem },
         Ask::Peek(sem) => Call::Peek { sem },
         Ask::TryGet(sem) => Call::TryGet { sem },

@@ -1,9 +1,17 @@
 //! Where one call of the kernel may stop, and several under one take.
 use crate::acts::{Act, Ask, BUSY, CORE_BUSY, FULL, SHORT, Told};
-use crate::boards::{ATTACHED, CEILING, FIRST, GROWN, NORMAL, PEEK, PUT, SECOND, SEM, STAX};
-use crate::phases::{Left, Phase, Side};
+use crate::boards::{
+    ATTACH, ATTACHED, CEILING, FIRST, GROWN, NORMAL, PEEK, PUT, SECOND, SEM, STAX,
+};
+use crate::phases::{Left, Phase, Side, Step};
 use crate::rows::is_row;
-use evl_base::{Refusal, Stage};
+use evl_base::{Refusal, Stage, ThreadId};
+
+const DETACH: Act = Act::Call(Ask::Detach);
+
+const INVALID: Told = Told::Refused(Refusal::Invalid);
+
+const HOLDS_STAX: Told = Told::Refused(Refusal::HoldsStax);
 
 // A call without memory changes nothing, not the caller's stage either, by which it enters staxes.
 const CALLED_SHORT: [Phase<'_>; 3] = [
@@ -124,4 +132,55 @@ const CALLER_LOST: [Phase<'_>; 4] = [
 #[test]
 fn what_a_dropped_caller_has_stays_taken(rt: HostRuntime) {
     assert!(rt; is_row(&rt, rt.alloc(), NORMAL, 100, &CALLER_LOST));
+}
+
+// What a caller refuses by itself as it has a stax and a mutex, and then the mutex alone: by calls of which each takes
+// the core, and by calls under one take. Nothing of it is entered.
+const OWN: [Step; 9] = [
+    (3, Act::Call(Ask::Claim(FIRST, ThreadId(0))), INVALID),
+    (3, Act::Call(Ask::Release(FIRST)), INVALID),
+    (3, Act::Call(Ask::Raise(FIRST)), INVALID),
+    (3, Act::Call(Ask::Finish(false)), INVALID),
+    (3, ATTACH, HOLDS_STAX),
+    (3, DETACH, HOLDS_STAX),
+    (3, Act::Call(Ask::SetStage(Stage::Inband)), HOLDS_STAX),
+    (3, PUT, Told::Done),
+    (3, DETACH, HOLDS_STAX),
+];
+
+const OWN_REFUSALS: [Phase<'_>; 6] = [
+    (
+        Side::Free,
+        &[
+            (3, ATTACH, Told::Done),
+            (3, Act::Enter(STAX), Told::Passed),
+            (3, Act::Lock(FIRST), Told::Passed),
+        ],
+        Left::Owned(1, 3),
+    ),
+    (Side::Free, &OWN, Left::Owned(2, 3)),
+    (Side::Applied, &OWN, Left::Owned(3, 3)),
+    (
+        Side::Free,
+        &[(3, Act::Leave(3), Told::Left(false)), (3, DETACH, BUSY)],
+        Left::Owned(3, 3),
+    ),
+    (
+        Side::Applied,
+        &[(3, DETACH, BUSY), (3, PUT, Told::Done)],
+        Left::Owned(4, 3),
+    ),
+    (
+        Side::Free,
+        &[
+            (3, Act::UnlockFast(FIRST), Told::Done),
+            (3, DETACH, Told::Done),
+        ],
+        Left::Free(5),
+    ),
+];
+
+#[test]
+fn own_refusals(rt: HostRuntime) {
+    assert!(rt; is_row(&rt, rt.alloc(), NORMAL, 100, &OWN_REFUSALS));
 }

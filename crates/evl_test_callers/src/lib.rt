@@ -32,6 +32,8 @@ mod phases;
 #[cfg(test)]
 mod quiet;
 #[cfg(test)]
+mod refused_rows;
+#[cfg(test)]
 mod rows;
 #[cfg(test)]
 mod short;

@@ -73,8 +73,8 @@ pub enum Left {
 /// Steps beside a side, and what is left.
 pub type Phase<'a> = (Side, &'a [Step], Left);
 
-// What the caller at this place is told.
-fn answer<C: Handler, A: Allocator, R: Wait>(
+/// What the caller at this place is told.
+pub fn answer<C: Handler, A: Allocator, R: Wait>(
     rt: &R,
     machine: &MachineOf<C, A>,
     callers: &mut Vec<CallerOf<C, A>, A>,

@@ -14,8 +14,8 @@ use linked_list_allocator::LocalHeap;
 use std::alloc::{Allocator, Global};
 use std::sync::Wait;
 
-// Memory enough for a row.
-const ENOUGH: usize = 4_194_304;
+/// Memory enough for a row.
+pub const ENOUGH: usize = 4_194_304;
 
 /// A machine over a board and a bank, with its callers.
 pub fn made<C: Handler, A: Allocator + Clone>(

@@ -2,13 +2,13 @@
 ghost use Rattle.std.specs.Prelude.{◌≡◌};
 ghost use Rattle.evl_kernel.specs.Callbacks.{AnswersByPlan};
 
-use crate::refusing::Refusing;
 use crate::rows::{ROWS, Row};
 use crate::shown::{shown, shows};
 use evl_bank::{BankUser, with_program_bank};
 use evl_base::{Board, Refusal};
 use evl_kernel::KernelOf;
 use evl_pipeline::{Callback, Handler};
+use evl_refusing::Refusing;
 use evl_scenario::{Scenario, Step, read_scenario, trace_history};
 use linked_list_allocator::LocalHeap;
 use std::alloc::{AllocError, Allocator, Global};

@@ -3,7 +3,6 @@
 
 #[cfg(test)]
 mod growths;
-pub mod refusing;
 #[cfg(test)]
 mod rows;
 #[cfg(test)]

@@ -11,20 +11,25 @@ fn is_bad_step(alloc: Global, steps: &str, number: u32) -> bool {
     parts_come_to(alloc, &[BOARD, steps], Err(Fault::Step(number)))
 }
 
-// Whether a scenario is played under a limit that is handed in.
-fn is_limit(alloc: Global, limit: u32) -> bool {
+// Whether a scenario comes to this under a limit that is handed in, and has a trace just where it is played.
+fn is_limit(alloc: Global, limit: u32, wanted: Result<(), Fault>) -> bool {
     let out: Vec<u8> = Vec::new(alloc);
     let (answer, _, trace) = came(alloc, TRY_GET.as_bytes(), Some(limit), out);
-    answer == Ok(()) && !trace.is_empty()
+    answer == wanted && trace.is_empty() == wanted.is_err()
 }
 
-// Limits, and whether each may be handed in.
-const LIMITS: [(u32, bool); 4] = [(0, false), (1, true), (1_000_000, true), (1_000_001, false)];
+// Limits, and what a scenario comes to under each.
+const LIMITS: [(u32, Result<(), Fault>); 4] = [
+    (0, Err(Fault::Board)),
+    (1, Ok(())),
+    (1_000_000, Ok(())),
+    (1_000_001, Err(Fault::Board)),
+];
 
-// Whether each limit may or may not, as it says.
-fn are_limits(alloc: Global, limits: &[(u32, bool)]) -> bool {
+// Whether it comes to that under each.
+fn are_limits(alloc: Global, limits: &[(u32, Result<(), Fault>)]) -> bool {
     for (limit, wanted) in limits {
-        if is_limit(alloc, *limit) != *wanted {
+        if !is_limit(alloc, *limit, *wanted) {
             return false;
         }
     }

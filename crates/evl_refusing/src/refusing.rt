@@ -9,7 +9,7 @@ pub struct Refusing<B: Allocator> {
 }
 
 impl<B: Allocator> Refusing<B> {
-    /// It grants so many requests before it refuses one, and all that follow.
+    /// It grants so many requests, refuses the next one, and grants all that follow.
     pub fn after(inner: B, granted: u64) -> Refusing<B> {
         Refusing {
             inner,

@@ -16,7 +16,7 @@ use denote.Steps.{nothing}
 use denote.Triple.Statement.{Contract}
 use denote.Triple.Spec.{triple_of}
 use Rattle.std.specs.contracts.cell.Cell as CE
-use Rattle.evl_test_growths.specs.contracts.refusing.refuses as RF
+use Rattle.evl_refusing.specs.contracts.refusing.refuses as RF
 
 abbrev pub Left : RattleType
 Left = CE.the_row u64

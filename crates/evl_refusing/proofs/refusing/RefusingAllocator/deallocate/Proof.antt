@@ -38,11 +38,11 @@ use denote.RawPtr.{Ptr, block_ptr, null_ptr, ptr_val, rawptr_vals, rawptr_Tells}
 use denote.Builtin.{usize, RawPtr, RefOf}
 use denote.Triple.Call.{calls_at}
 use Rattle.std.proofs.alloc.Calls.{Al, α, seen, token, gives_key, Gives, at_gives, Gives-goes, Gives-Gives}
-use Rattle.evl_test_growths.specs.contracts.refusing.Refusing as wrapper
-use Rattle.evl_test_growths.specs.contracts.refusing.RefusingAllocator.deallocate as F
-use Rattle.evl_test_growths.specs.contracts.refusing.RefusingAllocator.deallocate.Key as key
-use Rattle.evl_test_growths.proofs.refusing.RefusingAllocator.deallocate.Statement as stated
-use Rattle.evl_test_growths.proofs.refusing.RefusingAllocator.deallocate.Code as code
+use Rattle.evl_refusing.specs.contracts.refusing.Refusing as wrapper
+use Rattle.evl_refusing.specs.contracts.refusing.RefusingAllocator.deallocate as F
+use Rattle.evl_refusing.specs.contracts.refusing.RefusingAllocator.deallocate.Key as key
+use Rattle.evl_refusing.proofs.refusing.RefusingAllocator.deallocate.Statement as stated
+use Rattle.evl_refusing.proofs.refusing.RefusingAllocator.deallocate.Code as code
 
 module _ (Z : Al) where
   abbrev args : Args
