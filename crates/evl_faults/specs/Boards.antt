@@ -8,7 +8,6 @@ use Rattle.evl_faults.specs.Told.{Told, told_at}
 use Rattle.evl_faults.specs.Words.{board_keys, board_wanted_text, hint_text, opening_keys}
 use Rattle.evl_faults.specs.declared.items.Heading.{Heading}
 use Rattle.evl_faults.specs.declared.items.Item.{Item}
-use Rattle.evl_faults.specs.declared.items.Items.{Items}
 use Rattle.evl_faults.specs.declared.items.Section.{Section}
 use Rattle.evl_faults.specs.declared.items.Section.TheVariants.{Opening, Board, Other}
 
@@ -107,7 +106,5 @@ module _ (text : List ℕ) where
   threads_faults headings items = if list_any is_threads items then [] else board_told (first_heading headings) no_threads_text ∷ []
 
   -- of the headings, of the keys, and that one is missing
-  unfoldable pub board_faults : Items → List Told
-  board_faults found =
-      flat_map heading_faults found.headings.items
-      ++ (flat_map item_faults found.items.items ++ threads_faults found.headings.items found.items.items)
+  unfoldable pub board_faults : List Heading → List Item → List Told
+  board_faults headings items = flat_map heading_faults headings ++ (flat_map item_faults items ++ threads_faults headings items)

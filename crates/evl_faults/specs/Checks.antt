@@ -1,15 +1,14 @@
--- What is told of a text that can't be played. Left open are where the reader of TOML stopped and why, and where the keys stand.
+-- What is told of a text that can't be played. Left open is where the reader of TOML stopped, and why.
 use Rattle.std.specs.Prelude.{◌≡◌, ◌≢◌, ◌<◌, ◌≤◌, ◌⊎◌, ℕ, List, [], ◌∷◌, ◌++◌, codes, decimal, length, map, Option, None, Some, is_some, true}
 use Rattle.toml.specs.Parse.{parse_document}
 use Rattle.evl_scenario.specs.declared.faults.Fault.{Fault}
 use Rattle.evl_scenario.specs.declared.faults.Fault.TheVariants.{Text, Board, Step, Memory, Write}
 use Rattle.evl_faults.specs.Boards.{board_faults}
 use Rattle.evl_faults.specs.Faults.{found_lines}
+use Rattle.evl_faults.specs.Keys.{text_headings, text_keys}
 use Rattle.evl_faults.specs.Steps.{all_step_faults}
 use Rattle.evl_faults.specs.Told.{Told, told, told_at}
 use Rattle.evl_faults.specs.declared.found.Found.{Found}
-use Rattle.evl_faults.specs.declared.items.Item.{Item}
-use Rattle.evl_faults.specs.declared.items.Items.{Items}
 
 -- ---- of the text
 
@@ -33,20 +32,18 @@ pub record FindsText (text : List ℕ) (faults : List Told) : Type 0 where
   pub says : IsTextFault text at words
   pub told : faults ≡ told_at text Text at words ∷ []
 
--- for these keys
-pub record FindsSteps (text : List ℕ) (faults : List Told) : Type 0 where
-  pub keys : List Item
-  pub told : faults ≡ all_step_faults text keys
+-- of the steps
+abbrev pub faults_in_steps : List ℕ → List Told
+faults_in_steps text = all_step_faults text (text_keys text)
 
--- for these headings and keys
-pub record FindsBoard (text : List ℕ) (faults : List Told) : Type 0 where
-  pub items : Items
-  pub told : faults ≡ board_faults text items ++ all_step_faults text items.items.items
+-- of the board, of what stands beside it, and of the steps
+abbrev pub faults_in_all : List ℕ → List Told
+faults_in_all text = board_faults text (text_headings text) (text_keys text) ++ faults_in_steps text
 
 abbrev pub Finds : List ℕ → Fault → List Told → Type 0
 Finds text Text faults = FindsText text faults
-Finds text (Step number) faults = FindsSteps text faults
-Finds text _ faults = FindsBoard text faults
+Finds text (Step number) faults = faults ≡ faults_in_steps text
+Finds text _ faults = faults ≡ faults_in_all text
 
 -- ---- with that in front
 

@@ -1,6 +1,8 @@
 pub mod Boards
 pub mod Checks
 pub mod Faults
+pub mod Keys
+pub mod Pieces
 pub mod Steps
 pub mod Told
 pub mod Words

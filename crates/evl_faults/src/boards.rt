@@ -269,7 +269,7 @@ pub fn check_board(
     finding: &mut Finding<'_>,
     items: &Items,
 ) -> Result<(), AllocError>
-    ensures { OnOk result (Adds finding.old finding.new (board_faults finding.old.text.now items.now)) }
+    ensures { OnOk result (Adds finding.old finding.new (board_faults finding.old.text.now items.now.headings.items items.now.items.items)) }
 {
     let headings = items.headings.as_slice();
     let keys = items.items.as_slice();

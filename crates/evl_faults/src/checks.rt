@@ -1,13 +1,13 @@
 //! The faults of a text: told exactly where it can't be played.
 ghost use Rattle.std.specs.Prelude.{◌≡◌, ◌≢◌, ◌∷◌, true, false, map, string_bytes, Err, None, Some, IfOk};
 ghost use Rattle.evl_scenario.specs.Scenarios.{scenario_of};
-ghost use Rattle.evl_faults.specs.Checks.{Finds, FindsBoard, FindsSteps, FindsText, IsRefusedFor, IsTextFault, Tells, not_toml_text, plain_text, plain_told};
+ghost use Rattle.evl_faults.specs.Checks.{Finds, FindsText, IsRefusedFor, IsTextFault, Tells, faults_in_all, faults_in_steps, not_toml_text, plain_text, plain_told};
 ghost use Rattle.evl_faults.specs.Faults.{are_of_steps, first_fault, is_of_step, refusal_in};
 ghost use Rattle.evl_faults.specs.Told.{told};
 
 use crate::boards::check_board;
 use crate::found::{Finding, Found, Place};
-use crate::items::items_of;
+use crate::keys::items_of;
 use crate::runs::check_steps;
 use evl_scenario::{Fault, read_scenario};
 use std::alloc::{AllocError, Global};
@@ -76,7 +76,7 @@ fn found_in_text(alloc: Global, text: &[u8]) -> Result<Vec<Found>, AllocError>
 
 // The faults of the board, of what stands beside it, and of the steps.
 fn found_in_board(alloc: Global, text: &[u8]) -> Result<Vec<Found>, AllocError>
-    ensures { IfOk result (λ found. FindsBoard text.now (map told found.items)) }
+    ensures { IfOk result (λ found. map told found.items ≡ faults_in_all text.now) }
 {
     let mut finding = Finding {
         text,
@@ -91,7 +91,7 @@ fn found_in_board(alloc: Global, text: &[u8]) -> Result<Vec<Found>, AllocError>
 
 // The faults of the steps: the board of a text that is refused for a step is without fault.
 fn found_in_steps(alloc: Global, text: &[u8]) -> Result<Vec<Found>, AllocError>
-    ensures told { IfOk result (λ found. FindsSteps text.now (map told found.items)) }
+    ensures told { IfOk result (λ found. map told found.items ≡ faults_in_steps text.now) }
     ensures steps { IfOk result (λ found. are_of_steps found.items ≡ true) }
 {
     let mut finding = Finding {

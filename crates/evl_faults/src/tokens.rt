@@ -1,4 +1,8 @@
 //! The pieces that a TOML text is made of, as far as places in it need them.
+ghost use Rattle.std.specs.Prelude.{◌≡◌, ℕ, ◌+◌, ◌<◌, false, List, [], ◌∷◌, ◌++◌, IfOk, OnOk};
+ghost use Rattle.evl_faults.specs.Pieces as pieces;
+ghost use Rattle.evl_faults.specs.Pieces.{begun_word, marked, pieces_from, to_come};
+
 use std::alloc::{AllocError, Global};
 
 /// What a piece is.
@@ -24,10 +28,10 @@ pub struct Token {
 }
 
 // Where the reading of a text is.
-#[derive(Drop)]
+#[derive(Clone, Copy)]
 enum Reading {
-    Between,
-    Word(usize),
+    // Outside quotes and comments, in a word that may have begun.
+    Plain(Option<usize>),
     Quoted {
         from: usize,
         quote: u8,
@@ -37,7 +41,9 @@ enum Reading {
 }
 
 // What a byte that stands alone is.
-fn mark(byte: u8) -> Option<Kind> {
+fn mark(byte: u8) -> Option<Kind>
+    ensures { result ≡ pieces.mark byte }
+{
     match byte {
         b'=' => Some(Kind::Equals),
         b',' => Some(Kind::Comma),
@@ -50,53 +56,103 @@ fn mark(byte: u8) -> Option<Kind> {
     }
 }
 
+fn is_quote(byte: u8) -> bool
+    ensures { result ≡ pieces.is_quote byte }
+{
+    byte == b'"' || byte == b'\''
+}
+
+fn is_blank(byte: u8) -> bool
+    ensures { result ≡ pieces.is_blank byte }
+{
+    byte == b' ' || byte == b'\t' || byte == b'\r'
+}
+
+// Whether a byte is one of a word.
+fn is_plain(byte: u8) -> bool
+    ensures { result ≡ pieces.is_plain byte }
+{
+    !(mark(byte).is_some() || is_quote(byte) || byte == b'#' || is_blank(byte))
+}
+
 // Ends the word that is being read, where there is one.
-fn end_word(tokens: &mut Vec<Token>, reading: &Reading, to: usize) -> Result<(), AllocError> {
-    if let Reading::Word(from) = reading {
+fn end_word(tokens: &mut Vec<Token>, begun: Option<usize>, to: usize) -> Result<(), AllocError>
+    ensures { OnOk result (tokens.new.items ≡ tokens.old.items ++ pieces.ended begun to) }
+{
+    if let Some(from) = begun {
         tokens.push(Token {
             kind: Kind::Word,
-            from: *from,
+            from,
             to,
         })?;
     }
     Ok(())
 }
 
+// Notes a byte that stands alone, where it is one.
+fn note_mark(tokens: &mut Vec<Token>, at: usize, byte: u8) -> Result<(), AllocError>
+    requires { at < 9223372036854775808 }
+    ensures { OnOk result (tokens.new.items ≡ tokens.old.items ++ marked at (pieces.mark byte)) }
+{
+    if let Some(kind) = mark(byte) {
+        tokens.push(Token {
+            kind,
+            from: at,
+            to: at + 1,
+        })?;
+    }
+    Ok(())
+}
+
+// Reads a byte outside words, quotes and comments, which is of no word.
+fn read_mark(tokens: &mut Vec<Token>, at: usize, byte: u8) -> Result<Reading, AllocError>
+    requires within { at < 9223372036854775808 }
+    requires other { pieces.is_plain byte ≡ false }
+    ensures { IfOk result (λ next. (rest : List ℕ) → tokens.old.items ++ pieces_from at 0 (byte ∷ rest) ≡ tokens.new.items ++ to_come next (at + 1) rest) }
+{
+    if is_quote(byte) {
+        return Ok(Reading::Quoted {
+            from: at,
+            quote: byte,
+            escaped: false,
+        });
+    }
+    if byte == b'#' {
+        return Ok(Reading::Comment);
+    }
+    note_mark(tokens, at, byte)?;
+    Ok(Reading::Plain(None))
+}
+
 // Reads a byte that stands outside quotes and comments.
 fn read_plain(
     tokens: &mut Vec<Token>,
-    reading: Reading,
+    begun: Option<usize>,
     at: usize,
     byte: u8,
-) -> Result<Reading, AllocError> {
-    if let Some(kind) = mark(byte) {
-        end_word(tokens, &reading, at)?;
-        let to = at.saturating_add(1);
-        tokens.push(Token { kind, from: at, to })?;
-        return Ok(Reading::Between);
+) -> Result<Reading, AllocError>
+    requires { at < 9223372036854775808 }
+    ensures { IfOk result (λ next. (rest : List ℕ) → tokens.old.items ++ begun_word begun at (byte ∷ rest) ≡ tokens.new.items ++ to_come next (at + 1) rest) }
+{
+    if is_plain(byte) {
+        return Ok(Reading::Plain(Some(begun.unwrap_or(at))));
     }
-    match byte {
-        b'"' | b'\'' => {
-            end_word(tokens, &reading, at)?;
-            Ok(Reading::Quoted {
-                from: at,
-                quote: byte,
-                escaped: false,
-            })
-        }
-        b'#' => {
-            end_word(tokens, &reading, at)?;
-            Ok(Reading::Comment)
-        }
-        b' ' | b'\t' | b'\r' => {
-            end_word(tokens, &reading, at)?;
-            Ok(Reading::Between)
-        }
-        _ => match reading {
-            Reading::Word(from) => Ok(Reading::Word(from)),
-            _ => Ok(Reading::Word(at)),
-        },
-    }
+    end_word(tokens, begun, at)?;
+    read_mark(tokens, at, byte)
+}
+
+// Whether a byte closes a quoted text.
+fn closes(quote: u8, escaped: bool, byte: u8) -> bool
+    ensures { result ≡ pieces.closes quote escaped byte }
+{
+    !escaped && byte == quote
+}
+
+// Whether a byte of a quoted text escapes the next one.
+fn escapes(quote: u8, escaped: bool, byte: u8) -> bool
+    ensures { result ≡ pieces.escapes quote escaped byte }
+{
+    !escaped && quote == b'"' && byte == b'\\'
 }
 
 // Reads a byte of a quoted text.
@@ -107,20 +163,31 @@ fn read_quoted(
     escaped: bool,
     at: usize,
     byte: u8,
-) -> Result<Reading, AllocError> {
-    if !escaped && byte == quote {
-        tokens.push(Token {
-            kind: Kind::Word,
-            from,
-            to: at.saturating_add(1),
-        })?;
-        return Ok(Reading::Between);
+) -> Result<Reading, AllocError>
+    requires { at < 9223372036854775808 }
+    ensures { IfOk result (λ next. (rest : List ℕ) → tokens.old.items ++ to_come (Reading.Quoted from quote escaped) at (byte ∷ rest) ≡ tokens.new.items ++ to_come next (at + 1) rest) }
+{
+    if closes(quote, escaped, byte) {
+        end_word(tokens, Some(from), at + 1)?;
+        return Ok(Reading::Plain(None));
     }
     Ok(Reading::Quoted {
         from,
         quote,
-        escaped: !escaped && quote == b'"' && byte == b'\\',
+        escaped: escapes(quote, escaped, byte),
     })
+}
+
+// Reads a byte of a comment.
+fn read_comment(tokens: &mut Vec<Token>, at: usize, byte: u8) -> Result<Reading, AllocError>
+    requires { at < 9223372036854775808 }
+    ensures { IfOk result (λ next. (rest : List ℕ) → tokens.old.items ++ to_come Reading.Comment at (byte ∷ rest) ≡ tokens.new.items ++ to_come next (at + 1) rest) }
+{
+    if byte == b'\n' {
+        read_mark(tokens, at, byte)
+    } else {
+        Ok(Reading::Comment)
+    }
 }
 
 // Reads a byte.
@@ -129,31 +196,41 @@ fn read_byte(
     reading: Reading,
     at: usize,
     byte: u8,
-) -> Result<Reading, AllocError> {
+) -> Result<Reading, AllocError>
+    requires { at < 9223372036854775808 }
+    ensures { IfOk result (λ next. (rest : List ℕ) → tokens.old.items ++ to_come reading at (byte ∷ rest) ≡ tokens.new.items ++ to_come next (at + 1) rest) }
+{
     match reading {
+        Reading::Plain(begun) => read_plain(tokens, begun, at, byte),
         Reading::Quoted {
             from,
             quote,
             escaped,
         } => read_quoted(tokens, from, quote, escaped, at, byte),
-        Reading::Comment => {
-            if byte == b'\n' {
-                read_plain(tokens, Reading::Between, at, byte)
-            } else {
-                Ok(Reading::Comment)
-            }
-        }
-        other => read_plain(tokens, other, at, byte),
+        Reading::Comment => read_comment(tokens, at, byte),
+    }
+}
+
+// Ends the piece that is being read, where the text ends.
+fn end_reading(tokens: &mut Vec<Token>, reading: Reading, to: usize) -> Result<(), AllocError>
+    ensures { OnOk result (tokens.new.items ≡ tokens.old.items ++ to_come reading to []) }
+{
+    match reading {
+        Reading::Plain(begun) => end_word(tokens, begun, to),
+        Reading::Quoted { .. } => Ok(()),
+        Reading::Comment => Ok(()),
     }
 }
 
 /// The pieces of a text, in order. `AllocError` where the list couldn't grow.
-pub fn tokens_of(alloc: Global, text: &[u8]) -> Result<Vec<Token>, AllocError> {
+pub fn tokens_of(alloc: Global, text: &[u8]) -> Result<Vec<Token>, AllocError>
+    ensures { IfOk result (λ found. found.items ≡ pieces.pieces text.now) }
+{
     let mut tokens = Vec::new(alloc);
-    let mut reading = Reading::Between;
+    let mut reading = Reading::Plain(None);
     for (at, byte) in text.iter().enumerate() {
         reading = read_byte(&mut tokens, reading, at, *byte)?;
     }
-    end_word(&mut tokens, &reading, text.len())?;
+    end_reading(&mut tokens, reading, text.len())?;
     Ok(tokens)
 }
