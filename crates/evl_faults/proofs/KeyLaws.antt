@@ -13,24 +13,27 @@ use Rattle.evl_faults.specs.declared.tokens.Token.{Token}
 
 -- ---- what is told
 
-module _ (text : List ℕ) (pieces : List Token) (i : ℕ) (blank : Token) (here : i < length pieces) (s next : Standing) (told : Entry) (kind : Kind) (kind-is : kind ≡ first_kind (drop (i + 1) pieces)) (told-is : told ≡ entry text s (get_or pieces i blank) kind) (next-is : next ≡ behind text s (get_or pieces i blank) kind) where
-  cut : drop i pieces ≡ get_or pieces i blank ∷ drop (i + 1) pieces
-  cut = rw (add-one i) (drop-cons pieces i blank here)
+one_told : (text : List ℕ) (s next : Standing) (piece : Token) (rest : List Token) (told : Entry) (kind : Kind) → kind ≡ first_kind rest
+    → told ≡ entry text s piece kind → next ≡ behind text s piece kind → entries text s (piece ∷ rest) ≡ told ∷ entries text next rest
+one_told text s next piece rest told kind e f g = rw (f, g, e)
 
-  one_told : entries text s (drop i pieces) ≡ told ∷ entries text next (drop (i + 1) pieces)
-  one_told = rw (told-is, next-is, kind-is) (ap (entries text s) cut)
+-- at a place in all pieces
+pub told_at_place : (text : List ℕ) (pieces : List Token) (i : ℕ) (blank : Token) → i < length pieces → (s next : Standing) (told : Entry) (kind : Kind)
+    → kind ≡ first_kind (drop (i + 1) pieces) → told ≡ entry text s (get_or pieces i blank) kind → next ≡ behind text s (get_or pieces i blank) kind
+    → entries text s (drop i pieces) ≡ told ∷ entries text next (drop (i + 1) pieces)
+told_at_place text pieces i blank here s next told kind e f g =
+    let cut : drop i pieces ≡ get_or pieces i blank ∷ drop (i + 1) pieces = rw (add-one i) (drop-cons pieces i blank here) in
+    ap (entries text s) cut ∙ one_told text s next (get_or pieces i blank) (drop (i + 1) pieces) told kind e f g
 
-  pub headings_on : (old new whole : List Heading)
-      → ((rest : List Entry) → old ++ headings_in (told ∷ rest) ≡ new ++ headings_in rest) → old ++ headings_in (entries text s (drop i pieces)) ≡ whole
-      → new ++ headings_in (entries text next (drop (i + 1) pieces)) ≡ whole
-  headings_on old new whole noted was =
-      sym (noted (entries text next (drop (i + 1) pieces))) ∙ ap (λ (es : List Entry). old ++ headings_in es) (sym one_told) ∙ was
+module _ (told : Entry) (left rest : List Entry) (cut : left ≡ told ∷ rest) where
+  pub headings_on : (old new whole : List Heading) → ((rest : List Entry) → old ++ headings_in (told ∷ rest) ≡ new ++ headings_in rest)
+      → old ++ headings_in left ≡ whole → new ++ headings_in rest ≡ whole
+  headings_on old new whole noted was = sym (noted rest) ∙ ap (λ (es : List Entry). old ++ headings_in es) (sym cut) ∙ was
 
   pub keys_on : (old new whole : List Item) (last then : Option Item)
-      → ((rest : List Entry) → old ++ keys_to_come last (told ∷ rest) ≡ new ++ keys_to_come then rest) → old ++ keys_to_come last (entries text s (drop i pieces)) ≡ whole
-      → new ++ keys_to_come then (entries text next (drop (i + 1) pieces)) ≡ whole
-  keys_on old new whole last then noted was =
-      sym (noted (entries text next (drop (i + 1) pieces))) ∙ ap (λ (es : List Entry). old ++ keys_to_come last es) (sym one_told) ∙ was
+      → ((rest : List Entry) → old ++ keys_to_come last (told ∷ rest) ≡ new ++ keys_to_come then rest)
+      → old ++ keys_to_come last left ≡ whole → new ++ keys_to_come then rest ≡ whole
+  keys_on old new whole last then noted was = sym (noted rest) ∙ ap (λ (es : List Entry). old ++ keys_to_come last es) (sym cut) ∙ was
 
 -- ---- what is counted
 
