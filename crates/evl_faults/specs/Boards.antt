@@ -23,10 +23,14 @@ heading_text name =
     else if bytes_eq name (codes "board") then codes "the board is headed [board]"
     else no_table_text name
 
+-- of a key that stands above the board it is said so, of any other one that a key of the board is near
+abbrev pub aside_text : List ℕ → List ℕ
+aside_text key = if bytes_eq key (codes "limit") || bytes_eq key (codes "step") then codes "; it stands above [board]" else hint_text key board_keys
+
 -- a key that the board doesn't have
 unfoldable pub no_board_key_text : List ℕ → List ℕ
 no_board_key_text key =
-    codes "the board has no key \"" ++ (key ++ (codes "\"" ++ (hint_text key board_keys ++ codes " (keys: threads, sems, flags, xbufs, mutexes, groups)")))
+    codes "the board has no key \"" ++ (key ++ (codes "\"" ++ (aside_text key ++ codes " (keys: threads, sems, flags, xbufs, mutexes, groups)")))
 
 -- a key that doesn't stand beside the board
 unfoldable pub no_key_text : List ℕ → List ℕ

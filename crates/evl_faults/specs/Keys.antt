@@ -71,10 +71,11 @@ module _ (text : List ℕ) where
       let section = headed (bare_between text range) brackets s.steps in record s { section = section; steps = begun_steps s.steps section }
   behind_head s brackets range _ = s
 
-  -- in braces: their keys are of the heading's section, if there is one
+  -- in braces: their keys are of the step that is headed, if there is one; no key of the board has keys of its own
   abbrev pub in_braces : Standing → Section → Standing
   in_braces s Opening =
       let section = braced (bare_between text s.top) s.steps in record s { within = section; steps = begun_steps s.steps section }
+  in_braces s Board = record s { within = Other }
   in_braces s section = record s { within = section }
 
   -- outside headings

@@ -23,11 +23,14 @@ fn opening_hint(alloc: Global, name: &str) -> Result<String, AllocError>
     near_text(alloc, name, opening_keys())
 }
 
-// What is said of a near key of the board.
-fn board_hint(alloc: Global, name: &str) -> Result<String, AllocError>
-    ensures { IfOk result (λ hint. string_bytes hint ≡ words.hint_text name.now words.board_keys) }
+// What is said of a key that stands above the board, or of a near key of the board.
+fn aside(alloc: Global, key: &str) -> Result<String, AllocError>
+    ensures { IfOk result (λ hint. string_bytes hint ≡ boards.aside_text key.now) }
 {
-    near_text(alloc, name, board_keys())
+    if key == "limit" || key == "step" {
+        return format!(in alloc; "; it stands above [board]");
+    }
+    near_text(alloc, key, board_keys())
 }
 
 // What is said of a table that there isn't.
@@ -54,7 +57,7 @@ fn heading_words(alloc: Global, name: &str) -> Result<String, AllocError>
 fn no_board_key(alloc: Global, key: &str) -> Result<String, AllocError>
     ensures { IfOk result (λ text. string_bytes text ≡ no_board_key_text key.now) }
 {
-    let hint = board_hint(alloc, key)?;
+    let hint = aside(alloc, key)?;
     format!(in alloc;
         "the board has no key \"{key}\"{hint} (keys: threads, sems, flags, xbufs, mutexes, groups)"
     )

@@ -144,6 +144,10 @@ fn in_braces(text: &[u8], standing: Standing) -> Standing
 {
     match standing.section {
         Section::Opening => behind_top(text, standing),
+        Section::Board => Standing {
+            within: Section::Other,
+            ..standing
+        },
         section => Standing {
             within: section,
             ..standing

@@ -47,6 +47,19 @@ a.toml:2:73: step 2: there is no call "puut"; did you mean "put"?
 a.toml:3:51: step 3: bits = [1]: a number from 0 to 4294967295 is wanted
 "#;
 
+// Steps and a limit that stand below the board.
+const BELOW: &str = r#"[board]
+threads = 2
+sems = [0]
+step = [ { do = "put", who = 0, sem = 0 } ]
+limit = 100
+"#;
+
+// What is told of them.
+const BELOW_TOLD: &str = r#"a.toml:4:1: the board has no key "step"; it stands above [board] (keys: threads, sems, flags, xbufs, mutexes, groups)
+a.toml:5:1: the board has no key "limit"; it stands above [board] (keys: threads, sems, flags, xbufs, mutexes, groups)
+"#;
+
 // A step for each word, with all of its keys.
 const EACH_WORD: &str = r#"step = [
   { do = "request", who = 0, line = 7, stage = "oob", callback = 3, tag = 4 },
@@ -92,6 +105,11 @@ fn each_fault_is_told(rt: HostRuntime) {
 #[test]
 fn faults_of_a_list_of_steps_are_told(rt: HostRuntime) {
     assert!(rt; is_told(rt.alloc(), LISTED, LISTED_TOLD));
+}
+
+#[test]
+fn what_stands_below_the_board_is_told(rt: HostRuntime) {
+    assert!(rt; is_told(rt.alloc(), BELOW, BELOW_TOLD));
 }
 
 #[test]
