@@ -2,6 +2,8 @@ mod HeadLaws
 mod LaneLaws
 mod PictureLaws
 mod RowLaws
+mod StandingLaws
 mod TableLaws
+mod TextLaws
 mod TitleLaws
 pub mod PageLaws

@@ -3,8 +3,12 @@ pub mod Frames
 pub mod Heads
 pub mod Lanes
 pub mod Marks
+pub mod Named
 pub mod Pictures
 pub mod Rows
+pub mod Standings
 pub mod Strips
 pub mod Tables
+pub mod Texts
 pub mod Titles
+pub mod Words

@@ -1,10 +1,11 @@
 -- The marks of a picture: what each tells of its line.
-use Rattle.std.specs.Prelude.{ℕ, Bool, true, false, List, Option, Some, None, filter_map, if◌then◌else◌}
+use Rattle.std.specs.Prelude.{ℕ, Bool, true, false, List, Option, Some, None, filter_map}
 use Rattle.evl_base.specs.declared.play.Play.TheVariants as play
 use Rattle.evl_base.specs.declared.play.Play as played
 use Rattle.evl_traces.specs.declared.traces.Says.{Says}
 use Rattle.evl_traces.specs.declared.traces.Says.TheVariants.{Board, Entry, Play}
 use Rattle.evl_traces.specs.declared.traces.TraceLine.{TraceLine}
+use Rattle.evl_drawing.specs.Named.{entry_names, entry_shape}
 use Rattle.evl_drawing.specs.declared.lanes.Lane.{Lane}
 use Rattle.evl_drawing.specs.declared.lanes.Lane.TheVariants.{Thread, Timer, Clock, Stage}
 use Rattle.evl_drawing.specs.declared.marks.Mark.{Mark}
@@ -38,20 +39,22 @@ play_shape (play.Timer timer count missed handled) = fire_shape handled
 play_shape (play.Line line stage count handled) = fire_shape handled
 play_shape _ = Played
 
--- what is told of a mark: its line, its lane, and how it looks and what it names, where it is a play's
+-- what is told of a mark: its line, its lane, the lane that it names, and how it looks
 pub record Told : Type 0 where
   pub line : List ℕ
   pub lane : Lane
-  pub play : Option (Shape × Option Lane)
+  pub names : Option Lane
+  pub shape : Shape
 
 abbrev pub told_of : Mark → Told
-told_of mark = record { line = mark.line.now; lane = mark.lane; play = if is_entry mark then None else Some (mark.shape, mark.names) }
+told_of mark = record { line = mark.line.now; lane = mark.lane; names = mark.names; shape = mark.shape }
 
 -- a call is marked in the lane of its thread, a play in its own, where it names nothing; a board isn't marked
 abbrev pub marked_by : Says → List ℕ → Option Told
 marked_by (Board line) text = None
-marked_by (Entry line) text = Some (record { line = text; lane = Thread line.thread; play = None })
-marked_by (Play p) text = Some (record { line = text; lane = play_lane p; play = Some (play_shape p, None) })
+marked_by (Entry line) text =
+    Some (record { line = text; lane = Thread line.thread; names = entry_names line.call.now line.answer.now; shape = entry_shape line.call.now line.answer.now })
+marked_by (Play p) text = Some (record { line = text; lane = play_lane p; names = None; shape = play_shape p })
 
 abbrev pub marked : TraceLine → Option Told
 marked line = marked_by line.says line.text.now

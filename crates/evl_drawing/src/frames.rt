@@ -1,5 +1,5 @@
 //! The sheet that marks are drawn on: bands of lanes, one below the other.
-ghost use Rattle.std.specs.Prelude.{◌≡◌, ◌≤◌, ◌+◌, ◌*◌, ◌++◌, min, is_some, length, string_bytes, IfOk, OnOk};
+ghost use Rattle.std.specs.Prelude.{◌≡◌, ◌≤◌, ◌+◌, ◌*◌, ◌++◌, min, is_some, string_bytes, IfOk, OnOk};
 ghost use Rattle.evl_drawing.specs.Frames as frames;
 ghost use Rattle.evl_drawing.specs.Frames.{band_count, band_depth, band_height, band_top, capped, date_row, frame_text, lane_height, lane_ink, lane_line, lane_name, layout, layout_of, legend_height, line_text, longest, most_shown, picture_height, picture_width, place_on};
 ghost use Rattle.evl_drawing.specs.Drawings.{shape_text};

@@ -14,6 +14,7 @@ mod rows;
 mod strips;
 mod svg;
 mod tables;
+mod texts;
 mod told;
 mod waits;
 mod words;

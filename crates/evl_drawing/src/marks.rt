@@ -2,8 +2,10 @@
 ghost use Rattle.std.specs.Prelude.{◌≡◌, true, option_map, map, IfOk};
 ghost use Rattle.evl_drawing.specs.Marks as marks;
 ghost use Rattle.evl_drawing.specs.Marks.{all_marked, is_called, marked, play_lane, play_shape, told_of};
+ghost use Rattle.evl_drawing.specs.Named as named;
 
 use crate::lanes::Lane;
+use crate::texts::{around, number, up_to};
 use crate::words::{outcome, shown};
 use evl_base::{Play, Stage};
 use evl_traces::{EntryLine, Says, TraceLine, is_refused};
@@ -36,33 +38,42 @@ pub struct Mark<'a> {
 }
 
 // The value of a key in the text of a call.
-fn value_of<'a>(call: &'a str, key: &str) -> Option<&'a str> {
-    let (_, behind) = call.split_once(key)?;
-    match behind.split_once(' ') {
-        Some((value, _)) => Some(value),
-        None => Some(behind),
-    }
+fn value_of<'a>(call: &'a str, key: &str) -> Option<&'a str>
+    ensures { option_map (λ value. value.now) result ≡ named.value_of call.now key.now }
+{
+    let (_, behind) = around(key, call)?;
+    Some(up_to(" ", behind))
 }
 
 // The number at a key.
-fn number_at(call: &str, key: &str) -> Option<u16> {
-    match value_of(call, key)?.parse::<u16>() {
-        Ok(number) => Some(number),
-        Err(_) => None,
-    }
+fn number_at(call: &str, key: &str) -> Option<u16>
+    ensures { result ≡ named.number_at call.now key.now }
+{
+    number(value_of(call, key)?)
 }
 
-// The stage at the key `stage`.
-fn stage_at(call: &str) -> Option<Lane> {
-    match value_of(call, " stage=")? {
+// The lane of a stage.
+fn stage_lane(value: &str) -> Option<Lane>
+    ensures { result ≡ named.stage_lane value.now }
+{
+    match value {
         "oob" => Some(Lane::Stage(Stage::Oob)),
         "inband" => Some(Lane::Stage(Stage::Inband)),
         _ => None,
     }
 }
 
+// The stage at the key `stage`.
+fn stage_at(call: &str) -> Option<Lane>
+    ensures { result ≡ named.stage_at call.now }
+{
+    stage_lane(value_of(call, " stage=")?)
+}
+
 // The lane of the element, the timer or the stage that a call names.
-fn named(call: &str) -> Option<Lane> {
+fn named(call: &str) -> Option<Lane>
+    ensures { result ≡ named.named call.now }
+{
     if let Some(number) = number_at(call, " mutex=") {
         return Some(Lane::Mutex(number));
     }
@@ -85,35 +96,54 @@ fn named(call: &str) -> Option<Lane> {
 }
 
 // The lane of what is shown behind the answer of an entry, or else of what its call names.
-fn entry_names(entry: &EntryLine<'_>) -> Option<Lane> {
+fn entry_names(entry: &EntryLine<'_>) -> Option<Lane>
+    ensures { result ≡ named.entry_names entry.now.call.now entry.now.answer.now }
+{
     match shown(entry.answer) {
         Some((lane, _)) => Some(lane),
         None => named(entry.call),
     }
 }
 
-// Whether a call is refused: the name of a pass that it gets may begin as a refusal does.
-fn refuses(call: &str, answer: &str) -> bool {
+// Whether the answer is the name of the pass that a call gets.
+fn is_pass(call: &str, answer: &str) -> bool
+    ensures { result ≡ named.is_pass call.now answer.now }
+{
     match value_of(call, " as=") {
-        Some(name) if name == answer => false,
-        _ => is_refused(answer),
+        Some(name) => name == answer,
+        None => false,
+    }
+}
+
+// Whether a call is refused: the name of a pass that it gets may begin as a refusal does.
+fn refuses(call: &str, answer: &str) -> bool
+    ensures { result ≡ named.refuses call.now answer.now }
+{
+    !is_pass(call, answer) && is_refused(answer)
+}
+
+// How the mark of a call with this answer looks.
+fn answered_shape(call: &str, answer: &str) -> Shape
+    ensures called { is_called result ≡ true }
+    ensures shape { result ≡ named.answered_shape call.now answer.now }
+{
+    if refuses(call, answer) {
+        Shape::Refused
+    } else if answer == "begun" {
+        Shape::Begun
+    } else if call.starts_with("finish") {
+        Shape::Ended
+    } else {
+        Shape::Answered
     }
 }
 
 // How the mark of an entry looks.
 fn entry_shape(entry: &EntryLine<'_>) -> Shape
-    ensures { is_called result ≡ true }
+    ensures called { is_called result ≡ true }
+    ensures shape { result ≡ named.entry_shape entry.now.call.now entry.now.answer.now }
 {
-    let answer = outcome(entry.answer);
-    if refuses(entry.call, answer) {
-        Shape::Refused
-    } else if answer == "begun" {
-        Shape::Begun
-    } else if entry.call.starts_with("finish") {
-        Shape::Ended
-    } else {
-        Shape::Answered
-    }
+    answered_shape(entry.call, outcome(entry.answer))
 }
 
 // How a fire looks.
@@ -164,8 +194,8 @@ fn mark_of<'a>(line: &TraceLine<'a>) -> Option<Mark<'a>>
     }
 }
 
-/// The marks of the lines of a trace: one for each entry and each play, in order, with its line, its lane, and how it
-/// looks. `AllocError` where the list couldn't grow.
+/// The marks of the lines of a trace: one for each entry and each play, in order, with its line, its lane, what it
+/// names, and how it looks. `AllocError` where the list couldn't grow.
 pub fn marks_of<'a>(alloc: Global, lines: &[TraceLine<'a>]) -> Result<Vec<Mark<'a>>, AllocError>
     ensures { IfOk result (λ marks. map told_of marks.items ≡ all_marked lines.now) }
 {

@@ -1,56 +1,95 @@
 //! How the words stand after each line of callers.
-ghost use Rattle.std.specs.Prelude.{◌≡◌, ◌+◌, IfOk, OnOk, count_by, length, if◌then◌else◌};
+ghost use Rattle.std.specs.Prelude.{◌≡◌, ◌+◌, ◌++◌, [], ◌∷◌, IfOk, OnOk, count_by, length, map, option_map, if◌then◌else◌};
 ghost use Rattle.evl_drawing.specs.Marks.{is_entry};
+ghost use Rattle.evl_drawing.specs.Standings as stands;
+ghost use Rattle.evl_drawing.specs.Standings.{all_told, date_after, last_told, others, told_after, told_at};
+ghost use Rattle.evl_drawing.specs.Words as words;
 
+use crate::lanes::{Lane, is_lane};
 use crate::marks::Mark;
 use crate::moments::{Moment, Standing};
 use crate::pages::is_entry;
+use crate::texts::{around, before, long_number};
 use crate::words::{shown, standing_of};
 use std::alloc::{AllocError, Global};
 
-// By how much a line moves the date.
-fn moved_by(line: &str) -> Option<u64> {
-    let (_, behind) = line.split_once(" tick delta=")?;
-    let delta = behind.strip_suffix(" -> done")?;
-    match delta.parse::<u64>() {
-        Ok(nanoseconds) => Some(nanoseconds),
-        Err(_) => None,
-    }
+// The delta of a tick that is done.
+fn delta_of(line: &str) -> Option<&str>
+    ensures { option_map (λ delta. delta.now) result ≡ stands.delta_of line.now }
+{
+    let (_, behind) = around(" tick delta=", line)?;
+    before(" -> done", behind)
 }
 
-// How the words stand after a line: the one that it shows as it tells, and the others as before.
-fn stand_after(
-    alloc: Global,
-    before: &[Standing],
-    line: &str,
-) -> Result<Vec<Standing>, AllocError> {
-    let Some((lane, how)) = shown(line) else {
-        return Vec::from_slice(alloc, before);
-    };
-    let mut standings = Vec::new(alloc);
-    for standing in before {
-        if standing.lane != lane {
-            standings.push(*standing)?;
+// By how much a line moves the date.
+fn moved_by(line: &str) -> Option<u64>
+    ensures { result ≡ stands.moved_by line.now }
+{
+    long_number(delta_of(line)?)
+}
+
+// The date after a line.
+fn date_after(line: &str, date: u64) -> u64
+    ensures { result ≡ date_after line.now date }
+{
+    date.saturating_add(moved_by(line).unwrap_or(0))
+}
+
+// All of these but how one lane stands.
+fn others(alloc: Global, lane: Lane, standings: &[Standing]) -> Result<Vec<Standing>, AllocError>
+    ensures { IfOk result (λ kept. kept.items ≡ others lane standings.now) }
+{
+    let mut kept = Vec::new(alloc);
+    for standing in standings {
+        if !is_lane(standing.lane, lane) {
+            kept.push(*standing)?;
         }
     }
+    Ok(kept)
+}
+
+// How the words stand behind others, where a lane stands as these words tell.
+fn stand_with(
+    alloc: Global,
+    lane: Lane,
+    how: &str,
+    before: &[Standing],
+) -> Result<Vec<Standing>, AllocError>
+    ensures { IfOk result (λ all. all.items ≡ stands.stand_with lane how.now before.now) }
+{
+    let mut standings = others(alloc, lane, before)?;
     if let Some(standing) = standing_of(lane, how) {
         standings.push(standing)?;
     }
     Ok(standings)
 }
 
+// How the words stand after a line: the one that it shows as it tells, and the others as before.
+fn stand_after(alloc: Global, before: &[Standing], line: &str) -> Result<Vec<Standing>, AllocError>
+    ensures { IfOk result (λ all. all.items ≡ stands.stand_after (words.shown line.now) before.now) }
+{
+    match shown(line) {
+        Some((lane, how)) => stand_with(alloc, lane, how, before),
+        None => Vec::from_slice(alloc, before),
+    }
+}
+
 // The moment after a line, where the date was this, and the words stood so.
-fn moved(alloc: Global, date: u64, before: &[Standing], line: &str) -> Result<Moment, AllocError> {
+fn moved(alloc: Global, date: u64, before: &[Standing], line: &str) -> Result<Moment, AllocError>
+    ensures { IfOk result (λ moment. told_at moment ≡ told_after (record { date = date; standings = before.now }) line.now) }
+{
     let standings = stand_after(alloc, before, line)?;
     Ok(Moment {
-        date: date.saturating_add(moved_by(line).unwrap_or(0)),
+        date: date_after(line, date),
         standings,
     })
 }
 
-// The moment after a line, behind the one before it.
-fn moment_after(alloc: Global, before: Option<&Moment>, line: &str) -> Result<Moment, AllocError> {
-    match before {
+// The moment after a line, behind the last of some moments.
+fn moment_after(alloc: Global, moments: &[Moment], line: &str) -> Result<Moment, AllocError>
+    ensures { IfOk result (λ moment. told_at moment ≡ told_after (last_told (map told_at moments.now)) line.now) }
+{
+    match moments.last() {
         Some(moment) => moved(alloc, moment.date, moment.standings.as_slice(), line),
         None => moved(alloc, 0, &[], line),
     }
@@ -58,10 +97,11 @@ fn moment_after(alloc: Global, before: Option<&Moment>, line: &str) -> Result<Mo
 
 // Appends the moment after a mark, where it is an entry's.
 fn add_moment(alloc: Global, moments: &mut Vec<Moment>, mark: &Mark<'_>) -> Result<(), AllocError>
-    ensures { OnOk result (length moments.new.items ≡ length moments.old.items + (if is_entry mark.now then 1 else 0)) }
+    ensures told { OnOk result (map told_at moments.new.items ≡ map told_at moments.old.items ++ (if is_entry mark.now then told_after (last_told (map told_at moments.old.items)) mark.now.line.now ∷ [] else [])) }
+    ensures count { OnOk result (length moments.new.items ≡ length moments.old.items + (if is_entry mark.now then 1 else 0)) }
 {
     if is_entry(mark) {
-        let moment = moment_after(alloc, moments.last(), mark.line)?;
+        let moment = moment_after(alloc, moments.as_slice(), mark.line)?;
         moments.push(moment)?;
     }
     Ok(())
@@ -70,7 +110,8 @@ fn add_moment(alloc: Global, moments: &mut Vec<Moment>, mark: &Mark<'_>) -> Resu
 /// How the words that callers went to stand after each entry of their lines, each as it was last shown, with the date
 /// that the ticks made: a moment for each entry. `AllocError` where memory couldn't grow.
 pub fn told_moments(alloc: Global, marks: &[Mark<'_>]) -> Result<Vec<Moment>, AllocError>
-    ensures { IfOk result (λ moments. length moments.items ≡ count_by is_entry marks.now) }
+    ensures told { IfOk result (λ moments. map told_at moments.items ≡ all_told marks.now) }
+    ensures count { IfOk result (λ moments. length moments.items ≡ count_by is_entry marks.now) }
 {
     let mut moments = Vec::new(alloc);
     for mark in marks {

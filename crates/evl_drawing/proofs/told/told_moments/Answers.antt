@@ -1,0 +1,10 @@
+use Rattle.std.proofs.Common.{arith}
+use Rattle.std.proofs.lemmas.Grind.{common_steps}
+use Rattle.evl_drawing.proofs.StandingLaws.{told_step}
+use Rattle.evl_drawing.proofs.told.told_moments.Goals as goal
+
+pub loop-mark-preserved : goal.loop-mark-preserved
+loop-mark-preserved c = record {
+  told = told_step c.args.marks.now c.loop-mark.mark-index _ _ _ (omega arith) c.in_ok-add_moment.ensures.told c.loop-mark.invariant.told;
+  count = grind (arith, common_steps, c.in_ok-add_moment.ensures.count, c.loop-mark.invariant.count);
+}
