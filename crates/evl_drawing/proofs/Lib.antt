@@ -1,4 +1,6 @@
+mod CallLaws
 mod HeadLaws
+mod KeyLaws
 mod LaneLaws
 mod PictureLaws
 mod RowLaws

@@ -20,14 +20,14 @@ drop_front : (a b : List ℕ) → drop (length a) (a ++ b) ≡ b
 drop_front [] b = refl
 drop_front (x ∷ a) b = drop_front a b
 
-past_at : (front text rest : List ℕ) → text ≡ front ++ rest → past_front front text ≡ Some rest
+pub past_at : (front text rest : List ℕ) → text ≡ front ++ rest → past_front front text ≡ Some rest
 unfolding past_front
 past_at front text rest e =
     let found : starts_with nat_eq text front ≡ true = (starts text front).1 rest e in
     let behind : drop (length front) text ≡ rest = ap (drop (length front)) e ∙ drop_front front rest in
     rw (found, behind) refl
 
-past_lacks : (front text : List ℕ) → LacksTextAt front text 0 → past_front front text ≡ None
+pub past_lacks : (front text : List ℕ) → LacksTextAt front text 0 → past_front front text ≡ None
 unfolding past_front
 past_lacks front text lacks =
     let missing : starts_with nat_eq text front ≡ false = false_from_ne_true (starts_with nat_eq text front) (λ e. lacks _ ((starts text front).0 e)) in
@@ -67,7 +67,7 @@ around_at part (c ∷ text) rest (suc i) inside lacks e =
     let more : around_part part text ≡ Some (take i text, rest) = around_at part text rest i (omega (arith, inside)) (λ k h. lacks (suc k) (omega (arith, h))) e in
     rw (none, more) refl
 
-around_none : (part text : List ℕ) → ((i : ℕ) → i ≤ length text → LacksTextAt part text i) → around_part part text ≡ None
+pub around_none : (part text : List ℕ) → ((i : ℕ) → i ≤ length text → LacksTextAt part text i) → around_part part text ≡ None
 unfolding around_part
 around_none part [] lacks = rw (past_lacks part [] (lacks 0 (omega arith))) refl
 around_none part (c ∷ text) lacks =

@@ -1,3 +1,4 @@
+pub mod Calls
 pub mod Drawings
 pub mod Frames
 pub mod Heads

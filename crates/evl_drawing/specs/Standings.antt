@@ -19,9 +19,13 @@ pub record Told : Type 0 where
 abbrev pub told_at : Moment → Told
 told_at moment = record { date = moment.date; standings = moment.standings.items }
 
+-- what stands before the answer of a call that is done
+unfoldable pub before_done : List ℕ → Option (List ℕ)
+before_done text = before_end (codes " -> done") text
+
 -- the delta of a tick that is done
 abbrev pub delta_of : List ℕ → Option (List ℕ)
-delta_of line = option_and_then (λ cut. before_end (codes " -> done") cut.1) (around_part (codes " tick delta=") line)
+delta_of line = option_and_then (λ cut. before_done cut.1) (around_part (codes " tick delta=") line)
 
 -- by how much a line moves the date
 abbrev pub moved_by : List ℕ → Option ℕ

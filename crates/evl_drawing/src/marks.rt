@@ -1,5 +1,14 @@
 //! The marks of a picture: one for each entry and play of a trace.
-ghost use Rattle.std.specs.Prelude.{◌≡◌, true, option_map, map, IfOk};
+ghost use Rattle.std.specs.Prelude.{◌≡◌, ℕ, true, option_map, map, IfOk, Option, Some, Result};
+ghost use Rattle.evl_base.specs.declared.refusal.Refusal.{Refusal};
+ghost use Rattle.evl_base.specs.declared.reply.Reply.{Reply};
+ghost use Rattle.evl_scenario.specs.Widths.{StepFits};
+ghost use Rattle.evl_scenario.specs.declared.steps.Step.{Step};
+ghost use Rattle.evl_traces.specs.Entries.{step_parts};
+ghost use Rattle.evl_traces.specs.Lines.{entry};
+ghost use Rattle.evl_traces.specs.Says.{says_of};
+ghost use Rattle.evl_traces.specs.declared.traces.TraceLine.{TraceLine};
+ghost use Rattle.evl_drawing.specs.Calls.{LacksBar, step_told};
 ghost use Rattle.evl_drawing.specs.Marks as marks;
 ghost use Rattle.evl_drawing.specs.Marks.{all_marked, is_called, marked, play_lane, play_shape, told_of};
 ghost use Rattle.evl_drawing.specs.Named as named;
@@ -197,7 +206,10 @@ fn mark_of<'a>(line: &TraceLine<'a>) -> Option<Mark<'a>>
 /// The marks of the lines of a trace: one for each entry and each play, in order, with its line, its lane, what it
 /// names, and how it looks. `AllocError` where the list couldn't grow.
 pub fn marks_of<'a>(alloc: Global, lines: &[TraceLine<'a>]) -> Result<Vec<Mark<'a>>, AllocError>
-    ensures { IfOk result (λ marks. map told_of marks.items ≡ all_marked lines.now) }
+    ensures marks { IfOk result (λ marks. map told_of marks.items ≡ all_marked lines.now) }
+
+    // The line of a step and of what its call answered is marked by the call and the answer.
+    ensures called { (line : TraceLine) (number : Option ℕ) (step : Step) (answer : Result Reply Refusal) → StepFits step → LacksBar answer → says_of line.says ≡ entry (step_parts number step answer) → marked line ≡ Some (step_told line.text.now step answer) }
 {
     let mut marks = Vec::new(alloc);
     for line in lines {

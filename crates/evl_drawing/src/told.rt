@@ -13,12 +13,20 @@ use crate::texts::{around, before, long_number};
 use crate::words::{shown, standing_of};
 use std::alloc::{AllocError, Global};
 
+// What stands before the answer of a call that is done.
+#[tactic(auto, unfolding(crate::specs::Standings::before_done))]
+fn before_done(text: &str) -> Option<&str>
+    ensures { option_map (λ front. front.now) result ≡ stands.before_done text.now }
+{
+    before(" -> done", text)
+}
+
 // The delta of a tick that is done.
 fn delta_of(line: &str) -> Option<&str>
     ensures { option_map (λ delta. delta.now) result ≡ stands.delta_of line.now }
 {
     let (_, behind) = around(" tick delta=", line)?;
-    before(" -> done", behind)
+    before_done(behind)
 }
 
 // By how much a line moves the date.
