@@ -1,12 +1,11 @@
 -- The mark of a call, by what is called and what is answered.
-use Rattle.std.proofs.Common.{arith, ◌≡◌, ◌<◌, ℕ, ◌^◌, ◌==◌, true, false, not, nat_eq, List, [], ◌∷◌, codes, decimal, drop, suc, zero, if◌then◌else◌, Option, Some, None, Result, Ok, Err, option_map, option_and_then, refl, sym, ap, subst, ◌∙◌}
+use Rattle.std.proofs.Common.{Bool, ◌≡◌, ◌<◌, ℕ, ◌^◌, ◌==◌, true, false, not, nat_eq, List, [], ◌∷◌, codes, decimal, drop, suc, zero, if◌then◌else◌, Option, Some, None, Result, Ok, Err, option_map, option_and_then, refl, ap, subst, ◌∙◌, ◌%◌, ◌/◌, length, slice_index, pos, negsuc}
 use Rattle.std.proofs.lemmas.Bool.{and_parts, false≢true}
-use Rattle.std.proofs.lemmas.Fmt.{decimal_is_IsNumeral}
-use Rattle.std.proofs.lemmas.Str.Parse.{digit_from_value, without_leading_plus_none}
 use Rattle.std.specs.List.{list_all, starts_with}
 use Rattle.std.specs.Option.{option_map_or, option_or}
 use Rattle.std.specs.Str.{bytes_eq}
-use Rattle.std.specs.Str.Parse.{AllDigits, without_leading_plus}
+use Rattle.hex.specs.Hex.{encode_lower, encode_with, lower_digits}
+use Rattle.std.proofs.lemmas.List.Folds.{list_all-append}
 use Rattle.evl_base.specs.Call.{call_text}
 use Rattle.evl_base.specs.Reply.{outcome_text}
 use Rattle.evl_base.specs.Stage.{stage_text}
@@ -29,7 +28,7 @@ use Rattle.evl_traces.specs.Says.{parts_of, says_of}
 use Rattle.evl_traces.specs.declared.traces.Says.{Says}
 use Rattle.evl_traces.specs.declared.traces.Says.TheVariants.{Board, Entry, Play}
 use Rattle.evl_traces.specs.declared.traces.TraceLine.{TraceLine}
-use Rattle.evl_drawing.specs.Calls.{LacksBar, call_lane, call_shape, ends_wait, step_told}
+use Rattle.evl_drawing.specs.Calls.{call_lane, call_shape, ends_wait, step_told}
 use Rattle.evl_drawing.specs.Marks.{marked, marked_by}
 use Rattle.evl_drawing.specs.Named.{answered_shape, entry_names, entry_shape, named, stage_lane}
 use Rattle.evl_drawing.specs.Texts.{around_part, number_in, up_to}
@@ -38,27 +37,12 @@ use Rattle.evl_drawing.specs.declared.lanes.Lane.{Lane}
 use Rattle.evl_drawing.specs.declared.lanes.Lane.TheVariants.{Thread, Mutex, Stax, Sem, Flags, Xbuf, Timer, Stage}
 use Rattle.evl_drawing.specs.declared.marks.Shape.TheVariants as shape
 use Rattle.evl_drawing.proofs.KeyLaws.{call_value, text_told, up_whole, value_told}
-use Rattle.evl_drawing.proofs.TextLaws.{around_none, number_found}
+use Rattle.evl_drawing.proofs.TextLaws.{around_none, decimal_lacks, number_back}
 
 -- ---- numbers and stages
 
-digits_lack : (ds : List ℕ) → AllDigits 10 ds → Lacks 32 ds
-digits_lack [] h = refl
-digits_lack (d ∷ ds) h =
-    let digit = digit_from_value d h.0 in
-    let other : not (d == 32) ≡ true = grind (arith, digit) in
-    rw (other, digits_lack ds h.1) refl
-
-no_plus : (ds : List ℕ) → AllDigits 10 ds → without_leading_plus ds ≡ ds
-no_plus [] h = refl
-no_plus (d ∷ ds) h = without_leading_plus_none (d ∷ ds) (λ plus. let digit = digit_from_value d h.0 in omega (arith, digit, plus))
-
 number_known : (n : ℕ) → n < 2 ^ 16 → number_in 16 (up_to (codes " ") (decimal n)) ≡ Some n
-number_known n small =
-    let is = decimal_is_IsNumeral n (omega arith) in
-    let bare : without_leading_plus (decimal n) ≡ decimal n = no_plus (decimal n) is.0.1 in
-    ap (number_in 16) (up_whole (decimal n) (digits_lack (decimal n) is.0.1))
-    ∙ sym (number_found {E = ℕ} 16 n (decimal n) (Ok n) (rw bare ((is.0, rw is.1 small), sym is.1)) refl)
+number_known n small = ap (number_in 16) (up_whole (decimal n) (decimal_lacks 32 n refl)) ∙ number_back n small
 
 stage_known : (stage : stages.Stage) → stage_lane (up_to (codes " ") (stage_text stage)) ≡ Some (Stage stage)
 stage_known Inband = ap stage_lane (up_whole (codes "inband") refl)
@@ -117,6 +101,41 @@ on_lane _ fits = refl
 
 -- ---- answers with no bar
 
+-- only hexadecimal digits stand there
+hex_apart : (c n : ℕ) → list_all (λ d. not (d == c)) lower_digits ≡ true → not (0 == c) ≡ true → not (slice_index lower_digits n == c) ≡ true
+hex_apart c n h none = by lower_digits n h
+  where
+    by : (ds : List ℕ) (n : ℕ) → list_all (λ d. not (d == c)) ds ≡ true → not (slice_index ds n == c) ≡ true
+    by [] n h = none
+    by (d ∷ ds) zero h = (and_parts (not (d == c)) (list_all (λ x. not (x == c)) ds) h).0
+    by (d ∷ ds) (suc n) h = by ds n (and_parts (not (d == c)) (list_all (λ x. not (x == c)) ds) h).1
+
+hex_lacks : (bytes : List ℕ) → Lacks 124 (encode_lower bytes)
+unfolding encode_with
+hex_lacks [] = refl
+hex_lacks (b ∷ rest) = rw (hex_apart 124 (b / 16) refl refl, hex_apart 124 (b % 16) refl refl, hex_lacks rest) refl
+
+either_lacks : (v : Bool) (a b : List ℕ) → Lacks 124 a → Lacks 124 b → Lacks 124 (if v then a else b)
+either_lacks true a b p q = p
+either_lacks false a b p q = q
+
+answer_lacks : (answer : Result Reply Refusal) → Lacks 124 (outcome_text answer)
+answer_lacks (Ok Done) = refl
+answer_lacks (Ok Begun) = refl
+answer_lacks (Ok (Count (pos n))) = decimal_lacks 124 n refl
+answer_lacks (Ok (Count (negsuc n))) = decimal_lacks 124 (suc n) refl
+answer_lacks (Ok (Bits bits)) = decimal_lacks 124 bits refl
+answer_lacks (Ok (Number number)) = decimal_lacks 124 number refl
+answer_lacks (Ok (Bytes bytes)) = either_lacks (length bytes.items == 0) (codes "-") (encode_lower bytes.items) refl (hex_lacks bytes.items)
+answer_lacks (Ok (Chosen None)) = refl
+answer_lacks (Ok (Chosen (Some thread))) = decimal_lacks 124 thread.0 refl
+answer_lacks (Ok (Handed None more)) = refl
+answer_lacks (Ok (Handed (Some thread) true)) = list_all-append (λ b. not (b == 124)) (decimal thread.0) (codes " more") ∙ rw (decimal_lacks 124 thread.0 refl) refl
+answer_lacks (Ok (Handed (Some thread) false)) = decimal_lacks 124 thread.0 refl
+answer_lacks (Ok TimedOut) = refl
+answer_lacks (Err (Raced first second)) = refl
+answer_lacks (Err _) = refl
+
 lacks_drop : (c : ℕ) (text : List ℕ) (i : ℕ) → Lacks c text → Lacks c (drop i text)
 lacks_drop c text zero h = h
 lacks_drop c [] (suc i) h = refl
@@ -161,16 +180,16 @@ answered_by made answer fits =
     let none = call_value made fits (codes "as") refl ∙ ap text_told (no_pass made) in
     rw (none, begins made) (shape_by made answer)
 
-call_shaped : (made : Call) (answer : Result Reply Refusal) → CallFits made → LacksBar answer → entry_shape (call_text made) (outcome_text answer) ≡ call_shape made answer
-call_shaped made answer fits h =
-    let whole : outcome (outcome_text answer) ≡ outcome_text answer = ap (λ (o : Option (List ℕ × List ℕ)). option_map_or (λ cut. cut.0) o (outcome_text answer)) (no_bar (outcome_text answer) h) in
+call_shaped : (made : Call) (answer : Result Reply Refusal) → CallFits made → entry_shape (call_text made) (outcome_text answer) ≡ call_shape made answer
+call_shaped made answer fits =
+    let whole : outcome (outcome_text answer) ≡ outcome_text answer = ap (λ (o : Option (List ℕ × List ℕ)). option_map_or (λ cut. cut.0) o (outcome_text answer)) (no_bar (outcome_text answer) (answer_lacks answer)) in
     ap (answered_shape (call_text made)) whole ∙ answered_by made answer fits
 
 -- ---- the line of a step
 
-pub step_marked : (line : TraceLine) (number : Option ℕ) (step : Step) (answer : Result Reply Refusal) → StepFits step → LacksBar answer → says_of line.says ≡ entry (step_parts number step answer)
+pub step_marked : (line : TraceLine) (number : Option ℕ) (step : Step) (answer : Result Reply Refusal) → StepFits step → says_of line.says ≡ entry (step_parts number step answer)
     → marked line ≡ Some (step_told line.text.now step answer)
-step_marked line number step answer fits h said = by line.says said
+step_marked line number step answer fits said = by line.says said
   where
     text : List ℕ
     text = line.text.now
@@ -183,6 +202,6 @@ step_marked line number step answer fits h said = by line.says said
         let thread : e.thread ≡ step.who.0 = ap (λ (p : EntryParts). p.thread) same in
         let called : e.call.now ≡ call_text step.call = ap (λ (p : EntryParts). p.call) same in
         let answered : e.answer.now ≡ outcome_text answer = ap (λ (p : EntryParts). p.answer) same in
-        let names : entry_names e.call.now e.answer.now ≡ call_lane step.call = (λ i. entry_names (called i) (answered i)) ∙ call_named step.call (outcome_text answer) fits.1 h in
-        let looks : entry_shape e.call.now e.answer.now ≡ call_shape step.call answer = (λ i. entry_shape (called i) (answered i)) ∙ call_shaped step.call answer fits.1 h in
+        let names : entry_names e.call.now e.answer.now ≡ call_lane step.call = (λ i. entry_names (called i) (answered i)) ∙ call_named step.call (outcome_text answer) fits.1 (answer_lacks answer) in
+        let looks : entry_shape e.call.now e.answer.now ≡ call_shape step.call answer = (λ i. entry_shape (called i) (answered i)) ∙ call_shaped step.call answer fits.1 in
         λ i. Some (record { line = text; lane = Thread (thread i); names = names i; shape = looks i })

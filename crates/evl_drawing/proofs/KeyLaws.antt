@@ -49,13 +49,13 @@ behind_none c part = rw (past_lacks (c ∷ part) [] (λ rest e. cc)) refl
 abbrev looked_for : List ℕ → List ℕ
 looked_for key = 32 ∷ (key ++ 61 ∷ [])
 
-head_of : {a b : ℕ} {x y : List ℕ} → a ∷ x ≡ b ∷ y → a ≡ b
+pub head_of : {a b : ℕ} {x y : List ℕ} → a ∷ x ≡ b ∷ y → a ≡ b
 head_of e = ap (λ (l : List ℕ). get_or l 0 0) e
 
-tail_of : {a b : ℕ} {x y : List ℕ} → a ∷ x ≡ b ∷ y → x ≡ y
+pub tail_of : {a b : ℕ} {x y : List ℕ} → a ∷ x ≡ b ∷ y → x ≡ y
 tail_of e = ap (λ (l : List ℕ). drop 1 l) e
 
-apart : (c d : ℕ) → not (c == d) ≡ true → c ≢ d
+pub apart : (c d : ℕ) → not (c == d) ≡ true → c ≢ d
 apart c d h e = false≢true (sym (ap not (eq-eqb c d e)) ∙ h)
 
 -- nothing follows, or a space

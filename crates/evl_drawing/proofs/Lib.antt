@@ -4,6 +4,7 @@ mod KeyLaws
 mod LaneLaws
 mod PictureLaws
 mod RowLaws
+mod ShownLaws
 mod StandingLaws
 mod TableLaws
 mod TextLaws

@@ -1,14 +1,17 @@
 -- Texts that are taken apart as std's functions do it.
-use Rattle.std.proofs.Common.{arith, ◌≡◌, ◌≤◌, ◌<◌, ℕ, zero, suc, ◌-◌, ◌^◌, ◌&&◌, nat_eq, nat_lt, ltb-true, lt-ltb, Bool, true, false, List, [], ◌∷◌, ◌++◌, length, take, drop, Option, Some, None, Result, Ok, Err, refl, sym, ap, subst, ◌∙◌}
+use Rattle.std.proofs.lemmas.Bool.Decides.{nat_tests}
+use Rattle.std.proofs.lemmas.Fmt.{decimal_is_IsNumeral}
+use Rattle.std.specs.Fmt.{digit_glyph, digits, digits_onto}
+use Rattle.std.proofs.Common.{arith, ◌≡◌, ◌≤◌, ◌<◌, ℕ, zero, suc, ◌-◌, ◌^◌, ◌&&◌, nat_eq, nat_lt, ltb-true, lt-ltb, Bool, true, false, List, [], ◌∷◌, ◌++◌, length, take, drop, Option, Some, None, Result, Ok, Err, refl, sym, ap, subst, ◌∙◌, ◌%◌, ◌/◌, ◌==◌, ◌||◌, not, decimal, ◌+◌, if◌then◌else◌}
 use Rattle.std.specs.List.{ends_with, starts_with}
 use Rattle.std.specs.Str.{IsCharBoundary, all_ascii_digits}
-use Rattle.std.specs.Str.Parse.{ParsesUnsigned, digits_value, without_leading_plus}
+use Rattle.std.specs.Str.Parse.{AllDigits, ParsesUnsigned, digits_value, without_leading_plus}
 use Rattle.std.specs.Str.Pattern.{FindsText, FindsTextPrefix, FindsTextSuffix, LacksTextAt, SplitsAroundMatch, StripsPrefix, StripsSuffix}
 use Rattle.std.proofs.lemmas.Bool.{and_parts, eq-eqb, eqb-true, false_from_ne_true}
 use Rattle.std.proofs.lemmas.Slice.Eq.{starts_is}
 use Rattle.std.proofs.lemmas.Str.Pattern.{ends_text}
-use Rattle.std.proofs.lemmas.Str.Parse.{IsNumeralModel, numerals_by_value, tells_all_ascii_digits}
-use Rattle.evl_traces.specs.Parts.{before_end}
+use Rattle.std.proofs.lemmas.Str.Parse.{IsNumeralModel, digit_from_value, numerals_by_value, tells_all_ascii_digits, without_leading_plus_none}
+use Rattle.evl_traces.specs.Parts.{Lacks, before_end}
 use Rattle.evl_drawing.specs.Texts.{around_part, number_in, past_front}
 
 -- ---- front parts and ends
@@ -87,8 +90,8 @@ around_missing part text missing = sym (around_none part text missing)
 
 -- ---- numbers
 
-digits : IsNumeralModel (λ ds. all_ascii_digits ds ≡ true) (digits_value 10)
-digits = numerals_by_value (λ ds. all_ascii_digits ds ≡ true) tells_all_ascii_digits
+ascii_digits : IsNumeralModel (λ ds. all_ascii_digits ds ≡ true) (digits_value 10)
+ascii_digits = numerals_by_value (λ ds. all_ascii_digits ds ≡ true) tells_all_ascii_digits
 
 abbrev is_number : ℕ → List ℕ → Bool
 is_number bits ds = nat_lt 0 (length ds) && all_ascii_digits ds && nat_lt (digits_value 10 ds) (2 ^ bits)
@@ -99,7 +102,7 @@ number_found bits n text (Err e) h is = absurd (cc)
 number_found bits n text (Ok m) h is =
     let ds : List ℕ = without_leading_plus text in
     let some : nat_lt 0 (length ds) ≡ true = lt-ltb 0 (length ds) h.0.0.0 in
-    let all : all_ascii_digits ds ≡ true = digits.from ds h.0.0.1 in
+    let all : all_ascii_digits ds ≡ true = ascii_digits.from ds h.0.0.1 in
     let small : nat_lt (digits_value 10 ds) (2 ^ bits) ≡ true = lt-ltb (digits_value 10 ds) (2 ^ bits) h.0.1 in
     let same : n ≡ digits_value 10 ds = cc in
     rw (some, all, small, same) refl
@@ -115,5 +118,45 @@ number_missing bits text (Err d) e h is =
     let fits : Bool = nat_lt (digits_value 10 ds) (2 ^ bits) in
     let both = and_parts (some && all_ascii_digits ds) fits t in
     let front = and_parts some (all_ascii_digits ds) both.0 in
-    h ((ltb-true 0 (length ds) front.0, digits.to ds front.1), ltb-true (digits_value 10 ds) (2 ^ bits) both.1)) in
+    h ((ltb-true 0 (length ds) front.0, ascii_digits.to ds front.1), ltb-true (digits_value 10 ds) (2 ^ bits) both.1)) in
     rw no refl
+
+no_plus : (ds : List ℕ) → AllDigits 10 ds → without_leading_plus ds ≡ ds
+no_plus [] h = refl
+no_plus (d ∷ ds) h = without_leading_plus_none (d ∷ ds) (λ plus. let digit = digit_from_value d h.0 in omega (arith, digit, plus))
+
+-- what is written of a number is read as that number
+pub number_back : (n : ℕ) → n < 2 ^ 16 → number_in 16 (decimal n) ≡ Some n
+number_back n small =
+    let is = decimal_is_IsNumeral n (omega arith) in
+    let bare : without_leading_plus (decimal n) ≡ decimal n = no_plus (decimal n) is.0.1 in
+    sym (number_found {E = ℕ} 16 n (decimal n) (Ok n) (rw bare ((is.0, rw is.1 small), sym is.1)) refl)
+
+-- ---- other bytes don't stand in a number
+
+abbrev pub is_no_digit : ℕ → Bool
+is_no_digit c = nat_lt c 48 || nat_lt 57 c
+
+glyph_apart : (c d : ℕ) → is_no_digit c ≡ true → d < 10 → not (48 + d == c) ≡ true
+glyph_apart c d other small = grind (arith, nat_tests)
+
+digit_apart : (c n : ℕ) → is_no_digit c ≡ true → not (digit_glyph false (n % 10) == c) ≡ true
+digit_apart c n other =
+    let small : n % 10 < 10 = omega arith in
+    rw (lt-ltb (n % 10) 10 small) (glyph_apart c (n % 10) other small)
+
+onto_lacks : (c k n : ℕ) (behind : List ℕ) → is_no_digit c ≡ true → Lacks c behind → Lacks c (digits_onto k 10 false n behind)
+onto_lacks c zero n behind other h = h
+onto_lacks c (suc k) n behind other h = by (n / 10 == 0) (onto_lacks c k (n / 10) (digit_glyph false (n % 10) ∷ behind) other more)
+  where
+    more : Lacks c (digit_glyph false (n % 10) ∷ behind)
+    more = rw (digit_apart c n other, h) refl
+
+    by : (b : Bool) → Lacks c (digits_onto k 10 false (n / 10) (digit_glyph false (n % 10) ∷ behind))
+        → Lacks c (if b then digit_glyph false (n % 10) ∷ behind else digits_onto k 10 false (n / 10) (digit_glyph false (n % 10) ∷ behind))
+    by true rest = more
+    by false rest = rest
+
+pub decimal_lacks : (c n : ℕ) → is_no_digit c ≡ true → Lacks c (decimal n)
+unfolding digits
+decimal_lacks c n other = onto_lacks c 64 n [] other refl

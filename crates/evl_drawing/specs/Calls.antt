@@ -1,13 +1,11 @@
 -- The marks of the kernel's calls, by what is called and what is answered.
 use Rattle.std.specs.Prelude.{ℕ, Bool, true, false, List, if◌then◌else◌, Option, Some, None, Result, Ok, Err}
-use Rattle.evl_base.specs.Reply.{outcome_text}
 use Rattle.evl_base.specs.declared.call.Call.{Call}
 use Rattle.evl_base.specs.declared.call.Call.TheVariants.{Request, Free, Post, Stall, Unstall, StartTimer, StopTimer, DropTimer, Overruns, Attach, SetStage, TryGet, Put, Peek, BeginGet, TryTake, PostFlags, PeekFlags, BeginTake, Write, Read, Room, BeginWrite, BeginRead, Claim, Release, Raise, Finish}
 use Rattle.evl_base.specs.declared.refusal.Refusal.{Refusal}
 use Rattle.evl_base.specs.declared.reply.Reply.{Reply}
 use Rattle.evl_base.specs.declared.reply.Reply.TheVariants.{Begun}
 use Rattle.evl_scenario.specs.declared.steps.Step.{Step}
-use Rattle.evl_traces.specs.Parts.{Lacks}
 use Rattle.evl_drawing.specs.Marks.{Told}
 use Rattle.evl_drawing.specs.declared.lanes.Lane.{Lane}
 use Rattle.evl_drawing.specs.declared.lanes.Lane.TheVariants.{Thread, Mutex, Sem, Flags, Xbuf, Timer, Stage}
@@ -59,7 +57,3 @@ call_shape call (Ok reply) = if ends_wait call then shape.Ended else shape.Answe
 -- what is told of the mark of a step and of what its call answered
 abbrev pub step_told : List ℕ → Step → Result Reply Refusal → Told
 step_told text step answer = record { line = text; lane = Thread step.who.0; names = call_lane step.call; shape = call_shape step.call answer }
-
--- no bar stands in the text of an answer
-abbrev pub LacksBar : Result Reply Refusal → Type 0
-LacksBar answer = Lacks 124 (outcome_text answer)

@@ -7,6 +7,7 @@ pub mod Marks
 pub mod Named
 pub mod Pictures
 pub mod Rows
+pub mod Shown
 pub mod Standings
 pub mod Strips
 pub mod Tables

@@ -8,7 +8,7 @@ ghost use Rattle.evl_traces.specs.Entries.{step_parts};
 ghost use Rattle.evl_traces.specs.Lines.{entry};
 ghost use Rattle.evl_traces.specs.Says.{says_of};
 ghost use Rattle.evl_traces.specs.declared.traces.TraceLine.{TraceLine};
-ghost use Rattle.evl_drawing.specs.Calls.{LacksBar, step_told};
+ghost use Rattle.evl_drawing.specs.Calls.{step_told};
 ghost use Rattle.evl_drawing.specs.Marks as marks;
 ghost use Rattle.evl_drawing.specs.Marks.{all_marked, is_called, marked, play_lane, play_shape, told_of};
 ghost use Rattle.evl_drawing.specs.Named as named;
@@ -209,7 +209,7 @@ pub fn marks_of<'a>(alloc: Global, lines: &[TraceLine<'a>]) -> Result<Vec<Mark<'
     ensures marks { IfOk result (λ marks. map told_of marks.items ≡ all_marked lines.now) }
 
     // The line of a step and of what its call answered is marked by the call and the answer.
-    ensures called { (line : TraceLine) (number : Option ℕ) (step : Step) (answer : Result Reply Refusal) → StepFits step → LacksBar answer → says_of line.says ≡ entry (step_parts number step answer) → marked line ≡ Some (step_told line.text.now step answer) }
+    ensures called { (line : TraceLine) (number : Option ℕ) (step : Step) (answer : Result Reply Refusal) → StepFits step → says_of line.says ≡ entry (step_parts number step answer) → marked line ≡ Some (step_told line.text.now step answer) }
 {
     let mut marks = Vec::new(alloc);
     for line in lines {
