@@ -1,5 +1,5 @@
 -- The mark of a call, by what is called and what is answered.
-use Rattle.std.proofs.Common.{Bool, ◌≡◌, ◌<◌, ℕ, ◌^◌, ◌==◌, true, false, not, nat_eq, List, [], ◌∷◌, codes, decimal, drop, suc, zero, if◌then◌else◌, Option, Some, None, Result, Ok, Err, option_map, option_and_then, refl, ap, subst, ◌∙◌, ◌%◌, ◌/◌, length, slice_index, pos, negsuc}
+use Rattle.std.proofs.Common.{Bool, ◌≡◌, ◌<◌, ℕ, ◌^◌, ◌==◌, true, false, not, nat_eq, List, [], ◌∷◌, codes, decimal, drop, suc, zero, if◌then◌else◌, Option, Some, None, Result, Ok, Err, option_map, option_and_then, refl, ap, subst, ◌∙◌, ◌%◌, ◌/◌, length, slice_index, pos, negsuc, ◌&&◌}
 use Rattle.std.proofs.lemmas.Bool.{and_parts, false≢true}
 use Rattle.std.specs.List.{list_all, starts_with}
 use Rattle.std.specs.Option.{option_map_or, option_or}
@@ -18,8 +18,10 @@ use Rattle.evl_base.specs.declared.reply.Reply.TheVariants.{Done, Begun, Count, 
 use Rattle.evl_base.specs.declared.stage.Stage as stages
 use Rattle.evl_base.specs.declared.stage.Stage.TheVariants.{Inband, Oob}
 use Rattle.evl_scenario.specs.Calls.{told_in}
+use Rattle.evl_scenario.specs.Fields as fields
 use Rattle.evl_scenario.specs.Fields.{Keyed}
-use Rattle.evl_scenario.specs.Widths.{CallFits, StepFits}
+use Rattle.evl_traces.specs.Values.{value_text}
+use Rattle.evl_scenario.specs.Widths.{AllFit, CallFits, Fits, StepFits}
 use Rattle.evl_scenario.specs.declared.steps.Step.{Step}
 use Rattle.evl_traces.specs.Entries.{EntryParts, names_refusal, step_parts}
 use Rattle.evl_traces.specs.Lines.{entry}
@@ -28,7 +30,7 @@ use Rattle.evl_traces.specs.Says.{parts_of, says_of}
 use Rattle.evl_traces.specs.declared.traces.Says.{Says}
 use Rattle.evl_traces.specs.declared.traces.Says.TheVariants.{Board, Entry, Play}
 use Rattle.evl_traces.specs.declared.traces.TraceLine.{TraceLine}
-use Rattle.evl_drawing.specs.Calls.{call_lane, call_shape, ends_wait, step_told}
+use Rattle.evl_drawing.specs.Calls.{call_lane, call_shape, ends_wait, keyed_lane, number_told, stage_told, step_told, value_told}
 use Rattle.evl_drawing.specs.Marks.{marked, marked_by}
 use Rattle.evl_drawing.specs.Named.{answered_shape, entry_names, entry_shape, named, stage_lane}
 use Rattle.evl_drawing.specs.Texts.{around_part, number_in, up_to}
@@ -36,7 +38,7 @@ use Rattle.evl_drawing.specs.Words.{bar, outcome}
 use Rattle.evl_drawing.specs.declared.lanes.Lane.{Lane}
 use Rattle.evl_drawing.specs.declared.lanes.Lane.TheVariants.{Thread, Mutex, Stax, Sem, Flags, Xbuf, Timer, Stage}
 use Rattle.evl_drawing.specs.declared.marks.Shape.TheVariants as shape
-use Rattle.evl_drawing.proofs.KeyLaws.{call_value, text_told, up_whole, value_told}
+use Rattle.evl_drawing.proofs.KeyLaws.{call_value, text_told, up_whole}
 use Rattle.evl_drawing.proofs.TextLaws.{around_none, decimal_lacks, number_back}
 
 -- ---- numbers and stages
@@ -47,6 +49,53 @@ number_known n small = ap (number_in 16) (up_whole (decimal n) (decimal_lacks 32
 stage_known : (stage : stages.Stage) → stage_lane (up_to (codes " ") (stage_text stage)) ≡ Some (Stage stage)
 stage_known Inband = ap stage_lane (up_whole (codes "inband") refl)
 stage_known Oob = ap stage_lane (up_whole (codes "oob") refl)
+
+-- ---- kinds of values
+
+abbrev is_half : fields.Told → Bool
+is_half (fields.a_half n) = true
+is_half _ = false
+
+abbrev is_stage : fields.Told → Bool
+is_stage (fields.a_stage stage) = true
+is_stage _ = false
+
+-- the value of a key that is there is of this kind
+abbrev AreOf : (fields.Told → Bool) → List ℕ → List Keyed → Type 0
+AreOf kind name keys = list_all (λ one. if bytes_eq one.0 name then kind one.1 else true) keys ≡ true
+
+record IsOf (kind : fields.Told → Bool) (value : fields.Told) : Type 0 where
+  kind_is : kind value ≡ true
+  fits : Fits value
+
+abbrev IfThere : (fields.Told → Bool) → Option fields.Told → Type 0
+IfThere kind None = Unit {0}
+IfThere kind (Some value) = IsOf kind value
+
+found_of : (kind : fields.Told → Bool) (name : List ℕ) (keys : List Keyed) → AreOf kind name keys → AllFit keys → IfThere kind (value_told name keys)
+found_of kind name [] h fits = tt
+found_of kind name (one ∷ rest) h fits = by (bytes_eq one.0 name) h (λ more. found_of kind name rest more fits.1)
+  where
+    by : (b : Bool) → ((if b then kind one.1 else true) && list_all (λ k. if bytes_eq k.0 name then kind k.1 else true) rest) ≡ true
+        → (AreOf kind name rest → IfThere kind (value_told name rest)) → IfThere kind (if b then Some one.1 else value_told name rest)
+    by true h more = record { kind_is = (and_parts (kind one.1) (list_all (λ k. if bytes_eq k.0 name then kind k.1 else true) rest) h).0; fits = fits.0 }
+    by false h more = more h
+
+half_read : (value : fields.Told) → IsOf is_half value → number_in 16 (up_to (codes " ") (value_text value)) ≡ number_told (Some value)
+half_read (fields.a_half n) h = number_known n h.fits
+half_read _ h = absurd (false≢true h.kind_is)
+
+stage_read : (value : fields.Told) → IsOf is_stage value → stage_lane (up_to (codes " ") (value_text value)) ≡ stage_told (Some value)
+stage_read (fields.a_stage stage) h = stage_known stage
+stage_read _ h = absurd (false≢true h.kind_is)
+
+number_at_key : (value : Option fields.Told) → IfThere is_half value → option_and_then (number_in 16) (text_told value) ≡ number_told value
+number_at_key None h = refl
+number_at_key (Some value) h = half_read value h
+
+stage_at_key : (value : Option fields.Told) → IfThere is_stage value → option_and_then stage_lane (text_told value) ≡ stage_told value
+stage_at_key None h = refl
+stage_at_key (Some value) h = stage_read value h
 
 -- ---- what a call names
 
@@ -69,35 +118,31 @@ named_in : (made : Call) → CallFits made → named (call_text made) ≡ lane_i
 named_in made fits = λ i. lane_by (call_value made fits (codes "mutex") refl i) (call_value made fits (codes "stax") refl i) (call_value made fits (codes "sem") refl i)
     (call_value made fits (codes "flags") refl i) (call_value made fits (codes "xbuf") refl i) (call_value made fits (codes "timer") refl i) (call_value made fits (codes "stage") refl i)
 
-on_lane : (made : Call) → CallFits made → lane_in (told_in made) ≡ call_lane made
-on_lane (call.Request line stage callback tag) fits = stage_known stage
-on_lane (call.Free line stage) fits = stage_known stage
-on_lane (call.Post stage line) fits = stage_known stage
-on_lane (call.Stall stage) fits = stage_known stage
-on_lane (call.Unstall stage) fits = stage_known stage
-on_lane (call.StartTimer timer date interval) fits = rw (number_known timer.0 fits.0) refl
-on_lane (call.StopTimer timer) fits = rw (number_known timer.0 fits.0) refl
-on_lane (call.DropTimer timer) fits = rw (number_known timer.0 fits.0) refl
-on_lane (call.Overruns timer) fits = rw (number_known timer.0 fits.0) refl
-on_lane (call.Attach policy stage) fits = stage_known stage
-on_lane (call.SetStage stage) fits = stage_known stage
-on_lane (call.TryGet sem) fits = rw (number_known sem.0 fits.0) refl
-on_lane (call.Put sem) fits = rw (number_known sem.0 fits.0) refl
-on_lane (call.Peek sem) fits = rw (number_known sem.0 fits.0) refl
-on_lane (call.BeginGet sem until) fits = rw (number_known sem.0 fits.0) refl
-on_lane (call.TryTake flags kind) fits = rw (number_known flags.0 fits.0) refl
-on_lane (call.PostFlags flags bits) fits = rw (number_known flags.0 fits.0) refl
-on_lane (call.PeekFlags flags) fits = rw (number_known flags.0 fits.0) refl
-on_lane (call.BeginTake flags kind until) fits = rw (number_known flags.0 fits.0) refl
-on_lane (call.Write xbuf way bytes) fits = rw (number_known xbuf.0 fits.0) refl
-on_lane (call.Read xbuf way len) fits = rw (number_known xbuf.0 fits.0) refl
-on_lane (call.Room xbuf way) fits = rw (number_known xbuf.0 fits.0) refl
-on_lane (call.BeginWrite xbuf way bytes until) fits = rw (number_known xbuf.0 fits.0) refl
-on_lane (call.BeginRead xbuf way len until) fits = rw (number_known xbuf.0 fits.0) refl
-on_lane (call.Claim mutex owner until) fits = rw (number_known mutex.0 fits.0) refl
-on_lane (call.Release mutex) fits = rw (number_known mutex.0 fits.0) refl
-on_lane (call.Raise mutex) fits = rw (number_known mutex.0 fits.0) refl
-on_lane _ fits = refl
+-- elements and timers have numbers of 16 bits, stages are stages, and no call of the kernel has a stax
+record HasKinds (keys : List Keyed) : Type 0 where
+  mutex : AreOf is_half (codes "mutex") keys
+  sem : AreOf is_half (codes "sem") keys
+  flags : AreOf is_half (codes "flags") keys
+  xbuf : AreOf is_half (codes "xbuf") keys
+  timer : AreOf is_half (codes "timer") keys
+  stage : AreOf is_stage (codes "stage") keys
+  stax : value_told (codes "stax") keys ≡ None
+
+kinds : (made : Call) → HasKinds (told_in made)
+kinds call.Now = record { mutex = refl; sem = refl; flags = refl; xbuf = refl; timer = refl; stage = refl; stax = refl }
+kinds _ = record { mutex = refl; sem = refl; flags = refl; xbuf = refl; timer = refl; stage = refl; stax = refl }
+
+on_lane : (keys : List Keyed) → HasKinds keys → AllFit keys → lane_in keys ≡ keyed_lane keys
+on_lane keys h fits =
+    let mutex = number_at_key (value_told (codes "mutex") keys) (found_of is_half (codes "mutex") keys h.mutex fits) in
+    let stax : option_and_then (number_in 16) (text_at (codes "stax") keys) ≡ None = ap (λ (value : Option fields.Told). option_and_then (number_in 16) (text_told value)) h.stax in
+    let sem = number_at_key (value_told (codes "sem") keys) (found_of is_half (codes "sem") keys h.sem fits) in
+    let flags = number_at_key (value_told (codes "flags") keys) (found_of is_half (codes "flags") keys h.flags fits) in
+    let xbuf = number_at_key (value_told (codes "xbuf") keys) (found_of is_half (codes "xbuf") keys h.xbuf fits) in
+    let timer = number_at_key (value_told (codes "timer") keys) (found_of is_half (codes "timer") keys h.timer fits) in
+    let stage = stage_at_key (value_told (codes "stage") keys) (found_of is_stage (codes "stage") keys h.stage fits) in
+    λ i. option_or (option_or (option_map (λ n. Mutex n) (mutex i)) (option_or (option_map (λ n. Stax n) (stax i)) (option_or (option_map (λ n. Sem n) (sem i))
+    (option_or (option_map (λ n. Flags n) (flags i)) (option_or (option_map (λ n. Xbuf n) (xbuf i)) (option_or (option_map (λ n. Timer n) (timer i)) None)))))) (stage i)
 
 -- ---- answers with no bar
 
@@ -145,7 +190,7 @@ no_bar : (text : List ℕ) → Lacks 124 text → around_part bar text ≡ None
 no_bar text h = around_none bar text (λ i inside rest e. false≢true (subst (Lacks 124) e (lacks_drop 124 text i h)))
 
 call_named : (made : Call) (answer : List ℕ) → CallFits made → Lacks 124 answer → entry_names (call_text made) answer ≡ call_lane made
-call_named made answer fits h = rw (no_bar answer h) (named_in made fits ∙ on_lane made fits)
+call_named made answer fits h = rw (no_bar answer h) (named_in made fits ∙ on_lane (told_in made) (kinds made) fits)
 
 -- ---- how a call looks
 

@@ -17,6 +17,7 @@ use Rattle.evl_scenario.specs.declared.calls.StepWord.TheVariants.{Pick}
 use Rattle.evl_traces.specs.Parts.{Lacks}
 use Rattle.evl_traces.specs.Values.{value_text}
 use Rattle.evl_traces.proofs.CallTexts.{call_said, parts_said, said, value-no_equals}
+use Rattle.evl_drawing.specs.Calls.{value_told}
 use Rattle.evl_drawing.specs.Named.{value_of}
 use Rattle.evl_drawing.specs.Texts.{around_part, up_to}
 use Rattle.evl_drawing.proofs.TextLaws.{past_at, past_lacks}
@@ -158,11 +159,6 @@ up_value (c ∷ value) rest end = by (c == 32) refl (up_value value rest end)
         up_more c (value ++ rest) other ∙ ap (λ (x : List ℕ). c ∷ x) more ∙ sym (up_more c value other)
 
 -- ---- the keys of a call
-
--- the value of the first of these keys that is this one
-abbrev pub value_told : List ℕ → List Keyed → Option fields.Told
-value_told key [] = None
-value_told key (one ∷ rest) = if bytes_eq one.0 key then Some one.1 else value_told key rest
 
 abbrev pub text_told : Option fields.Told → Option (List ℕ)
 text_told value = option_map (λ v. up_to (codes " ") (value_text v)) value

@@ -10,3 +10,4 @@ mod TableLaws
 mod TextLaws
 mod TitleLaws
 pub mod PageLaws
+pub mod WorkedRows

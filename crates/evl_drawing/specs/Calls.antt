@@ -1,47 +1,46 @@
 -- The marks of the kernel's calls, by what is called and what is answered.
-use Rattle.std.specs.Prelude.{ℕ, Bool, true, false, List, if◌then◌else◌, Option, Some, None, Result, Ok, Err}
+use Rattle.std.specs.Prelude.{ℕ, Bool, true, false, List, [], ◌∷◌, codes, bytes_eq, if◌then◌else◌, Option, Some, None, Result, Ok, Err}
+use Rattle.std.specs.Option.{option_or}
 use Rattle.evl_base.specs.declared.call.Call.{Call}
-use Rattle.evl_base.specs.declared.call.Call.TheVariants.{Request, Free, Post, Stall, Unstall, StartTimer, StopTimer, DropTimer, Overruns, Attach, SetStage, TryGet, Put, Peek, BeginGet, TryTake, PostFlags, PeekFlags, BeginTake, Write, Read, Room, BeginWrite, BeginRead, Claim, Release, Raise, Finish}
+use Rattle.evl_base.specs.declared.call.Call.TheVariants.{Finish}
 use Rattle.evl_base.specs.declared.refusal.Refusal.{Refusal}
 use Rattle.evl_base.specs.declared.reply.Reply.{Reply}
 use Rattle.evl_base.specs.declared.reply.Reply.TheVariants.{Begun}
+use Rattle.evl_scenario.specs.Calls.{told_in}
+use Rattle.evl_scenario.specs.Fields as key
 use Rattle.evl_scenario.specs.declared.steps.Step.{Step}
 use Rattle.evl_drawing.specs.Marks.{Told}
+use Rattle.evl_drawing.specs.Words.{first_lane}
 use Rattle.evl_drawing.specs.declared.lanes.Lane.{Lane}
 use Rattle.evl_drawing.specs.declared.lanes.Lane.TheVariants.{Thread, Mutex, Sem, Flags, Xbuf, Timer, Stage}
 use Rattle.evl_drawing.specs.declared.marks.Shape.{Shape}
 use Rattle.evl_drawing.specs.declared.marks.Shape.TheVariants as shape
 
--- the lane of the element, the timer or the stage that a call is on
+-- the value of a key among those of a call, where it has such a key
+abbrev pub value_told : List ℕ → List key.Keyed → Option key.Told
+value_told name [] = None
+value_told name (one ∷ rest) = if bytes_eq one.0 name then Some one.1 else value_told name rest
+
+abbrev pub number_told : Option key.Told → Option ℕ
+number_told (Some (key.a_half number)) = Some number
+number_told _ = None
+
+abbrev pub stage_told : Option key.Told → Option Lane
+stage_told (Some (key.a_stage stage)) = Some (Stage stage)
+stage_told _ = None
+
+-- the keys of elements and timers
+abbrev pub lane_names : List (List ℕ × (ℕ → Lane))
+lane_names =
+    (codes "mutex", λ number. Mutex number) ∷ (codes "sem", λ number. Sem number) ∷ (codes "flags", λ number. Flags number) ∷ (codes "xbuf", λ number. Xbuf number)
+    ∷ (codes "timer", λ number. Timer number) ∷ []
+
+abbrev pub keyed_lane : List key.Keyed → Option Lane
+keyed_lane keys = option_or (first_lane (λ name. number_told (value_told name keys)) lane_names) (stage_told (value_told (codes "stage") keys))
+
+-- the lane of the element or the timer that a call is on, or else of its stage
 abbrev pub call_lane : Call → Option Lane
-call_lane (Request line stage callback tag) = Some (Stage stage)
-call_lane (Free line stage) = Some (Stage stage)
-call_lane (Post stage line) = Some (Stage stage)
-call_lane (Stall stage) = Some (Stage stage)
-call_lane (Unstall stage) = Some (Stage stage)
-call_lane (StartTimer timer date interval) = Some (Timer timer.0)
-call_lane (StopTimer timer) = Some (Timer timer.0)
-call_lane (DropTimer timer) = Some (Timer timer.0)
-call_lane (Overruns timer) = Some (Timer timer.0)
-call_lane (Attach policy stage) = Some (Stage stage)
-call_lane (SetStage stage) = Some (Stage stage)
-call_lane (TryGet sem) = Some (Sem sem.0)
-call_lane (Put sem) = Some (Sem sem.0)
-call_lane (Peek sem) = Some (Sem sem.0)
-call_lane (BeginGet sem until) = Some (Sem sem.0)
-call_lane (TryTake flags kind) = Some (Flags flags.0)
-call_lane (PostFlags flags bits) = Some (Flags flags.0)
-call_lane (PeekFlags flags) = Some (Flags flags.0)
-call_lane (BeginTake flags kind until) = Some (Flags flags.0)
-call_lane (Write xbuf way bytes) = Some (Xbuf xbuf.0)
-call_lane (Read xbuf way len) = Some (Xbuf xbuf.0)
-call_lane (Room xbuf way) = Some (Xbuf xbuf.0)
-call_lane (BeginWrite xbuf way bytes until) = Some (Xbuf xbuf.0)
-call_lane (BeginRead xbuf way len until) = Some (Xbuf xbuf.0)
-call_lane (Claim mutex owner until) = Some (Mutex mutex.0)
-call_lane (Release mutex) = Some (Mutex mutex.0)
-call_lane (Raise mutex) = Some (Mutex mutex.0)
-call_lane _ = None
+call_lane call = keyed_lane (told_in call)
 
 -- a call that ends a wait
 abbrev pub ends_wait : Call → Bool
