@@ -24,14 +24,14 @@ use Rattle.evl_drawing.proofs.TextLaws.{past_at, past_lacks}
 
 -- ---- what stands behind a part
 
-abbrev behind_part : List ℕ → List ℕ → Option (List ℕ)
+abbrev pub behind_part : List ℕ → List ℕ → Option (List ℕ)
 behind_part part text = option_map (λ cut. cut.1) (around_part part text)
 
-behind_here : (part : List ℕ) (c : ℕ) (text rest : List ℕ) → c ∷ text ≡ part ++ rest → behind_part part (c ∷ text) ≡ Some rest
+pub behind_here : (part : List ℕ) (c : ℕ) (text rest : List ℕ) → c ∷ text ≡ part ++ rest → behind_part part (c ∷ text) ≡ Some rest
 unfolding around_part
 behind_here part c text rest e = rw (past_at part (c ∷ text) rest e) refl
 
-behind_next : (part : List ℕ) (c : ℕ) (text : List ℕ) → LacksTextAt part (c ∷ text) 0 → behind_part part (c ∷ text) ≡ behind_part part text
+pub behind_next : (part : List ℕ) (c : ℕ) (text : List ℕ) → LacksTextAt part (c ∷ text) 0 → behind_part part (c ∷ text) ≡ behind_part part text
 unfolding around_part
 behind_next part c text lacks = rw (past_lacks part (c ∷ text) lacks) (by (around_part part text))
   where
@@ -47,7 +47,7 @@ behind_none c part = rw (past_lacks (c ∷ part) [] (λ rest e. cc)) refl
 -- ---- a key in a text
 
 -- a key as it is looked for
-abbrev looked_for : List ℕ → List ℕ
+abbrev pub looked_for : List ℕ → List ℕ
 looked_for key = 32 ∷ (key ++ 61 ∷ [])
 
 pub head_of : {a b : ℕ} {x y : List ℕ} → a ∷ x ≡ b ∷ y → a ≡ b
@@ -86,7 +86,7 @@ at_key : (key rest : List ℕ) → looked_for key ++ rest ≡ 32 ∷ (key ++ 61 
 at_key key rest = ap (λ (x : List ℕ). 32 ∷ x) (append_assoc key (61 ∷ []) rest)
 
 -- no space stands in a word
-past_word : (key word rest : List ℕ) → Lacks 32 word → behind_part (looked_for key) (word ++ rest) ≡ behind_part (looked_for key) rest
+pub past_word : (key word rest : List ℕ) → Lacks 32 word → behind_part (looked_for key) (word ++ rest) ≡ behind_part (looked_for key) rest
 past_word key [] rest h = refl
 past_word key (c ∷ word) rest h =
     let (here, more) = and_parts (not (c == 32)) (list_all (λ x. not (x == 32)) word) h in

@@ -8,6 +8,7 @@ mod ShownLaws
 mod StandingLaws
 mod TableLaws
 mod TextLaws
+mod TickLaws
 mod TitleLaws
 pub mod PageLaws
 pub mod WorkedRows

@@ -126,11 +126,14 @@ no_plus [] h = refl
 no_plus (d ∷ ds) h = without_leading_plus_none (d ∷ ds) (λ plus. let digit = digit_from_value d h.0 in omega (arith, digit, plus))
 
 -- what is written of a number is read as that number
-pub number_back : (n : ℕ) → n < 2 ^ 16 → number_in 16 (decimal n) ≡ Some n
-number_back n small =
-    let is = decimal_is_IsNumeral n (omega arith) in
+pub number_again : (bits n : ℕ) → n < 2 ^ bits → n < 2 ^ 64 → number_in bits (decimal n) ≡ Some n
+number_again bits n small wide =
+    let is = decimal_is_IsNumeral n wide in
     let bare : without_leading_plus (decimal n) ≡ decimal n = no_plus (decimal n) is.0.1 in
-    sym (number_found {E = ℕ} 16 n (decimal n) (Ok n) (rw bare ((is.0, rw is.1 small), sym is.1)) refl)
+    sym (number_found {E = ℕ} bits n (decimal n) (Ok n) (rw bare ((is.0, rw is.1 small), sym is.1)) refl)
+
+pub number_back : (n : ℕ) → n < 2 ^ 16 → number_in 16 (decimal n) ≡ Some n
+number_back n small = number_again 16 n small (omega arith)
 
 -- ---- other bytes don't stand in a number
 

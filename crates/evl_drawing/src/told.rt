@@ -1,6 +1,10 @@
 //! How the words stand after each line of callers.
-ghost use Rattle.std.specs.Prelude.{◌≡◌, ◌+◌, ◌++◌, [], ◌∷◌, IfOk, OnOk, count_by, length, map, option_map, option_to_list, if◌then◌else◌, ℕ, List};
+ghost use Rattle.std.specs.Prelude.{◌≡◌, ◌+◌, ◌++◌, [], ◌∷◌, IfOk, OnOk, count_by, length, map, option_map, option_to_list, if◌then◌else◌, ℕ, List, ◌<◌, ◌-◌, ◌^◌, min, Option, Ok};
 ghost use Rattle.evl_drawing.specs.Marks.{is_entry};
+ghost use Rattle.evl_base.specs.declared.call.Call.TheVariants.{Tick};
+ghost use Rattle.evl_base.specs.declared.reply.Reply.TheVariants.{Done};
+ghost use Rattle.evl_scenario.specs.declared.steps.Step.{Step};
+ghost use Rattle.evl_traces.specs.Entries.{entry_text, step_parts};
 ghost use Rattle.evl_traces.specs.Parts.{Lacks};
 ghost use Rattle.evl_drawing.specs.Shown.{Word, WordFits, lane_of, line_showing, word_stands};
 ghost use Rattle.evl_drawing.specs.Standings as stands;
@@ -122,6 +126,9 @@ fn add_moment(alloc: Global, moments: &mut Vec<Moment>, mark: &Mark<'_>) -> Resu
 pub fn told_moments(alloc: Global, marks: &[Mark<'_>]) -> Result<Vec<Moment>, AllocError>
     ensures told { IfOk result (λ moments. map told_at moments.items ≡ all_told marks.now) }
     ensures count { IfOk result (λ moments. length moments.items ≡ count_by is_entry marks.now) }
+
+    // The line of a tick that is done moves the date by its delta.
+    ensures ticks { (number : Option ℕ) (step : Step) (delta : ℕ) (before : Told) → step.call ≡ Tick delta → delta < 2 ^ 64 → (told_after before (entry_text (step_parts number step (Ok Done)))).date ≡ min (before.date + delta) (2 ^ 64 - 1) }
 
     // The word that a line shows, behind a front part with no bar, stands as it is shown, and the others as before.
     ensures shown { (front : List ℕ) (word : Word) (before : Told) → Lacks 124 front → WordFits word → (told_after before (line_showing front word)).standings ≡ others (lane_of word) before.standings ++ option_to_list (word_stands word) }

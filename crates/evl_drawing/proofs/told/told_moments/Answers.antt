@@ -2,6 +2,7 @@ use Rattle.std.proofs.Common.{arith}
 use Rattle.std.proofs.lemmas.Grind.{common_steps}
 use Rattle.evl_drawing.proofs.ShownLaws.{word_shown}
 use Rattle.evl_drawing.proofs.StandingLaws.{told_step}
+use Rattle.evl_drawing.proofs.TickLaws.{tick_dates}
 use Rattle.evl_drawing.proofs.told.told_moments.Goals as goal
 
 pub loop-mark-preserved : goal.loop-mark-preserved
@@ -15,3 +16,9 @@ returns-clause-shown c front word before = word_shown front word before.standing
 
 pub returns-in_err-add_moment-clause-shown : goal.returns-in_err-add_moment-clause-shown
 returns-in_err-add_moment-clause-shown c front word before = word_shown front word before.standings
+
+pub returns-clause-ticks : goal.returns-clause-ticks
+returns-clause-ticks c = tick_dates
+
+pub returns-in_err-add_moment-clause-ticks : goal.returns-in_err-add_moment-clause-ticks
+returns-in_err-add_moment-clause-ticks c = tick_dates
