@@ -10,7 +10,8 @@ use Rattle.std.specs.Prelude.{unwrap_or}
 use Rattle.evl_traces.specs.Parts.{Lacks}
 use Rattle.evl_lab.specs.Texts.{IsNameOf, stem_in}
 
-other : (a b : ℕ) → a ≢ b → (a == b) ≡ false
+-- a number isn't another one
+pub other : (a b : ℕ) → a ≢ b → (a == b) ≡ false
 other a b n = by (eqb_tells a b)
   where
     by : ((a == b) ≡ true) × (a ≡ b) ⊎ ((a == b) ≡ false) × (a ≢ b) → (a == b) ≡ false

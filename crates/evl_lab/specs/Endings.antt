@@ -1,5 +1,5 @@
--- What is said of how a text ended that was played.
-use Rattle.std.specs.Prelude.{ℕ, List, ◌++◌, codes, decimal, Option, Some, None}
+-- What is said of how a text ended that was played, and the status.
+use Rattle.std.specs.Prelude.{ℕ, List, ◌++◌, codes, decimal, Bool, if◌then◌else◌, Option, Some, None}
 use Rattle.evl_scenario.specs.Lines.{line_feed}
 use Rattle.evl_scenario.specs.declared.faults.Fault.{Fault}
 use Rattle.evl_scenario.specs.declared.faults.Fault.TheVariants.{Text, Board, Step, Memory, Write}
@@ -15,3 +15,7 @@ fault_words Board = Some (codes "bad board")
 fault_words (Step n) = Some (codes "bad step " ++ decimal n)
 fault_words Memory = None
 fault_words Write = None
+
+-- the status of texts that were gone through
+abbrev pub status_of : Bool → ℕ
+status_of at_fault = if at_fault then 2 else 0

@@ -1,5 +1,10 @@
 pub mod Banks
+pub mod Checks
+pub mod Draws
 pub mod Endings
+pub mod Helps
+pub mod Lives
+pub mod Outputs
 pub mod Plays
 pub mod Texts
 pub mod Words

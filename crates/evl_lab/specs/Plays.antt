@@ -1,5 +1,5 @@
 -- What `lab play` tells of scenarios.
-use Rattle.std.specs.Prelude.{◌≡◌, ◌⊎◌, ℕ, List, [], ◌++◌, map, find, codes, decimal, Bool, true, false, if◌then◌else◌, Option, Some, None, option_map, unwrap_or, IfSome, IsSomeAnd, Result, Ok, Err}
+use Rattle.std.specs.Prelude.{◌≡◌, ◌⊎◌, ℕ, List, [], ◌++◌, map, find, codes, decimal, Bool, true, false, Option, Some, None, option_map, unwrap_or, IfSome, IsSomeAnd, Result, Ok, Err}
 use Rattle.std.specs.List.{All, concat, list_any}
 use Rattle.std.specs.Str.Lines.{lines}
 use Rattle.std.specs.Io.KnownBytes.{Appends}
@@ -13,7 +13,7 @@ use Rattle.evl_runs.specs.Differences.{IsDifference}
 use Rattle.evl_runs.specs.Json.{trace_json}
 use Rattle.evl_runs.specs.declared.differences.Difference.{Difference}
 use Rattle.evl_lab.specs.Banks.{IsBank}
-use Rattle.evl_lab.specs.Endings.{fault_words, line_about}
+use Rattle.evl_lab.specs.Endings.{fault_words, line_about, status_of}
 use Rattle.evl_lab.specs.Texts.{IsReadOf, is_input, names_or_input, text_in}
 use Rattle.evl_lab.specs.declared.words.Playing.{Playing}
 use Rattle.evl_lab.specs.declared.words.Telling.{Telling}
@@ -122,9 +122,6 @@ pub record PlaysEach (Is : Played → Type 0) (names : List (List ℕ)) (known o
   pub prints : Appends old new (concat (map (λ p. p.told.printed) each))
   pub says : Appends quiet spoken (concat (map (λ p. p.told.said) each))
   pub answers : answer ≡ list_any (λ p. p.told.at_fault) each
-
-abbrev pub status_of : Bool → ℕ
-status_of at_fault = if at_fault then 2 else 0
 
 -- files, or the input where none is named, were played as the words ask, over the callbacks of a bank's file or the program's
 pub record Plays (asked : Playing) (names : List (List ℕ)) (known old new quiet spoken : Option (List ℕ)) (status : ℕ) : Type 0 where

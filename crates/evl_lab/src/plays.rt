@@ -1,5 +1,5 @@
 //! `lab play`: the traces of scenarios.
-ghost use Rattle.std.specs.Prelude.{◌≡◌, ◌≤◌, ◌⊎◌, ◌||◌, List, [], ◌∷◌, ℕ, false, length, IfOk, OnOk, map, option_map};
+ghost use Rattle.std.specs.Prelude.{◌≡◌, ◌≤◌, ◌⊎◌, List, [], ◌∷◌, ℕ, false, length, IfOk, OnOk, map, option_map};
 ghost use Rattle.std.specs.Io.KnownBytes.{Appends};
 ghost use Rattle.evl_shell.specs.Runs.{trace_of};
 ghost use Rattle.evl_plans.specs.Told.{told};
@@ -7,13 +7,12 @@ ghost use Rattle.evl_traces.specs.Says.{says_of};
 ghost use Rattle.evl_runs.specs.Json.{trace_json};
 ghost use Rattle.evl_lab.specs.Banks.{IsBank, Refuses};
 ghost use Rattle.evl_lab.specs.Texts.{is_input, names_or_input};
-ghost use Rattle.evl_lab.specs.Plays as plays;
 ghost use Rattle.evl_lab.specs.Plays.{IsJsonOf, IsPlayed, Plays, PlaysEach, Tells, TellsPlayed, TellsTrace};
 
 use crate::banks::read_plans;
 use crate::compares::compare;
 use crate::endings::{tell_done, tell_fault, tell_refused};
-use crate::statuses::AT_FAULT;
+use crate::statuses::{AT_FAULT, either, status_of};
 use crate::texts::{read_text, text_in};
 use crate::words::{Playing, Telling};
 use evl_plans::{Planned, trace_plans};
@@ -133,13 +132,6 @@ fn play_file<R: Files + AllocGlobal, I: Read, O: Write, E: Write>(
     }
 }
 
-// Whether one of two is so.
-fn either(one: bool, other: bool) -> bool
-    ensures { result ≡ (one || other) }
-{
-    one || other
-}
-
 // Plays files, and answers whether one is at fault.
 fn play_each<R: Files + AllocGlobal, I: Read, O: Write, E: Write>(
     rt: &R,
@@ -179,13 +171,6 @@ fn play_over<R: Files + AllocGlobal, I: Read, O: Write, E: Write>(
     } else {
         play_each(rt, plans, playing, files, input, out, err)
     }
-}
-
-// The status of scenarios that were played.
-fn status_of(is_at_fault: bool) -> u8
-    ensures { result ≡ plays.status_of is_at_fault }
-{
-    if is_at_fault { AT_FAULT } else { 0 }
 }
 
 // Plays files over these callbacks, or the input where none is named, and answers the status.
