@@ -15,6 +15,7 @@ use Rattle.evl_drawing.specs.Lanes.{AreLanesOf}
 use Rattle.evl_drawing.specs.Marks.{all_marked, is_entry, told_of}
 use Rattle.evl_drawing.specs.Pictures.{shown_with, svg_text}
 use Rattle.evl_drawing.specs.Rows.{rows_text}
+use Rattle.evl_drawing.specs.Standings.{all_told, told_at}
 use Rattle.evl_drawing.specs.Tables.{table_text}
 use Rattle.evl_drawing.specs.declared.frames.Shows.TheVariants.{Words}
 use Rattle.evl_drawing.specs.declared.lanes.Lane.{Lane}
@@ -44,11 +45,11 @@ origin_of (source.Scenario text) = scenario text.now
 origin_of source.Callers = callers
 
 -- How the lanes of marks stand after each of their entries, as far as that is known: of a scenario over the program's
--- callbacks, of callers by what their lines show, of which only the number is said here.
+-- callbacks, of callers by what their lines show.
 abbrev pub AreMomentsOf : Origin → List Mark → List Moment → Type 0
 AreMomentsOf trace marks moments = moments ≡ []
 AreMomentsOf (scenario text) marks moments = (lanes : List Lane) × AreLanesOf marks lanes × (map shown moments ≡ shown_of lanes program_bank (scenario_of None text))
-AreMomentsOf callers marks moments = length moments ≡ count_by is_entry marks
+AreMomentsOf callers marks moments = map told_at moments ≡ all_told marks
 
 -- ---- as SVG
 
