@@ -1,4 +1,5 @@
 pub mod Banks
+pub mod Callers
 pub mod Checks
 pub mod Draws
 pub mod Endings
