@@ -2,6 +2,7 @@ pub mod CheckLemmas
 pub mod DrawLemmas
 pub mod HelpLemmas
 pub mod LiveLemmas
+pub mod OrderLemmas
 pub mod OutputLemmas
 pub mod PlayLemmas
 pub mod TextLemmas

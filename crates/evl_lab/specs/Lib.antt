@@ -5,6 +5,7 @@ pub mod Draws
 pub mod Endings
 pub mod Helps
 pub mod Lives
+pub mod Orders
 pub mod Outputs
 pub mod Plays
 pub mod Texts

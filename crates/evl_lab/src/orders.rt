@@ -1,8 +1,15 @@
 //! `lab orders`: every order in which the callers of a scenario may come.
+ghost use Rattle.std.specs.Prelude.{◌≡◌, ◌⊎◌, codes, map, option_map, unwrap_or, IfOk, OnOk, IsSomeAnd};
+ghost use Rattle.std.specs.Io.KnownBytes.{Appends};
+ghost use Rattle.evl_plans.specs.Told.{told};
+ghost use Rattle.evl_lab.specs.Banks.{Refuses};
+ghost use Rattle.evl_lab.specs.Endings.{line_about};
+ghost use Rattle.evl_lab.specs.Orders.{TellsAsked, TellsOutcomes, TellsRead, TellsText, against_status, against_text, ask_fault_line, report_of, text_fault_words};
+ghost use Rattle.evl_lab.specs.Outputs.{Writes, WritesOfText, WritesOverBank};
 
 use crate::banks::read_plans;
 use crate::endings::{tell_fault, tell_refused};
-use crate::statuses::{AGAINST, AT_FAULT};
+use crate::statuses::{AGAINST, AT_FAULT, refused};
 use crate::texts::read_text;
 use crate::words::Asked;
 use evl_orders::OrdersError;
@@ -35,7 +42,9 @@ impl<'a> BankMaker for Copies<'a> {
 }
 
 // Tells why a text of callers is refused.
-fn tell_text_fault<E: Write>(err: &mut E, name: &str, fault: TextFault) -> io::Result<bool> {
+fn tell_text_fault<E: Write>(err: &mut E, name: &str, fault: TextFault) -> io::Result<bool>
+    ensures { OnOk result (IsSomeAnd (text_fault_words fault) (λ words. Appends (E.contents err.old) (E.contents err.new) (line_about name.now words))) }
+{
     match fault {
         TextFault::Scenario(fault) => tell_fault(err, name, fault),
         TextFault::Mixed => tell_refused(err, name, "a [[setup]] behind a [[step]]"),
@@ -43,27 +52,37 @@ fn tell_text_fault<E: Write>(err: &mut E, name: &str, fault: TextFault) -> io::R
     }
 }
 
+// Tells which text isn't a caller and one answer.
+fn tell_never<E: Write>(err: &mut E, name: &str, number: usize) -> io::Result<bool>
+    ensures { OnOk result (IsSomeAnd (ask_fault_line name.now (AskFault.Never number)) (λ line. Appends (E.contents err.old) (E.contents err.new) line)) }
+{
+    writeln!(
+        err,
+        "lab: {name}: [ask]: text {number} of never isn't a caller and one answer, as \"T1 -> timed out\""
+    )?;
+    Ok(true)
+}
+
 // Tells why it can't be read what is asked.
-fn tell_ask_fault<E: Write>(err: &mut E, name: &str, fault: AskFault) -> io::Result<bool> {
+fn tell_ask_fault<E: Write>(err: &mut E, name: &str, fault: AskFault) -> io::Result<bool>
+    ensures { OnOk result (IsSomeAnd (ask_fault_line name.now fault) (λ line. Appends (E.contents err.old) (E.contents err.new) line)) }
+{
     match fault {
         AskFault::Table => tell_refused(
             err,
             name,
             "[ask] has never, a list of texts, and always_ends",
         ),
-        AskFault::Never(number) => {
-            writeln!(
-                err,
-                "lab: {name}: [ask]: text {number} of never isn't a caller and one answer, as \"T1 -> timed out\""
-            )?;
-            Ok(true)
-        }
+        AskFault::Never(number) => tell_never(err, name, number),
         AskFault::Memory => Err(AllocError.into()),
     }
 }
 
 // Tells which outcome is against what is asked, and answers the status.
-fn tell_against<E: Write>(err: &mut E, name: &str, against: Option<usize>) -> io::Result<u8> {
+fn tell_against<E: Write>(err: &mut E, name: &str, against: Option<usize>) -> io::Result<u8>
+    ensures status { IfOk result (λ status. status ≡ against_status against) }
+    ensures line { OnOk result (Appends (E.contents err.old) (E.contents err.new) (against_text name.now against)) }
+{
     let Some(place) = against else {
         return Ok(0);
     };
@@ -82,7 +101,9 @@ fn print_outcomes<O: Write>(
     bank: &Copies<'_>,
     answered: &Answered,
     out: &mut O,
-) -> io::Result<()> {
+) -> io::Result<()>
+    ensures { OnOk result (Appends (O.contents out.old) (O.contents out.new) (report_of callers.now answered.now.outcomes)) }
+{
     match write_report(alloc, callers, bank, &answered.outcomes) {
         Ok(report) => out.write_all(report.as_bytes()),
         Err(error) => Err(error.into()),
@@ -98,7 +119,9 @@ fn go_through<O: Write, E: Write>(
     plans: &[Planned],
     out: &mut O,
     err: &mut E,
-) -> io::Result<u8> {
+) -> io::Result<u8>
+    ensures { IfOk result (Writes (TellsOutcomes (map told plans.now) asked.now.most (unwrap_or (option_map (λ file. file.now) asked.now.file) (codes "-")) callers.now ask.now) (O.contents out.old) (O.contents out.new) (E.contents err.old) (E.contents err.new)) }
+{
     let bank = Copies { plans };
     match ask_all(alloc, callers, &bank, ask, asked.most) {
         Ok(answered) => {
@@ -106,8 +129,8 @@ fn go_through<O: Write, E: Write>(
             tell_against(err, asked.name(), answered.against)
         }
         Err(OrdersError::Count) => {
-            tell_refused(err, asked.name(), "more orders than can be counted")?;
-            Ok(AT_FAULT)
+            let told = tell_refused(err, asked.name(), "more orders than can be counted");
+            refused(told)
         }
         Err(OrdersError::Memory) => Err(AllocError.into()),
     }
@@ -122,12 +145,14 @@ fn tell_callers<O: Write, E: Write>(
     text: &[u8],
     out: &mut O,
     err: &mut E,
-) -> io::Result<u8> {
+) -> io::Result<u8>
+    ensures { IfOk result (Writes (TellsAsked (map told plans.now) asked.now.most (unwrap_or (option_map (λ file. file.now) asked.now.file) (codes "-")) callers.now text.now) (O.contents out.old) (O.contents out.new) (E.contents err.old) (E.contents err.new)) }
+{
     match read_ask(alloc, callers, text) {
         Ok(ask) => go_through(alloc, asked, callers, &ask, plans, out, err),
         Err(fault) => {
-            tell_ask_fault(err, asked.name(), fault)?;
-            Ok(AT_FAULT)
+            let told = tell_ask_fault(err, asked.name(), fault);
+            refused(told)
         }
     }
 }
@@ -140,12 +165,14 @@ fn tell_text<O: Write, E: Write>(
     text: &[u8],
     out: &mut O,
     err: &mut E,
-) -> io::Result<u8> {
+) -> io::Result<u8>
+    ensures { IfOk result (Writes (TellsText (map told plans.now) asked.now.most (unwrap_or (option_map (λ file. file.now) asked.now.file) (codes "-")) text.now) (O.contents out.old) (O.contents out.new) (E.contents err.old) (E.contents err.new)) }
+{
     match read_callers(alloc, text) {
         Ok(callers) => tell_callers(alloc, asked, &callers, plans, text, out, err),
         Err(fault) => {
-            tell_text_fault(err, asked.name(), fault)?;
-            Ok(AT_FAULT)
+            let told = tell_text_fault(err, asked.name(), fault);
+            refused(told)
         }
     }
 }
@@ -158,12 +185,14 @@ fn tell_file<R: Files + AllocGlobal, I: Read, O: Write, E: Write>(
     input: &mut I,
     out: &mut O,
     err: &mut E,
-) -> io::Result<u8> {
+) -> io::Result<u8>
+    ensures { IfOk result (WritesOfText (TellsRead (map told plans.now) asked.now.most (unwrap_or (option_map (λ file. file.now) asked.now.file) (codes "-"))) (option_map (λ file. file.now) asked.now.file) (I.remaining input.old) (O.contents out.old) (O.contents out.new) (E.contents err.old) (E.contents err.new)) }
+{
     match read_text(rt, asked.file, input) {
         Ok(text) => tell_text(rt.alloc(), asked, plans, text.as_slice(), out, err),
         Err(_) => {
-            tell_refused(err, asked.name(), "no file")?;
-            Ok(AT_FAULT)
+            let told = tell_refused(err, asked.name(), "no file");
+            refused(told)
         }
     }
 }
@@ -177,7 +206,9 @@ pub fn orders<R: Files + AllocGlobal, I: Read, O: Write, E: Write>(
     input: &mut I,
     out: &mut O,
     err: &mut E,
-) -> io::Result<u8> {
+) -> io::Result<u8>
+    ensures { IfOk result (λ status. Refuses (option_map (λ file. file.now) asked.now.bank) (O.contents out.old) (O.contents out.new) status ⊎ WritesOverBank (λ bank. TellsRead bank asked.now.most (unwrap_or (option_map (λ file. file.now) asked.now.file) (codes "-"))) (option_map (λ file. file.now) asked.now.bank) (option_map (λ file. file.now) asked.now.file) (I.remaining input.old) (O.contents out.old) (O.contents out.new) (E.contents err.old) (E.contents err.new) status) }
+{
     match read_plans(rt, asked.bank, err) {
         Ok(Some(plans)) => tell_file(rt, asked, plans.as_slice(), input, out, err),
         Ok(None) => Ok(AT_FAULT),
