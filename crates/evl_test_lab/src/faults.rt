@@ -56,7 +56,8 @@ limit = 100
 "#;
 
 // What is told of them.
-const BELOW_TOLD: &str = r#"a.toml:4:1: the board has no key "step"; it stands above [board] (keys: threads, sems, flags, xbufs, mutexes, groups)
+const BELOW_TOLD: &str =
+    r#"a.toml:4:1: the board has no key "step"; it stands above [board] (keys: threads, sems, flags, xbufs, mutexes, groups)
 a.toml:5:1: the board has no key "limit"; it stands above [board] (keys: threads, sems, flags, xbufs, mutexes, groups)
 "#;
 
