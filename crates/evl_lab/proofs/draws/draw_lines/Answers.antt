@@ -9,6 +9,6 @@ pub returns-in-Ok : goal.returns-in-Ok
 returns-in-Ok g c =
     let origin = origin_of c.args.source in
     let marks = c.as_slice.result.now in
-    let marked = ap (λ (l : List Mark). map told_of l) c.as_slice.ensures.value ∙ c.in-Ok.ensures in
+    let marked = ap (λ (l : List Mark). map told_of l) c.as_slice.ensures.value ∙ c.in-Ok.ensures.marks in
     written_as _ (DrawsLines c.args.drawing origin c.args.lines.now) _ _ _ _ (DrawsMarks c.args.drawing.form origin marks c.args.drawing.page) c.draw_marks.result
     (λ output h. (marks, marked, h)) c.draw_marks.ensures
