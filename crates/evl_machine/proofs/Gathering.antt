@@ -85,7 +85,7 @@ module _ {C : Type 0} where
   closes_known first id [] h s r at has = λ k a e. absurd (some-ne-none a (sym e))
   closes_known first id (p ∷ ps) h s r at has =
       let are = r.deals.same id (p ∷ ps) at in
-      hand_fit h r.views (λ k v there. fits_all past_of ComesFrom first (get_or s.words 0 0) s.homes (map core_of r.views) p.number p.view.core h r.kept.locked (at_map core_of r.views p.number p.view are.0) has k v.core (at_map core_of r.views k v there)) (p ∷ ps) are
+      hand_fit h r.views (λ k v there. fits_all past_of ComesFrom first (get_or s.words 0 0) s.homes (map core_of r.views) p.number p.view.core h r.kept.locked.1 (at_map core_of r.views p.number p.view are.0) has k v.core (at_map core_of r.views k v there)) (p ∷ ps) are
 
   all_fit : (h : History) (cs : List (CallerState C)) → AccountsFit h (accounts_back cs) → All (λ (c : CallerState C). Fits h c.account) cs
   all_fit h [] f = All-nil _
@@ -171,12 +171,13 @@ module _ {C : Type 0} where
       kept
 
   pub closes_all : (m : MachineState C) (xs : List (CallerState C)) (first : CallerState C) (others : List (CallerState C)) (k : HeldState C) → xs ≡ first ∷ others → threads_of m.first.history ≤ length xs → Belongs first m → TookKernel first k
-      → All (λ (c : CallerState C). Fits k.kernel.history c.account) others → Closes m xs k.kernel
-  closes_all m xs first others k are all of took fit = subst (λ (ys : List (CallerState C)). Closes m ys k.kernel) (sym are) (record {
+      → Takes m.first first.account k.caller.account → All (λ (c : CallerState C). Fits k.kernel.history c.account) others → Closes m xs k.kernel
+  closes_all m xs first others k are all of took takes fit = subst (λ (ys : List (CallerState C)). Closes m ys k.kernel) (sym are) (record {
     some_caller = omega arith;
     all_callers = subst (λ (ys : List (CallerState C)). threads_of m.first.history ≤ length ys) are all;
     legal = legal_of first k took;
     strangers = strangers_of first k took;
     fits = All-cons (λ (x : CallerState C). Fits k.kernel.history x.account) first others (fits_first first k took) fit;
     comes = subst (λ (n : MachineState C). ComesFrom n.first k.kernel) of took.comes;
+    takes = subst (λ (s : CallerState C). Takes m.first first.account s.account) took.caller takes;
   })

@@ -78,7 +78,7 @@ module _ {C : Type 0} where
       let core = at_map core_of d.views p.number p.view at in
       let long = d.kept.long in
       let tied = d.kept.ties i (omega arith) in
-      subst (λ (b : KernelView C). StandsNoted (ceilings_of b) h.state i p.view.core.note (get_or s.words (1 + i) 0)) (sym (d.kept.locked.knows p.number p.view.core core)) (tied.taken p.number p.view.core h core taken)
+      subst (λ (b : KernelView C). StandsNoted (ceilings_of b) h.state i p.view.core.note (get_or s.words (1 + i) 0)) (sym (d.kept.locked.1.knows p.number p.view.core core)) (tied.taken p.number p.view.core h core taken)
 
   -- a look owes nothing, since it leaves all as it is
   pub looks_known : (first : KernelView C) (slots id : ℕ) (me : KernelMe C) (i : ℕ) → i < mutex_count first → (st : Step (Option (KernelView C))) → st.word ≡ 1 + i → Allows (KeptKnown first) slots id me (1 + i) (λ n. n) (looked_known st me)

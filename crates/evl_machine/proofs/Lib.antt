@@ -1,5 +1,7 @@
 pub mod Accounts
 pub mod Noting
+pub mod LockSteps
+pub mod LockLaws
 pub mod CoreSteps
 pub mod ThreadSteps
 pub mod TieWords
@@ -27,6 +29,7 @@ pub mod Newcomers
 pub mod Gathering
 pub mod OneHistory
 pub mod Tokens
+pub mod LostTakes
 pub mod Crossing
 pub mod CoreLaws
 pub mod OneWorldLaws

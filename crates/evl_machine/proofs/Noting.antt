@@ -9,6 +9,7 @@ use Rattle.evl_kernel.specs.Histories.{History}
 use Rattle.evl_words.proofs.Sequences.{at_below}
 use Rattle.evl_machine.specs.declared.views.CorePart.{CorePart}
 use Rattle.evl_machine.specs.Accounts.{Fits}
+use Rattle.evl_machine.specs.Lock.{LockView}
 use Rattle.evl_machine.specs.CoreRule.{CoreKept, IsFree, IsTaken, Homes, account_at, after_loss, noting}
 
 -- a thread's part changes in what the rule doesn't read: what it has taken, what it was made with, and what it knows of the kernel stay
@@ -55,6 +56,6 @@ pub noted_core : {S B : Type 0} (past : S → History) (comes : B → S → Type
 noted_core past comes first n homes cores k c i left r at = same_core past comes first n homes cores k c (noting i left c) refl refl (λ h f. f) r at
 
 -- a take that found the core taken is counted
-pub lost_core : {S B : Type 0} (past : S → History) (comes : B → S → Type 0) (first : B) (n : ℕ) (homes : Homes S) (cores : List (CorePart B)) (k : ℕ) (c : CorePart B) → CoreKept past comes first n homes cores → get_elem? cores k ≡ some c
-    → CoreKept past comes first n homes (set cores k (after_loss c))
-lost_core past comes first n homes cores k c r at = same_core past comes first n homes cores k c (after_loss c) refl refl (λ h f. record { seen = f.seen; mine = f.mine }) r at
+pub lost_core : {S B : Type 0} (past : S → History) (comes : B → S → Type 0) (first : B) (n : ℕ) (homes : Homes S) (cores : List (CorePart B)) (k : ℕ) (c : CorePart B) (lock : LockView) → CoreKept past comes first n homes cores → get_elem? cores k ≡ some c
+    → CoreKept past comes first n homes (set cores k (after_loss lock c))
+lost_core past comes first n homes cores k c lock r at = same_core past comes first n homes cores k c (after_loss lock c) refl refl (λ h f. record { seen = f.seen; mine = f.mine }) r at

@@ -80,7 +80,7 @@ module _ {C : Type 0} where
   pub two_known : (first : KernelView C) → TellsOfTwo (KeptKnown first) AreTogether
   two_known first s id p q d at =
       let are = d.deals.same id (p ∷ q ∷ []) at in
-      let kept = d.kept.locked in
+      let kept = d.kept.locked.1 in
       let apart = two_apart d.views s.views id p q d.deals at in record {
         apart = apart;
         history = kept.history;

@@ -16,7 +16,7 @@ ends_quiet h legal = record { stalled = stalled_while_pending h legal; due = due
 module _ {C : Type 0} where
   pub free_is_quiet : (first : KernelView C) → (s : TableState (Option (KernelView C)) (CoreHand C)) → KeptKnown first s → get_or s.words 0 0 ≡ 0 → LiesQuiet s.homes
   free_is_quiet first s d free =
-      let r = d.kept.locked in
+      let r = d.kept.locked.1 in
       ⊎_elim
       (λ (f : IsFree past_of ComesFrom first r.history (get_or s.words 0 0) s.homes (map core_of d.views)).
       let legal : IsLegal f.kernel.history = subst IsLegal (sym f.past_is) r.legal in

@@ -7,7 +7,7 @@ use Rattle.evl_words.specs.Hands.{Deals, Hand}
 use Rattle.evl_words.specs.Mutex.{MutexEntry}
 use Rattle.evl_words.specs.MutexWorld.{MutexView, IsMutexWorld}
 use Rattle.evl_machine.specs.declared.views.ThreadView.{ThreadView}
-use Rattle.evl_machine.specs.CoreRule.{CoreKept, IsFree, IsTaken}
+use Rattle.evl_machine.specs.CoreRule.{CoreKept, CoreStands, IsFree, IsTaken}
 use Rattle.evl_machine.specs.CoreWorld.{Slot}
 use Rattle.evl_machine.specs.OneWorld.{IsOneWorld, LiesSo, OneDealing, OneWorld, StandsInOne}
 use Rattle.evl_machine.specs.ThreadRule.{MachineRule, ThreadRule, core_of, mutex_of}
@@ -55,15 +55,15 @@ module _ {S B : Type 0} (past : S → History) (room : S → ℕ) (comes : B →
   lies [] homes hands views deals t = absurd (let long = t.long in omega arith)
   lies (x ∷ xs) homes hands views deals t =
       let long = t.long in
-      let slot = only x homes views t.locked in
+      let slot = only x homes views t.locked.1 in
       let word_at : (i word : ℕ) → Type 0 = λ i word. (log : List MutexEntry) × IsMutexWorld (record { word = word; log = log; views = map (mutex_of i) views }) in
       let logs = chosen m (HasLog xs views) [] (λ i lt. subst (word_at i) (further x xs i) (t.parts i (omega (arith, lt, long)))) in (
-        record { world = record { word = x; slot = slot.0; mutexes = xs; logs = logs.0; views = views }; hands = hands },
+        record { world = record { word = x; slot = slot.0; log = t.locked.0; mutexes = xs; logs = logs.0; views = views }; hands = hands },
         record { words = refl; slot = slot.1; hands = refl },
         (
           record {
             count = omega (arith, long);
-            locked = subst (λ hs. CoreKept past comes first x hs (map core_of views)) slot.1 t.locked;
+            locked = subst (λ hs. CoreStands past comes first t.locked.0 x hs (map core_of views)) slot.1 (t.locked.1, t.locked.2);
             parts = logs.1;
             ties = λ i lt. subst (λ (z : List (Slot S) × ℕ). mutex_tie past ceilings i x z.0 (map core_of views) z.1) (λ j. (slot.1 j, further x xs i j)) (t.ties i (omega (arith, lt, long)));
           },
@@ -78,7 +78,7 @@ module _ {S B : Type 0} (past : S → History) (room : S → ℕ) (comes : B →
   ruled w stands =
       let count = stands.count in record {
         long = omega (arith, count);
-        locked = stands.locked;
+        locked = (w.log, stands.locked.0, stands.locked.1);
         parts = λ i lt. (w.logs i, subst (λ n. IsMutexWorld (record { word = n; log = w.logs i; views = map (mutex_of i) w.views })) (sym (further w.word w.mutexes i)) (stands.parts i (omega (arith, lt, count))));
         ties = λ i lt. subst (mutex_tie past ceilings i w.word (w.slot ∷ []) (map core_of w.views)) (sym (further w.word w.mutexes i)) (stands.ties i (omega (arith, lt, count)));
       }

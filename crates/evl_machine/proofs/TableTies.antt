@@ -1,5 +1,5 @@
 -- The steps on the one table, with the ties: what each owes, and what it tells.
-use Rattle.std.proofs.Common.{◌≡◌, eqb, ℕ, ◌+◌, ◌-◌, ◌<◌, Bool, true, false, List, [], ◌∷◌, length, map, get_or, Option, Some, refl, sym, subst, arith}
+use Rattle.std.proofs.Common.{◌≡◌, eqb, ℕ, ◌+◌, ◌-◌, ◌<◌, Bool, true, false, List, [], ◌∷◌, length, map, get_or, Option, Some, None, refl, sym, subst, arith}
 use mathlib.Core.Option.{some}
 use mathlib.Core.Option as maybe
 use lib.ListN.{get_elem?}
@@ -19,7 +19,7 @@ use Rattle.evl_words.proofs.Parts.{lock_turns, part_turns, Marks}
 use Rattle.evl_words.proofs.MutexSeats.{mutex_turns}
 use Rattle.evl_words.proofs.MutexSteps.{names_owner}
 use Rattle.evl_machine.specs.declared.views.ThreadView.{ThreadView}
-use Rattle.evl_machine.specs.CoreRule.{CoreKept, Homes, IsAbout, MayGive, noting}
+use Rattle.evl_machine.specs.CoreRule.{CoreRuled, Homes, IsAbout, MayGive, noting}
 use Rattle.evl_machine.specs.CoreTells.{took, gave}
 use Rattle.evl_machine.specs.ThreadRule.{MutexParts, ThreadRule, MachineRule, core_of, put_core, mutex_of, put_mutex, on_core, on_mutex}
 use Rattle.evl_machine.specs.Ties.{AreTied, Settled, StandsNoted, mutex_tie}
@@ -28,7 +28,7 @@ use Rattle.evl_machine.proofs.CoreSteps.{takes_core}
 use Rattle.evl_machine.proofs.ThreadSteps.{parts_apart, gives_thread, steps_thread}
 use Rattle.evl_machine.proofs.TieSteps.{StaysPlain, try_stays, unlock_stays}
 use Rattle.evl_machine.proofs.TieRecords.{owner_finds}
-use Rattle.evl_machine.proofs.TieRule.{tie_losing, tie_taking, tie_giving, tie_stepping, tie_marking, ties_beside, lock_marked}
+use Rattle.evl_machine.proofs.TieRule.{tie_losing, tie_taking, tie_giving, tie_stepping, tie_marking, ties_beside, lock_marked, log_marked}
 
 module _ {S V C P : Type 0} (lock : ℕ → List (maybe.Option S) → List C → Type 0) (part : ℕ → ℕ → List P → Type 0) (tie : ℕ → ℕ → List (maybe.Option S) → List C → ℕ → Type 0)
     (core_of : V → C) (put_core : V → C → V) (of : ℕ → V → P) (put : ℕ → V → P → V) (laws : AreParts core_of put_core of put) (further : ℕ) where
@@ -87,7 +87,7 @@ module _ {S B : Type 0} (past : S → History) (room : S → ℕ) (comes : B →
       → OwnsAsRecorded count_of k w
   owned_as k words homes views w kept at h has fresh i inside owner r here =
       let long = kept.long in
-      let within : i < m = subst (λ (b : B). i < count_of b) (kept.locked.knows k (core_of w) (at_map core_of views k w at)) inside in
+      let within : i < m = subst (λ (b : B). i < count_of b) (kept.locked.1.knows k (core_of w) (at_map core_of views k w at)) inside in
       let lt : 1 + i < length words = omega arith in
       let tied = kept.ties i lt in
       let stands = tied.taken k (core_of w) h (at_map core_of views k w at) has in
@@ -97,11 +97,11 @@ module _ {S B : Type 0} (past : S → History) (room : S → ℕ) (comes : B →
       owner_finds ceilings i h.state r (get_or words (1 + i) 0) k named recorded here
 
   -- a take
-  pub takes_tied : (slots id k : ℕ) (v : ThreadView B MutexView) (me : Seat) → me ≡ (place k v ∷ [], []) → (st : Step (Option S))
+  pub takes_tied : (slots id k : ℕ) (v : ThreadView B MutexView) (me : Seat) → me ≡ (place k v ∷ [], []) → v.core.taken ≡ None → (st : Step (Option S))
       → Allows OneTable slots id me 0 (λ n. either (eqb n 0) 1 n) (Told (with_owned count_of (took past room comes)) st me)
-  takes_tied slots id k v me one st =
-      let turns = lock_turns_also (CoreKept past comes first) MutexParts (mutex_tie past ceilings) core_of put_core mutex_of put_mutex parts_apart m slots k v [] (λ n. either (eqb n 0) 1 n) (took past room comes st k (v.core, [])) (OwnsAsRecorded count_of k)
-      (takes_core past comes first room (KeepsTies (mutex_tie past ceilings)) slots k v.core (tie_losing past comes first ceilings k v.core) (tie_taking past comes first ceilings room k v.core) st)
+  takes_tied slots id k v me one rests st =
+      let turns = lock_turns_also (CoreRuled past comes first) MutexParts (mutex_tie past ceilings) core_of put_core mutex_of put_mutex parts_apart m slots k v [] (λ n. either (eqb n 0) 1 n) (took past room comes st k (v.core, [])) (OwnsAsRecorded count_of k)
+      (takes_core past comes first room (KeepsTies (mutex_tie past ceilings)) slots k v.core rests (tie_losing past comes first ceilings k v.core) (tie_taking past comes first ceilings room k v.core) st)
       (owned_as k) in
       subst (λ (z : Seat). Allows OneTable slots id z 0 (λ n. either (eqb n 0) 1 n) (Told (with_owned count_of (took past room comes)) st z)) (sym one)
       (allows_of (ThreadRule past comes (mutex_tie past ceilings) first m) slots id k v (place k v ∷ [], []) refl 0 (λ n. either (eqb n 0) 1 n) st (with_owned count_of (took past room comes)) turns)
@@ -112,7 +112,7 @@ module _ {S B : Type 0} (past : S → History) (room : S → ℕ) (comes : B →
       → Allows OneTable slots id me 0 (λ _. 0) (λ _. Told (on_core (gave past room comes)) st me 0)
   gives_tied slots id k v y before me one has settled may from st =
       gives_thread past room comes (mutex_tie past ceilings) first m slots id k v y me one
-      (λ cores lock at i word tied. tie_giving past comes first ceilings k v.core y before has (subst (λ (b : B). Settled (ceilings_of b) v.core before (past y).state) (lock.knows k v.core at) settled) cores lock at i word tied) may from st
+      (λ known cores lock at i word tied. tie_giving past comes first ceilings k v.core y before has (subst (λ (b : B). Settled (ceilings_of b) v.core before (past y).state) (lock.knows k v.core at) settled) known cores lock at i word tied) may from st
 
   -- a try and an unlocking by anybody, of a mutex without a ceiling
   module _ (slots id k : ℕ) (v : ThreadView B MutexView) (me : Seat) (one : me.0 ≡ place k v ∷ []) (i : ℕ) (within : i < m) (free_of : ceilings i ≡ false) (f : ℕ → ℕ) (st : Step (Option S)) (at_word : st.word ≡ 1 + i) (tells : Tells (Option S) MutexView) where
@@ -137,15 +137,15 @@ module _ {S B : Type 0} (past : S → History) (room : S → ℕ) (comes : B →
       → Allows OneTable slots id me (1 + i) (f st) (Told (on_noted ceilings_of f tells) st me)
   marks_tied slots id k v me one h has i within about kind may st at_word f same tells weaker =
       let e : i ≡ st.word - 1 = omega arith in
-      let turns = part_turns_also (CoreKept past comes first) MutexParts (mutex_tie past ceilings) core_of put_core mutex_of put_mutex parts_apart m slots k v me.1 i within (f st)
+      let turns = part_turns_also (CoreRuled past comes first) MutexParts (mutex_tie past ceilings) core_of put_core mutex_of put_mutex parts_apart m slots k v me.1 i within (f st)
       (λ found. noting i (f st found)) (tells st k (mutex_of i v, me.1)) (λ found. (g : History) → v.core.taken ≡ Some g → StandsNoted (ceilings_of v.core.first) g.state i v.core.note found)
       (mutex_turns k (mutex_of i v) me.1 kind may (f st) same st tells weaker)
       (λ n homes cores found p lock at t tied. (
-        lock_marked past comes first ceilings i k v.core h has about n homes cores lock at (f st found),
-        tie_marking past comes first ceilings i k v.core h has about n homes cores lock at (f st found),
-        λ j word other before. ties_beside past comes first ceilings i k v.core h has about n homes cores lock at (f st found) j word other before,
+        (lock.0, lock_marked past comes first ceilings i k v.core h has about n homes cores lock.1 at (f st found), log_marked past comes first ceilings i k v.core h has about n homes cores lock.1 at (f st found) lock.0 lock.2),
+        tie_marking past comes first ceilings i k v.core h has about n homes cores lock.1 at (f st found),
+        λ j word other before. ties_beside past comes first ceilings i k v.core h has about n homes cores lock.1 at (f st found) j word other before,
       ))
-      (λ n homes cores found lock at tied g took. subst (λ (b : B). StandsNoted (ceilings_of b) g.state i v.core.note found) (sym (lock.knows k v.core at)) (tied.taken k v.core g at took)) in
+      (λ n homes cores found lock at tied g took. subst (λ (b : B). StandsNoted (ceilings_of b) g.state i v.core.note found) (sym (lock.1.knows k v.core at)) (tied.taken k v.core g at took)) in
       allows_of (ThreadRule past comes (mutex_tie past ceilings) first m) slots id k v me one (1 + i) (f st) st (on_noted ceilings_of f tells)
       (subst (λ j. Turns (ThreadRule past comes (mutex_tie past ceilings) first m) slots k (v, me.1) (1 + i) (f st)
       (λ found w. tells st k (mutex_of j v, me.1) found (mutex_of j w.0, w.1) × ((g : History) → v.core.taken ≡ Some g → StandsNoted (ceilings_of v.core.first) g.state j v.core.note found) × (w.0 ≡ put_core (put_mutex j v (mutex_of j w.0)) (noting j (f st found) v.core)))) e turns)

@@ -1,5 +1,5 @@
 -- Each step on the core's lock and on the mutex words keeps the rule of their one table, and each owes its own part and the ties.
-use Rattle.std.proofs.Common.{◌≡◌, eqb, ℕ, zero, suc, ◌+◌, ◌-◌, ◌≤◌, ◌<◌, List, [], ◌∷◌, length, map, get_or, Option, Some, refl, sym, ap, ◌∙◌, subst, arith}
+use Rattle.std.proofs.Common.{◌≡◌, eqb, ℕ, zero, suc, ◌+◌, ◌-◌, ◌≤◌, ◌<◌, List, [], ◌∷◌, length, map, get_or, Option, Some, None, refl, sym, ap, ◌∙◌, subst, arith}
 use Rattle.std.proofs.lemmas.List.{length-replicate}
 use Rattle.std.specs.Prelude.{replicate}
 use mathlib.Core.Option.{some}
@@ -20,11 +20,11 @@ use Rattle.evl_words.proofs.MutexSeats.{mutex_turns}
 use Rattle.evl_words.proofs.MutexEnds.{mutex_opens}
 use Rattle.evl_machine.specs.declared.views.CorePart.{CorePart}
 use Rattle.evl_machine.specs.declared.views.ThreadView.{ThreadView}
-use Rattle.evl_machine.specs.CoreRule.{CoreKept, Homes, MayGive, newcomer_part}
+use Rattle.evl_machine.specs.CoreRule.{CoreRuled, Homes, MayGive, newcomer_part}
 use Rattle.evl_machine.specs.CoreTells.{took, gave}
 use Rattle.evl_machine.specs.Accounts.{threads_of}
 use Rattle.evl_machine.specs.ThreadRule.{Tie, MutexParts, ThreadRule, MachineRule, core_of, put_core, mutex_of, put_mutex, newcomer_view, all_threads, on_core, on_mutex}
-use Rattle.evl_machine.proofs.CoreSteps.{Losing, Taking, Giving, takes_core, gives_core, opens_core}
+use Rattle.evl_machine.proofs.CoreSteps.{Losing, Taking, Giving, takes_core, gives_core, opens_ruled}
 
 pub parts_apart : {B : Type 0} → AreParts {V = ThreadView B MutexView} core_of put_core mutex_of put_mutex
 parts_apart = record {
@@ -41,11 +41,11 @@ module _ {S B : Type 0} (past : S → History) (room : S → ℕ) (comes : B →
   Seat = Me (Option S) (Hand (ThreadView B MutexView))
 
   -- a take by a thread that has no slot owes the ties alone
-  pub takes_thread : (slots id k : ℕ) (v : ThreadView B MutexView) (me : Seat) → me ≡ (place k v ∷ [], []) → Losing past comes first (KeepsTies tie) k v.core → Taking past comes first room (KeepsTies tie) k v.core → (st : Step (Option S))
+  pub takes_thread : (slots id k : ℕ) (v : ThreadView B MutexView) (me : Seat) → me ≡ (place k v ∷ [], []) → v.core.taken ≡ None → Losing past comes first (KeepsTies tie) k v.core → Taking past comes first room (KeepsTies tie) k v.core → (st : Step (Option S))
       → Allows (MachineRule past comes tie first m) slots id me 0 (λ n. either (eqb n 0) 1 n) (Told (on_core (took past room comes)) st me)
-  takes_thread slots id k v me one losing ties st =
-      let turns = lock_turns (CoreKept past comes first) MutexParts tie core_of put_core mutex_of put_mutex parts_apart m slots k v [] (λ n. either (eqb n 0) 1 n) (took past room comes st k (v.core, []))
-      (takes_core past comes first room (KeepsTies tie) slots k v.core losing ties st) in
+  takes_thread slots id k v me one rests losing ties st =
+      let turns = lock_turns (CoreRuled past comes first) MutexParts tie core_of put_core mutex_of put_mutex parts_apart m slots k v [] (λ n. either (eqb n 0) 1 n) (took past room comes st k (v.core, []))
+      (takes_core past comes first room (KeepsTies tie) slots k v.core rests losing ties st) in
       subst (λ (z : Seat). Allows (MachineRule past comes tie first m) slots id z 0 (λ n. either (eqb n 0) 1 n) (Told (on_core (took past room comes)) st z)) (sym one)
       (allows_of (ThreadRule past comes tie first m) slots id k v (place k v ∷ [], []) refl 0 (λ n. either (eqb n 0) 1 n) st (on_core (took past room comes)) turns)
 
@@ -54,7 +54,7 @@ module _ {S B : Type 0} (past : S → History) (room : S → ℕ) (comes : B →
       → MayGive k v.core (past y) → comes v.core.first y → (st : Step (Option S))
       → Allows (MachineRule past comes tie first m) slots id me 0 (λ _. 0) (λ _. Told (on_core (gave past room comes)) st me 0)
   gives_thread slots id k v y me one ties may from st =
-      let turns = lock_turns (CoreKept past comes first) MutexParts tie core_of put_core mutex_of put_mutex parts_apart m slots k v ((0, Some y) ∷ []) (λ _. 0) (gave past room comes st k (v.core, (0, Some y) ∷ []))
+      let turns = lock_turns (CoreRuled past comes first) MutexParts tie core_of put_core mutex_of put_mutex parts_apart m slots k v ((0, Some y) ∷ []) (λ _. 0) (gave past room comes st k (v.core, (0, Some y) ∷ []))
       (gives_core past comes first room (KeepsTies tie) slots k v.core y ties may from st) in
       subst (λ (z : Seat). Allows (MachineRule past comes tie first m) slots id z 0 (λ _. 0) (λ _. Told (on_core (gave past room comes)) st z 0)) (sym one)
       (allows_of (ThreadRule past comes tie first m) slots id k v (place k v ∷ [], (0, Some y) ∷ []) refl 0 (λ _. 0) st (on_core (gave past room comes)) turns)
@@ -63,12 +63,12 @@ module _ {S B : Type 0} (past : S → History) (room : S → ℕ) (comes : B →
   pub steps_thread : (slots id k : ℕ) (v : ThreadView B MutexView) (me : Seat) → me.0 ≡ place k v ∷ [] → (i : ℕ) → i < m → (kind : MutexKind) → step_may k (mutex_of i v) kind
       → (f : ℕ → ℕ) → ((n : ℕ) → step_word n k (mutex_of i v) kind ≡ f n) → (st : Step (Option S)) → st.word ≡ 1 + i → (tells : Tells (Option S) MutexView)
       → ((found : ℕ) (u : MutexView) → MutexDoes k (mutex_of i v) kind found u → tells st k (mutex_of i v, me.1) found (u, me.1))
-      → ((n : ℕ) (homes : Homes S) (cores : List (CorePart B)) (found : ℕ) (u : MutexView) → CoreKept past comes first n homes cores → get_elem? cores k ≡ some v.core
+      → ((n : ℕ) (homes : Homes S) (cores : List (CorePart B)) (found : ℕ) (u : MutexView) → CoreRuled past comes first n homes cores → get_elem? cores k ≡ some v.core
       → tells st k (mutex_of i v, me.1) found (u, me.1) → tie i n homes cores found → tie i n homes cores (f found))
       → Allows (MachineRule past comes tie first m) slots id me (1 + i) f (Told (on_mutex tells) st me)
   steps_thread slots id k v me one i within kind may f same st at_word tells weaker ties =
       let e : i ≡ st.word - 1 = omega arith in
-      let turns = part_turns_alone (CoreKept past comes first) MutexParts tie core_of put_core mutex_of put_mutex parts_apart m slots k v me.1 i within f (tells st k (mutex_of i v, me.1))
+      let turns = part_turns_alone (CoreRuled past comes first) MutexParts tie core_of put_core mutex_of put_mutex parts_apart m slots k v me.1 i within f (tells st k (mutex_of i v, me.1))
       (mutex_turns k (mutex_of i v) me.1 kind may f same st tells weaker) ties in
       allows_of (ThreadRule past comes tie first m) slots id k v me one (1 + i) f st (on_mutex tells)
       (subst (λ j. Turns (ThreadRule past comes tie first m) slots k (v, me.1) (1 + i) f (Within (mutex_of j) (put_mutex j) tells st k (v, me.1))) e turns)
@@ -100,7 +100,7 @@ module _ {S B : Type 0} (past : S → History) (room : S → ℕ) (comes : B →
         deals = deals_opening views;
         kept = record {
           long = long;
-          locked = subst (λ (z : ℕ × List (CorePart B)). CoreKept past comes first z.0 (some (Some y) ∷ []) z.1) (λ j. (sym (zero_at 0) j, sym cores j)) (opens_core past comes first y n all legal none_yet from);
+          locked = subst (λ (z : ℕ × List (CorePart B)). CoreRuled past comes first z.0 (some (Some y) ∷ []) z.1) (λ j. (sym (zero_at 0) j, sym cores j)) (opens_ruled past comes first y n all legal none_yet from);
           parts = λ i lt.
               let blank : map (mutex_of i) views ≡ replicate n (newcomer n) = map-replicate (mutex_of i) n one ∙ ap (replicate n) (at_blank (newcomer n) (newcomer 0) m i (omega arith)) in
               subst (λ (z : ℕ × List MutexView). MutexPart z.0 z.1) (λ j. (sym (zero_at (1 + i)) j, sym blank j)) ([], mutex_opens n (few i (omega arith)));

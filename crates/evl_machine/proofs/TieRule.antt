@@ -11,8 +11,10 @@ use Rattle.evl_machine.specs.declared.views.CorePart.{CorePart}
 use Rattle.evl_machine.specs.declared.views.Noted.{Noted}
 use Rattle.evl_machine.specs.CoreRule.{IsFree, IsTaken, Homes, after_take, after_loss, after_give, noting, IsAbout}
 use Rattle.evl_machine.specs.CoreWorld.{Slot}
+use Rattle.evl_machine.specs.Lock.{LockEntry, LockKept}
 use Rattle.evl_machine.specs.Ties.{AreTied, IsLeft, MutexTied, Settled, StandsNoted}
 use Rattle.evl_machine.proofs.Noting.{noted_core}
+use Rattle.evl_machine.proofs.LockSteps.{lock_stays}
 use Rattle.evl_machine.proofs.CoreSteps.{Lock, Losing, Taking, Giving, none_some, holder_is}
 use Rattle.evl_machine.proofs.TieSteps.{StaysPlain, stays_left, stays_tied}
 
@@ -59,26 +61,26 @@ module _ {S B : Type 0} (past : S → History) (comes : B → S → Type 0) (fir
 
   -- a take that is lost
   pub tie_losing : (k : ℕ) (c : CorePart B) → Losing past comes first (KeepsTies TieOf) k c
-  tie_losing k c n homes cores at i word tied = record {
+  tie_losing k c lock n homes cores at i word tied = record {
     free = tied.free;
     taken = λ j u h there has. ⊎_elim
-        (λ (same : (j ≡ k) × (after_loss c ≡ u)).
+        (λ (same : (j ≡ k) × (after_loss lock c ≡ u)).
         subst (λ (x : CorePart B). StandsNoted ceilings h.state i x.note word) same.1 (tied.taken k c h at (ap (λ (x : CorePart B). x.taken) same.1 ∙ has)))
         (λ (other : (j ≢ k) × (get_elem? cores j ≡ some u)). tied.taken j u h other.1 has)
-        (at_set cores k j (after_loss c) u there);
+        (at_set cores k j (after_loss lock c) u there);
   }
 
   -- a take
   pub tie_taking : (room : S → ℕ) (k : ℕ) (c : CorePart B) → Taking past comes first room (KeepsTies TieOf) k c
-  tie_taking room k c y cores lock at i word tied = record {
+  tie_taking room k c y known cores lock at i word tied = record {
     free = λ z e. absurd (out_is z e);
     taken = λ j u h there has. ⊎_elim
-        (λ (same : (j ≡ k) × (after_take (past y) (room y) c ≡ u)).
+        (λ (same : (j ≡ k) × (after_take (past y) (room y) known c ≡ u)).
         let now : Some (past y) ≡ Some h = ap (λ (x : CorePart B). x.taken) same.1 ∙ has in
         let is : past y ≡ h = Some-injective (past y) h now in
         subst (λ (x : CorePart B). StandsNoted ceilings h.state i x.note word) same.1 (subst (λ (x : History). AreTied ceilings x.state i word) is (tied.free y refl)))
         (λ (other : (j ≢ k) × (get_elem? cores j ≡ some u)). absurd (none_some h u.taken has (nobody j u other.1)))
-        (at_set cores k j (after_take (past y) (room y) c) u there);
+        (at_set cores k j (after_take (past y) (room y) known c) u there);
   }
     where
       nobody : (j : ℕ) (u : CorePart B) → get_elem? cores j ≡ some u → u.taken ≡ None
@@ -86,12 +88,12 @@ module _ {S B : Type 0} (past : S → History) (comes : B → S → Type 0) (fir
 
   -- a give
   pub tie_giving : (k : ℕ) (c : CorePart B) (y : S) (before : History) → c.taken ≡ Some before → Settled ceilings c before (past y).state → Giving past comes first (KeepsTies TieOf) k c y
-  tie_giving k c y before has settled cores lock at i word tied = record {
+  tie_giving k c y before has settled known cores lock at i word tied = record {
     free = λ z e. subst (λ (x : S). AreTied ceilings (past x).state i word) (slot_is y z e) (settled i word (tied.taken k c before at has));
     taken = λ j u h there took. ⊎_elim
-        (λ (same : (j ≡ k) × (after_give (past y) k c ≡ u)). absurd (none_some h u.taken took (sym (ap (λ (x : CorePart B). x.taken) same.1))))
+        (λ (same : (j ≡ k) × (after_give (past y) k known c ≡ u)). absurd (none_some h u.taken took (sym (ap (λ (x : CorePart B). x.taken) same.1))))
         (λ (other : (j ≢ k) × (get_elem? cores j ≡ some u)). absurd (none_some h u.taken took ((holder_is past comes first 1 (none ∷ []) cores k c before lock at has).2 j u other.0 other.1)))
-        (at_set cores k j (after_give (past y) k c) u there);
+        (at_set cores k j (after_give (past y) k known c) u there);
   }
 
   -- a step of anybody that leaves a word of a mutex without a ceiling as it was, or plain
@@ -151,3 +153,7 @@ module _ {S B : Type 0} (past : S → History) (comes : B → S → Type 0) (fir
 
     pub lock_marked : Lock past comes first n homes now
     lock_marked = noted_core past comes first n homes cores k c i left lock at
+
+    -- so does the lock's history
+    pub log_marked : (log : List LockEntry) → LockKept log n cores → LockKept log n now
+    log_marked log kept = lock_stays log n cores k c kept at (noting i left c) refl refl refl refl

@@ -9,7 +9,7 @@ use Rattle.evl_machine.specs.TiedCore.{LiesTied}
 
 pub free_is_tied : {C : Type 0} (first : KernelView C) → (s : TableState (Option (KernelView C)) (CoreHand C)) → KeptKnown first s → get_or s.words 0 0 ≡ 0 → LiesTied first s.words s.homes
 free_is_tied {C} first s d free =
-    let r = d.kept.locked in
+    let r = d.kept.locked.1 in
     ⊎_elim
     (λ (f : IsFree past_of ComesFrom first r.history (get_or s.words 0 0) s.homes (map core_of d.views)).
     (f.kernel, f.slot_is, λ i less. let long = d.kept.long in let within : 1 + i < length s.words = omega (arith, long, less) in (d.kept.ties i within).free f.kernel f.slot_is))

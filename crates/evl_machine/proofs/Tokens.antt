@@ -33,11 +33,11 @@ module _ {C : Type 0} (first : KernelView C) (s : State (Option (KernelView C)) 
   here : (id : ℕ) (a : Account) (known : IsKnownAt s id a) → get_elem? s.views id ≡ some (place (only id a known).number (only id a known).thread ∷ [])
   here id a known = known.at ∙ ap (λ (m : KernelMe C). some m.0) (only id a known).me_is
 
-  fits_all : (id : ℕ) (a : Account) → IsKnownAt s id a → Fits d.kept.locked.history a
+  fits_all : (id : ℕ) (a : Account) → IsKnownAt s id a → Fits d.kept.locked.1.history a
   fits_all id a known =
       let o = only id a known in
       let are = d.deals.same id (place o.number o.thread ∷ []) (here id a known) in
-      subst (Fits d.kept.locked.history) o.account_is (d.kept.locked.fits o.number o.thread.core (at_map core_of d.views o.number o.thread are.0))
+      subst (Fits d.kept.locked.1.history) o.account_is (d.kept.locked.1.fits o.number o.thread.core (at_map core_of d.views o.number o.thread are.0))
 
   two_apart : (id other : ℕ) (a b : Account) → id ≢ other → IsKnownAt s id a → IsKnownAt s other b → a.thread ≢ b.thread
   two_apart id other a b ne known also same =
@@ -48,9 +48,9 @@ module _ {C : Type 0} (first : KernelView C) (s : State (Option (KernelView C)) 
 
   pub one_history_known : HasOneHistory s
   one_history_known = record {
-    history = d.kept.locked.history;
-    legal = d.kept.locked.legal;
-    strangers = d.kept.locked.strangers;
+    history = d.kept.locked.1.history;
+    legal = d.kept.locked.1.legal;
+    strangers = d.kept.locked.1.strangers;
     fits = fits_all;
-    two = λ id other a b ne known also. one_history d.kept.locked.history a b (two_apart id other a b ne known also) known.sound also.sound (fits_all id a known) (fits_all other b also);
+    two = λ id other a b ne known also. one_history d.kept.locked.1.history a b (two_apart id other a b ne known also) known.sound also.sound (fits_all id a known) (fits_all other b also);
   }

@@ -8,10 +8,11 @@ use Rattle.evl_kernel.specs.Histories.{History, IsLegal}
 use Rattle.evl_machine.specs.declared.views.Account.{Account}
 use Rattle.evl_machine.specs.declared.views.CorePart.{CorePart}
 use Rattle.evl_machine.specs.declared.views.Noted.{Noted}
+use Rattle.evl_machine.specs.Lock.{LockEntry, LockKept, LockView, new_lock}
 use Rattle.evl_machine.specs.Accounts.{GoesOn, HasNoStranger, MadeBy, Fits, account, calls_by, threads_of}
 
-abbrev pub core_part : {B : Type 0} → Option History → History → List Entry → List ℕ → ℕ → B → Option Noted → CorePart B
-core_part taken seen mine found lost first note = record { taken = taken; seen = seen; mine = mine; found = found; lost = lost; first = first; note = note }
+abbrev pub core_part : {B : Type 0} → Option History → History → List Entry → List ℕ → ℕ → B → Option Noted → LockView → CorePart B
+core_part taken seen mine found lost first note lock = record { taken = taken; seen = seen; mine = mine; found = found; lost = lost; first = first; note = note; lock = lock }
 
 -- what the thread k knows of the calls
 abbrev pub account_at : {B : Type 0} → ℕ → CorePart B → Account
@@ -19,18 +20,18 @@ account_at k c = account k c.seen c.mine c.found c.lost
 
 -- a thread that has made no call
 abbrev pub newcomer_part : {B : Type 0} → History → B → CorePart B
-newcomer_part h first = core_part None h [] [] 0 first None
+newcomer_part h first = core_part None h [] [] 0 first None new_lock
 
--- what is known once a kernel with this history and this room was taken, and once the thread k gave one back
-abbrev pub after_take : {B : Type 0} → History → ℕ → CorePart B → CorePart B
-after_take h room c = record c { taken = Some h; seen = h; found = c.found ++ room ∷ []; note = None }
+-- what is known once a kernel with this history and this room was taken, and once the thread k gave one back, with what is then known of the lock
+abbrev pub after_take : {B : Type 0} → History → ℕ → LockView → CorePart B → CorePart B
+after_take h room lock c = record c { taken = Some h; seen = h; found = c.found ++ room ∷ []; note = None; lock = lock }
 
-abbrev pub after_give : {B : Type 0} → History → ℕ → CorePart B → CorePart B
-after_give h k c = record c { taken = None; seen = h; mine = calls_by k h.entries; note = None }
+abbrev pub after_give : {B : Type 0} → History → ℕ → LockView → CorePart B → CorePart B
+after_give h k lock c = record c { taken = None; seen = h; mine = calls_by k h.entries; note = None; lock = lock }
 
 -- what is known once the core was found taken
-abbrev pub after_loss : {B : Type 0} → CorePart B → CorePart B
-after_loss c = record c { lost = c.lost + 1 }
+abbrev pub after_loss : {B : Type 0} → LockView → CorePart B → CorePart B
+after_loss lock c = record c { lost = c.lost + 1; lock = lock }
 
 -- the thread that has the kernel has left this word at this mutex
 abbrev pub noting : {B : Type 0} → ℕ → ℕ → CorePart B → CorePart B
@@ -78,3 +79,11 @@ pub record CoreKept {S B : Type 0} (past : S → History) (comes : B → S → T
   pub strangers : HasNoStranger history
   pub knows : (k : ℕ) (c : CorePart B) → get_elem? cores k ≡ some c → c.first ≡ first
   pub who : IsFree past comes first history word homes cores ⊎ IsTaken history word homes cores
+
+-- and the lock has a history of its own, which all threads fit
+abbrev pub CoreStands : {S B : Type 0} → (S → History) → (B → S → Type 0) → B → List LockEntry → ℕ → Homes S → List (CorePart B) → Type 0
+CoreStands past comes first log word homes cores = CoreKept past comes first word homes cores × LockKept log word cores
+
+-- the core's part of the table's rule
+abbrev pub CoreRuled : {S B : Type 0} → (S → History) → (B → S → Type 0) → B → ℕ → Homes S → List (CorePart B) → Type 0
+CoreRuled past comes first word homes cores = (log : List LockEntry) × CoreKept past comes first word homes cores × LockKept log word cores

@@ -1,6 +1,7 @@
 pub mod Nothing
 pub mod Ceilings
 pub mod Accounts
+pub mod Lock
 pub mod CoreRule
 pub mod CoreWorld
 pub mod CoreTells
@@ -32,6 +33,7 @@ pub mod Makings
 pub mod Closings
 pub mod OneHistory
 pub mod Tokens
+pub mod LostTakes
 pub mod Locking
 pub mod InHand
 pub mod Visits

@@ -1,4 +1,4 @@
--- The world of the one table: the core's word and slot, each mutex's word with its history, and what each thread knows; and the atomic steps on it.
+-- The world of the one table: the core's word, slot and history, each mutex's word with its history, and what each thread knows; and the atomic steps on it.
 use Rattle.std.specs.Prelude.{◌≡◌, ◌≢◌, ℕ, ◌<◌, ◌==◌, if◌then◌else◌, Bool, true, false, List, [], ◌∷◌, ◌++◌, length, map, replicate, slice_index, slice_set, Option, Some, MatchBool}
 use mathlib.Core.Option.{some}
 use lib.ListN.{get_elem?}
@@ -13,7 +13,8 @@ use Rattle.evl_words.specs.MutexWorld.{MutexKind, MutexView, MutexWorld, IsMutex
 use Rattle.evl_machine.specs.declared.views.CorePart.{CorePart}
 use Rattle.evl_machine.specs.declared.views.ThreadView.{ThreadView}
 use Rattle.evl_machine.specs.Accounts.{threads_of}
-use Rattle.evl_machine.specs.CoreRule.{CoreKept, IsAbout, noting}
+use Rattle.evl_machine.specs.Lock.{LockEntry}
+use Rattle.evl_machine.specs.CoreRule.{CoreStands, IsAbout, noting}
 use Rattle.evl_machine.specs.CoreWorld as core
 use Rattle.evl_machine.specs.CoreWorld.{CoreKind, Slot, gives}
 use Rattle.evl_machine.specs.ThreadRule.{core_of, put_core, mutex_of, put_mutex, newcomer_view}
@@ -22,6 +23,7 @@ use Rattle.evl_machine.specs.Ties.{MutexTied, Settled}
 pub record OneWorld (S B : Type 0) : Type 0 where
   pub word : ℕ
   pub slot : Slot S
+  pub log : List LockEntry
   pub mutexes : List ℕ
   pub logs : ℕ → List MutexEntry
   pub views : List (ThreadView B MutexView)
@@ -72,7 +74,7 @@ module _ {S B : Type 0} (past : S → History) (room : S → ℕ) (comes : B →
       put_core (put_mutex i v (seat_after mutex_steps found log k (mutex_of i v) kind)) (noted_if (needs_kernel (ceilings i) kind) i (mutex.step_word found k (mutex_of i v) kind) (core_of v))
 
   abbrev pub view_after : OneWorld S B → ℕ → ThreadView B MutexView → OneKind S → ThreadView B MutexView
-  view_after w k v (on_lock kind) = put_core v (core.step_part past room comes w.word w.slot k (core_of v) kind)
+  view_after w k v (on_lock kind) = put_core v (core.step_part past room comes w.word w.slot w.log k (core_of v) kind)
   view_after w k v (on_word i kind) = on_word_view (slice_index w.mutexes i) (w.logs i) k v i kind
 
   -- the world after a step of the thread k
@@ -80,13 +82,15 @@ module _ {S B : Type 0} (past : S → History) (room : S → ℕ) (comes : B →
   one_after w k v (on_lock kind) = record {
     word = core.step_word past room comes w.word kind;
     slot = core.step_slot past room comes w.word w.slot kind;
+    log = core.step_log past room comes w.word w.log k kind;
     mutexes = w.mutexes;
     logs = w.logs;
-    views = slice_set w.views k (put_core v (core.step_part past room comes w.word w.slot k (core_of v) kind));
+    views = slice_set w.views k (put_core v (core.step_part past room comes w.word w.slot w.log k (core_of v) kind));
   }
   one_after w k v (on_word i kind) = let found = slice_index w.mutexes i in record {
     word = w.word;
     slot = w.slot;
+    log = w.log;
     mutexes = slice_set w.mutexes i (mutex.step_word found k (mutex_of i v) kind);
     logs = λ j. if j == i then w.logs i ++ mutex.step_entries found k (mutex_of i v) kind else w.logs j;
     views = slice_set w.views k (on_word_view found (w.logs i) k v i kind);
@@ -106,7 +110,7 @@ module _ {S B : Type 0} (past : S → History) (room : S → ℕ) (comes : B →
   -- what holds of it at each moment: the core's condition, that of each mutex, and what ties each mutex's word to what the kernel records
   pub record IsOneWorld (first : B) (w : OneWorld S B) : Type 0 where
     pub count : length w.mutexes ≡ m
-    pub locked : CoreKept past comes first w.word (w.slot ∷ []) (map core_of w.views)
+    pub locked : CoreStands past comes first w.log w.word (w.slot ∷ []) (map core_of w.views)
     pub parts : (i : ℕ) → i < m → IsMutexWorld (mutex_world w i)
     pub ties : (i : ℕ) → i < m → MutexTied past ceilings i w.word (w.slot ∷ []) (map core_of w.views) (slice_index w.mutexes i)
 
@@ -134,7 +138,7 @@ module _ {S B : Type 0} (past : S → History) (room : S → ℕ) (comes : B →
   abbrev pub opened_one : B → S → OneDealing S B
   opened_one first y =
       let views = replicate (threads_of (past y)) (newcomer_view (past y) first m (threads_of (past y))) in
-      record { world = record { word = 0; slot = some (Some y); mutexes = replicate m 0; logs = λ i. []; views = views }; hands = hand_from 0 views ∷ [] }
+      record { world = record { word = 0; slot = some (Some y); log = []; mutexes = replicate m 0; logs = λ i. []; views = views }; hands = hand_from 0 views ∷ [] }
 
   -- the world stands, no thread is in two hands, and each hand has the views of its threads
   abbrev pub StandsInOne : B → OneDealing S B → Type 0

@@ -8,7 +8,7 @@ use Rattle.evl_words.specs.MutexWorld.{MutexView, newcomer}
 use Rattle.evl_words.specs.MutexRule.{MutexPart}
 use Rattle.evl_machine.specs.declared.views.CorePart.{CorePart}
 use Rattle.evl_machine.specs.declared.views.ThreadView.{ThreadView}
-use Rattle.evl_machine.specs.CoreRule.{CoreKept, Homes, newcomer_part}
+use Rattle.evl_machine.specs.CoreRule.{CoreRuled, Homes, newcomer_part}
 
 module _ {B : Type 0} where
   abbrev pub thread_view : CorePart B → List MutexView → ThreadView B MutexView
@@ -44,7 +44,7 @@ Tie S B = ℕ → ℕ → Homes S → List (CorePart B) → ℕ → Type 0
 
 -- The core's part at the word 0, a mutex's part at each further word, and a tie for each mutex
 abbrev pub ThreadRule : {S B : Type 0} → (S → History) → (B → S → Type 0) → Tie S B → B → ℕ → List ℕ → Homes S → List (ThreadView B MutexView) → Type 0
-ThreadRule past comes tie first m = Tabled (CoreKept past comes first) MutexParts tie core_of mutex_of m
+ThreadRule past comes tie first m = Tabled (CoreRuled past comes first) MutexParts tie core_of mutex_of m
 
 abbrev pub MachineRule : {S B : Type 0} → (S → History) → (B → S → Type 0) → Tie S B → B → ℕ → State (Option S) (Hand (ThreadView B MutexView)) → Type 0
 MachineRule past comes tie first m = Dealt (ThreadRule past comes tie first m)

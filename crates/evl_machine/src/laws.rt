@@ -1,11 +1,13 @@
 //! Laws of the core. Each is the contract of a function without a body.
-ghost use Rattle.std.specs.Prelude.{◌≡◌, ℕ, [], List, Option, Some, slice_get, slice_index, true};
+ghost use Rattle.std.specs.Prelude.{◌≡◌, ◌≢◌, ℕ, [], ◌∷◌, List, Option, None, Some, slice_get, slice_index, slice_set, true};
 ghost use Rattle.evl_base.specs.Board.{board_fits};
 ghost use mathlib.Core.Option.{some};
 ghost use lib.ListN.{get_elem?};
 ghost use Rattle.evl_base.specs.declared.stage.Stage.{Stage};
 ghost use Rattle.evl_words.specs.GateCalls.{SeatState};
 ghost use Rattle.evl_words.specs.GateWorld.{GateWorld, IsGateWorld};
+ghost use Rattle.evl_words.specs.MutexWorld.{MutexView};
+ghost use Rattle.evl_machine.specs.declared.views.ThreadView.{ThreadView};
 ghost use Rattle.evl_machine.specs.Calls.{HoldsAtItsStage, stage_of_caller};
 ghost use Rattle.evl_machine.specs.Handles.{CallerState};
 ghost use Rattle.atomic_table.specs.Table.{State};
@@ -15,11 +17,13 @@ ghost use Rattle.evl_words.specs.Machine.{Run};
 ghost use Rattle.evl_words.specs.Events.{Event};
 ghost use Rattle.evl_words.specs.Dealings.{DealingEvent};
 ghost use Rattle.evl_machine.specs.CoreWorld.{CoreWorld, CoreDealing, CoreKind, CoreHappens, CoreDealingStep, IsCoreWorld, StandsDealt, opened_core};
-ghost use Rattle.evl_machine.specs.OneWorld.{LiesSo, OneDealing, OneDealingStep, OneKind, StandsInOne, opened_one};
+ghost use Rattle.evl_machine.specs.OneWorld.{IsOneWorld, LiesSo, OneDealing, OneDealingStep, OneKind, OneWorld, StandsInOne, opened_one};
 ghost use Rattle.evl_machine.specs.Known.{ComesFrom, CoreHand, KeptKnown, ceilings_of, mutex_count, past_of, room_of};
 ghost use Rattle.evl_machine.specs.QuietCore.{LiesQuiet};
 ghost use Rattle.evl_machine.specs.TiedCore.{LiesTied};
 ghost use Rattle.evl_machine.specs.Tokens.{HasOneHistory};
+ghost use Rattle.evl_machine.specs.LostTakes.{AllAreDealt};
+ghost use Rattle.evl_words.specs.Hands.{place};
 
 use evl_words::laws::holders_agree;
 
@@ -47,6 +51,20 @@ pub fn one_world_stands<C>()
 pub fn rule_is_one_world<C>()
     ensures world { (first : KernelView C) → (s : State (Option (KernelView C)) (CoreHand C)) → KeptKnown first s → (d : OneDealing (KernelView C) (KernelView C)) × LiesSo s d × StandsInOne past_of room_of ComesFrom (ceilings_of first) (mutex_count first) first d }
     ensures rule { (first : KernelView C) → (s : State (Option (KernelView C)) (CoreHand C)) → (d : OneDealing (KernelView C) (KernelView C)) → LiesSo s d → StandsInOne past_of room_of ComesFrom (ceilings_of first) (mutex_count first) first d → KeptKnown first s }
+{}
+
+/// A take is lost to another thread alone. Of two worlds that keep their conditions and differ in what one thread knows,
+/// and in words and histories as they may, that thread has lost as many takes in the one as in the other, unless another
+/// thread had the kernel in the first: no step, whatever it does, counts a lost take while the core is free.
+pub fn takes_are_lost_to_another<C>()
+    ensures { (first : KernelView C) → (w t : OneWorld (KernelView C) (KernelView C)) → IsOneWorld past_of room_of ComesFrom (ceilings_of first) (mutex_count first) first w → IsOneWorld past_of room_of ComesFrom (ceilings_of first) (mutex_count first) first t → (k : ℕ) (u v : ThreadView (KernelView C) MutexView) → get_elem? w.views k ≡ some u → ((j : ℕ) (x : ThreadView (KernelView C) MutexView) → j ≢ k → get_elem? w.views j ≡ some x → x.core.taken ≡ None) → t.views ≡ slice_set w.views k v → v.core.lost ≡ u.core.lost }
+{}
+
+/// So no step of a token at a free core counts a lost take. Of two states that the running rule of a machine's table
+/// keeps, both with a free core, of which the second has another thread's view at one token, which acts for this thread
+/// alone, that thread has lost as many takes in the one as in the other, where each thread of the board is some token's.
+pub fn free_core_turns_no_token_away<C>()
+    ensures { (first : KernelView C) → (s t : State (Option (KernelView C)) (CoreHand C)) → KeptKnown first s → KeptKnown first t → slice_index s.words 0 ≡ 0 → slice_index t.words 0 ≡ 0 → AllAreDealt first s → (id k : ℕ) (u v : ThreadView (KernelView C) MutexView) → get_elem? s.views id ≡ some (place k u ∷ []) → t.views ≡ slice_set s.views id (place k v ∷ []) → v.core.lost ≡ u.core.lost }
 {}
 
 /// Whenever the core of a running machine is free, the kernel lies in the slot with a legal history, and a line is

@@ -39,4 +39,4 @@ pub use kernel_box::KernelBox;
 pub use locking::{Begun, Ended};
 pub use machine::MachineOf;
 pub use unfinished::{Unfinished, WaitStep};
-pub use views::{Account, CorePart, CoreView, Made, Noted, Past, ThreadView};
+pub use views::{Account, CorePart, CoreView, LockCall, LockReply, Made, Noted, Past, ThreadView};

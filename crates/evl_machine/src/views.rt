@@ -1,5 +1,6 @@
 //! What each thread knows. Views stand in proofs alone: no value of these types is made.
 use evl_base::Entry;
+use evl_words::{View, WordEntry};
 use std::collections::LinkedList;
 use std::marker::Model;
 
@@ -40,9 +41,22 @@ pub struct Noted {
     pub left: u64,
 }
 
+/// A step on the core's lock, as its common history has it.
+pub enum LockCall {
+    Take,
+    Give,
+}
+
+/// How a step on the core's lock ended: a take found the kernel, or that another thread has it.
+pub enum LockReply {
+    Got,
+    Lost,
+    Done,
+}
+
 /// What a thread knows of the core: the history of the kernel that it took, if it has one, the history that it has
 /// seen, its own calls there, for how many calls it found room made in the kernel, at each time that it took it, how
-/// often it found the core taken, and the kernel as it was made.
+/// often it found the core taken, the kernel as it was made, and what it has seen of the lock's own history.
 pub struct CorePart<F> {
     pub taken: Option<Past>,
     pub seen: Past,
@@ -51,6 +65,7 @@ pub struct CorePart<F> {
     pub lost: u64,
     pub first: F,
     pub note: Option<Noted>,
+    pub lock: View<WordEntry<LockCall, LockReply>, bool>,
 }
 
 /// What a thread knows: of the core, and of each word beside it.
