@@ -63,6 +63,14 @@ mark_reads word =
     (λ (e : word / 2147483648 % 2 ≡ 1). rw (ne_eqb (bit_and word 2147483648) 0 (λ none. absurd (omega (arith, bit, e, none)))) (sym (eq-eqb (word / 2147483648 % 2) 1 e)))
     (λ (ne : word / 2147483648 % 2 ≢ 1). rw (eq-eqb (bit_and word 2147483648) 0 (omega (arith, bit, ne))) (sym (ne_eqb (word / 2147483648 % 2) 1 ne)))
 
+-- and so is the one of an offer
+pub offer_reads : (word : ℕ) → not (nat_eq (bit_and word 1073741824) 0) ≡ (in_word word).is_offered
+offer_reads word =
+    let bit : bit_and word 1073741824 ≡ word / 1073741824 % 2 * 1073741824 = and_high word 1 30 in
+    dite (ℕ_discrete (word / 1073741824 % 2) 1)
+    (λ (e : word / 1073741824 % 2 ≡ 1). rw (ne_eqb (bit_and word 1073741824) 0 (λ none. absurd (omega (arith, bit, e, none)))) (sym (eq-eqb (word / 1073741824 % 2) 1 e)))
+    (λ (ne : word / 1073741824 % 2 ≢ 1). rw (eq-eqb (bit_and word 1073741824) 0 (omega (arith, bit, ne))) (sym (ne_eqb (word / 1073741824 % 2) 1 ne)))
+
 owner_read : (word o : ℕ) → number_in word ≡ o + 1 → option_map (λ (t : ThreadId). t.0) (in_word word).owner ≡ Some o
 owner_read word o e =
     let some : number_in word ≢ 0 = λ none. absurd (omega (arith, e, none)) in

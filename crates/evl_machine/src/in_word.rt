@@ -9,13 +9,15 @@ use crate::core_lock::{CoreLock, CoreSeat, Looking};
 use crate::held::HeldOf;
 use crate::machine::MachineOf;
 use evl_base::{MutexId, ThreadId};
-use evl_words::{CLAIM_MARK, Claim, claim_on};
+use evl_words::{CLAIM_MARK, Claim, OFFERED, claim_on};
 use std::alloc::Allocator;
 
-/// What stands in a mutex's word: who owns the mutex or has it offered, and whether somebody claims it.
+/// What stands in a mutex's word: who owns the mutex or has it offered, which of the two it is, and whether somebody
+/// claims it.
 #[derive(Debug, Clone, Copy, PartialEq, Eq)]
 pub struct InWord {
     pub owner: Option<ThreadId>,
+    pub is_offered: bool,
     pub is_claimed: bool,
 }
 
@@ -36,6 +38,7 @@ fn read(word: u64) -> InWord
 {
     InWord {
         owner: owner_of(claim_on(word)),
+        is_offered: word & OFFERED != 0,
         is_claimed: word & CLAIM_MARK != 0,
     }
 }
