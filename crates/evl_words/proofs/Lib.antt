@@ -18,3 +18,4 @@ pub mod MutexWords
 pub mod MutexSteps
 pub mod MutexSeats
 pub mod MutexEnds
+pub mod RuleWorlds

@@ -6,6 +6,7 @@ pub mod Endings
 pub mod Looks
 pub mod Dealings
 pub mod Parts
+pub mod Lying
 pub mod Gate
 pub mod GateWord
 pub mod GateWorld

@@ -4,6 +4,11 @@ ghost use Rattle.evl_base.specs.Limits.{thread_limit};
 ghost use mathlib.Core.Option.{some};
 ghost use lib.ListN.{get_elem?};
 ghost use Rattle.evl_base.specs.declared.stage.Stage.{Stage};
+ghost use Rattle.atomic_table.specs.Table.{State};
+ghost use Rattle.evl_words.specs.Hands.{Hand};
+ghost use Rattle.evl_words.specs.GateRule.{GateRule};
+ghost use Rattle.evl_words.specs.MutexRule.{MutexRule};
+ghost use Rattle.evl_words.specs.Lying.{LiesInWorld};
 ghost use Rattle.evl_words.specs.Machine.{Run};
 ghost use Rattle.evl_words.specs.Events.{Event, Happens};
 ghost use Rattle.evl_words.specs.Dealings.{DealingEvent, DealingStep, Holds, opened};
@@ -29,6 +34,13 @@ pub fn gate_world_stands()
     ensures { (limit seats : ℕ) → limit ≤ 1000 → (events : List (DealingEvent GateKind)) (t : GateDealing) → Run (DealingStep gate_steps) (opened (replicate seats (newcomer limit))) events t → Holds (IsGateWorld limit) t }
 {}
 
+/// What the running rule of a gate's table keeps is what holds of the gate's world, no less and no more: the table lies
+/// as some world, with the hands of its tokens, that keeps its conditions; and any table that lies as such a world is
+/// within the rule.
+pub fn gate_rule_is_its_world<S>()
+    ensures { (limit seats : ℕ) (s : State S (Hand GateView)) → GateRule limit seats s ↔ LiesInWorld (IsGateWorld limit) seats s }
+{}
+
 /// A gate's word counts the seats that hold the gate, and shows their stage.
 pub fn word_shows_the_holders()
     ensures { (limit : ℕ) (w : GateWorld) → IsGateWorld limit w → (count_in w.word ≡ count_by (λ h. is_some h.stage) (map (λ v. v.held) w.views)) × ((k : ℕ) (v : GateView) (s : Stage) → get_elem? w.views k ≡ some v → v.held.stage ≡ Some s → s ≡ stage_in w.word) }
@@ -47,6 +59,11 @@ pub fn mutex_events_keep_order()
 /// From the opening on it holds after any list of atomic steps, among which hands of seats are split and joined.
 pub fn mutex_world_stands()
     ensures { (seats : ℕ) → seats ≤ thread_limit → (events : List (DealingEvent MutexKind)) (t : MutexDealing) → Run (DealingStep mutex_steps) (opened (replicate seats (bystander seats))) events t → Holds IsMutexWorld t }
+{}
+
+/// So it is of a mutex word's table and the mutex's world.
+pub fn mutex_rule_is_its_world<S>()
+    ensures { (seats : ℕ) (s : State S (Hand MutexView)) → MutexRule seats s ↔ LiesInWorld IsMutexWorld seats s }
 {}
 
 /// At most one seat owns a mutex or has won it.
