@@ -1,4 +1,5 @@
-//! The calls of the kernel.
+//! The calls of the kernel, and the list of them: how a call is copied, told in a trace, read from a table, written and
+//! read from C comes of that list.
 ghost use Rattle.std.specs.Prelude.{◌≡◌, ◌≤◌, ◌+◌};
 ghost use Rattle.evl_base.specs.Call.{boxes_in_call};
 
@@ -188,15 +189,132 @@ pub enum Call {
     },
 }
 
-/// Copies a call, by the list of the calls without bytes and that of the calls with bytes, each with its other fields.
+/// A word that names a call of the kernel (Dovetail: interrupt pipeline; Xenomai 4: EVL elements; the words are this
+/// profile's).
+#[derive(Clone, Copy, PartialEq, Eq, Debug)]
+pub enum StepWord {
+    Request,
+    Free,
+    Arrive,
+    Post,
+    Stall,
+    Unstall,
+    Tick,
+    Now,
+    NewTimer,
+    StartTimer,
+    StopTimer,
+    DropTimer,
+    Overruns,
+    Attach,
+    Detach,
+    SetPolicy,
+    SetStage,
+    Pick,
+    RankOf,
+    TryGet,
+    Put,
+    Peek,
+    BeginGet,
+    TryTake,
+    PostFlags,
+    PeekFlags,
+    BeginTake,
+    Write,
+    Read,
+    Room,
+    BeginWrite,
+    BeginRead,
+    Claim,
+    Release,
+    Raise,
+    Finish,
+}
+
+/// The list of the calls, by families, handed to a macro behind what is given to it: each with its word, the name of
+/// that, and its keys in the order in which they are written. A key has the kind of what stands behind it, the type
+/// round a number of the kernel, and what stands in where it may be left out.
+#[macro_export]
+macro_rules! each_call {
+    ($made:ident $given:tt) => {
+        $made!($given [
+            line {
+                Request "request" { line: Half LineNo, stage: Stage, callback: Byte, tag: Word = 0 }
+                Free "free" { line: Half LineNo, stage: Stage }
+                Arrive "arrive" { line: Half LineNo }
+                Post "post" { stage: Stage, line: Half LineNo }
+                Stall "stall" { stage: Stage }
+                Unstall "unstall" { stage: Stage }
+            }
+            clock {
+                Tick "tick" { delta: Number }
+                Now "now" {}
+                NewTimer "new_timer" { callback: Byte, tag: Word = 0 }
+                StartTimer "start_timer" { timer: Half TimerId, date: Number, interval: Number }
+                StopTimer "stop_timer" { timer: Half TimerId }
+                DropTimer "drop_timer" { timer: Half TimerId }
+                Overruns "overruns" { timer: Half TimerId }
+            }
+            thread {
+                Attach "attach" { policy: Policy, stage: Stage }
+                Detach "detach" {}
+                SetPolicy "set_policy" { policy: Policy }
+                SetStage "set_stage" { stage: Stage }
+                Pick "pick" {}
+                RankOf "rank_of" { thread: Half ThreadId }
+            }
+            sem {
+                TryGet "try_get" { sem: Half SemId }
+                Put "put" { sem: Half SemId }
+                Peek "peek" { sem: Half SemId }
+                BeginGet "begin_get" { sem: Half SemId, until: Until = None }
+            }
+            flag {
+                TryTake "try_take" { flags: Half FlagId, kind: Take }
+                PostFlags "post_flags" { flags: Half FlagId, bits: Word }
+                PeekFlags "peek_flags" { flags: Half FlagId }
+                BeginTake "begin_take" { flags: Half FlagId, kind: Take, until: Until = None }
+            }
+            buffer {
+                Write "write" { xbuf: Half XbufId, way: Way, bytes: Bytes }
+                Read "read" { xbuf: Half XbufId, way: Way, len: Half }
+                Room "room" { xbuf: Half XbufId, way: Way }
+                BeginWrite "begin_write" { xbuf: Half XbufId, way: Way, bytes: Bytes, until: Until = None }
+                BeginRead "begin_read" { xbuf: Half XbufId, way: Way, len: Half, until: Until = None }
+            }
+            wait {
+                Claim "claim" { mutex: Half MutexId, owner: Half ThreadId, until: Until = None }
+                Release "release" { mutex: Half MutexId }
+                Raise "raise" { mutex: Half MutexId }
+                Finish "finish" { keep: Truth = false }
+            }
+        ])
+    };
+}
+
+/// The names of all words.
+macro_rules! names {
+    (() [$($family:ident { $($variant:ident $name:literal $keys:tt)* })*]) => { [$($($name),*),*] };
+}
+
+/// The words of steps, by families of calls.
+pub const STEP_WORDS: [&str; 36] = each_call!(names());
+
+/// A field once more, its bytes, if it is some, in a box.
 macro_rules! copied {
-    ($call:expr, $spares:expr, [$($plain:ident { $($field:ident),* })*], [$($carrier:ident { $($key:ident),* })*]) => {
+    ($spares:expr, $field:ident Bytes) => { $spares.take($field.as_slice()) };
+    ($spares:expr, $field:ident $kind:ident) => { *$field };
+}
+
+/// A call once more.
+macro_rules! copy {
+    (($call:expr, $spares:expr) [$($family:ident {
+        $($variant:ident $name:literal { $($key:ident: $kind:ident $($id:ident)? $(= $default:expr)?),* })*
+    })*]) => {
         match $call {
-            $(Call::$plain { $($field),* } => Call::$plain { $($field: *$field),* },)*
-            $(Call::$carrier { $($key,)* bytes } => Call::$carrier {
-                $($key: *$key,)*
-                bytes: $spares.take(bytes.as_slice()),
-            },)*
+            $($(Call::$variant { $($key),* } => Call::$variant {
+                $($key: copied!($spares, $key $kind)),*
+            },)*)*
         }
     };
 }
@@ -209,44 +327,6 @@ impl Call {
         ensures same { result ≡ self.now }
         ensures spent { spares.new + boxes_in_call self.now ≡ spares.old }
     {
-        copied!(self, spares, [
-            Request { line, stage, callback, tag }
-            Free { line, stage }
-            Arrive { line }
-            Post { stage, line }
-            Stall { stage }
-            Unstall { stage }
-            Tick { delta }
-            Now {}
-            NewTimer { callback, tag }
-            StartTimer { timer, date, interval }
-            StopTimer { timer }
-            DropTimer { timer }
-            Overruns { timer }
-            Attach { policy, stage }
-            Detach {}
-            SetPolicy { policy }
-            SetStage { stage }
-            Pick {}
-            RankOf { thread }
-            TryGet { sem }
-            Put { sem }
-            Peek { sem }
-            BeginGet { sem, until }
-            TryTake { flags, kind }
-            PostFlags { flags, bits }
-            PeekFlags { flags }
-            BeginTake { flags, kind, until }
-            Read { xbuf, way, len }
-            Room { xbuf, way }
-            BeginRead { xbuf, way, len, until }
-            Claim { mutex, owner, until }
-            Release { mutex }
-            Raise { mutex }
-            Finish { keep }
-        ], [
-            Write { xbuf, way }
-            BeginWrite { xbuf, way, until }
-        ])
+        each_call!(copy(self, spares))
     }
 }

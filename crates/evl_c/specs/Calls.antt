@@ -11,11 +11,12 @@ use Rattle.evl_base.specs.declared.take.Take.{Take}
 use Rattle.evl_base.specs.declared.take.Take.TheVariants.{Any, Of, Exact}
 use Rattle.evl_base.specs.declared.way.Way.{Way}
 use Rattle.evl_base.specs.declared.way.Way.TheVariants.{In, Out}
-use Rattle.evl_scenario.specs.Calls.{words, fields_of, call_with}
-use Rattle.evl_scenario.specs.Fields as kind
-use Rattle.evl_scenario.specs.Fields.{Kind, Value, Key, Values}
-use Rattle.evl_scenario.specs.declared.calls.StepWord.{StepWord}
-use Rattle.evl_scenario.specs.declared.calls.StepWord.TheVariants.{Finish}
+use Rattle.evl_base.specs.Calls.{words, fields_of, call_with}
+use Rattle.evl_base.specs.declared.fields.Kind.{Kind}
+use Rattle.evl_base.specs.declared.fields.Kind.TheVariants as kind
+use Rattle.evl_base.specs.Fields.{Value, Key, Values}
+use Rattle.evl_base.specs.declared.call.StepWord.{StepWord}
+use Rattle.evl_base.specs.declared.call.StepWord.TheVariants.{Finish}
 use Rattle.evl_c.specs.declared.calls.CallForm.{CallForm}
 
 -- whether each number is in its range, and one transfer carries the bytes
@@ -45,28 +46,28 @@ policy_of form =
 
 -- whether a kind is that of bytes
 abbrev pub is_bytes : Kind → Bool
-is_bytes kind.bytes = true
+is_bytes kind.Bytes = true
 is_bytes other = false
 
 -- the value of a kind in a form that these bytes go with
 abbrev pub value_in : (which : Kind) → CallForm → List ℕ → Value which
-value_in kind.byte form bytes = form.callback
-value_in kind.half form bytes = form.element
-value_in kind.word form bytes = form.bits
-value_in kind.number form bytes = form.date
-value_in kind.stage form bytes = stage_of form
-value_in kind.policy form bytes = policy_of form
-value_in kind.take form bytes = take_of form
-value_in kind.way form bytes = way_of form
-value_in kind.bytes form bytes = record { items = bytes }
-value_in kind.until form bytes = until_of form
-value_in kind.truth form bytes = not (nat_eq form.choice 0)
+value_in kind.Byte form bytes = form.callback
+value_in kind.Half form bytes = form.element
+value_in kind.Word form bytes = form.bits
+value_in kind.Number form bytes = form.date
+value_in kind.Stage form bytes = stage_of form
+value_in kind.Policy form bytes = policy_of form
+value_in kind.Take form bytes = take_of form
+value_in kind.Way form bytes = way_of form
+value_in kind.Bytes form bytes = record { items = bytes }
+value_in kind.Until form bytes = until_of form
+value_in kind.Truth form bytes = not (nat_eq form.choice 0)
 
 -- the form for the keys behind one of this kind: the second number of 16 bits is `other`, and of 64 bits `span`
 abbrev pub behind : Kind → CallForm → CallForm
-behind kind.half form = record form { element = form.other }
-behind kind.number form = record form { date = form.span }
-behind kind.until form = record form { date = form.span }
+behind kind.Half form = record form { element = form.other }
+behind kind.Number form = record form { date = form.span }
+behind kind.Until form = record form { date = form.span }
 behind other form = form
 
 -- the values of a form at these keys

@@ -1,8 +1,8 @@
 -- The statuses with which exports for kernels end, and the calls that take memory.
 use Rattle.std.specs.Prelude.{ℕ, Bool, ◌==◌, List, [], ◌∷◌}
 use Rattle.std.specs.List.{list_any}
-use Rattle.evl_scenario.specs.Calls.{fields_of}
-use Rattle.evl_scenario.specs.declared.calls.StepWord.{StepWord}
+use Rattle.evl_base.specs.Calls.{fields_of}
+use Rattle.evl_base.specs.declared.call.StepWord.{StepWord}
 use Rattle.evl_c.specs.Calls.{is_bytes, word_of}
 use Rattle.evl_c.specs.declared.calls.CallForm.{CallForm}
 

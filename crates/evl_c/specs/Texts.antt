@@ -1,10 +1,10 @@
 -- What C is told of a text.
 use Rattle.std.specs.Prelude.{◌≡◌, ℕ, List, ◌∷◌, length, map, None, Ok, codes}
 use Rattle.std.specs.List.{join_by}
-use Rattle.evl_scenario.specs.Calls.{name_of, fields_of}
+use Rattle.evl_base.specs.Calls.{name_of, fields_of}
 use Rattle.evl_scenario.specs.Scenarios.{Script, scenario_of}
 use Rattle.evl_scenario.specs.Writings.{IsUnwritten}
-use Rattle.evl_scenario.specs.declared.calls.StepWord.{StepWord}
+use Rattle.evl_base.specs.declared.call.StepWord.{StepWord}
 use Rattle.evl_scenario.specs.declared.writing.Unwritten.{Unwritten}
 use Rattle.evl_scenario.specs.declared.writing.Unwritten.TheVariants.{Board, Limit, TooLong, Memory}
 use Rattle.evl_c.specs.Windows.{window}

@@ -5,10 +5,9 @@ ghost use Rattle.evl_c.specs.Calls as calls;
 ghost use Rattle.evl_c.specs.Statuses as statuses;
 
 use evl_base::{
-    Call, FlagId, LineNo, MutexId, Policy, Refusal, SemId, Stage, Take, ThreadId, TimerId,
-    Transfer, Way, XbufId,
+    Call, FlagId, LineNo, MutexId, Policy, Refusal, STEP_WORDS, SemId, Stage, StepWord, Take,
+    ThreadId, TimerId, Transfer, Way, XbufId, each_call, numbered_word,
 };
-use evl_scenario::{STEP_WORDS, StepWord, each_call, numbered_word};
 use std::alloc::Global;
 
 /// A call (include/evl.h: `evl_call`). Numbers that its kind doesn't use aren't looked at, but are in their ranges.

@@ -1,7 +1,7 @@
 //! Texts for C: scenarios and traces of kernels, of each call its word and its keys, and the names of refusals.
 ghost use Rattle.std.specs.Prelude.{◌≡◌, ◌≢◌, ◌↔◌, true, None, Ok, length, slice_get, IsSomeAnd, string_bytes};
 ghost use Rattle.evl_base.specs.Refusal.{name_of, numbered};
-ghost use Rattle.evl_scenario.specs.Calls.{words};
+ghost use Rattle.evl_base.specs.Calls.{words};
 ghost use Rattle.evl_scenario.specs.Scenarios.{scenario_of};
 ghost use Rattle.evl_scenario.specs.Traces.{history_trace};
 ghost use Rattle.evl_scenario.specs.Writings.{script_of_history};
@@ -13,8 +13,8 @@ ghost use Rattle.evl_c.specs.Windows.{window};
 
 use crate::handles::KernelHandle;
 use crate::windows::put_window;
-use evl_base::Refusal;
-use evl_scenario::{StepWord, Unwritten, each_call, numbered_word};
+use evl_base::{Refusal, StepWord, each_call, numbered_word};
+use evl_scenario::Unwritten;
 use std::alloc::Global;
 
 /// The text of a word.

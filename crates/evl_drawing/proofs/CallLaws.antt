@@ -17,10 +17,10 @@ use Rattle.evl_base.specs.declared.reply.Reply.{Reply}
 use Rattle.evl_base.specs.declared.reply.Reply.TheVariants.{Done, Begun, Count, Bits, Number, Bytes, Chosen, Handed, TimedOut}
 use Rattle.evl_base.specs.declared.stage.Stage as stages
 use Rattle.evl_base.specs.declared.stage.Stage.TheVariants.{Inband, Oob}
-use Rattle.evl_scenario.specs.Calls.{told_in}
-use Rattle.evl_scenario.specs.Fields as fields
-use Rattle.evl_scenario.specs.Fields.{Keyed}
-use Rattle.evl_traces.specs.Values.{value_text}
+use Rattle.evl_base.specs.Calls.{told_in}
+use Rattle.evl_base.specs.Fields as fields
+use Rattle.evl_base.specs.Fields.{Keyed}
+use Rattle.evl_base.specs.Fields.{value_text}
 use Rattle.evl_scenario.specs.Widths.{AllFit, CallFits, Fits, StepFits}
 use Rattle.evl_scenario.specs.declared.steps.Step.{Step}
 use Rattle.evl_traces.specs.Entries.{EntryParts, names_refusal, step_parts}

@@ -8,15 +8,14 @@ use Rattle.std.proofs.lemmas.Bool.{and_parts, eq-eqb, eqb-true, false≢true}
 use Rattle.std.proofs.lemmas.Slice.Eq.{bytes_eq-Decides}
 use Rattle.evl_base.specs.Call.{call_text}
 use Rattle.evl_base.specs.declared.call.Call.{Call}
-use Rattle.evl_scenario.specs.Calls.{Parts, fields_of, name_of, parts, parts_of, told_by, told_in}
-use Rattle.evl_scenario.specs.Fields.{Key, Keyed, Values, told, told_as}
-use Rattle.evl_scenario.specs.Fields as fields
+use Rattle.evl_base.specs.Calls.{Parts, fields_of, name_of, parts, parts_of, told_by, told_in, word_in}
+use Rattle.evl_base.specs.Fields.{Key, Keyed, Values, keys_text, told, told_as, value_text}
+use Rattle.evl_base.specs.Fields as fields
 use Rattle.evl_scenario.specs.Widths.{AllFit, CallFits}
-use Rattle.evl_scenario.specs.declared.calls.StepWord.{StepWord}
-use Rattle.evl_scenario.specs.declared.calls.StepWord.TheVariants.{Pick}
+use Rattle.evl_base.specs.declared.call.StepWord.{StepWord}
+use Rattle.evl_base.specs.declared.call.StepWord.TheVariants.{Pick}
 use Rattle.evl_traces.specs.Parts.{Lacks}
-use Rattle.evl_traces.specs.Values.{value_text}
-use Rattle.evl_traces.proofs.CallTexts.{call_said, parts_said, said, value-no_equals}
+use Rattle.evl_traces.proofs.CallTexts.{value-no_equals}
 use Rattle.evl_drawing.specs.Calls.{value_told}
 use Rattle.evl_drawing.specs.Named.{value_of}
 use Rattle.evl_drawing.specs.Texts.{around_part, up_to}
@@ -163,9 +162,9 @@ up_value (c ∷ value) rest end = by (c == 32) refl (up_value value rest end)
 abbrev pub text_told : Option fields.Told → Option (List ℕ)
 text_told value = option_map (λ v. up_to (codes " ") (value_text v)) value
 
-said_ends : (keys : List Key) (values : Values keys) → IsEnd (said keys values)
+said_ends : (keys : List Key) (values : Values keys) → IsEnd (keys_text (told keys values))
 said_ends [] values = inl refl
-said_ends (key ∷ keys) values = inr (key.name ++ (codes "=" ++ (value_text (told_as key.kind values.0) ++ said keys values.1)), refl)
+said_ends (key ∷ keys) values = inr (key.name ++ (codes "=" ++ (value_text (told_as key.kind values.0) ++ keys_text (told keys values.1))), refl)
 
 -- neither a space nor an equals sign
 abbrev is_named : ℕ → Bool
@@ -184,7 +183,7 @@ names Pick = refl
 names _ = refl
 
 value_said : (key : List ℕ) (keys : List Key) (values : Values keys) → list_all is_named key ≡ true → list_all (λ k. list_all is_named k.name) keys ≡ true → AllFit (told keys values)
-    → option_map (up_to (codes " ")) (behind_part (looked_for key) (said keys values)) ≡ text_told (value_told key (told keys values))
+    → option_map (up_to (codes " ")) (behind_part (looked_for key) (keys_text (told keys values))) ≡ text_told (value_told key (told keys values))
 value_said key [] values h named fits = ap (option_map (up_to (codes " "))) (behind_none 32 (key ++ 61 ∷ []))
 value_said key (first ∷ keys) values h named fits = by (bytes_eq first.name key) refl (λ more. value_said key keys values.1 h more fits.1)
   where
@@ -192,7 +191,7 @@ value_said key (first ∷ keys) values h named fits = by (bytes_eq first.name ke
     value = value_text (told_as first.kind values.0)
 
     rest : List ℕ
-    rest = said keys values.1
+    rest = keys_text (told keys values.1)
 
     either : (b : Bool) → IsEnd rest → option_map (up_to (codes " ")) (behind_part (looked_for key) rest) ≡ text_told (value_told key (told keys values.1))
         → option_map (up_to (codes " ")) (if b then Some (value ++ rest) else behind_part (looked_for key) rest)
@@ -219,13 +218,13 @@ value_behind key text = by (around_part key text)
     by None = refl
     by (Some cut) = refl
 
-parts_value : (key : List ℕ) (p : Parts) → list_all is_named key ≡ true → AllFit (told_by p) → value_of (parts_said p) (looked_for key) ≡ text_told (value_told key (told_by p))
+parts_value : (key : List ℕ) (p : Parts) → list_all is_named key ≡ true → AllFit (told_by p) → value_of (name_of (word_in p) ++ keys_text (told_by p)) (looked_for key) ≡ text_told (value_told key (told_by p))
 parts_value key (parts step values) h fits =
     let (word, keys) = and_parts (list_all is_named (name_of step)) (list_all (λ k. list_all is_named k.name) (fields_of step)) (names step) in
-    value_behind (looked_for key) (name_of step ++ said (fields_of step) values)
-    ∙ ap (option_map (up_to (codes " "))) (past_word key (name_of step) (said (fields_of step) values) (lacks_both (name_of step) word).0)
+    value_behind (looked_for key) (name_of step ++ keys_text (told (fields_of step) values))
+    ∙ ap (option_map (up_to (codes " "))) (past_word key (name_of step) (keys_text (told (fields_of step) values)) (lacks_both (name_of step) word).0)
     ∙ value_said key (fields_of step) values h keys fits
 
 -- the value of a key in the text of a call is the one that the call has
 pub call_value : (call : Call) → CallFits call → (key : List ℕ) → list_all is_named key ≡ true → value_of (call_text call) (looked_for key) ≡ text_told (value_told key (told_in call))
-call_value call fits key h = ap (λ (text : List ℕ). value_of text (looked_for key)) (call_said call) ∙ parts_value key (parts_of call) h fits
+call_value call fits key h = parts_value key (parts_of call) h fits

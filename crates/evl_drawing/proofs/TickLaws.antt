@@ -1,7 +1,8 @@
 -- The line of a tick that is done moves the date.
-use Rattle.std.proofs.Common.{arith, ◌≡◌, ◌<◌, ℕ, ◌+◌, ◌-◌, ◌^◌, min, nat_eq, true, List, ◌∷◌, ◌++◌, append_assoc, length, length-append, codes, decimal, Option, Some, None, Ok, option_map, option_and_then, unwrap_or, refl, ap, ◌∙◌}
+use Rattle.std.proofs.Common.{arith, ◌≡◌, ◌<◌, ℕ, ◌+◌, ◌-◌, ◌^◌, min, nat_eq, true, List, ◌∷◌, ◌++◌, length, length-append, codes, decimal, Option, Some, None, Ok, option_map, option_and_then, unwrap_or, refl, ap, ◌∙◌}
 use Rattle.std.proofs.Math.Seq.{take-append_seam}
 use Rattle.std.proofs.lemmas.Bool.{eq-eqb, eqb-true}
+use Rattle.std.proofs.lemmas.List.{append-nil}
 use Rattle.std.proofs.lemmas.Slice.Eq.{ends_is}
 use Rattle.std.specs.List.{ends_with}
 use Rattle.evl_base.specs.declared.call.Call.TheVariants.{Tick}
@@ -59,6 +60,6 @@ pub tick_dates : (number : Option ℕ) (step : Step) (delta : ℕ) (before : Tol
 tick_dates number step delta before called small =
     let whole : entry_text (step_parts number step (Ok Done)) ≡ number_text number ++ (codes " T" ++ (decimal step.who.0 ++ (codes " tick delta=" ++ (decimal delta ++ codes " -> done")))) =
     ap (λ c. entry_text (step_parts number (record { who = step.who; call = c }) (Ok Done))) called
-    ∙ ap (λ (x : List ℕ). number_text number ++ (codes " T" ++ (decimal step.who.0 ++ 32 ∷ x))) (append_assoc (codes "tick delta=") (decimal delta) (codes " -> done")) in
+    ∙ ap (λ (x : List ℕ). number_text number ++ (codes " T" ++ (decimal step.who.0 ++ (codes " tick delta=" ++ (x ++ codes " -> done"))))) (append-nil (decimal delta)) in
     ap (λ (line : List ℕ). date_after line before.date) whole
     ∙ ap (λ (o : Option ℕ). min (before.date + unwrap_or o 0) (2 ^ 64 - 1)) (tick_moves number step.who.0 delta small)

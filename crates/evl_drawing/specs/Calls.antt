@@ -6,8 +6,8 @@ use Rattle.evl_base.specs.declared.call.Call.TheVariants.{Finish}
 use Rattle.evl_base.specs.declared.refusal.Refusal.{Refusal}
 use Rattle.evl_base.specs.declared.reply.Reply.{Reply}
 use Rattle.evl_base.specs.declared.reply.Reply.TheVariants.{Begun}
-use Rattle.evl_scenario.specs.Calls.{told_in}
-use Rattle.evl_scenario.specs.Fields as key
+use Rattle.evl_base.specs.Calls.{told_in}
+use Rattle.evl_base.specs.Fields as key
 use Rattle.evl_scenario.specs.declared.steps.Step.{Step}
 use Rattle.evl_drawing.specs.Marks.{Told}
 use Rattle.evl_drawing.specs.Words.{first_lane}

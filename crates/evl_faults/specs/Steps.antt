@@ -2,7 +2,7 @@
 use Rattle.std.specs.Prelude.{ℕ, ◌+◌, ◌-◌, ◌==◌, nat_le, Bool, not, ◌&&◌, ◌||◌, List, [], ◌∷◌, ◌++◌, codes, decimal, drop, find, flat_map, is_some, length, map, min, option_map, slice_index, slice_range, if◌then◌else◌, Option, None, Some, is_ok}
 use Rattle.std.specs.List.{list_any, prefix_len}
 use Rattle.std.specs.Str.{bytes_eq, is_utf8}
-use Rattle.evl_scenario.specs.Calls.{name_of, words}
+use Rattle.evl_base.specs.Calls.{name_of, words}
 use Rattle.evl_scenario.specs.Lines.{line_feed}
 use Rattle.evl_scenario.specs.Scenarios.{scenario_of}
 use Rattle.evl_scenario.specs.Steps.{keys_of, word_of}

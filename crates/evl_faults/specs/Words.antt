@@ -2,36 +2,44 @@
 use Rattle.std.specs.Prelude.{ℕ, nat_eq, nat_le, nat_lt, Bool, ◌&&◌, ◌||◌, List, [], ◌∷◌, ◌++◌, codes, decimal, filter, find, length, if◌then◌else◌, Option, None, Some}
 use Rattle.std.specs.List.{join_by, list_all}
 use Rattle.std.specs.Str.{bytes_eq, chars}
+use Rattle.evl_base.specs.Fields.{kind_named}
+use Rattle.evl_base.specs.declared.fields.Kind.{Kind}
+use Rattle.evl_base.specs.declared.fields.Kind.TheVariants as kind
 use Rattle.strsim.specs.Edits.{levenshtein_row}
 
 -- ---- what is wanted
 
+-- what value of a kind is wanted
+abbrev pub wants : Kind → List ℕ
+wants kind.Byte = codes "a number from 0 to 255"
+wants kind.Half = codes "a number from 0 to 65535"
+wants kind.Word = codes "a number from 0 to 4294967295"
+wants kind.Number = codes "a number from 0 to 18446744073709551615, above 9223372036854775807 as a string"
+wants kind.Stage = codes "\"inband\" or \"oob\""
+wants kind.Policy = codes "\"fifo PRIO\", \"rr PRIO SLICE\", \"quota GROUP PRIO\" or \"weak PRIO\""
+wants kind.Take = codes "\"any\", \"of MASK\" or \"exact MASK\""
+wants kind.Way = codes "\"in\" or \"out\""
+wants kind.Bytes = codes "a string of two hexadecimal digits for each of at most 256 bytes"
+wants kind.Until = codes "a number from 0 to 18446744073709551615, above 9223372036854775807 as a string, or \"none\""
+wants kind.Truth = codes "true or false"
+
 -- what value is wanted at a key of a step
-unfoldable pub wanted_text : List ℕ → List ℕ
-wanted_text key =
-    if bytes_eq key (codes "callback") then codes "a number from 0 to 255"
-    else if bytes_eq key (codes "tag") || bytes_eq key (codes "bits") then codes "a number from 0 to 4294967295"
-    else if bytes_eq key (codes "delta") || (bytes_eq key (codes "date") || bytes_eq key (codes "interval"))
-    then codes "a number from 0 to 18446744073709551615, above 9223372036854775807 as a string"
-    else if bytes_eq key (codes "stage") then codes "\"inband\" or \"oob\""
-    else if bytes_eq key (codes "policy") then codes "\"fifo PRIO\", \"rr PRIO SLICE\", \"quota GROUP PRIO\" or \"weak PRIO\""
-    else if bytes_eq key (codes "kind") then codes "\"any\", \"of MASK\" or \"exact MASK\""
-    else if bytes_eq key (codes "way") then codes "\"in\" or \"out\""
-    else if bytes_eq key (codes "bytes") then codes "a string of two hexadecimal digits for each of at most 256 bytes"
-    else if bytes_eq key (codes "until") then codes "a number from 0 to 18446744073709551615, or \"none\""
-    else if bytes_eq key (codes "keep") then codes "true or false"
-    else codes "a number from 0 to 65535"
+abbrev pub wanted_text : List ℕ → List ℕ
+wanted_text key = wants (kind_named key)
+
+-- a value of a kind
+abbrev pub fits_kind : Kind → List ℕ
+fits_kind kind.Stage = codes "\"oob\""
+fits_kind kind.Policy = codes "\"fifo 1\""
+fits_kind kind.Take = codes "\"any\""
+fits_kind kind.Way = codes "\"in\""
+fits_kind kind.Bytes = codes "\"00\""
+fits_kind kind.Truth = codes "true"
+fits_kind _ = codes "0"
 
 -- a value that can stand at a key of a step
-unfoldable pub sample_text : List ℕ → List ℕ
-sample_text key =
-    if bytes_eq key (codes "stage") then codes "\"oob\""
-    else if bytes_eq key (codes "policy") then codes "\"fifo 1\""
-    else if bytes_eq key (codes "kind") then codes "\"any\""
-    else if bytes_eq key (codes "way") then codes "\"in\""
-    else if bytes_eq key (codes "bytes") then codes "\"00\""
-    else if bytes_eq key (codes "keep") then codes "true"
-    else codes "0"
+abbrev pub sample_text : List ℕ → List ℕ
+sample_text key = fits_kind (kind_named key)
 
 -- what value is wanted at a key of a board, or at the limit
 unfoldable pub board_wanted_text : List ℕ → List ℕ

@@ -12,7 +12,8 @@ use crate::items::{Item, bare, slice};
 use crate::judges::{fits_step, is_step};
 use crate::near::near_text;
 use crate::words::{is_optional, keys_of, wanted};
-use evl_scenario::{Fault, STEP_WORDS};
+use evl_base::STEP_WORDS;
+use evl_scenario::Fault;
 use std::alloc::{AllocError, Global};
 use std::str;
 

@@ -4,7 +4,7 @@ ghost use Rattle.evl_scenario.specs.Steps.{keys_of, word_of};
 ghost use Rattle.evl_faults.specs.Faults.{may_lack};
 ghost use Rattle.evl_faults.specs.Words.{board_keys, board_wanted_text, opening_keys, sample_text, wanted_text};
 
-use evl_base::MAX_THREADS;
+use evl_base::{Kind, MAX_THREADS, kind_named};
 use evl_scenario::step_keys_of;
 use std::alloc::{AllocError, Global};
 
@@ -50,38 +50,37 @@ pub fn is_optional(key: &str) -> bool
 }
 
 /// What value is wanted at a key of a step.
-#[tactic(auto, unfolding(crate::specs::Words::wanted_text))]
 pub fn wanted(key: &str) -> &'static str
     ensures { result.now ≡ wanted_text key.now }
 {
-    match key {
-        "callback" => "a number from 0 to 255",
-        "tag" | "bits" => "a number from 0 to 4294967295",
-        "delta" | "date" | "interval" =>
+    match kind_named(key) {
+        Kind::Byte => "a number from 0 to 255",
+        Kind::Half => "a number from 0 to 65535",
+        Kind::Word => "a number from 0 to 4294967295",
+        Kind::Number =>
             "a number from 0 to 18446744073709551615, above 9223372036854775807 as a string",
-        "stage" => "\"inband\" or \"oob\"",
-        "policy" => "\"fifo PRIO\", \"rr PRIO SLICE\", \"quota GROUP PRIO\" or \"weak PRIO\"",
-        "kind" => "\"any\", \"of MASK\" or \"exact MASK\"",
-        "way" => "\"in\" or \"out\"",
-        "bytes" => "a string of two hexadecimal digits for each of at most 256 bytes",
-        "until" => "a number from 0 to 18446744073709551615, or \"none\"",
-        "keep" => "true or false",
-        _ => "a number from 0 to 65535",
+        Kind::Stage => "\"inband\" or \"oob\"",
+        Kind::Policy => "\"fifo PRIO\", \"rr PRIO SLICE\", \"quota GROUP PRIO\" or \"weak PRIO\"",
+        Kind::Take => "\"any\", \"of MASK\" or \"exact MASK\"",
+        Kind::Way => "\"in\" or \"out\"",
+        Kind::Bytes => "a string of two hexadecimal digits for each of at most 256 bytes",
+        Kind::Until =>
+            "a number from 0 to 18446744073709551615, above 9223372036854775807 as a string, or \"none\"",
+        Kind::Truth => "true or false",
     }
 }
 
 /// A value that can stand at a key of a step.
-#[tactic(auto, unfolding(crate::specs::Words::sample_text))]
 pub fn sample(key: &str) -> &'static [u8]
     ensures { result.now ≡ sample_text key.now }
 {
-    match key {
-        "stage" => b"\"oob\"",
-        "policy" => b"\"fifo 1\"",
-        "kind" => b"\"any\"",
-        "way" => b"\"in\"",
-        "bytes" => b"\"00\"",
-        "keep" => b"true",
+    match kind_named(key) {
+        Kind::Stage => b"\"oob\"",
+        Kind::Policy => b"\"fifo 1\"",
+        Kind::Take => b"\"any\"",
+        Kind::Way => b"\"in\"",
+        Kind::Bytes => b"\"00\"",
+        Kind::Truth => b"true",
         _ => b"0",
     }
 }

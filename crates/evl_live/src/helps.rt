@@ -3,7 +3,7 @@ ghost use Rattle.std.specs.Prelude.{◌≡◌, ◌++◌, None, codes, is_some, s
 ghost use Rattle.evl_scenario.specs.Steps.{word_of};
 
 use evl_faults::{check, is_optional, keys_of};
-use evl_scenario::STEP_WORDS;
+use evl_base::STEP_WORDS;
 use std::alloc::{AllocError, Global};
 
 // A value that can stand at a key of a line.

@@ -1,9 +1,9 @@
 -- The parts of a call's text: its word, and its keys with their values.
 use Rattle.std.specs.Prelude.{◌≡◌, ℕ, ◌+◌, ◌==◌, List, [], ◌∷◌, ◌++◌, take, if◌then◌else◌, Option, Some, None, option_map, unwrap_or}
 use Rattle.std.specs.List.{after_first, before_first, join_with_byte, slice_split}
-use Rattle.evl_scenario.specs.Fields.{Keyed}
+use Rattle.evl_base.specs.Fields.{Keyed}
 use Rattle.evl_traces.specs.Parts.{Lacks}
-use Rattle.evl_traces.specs.Values.{value_text}
+use Rattle.evl_base.specs.Fields.{value_text}
 
 -- a key and its value
 abbrev pub Pair : Type 0

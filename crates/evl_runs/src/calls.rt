@@ -1,10 +1,9 @@
 //! The parts of a call's text.
 ghost use Rattle.std.specs.Prelude.{◌≡◌, ◌∷◌, ◌++◌, IfOk, List, MatchOption, ℕ, Some, map, option_map, take};
-ghost use Rattle.evl_base.specs.Call.{call_text};
+ghost use Rattle.evl_base.specs.Call.{call_text, call_word as word_of};
 ghost use Rattle.evl_base.specs.declared.call.Call.{Call};
-ghost use Rattle.evl_scenario.specs.Calls.{told_in};
+ghost use Rattle.evl_base.specs.Calls.{told_in};
 ghost use Rattle.evl_scenario.specs.Widths.{CallFits};
-ghost use Rattle.evl_scenario.specs.Writings as scenario;
 ghost use Rattle.evl_runs.specs.Calls.{IsAllValue, IsBeforeKey, IsJoined, OneMore, Pair, call_pairs, call_word, keyed_pair, pairs_behind, pairs_of, pieces, rest_pairs};
 
 use std::alloc::{AllocError, Global};
@@ -80,7 +79,7 @@ pub fn call_parts<'a>(
     ensures joined { (word : List ℕ) (pairs : List Pair) → IsJoined call.now word pairs → IfOk result (λ parts. (parts.0.now ≡ word) × (map (λ p. (p.0.now, p.1.now)) parts.1.items ≡ take 8 pairs)) }
 
     // Of each call of the kernel these are its name and its keys with their values.
-    ensures called { (c : Call) → CallFits c → call.now ≡ call_text c → IfOk result (λ parts. (parts.0.now ≡ scenario.call_word c) × (map (λ p. (p.0.now, p.1.now)) parts.1.items ≡ map keyed_pair (told_in c))) }
+    ensures called { (c : Call) → CallFits c → call.now ≡ call_text c → IfOk result (λ parts. (parts.0.now ≡ word_of c) × (map (λ p. (p.0.now, p.1.now)) parts.1.items ≡ map keyed_pair (told_in c))) }
 {
     match call.split_once(' ') {
         Some((word, keys)) => {

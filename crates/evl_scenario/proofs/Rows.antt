@@ -9,7 +9,7 @@ use Rattle.evl_scenario.specs.Steps.{call_of, word_of}
 use Rattle.evl_scenario.specs.Takes.{take_of}
 use Rattle.evl_scenario.specs.Transfers.{bytes_of, way_of}
 use Rattle.evl_scenario.specs.Values.{truth_from, until_from}
-use Rattle.evl_scenario.specs.declared.calls.StepWord.TheVariants.{BeginGet, PostFlags, BeginTake, Room, BeginRead, Claim, Release, Raise, Finish}
+use Rattle.evl_base.specs.declared.call.StepWord.TheVariants.{BeginGet, PostFlags, BeginTake, Room, BeginRead, Claim, Release, Raise, Finish}
 
 -- a deadline is a number, or the text that says that there is none; without the key there is none
 until-number : until_from (integer (pos 5)) ≡ Some (Some 5)

@@ -14,13 +14,14 @@ use Rattle.evl_base.specs.declared.stage.Stage.{Stage}
 use Rattle.evl_base.specs.declared.stage.Stage.TheVariants.{Inband, Oob}
 use Rattle.evl_base.specs.declared.way.Way.{Way}
 use Rattle.evl_base.specs.declared.way.Way.TheVariants.{In, Out}
-use Rattle.evl_scenario.specs.Calls.{Parts, parts, fields_of, name_of, word_in, parts_of, told_by}
-use Rattle.evl_scenario.specs.Fields as kind
-use Rattle.evl_scenario.specs.Fields.{Kind, Value, Key, Values, told_as, told}
+use Rattle.evl_base.specs.Calls.{Parts, parts, fields_of, name_of, word_in, parts_of, told_by}
+use Rattle.evl_base.specs.declared.fields.Kind.{Kind}
+use Rattle.evl_base.specs.declared.fields.Kind.TheVariants as kind
+use Rattle.evl_base.specs.Fields.{Value, Key, Values, told_as, told}
 use Rattle.evl_scenario.specs.Widths.{AllFit, Fits, UntilFits, CallFits, StepFits, StepsFit}
 use Rattle.evl_scenario.specs.Writings.{wide, until_data, data_of, pair_of, call_pairs, step_pairs, pairs_text, tables_text}
-use Rattle.evl_scenario.specs.declared.calls.StepWord.{StepWord}
-use Rattle.evl_scenario.specs.declared.calls.StepWord.TheVariants.{Pick}
+use Rattle.evl_base.specs.declared.call.StepWord.{StepWord}
+use Rattle.evl_base.specs.declared.call.StepWord.TheVariants.{Pick}
 use Rattle.evl_scenario.specs.declared.steps.Step.{Step}
 use Rattle.evl_scenario.proofs.LinesPrinted.{IsWritten, ArePairs, pairs_lines, element_line, pairs_printed, printed-append}
 use Rattle.evl_scenario.proofs.NodesRead.{step_expressions, steps_expressions}
@@ -61,17 +62,17 @@ way-plain In = refl
 way-plain Out = refl
 
 value-written : (kind : Kind) (v : Value kind) → Fits (told_as kind v) → IsWritten 2 (data_of (told_as kind v))
-value-written kind.byte n h = byte-written n h
-value-written kind.half n h = half-written n h
-value-written kind.word n h = word-written n h
-value-written kind.number n h = wide-written n h
-value-written kind.stage s h = stage-plain s
-value-written kind.policy p h = policy-plain p h
-value-written kind.take t h = take-plain t h
-value-written kind.way w h = way-plain w
-value-written kind.bytes b h = plain-hex b.items h.0
-value-written kind.until u h = until-written u h
-value-written kind.truth b h = tt
+value-written kind.Byte n h = byte-written n h
+value-written kind.Half n h = half-written n h
+value-written kind.Word n h = word-written n h
+value-written kind.Number n h = wide-written n h
+value-written kind.Stage s h = stage-plain s
+value-written kind.Policy p h = policy-plain p h
+value-written kind.Take t h = take-plain t h
+value-written kind.Way w h = way-plain w
+value-written kind.Bytes b h = plain-hex b.items h.0
+value-written kind.Until u h = until-written u h
+value-written kind.Truth b h = tt
 
 -- ---- steps
 

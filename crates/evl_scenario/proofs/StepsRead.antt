@@ -14,9 +14,11 @@ use Rattle.evl_base.specs.declared.stage.Stage.{Stage}
 use Rattle.evl_base.specs.declared.stage.Stage.TheVariants.{Inband, Oob}
 use Rattle.evl_base.specs.declared.way.Way.{Way}
 use Rattle.evl_base.specs.declared.way.Way.TheVariants.{In, Out}
-use Rattle.evl_scenario.specs.Calls.{Parts, parts, call_with, fields_of, parts_of, told_by}
-use Rattle.evl_scenario.specs.Fields as kind
-use Rattle.evl_scenario.specs.Fields.{Kind, Value, value_from, Key, Values, told_as, told}
+use Rattle.evl_base.specs.Calls.{Parts, parts, call_with, fields_of, parts_of, told_by}
+use Rattle.evl_base.specs.declared.fields.Kind.{Kind}
+use Rattle.evl_base.specs.declared.fields.Kind.TheVariants as kind
+use Rattle.evl_base.specs.Fields.{Value, Key, Values, told_as, told}
+use Rattle.evl_scenario.specs.Fields.{value_from}
 use Rattle.evl_scenario.specs.Steps.{step_in}
 use Rattle.evl_scenario.specs.Transfers.{bytes_of, way_of}
 use Rattle.evl_scenario.specs.Values.{number_from, until_from, stage_of, thread_from}
@@ -59,17 +61,17 @@ bytes-read b h =
 
 -- a value that fits is read back
 value-read : (kind : Kind) (v : Value kind) → Fits (told_as kind v) → value_from kind (data_of (told_as kind v)) ≡ Some v
-value-read kind.byte n h = below-read (2 ^ 8) n h
-value-read kind.half n h = below-read (2 ^ 16) n h
-value-read kind.word n h = below-read (2 ^ 32) n h
-value-read kind.number n h = wide-read n h
-value-read kind.stage s h = stage-read s
-value-read kind.policy p h = policy-read p h
-value-read kind.take t h = take-read t h
-value-read kind.way w h = way-read w
-value-read kind.bytes b h = bytes-read b h
-value-read kind.until u h = until-read u h
-value-read kind.truth b h = refl
+value-read kind.Byte n h = below-read (2 ^ 8) n h
+value-read kind.Half n h = below-read (2 ^ 16) n h
+value-read kind.Word n h = below-read (2 ^ 32) n h
+value-read kind.Number n h = wide-read n h
+value-read kind.Stage s h = stage-read s
+value-read kind.Policy p h = policy-read p h
+value-read kind.Take t h = take-read t h
+value-read kind.Way w h = way-read w
+value-read kind.Bytes b h = bytes-read b h
+value-read kind.Until u h = until-read u h
+value-read kind.Truth b h = refl
 
 -- ---- steps
 

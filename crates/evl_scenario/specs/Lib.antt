@@ -12,4 +12,3 @@ pub mod Writings
 pub mod Traces
 pub mod Widths
 pub mod Fields
-pub mod Calls

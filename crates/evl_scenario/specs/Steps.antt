@@ -3,9 +3,9 @@ use Rattle.std.specs.Prelude.{ℕ, List, [], ◌∷◌, map, if◌then◌else◌
 use Rattle.std.specs.Str.{bytes_eq}
 use Rattle.toml.specs.Data.{Data, Members, as_table}
 use Rattle.evl_base.specs.declared.call.Call.{Call}
-use Rattle.evl_scenario.specs.declared.calls.StepWord.{StepWord}
+use Rattle.evl_base.specs.declared.call.StepWord.{StepWord}
 use Rattle.evl_scenario.specs.declared.steps.Step.{Step}
-use Rattle.evl_scenario.specs.Calls.{words, name_of, fields_of, call_with}
+use Rattle.evl_base.specs.Calls.{words, name_of, fields_of, call_with}
 use Rattle.evl_scenario.specs.Fields.{values_of}
 use Rattle.evl_scenario.specs.Tables.{value_at, text_at, has_only}
 use Rattle.evl_scenario.specs.Values.{thread_from}

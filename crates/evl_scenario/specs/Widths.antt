@@ -8,8 +8,8 @@ use Rattle.evl_base.specs.declared.policy.Policy.{Policy}
 use Rattle.evl_base.specs.declared.policy.Policy.TheVariants.{Fifo, Rr, Quota, Weak}
 use Rattle.evl_base.specs.declared.take.Take.{Take}
 use Rattle.evl_base.specs.declared.take.Take.TheVariants.{Any, Of, Exact}
-use Rattle.evl_scenario.specs.Calls.{told_in}
-use Rattle.evl_scenario.specs.Fields.{Told, a_byte, a_half, a_word, a_number, a_stage, a_policy, a_take, a_way, a_bytes, a_until, a_truth, Keyed}
+use Rattle.evl_base.specs.Calls.{told_in}
+use Rattle.evl_base.specs.Fields.{Told, a_byte, a_half, a_word, a_number, a_stage, a_policy, a_take, a_way, a_bytes, a_until, a_truth, Keyed}
 use Rattle.evl_scenario.specs.declared.steps.Step.{Step}
 
 abbrev pub PolicyFits : Policy → Type 0

@@ -5,7 +5,7 @@ use Rattle.hex.specs.Hex.{encode_lower}
 use Rattle.toml.specs.Data.{Data, string, integer, boolean, array, Items, no_items, item}
 use Rattle.toml.specs.View.{items_of}
 use Rattle.evl_base.specs.Board.{board_fits}
-use Rattle.evl_base.specs.Call.{truth_text}
+use Rattle.evl_base.specs.Fields.{truth_text}
 use Rattle.evl_base.specs.Policy.{policy_text}
 use Rattle.evl_base.specs.Stage.{stage_text}
 use Rattle.evl_base.specs.Take.{take_text}
@@ -16,8 +16,9 @@ use Rattle.evl_base.specs.declared.entry.Entry.{Entry}
 use Rattle.evl_base.specs.declared.mutex_kind.MutexKind.{MutexKind}
 use Rattle.evl_base.specs.declared.mutex_kind.MutexKind.TheVariants.{Normal, Recursive, Ceiling}
 use Rattle.evl_scenario.specs.Boards.{is_limit}
-use Rattle.evl_scenario.specs.Calls.{name_of, word_in, parts_of, told_in}
-use Rattle.evl_scenario.specs.Fields.{Told, a_byte, a_half, a_word, a_number, a_stage, a_policy, a_take, a_way, a_bytes, a_until, a_truth, Keyed}
+use Rattle.evl_base.specs.Call.{call_word}
+use Rattle.evl_base.specs.Calls.{told_in}
+use Rattle.evl_base.specs.Fields.{Told, a_byte, a_half, a_word, a_number, a_stage, a_policy, a_take, a_way, a_bytes, a_until, a_truth, Keyed}
 use Rattle.evl_scenario.specs.Scenarios.{Script}
 use Rattle.evl_scenario.specs.declared.steps.Step.{Step}
 use Rattle.evl_scenario.specs.declared.writing.Unwritten.{Unwritten}
@@ -70,10 +71,6 @@ data_of (a_truth truth) = boolean truth
 
 abbrev pub pair_of : Keyed → Pair
 pair_of keyed = (keyed.0, data_of keyed.1)
-
--- the step word of a call
-abbrev pub call_word : Call → List ℕ
-call_word call = name_of (word_in (parts_of call))
 
 -- the keys of a call with their values, in the order of a trace
 abbrev pub call_pairs : Call → List Pair

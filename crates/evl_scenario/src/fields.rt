@@ -1,56 +1,26 @@
-//! The fields of a call: each key with what stands behind it, and how it is written.
+//! The keys of a step's call, as a scenario has them: each with its value on a line of its own.
 ghost use Rattle.std.specs.Prelude.{Some};
-ghost use Rattle.evl_scenario.specs.Fields.{all_told, told_of};
 
 use crate::value_texts::{Digits, Moment, Until};
-use evl_base::{Policy, Stage, Take, Transfer, Way};
+use evl_base::{Field, Fields, Named};
 use std::fmt;
 
-/// What stands behind a key of a call, by its kind.
-#[derive(Clone, Copy)]
-pub enum Field<'a> {
-    Byte(u8),
-    Half(u16),
-    Word(u32),
-    Number(u64),
-    Stage(Stage),
-    Policy(Policy),
-    Take(Take),
-    Way(Way),
-    Bytes(&'a Transfer),
-    Until(Option<u64>),
-    Truth(bool),
-}
+/// What stands behind a key of a call.
+#[derive(Drop)]
+struct Written<'a>(Field<'a>);
 
-/// A key of a call with what stands behind it.
-#[derive(Clone, Copy)]
-pub struct Named<'a> {
-    pub key: &'static str,
-    pub field: Field<'a>,
-}
-
-/// The keys of a call, at most four.
-#[derive(Clone, Copy)]
-pub enum Fields<'a> {
-    Zero,
-    One(Named<'a>),
-    Two(Named<'a>, Named<'a>),
-    Three(Named<'a>, Named<'a>, Named<'a>),
-    Four(Named<'a>, Named<'a>, Named<'a>, Named<'a>),
-}
-
-impl<'a> fmt::Display for Field<'a> {
-    ghost use Rattle.evl_scenario.specs.Fields.{seen};
+impl<'a> fmt::Display for Written<'a> {
+    ghost use Rattle.evl_base.specs.Fields.{seen};
     ghost use Rattle.evl_scenario.specs.Writings.{data_of, value_text};
 
-    ghost output = { λ field. Some (value_text (data_of (seen field))) };
+    ghost output = { λ written. Some (value_text (data_of (seen written.0))) };
 
     fn fmt<W: fmt::Write>(&self, f: &mut fmt::Formatter<W>) -> fmt::Result {
-        match self {
+        match self.0 {
             Field::Byte(number) => write!(f, "{number}"),
             Field::Half(number) => write!(f, "{number}"),
             Field::Word(number) => write!(f, "{number}"),
-            Field::Number(number) => Moment(*number).fmt(f),
+            Field::Number(number) => Moment(number).fmt(f),
             Field::Stage(stage) => write!(f, "\"{stage}\""),
             Field::Policy(policy) => write!(f, "\"{policy}\""),
             Field::Take(take) => write!(f, "\"{take}\""),
@@ -59,38 +29,61 @@ impl<'a> fmt::Display for Field<'a> {
                 let digits = Digits(bytes.as_slice());
                 write!(f, "\"{digits}\"")
             }
-            Field::Until(until) => Until(*until).fmt(f),
+            Field::Until(until) => Until(until).fmt(f),
             Field::Truth(truth) => write!(f, "{truth}"),
         }
     }
 }
 
-impl<'a> fmt::Display for Named<'a> {
+/// A key of a call with what stands behind it.
+#[derive(Drop)]
+struct Line<'a>(Named<'a>);
+
+impl<'a> fmt::Display for Line<'a> {
     ghost use Rattle.std.specs.Prelude.{◌∷◌, []};
+    ghost use Rattle.evl_base.specs.Fields.{told_of};
     ghost use Rattle.evl_scenario.specs.Writings.{pair_of, pairs_text};
 
-    ghost output = { λ named. Some (pairs_text (pair_of (told_of named) ∷ [])) };
+    ghost output = { λ line. Some (pairs_text (pair_of (told_of line.0) ∷ [])) };
 
     fn fmt<W: fmt::Write>(&self, f: &mut fmt::Formatter<W>) -> fmt::Result {
-        let key = self.key;
-        let field = self.field;
-        write!(f, "{key} = {field}\n")
+        let key = self.0.key;
+        let value = Written(self.0.field);
+        write!(f, "{key} = {value}\n")
     }
 }
 
-impl<'a> fmt::Display for Fields<'a> {
+/// The keys of a call.
+#[derive(Drop)]
+pub struct Lines<'a>(pub Fields<'a>);
+
+impl<'a> fmt::Display for Lines<'a> {
     ghost use Rattle.std.specs.Prelude.{map};
+    ghost use Rattle.evl_base.specs.Fields.{all_told};
     ghost use Rattle.evl_scenario.specs.Writings.{pair_of, pairs_text};
 
-    ghost output = { λ fields. Some (pairs_text (map pair_of (all_told fields))) };
+    ghost output = { λ lines. Some (pairs_text (map pair_of (all_told lines.0))) };
 
     fn fmt<W: fmt::Write>(&self, f: &mut fmt::Formatter<W>) -> fmt::Result {
-        match self {
+        match self.0 {
             Fields::Zero => Ok(()),
-            Fields::One(first) => first.fmt(f),
-            Fields::Two(first, second) => write!(f, "{first}{second}"),
-            Fields::Three(first, second, third) => write!(f, "{first}{second}{third}"),
+            Fields::One(first) => Line(first).fmt(f),
+            Fields::Two(first, second) => {
+                let first = Line(first);
+                let second = Line(second);
+                write!(f, "{first}{second}")
+            }
+            Fields::Three(first, second, third) => {
+                let first = Line(first);
+                let second = Line(second);
+                let third = Line(third);
+                write!(f, "{first}{second}{third}")
+            }
             Fields::Four(first, second, third, fourth) => {
+                let first = Line(first);
+                let second = Line(second);
+                let third = Line(third);
+                let fourth = Line(fourth);
                 write!(f, "{first}{second}{third}{fourth}")
             }
         }

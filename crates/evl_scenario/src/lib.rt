@@ -22,7 +22,6 @@ mod values;
 mod widths;
 mod writing;
 
-pub use calls::{STEP_WORDS, StepWord, numbered_word};
 pub use faults::Fault;
 pub use lines::{
     Answer, BoardLine, ElementCounts, EntryNumber, OwnerCounts, PlayLine, StepLine, board_line,

@@ -1,8 +1,8 @@
 //! The texts of steps: a table each, with its word, its thread and the keys of its call.
 ghost use Rattle.std.specs.Prelude.{Some};
 
-use crate::calls::{fields_in, step_word};
-use evl_base::{Call, ThreadId};
+use crate::fields::Lines;
+use evl_base::{Call, ThreadId, fields_in, step_word};
 use std::fmt;
 
 /// The table of a step, as a scenario has it: behind an empty line its header, and then each key with its value on a
@@ -36,6 +36,6 @@ impl<'a> fmt::Display for Keys<'a> {
     ghost output = { λ keys. Some (pairs_text (call_pairs keys.0.now)) };
 
     fn fmt<W: fmt::Write>(&self, f: &mut fmt::Formatter<W>) -> fmt::Result {
-        fields_in(self.0).fmt(f)
+        Lines(fields_in(self.0)).fmt(f)
     }
 }

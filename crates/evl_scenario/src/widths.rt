@@ -1,12 +1,10 @@
 //! What is known of the numbers of a step by the types of its fields. Nothing is computed here.
 ghost use Rattle.std.specs.Prelude.{◌≡◌, ◌<◌, ◌^◌};
 ghost use Rattle.hex.specs.Hex.{IsBytes};
-ghost use Rattle.evl_scenario.specs.Fields.{all_told, seen};
+ghost use Rattle.evl_base.specs.Fields.{all_told, seen};
 ghost use Rattle.evl_scenario.specs.Widths.{AllFit, AreWords, BoardHolds, BytesFit, Fits, PolicyFits, StepFits, TakeFits, UntilFits};
 
-use crate::calls::fields_in;
-use crate::fields::{Field, Fields};
-use evl_base::{Board, Call, Policy, Take, ThreadId, Transfer};
+use evl_base::{Board, Call, Field, Fields, Policy, Take, ThreadId, Transfer, fields_in};
 
 // A number of 16 bits.
 fn know_half(number: u16)

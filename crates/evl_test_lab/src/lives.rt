@@ -2,7 +2,8 @@
 use crate::banks::trace_of_program;
 use evl_live::{Session, answer_line, write_forms};
 use evl_runs::program_plans;
-use evl_scenario::{Fault, STEP_WORDS};
+use evl_base::STEP_WORDS;
+use evl_scenario::Fault;
 use std::alloc::{AllocError, Global};
 
 // The board, and a step that comes first.

@@ -1,21 +1,23 @@
 -- In the text of a call no arrow stands, and no line feed.
-use Rattle.std.proofs.Common.{arith, ◌≡◌, ℕ, zero, suc, ◌<◌, ◌^◌, ◌/◌, ◌%◌, ◌==◌, nat_le, Bool, true, false, not, ◌&&◌, List, [], ◌∷◌, ◌++◌, length, codes, decimal, slice_index, if◌then◌else◌, Option, Some, None, inl, inr, refl, sym, subst, append_assoc, ◌∙◌}
+use Rattle.std.proofs.Common.{arith, ◌≡◌, ℕ, zero, suc, ◌<◌, ◌^◌, ◌/◌, ◌%◌, ◌==◌, nat_le, Bool, true, false, not, ◌&&◌, List, [], ◌∷◌, ◌++◌, length, codes, decimal, slice_index, if◌then◌else◌, Option, Some, None, inl, inr, refl, ◌∙◌}
 use Rattle.std.proofs.lemmas.Bool.{and_parts, cases_lt}
 use Rattle.std.proofs.lemmas.Bool.Decides.{nat_tests}
 use Rattle.std.proofs.lemmas.Fmt.{decimal_is_IsNumeral}
-use Rattle.std.proofs.lemmas.List.{append-nil}
 use Rattle.std.proofs.lemmas.List.Folds.{list_all-append}
 use Rattle.std.specs.Char.{digit_value}
 use Rattle.std.specs.List.{list_all}
 use Rattle.std.specs.Str.Parse.{AllDigits}
 use Rattle.hex.specs.Hex.{IsBytes, encode_lower, encode_with, lower_digits}
-use Rattle.evl_base.specs.Call.{call_text, until_text, truth_text}
+use Rattle.evl_base.specs.Call.{call_text}
+use Rattle.evl_base.specs.Calls.{Parts, parts, fields_of, name_of, parts_of, told_by, word_in}
+use Rattle.evl_base.specs.Fields.{Told, a_byte, a_half, a_word, a_number, a_stage, a_policy, a_take, a_way, a_bytes, a_until, a_truth, Key, Values, keys_text, told_as, told, truth_text, until_text, value_text}
 use Rattle.evl_base.specs.Policy.{policy_text}
 use Rattle.evl_base.specs.Stage.{stage_text}
 use Rattle.evl_base.specs.Take.{take_text}
 use Rattle.evl_base.specs.Way.{bytes_text, way_text}
 use Rattle.evl_base.specs.declared.call.Call.{Call}
-use Rattle.evl_base.specs.declared.call.Call.TheVariants.{Now}
+use Rattle.evl_base.specs.declared.call.StepWord.{StepWord}
+use Rattle.evl_base.specs.declared.call.StepWord.TheVariants.{Pick}
 use Rattle.evl_base.specs.declared.policy.Policy.{Policy}
 use Rattle.evl_base.specs.declared.policy.Policy.TheVariants.{Fifo, Rr, Quota, Weak}
 use Rattle.evl_base.specs.declared.stage.Stage.{Stage}
@@ -24,13 +26,8 @@ use Rattle.evl_base.specs.declared.take.Take.{Take}
 use Rattle.evl_base.specs.declared.take.Take.TheVariants.{Any, Of, Exact}
 use Rattle.evl_base.specs.declared.way.Way.{Way}
 use Rattle.evl_base.specs.declared.way.Way.TheVariants.{In, Out}
-use Rattle.evl_scenario.specs.Calls.{Parts, parts, fields_of, name_of, parts_of, told_by}
-use Rattle.evl_scenario.specs.Fields.{Told, a_byte, a_half, a_word, a_number, a_stage, a_policy, a_take, a_way, a_bytes, a_until, a_truth, Key, Values, told_as, told}
 use Rattle.evl_scenario.specs.Widths.{AllFit, BytesFit, CallFits, Fits, PolicyFits, TakeFits, UntilFits}
-use Rattle.evl_scenario.specs.declared.calls.StepWord.{StepWord}
-use Rattle.evl_scenario.specs.declared.calls.StepWord.TheVariants.{Pick}
 use Rattle.evl_traces.specs.Parts.{Lacks}
-use Rattle.evl_traces.specs.Values.{value_text}
 
 -- a byte from the space on, but for the point of an arrow and an equals sign
 abbrev is_inner : ℕ → Bool
@@ -171,20 +168,7 @@ said_bytes (c ∷ rest) h = let (here, more) = and_parts (is_inner c) (list_all 
 inner_said : {text : List ℕ} → IsInner text → IsSaid text
 inner_said {text} h = record { all = said_bytes text h.all }
 
--- a space, the key and its value, for each of these keys
-abbrev pub said : (keys : List Key) → Values keys → List ℕ
-said [] values = []
-said (key ∷ keys) values = codes " " ++ (key.name ++ (codes "=" ++ (value_text (told_as key.kind values.0) ++ said keys values.1)))
-
-abbrev pub parts_said : Parts → List ℕ
-parts_said (parts step values) = name_of step ++ said (fields_of step) values
-
--- a call says the name of its word, and its keys with their values
-pub call_said : (call : Call) → call_text call ≡ parts_said (parts_of call)
-call_said Now = refl
-call_said _ = simp (append_assoc, append-nil) refl
-
-all_said : (keys : List Key) (values : Values keys) → list_all (λ key. list_all is_inner key.name) keys ≡ true → AllFit (told keys values) → IsSaid (said keys values)
+all_said : (keys : List Key) (values : Values keys) → list_all (λ key. list_all is_inner key.name) keys ≡ true → AllFit (told keys values) → IsSaid (keys_text (told keys values))
 all_said [] values names fits = literal_said [] refl
 all_said (key ∷ keys) values names fits =
     let (here, more) = and_parts (list_all is_inner key.name) (list_all (λ k. list_all is_inner k.name) keys) names in
@@ -195,13 +179,13 @@ names_inner : (step : StepWord) → (list_all is_inner (name_of step) && list_al
 names_inner Pick = refl
 names_inner _ = refl
 
-whole_said : (p : Parts) → AllFit (told_by p) → IsSaid (parts_said p)
+whole_said : (p : Parts) → AllFit (told_by p) → IsSaid (name_of (word_in p) ++ keys_text (told_by p))
 whole_said (parts step values) fits =
     let (name, keys) = and_parts (list_all is_inner (name_of step)) (list_all (λ key. list_all is_inner key.name) (fields_of step)) (names_inner step) in
     join_said (inner_said (literal (name_of step) name)) (all_said (fields_of step) values keys fits)
 
 call_bytes : (call : Call) → CallFits call → IsSaid (call_text call)
-call_bytes call fits = subst IsSaid (sym (call_said call)) (whole_said (parts_of call) fits)
+call_bytes call fits = whole_said (parts_of call) fits
 
 said_point : (c : ℕ) → is_said c ≡ true → not (c == 62) ≡ true
 said_point c h = (and_parts (nat_le 32 c) (not (c == 62)) h).1

@@ -3,4 +3,3 @@ pub mod Plays
 pub mod Entries
 pub mod Lines
 pub mod Says
-pub mod Values

@@ -3,10 +3,10 @@
 use Rattle.std.specs.Prelude.{ℕ, false, List, [], ◌∷◌, None, codes}
 use Rattle.evl_base.specs.declared.call.Call.{Call}
 use Rattle.evl_base.specs.declared.call.Call.TheVariants as make
-use Rattle.evl_scenario.specs.declared.calls.StepWord.{StepWord}
-use Rattle.evl_scenario.specs.declared.calls.StepWord.TheVariants as word
-use Rattle.evl_scenario.specs.Fields as kind
-use Rattle.evl_scenario.specs.Fields.{Key, Values, Keyed, required, optional, told}
+use Rattle.evl_base.specs.declared.call.StepWord.{StepWord}
+use Rattle.evl_base.specs.declared.call.StepWord.TheVariants as word
+use Rattle.evl_base.specs.declared.fields.Kind.TheVariants as kind
+use Rattle.evl_base.specs.Fields.{Key, Values, Keyed, required, optional, told}
 
 -- ---- words
 
@@ -34,42 +34,42 @@ words = word.Request ∷ word.Free ∷ word.Arrive ∷ word.Post ∷ word.Stall 
 
 -- the name of a word, and the keys behind `do` and `who`, in the order in which they are written
 abbrev pub form_of : StepWord → List ℕ × List Key
-form_of word.Request = (codes "request", required kind.half (codes "line") ∷ required kind.stage (codes "stage") ∷ required kind.byte (codes "callback") ∷ optional kind.word 0 (codes "tag") ∷ [])
-form_of word.Free = (codes "free", required kind.half (codes "line") ∷ required kind.stage (codes "stage") ∷ [])
-form_of word.Arrive = (codes "arrive", required kind.half (codes "line") ∷ [])
-form_of word.Post = (codes "post", required kind.stage (codes "stage") ∷ required kind.half (codes "line") ∷ [])
-form_of word.Stall = (codes "stall", required kind.stage (codes "stage") ∷ [])
-form_of word.Unstall = (codes "unstall", required kind.stage (codes "stage") ∷ [])
-form_of word.Tick = (codes "tick", required kind.number (codes "delta") ∷ [])
+form_of word.Request = (codes "request", required kind.Half (codes "line") ∷ required kind.Stage (codes "stage") ∷ required kind.Byte (codes "callback") ∷ optional kind.Word 0 (codes "tag") ∷ [])
+form_of word.Free = (codes "free", required kind.Half (codes "line") ∷ required kind.Stage (codes "stage") ∷ [])
+form_of word.Arrive = (codes "arrive", required kind.Half (codes "line") ∷ [])
+form_of word.Post = (codes "post", required kind.Stage (codes "stage") ∷ required kind.Half (codes "line") ∷ [])
+form_of word.Stall = (codes "stall", required kind.Stage (codes "stage") ∷ [])
+form_of word.Unstall = (codes "unstall", required kind.Stage (codes "stage") ∷ [])
+form_of word.Tick = (codes "tick", required kind.Number (codes "delta") ∷ [])
 form_of word.Now = (codes "now", [])
-form_of word.NewTimer = (codes "new_timer", required kind.byte (codes "callback") ∷ optional kind.word 0 (codes "tag") ∷ [])
-form_of word.StartTimer = (codes "start_timer", required kind.half (codes "timer") ∷ required kind.number (codes "date") ∷ required kind.number (codes "interval") ∷ [])
-form_of word.StopTimer = (codes "stop_timer", required kind.half (codes "timer") ∷ [])
-form_of word.DropTimer = (codes "drop_timer", required kind.half (codes "timer") ∷ [])
-form_of word.Overruns = (codes "overruns", required kind.half (codes "timer") ∷ [])
-form_of word.Attach = (codes "attach", required kind.policy (codes "policy") ∷ required kind.stage (codes "stage") ∷ [])
+form_of word.NewTimer = (codes "new_timer", required kind.Byte (codes "callback") ∷ optional kind.Word 0 (codes "tag") ∷ [])
+form_of word.StartTimer = (codes "start_timer", required kind.Half (codes "timer") ∷ required kind.Number (codes "date") ∷ required kind.Number (codes "interval") ∷ [])
+form_of word.StopTimer = (codes "stop_timer", required kind.Half (codes "timer") ∷ [])
+form_of word.DropTimer = (codes "drop_timer", required kind.Half (codes "timer") ∷ [])
+form_of word.Overruns = (codes "overruns", required kind.Half (codes "timer") ∷ [])
+form_of word.Attach = (codes "attach", required kind.Policy (codes "policy") ∷ required kind.Stage (codes "stage") ∷ [])
 form_of word.Detach = (codes "detach", [])
-form_of word.SetPolicy = (codes "set_policy", required kind.policy (codes "policy") ∷ [])
-form_of word.SetStage = (codes "set_stage", required kind.stage (codes "stage") ∷ [])
+form_of word.SetPolicy = (codes "set_policy", required kind.Policy (codes "policy") ∷ [])
+form_of word.SetStage = (codes "set_stage", required kind.Stage (codes "stage") ∷ [])
 form_of word.Pick = (codes "pick", [])
-form_of word.RankOf = (codes "rank_of", required kind.half (codes "thread") ∷ [])
-form_of word.TryGet = (codes "try_get", required kind.half (codes "sem") ∷ [])
-form_of word.Put = (codes "put", required kind.half (codes "sem") ∷ [])
-form_of word.Peek = (codes "peek", required kind.half (codes "sem") ∷ [])
-form_of word.BeginGet = (codes "begin_get", required kind.half (codes "sem") ∷ optional kind.until None (codes "until") ∷ [])
-form_of word.TryTake = (codes "try_take", required kind.half (codes "flags") ∷ required kind.take (codes "kind") ∷ [])
-form_of word.PostFlags = (codes "post_flags", required kind.half (codes "flags") ∷ required kind.word (codes "bits") ∷ [])
-form_of word.PeekFlags = (codes "peek_flags", required kind.half (codes "flags") ∷ [])
-form_of word.BeginTake = (codes "begin_take", required kind.half (codes "flags") ∷ required kind.take (codes "kind") ∷ optional kind.until None (codes "until") ∷ [])
-form_of word.Write = (codes "write", required kind.half (codes "xbuf") ∷ required kind.way (codes "way") ∷ required kind.bytes (codes "bytes") ∷ [])
-form_of word.Read = (codes "read", required kind.half (codes "xbuf") ∷ required kind.way (codes "way") ∷ required kind.half (codes "len") ∷ [])
-form_of word.Room = (codes "room", required kind.half (codes "xbuf") ∷ required kind.way (codes "way") ∷ [])
-form_of word.BeginWrite = (codes "begin_write", required kind.half (codes "xbuf") ∷ required kind.way (codes "way") ∷ required kind.bytes (codes "bytes") ∷ optional kind.until None (codes "until") ∷ [])
-form_of word.BeginRead = (codes "begin_read", required kind.half (codes "xbuf") ∷ required kind.way (codes "way") ∷ required kind.half (codes "len") ∷ optional kind.until None (codes "until") ∷ [])
-form_of word.Claim = (codes "claim", required kind.half (codes "mutex") ∷ required kind.half (codes "owner") ∷ optional kind.until None (codes "until") ∷ [])
-form_of word.Release = (codes "release", required kind.half (codes "mutex") ∷ [])
-form_of word.Raise = (codes "raise", required kind.half (codes "mutex") ∷ [])
-form_of word.Finish = (codes "finish", optional kind.truth false (codes "keep") ∷ [])
+form_of word.RankOf = (codes "rank_of", required kind.Half (codes "thread") ∷ [])
+form_of word.TryGet = (codes "try_get", required kind.Half (codes "sem") ∷ [])
+form_of word.Put = (codes "put", required kind.Half (codes "sem") ∷ [])
+form_of word.Peek = (codes "peek", required kind.Half (codes "sem") ∷ [])
+form_of word.BeginGet = (codes "begin_get", required kind.Half (codes "sem") ∷ optional kind.Until None (codes "until") ∷ [])
+form_of word.TryTake = (codes "try_take", required kind.Half (codes "flags") ∷ required kind.Take (codes "kind") ∷ [])
+form_of word.PostFlags = (codes "post_flags", required kind.Half (codes "flags") ∷ required kind.Word (codes "bits") ∷ [])
+form_of word.PeekFlags = (codes "peek_flags", required kind.Half (codes "flags") ∷ [])
+form_of word.BeginTake = (codes "begin_take", required kind.Half (codes "flags") ∷ required kind.Take (codes "kind") ∷ optional kind.Until None (codes "until") ∷ [])
+form_of word.Write = (codes "write", required kind.Half (codes "xbuf") ∷ required kind.Way (codes "way") ∷ required kind.Bytes (codes "bytes") ∷ [])
+form_of word.Read = (codes "read", required kind.Half (codes "xbuf") ∷ required kind.Way (codes "way") ∷ required kind.Half (codes "len") ∷ [])
+form_of word.Room = (codes "room", required kind.Half (codes "xbuf") ∷ required kind.Way (codes "way") ∷ [])
+form_of word.BeginWrite = (codes "begin_write", required kind.Half (codes "xbuf") ∷ required kind.Way (codes "way") ∷ required kind.Bytes (codes "bytes") ∷ optional kind.Until None (codes "until") ∷ [])
+form_of word.BeginRead = (codes "begin_read", required kind.Half (codes "xbuf") ∷ required kind.Way (codes "way") ∷ required kind.Half (codes "len") ∷ optional kind.Until None (codes "until") ∷ [])
+form_of word.Claim = (codes "claim", required kind.Half (codes "mutex") ∷ required kind.Half (codes "owner") ∷ optional kind.Until None (codes "until") ∷ [])
+form_of word.Release = (codes "release", required kind.Half (codes "mutex") ∷ [])
+form_of word.Raise = (codes "raise", required kind.Half (codes "mutex") ∷ [])
+form_of word.Finish = (codes "finish", optional kind.Truth false (codes "keep") ∷ [])
 
 abbrev pub name_of : StepWord → List ℕ
 name_of step = (form_of step).0

@@ -1,0 +1,86 @@
+//! What is made of the list of the calls: the word with a number, the word of a call, and what stands behind the keys of
+//! a call.
+ghost use Rattle.std.specs.Prelude.{◌≡◌, slice_get};
+ghost use Rattle.evl_base.specs.Call.{call_word};
+ghost use Rattle.evl_base.specs.Calls.{told_in, words};
+ghost use Rattle.evl_base.specs.Fields.{all_told};
+
+use crate::call::{Call, StepWord};
+use crate::each_call;
+use crate::fields::{Field, Fields, Named};
+
+/// All words.
+macro_rules! variants {
+    (() [$($family:ident { $($variant:ident $name:literal $keys:tt)* })*]) => { [$($(StepWord::$variant),*),*] };
+}
+
+/// The name of a call's word.
+macro_rules! name {
+    (($call:expr) [$($family:ident { $($variant:ident $name:literal $keys:tt)* })*]) => {
+        match $call {
+            $($(Call::$variant { .. } => $name,)*)*
+        }
+    };
+}
+
+/// What is told of a field.
+macro_rules! told {
+    ($field:ident Bytes) => { $field };
+    ($field:ident $kind:ident) => { *$field };
+    ($field:ident $kind:ident $id:ident) => { $field.0 };
+}
+
+/// So many keys.
+macro_rules! listed {
+    () => { Fields::Zero };
+    ($first:expr) => { Fields::One($first) };
+    ($first:expr, $second:expr) => { Fields::Two($first, $second) };
+    ($first:expr, $second:expr, $third:expr) => { Fields::Three($first, $second, $third) };
+    ($first:expr, $second:expr, $third:expr, $fourth:expr) => {
+        Fields::Four($first, $second, $third, $fourth)
+    };
+}
+
+/// The keys of a call with what stands behind them.
+macro_rules! fields {
+    (($call:expr) [$($family:ident {
+        $($variant:ident $name:literal { $($key:ident: $kind:ident $($id:ident)? $(= $default:expr)?),* })*
+    })*]) => {
+        match $call {
+            $($(Call::$variant { $($key),* } => listed!($(Named {
+                key: stringify!($key),
+                field: Field::$kind(told!($key $kind $($id)?)),
+            }),*),)*)*
+        }
+    };
+}
+
+// The word at a place.
+#[inline(always)]
+fn word_at(all: &[StepWord], place: usize) -> Option<StepWord>
+    ensures { result ≡ slice_get all.now place }
+{
+    all.get(place).copied()
+}
+
+/// The word of a step with this number: its place among all words, from 0.
+#[inline(always)]
+pub fn numbered_word(number: usize) -> Option<StepWord>
+    ensures { result ≡ slice_get words number }
+{
+    word_at(&each_call!(variants()), number)
+}
+
+/// The word of a step with this call.
+pub fn step_word(call: &Call) -> &'static str
+    ensures { result.now ≡ call_word call.now }
+{
+    each_call!(name(call))
+}
+
+/// The keys of a call with what stands behind them.
+pub fn fields_in(call: &Call) -> Fields<'_>
+    ensures { all_told result ≡ told_in call.now }
+{
+    each_call!(fields(call))
+}
