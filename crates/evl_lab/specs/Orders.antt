@@ -60,7 +60,7 @@ pub record AsksOf (text : List ℕ) (callers : Callers) (asks : Ask) : Type 0 wh
   pub who : AreOfCallers callers.callers.items asks.never.items
 
 abbrev pub ask_fault_line : List ℕ → AskFault → Option (List ℕ)
-ask_fault_line name ask.Table = Some (line_about name (codes "[ask] has never, a list of texts, and always_ends"))
+ask_fault_line name ask.Table = Some (line_about name (codes "[ask] has never, a list of texts, and always_ends and as_picked"))
 ask_fault_line name (ask.Never number) =
     Some (codes "lab: " ++ (name ++ (codes ": [ask]: text " ++ (decimal number ++ codes " of never isn't a caller and one answer, as \"T1 -> timed out\"\n"))))
 ask_fault_line name ask.Memory = None
@@ -68,7 +68,7 @@ ask_fault_line name ask.Memory = None
 -- or it can't be read, for some fault
 abbrev pub TellsAsked : List Handler → ℕ → List ℕ → Callers → List ℕ → Output → Type 0
 TellsAsked bank most name callers text output =
-    ((asks : Ask) × AsksOf text callers asks × TellsOutcomes bank most name callers asks output)
+    ((asks : Ask) × AsksOf text callers asks × TellsOutcomes bank most name (record callers { as_picked = asks.as_picked }) asks output)
     ⊎ ((fault : AskFault) × IsSomeAnd (ask_fault_line name fault) (λ line. output ≡ refuses 2 line))
 
 -- ---- the text

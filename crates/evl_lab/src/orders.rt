@@ -71,7 +71,7 @@ fn tell_ask_fault<E: Write>(err: &mut E, name: &str, fault: AskFault) -> io::Res
         AskFault::Table => tell_refused(
             err,
             name,
-            "[ask] has never, a list of texts, and always_ends",
+            "[ask] has never, a list of texts, and always_ends and as_picked",
         ),
         AskFault::Never(number) => tell_never(err, name, number),
         AskFault::Memory => Err(AllocError.into()),
@@ -140,16 +140,20 @@ fn go_through<O: Write, E: Write>(
 fn tell_callers<O: Write, E: Write>(
     alloc: Global,
     asked: &Asked<'_>,
-    callers: &Callers,
+    callers: Callers,
     plans: &[Planned],
     text: &[u8],
     out: &mut O,
     err: &mut E,
 ) -> io::Result<u8>
-    ensures { IfOk result (Writes (TellsAsked (map told plans.now) asked.now.most (unwrap_or (option_map (λ file. file.now) asked.now.file) (codes "-")) callers.now text.now) (O.contents out.old) (O.contents out.new) (E.contents err.old) (E.contents err.new)) }
+    ensures { IfOk result (Writes (TellsAsked (map told plans.now) asked.now.most (unwrap_or (option_map (λ file. file.now) asked.now.file) (codes "-")) callers text.now) (O.contents out.old) (O.contents out.new) (E.contents err.old) (E.contents err.new)) }
 {
-    match read_ask(alloc, callers, text) {
-        Ok(ask) => go_through(alloc, asked, callers, &ask, plans, out, err),
+    let mut callers = callers;
+    match read_ask(alloc, &callers, text) {
+        Ok(ask) => {
+            callers.as_picked = ask.as_picked;
+            go_through(alloc, asked, &callers, &ask, plans, out, err)
+        }
         Err(fault) => {
             let told = tell_ask_fault(err, asked.name(), fault);
             refused(told)
@@ -169,7 +173,7 @@ fn tell_text<O: Write, E: Write>(
     ensures { IfOk result (Writes (TellsText (map told plans.now) asked.now.most (unwrap_or (option_map (λ file. file.now) asked.now.file) (codes "-")) text.now) (O.contents out.old) (O.contents out.new) (E.contents err.old) (E.contents err.new)) }
 {
     match read_callers(alloc, text) {
-        Ok(callers) => tell_callers(alloc, asked, &callers, plans, text, out, err),
+        Ok(callers) => tell_callers(alloc, asked, callers, plans, text, out, err),
         Err(fault) => {
             let told = tell_text_fault(err, asked.name(), fault);
             refused(told)

@@ -1,5 +1,5 @@
 //! The moments that are reached by one number of steps.
-ghost use Rattle.std.specs.Prelude.{ℕ, [], ◌∷◌, ◌++◌, ◌≡◌, ◌+◌, ◌<◌, ◌≤◌, Some, OnOk, IfSome, IfOk, IfErr, slice_get, slice_set, vec_len};
+ghost use Rattle.std.specs.Prelude.{ℕ, [], ◌∷◌, ◌++◌, ◌≡◌, ◌+◌, ◌<◌, ◌≤◌, Some, OnOk, IfSome, IfOk, IfErr, length, true, slice_get, slice_set, vec_len};
 ghost use Rattle.evl_orders.specs.Fronts.{AddsSteps, AreFit};
 ghost use Rattle.evl_orders.specs.Weights.{count_limit, weight};
 
@@ -22,6 +22,8 @@ pub enum OrdersError {
 pub(crate) struct Level<M> {
     pub(crate) nodes: Vec<Node<M>>,
     places: HashMap<u64, usize>,
+    // For each node the place of the next older one of its digest.
+    older: Vec<Option<usize>>,
 }
 
 impl<M> Level<M> {
@@ -32,6 +34,7 @@ impl<M> Level<M> {
         Level {
             nodes: Vec::new(alloc),
             places: HashMap::new(alloc),
+            older: Vec::new(alloc),
         }
     }
 
@@ -43,7 +46,20 @@ impl<M> Level<M> {
     }
 }
 
-// The place of a node at a moment of the same state, where the newest one of this digest is one.
+// Whether the node at a place is at a moment of the same state.
+fn is_at<W: World>(world: &W, nodes: &[Node<W::Moment>], place: usize, moment: &W::Moment) -> bool
+    requires nodes { AreFit (W.fits world.now) nodes.now }
+    requires moment { W.fits world.now moment.now }
+    ensures within { result ≡ true → place < length nodes.now }
+    ensures same { result ≡ true → (node : _) → slice_get nodes.now place ≡ Some node → W.state world.now node.at ≡ W.state world.now moment.now }
+{
+    match nodes.get(place) {
+        Some(node) => world.is_same(&node.at, moment),
+        None => false,
+    }
+}
+
+// The place of a node at a moment of the same state, among those of this digest.
 fn place_of<W: World>(
     world: &W,
     level: &Level<W::Moment>,
@@ -55,11 +71,15 @@ fn place_of<W: World>(
     ensures within { IfSome result (λ i. i < vec_len level.now.nodes) }
     ensures same { IfSome result (λ i. (node : _) → slice_get level.now.nodes.items i ≡ Some node → W.state world.now node.at ≡ W.state world.now moment.now) }
 {
-    let place = *level.places.get(&digest)?;
-    match level.nodes.get(place) {
-        Some(node) if world.is_same(&node.at, moment) => Some(place),
-        _ => None,
+    let mut next = level.places.get(&digest).copied();
+    for _ in 0..level.nodes.len() {
+        let place = next?;
+        if is_at(world, level.nodes.as_slice(), place, moment) {
+            return Some(place);
+        }
+        next = *level.older.get(place)?;
     }
+    None
 }
 
 // Adds orders to those of the node at a place.
@@ -91,6 +111,8 @@ fn longer(alloc: Global, order: &[u16], caller: u16) -> Result<Vec<u16>, AllocEr
 fn add_node<M: Drop>(level: &mut Level<M>, digest: u64, node: Node<M>) -> Result<(), AllocError>
     ensures { OnOk result (level.new.nodes.items ≡ level.old.nodes.items ++ node ∷ []) }
 {
+    let older = level.places.get(&digest).copied();
+    level.older.push(older)?;
     level.places.insert(digest, level.nodes.len())?;
     level.nodes.push(node)?;
     Ok(())

@@ -7,7 +7,7 @@ use Rattle.evl_base.specs.declared.reply.Reply.{Reply}
 use Rattle.evl_kernel.specs.Replays.{stepped}
 use Rattle.evl_kernel.specs.States.{State}
 use Rattle.evl_scenario.specs.declared.steps.Step.{Step}
-use Rattle.evl_scenario_orders.specs.Callers.{Seen, after, answered, goes_on, step_of}
+use Rattle.evl_scenario_orders.specs.Callers.{Seen, after, answered, is_held, step_of}
 use Rattle.evl_scenario_orders.specs.Moments.{IsMoment, made_at, seen_from, trailed, trail_after}
 use Rattle.evl_scenario_orders.specs.declared.callers.Callers.{Callers}
 use Rattle.evl_scenario_orders.specs.declared.moments.Moment.{Moment}
@@ -61,15 +61,15 @@ fits_after c moment next caller count told fits made answers = record {
       ∙ (mapped string_bytes moment.answers.items ∙ fits.answers)));
 }
 
--- a caller whose wait goes on makes no step, and one whose wait doesn't makes it
-pub blocked : (seen : Seen) (n : ℕ) (step : Step) → goes_on seen.state step.who.0 ≡ true → step_of seen n step ≡ None
-blocked seen n step h = by (goes_on seen.state step.who.0) h where
+-- a caller that is held makes no step, and one that isn't makes it
+pub blocked : (as_picked : Bool) (seen : Seen) (n : ℕ) (step : Step) → is_held as_picked seen.state step.who.0 ≡ true → step_of as_picked seen n step ≡ None
+blocked as_picked seen n step h = by (is_held as_picked seen.state step.who.0) h where
   by : (b : Bool) → b ≡ true → (if b then None else Some (after seen n (stepped seen.state step.who.0 step.call))) ≡ None
   by true e = refl
   by false e = cc
 
-pub makes : (seen : Seen) (n : ℕ) (step : Step) → goes_on seen.state step.who.0 ≡ false → step_of seen n step ≡ Some (after seen n (stepped seen.state step.who.0 step.call))
-makes seen n step h = by (goes_on seen.state step.who.0) h where
+pub makes : (as_picked : Bool) (seen : Seen) (n : ℕ) (step : Step) → is_held as_picked seen.state step.who.0 ≡ false → step_of as_picked seen n step ≡ Some (after seen n (stepped seen.state step.who.0 step.call))
+makes as_picked seen n step h = by (is_held as_picked seen.state step.who.0) h where
   by : (b : Bool) → b ≡ false → (if b then None else Some (after seen n (stepped seen.state step.who.0 step.call))) ≡ Some (after seen n (stepped seen.state step.who.0 step.call))
   by true e = cc
   by false e = refl

@@ -80,13 +80,14 @@ never_in None = Some []
 never_in (Some value) = option_and_then (all_given as_str) (as_array value)
 
 abbrev pub ask_keys : List (List ℕ)
-ask_keys = codes "never" ∷ codes "always_ends" ∷ []
+ask_keys = codes "never" ∷ codes "always_ends" ∷ codes "as_picked" ∷ []
 
 -- a table asks just this
 pub record Asks (ms : Members) (ask : Ask) : Type 0 where
   pub keys : has_only ask_keys ms ≡ true
   pub never : never_in (get_member (codes "never") ms) ≡ Some (map never_text ask.never.items)
   pub ends : value_or truth_from false (get_member (codes "always_ends") ms) ≡ Some ask.always_ends
+  pub picked : value_or truth_from false (get_member (codes "as_picked") ms) ≡ Some ask.as_picked
 
 -- the table of a document, which is empty where there is none
 abbrev pub ask_table : Members → Option Members

@@ -1,13 +1,19 @@
 -- The callers of a scenario as a machine: a caller's step is the kernel's.
-use Rattle.std.specs.Prelude.{ℕ, ◌≡◌, ◌+◌, ◌<◌, ◌⊎◌, Bool, true, false, not, ◌&&◌, if◌then◌else◌, List, [], ◌∷◌, ◌++◌, length, map, codes, Option, Some, None, option_and_then, Ok, Err, take, drop, slice_get, slice_index, slice_index_or, slice_set, Result}
+use Rattle.std.specs.Prelude.{ℕ, ◌≡◌, ◌+◌, ◌<◌, ◌⊎◌, Bool, true, false, not, ◌&&◌, ◌||◌, ◌==◌, if◌then◌else◌, List, [], ◌∷◌, ◌++◌, length, map, codes, Option, Some, None, is_none, option_and_then, Ok, Err, take, drop, slice_get, slice_index, slice_index_or, slice_set, Result}
+use Rattle.std.specs.Option.{option_map_or}
 use Rattle.std.specs.Str.{is_utf8}
 use Rattle.std.specs.Str.Lines.{lines}
 use Rattle.evl_base.specs.Reply.{outcome_text}
 use Rattle.evl_base.specs.declared.refusal.Refusal.{Refusal}
 use Rattle.evl_base.specs.declared.reply.Reply.{Reply}
+use Rattle.evl_base.specs.declared.stage.Stage.{Stage}
+use Rattle.evl_base.specs.declared.stage.Stage.TheVariants.{Oob, Inband}
+use Rattle.evl_sched.specs.Picks.{picked}
+use Rattle.evl_sched.specs.Threads.{is_attached, stage_of}
 use Rattle.evl_kernel.specs.States.{State, Handler}
 use Rattle.evl_kernel.specs.Openings.{opening}
 use Rattle.evl_kernel.specs.Replays.{Outcome, stepped}
+use Rattle.evl_kernel.specs.ThreadCalls.{rank_of}
 use Rattle.evl_kernel.specs.Waits.{is_waiting, has_ended}
 use Rattle.evl_scenario.specs.Scenarios.{Script, scenario_of}
 use Rattle.evl_scenario.specs.declared.faults.Fault.TheVariants.{Memory, Text}
@@ -51,6 +57,20 @@ next_step c n made = option_and_then (slice_get c.steps.items) (next_place c n m
 abbrev pub goes_on : State → ℕ → Bool
 goes_on s who = is_waiting s who && not (has_ended s who)
 
+-- The turn of a thread on this stage, by who is picked: an out-of-band one's is while it is picked, an in-band one's while
+-- nobody is.
+abbrev pub is_turn : Stage → ℕ → Option ℕ → Bool
+is_turn Oob who chosen = option_map_or (λ thread. thread == who) chosen false
+is_turn Inband who chosen = is_none chosen
+
+-- and a thread that isn't attached always has its turn
+abbrev pub has_turn : State → ℕ → Bool
+has_turn s who = if is_attached s.sched who then is_turn (stage_of s.sched who) who (picked (rank_of s) s.sched) else true
+
+-- a thread can make no step: its wait goes on, or it hasn't its turn where steps are made as threads are picked
+abbrev pub is_held : Bool → State → ℕ → Bool
+is_held as_picked s who = goes_on s who || (as_picked && not (has_turn s who))
+
 -- what was answered so far, with one answer more
 abbrev pub answered : List ℕ → Result Reply Refusal → List ℕ
 answered told reply = (told ++ codes " -> ") ++ outcome_text reply
@@ -63,12 +83,12 @@ after seen n o = record {
   state = o.after;
 }
 
--- A caller that has no step more makes none, and none does one whose wait goes on.
-abbrev pub step_of : Seen → ℕ → Step → Option Seen
-step_of seen n step = if goes_on seen.state step.who.0 then None else Some (after seen n (stepped seen.state step.who.0 step.call))
+-- A caller that has no step more makes none, and none does one that is held.
+abbrev pub step_of : Bool → Seen → ℕ → Step → Option Seen
+step_of as_picked seen n step = if is_held as_picked seen.state step.who.0 then None else Some (after seen n (stepped seen.state step.who.0 step.call))
 
 abbrev pub go : Callers → Seen → ℕ → Option Seen
-go c seen n = option_and_then (step_of seen n) (next_step c n (slice_index seen.made n))
+go c seen n = option_and_then (step_of c.as_picked seen n) (next_step c n (slice_index seen.made n))
 
 abbrev pub machine : Callers → Machine Seen
 machine c = record { callers = length c.callers.items; go = go c }

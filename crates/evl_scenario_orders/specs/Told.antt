@@ -52,8 +52,12 @@ waiting_text s who = if goes_on s who then waits_text who (awaited_at s who) els
 abbrev pub has_more : Callers → List ℕ → ℕ → Bool
 has_more c made n = is_some (next_place c n (slice_index made n))
 
+-- its wait doesn't go on: another one is picked
+abbrev pub unpicked_text : ℕ → List ℕ
+unpicked_text who = codes "T" ++ (decimal who ++ codes " isn't picked\n")
+
 abbrev pub stuck_text : State → ℕ → List ℕ
-stuck_text s who = codes "stuck: " ++ waits_text who (awaited_at s who)
+stuck_text s who = codes "stuck: " ++ (if goes_on s who then waits_text who (awaited_at s who) else unpicked_text who)
 
 -- a caller that has a step more and can't make it is stuck
 abbrev pub stuck_line : Callers → List ℕ → State → ℕ → List ℕ

@@ -35,13 +35,15 @@ pub struct Ask {
     pub never: Vec<Never>,
     /// Whether no order may end with a caller stuck.
     pub always_ends: bool,
+    /// Whether only such orders are asked for in which steps are made as threads are picked.
+    pub as_picked: bool,
 }
 
 /// Why it can't be read what is asked.
 #[derive(Clone, Copy, PartialEq, Eq, Debug)]
 pub enum AskFault {
-    /// The text isn't UTF-8, or `[ask]` is no table with `never`, a list of texts, and `always_ends`, `true` or
-    /// `false`.
+    /// The text isn't UTF-8, or `[ask]` is no table with `never`, a list of texts, and `always_ends` and `as_picked`,
+    /// `true` or `false`.
     Table,
     /// This text of `never`, from 1, isn't a caller and one answer, as `T1 -> timed out`.
     Never(usize),
@@ -164,11 +166,11 @@ fn never_at(alloc: Global, callers: &Callers, table: &Table) -> Result<Vec<Never
     }
 }
 
-// The truth value at `always_ends`.
-fn always_ends_at(table: &Table) -> Result<bool, AskFault>
-    ensures { IfOk result (λ truth. value_or truth_from false (get_member (codes "always_ends") (table_view table.now)) ≡ Some truth) }
+// The truth value at a key.
+fn truth_at(table: &Table, key: &str) -> Result<bool, AskFault>
+    ensures { IfOk result (λ truth. value_or truth_from false (get_member key.now (table_view table.now)) ≡ Some truth) }
 {
-    match field(table, "always_ends") {
+    match field(table, key) {
         Some(value) => match value.as_bool() {
             Some(truth) => Ok(truth),
             None => Err(AskFault::Table),
@@ -203,15 +205,23 @@ fn read_table(alloc: Global, callers: &Callers, table: &Table) -> Result<Ask, As
     ensures asks { IfOk result (Asks (table_view table.now)) }
     ensures who { IfOk result (λ ask. AreOfCallers callers.now.callers.items ask.never.items) }
 {
-    if !has_only_keys(table, &["never", "always_ends"]) {
+    if !has_only_keys(table, &["never", "always_ends", "as_picked"]) {
         return Err(AskFault::Table);
     }
-    let always_ends = match always_ends_at(table) {
+    let always_ends = match truth_at(table, "always_ends") {
         Ok(always_ends) => always_ends,
         Err(fault) => return Err(fault),
     };
+    let as_picked = match truth_at(table, "as_picked") {
+        Ok(as_picked) => as_picked,
+        Err(fault) => return Err(fault),
+    };
     match never_at(alloc, callers, table) {
-        Ok(never) => Ok(Ask { never, always_ends }),
+        Ok(never) => Ok(Ask {
+            never,
+            always_ends,
+            as_picked,
+        }),
         Err(fault) => Err(fault),
     }
 }
@@ -229,6 +239,7 @@ fn read_document(alloc: Global, callers: &Callers, document: &Table) -> Result<A
         None => Ok(Ask {
             never: Vec::new(alloc),
             always_ends: false,
+            as_picked: false,
         }),
     }
 }

@@ -1,5 +1,5 @@
 //! The callers of a scenario.
-ghost use Rattle.std.specs.Prelude.{◌≡◌, ◌==◌, All, IfOk, OnOk, drop, length, map, take};
+ghost use Rattle.std.specs.Prelude.{◌≡◌, ◌==◌, All, IfOk, OnOk, drop, false, length, map, take};
 ghost use Rattle.std.specs.List.{list_any};
 ghost use Rattle.evl_scenario_orders.specs.Shares.{AreCallersOf, places_from, with_thread};
 
@@ -21,6 +21,9 @@ pub struct Callers {
     pub board: Board,
     /// How many entries the history may have.
     pub limit: u32,
+    /// Whether steps are made as threads are picked: one of an attached out-of-band thread only while it is, and one of
+    /// an attached in-band thread only while nobody is.
+    pub as_picked: bool,
     /// What is set up, in order.
     pub setup: Vec<Step>,
     /// All other steps, as they stand in the text.
@@ -109,6 +112,7 @@ impl Callers {
     pub fn new(alloc: Global, scenario: Scenario, count: usize) -> Result<Callers, AllocError>
         ensures board { IfOk result (λ callers. callers.board ≡ scenario.board) }
         ensures limit { IfOk result (λ callers. callers.limit ≡ scenario.limit) }
+        ensures as_picked { IfOk result (λ callers. callers.as_picked ≡ false) }
         ensures setup { IfOk result (λ callers. callers.setup.items ≡ take count scenario.steps) }
         ensures steps { IfOk result (λ callers. callers.steps.items ≡ drop count scenario.steps) }
         ensures callers { IfOk result (λ callers. AreCallersOf callers.steps.items callers.callers.items) }
@@ -123,6 +127,7 @@ impl Callers {
             Ok(count) => Ok(Callers {
                 board,
                 limit,
+                as_picked: false,
                 setup,
                 steps,
                 callers,

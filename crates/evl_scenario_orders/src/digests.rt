@@ -122,10 +122,24 @@ fn few(count: usize) -> u16 {
     u16::try_from(count).unwrap_or(u16::MAX)
 }
 
+// A digest with the threads of the ready list more, in their order.
+fn with_ready<C>(alloc: Global, digest: u64, kernel: &KernelOf<C, Global>) -> u64 {
+    let mut ready = Vec::new(alloc);
+    let Ok(()) = kernel.ready_threads(&mut ready) else {
+        return digest;
+    };
+    let mut all = digest;
+    for thread in &ready {
+        all = with_number(all, u64::from(thread.0));
+    }
+    all
+}
+
 /// A number that is the same for kernels that stand alike, and seldom for others.
-pub(crate) fn standing_of<C>(kernel: &KernelOf<C, Global>, board: &Board) -> u64 {
+pub(crate) fn standing_of<C>(alloc: Global, kernel: &KernelOf<C, Global>, board: &Board) -> u64 {
     let date = with_number(START, kernel.now());
-    let threads = with_threads(with_thread(date, kernel.picked()), kernel, board.threads);
+    let ready = with_ready(alloc, date, kernel);
+    let threads = with_threads(with_thread(ready, kernel.picked()), kernel, board.threads);
     let sems = with_sems(threads, kernel, few(board.sems.len()));
     let flags = with_flags(sems, kernel, few(board.flags.len()));
     let xbufs = with_xbufs(flags, kernel, few(board.xbufs.len()));

@@ -1,16 +1,16 @@
 //! A kernel that is led along steps.
-ghost use Rattle.std.specs.Prelude.{◌≡◌, IfOk, OnOk};
+ghost use Rattle.std.specs.Prelude.{◌≡◌, IfOk, OnOk, option_map};
 ghost use Rattle.evl_kernel.specs.Callbacks.{AnswersByPlan};
 ghost use Rattle.evl_kernel.specs.KernelViews.{makes_entry};
 ghost use Rattle.evl_kernel.specs.Openings.{opening};
 ghost use Rattle.evl_kernel.specs.Replays.{stepped};
-ghost use Rattle.evl_scenario_orders.specs.Callers.{begun, goes_on, set_up};
+ghost use Rattle.evl_scenario_orders.specs.Callers.{begun, goes_on, has_turn, is_held, is_turn, set_up};
 ghost use Rattle.evl_scenario_orders.specs.Moments.{made_at, trailed};
 
 use crate::banks::BankMaker;
 use crate::callers::Callers;
 use arrayvec::ArrayVec;
-use evl_base::{Board, Call, Refusal, Reply, Spares, ThreadId};
+use evl_base::{Board, Call, Refusal, Reply, Spares, Stage, ThreadId};
 use evl_kernel::KernelOf;
 use evl_pipeline::Handler;
 use evl_scenario::{Answer, Step};
@@ -56,6 +56,37 @@ pub(crate) fn goes_on<C>(kernel: &KernelOf<C, Global>, who: ThreadId) -> bool
     ensures { result ≡ goes_on kernel.now.history.state who.0 }
 {
     kernel.waits(who) && !kernel.finished(who)
+}
+
+// Whether a thread on this stage has its turn, by who is picked.
+fn is_turn(stage: Stage, who: ThreadId, chosen: Option<ThreadId>) -> bool
+    ensures { result ≡ is_turn stage who.0 (option_map (λ thread. thread.0) chosen) }
+{
+    match stage {
+        Stage::Oob => match chosen {
+            Some(thread) => thread.0 == who.0,
+            None => false,
+        },
+        Stage::Inband => chosen.is_none(),
+    }
+}
+
+// Whether a thread has its turn.
+fn has_turn<C>(kernel: &KernelOf<C, Global>, who: ThreadId) -> bool
+    ensures { result ≡ has_turn kernel.now.history.state who.0 }
+{
+    match kernel.rank(who) {
+        Some(_) => is_turn(kernel.stage(who), who, kernel.picked()),
+        None => true,
+    }
+}
+
+/// Whether a thread can make no step: its wait goes on, or it hasn't its turn where steps are made as threads are
+/// picked.
+pub(crate) fn is_held<C>(kernel: &KernelOf<C, Global>, as_picked: bool, who: ThreadId) -> bool
+    ensures { result ≡ is_held as_picked kernel.now.history.state who.0 }
+{
+    goes_on(kernel, who) || (as_picked && !has_turn(kernel, who))
 }
 
 // Whether a call that was answered so has an entry.

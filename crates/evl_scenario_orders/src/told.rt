@@ -1,6 +1,6 @@
 //! What is told of callers at the end of an order.
 ghost use Rattle.std.specs.Prelude.{◌≡◌, ◌≤◌, ◌++◌, [], OnOk, IfOk, length, map, slice_index_or, string_bytes};
-ghost use Rattle.evl_scenario_orders.specs.Told.{answered_text, awaited_at, callers_text, elements_text, flags_line, has_more, is_caller, lines_below, mutex_line, pending_text, sem_line, stuck_text, waiting_text, waits_text, xbuf_line, xbufs_text};
+ghost use Rattle.evl_scenario_orders.specs.Told.{answered_text, awaited_at, callers_text, elements_text, flags_line, has_more, is_caller, lines_below, mutex_line, pending_text, sem_line, stuck_text, unpicked_text, waiting_text, waits_text, xbuf_line, xbufs_text};
 
 use crate::callers::Callers;
 use crate::kernels::goes_on;
@@ -39,6 +39,14 @@ fn put_waiting<C>(
     }
 }
 
+// Writes that a thread isn't picked.
+fn put_unpicked(text: &mut String, who: ThreadId) -> Result<(), AllocError>
+    ensures { OnOk result (string_bytes text.new ≡ string_bytes text.old ++ unpicked_text who.0) }
+{
+    let number = who.0;
+    write!(text, "T{number} isn't picked\n")
+}
+
 // Writes that a caller is stuck.
 fn put_stuck<C>(
     text: &mut String,
@@ -48,7 +56,11 @@ fn put_stuck<C>(
     ensures { OnOk result (string_bytes text.new ≡ string_bytes text.old ++ stuck_text kernel.now.history.state who.0) }
 {
     text.push_str("stuck: ")?;
-    put_waits(text, kernel, who)
+    if goes_on(kernel, who) {
+        put_waits(text, kernel, who)
+    } else {
+        put_unpicked(text, who)
+    }
 }
 
 // Whether a caller has a step more.

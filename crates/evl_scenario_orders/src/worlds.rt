@@ -9,7 +9,7 @@ ghost use Rattle.evl_scenario_orders.specs.Moments.{IsMoment, seen_at, seen_from
 use crate::banks::BankMaker;
 use crate::callers::Callers;
 use crate::digests::{digest_of, standing_of};
-use crate::kernels::{goes_on, leave, led, make_step};
+use crate::kernels::{is_held, leave, led, make_step};
 use crate::merging::are_merged;
 use crate::moments::{Moment, moment_after};
 use crate::seen::SeenState;
@@ -50,14 +50,14 @@ fn after_step<C: Handler>(
         Ok(answer) => answer,
         Err(error) => return Err(error),
     };
-    let standing = standing_of(kernel, &callers.board);
+    let standing = standing_of(alloc, kernel, &callers.board);
     match moment_after(alloc, moment, caller, count, place, &answer, standing) {
         Ok(next) => Ok(next),
         Err(error) => Err(error),
     }
 }
 
-// The moment after a caller's next step, which the kernel makes unless the caller waits.
+// The moment after a caller's next step, which the kernel makes unless the caller is held.
 fn step_kernel<B: BankMaker>(
     alloc: Global,
     kernel: &mut KernelOf<B::Made, Global>,
@@ -73,10 +73,10 @@ fn step_kernel<B: BankMaker>(
     requires caller { caller < length callers.now.callers.items }
     requires fits { IsMoment callers.now moment.now }
     requires step { slice_get callers.now.steps.items place ≡ Some step.now }
-    ensures next { IfOk result (λ next. option_map (seen_at callers.now (B.bank bank.now)) next ≡ step_of (seen_at callers.now (B.bank bank.now) moment.now) caller step.now) }
+    ensures next { IfOk result (λ next. option_map (seen_at callers.now (B.bank bank.now)) next ≡ step_of callers.now.as_picked (seen_at callers.now (B.bank bank.now) moment.now) caller step.now) }
     ensures fits { IfOk result (λ next. IfSome next (IsMoment callers.now)) }
 {
-    if goes_on(kernel, step.who) {
+    if is_held(kernel, callers.as_picked, step.who) {
         return Ok(None);
     }
     match after_step(alloc, kernel, callers, moment, caller, place, step) {
@@ -85,7 +85,7 @@ fn step_kernel<B: BankMaker>(
     }
 }
 
-// The moment after a caller's next step, unless it waits.
+// The moment after a caller's next step, unless it is held.
 fn stepped<B: BankMaker>(
     alloc: Global,
     callers: &Callers,
@@ -98,7 +98,7 @@ fn stepped<B: BankMaker>(
     requires caller { caller < length callers.now.callers.items }
     requires fits { IsMoment callers.now moment.now }
     requires step { slice_get callers.now.steps.items place ≡ Some step.now }
-    ensures next { IfOk result (λ next. option_map (seen_at callers.now (B.bank bank.now)) next ≡ step_of (seen_at callers.now (B.bank bank.now) moment.now) caller step.now) }
+    ensures next { IfOk result (λ next. option_map (seen_at callers.now (B.bank bank.now)) next ≡ step_of callers.now.as_picked (seen_at callers.now (B.bank bank.now) moment.now) caller step.now) }
     ensures fits { IfOk result (λ next. IfSome next (IsMoment callers.now)) }
 {
     match led(alloc, callers, bank, moment.trail.as_slice()) {
@@ -120,7 +120,7 @@ fn stepped<B: BankMaker>(
     }
 }
 
-// The moment after a caller's next step, if it has one and doesn't wait.
+// The moment after a caller's next step, if it has one and isn't held.
 fn next_moment<B: BankMaker>(
     alloc: Global,
     callers: &Callers,

@@ -89,8 +89,23 @@ fn just_one_answer_of_a_caller_is_meant(rt: HostRuntime) {
     assert!(rt; means_one_answer(rt.alloc(), "[ask]\nnever = [\"T1 -> done\"]\n"));
 }
 
+// Whether it is asked for orders as threads are picked.
+fn is_as_picked(alloc: Global, asked: &str) -> bool {
+    match read(alloc, asked) {
+        Ok(ask) => ask.as_picked,
+        Err(_) => false,
+    }
+}
+
+#[test]
+fn orders_as_threads_are_picked_are_asked_for(rt: HostRuntime) {
+    assert!(rt; is_as_picked(rt.alloc(), "[ask]\nas_picked = true\n"));
+    assert!(rt; !is_as_picked(rt.alloc(), "[ask]\nas_picked = false\nalways_ends = true\n"));
+    assert!(rt; !is_as_picked(rt.alloc(), "[ask]\nalways_ends = true\n"));
+}
+
 // What is asked, and why it can't be read.
-const REFUSED: [(&str, AskFault); 5] = [
+const REFUSED: [(&str, AskFault); 7] = [
     (
         "[ask]\nnever = [\"T1 -> done\", \"T7 -> done\"]\n",
         AskFault::Never(2),
@@ -102,6 +117,8 @@ const REFUSED: [(&str, AskFault); 5] = [
     ("[ask]\nnever = [\"T1\"]\n", AskFault::Never(1)),
     ("[ask]\nalways = true\n", AskFault::Table),
     ("[ask]\nalways_ends = 1\n", AskFault::Table),
+    ("[ask]\nas_picked = \"true\"\n", AskFault::Table),
+    ("[ask]\nas_pickd = true\n", AskFault::Table),
 ];
 
 // Whether each is refused so.
