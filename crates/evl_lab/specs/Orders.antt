@@ -1,5 +1,5 @@
 -- What `lab orders` tells of the orders of callers.
-use Rattle.std.specs.Prelude.{◌≡◌, ◌⊎◌, ◌+◌, ◌-◌, ◌^◌, min, ℕ, List, ◌++◌, codes, decimal, position, string_bytes, Option, Some, None, IsSomeAnd, option_and_then}
+use Rattle.std.specs.Prelude.{◌≡◌, ◌⊎◌, ◌+◌, ◌-◌, ◌^◌, min, ℕ, Bool, ◌||◌, nat_lt, if◌then◌else◌, List, ◌++◌, codes, length, decimal, position, string_bytes, Option, Some, None, IsSomeAnd, option_and_then}
 use Rattle.toml.specs.Parse.{parse_document}
 use Rattle.evl_kernel.specs.States.{Handler}
 use Rattle.evl_orders.specs.declared.tallies.Tally.{Tally}
@@ -30,20 +30,47 @@ first_against asks outcomes = position (λ outcome. is_against asks (string_byte
 unfoldable pub report_of : Callers → Outcomes → List ℕ
 report_of callers found = report_text callers found
 
--- the number of that outcome, from 1
-abbrev pub against_text : List ℕ → Option ℕ → List ℕ
-against_text name None = codes ""
-against_text name (Some place) = codes "lab: " ++ (name ++ (codes ": outcome " ++ (decimal (min (place + 1) (2 ^ 64 - 1)) ++ codes " is against what is asked\n")))
+-- ---- what came of what is asked
 
-abbrev pub against_status : Option ℕ → ℕ
-against_status None = 0
-against_status (Some place) = 1
+abbrev pub is_asked : Ask → Bool
+is_asked asks = asks.always_ends || nat_lt 0 (length asks.never.items)
+
+abbrev pub ends_words : Ask → List ℕ
+ends_words asks = if asks.always_ends then codes "always_ends, " else codes ""
+
+abbrev pub picked_words : Ask → List ℕ
+picked_words asks = if asks.as_picked then codes " as threads are picked" else codes ""
+
+-- it holds in all orders, of which there are so many
+abbrev pub holds_text : List ℕ → Ask → ℕ → List ℕ
+holds_text name asks count =
+    codes "lab: " ++ (name ++ (codes ": " ++ (ends_words asks ++ (decimal (length asks.never.items) ++ (codes " never: hold in all " ++ (decimal count ++ (codes " orders" ++ (picked_words asks ++ codes "\n"))))))))
+
+-- orders of so many steps were cut off
+abbrev pub unanswered_text : List ℕ → ℕ → List ℕ
+unanswered_text name steps = codes "lab: " ++ (name ++ (codes ": not answered: cut off at orders of " ++ (decimal steps ++ codes " steps\n")))
+
+-- no outcome is against what is asked: where nothing is asked, nothing is said
+abbrev pub none_text : List ℕ → Ask → Outcomes → List ℕ
+none_text name asks found = if is_asked asks then (if found.whole then holds_text name asks found.count else unanswered_text name found.steps) else codes ""
+
+abbrev pub none_status : Ask → Outcomes → ℕ
+none_status asks found = if is_asked asks then (if found.whole then 0 else 5) else 0
+
+-- or the outcome with this number is, from 1
+abbrev pub asked_text : List ℕ → Ask → Outcomes → Option ℕ → List ℕ
+asked_text name asks found None = none_text name asks found
+asked_text name asks found (Some place) = codes "lab: " ++ (name ++ (codes ": outcome " ++ (decimal (min (place + 1) (2 ^ 64 - 1)) ++ codes " is against what is asked\n")))
+
+abbrev pub asked_status : Ask → Outcomes → Option ℕ → ℕ
+asked_status asks found None = none_status asks found
+asked_status asks found (Some place) = 1
 
 abbrev pub outcomes_told : List ℕ → Callers → Ask → Outcomes → Output
 outcomes_told name callers asks found = record {
   printed = report_of callers found;
-  said = against_text name (first_against asks found.all.items);
-  status = against_status (first_against asks found.all.items);
+  said = asked_text name asks found (first_against asks found.all.items);
+  status = asked_status asks found (first_against asks found.all.items);
 }
 
 -- the outcomes of all orders, or that there are more of these than can be counted

@@ -4,18 +4,18 @@ ghost use Rattle.std.specs.Io.KnownBytes.{Appends};
 ghost use Rattle.evl_plans.specs.Told.{told};
 ghost use Rattle.evl_lab.specs.Banks.{Refuses};
 ghost use Rattle.evl_lab.specs.Endings.{line_about};
-ghost use Rattle.evl_lab.specs.Orders.{TellsAsked, TellsOutcomes, TellsRead, TellsText, against_status, against_text, ask_fault_line, report_of, text_fault_words};
+ghost use Rattle.evl_lab.specs.Orders.{TellsAsked, TellsOutcomes, TellsRead, TellsText, ask_fault_line, asked_status, asked_text, ends_words, holds_text, is_asked, none_status, none_text, picked_words, report_of, unanswered_text, text_fault_words};
 ghost use Rattle.evl_lab.specs.Outputs.{Writes, WritesOfText, WritesOverBank};
 
 use crate::banks::read_plans;
 use crate::endings::{tell_fault, tell_refused};
-use crate::statuses::{AGAINST, AT_FAULT, refused};
+use crate::statuses::{AGAINST, AT_FAULT, UNANSWERED, refused};
 use crate::texts::read_text;
 use crate::words::Asked;
 use evl_orders::OrdersError;
 use evl_plans::{Planned, copied_bank};
 use evl_scenario_orders::{
-    Ask, AskFault, Asked as Answered, BankMaker, Callers, TextFault, ask_all, read_ask,
+    Ask, AskFault, Asked as Answered, BankMaker, Callers, Outcomes, TextFault, ask_all, read_ask,
     read_callers, write_report,
 };
 use std::alloc::{AllocError, Global};
@@ -78,13 +78,80 @@ fn tell_ask_fault<E: Write>(err: &mut E, name: &str, fault: AskFault) -> io::Res
     }
 }
 
-// Tells which outcome is against what is asked, and answers the status.
-fn tell_against<E: Write>(err: &mut E, name: &str, against: Option<usize>) -> io::Result<u8>
-    ensures status { IfOk result (λ status. status ≡ against_status against) }
-    ensures line { OnOk result (Appends (E.contents err.old) (E.contents err.new) (against_text name.now against)) }
+// Whether something is asked.
+fn is_asked(ask: &Ask) -> bool
+    ensures { result ≡ is_asked ask.now }
 {
-    let Some(place) = against else {
+    ask.always_ends || ask.never.len() > 0
+}
+
+// What is said before the number of answers that may never be.
+fn ends_words(ask: &Ask) -> &'static str
+    ensures { result.now ≡ ends_words ask.now }
+{
+    if ask.always_ends { "always_ends, " } else { "" }
+}
+
+// What is said of the orders that were gone through.
+fn picked_words(ask: &Ask) -> &'static str
+    ensures { result.now ≡ picked_words ask.now }
+{
+    if ask.as_picked {
+        " as threads are picked"
+    } else {
+        ""
+    }
+}
+
+// Tells that what is asked holds in all orders.
+fn tell_holds<E: Write>(err: &mut E, name: &str, ask: &Ask, count: u128) -> io::Result<u8>
+    ensures status { IfOk result (λ status. status ≡ 0) }
+    ensures line { OnOk result (Appends (E.contents err.old) (E.contents err.new) (holds_text name.now ask.now count)) }
+{
+    let ends = ends_words(ask);
+    let never = ask.never.len();
+    let picked = picked_words(ask);
+    writeln!(
+        err,
+        "lab: {name}: {ends}{never} never: hold in all {count} orders{picked}"
+    )?;
+    Ok(0)
+}
+
+// Tells that no order of fewer steps is against what is asked, and that there are longer ones.
+fn tell_unanswered<E: Write>(err: &mut E, name: &str, steps: usize) -> io::Result<u8>
+    ensures status { IfOk result (λ status. status ≡ 5) }
+    ensures line { OnOk result (Appends (E.contents err.old) (E.contents err.new) (unanswered_text name.now steps)) }
+{
+    writeln!(
+        err,
+        "lab: {name}: not answered: cut off at orders of {steps} steps"
+    )?;
+    Ok(UNANSWERED)
+}
+
+// Tells what holds where no outcome is against what is asked, and answers the status.
+fn tell_none<E: Write>(err: &mut E, name: &str, ask: &Ask, found: &Outcomes) -> io::Result<u8>
+    ensures status { IfOk result (λ status. status ≡ none_status ask.now found.now) }
+    ensures line { OnOk result (Appends (E.contents err.old) (E.contents err.new) (none_text name.now ask.now found.now)) }
+{
+    if !is_asked(ask) {
         return Ok(0);
+    }
+    if found.whole {
+        tell_holds(err, name, ask, found.count)
+    } else {
+        tell_unanswered(err, name, found.steps)
+    }
+}
+
+// Tells what came of what is asked, and answers the status.
+fn tell_against<E: Write>(err: &mut E, name: &str, ask: &Ask, answered: &Answered) -> io::Result<u8>
+    ensures status { IfOk result (λ status. status ≡ asked_status ask.now answered.now.outcomes answered.now.against) }
+    ensures line { OnOk result (Appends (E.contents err.old) (E.contents err.new) (asked_text name.now ask.now answered.now.outcomes answered.now.against)) }
+{
+    let Some(place) = answered.against else {
+        return tell_none(err, name, ask, &answered.outcomes);
     };
     let number = place.saturating_add(1);
     writeln!(
@@ -126,7 +193,7 @@ fn go_through<O: Write, E: Write>(
     match ask_all(alloc, callers, &bank, ask, asked.most) {
         Ok(answered) => {
             print_outcomes(alloc, callers, &bank, &answered, out)?;
-            tell_against(err, asked.name(), answered.against)
+            tell_against(err, asked.name(), ask, &answered)
         }
         Err(OrdersError::Count) => {
             let told = tell_refused(err, asked.name(), "more orders than can be counted");
@@ -202,7 +269,7 @@ fn tell_file<R: Files + AllocGlobal, I: Read, O: Write, E: Write>(
 }
 
 /// Goes through every order in which the callers of a scenario may come, over a bank, prints how each ends, and answers
-/// the status: 1 where one is against what is asked, 2 where the text is refused or can't be read, or the bank is at
+/// the status: 1 where one is against what is asked, 5 where none is and longer orders were cut off, 2 where the text is refused or can't be read, or the bank is at
 /// fault.
 pub fn orders<R: Files + AllocGlobal, I: Read, O: Write, E: Write>(
     rt: &R,

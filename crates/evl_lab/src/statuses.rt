@@ -19,6 +19,9 @@ pub const REFUSED: u8 = 3;
 /// The status of a program without memory.
 pub const NO_MEMORY: u8 = 4;
 
+/// The status where orders were cut off, and none up to there is against what is asked.
+pub const UNANSWERED: u8 = 5;
+
 /// Whether one of two is so.
 pub fn either(one: bool, other: bool) -> bool
     ensures { result ≡ (one || other) }

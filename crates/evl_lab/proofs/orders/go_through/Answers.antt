@@ -2,7 +2,7 @@ use Rattle.std.proofs.Common.{◌∙◌, ℕ, Option, ap, codes, inl, inr, map, 
 use Rattle.std.specs.Prelude.{unwrap_or}
 use Rattle.evl_plans.specs.Told.{told as told_by}
 use Rattle.evl_lab.specs.Endings.{line_about}
-use Rattle.evl_lab.specs.Orders.{TellsOutcomes, against_status, against_text, report_of}
+use Rattle.evl_lab.specs.Orders.{TellsOutcomes, asked_status, asked_text, report_of}
 use Rattle.evl_lab.specs.Outputs.{Output}
 use Rattle.evl_lab.proofs.OrderLemmas.{against_is}
 use Rattle.evl_lab.proofs.OutputLemmas.{told, written_err}
@@ -14,8 +14,8 @@ returns-in_ok-print_outcomes-in-Ok g c =
     let callers = c.args.callers.now in
     let found = c.in-Ok.answered.outcomes in
     let place = c.in-Ok.answered.against in
-    let output : Option ℕ → Output = λ a. record { printed = report_of callers found; said = against_text name a; status = against_status a } in
-    written_err _ (TellsOutcomes (map told_by c.args.plans.now) c.args.asked.now.most name callers c.args.ask.now) _ _ _ _ (report_of callers found) (against_text name place) (against_status place)
+    let output : Option ℕ → Output = λ a. record { printed = report_of callers found; said = asked_text name c.args.ask.now found a; status = asked_status c.args.ask.now found a } in
+    written_err _ (TellsOutcomes (map told_by c.args.plans.now) c.args.asked.now.most name callers c.args.ask.now) _ _ _ _ (report_of callers found) (asked_text name c.args.ask.now found place) (asked_status c.args.ask.now found place)
     c.tell_against.result (inl (found, c.in-Ok.ensures.outcomes, ap output (c.in-Ok.ensures.against ∙ against_is c.args.ask.now found.all.items))) c.in_ok-print_outcomes-in-Ok.ensures
     (rw c.name.ensures at c.tell_against.ensures.line) c.tell_against.ensures.status
 
