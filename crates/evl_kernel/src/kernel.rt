@@ -184,6 +184,7 @@ impl<C: Handler, A: Allocator> KernelOf<C, A> {
     /// refusals are answers with an entry, the first that applies of `Busy` (the caller has an unfinished wait, and this
     /// isn't `Finish`), `Unknown` (no such thread, line, callback, timer, group or element), `Range`, `Invalid`,
     /// `WrongStage`, then the call's own (Xenomai 4: EVL core).
+    #[inline(always)]
     pub fn apply(&mut self, caller: ThreadId, call: Call) -> Result<Reply, Refusal>
         requires by_plan { AnswersByPlan C.declared C.plan self.old.callbacks }
         ensures entry { IsTrue (makes_entry result) → AddsEntry self.old.history caller.0 call result self.new.history }
@@ -348,6 +349,7 @@ impl<C, A: Allocator> KernelOf<C, A> {
 }
 
 // Makes room for the entries, the plays and the bytes of so many calls. `NoMemory` where it was refused.
+#[inline(always)]
 fn make_room<A: Allocator>(
     history: &mut Vec<Entry, A>,
     plays: &mut Vec<Play, A>,
@@ -375,6 +377,7 @@ fn make_room<A: Allocator>(
 }
 
 // The same answer once more, for the entry: its bytes, if it has any, lie in a box that was kept.
+#[inline(always)]
 fn copied_reply<A: Allocator>(
     reply: &Result<Reply, Refusal>,
     spares: &mut Spares<A>,
