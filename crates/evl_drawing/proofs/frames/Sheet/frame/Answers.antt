@@ -1,9 +1,0 @@
-use Rattle.std.proofs.Common.{arith}
-use Rattle.evl_drawing.specs.Frames.{lane_line, layout}
-use Rattle.evl_drawing.proofs.RowLaws.{item_more}
-use Rattle.evl_drawing.proofs.frames.Sheet.frame.Goals as goal
-
-pub loop-lane-preserved : goal.loop-lane-preserved
-loop-lane-preserved c =
-    item_more (lane_line (layout c.args.self.now) c.args.column c.steps-end.result) c.deref-lane-items.result.now c.loop-lane.lane-index _ _ _ _ (omega arith)
-    c.in_ok-put_lane.ensures c.loop-lane.invariant

@@ -1,6 +1,0 @@
-use Rattle.evl_drawing.proofs.LaneLaws.{lanes_are}
-use Rattle.evl_drawing.proofs.PictureLaws.{same_layout}
-use Rattle.evl_drawing.proofs.frames.Sheet.of.Goals as goal
-
-pub returns : goal.returns
-returns c = same_layout c.args.shows c.args.marks.now _ _ _ (lanes_are _ _ c.in_ok-lanes.ensures) c.most_shown.ensures c.shown_of.ensures

@@ -1,9 +1,0 @@
-use Rattle.evl_drawing.specs.Frames.{layout}
-use Rattle.evl_drawing.proofs.PictureLaws.{body_made}
-use Rattle.evl_drawing.proofs.svg.put_body.Goals as goal
-
-pub returns : goal.returns
-returns c =
-    body_made (layout c.args.sheet.now) c.args.column c.args.mark.now c.below-below.result _ _ _ _ _ _ _ _ _ _ _ c.below-below.ensures c.as_str.ensures.value c.in_ok-led.ensures
-    c.as_str-2.ensures.value c.in_ok-tied.ensures c.shape_text.ensures c.label_ink.ensures c.in_ok-put_text.ensures c.in_ok-put_text-2.ensures c.in_ok-put_text-3.ensures
-    c.in_ok-put_label.ensures

@@ -1,6 +1,0 @@
-use Rattle.evl_faults.specs.Boards.{no_table_text}
-use Rattle.evl_faults.proofs.boards.no_table.Goals as goal
-
-pub returns : goal.returns
-unfolding no_table_text
-returns c = rw c.in_ok-hint.ensures at c.format.ensures.ok

@@ -1,6 +1,0 @@
-use Rattle.evl_faults.specs.Steps.{missing_text}
-use Rattle.evl_faults.proofs.steps.missing_words.Goals as goal
-
-pub returns : goal.returns
-unfolding missing_text
-returns c = rw c.wanted-want.ensures at c.format.ensures.ok

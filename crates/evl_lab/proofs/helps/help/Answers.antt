@@ -1,7 +1,0 @@
-use Rattle.std.proofs.Common.{None, refl}
-use Rattle.evl_lab.specs.Helps.{Helps}
-use Rattle.evl_lab.proofs.OutputLemmas.{printed_some}
-use Rattle.evl_lab.proofs.helps.help.Goals as goal
-
-pub returns-in-None : goal.returns-in-None
-returns-in-None g c = rw c.in-None.is (printed_some _ (Helps None) _ _ _ c.print_forms.result (λ text. (text, refl)) c.print_forms.ensures.forms c.print_forms.ensures.status)

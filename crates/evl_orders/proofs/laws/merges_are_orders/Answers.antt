@@ -1,5 +1,0 @@
-use Rattle.evl_orders.proofs.Merges.{merges_lead}
-use Rattle.evl_orders.proofs.laws.merges_are_orders.Goals as goal
-
-pub returns : goal.returns
-returns g c = λ m place ends counts free s order few. merges_lead m place counts ends free order s few

@@ -1,8 +1,0 @@
-use Rattle.evl_traces.specs.Says.{parts_of}
-use Rattle.evl_runs.proofs.JsonLaws.{entry_begun}
-use Rattle.evl_runs.proofs.json.put_says.Goals as goal
-
-pub returns-in_ok-put_head-in-Entry : goal.returns-in_ok-put_head-in-Entry
-returns-in_ok-put_head-in-Entry c rest =
-    rw c.in-Entry.is
-    (entry_begun c.args.file.now c.args.begun (parts_of c.in-Entry.entry) rest _ _ _ c.in_ok-end_line-in-Entry.ensures c.in_ok-put_head-in-Entry.ensures)

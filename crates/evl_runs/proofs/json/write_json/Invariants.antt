@@ -1,9 +1,0 @@
-use Rattle.std.proofs.Common.{◌≡◌, ◌++◌, drop, map, string_bytes}
-use Rattle.evl_traces.specs.Says.{says_of}
-use Rattle.evl_runs.specs.Json.{left_json, trace_json}
-use Rattle.evl_runs.proofs.json.write_json.Given as goal
-
-abbrev pub invariant-loop-line : goal.invariant-loop-line
-invariant-loop-line l =
-    string_bytes l.json ++ left_json l.file l.begun (map (λ line. says_of line.says) (drop l.line-index l.lines))
-    ≡ trace_json l.file (map (λ line. says_of line.says) l.lines)

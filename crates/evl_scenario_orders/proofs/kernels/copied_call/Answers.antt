@@ -1,6 +1,0 @@
-use Rattle.std.proofs.Common.{arith}
-use Rattle.evl_scenario_orders.proofs.CallLaws.{few_boxes}
-use Rattle.evl_scenario_orders.proofs.kernels.copied_call.Goals as goal
-
-pub copied-requires : goal.copied-requires
-copied-requires c = omega (arith, few_boxes c.args.call.now, c.in-Ok.ensures.there)

@@ -1,6 +1,0 @@
-use Rattle.std.proofs.Common.{◌∙◌, sym}
-use Rattle.evl_scenario_orders.proofs.TextLaws.{same_texts}
-use Rattle.evl_scenario_orders.proofs.moments.are_same_texts.Goals as goal
-
-pub returns : goal.returns
-returns c = λ e. same_texts c.args.one.now c.args.other.now (sym c.eq.ensures ∙ e)

@@ -1,0 +1,114 @@
+-- What is drawn of a text, by what each call of the body draws.
+use Rattle.std.proofs.Common.{◌≡◌, ◌∙◌, ◌⊎◌, inl, inr, ℕ, ◌-◌, List, Bool, true, false, codes, Option, Some, None, Result, Ok, Err, IfOk, OnOk, map, refl, sym, ap, ap₂, subst}
+use Rattle.std.specs.Prelude.{IsSomeAnd}
+use Rattle.std.specs.List.{All}
+use Rattle.std.specs.Str.{is_utf8}
+use Rattle.std.specs.Io.KnownBytes.{Appends}
+use Rattle.evl_scenario.specs.declared.faults.Fault.{Fault}
+use Rattle.evl_scenario.specs.declared.faults.Fault.TheVariants.{Text, Board, Step, Memory, Write}
+use Rattle.evl_plans.specs.Traces.{Refuses}
+use Rattle.lab_traces.specs.Says.{IsLine, IsMisread, read_of, says_some, text_of, whole_lines}
+use Rattle.lab_traces.specs.declared.traces.Misread.{Misread}
+use Rattle.lab_traces.specs.declared.traces.Misread.TheVariants as misread
+use Rattle.lab_traces.specs.declared.traces.TraceLine.{TraceLine}
+use Rattle.lab_drawing.specs.Pictures.{shown_with, svg_text}
+use Rattle.lab_drawing.specs.Rows.{rows_text}
+use Rattle.lab_drawing.specs.Tables.{table_text}
+use Rattle.lab_drawing.specs.declared.frames.Shows.TheVariants.{Words}
+use Rattle.lab_drawing.specs.declared.marks.Mark.{Mark}
+use Rattle.lab_drawing.specs.declared.moments.Moment.{Moment}
+use Rattle.lab_reports.specs.Events.{events_text}
+use Rattle.lab.specs.Draws.{AreLinesOf, AreMomentsOf, DrawsIf, DrawsPage, DrawsPlayed, DrawsRead, DrawsText, IsPicture, Origin, callers, events_of, fault_words, moments_at, neither_text, origin_of, page_at, page_text, picture_text, rows_of, scenario, table_of, trace}
+use Rattle.lab.specs.Outputs.{Output, Writes, refuses}
+use Rattle.lab.specs.declared.draws.Source.{Source}
+use Rattle.lab.specs.declared.draws.Source.TheVariants as source
+use Rattle.lab.specs.declared.words.Drawing.{Drawing}
+use Rattle.lab.proofs.OutputLemmas.{said, said_of, written_as}
+
+pub events_is : (marks : List Mark) → events_text marks ≡ events_of marks
+unfolding events_of
+events_is marks = refl
+
+pub table_is : (marks : List Mark) → table_text marks ≡ table_of marks
+unfolding table_of
+table_is marks = refl
+
+pub rows_is : (marks : List Mark) → rows_text marks ≡ rows_of marks
+unfolding rows_of
+rows_is marks = refl
+
+pub callers_is : (marks : List Mark) (moments : List Moment) → svg_text Words moments marks ≡ picture_text callers marks moments
+unfolding picture_text
+callers_is marks moments = refl
+
+pub trace_is : (marks : List Mark) (moments : List Moment) → svg_text (shown_with moments) moments marks ≡ picture_text trace marks moments
+unfolding picture_text
+trace_is marks moments = refl
+
+pub scenario_is : (text : List ℕ) (marks : List Mark) (moments : List Moment) → svg_text (shown_with moments) moments marks ≡ picture_text (scenario text) marks moments
+unfolding picture_text
+scenario_is text marks moments = refl
+
+-- ---- a page
+
+same_picture : (origin : Origin) (marks page : List Mark) (number : ℕ) (known behind : List Moment) (text : List ℕ) → AreMomentsOf origin marks known → page ≡ page_at marks number
+    → behind ≡ moments_at marks known number → text ≡ picture_text origin page behind → IsPicture origin marks number text
+same_picture origin marks page number known behind text are page_is behind_is text_is =
+    (known, are, text_is ∙ ap₂ (λ (p : List Mark) (b : List Moment). picture_text origin p b) page_is behind_is)
+
+-- of callers, and of anything else
+pub told_picture : (s : Source) (marks page : List Mark) (number : ℕ) (known behind : List Moment) (text : List ℕ) → s ≡ source.Callers → AreMomentsOf (origin_of s) marks known
+    → page ≡ page_at marks number → behind ≡ moments_at marks known number → text ≡ svg_text Words behind page → IsPicture (origin_of s) marks number text
+told_picture s marks page number known behind text is are page_is behind_is text_is =
+    same_picture (origin_of s) marks page number known behind text are page_is behind_is
+    (text_is ∙ callers_is page behind ∙ ap (λ (o : Source). picture_text (origin_of o) page behind) (sym is))
+
+pub svg_picture : (s : Source) (marks page : List Mark) (number : ℕ) (known behind : List Moment) (text : List ℕ) → (s ≡ source.Callers → ⊥) → AreMomentsOf (origin_of s) marks known
+    → page ≡ page_at marks number → behind ≡ moments_at marks known number → text ≡ svg_text (shown_with behind) behind page → IsPicture (origin_of s) marks number text
+svg_picture source.Callers marks page number known behind text isnt are page_is behind_is text_is = absurd (isnt refl)
+svg_picture source.Trace marks page number known behind text isnt are page_is behind_is text_is =
+    same_picture trace marks page number known behind text are page_is behind_is (text_is ∙ trace_is page behind)
+svg_picture (source.Scenario t) marks page number known behind text isnt are page_is behind_is text_is =
+    same_picture (scenario t.now) marks page number known behind text are page_is behind_is (text_is ∙ scenario_is t.now page behind)
+
+pub is_page : (origin : Origin) (marks : List Mark) (number before all : ℕ) (text printed : List ℕ) → before ≡ number - 1 → printed ≡ text → IsPicture origin marks before text
+    → DrawsPage origin marks number all (record { printed = printed; said = page_text number all; status = 0 })
+is_page origin marks number before all text printed is same h =
+    (printed, subst (λ (t : List ℕ). IsPicture origin marks (number - 1) t) (sym same) (subst (λ (n : ℕ). IsPicture origin marks n text) is h), refl)
+
+-- ---- a text
+
+pub lines_are : (text read : List ℕ) (lines items : List TraceLine) → lines ≡ items → read ≡ text → map read_of items ≡ map says_some items → whole_lines (map text_of items) ≡ read
+    → All (λ line. IsLine (text_of line)) items → AreLinesOf text lines
+lines_are text read lines items same is reads whole alone =
+    subst (λ (l : List TraceLine). AreLinesOf text l) (sym same) (record { read = reads; whole = whole ∙ is; alone = alone })
+
+pub line_of_misread : (text : List ℕ) (m : ℕ) → (misread.Line m ≡ misread.Memory) ⊎ ((n : ℕ) × (misread.Line m ≡ misread.Line n) × IsMisread text n) → IsMisread text m
+line_of_misread text m (inl h) = cc
+line_of_misread text m (inr h) = let same : m ≡ h.0 = cc (h.1) in subst (λ (n : ℕ). IsMisread text n) (sym same) h.2
+
+-- a fault for which a text isn't played
+pub unplayed : (E : Type 0) (drawing : Drawing) (text : List ℕ) (line : ℕ) (made : Result (List ℕ) Fault) (e : Fault) (old quiet spoken : Option (List ℕ)) (r : Result ℕ E) → Refuses made e
+    → OnOk r (IsSomeAnd (fault_words e) (λ words. Appends quiet spoken (neither_text line words))) → IfOk r (λ s. s ≡ 2)
+    → IfOk r (Writes (DrawsPlayed drawing text line made) old old quiet spoken)
+unplayed E drawing text line made e old quiet spoken r is says ends = said_of E (DrawsPlayed drawing text line made) old quiet spoken (neither_text line) (fault_words e) r (by e is) says ends
+  where
+    by : (f : Fault) → Refuses made f → (output : Output) → IsSomeAnd (fault_words f) (λ w. output ≡ refuses 2 (neither_text line w)) → DrawsPlayed drawing text line made output
+    by Text h output o = rw h o
+    by Board h output o = rw h o
+    by (Step n) h output o = rw h o
+    by Memory h output o = absurd o
+    by Write h output o = absurd o
+
+-- a text in UTF-8, and another
+pub of_text : (E : Type 0) (drawing : Drawing) (bytes text : List ℕ) (old new quiet spoken : Option (List ℕ)) (r : Result ℕ E) → text ≡ bytes → is_utf8 bytes ≡ true
+    → IfOk r (Writes (DrawsText drawing text) old new quiet spoken) → IfOk r (Writes (DrawsRead drawing (Some bytes)) old new quiet spoken)
+of_text E drawing bytes text old new quiet spoken r same utf8 w =
+    written_as E (DrawsRead drawing (Some bytes)) old new quiet spoken (DrawsText drawing text) r
+    (λ output h. subst (λ (b : Bool). DrawsIf b drawing bytes output) (sym utf8) (subst (λ (t : List ℕ). DrawsText drawing t output) same h)) w
+
+pub of_no_text : (E : Type 0) (drawing : Drawing) (bytes : List ℕ) (old quiet spoken : Option (List ℕ)) (r : Result ℕ E) → is_utf8 bytes ≡ false
+    → OnOk r (Appends quiet spoken (codes "lab: the text is no UTF-8\n")) → IfOk r (λ s. s ≡ 2) → IfOk r (Writes (DrawsRead drawing (Some bytes)) old old quiet spoken)
+of_no_text E drawing bytes old quiet spoken r utf8 says ends =
+    let text = codes "lab: the text is no UTF-8\n" in
+    said E (DrawsRead drawing (Some bytes)) old quiet spoken 2 text r (subst (λ (b : Bool). DrawsIf b drawing bytes (refuses 2 text)) (sym utf8) refl) says ends

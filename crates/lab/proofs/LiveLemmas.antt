@@ -1,0 +1,178 @@
+-- What a driven machine answers, line by line and part by part of the input.
+use Rattle.std.proofs.Common.{◌≡◌, ◌≢◌, ◌∙◌, ◌⊎◌, inl, inr, ℕ, ◌<◌, ◌==◌, List, [], ◌∷◌, ◌++◌, append-nil, append_assoc, length, take, Bool, true, false, not, Option, Some, None, Result, Err, IfOk, OnOk, refl, sym, ap, subst}
+use Rattle.std.specs.Prelude.{IsSomeAnd, codes, is_ok}
+use Rattle.std.specs.List.{All}
+use Rattle.std.specs.Io.KnownBytes.{Appends, Consumes, IsAtEnd}
+use Rattle.std.proofs.KnownBytes.{Appends-trans}
+use Rattle.std.proofs.lemmas.List.{append_cancel_left}
+use Rattle.std.proofs.lemmas.List.Elements.{All-append, All-cons, All-nil}
+use Rattle.std.proofs.lemmas.List.Folds.{list_all-append}
+use Rattle.evl_kernel.specs.Histories.{History}
+use Rattle.evl_kernel.specs.States.{Handler}
+use Rattle.evl_scenario.specs.Lines.{line_feed}
+use Rattle.evl_scenario.specs.Scenarios.{Script, scenario_of}
+use Rattle.evl_scenario.specs.Traces.{history_trace}
+use Rattle.evl_scenario.specs.declared.faults.Fault.{Fault}
+use Rattle.evl_scenario.specs.declared.faults.Fault.TheVariants.{Memory}
+use Rattle.evl_scenario.specs.declared.steps.Step.{Step}
+use Rattle.lab_traces.specs.Parts.{Lacks}
+use Rattle.lab_traces.specs.Says.{whole_lines}
+use Rattle.lab_live.specs.Answers.{Answers, Does, TellsScenario, comment_text, may_call, script_of, trimmed}
+use Rattle.lab_live.specs.Lines.{step_of_line}
+use Rattle.lab_live.specs.Sessions.{Driven, TellsEntry, TellsFull}
+use Rattle.lab_live.specs.States.{state_text}
+use Rattle.lab.specs.Endings.{fault_words, line_about}
+use Rattle.lab.specs.Lives.{AnswersAll, AnswersEach, AnswersInput, AnswersLine, Drives, DrivesText, Hears}
+use Rattle.lab.specs.Outputs.{Output, Writes, prints, refuses}
+use Rattle.lab.specs.Texts.{IsAllOf}
+use Rattle.lab.proofs.OutputLemmas.{told_of}
+use Rattle.lab.proofs.TextLemmas.{other}
+
+-- ---- what is told behind a text, by itself
+
+entry_behind : (old new : History) (step : Step) (before after answer : List ℕ) → after ≡ before ++ answer → TellsEntry old new step before after → TellsEntry old new step [] answer
+entry_behind old new step before after answer is t = record {
+  entry = t.entry;
+  plays = t.plays;
+  asked = t.asked;
+  entries_are = t.entries_are;
+  plays_are = t.plays_are;
+  counted = t.counted;
+  told = append_cancel_left before answer _ (sym is ∙ t.told);
+}
+
+full_behind : (old new : Driven) (step : Step) (before after answer : List ℕ) → after ≡ before ++ answer → TellsFull old new step before after → TellsFull old new step [] answer
+full_behind old new step before after answer is t = record { same = t.same; told = append_cancel_left before answer _ (sym is ∙ t.told) }
+
+does_behind : (old new : Driven) (step : Option Step) (before after answer : List ℕ) → after ≡ before ++ answer → Does old new step before after → Does old new step [] answer
+does_behind old new (Some step) before after answer is m = record {
+  entry = λ more. entry_behind old.history new.history step before after answer is (m.entry more);
+  full = λ full. full_behind old new step before after answer is (m.full full);
+}
+does_behind old new None before after answer is same = same
+
+scenario_behind : (script : Script) (before after answer : List ℕ) → after ≡ before ++ answer → TellsScenario script before after → TellsScenario script [] answer
+scenario_behind script before after answer is (inl told) = inl (append_cancel_left before answer _ (sym is ∙ told))
+scenario_behind script before after answer is (inr (inl long)) = inr (inl (long.0, append_cancel_left before answer _ (sym is ∙ long.1)))
+scenario_behind script before after answer is (inr (inr none)) = inr (inr (none.0, append_cancel_left before answer _ (sym is ∙ none.1)))
+
+-- a line that was answered behind other answers
+pub line_answered : (line : List ℕ) (old new : Driven) (before after : List ℕ) (a : Answers old new before after)
+    → (may_call (trimmed line) ≡ true → Does old new (step_of_line (trimmed line)) before after) → (may_call (trimmed line) ≡ false → new ≡ old)
+    → (trimmed line ≡ [] → after ≡ before) → ((rest : List ℕ) → trimmed line ≡ 35 ∷ rest → after ≡ before ++ comment_text (trimmed line))
+    → (trimmed line ≡ codes "scenario" → TellsScenario (script_of old) before after) → (trimmed line ≡ codes "ps" → after ≡ before ++ state_text old)
+    → AnswersLine line old new a.lines
+line_answered line old new before after a asked stays none comment scenario state = record {
+  goes_on = a.goes_on;
+  asked = λ may. does_behind old new _ before after a.lines a.told (asked may);
+  stays = stays;
+  none = λ is. append_cancel_left before a.lines [] (sym a.told ∙ none is ∙ sym (append-nil before));
+  comment = λ rest is. append_cancel_left before a.lines _ (sym a.told ∙ comment rest is);
+  scenario = λ is. scenario_behind (script_of old) before after a.lines a.told (scenario is);
+  state = λ is. append_cancel_left before a.lines _ (sym a.told ∙ state is);
+}
+
+-- ---- lines
+
+whole_more : (xs ys : List (List ℕ)) → whole_lines (xs ++ ys) ≡ whole_lines xs ++ whole_lines ys
+whole_more [] ys = refl
+whole_more (x ∷ xs) ys =
+    ap (λ (l : List ℕ). x ++ (line_feed ++ l)) (whole_more xs ys) ∙ sym (append_assoc x (line_feed ++ whole_lines xs) (whole_lines ys))
+
+each_append : (xs ys : List (List ℕ)) (old mid new : Driven) (a b : List ℕ) → AnswersEach xs old mid a → AnswersEach ys mid new b → AnswersEach (xs ++ ys) old new (a ++ b)
+each_append [] ys old mid new a b h k = rw h.1 (subst (λ (s : Driven). AnswersEach ys s new b) h.0 k)
+each_append (x ∷ xs) ys old mid new a b h k =
+    (h.0, h.1, h.2 ++ b, h.3, each_append xs ys h.0 mid new h.2 b h.4 k, ap (λ (l : List ℕ). l ++ b) h.5 ∙ append_assoc h.1 h.2 b)
+
+each_one : (line : List ℕ) (old new : Driven) (answer : List ℕ) → AnswersLine line old new answer → AnswersEach (line ∷ []) old new answer
+each_one line old new answer h = (new, answer, [], h, (refl, refl), sym (append-nil answer))
+
+-- ---- bytes
+
+lacks_more : (c : ℕ) (text : List ℕ) (byte : ℕ) → Lacks c text → byte ≢ c → Lacks c (text ++ byte ∷ [])
+lacks_more c text byte h n = list_all-append (λ x. not (x == c)) text (byte ∷ []) ∙ rw (h, other byte c n) refl
+
+-- a line feed behind the line that waits, which is answered
+pub heard_line : (line : List ℕ) (byte : ℕ) (old new : Driven) (answer : List ℕ) → Lacks 10 line → byte ≡ 10 → AnswersLine line old new answer → Hears (byte ∷ []) line [] old new answer
+heard_line line byte old new answer lacks is h = record {
+  lines = line ∷ [];
+  whole = rw is (append-nil (line ++ line_feed));
+  alone = All-cons (Lacks 10) line [] lacks (All-nil (Lacks 10));
+  answered = each_one line old new answer h;
+}
+
+-- any other byte
+pub heard_byte : (line : List ℕ) (byte : ℕ) (s : Driven) → Hears (byte ∷ []) line (line ++ byte ∷ []) s s []
+heard_byte line byte s = record { lines = []; whole = refl; alone = All-nil (Lacks 10); answered = (refl, refl) }
+
+pub still_lacks : (line : List ℕ) (byte : ℕ) → Lacks 10 line → byte ≢ 10 → Lacks 10 (line ++ byte ∷ [])
+still_lacks line byte h n = lacks_more 10 line byte h n
+
+-- no bytes, and bytes behind others
+pub heard_none : (line : List ℕ) (s : Driven) → Hears [] line line s s []
+heard_none line s = record { lines = []; whole = sym (append-nil line); alone = All-nil (Lacks 10); answered = (refl, refl) }
+
+pub heard_more : (a b before mid after : List ℕ) (old s new : Driven) (x y : List ℕ) → Hears a before mid old s x → Hears b mid after s new y
+    → Hears (a ++ b) before after old new (x ++ y)
+heard_more a b before mid after old s new x y first second =
+    let one = whole_lines first.lines in
+    record {
+      lines = first.lines ++ second.lines;
+      whole = ap (λ (l : List ℕ). l ++ after) (whole_more first.lines second.lines) ∙ append_assoc one (whole_lines second.lines) after ∙ ap (λ (l : List ℕ). one ++ l) second.whole
+          ∙ sym (append_assoc one mid b) ∙ ap (λ (l : List ℕ). l ++ b) first.whole ∙ append_assoc before a b;
+      alone = All-append (Lacks 10) first.lines second.lines first.alone second.alone;
+      answered = each_append first.lines second.lines old s new x y first.answered second.answered;
+    }
+
+-- ---- the input
+
+-- all lines, with the last one
+pub all_answered : (bytes waiting : List ℕ) (old mid new : Driven) (x y : List ℕ) → Hears bytes [] waiting old mid x → Lacks 10 waiting → AnswersLine waiting mid new y
+    → AnswersAll bytes old new (x ++ y)
+all_answered bytes waiting old mid new x y h lacks line = record {
+  lines = h.lines;
+  last = waiting;
+  whole = h.whole;
+  alone = All-append (Lacks 10) h.lines (waiting ∷ []) h.alone (All-cons (Lacks 10) waiting [] lacks (All-nil (Lacks 10)));
+  answered = each_append h.lines (waiting ∷ []) old mid new x y h.answered (each_one waiting mid new y line);
+}
+
+-- what was read when a read gives no bytes is all
+pub all_read : (known mid end : Option (List ℕ)) (bytes part : List ℕ) (count : ℕ) → Consumes known mid bytes
+    → Consumes mid end (take count part) × (count ≡ 0 → 0 < length part → IsAtEnd end) → count ≡ 0 → 0 < length part → IsAllOf known bytes
+all_read None mid end bytes part count had reads none room = tt
+all_read (Some all) None end bytes part count had reads none room = absurd had
+all_read (Some all) (Some rest) None bytes part count had reads none room = absurd reads.0
+all_read (Some all) (Some rest) (Some left) bytes part count had reads none room =
+    let nothing : rest ≡ [] = reads.0 ∙ rw (none, reads.1 none room) refl in
+    sym (had ∙ rw (nothing, append-nil bytes) refl)
+
+-- the last line behind the others
+pub input_answered : (known : Option (List ℕ)) (bytes waiting line : List ℕ) (old mid new : Driven) (x : List ℕ) (start between end : Option (List ℕ)) → line ≡ waiting
+    → IsAllOf known bytes → Hears bytes [] waiting old mid x → Lacks 10 waiting → Appends start between x
+    → ((answer : List ℕ) × AnswersLine line mid new answer × Appends between end answer) → (answers : List ℕ) × AnswersInput known old new answers × Appends start end answers
+input_answered known bytes waiting line old mid new x start between end same all h lacks first last =
+    let answered : AnswersLine waiting mid new last.0 = subst (λ (l : List ℕ). AnswersLine l mid new last.0) same last.1 in (
+      x ++ last.0,
+      record { bytes = bytes; all_of = all; all = all_answered bytes waiting old mid new x last.0 h lacks answered },
+      Appends-trans start between end x last.0 first last.2,
+    )
+
+-- the answers behind the trace
+pub machine_driven : (known : Option (List ℕ)) (start end : Driven) (old mid new : Option (List ℕ))
+    → Appends old mid (history_trace start.board start.limit start.history.entries start.history.plays)
+    → ((answers : List ℕ) × AnswersInput known start end answers × Appends mid new answers) → (output : Output) × Drives known start output × Appends old new output.printed
+machine_driven known start end old mid new first h =
+    let trace = history_trace start.board start.limit start.history.entries start.history.plays in
+    (prints (trace ++ h.0), record { end = end; answers = h.0; answered = h.1; output_is = refl }, Appends-trans old mid new trace h.0 first h.2)
+
+-- a text for which there is no machine
+pub undriven : (E : Type 0) (bank : List Handler) (limit : Option ℕ) (known : Option (List ℕ)) (text : List ℕ) (fault : Fault) (old quiet spoken : Option (List ℕ)) (was : Result Bool E)
+    (r : Result ℕ E) → (fault ≡ Memory) ⊎ (scenario_of limit text ≡ Err fault)
+    → OnOk was (IsSomeAnd (fault_words fault) (λ words. Appends quiet spoken (line_about (codes "lab") words))) → IfOk r (λ s. (s ≡ 2) × (is_ok was ≡ true))
+    → IfOk r (Writes (DrivesText bank limit known text) old old quiet spoken)
+undriven E bank limit known text fault old quiet spoken was r (inl is) says ends =
+    told_of E (DrivesText bank limit known text) old quiet spoken (line_about (codes "lab")) (fault_words fault) was r
+    (λ output h. absurd (subst (λ (f : Fault). IsSomeAnd (fault_words f) (λ words. output ≡ refuses 2 (line_about (codes "lab") words))) is h)) says ends
+undriven E bank limit known text fault old quiet spoken was r (inr is) says ends =
+    told_of E (DrivesText bank limit known text) old quiet spoken (line_about (codes "lab")) (fault_words fault) was r (λ output h. inr (fault, is, h)) says ends

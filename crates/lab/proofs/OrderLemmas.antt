@@ -1,0 +1,29 @@
+-- The report and the first outcome that is against what is asked, as the definitions of orders have them.
+use Rattle.std.proofs.Common.{◌≡◌, ◌⊎◌, inr, List, ℕ, Option, Result, Ok, Err, IfOk, refl, subst}
+use Rattle.std.specs.Prelude.{position, string_bytes}
+use Rattle.evl_kernel.specs.States.{Handler}
+use Rattle.lab_orders.specs.declared.tallies.Tally.{Tally}
+use Rattle.lab_scenario_orders.specs.Asks.{is_against}
+use Rattle.lab_scenario_orders.specs.Reports.{report_text}
+use Rattle.lab_scenario_orders.specs.declared.asks.Ask.{Ask}
+use Rattle.lab_scenario_orders.specs.declared.callers.Callers.{Callers}
+use Rattle.lab_scenario_orders.specs.declared.outcomes.Outcomes.{Outcomes}
+use Rattle.lab.specs.Banks.{IsBank, Refuses}
+use Rattle.lab.specs.Orders.{first_against, report_of}
+use Rattle.lab.specs.Outputs.{Output, WritesOfText, WritesOverBank}
+
+pub report_is : (c : Callers) (found : Outcomes) → report_text c found ≡ report_of c found
+unfolding report_of
+report_is c found = refl
+
+pub against_is : (asks : Ask) (outcomes : List Tally) → position (λ outcome. is_against asks (string_bytes outcome.told)) outcomes ≡ first_against asks outcomes
+unfolding first_against
+against_is asks outcomes = refl
+
+-- over a bank that is read with nothing said
+pub over_bank : (E : Type 0) (Is : List Handler → Option (List ℕ) → Output → Type 0) (plans file known old new quiet between spoken : Option (List ℕ)) (bank : List Handler) (r : Result ℕ E)
+    → IsBank plans bank → between ≡ quiet → IfOk r (WritesOfText (Is bank) file known old new between spoken)
+    → IfOk r (λ s. Refuses plans old new s ⊎ WritesOverBank Is plans file known old new quiet spoken s)
+over_bank E Is plans file known old new quiet between spoken bank (Ok s) is same w =
+    inr (record { bank = bank; is_bank = is; writes = subst (λ (q : Option (List ℕ)). WritesOfText (Is bank) file known old new q spoken s) same w })
+over_bank E Is plans file known old new quiet between spoken bank (Err e) is same w = tt

@@ -1,0 +1,189 @@
+-- What is told of a scenario, and of several one after the other.
+use Rattle.std.proofs.Common.{arith, Bor, length, ◌==◌, ◌≢◌, ◌≡◌, ◌∙◌, ◌⊎◌, inl, inr, ℕ, List, [], ◌∷◌, ◌++◌, append-nil, Bool, true, false, ◌||◌, if◌then◌else◌, Option, Some, None, Result, Ok, Err, IfOk, OnOk, IfSome, map, find, codes, decimal, refl, sym, ap, ap₂, subst}
+use Rattle.std.specs.Prelude.{IsSomeAnd}
+use Rattle.std.specs.List.{All, concat, list_any}
+use Rattle.std.specs.Option.{option_or}
+use Rattle.std.specs.Io.KnownBytes.{Appends}
+use Rattle.std.proofs.KnownBytes.{Appends-nil, Appends-trans}
+use Rattle.std.proofs.lemmas.Bool.Decides.{eqb_tells}
+use Rattle.std.proofs.lemmas.List.{map-append}
+use Rattle.std.proofs.lemmas.List.Elements.{All-append, All-cons, All-map, All-nil}
+use Rattle.std.proofs.lemmas.List.Folds.{concat-append, find-append, list_any-append}
+use Rattle.evl_scenario.specs.declared.faults.Fault.{Fault}
+use Rattle.evl_scenario.specs.declared.faults.Fault.TheVariants.{Text, Board, Step, Memory, Write}
+use Rattle.evl_plans.specs.Traces.{Refuses}
+use Rattle.lab_traces.specs.Lines.{Said, line_read}
+use Rattle.lab_traces.specs.Says.{IsLine, IsMisread, read_of, says_of, says_some, text_of, whole_lines}
+use Rattle.lab_traces.specs.declared.traces.Misread.TheVariants as misread
+use Rattle.lab_traces.specs.declared.traces.TraceLine.{TraceLine}
+use Rattle.lab_reports.specs.Json.{trace_json}
+use Rattle.lab.specs.Endings.{fault_words, line_about}
+use Rattle.lab.specs.Texts.{IsReadOf, is_input, names_or_input}
+use Rattle.lab.specs.Plays.{IsJsonOf, IsReadFrom, IsTrace, Played, PlaysEach, Tells, TellsPlayed, Told, ends_ill, ends_well}
+use Rattle.lab.specs.declared.words.Telling.{Telling}
+
+-- the texts of lines, and what they say
+mapped : {X Y Z : Type 0} (g : Y → Z) (f : X → Y) (xs : List X) → map g (map f xs) ≡ map (λ x. g (f x)) xs
+mapped g f [] = refl
+mapped g f (x ∷ xs) = ap (λ l. g (f x) ∷ l) (mapped g f xs)
+
+-- ---- one
+
+-- what ends well, or otherwise, and was told so
+pub well_told : (E : Type 0) (Is : Told → Type 0) (name printed : List ℕ) (old new quiet spoken : Option (List ℕ)) (r : Result Bool E)
+    → Is (ends_well name printed) → Appends old new printed → IfOk r (λ b. b ≡ false) → OnOk r (Appends quiet spoken (line_about name (codes "done")))
+    → IfOk r (Tells Is old new quiet spoken)
+well_told E Is name printed old new quiet spoken (Ok b) is prints answers says = record { told = ends_well name printed; is = is; prints = prints; says = says; answers = answers }
+well_told E Is name printed old new quiet spoken (Err e) is prints answers says = tt
+
+pub ill_told : (E : Type 0) (Is : Told → Type 0) (name printed words : List ℕ) (old new quiet spoken : Option (List ℕ)) (r : Result Bool E)
+    → Is (ends_ill name printed words) → Appends old new printed → IfOk r (λ b. b ≡ true) → OnOk r (Appends quiet spoken (line_about name words))
+    → IfOk r (Tells Is old new quiet spoken)
+ill_told E Is name printed words old new quiet spoken (Ok b) is prints answers says = record { told = ends_ill name printed words; is = is; prints = prints; says = says; answers = answers }
+ill_told E Is name printed words old new quiet spoken (Err e) is prints answers says = tt
+
+-- what is told of the one is told of the other
+pub told_as : (E : Type 0) (Is Was : Told → Type 0) (old new quiet spoken : Option (List ℕ)) (r : Result Bool E)
+    → ((told : Told) → Was told → Is told) → IfOk r (Tells Was old new quiet spoken) → IfOk r (Tells Is old new quiet spoken)
+told_as E Is Was old new quiet spoken (Ok b) same t = record { told = t.told; is = same t.told t.is; prints = t.prints; says = t.says; answers = t.answers }
+told_as E Is Was old new quiet spoken (Err e) same t = tt
+
+-- ---- several
+
+module _ (Is : Played → Type 0) where
+  pub each_none : (known old quiet : Option (List ℕ)) → PlaysEach Is [] known old old quiet quiet false
+  each_none known old quiet = record { each = []; in_order = refl; are = All-nil Is; read = tt; prints = Appends-nil old; says = Appends-nil quiet; answers = refl }
+
+  read_one : (b : Bool) (p : Played) (known : Option (List ℕ)) → (b ≡ true → IsReadOf known p.text) → IfSome (if b then Some p else None) (λ q. IsReadOf known q.text)
+  read_one true p known h = h refl
+  read_one false p known h = tt
+
+  or_false : (b : Bool) → b ≡ (b || false)
+  or_false true = refl
+  or_false false = refl
+
+  pub each_one : (name : List ℕ) (text known old new quiet spoken : Option (List ℕ)) (answer : Bool)
+      → (is_input name ≡ true → IsReadOf known text) → Tells (λ told. Is (record { name = name; text = text; told = told })) old new quiet spoken answer
+      → PlaysEach Is (name ∷ []) known old new quiet spoken answer
+  each_one name text known old new quiet spoken answer read t =
+      let p : Played = record { name = name; text = text; told = t.told } in
+      record {
+        each = p ∷ [];
+        in_order = refl;
+        are = All-cons Is p [] t.is (All-nil Is);
+        read = read_one (is_input name) p known read;
+        prints = subst (Appends old new) (sym (append-nil t.told.printed)) t.prints;
+        says = subst (Appends quiet spoken) (sym (append-nil t.told.said)) t.says;
+        answers = t.answers ∙ or_false t.told.at_fault;
+      }
+
+  read_more : (first second : Option Played) (known later : Option (List ℕ)) → IfSome first (λ p. IsReadOf known p.text)
+      → (first ≡ None → later ≡ known) → IfSome second (λ p. IsReadOf later p.text) → IfSome (option_or first second) (λ p. IsReadOf known p.text)
+  read_more (Some p) second known later h same k = h
+  read_more None second known later h same k = subst (λ (o : Option (List ℕ)). IfSome second (λ p. IsReadOf o p.text)) (same refl) k
+
+  none_both : {X : Type 0} (a b : Option X) → option_or a b ≡ None → (a ≡ None) × (b ≡ None)
+  none_both None b h = (refl, h)
+  none_both (Some x) b h = cc
+
+  abbrev first_name : List (List ℕ) → List ℕ
+  first_name [] = []
+  first_name (name ∷ names) = name
+
+  unfound : (b : Bool) (p : Played) (o : Option Played) → (if b then Some p else o) ≡ None → b ≡ false
+  unfound true p o h = cc
+  unfound false p o h = refl
+
+  one_name : (ys : List Played) (name : List ℕ) → map (λ p. p.name) ys ≡ name ∷ [] → find (λ p. is_input p.name) ys ≡ None → is_input name ≡ false
+  one_name [] name e h = cc
+  one_name (y ∷ ys) name e h = subst (λ (n : List ℕ). is_input n ≡ false) (ap first_name e) (unfound (is_input y.name) y _ h)
+
+  -- a further file behind those that were played
+  pub each_next : (names : List (List ℕ)) (name : List ℕ) (known later last old mid new quiet between spoken : Option (List ℕ)) (bad is_bad : Bool)
+      → (first : PlaysEach Is names known old mid quiet between bad) → (find (λ p. is_input p.name) first.each ≡ None → later ≡ known)
+      → (second : PlaysEach Is (name ∷ []) later mid new between spoken is_bad) → (is_input name ≡ false → last ≡ later)
+      → (all : PlaysEach Is (names ++ name ∷ []) known old new quiet spoken (bad || is_bad)) × (find (λ p. is_input p.name) all.each ≡ None → last ≡ known)
+  each_next names name known later last old mid new quiet between spoken bad is_bad first same second kept =
+      let xs = first.each in
+      let ys = second.each in
+      let found = find-append (λ (p : Played). is_input p.name) xs ys in
+      let printed : Played → List ℕ = λ p. p.told.printed in
+      let said : Played → List ℕ = λ p. p.told.said in (
+        record {
+          each = xs ++ ys;
+          in_order = map-append (λ (p : Played). p.name) xs ys ∙ ap₂ (λ (a b : List (List ℕ)). a ++ b) first.in_order second.in_order;
+          are = All-append Is xs ys first.are second.are;
+          read = subst (λ (o : Option Played). IfSome o (λ p. IsReadOf known p.text)) (sym found) (read_more _ _ known later first.read same second.read);
+          prints = subst (Appends old new) (sym (ap concat (map-append printed xs ys) ∙ concat-append (map printed xs) (map printed ys))) (Appends-trans old mid new _ _ first.prints second.prints);
+          says = subst (Appends quiet spoken) (sym (ap concat (map-append said xs ys) ∙ concat-append (map said xs) (map said ys))) (Appends-trans quiet between spoken _ _ first.says second.says);
+          answers = ap₂ (λ (a b : Bool). a || b) first.answers second.answers ∙ sym (list_any-append (λ (p : Played). p.told.at_fault) xs ys);
+        },
+        λ none. let both = none_both _ _ (sym found ∙ none) in kept (one_name ys name second.in_order both.1) ∙ same both.0,
+      )
+
+  -- of a result
+  pub each_file : (E : Type 0) (name : List ℕ) (text known old new quiet spoken : Option (List ℕ)) (r : Result Bool E)
+      → (is_input name ≡ true → IsReadOf known text) → IfOk r (Tells (λ told. Is (record { name = name; text = text; told = told })) old new quiet spoken)
+      → IfOk r (PlaysEach Is (name ∷ []) known old new quiet spoken)
+  each_file E name text known old new quiet spoken (Ok b) read t = each_one name text known old new quiet spoken b read t
+  each_file E name text known old new quiet spoken (Err e) read t = tt
+
+-- ---- JSON, and faults
+
+-- what lines say that were read
+pub is_trace : (text : List ℕ) (ls : List TraceLine) → map read_of ls ≡ map says_some ls → whole_lines (map text_of ls) ≡ text
+    → All (λ l. IsLine (text_of l)) ls → IsTrace text (map (λ l. says_of l.says) ls)
+is_trace text ls read whole apart = record {
+  lines = map text_of ls;
+  whole = whole;
+  alone = All-map IsLine text_of ls apart;
+  read = mapped line_read text_of ls ∙ read ∙ sym (mapped Some (λ l. says_of l.says) ls);
+}
+
+pub json_put : (E : Type 0) (name text : List ℕ) (said : List Said) (old new : Option (List ℕ)) (r : Result (Unit {0}) E)
+    → IsTrace text said → OnOk r (Appends old new (trace_json name said)) → OnOk r ((json : List ℕ) × IsJsonOf name text json × Appends old new json)
+json_put E name text said old new (Ok done) is puts = (trace_json name said, inl (said, is, refl), puts)
+json_put E name text said old new (Err e) is puts = tt
+
+pub no_json : (name text : List ℕ) (m : ℕ) (old : Option (List ℕ)) → (misread.Line m ≡ misread.Memory) ⊎ ((n : ℕ) × (misread.Line m ≡ misread.Line n) × IsMisread text n)
+    → (json : List ℕ) × IsJsonOf name text json × Appends old old json
+no_json name text m old (inl h) = cc
+no_json name text m old (inr h) = ([], inr (h.0, h.2, refl), Appends-nil old)
+
+-- a fault for which a text is refused
+pub fault_told : (E : Type 0) (telling : Telling) (name : List ℕ) (trace : Result (List ℕ) Fault) (e : Fault) (old quiet spoken : Option (List ℕ)) (r : Result Bool E)
+    → Refuses trace e → IfOk r (λ b. b ≡ true) → OnOk r (IsSomeAnd (fault_words e) (λ words. Appends quiet spoken (line_about name words)))
+    → IfOk r (Tells (TellsPlayed telling name trace) old old quiet spoken)
+fault_told E telling name trace e old quiet spoken (Err error) refuses answers says = tt
+fault_told E telling name trace Text old quiet spoken (Ok b) refuses answers says =
+    rw refuses (record { told = ends_ill name [] (codes "bad text"); is = refl; prints = Appends-nil old; says = says; answers = answers })
+fault_told E telling name trace Board old quiet spoken (Ok b) refuses answers says =
+    rw refuses (record { told = ends_ill name [] (codes "bad board"); is = refl; prints = Appends-nil old; says = says; answers = answers })
+fault_told E telling name trace (Step n) old quiet spoken (Ok b) refuses answers says =
+    rw refuses (record { told = ends_ill name [] (codes "bad step " ++ decimal n); is = refl; prints = Appends-nil old; says = says; answers = answers })
+fault_told E telling name trace Memory old quiet spoken (Ok b) refuses answers says = absurd says
+fault_told E telling name trace Write old quiet spoken (Ok b) refuses answers says = absurd refuses
+
+-- ---- names
+
+is_zero : (n : ℕ) → true ≡ (n == 0) → n ≡ 0
+is_zero n h = by (eqb_tells n 0)
+  where
+    by : ((n == 0) ≡ true) × (n ≡ 0) ⊎ ((n == 0) ≡ false) × (n ≢ 0) → n ≡ 0
+    by (inl t) = t.1
+    by (inr f) = let both : true ≡ false = h ∙ f.0 in cc
+
+isnt_zero : (n : ℕ) → false ≡ (n == 0) → n ≢ 0
+isnt_zero n h = by (eqb_tells n 0)
+  where
+    by : ((n == 0) ≡ true) × (n ≡ 0) ⊎ ((n == 0) ≡ false) × (n ≢ 0) → n ≢ 0
+    by (inl t) = let both : false ≡ true = h ∙ t.0 in absurd (cc)
+    by (inr f) = f.1
+
+pub no_names : (files : List (Bor (List ℕ))) → true ≡ (length files == 0) → names_or_input (map (λ file. file.now) files) ≡ codes "-" ∷ []
+no_names [] h = refl
+no_names (file ∷ files) h = let none : length (file ∷ files) ≡ 0 = is_zero _ h in absurd (omega (arith, none))
+
+pub some_names : (files : List (Bor (List ℕ))) → false ≡ (length files == 0) → names_or_input (map (λ file. file.now) files) ≡ map (λ file. file.now) files
+some_names [] h = absurd (isnt_zero _ h refl)
+some_names (file ∷ files) h = refl

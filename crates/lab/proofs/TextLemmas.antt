@@ -1,0 +1,61 @@
+-- The name at the end of a path.
+use Rattle.std.proofs.Common.{◌≡◌, ◌≢◌, ◌∙◌, ◌⊎◌, inl, inr, ℕ, suc, ◌-◌, ◌<◌, nat_eq, codes, ◌==◌, true, false, arith, List, [], ◌∷◌, ◌++◌, append_assoc, length, take, drop, get_or, Some, None, refl, sym, ap, subst}
+use Rattle.std.proofs.lemmas.Bool.Decides.{eqb_tells}
+use Rattle.std.proofs.lemmas.List.{take-append-drop}
+use Rattle.std.proofs.lemmas.Str.Pattern.{NoCharPasses-char, drop_at_char, ends_text}
+use Rattle.std.specs.List.{ends_with}
+use Rattle.std.specs.Str.{IsCharBoundary}
+use Rattle.std.specs.Str.Pattern.{FindsTextSuffix, RFindsChar, SplitsAroundMatch, StripsSuffix}
+use Rattle.std.specs.Prelude.{unwrap_or}
+use Rattle.lab_traces.specs.Parts.{Lacks}
+use Rattle.lab.specs.Texts.{IsNameOf, stem_in}
+
+-- a number isn't another one
+pub other : (a b : ℕ) → a ≢ b → (a == b) ≡ false
+other a b n = by (eqb_tells a b)
+  where
+    by : ((a == b) ≡ true) × (a ≡ b) ⊎ ((a == b) ≡ false) × (a ≢ b) → (a == b) ≡ false
+    by (inl h) = absurd (n h.1)
+    by (inr h) = h.0
+
+lacks_by : (c : ℕ) (text : List ℕ) → ((i : ℕ) → i < length text → get_or text i 0 ≢ c) → Lacks c text
+lacks_by c [] h = refl
+lacks_by c (x ∷ xs) h =
+    let here : x ≢ c = h 0 (omega arith) in
+    rw (other x c here, lacks_by c xs (λ i l. h (suc i) (omega (arith, l)))) refl
+
+-- a path with no slash is its name
+pub whole_name : (path : List ℕ) → RFindsChar 47 path None → IsNameOf path path
+whole_name path h = record {
+  folders = [];
+  whole = refl;
+  ends = inl refl;
+  alone = lacks_by 47 path (λ i l. NoCharPasses-char 47 path i h (omega arith) l);
+}
+
+-- the name stands behind the last slash
+pub name_behind : (path front back : List ℕ) → SplitsAroundMatch (RFindsChar 47) path front back → IsNameOf path back
+name_behind path front back h =
+    let i = h.0 in
+    let j = h.1 in
+    let behind : drop i path ≡ 47 ∷ drop j path = drop_at_char 47 path i j h.2.1 (omega arith) in
+    let whole : path ≡ take i path ++ drop i path = sym (take-append-drop i path) in
+    let cut : path ≡ front ++ 47 ∷ back = whole ∙ rw (behind, ← h.3, ← h.4) refl in
+    record {
+      folders = front ++ 47 ∷ [];
+      whole = append_assoc front (47 ∷ []) back ∙ sym cut;
+      ends = inr (front, refl);
+      alone = subst (Lacks 47) (sym h.4) (lacks_by 47 (drop j path) (λ k l. NoCharPasses-char 47 (drop j path) k h.2.0 (omega arith) l));
+    }
+
+-- a name that ends so, and one that doesn't
+pub stem_before : (name stem : List ℕ) → StripsSuffix (FindsTextSuffix (codes ".toml")) name stem → stem ≡ stem_in name
+stem_before name stem found =
+    let ends : true ≡ ends_with nat_eq name (codes ".toml") = ends_text true (codes ".toml") name (found.0, found.1, omega (arith, found.3), let P : ℕ → Type 0 = λ n. IsCharBoundary name (length name - n) in subst P (sym found.1.0) found.1.2) in
+    let same : stem ≡ take (length name - length (codes ".toml")) name = found.2 ∙ ap (λ (n : ℕ). take (length name - n) name) found.1.0 in
+    rw (← ends, same) refl
+
+pub stem_whole : (name : List ℕ) → FindsTextSuffix (codes ".toml") name None → name ≡ stem_in name
+stem_whole name missing =
+    let ends : false ≡ ends_with nat_eq name (codes ".toml") = ends_text false (codes ".toml") name missing in
+    rw (← ends) refl

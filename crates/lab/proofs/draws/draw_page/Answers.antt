@@ -1,0 +1,11 @@
+use Rattle.lab.specs.Draws.{DrawsPage, origin_of, page_text}
+use Rattle.lab.proofs.DrawLemmas.{is_page}
+use Rattle.lab.proofs.OutputLemmas.{written_out}
+use Rattle.lab.proofs.draws.draw_page.Goals as goal
+
+pub returns-in-Ok : goal.returns-in-Ok
+returns-in-Ok g c =
+    let origin = origin_of c.args.source in
+    let marks = c.args.marks.now in
+    written_out _ (DrawsPage origin marks c.args.number c.args.all) _ _ _ _ c.as_slice.result.now (page_text c.args.number c.args.all) 0 c.put.result
+    (is_page origin marks c.args.number _ c.args.all _ c.as_slice.result.now c.saturating_sub.ensures c.as_slice.ensures.value c.in-Ok.ensures) c.put.ensures.bytes c.in_ok-tell_page.ensures c.put.ensures.status

@@ -1,0 +1,54 @@
+-- What `lab callers` tells of a text of callers.
+use Rattle.std.specs.Prelude.{◌≡◌, ◌⊎◌, ℕ, List, ◌++◌, codes, decimal, map, string_bytes, Option, Some, None, IsSomeAnd}
+use Rattle.evl_kernel.specs.States.{Handler}
+use Rattle.evl_scenario.specs.Lines.{line_feed}
+use Rattle.evl_scenario.specs.declared.faults.Fault.{Fault}
+use Rattle.evl_plans.specs.Told.{told}
+use Rattle.evl_plans.specs.declared.planned.Planned.{Planned}
+use Rattle.lab_callers_text.specs.Readings.{IsRead}
+use Rattle.lab_callers_text.specs.declared.reading.CallersText.{CallersText}
+use Rattle.lab_callers.specs.Faults as callers
+use Rattle.lab_callers.specs.Plays.{IsTold}
+use Rattle.lab_callers.specs.declared.playing.Ending.{Ending}
+use Rattle.lab_callers.specs.declared.playing.Ending.TheVariants as ending
+use Rattle.lab_callers.specs.declared.playing.Played.{Played}
+use Rattle.lab.specs.Endings.{fault_words, line_about}
+use Rattle.lab.specs.Outputs.{Output, refuses}
+
+-- a step that can't be made is said
+abbrev pub ending_text : List ℕ → Ending → List ℕ
+ending_text name (ending.Fault number fault) = name ++ (codes ": bad step " ++ (decimal number ++ (codes ": " ++ (callers.fault_words fault ++ line_feed))))
+ending_text name _ = codes ""
+
+abbrev pub ending_status : Ending → ℕ
+ending_status (ending.Fault number fault) = 2
+ending_status _ = 0
+
+abbrev pub played_told : List ℕ → Played → Output
+played_told name played = record {
+  printed = string_bytes played.lines ++ string_bytes played.closing;
+  said = ending_text name played.ending;
+  status = ending_status played.ending;
+}
+
+-- a text is played over these callbacks
+pub record PlaysOver (bank : List Handler) (asked : CallersText) (played : Played) : Type 0 where
+  pub plans : List Planned
+  pub bank_is : map told plans ≡ bank
+  pub is_told : IsTold (λ p. p.kinds.0) (λ p. p.plan) asked plans played
+
+-- or no machine has its board
+abbrev pub TellsPlayed : List Handler → List ℕ → CallersText → Output → Type 0
+TellsPlayed bank name asked output =
+    ((played : Played) × PlaysOver bank asked played × (output ≡ played_told name played)) ⊎ (output ≡ refuses 2 (line_about name (codes "bad board")))
+
+-- what a text asks for, under a limit that may be handed in; or it is refused for some fault
+abbrev pub TellsText : List Handler → Option ℕ → List ℕ → List ℕ → Output → Type 0
+TellsText bank limit name text output =
+    ((asked : CallersText) × IsRead limit text asked × TellsPlayed bank name asked output)
+    ⊎ ((fault : Fault) × IsSomeAnd (fault_words fault) (λ words. output ≡ refuses 2 (line_about name words)))
+
+-- of a file, by what was read of it
+abbrev pub TellsRead : List Handler → Option ℕ → List ℕ → Option (List ℕ) → Output → Type 0
+TellsRead bank limit name None output = output ≡ refuses 2 (line_about name (codes "no file"))
+TellsRead bank limit name (Some text) output = TellsText bank limit name text output

@@ -1,0 +1,171 @@
+-- What `lab draw` draws of a text.
+use Rattle.std.specs.Prelude.{◌≡◌, ◌⊎◌, ◌<◌, ◌≤◌, ◌*◌, ◌-◌, max, nat_lt, ℕ, List, [], ◌++◌, map, take, drop, length, count_by, codes, decimal, Bool, true, false, if◌then◌else◌, Option, Some, None, IsSomeAnd, Result, Ok, Err}
+use Rattle.std.specs.List.{All}
+use Rattle.std.specs.Str.{is_utf8}
+use Rattle.std.specs.Str.Pattern.{FindsText, SplitsAroundMatch}
+use Rattle.evl_scenario.specs.Lines.{line_feed}
+use Rattle.evl_scenario.specs.Scenarios.{scenario_of}
+use Rattle.evl_scenario.specs.declared.faults.Fault.{Fault}
+use Rattle.evl_scenario.specs.declared.faults.Fault.TheVariants as fault
+use Rattle.evl_shell.specs.Runs.{trace_of}
+use Rattle.evl_bank.specs.Bank.{program_bank}
+use Rattle.lab_traces.specs.Says.{IsLine, IsMisread, read_of, says_some, text_of, whole_lines}
+use Rattle.lab_traces.specs.declared.traces.TraceLine.{TraceLine}
+use Rattle.lab_drawing.specs.Lanes.{AreLanesOf}
+use Rattle.lab_drawing.specs.Marks.{all_marked, is_entry, told_of}
+use Rattle.lab_drawing.specs.Pictures.{shown_with, svg_text}
+use Rattle.lab_drawing.specs.Rows.{rows_text}
+use Rattle.lab_drawing.specs.Standings.{all_told, told_at}
+use Rattle.lab_drawing.specs.Tables.{table_text}
+use Rattle.lab_drawing.specs.declared.frames.Shows.TheVariants.{Words}
+use Rattle.lab_drawing.specs.declared.lanes.Lane.{Lane}
+use Rattle.lab_drawing.specs.declared.marks.Mark.{Mark}
+use Rattle.lab_drawing.specs.declared.moments.Moment.{Moment}
+use Rattle.lab_moments.specs.Moments.{shown, shown_of}
+use Rattle.lab_reports.specs.Events.{events_text}
+use Rattle.lab.specs.Outputs.{Output, prints, refuses}
+use Rattle.lab.specs.Texts.{text_in}
+use Rattle.lab.specs.declared.draws.Source.{Source}
+use Rattle.lab.specs.declared.draws.Source.TheVariants as source
+use Rattle.lab.specs.declared.words.Drawing.{Drawing}
+use Rattle.lab.specs.declared.words.Form.{Form}
+use Rattle.lab.specs.declared.words.Form.TheVariants.{Svg, Events, Table, Rows}
+
+-- ---- where marks come from
+
+-- from a trace alone, from that of a scenario's text, or from the lines of callers
+pub data Origin : Type 0 where
+  trace : Origin
+  scenario : List ℕ → Origin
+  callers : Origin
+
+abbrev pub origin_of : Source → Origin
+origin_of source.Trace = trace
+origin_of (source.Scenario text) = scenario text.now
+origin_of source.Callers = callers
+
+-- How the lanes of marks stand after each of their entries, as far as that is known: of a scenario over the program's
+-- callbacks, of callers by what their lines show.
+abbrev pub AreMomentsOf : Origin → List Mark → List Moment → Type 0
+AreMomentsOf trace marks moments = moments ≡ []
+AreMomentsOf (scenario text) marks moments = (lanes : List Lane) × AreLanesOf marks lanes × (map shown moments ≡ shown_of lanes program_bank (scenario_of None text))
+AreMomentsOf callers marks moments = map told_at moments ≡ all_told marks
+
+-- ---- as SVG
+
+-- a page of marks, from 0, and the moments of its entries
+abbrev pub page_at : List Mark → ℕ → List Mark
+page_at marks number = take 2000 (drop (2000 * number) marks)
+
+abbrev pub moments_at : List Mark → List Moment → ℕ → List Moment
+moments_at marks moments number = drop (count_by is_entry (take (2000 * number) marks)) moments
+
+-- the picture of marks with the moments of their entries
+unfoldable pub picture_text : Origin → List Mark → List Moment → List ℕ
+picture_text callers marks moments = svg_text Words moments marks
+picture_text (scenario text) marks moments = svg_text (shown_with moments) moments marks
+picture_text trace marks moments = svg_text (shown_with moments) moments marks
+
+abbrev pub IsPicture : Origin → List Mark → ℕ → List ℕ → Type 0
+IsPicture origin marks number text =
+    (moments : List Moment) × AreMomentsOf origin marks moments × (text ≡ picture_text origin (page_at marks number) (moments_at marks moments number))
+
+-- marks take so many pages: one at least
+pub record HasPages (marks : List Mark) (pages : ℕ) : Type 0 where
+  pub enough : length marks ≤ 2000 * pages
+  pub needed : 2000 * (pages - 1) < max 1 (length marks)
+  pub one : 1 ≤ pages
+
+abbrev pub no_page_text : ℕ → ℕ → List ℕ
+no_page_text number pages = codes "lab: the picture has no page " ++ (decimal number ++ (codes ": the last one is " ++ (decimal pages ++ line_feed)))
+
+-- of several pages it is said which one is drawn
+abbrev pub page_text : ℕ → ℕ → List ℕ
+page_text number pages =
+    if nat_lt 1 pages then codes "lab: page " ++ (decimal number ++ (codes " of " ++ (decimal pages ++ line_feed))) else []
+
+-- the page of this number, from 1, of so many
+abbrev pub DrawsPage : Origin → List Mark → ℕ → ℕ → Output → Type 0
+DrawsPage origin marks number pages output =
+    (picture : List ℕ) × IsPicture origin marks (number - 1) picture × (output ≡ record { printed = picture; said = page_text number pages; status = 0 })
+
+-- or that there is no such page
+abbrev pub DrawsSvg : Origin → List Mark → ℕ → Output → Type 0
+DrawsSvg origin marks number output =
+    (pages : ℕ) × HasPages marks pages
+    × (((pages < number) × (output ≡ refuses 2 (no_page_text number pages))) ⊎ ((number ≤ pages) × DrawsPage origin marks number pages output))
+
+-- ---- in any form
+
+-- but as SVG, all marks at once
+unfoldable pub events_of : List Mark → List ℕ
+events_of marks = events_text marks
+
+unfoldable pub table_of : List Mark → List ℕ
+table_of marks = table_text marks
+
+unfoldable pub rows_of : List Mark → List ℕ
+rows_of marks = rows_text marks
+
+abbrev pub DrawsMarks : Form → Origin → List Mark → ℕ → Output → Type 0
+DrawsMarks Svg origin marks number output = DrawsSvg origin marks number output
+DrawsMarks Events origin marks number output = output ≡ prints (events_of marks)
+DrawsMarks Table origin marks number output = output ≡ prints (table_of marks)
+DrawsMarks Rows origin marks number output = output ≡ prints (rows_of marks)
+
+abbrev pub DrawsLines : Drawing → Origin → List TraceLine → Output → Type 0
+DrawsLines drawing origin lines output = (marks : List Mark) × (map told_of marks ≡ all_marked lines) × DrawsMarks drawing.form origin marks drawing.page output
+
+-- a text is these lines of a trace
+pub record AreLinesOf (text : List ℕ) (lines : List TraceLine) : Type 0 where
+  pub read : map read_of lines ≡ map says_some lines
+  pub whole : whole_lines (map text_of lines) ≡ text
+  pub alone : All (λ line. IsLine (text_of line)) lines
+
+-- the lines that a text is
+abbrev pub DrawsTrace : Drawing → Origin → List ℕ → Output → Type 0
+DrawsTrace drawing origin text output = (lines : List TraceLine) × AreLinesOf text lines × DrawsLines drawing origin lines output
+
+-- ---- a text that is none of a trace
+
+abbrev pub fault_words : Fault → Option (List ℕ)
+fault_words fault.Text = Some (codes "bad text")
+fault_words fault.Board = Some (codes "a bad board")
+fault_words (fault.Step number) = Some (codes "a bad step " ++ decimal number)
+fault_words fault.Memory = None
+fault_words fault.Write = None
+
+-- the line that is none, and what is wrong with the scenario
+abbrev pub neither_text : ℕ → List ℕ → List ℕ
+neither_text line words = codes "lab: line " ++ (decimal line ++ (codes " is no line of a trace, and as a scenario it has " ++ (words ++ line_feed)))
+
+-- the trace of the scenario, or why there is none
+abbrev pub DrawsPlayed : Drawing → List ℕ → ℕ → Result (List ℕ) Fault → Output → Type 0
+DrawsPlayed drawing text line (Ok made) output = DrawsTrace drawing (scenario text) (text_in made) output
+DrawsPlayed drawing text line (Err e) output = IsSomeAnd (fault_words e) (λ words. output ≡ refuses 2 (neither_text line words))
+
+-- a trace that was read, or else a text as a scenario
+abbrev pub DrawsWhole : Drawing → Origin → List ℕ → List ℕ → Output → Type 0
+DrawsWhole drawing origin read text output =
+    DrawsTrace drawing origin read output ⊎ ((line : ℕ) × IsMisread read line × DrawsPlayed drawing text line (trace_of program_bank None text) output)
+
+-- ---- a text
+
+-- what stands between the lines of callers and what is told of their machine's end
+abbrev pub closing : List ℕ
+closing = codes "\nclose -> "
+
+-- the lines of callers up to there, or else the whole text as a trace
+abbrev pub DrawsText : Drawing → List ℕ → Output → Type 0
+DrawsText drawing text output =
+    ((front : List ℕ) × (back : List ℕ) × SplitsAroundMatch (FindsText closing) text front back × DrawsWhole drawing callers (front ++ line_feed) text output)
+    ⊎ (FindsText closing text None × DrawsWhole drawing trace text text output)
+
+abbrev pub DrawsIf : Bool → Drawing → List ℕ → Output → Type 0
+DrawsIf true drawing text output = DrawsText drawing text output
+DrawsIf false drawing text output = output ≡ refuses 2 (codes "lab: the text is no UTF-8\n")
+
+-- of a file, by what was read of it
+abbrev pub DrawsRead : Drawing → Option (List ℕ) → Output → Type 0
+DrawsRead drawing None output = output ≡ refuses 2 (codes "lab: no file\n")
+DrawsRead drawing (Some text) output = DrawsIf (is_utf8 text) drawing text output

@@ -1,0 +1,99 @@
+-- What `lab live` answers, line by line.
+use Rattle.std.specs.Prelude.{◌≡◌, ◌⊎◌, ℕ, List, [], ◌∷◌, ◌++◌, codes, true, false, Option, Some, None, IsSomeAnd, is_some, Ok, Err}
+use Rattle.std.specs.List.{All}
+use Rattle.evl_kernel.specs.States.{Handler}
+use Rattle.evl_scenario.specs.Scenarios.{Script, scenario_of}
+use Rattle.evl_scenario.specs.Traces.{history_trace}
+use Rattle.evl_scenario.specs.declared.faults.Fault.{Fault}
+use Rattle.lab_traces.specs.Parts.{Lacks}
+use Rattle.lab_traces.specs.Says.{whole_lines}
+use Rattle.lab_live.specs.Answers.{Does, GoesOn, TellsScenario, comment_text, may_call, script_of, trimmed}
+use Rattle.lab_live.specs.Lines.{step_of_line}
+use Rattle.lab_live.specs.Sessions.{Driven, Opens}
+use Rattle.lab_live.specs.States.{state_text}
+use Rattle.lab.specs.Banks.{IsBank, Refuses}
+use Rattle.lab.specs.Endings.{fault_words, line_about}
+use Rattle.lab.specs.Outputs.{Output, Writes, prints, refuses}
+use Rattle.lab.specs.Texts.{IsAllOf}
+
+-- ---- lines
+
+-- What a line is answered, by what stands there but for blanks at its end: the machine stays, or has one entry more, of which
+-- these are the lines; a line that may ask for a call does what it asks for; and of nothing, of a comment, of the scenario so
+-- far and of how the machine stands just that is told.
+pub record AnswersLine (line : List ℕ) (old new : Driven) (answer : List ℕ) : Type 0 where
+  pub goes_on : GoesOn old new [] answer
+  pub asked : may_call (trimmed line) ≡ true → Does old new (step_of_line (trimmed line)) [] answer
+  pub stays : may_call (trimmed line) ≡ false → new ≡ old
+  pub none : trimmed line ≡ [] → answer ≡ []
+  pub comment : (rest : List ℕ) → trimmed line ≡ 35 ∷ rest → answer ≡ comment_text (trimmed line)
+  pub scenario : trimmed line ≡ codes "scenario" → TellsScenario (script_of old) [] answer
+  pub state : trimmed line ≡ codes "ps" → answer ≡ state_text old
+
+-- lines, one after the other
+abbrev pub AnswersEach : List (List ℕ) → Driven → Driven → List ℕ → Type 0
+AnswersEach [] old new answers = (new ≡ old) × (answers ≡ [])
+AnswersEach (line ∷ lines) old new answers =
+    (mid : Driven) × (first others : List ℕ) × AnswersLine line old mid first × AnswersEach lines mid new others × (answers ≡ first ++ others)
+
+-- ---- bytes
+
+-- bytes behind those of a line that wait: the whole lines among them are answered, and these wait then
+pub record Hears (bytes before after : List ℕ) (old new : Driven) (answers : List ℕ) : Type 0 where
+  pub lines : List (List ℕ)
+  pub whole : whole_lines lines ++ after ≡ before ++ bytes
+  pub alone : All (Lacks 10) lines
+  pub answered : AnswersEach lines old new answers
+
+-- all lines of some bytes are answered, of which the last one ends with no line feed
+pub record AnswersAll (bytes : List ℕ) (old new : Driven) (answers : List ℕ) : Type 0 where
+  pub lines : List (List ℕ)
+  pub last : List ℕ
+  pub whole : whole_lines lines ++ last ≡ bytes
+  pub alone : All (Lacks 10) (lines ++ last ∷ [])
+  pub answered : AnswersEach (lines ++ last ∷ []) old new answers
+
+-- all lines of the input, as far as it is known
+pub record AnswersInput (known : Option (List ℕ)) (old new : Driven) (answers : List ℕ) : Type 0 where
+  pub bytes : List ℕ
+  pub all_of : IsAllOf known bytes
+  pub all : AnswersAll bytes old new answers
+
+-- ---- a machine
+
+-- the trace of what it was asked before the first line, and the answers
+pub record Drives (known : Option (List ℕ)) (start : Driven) (output : Output) : Type 0 where
+  pub end : Driven
+  pub answers : List ℕ
+  pub answered : AnswersInput known start end answers
+  pub output_is : output ≡ prints (history_trace start.board start.limit start.history.entries start.history.plays ++ answers)
+
+-- the machine of a text's scenario over these callbacks, under a limit that may be handed in; or why there is none
+abbrev pub DrivesText : List Handler → Option ℕ → Option (List ℕ) → List ℕ → Output → Type 0
+DrivesText bank limit known text output =
+    ((script : Script) × (scenario_of limit text ≡ Ok script) × (start : Driven) × Opens script bank start × Drives known start output)
+    ⊎ ((fault : Fault) × (scenario_of limit text ≡ Err fault) × IsSomeAnd (fault_words fault) (λ words. output ≡ refuses 2 (line_about (codes "lab") words)))
+
+-- the scenario where no file is named
+abbrev pub default_text : List ℕ
+default_text =
+    codes "limit = 1000000\n[board]\nthreads = 8\nsems = [0, 0, 0, 0]\nflags = [0, 0]\nxbufs = [[64, 64]]\n"
+    ++ codes "mutexes = [\"normal\", \"normal\", \"recursive\", \"ceiling 50\"]\ngroups = [50]\n"
+
+-- the text of a file, of which nobody knows, or that one
+abbrev pub IsTextOf : Option (List ℕ) → List ℕ → Type 0
+IsTextOf None text = text ≡ default_text
+IsTextOf (Some file) text = Unit {0}
+
+-- over the callbacks of a bank's file or the program's
+pub record DrivesOver (plans : Option (List ℕ)) (limit : Option ℕ) (text : List ℕ) (known old new quiet spoken : Option (List ℕ)) (status : ℕ) : Type 0 where
+  pub bank : List Handler
+  pub is_bank : IsBank plans bank
+  pub writes : Writes (DrivesText bank limit known text) old new quiet spoken status
+
+-- the bank is refused; or its machine is driven; or a file that is named can't be read
+abbrev pub Lives : Option (List ℕ) → Option (List ℕ) → Option ℕ → Option (List ℕ) → Option (List ℕ) → Option (List ℕ) → Option (List ℕ) → Option (List ℕ) → ℕ → Type 0
+Lives plans file limit known old new quiet spoken status =
+    Refuses plans old new status
+    ⊎ (((text : List ℕ) × IsTextOf file text × DrivesOver plans limit text known old new quiet spoken status)
+    ⊎ ((is_some file ≡ true) × Writes (λ output. output ≡ refuses 2 (line_about (codes "lab") (codes "no file"))) old new quiet spoken status))

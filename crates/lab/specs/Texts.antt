@@ -1,0 +1,42 @@
+-- The texts that are read, and the names of files.
+use Rattle.std.specs.Prelude.{◌≡◌, ◌⊎◌, ℕ, List, [], ◌∷◌, ◌++◌, codes, Bool, true, if◌then◌else◌, Option, Some, None, IfSome, unwrap_or}
+use Rattle.std.specs.Str.{bytes_eq, is_utf8}
+use Rattle.lab_traces.specs.Parts.{Lacks, before_end}
+
+-- the text that bytes are; none where they are no UTF-8
+abbrev pub text_in : List ℕ → List ℕ
+text_in bytes = if is_utf8 bytes then bytes else []
+
+-- `-` names the input
+abbrev pub is_input : List ℕ → Bool
+is_input name = bytes_eq name (codes "-")
+
+-- where no file is named the input is read too
+abbrev pub reads_input : Option (List ℕ) → Bool
+reads_input None = true
+reads_input (Some name) = is_input name
+
+-- a text is all of the input, where that is known
+abbrev pub IsAllOf : Option (List ℕ) → List ℕ → Type 0
+IsAllOf known text = IfSome known (λ bytes. text ≡ bytes)
+
+-- what was read, if it could be read
+abbrev pub IsReadOf : Option (List ℕ) → Option (List ℕ) → Type 0
+IsReadOf known None = Unit {0}
+IsReadOf known (Some text) = IsAllOf known text
+
+-- the names that are gone through: that of the input where none is given
+abbrev pub names_or_input : List (List ℕ) → List (List ℕ)
+names_or_input [] = codes "-" ∷ []
+names_or_input (name ∷ names) = name ∷ names
+
+-- a path is some folders, each with its slash, and this name
+pub record IsNameOf (path name : List ℕ) : Type 0 where
+  pub folders : List ℕ
+  pub whole : folders ++ name ≡ path
+  pub ends : (folders ≡ []) ⊎ ((front : List ℕ) × (folders ≡ front ++ codes "/"))
+  pub alone : Lacks 47 name
+
+-- a name without `.toml` at its end
+abbrev pub stem_in : List ℕ → List ℕ
+stem_in name = unwrap_or (before_end (codes ".toml") name) name

@@ -1,0 +1,125 @@
+//! `lab check`: the faults of scenarios, and the warnings of a dry run.
+ghost use Rattle.std.specs.Prelude.{◌≡◌, ◌⊎◌, ◌++◌, List, [], ◌∷◌, ℕ, Bool, None, codes, is_err, map, option_map, string_bytes, true, IfOk, OnOk};
+ghost use Rattle.std.specs.Io.KnownBytes.{Appends};
+ghost use Rattle.evl_plans.specs.Told as callbacks;
+ghost use Rattle.evl_scenario.specs.Scenarios.{scenario_of};
+ghost use Rattle.lab.specs.Banks.{Refuses};
+ghost use Rattle.lab.specs.Checks.{Checks, ChecksEach, TellsText};
+ghost use Rattle.lab.specs.Endings as endings;
+
+use crate::banks::read_plans;
+use crate::statuses::{AT_FAULT, either, status_of};
+use lab_faults::report;
+use evl_plans::Planned;
+use lab_warnings::warnings;
+use std::alloc::{AllocError, Global};
+use std::fs;
+use std::io::{self, Write};
+use std::rt::Files;
+
+// Tells the faults of a text, or its warnings where it has none, and whether it has a fault.
+fn tell_faults(
+    alloc: Global,
+    plans: &[Planned],
+    name: &str,
+    text: &[u8],
+    told: &mut String,
+) -> Result<bool, AllocError>
+    ensures answers { IfOk result (λ is_at_fault. is_at_fault ≡ is_err (scenario_of None text.now)) }
+    ensures told { OnOk result (TellsText (map callbacks.told plans.now) name.now text.now (scenario_of None text.now) (string_bytes told.old) (string_bytes told.new)) }
+{
+    if report(alloc, name, text, told)? {
+        return Ok(true);
+    }
+    warnings(alloc, name, text, plans, told)?;
+    Ok(false)
+}
+
+// Prints the faults or warnings of a text, and tells whether it has a fault.
+fn check_text<O: Write>(
+    alloc: Global,
+    plans: &[Planned],
+    name: &str,
+    text: &[u8],
+    out: &mut O,
+) -> io::Result<bool>
+    ensures answers { IfOk result (λ is_at_fault. is_at_fault ≡ is_err (scenario_of None text.now)) }
+    ensures told { OnOk result ((printed : List ℕ) × TellsText (map callbacks.told plans.now) name.now text.now (scenario_of None text.now) [] printed × Appends (O.contents out.old) (O.contents out.new) printed) }
+{
+    let mut told = String::new(alloc);
+    let is_at_fault = tell_faults(alloc, plans, name, text, &mut told)?;
+    out.write_all(told.as_bytes())?;
+    Ok(is_at_fault)
+}
+
+// Tells that a file can't be read.
+fn tell_unread<O: Write>(out: &mut O, name: &str) -> io::Result<bool>
+    ensures answers { IfOk result (λ is_at_fault. is_at_fault ≡ true) }
+    ensures line { OnOk result (Appends (O.contents out.old) (O.contents out.new) (name.now ++ codes ": can't be read\n")) }
+{
+    writeln!(out, "{name}: can't be read")?;
+    Ok(true)
+}
+
+// Prints the faults or warnings of a file, and tells whether it has a fault.
+fn check_file<R: Files + AllocGlobal, O: Write>(
+    rt: &R,
+    plans: &[Planned],
+    name: &str,
+    out: &mut O,
+) -> io::Result<bool>
+    ensures { IfOk result (ChecksEach (map callbacks.told plans.now) (name.now ∷ []) (O.contents out.old) (O.contents out.new)) }
+{
+    match fs::read(rt, name) {
+        Ok(text) => check_text(rt.alloc(), plans, name, text.as_slice(), out),
+        Err(_) => tell_unread(out, name),
+    }
+}
+
+// Prints the faults or warnings of files, and tells whether one has a fault.
+fn check_each<R: Files + AllocGlobal, O: Write>(
+    rt: &R,
+    plans: &[Planned],
+    names: &[&str],
+    out: &mut O,
+) -> io::Result<bool>
+    ensures { IfOk result (ChecksEach (map callbacks.told plans.now) (map (λ name. name.now) names.now) (O.contents out.old) (O.contents out.new)) }
+{
+    let mut is_at_fault = false;
+    for name in names {
+        let is_bad = check_file(rt, plans, name, out)?;
+        is_at_fault = either(is_at_fault, is_bad);
+    }
+    Ok(is_at_fault)
+}
+
+// Prints the faults or warnings of files over these callbacks, and answers the status.
+fn check_over<R: Files + AllocGlobal, O: Write>(
+    rt: &R,
+    plans: &[Planned],
+    names: &[&str],
+    out: &mut O,
+) -> io::Result<u8>
+    ensures { IfOk result (λ status. (at_fault : Bool) × ChecksEach (map callbacks.told plans.now) (map (λ name. name.now) names.now) (O.contents out.old) (O.contents out.new) at_fault × (status ≡ endings.status_of at_fault)) }
+{
+    let is_at_fault = check_each(rt, plans, names, out)?;
+    Ok(status_of(is_at_fault))
+}
+
+/// Prints the faults of files, a line each, or where a file has none the warnings of a dry run over a bank, and answers
+/// the status: 2 where a file is at fault or can't be read, or the bank is.
+pub fn check_files<R: Files + AllocGlobal, O: Write, E: Write>(
+    rt: &R,
+    bank: Option<&str>,
+    names: &[&str],
+    out: &mut O,
+    err: &mut E,
+) -> io::Result<u8>
+    ensures { IfOk result (λ status. Refuses (option_map (λ file. file.now) bank.entry) (O.contents out.old) (O.contents out.new) status ⊎ Checks (option_map (λ file. file.now) bank.entry) (map (λ name. name.now) names.now) (O.contents out.old) (O.contents out.new) (E.contents err.old) (E.contents err.new) status) }
+{
+    match read_plans(rt, bank, err) {
+        Ok(Some(plans)) => check_over(rt, plans.as_slice(), names, out),
+        Ok(None) => Ok(AT_FAULT),
+        Err(error) => Err(error),
+    }
+}

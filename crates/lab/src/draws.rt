@@ -1,0 +1,418 @@
+//! `lab draw`: the picture of a trace, of a scenario, which is played, or of what `lab callers` tells.
+ghost use Rattle.std.specs.Prelude.{◌≡◌, ◌++◌, None, Ok, Some, codes, decimal, option_map, string_bytes, IfErr, IfOk, OnOk, IsSomeAnd};
+ghost use Rattle.std.specs.Io.KnownBytes.{Appends};
+ghost use Rattle.evl_bank.specs.Bank.{program_bank};
+ghost use Rattle.evl_plans.specs.Traces.{Refuses};
+ghost use Rattle.evl_scenario.specs.Lines.{line_feed};
+ghost use Rattle.evl_shell.specs.Runs as runs;
+ghost use Rattle.lab.specs.Draws as draws;
+ghost use Rattle.lab.specs.Draws.{AreMomentsOf, DrawsLines, DrawsMarks, DrawsPage, DrawsPlayed, DrawsRead, DrawsSvg, DrawsText, DrawsTrace, DrawsWhole, IsPicture, fault_words, neither_text, no_page_text, origin_of, page_text};
+ghost use Rattle.lab.specs.Outputs.{Writes, WritesOfText};
+ghost use Rattle.lab.specs.Texts as texts;
+
+use crate::statuses::AT_FAULT;
+use crate::texts::{read_text, text_in};
+use crate::words::{Drawing, Form};
+use lab_drawing::{
+    Mark, Moment, lanes_of, marks_of, page, page_count, page_moments, told_moments, write_rows,
+    write_svg, write_table, write_told,
+};
+use lab_moments::moments_of;
+use evl_plans::trace_plans;
+use lab_reports::{program_plans, write_events};
+use evl_scenario::Fault;
+use lab_traces::{Misread, TraceLine, read_lines};
+use std::alloc::{AllocError, Global};
+use std::io::{self, Read, Write};
+use std::rt::Files;
+
+// What stands between the lines of callers and what is told of their machine's end.
+const CLOSING: &str = "\nclose -> ";
+
+// What marks come from: a trace alone, a scenario that was played, or the lines of callers.
+#[derive(Clone, Copy, PartialEq, Eq, Debug)]
+enum Source<'a> {
+    Trace,
+    Scenario(&'a str),
+    Callers,
+}
+
+// How the lanes of marks stand after each step of a scenario, over the program's callbacks.
+fn scenario_moments(
+    alloc: Global,
+    marks: &[Mark<'_>],
+    text: &str,
+) -> Result<Vec<Moment>, AllocError>
+    ensures { IfOk result (λ moments. AreMomentsOf (draws.scenario text.now) marks.now moments.items) }
+{
+    let lanes = lanes_of(alloc, marks)?;
+    let plans = program_plans(alloc)?;
+    moments_of(alloc, plans.as_slice(), text.as_bytes(), lanes.as_slice())
+}
+
+// How the lanes of marks stand after each entry, as far as their source tells it.
+fn known_moments(
+    alloc: Global,
+    marks: &[Mark<'_>],
+    source: Source<'_>,
+) -> Result<Vec<Moment>, AllocError>
+    ensures { IfOk result (λ moments. AreMomentsOf (origin_of source.entry) marks.now moments.items) }
+{
+    match source {
+        Source::Trace => Ok(Vec::new(alloc)),
+        Source::Scenario(text) => scenario_moments(alloc, marks, text),
+        Source::Callers => told_moments(alloc, marks),
+    }
+}
+
+// The picture of a page of marks, from 0.
+fn picture_of(
+    alloc: Global,
+    marks: &[Mark<'_>],
+    source: Source<'_>,
+    number: usize,
+) -> Result<Vec<u8>, AllocError>
+    ensures { IfOk result (λ picture. IsPicture (origin_of source.entry) marks.now number picture.items) }
+{
+    let known = known_moments(alloc, marks, source)?;
+    let behind = page_moments(marks, known.as_slice(), number);
+    match source {
+        Source::Callers => write_told(alloc, page(marks, number), behind),
+        _ => write_svg(alloc, page(marks, number), behind),
+    }
+}
+
+// Writes bytes, and answers the status.
+fn put<O: Write>(out: &mut O, bytes: &[u8]) -> io::Result<u8>
+    ensures status { IfOk result (λ status. status ≡ 0) }
+    ensures bytes { OnOk result (Appends (O.contents out.old) (O.contents out.new) bytes.now) }
+{
+    out.write_all(bytes)?;
+    Ok(0)
+}
+
+// Tells that there is no page of this number.
+fn tell_no_page<E: Write>(err: &mut E, number: u32, all: usize) -> io::Result<u8>
+    ensures status { IfOk result (λ status. status ≡ 2) }
+    ensures line { OnOk result (Appends (E.contents err.old) (E.contents err.new) (no_page_text number all)) }
+{
+    writeln!(
+        err,
+        "lab: the picture has no page {number}: the last one is {all}"
+    )?;
+    Ok(AT_FAULT)
+}
+
+// Tells which page is drawn, where there are several.
+fn tell_page<E: Write>(err: &mut E, number: u32, all: usize) -> io::Result<()>
+    ensures { OnOk result (Appends (E.contents err.old) (E.contents err.new) (page_text number all)) }
+{
+    if all <= 1 {
+        return Ok(());
+    }
+    writeln!(err, "lab: page {number} of {all}")
+}
+
+// Writes the picture of a page of marks, from 1, of so many.
+fn draw_page<O: Write, E: Write>(
+    alloc: Global,
+    marks: &[Mark<'_>],
+    source: Source<'_>,
+    number: u32,
+    all: usize,
+    out: &mut O,
+    err: &mut E,
+) -> io::Result<u8>
+    ensures { IfOk result (Writes (DrawsPage (origin_of source.entry) marks.now number all) (O.contents out.old) (O.contents out.new) (E.contents err.old) (E.contents err.new)) }
+{
+    tell_page(err, number, all)?;
+    match picture_of(alloc, marks, source, (number as usize).saturating_sub(1)) {
+        Ok(picture) => put(out, picture.as_slice()),
+        Err(error) => Err(error.into()),
+    }
+}
+
+// Writes the picture of a page of marks, from 1, and says so where there are several.
+fn draw_svg<O: Write, E: Write>(
+    alloc: Global,
+    marks: &[Mark<'_>],
+    source: Source<'_>,
+    number: u32,
+    out: &mut O,
+    err: &mut E,
+) -> io::Result<u8>
+    ensures { IfOk result (Writes (DrawsSvg (origin_of source.entry) marks.now number) (O.contents out.old) (O.contents out.new) (E.contents err.old) (E.contents err.new)) }
+{
+    let all = page_count(marks);
+    if number as usize > all {
+        tell_no_page(err, number, all)
+    } else {
+        draw_page(alloc, marks, source, number, all, out, err)
+    }
+}
+
+// Writes marks as trace events.
+fn draw_events<O: Write>(alloc: Global, marks: &[Mark<'_>], out: &mut O) -> io::Result<u8>
+    ensures status { IfOk result (λ status. status ≡ 0) }
+    ensures text { OnOk result (Appends (O.contents out.old) (O.contents out.new) (draws.events_of marks.now)) }
+{
+    match write_events(alloc, marks) {
+        Ok(events) => put(out, events.as_bytes()),
+        Err(error) => Err(error.into()),
+    }
+}
+
+// Writes the table of marks.
+fn draw_table<O: Write>(alloc: Global, marks: &[Mark<'_>], out: &mut O) -> io::Result<u8>
+    ensures status { IfOk result (λ status. status ≡ 0) }
+    ensures text { OnOk result (Appends (O.contents out.old) (O.contents out.new) (draws.table_of marks.now)) }
+{
+    match write_table(alloc, marks) {
+        Ok(table) => put(out, table.as_slice()),
+        Err(error) => Err(error.into()),
+    }
+}
+
+// Writes marks in characters.
+fn draw_rows<O: Write>(alloc: Global, marks: &[Mark<'_>], out: &mut O) -> io::Result<u8>
+    ensures status { IfOk result (λ status. status ≡ 0) }
+    ensures text { OnOk result (Appends (O.contents out.old) (O.contents out.new) (draws.rows_of marks.now)) }
+{
+    match write_rows(alloc, marks) {
+        Ok(rows) => put(out, rows.as_bytes()),
+        Err(error) => Err(error.into()),
+    }
+}
+
+// Writes marks in a form.
+fn draw_marks<O: Write, E: Write>(
+    alloc: Global,
+    marks: &[Mark<'_>],
+    source: Source<'_>,
+    drawing: Drawing,
+    out: &mut O,
+    err: &mut E,
+) -> io::Result<u8>
+    ensures { IfOk result (Writes (DrawsMarks drawing.form (origin_of source.entry) marks.now drawing.page) (O.contents out.old) (O.contents out.new) (E.contents err.old) (E.contents err.new)) }
+{
+    match drawing.form {
+        Form::Svg => draw_svg(alloc, marks, source, drawing.page, out, err),
+        Form::Events => draw_events(alloc, marks, out),
+        Form::Table => draw_table(alloc, marks, out),
+        Form::Rows => draw_rows(alloc, marks, out),
+    }
+}
+
+// Writes the picture of the lines of a trace, with how the lanes stand as far as their source tells it.
+fn draw_lines<O: Write, E: Write>(
+    alloc: Global,
+    lines: &[TraceLine<'_>],
+    source: Source<'_>,
+    drawing: Drawing,
+    out: &mut O,
+    err: &mut E,
+) -> io::Result<u8>
+    ensures { IfOk result (Writes (DrawsLines drawing (origin_of source.entry) lines.now) (O.contents out.old) (O.contents out.new) (E.contents err.old) (E.contents err.new)) }
+{
+    match marks_of(alloc, lines) {
+        Ok(marks) => draw_marks(alloc, marks.as_slice(), source, drawing, out, err),
+        Err(error) => Err(error.into()),
+    }
+}
+
+// Tells which line of a text is none of a trace, and what is wrong with it as a scenario.
+fn tell_words<E: Write>(err: &mut E, line: usize, words: &str) -> io::Result<u8>
+    ensures status { IfOk result (λ status. status ≡ 2) }
+    ensures line { OnOk result (Appends (E.contents err.old) (E.contents err.new) (neither_text line words.now)) }
+{
+    writeln!(
+        err,
+        "lab: line {line} is no line of a trace, and as a scenario it has {words}"
+    )?;
+    Ok(AT_FAULT)
+}
+
+// The same of a step that is at fault.
+fn tell_step<E: Write>(err: &mut E, line: usize, number: u32) -> io::Result<u8>
+    ensures status { IfOk result (λ status. status ≡ 2) }
+    ensures line { OnOk result (Appends (E.contents err.old) (E.contents err.new) (neither_text line (codes "a bad step " ++ decimal number))) }
+{
+    writeln!(
+        err,
+        "lab: line {line} is no line of a trace, and as a scenario it has a bad step {number}"
+    )?;
+    Ok(AT_FAULT)
+}
+
+// Tells that a text is neither a trace nor a scenario.
+fn tell_neither<E: Write>(err: &mut E, line: usize, fault: Fault) -> io::Result<u8>
+    ensures status { IfOk result (λ status. status ≡ 2) }
+    ensures line { OnOk result (IsSomeAnd (fault_words fault) (λ words. Appends (E.contents err.old) (E.contents err.new) (neither_text line words))) }
+{
+    match fault {
+        Fault::Text => tell_words(err, line, "bad text"),
+        Fault::Board => tell_words(err, line, "a bad board"),
+        Fault::Step(number) => tell_step(err, line, number),
+        Fault::Memory | Fault::Write => Err(AllocError.into()),
+    }
+}
+
+// The trace of a scenario over the program's callbacks.
+fn trace_of(alloc: Global, text: &str) -> Result<Vec<u8>, Fault>
+    ensures traced { IfOk result (λ trace. runs.trace_of program_bank None text.now ≡ Ok trace.items) }
+    ensures refused { IfErr result (λ fault. Refuses (runs.trace_of program_bank None text.now) fault) }
+{
+    match program_plans(alloc) {
+        Ok(plans) => trace_plans(alloc, plans.as_slice(), text.as_bytes(), None),
+        Err(_) => Err(Fault::Memory),
+    }
+}
+
+// Writes the picture of a trace that was made of a scenario.
+fn draw_trace<O: Write, E: Write>(
+    alloc: Global,
+    trace: &[u8],
+    scenario: &str,
+    drawing: Drawing,
+    out: &mut O,
+    err: &mut E,
+) -> io::Result<u8>
+    ensures { IfOk result (Writes (DrawsTrace drawing (draws.scenario scenario.now) (texts.text_in trace.now)) (O.contents out.old) (O.contents out.new) (E.contents err.old) (E.contents err.new)) }
+{
+    match read_lines(alloc, text_in(trace)) {
+        Ok(lines) => {
+            let source = Source::Scenario(scenario);
+            draw_lines(alloc, lines.as_slice(), source, drawing, out, err)
+        }
+        Err(_) => Err(AllocError.into()),
+    }
+}
+
+// Plays a text that is no trace, since this line is none of one, and writes the picture of its trace.
+fn draw_scenario<O: Write, E: Write>(
+    alloc: Global,
+    text: &str,
+    line: usize,
+    drawing: Drawing,
+    out: &mut O,
+    err: &mut E,
+) -> io::Result<u8>
+    ensures { IfOk result (Writes (DrawsPlayed drawing text.now line (runs.trace_of program_bank None text.now)) (O.contents out.old) (O.contents out.new) (E.contents err.old) (E.contents err.new)) }
+{
+    match trace_of(alloc, text) {
+        Ok(trace) => draw_trace(alloc, trace.as_slice(), text, drawing, out, err),
+        Err(fault) => tell_neither(err, line, fault),
+    }
+}
+
+// Writes the picture of the lines that a text has, or of the text as a scenario.
+fn draw_whole<O: Write, E: Write>(
+    alloc: Global,
+    read: &str,
+    source: Source<'_>,
+    text: &str,
+    drawing: Drawing,
+    out: &mut O,
+    err: &mut E,
+) -> io::Result<u8>
+    ensures { IfOk result (Writes (DrawsWhole drawing (origin_of source.entry) read.now text.now) (O.contents out.old) (O.contents out.new) (E.contents err.old) (E.contents err.new)) }
+{
+    match read_lines(alloc, read) {
+        Ok(lines) => draw_lines(alloc, lines.as_slice(), source, drawing, out, err),
+        Err(Misread::Memory) => Err(AllocError.into()),
+        Err(Misread::Line(line)) => draw_scenario(alloc, text, line, drawing, out, err),
+    }
+}
+
+// The text with a line feed at its end.
+fn with_line_feed(alloc: Global, text: &str) -> Result<String, AllocError>
+    ensures { IfOk result (λ line. string_bytes line ≡ text.now ++ line_feed) }
+{
+    let mut line = String::from_str(alloc, text)?;
+    line.push_str("\n")?;
+    Ok(line)
+}
+
+// Writes the picture of the lines of callers, which stand at the front of a text.
+fn draw_callers<O: Write, E: Write>(
+    alloc: Global,
+    front: &str,
+    text: &str,
+    drawing: Drawing,
+    out: &mut O,
+    err: &mut E,
+) -> io::Result<u8>
+    ensures { IfOk result (Writes (DrawsWhole drawing draws.callers (front.now ++ line_feed) text.now) (O.contents out.old) (O.contents out.new) (E.contents err.old) (E.contents err.new)) }
+{
+    match with_line_feed(alloc, front) {
+        Ok(told) => draw_whole(
+            alloc,
+            told.as_str(),
+            Source::Callers,
+            text,
+            drawing,
+            out,
+            err,
+        ),
+        Err(error) => Err(error.into()),
+    }
+}
+
+// Writes the picture of a trace, of a scenario, or of callers up to where their machine is closed.
+fn draw_text<O: Write, E: Write>(
+    alloc: Global,
+    text: &str,
+    drawing: Drawing,
+    out: &mut O,
+    err: &mut E,
+) -> io::Result<u8>
+    ensures { IfOk result (Writes (DrawsText drawing text.now) (O.contents out.old) (O.contents out.new) (E.contents err.old) (E.contents err.new)) }
+{
+    match text.split_once(CLOSING) {
+        Some((front, _)) => draw_callers(alloc, front, text, drawing, out, err),
+        None => draw_whole(alloc, text, Source::Trace, text, drawing, out, err),
+    }
+}
+
+// Tells why nothing can be drawn.
+fn tell_undrawn<E: Write>(err: &mut E, why: &str) -> io::Result<u8>
+    ensures status { IfOk result (λ status. status ≡ 2) }
+    ensures line { OnOk result (Appends (E.contents err.old) (E.contents err.new) (codes "lab: " ++ (why.now ++ line_feed))) }
+{
+    writeln!(err, "lab: {why}")?;
+    Ok(AT_FAULT)
+}
+
+// Writes the picture of a text.
+fn draw_bytes<O: Write, E: Write>(
+    alloc: Global,
+    bytes: &[u8],
+    drawing: Drawing,
+    out: &mut O,
+    err: &mut E,
+) -> io::Result<u8>
+    ensures { IfOk result (Writes (DrawsRead drawing (Some bytes.now)) (O.contents out.old) (O.contents out.new) (E.contents err.old) (E.contents err.new)) }
+{
+    match std::str::from_utf8(bytes) {
+        Ok(text) => draw_text(alloc, text, drawing, out, err),
+        Err(_) => tell_undrawn(err, "the text is no UTF-8"),
+    }
+}
+
+/// Draws the trace that a file holds, or that of its scenario, or what is told of callers there, or of the input where
+/// none is named. The status is 2 where it holds none of these.
+pub fn draw<R: Files + AllocGlobal, I: Read, O: Write, E: Write>(
+    rt: &R,
+    drawing: Drawing,
+    file: Option<&str>,
+    input: &mut I,
+    out: &mut O,
+    err: &mut E,
+) -> io::Result<u8>
+    ensures { IfOk result (WritesOfText (DrawsRead drawing) (option_map (λ name. name.now) file.entry) (I.remaining input.old) (O.contents out.old) (O.contents out.new) (E.contents err.old) (E.contents err.new)) }
+{
+    match read_text(rt, file, input) {
+        Ok(given) => draw_bytes(rt.alloc(), given.as_slice(), drawing, out, err),
+        Err(_) => tell_undrawn(err, "no file"),
+    }
+}

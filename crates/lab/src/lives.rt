@@ -1,0 +1,269 @@
+//! `lab live`: a machine that is driven line by line.
+ghost use Rattle.std.specs.Prelude.{◌≡◌, ◌≤◌, ◌<◌, ◌⊎◌, ◌++◌, ◌∷◌, [], List, ℕ, Some, length, map, option_map, string_bytes, take, IfOk, OnOk};
+ghost use Rattle.std.specs.Io.KnownBytes.{Appends};
+ghost use Rattle.evl_plans.specs.Told.{told};
+ghost use Rattle.evl_scenario.specs.Traces.{history_trace};
+ghost use Rattle.lab_traces.specs.Parts.{Lacks};
+ghost use Rattle.lab.specs.Banks.{Refuses};
+ghost use Rattle.lab.specs.Lives.{AnswersInput, AnswersLine, Drives, DrivesOver, DrivesText, Hears, Lives};
+ghost use Rattle.lab.specs.Outputs.{Output, Writes};
+ghost use Rattle.lab.specs.Texts.{IsAllOf};
+
+use crate::banks::read_plans;
+use crate::endings::{tell_fault, tell_refused};
+use crate::statuses::{AT_FAULT, refused};
+use crate::words::Driving;
+use lab_live::{Session, answer_line};
+use evl_plans::Planned;
+use std::alloc::{AllocError, Global};
+use std::fs;
+use std::io::{self, Read, Write};
+use std::rt::Files;
+
+// How many bytes are asked for at a time.
+const PART: usize = 65_536;
+
+// The scenario that comes first where none is named.
+const DEFAULT: &str = "limit = 1000000
+[board]
+threads = 8
+sems = [0, 0, 0, 0]
+flags = [0, 0]
+xbufs = [[64, 64]]
+mutexes = [\"normal\", \"normal\", \"recursive\", \"ceiling 50\"]
+groups = [50]
+";
+
+// Takes a byte of the input: a line feed ends the line that waits, which is answered; any other byte waits.
+fn take_byte(
+    alloc: Global,
+    session: &mut Session,
+    byte: u8,
+    waiting: &mut Vec<u8>,
+    told: &mut String,
+) -> Result<(), AllocError>
+    requires { Lacks 10 waiting.old.items }
+    ensures waits { OnOk result (Lacks 10 waiting.new.items) }
+    ensures heard { OnOk result ((answers : List ℕ) × Hears (byte ∷ []) waiting.old.items waiting.new.items session.old session.new answers × (string_bytes told.new ≡ string_bytes told.old ++ answers)) }
+{
+    if byte == b'\n' {
+        answer_line(alloc, session, waiting.as_slice(), told)?;
+        waiting.clear();
+        return Ok(());
+    }
+    waiting.push(byte)?;
+    Ok(())
+}
+
+// Takes bytes of the input.
+fn take_bytes(
+    alloc: Global,
+    session: &mut Session,
+    bytes: &[u8],
+    waiting: &mut Vec<u8>,
+    told: &mut String,
+) -> Result<(), AllocError>
+    requires { Lacks 10 waiting.old.items }
+    ensures waits { OnOk result (Lacks 10 waiting.new.items) }
+    ensures heard { OnOk result ((answers : List ℕ) × Hears bytes.now waiting.old.items waiting.new.items session.old session.new answers × (string_bytes told.new ≡ string_bytes told.old ++ answers)) }
+{
+    for byte in bytes {
+        take_byte(alloc, session, *byte, waiting, told)?;
+    }
+    Ok(())
+}
+
+// Takes a part of the input, and prints what its lines are answered.
+fn answer_part<O: Write>(
+    alloc: Global,
+    session: &mut Session,
+    part: &[u8],
+    waiting: &mut Vec<u8>,
+    out: &mut O,
+) -> io::Result<()>
+    requires { Lacks 10 waiting.old.items }
+    ensures waits { OnOk result (Lacks 10 waiting.new.items) }
+    ensures heard { OnOk result ((answers : List ℕ) × Hears part.now waiting.old.items waiting.new.items session.old session.new answers × Appends (O.contents out.old) (O.contents out.new) answers) }
+{
+    let mut told = String::new(alloc);
+    take_bytes(alloc, session, part, waiting, &mut told)?;
+    out.write_all(told.as_bytes())
+}
+
+// The first bytes of a buffer, as many as were read.
+fn front(buffer: &[u8], count: usize) -> &[u8]
+    ensures { result.now ≡ take count buffer.now }
+{
+    buffer.get(..count).unwrap_or(buffer)
+}
+
+// Answers the lines of the input up to its end, and leaves what has no line feed there.
+fn answer_parts<I: Read, O: Write>(
+    alloc: Global,
+    session: &mut Session,
+    input: &mut I,
+    buffer: &mut [u8],
+    waiting: &mut Vec<u8>,
+    out: &mut O,
+) -> io::Result<()>
+    requires none { waiting.old.items ≡ [] }
+    requires room { 0 < length buffer.old }
+    ensures waits { OnOk result (Lacks 10 waiting.new.items) }
+    ensures heard { OnOk result ((bytes answers : List ℕ) × IsAllOf (I.remaining input.old) bytes × Hears bytes [] waiting.new.items session.old session.new answers × Appends (O.contents out.old) (O.contents out.new) answers) }
+{
+    for _ in 0..u64::MAX {
+        let count = input.read(buffer)?;
+        if count == 0 {
+            return Ok(());
+        }
+        answer_part(alloc, session, front(buffer, count), waiting, out)?;
+    }
+    Err(io::ErrorKind::FileTooLarge.into())
+}
+
+// Answers the last line, which has no line feed.
+fn answer_last<O: Write>(
+    alloc: Global,
+    session: &mut Session,
+    line: &[u8],
+    out: &mut O,
+) -> io::Result<()>
+    ensures { OnOk result ((answer : List ℕ) × AnswersLine line.now session.old session.new answer × Appends (O.contents out.old) (O.contents out.new) answer) }
+{
+    let mut told = String::new(alloc);
+    answer_line(alloc, session, line, &mut told)?;
+    out.write_all(told.as_bytes())
+}
+
+// Answers the lines of the input up to its end.
+fn drive<I: Read, O: Write>(
+    alloc: Global,
+    session: &mut Session,
+    input: &mut I,
+    buffer: &mut [u8],
+    out: &mut O,
+) -> io::Result<()>
+    requires { 0 < length buffer.old }
+    ensures { OnOk result ((answers : List ℕ) × AnswersInput (I.remaining input.old) session.old session.new answers × Appends (O.contents out.old) (O.contents out.new) answers) }
+{
+    let mut waiting = Vec::new(alloc);
+    match answer_parts(alloc, session, input, buffer, &mut waiting, out) {
+        Ok(()) => answer_last(alloc, session, waiting.as_slice(), out),
+        Err(error) => Err(error),
+    }
+}
+
+// Prints the trace of what a machine was asked before the first line.
+fn print_trace<O: Write>(alloc: Global, session: &Session, out: &mut O) -> io::Result<()>
+    ensures { OnOk result (Appends (O.contents out.old) (O.contents out.new) (history_trace session.now.board session.now.limit session.now.history.entries session.now.history.plays)) }
+{
+    match session.trace(alloc) {
+        Ok(trace) => out.write_all(trace.as_bytes()),
+        Err(error) => Err(error.into()),
+    }
+}
+
+// Answers the lines of the input by way of a buffer, and answers the status.
+fn drive_buffered<I: Read, O: Write>(
+    alloc: Global,
+    session: &mut Session,
+    input: &mut I,
+    out: &mut O,
+) -> io::Result<u8>
+    ensures status { IfOk result (λ status. status ≡ 0) }
+    ensures answers { OnOk result ((answers : List ℕ) × AnswersInput (I.remaining input.old) session.old session.new answers × Appends (O.contents out.old) (O.contents out.new) answers) }
+{
+    match vec![in alloc; 0u8; PART] {
+        Ok(mut buffer) => drive(alloc, session, input, buffer.as_mut_slice(), out)?,
+        Err(error) => return Err(error.into()),
+    }
+    Ok(0)
+}
+
+// Prints the trace of the scenario that comes first, and answers the lines of the input.
+fn drive_opened<I: Read, O: Write>(
+    alloc: Global,
+    session: &mut Session,
+    input: &mut I,
+    out: &mut O,
+) -> io::Result<u8>
+    ensures status { IfOk result (λ status. status ≡ 0) }
+    ensures drives { OnOk result ((output : Output) × Drives (I.remaining input.old) session.old output × Appends (O.contents out.old) (O.contents out.new) output.printed) }
+{
+    print_trace(alloc, session, out)?;
+    drive_buffered(alloc, session, input, out)
+}
+
+// Opens a machine over these callbacks and drives it.
+fn drive_plans<I: Read, O: Write, E: Write>(
+    alloc: Global,
+    text: &[u8],
+    limit: Option<u32>,
+    plans: Vec<Planned>,
+    input: &mut I,
+    out: &mut O,
+    err: &mut E,
+) -> io::Result<u8>
+    requires { length plans.items ≤ 64 }
+    ensures { IfOk result (Writes (DrivesText (map told plans.items) limit (I.remaining input.old) text.now) (O.contents out.old) (O.contents out.new) (E.contents err.old) (E.contents err.new)) }
+{
+    match Session::open(alloc, text, limit, plans) {
+        Ok(mut session) => {
+            let status = drive_opened(alloc, &mut session, input, out);
+            drop(session);
+            status
+        }
+        Err(fault) => refused(tell_fault(err, "lab", fault)),
+    }
+}
+
+// Drives a machine of the scenario with this text.
+fn drive_text<R: Files + AllocGlobal, I: Read, O: Write, E: Write>(
+    rt: &R,
+    driving: Driving<'_>,
+    text: &[u8],
+    input: &mut I,
+    out: &mut O,
+    err: &mut E,
+) -> io::Result<u8>
+    ensures { IfOk result (λ status. Refuses (option_map (λ file. file.now) driving.entry.bank) (O.contents out.old) (O.contents out.new) status ⊎ DrivesOver (option_map (λ file. file.now) driving.entry.bank) driving.entry.limit text.now (I.remaining input.old) (O.contents out.old) (O.contents out.new) (E.contents err.old) (E.contents err.new) status) }
+{
+    match read_plans(rt, driving.bank, err) {
+        Ok(Some(plans)) => { drive_plans(rt.alloc(), text, driving.limit, plans, input, out, err) }
+        Ok(None) => Ok(AT_FAULT),
+        Err(error) => Err(error),
+    }
+}
+
+// Drives a machine of the scenario that a file holds.
+fn drive_file<R: Files + AllocGlobal, I: Read, O: Write, E: Write>(
+    rt: &R,
+    driving: Driving<'_>,
+    path: &str,
+    input: &mut I,
+    out: &mut O,
+    err: &mut E,
+) -> io::Result<u8>
+    ensures { IfOk result (Lives (option_map (λ file. file.now) driving.entry.bank) (Some path.now) driving.entry.limit (I.remaining input.old) (O.contents out.old) (O.contents out.new) (E.contents err.old) (E.contents err.new)) }
+{
+    match fs::read(rt, path) {
+        Ok(text) => drive_text(rt, driving, text.as_slice(), input, out, err),
+        Err(_) => refused(tell_refused(err, "lab", "no file")),
+    }
+}
+
+/// Drives a machine by the lines of the input, and answers the status: 2 where its scenario or bank is at fault.
+pub fn live<R: Files + AllocGlobal, I: Read, O: Write, E: Write>(
+    rt: &R,
+    driving: Driving<'_>,
+    input: &mut I,
+    out: &mut O,
+    err: &mut E,
+) -> io::Result<u8>
+    ensures { IfOk result (Lives (option_map (λ file. file.now) driving.entry.bank) (option_map (λ file. file.now) driving.entry.file) driving.entry.limit (I.remaining input.old) (O.contents out.old) (O.contents out.new) (E.contents err.old) (E.contents err.new)) }
+{
+    match driving.file {
+        Some(path) => drive_file(rt, driving, path, input, out, err),
+        None => drive_text(rt, driving, DEFAULT.as_bytes(), input, out, err),
+    }
+}

@@ -1,0 +1,288 @@
+//! `lab orders`: every order in which the callers of a scenario may come.
+ghost use Rattle.std.specs.Prelude.{◌≡◌, ◌⊎◌, codes, map, option_map, unwrap_or, IfOk, OnOk, IsSomeAnd};
+ghost use Rattle.std.specs.Io.KnownBytes.{Appends};
+ghost use Rattle.evl_plans.specs.Told.{told};
+ghost use Rattle.lab.specs.Banks.{Refuses};
+ghost use Rattle.lab.specs.Endings.{line_about};
+ghost use Rattle.lab.specs.Orders.{TellsAsked, TellsOutcomes, TellsRead, TellsText, ask_fault_line, asked_status, asked_text, ends_words, holds_text, is_asked, none_status, none_text, picked_words, report_of, unanswered_text, text_fault_words};
+ghost use Rattle.lab.specs.Outputs.{Writes, WritesOfText, WritesOverBank};
+
+use crate::banks::read_plans;
+use crate::endings::{tell_fault, tell_refused};
+use crate::statuses::{AGAINST, AT_FAULT, UNANSWERED, refused};
+use crate::texts::read_text;
+use crate::words::Asked;
+use lab_orders::OrdersError;
+use evl_plans::{Planned, copied_bank};
+use lab_scenario_orders::{
+    Ask, AskFault, Asked as Answered, BankMaker, Callers, Outcomes, TextFault, ask_all, read_ask,
+    read_callers, write_report,
+};
+use std::alloc::{AllocError, Global};
+use std::io::{self, Read, Write};
+use std::rt::Files;
+
+// Callbacks that are copied for each kernel.
+#[derive(Drop)]
+struct Copies<'a> {
+    plans: &'a [Planned],
+}
+
+impl<'a> BankMaker for Copies<'a> {
+    ghost use Rattle.std.specs.Prelude.{map};
+    ghost use Rattle.evl_plans.specs.Told.{told};
+
+    type Made = Planned;
+
+    ghost bank = { λ copies. map told copies.plans.now };
+
+    fn make(&self, alloc: Global) -> Result<Vec<Planned>, AllocError> {
+        copied_bank(alloc, self.plans)
+    }
+}
+
+// Tells why a text of callers is refused.
+fn tell_text_fault<E: Write>(err: &mut E, name: &str, fault: TextFault) -> io::Result<bool>
+    ensures { OnOk result (IsSomeAnd (text_fault_words fault) (λ words. Appends (E.contents err.old) (E.contents err.new) (line_about name.now words))) }
+{
+    match fault {
+        TextFault::Scenario(fault) => tell_fault(err, name, fault),
+        TextFault::Mixed => tell_refused(err, name, "a [[setup]] behind a [[step]]"),
+        TextFault::Limit => tell_refused(err, name, "more steps than the limit"),
+    }
+}
+
+// Tells which text isn't a caller and one answer.
+fn tell_never<E: Write>(err: &mut E, name: &str, number: usize) -> io::Result<bool>
+    ensures { OnOk result (IsSomeAnd (ask_fault_line name.now (AskFault.Never number)) (λ line. Appends (E.contents err.old) (E.contents err.new) line)) }
+{
+    writeln!(
+        err,
+        "lab: {name}: [ask]: text {number} of never isn't a caller and one answer, as \"T1 -> timed out\""
+    )?;
+    Ok(true)
+}
+
+// Tells why it can't be read what is asked.
+fn tell_ask_fault<E: Write>(err: &mut E, name: &str, fault: AskFault) -> io::Result<bool>
+    ensures { OnOk result (IsSomeAnd (ask_fault_line name.now fault) (λ line. Appends (E.contents err.old) (E.contents err.new) line)) }
+{
+    match fault {
+        AskFault::Table => tell_refused(
+            err,
+            name,
+            "[ask] has never, a list of texts, and always_ends and as_picked",
+        ),
+        AskFault::Never(number) => tell_never(err, name, number),
+        AskFault::Memory => Err(AllocError.into()),
+    }
+}
+
+// Whether something is asked.
+fn is_asked(ask: &Ask) -> bool
+    ensures { result ≡ is_asked ask.now }
+{
+    ask.always_ends || ask.never.len() > 0
+}
+
+// What is said before the number of answers that may never be.
+fn ends_words(ask: &Ask) -> &'static str
+    ensures { result.now ≡ ends_words ask.now }
+{
+    if ask.always_ends { "always_ends, " } else { "" }
+}
+
+// What is said of the orders that were gone through.
+fn picked_words(ask: &Ask) -> &'static str
+    ensures { result.now ≡ picked_words ask.now }
+{
+    if ask.as_picked {
+        " as threads are picked"
+    } else {
+        ""
+    }
+}
+
+// Tells that what is asked holds in all orders.
+fn tell_holds<E: Write>(err: &mut E, name: &str, ask: &Ask, count: u128) -> io::Result<u8>
+    ensures status { IfOk result (λ status. status ≡ 0) }
+    ensures line { OnOk result (Appends (E.contents err.old) (E.contents err.new) (holds_text name.now ask.now count)) }
+{
+    let ends = ends_words(ask);
+    let never = ask.never.len();
+    let picked = picked_words(ask);
+    writeln!(
+        err,
+        "lab: {name}: {ends}{never} never: hold in all {count} orders{picked}"
+    )?;
+    Ok(0)
+}
+
+// Tells that no order of fewer steps is against what is asked, and that there are longer ones.
+fn tell_unanswered<E: Write>(err: &mut E, name: &str, steps: usize) -> io::Result<u8>
+    ensures status { IfOk result (λ status. status ≡ 5) }
+    ensures line { OnOk result (Appends (E.contents err.old) (E.contents err.new) (unanswered_text name.now steps)) }
+{
+    writeln!(
+        err,
+        "lab: {name}: not answered: cut off at orders of {steps} steps"
+    )?;
+    Ok(UNANSWERED)
+}
+
+// Tells what holds where no outcome is against what is asked, and answers the status.
+fn tell_none<E: Write>(err: &mut E, name: &str, ask: &Ask, found: &Outcomes) -> io::Result<u8>
+    ensures status { IfOk result (λ status. status ≡ none_status ask.now found.now) }
+    ensures line { OnOk result (Appends (E.contents err.old) (E.contents err.new) (none_text name.now ask.now found.now)) }
+{
+    if !is_asked(ask) {
+        return Ok(0);
+    }
+    if found.whole {
+        tell_holds(err, name, ask, found.count)
+    } else {
+        tell_unanswered(err, name, found.steps)
+    }
+}
+
+// Tells what came of what is asked, and answers the status.
+fn tell_against<E: Write>(err: &mut E, name: &str, ask: &Ask, answered: &Answered) -> io::Result<u8>
+    ensures status { IfOk result (λ status. status ≡ asked_status ask.now answered.now.outcomes answered.now.against) }
+    ensures line { OnOk result (Appends (E.contents err.old) (E.contents err.new) (asked_text name.now ask.now answered.now.outcomes answered.now.against)) }
+{
+    let Some(place) = answered.against else {
+        return tell_none(err, name, ask, &answered.outcomes);
+    };
+    let number = place.saturating_add(1);
+    writeln!(
+        err,
+        "lab: {name}: outcome {number} is against what is asked"
+    )?;
+    Ok(AGAINST)
+}
+
+// Prints the outcomes.
+fn print_outcomes<O: Write>(
+    alloc: Global,
+    callers: &Callers,
+    bank: &Copies<'_>,
+    answered: &Answered,
+    out: &mut O,
+) -> io::Result<()>
+    ensures { OnOk result (Appends (O.contents out.old) (O.contents out.new) (report_of callers.now answered.now.outcomes)) }
+{
+    match write_report(alloc, callers, bank, &answered.outcomes) {
+        Ok(report) => out.write_all(report.as_bytes()),
+        Err(error) => Err(error.into()),
+    }
+}
+
+// Goes through all orders, and answers the status.
+fn go_through<O: Write, E: Write>(
+    alloc: Global,
+    asked: &Asked<'_>,
+    callers: &Callers,
+    ask: &Ask,
+    plans: &[Planned],
+    out: &mut O,
+    err: &mut E,
+) -> io::Result<u8>
+    ensures { IfOk result (Writes (TellsOutcomes (map told plans.now) asked.now.most (unwrap_or (option_map (λ file. file.now) asked.now.file) (codes "-")) callers.now ask.now) (O.contents out.old) (O.contents out.new) (E.contents err.old) (E.contents err.new)) }
+{
+    let bank = Copies { plans };
+    match ask_all(alloc, callers, &bank, ask, asked.most) {
+        Ok(answered) => {
+            print_outcomes(alloc, callers, &bank, &answered, out)?;
+            tell_against(err, asked.name(), ask, &answered)
+        }
+        Err(OrdersError::Count) => {
+            let told = tell_refused(err, asked.name(), "more orders than can be counted");
+            refused(told)
+        }
+        Err(OrdersError::Memory) => Err(AllocError.into()),
+    }
+}
+
+// Goes through all orders of callers, and answers the status.
+fn tell_callers<O: Write, E: Write>(
+    alloc: Global,
+    asked: &Asked<'_>,
+    callers: Callers,
+    plans: &[Planned],
+    text: &[u8],
+    out: &mut O,
+    err: &mut E,
+) -> io::Result<u8>
+    ensures { IfOk result (Writes (TellsAsked (map told plans.now) asked.now.most (unwrap_or (option_map (λ file. file.now) asked.now.file) (codes "-")) callers text.now) (O.contents out.old) (O.contents out.new) (E.contents err.old) (E.contents err.new)) }
+{
+    let mut callers = callers;
+    match read_ask(alloc, &callers, text) {
+        Ok(ask) => {
+            callers.as_picked = ask.as_picked;
+            go_through(alloc, asked, &callers, &ask, plans, out, err)
+        }
+        Err(fault) => {
+            let told = tell_ask_fault(err, asked.name(), fault);
+            refused(told)
+        }
+    }
+}
+
+// Goes through all orders of a text, and answers the status.
+fn tell_text<O: Write, E: Write>(
+    alloc: Global,
+    asked: &Asked<'_>,
+    plans: &[Planned],
+    text: &[u8],
+    out: &mut O,
+    err: &mut E,
+) -> io::Result<u8>
+    ensures { IfOk result (Writes (TellsText (map told plans.now) asked.now.most (unwrap_or (option_map (λ file. file.now) asked.now.file) (codes "-")) text.now) (O.contents out.old) (O.contents out.new) (E.contents err.old) (E.contents err.new)) }
+{
+    match read_callers(alloc, text) {
+        Ok(callers) => tell_callers(alloc, asked, callers, plans, text, out, err),
+        Err(fault) => {
+            let told = tell_text_fault(err, asked.name(), fault);
+            refused(told)
+        }
+    }
+}
+
+// Goes through all orders of a file, or of the input where none is named, and answers the status.
+fn tell_file<R: Files + AllocGlobal, I: Read, O: Write, E: Write>(
+    rt: &R,
+    asked: &Asked<'_>,
+    plans: &[Planned],
+    input: &mut I,
+    out: &mut O,
+    err: &mut E,
+) -> io::Result<u8>
+    ensures { IfOk result (WritesOfText (TellsRead (map told plans.now) asked.now.most (unwrap_or (option_map (λ file. file.now) asked.now.file) (codes "-"))) (option_map (λ file. file.now) asked.now.file) (I.remaining input.old) (O.contents out.old) (O.contents out.new) (E.contents err.old) (E.contents err.new)) }
+{
+    match read_text(rt, asked.file, input) {
+        Ok(text) => tell_text(rt.alloc(), asked, plans, text.as_slice(), out, err),
+        Err(_) => {
+            let told = tell_refused(err, asked.name(), "no file");
+            refused(told)
+        }
+    }
+}
+
+/// Goes through every order in which the callers of a scenario may come, over a bank, prints how each ends, and answers
+/// the status: 1 where one is against what is asked, 5 where none is and longer orders were cut off, 2 where the text is refused or can't be read, or the bank is at
+/// fault.
+pub fn orders<R: Files + AllocGlobal, I: Read, O: Write, E: Write>(
+    rt: &R,
+    asked: &Asked<'_>,
+    input: &mut I,
+    out: &mut O,
+    err: &mut E,
+) -> io::Result<u8>
+    ensures { IfOk result (λ status. Refuses (option_map (λ file. file.now) asked.now.bank) (O.contents out.old) (O.contents out.new) status ⊎ WritesOverBank (λ bank. TellsRead bank asked.now.most (unwrap_or (option_map (λ file. file.now) asked.now.file) (codes "-"))) (option_map (λ file. file.now) asked.now.bank) (option_map (λ file. file.now) asked.now.file) (I.remaining input.old) (O.contents out.old) (O.contents out.new) (E.contents err.old) (E.contents err.new) status) }
+{
+    match read_plans(rt, asked.bank, err) {
+        Ok(Some(plans)) => tell_file(rt, asked, plans.as_slice(), input, out, err),
+        Ok(None) => Ok(AT_FAULT),
+        Err(error) => Err(error),
+    }
+}

@@ -1,0 +1,210 @@
+//! `lab play`: the traces of scenarios.
+ghost use Rattle.std.specs.Prelude.{◌≡◌, ◌≤◌, ◌⊎◌, List, [], ◌∷◌, ℕ, false, length, IfOk, OnOk, map, option_map};
+ghost use Rattle.std.specs.Io.KnownBytes.{Appends};
+ghost use Rattle.evl_shell.specs.Runs.{trace_of};
+ghost use Rattle.evl_plans.specs.Told.{told};
+ghost use Rattle.lab_traces.specs.Says.{says_of};
+ghost use Rattle.lab_reports.specs.Json.{trace_json};
+ghost use Rattle.lab.specs.Banks.{IsBank, Refuses};
+ghost use Rattle.lab.specs.Texts.{is_input, names_or_input};
+ghost use Rattle.lab.specs.Plays.{IsJsonOf, IsPlayed, Plays, PlaysEach, Tells, TellsPlayed, TellsTrace};
+
+use crate::banks::read_plans;
+use crate::compares::compare;
+use crate::endings::{tell_done, tell_fault, tell_refused};
+use crate::statuses::{AT_FAULT, either, status_of};
+use crate::texts::{read_text, text_in};
+use crate::words::{Playing, Telling};
+use evl_plans::{Planned, trace_plans};
+use lab_reports::write_json;
+use lab_traces::{Misread, TraceLine, read_lines};
+use std::alloc::{AllocError, Global};
+use std::io::{self, Read, Write};
+use std::rt::Files;
+
+// Writes the lines of a trace as JSON.
+fn put_lines<O: Write>(
+    alloc: Global,
+    name: &str,
+    lines: &[TraceLine<'_>],
+    out: &mut O,
+) -> io::Result<()>
+    ensures { OnOk result (Appends (O.contents out.old) (O.contents out.new) (trace_json name.now (map (λ line. says_of line.says) lines.now))) }
+{
+    match write_json(alloc, name, lines) {
+        Ok(json) => out.write_all(json.as_bytes()),
+        Err(error) => Err(error.into()),
+    }
+}
+
+// Writes a text as JSON, where it is lines of a trace.
+fn put_json<O: Write>(alloc: Global, name: &str, text: &str, out: &mut O) -> io::Result<()>
+    ensures { OnOk result ((json : List ℕ) × IsJsonOf name.now text.now json × Appends (O.contents out.old) (O.contents out.new) json) }
+{
+    match read_lines(alloc, text) {
+        Ok(lines) => put_lines(alloc, name, lines.as_slice(), out),
+        Err(Misread::Memory) => Err(AllocError.into()),
+        Err(Misread::Line(_)) => Ok(()),
+    }
+}
+
+// Tells a trace.
+fn tell_whole<O: Write, E: Write>(
+    name: &str,
+    trace: &[u8],
+    out: &mut O,
+    err: &mut E,
+) -> io::Result<bool>
+    ensures { IfOk result (Tells (TellsTrace Telling.Trace name.now trace.now) (O.contents out.old) (O.contents out.new) (E.contents err.old) (E.contents err.new)) }
+{
+    out.write_all(trace)?;
+    tell_done(err, name)
+}
+
+// Tells a trace as JSON.
+fn tell_json<O: Write, E: Write>(
+    alloc: Global,
+    name: &str,
+    trace: &[u8],
+    out: &mut O,
+    err: &mut E,
+) -> io::Result<bool>
+    ensures { IfOk result (Tells (TellsTrace Telling.Json name.now trace.now) (O.contents out.old) (O.contents out.new) (E.contents err.old) (E.contents err.new)) }
+{
+    put_json(alloc, name, text_in(trace), out)?;
+    tell_done(err, name)
+}
+
+// Tells what is asked for of a trace.
+fn tell_trace<R: Files + AllocGlobal, O: Write, E: Write>(
+    rt: &R,
+    telling: Telling<'_>,
+    name: &str,
+    trace: &[u8],
+    out: &mut O,
+    err: &mut E,
+) -> io::Result<bool>
+    ensures { IfOk result (Tells (TellsTrace telling.entry name.now trace.now) (O.contents out.old) (O.contents out.new) (E.contents err.old) (E.contents err.new)) }
+{
+    match telling {
+        Telling::Trace => tell_whole(name, trace, out, err),
+        Telling::Json => tell_json(rt.alloc(), name, trace, out, err),
+        Telling::Against(folder) => compare(rt, name, folder, text_in(trace), out, err),
+    }
+}
+
+// Plays a scenario's text, and answers whether it is at fault.
+fn play_text<R: Files + AllocGlobal, O: Write, E: Write>(
+    rt: &R,
+    plans: &[Planned],
+    playing: Playing<'_>,
+    name: &str,
+    text: &[u8],
+    out: &mut O,
+    err: &mut E,
+) -> io::Result<bool>
+    requires { length plans.now ≤ 64 }
+    ensures { IfOk result (Tells (TellsPlayed playing.entry.telling name.now (trace_of (map told plans.now) playing.entry.limit text.now)) (O.contents out.old) (O.contents out.new) (E.contents err.old) (E.contents err.new)) }
+{
+    match trace_plans(rt.alloc(), plans, text, playing.limit) {
+        Ok(trace) => tell_trace(rt, playing.telling, name, trace.as_slice(), out, err),
+        Err(fault) => tell_fault(err, name, fault),
+    }
+}
+
+// Plays a file, or the input where it is `-`, and answers whether it is at fault.
+fn play_file<R: Files + AllocGlobal, I: Read, O: Write, E: Write>(
+    rt: &R,
+    plans: &[Planned],
+    playing: Playing<'_>,
+    name: &str,
+    input: &mut I,
+    out: &mut O,
+    err: &mut E,
+) -> io::Result<bool>
+    requires { length plans.now ≤ 64 }
+    ensures told { IfOk result (PlaysEach (IsPlayed playing.entry.telling (map told plans.now) playing.entry.limit) (name.now ∷ []) (I.remaining input.old) (O.contents out.old) (O.contents out.new) (E.contents err.old) (E.contents err.new)) }
+    ensures input { is_input name.now ≡ false → input.new ≡ input.old }
+{
+    match read_text(rt, Some(name), input) {
+        Ok(text) => play_text(rt, plans, playing, name, text.as_slice(), out, err),
+        Err(_) => tell_refused(err, name, "no file"),
+    }
+}
+
+// Plays files, and answers whether one is at fault.
+fn play_each<R: Files + AllocGlobal, I: Read, O: Write, E: Write>(
+    rt: &R,
+    plans: &[Planned],
+    playing: Playing<'_>,
+    files: &[&str],
+    input: &mut I,
+    out: &mut O,
+    err: &mut E,
+) -> io::Result<bool>
+    requires { length plans.now ≤ 64 }
+    ensures { IfOk result (PlaysEach (IsPlayed playing.entry.telling (map told plans.now) playing.entry.limit) (map (λ file. file.now) files.now) (I.remaining input.old) (O.contents out.old) (O.contents out.new) (E.contents err.old) (E.contents err.new)) }
+{
+    let mut is_at_fault = false;
+    for file in files {
+        let is_bad = play_file(rt, plans, playing, file, input, out, err)?;
+        is_at_fault = either(is_at_fault, is_bad);
+    }
+    Ok(is_at_fault)
+}
+
+// Plays files, or the input where none is named, and answers whether one is at fault.
+fn play_over<R: Files + AllocGlobal, I: Read, O: Write, E: Write>(
+    rt: &R,
+    plans: &[Planned],
+    playing: Playing<'_>,
+    files: &[&str],
+    input: &mut I,
+    out: &mut O,
+    err: &mut E,
+) -> io::Result<bool>
+    requires { length plans.now ≤ 64 }
+    ensures { IfOk result (PlaysEach (IsPlayed playing.entry.telling (map told plans.now) playing.entry.limit) (names_or_input (map (λ file. file.now) files.now)) (I.remaining input.old) (O.contents out.old) (O.contents out.new) (E.contents err.old) (E.contents err.new)) }
+{
+    if files.is_empty() {
+        play_file(rt, plans, playing, "-", input, out, err)
+    } else {
+        play_each(rt, plans, playing, files, input, out, err)
+    }
+}
+
+// Plays files over these callbacks, or the input where none is named, and answers the status.
+fn play_bank<R: Files + AllocGlobal, I: Read, O: Write, E: Write>(
+    rt: &R,
+    plans: &[Planned],
+    playing: Playing<'_>,
+    files: &[&str],
+    input: &mut I,
+    out: &mut O,
+    err: &mut E,
+) -> io::Result<u8>
+    requires { length plans.now ≤ 64 }
+    ensures { IsBank (option_map (λ file. file.now) playing.entry.bank) (map told plans.now) → IfOk result (Plays playing.entry (map (λ file. file.now) files.now) (I.remaining input.old) (O.contents out.old) (O.contents out.new) (E.contents err.old) (E.contents err.new)) }
+{
+    let is_at_fault = play_over(rt, plans, playing, files, input, out, err)?;
+    Ok(status_of(is_at_fault))
+}
+
+/// Plays scenarios over a bank, tells of each what is asked for and on `err` how it ended, and answers the status: 2
+/// where one is refused, can't be read or differs, or the bank is at fault.
+pub fn play_files<R: Files + AllocGlobal, I: Read, O: Write, E: Write>(
+    rt: &R,
+    playing: Playing<'_>,
+    files: &[&str],
+    input: &mut I,
+    out: &mut O,
+    err: &mut E,
+) -> io::Result<u8>
+    ensures { IfOk result (λ status. Refuses (option_map (λ file. file.now) playing.entry.bank) (O.contents out.old) (O.contents out.new) status ⊎ Plays playing.entry (map (λ file. file.now) files.now) (I.remaining input.old) (O.contents out.old) (O.contents out.new) (E.contents err.old) (E.contents err.new) status) }
+{
+    match read_plans(rt, playing.bank, err) {
+        Ok(Some(plans)) => play_bank(rt, plans.as_slice(), playing, files, input, out, err),
+        Ok(None) => Ok(AT_FAULT),
+        Err(error) => Err(error),
+    }
+}

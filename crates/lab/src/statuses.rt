@@ -1,0 +1,47 @@
+//! What the program ends with.
+ghost use Rattle.std.specs.Prelude.{◌≡◌, ◌||◌, is_ok, true, IfOk};
+ghost use Rattle.lab.specs.Endings as endings;
+
+use std::io;
+
+/// The status where a text or a bank is at fault: it is refused, isn't played to its end, or tells otherwise.
+pub const AT_FAULT: u8 = 2;
+
+/// The status where an outcome is against what is asked.
+pub const AGAINST: u8 = 1;
+
+/// The status of an output that failed.
+pub const FAILED: u8 = 1;
+
+/// The status of words that are refused.
+pub const REFUSED: u8 = 3;
+
+/// The status of a program without memory.
+pub const NO_MEMORY: u8 = 4;
+
+/// The status where orders were cut off, and none up to there is against what is asked.
+pub const UNANSWERED: u8 = 5;
+
+/// Whether one of two is so.
+pub fn either(one: bool, other: bool) -> bool
+    ensures { result ≡ (one || other) }
+{
+    one || other
+}
+
+/// The status of texts that were gone through, of which one may be at fault.
+pub fn status_of(is_at_fault: bool) -> u8
+    ensures { result ≡ endings.status_of is_at_fault }
+{
+    if is_at_fault { AT_FAULT } else { 0 }
+}
+
+/// The status of a text that is refused, once that is told.
+pub fn refused(told: io::Result<bool>) -> io::Result<u8>
+    ensures { IfOk result (λ status. (status ≡ 2) × (is_ok told ≡ true)) }
+{
+    match told {
+        Ok(_) => Ok(AT_FAULT),
+        Err(error) => Err(error),
+    }
+}

@@ -1,0 +1,165 @@
+//! What the words behind `draw`, `play`, `live` and `orders` ask for.
+ghost use Rattle.std.specs.Prelude.{◌≡◌, codes, option_map, unwrap_or};
+ghost use Rattle.clap.specs.Words.{first_value, found_of};
+ghost use Rattle.lab.specs.Words as words;
+ghost use Rattle.lab.specs.Words.{AsksFor};
+
+use clap::ArgMatches;
+
+/// The form of a picture.
+#[derive(Clone, Copy, PartialEq, Eq, Debug)]
+pub enum Form {
+    Svg,
+    Events,
+    Table,
+    Rows,
+}
+
+/// What `draw` asks for.
+#[derive(Clone, Copy, PartialEq, Eq, Debug)]
+pub struct Drawing {
+    pub form: Form,
+    /// The page of a picture that is long, from 1.
+    pub page: u32,
+}
+
+/// What is told of a scenario that was played.
+#[derive(Clone, Copy, PartialEq, Eq, Debug)]
+pub enum Telling<'a> {
+    /// Its trace.
+    Trace,
+    /// A line of JSON for each entry.
+    Json,
+    /// The first difference from the trace of the same name in this folder.
+    Against(&'a str),
+}
+
+/// What `play` asks for.
+#[derive(Clone, Copy, PartialEq, Eq, Debug)]
+pub struct Playing<'a> {
+    /// The file of the bank; the program's where none is named.
+    pub bank: Option<&'a str>,
+    /// The limit in place of each scenario's: 1 to 1,000,000.
+    pub limit: Option<u32>,
+    pub telling: Telling<'a>,
+}
+
+/// What `live` asks for.
+#[derive(Clone, Copy, PartialEq, Eq, Debug)]
+pub struct Driving<'a> {
+    /// The scenario that comes first.
+    pub file: Option<&'a str>,
+    /// The file of the bank; the program's where none is named.
+    pub bank: Option<&'a str>,
+    /// The limit in place of the scenario's: 1 to 1,000,000.
+    pub limit: Option<u32>,
+}
+
+// Whether a word that takes no value stands there.
+fn is_set(matches: &ArgMatches<'_>, id: &str) -> bool
+    ensures { result ≡ words.is_set (found_of matches.now) id.now }
+{
+    matches.get_one(id).unwrap_or(false)
+}
+
+// The number behind a word.
+fn number_at(matches: &ArgMatches<'_>, id: &str) -> Option<u32>
+    ensures { result ≡ words.number_at (found_of matches.now) id.now }
+{
+    matches.get_one(id)
+}
+
+// The form that is asked for.
+fn form_of(matches: &ArgMatches<'_>) -> Form
+    ensures { result ≡ words.form_of (found_of matches.now) }
+{
+    if is_set(matches, "perfetto") {
+        Form::Events
+    } else if is_set(matches, "csv") {
+        Form::Table
+    } else if is_set(matches, "lanes") {
+        Form::Rows
+    } else {
+        Form::Svg
+    }
+}
+
+/// What `orders` is asked for: the file of a bank, how many moments one number of steps may lead to, and the text.
+#[derive(Clone, Copy, Drop)]
+pub struct Asked<'a> {
+    pub bank: Option<&'a str>,
+    pub most: usize,
+    pub file: Option<&'a str>,
+}
+
+impl<'a> Asked<'a> {
+    /// How the text is called in messages.
+    pub fn name(&self) -> &'a str
+        ensures { result.now ≡ unwrap_or (option_map (λ file. file.now) self.now.file) (codes "-") }
+    {
+        self.file.unwrap_or("-")
+    }
+}
+
+/// What `draw` is asked for.
+pub fn drawing_of(matches: &ArgMatches<'_>) -> Drawing
+    ensures form { result.form ≡ words.form_of (found_of matches.now) }
+    ensures page { result.page ≡ unwrap_or (words.number_at (found_of matches.now) (codes "page")) 1 }
+{
+    Drawing {
+        form: form_of(matches),
+        page: number_at(matches, "page").unwrap_or(1),
+    }
+}
+
+// What is to be told of the scenarios that are played.
+fn telling_of<'a>(matches: &ArgMatches<'a>) -> Telling<'a>
+    ensures { AsksFor (found_of matches.now) result }
+{
+    if is_set(matches, "json") {
+        return Telling::Json;
+    }
+    match matches.get_str("against") {
+        Some(folder) => Telling::Against(folder),
+        None => Telling::Trace,
+    }
+}
+
+/// What `play` is asked for.
+pub fn playing_of<'a>(matches: &ArgMatches<'a>) -> Playing<'a>
+    ensures bank { option_map (λ file. file.now) result.bank ≡ first_value (found_of matches.now) (codes "bank") }
+    ensures limit { result.limit ≡ words.number_at (found_of matches.now) (codes "limit") }
+    ensures telling { AsksFor (found_of matches.now) result.telling }
+{
+    Playing {
+        bank: matches.get_str("bank"),
+        limit: number_at(matches, "limit"),
+        telling: telling_of(matches),
+    }
+}
+
+/// What `live` is asked for.
+pub fn driving_of<'a>(matches: &ArgMatches<'a>) -> Driving<'a>
+    ensures file { option_map (λ file. file.now) result.file ≡ first_value (found_of matches.now) (codes "FILE") }
+    ensures bank { option_map (λ file. file.now) result.bank ≡ first_value (found_of matches.now) (codes "bank") }
+    ensures limit { result.limit ≡ words.number_at (found_of matches.now) (codes "limit") }
+{
+    Driving {
+        file: matches.get_str("FILE"),
+        bank: matches.get_str("bank"),
+        limit: number_at(matches, "limit"),
+    }
+}
+
+/// What `orders` is asked for.
+pub fn asked_of<'a>(matches: &ArgMatches<'a>) -> Asked<'a>
+    ensures bank { option_map (λ file. file.now) result.bank ≡ first_value (found_of matches.now) (codes "bank") }
+    ensures most { result.most ≡ unwrap_or (words.number_at (found_of matches.now) (codes "most")) 100000 }
+    ensures file { option_map (λ file. file.now) result.file ≡ first_value (found_of matches.now) (codes "FILE") }
+{
+    Asked {
+        bank: matches.get_str("bank"),
+        most: number_at(matches, "most").unwrap_or(100_000) as usize,
+        file: matches.get_str("FILE"),
+    }
+}

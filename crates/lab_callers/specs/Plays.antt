@@ -1,0 +1,129 @@
+-- What is told of the steps of a text of callers, one after another.
+use Rattle.std.specs.Prelude.{◌≡◌, ◌+◌, ℕ, ⊤, List, [], ◌∷◌, ◌++◌, codes, length, Option, Some, None, is_some, Result, Ok, Err, string_bytes}
+use Rattle.evl_base.specs.declared.refusal.Refusal.{Refusal}
+use Rattle.lab_callers.specs.Answers.{Makes}
+use Rattle.lab_callers.specs.Crews.{CrewState, crew_at, holder_of}
+use Rattle.lab_callers.specs.Faults.{step_fault}
+use Rattle.lab_callers.specs.Holdings.{Holdings, holdings_of, nothing_held}
+use Rattle.lab_callers.specs.Shown.{closed_text, mutex_asked, open_text, shown_text, step_text, thread_asked}
+use Rattle.lab_callers.specs.Views.{Looks}
+use Rattle.lab_callers.specs.declared.answers.Stop.{Stop}
+use Rattle.lab_callers.specs.declared.answers.Stop.TheVariants as stop
+use Rattle.lab_callers.specs.declared.passes.Passes.{Passes}
+use Rattle.lab_callers.specs.declared.passes.StepFault.{StepFault}
+use Rattle.lab_callers.specs.declared.playing.Ending.{Ending}
+use Rattle.lab_callers.specs.declared.playing.Ending.TheVariants as ending
+use Rattle.lab_callers.specs.declared.playing.Played.{Played}
+use Rattle.lab_callers.specs.declared.views.Question.{Question}
+use Rattle.lab_callers.specs.declared.views.Shows.{Shows}
+use Rattle.lab_callers.specs.declared.views.View.{View}
+use Rattle.lab_callers_text.specs.declared.acts.CallersStep.{CallersStep}
+use Rattle.lab_callers_text.specs.declared.reading.CallersText.{CallersText}
+use Rattle.evl_kernel.specs.KernelViews.{IsOpened, KernelView}
+use Rattle.evl_machine.specs.Closings.{Closes, KeepsOpen}
+use Rattle.evl_machine.specs.Handles.{CallerState, HeldState, MachineState, newcomers_of}
+use Rattle.evl_pipeline.specs.declared.plan.Plan.{Plan}
+use Rattle.evl_scenario.specs.Lines.{board_line_of, board_line_text, line_feed, play_lines}
+
+-- the callers, what names hold and who waits, how many staxes the board has, and how many plays were told
+pub record Run (C : Type 0) : Type 0 where
+  pub crew : CrewState C
+  pub holdings : Holdings
+  pub staxes : ℕ
+  pub plays : ℕ
+
+abbrev pub run_at : {C : Type 0} → List (CallerState C) → Option (HeldState C) → ℕ → Passes → ℕ → ℕ → Run C
+run_at callers held holder passes staxes plays = record { crew = crew_at callers held holder; holdings = holdings_of passes; staxes = staxes; plays = plays }
+
+-- before the first step nobody has the core, no name holds a pass, nobody waits, and no play was told
+abbrev pub start_at : {C : Type 0} → List (CallerState C) → ℕ → Run C
+start_at callers staxes = record { crew = crew_at callers None 0; holdings = nothing_held; staxes = staxes; plays = 0 }
+
+abbrev pub whose : {C : Type 0} → CrewState C → Option ℕ
+whose crew = holder_of (is_some crew.held) crew.holder
+
+-- Behind an answer stands what the step went to, as it is seen then by who has the kernel, and the plays that weren't told below it
+pub record ShowsAfter {C : Type 0} (old : Run C) (who : ℕ) (told : List ℕ) (shown : Shows) (text : List ℕ) (new : Run C) : Type 0 where
+  pub question : Question
+  pub view : View
+  pub mutex : question.mutex ≡ mutex_asked shown
+  pub thread : question.thread ≡ thread_asked old.holdings shown
+  pub counted : question.plays ≡ old.plays
+  pub looked : Looks old.crew who question view new.crew
+  pub holdings : new.holdings ≡ old.holdings
+  pub staxes : new.staxes ≡ old.staxes
+  pub plays : new.plays ≡ view.made
+  pub text_is : text ≡ codes " -> " ++ (told ++ (shown_text old.staxes old.holdings (whose new.crew) view shown ++ (line_feed ++ play_lines view.plays.items)))
+
+-- the step of this number is made, and told by these lines
+pub record MakesStep {C : Type 0} (limit : ℕ) (old : Run C) (number : ℕ) (step : CallersStep) (lines : List ℕ) (new : Run C) : Type 0 where
+  pub told : List ℕ
+  pub shown : Shows
+  pub made : CrewState C
+  pub has : Holdings
+  pub makes : Makes limit step.act old.crew old.holdings step.who told shown made has
+  pub behind : List ℕ
+  pub shows : ShowsAfter (record { crew = made; holdings = has; staxes = old.staxes; plays = old.plays }) step.who.0 told shown behind new
+  pub lines_is : lines ≡ step_text number step ++ behind
+
+-- these steps are made one after another, from this number on
+abbrev pub MakesAll : {C : Type 0} → ℕ → Run C → ℕ → List CallersStep → List ℕ → Run C → Type 0
+MakesAll limit old number [] lines new = (lines ≡ []) × (new ≡ old)
+MakesAll limit old number (step ∷ rest) lines new = (mid : Run _) × (own others : List ℕ)
+    × MakesStep limit old number step own mid × MakesAll limit mid (number + 1) rest others new × (lines ≡ own ++ others)
+
+-- so many of these steps are made and told behind a text, and these are left
+pub record HaveMade {C : Type 0} (limit : ℕ) (start : Run C) (steps : List CallersStep) (before text : List ℕ) (now : Run C) (number : ℕ) (left : List CallersStep) : Type 0 where
+  pub done : List CallersStep
+  pub lines : List ℕ
+  pub steps_are : steps ≡ done ++ left
+  pub number_is : number ≡ length done
+  pub text_is : text ≡ before ++ lines
+  pub made : MakesAll limit start 1 done lines now
+
+-- the step of this number can't be made, for this reason: all before it are
+pub record StopsAt {C : Type 0} (limit : ℕ) (start : Run C) (steps : List CallersStep) (before text : List ℕ) (number : ℕ) (fault : StepFault) : Type 0 where
+  pub now : Run C
+  pub count : ℕ
+  pub step : CallersStep
+  pub rest : List CallersStep
+  pub number_is : number ≡ count + 1
+  pub made : HaveMade limit start steps before text now count (step ∷ rest)
+  pub why : step_fault step.act now.crew now.holdings step.who.0 ≡ Some fault
+
+abbrev pub StopsFor : {C : Type 0} → ℕ → Run C → List CallersStep → List ℕ → List ℕ → ℕ → Stop → Type 0
+StopsFor limit start steps before text number (stop.Fault fault) = StopsAt limit start steps before text number fault
+StopsFor limit start steps before text number stop.Memory = ⊤
+
+-- a step that can't be made has no line
+abbrev pub LeavesText : Stop → List ℕ → List ℕ → Type 0
+LeavesText (stop.Fault fault) old new = new ≡ old
+LeavesText stop.Memory old new = ⊤
+
+-- what is told of steps that end before the last one
+abbrev pub IsStopped : ℕ → Stop → Played → Type 0
+IsStopped number (stop.Fault fault) told = (told.ending ≡ ending.Fault number fault) × (string_bytes told.closing ≡ [])
+IsStopped number stop.Memory told = ⊥
+
+-- all steps are made, and these callers haven't the core then
+pub record MakesEach {C : Type 0} (limit : ℕ) (start : Run C) (steps : List CallersStep) (before text : List ℕ) (callers : List (CallerState C)) : Type 0 where
+  pub last : Run C
+  pub made : HaveMade limit start steps before text last (length steps) []
+  pub callers_are : callers ≡ last.crew.callers
+
+-- a machine is closed, or isn't, and this is told of it
+abbrev pub ClosesSo : {C : Type 0} → MachineState C → List (CallerState C) → Ending → List ℕ → Type 0
+ClosesSo machine callers ending.Closed told = (k : KernelView _) × Closes machine callers k × (told ≡ closed_text k.history)
+ClosesSo machine callers (ending.Open refusal) told = (back : List (CallerState _)) × KeepsOpen machine callers refusal back × (told ≡ open_text refusal)
+ClosesSo machine callers (ending.Fault number fault) told = ⊥
+
+-- how the steps end: all are made, and the machine's close is told; or one can't be made
+abbrev pub EndsSo : {C : Type 0} → MachineState C → Run C → List CallersStep → List ℕ → Ending → List ℕ → List ℕ → Type 0
+EndsSo machine start steps before (ending.Fault number fault) lines closing = StopsAt machine.first.limit start steps before lines number fault × (closing ≡ [])
+EndsSo machine start steps before closes lines closing = (callers : List (CallerState _)) × MakesEach machine.first.limit start steps before lines callers × ClosesSo machine callers closes closing
+
+-- what is told of a text of callers: the line of its board, and of a machine that is made over it what its new callers do, step by step
+pub record IsTold {C : Type 0} (declared : C → ℕ) (plan : C → Plan) (text : CallersText) (bank : List C) (told : Played) : Type 0 where
+  pub machine : MachineState C
+  pub opened : IsOpened declared plan text.board bank text.limit machine.first
+  pub ends : EndsSo machine (start_at (newcomers_of machine text.board.threads) (length text.board.staxes.items)) text.steps.items (board_line_text (board_line_of text.board text.limit)) told.ending (string_bytes told.lines) (string_bytes told.closing)

@@ -1,0 +1,42 @@
+-- What is seen after a step, by a caller that has the kernel.
+use Rattle.std.specs.Prelude.{◌≡◌, ℕ, ⊤, List, drop, length, Option, Some, is_some, MatchBool, MatchOption}
+use Rattle.std.specs.Option.{option_map_or}
+use Rattle.evl_base.specs.declared.stage.Stage.TheVariants.{Inband}
+use Rattle.lab_callers.specs.Crews.{CrewState, StepsAt}
+use Rattle.lab_callers.specs.declared.views.Question.{Question}
+use Rattle.lab_callers.specs.declared.views.View.{View}
+use Rattle.evl_kernel.specs.KernelViews.{KernelView}
+use Rattle.evl_machine.specs.Calls.{TookKernel}
+use Rattle.evl_machine.specs.Handles.{CallerState, HeldState, returned}
+use Rattle.evl_machine.specs.InWord.{Agrees}
+use Rattle.evl_sched.specs.Threads.{stage_of}
+
+module _ {C : Type 0} where
+  -- The plays of this kernel behind so many, how many it has, and the stage of a thread. What a mutex's word says is what the kernel records
+  pub record Sees (k : KernelView C) (q : Question) (v : View) : Type 0 where
+    pub plays : v.plays.items ≡ drop q.plays k.history.plays
+    pub made : v.made ≡ length k.history.plays
+    pub stage : v.stage ≡ option_map_or (λ t. stage_of k.history.state.sched t.0) q.thread Inband
+    pub word : MatchOption q.mutex ⊤ (λ m. MatchOption v.word ⊤ (Agrees k.history.state m.0))
+
+  -- by the caller at this place, which takes the core for it and gives it back
+  pub record LooksAt (old : List (CallerState C)) (place : ℕ) (q : Question) (v : View) (new : List (CallerState C)) : Type 0 where
+    pub taker : HeldState C
+    pub stepped : StepsAt old place (λ before after. TookKernel before taker × (after ≡ returned taker.kernel.history taker.caller)) new
+    pub seen : Sees taker.kernel q v
+
+  -- by the caller that has it
+  pub record LooksHeld (old : CrewState C) (q : Question) (v : View) (new : CrewState C) : Type 0 where
+    pub holder : HeldState C
+    pub was : old.held ≡ Some holder
+    pub same : new ≡ old
+    pub seen : Sees holder.kernel q v
+
+  -- by the caller of a thread, where nobody has the core
+  pub record LooksFree (old : CrewState C) (who : ℕ) (q : Question) (v : View) (new : CrewState C) : Type 0 where
+    pub looked : LooksAt old.callers who q v new.callers
+    pub held : new.held ≡ old.held
+    pub holder : new.holder ≡ old.holder
+
+  abbrev pub Looks : CrewState C → ℕ → Question → View → CrewState C → Type 0
+  Looks old who q v new = MatchBool (is_some old.held) (LooksHeld old q v new) (LooksFree old who q v new)

@@ -1,0 +1,131 @@
+//! Texts of callers, read: a board with its staxes, a limit, and steps of callers among those of a scenario.
+ghost use Rattle.std.specs.Prelude.{◌≡◌, ◌≤◌, IfOk, Some, string_bytes, true};
+ghost use Rattle.toml.specs.Data.{members_depth};
+ghost use Rattle.toml.specs.Parse.{parse_document};
+ghost use Rattle.toml.specs.View.{table_view};
+ghost use Rattle.evl_base.specs.Board.{board_fits};
+ghost use Rattle.lab_callers_text.specs.Readings.{IsRead, OpensAs, steps_as};
+
+use crate::acts::CallersStep;
+use crate::documents::make_plain;
+use crate::marks::{Mark, act_of};
+use arrayvec::ArrayVec;
+use evl_base::Board;
+use evl_scenario::{Fault, Step, read_scenario};
+use std::alloc::{AllocError, Global};
+use toml::Table;
+
+// A longer text is none.
+const MOST_BYTES: usize = 1_048_576;
+
+/// What a text of callers asks for: a board, the limit of its history, and the steps in order.
+#[derive(Debug, Drop)]
+pub struct CallersText {
+    pub board: Board,
+    pub limit: u32,
+    pub steps: Vec<CallersStep>,
+}
+
+// The document that a text is.
+fn document_of(alloc: Global, bytes: &[u8]) -> Result<Table, Fault>
+    ensures { IfOk result (λ table. parse_document bytes.now ≡ Some (table_view table)) }
+{
+    if bytes.len() > MOST_BYTES {
+        return Err(Fault::Text);
+    }
+    let Ok(text) = str::from_utf8(bytes) else {
+        return Err(Fault::Text);
+    };
+    match toml::table_from_str(alloc, text) {
+        Ok(table) => Ok(table),
+        Err(error) => Err(if error.is_memory() {
+            Fault::Memory
+        } else {
+            Fault::Text
+        }),
+    }
+}
+
+// The text of a document in which each step is that of a scenario.
+fn text_of(alloc: Global, table: &Table) -> Result<String, Fault>
+    ensures { IfOk result (λ text. members_depth (table_view table.now) ≤ 80 → parse_document (string_bytes text) ≡ Some (table_view table.now)) }
+{
+    match toml::table_to_string(alloc, table) {
+        Ok(text) => Ok(text),
+        Err(toml::ser::Error::DateInvalid) => Err(Fault::Text),
+        Err(toml::ser::Error::OutOfMemory) => Err(Fault::Memory),
+    }
+}
+
+// The steps of callers, of the marks and what stands for them.
+fn steps_of(
+    alloc: Global,
+    marks: Vec<Option<Mark>>,
+    steps: Vec<Step>,
+) -> Result<Vec<CallersStep>, AllocError>
+    ensures { IfOk result (λ all. all.items ≡ steps_as marks.items steps.items) }
+{
+    let mut all = Vec::new(alloc);
+    for (mark, step) in marks.into_iter().zip(steps) {
+        let Step { who, call } = step;
+        all.push(CallersStep {
+            who,
+            act: act_of(mark, call),
+        })?;
+    }
+    Ok(all)
+}
+
+// The board with these staxes.
+fn with_staxes(board: Board, staxes: ArrayVec<u16, 16>) -> Board
+    ensures { result ≡ record board { staxes = staxes } }
+{
+    let mut board = board;
+    board.staxes = staxes;
+    board
+}
+
+// What the text of a scenario asks for, with these staxes and marks.
+fn read_marked(
+    alloc: Global,
+    text: &str,
+    limit: Option<u32>,
+    staxes: ArrayVec<u16, 16>,
+    marks: Vec<Option<Mark>>,
+) -> Result<CallersText, Fault>
+    ensures fits { IfOk result (λ t. board_fits t.board ≡ true) }
+    ensures opens { IfOk result (OpensAs limit text.now staxes.items marks.items) }
+{
+    let (board, limit, steps) = read_scenario(alloc, text.as_bytes(), limit)?.into_parts();
+    let board = with_staxes(board, staxes);
+    if board.check().is_err() {
+        return Err(Fault::Board);
+    }
+    if marks.len() != steps.len() {
+        return Err(Fault::Text);
+    }
+    match steps_of(alloc, marks, steps) {
+        Ok(steps) => Ok(CallersText {
+            board,
+            limit,
+            steps,
+        }),
+        Err(_) => Err(Fault::Memory),
+    }
+}
+
+/// What a text of callers asks for, under a limit that may be handed in. Faults are those of a scenario.
+pub fn read_callers(alloc: Global, bytes: &[u8], limit: Option<u32>) -> Result<CallersText, Fault>
+    ensures fits { IfOk result (λ t. board_fits t.board ≡ true) }
+    ensures opens { IfOk result (IsRead limit bytes.now) }
+{
+    let mut table = document_of(alloc, bytes)?;
+    let (staxes, marks) = make_plain(alloc, &mut table)?;
+    let text = text_of(alloc, &table)?;
+    let read = read_marked(alloc, text.as_str(), limit, staxes, marks.all)?;
+    if marks.are_put {
+        Ok(read)
+    } else {
+        Err(Fault::Text)
+    }
+}

@@ -1,0 +1,29 @@
+-- The drawings of a picture: of how lanes stand, and of marks.
+use Rattle.std.specs.Prelude.{ℕ, List, codes}
+use Rattle.lab_drawing.specs.declared.marks.Shape.{Shape}
+use Rattle.lab_drawing.specs.declared.marks.Shape.TheVariants.{Answered, Begun, Ended, Refused, Played, Unhandled}
+use Rattle.lab_drawing.specs.declared.moments.Condition.{Condition}
+use Rattle.lab_drawing.specs.declared.moments.Condition.TheVariants.{Inband, Blocked, Ready, Picked, Stalled, Pending, Owned, Runs, Oob, Claimed, Taken}
+
+-- the strip of a condition, around the place where a mark stands
+abbrev pub strip_text : Condition → List ℕ
+strip_text Inband = codes "<path d=\"M-8 10h16\" stroke=\"#8a6d00\" stroke-width=\"1.5\"/>"
+strip_text Blocked = codes "<path d=\"M-7 10h3m2 0h3m2 0h3\" stroke=\"#b3261e\" stroke-width=\"3\"/>"
+strip_text Ready = codes "<path d=\"M-8 8h16M-8 12h16\" stroke=\"#1f5fa8\"/>"
+strip_text Picked = codes "<rect x=\"-8\" y=\"7.5\" width=\"16\" height=\"5\" fill=\"#1f5fa8\"/>"
+strip_text Stalled = codes "<path d=\"M-8 12l4 -5m1 5l4 -5m1 5l4 -5\" stroke=\"#5c4300\" stroke-width=\"1.5\"/>"
+strip_text Pending = codes "<path d=\"M-6 10h2m4 0h2m4 0h2\" stroke=\"#5c4300\" stroke-width=\"3\"/>"
+strip_text Owned = codes "<rect x=\"-8\" y=\"8.5\" width=\"16\" height=\"3\" fill=\"#5f6b7a\"/>"
+strip_text Runs = codes "<path d=\"M-8 10h16M-4 8v4M4 8v4\" stroke=\"#5c4300\"/>"
+strip_text Oob = codes "<rect x=\"-8\" y=\"7.5\" width=\"16\" height=\"5\" fill=\"#1f5fa8\"/>"
+strip_text Claimed = codes "<path d=\"M-8 10h16M-4 6.5v7M4 6.5v7\" stroke=\"#5f6b7a\" stroke-width=\"3\"/>"
+strip_text Taken = codes "<path d=\"M-8 8h16M-8 12h16\" stroke=\"#5c4300\"/>"
+
+-- the drawing of a shape, around the place where it stands
+abbrev pub shape_text : Shape → List ℕ
+shape_text Answered = codes "<circle r=\"5\" fill=\"#1f5fa8\"/>"
+shape_text Begun = codes "<circle r=\"4.5\" fill=\"#ffffff\" stroke=\"#1f5fa8\" stroke-width=\"2\"/>"
+shape_text Ended = codes "<path d=\"M-5 -6L6 0L-5 6Z\" fill=\"#1f5fa8\"/>"
+shape_text Refused = codes "<path d=\"M-5 -5L5 5M5 -5L-5 5\" fill=\"none\" stroke=\"#b3261e\" stroke-width=\"3\"/>"
+shape_text Played = codes "<rect x=\"-5\" y=\"-9\" width=\"10\" height=\"18\" fill=\"#f0b400\" stroke=\"#5c4300\"/>"
+shape_text Unhandled = codes "<rect x=\"-5\" y=\"-9\" width=\"10\" height=\"18\" fill=\"#ffffff\" stroke=\"#5c4300\" stroke-dasharray=\"3 2\"/>"

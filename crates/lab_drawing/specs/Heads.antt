@@ -1,0 +1,87 @@
+-- What stands above the bands of a picture as SVG: its opening, and its legend.
+use Rattle.std.specs.Prelude.{ℕ, ◌+◌, ◌*◌, Bool, true, false, List, [], ◌∷◌, ◌++◌, length, codes, decimal, if◌then◌else◌}
+use Rattle.std.specs.List.{list_any}
+use Rattle.lab_drawing.specs.Drawings.{shape_text, strip_text}
+use Rattle.lab_drawing.specs.Frames.{Layout, capped, picture_height, picture_width}
+use Rattle.lab_drawing.specs.declared.frames.Shows.{Shows}
+use Rattle.lab_drawing.specs.declared.frames.Shows.TheVariants.{Machine, Waits, Words}
+use Rattle.lab_drawing.specs.declared.lanes.Lane.{Lane}
+use Rattle.lab_drawing.specs.declared.lanes.Lane.TheVariants.{Core, Mutex, Stax}
+use Rattle.lab_drawing.specs.declared.marks.Shape.TheVariants.{Answered, Begun, Ended, Refused, Played, Unhandled}
+use Rattle.lab_drawing.specs.declared.moments.Condition.{Condition}
+use Rattle.lab_drawing.specs.declared.moments.Condition.TheVariants.{Inband, Blocked, Ready, Picked, Stalled, Pending, Owned, Runs, Oob, Claimed, Taken}
+
+abbrev pub opening_text : ℕ → ℕ → List ℕ
+opening_text width height =
+    codes "<svg xmlns=\"http://www.w3.org/2000/svg\" width=\"" ++ (decimal width ++ (codes "\" height=\"" ++ (decimal height ++ (codes "\" viewBox=\"0 0 "
+    ++ (decimal width ++ (codes " " ++ (decimal height
+    ++ codes "\" font-family=\"DejaVu Sans Mono, monospace\" font-size=\"9\">\n<rect width=\"100%\" height=\"100%\" fill=\"#ffffff\"/>\n")))))))
+
+-- ---- signs: a drawing, and the word that says what it means
+
+-- the beginning of what stands here
+abbrev pub place_text : ℕ → ℕ → List ℕ
+place_text x y = codes "<g transform=\"translate(" ++ (decimal x ++ (codes "," ++ (decimal y ++ codes ")\">")))
+
+-- its word, beside the drawing, and its end
+abbrev pub word_text : ℕ → ℕ → List ℕ → List ℕ
+word_text x y word = codes "<text x=\"" ++ (decimal x ++ (codes "\" y=\"" ++ (decimal y ++ (codes "\">" ++ (word ++ codes "</text></g>\n")))))
+
+-- in the legend of shapes, so far from the left
+abbrev pub shape_sign : ℕ → List ℕ → List ℕ → List ℕ
+shape_sign at drawn word = place_text at 18 ++ (drawn ++ word_text 10 3 word)
+
+-- in the legend of conditions
+abbrev pub condition_sign : ℕ → List ℕ → List ℕ → List ℕ
+condition_sign at drawn word = place_text at 28 ++ (drawn ++ word_text 12 13 word)
+
+-- where the next sign stands, with so much room beside the word
+abbrev pub sign_end : ℕ → ℕ → List ℕ → ℕ
+sign_end space at word = capped (capped (at + space) + 6 * length word)
+
+-- signs from here on, one behind the other
+abbrev pub signs_text : (ℕ → List ℕ → List ℕ → List ℕ) → ℕ → ℕ → List (List ℕ × List ℕ) → List ℕ
+signs_text sign space at [] = []
+signs_text sign space at (one ∷ rest) = sign at one.0 one.1 ++ signs_text sign space (sign_end space at one.1) rest
+
+-- ---- legends
+
+abbrev pub shape_signs : List (List ℕ × List ℕ)
+shape_signs =
+    (shape_text Answered, codes "answered") ∷ (shape_text Begun, codes "a wait begins") ∷ (shape_text Ended, codes "a wait ends")
+    ∷ (shape_text Refused, codes "refused") ∷ (shape_text Played, codes "played") ∷ (shape_text Unhandled, codes "not handled") ∷ []
+
+abbrev pub condition_signs : List (List ℕ × List ℕ)
+condition_signs =
+    (strip_text Picked, codes "picked") ∷ (strip_text Ready, codes "ready") ∷ (strip_text Blocked, codes "blocked") ∷ (strip_text Inband, codes "in-band")
+    ∷ (strip_text Owned, codes "owned") ∷ (strip_text Stalled, codes "stalled") ∷ (strip_text Pending, codes "events pending") ∷ (strip_text Runs, codes "timer runs") ∷ []
+
+-- whether a condition is one of the word of a lane
+abbrev pub is_of_word : Condition → Lane → Bool
+is_of_word Owned (Mutex number) = true
+is_of_word Claimed (Mutex number) = true
+is_of_word Inband (Stax number) = true
+is_of_word Oob (Stax number) = true
+is_of_word Taken Core = true
+is_of_word _ _ = false
+
+abbrev pub is_of_words : List Lane → Condition → Bool
+is_of_words lanes condition = list_any (is_of_word condition) lanes
+
+-- the signs of those conditions that the word of one of the lanes can have
+abbrev pub signs_of : List Lane → List (Condition × List ℕ) → List (List ℕ × List ℕ)
+signs_of lanes [] = []
+signs_of lanes (one ∷ rest) = if is_of_words lanes one.0 then (strip_text one.0, one.1) ∷ signs_of lanes rest else signs_of lanes rest
+
+abbrev pub word_signs : List (Condition × List ℕ)
+word_signs =
+    (Owned, codes "owned") ∷ (Claimed, codes "claimed") ∷ (Inband, codes "held in-band") ∷ (Oob, codes "held out-of-band") ∷ (Taken, codes "taken") ∷ []
+
+-- the second line of a legend, where it is told how lanes stand
+abbrev pub second_legend : Shows → List Lane → List ℕ
+second_legend Waits lanes = []
+second_legend Machine lanes = signs_text condition_sign 36 20 condition_signs
+second_legend Words lanes = signs_text condition_sign 36 20 (signs_of lanes word_signs)
+
+abbrev pub head_text : Layout → List ℕ
+head_text sheet = opening_text (picture_width sheet) (picture_height sheet) ++ (signs_text shape_sign 32 16 shape_signs ++ second_legend sheet.shows sheet.lanes)

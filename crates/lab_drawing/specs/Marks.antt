@@ -1,0 +1,64 @@
+-- The marks of a picture: what each tells of its line.
+use Rattle.std.specs.Prelude.{ℕ, Bool, true, false, List, Option, Some, None, filter_map}
+use Rattle.evl_base.specs.declared.play.Play.TheVariants as play
+use Rattle.evl_base.specs.declared.play.Play as played
+use Rattle.lab_traces.specs.declared.traces.Says.{Says}
+use Rattle.lab_traces.specs.declared.traces.Says.TheVariants.{Board, Entry, Play}
+use Rattle.lab_traces.specs.declared.traces.TraceLine.{TraceLine}
+use Rattle.lab_drawing.specs.Named.{entry_names, entry_shape}
+use Rattle.lab_drawing.specs.declared.lanes.Lane.{Lane}
+use Rattle.lab_drawing.specs.declared.lanes.Lane.TheVariants.{Thread, Timer, Clock, Stage}
+use Rattle.lab_drawing.specs.declared.marks.Mark.{Mark}
+use Rattle.lab_drawing.specs.declared.marks.Shape.{Shape}
+use Rattle.lab_drawing.specs.declared.marks.Shape.TheVariants.{Played, Unhandled}
+
+abbrev pub line_of : Mark → List ℕ
+line_of mark = mark.line.now
+
+-- a mark that isn't a play's
+abbrev pub is_called : Shape → Bool
+is_called Played = false
+is_called Unhandled = false
+is_called _ = true
+
+abbrev pub is_entry : Mark → Bool
+is_entry mark = is_called mark.shape
+
+abbrev pub play_lane : played.Play → Lane
+play_lane play.Clock = Clock
+play_lane (play.Timer timer count missed handled) = Timer timer.0
+play_lane (play.Deadline thread) = Thread thread.0
+play_lane (play.Line line stage count handled) = Stage stage
+
+abbrev pub fire_shape : Bool → Shape
+fire_shape true = Played
+fire_shape false = Unhandled
+
+abbrev pub play_shape : played.Play → Shape
+play_shape (play.Timer timer count missed handled) = fire_shape handled
+play_shape (play.Line line stage count handled) = fire_shape handled
+play_shape _ = Played
+
+-- what is told of a mark: its line, its lane, the lane that it names, and how it looks
+pub record Told : Type 0 where
+  pub line : List ℕ
+  pub lane : Lane
+  pub names : Option Lane
+  pub shape : Shape
+
+abbrev pub told_of : Mark → Told
+told_of mark = record { line = mark.line.now; lane = mark.lane; names = mark.names; shape = mark.shape }
+
+-- a call is marked in the lane of its thread, a play in its own, where it names nothing; a board isn't marked
+abbrev pub marked_by : Says → List ℕ → Option Told
+marked_by (Board line) text = None
+marked_by (Entry line) text =
+    Some (record { line = text; lane = Thread line.thread; names = entry_names line.call.now line.answer.now; shape = entry_shape line.call.now line.answer.now })
+marked_by (Play p) text = Some (record { line = text; lane = play_lane p; names = None; shape = play_shape p })
+
+abbrev pub marked : TraceLine → Option Told
+marked line = marked_by line.says line.text.now
+
+-- of the lines of a trace, in order
+abbrev pub all_marked : List TraceLine → List Told
+all_marked lines = filter_map marked lines

@@ -1,0 +1,134 @@
+-- A picture as SVG, from its opening to its end.
+use Rattle.std.specs.Prelude.{ℕ, zero, suc, ◌-◌, ◌%◌, ◌==◌, nat_le, Bool, true, false, List, [], ◌∷◌, ◌++◌, length, map, flat_map, count_by, slice_get, codes, decimal, if◌then◌else◌, Option, Some, None}
+use Rattle.std.specs.Fmt.{take_chars}
+use Rattle.std.specs.List.{fold}
+use Rattle.std.specs.Str.{trim_start}
+use Rattle.lab_drawing.specs.Drawings.{shape_text}
+use Rattle.lab_drawing.specs.Frames.{Layout, across, below, down, frame_text, layout_of, shows_waits, tie_text}
+use Rattle.lab_drawing.specs.Heads.{head_text, place_text}
+use Rattle.lab_drawing.specs.Lanes.{is_lane}
+use Rattle.lab_drawing.specs.Marks.{is_entry}
+use Rattle.lab_drawing.specs.Strips.{moment_text}
+use Rattle.lab_drawing.specs.Titles.{escaped, title_text}
+use Rattle.lab_drawing.specs.declared.frames.Shows.{Shows}
+use Rattle.lab_drawing.specs.declared.frames.Shows.TheVariants.{Machine, Waits}
+use Rattle.lab_drawing.specs.declared.lanes.Lane.{Lane}
+use Rattle.lab_drawing.specs.declared.marks.Mark.{Mark}
+use Rattle.lab_drawing.specs.declared.marks.Shape.{Shape}
+use Rattle.lab_drawing.specs.declared.marks.Shape.TheVariants.{Begun, Ended, Refused}
+use Rattle.lab_drawing.specs.declared.moments.Moment.{Moment}
+
+-- ---- marks
+
+-- … in UTF-8
+abbrev pub ellipsis : List ℕ
+ellipsis = 226 ∷ 128 ∷ 166 ∷ []
+
+-- a text that has at most so many bytes; of a longer one its first characters, one less than so many, and …
+abbrev pub shortened : ℕ → List ℕ → List ℕ
+shortened most text = if nat_le (length text) most then text else take_chars (most - 1) text ++ ellipsis
+
+-- what is shown of a line
+abbrev pub shown_text : ℕ → List ℕ → List ℕ
+shown_text most line = escaped (shortened most (trim_start line))
+
+abbrev pub label_ink : Shape → List ℕ
+label_ink Refused = codes "#b3261e"
+label_ink _ = codes "#202020"
+
+abbrev pub label_opening : ℕ → List ℕ → List ℕ
+label_opening pixels ink = codes "<text transform=\"translate(-3," ++ (decimal pixels ++ (codes ") rotate(90)\" fill=\"" ++ (ink ++ codes "\">")))
+
+-- what is shown of a line, so far below its mark, and the end of the mark
+abbrev pub label_text : ℕ → ℕ → List ℕ → List ℕ → List ℕ
+label_text most pixels ink line = label_opening pixels ink ++ (shown_text most line ++ codes "</text></g>\n")
+
+-- a dotted line from a mark, so far down
+abbrev pub lead_text : ℕ → List ℕ
+lead_text pixels = codes "<path d=\"M0 0V" ++ (decimal pixels ++ codes "\" stroke=\"#e4e4e4\" stroke-dasharray=\"1 3\"/>")
+
+-- the drawing of a mark, behind its title: the line to its label, the tie, the shape, and the label
+abbrev pub body_text : Layout → ℕ → Mark → List ℕ
+body_text sheet column mark =
+    lead_text (below sheet column mark.lane)
+    ++ (tie_text sheet column mark ++ (shape_text mark.shape ++ label_text sheet.shown (below sheet column mark.lane) (label_ink mark.shape) mark.line.now))
+
+-- a mark in its column
+abbrev pub mark_text : Layout → ℕ → Mark → List ℕ
+mark_text sheet column mark = place_text (across column) (down sheet column mark.lane) ++ (title_text mark.line.now ++ body_text sheet column mark)
+
+-- ---- waits
+
+-- whether a wait goes on behind a call, where it did so before it or not
+abbrev pub waits_behind : Shape → Bool → Bool
+waits_behind Begun before = true
+waits_behind Ended before = false
+waits_behind _ before = before
+
+abbrev pub goes_on_behind : Lane → Bool → Mark → Bool
+goes_on_behind lane before mark = if is_lane mark.lane lane then waits_behind mark.shape before else before
+
+-- the same of a lane that stands beside whether it did so before
+abbrev pub wait_behind : Mark → Lane × Bool → Lane × Bool
+wait_behind mark wait = (wait.0, goes_on_behind wait.0 wait.1 mark)
+
+-- whether a wait goes on in a lane behind these marks
+abbrev pub goes_on : List Mark → Lane → Bool
+goes_on marks lane = fold (goes_on_behind lane) false marks
+
+-- each lane, and whether a wait goes on there behind these marks
+abbrev pub waits_of : List Lane → List Mark → List (Lane × Bool)
+waits_of lanes marks = map (λ lane. (lane, goes_on marks lane)) lanes
+
+abbrev pub bar_text : ℕ → ℕ → List ℕ
+bar_text x y = codes "<rect x=\"" ++ (decimal x ++ (codes "\" y=\"" ++ (decimal y ++ codes "\" width=\"16\" height=\"6\" fill=\"#c9d9f0\"/>\n")))
+
+abbrev pub wait_text : Layout → ℕ → Lane × Bool → List ℕ
+wait_text sheet column wait = if wait.1 then bar_text (across column - 8) (down sheet column wait.0 - 3) else []
+
+-- the waits that go on in a column, lane by lane
+abbrev pub waits_text : Layout → ℕ → List (Lane × Bool) → List ℕ
+waits_text sheet column waits = flat_map (wait_text sheet column) waits
+
+-- ---- columns
+
+-- how the machine stood after so many entries, where that is known
+abbrev pub moment_after : List Moment → ℕ → Option Moment
+moment_after moments zero = None
+moment_after moments (suc before) = slice_get moments before
+
+-- the lanes of the band that a column begins
+abbrev pub band_frame : Layout → ℕ → List ℕ
+band_frame sheet column = if column % 60 == 0 then frame_text sheet column else []
+
+-- how lanes stand in a column: as the machine stood, behind how it stood before, and as the waits tell, where that isn't known or both are shown
+abbrev pub stood_text : Layout → ℕ → List (Lane × Bool) → Option Moment → Option Moment → List ℕ
+stood_text sheet column waits None before = waits_text sheet column waits
+stood_text sheet column waits (Some moment) before = moment_text sheet column moment before ++ (if shows_waits sheet.shows then waits_text sheet column waits else [])
+
+-- the lanes of its band, how they stand, and the mark
+abbrev pub column_text : Layout → ℕ → List (Lane × Bool) → Option Moment → Option Moment → Mark → List ℕ
+column_text sheet column waits moment before mark = band_frame sheet column ++ (stood_text sheet column waits moment before ++ mark_text sheet column mark)
+
+-- the column of a mark behind those before it
+abbrev pub column_behind : Layout → List Moment → List Mark → Mark → List ℕ
+column_behind sheet moments before mark =
+    column_text sheet (length before) (waits_of sheet.lanes before) (moment_after moments (count_by is_entry (before ++ mark ∷ []))) (moment_after moments (count_by is_entry before)) mark
+
+-- the columns of marks, behind those before them
+abbrev pub columns_text : Layout → List Moment → List Mark → List Mark → List ℕ
+columns_text sheet moments before [] = []
+columns_text sheet moments before (mark ∷ rest) = column_behind sheet moments before mark ++ columns_text sheet moments (before ++ mark ∷ []) rest
+
+-- ---- the whole
+
+abbrev pub picture_text : Layout → List Moment → List Mark → List ℕ
+picture_text sheet moments marks = head_text sheet ++ (columns_text sheet moments [] marks ++ codes "</svg>\n")
+
+-- the picture of marks, which shows this of how lanes stand, by the moments after their entries
+abbrev pub svg_text : Shows → List Moment → List Mark → List ℕ
+svg_text shows moments marks = picture_text (layout_of shows marks) moments marks
+
+-- what is shown of how a machine stands, by the moments that are known
+abbrev pub shown_with : List Moment → Shows
+shown_with moments = if length moments == 0 then Waits else Machine

@@ -1,0 +1,151 @@
+//! What stands above the bands of a picture as SVG: its opening, and its legend.
+ghost use Rattle.std.specs.Prelude.{◌≡◌, ◌++◌, string_bytes, IfOk, OnOk, if◌then◌else◌, []};
+ghost use Rattle.lab_drawing.specs.Drawings as drawings;
+ghost use Rattle.lab_drawing.specs.Heads as heads;
+ghost use Rattle.lab_drawing.specs.Heads.{condition_sign, condition_signs, opening_text, place_text, shape_sign, shape_signs, signs_of, signs_text, word_signs, word_text};
+
+use crate::frames::{shape_text, steps};
+use crate::lanes::Lane;
+use crate::marks::Shape;
+use crate::moments::Condition;
+use crate::strips::strip_text;
+use std::alloc::{AllocError, Global};
+
+// How wide a character is.
+const CHARACTER: usize = 6;
+
+/// The opening of a picture of this size. `AllocError` where the text couldn't grow.
+pub fn opening(alloc: Global, width: usize, height: usize) -> Result<String, AllocError>
+    ensures { IfOk result (λ text. string_bytes text ≡ opening_text width height) }
+{
+    format!(in alloc;
+        "<svg xmlns=\"http://www.w3.org/2000/svg\" width=\"{width}\" height=\"{height}\" viewBox=\"0 0 {width} {height}\" font-family=\"DejaVu Sans Mono, monospace\" font-size=\"9\">\n<rect width=\"100%\" height=\"100%\" fill=\"#ffffff\"/>\n"
+    )
+}
+
+// Where the next sign stands, with so much room beside the word.
+fn sign_end(space: usize, at: usize, word: &str) -> usize
+    ensures { result ≡ heads.sign_end space at word.now }
+{
+    steps(at.saturating_add(space), CHARACTER, word.len())
+}
+
+// Appends the beginning of what stands here.
+fn put_place(text: &mut String, x: usize, y: usize) -> Result<(), AllocError>
+    ensures { OnOk result (string_bytes text.new ≡ string_bytes text.old ++ place_text x y) }
+{
+    write!(text, "<g transform=\"translate({x},{y})\">")?;
+    Ok(())
+}
+
+// Appends the word of a sign, beside the drawing, and its end.
+fn put_sign_word(text: &mut String, x: usize, y: usize, word: &str) -> Result<(), AllocError>
+    ensures { OnOk result (string_bytes text.new ≡ string_bytes text.old ++ word_text x y word.now) }
+{
+    write!(text, "<text x=\"{x}\" y=\"{y}\">{word}</text></g>\n")?;
+    Ok(())
+}
+
+// Appends the sign of a shape, so far from the left, and says where the next one stands.
+fn put_shape(text: &mut String, at: usize, shape: Shape, word: &str) -> Result<usize, AllocError>
+    ensures text { OnOk result (string_bytes text.new ≡ string_bytes text.old ++ shape_sign at (drawings.shape_text shape) word.now) }
+    ensures next { IfOk result (λ next. next ≡ heads.sign_end 32 at word.now) }
+{
+    put_place(text, at, 18)?;
+    text.push_str(shape_text(shape))?;
+    put_sign_word(text, 10, 3, word)?;
+    Ok(sign_end(32, at, word))
+}
+
+/// Appends the legend of the shapes. `AllocError` where the text couldn't grow.
+pub fn put_shapes(text: &mut String) -> Result<(), AllocError>
+    ensures { OnOk result (string_bytes text.new ≡ string_bytes text.old ++ signs_text shape_sign 32 16 shape_signs) }
+{
+    let begun = put_shape(text, 16, Shape::Answered, "answered")?;
+    let ended = put_shape(text, begun, Shape::Begun, "a wait begins")?;
+    let refused = put_shape(text, ended, Shape::Ended, "a wait ends")?;
+    let played = put_shape(text, refused, Shape::Refused, "refused")?;
+    let unhandled = put_shape(text, played, Shape::Played, "played")?;
+    put_shape(text, unhandled, Shape::Unhandled, "not handled")?;
+    Ok(())
+}
+
+// Appends the sign of a condition, so far from the left, and says where the next one stands.
+fn put_condition(
+    text: &mut String,
+    at: usize,
+    condition: Condition,
+    word: &str,
+) -> Result<usize, AllocError>
+    ensures text { OnOk result (string_bytes text.new ≡ string_bytes text.old ++ condition_sign at (drawings.strip_text condition) word.now) }
+    ensures next { IfOk result (λ next. next ≡ heads.sign_end 36 at word.now) }
+{
+    put_place(text, at, 28)?;
+    text.push_str(strip_text(condition))?;
+    put_sign_word(text, 12, 13, word)?;
+    Ok(sign_end(36, at, word))
+}
+
+/// Appends the legend of the conditions. `AllocError` where the text couldn't grow.
+pub fn put_conditions(text: &mut String) -> Result<(), AllocError>
+    ensures { OnOk result (string_bytes text.new ≡ string_bytes text.old ++ signs_text condition_sign 36 20 condition_signs) }
+{
+    let ready = put_condition(text, 20, Condition::Picked, "picked")?;
+    let blocked = put_condition(text, ready, Condition::Ready, "ready")?;
+    let inband = put_condition(text, blocked, Condition::Blocked, "blocked")?;
+    let owned = put_condition(text, inband, Condition::Inband, "in-band")?;
+    let stalled = put_condition(text, owned, Condition::Owned, "owned")?;
+    let pending = put_condition(text, stalled, Condition::Stalled, "stalled")?;
+    let runs = put_condition(text, pending, Condition::Pending, "events pending")?;
+    put_condition(text, runs, Condition::Runs, "timer runs")?;
+    Ok(())
+}
+
+// Whether a condition is one of the word of a lane.
+fn is_of_word(condition: Condition, lane: Lane) -> bool
+    ensures { result ≡ heads.is_of_word condition lane }
+{
+    match lane {
+        Lane::Mutex(_) => matches!(condition, Condition::Owned | Condition::Claimed),
+        Lane::Stax(_) => matches!(condition, Condition::Inband | Condition::Oob),
+        Lane::Core => matches!(condition, Condition::Taken),
+        _ => false,
+    }
+}
+
+// The same of one of some lanes.
+fn is_of_words(lanes: &[Lane], condition: Condition) -> bool
+    ensures { result ≡ heads.is_of_words lanes.now condition }
+{
+    lanes.iter().any(|lane| is_of_word(condition, *lane))
+}
+
+// Appends the sign of a condition, where the word of one of the lanes can have it, and says where the next one stands.
+fn put_word(
+    text: &mut String,
+    at: usize,
+    lanes: &[Lane],
+    condition: Condition,
+    word: &str,
+) -> Result<usize, AllocError>
+    ensures text { OnOk result (string_bytes text.new ≡ string_bytes text.old ++ (if heads.is_of_words lanes.now condition then condition_sign at (drawings.strip_text condition) word.now else [])) }
+    ensures next { IfOk result (λ next. next ≡ (if heads.is_of_words lanes.now condition then heads.sign_end 36 at word.now else at)) }
+{
+    if is_of_words(lanes, condition) {
+        put_condition(text, at, condition, word)
+    } else {
+        Ok(at)
+    }
+}
+
+/// Appends the legend of how words stand, of those that have a lane. `AllocError` where the text couldn't grow.
+pub fn put_words(text: &mut String, lanes: &[Lane]) -> Result<(), AllocError>
+    ensures { OnOk result (string_bytes text.new ≡ string_bytes text.old ++ signs_text condition_sign 36 20 (signs_of lanes.now word_signs)) }
+{
+    let claimed = put_word(text, 20, lanes, Condition::Owned, "owned")?;
+    let inband = put_word(text, claimed, lanes, Condition::Claimed, "claimed")?;
+    let oob = put_word(text, inband, lanes, Condition::Inband, "held in-band")?;
+    let taken = put_word(text, oob, lanes, Condition::Oob, "held out-of-band")?;
+    put_word(text, taken, lanes, Condition::Taken, "taken")?;
+    Ok(())
+}

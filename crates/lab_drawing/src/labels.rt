@@ -1,0 +1,112 @@
+//! What is shown of a line below its mark.
+ghost use Rattle.std.specs.Prelude.{◌≡◌, ◌-◌, ◌==◌, ◌&&◌, ◌++◌, length, nat_le, if◌then◌else◌, IfOk, OnOk, string_bytes};
+ghost use Rattle.std.specs.Fmt.{is_char_start, take_chars};
+ghost use Rattle.lab_drawing.specs.Pictures as pictures;
+ghost use Rattle.lab_drawing.specs.Pictures.{ellipsis, label_text, shown_text};
+ghost use Rattle.lab_drawing.specs.Titles.{escaped};
+
+use crate::escapes::{put_escaped, put_text};
+use crate::marks::Shape;
+use std::alloc::{AllocError, Global};
+
+// Whether a byte is the first of a character.
+fn begins(byte: u8) -> bool
+    ensures { result ≡ is_char_start byte }
+{
+    byte < 0x80 || byte >= 0xc0
+}
+
+// Whether a character begins with a byte that is one more than so many.
+fn is_more(byte: u8, left: usize) -> bool
+    ensures { result ≡ (is_char_start byte && left == 0) }
+{
+    begins(byte) && left == 0
+}
+
+// How many characters are left behind a byte.
+fn left_behind(byte: u8, left: usize) -> usize
+    ensures { result ≡ (if is_char_start byte then left - 1 else left) }
+{
+    if begins(byte) {
+        left.saturating_sub(1)
+    } else {
+        left
+    }
+}
+
+// The first characters of a text, so many at most.
+fn front(text: &[u8], count: usize) -> &[u8]
+    ensures { result.now ≡ take_chars count text.now }
+{
+    let mut left = count;
+    for (i, byte) in text.iter().enumerate() {
+        if is_more(*byte, left) {
+            return &text[..i];
+        }
+        left = left_behind(*byte, left);
+    }
+    text
+}
+
+// Whether a text has at most so many bytes.
+fn fits(text: &[u8], most: usize) -> bool
+    ensures { result ≡ nat_le (length text.now) most }
+{
+    text.len() <= most
+}
+
+// Appends the first characters of a text, and ….
+fn put_front(buffer: &mut Vec<u8>, text: &[u8], count: usize) -> Result<(), AllocError>
+    ensures { OnOk result (buffer.new.items ≡ buffer.old.items ++ (escaped (take_chars count text.now) ++ ellipsis)) }
+{
+    put_escaped(buffer, front(text, count))?;
+    buffer.extend_from_slice(&[226, 128, 166])?;
+    Ok(())
+}
+
+// Appends what is shown of a line, where at most so many bytes are shown whole.
+fn put_shown(buffer: &mut Vec<u8>, line: &str, most: usize) -> Result<(), AllocError>
+    ensures { OnOk result (buffer.new.items ≡ buffer.old.items ++ shown_text most line.now) }
+{
+    let shown = line.trim_start().as_bytes();
+    if fits(shown, most) {
+        put_escaped(buffer, shown)?;
+        return Ok(());
+    }
+    put_front(buffer, shown, most.saturating_sub(1))?;
+    Ok(())
+}
+
+/// The colour of the label of a mark.
+pub fn label_ink(shape: Shape) -> &'static str
+    ensures { result.now ≡ pictures.label_ink shape }
+{
+    match shape {
+        Shape::Refused => "#b3261e",
+        _ => "#202020",
+    }
+}
+
+// The opening of a label so far below its mark.
+fn opening(alloc: Global, pixels: usize, ink: &str) -> Result<String, AllocError>
+    ensures { IfOk result (λ text. string_bytes text ≡ pictures.label_opening pixels ink.now) }
+{
+    format!(in alloc; "<text transform=\"translate(-3,{pixels}) rotate(90)\" fill=\"{ink}\">")
+}
+
+/// Appends the label of a mark: what is shown of its line, so far below it, and the end of the mark.
+pub fn put_label(
+    alloc: Global,
+    buffer: &mut Vec<u8>,
+    most: usize,
+    pixels: usize,
+    ink: &str,
+    line: &str,
+) -> Result<(), AllocError>
+    ensures { OnOk result (buffer.new.items ≡ buffer.old.items ++ label_text most pixels ink.now line.now) }
+{
+    let opened = opening(alloc, pixels, ink)?;
+    put_text(buffer, opened.as_str())?;
+    put_shown(buffer, line, most)?;
+    buffer.extend_from_slice(b"</text></g>\n")
+}

@@ -1,0 +1,64 @@
+//! How a machine stands after the calls of a picture.
+ghost use Rattle.std.specs.Prelude.{◌≡◌};
+ghost use Rattle.lab_drawing.specs.Strips.{standing_of};
+
+use crate::lanes::{Lane, is_lane};
+
+/// How a lane stands after a call.
+#[derive(Clone, Copy, PartialEq, Eq, Debug)]
+pub enum Condition {
+    /// The thread is attached, and in-band; callers of that stage hold the stax.
+    Inband,
+    /// The thread is out-of-band, and blocked.
+    Blocked,
+    /// The thread is on the ready list, and isn't picked.
+    Ready,
+    /// The thread is picked.
+    Picked,
+    /// The stage is stalled.
+    Stalled,
+    /// The stage isn't stalled, and events are pending there.
+    Pending,
+    /// The mutex has a recorded owner; its word names one.
+    Owned,
+    /// The timer runs.
+    Runs,
+    /// Out-of-band callers hold the stax.
+    Oob,
+    /// The claim mark stands in the mutex's word.
+    Claimed,
+    /// A caller has the core.
+    Taken,
+}
+
+/// How one lane stands, with the effective rank of its thread, the owner of its mutex, how many events are pending on
+/// its stage, how many callers hold its stax, or who has the core.
+#[derive(Clone, Copy, PartialEq, Eq, Debug)]
+pub struct Standing {
+    pub lane: Lane,
+    pub condition: Condition,
+    pub number: Option<u16>,
+}
+
+/// How a machine stands after a call: the date in nanoseconds, and the lanes that show something. The others show
+/// nothing: a thread that isn't attached, a stage that isn't stalled and has no pending event, a mutex with no recorded
+/// owner, a timer that doesn't run, a word that is free or hasn't been shown.
+#[derive(Drop)]
+pub struct Moment {
+    pub date: u64,
+    pub standings: Vec<Standing>,
+}
+
+impl Moment {
+    /// How a lane stands, where it shows something.
+    pub fn standing(&self, lane: Lane) -> Option<Standing>
+        ensures { result ≡ standing_of lane self.now }
+    {
+        for standing in &self.standings {
+            if is_lane(lane, standing.lane) {
+                return Some(*standing);
+            }
+        }
+        None
+    }
+}

@@ -1,0 +1,64 @@
+//! Texts that are taken apart.
+ghost use Rattle.std.specs.Prelude.{◌≡◌, option_map};
+ghost use Rattle.lab_traces.specs.Parts.{before_end};
+ghost use Rattle.lab_drawing.specs.Texts.{around_part, number_in, past_front, up_to};
+
+/// What stands before the first such part of a text, and what behind it.
+pub fn around<'a>(part: &str, text: &'a str) -> Option<(&'a str, &'a str)>
+    ensures { option_map (λ cut. (cut.0.now, cut.1.now)) result ≡ around_part part.now text.now }
+{
+    match text.split_once(part) {
+        Some(cut) => Some(cut),
+        None => None,
+    }
+}
+
+/// What stands before the first such part of a text, or all of it where none stands there.
+pub fn up_to<'a>(part: &str, text: &'a str) -> &'a str
+    ensures { result.now ≡ up_to part.now text.now }
+{
+    match around(part, text) {
+        Some((front, _)) => front,
+        None => text,
+    }
+}
+
+/// What follows this front part of a text.
+pub fn behind<'a>(front: &str, text: &'a str) -> Option<&'a str>
+    ensures { option_map (λ rest. rest.now) result ≡ past_front front.now text.now }
+{
+    match text.strip_prefix(front) {
+        Some(rest) => Some(rest),
+        None => None,
+    }
+}
+
+/// What stands before this end of a text.
+pub fn before<'a>(end: &str, text: &'a str) -> Option<&'a str>
+    ensures { option_map (λ front. front.now) result ≡ before_end end.now text.now }
+{
+    match text.strip_suffix(end) {
+        Some(front) => Some(front),
+        None => None,
+    }
+}
+
+/// The number of 16 bits that a text is.
+pub fn number(text: &str) -> Option<u16>
+    ensures { result ≡ number_in 16 text.now }
+{
+    match text.parse::<u16>() {
+        Ok(number) => Some(number),
+        Err(_) => None,
+    }
+}
+
+/// The number of 64 bits that a text is.
+pub fn long_number(text: &str) -> Option<u64>
+    ensures { result ≡ number_in 64 text.now }
+{
+    match text.parse::<u64>() {
+        Ok(number) => Some(number),
+        Err(_) => None,
+    }
+}

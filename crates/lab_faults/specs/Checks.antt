@@ -1,0 +1,79 @@
+-- What is told of a text that can't be played. Left open is where the reader of TOML stopped, and why.
+use Rattle.std.specs.Prelude.{◌≡◌, ◌≢◌, ◌<◌, ◌≤◌, ◌⊎◌, ℕ, List, [], ◌∷◌, ◌++◌, codes, decimal, length, map, Option, None, Some, is_some, true}
+use Rattle.toml.specs.Parse.{parse_document}
+use Rattle.evl_scenario.specs.declared.faults.Fault.{Fault}
+use Rattle.evl_scenario.specs.declared.faults.Fault.TheVariants.{Text, Board, Step, Memory, Write}
+use Rattle.lab_faults.specs.Boards.{board_faults}
+use Rattle.lab_faults.specs.Faults.{found_lines}
+use Rattle.lab_faults.specs.Keys.{text_headings, text_keys}
+use Rattle.lab_faults.specs.Steps.{all_step_faults}
+use Rattle.lab_faults.specs.Told.{Told, told, told_at}
+use Rattle.lab_faults.specs.declared.found.Found.{Found}
+
+-- ---- of the text
+
+abbrev pub not_toml_text : List ℕ → List ℕ
+not_toml_text why = codes "no TOML in UTF-8: " ++ why
+
+-- a text of few bytes: for some reason it is no document
+abbrev pub IsRefusedFor : List ℕ → List ℕ → Type 0
+IsRefusedFor text words = ((is_some (parse_document text) ≡ true) × (words ≡ codes "the text can't be read")) ⊎ ((why : List ℕ) × (words ≡ not_toml_text why))
+
+-- any text: it is too long, or that
+pub record IsTextFault (text : List ℕ) (at : ℕ) (words : List ℕ) : Type 0 where
+  pub long : 1048576 < length text → (at ≡ 1048576) × (words ≡ codes "the text has more than 1048576 bytes")
+  pub short : length text ≤ 1048576 → IsRefusedFor text words
+
+-- ---- by what it is refused for
+
+pub record FindsText (text : List ℕ) (faults : List Told) : Type 0 where
+  pub at : ℕ
+  pub words : List ℕ
+  pub says : IsTextFault text at words
+  pub told : faults ≡ told_at text Text at words ∷ []
+
+-- of the steps
+abbrev pub faults_in_steps : List ℕ → List Told
+faults_in_steps text = all_step_faults text (text_keys text)
+
+-- of the board, of what stands beside it, and of the steps
+abbrev pub faults_in_all : List ℕ → List Told
+faults_in_all text = board_faults text (text_headings text) (text_keys text) ++ faults_in_steps text
+
+abbrev pub Finds : List ℕ → Fault → List Told → Type 0
+Finds text Text faults = FindsText text faults
+Finds text (Step number) faults = faults ≡ faults_in_steps text
+Finds text _ faults = faults ≡ faults_in_all text
+
+-- ---- with that in front
+
+abbrev pub plain_text : Fault → List ℕ
+plain_text Text = codes "the text can't be read"
+plain_text Board = codes "the board, or what stands beside it, can't be read"
+plain_text (Step number) = codes "step " ++ (decimal number ++ codes " can't be read")
+plain_text Memory = codes "no memory"
+plain_text Write = codes "the output failed"
+
+abbrev pub plain_told : Fault → Told
+plain_told fault = record { fault = fault; place = record { line = 1; column = 1 }; words = plain_text fault }
+
+abbrev pub first_told : List Told → Option Fault
+first_told [] = None
+first_told (one ∷ rest) = Some one.fault
+
+-- what is found, where this fault is the first; else it goes before that
+abbrev pub IsLed : Fault → List Told → List Told → Type 0
+IsLed fault found faults =
+    ((first_told found ≡ Some fault) × (faults ≡ found)) ⊎ ((first_told found ≢ Some fault) × (faults ≡ plain_told fault ∷ found))
+
+-- what is told of a text that is refused for this fault
+pub record Tells (text : List ℕ) (fault : Fault) (faults : List Told) : Type 0 where
+  pub found : List Told
+  pub finds : Finds text fault found
+  pub led : IsLed fault found faults
+
+-- its lines were added
+pub record TellsLines (name text : List ℕ) (fault : Fault) (old new : List ℕ) : Type 0 where
+  pub found : List Found
+  pub tells : Tells text fault (map told found)
+  pub lines : new ≡ old ++ found_lines name found

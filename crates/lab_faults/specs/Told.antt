@@ -1,0 +1,38 @@
+-- A fault as it is told.
+use Rattle.std.specs.Prelude.{◌≡◌, ℕ, ◌+◌, ◌==◌, List, [], ◌∷◌, ◌++◌, length, map, string_bytes, take}
+use Rattle.std.specs.List.{slice_split}
+use Rattle.lab_faults.specs.declared.found.Finding.{Finding}
+use Rattle.lab_faults.specs.declared.found.Found.{Found}
+use Rattle.lab_faults.specs.declared.found.Place.{Place}
+use Rattle.evl_scenario.specs.declared.faults.Fault.{Fault}
+
+-- ---- its place
+
+-- the place behind these lines, of which the first goes on at a column
+abbrev pub behind : ℕ → ℕ → List (List ℕ) → Place
+behind line column [] = record { line = line; column = column }
+behind line column (last ∷ []) = record { line = line; column = column + length last }
+behind line column (passed ∷ next ∷ rest) = behind (line + 1) 1 (next ∷ rest)
+
+-- the place of a byte of a text
+unfoldable pub place_at : List ℕ → ℕ → Place
+place_at text at = behind 1 1 (slice_split (λ c. c == 10) (take at text))
+
+-- ---- the fault
+
+-- of which kind it is, where it stands, and what is said of it
+pub record Told : Type 0 where
+  pub fault : Fault
+  pub place : Place
+  pub words : List ℕ
+
+abbrev pub told : Found → Told
+told found = record { fault = found.fault; place = found.place; words = string_bytes found.words }
+
+abbrev pub told_at : List ℕ → Fault → ℕ → List ℕ → Told
+told_at text fault at words = record { fault = fault; place = place_at text at; words = words }
+
+-- these were found behind those before, in the same text
+pub record Adds (old new : Finding) (faults : List Told) : Type 0 where
+  pub text : new.text ≡ old.text
+  pub told : map told new.found.items ≡ map told old.found.items ++ faults

@@ -1,0 +1,176 @@
+//! The faults of a text: told exactly where it can't be played.
+ghost use Rattle.std.specs.Prelude.{◌≡◌, ◌≢◌, ◌∷◌, true, false, map, string_bytes, Err, None, Some, IfOk};
+ghost use Rattle.evl_scenario.specs.Scenarios.{scenario_of};
+ghost use Rattle.lab_faults.specs.Checks.{Finds, FindsText, IsRefusedFor, IsTextFault, Tells, faults_in_all, faults_in_steps, not_toml_text, plain_text, plain_told};
+ghost use Rattle.lab_faults.specs.Faults.{are_of_steps, first_fault, is_of_step, refusal_in};
+ghost use Rattle.lab_faults.specs.Told.{told};
+
+use crate::boards::check_board;
+use crate::found::{Finding, Found, Place};
+use crate::keys::items_of;
+use crate::runs::check_steps;
+use evl_scenario::{Fault, read_scenario};
+use std::alloc::{AllocError, Global};
+
+// What is said of a text that is no TOML.
+fn not_toml(alloc: Global, why: &str) -> Result<String, AllocError>
+    ensures { IfOk result (λ words. string_bytes words ≡ not_toml_text why.now) }
+{
+    format!(in alloc; "no TOML in UTF-8: {why}")
+}
+
+// Where a text is no TOML document, and why.
+fn refused_for(alloc: Global, text: &[u8]) -> Result<(usize, String), AllocError>
+    ensures { IfOk result (λ told. IsRefusedFor text.now (string_bytes told.1)) }
+{
+    match toml::table_from_slice(alloc, text) {
+        Ok(_) => Ok((0, format!(in alloc; "the text can't be read")?)),
+        Err(error) => {
+            let at = match error.span() {
+                Some(span) => span.start,
+                None => 0,
+            };
+            let words = not_toml(alloc, error.message())?;
+            Ok((at, words))
+        }
+    }
+}
+
+// Where a text can't be read, and why.
+fn syntax(alloc: Global, text: &[u8]) -> Result<(usize, String), AllocError>
+    ensures { IfOk result (λ told. IsTextFault text.now told.0 (string_bytes told.1)) }
+{
+    if text.len() > 1_048_576 {
+        let words = format!(in alloc; "the text has more than 1048576 bytes")?;
+        return Ok((1_048_576, words));
+    }
+    refused_for(alloc, text)
+}
+
+// What is said of a fault that nothing else is known of.
+fn plainly(alloc: Global, fault: Fault) -> Result<String, AllocError>
+    ensures { IfOk result (λ words. string_bytes words ≡ plain_text fault) }
+{
+    match fault {
+        Fault::Text => format!(in alloc; "the text can't be read"),
+        Fault::Board => format!(in alloc; "the board, or what stands beside it, can't be read"),
+        Fault::Step(number) => format!(in alloc; "step {number} can't be read"),
+        Fault::Memory => format!(in alloc; "no memory"),
+        Fault::Write => format!(in alloc; "the output failed"),
+    }
+}
+
+// The fault of a text that can't be read.
+fn found_in_text(alloc: Global, text: &[u8]) -> Result<Vec<Found>, AllocError>
+    ensures { IfOk result (λ found. FindsText text.now (map told found.items)) }
+{
+    let mut finding = Finding {
+        text,
+        found: Vec::new(alloc),
+    };
+    let (at, words) = syntax(alloc, text)?;
+    finding.note(Fault::Text, at, words)?;
+    let Finding { text: _, found } = finding;
+    Ok(found)
+}
+
+// The faults of the board, of what stands beside it, and of the steps.
+fn found_in_board(alloc: Global, text: &[u8]) -> Result<Vec<Found>, AllocError>
+    ensures { IfOk result (λ found. map told found.items ≡ faults_in_all text.now) }
+{
+    let mut finding = Finding {
+        text,
+        found: Vec::new(alloc),
+    };
+    let items = items_of(alloc, text)?;
+    check_board(alloc, &mut finding, &items)?;
+    check_steps(alloc, &mut finding, items.items.as_slice())?;
+    let Finding { text: _, found } = finding;
+    Ok(found)
+}
+
+// The faults of the steps: the board of a text that is refused for a step is without fault.
+fn found_in_steps(alloc: Global, text: &[u8]) -> Result<Vec<Found>, AllocError>
+    ensures told { IfOk result (λ found. map told found.items ≡ faults_in_steps text.now) }
+    ensures steps { IfOk result (λ found. are_of_steps found.items ≡ true) }
+{
+    let mut finding = Finding {
+        text,
+        found: Vec::new(alloc),
+    };
+    let items = items_of(alloc, text)?;
+    check_steps(alloc, &mut finding, items.items.as_slice())?;
+    let Finding { text: _, found } = finding;
+    Ok(found)
+}
+
+// All faults that are found in a text that was refused for this one.
+fn all_found(alloc: Global, text: &[u8], fault: Fault) -> Result<Vec<Found>, AllocError>
+    ensures told { IfOk result (λ found. Finds text.now fault (map told found.items)) }
+    ensures steps { IfOk result (λ found. is_of_step fault ≡ true → are_of_steps found.items ≡ true) }
+{
+    match fault {
+        Fault::Text => found_in_text(alloc, text),
+        Fault::Step(_) => found_in_steps(alloc, text),
+        _ => found_in_board(alloc, text),
+    }
+}
+
+// Whether the first of some faults is this one.
+fn begins_with(found: &[Found], fault: Fault) -> bool
+    ensures yes { result ≡ true → first_fault found.now ≡ Some fault }
+    ensures no { result ≡ false → first_fault found.now ≢ Some fault }
+{
+    match found {
+        [] => false,
+        [first, ..] => first.fault == fault,
+    }
+}
+
+// A fault in front of others.
+fn in_front(fault: Fault, words: String, others: Vec<Found>) -> Result<Vec<Found>, AllocError>
+    ensures told { IfOk result (λ found. string_bytes words ≡ plain_text fault → map told found.items ≡ plain_told fault ∷ map told others.items) }
+    ensures first { IfOk result (λ found. first_fault found.items ≡ Some fault) }
+    ensures steps { IfOk result (λ found. is_of_step fault ≡ true → are_of_steps others.items ≡ true → are_of_steps found.items ≡ true) }
+{
+    let mut found = others;
+    found.insert(
+        0,
+        Found {
+            fault,
+            place: Place { line: 1, column: 1 },
+            words,
+        },
+    )?;
+    Ok(found)
+}
+
+// The faults of a text that was refused for this one, which is the first of them.
+fn explain(alloc: Global, text: &[u8], fault: Fault) -> Result<Vec<Found>, AllocError>
+    ensures told { IfOk result (λ found. Tells text.now fault (map told found.items)) }
+    ensures first { IfOk result (λ found. first_fault found.items ≡ Some fault) }
+    ensures steps { IfOk result (λ found. is_of_step fault ≡ true → are_of_steps found.items ≡ true) }
+{
+    let found = all_found(alloc, text, fault)?;
+    if begins_with(found.as_slice(), fault) {
+        return Ok(found);
+    }
+    let words = plainly(alloc, fault)?;
+    let all = in_front(fault, words, found)?;
+    Ok(all)
+}
+
+/// The faults of a scenario's text, each with its place and what was wanted. There is one exactly where the text can't
+/// be played, and the first is the one that it is refused for: of the text, of the board, or of the first step that
+/// can't be read; in that last case none is of the text or the board. `AllocError` where memory couldn't grow.
+pub fn check(alloc: Global, text: &[u8]) -> Result<Vec<Found>, AllocError>
+    ensures told { IfOk result (λ found. (fault : Fault) → scenario_of None text.now ≡ Err fault → Tells text.now fault (map told found.items)) }
+    ensures first { IfOk result (λ found. first_fault found.items ≡ refusal_in (scenario_of None text.now)) }
+    ensures steps { IfOk result (λ found. (fault : Fault) → scenario_of None text.now ≡ Err fault → is_of_step fault ≡ true → are_of_steps found.items ≡ true) }
+{
+    match read_scenario(alloc, text, None) {
+        Ok(_) => Ok(Vec::new(alloc)),
+        Err(Fault::Memory) => Err(AllocError),
+        Err(fault) => explain(alloc, text, fault),
+    }
+}

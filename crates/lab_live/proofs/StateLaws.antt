@@ -1,0 +1,104 @@
+-- Texts of a machine's state, piece by piece.
+use Rattle.std.proofs.Common.{◌≡◌, ◌∙◌, ◌++◌, ◌∷◌, ◌+◌, ℕ, Bool, true, false, cond, List, [], codes, decimal, filter, flat_map, length, not, append-nil, append_assoc, add-one, refl, sym, ap}
+use Rattle.std.specs.List.{join_by}
+use Rattle.std.proofs.lemmas.Grind.{flat_map-append}
+use Rattle.std.proofs.lemmas.List.Elements.{filter-append}
+use Rattle.evl_base.specs.declared.stage.Stage.TheVariants.{Inband, Oob}
+use Rattle.evl_clock.specs.Limits.{timer_count}
+use Rattle.evl_kernel.specs.Histories.{History}
+use Rattle.evl_scenario.specs.Lines.{line_feed}
+use Rattle.lab_live.specs.Sessions.{Driven}
+use Rattle.lab_live.specs.States.{below, is_none, mutex_line, pending_end, pending_next, pending_so_far, pending_text, stage_line, state_text, thread_line, timer_line}
+
+-- what is told behind what was told behind a text
+pub behind : (before mid after xs ys : List ℕ) → mid ≡ before ++ xs → after ≡ mid ++ ys → after ≡ before ++ (xs ++ ys)
+behind before mid after xs ys first more = more ∙ ap (λ (m : List ℕ). m ++ ys) first ∙ append_assoc before xs ys
+
+-- what is told in five parts
+pub behind_four : (text first second third fourth all a b c d e : List ℕ) → first ≡ text ++ a → second ≡ first ++ b → third ≡ second ++ c → fourth ≡ third ++ d
+    → all ≡ fourth ++ e → all ≡ text ++ (a ++ (b ++ (c ++ (d ++ e))))
+behind_four text first second third fourth all a b c d e one two three four five =
+    behind text first all a (b ++ (c ++ (d ++ e))) one
+    (behind first second all b (c ++ (d ++ e)) two (behind second third all c (d ++ e) three (behind third fourth all d e four five)))
+
+-- ---- lines of all numbers below one
+
+pub lines_none : (line : ℕ → List ℕ) (text : List ℕ) → text ≡ text ++ flat_map line (below 0)
+unfolding below
+lines_none line text = sym (append-nil text)
+
+lines_next : (line : ℕ → List ℕ) (n : ℕ) → flat_map line (below (n + 1)) ≡ flat_map line (below n) ++ line n
+unfolding below
+lines_next line n =
+    ap (λ (k : ℕ). flat_map line (below k)) (add-one n) ∙ flat_map-append line (below n) (n ∷ []) ∙ ap (λ (l : List ℕ). flat_map line (below n) ++ l) (append-nil (line n))
+
+pub lines_more : (line : ℕ → List ℕ) (n : ℕ) (first now next : List ℕ) → now ≡ first ++ flat_map line (below n) → next ≡ now ++ line n
+    → next ≡ first ++ flat_map line (below (n + 1))
+lines_more line n first now next so more =
+    more ∙ ap (λ (text : List ℕ). text ++ line n) so ∙ append_assoc first (flat_map line (below n)) (line n) ∙ ap (λ (text : List ℕ). first ++ text) (sym (lines_next line n))
+
+-- ---- lines that are pending
+
+-- of the lines below one
+pub pending_none : (passes : ℕ → Bool) → filter passes (below 0) ≡ []
+unfolding below
+pending_none passes = refl
+
+kept_more : (passes : ℕ → Bool) (line : ℕ) → filter passes (below (line + 1)) ≡ filter passes (below line) ++ filter passes (line ∷ [])
+unfolding below
+kept_more passes line = ap (λ (k : ℕ). filter passes (below k)) (add-one line) ∙ filter-append passes (below line) (line ∷ [])
+
+one_kept : (passes : ℕ → Bool) (line : ℕ) → passes line ≡ true → filter passes (line ∷ []) ≡ line ∷ []
+one_kept passes line is = ap (λ (b : Bool). cond b (line ∷ []) []) is
+
+none_kept : (passes : ℕ → Bool) (line : ℕ) → passes line ≡ false → filter passes (line ∷ []) ≡ []
+none_kept passes line not = ap (λ (b : Bool). cond b (line ∷ []) []) not
+
+-- one that passes, and one that doesn't
+pub pending_more : (passes : ℕ → Bool) (line : ℕ) → passes line ≡ true → filter passes (below (line + 1)) ≡ filter passes (below line) ++ line ∷ []
+pending_more passes line is = kept_more passes line ∙ ap (λ (ls : List ℕ). filter passes (below line) ++ ls) (one_kept passes line is)
+
+pub pending_same : (passes : ℕ → Bool) (line : ℕ) → passes line ≡ false → filter passes (below (line + 1)) ≡ filter passes (below line)
+pending_same passes line not =
+    kept_more passes line ∙ ap (λ (ls : List ℕ). filter passes (below line) ++ ls) (none_kept passes line not) ∙ append-nil (filter passes (below line))
+
+-- what is told with one line more
+pub so_far_more : (lines : List ℕ) (line : ℕ) → pending_so_far (lines ++ line ∷ []) ≡ pending_so_far lines ++ pending_next (is_none lines) line
+so_far_more [] line = ap (λ (t : List ℕ). codes ", pending " ++ t) (append-nil (decimal line))
+so_far_more (first ∷ others) line =
+    let more = flat_map-append (λ (n : ℕ). codes " " ++ decimal n) others (line ∷ []) in
+    let last = append-nil (codes " " ++ decimal line) in
+    let rest = flat_map (λ (n : ℕ). codes " " ++ decimal n) others in
+    ap (λ (t : List ℕ). codes ", pending " ++ (decimal first ++ t)) (more ∙ ap (λ (t : List ℕ). rest ++ t) last)
+    ∙ ap (λ (t : List ℕ). codes ", pending " ++ t) (sym (append_assoc (decimal first) rest (codes " " ++ decimal line)))
+    ∙ sym (append_assoc (codes ", pending ") (decimal first ++ rest) (codes " " ++ decimal line))
+
+pub none_more : (lines : List ℕ) (line : ℕ) → is_none (lines ++ line ∷ []) ≡ false
+none_more [] line = refl
+none_more (first ∷ others) line = refl
+
+-- all of them
+pub pending_all : (lines : List ℕ) → pending_so_far lines ++ pending_end (is_none lines) ≡ pending_text lines
+pending_all [] = refl
+pending_all (first ∷ others) = append_assoc (codes ", pending ") (join_by decimal (codes " ") (first ∷ others)) line_feed
+
+-- a line that is pending was told
+pub told_more : (passes : ℕ → Bool) (line : ℕ) (quiet : Bool) (first now next : List ℕ) → passes line ≡ true
+    → now ≡ first ++ pending_so_far (filter passes (below line)) → quiet ≡ is_none (filter passes (below line))
+    → next ≡ now ++ pending_next quiet line → next ≡ first ++ pending_so_far (filter passes (below (line + 1)))
+told_more passes line quiet first now next is so none more =
+    let lines = filter passes (below line) in
+    more ∙ (λ i. so i ++ pending_next (none i) line) ∙ append_assoc first (pending_so_far lines) (pending_next (is_none lines) line)
+    ∙ ap (λ (t : List ℕ). first ++ t) (sym (so_far_more lines line))
+    ∙ ap (λ (ls : List ℕ). first ++ pending_so_far ls) (sym (pending_more passes line is))
+
+-- all of a machine, by its kernel's history
+pub state_told : (driven : Driven) (h : History) (threads mutexes : ℕ) (before after : List ℕ) → h ≡ driven.history → threads ≡ driven.board.threads
+    → mutexes ≡ length driven.board.mutexes.items
+    → after ≡ before ++ (flat_map (thread_line h) (below threads) ++ (flat_map (mutex_line h.state) (below mutexes)
+    ++ (stage_line h.state Oob ++ (stage_line h.state Inband ++ flat_map (timer_line h.state) (below timer_count)))))
+    → after ≡ before ++ state_text driven
+unfolding state_text
+state_told driven h threads mutexes before after own t m told =
+    told ∙ (λ i. before ++ (flat_map (thread_line (own i)) (below (t i)) ++ (flat_map (mutex_line (own i).state) (below (m i))
+    ++ (stage_line (own i).state Oob ++ (stage_line (own i).state Inband ++ flat_map (timer_line (own i).state) (below timer_count))))))

@@ -1,0 +1,270 @@
+//! A machine that is driven, with all that it was asked so far.
+ghost use Rattle.std.specs.Prelude.{◌≡◌, ◌≢◌, ◌≤◌, ◌⊎◌, ◌++◌, ◌∷◌, [], List, drop, length, map, None, Ok, Err, OnOk, IfOk, IfErr, IsTrue, IsFalse, string_bytes};
+ghost use Rattle.evl_base.specs.declared.entry.Entry.{Entry};
+ghost use Rattle.evl_kernel.specs.Histories.{IsLegal};
+ghost use Rattle.evl_kernel.specs.KernelViews.{makes_entry};
+ghost use Rattle.evl_scenario.specs.Lines.{line_around, step_text};
+ghost use Rattle.evl_scenario.specs.Scenarios.{Script, scenario_of};
+ghost use Rattle.evl_scenario.specs.Traces.{entry_lines, history_trace};
+ghost use Rattle.evl_scenario.specs.Writings.{IsUnwritten, scenario_text, script_of_history, step_of_entry};
+ghost use Rattle.evl_shell.specs.Histories.{PlaysAgain};
+ghost use Rattle.evl_shell.specs.Runs.{handlers_of};
+ghost use Rattle.lab_live.specs.Sessions.{Enters, KeepsWithin, MayEnter, Opens, TellsEntry, TellsFull, TellsTrace, asked_under};
+
+use evl_base::{Board, Play, Refusal, Reply};
+use evl_kernel::KernelOf;
+use evl_plans::{Planned, PlannedKernel};
+use evl_scenario::{
+    Answer, EntryNumber, Fault, Scenario, Step, StepLine, Unwritten, read_scenario, write_entry,
+    write_scenario,
+};
+use evl_shell::trace_kernel;
+use std::alloc::{AllocError, Global};
+use std::marker::Model;
+
+/// A machine, its board, and the limit of its history.
+#[derive(Drop)]
+pub struct Session {
+    board: Board,
+    limit: u32,
+    machine: PlannedKernel,
+}
+
+impl Model for Session {
+    ghost use Rattle.std.specs.Prelude.{◌≡◌};
+    ghost use Rattle.lab_live.specs.Sessions.{Driven, IsDriven};
+
+    ghost Value = { Driven };
+
+    ghost view = { λ s. record { board = s.board; limit = s.limit; history = s.machine.history } };
+
+    ghost invariant = { λ s. (s.machine.limit ≡ s.limit) × IsDriven (record { board = s.board; limit = s.limit; history = s.machine.history }) };
+}
+
+// Whether a call that was answered so has an entry.
+fn has_entry(answer: &Result<Reply, Refusal>) -> bool
+    ensures { result ≡ makes_entry answer.now }
+{
+    match answer {
+        Err(Refusal::NoMemory | Refusal::HistoryFull) => false,
+        _ => true,
+    }
+}
+
+// Makes a step of a machine, and tells whether it has an entry; it has none where the history is full.
+#[tactic(auto, using(crate::proofs::StepLaws::enters, crate::proofs::StepLaws::keeps_entry, crate::proofs::StepLaws::keeps_same, crate::proofs::StepLaws::is_not_full))]
+fn take_step(machine: &mut PlannedKernel, step: Step) -> Result<bool, AllocError>
+    ensures entered { IfOk result (λ entered. IsTrue entered → Enters machine.old.history step machine.new.history) }
+    ensures room { IfOk result (λ entered. IsTrue entered → length machine.old.history.entries ≢ machine.old.limit) }
+    ensures same { IfOk result (λ entered. IsFalse entered → machine.new.history ≡ machine.old.history) }
+    ensures full { IfOk result (λ entered. IsFalse entered → length machine.old.history.entries ≡ machine.old.limit) }
+    ensures failed { IfErr result (λ e. machine.new.history ≡ machine.old.history) }
+    ensures limit { machine.new.limit ≡ machine.old.limit }
+    ensures keeps { KeepsWithin machine.old.limit machine.old.history machine.new.history }
+{
+    let Step { who, call } = step;
+    let answer = machine.apply(who, call);
+    if has_entry(&answer) {
+        return Ok(true);
+    }
+    match answer {
+        Err(Refusal::HistoryFull) => Ok(false),
+        _ => Err(AllocError),
+    }
+}
+
+// Makes steps before the first line is read.
+fn make_steps(machine: &mut PlannedKernel, steps: Vec<Step>) -> Result<(), Fault>
+    ensures limit { machine.new.limit ≡ machine.old.limit }
+    ensures keeps { KeepsWithin machine.old.limit machine.old.history machine.new.history }
+    ensures asked { OnOk result (length machine.old.history.entries ≤ machine.old.limit → map step_of_entry machine.new.history.entries ≡ asked_under machine.old.limit machine.old.history steps.items) }
+{
+    for step in steps {
+        match take_step(machine, step) {
+            Ok(_) => {}
+            Err(_) => return Err(Fault::Memory),
+        }
+    }
+    Ok(())
+}
+
+// The board and the limit of a scenario, and a machine of the same that has made its steps.
+#[tactic(auto, using(crate::proofs::OpeningLaws::few_open))]
+fn open_scenarios(
+    alloc: Global,
+    kept: Scenario,
+    played: Scenario,
+    bank: Vec<Planned>,
+) -> Result<Session, Fault>
+    requires same { kept ≡ played }
+    ensures opened { IfOk result (Opens kept (handlers_of (λ p. p.kinds.0) (λ p. p.plan) bank.items)) }
+    ensures few { IfOk result (λ s. length bank.items ≤ 64) }
+    ensures refused { IfErr result (λ e. e ≡ Fault.Memory) }
+{
+    let (board, limit, _) = kept.into_parts();
+    let (own, _, steps) = played.into_parts();
+    let Ok(mut machine) = PlannedKernel::new(alloc, own, bank, limit) else {
+        return Err(Fault::Memory);
+    };
+    match make_steps(&mut machine, steps) {
+        Ok(()) => Ok(Session {
+            board,
+            limit,
+            machine,
+        }),
+        Err(_) => {
+            drop(machine);
+            Err(Fault::Memory)
+        }
+    }
+}
+
+// Writes the line of a step that found the history full.
+fn tell_full(told: &mut String, step: &str) -> Result<(), AllocError>
+    ensures { OnOk result (string_bytes told.new ≡ string_bytes told.old ++ line_around None step.now (Err Refusal.HistoryFull)) }
+{
+    told.write(StepLine {
+        number: EntryNumber(None),
+        step,
+        answer: Answer(Err(Refusal::HistoryFull)),
+    })
+}
+
+// The plays of a kernel from an index on.
+fn plays_from(kernel: &KernelOf<Planned, Global>, start: usize) -> &[Play]
+    ensures { result.now ≡ drop start kernel.now.history.plays }
+{
+    kernel.plays().get(start..).unwrap_or(&[])
+}
+
+// Writes the lines of the newest entry, whose plays are those from an index on.
+#[tactic(auto, using(crate::proofs::TellingLaws::newest_told))]
+fn tell_newest(
+    told: &mut String,
+    kernel: &KernelOf<Planned, Global>,
+    from: usize,
+) -> Result<(), AllocError>
+    ensures { OnOk result ((before : List Entry) (entry : Entry) → kernel.now.history.entries ≡ before ++ entry ∷ []
+        → string_bytes told.new ≡ string_bytes told.old ++ entry_lines (length kernel.now.history.entries) entry (drop from kernel.now.history.plays)) }
+{
+    let entries = kernel.history();
+    let plays = plays_from(kernel, from);
+    match entries.last() {
+        Some(entry) => match write_entry(told, entries.len(), entry, plays) {
+            Ok(()) => Ok(()),
+            Err(error) => Err(error),
+        },
+        None => Ok(()),
+    }
+}
+
+// The text of a step, as a line has it.
+fn text_of(alloc: Global, step: &Step) -> Result<String, AllocError>
+    ensures { IfOk result (λ text. string_bytes text ≡ step_text step.now) }
+{
+    let mut text = String::new(alloc);
+    text.write(step)?;
+    Ok(text)
+}
+
+impl Session {
+    /// A machine of the scenario's board that has made its steps, over a bank of at most 64 callbacks, under a limit
+    /// that may be handed in. `Text`, `Board` and `Step` say what is wrong with the text, `Memory` that a growth was
+    /// refused, or that the bank has more callbacks.
+    pub fn open(
+        alloc: Global,
+        text: &[u8],
+        limit: Option<u32>,
+        bank: Vec<Planned>,
+    ) -> Result<Session, Fault>
+        ensures opened { IfOk result (λ s. (script : Script) × (scenario_of limit text.now ≡ Ok script) × Opens script (handlers_of (λ p. p.kinds.0) (λ p. p.plan) bank.items) s) }
+        ensures few { IfOk result (λ s. length bank.items ≤ 64) }
+        ensures refused { IfErr result (λ e. (e ≡ Fault.Memory) ⊎ (scenario_of limit text.now ≡ Err e)) }
+    {
+        let kept = read_scenario(alloc, text, limit)?;
+        let played = read_scenario(alloc, text, limit)?;
+        open_scenarios(alloc, kept, played, bank)
+    }
+
+    /// The machine's kernel, to read it.
+    pub fn kernel(&self) -> &KernelOf<Planned, Global>
+        ensures { result.now.history ≡ self.now.history }
+    {
+        self.machine.kernel()
+    }
+
+    /// How many threads the board has.
+    pub fn threads(&self) -> u16
+        ensures { result ≡ self.now.board.threads }
+    {
+        self.board.threads
+    }
+
+    /// How many mutexes the board has.
+    pub fn mutexes(&self) -> usize
+        ensures count { result ≡ length self.now.board.mutexes.items }
+        ensures few { result ≤ 32 }
+    {
+        self.board.mutexes.len()
+    }
+
+    /// The trace of all that was asked so far. `AllocError` where memory couldn't grow.
+    pub fn trace(&self, alloc: Global) -> Result<String, AllocError>
+        ensures trace { IfOk result (λ text. string_bytes text ≡ history_trace self.now.board self.now.limit self.now.history.entries self.now.history.plays) }
+        ensures plays_again { IfOk result (λ text. PlaysAgain self.now.history self.now.board self.now.limit (string_bytes text)) }
+    {
+        match trace_kernel(alloc, self.machine.kernel(), &self.board, self.limit) {
+            Ok(text) => Ok(text),
+            Err(_) => Err(AllocError),
+        }
+    }
+
+    /// The scenario of all that was asked so far; read as a scenario, it asks for just that. `Board` and `Limit` where
+    /// no scenario has this board or limit, `TooLong` where it would be longer than one may be, `Memory` where a growth
+    /// was refused.
+    pub fn scenario(&self, alloc: Global) -> Result<String, Unwritten>
+        ensures text { IfOk result (λ text. string_bytes text ≡ scenario_text (script_of_history self.now.board self.now.limit self.now.history.entries)) }
+        ensures reads_back { IfOk result (λ text. scenario_of None (string_bytes text) ≡ Ok (script_of_history self.now.board self.now.limit self.now.history.entries)) }
+        ensures refused { IfErr result (λ e. IsUnwritten e (script_of_history self.now.board self.now.limit self.now.history.entries)) }
+    {
+        let entries = self.machine.kernel().history();
+        write_scenario(alloc, &self.board, self.limit, entries)
+    }
+
+    // Makes a step, and writes its lines behind what was told.
+    #[tactic(auto, using(crate::proofs::TellingLaws::tells, crate::proofs::StepLaws::may_enter, crate::proofs::StepLaws::may_stay))]
+    fn make_step(&mut self, alloc: Global, step: Step, told: &mut String) -> Result<(), AllocError>
+        ensures entry { OnOk result (length self.old.history.entries ≢ self.old.limit → TellsEntry self.old.history self.new.history step (string_bytes told.old) (string_bytes told.new)) }
+        ensures full { OnOk result (length self.old.history.entries ≡ self.old.limit → TellsFull self.old self.new step (string_bytes told.old) (string_bytes told.new)) }
+        ensures board { self.new.board ≡ self.old.board }
+        ensures limit { self.new.limit ≡ self.old.limit }
+        ensures bank { self.new.history.bank ≡ self.old.history.bank }
+        ensures history { MayEnter self.old.history step self.new.history }
+        ensures legal { IsLegal self.old.history }
+    {
+        let from = self.machine.kernel().plays().len();
+        let text = text_of(alloc, &step)?;
+        match take_step(&mut self.machine, step) {
+            Ok(true) => tell_newest(told, self.machine.kernel(), from),
+            Ok(false) => tell_full(told, text.as_str()),
+            Err(error) => Err(error),
+        }
+    }
+
+    /// Makes a step, and writes its lines behind what was told: those of its entry and its plays, which are those by
+    /// which the trace of all that was asked grows; or where the history is at its limit the line of a step without an
+    /// entry. `AllocError` where memory couldn't grow: the step may have its entry then, nothing else has been changed,
+    /// and what was told isn't known.
+    #[tactic(auto, using(crate::proofs::GrowthLaws::tells_trace_on))]
+    pub fn make(&mut self, alloc: Global, step: Step, told: &mut String) -> Result<(), AllocError>
+        ensures entry { OnOk result (length self.old.history.entries ≢ self.old.limit → TellsEntry self.old.history self.new.history step (string_bytes told.old) (string_bytes told.new)) }
+        ensures trace { OnOk result (length self.old.history.entries ≢ self.old.limit → TellsTrace self.old self.new (string_bytes told.old) (string_bytes told.new)) }
+        ensures full { OnOk result (length self.old.history.entries ≡ self.old.limit → TellsFull self.old self.new step (string_bytes told.old) (string_bytes told.new)) }
+        ensures board { self.new.board ≡ self.old.board }
+        ensures limit { self.new.limit ≡ self.old.limit }
+        ensures bank { self.new.history.bank ≡ self.old.history.bank }
+        ensures history { MayEnter self.old.history step self.new.history }
+    {
+        self.make_step(alloc, step, told)
+    }
+}

@@ -1,0 +1,43 @@
+//! A moment of a machine.
+ghost use Rattle.std.specs.Prelude.{◌≡◌, IfOk, filter_map};
+ghost use Rattle.evl_kernel.specs.States.{date};
+ghost use Rattle.lab_moments.specs.Standings.{stands};
+
+use crate::standings::standing;
+use lab_drawing::{Lane, Moment, Standing};
+use evl_kernel::KernelOf;
+use std::alloc::{AllocError, Global};
+
+// How those of the lanes stand that show something, in order.
+fn standings<C>(
+    alloc: Global,
+    kernel: &KernelOf<C, Global>,
+    lanes: &[Lane],
+) -> Result<Vec<Standing>, AllocError>
+    ensures standings { IfOk result (λ told. told.items ≡ filter_map (stands kernel.now.history.state) lanes.now) }
+{
+    let mut told = Vec::new(alloc);
+    for lane in lanes {
+        if let Some(one) = standing(kernel, *lane) {
+            told.push(one)?;
+        }
+    }
+    Ok(told)
+}
+
+/// The date of a kernel, and how those of the lanes stand that show something, in order. `AllocError` where memory
+/// couldn't grow.
+pub fn moment_of<C>(
+    alloc: Global,
+    kernel: &KernelOf<C, Global>,
+    lanes: &[Lane],
+) -> Result<Moment, AllocError>
+    ensures date { IfOk result (λ m. m.date ≡ date kernel.now.history.state) }
+    ensures standings { IfOk result (λ m. m.standings.items ≡ filter_map (stands kernel.now.history.state) lanes.now) }
+{
+    let told = standings(alloc, kernel, lanes)?;
+    Ok(Moment {
+        date: kernel.now(),
+        standings: told,
+    })
+}

@@ -1,0 +1,92 @@
+//! The moments of a scenario.
+ghost use Rattle.std.specs.Prelude.{◌≡◌, None, IfOk, map};
+ghost use Rattle.evl_plans.specs.Told.{told};
+ghost use Rattle.evl_scenario.specs.Scenarios.{scenario_of};
+ghost use Rattle.evl_shell.specs.Moments.{moment};
+ghost use Rattle.evl_shell.specs.Runs.{turn};
+ghost use Rattle.lab_moments.specs.Moments.{script_shown, shown, shown_at, shown_from, shown_of};
+
+use crate::moments::moment_of;
+use evl_base::Refusal;
+use lab_drawing::{Lane, Moment};
+use evl_plans::{Planned, PlannedKernel, copied_bank};
+use evl_scenario::{Fault, Scenario, Step, read_scenario};
+use evl_shell::wants_memory;
+use std::alloc::{AllocError, Global};
+
+// Makes a step, and answers how the lanes stand then.
+fn made(
+    alloc: Global,
+    kernel: &mut PlannedKernel,
+    step: Step,
+    lanes: &[Lane],
+) -> Result<Moment, AllocError>
+    ensures limit { kernel.new.limit ≡ kernel.old.limit }
+    ensures turned { IfOk result (λ m. moment kernel.new ≡ (turn kernel.old.limit (moment kernel.old) step).after) }
+    ensures shown { IfOk result (λ m. shown m ≡ shown_at lanes.now kernel.new.history.state) }
+{
+    let Step { who, call } = step;
+    let answer = kernel.apply(who, call);
+    if wants_memory(&answer) {
+        return Err(AllocError);
+    }
+    moment_of(alloc, kernel.kernel(), lanes)
+}
+
+// Makes all steps, and tells how the lanes stand after each.
+#[tactic(auto, using(crate::proofs::RunLaws::one_more, crate::proofs::RunLaws::none_more))]
+fn make_steps(
+    alloc: Global,
+    kernel: &mut PlannedKernel,
+    steps: Vec<Step>,
+    lanes: &[Lane],
+) -> Result<Vec<Moment>, AllocError>
+    ensures { IfOk result (λ all. map shown all.items ≡ shown_from lanes.now kernel.old.limit (moment kernel.old) steps.items) }
+{
+    let mut moments = Vec::new(alloc);
+    for step in steps {
+        let moment = made(alloc, kernel, step, lanes)?;
+        moments.push(moment)?;
+    }
+    Ok(moments)
+}
+
+// Plays a scenario. Over more callbacks than a kernel has nothing is told.
+fn play(
+    alloc: Global,
+    scenario: Scenario,
+    bank: Vec<Planned>,
+    lanes: &[Lane],
+) -> Result<Vec<Moment>, AllocError>
+    ensures { IfOk result (λ all. map shown all.items ≡ script_shown lanes.now (map told bank.items) scenario) }
+{
+    let (board, limit, steps) = scenario.into_parts();
+    match PlannedKernel::new(alloc, board, bank, limit) {
+        Ok(mut kernel) => {
+            let made = make_steps(alloc, &mut kernel, steps, lanes);
+            drop(kernel);
+            made
+        }
+        Err(Refusal::Range) => Ok(Vec::new(alloc)),
+        Err(_) => Err(AllocError),
+    }
+}
+
+/// How the lanes stand after each step of a scenario's text, played over copies of these callbacks: a moment for each
+/// step, that of the kernel after the steps so far. Of a text that is no scenario, and over more than 64 callbacks,
+/// nothing is told. `AllocError` where memory couldn't grow.
+pub fn moments_of(
+    alloc: Global,
+    bank: &[Planned],
+    text: &[u8],
+    lanes: &[Lane],
+) -> Result<Vec<Moment>, AllocError>
+    ensures { IfOk result (λ all. map shown all.items ≡ shown_of lanes.now (map told bank.now) (scenario_of None text.now)) }
+{
+    let own = copied_bank(alloc, bank)?;
+    match read_scenario(alloc, text, None) {
+        Ok(scenario) => play(alloc, scenario, own, lanes),
+        Err(Fault::Memory) => Err(AllocError),
+        Err(_) => Ok(Vec::new(alloc)),
+    }
+}

@@ -1,0 +1,124 @@
+//! How the lanes of a picture stand, as a kernel's readers tell it.
+ghost use Rattle.std.specs.Prelude.{◌≡◌};
+ghost use Rattle.lab_moments.specs.Standings.{condition, is_picked, mutex_stands, pending_count, some_events, stage_stands, stands, thread_stands, timer_stands};
+
+use crate::pending::pending_count;
+use evl_base::{MutexId, Stage, ThreadId, TimerId};
+use lab_drawing::{Condition, Lane, Standing};
+use evl_kernel::KernelOf;
+use std::alloc::Global;
+
+// Whether a thread is picked.
+fn is_picked<C>(kernel: &KernelOf<C, Global>, thread: u16) -> bool
+    ensures picked { result ≡ is_picked kernel.now.history.state thread }
+{
+    match kernel.picked() {
+        Some(picked) => picked.0 == thread,
+        None => false,
+    }
+}
+
+// How an attached thread stands.
+fn condition<C>(kernel: &KernelOf<C, Global>, thread: u16) -> Condition
+    ensures condition { result ≡ condition kernel.now.history.state thread }
+{
+    if is_picked(kernel, thread) {
+        return Condition::Picked;
+    }
+    if kernel.ready(ThreadId(thread)) {
+        return Condition::Ready;
+    }
+    match kernel.stage(ThreadId(thread)) {
+        Stage::Oob => Condition::Blocked,
+        Stage::Inband => Condition::Inband,
+    }
+}
+
+// How a thread stands, if it is attached.
+fn thread_standing<C>(kernel: &KernelOf<C, Global>, thread: u16) -> Option<Standing>
+    ensures standing { result ≡ thread_stands kernel.now.history.state thread }
+{
+    match kernel.rank(ThreadId(thread)) {
+        Some(rank) => Some(Standing {
+            lane: Lane::Thread(thread),
+            condition: condition(kernel, thread),
+            number: Some(rank),
+        }),
+        None => None,
+    }
+}
+
+// How a mutex stands, if it has a recorded owner.
+fn mutex_standing<C>(kernel: &KernelOf<C, Global>, mutex: u16) -> Option<Standing>
+    ensures standing { result ≡ mutex_stands kernel.now.history.state mutex }
+{
+    match kernel.owner(MutexId(mutex)) {
+        Some(owner) => Some(Standing {
+            lane: Lane::Mutex(mutex),
+            condition: Condition::Owned,
+            number: Some(owner.0),
+        }),
+        None => None,
+    }
+}
+
+// How a timer stands, if it runs.
+fn timer_standing<C>(kernel: &KernelOf<C, Global>, timer: u16) -> Option<Standing>
+    ensures standing { result ≡ timer_stands kernel.now.history.state timer }
+{
+    match kernel.timer(TimerId(timer))?.date() {
+        Some(_) => Some(Standing {
+            lane: Lane::Timer(timer),
+            condition: Condition::Runs,
+            number: None,
+        }),
+        None => None,
+    }
+}
+
+// How many events are pending on a stage, if any are.
+fn pending_events<C>(kernel: &KernelOf<C, Global>, stage: Stage) -> Option<u16>
+    ensures events { result ≡ some_events (pending_count kernel.now.history.state stage) }
+{
+    match pending_count(kernel, stage) {
+        0 => None,
+        count => Some(count),
+    }
+}
+
+// How a stage stands, if it is stalled, or events are pending there.
+fn stage_standing<C>(kernel: &KernelOf<C, Global>, stage: Stage) -> Option<Standing>
+    ensures standing { result ≡ stage_stands kernel.now.history.state stage }
+{
+    let number = pending_events(kernel, stage);
+    if kernel.stalled(stage) {
+        return Some(Standing {
+            lane: Lane::Stage(stage),
+            condition: Condition::Stalled,
+            number,
+        });
+    }
+    match number {
+        Some(count) => Some(Standing {
+            lane: Lane::Stage(stage),
+            condition: Condition::Pending,
+            number: Some(count),
+        }),
+        None => None,
+    }
+}
+
+/// How a lane stands, where it shows something: an attached thread, a mutex with a recorded owner, a timer that runs, a
+/// stage that is stalled or on which events are pending.
+pub fn standing<C>(kernel: &KernelOf<C, Global>, lane: Lane) -> Option<Standing>
+    ensures standing { result ≡ stands kernel.now.history.state lane }
+{
+    match lane {
+        Lane::Thread(thread) => thread_standing(kernel, thread),
+        Lane::Mutex(mutex) => mutex_standing(kernel, mutex),
+        Lane::Timer(timer) => timer_standing(kernel, timer),
+        Lane::Stage(stage) => stage_standing(kernel, stage),
+        Lane::Sem(_) | Lane::Flags(_) | Lane::Xbuf(_) | Lane::Clock => None,
+        Lane::Stax(_) | Lane::Core => None,
+    }
+}

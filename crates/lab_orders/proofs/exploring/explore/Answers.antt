@@ -1,0 +1,123 @@
+use Rattle.std.proofs.Common.{◌+◌, arith, inr}
+use Rattle.lab_orders.proofs.Fronts.{counted_at, whole_at, cut_at, more_at, led_at, over_at}
+use Rattle.lab_orders.proofs.Going.{gone_none, gone_more}
+use Rattle.lab_orders.proofs.exploring.explore.Goals as goal
+
+pub returns-then-count-eq0-clause-counted : goal.returns-then-count-eq0-clause-counted
+returns-then-count-eq0-clause-counted g c =
+    let w = c.args.world.now in
+    counted_at (g.W.World.machine w) (g.W.World.state w) (g.W.World.fits w) (g.W.World.state w c.args.start) c.loop-step.front.steps c.found.result.steps c.loop-step.front.level.nodes.items
+    c.loop-step.front.ends.items c.found.result.ends.items c.loop-step.invariant.front c.found.ensures.ends c.found.ensures.steps
+
+pub returns-then-count-eq0-clause-whole : goal.returns-then-count-eq0-clause-whole
+returns-then-count-eq0-clause-whole g c = λ whole.
+    let w = c.args.world.now in
+    whole_at (g.W.World.machine w) (g.W.World.state w) (g.W.World.fits w) (g.W.World.state w c.args.start) c.loop-step.front.steps c.found.result.steps c.loop-step.front.level.nodes.items
+    c.loop-step.front.ends.items c.found.result.ends.items c.loop-step.invariant.front c.found.ensures.ends c.found.ensures.steps (c.found.ensures.whole whole)
+
+pub returns-then-count-eq0-clause-led : goal.returns-then-count-eq0-clause-led
+returns-then-count-eq0-clause-led g c =
+    let w = c.args.world.now in
+    led_at (g.W.World.machine w) (g.W.World.state w) (g.W.World.fits w) (g.W.World.state w c.args.start) c.loop-step.front.steps c.found.result.steps c.loop-step.front.level.nodes.items
+    c.loop-step.front.ends.items c.found.result.ends.items c.loop-step.invariant.front c.found.ensures.ends c.found.ensures.steps
+
+pub returns-then-count-eq0-clause-over : goal.returns-then-count-eq0-clause-over
+returns-then-count-eq0-clause-over g c =
+    let w = c.args.world.now in
+    over_at (g.W.World.machine w) (g.W.World.state w) (g.W.World.fits w) (g.W.World.state w c.args.start) c.loop-step.front.steps c.found.result.steps c.loop-step.front.level.nodes.items
+    c.loop-step.front.ends.items c.found.result.ends.items c.loop-step.invariant.front c.found.ensures.ends c.found.ensures.steps
+
+pub returns-then-count-most-clause-counted : goal.returns-then-count-most-clause-counted
+returns-then-count-most-clause-counted g c =
+    let w = c.args.world.now in
+    counted_at (g.W.World.machine w) (g.W.World.state w) (g.W.World.fits w) (g.W.World.state w c.args.start) c.loop-step.front.steps c.found-then-count-most.result.steps c.loop-step.front.level.nodes.items
+    c.loop-step.front.ends.items c.found-then-count-most.result.ends.items c.loop-step.invariant.front c.found-then-count-most.ensures.ends c.found-then-count-most.ensures.steps
+
+pub returns-then-count-most-clause-whole : goal.returns-then-count-most-clause-whole
+returns-then-count-most-clause-whole g c = λ whole.
+    let w = c.args.world.now in
+    whole_at (g.W.World.machine w) (g.W.World.state w) (g.W.World.fits w) (g.W.World.state w c.args.start) c.loop-step.front.steps c.found-then-count-most.result.steps c.loop-step.front.level.nodes.items
+    c.loop-step.front.ends.items c.found-then-count-most.result.ends.items c.loop-step.invariant.front c.found-then-count-most.ensures.ends c.found-then-count-most.ensures.steps (c.found-then-count-most.ensures.whole whole)
+
+pub returns-then-count-most-clause-led : goal.returns-then-count-most-clause-led
+returns-then-count-most-clause-led g c =
+    let w = c.args.world.now in
+    led_at (g.W.World.machine w) (g.W.World.state w) (g.W.World.fits w) (g.W.World.state w c.args.start) c.loop-step.front.steps c.found-then-count-most.result.steps c.loop-step.front.level.nodes.items
+    c.loop-step.front.ends.items c.found-then-count-most.result.ends.items c.loop-step.invariant.front c.found-then-count-most.ensures.ends c.found-then-count-most.ensures.steps
+
+pub returns-then-count-most-clause-over : goal.returns-then-count-most-clause-over
+returns-then-count-most-clause-over g c =
+    let w = c.args.world.now in
+    over_at (g.W.World.machine w) (g.W.World.state w) (g.W.World.fits w) (g.W.World.state w c.args.start) c.loop-step.front.steps c.found-then-count-most.result.steps c.loop-step.front.level.nodes.items
+    c.loop-step.front.ends.items c.found-then-count-most.result.ends.items c.loop-step.invariant.front c.found-then-count-most.ensures.ends c.found-then-count-most.ensures.steps
+
+pub returns-then-count-most-clause-cut : goal.returns-then-count-most-clause-cut
+returns-then-count-most-clause-cut g c = λ part.
+    let w = c.args.world.now in
+    inr (cut_at (g.W.World.machine w) (g.W.World.state w) (g.W.World.fits w) (g.W.World.state w c.args.start) c.loop-step.front.steps c.found-then-count-most.result.steps c.loop-step.front.level.nodes.items
+    c.loop-step.front.ends.items c.found-then-count-most.result.ends.items c.loop-step.invariant.front c.found-then-count-most.ensures.ends c.found-then-count-most.ensures.steps c.args.most (omega (arith, c.if-count-most.true, c.len-count.ensures)))
+
+pub returns-clause-counted : goal.returns-clause-counted
+returns-clause-counted g c =
+    let w = c.args.world.now in
+    counted_at (g.W.World.machine w) (g.W.World.state w) (g.W.World.fits w) (g.W.World.state w c.args.start) c.loop-step.front.steps c.found-2.result.steps c.loop-step.front.level.nodes.items
+    c.loop-step.front.ends.items c.found-2.result.ends.items c.loop-step.invariant.front c.found-2.ensures.ends c.found-2.ensures.steps
+
+pub returns-clause-whole : goal.returns-clause-whole
+returns-clause-whole g c = λ whole.
+    let w = c.args.world.now in
+    whole_at (g.W.World.machine w) (g.W.World.state w) (g.W.World.fits w) (g.W.World.state w c.args.start) c.loop-step.front.steps c.found-2.result.steps c.loop-step.front.level.nodes.items
+    c.loop-step.front.ends.items c.found-2.result.ends.items c.loop-step.invariant.front c.found-2.ensures.ends c.found-2.ensures.steps (c.found-2.ensures.whole whole)
+
+pub returns-clause-led : goal.returns-clause-led
+returns-clause-led g c =
+    let w = c.args.world.now in
+    led_at (g.W.World.machine w) (g.W.World.state w) (g.W.World.fits w) (g.W.World.state w c.args.start) c.loop-step.front.steps c.found-2.result.steps c.loop-step.front.level.nodes.items
+    c.loop-step.front.ends.items c.found-2.result.ends.items c.loop-step.invariant.front c.found-2.ensures.ends c.found-2.ensures.steps
+
+pub returns-clause-over : goal.returns-clause-over
+returns-clause-over g c =
+    let w = c.args.world.now in
+    over_at (g.W.World.machine w) (g.W.World.state w) (g.W.World.fits w) (g.W.World.state w c.args.start) c.loop-step.front.steps c.found-2.result.steps c.loop-step.front.level.nodes.items
+    c.loop-step.front.ends.items c.found-2.result.ends.items c.loop-step.invariant.front c.found-2.ensures.ends c.found-2.ensures.steps
+
+pub returns-then-count-most-clause-more : goal.returns-then-count-most-clause-more
+returns-then-count-most-clause-more g c = λ part.
+    let w = c.args.world.now in
+    more_at (g.W.World.machine w) (g.W.World.state w) (g.W.World.fits w) (g.W.World.state w c.args.start) c.loop-step.front.steps c.found-then-count-most.result.steps c.loop-step.front.level.nodes.items
+    c.loop-step.front.ends.items c.found-then-count-most.result.ends.items c.loop-step.invariant.front c.found-then-count-most.ensures.ends c.found-then-count-most.ensures.steps (omega (arith, c.loop-step.front.level.nodes.ok.0, c.found-then-count-most.ensures.cut part))
+
+pub returns-clause-more : goal.returns-clause-more
+returns-clause-more g c = λ part.
+    let w = c.args.world.now in
+    more_at (g.W.World.machine w) (g.W.World.state w) (g.W.World.fits w) (g.W.World.state w c.args.start) c.loop-step.front.steps c.found-2.result.steps c.loop-step.front.level.nodes.items
+    c.loop-step.front.ends.items c.found-2.result.ends.items c.loop-step.invariant.front c.found-2.ensures.ends c.found-2.ensures.steps (omega (arith, c.loop-step.front.level.nodes.ok.0, c.found-2.ensures.cut part))
+
+pub loop-step-init : goal.loop-step-init
+loop-step-init g c =
+    let w = c.args.world.now in
+    record {
+      front = c.in-Ok.ensures.front;
+      steps = c.in-Ok.ensures.steps;
+      gone = gone_none (g.W.World.machine w) (g.W.World.state w) (g.W.World.state w c.args.start) c.args.most c.in-Ok.front.steps c.in-Ok.front.moments c.in-Ok.ensures.steps c.in-Ok.ensures.moments;
+    }
+
+pub loop-step-preserved : goal.loop-step-preserved
+loop-step-preserved g c =
+    let w = c.args.world.now in
+    let level = c.loop-step.front.level.nodes in
+    record {
+      front = c.in-Ok-next_front.ensures.front (g.W.World.state w c.args.start) c.loop-step.invariant.front;
+      steps = omega (arith, c.in-Ok-next_front.ensures.steps, c.loop-step.invariant.steps);
+      gone = gone_more (g.W.World.machine w) (g.W.World.state w) (g.W.World.state w c.args.start) c.args.most c.loop-step.front.steps c.loop-step.front.moments
+          c.in-Ok-next_front.next.steps c.in-Ok-next_front.next.moments level.items c.loop-step.invariant.gone c.loop-step.invariant.front.reached
+          (omega (arith, level.ok.0, c.len-count.ensures, c.if-count-eq0.false)) (omega (arith, level.ok.0, c.len-count.ensures, c.if-count-most.false))
+          c.in-Ok-next_front.ensures.steps (omega (arith, level.ok.0, c.in-Ok-next_front.ensures.moments));
+    }
+
+pub returns-in-Err-next_front-clause-uncounted : goal.returns-in-Err-next_front-clause-uncounted
+returns-in-Err-next_front-clause-uncounted g c = λ e. (
+  c.loop-step.front.steps + 1,
+  omega (arith, c.loop-step-test.true, c.loop-step.invariant.steps),
+  c.in-Err-next_front.ensures.uncounted e (g.W.World.state c.args.world.now c.args.start) c.loop-step.invariant.front,
+)

@@ -1,0 +1,11 @@
+use Rattle.std.proofs.Common.{◌≡◌}
+use Rattle.lab_orders.specs.Fronts.{IsFront, IsGone}
+use Rattle.lab_orders.proofs.exploring.explore.Given as goal
+
+abbrev pub invariant-loop-step : goal.invariant-loop-step
+invariant-loop-step g l =
+    record {
+      front : IsFront (g.W.World.machine l.world) (g.W.World.state l.world) (g.W.World.fits l.world) (g.W.World.state l.world l.fn.start) l.front.steps l.front.level.nodes.items l.front.ends.items;
+      steps : l.front.steps ≡ l._step;
+      gone : IsGone (g.W.World.machine l.world) (g.W.World.state l.world) (g.W.World.state l.world l.fn.start) l.most l.front.steps l.front.moments;
+    }

@@ -1,0 +1,35 @@
+-- What the orders of a machine are.
+use Rattle.std.specs.Prelude.{ℕ, ◌≡◌, ◌≢◌, ◌↔◌, ◌+◌, ◌≤◌, ◌<◌, ◌==◌, List, [], ◌∷◌, length, AllPairs, Contains, Some, IsSome, count_by}
+use Rattle.lab_orders.specs.Machines.{Machine, Run, IsRun, led, runs, orders}
+
+-- The runs of so many steps are just those: each run is there, and no other.
+abbrev pub RunsAreAllRuns : Type 0 → Type 0
+RunsAreAllRuns S =
+    (m : Machine S) (s : S) (r : Run S) → Contains (runs m s (length r.order)) r ↔ IsRun m s r
+
+-- and each is there once
+abbrev pub RunsAreThereOnce : Type 0 → Type 0
+RunsAreThereOnce S =
+    (m : Machine S) (s : S) (k : ℕ) → AllPairs (λ r q. r.order ≢ q.order) (runs m s k)
+
+-- Where there is no run of so many steps, there is no order of as many or more.
+abbrev pub OrdersEnd : Type 0 → Type 0
+OrdersEnd S =
+    (m : Machine S) (s : S) (k more : ℕ) → runs m s k ≡ [] → orders m s (k + more) ≡ orders m s k
+
+-- the place of a caller is how many steps it has made
+abbrev pub CountsSteps : {S : Type 0} → Machine S → (S → ℕ → ℕ) → Type 0
+CountsSteps {S} m place = (s t : S) (c d : ℕ) → m.go s c ≡ Some t → place t d ≡ place s d + count_by (λ e. e == d) (c ∷ [])
+
+-- So each order is a merge of what the callers have to do: the steps of each in their order, as many of them as it makes.
+abbrev pub OrdersAreMerges : Type 0 → Type 0
+OrdersAreMerges S =
+    (m : Machine S) (place : S → ℕ → ℕ) → CountsSteps m place
+    → (s t : S) (order : List ℕ) → led m s order ≡ Some t → (c : ℕ) → place t c ≡ place s c + count_by (λ e. e == c) order
+
+-- And where each caller has so many steps, and nobody ever waits, each merge of them is a run.
+abbrev pub MergesAreOrders : Type 0 → Type 0
+MergesAreOrders S =
+    (m : Machine S) (place : S → ℕ → ℕ) (ends : ℕ → ℕ) → CountsSteps m place
+    → ((s : S) (c : ℕ) → place s c < ends c → IsSome (m.go s c))
+    → (s : S) (order : List ℕ) → ((c : ℕ) → place s c + count_by (λ e. e == c) order ≤ ends c) → IsSome (led m s order)

@@ -1,0 +1,30 @@
+//! What orders are. Each law is the contract of a function without a body.
+ghost use Rattle.lab_orders.specs.Laws.{MergesAreOrders, OrdersAreMerges, OrdersEnd, RunsAreAllRuns, RunsAreThereOnce};
+
+use crate::worlds::World;
+
+/// The runs of so many steps are all that there are, and nothing else.
+pub fn runs_are_all_runs<W: World>()
+    ensures { RunsAreAllRuns W.State }
+{}
+
+/// Each of them is in their list once.
+pub fn runs_are_there_once<W: World>()
+    ensures { RunsAreThereOnce W.State }
+{}
+
+/// Where there is no run of so many steps, the orders of fewer are all.
+pub fn orders_end<W: World>()
+    ensures { OrdersEnd W.State }
+{}
+
+/// Where each caller has a list of steps, each order is a merge of front parts of these lists: so many steps of each
+/// caller, in their order.
+pub fn orders_are_merges<W: World>()
+    ensures { OrdersAreMerges W.State }
+{}
+
+/// Where nobody ever waits before the end of its list, each merge of front parts of the lists can be gone.
+pub fn merges_are_orders<W: World>()
+    ensures { MergesAreOrders W.State }
+{}

@@ -1,0 +1,50 @@
+//! What callers drive.
+ghost use Rattle.std.specs.Prelude.{ℕ, ◌≡◌, ◌<◌, true, IfOk, IfSome, option_map};
+
+use std::alloc::{AllocError, Global};
+
+/// A world that callers drive, one step at a time: what a caller's next step does is determined by the state of the
+/// world.
+pub trait World {
+    ghost use Rattle.lab_orders.specs.Machines.{Machine};
+
+    /// What is kept of the world at one moment.
+    type Moment: Drop;
+
+    /// What contracts know of a moment.
+    type State;
+
+    /// The world as a machine.
+    ghost machine: { Self → Machine Self.State };
+
+    /// The state of a moment.
+    ghost state: { Self → Self.Moment → Self.State };
+
+    /// That a moment is one of this world.
+    ghost fits: { Self → Self.Moment → Type 0 };
+
+    /// How many callers there are.
+    fn callers(&self) -> u16
+        ensures { result ≡ (machine self.now).callers };
+
+    /// The moment after the next step of a caller; none where it can make none.
+    fn step(
+        &self,
+        alloc: Global,
+        moment: &Self::Moment,
+        caller: u16,
+    ) -> Result<Option<Self::Moment>, AllocError>
+        requires caller { caller < (machine self.now).callers }
+        requires fits { fits self.now moment.now }
+        ensures next { IfOk result (λ next. option_map (state self.now) next ≡ (machine self.now).go (state self.now moment.now) caller) }
+        ensures fits { IfOk result (λ next. IfSome next (fits self.now)) };
+
+    /// A number that moments of one state share.
+    fn digest(&self, moment: &Self::Moment) -> u64;
+
+    /// Whether two moments have the same state.
+    fn is_same(&self, one: &Self::Moment, other: &Self::Moment) -> bool
+        requires one { fits self.now one.now }
+        requires other { fits self.now other.now }
+        ensures { result ≡ true → state self.now one.now ≡ state self.now other.now };
+}

@@ -1,0 +1,148 @@
+-- A trace as lines of JSON.
+use Rattle.std.specs.Prelude.{ℕ, ◌==◌, Bool, true, false, not, ◌&&◌, ◌||◌, List, [], ◌∷◌, ◌++◌, length, map, codes, decimal, if◌then◌else◌, Option, Some, None}
+use Rattle.std.specs.Char.{is_ascii_digit}
+use Rattle.std.specs.List.{concat, list_all}
+use Rattle.std.specs.Str.{bytes_eq}
+use Rattle.evl_base.specs.Stage.{stage_text}
+use Rattle.evl_base.specs.declared.play.Play.{Play}
+use Rattle.evl_base.specs.declared.play.Play.TheVariants.{Clock, Timer, Deadline, Line}
+use Rattle.lab_traces.specs.Entries.{EntryParts, names_refusal}
+use Rattle.lab_traces.specs.Lines.{Said, board, entry, play}
+use Rattle.lab_reports.specs.Calls.{Pair, call_pairs, call_word}
+use Rattle.lab_reports.specs.Quotes.{json_text}
+
+-- ---- groups
+
+-- an entry with its plays, or the plays that no entry stands before
+pub record Group : Type 0 where
+  pub entry : Option EntryParts
+  pub plays : List Play
+
+-- the plays before the next entry; the line of a board says nothing
+abbrev pub first_plays : List Said → List Play
+first_plays [] = []
+first_plays (board line ∷ rest) = first_plays rest
+first_plays (play p ∷ rest) = p ∷ first_plays rest
+first_plays (entry parts ∷ rest) = []
+
+-- each entry with the plays that follow it
+abbrev pub entry_groups : List Said → List Group
+entry_groups [] = []
+entry_groups (board line ∷ rest) = entry_groups rest
+entry_groups (play p ∷ rest) = entry_groups rest
+entry_groups (entry parts ∷ rest) = record { entry = Some parts; plays = first_plays rest } ∷ entry_groups rest
+
+-- plays that no entry stands before, if there are some
+abbrev pub group_before : List Play → List Group
+group_before [] = []
+group_before (p ∷ plays) = record { entry = None; plays = p ∷ plays } ∷ []
+
+abbrev pub groups : List Said → List Group
+groups said = group_before (first_plays said) ++ entry_groups said
+
+-- ---- texts
+
+-- what stands before each of several texts but the first
+abbrev pub comma : Bool → List ℕ
+comma is_first = if is_first then [] else codes ", "
+
+-- texts one behind the other, with a comma and a space between
+abbrev pub listed : Bool → List (List ℕ) → List ℕ
+listed is_first [] = []
+listed is_first (text ∷ texts) = comma is_first ++ (text ++ listed false texts)
+
+abbrev pub is_number : List ℕ → Bool
+is_number value = not (length value == 0) && list_all is_ascii_digit value
+
+-- a number, true or false
+abbrev pub is_bare : List ℕ → Bool
+is_bare value = is_number value || (bytes_eq value (codes "true") || bytes_eq value (codes "false"))
+
+abbrev pub truth_json : Bool → List ℕ
+truth_json truth = if truth then codes "true" else codes "false"
+
+-- the digits of bytes, none where the trace has a dash
+abbrev pub digits_of : List ℕ → List ℕ
+digits_of value = if bytes_eq value (codes "-") then [] else value
+
+-- the value of a key: bytes are a text of digits; else `none` is null, a number, true or false stands as it is, and
+-- anything else is a text
+abbrev pub value_json : List ℕ → List ℕ → List ℕ
+value_json key value =
+    if bytes_eq key (codes "bytes") then json_text (digits_of value)
+    else if bytes_eq value (codes "none") then codes "null"
+    else if is_bare value then value
+    else json_text value
+
+abbrev pub pair_json : Pair → List ℕ
+pair_json pair = json_text pair.0 ++ (codes ": " ++ value_json pair.0 pair.1)
+
+-- a call: its word, and its keys with their values
+abbrev pub call_json : List ℕ → List ℕ
+call_json call =
+    codes "\"call\": " ++ (json_text (call_word call)
+    ++ (codes ", \"keys\": {" ++ (listed true (map pair_json (call_pairs call)) ++ codes "}")))
+
+abbrev pub number_json : Option ℕ → List ℕ
+number_json None = codes "null"
+number_json (Some number) = decimal number
+
+-- an answer, and whether it is a refusal
+abbrev pub answer_json : List ℕ → List ℕ
+answer_json answer = codes ", \"answer\": " ++ (json_text answer ++ (codes ", \"refused\": " ++ truth_json (names_refusal answer)))
+
+-- what stands of a group between its file and its plays
+abbrev pub entry_json : Option EntryParts → List ℕ
+entry_json None = codes ", \"number\": null, \"who\": null, \"call\": null, \"keys\": {}, \"answer\": null, \"refused\": false"
+entry_json (Some parts) =
+    codes ", \"number\": " ++ (number_json parts.number
+    ++ (codes ", \"who\": " ++ (decimal parts.thread
+    ++ (codes ", " ++ (call_json parts.call ++ answer_json parts.answer)))))
+
+abbrev pub play_json : Play → List ℕ
+play_json Clock = codes "{\"play\": \"clock\"}"
+play_json (Timer timer count missed handled) =
+    codes "{\"play\": \"timer\", \"timer\": " ++ (decimal timer.0
+    ++ (codes ", \"count\": " ++ (decimal count
+    ++ (codes ", \"missed\": " ++ (decimal missed
+    ++ (codes ", \"handled\": " ++ (truth_json handled ++ codes "}")))))))
+play_json (Deadline thread) = codes "{\"play\": \"deadline\", \"thread\": " ++ (decimal thread.0 ++ codes "}")
+play_json (Line line stage count handled) =
+    codes "{\"play\": \"line\", \"line\": " ++ (decimal line.0
+    ++ (codes ", \"stage\": \"" ++ (stage_text stage
+    ++ (codes "\", \"count\": " ++ (decimal count
+    ++ (codes ", \"handled\": " ++ (truth_json handled ++ codes "}")))))))
+
+-- the beginning of a group's line, up to its plays
+abbrev pub head_json : List ℕ → Option EntryParts → List ℕ
+head_json file parts = codes "{\"file\": " ++ (json_text file ++ (entry_json parts ++ codes ", \"plays\": ["))
+
+-- a group's line
+abbrev pub group_json : List ℕ → Group → List ℕ
+group_json file group = head_json file group.entry ++ (listed true (map play_json group.plays) ++ codes "]}\n")
+
+-- the lines of these groups, one behind the other
+abbrev pub lines_json : List ℕ → List Group → List ℕ
+lines_json file gs = concat (map (group_json file) gs)
+
+-- what is told of a trace of this file
+abbrev pub trace_json : List ℕ → List Said → List ℕ
+trace_json file said = lines_json file (groups said)
+
+-- ---- for private clauses
+
+-- what ends the line that was begun, if there is one; of that is told whether it has no plays yet
+abbrev pub end_json : Option Bool → List ℕ
+end_json None = []
+end_json (Some is_first) = codes "]}\n"
+
+-- a play behind it
+abbrev pub next_json : List ℕ → Option Bool → Play → List ℕ
+next_json file None p = head_json file None ++ play_json p
+next_json file (Some is_first) p = comma is_first ++ play_json p
+
+-- what is still to be told
+abbrev pub left_json : List ℕ → Option Bool → List Said → List ℕ
+left_json file None said = trace_json file said
+left_json file (Some is_first) said =
+    listed is_first (map play_json (first_plays said)) ++ (codes "]}\n" ++ lines_json file (entry_groups said))

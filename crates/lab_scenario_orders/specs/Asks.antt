@@ -1,0 +1,94 @@
+-- What is asked of all orders, by what is told of their ends.
+use Rattle.std.specs.Prelude.{ℕ, ◌≡◌, ◌==◌, Bool, true, false, ◌&&◌, ◌||◌, if◌then◌else◌, List, [], ◌∷◌, ◌++◌, codes, map, drop, take, length, string_bytes, Option, Some, None, is_some, option_and_then, All}
+use Rattle.std.specs.Fmt.{decimal}
+use Rattle.std.specs.List.{list_any}
+use Rattle.std.specs.Str.{bytes_eq}
+use Rattle.std.specs.Str.Iter.{HasSubslice}
+use Rattle.std.specs.Cmp.Lexicographic.{pointwise}
+use Rattle.std.specs.Option.{option_map_or}
+use Rattle.toml.specs.Data.{Data, Members, no_members, get_member, as_array, as_str, as_table}
+use Rattle.evl_scenario.specs.Tables.{all_given, has_only, value_or}
+use Rattle.evl_scenario.specs.Values.{truth_from}
+use Rattle.lab_scenario_orders.specs.declared.asks.Ask.{Ask}
+use Rattle.lab_scenario_orders.specs.declared.asks.Never.{Never}
+use Rattle.lab_scenario_orders.specs.declared.callers.Caller.{Caller}
+
+-- what stands behind the first text in the second, if that begins with it
+abbrev pub behind : List ℕ → List ℕ → Option (List ℕ)
+behind front text = if pointwise (λ a b. a == b) (take (length front) text) front then Some (drop (length front) text) else None
+
+abbrev pub begins : List ℕ → List ℕ → Bool
+begins front text = is_some (behind front text)
+
+-- something holds of what stands behind some line feed of a text
+abbrev pub later_line : (List ℕ → Bool) → List ℕ → Bool
+later_line holds [] = false
+later_line holds (b ∷ bs) = (b == 10 && holds bs) || later_line holds bs
+
+-- something holds of a text from the beginning of some line on
+abbrev pub some_line : (List ℕ → Bool) → List ℕ → Bool
+some_line holds text = holds text || later_line holds text
+
+-- behind an answer comes an arrow, or the end of the line
+abbrev pub is_end : List ℕ → Bool
+is_end text = begins (codes " -> ") text || begins (codes "\n") text
+
+-- an arrow and this answer, whole, stand here
+abbrev pub stands_here : List ℕ → List ℕ → Bool
+stands_here answer text = option_map_or is_end (option_and_then (behind answer) (behind (codes " -> ") text)) false
+
+-- and somewhere in the rest of the line
+abbrev pub is_answered : List ℕ → List ℕ → Bool
+is_answered answer [] = false
+is_answered answer (b ∷ bs) = if b == 10 then false else (stands_here answer (b ∷ bs) || is_answered answer bs)
+
+-- the line is this caller's, and has this answer
+abbrev pub is_line_of : Never → List ℕ → Bool
+is_line_of never text = option_map_or (λ rest. begins (codes " -> ") rest && is_answered (string_bytes never.answer) rest) (behind (string_bytes never.who) text) false
+
+abbrev pub is_stuck_line : List ℕ → Bool
+is_stuck_line text = begins (codes "stuck: ") text
+
+-- what is told of an outcome is against what is asked: a caller is stuck, or has an answer that it may never have
+abbrev pub is_against : Ask → List ℕ → Bool
+is_against ask told = (ask.always_ends && some_line is_stuck_line told) || list_any (λ never. some_line (is_line_of never) told) ask.never.items
+
+-- an answer that a caller may never have, as a text
+abbrev pub never_text : Never → List ℕ
+never_text never = string_bytes never.who ++ (codes " -> " ++ string_bytes never.answer)
+
+-- how a caller is told
+abbrev pub caller_text : ℕ → List ℕ
+caller_text who = codes "T" ++ decimal who
+
+-- one of these callers is told so
+abbrev pub is_caller_text : List Caller → List ℕ → Bool
+is_caller_text callers who = list_any (λ caller. bytes_eq (caller_text caller.who.0) who) callers
+
+-- one of these callers, and just one answer: no arrow stands in it
+pub record IsAnswerOf (callers : List Caller) (never : Never) : Type 0 where
+  pub who : is_caller_text callers (string_bytes never.who) ≡ true
+  pub single : HasSubslice (string_bytes never.answer) (codes " -> ") → ⊥
+
+-- what is asked is asked of these callers
+abbrev pub AreOfCallers : List Caller → List Never → Type 0
+AreOfCallers callers never = All (IsAnswerOf callers) never
+
+-- the texts at `never`
+abbrev pub never_in : Option Data → Option (List (List ℕ))
+never_in None = Some []
+never_in (Some value) = option_and_then (all_given as_str) (as_array value)
+
+abbrev pub ask_keys : List (List ℕ)
+ask_keys = codes "never" ∷ codes "always_ends" ∷ codes "as_picked" ∷ []
+
+-- a table asks just this
+pub record Asks (ms : Members) (ask : Ask) : Type 0 where
+  pub keys : has_only ask_keys ms ≡ true
+  pub never : never_in (get_member (codes "never") ms) ≡ Some (map never_text ask.never.items)
+  pub ends : value_or truth_from false (get_member (codes "always_ends") ms) ≡ Some ask.always_ends
+  pub picked : value_or truth_from false (get_member (codes "as_picked") ms) ≡ Some ask.as_picked
+
+-- the table of a document, which is empty where there is none
+abbrev pub ask_table : Members → Option Members
+ask_table document = value_or as_table no_members (get_member (codes "ask") document)

@@ -1,0 +1,40 @@
+-- What is kept of callers at one moment.
+use Rattle.std.specs.Prelude.{ℕ, ◌≡◌, List, [], ◌∷◌, ◌++◌, length, map, slice_get, string_bytes, Result, Ok, Err}
+use Rattle.std.specs.Option.{option_map_or}
+use Rattle.evl_base.specs.declared.refusal.Refusal.{Refusal}
+use Rattle.evl_base.specs.declared.reply.Reply.{Reply}
+use Rattle.evl_kernel.specs.States.{State, Handler}
+use Rattle.evl_kernel.specs.Replays.{stepped}
+use Rattle.lab_scenario_orders.specs.Callers.{Seen, begun}
+use Rattle.lab_scenario_orders.specs.declared.callers.Callers.{Callers}
+use Rattle.lab_scenario_orders.specs.declared.moments.Moment.{Moment}
+
+-- the records after the step at this place
+abbrev pub made_at : Callers → State → ℕ → State
+made_at c s place = option_map_or (λ step. (stepped s step.who.0 step.call).after) (slice_get c.steps.items place) s
+
+-- and after the steps at these places
+abbrev pub trailed : Callers → State → List ℕ → State
+trailed c s [] = s
+trailed c s (place ∷ trail) = trailed c (made_at c s place) trail
+
+-- a step that was refused isn't kept
+abbrev pub trail_after : List ℕ → ℕ → Result Reply Refusal → List ℕ
+trail_after trail place (Ok reply) = trail ++ place ∷ []
+trail_after trail place (Err refusal) = trail
+
+-- the callers and the kernel that a moment stands for, from these records on
+abbrev pub seen_from : Callers → State → Moment → Seen
+seen_from c s moment = record {
+  made = moment.made.items;
+  answers = map string_bytes moment.answers.items;
+  state = trailed c s moment.trail.items;
+}
+
+abbrev pub seen_at : Callers → List Handler → Moment → Seen
+seen_at c bank moment = seen_from c (begun c bank) moment
+
+-- each caller has its place there
+pub record IsMoment (c : Callers) (moment : Moment) : Type 0 where
+  pub made : length moment.made.items ≡ length c.callers.items
+  pub answers : length moment.answers.items ≡ length c.callers.items

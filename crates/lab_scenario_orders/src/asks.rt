@@ -1,0 +1,335 @@
+//! What is asked of all orders.
+ghost use Rattle.std.specs.Prelude.{◌≡◌, ◌++◌, IfOk, IfSome, IsSomeAnd, Some, codes, false, map, option_and_then, option_map, position, string_bytes, true};
+ghost use Rattle.std.specs.BTreeMap.{keys};
+ghost use Rattle.std.specs.List.{list_all, list_any};
+ghost use Rattle.std.specs.Str.{bytes_eq};
+ghost use Rattle.std.specs.Str.Iter.{HasSubslice};
+ghost use Rattle.toml.specs.Data.{as_str, get_member};
+ghost use Rattle.toml.specs.Parse.{parse_document};
+ghost use Rattle.toml.specs.View.{items_view, table_view, view};
+ghost use Rattle.evl_scenario.specs.Tables.{all_given, has_only, value_or};
+ghost use Rattle.evl_scenario.specs.Values.{truth_from};
+ghost use Rattle.lab_scenario_orders.specs.Asks.{AreOfCallers, Asks, IsAnswerOf, ask_table, caller_text, is_against, is_caller_text, is_line_of, is_stuck_line, never_in, never_text, some_line};
+ghost use Rattle.lab_scenario_orders.specs.Splits.{ask_part};
+
+use crate::callers::{Caller, Callers};
+use crate::searches::{Question, begins, behind, is_answered, some_line};
+use crate::splits::split_text;
+use lab_orders::Tally;
+use std::alloc::{AllocError, Global};
+use toml::{Table, Value};
+
+/// An answer that a caller may have in no order.
+#[derive(Drop)]
+pub struct Never {
+    /// The caller, as it is told: `T1`.
+    pub who: String,
+    /// Its answer, as it is told: `timed out`.
+    pub answer: String,
+}
+
+/// What is asked of all orders.
+#[derive(Drop)]
+pub struct Ask {
+    /// Answers that callers may have in no order.
+    pub never: Vec<Never>,
+    /// Whether no order may end with a caller stuck.
+    pub always_ends: bool,
+    /// Whether only such orders are asked for in which steps are made as threads are picked.
+    pub as_picked: bool,
+}
+
+/// Why it can't be read what is asked.
+#[derive(Clone, Copy, PartialEq, Eq, Debug)]
+pub enum AskFault {
+    /// The text isn't UTF-8, or `[ask]` is no table with `never`, a list of texts, and `always_ends` and `as_picked`,
+    /// `true` or `false`.
+    Table,
+    /// This text of `never`, from 1, isn't a caller and one answer, as `T1 -> timed out`.
+    Never(usize),
+    /// A growth was refused.
+    Memory,
+}
+
+// Whether a thread is told so.
+fn is_named(alloc: Global, who: &str, number: u16) -> Result<bool, AllocError>
+    ensures { IfOk result (λ named. named ≡ bytes_eq (caller_text number) who.now) }
+{
+    let name = format!(in alloc; "T{number}")?;
+    Ok(name.as_str() == who)
+}
+
+// Whether a caller is told so.
+fn is_name(alloc: Global, callers: &[Caller], who: &str) -> Result<bool, AllocError>
+    ensures { IfOk result (λ named. named ≡ is_caller_text callers.now who.now) }
+{
+    for caller in callers {
+        if is_named(alloc, who, caller.who.0)? {
+            return Ok(true);
+        }
+    }
+    Ok(false)
+}
+
+// A caller and its answer, as two texts.
+fn never_of(alloc: Global, who: &str, answer: &str) -> Result<Never, AllocError>
+    ensures text { IfOk result (λ never. never_text never ≡ who.now ++ (codes " -> " ++ answer.now)) }
+    ensures who { IfOk result (λ never. string_bytes never.who ≡ who.now) }
+    ensures answer { IfOk result (λ never. string_bytes never.answer ≡ answer.now) }
+{
+    let who = String::from_str(alloc, who)?;
+    let answer = String::from_str(alloc, answer)?;
+    Ok(Never { who, answer })
+}
+
+// The caller and the answer in a text: just one arrow stands between them.
+fn parts_of(text: &str) -> Option<(&str, &str)>
+    ensures text { IfSome result (λ parts. text.now ≡ parts.0.now ++ (codes " -> " ++ parts.1.now)) }
+    ensures single { IfSome result (λ parts. HasSubslice parts.1.now (codes " -> ") → ⊥) }
+{
+    match text.split_once(" -> ") {
+        Some((who, answer)) => {
+            if answer.contains(" -> ") {
+                None
+            } else {
+                Some((who, answer))
+            }
+        }
+        None => None,
+    }
+}
+
+// The answer that the text with this number stands for.
+fn read_never(
+    alloc: Global,
+    callers: &Callers,
+    number: usize,
+    value: &Value,
+) -> Result<Never, AskFault>
+    ensures text { IfOk result (λ never. as_str (view value.now) ≡ Some (never_text never)) }
+    ensures who { IfOk result (IsAnswerOf callers.now.callers.items) }
+{
+    let Some(text) = value.as_str() else {
+        return Err(AskFault::Table);
+    };
+    let Some((who, answer)) = parts_of(text) else {
+        return Err(AskFault::Never(number));
+    };
+    match is_name(alloc, callers.callers.as_slice(), who) {
+        Ok(true) => match never_of(alloc, who, answer) {
+            Ok(never) => Ok(never),
+            Err(_) => Err(AskFault::Memory),
+        },
+        Ok(false) => Err(AskFault::Never(number)),
+        Err(_) => Err(AskFault::Memory),
+    }
+}
+
+// The answers that these texts stand for.
+fn read_all(alloc: Global, callers: &Callers, values: &[Value]) -> Result<Vec<Never>, AskFault>
+    ensures texts { IfOk result (λ all. all_given as_str (items_view values.now) ≡ Some (map never_text all.items)) }
+    ensures who { IfOk result (λ all. AreOfCallers callers.now.callers.items all.items) }
+{
+    let mut all = Vec::new(alloc);
+    for value in values {
+        let number = all.len().saturating_add(1);
+        let never = match read_never(alloc, callers, number, value) {
+            Ok(never) => never,
+            Err(fault) => return Err(fault),
+        };
+        match all.push(never) {
+            Ok(()) => {}
+            Err(_) => return Err(AskFault::Memory),
+        }
+    }
+    Ok(all)
+}
+
+// What stands at a key.
+fn field<'a>(table: &'a Table, key: &str) -> Option<&'a Value>
+    ensures { option_map (λ v. view v.now) result ≡ get_member key.now (table_view table.now) }
+{
+    table.get(key)
+}
+
+// The answers at `never`.
+fn never_at(alloc: Global, callers: &Callers, table: &Table) -> Result<Vec<Never>, AskFault>
+    ensures texts { IfOk result (λ all. never_in (get_member (codes "never") (table_view table.now)) ≡ Some (map never_text all.items)) }
+    ensures who { IfOk result (λ all. AreOfCallers callers.now.callers.items all.items) }
+{
+    match field(table, "never") {
+        Some(value) => match value.as_array() {
+            Some(values) => read_all(alloc, callers, values.as_slice()),
+            None => Err(AskFault::Table),
+        },
+        None => Ok(Vec::new(alloc)),
+    }
+}
+
+// The truth value at a key.
+fn truth_at(table: &Table, key: &str) -> Result<bool, AskFault>
+    ensures { IfOk result (λ truth. value_or truth_from false (get_member key.now (table_view table.now)) ≡ Some truth) }
+{
+    match field(table, key) {
+        Some(value) => match value.as_bool() {
+            Some(truth) => Ok(truth),
+            None => Err(AskFault::Table),
+        },
+        None => Ok(false),
+    }
+}
+
+// Whether a key is among these.
+fn is_among(known: &[&str], key: &str) -> bool
+    ensures { result ≡ list_any (λ k. bytes_eq key.now k.now) known.now }
+{
+    known.iter().any(|k| key == *k)
+}
+
+// Whether each key of a table is among these.
+fn are_keys_among(table: &Table, known: &[&str]) -> bool
+    ensures { result ≡ list_all (λ key. list_any (λ k. bytes_eq (string_bytes key) k.now) known.now) (keys table.now) }
+{
+    table.keys().all(|key| is_among(known, key.as_str()))
+}
+
+// Whether a table has no other keys.
+fn has_only_keys(table: &Table, known: &[&str]) -> bool
+    ensures { result ≡ has_only (map (λ k. k.now) known.now) (table_view table.now) }
+{
+    are_keys_among(table, known)
+}
+
+// What a table `[ask]` asks.
+fn read_table(alloc: Global, callers: &Callers, table: &Table) -> Result<Ask, AskFault>
+    ensures asks { IfOk result (Asks (table_view table.now)) }
+    ensures who { IfOk result (λ ask. AreOfCallers callers.now.callers.items ask.never.items) }
+{
+    if !has_only_keys(table, &["never", "always_ends", "as_picked"]) {
+        return Err(AskFault::Table);
+    }
+    let always_ends = match truth_at(table, "always_ends") {
+        Ok(always_ends) => always_ends,
+        Err(fault) => return Err(fault),
+    };
+    let as_picked = match truth_at(table, "as_picked") {
+        Ok(as_picked) => as_picked,
+        Err(fault) => return Err(fault),
+    };
+    match never_at(alloc, callers, table) {
+        Ok(never) => Ok(Ask {
+            never,
+            always_ends,
+            as_picked,
+        }),
+        Err(fault) => Err(fault),
+    }
+}
+
+// What a document asks in which nothing stands but `[ask]`.
+fn read_document(alloc: Global, callers: &Callers, document: &Table) -> Result<Ask, AskFault>
+    ensures asks { IfOk result (λ ask. IsSomeAnd (ask_table (table_view document.now)) (λ table. Asks table ask)) }
+    ensures who { IfOk result (λ ask. AreOfCallers callers.now.callers.items ask.never.items) }
+{
+    match field(document, "ask") {
+        Some(value) => match value.as_table() {
+            Some(table) => read_table(alloc, callers, table),
+            None => Err(AskFault::Table),
+        },
+        None => Ok(Ask {
+            never: Vec::new(alloc),
+            always_ends: false,
+            as_picked: false,
+        }),
+    }
+}
+
+// What a text asks that is just the table `[ask]`.
+fn read_text(alloc: Global, callers: &Callers, text: &str) -> Result<Ask, AskFault>
+    ensures asks { IfOk result (λ ask. IsSomeAnd (option_and_then ask_table (parse_document text.now)) (λ table. Asks table ask)) }
+    ensures who { IfOk result (λ ask. AreOfCallers callers.now.callers.items ask.never.items) }
+{
+    match toml::table_from_str(alloc, text) {
+        Ok(document) => read_document(alloc, callers, &document),
+        Err(error) => {
+            if error.is_memory() {
+                Err(AskFault::Memory)
+            } else {
+                Err(AskFault::Table)
+            }
+        }
+    }
+}
+
+/// What the table `[ask]` of a text of callers asks: nothing where there is none.
+pub fn read_ask(alloc: Global, callers: &Callers, bytes: &[u8]) -> Result<Ask, AskFault>
+    ensures asks { IfOk result (λ ask. IsSomeAnd (option_and_then ask_table (parse_document (ask_part bytes.now))) (λ table. Asks table ask)) }
+    ensures who { IfOk result (λ ask. AreOfCallers callers.now.callers.items ask.never.items) }
+{
+    let Ok(text) = str::from_utf8(bytes) else {
+        return Err(AskFault::Table);
+    };
+    match split_text(alloc, text) {
+        Ok(split) => read_text(alloc, callers, split.ask.as_str()),
+        Err(_) => Err(AskFault::Memory),
+    }
+}
+
+impl Question for Never {
+    ghost use Rattle.lab_scenario_orders.specs.Asks.{is_line_of};
+
+    ghost holds = { is_line_of };
+
+    fn asks(&self, text: &[u8]) -> bool {
+        match behind(self.who.as_bytes(), text) {
+            Some(rest) => begins(b" -> ", rest) && is_answered(self.answer.as_bytes(), rest),
+            None => false,
+        }
+    }
+}
+
+// Whether a caller is stuck.
+#[derive(Drop)]
+struct Stuck;
+
+impl Question for Stuck {
+    ghost use Rattle.lab_scenario_orders.specs.Asks.{is_stuck_line};
+
+    ghost holds = { λ stuck text. is_stuck_line text };
+
+    fn asks(&self, text: &[u8]) -> bool {
+        begins(b"stuck: ", text)
+    }
+}
+
+/// Whether a line says that a caller is stuck.
+pub(crate) fn tells_stuck(told: &[u8]) -> bool
+    ensures { result ≡ some_line is_stuck_line told.now }
+{
+    some_line(&Stuck, told)
+}
+
+// Whether a caller has an answer that it may never have.
+fn has_any(never: &[Never], told: &[u8]) -> bool
+    ensures { result ≡ list_any (λ one. some_line (is_line_of one) told.now) never.now }
+{
+    never.iter().any(|one| some_line(one, told))
+}
+
+/// Whether an outcome of which this is told is against what is asked: a caller is stuck where none may be, or has an
+/// answer, from one arrow to the next, that is just one that it may never have.
+pub fn is_against(ask: &Ask, told: &str) -> bool
+    ensures { result ≡ is_against ask.now told.now }
+{
+    let told = told.as_bytes();
+    (ask.always_ends && tells_stuck(told)) || has_any(ask.never.as_slice(), told)
+}
+
+/// The place of the first outcome that is against what is asked.
+pub fn first_against(ask: &Ask, outcomes: &[Tally]) -> Option<usize>
+    ensures { result ≡ position (λ outcome. is_against ask.now (string_bytes outcome.told)) outcomes.now }
+{
+    outcomes
+        .iter()
+        .position(|outcome| is_against(ask, outcome.told.as_str()))
+}

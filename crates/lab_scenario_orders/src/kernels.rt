@@ -1,0 +1,268 @@
+//! A kernel that is led along steps.
+ghost use Rattle.std.specs.Prelude.{◌≡◌, IfOk, OnOk, option_map};
+ghost use Rattle.evl_kernel.specs.Callbacks.{AnswersByPlan};
+ghost use Rattle.evl_kernel.specs.KernelViews.{makes_entry};
+ghost use Rattle.evl_kernel.specs.Openings.{opening};
+ghost use Rattle.evl_kernel.specs.Replays.{stepped};
+ghost use Rattle.lab_scenario_orders.specs.Callers.{begun, goes_on, has_turn, is_held, is_turn, set_up};
+ghost use Rattle.lab_scenario_orders.specs.Moments.{made_at, trailed};
+
+use crate::banks::BankMaker;
+use crate::callers::Callers;
+use arrayvec::ArrayVec;
+use evl_base::{Board, Call, Refusal, Reply, Spares, Stage, ThreadId};
+use evl_kernel::KernelOf;
+use evl_pipeline::Handler;
+use evl_scenario::{Answer, Step};
+use std::alloc::{AllocError, Global};
+
+// The same list once more.
+fn copied<T: Copy + Default, const N: usize>(list: &ArrayVec<T, N>) -> ArrayVec<T, N>
+    ensures { result.items ≡ list.now.items }
+{
+    let mut other = ArrayVec::new();
+    other.try_extend_from_slice(list.as_slice()).unwrap();
+    other
+}
+
+// The same board once more.
+fn copied_board(board: &Board) -> Board
+    ensures { result ≡ board.now }
+{
+    Board {
+        threads: board.threads,
+        sems: copied(&board.sems),
+        flags: copied(&board.flags),
+        xbufs: copied(&board.xbufs),
+        mutexes: copied(&board.mutexes),
+        groups: copied(&board.groups),
+        staxes: copied(&board.staxes),
+    }
+}
+
+// The same call once more. `AllocError` where there is no memory for its bytes.
+fn copied_call(alloc: Global, call: &Call) -> Result<Call, AllocError>
+    ensures { IfOk result (λ same. same ≡ call.now) }
+{
+    let mut spares = Spares::new(alloc, alloc);
+    match spares.keep(1) {
+        Ok(()) => Ok(call.copied(&mut spares)),
+        Err(_) => Err(AllocError),
+    }
+}
+
+/// Whether a thread's wait goes on.
+pub(crate) fn goes_on<C>(kernel: &KernelOf<C, Global>, who: ThreadId) -> bool
+    ensures { result ≡ goes_on kernel.now.history.state who.0 }
+{
+    kernel.waits(who) && !kernel.finished(who)
+}
+
+// Whether a thread on this stage has its turn, by who is picked.
+fn is_turn(stage: Stage, who: ThreadId, chosen: Option<ThreadId>) -> bool
+    ensures { result ≡ is_turn stage who.0 (option_map (λ thread. thread.0) chosen) }
+{
+    match stage {
+        Stage::Oob => match chosen {
+            Some(thread) => thread.0 == who.0,
+            None => false,
+        },
+        Stage::Inband => chosen.is_none(),
+    }
+}
+
+// Whether a thread has its turn.
+fn has_turn<C>(kernel: &KernelOf<C, Global>, who: ThreadId) -> bool
+    ensures { result ≡ has_turn kernel.now.history.state who.0 }
+{
+    match kernel.rank(who) {
+        Some(_) => is_turn(kernel.stage(who), who, kernel.picked()),
+        None => true,
+    }
+}
+
+/// Whether a thread can make no step: its wait goes on, or it hasn't its turn where steps are made as threads are
+/// picked.
+pub(crate) fn is_held<C>(kernel: &KernelOf<C, Global>, as_picked: bool, who: ThreadId) -> bool
+    ensures { result ≡ is_held as_picked kernel.now.history.state who.0 }
+{
+    goes_on(kernel, who) || (as_picked && !has_turn(kernel, who))
+}
+
+// Whether a call that was answered so has an entry.
+fn has_entry(answer: &Result<Reply, Refusal>) -> bool
+    ensures { result ≡ makes_entry answer.now }
+{
+    match answer {
+        Err(Refusal::NoMemory | Refusal::HistoryFull) => false,
+        _ => true,
+    }
+}
+
+/// Makes a step. `AllocError` where the kernel made no entry: it had no room, or its history is full.
+pub(crate) fn make_step<C: Handler>(
+    alloc: Global,
+    kernel: &mut KernelOf<C, Global>,
+    step: &Step,
+) -> Result<Answer, AllocError>
+    requires { AnswersByPlan C.declared C.plan kernel.old.callbacks }
+    ensures by_plan { AnswersByPlan C.declared C.plan kernel.new.callbacks }
+    ensures reply { IfOk result (λ answer. answer.0 ≡ (stepped kernel.old.history.state step.now.who.0 step.now.call).reply) }
+    ensures state { OnOk result (kernel.new.history.state ≡ (stepped kernel.old.history.state step.now.who.0 step.now.call).after) }
+    ensures bank { OnOk result (kernel.new.history.bank ≡ kernel.old.history.bank) }
+{
+    let same = match copied_call(alloc, &step.call) {
+        Ok(same) => same,
+        Err(error) => return Err(error),
+    };
+    let answer = kernel.apply(step.who, same);
+    if has_entry(&answer) {
+        Ok(Answer(answer))
+    } else {
+        Err(AllocError)
+    }
+}
+
+// Makes the steps that are set up.
+fn set_up<C: Handler>(
+    alloc: Global,
+    kernel: &mut KernelOf<C, Global>,
+    steps: &[Step],
+) -> Result<(), AllocError>
+    requires { AnswersByPlan C.declared C.plan kernel.old.callbacks }
+    ensures by_plan { AnswersByPlan C.declared C.plan kernel.new.callbacks }
+    ensures state { OnOk result (kernel.new.history.state ≡ set_up kernel.old.history.state steps.now) }
+    ensures bank { OnOk result (kernel.new.history.bank ≡ kernel.old.history.bank) }
+{
+    for step in steps {
+        match make_step(alloc, kernel, step) {
+            Ok(_) => {}
+            Err(error) => return Err(error),
+        }
+    }
+    Ok(())
+}
+
+// Makes the step at a place.
+fn make_at<C: Handler>(
+    alloc: Global,
+    kernel: &mut KernelOf<C, Global>,
+    callers: &Callers,
+    place: usize,
+) -> Result<(), AllocError>
+    requires { AnswersByPlan C.declared C.plan kernel.old.callbacks }
+    ensures by_plan { AnswersByPlan C.declared C.plan kernel.new.callbacks }
+    ensures state { OnOk result (kernel.new.history.state ≡ made_at callers.now kernel.old.history.state place) }
+    ensures bank { OnOk result (kernel.new.history.bank ≡ kernel.old.history.bank) }
+{
+    match callers.steps.get(place) {
+        Some(step) => match make_step(alloc, kernel, step) {
+            Ok(_) => Ok(()),
+            Err(error) => Err(error),
+        },
+        None => Ok(()),
+    }
+}
+
+// Makes the steps at these places.
+fn make_all<C: Handler>(
+    alloc: Global,
+    kernel: &mut KernelOf<C, Global>,
+    callers: &Callers,
+    places: &[usize],
+) -> Result<(), AllocError>
+    requires { AnswersByPlan C.declared C.plan kernel.old.callbacks }
+    ensures by_plan { AnswersByPlan C.declared C.plan kernel.new.callbacks }
+    ensures state { OnOk result (kernel.new.history.state ≡ trailed callers.now kernel.old.history.state places.now) }
+    ensures bank { OnOk result (kernel.new.history.bank ≡ kernel.old.history.bank) }
+{
+    for place in places {
+        match make_at(alloc, kernel, callers, *place) {
+            Ok(()) => {}
+            Err(error) => return Err(error),
+        }
+    }
+    Ok(())
+}
+
+// A kernel on which nothing was done yet.
+fn opened<B: BankMaker>(
+    alloc: Global,
+    callers: &Callers,
+    bank: &B,
+) -> Result<KernelOf<B::Made, Global>, AllocError>
+    ensures by_plan { IfOk result (λ kernel. AnswersByPlan B.Made.declared B.Made.plan kernel.callbacks) }
+    ensures state { IfOk result (λ kernel. kernel.history.state ≡ opening callers.now.board (B.bank bank.now)) }
+    ensures bank { IfOk result (λ kernel. kernel.history.bank ≡ B.bank bank.now) }
+{
+    let made = match bank.make(alloc) {
+        Ok(made) => made,
+        Err(error) => return Err(error),
+    };
+    match KernelOf::new(alloc, copied_board(&callers.board), made, callers.limit) {
+        Ok(kernel) => Ok(kernel),
+        Err(_) => Err(AllocError),
+    }
+}
+
+// Leads a kernel along what is set up and the steps at these places.
+fn lead<C: Handler>(
+    alloc: Global,
+    kernel: &mut KernelOf<C, Global>,
+    callers: &Callers,
+    places: &[usize],
+) -> Result<(), AllocError>
+    requires { AnswersByPlan C.declared C.plan kernel.old.callbacks }
+    ensures by_plan { AnswersByPlan C.declared C.plan kernel.new.callbacks }
+    ensures state { OnOk result (kernel.new.history.state ≡ trailed callers.now (set_up kernel.old.history.state callers.now.setup.items) places.now) }
+    ensures bank { OnOk result (kernel.new.history.bank ≡ kernel.old.history.bank) }
+{
+    match set_up(alloc, kernel, callers.setup.as_slice()) {
+        Ok(()) => make_all(alloc, kernel, callers, places),
+        Err(error) => Err(error),
+    }
+}
+
+/// Lets a kernel go. All that goes with it is proved here once, and not wherever a kernel is done with.
+pub(crate) fn leave<C: Handler>(kernel: KernelOf<C, Global>) {
+    drop(kernel);
+}
+
+// A kernel, led along these steps.
+fn led_on<C: Handler>(
+    alloc: Global,
+    mut kernel: KernelOf<C, Global>,
+    callers: &Callers,
+    places: &[usize],
+) -> Result<KernelOf<C, Global>, AllocError>
+    requires { AnswersByPlan C.declared C.plan kernel.callbacks }
+    ensures by_plan { IfOk result (λ led. AnswersByPlan C.declared C.plan led.callbacks) }
+    ensures state { IfOk result (λ led. led.history.state ≡ trailed callers.now (set_up kernel.history.state callers.now.setup.items) places.now) }
+    ensures bank { IfOk result (λ led. led.history.bank ≡ kernel.history.bank) }
+{
+    match lead(alloc, &mut kernel, callers, places) {
+        Ok(()) => Ok(kernel),
+        Err(error) => {
+            leave(kernel);
+            Err(error)
+        }
+    }
+}
+
+/// The kernel after what is set up and the steps at these places. `AllocError` where memory couldn't grow, or the
+/// history has no room for so many entries.
+pub(crate) fn led<B: BankMaker>(
+    alloc: Global,
+    callers: &Callers,
+    bank: &B,
+    places: &[usize],
+) -> Result<KernelOf<B::Made, Global>, AllocError>
+    ensures by_plan { IfOk result (λ kernel. AnswersByPlan B.Made.declared B.Made.plan kernel.callbacks) }
+    ensures state { IfOk result (λ kernel. kernel.history.state ≡ trailed callers.now (begun callers.now (B.bank bank.now)) places.now) }
+    ensures bank { IfOk result (λ kernel. kernel.history.bank ≡ B.bank bank.now) }
+{
+    match opened(alloc, callers, bank) {
+        Ok(kernel) => led_on(alloc, kernel, callers, places),
+        Err(error) => Err(error),
+    }
+}

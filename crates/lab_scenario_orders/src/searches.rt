@@ -1,0 +1,87 @@
+//! Texts searched line by line.
+ghost use Rattle.std.specs.Prelude.{◌≡◌, option_map};
+ghost use Rattle.lab_scenario_orders.specs.Asks.{begins, behind, is_answered, is_end, later_line, some_line, stands_here};
+
+/// What is asked of a text that begins with a line.
+pub(crate) trait Question {
+    ghost use Rattle.std.specs.Prelude.{ℕ, List, Bool};
+
+    /// Of which texts it holds.
+    ghost holds: { Self → List ℕ → Bool };
+
+    /// Whether it holds of a text.
+    fn asks(&self, text: &[u8]) -> bool
+        ensures { result ≡ holds self.now text.now };
+}
+
+// Whether something holds of what stands behind some line feed.
+fn later_line<Q: Question>(question: &Q, text: &[u8]) -> bool
+    ensures { result ≡ later_line (Q.holds question.now) text.now }
+{
+    let mut rest = text;
+    while let Some((first, behind)) = rest.split_first() {
+        if *first == b'\n' && question.asks(behind) {
+            return true;
+        }
+        rest = behind;
+    }
+    false
+}
+
+/// Whether something holds of a text from the beginning of some line on.
+pub(crate) fn some_line<Q: Question>(question: &Q, text: &[u8]) -> bool
+    ensures { result ≡ some_line (Q.holds question.now) text.now }
+{
+    question.asks(text) || later_line(question, text)
+}
+
+/// What stands behind the first text in the second, if that begins with it.
+pub(crate) fn behind<'a>(front: &[u8], text: &'a [u8]) -> Option<&'a [u8]>
+    ensures { option_map (λ rest. rest.now) result ≡ behind front.now text.now }
+{
+    text.strip_prefix(front)
+}
+
+/// Whether the second text begins with the first.
+pub(crate) fn begins(front: &[u8], text: &[u8]) -> bool
+    ensures { result ≡ begins front.now text.now }
+{
+    behind(front, text).is_some()
+}
+
+// Whether an answer ends before this text.
+fn is_end(text: &[u8]) -> bool
+    ensures { result ≡ is_end text.now }
+{
+    begins(b" -> ", text) || begins(b"\n", text)
+}
+
+// Whether an arrow and this answer, whole, stand here.
+fn stands_here(answer: &[u8], text: &[u8]) -> bool
+    ensures { result ≡ stands_here answer.now text.now }
+{
+    match behind(b" -> ", text) {
+        Some(rest) => match behind(answer, rest) {
+            Some(rest) => is_end(rest),
+            None => false,
+        },
+        None => false,
+    }
+}
+
+/// Whether this answer stands somewhere in the rest of the line.
+pub(crate) fn is_answered(answer: &[u8], text: &[u8]) -> bool
+    ensures { result ≡ is_answered answer.now text.now }
+{
+    let mut rest = text;
+    while let Some((first, next)) = rest.split_first() {
+        if *first == b'\n' {
+            return false;
+        }
+        if stands_here(answer, rest) {
+            return true;
+        }
+        rest = next;
+    }
+    false
+}

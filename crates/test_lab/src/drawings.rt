@@ -1,0 +1,231 @@
+//! Traces that are read and drawn.
+use lab_drawing::{
+    Condition, Lane, Mark, Moment, marks_of, told_moments, write_rows, write_svg, write_table,
+    write_told,
+};
+use lab_moments::moments_of;
+use lab_reports::write_events;
+use lab_traces::{Misread, TraceLine, read_lines};
+use std::alloc::{AllocError, Global};
+
+// A trace with a call that is answered, one that is refused, and a play.
+const TRACE: &str = "board threads=2 sems=1 flags=0 xbufs=0 mutexes=0 groups=0 limit=100
+1 T0 try_get sem=0 -> Again
+2 T1 arrive line=5 -> done
+  line 5 oob count 1 none
+";
+
+// The same as a table.
+const TABLE: &str = "row,lane,shows,line
+1,T0,refused,1 T0 try_get sem=0 -> Again
+2,T1,answered,2 T1 arrive line=5 -> done
+3,out-of-band,unhandled,line 5 oob count 1 none
+";
+
+// The same as trace events.
+const EVENTS: &str = r#"{"traceEvents": [
+{"ph": "M", "name": "thread_name", "pid": 1, "tid": 0, "args": {"name": "T0"}},
+{"ph": "M", "name": "thread_sort_index", "pid": 1, "tid": 0, "args": {"sort_index": 0}},
+{"ph": "X", "name": "1 T0 try_get sem=0 -> Again", "cat": "refused", "cname": "terrible", "pid": 1, "tid": 0, "ts": 1, "dur": 1},
+{"ph": "M", "name": "thread_name", "pid": 1, "tid": 1, "args": {"name": "T1"}},
+{"ph": "M", "name": "thread_sort_index", "pid": 1, "tid": 1, "args": {"sort_index": 1}},
+{"ph": "X", "name": "2 T1 arrive line=5 -> done", "cat": "answered", "cname": "good", "pid": 1, "tid": 1, "ts": 2, "dur": 1},
+{"ph": "M", "name": "thread_name", "pid": 1, "tid": 458752, "args": {"name": "out-of-band"}},
+{"ph": "M", "name": "thread_sort_index", "pid": 1, "tid": 458752, "args": {"sort_index": 458752}},
+{"ph": "X", "name": "line 5 oob count 1 none", "cat": "unhandled", "cname": "grey", "pid": 1, "tid": 458752, "ts": 3, "dur": 1},
+{"ph": "M", "name": "process_name", "pid": 1, "args": {"name": "machine"}}
+]}
+"#;
+
+// Lines of callers: of a pass that is named as a refusal might be, a refused step, a wait, and the core.
+const TOLD: &str = "board threads=2 sems=0 flags=0 xbufs=0 mutexes=1 groups=0 limit=100
+1 T0 try_lock_stax stax=0 as=Pass -> Pass | stax 0: in-band, 1 holder
+2 T1 try_lock_stax stax=0 as=p1 -> Limit | stax 0: in-band, 1 holder
+3 T1 begin_lock_mutex mutex=0 until=none as=m1 -> begun | mutex 0: T0, claimed
+4 T1 finish_lock_mutex as=m1 -> m1 | mutex 0: T1
+5 T0 unlock_stax pass=Pass -> done | stax 0: free
+6 T0 take -> done | core: taken by T0
+";
+
+// The same in characters.
+const TOLD_ROWS: &str = "T0          o   oo
+T1           x()  
+mutex 0       ..  
+stax 0      ..  . 
+core             .
+
+o answered  ( a wait begins  ) a wait ends  x refused  # played  - not handled
+. named by the call above
+";
+
+// What is made of marks.
+#[derive(Clone, Copy)]
+enum Form {
+    Table,
+    Events,
+    Rows,
+    Picture,
+    // The picture of callers' lines.
+    TellingPicture,
+}
+
+// The picture of callers' lines.
+fn told_picture(alloc: Global, marks: &[Mark<'_>]) -> Result<Vec<u8>, AllocError> {
+    match told_moments(alloc, marks) {
+        Ok(moments) => write_told(alloc, marks, moments.as_slice()),
+        Err(error) => Err(error),
+    }
+}
+
+// Marks in a form.
+fn written(alloc: Global, marks: &[Mark<'_>], form: Form) -> Result<Vec<u8>, AllocError> {
+    match form {
+        Form::Table => write_table(alloc, marks),
+        Form::Events => Ok(write_events(alloc, marks)?.into_bytes()),
+        Form::Rows => Ok(write_rows(alloc, marks)?.into_bytes()),
+        Form::Picture => write_svg(alloc, marks, &[]),
+        Form::TellingPicture => told_picture(alloc, marks),
+    }
+}
+
+// The marks of lines in a form.
+fn of_lines(alloc: Global, lines: &[TraceLine<'_>], form: Form) -> Result<Vec<u8>, AllocError> {
+    match marks_of(alloc, lines) {
+        Ok(marks) => written(alloc, marks.as_slice(), form),
+        Err(error) => Err(error),
+    }
+}
+
+// The marks of a trace in a form; nothing where it can't be read.
+fn drawn(alloc: Global, trace: &str, form: Form) -> Result<Vec<u8>, AllocError> {
+    match read_lines(alloc, trace) {
+        Ok(lines) => of_lines(alloc, lines.as_slice(), form),
+        Err(_) => Ok(Vec::new(alloc)),
+    }
+}
+
+// Whether this is made of a trace.
+fn is_drawn(alloc: Global, trace: &str, form: Form, wanted: &str) -> bool {
+    match drawn(alloc, trace, form) {
+        Ok(text) => text.as_slice() == wanted.as_bytes(),
+        Err(_) => false,
+    }
+}
+
+// Whether what is made of a trace begins and ends as SVG does.
+fn is_svg(alloc: Global, trace: &str, form: Form) -> bool {
+    match drawn(alloc, trace, form) {
+        Ok(text) => text.as_slice().starts_with(b"<svg ") && text.as_slice().ends_with(b"</svg>\n"),
+        Err(_) => false,
+    }
+}
+
+#[test]
+fn each_line_has_its_row(rt: HostRuntime) {
+    assert!(rt; is_drawn(rt.alloc(), TRACE, Form::Table, TABLE));
+}
+
+#[test]
+fn each_mark_is_an_event(rt: HostRuntime) {
+    assert!(rt; is_drawn(rt.alloc(), TRACE, Form::Events, EVENTS));
+}
+
+#[test]
+fn a_trace_is_drawn(rt: HostRuntime) {
+    assert!(rt; is_svg(rt.alloc(), TRACE, Form::Picture));
+}
+
+#[test]
+fn words_have_their_lanes(rt: HostRuntime) {
+    assert!(rt; is_drawn(rt.alloc(), TOLD, Form::Rows, TOLD_ROWS));
+}
+
+#[test]
+fn callers_are_drawn(rt: HostRuntime) {
+    assert!(rt; is_svg(rt.alloc(), TOLD, Form::TellingPicture));
+}
+
+#[test]
+fn another_line_is_refused(rt: HostRuntime) {
+    let read = read_lines(rt.alloc(), "1 T0 now -> number 0\n1 T0 now = number 0\n");
+    assert!(rt; matches!(&read, Err(Misread::Line(2))));
+}
+
+// A thread that is attached, and then goes in-band.
+const TWO_MOMENTS: &str = r#"
+step = [
+  { do = "attach", who = 1, policy = "fifo 10", stage = "oob" },
+  { do = "set_stage", who = 1, stage = "inband" },
+]
+[board]
+threads = 2
+"#;
+
+// How a lane stands after a step.
+fn stands(moments: &[Moment], step: usize, lane: Lane) -> Option<(Condition, Option<u16>)> {
+    let standing = moments.get(step)?.standing(lane)?;
+    Some((standing.condition, standing.number))
+}
+
+// Whether thread 1 is picked at its rank after the first step, and in-band after the second.
+fn stands_so(alloc: Global) -> bool {
+    let lanes = [Lane::Thread(0), Lane::Thread(1)];
+    match moments_of(alloc, &[], TWO_MOMENTS.as_bytes(), &lanes) {
+        Ok(moments) => {
+            moments.len() == 2
+                && stands(moments.as_slice(), 0, lanes[1]) == Some((Condition::Picked, Some(522)))
+                && stands(moments.as_slice(), 1, lanes[1]) == Some((Condition::Inband, Some(522)))
+        }
+        Err(_) => false,
+    }
+}
+
+#[test]
+fn moments_tell_how_a_thread_stands(rt: HostRuntime) {
+    assert!(rt; stands_so(rt.alloc()));
+}
+
+// Whether a stax stands as it is shown until it is free, and a mutex as its word was shown last.
+fn stand_as_shown(moments: &[Moment]) -> bool {
+    let stax = Lane::Stax(0);
+    let mutex = Lane::Mutex(0);
+    stands(moments, 3, stax) == Some((Condition::Inband, Some(1)))
+        && stands(moments, 4, stax) == None
+        && stands(moments, 2, mutex) == Some((Condition::Claimed, Some(0)))
+        && stands(moments, 5, mutex) == Some((Condition::Owned, Some(1)))
+}
+
+// Whether the core stands as it is shown.
+fn core_stands(moments: &[Moment]) -> bool {
+    stands(moments, 4, Lane::Core) == None
+        && stands(moments, 5, Lane::Core) == Some((Condition::Taken, Some(0)))
+}
+
+// Whether the words stand as marks show them.
+fn stand_by_marks(alloc: Global, marks: &[Mark<'_>]) -> bool {
+    match told_moments(alloc, marks) {
+        Ok(moments) => stand_as_shown(moments.as_slice()) && core_stands(moments.as_slice()),
+        Err(_) => false,
+    }
+}
+
+// Whether they stand as lines show them.
+fn stand_by_lines(alloc: Global, lines: &[TraceLine<'_>]) -> bool {
+    match marks_of(alloc, lines) {
+        Ok(marks) => stand_by_marks(alloc, marks.as_slice()),
+        Err(_) => false,
+    }
+}
+
+// Whether they stand as callers' lines show them.
+fn words_stand(alloc: Global, told: &str) -> bool {
+    match read_lines(alloc, told) {
+        Ok(lines) => stand_by_lines(alloc, lines.as_slice()),
+        Err(_) => false,
+    }
+}
+
+#[test]
+fn words_stand_as_they_were_shown(rt: HostRuntime) {
+    assert!(rt; words_stand(rt.alloc(), TOLD));
+}

@@ -1,0 +1,216 @@
+//! Machines that are driven line by line.
+use crate::banks::trace_of_program;
+use lab_live::{Session, answer_line, write_forms};
+use lab_reports::program_plans;
+use evl_base::STEP_WORDS;
+use evl_scenario::Fault;
+use std::alloc::{AllocError, Global};
+
+// The board, and a step that comes first.
+const FIRST: &str = "[board]
+threads = 2
+sems = [0]
+[[step]]
+do = \"put\"
+who = 0
+sem = 0
+";
+
+// Lines, and what they are answered.
+const LINES: [(&str, &str); 10] = [
+    ("T1 peek sem=0", "2 T1 peek sem=0 -> count 1\n"),
+    (
+        "T1 request stage=oob callback=1 line=5",
+        "3 T1 request line=5 stage=oob callback=1 tag=0 -> done\n",
+    ),
+    (
+        "T1 arrive line=5",
+        "4 T1 arrive line=5 -> done\n  line 5 oob count 1 handled\n",
+    ),
+    (
+        "T1 attach policy=fifo 10 stage=oob",
+        "5 T1 attach policy=fifo 10 stage=oob -> done\n",
+    ),
+    ("", ""),
+    ("# so far", "# so far\n"),
+    ("put sem=0", "! 1: a thread is wanted, as T0\n"),
+    (
+        "T0 put semm=0",
+        "! 8: put has no key \"semm\"; did you mean \"sem\"? (keys: sem)\n",
+    ),
+    (
+        "T0 put sem=x",
+        "! 8: sem = \"x\": a number from 0 to 65535 is wanted\n",
+    ),
+    ("T0 now", "6 T0 now -> number 0\n"),
+];
+
+// A machine of a scenario, over the program's callbacks.
+fn open(alloc: Global, text: &str) -> Result<Session, Fault> {
+    match program_plans(alloc) {
+        Ok(plans) => Session::open(alloc, text.as_bytes(), None, plans),
+        Err(_) => Err(Fault::Memory),
+    }
+}
+
+// Whether a line is answered so.
+fn is_answered(alloc: Global, session: &mut Session, line: &str, wanted: &str) -> bool {
+    let mut told = String::new(alloc);
+    let done = answer_line(alloc, session, line.as_bytes(), &mut told).is_ok();
+    done && told.as_str() == wanted
+}
+
+// Whether each line is answered so, in order.
+fn are_answered(alloc: Global, session: &mut Session, lines: &[(&str, &str)]) -> bool {
+    for (line, wanted) in lines {
+        if !is_answered(alloc, session, line, wanted) {
+            return false;
+        }
+    }
+    true
+}
+
+// Whether a scenario has this trace.
+fn plays_as(alloc: Global, text: &str, trace: &str) -> bool {
+    let made = trace_of_program(alloc, text);
+    made.as_slice() == trace.as_bytes()
+}
+
+// Whether the scenario of what was asked has this trace.
+fn scenario_plays_as(alloc: Global, session: &Session, trace: &str) -> bool {
+    match session.scenario(alloc) {
+        Ok(text) => plays_as(alloc, text.as_str(), trace),
+        Err(_) => false,
+    }
+}
+
+// Whether the trace of what was asked is that of its scenario.
+fn plays_again(alloc: Global, session: &Session) -> bool {
+    match session.trace(alloc) {
+        Ok(trace) => scenario_plays_as(alloc, session, trace.as_str()),
+        Err(_) => false,
+    }
+}
+
+// Whether a machine answers so, and what it was asked plays again.
+fn answers_and_plays(alloc: Global, session: &mut Session, lines: &[(&str, &str)]) -> bool {
+    let is_answered = are_answered(alloc, session, lines);
+    let is_played = plays_again(alloc, session);
+    is_answered && is_played
+}
+
+// Writes a form without its brackets, and without its line feed.
+fn write_line(line: &mut String, form: &str) -> Result<(), AllocError> {
+    for letter in form.chars() {
+        if letter != '[' && letter != ']' {
+            line.push(letter)?;
+        }
+    }
+    Ok(())
+}
+
+// Whether a line is read.
+fn is_line_read(alloc: Global, session: &mut Session, line: &str) -> bool {
+    let mut told = String::new(alloc);
+    let done = answer_line(alloc, session, line.as_bytes(), &mut told).is_ok();
+    done && !told.as_str().starts_with("!")
+}
+
+// Whether a line of a form is read.
+fn is_read(alloc: Global, session: &mut Session, form: &str) -> bool {
+    let mut line = String::new(alloc);
+    let written = write_line(&mut line, form).is_ok();
+    written && is_line_read(alloc, session, line.as_str())
+}
+
+// Whether a line of each form is read, and each call has a form.
+fn are_read(alloc: Global, session: &mut Session, forms: &str) -> bool {
+    for form in forms.lines() {
+        if !is_read(alloc, session, form) {
+            return false;
+        }
+    }
+    forms.lines().count() == STEP_WORDS.len()
+}
+
+// The same of the forms of all calls.
+fn are_forms_read(alloc: Global, session: &mut Session) -> bool {
+    let mut forms = String::new(alloc);
+    let written = write_forms(&mut forms).is_ok();
+    written && are_read(alloc, session, forms.as_str())
+}
+
+// What is asked of a machine.
+#[derive(Clone, Copy)]
+enum Asked<'a> {
+    // Whether each line is answered so.
+    Lines(&'a [(&'a str, &'a str)]),
+    // The same, and whether what it was asked plays again.
+    Again(&'a [(&'a str, &'a str)]),
+    // Whether a line of each form is read, and each call has a form.
+    Forms,
+}
+
+// What a machine comes to.
+fn comes_to(alloc: Global, session: &mut Session, asked: Asked<'_>) -> bool {
+    match asked {
+        Asked::Lines(lines) => are_answered(alloc, session, lines),
+        Asked::Again(lines) => answers_and_plays(alloc, session, lines),
+        Asked::Forms => are_forms_read(alloc, session),
+    }
+}
+
+// The same of a new one: the one place where a machine is let go.
+fn is_driven(alloc: Global, asked: Asked<'_>) -> bool {
+    match open(alloc, FIRST) {
+        Ok(mut session) => comes_to(alloc, &mut session, asked),
+        Err(_) => false,
+    }
+}
+
+#[test]
+fn lines_are_answered(rt: HostRuntime) {
+    assert!(rt; is_driven(rt.alloc(), Asked::Lines(&LINES)));
+}
+
+#[test]
+fn what_was_asked_plays_again(rt: HostRuntime) {
+    assert!(rt; is_driven(rt.alloc(), Asked::Again(&LINES)));
+}
+
+#[test]
+fn each_form_is_read(rt: HostRuntime) {
+    assert!(rt; is_driven(rt.alloc(), Asked::Forms));
+}
+
+// A form, and what its key takes.
+const HELP: [(&str, &str); 1] = [(
+    "? put",
+    "T0 put sem=0\n  sem: a number from 0 to 65535 is wanted\n",
+)];
+
+#[test]
+fn help_tells_what_keys_take(rt: HostRuntime) {
+    assert!(rt; is_driven(rt.alloc(), Asked::Lines(&HELP)));
+}
+
+// A thread that waits, and how all stands then.
+const STANDING: [(&str, &str); 3] = [
+    (
+        "T1 attach policy=fifo 10 stage=oob",
+        "2 T1 attach policy=fifo 10 stage=oob -> done\n",
+    ),
+    (
+        "T1 begin_get sem=0",
+        "3 T1 begin_get sem=0 until=none -> begun\n",
+    ),
+    (
+        "ps",
+        "T0 inband\nT1 oob, served: begin_get sem=0 until=none\noob, nothing pending\ninband, nothing pending\n",
+    ),
+];
+
+#[test]
+fn the_state_is_told(rt: HostRuntime) {
+    assert!(rt; is_driven(rt.alloc(), Asked::Lines(&STANDING)));
+}

@@ -1,0 +1,137 @@
+//! What is asked of all orders.
+use lab_scenario_orders::{
+    Ask, AskFault, NoCallbacks, first_against, is_against, outcomes_of, read_ask, read_callers,
+};
+use std::alloc::Global;
+
+// Two threads that each get a semaphore, of which there is one; nobody puts it back.
+const ONE_LEFT: &str = "[board]\nthreads = 3\nsems = [1]\n
+[[setup]]\ndo = \"attach\"\nwho = 1\npolicy = \"fifo 10\"\nstage = \"oob\"
+[[setup]]\ndo = \"attach\"\nwho = 2\npolicy = \"fifo 10\"\nstage = \"oob\"
+[[step]]\ndo = \"begin_get\"\nwho = 1\nsem = 0
+[[step]]\ndo = \"finish\"\nwho = 1
+[[step]]\ndo = \"begin_get\"\nwho = 2\nsem = 0
+[[step]]\ndo = \"finish\"\nwho = 2
+";
+
+// What is asked behind that text.
+fn read(alloc: Global, asked: &str) -> Result<Ask, AskFault> {
+    let Ok(callers) = read_callers(alloc, ONE_LEFT.as_bytes()) else {
+        return Err(AskFault::Memory);
+    };
+    read_ask(alloc, &callers, asked.as_bytes())
+}
+
+// Why this can't be read, or nothing.
+fn fault_of(alloc: Global, asked: &str) -> Option<AskFault> {
+    match read(alloc, asked) {
+        Ok(_) => None,
+        Err(fault) => Some(fault),
+    }
+}
+
+// The first outcome that is against what is asked.
+fn first(alloc: Global, asked: &str) -> Result<Option<usize>, AskFault> {
+    let ask = match read(alloc, asked) {
+        Ok(ask) => ask,
+        Err(fault) => return Err(fault),
+    };
+    let Ok(callers) = read_callers(alloc, ONE_LEFT.as_bytes()) else {
+        return Err(AskFault::Memory);
+    };
+    match outcomes_of(alloc, &callers, &NoCallbacks, 10_000) {
+        Ok(outcomes) => Ok(first_against(&ask, outcomes.all.as_slice())),
+        Err(_) => Err(AskFault::Memory),
+    }
+}
+
+// What is asked, and the first outcome that is against it.
+const FIRST: [(&str, Option<usize>); 4] = [
+    ("", None),
+    ("[ask]\nalways_ends = true\n", Some(0)),
+    ("[ask]\nnever = [\"T1 -> timed out\"]\n", None),
+    ("[ask]\nnever = [\n\"T2 -> done\",\n]\n", Some(1)),
+];
+
+// Whether these are.
+fn are_first(alloc: Global, rows: &[(&str, Option<usize>)]) -> bool {
+    for (asked, wanted) in rows {
+        if first(alloc, asked) != Ok(*wanted) {
+            return false;
+        }
+    }
+    true
+}
+
+#[test]
+fn what_is_told_of_outcomes_is_asked(rt: HostRuntime) {
+    assert!(rt; are_first(rt.alloc(), &FIRST));
+}
+
+// Whether just an answer of the first caller that is done is meant.
+fn is_one_answer(ask: &Ask) -> bool {
+    is_against(ask, "T1 -> done\n")
+        && is_against(ask, "T2 -> begun\nT1 -> begun -> done -> Busy\n")
+        && !is_against(ask, "T11 -> done\nT2 -> done\nT1 -> done not\n")
+        && !is_against(ask, "stuck: T1 waits\nT1\n")
+}
+
+// Whether it is by what is asked.
+fn means_one_answer(alloc: Global, asked: &str) -> bool {
+    match read(alloc, asked) {
+        Ok(ask) => is_one_answer(&ask),
+        Err(_) => false,
+    }
+}
+
+#[test]
+fn just_one_answer_of_a_caller_is_meant(rt: HostRuntime) {
+    assert!(rt; means_one_answer(rt.alloc(), "[ask]\nnever = [\"T1 -> done\"]\n"));
+}
+
+// Whether it is asked for orders as threads are picked.
+fn is_as_picked(alloc: Global, asked: &str) -> bool {
+    match read(alloc, asked) {
+        Ok(ask) => ask.as_picked,
+        Err(_) => false,
+    }
+}
+
+#[test]
+fn orders_as_threads_are_picked_are_asked_for(rt: HostRuntime) {
+    assert!(rt; is_as_picked(rt.alloc(), "[ask]\nas_picked = true\n"));
+    assert!(rt; !is_as_picked(rt.alloc(), "[ask]\nas_picked = false\nalways_ends = true\n"));
+    assert!(rt; !is_as_picked(rt.alloc(), "[ask]\nalways_ends = true\n"));
+}
+
+// What is asked, and why it can't be read.
+const REFUSED: [(&str, AskFault); 7] = [
+    (
+        "[ask]\nnever = [\"T1 -> done\", \"T7 -> done\"]\n",
+        AskFault::Never(2),
+    ),
+    (
+        "[ask]\nnever = [\"T1 -> begun -> done\"]\n",
+        AskFault::Never(1),
+    ),
+    ("[ask]\nnever = [\"T1\"]\n", AskFault::Never(1)),
+    ("[ask]\nalways = true\n", AskFault::Table),
+    ("[ask]\nalways_ends = 1\n", AskFault::Table),
+    ("[ask]\nas_picked = \"true\"\n", AskFault::Table),
+    ("[ask]\nas_pickd = true\n", AskFault::Table),
+];
+
+// Whether each is refused so.
+fn are_refused(alloc: Global, rows: &[(&str, AskFault)]) -> bool {
+    for (asked, fault) in rows {
+        if fault_of(alloc, asked) != Some(*fault) {
+            return false;
+        }
+    }
+    true
+}
+
+#[test]
+fn what_cant_be_asked_is_refused(rt: HostRuntime) {
+    assert!(rt; are_refused(rt.alloc(), &REFUSED));
+}
