@@ -1,5 +1,5 @@
+pub mod Plain
 pub mod Crossing
 pub mod FirstLaws
 pub mod RefusalLaws
 pub mod CallRows
-pub mod SameTexts

@@ -232,61 +232,61 @@ pub enum StepWord {
 }
 
 /// The list of the calls, by families, handed to a macro behind what is given to it: each with its word, the name of
-/// that, and its keys in the order in which they are written. A key has the kind of what stands behind it, the type
-/// round a number of the kernel, and what stands in where it may be left out.
+/// that, its keys in the order in which they are written, and the kind of its answers. A key has the kind of its value,
+/// the type round a number of the kernel, and the value that it has where it is left out.
 #[macro_export]
 macro_rules! each_call {
     ($made:ident $given:tt) => {
         $made!($given [
             line {
-                Request "request" { line: Half LineNo, stage: Stage, callback: Byte, tag: Word = 0 }
-                Free "free" { line: Half LineNo, stage: Stage }
-                Arrive "arrive" { line: Half LineNo }
-                Post "post" { stage: Stage, line: Half LineNo }
-                Stall "stall" { stage: Stage }
-                Unstall "unstall" { stage: Stage }
+                Request "request" { line: Half LineNo, stage: Stage, callback: Byte, tag: Word = 0 } -> Done
+                Free "free" { line: Half LineNo, stage: Stage } -> Done
+                Arrive "arrive" { line: Half LineNo } -> Done
+                Post "post" { stage: Stage, line: Half LineNo } -> Done
+                Stall "stall" { stage: Stage } -> Done
+                Unstall "unstall" { stage: Stage } -> Done
             }
             clock {
-                Tick "tick" { delta: Number }
-                Now "now" {}
-                NewTimer "new_timer" { callback: Byte, tag: Word = 0 }
-                StartTimer "start_timer" { timer: Half TimerId, date: Number, interval: Number }
-                StopTimer "stop_timer" { timer: Half TimerId }
-                DropTimer "drop_timer" { timer: Half TimerId }
-                Overruns "overruns" { timer: Half TimerId }
+                Tick "tick" { delta: Number } -> Done
+                Now "now" {} -> Number
+                NewTimer "new_timer" { callback: Byte, tag: Word = 0 } -> Number
+                StartTimer "start_timer" { timer: Half TimerId, date: Number, interval: Number } -> Done
+                StopTimer "stop_timer" { timer: Half TimerId } -> Done
+                DropTimer "drop_timer" { timer: Half TimerId } -> Done
+                Overruns "overruns" { timer: Half TimerId } -> Number
             }
             thread {
-                Attach "attach" { policy: Policy, stage: Stage }
-                Detach "detach" {}
-                SetPolicy "set_policy" { policy: Policy }
-                SetStage "set_stage" { stage: Stage }
-                Pick "pick" {}
-                RankOf "rank_of" { thread: Half ThreadId }
+                Attach "attach" { policy: Policy, stage: Stage } -> Done
+                Detach "detach" {} -> Done
+                SetPolicy "set_policy" { policy: Policy } -> Done
+                SetStage "set_stage" { stage: Stage } -> Done
+                Pick "pick" {} -> Chosen
+                RankOf "rank_of" { thread: Half ThreadId } -> Number
             }
             sem {
-                TryGet "try_get" { sem: Half SemId }
-                Put "put" { sem: Half SemId }
-                Peek "peek" { sem: Half SemId }
-                BeginGet "begin_get" { sem: Half SemId, until: Until = None }
+                TryGet "try_get" { sem: Half SemId } -> Done
+                Put "put" { sem: Half SemId } -> Done
+                Peek "peek" { sem: Half SemId } -> Count
+                BeginGet "begin_get" { sem: Half SemId, until: Until = None } -> Begun
             }
             flag {
-                TryTake "try_take" { flags: Half FlagId, kind: Take }
-                PostFlags "post_flags" { flags: Half FlagId, bits: Word }
-                PeekFlags "peek_flags" { flags: Half FlagId }
-                BeginTake "begin_take" { flags: Half FlagId, kind: Take, until: Until = None }
+                TryTake "try_take" { flags: Half FlagId, kind: Take } -> Bits
+                PostFlags "post_flags" { flags: Half FlagId, bits: Word } -> Done
+                PeekFlags "peek_flags" { flags: Half FlagId } -> Bits
+                BeginTake "begin_take" { flags: Half FlagId, kind: Take, until: Until = None } -> Begun
             }
             buffer {
-                Write "write" { xbuf: Half XbufId, way: Way, bytes: Bytes }
-                Read "read" { xbuf: Half XbufId, way: Way, len: Half }
-                Room "room" { xbuf: Half XbufId, way: Way }
-                BeginWrite "begin_write" { xbuf: Half XbufId, way: Way, bytes: Bytes, until: Until = None }
-                BeginRead "begin_read" { xbuf: Half XbufId, way: Way, len: Half, until: Until = None }
+                Write "write" { xbuf: Half XbufId, way: Way, bytes: Bytes } -> Done
+                Read "read" { xbuf: Half XbufId, way: Way, len: Half } -> Bytes
+                Room "room" { xbuf: Half XbufId, way: Way } -> Number
+                BeginWrite "begin_write" { xbuf: Half XbufId, way: Way, bytes: Bytes, until: Until = None } -> Begun
+                BeginRead "begin_read" { xbuf: Half XbufId, way: Way, len: Half, until: Until = None } -> Begun
             }
             wait {
-                Claim "claim" { mutex: Half MutexId, owner: Half ThreadId, until: Until = None }
-                Release "release" { mutex: Half MutexId }
-                Raise "raise" { mutex: Half MutexId }
-                Finish "finish" { keep: Truth = false }
+                Claim "claim" { mutex: Half MutexId, owner: Half ThreadId, until: Until = None } -> Begun
+                Release "release" { mutex: Half MutexId } -> Handed
+                Raise "raise" { mutex: Half MutexId } -> Done
+                Finish "finish" { keep: Truth = false } -> Outcome
             }
         ])
     };
@@ -294,7 +294,7 @@ macro_rules! each_call {
 
 /// The names of all words.
 macro_rules! names {
-    (() [$($family:ident { $($variant:ident $name:literal $keys:tt)* })*]) => { [$($($name),*),*] };
+    (() [$($family:ident { $($variant:ident $name:literal $keys:tt -> $answer:ident)* })*]) => { [$($($name),*),*] };
 }
 
 /// The words of steps, by families of calls.
@@ -309,7 +309,9 @@ macro_rules! copied {
 /// A call once more.
 macro_rules! copy {
     (($call:expr, $spares:expr) [$($family:ident {
-        $($variant:ident $name:literal { $($key:ident: $kind:ident $($id:ident)? $(= $default:expr)?),* })*
+        $($variant:ident $name:literal {
+            $($key:ident: $kind:ident $($id:ident)? $(= $default:expr)?),*
+        } -> $answer:ident)*
     })*]) => {
         match $call {
             $($(Call::$variant { $($key),* } => Call::$variant {

@@ -18,7 +18,9 @@ macro_rules! told {
 /// The text of a call.
 macro_rules! text {
     (($call:expr, $f:ident) [$($family:ident {
-        $($variant:ident $name:literal { $($key:ident: $kind:ident $($id:ident)? $(= $default:expr)?),* })*
+        $($variant:ident $name:literal {
+            $($key:ident: $kind:ident $($id:ident)? $(= $default:expr)?),*
+        } -> $answer:ident)*
     })*]) => {
         match $call {
             $($(Call::$variant { $($key),* } => {

@@ -2,21 +2,31 @@
 //! a call.
 ghost use Rattle.std.specs.Prelude.{◌≡◌, slice_get};
 ghost use Rattle.evl_base.specs.Call.{call_word};
-ghost use Rattle.evl_base.specs.Calls.{told_in, words};
+ghost use Rattle.evl_base.specs.Calls.{answer_of, told_in, words};
 ghost use Rattle.evl_base.specs.Fields.{all_told};
 
 use crate::call::{Call, StepWord};
 use crate::each_call;
 use crate::fields::{Field, Fields, Named};
+use crate::reply::ReplyKind;
 
 /// All words.
 macro_rules! variants {
-    (() [$($family:ident { $($variant:ident $name:literal $keys:tt)* })*]) => { [$($(StepWord::$variant),*),*] };
+    (() [$($family:ident { $($variant:ident $name:literal $keys:tt -> $answer:ident)* })*]) => { [$($(StepWord::$variant),*),*] };
+}
+
+/// The kind of a word's answers.
+macro_rules! answer {
+    (($word:expr) [$($family:ident { $($variant:ident $name:literal $keys:tt -> $answer:ident)* })*]) => {
+        match $word {
+            $($(StepWord::$variant => ReplyKind::$answer,)*)*
+        }
+    };
 }
 
 /// The name of a call's word.
 macro_rules! name {
-    (($call:expr) [$($family:ident { $($variant:ident $name:literal $keys:tt)* })*]) => {
+    (($call:expr) [$($family:ident { $($variant:ident $name:literal $keys:tt -> $answer:ident)* })*]) => {
         match $call {
             $($(Call::$variant { .. } => $name,)*)*
         }
@@ -44,7 +54,9 @@ macro_rules! listed {
 /// The keys of a call with what stands behind them.
 macro_rules! fields {
     (($call:expr) [$($family:ident {
-        $($variant:ident $name:literal { $($key:ident: $kind:ident $($id:ident)? $(= $default:expr)?),* })*
+        $($variant:ident $name:literal {
+            $($key:ident: $kind:ident $($id:ident)? $(= $default:expr)?),*
+        } -> $answer:ident)*
     })*]) => {
         match $call {
             $($(Call::$variant { $($key),* } => listed!($(Named {
@@ -69,6 +81,13 @@ pub fn numbered_word(number: usize) -> Option<StepWord>
     ensures { result ≡ slice_get words number }
 {
     word_at(&each_call!(variants()), number)
+}
+
+/// The kind of what the call of this word answers where it isn't refused.
+pub fn reply_kind(word: StepWord) -> ReplyKind
+    ensures { result ≡ answer_of word }
+{
+    each_call!(answer(word))
 }
 
 /// The word of a step with this call.

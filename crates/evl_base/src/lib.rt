@@ -26,7 +26,7 @@ mod way;
 pub use action_kinds::ActionKinds;
 pub use board::Board;
 pub use call::{Call, STEP_WORDS, StepWord};
-pub use calls::{fields_in, numbered_word, step_word};
+pub use calls::{fields_in, numbered_word, reply_kind, step_word};
 pub use entry::Entry;
 pub use fields::{Field, Fields, Kind, Named, kind_named};
 pub use limits::{LINES, MAX_THREADS};
@@ -35,7 +35,7 @@ pub use numbers::{FlagId, LineNo, MutexId, SemId, StaxId, ThreadId, TimerId, Xbu
 pub use play::Play;
 pub use policy::Policy;
 pub use refusal::Refusal;
-pub use reply::Reply;
+pub use reply::{Reply, ReplyKind};
 pub use stage::Stage;
 pub use take::Take;
 pub use texts::{put_call, put_play, put_reply};

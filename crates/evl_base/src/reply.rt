@@ -31,6 +31,21 @@ pub enum Reply {
     TimedOut,
 }
 
+/// The kinds of what the calls answer where they aren't refused: a variant of `Reply`, or what ends a wait.
+#[derive(Clone, Copy, PartialEq, Eq, Debug)]
+pub enum ReplyKind {
+    Done,
+    Begun,
+    Count,
+    Bits,
+    Number,
+    Bytes,
+    Chosen,
+    Handed,
+    /// What ends a wait: done, bits, bytes, or its deadline.
+    Outcome,
+}
+
 impl Reply {
     /// The same reply once more, its bytes, if it carries any, in a box of `spares`. `Reply` isn't `Copy`, as it may
     /// carry bytes.

@@ -1,5 +1,5 @@
 //! The bytes of one transfer in a box of their own, and boxes that are kept for transfers to come.
-ghost use Rattle.std.specs.Prelude.{◌≡◌, ◌≤◌, ◌<◌, ◌+◌, length, max, [], OnOk, OnErr, IfOk, IfErr};
+ghost use Rattle.std.specs.Prelude.{◌≡◌, ◌≤◌, ◌<◌, ◌+◌, length, max, [], Err, OnOk, OnErr, IfOk, IfErr};
 
 use crate::refusal::Refusal;
 use crate::way::Bytes;
@@ -32,6 +32,22 @@ impl Transfer {
             Ok(held) => Ok(Transfer { held }),
             Err(_) => Err(Refusal::NoMemory),
         }
+    }
+
+    /// These bytes in a box of their own. Refused, in this order: `TooBig` above 256 bytes, `NoMemory` where the box was
+    /// refused.
+    pub fn of(alloc: Global, bytes: &[u8]) -> Result<Transfer, Refusal>
+        ensures items { IfOk result (λ t. t.items ≡ bytes.now) }
+        ensures few { OnOk result (length bytes.now ≤ 256) }
+        ensures big { 256 < length bytes.now → result ≡ Err Refusal.TooBig }
+        ensures refusal { length bytes.now ≤ 256 → IfErr result (λ e. e ≡ Refusal.NoMemory) }
+    {
+        if bytes.len() > 256 {
+            return Err(Refusal::TooBig);
+        }
+        let mut transfer = Transfer::empty(alloc)?;
+        transfer.set(bytes);
+        Ok(transfer)
     }
 
     /// The bytes, at most 256.

@@ -76,7 +76,9 @@ macro_rules! filled {
 /// The call of a word, of the values in a form.
 macro_rules! call {
     (($word:ident $from:tt) [$($family:ident {
-        $($variant:ident $name:literal { $($key:ident: $kind:ident $($id:ident)? $(= $default:expr)?),* })*
+        $($variant:ident $name:literal {
+            $($key:ident: $kind:ident $($id:ident)? $(= $default:expr)?),*
+        } -> $answer:ident)*
     })*]) => {
         match $word {
             $($(StepWord::$variant => {

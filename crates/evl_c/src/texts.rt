@@ -20,7 +20,9 @@ use std::alloc::Global;
 /// The text of a word.
 macro_rules! text {
     (($word:ident) [$($family:ident {
-        $($variant:ident $name:literal { $($key:ident: $kind:ident $($id:ident)? $(= $default:expr)?),* })*
+        $($variant:ident $name:literal {
+            $($key:ident: $kind:ident $($id:ident)? $(= $default:expr)?),*
+        } -> $answer:ident)*
     })*]) => {
         match $word {
             $($(StepWord::$variant => concat!($name $(, " ", stringify!($key))*),)*)*

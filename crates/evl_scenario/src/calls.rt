@@ -18,7 +18,9 @@ use toml::Table;
 /// The keys of a word.
 macro_rules! keys {
     (($word:expr) [$($family:ident {
-        $($variant:ident $name:literal { $($key:ident: $kind:ident $($id:ident)? $(= $default:expr)?),* })*
+        $($variant:ident $name:literal {
+            $($key:ident: $kind:ident $($id:ident)? $(= $default:expr)?),*
+        } -> $answer:ident)*
     })*]) => {
         match $word {
             $($(StepWord::$variant => &["do", "who" $(, stringify!($key))*],)*)*
@@ -28,7 +30,7 @@ macro_rules! keys {
 
 /// The word of a family that a text names, or what else.
 macro_rules! named {
-    (($text:expr, $else:expr) { $($variant:ident $name:literal $keys:tt)* }) => {
+    (($text:expr, $else:expr) { $($variant:ident $name:literal $keys:tt -> $answer:ident)* }) => {
         match $text {
             $($name => Some(StepWord::$variant),)*
             _ => $else,
@@ -48,7 +50,9 @@ macro_rules! value {
 /// The call of a family that a text names, read from a table, or what else.
 macro_rules! read {
     (($text:expr, $table:expr, $spares:expr, $else:expr) {
-        $($variant:ident $name:literal { $($key:ident: $kind:ident $($id:ident)? $(= $default:expr)?),* })*
+        $($variant:ident $name:literal {
+            $($key:ident: $kind:ident $($id:ident)? $(= $default:expr)?),*
+        } -> $answer:ident)*
     }) => {
         match $text {
             $($name => Some(Call::$variant {
