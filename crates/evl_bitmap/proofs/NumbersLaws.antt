@@ -1,10 +1,10 @@
 -- The numbers below a limit that pass a test: what is in the set, its least and its greatest, and what one test more or less makes of it.
 use Rattle.std.proofs.Common.{◌≡◌, ◌≢◌, ℕ, zero, suc, ◌+◌, ◌<◌, ◌≤◌, ◌==◌, Bool, true, false, not, ◌&&◌, ◌||◌, [], ◌∷◌, Some, if◌then◌else◌, refl, sym, ap, ◌∙◌, arith}
-use Rattle.std.proofs.lemmas.Bool.{cases_lt}
+use Rattle.std.proofs.lemmas.Bool.{cases_lt, eqb-false, eqb-true, ne_eqb}
 use Rattle.std.proofs.Common.{⊎_elim}
 use Rattle.evl_bitmap.specs.NumberSet.{contains, insert, remove, least, greatest, RisesWithin}
 use Rattle.evl_bitmap.specs.Numbers.{numbers_from, numbers}
-use Rattle.evl_bitmap.proofs.NumberSetLaws.{is_same, is_other, other, low, rises-weaken, rises-insert, rises-remove, contains-insert, contains-remove, contains_past, contains-least, least-low, least-is, contains-greatest, greatest-high, greatest-is, same_set, past_all}
+use Rattle.evl_bitmap.proofs.NumberSetLaws.{low, rises-weaken, rises-insert, rises-remove, contains-insert, contains-remove, contains_past, contains-least, least-low, least-is, contains-greatest, greatest-high, greatest-is, same_set, past_all}
 
 module _ (passes : ℕ → Bool) where
   rises_from : (low limit count : ℕ) → low + count ≤ limit → RisesWithin low limit (numbers_from passes low count)
@@ -26,11 +26,11 @@ module _ (passes : ℕ → Bool) where
       by : (low + 1 ≤ q → contains (numbers_from passes (low + 1) count) q ≡ passes q) → RisesWithin (low + 1) (low + 1 + count) (numbers_from passes (low + 1) count)
           → (b : Bool) → passes low ≡ b → (d : Bool) → (low == q) ≡ d
           → contains (if b then low ∷ numbers_from passes (low + 1) count else numbers_from passes (low + 1) count) q ≡ passes q
-      by later rises true e true at = ap (λ x. x || contains (numbers_from passes (low + 1) count) q) at ∙ sym e ∙ ap passes (is_same low q at)
-      by later rises true e false at = ap (λ x. x || contains (numbers_from passes (low + 1) count) q) at ∙ later (omega (arith, is_other low q at))
+      by later rises true e true at = ap (λ x. x || contains (numbers_from passes (low + 1) count) q) at ∙ sym e ∙ ap passes (eqb-true low q at)
+      by later rises true e false at = ap (λ x. x || contains (numbers_from passes (low + 1) count) q) at ∙ later (omega (arith, eqb-false low q at))
       by later rises false e true at =
-          past_all low (low + 1 + count) q (numbers_from passes (low + 1) count) rises (omega (arith, is_same low q at)) ∙ sym e ∙ ap passes (is_same low q at)
-      by later rises false e false at = later (omega (arith, is_other low q at))
+          past_all low (low + 1 + count) q (numbers_from passes (low + 1) count) rises (omega (arith, eqb-true low q at)) ∙ sym e ∙ ap passes (eqb-true low q at)
+      by later rises false e false at = later (omega (arith, eqb-false low q at))
 
   pub rises-numbers : (limit : ℕ) → RisesWithin 0 limit (numbers passes limit)
   unfolding numbers
@@ -103,12 +103,12 @@ module _ (old new : ℕ → Bool) (limit : ℕ) where
         same_set 0 limit (numbers new limit) (insert (numbers old limit) n) (rises-numbers new limit)
         (rises-insert 0 limit n (numbers old limit) (rises-numbers old limit) (omega arith) within_n)
         (λ q. ⊎_elim (λ within. by q within (n == q) refl ∙ sym (contains-insert (numbers old limit) n q))
-        (λ past. contains-numbers_past new limit q past ∙ sym (contains-insert (numbers old limit) n q ∙ ap (λ b. b || contains (numbers old limit) q) (other n q (omega arith)) ∙ contains-numbers_past old limit q past)) (cases_lt q limit))
+        (λ past. contains-numbers_past new limit q past ∙ sym (contains-insert (numbers old limit) n q ∙ ap (λ b. b || contains (numbers old limit) q) (ne_eqb n q (omega arith)) ∙ contains-numbers_past old limit q past)) (cases_lt q limit))
       where
         by : (q : ℕ) → q < limit → (b : Bool) → (n == q) ≡ b → contains (numbers new limit) q ≡ ((n == q) || contains (numbers old limit) q)
-        by q within true e = contains-numbers new limit q within ∙ ap new (sym (is_same n q e)) ∙ there ∙ ap (λ b. b || contains (numbers old limit) q) (sym e)
+        by q within true e = contains-numbers new limit q within ∙ ap new (sym (eqb-true n q e)) ∙ there ∙ ap (λ b. b || contains (numbers old limit) q) (sym e)
         by q within false e =
-            let ne : q ≢ n = λ z. is_other n q e (sym z) in
+            let ne : q ≢ n = λ z. eqb-false n q e (sym z) in
             contains-numbers new limit q within ∙ others q within ne ∙ sym (contains-numbers old limit q within) ∙ ap (λ b. b || contains (numbers old limit) q) (sym e)
 
     -- one passes no more
@@ -117,10 +117,10 @@ module _ (old new : ℕ → Bool) (limit : ℕ) where
         same_set 0 limit (numbers new limit) (remove (numbers old limit) n) (rises-numbers new limit)
         (rises-remove 0 limit n (numbers old limit) (rises-numbers old limit))
         (λ q. ⊎_elim (λ within. by q within (n == q) refl ∙ sym (contains-remove (numbers old limit) n q))
-        (λ past. contains-numbers_past new limit q past ∙ sym (contains-remove (numbers old limit) n q ∙ ap (λ b. not b && contains (numbers old limit) q) (other n q (omega arith)) ∙ contains-numbers_past old limit q past)) (cases_lt q limit))
+        (λ past. contains-numbers_past new limit q past ∙ sym (contains-remove (numbers old limit) n q ∙ ap (λ b. not b && contains (numbers old limit) q) (ne_eqb n q (omega arith)) ∙ contains-numbers_past old limit q past)) (cases_lt q limit))
       where
         by : (q : ℕ) → q < limit → (b : Bool) → (n == q) ≡ b → contains (numbers new limit) q ≡ (not (n == q) && contains (numbers old limit) q)
-        by q within true e = contains-numbers new limit q within ∙ ap new (sym (is_same n q e)) ∙ gone ∙ ap (λ b. not b && contains (numbers old limit) q) (sym e)
+        by q within true e = contains-numbers new limit q within ∙ ap new (sym (eqb-true n q e)) ∙ gone ∙ ap (λ b. not b && contains (numbers old limit) q) (sym e)
         by q within false e =
-            let ne : q ≢ n = λ z. is_other n q e (sym z) in
+            let ne : q ≢ n = λ z. eqb-false n q e (sym z) in
             contains-numbers new limit q within ∙ others q within ne ∙ sym (contains-numbers old limit q within) ∙ ap (λ b. not b && contains (numbers old limit) q) (sym e)

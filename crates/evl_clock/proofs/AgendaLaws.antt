@@ -3,6 +3,7 @@ use Rattle.std.proofs.Common.{◌≡◌, ◌≢◌, ℕ, suc, zero, ◌+◌, ◌
 use Rattle.std.specs.List.{AllByRecursion}
 use Rattle.std.proofs.lemmas.Bool.{eq-eqb, eqb-false, eqb-true, lt-ltb, ltb-false, ltb-true, ne_eqb}
 use Rattle.std.proofs.lemmas.List.{get_or-set_same, length-set, set-get_or, set-set}
+use Rattle.std.proofs.lemmas.Option.{same_Some}
 use Rattle.evl_pipeline.proofs.PortLaws.{within}
 use Rattle.evl_clock.specs.declared.agenda.Entry.{Entry}
 use Rattle.evl_clock.specs.Agenda.{IsOrdered, agenda_from, entered, entry, first, is_before, left, place_of, placed}
@@ -147,9 +148,6 @@ at_place P n m t e h = subst (λ k. P (entry k t)) e h
 nothing_there : (t : ℕ) → None ≡ Some t → ⊥
 nothing_there t e = cc
 
-some_same : (a b : ℕ) → Some a ≡ Some b → a ≡ b
-some_same a b e = cc
-
 -- what holds of each date with its place holds of each entry, and the other way round
 pub all-from : (P : Entry → Type 0) (n : ℕ) (dates : List (Option ℕ)) → ((k t : ℕ) → slice_index_or dates k None ≡ Some t → P (entry (n + k) t)) → AllByRecursion P (agenda_from n dates)
 all-from P n [] h = tt
@@ -163,7 +161,7 @@ from-all P n [] h k t e = absurd (nothing_there t e)
 from-all P n (None ∷ dates) h zero t e = absurd (nothing_there t e)
 from-all P n (None ∷ dates) h (suc k) t e = at_place P (n + 1 + k) (n + suc k) t (omega arith) (from-all P (n + 1) dates h k t e)
 from-all P n (Some date ∷ dates) h zero t e =
-    at_place P n (n + 0) t (omega arith) (subst (λ d. P (entry n d)) (some_same date t e) (from-placed P (entry n date) (agenda_from (n + 1) dates) h).0)
+    at_place P n (n + 0) t (omega arith) (subst (λ d. P (entry n d)) (same_Some date t e) (from-placed P (entry n date) (agenda_from (n + 1) dates) h).0)
 from-all P n (Some date ∷ dates) h (suc k) t e =
     at_place P (n + 1 + k) (n + suc k) t (omega arith) (from-all P (n + 1) dates (from-placed P (entry n date) (agenda_from (n + 1) dates) h).1 k t e)
 

@@ -2,6 +2,7 @@
 use Rattle.std.proofs.Common.{◌≡◌, ℕ, ◌+◌, ◌≤◌, ◌==◌, true, bit_and, List, length, Option, Some, None, slice_set, subst, sym, ap, ◌∙◌, arith}
 use Rattle.std.proofs.lemmas.Bool.Decides.{nat_tests}
 use Rattle.std.proofs.lemmas.Nat.{and_assoc}
+use Rattle.std.proofs.lemmas.Bool.{eq-eqb, eqb-true}
 use Rattle.evl_base.specs.declared.stage.Stage.TheVariants.{Oob}
 use Rattle.evl_pipeline.specs.declared.answer.Answer.{Answer}
 use Rattle.evl_pipeline.specs.declared.fire.Fire.{Fire}
@@ -9,7 +10,6 @@ use Rattle.evl_pipeline.specs.declared.plan.Plan.{Plan}
 use Rattle.evl_pipeline.specs.Limits.{action_limit}
 use Rattle.evl_pipeline.specs.Plans.{PostsNoOob, allowed, is_allowed}
 use Rattle.evl_pipeline.proofs.AllowedLaws.{few, posts-no_oob}
-use Rattle.evl_pipeline.proofs.NumberSetLaws.{is_same}
 use Rattle.evl_clock.specs.declared.timer.Timer.{Timer}
 use Rattle.evl_clock.specs.Clocks.{Clock, with_deadline}
 use Rattle.evl_clock.specs.ClockSteps.{AreAllowed, Fires}
@@ -17,15 +17,12 @@ use Rattle.evl_clock.specs.Dues.{deadline, due_count, next_due, timer}
 use Rattle.evl_clock.specs.Timers.{is_timer_allowed, timer_kinds}
 use Rattle.evl_clock.proofs.DueLaws.{fewer-deadline, fewer-timer, fewer-dropped}
 
-same_is : (n m : ℕ) → n ≡ m → (n == m) ≡ true
-same_is n m e = grind (arith, nat_tests)
-
 -- what is allowed for timers is allowed out-of-band
 allowed_oob : (kinds : ℕ) → is_timer_allowed kinds ≡ true → is_allowed Oob kinds ≡ true
 allowed_oob kinds e =
-    let within : bit_and timer_kinds kinds ≡ kinds = is_same (bit_and timer_kinds kinds) kinds e in
+    let within : bit_and timer_kinds kinds ≡ kinds = eqb-true (bit_and timer_kinds kinds) kinds e in
     let same : bit_and (allowed Oob) kinds ≡ kinds = ap (bit_and (allowed Oob)) (sym within) ∙ sym (and_assoc kinds (allowed Oob) timer_kinds) ∙ within in
-    same_is (bit_and (allowed Oob) kinds) kinds same
+    eq-eqb (bit_and (allowed Oob) kinds) kinds same
 
 module _ {C : Type 0} (declared : C → ℕ) (plan : C → Plan) (gives : C → Fire → Answer → Type 0) (old : Clock C) (n : ℕ) (fire : Fire) (misses : ℕ) (answer : Answer) (new : Clock C) where
   pub bounded : Fires declared plan gives old n fire misses answer new → (length answer.actions.items ≤ action_limit) × (AreAllowed declared old → PostsNoOob answer.actions.items)

@@ -2,6 +2,7 @@
 use Rattle.std.proofs.Common.{◌≡◌, ◌<◌, nat_le, ℕ, zero, suc, List, [], ◌∷◌, Bool, true, false, true≢false, eq-eqb, ◌||◌, Option, Some, None, is_some, Result, Ok, Err, if◌then◌else◌, length, slice_get, slice_index_or, refl, sym, ap, ◌∙◌, subst, arith}
 use Rattle.std.specs.Option.{option_map_or}
 use Rattle.std.proofs.lemmas.Bool.Decides.{nat_tests}
+use Rattle.std.proofs.lemmas.Bool.{or_right}
 use Rattle.evl_base.specs.Board.{board_fits}
 use Rattle.evl_base.specs.declared.call.Call.TheVariants.{Claim, Release, Finish}
 use Rattle.evl_base.specs.declared.numbers.MutexId.{MutexId}
@@ -89,10 +90,6 @@ waited m next more told = by m.waiters told
     by [] is = absurd (cc)
     by (w ∷ ws) is = let same : next ≡ record { 0 = w.thread } = cc in ap (λ b. b || stands_in next.0 ws) (eq-eqb w.thread next.0 (ap (λ (x : ThreadId). x.0) (sym same)))
 
-either_true : (a b : Bool) → b ≡ true → (a || b) ≡ true
-either_true true b is = refl
-either_true false b is = is
-
 seated_below : (seats : List (Option Seat)) (t : ℕ) → is_some (slice_index_or seats t None) ≡ true → t < length seats
 seated_below [] t is = absurd (true≢false (sym is))
 seated_below (x ∷ xs) zero is = omega arith
@@ -103,7 +100,7 @@ pub next_is_there : (h : History) (s' : State) (t : ℕ) (m : MutexId) (next : T
     → Step h.state t (Release m) (Ok (Handed (Some next) more)) plays s' → next.0 < h.board.threads
 next_is_there h s' t m next more plays legal fits step =
     let by = handed_by h.state s' t m (Handed (Some next) more) plays step in
-    let attached : is_attached h.state.sched next.0 ≡ true = (owners_stay h legal fits).attached m.0 by.mutex by.there next.0 (either_true (is_owned_by next.0 by.mutex) (stands_in next.0 by.mutex.waiters) (waited by.mutex next more by.told)) in
+    let attached : is_attached h.state.sched next.0 ≡ true = (owners_stay h legal fits).attached m.0 by.mutex by.there next.0 (or_right (is_owned_by next.0 by.mutex) (stands_in next.0 by.mutex.waiters) (waited by.mutex next more by.told)) in
     let below = seated_below h.state.sched.seats next.0 attached in
     let seats = seats_are h legal in
     omega (arith, below, seats)

@@ -1,8 +1,9 @@
 -- The bank's places when a callback leaves for a line and when it comes back.
 use Rattle.std.proofs.Common.{◌≡◌, ℕ, zero, suc, ◌⊎◌, inl, inr, Bool, true, false, not, ◌||◌, ◌==◌, nat_lt, List, [], ◌∷◌, Option, Some, None, is_some, slice_get, slice_set, Ok, Err, if◌then◌else◌, refl, sym, ap, ◌∙◌, subst}
 use Rattle.std.specs.Option.{option_map, option_map_or}
-use Rattle.std.proofs.lemmas.Option.{slice_get-map}
+use Rattle.std.proofs.lemmas.Option.{slice_get-map, none-some, same_Some}
 use Rattle.std.proofs.lemmas.List.{map-set}
+use Rattle.evl_base.proofs.Plain.{some-none}
 use Rattle.evl_base.specs.declared.action_kinds.ActionKinds.{ActionKinds}
 use Rattle.evl_base.specs.declared.stage.Stage.{Stage}
 use Rattle.evl_base.specs.declared.refusal.Refusal.{Refusal}
@@ -22,19 +23,10 @@ use Rattle.evl_kernel.specs.Records.{RecordsView, state_of, whereabouts, number_
 use Rattle.evl_kernel.proofs.StandingLaws.{OnlyOld, Stood, old-freed, new-requested}
 use Rattle.evl_kernel.proofs.RenamedLaws.{old-renamed, installed-renamed, free_refusal-renamed, freed-renamed, request_refusal-renamed, requested-renamed}
 
-none_some : {A : Type 0} {x : A} → None ≡ Some x → ⊥
-none_some e = cc
-
-some_none : {A : Type 0} {x : A} → Some x ≡ None → ⊥
-some_none e = cc
-
-some_is : {A : Type 0} {x y : A} → Some x ≡ Some y → x ≡ y
-some_is e = cc
-
 -- what a list has after an element was set: that element, or what it had
 pub get-set : {A : Type 0} (xs : List A) (i q : ℕ) (x a : A) → slice_get (slice_set xs i x) q ≡ Some a → (slice_get xs q ≡ Some a) ⊎ ((q ≡ i) × (x ≡ a))
 get-set [] i q x a h = inl h
-get-set (y ∷ ys) zero zero x a h = inr (refl, some_is h)
+get-set (y ∷ ys) zero zero x a h = inr (refl, same_Some _ _ h)
 get-set (y ∷ ys) zero (suc q) x a h = inl h
 get-set (y ∷ ys) (suc i) zero x a h = inl h
 get-set (y ∷ ys) (suc i) (suc q) x a h = later (get-set ys i q x a h)
@@ -46,7 +38,7 @@ get-set (y ∷ ys) (suc i) (suc q) x a h = later (get-set ys i q x a h)
 -- an element is set to what it was
 pub set-same : {A : Type 0} (xs : List A) (i : ℕ) (x : A) → slice_get xs i ≡ Some x → slice_set xs i x ≡ xs
 set-same [] i x h = refl
-set-same (y ∷ ys) zero x h = ap (λ z. z ∷ ys) (sym (some_is h))
+set-same (y ∷ ys) zero x h = ap (λ z. z ∷ ys) (sym (same_Some _ _ h))
 set-same (y ∷ ys) (suc i) x h = ap (λ zs. y ∷ zs) (set-same ys i x h)
 
 module _ {C : Type 0} where
@@ -55,8 +47,8 @@ module _ {C : Type 0} where
   place_told bank n h is = by (slice_get bank n) refl (sym (slice_get-map handler_of bank n) ∙ is)
     where
       by : (o : Option (BankPlace C)) → slice_get bank n ≡ o → option_map handler_of o ≡ Some h → (place : BankPlace C) × (slice_get bank n ≡ Some place) × (handler_of place ≡ h)
-      by None at e = absurd (none_some e)
-      by (Some place) at e = (place, at, some_is e)
+      by None at e = absurd (none-some _ e)
+      by (Some place) at e = (place, at, same_Some _ _ e)
 
   -- what a callback that stands declares and answers is told of its place
   pub place_of : (declared : C → ℕ) (plan : C → Plan) (w : Whereabouts C) (n : ℕ) (callback : C) → AnswersByPlan declared plan w → Stands w n callback
@@ -121,7 +113,7 @@ module _ {C : Type 0} where
         at = at;
         there = here;
         number_is = sym same;
-        callback_is = some_is (ap (λ (q : BankPlace C). q.callback) is ∙ has);
+        callback_is = same_Some _ _ (ap (λ (q : BankPlace C). q.callback) is ∙ has);
       }))
 
       stood : BringsNone (whereabouts r) (whereabouts (after_free r line stage at place))
@@ -180,7 +172,7 @@ module _ {C : Type 0} where
       home : (number : ℕ) (other : C) (p : BankPlace C) → p.callback ≡ Some other
           → (slice_get r.bank number ≡ Some p) ⊎ ((number ≡ n) × (record place { callback = None } ≡ p)) → Stands (whereabouts r) number other
       home number other p here (inl old) = inl (record { place = p; at = old; there = here })
-      home number other p here (inr (same, is)) = absurd (none_some (ap (λ (q : BankPlace C). q.callback) is ∙ here))
+      home number other p here (inr (same, is)) = absurd (none-some _ (ap (λ (q : BankPlace C). q.callback) is ∙ here))
 
       out : (number : ℕ) (other : C) (v : Stage) (l : ℕ) (at : Installed (Numbered C)) → at.callback.number ≡ number → at.callback.callback ≡ other
           → Stood r.lines v l at ⊎ ((v ≡ stage) × (at.callback ≡ record { number = n; callback = callback })) → Stands (whereabouts r) number other
@@ -209,10 +201,10 @@ request_allowed p line stage kinds = by (nat_lt line line_count) (line == 0) (is
   where
     by : (there clock allowed stands : Bool)
         → (if not there then Some Unknown else (if clock || not allowed then Some Invalid else (if stands then Some Busy else None))) ≡ None → allowed ≡ true
-    by false clock allowed stands h = absurd (some_none h)
-    by true true allowed stands h = absurd (some_none h)
+    by false clock allowed stands h = absurd (some-none _ h)
+    by true true allowed stands h = absurd (some-none _ h)
     by true false true stands h = refl
-    by true false false stands h = absurd (some_none h)
+    by true false false stands h = absurd (some-none _ h)
 
 module _ {C : Type 0} where
   pub requested_allowed : (r : RecordsView C) (line : ℕ) (stage : Stage) (n tag : ℕ) (callback : C) (place : BankPlace C)
@@ -253,9 +245,9 @@ module _ {C : Type 0} where
   was_out declared plan r stage line numbered answers freed_one = by (installed_at r.lines stage line) refl freed_one
     where
       by : (o : Option (Installed (Numbered C))) → installed_at r.lines stage line ≡ o → option_map (λ at. at.callback) o ≡ Some numbered → WasOut r stage line numbered
-      by None here e = absurd (none_some e)
+      by None here e = absurd (none-some _ e)
       by (Some at) here e =
-          let same : at.callback ≡ numbered = some_is e in
+          let same : at.callback ≡ numbered = same_Some _ _ e in
           let place = place_of declared plan (whereabouts r) numbered.number numbered.callback answers (inr (inl (record {
             stage = stage;
             line = line;
@@ -297,8 +289,8 @@ module _ {C : Type 0} where
   asked bank n kinds e = by (slice_get bank n) refl e
     where
       by : (o : Option (BankPlace C)) → slice_get bank n ≡ o → option_map (λ place. place.kinds) o ≡ Some kinds → (place : BankPlace C) × (slice_get bank n ≡ Some place) × (place.kinds ≡ kinds)
-      by None at e = absurd (none_some e)
-      by (Some place) at e = (place, at, some_is e)
+      by None at e = absurd (none-some _ e)
+      by (Some place) at e = (place, at, same_Some _ _ e)
 
   -- a callback in its place declares what is told of the place
   pub declared_is : (declared : C → ℕ) (plan : C → Plan) (w : Whereabouts C) (n : ℕ) (place : BankPlace C) (callback : C)
@@ -306,5 +298,5 @@ module _ {C : Type 0} where
   declared_is declared plan w n place callback answers there has =
       let told_here = answers n callback (inl (record { place = place; at = there; there = has })) in
       let same : handler_of place ≡ record { kinds = declared callback; plan = plan callback } =
-      some_is (sym (slice_get-map handler_of w.bank n ∙ ap (option_map handler_of) there) ∙ told_here) in
+      same_Some _ _ (sym (slice_get-map handler_of w.bank n ∙ ap (option_map handler_of) there) ∙ told_here) in
       sym (ap (λ (h : Handler). h.kinds) same)

@@ -1,7 +1,8 @@
 -- What is known where nothing refuses that a wait begins.
 use Rattle.std.proofs.Common.{◌≡◌, ◌≢◌, ℕ, ◌==◌, Bool, true, false, not, ◌&&◌, Option, Some, None, if◌then◌else◌, refl, sym, ◌∙◌, arith}
-use Rattle.std.proofs.lemmas.Bool.{false≢true}
+use Rattle.std.proofs.lemmas.Bool.{false≢true, eqb-false}
 use Rattle.std.proofs.lemmas.Bool.Decides.{nat_tests}
+use Rattle.evl_base.proofs.Plain.{some-none}
 use Rattle.evl_base.specs.declared.numbers.MutexId.{MutexId}
 use Rattle.evl_base.specs.declared.numbers.ThreadId.{ThreadId}
 use Rattle.evl_base.specs.declared.refusal.Refusal.{Refusal}
@@ -16,12 +17,9 @@ use Rattle.evl_kernel.specs.Elements.{elements}
 use Rattle.evl_kernel.specs.Beginnings.{allowed_if, awaited, begin_refusal, form_refusal, is_named, is_open, is_there, may_name, range_refusal, ring_refusal, size_refusal, stage_wanted, waiter_refusal, would_ring}
 use Rattle.evl_kernel.proofs.QueueLaws.{IsFree}
 
-some_none : {A : Type 0} {x : A} → Some x ≡ None → ⊥
-some_none e = cc
-
 pub passes : (a b : Option Refusal) → refused_first a b ≡ None → (a ≡ None) × (b ≡ None)
 passes None b none = (refl, none)
-passes (Some r) b none = absurd (some_none none)
+passes (Some r) b none = absurd (some-none _ none)
 
 three : (a b c : Bool) → (a && b && c) ≡ true → (a ≡ true) × (b ≡ true) × (c ≡ true)
 three true true c e = (refl, refl, e)
@@ -30,28 +28,22 @@ three false b c e = absurd (false≢true e)
 
 was_allowed : (b : Bool) → allowed_if b ≡ None → b ≡ true
 was_allowed true e = refl
-was_allowed false e = absurd (some_none e)
+was_allowed false e = absurd (some-none _ e)
 
 no_ring : (b : Bool) → (if b then Some Deadlock else None) ≡ None → b ≡ false
-no_ring true e = absurd (some_none e)
+no_ring true e = absurd (some-none _ e)
 no_ring false e = refl
 
 not_true : (b : Bool) → not b ≡ true → b ≡ false
 not_true true e = absurd (false≢true e)
 not_true false e = refl
 
-apart : (m n : ℕ) → (m == n) ≡ false → m ≢ n
-apart m n ne is = absurd (false≢true (sym ne ∙ equal m n is))
-  where
-    equal : (m n : ℕ) → m ≡ n → (m == n) ≡ true
-    equal m n e = grind (arith, nat_tests)
-
 -- a claim
 named_free : (s : State) (thread : ℕ) (id : MutexId) (owner : ThreadId) → may_name s thread (wanted.Mutex id owner) ≡ true → would_ring s thread (wanted.Mutex id owner) ≡ false
     → IsFree (elements s) thread (wanted.Mutex id owner)
 named_free s thread id owner may ring =
     let all = three (is_attached s.sched owner.0) (not (owner.0 == thread)) (is_open (elements s) id.0 owner.0) may in
-    (all.2, apart owner.0 thread (not_true (owner.0 == thread) all.1), ring)
+    (all.2, eqb-false owner.0 thread (not_true (owner.0 == thread) all.1), ring)
 
 pub free_as : (s : State) (thread : ℕ) (wants : Wanted) → may_name s thread wants ≡ true → would_ring s thread wants ≡ false → IsFree (elements s) thread wants
 free_as s thread (wanted.Sem id) may ring = tt

@@ -1,11 +1,12 @@
 -- Which threads are noted after each change of the set, and what is known of the ranks that the scheduler was given.
 use Rattle.std.proofs.Common.{◌≡◌, ◌≢◌, ◌<◌, ◌==◌, ◌||◌, ◌&&◌, not, ℕ, nat_lt, Bool, true, false, List, [], Option, Some, None, is_some, option_map, Result, Ok, Err, OnOk, OnErr, slice_index_or, slice_set, refl, sym, ap, ◌∙◌, subst, arith}
 use Rattle.std.specs.Option.{option_map_or}
-use Rattle.std.proofs.lemmas.Bool.{false≢true}
+use Rattle.std.proofs.lemmas.Bool.{false≢true, eqb-false, eqb-true, lt-ltb}
 use Rattle.std.proofs.lemmas.List.{get_or-set_other}
+use Rattle.evl_base.proofs.Plain.{eqb-swap}
 use Rattle.evl_base.specs.Limits.{thread_limit}
 use Rattle.evl_bitmap.specs.NumberSet.{NumberSet, contains, insert, remove}
-use Rattle.evl_bitmap.proofs.NumberSetLaws.{contains-insert, contains-remove, is_other, is_same, less}
+use Rattle.evl_bitmap.proofs.NumberSetLaws.{contains-insert, contains-remove}
 use Rattle.evl_base.specs.declared.policy.Policy.{Policy}
 use Rattle.evl_base.specs.declared.refusal.Refusal.{Refusal}
 use Rattle.evl_base.specs.declared.stage.Stage.{Stage}
@@ -23,15 +24,6 @@ use Rattle.evl_kernel.specs.ElementsViews.{ElementsView, owners_of}
 use Rattle.evl_kernel.specs.Records.{AreGiven, AreTold, RanksAreKept}
 use Rattle.evl_kernel.proofs.HandLaws.{attached-low}
 
-swapped : (a b : ℕ) → (a == b) ≡ (b == a)
-swapped a b = by (a == b) refl (b == a) refl
-  where
-    by : (x : Bool) → (a == b) ≡ x → (y : Bool) → (b == a) ≡ y → (a == b) ≡ (b == a)
-    by true e true f = e ∙ sym f
-    by false e false f = e ∙ sym f
-    by true e false f = absurd (is_other b a f (sym (is_same a b e)))
-    by false e true f = absurd (is_other a b e (sym (is_same b a f)))
-
 or_true : (a : Bool) → (a || true) ≡ true
 or_true true = refl
 or_true false = refl
@@ -42,7 +34,7 @@ or_false false = refl
 
 -- a thread of a board is noted where it is added
 pub noted-inserted : (set : NumberSet) (thread t : ℕ) → is_noted (insert set thread) t ≡ (is_noted set t || (t == thread))
-noted-inserted set thread t = ap (λ b. b || not (nat_lt t thread_limit)) (contains-insert set thread t) ∙ turned (thread == t) (contains set t) (not (nat_lt t thread_limit)) (t == thread) (swapped thread t)
+noted-inserted set thread t = ap (λ b. b || not (nat_lt t thread_limit)) (contains-insert set thread t) ∙ turned (thread == t) (contains set t) (not (nat_lt t thread_limit)) (t == thread) (eqb-swap thread t)
   where
     turned : (a b c d : Bool) → a ≡ d → ((a || b) || c) ≡ ((b || c) || d)
     turned true b c d e = sym (ap (λ x. (b || c) || x) (sym e) ∙ or_true (b || c))
@@ -59,9 +51,9 @@ given-more set o r p n h kept given others t free attached = by (n == t) refl (a
     beside false b c e = refl
 
     by : (b : Bool) → (n == t) ≡ b → is_attached r.sched t ≡ true → ranks.rank_of p t ≡ owners.rank_of o t
-    by true is attached = subst (λ (m : ℕ). is_attached r.sched m ≡ true → ranks.rank_of p m ≡ owners.rank_of o m) (is_same n t is) given attached
+    by true is attached = subst (λ (m : ℕ). is_attached r.sched m ≡ true → ranks.rank_of p m ≡ owners.rank_of o m) (eqb-true n t is) given attached
     by false is attached =
-        let other : t ≢ n = λ e. is_other n t is (sym e) in
+        let other : t ≢ n = λ e. eqb-false n t is (sym e) in
         let before : is_noted set t ≡ false =
         sym (ap (λ b. b || not (nat_lt t thread_limit)) (contains-remove set n t) ∙ beside (n == t) (contains set t) (not (nat_lt t thread_limit)) is) ∙ free in
         (λ i. option_map_or (λ rank. rank) (others t other i) (base_of (kept i) t)) ∙ h t before attached
@@ -70,7 +62,7 @@ given-more set o r p n h kept given others t free attached = by (n == t) refl (a
 pub given-all : (v : ElementsView) (r : Ranked) → AreGivenBut (is_noted []) r (owners_of v) → AreTold v.base r.sched → AreGiven r (owners_of v)
 given-all v r h told t attached =
     let low : t < thread_limit = omega (arith, told.few, told.seats, attached-low r.sched t attached) in
-    h t (ap not (less t thread_limit low)) attached
+    h t (ap not (lt-ltb t thread_limit low)) attached
 
 -- where the recorded owners noted whose rank may have changed, the others are given their ranks still
 pub given-beside : {n : ℕ} (o p : Owners) (r : Ranked) (was now : ℕ → Bool) → RanksAreKept n o r → ChangesAreNoted was now (owners.rank_of o) (owners.rank_of p) → AreGivenBut now r p
@@ -95,7 +87,7 @@ given-told o p r thread was noting now one given noted t free attached = given t
       where
         by : (b : Bool) → (t == thread) ≡ b → b ≡ true
         by true is = refl
-        by false is = absurd (is_other t thread is e)
+        by false is = absurd (eqb-false t thread is e)
 
     other : t ≢ thread
     other e = absurd (false≢true (sym free ∙ noted.more t (one t ∙ ap (λ b. was t || b) (there e) ∙ or_true (was t))))

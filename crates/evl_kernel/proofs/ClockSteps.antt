@@ -19,9 +19,6 @@ use Rattle.evl_kernel.specs.Settling.{answered, deadline_left, timer_given, time
 use Rattle.evl_kernel.proofs.LeavesLaws.{Leaves, leaves-refused, leaves-known}
 use Rattle.evl_kernel.proofs.DueLaws.{timer_found}
 
-none_some : {A : Type 0} {x : A} → None ≡ Some x → ⊥
-none_some e = cc
-
 -- each change of the clock keeps this, and so does whatever a tick costs
 pub record KeptByClock (P : State → Type 0) : Type 0 where
   pub posted : (s : State) → P s → P (timer_call.posted_clock s)

@@ -2,7 +2,7 @@
 -- timer that holds it; and what setting one entry of a table does to the count.
 use Rattle.std.proofs.Common.{◌≡◌, ℕ, zero, suc, ◌+◌, ◌==◌, ◌<◌, nat_lt, Bool, true, false, not, ◌||◌, cond, List, [], ◌∷◌, length, map, Option, Some, None, is_some, is_none, slice_get, slice_set, slice_index_or, if◌then◌else◌, refl, sym, ap, ◌∙◌, subst, arith}
 use Rattle.std.specs.Option.{option_map}
-use Rattle.std.proofs.lemmas.Bool.{false≢true}
+use Rattle.std.proofs.lemmas.Bool.{false≢true, eqb-true}
 use Rattle.std.proofs.lemmas.Bool.Decides.{nat_tests}
 use Rattle.evl_base.specs.declared.stage.Stage.{Stage}
 use Rattle.evl_base.specs.declared.stage.Stage.TheVariants.{Inband, Oob}
@@ -12,21 +12,13 @@ use Rattle.evl_pipeline.specs.Limits.{line_count}
 use Rattle.evl_pipeline.specs.Plans.{is_allowed}
 use Rattle.evl_pipeline.specs.Lines as lines
 use Rattle.std.specs.List.{position_or_len}
+use Rattle.std.proofs.lemmas.Option.{none-some, same_Some}
 use Rattle.evl_clock.specs.declared.timer.Timer.{Timer}
 use Rattle.evl_clock.specs.Timers.{after_fire}
 use Rattle.evl_clock.specs.Clocks.{Clock, timer_at, free_place}
 use Rattle.evl_clock.specs.ClockSteps.{fired}
 use Rattle.evl_kernel.specs.States.{State, Banked}
 use Rattle.evl_kernel.proofs.SetLaws.{set_here, set_there}
-
-pub none_some : {A : Type 0} {x : A} → None ≡ Some x → ⊥
-none_some e = cc
-
-pub some_is : {A : Type 0} {x y : A} → Some x ≡ Some y → x ≡ y
-some_is e = cc
-
-pub same_number : (m n : ℕ) → (m == n) ≡ true → m ≡ n
-same_number m n e = grind (arith, nat_tests)
 
 abbrev pub Table : Type 0
 Table = List (Option (lines.Installed ℕ))
@@ -80,8 +72,8 @@ bank-set xs i n b c e = by (i == n) refl
         → (one_home (slice_get (slice_set xs i c) n) + cond same (cond b.home 1 0) 0 ≡ one_home (slice_get xs n) + cond same (cond c.home 1 0) 0)
         × (one_banked (slice_get (slice_set xs i c) n) ≡ one_banked (slice_get xs n))
     by true is =
-        let after : slice_get (slice_set xs i c) n ≡ Some c = subst (λ (k : ℕ). slice_get (slice_set xs i c) k ≡ Some c) (same_number i n is) (set_here xs i b c e) in
-        let before : slice_get xs n ≡ Some b = subst (λ (k : ℕ). slice_get xs k ≡ Some b) (same_number i n is) e in
+        let after : slice_get (slice_set xs i c) n ≡ Some c = subst (λ (k : ℕ). slice_get (slice_set xs i c) k ≡ Some c) (eqb-true i n is) (set_here xs i b c e) in
+        let before : slice_get xs n ≡ Some b = subst (λ (k : ℕ). slice_get xs k ≡ Some b) (eqb-true i n is) e in
         (omega (arith, ap one_home after, ap one_home before), ap one_banked after ∙ sym (ap one_banked before))
     by false apart =
         let other = set_there xs i n c apart in
@@ -124,10 +116,10 @@ request_free p line stage kinds = by (nat_lt line line_count) (line == 0) (is_al
     by : (b c a : Bool) (o : Option (lines.Installed ℕ)) → nat_lt line line_count ≡ b → lines.installed_at p stage line ≡ o
         → (if not b then Some Unknown else (if c || not a then Some Invalid else (if is_some o then Some Busy else None))) ≡ None → (line < line_count) × (lines.installed_at p stage line ≡ None)
     by true false true None fits there e = (grind (arith, nat_tests), there)
-    by true false true (Some at) fits there e = absurd (none_some (sym e))
-    by true false false o fits there e = absurd (none_some (sym e))
-    by true true a o fits there e = absurd (none_some (sym e))
-    by false c a o fits there e = absurd (none_some (sym e))
+    by true false true (Some at) fits there e = absurd (none-some _ (sym e))
+    by true false false o fits there e = absurd (none-some _ (sym e))
+    by true true a o fits there e = absurd (none-some _ (sym e))
+    by false c a o fits there e = absurd (none-some _ (sym e))
 
 pub home_is : (b : Bool) → (not b) ≡ false → b ≡ true
 home_is true e = refl
@@ -140,9 +132,9 @@ free_found p line stage = by (nat_lt line line_count) (line == 0) (lines.install
     by : (b c : Bool) (o : Option (lines.Installed ℕ)) → nat_lt line line_count ≡ b → lines.installed_at p stage line ≡ o
         → (if not b then Some Unknown else (if c then Some Invalid else (if is_some o then None else Some Unknown))) ≡ None → (line < line_count) × (at : lines.Installed ℕ) × (lines.installed_at p stage line ≡ Some at)
     by true false (Some at) fits there e = (grind (arith, nat_tests), at, there)
-    by true false None fits there e = absurd (none_some (sym e))
-    by true true o fits there e = absurd (none_some (sym e))
-    by false c o fits there e = absurd (none_some (sym e))
+    by true false None fits there e = absurd (none-some _ (sym e))
+    by true true o fits there e = absurd (none-some _ (sym e))
+    by false c o fits there e = absurd (none-some _ (sym e))
 
 pub one_same : (n : ℕ) (f : Timer ℕ → Timer ℕ) → ((t : Timer ℕ) → (f t).callback ≡ t.callback) → (o : Option (Timer ℕ)) → one_at n (option_map as_standing (option_map f o)) ≡ one_at n (option_map as_standing o)
 one_same n f keeps None = refl
@@ -180,5 +172,5 @@ free_there c i = by (nat_lt (position_or_len is_none c.timers) (length c.timers)
     by : (b : Bool) → nat_lt (position_or_len is_none c.timers) (length c.timers) ≡ b → cond b (Some (position_or_len is_none c.timers)) None ≡ Some i → (timer_at c i ≡ None) × (i < length c.timers)
     by true is e =
         let there = first_free c.timers in
-        (subst (λ (k : ℕ). timer_at c k ≡ None) (some_is e) there, subst (λ (k : ℕ). k < length c.timers) (some_is e) (grind (arith, nat_tests)))
-    by false is e = absurd (none_some e)
+        (subst (λ (k : ℕ). timer_at c k ≡ None) (same_Some _ _ e) there, subst (λ (k : ℕ). k < length c.timers) (same_Some _ _ e) (grind (arith, nat_tests)))
+    by false is e = absurd (none-some _ e)

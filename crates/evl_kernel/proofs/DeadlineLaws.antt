@@ -1,10 +1,11 @@
 -- A wait has the deadline with which it began, as long as it goes on.
 use Rattle.std.proofs.Common.{◌≡◌, ◌<◌, ℕ, ◌==◌, Bool, true, false, List, [], ◌∷◌, length, min, Option, Some, None, Result, Ok, Err, is_none, slice_index_or, slice_set, refl, sym, ap, subst, ◌∙◌, arith}
 use Rattle.std.specs.Option.{option_map, option_map_or}
-use Rattle.std.proofs.lemmas.Bool.{false≢true}
+use Rattle.std.proofs.lemmas.Bool.{false≢true, eqb-true}
 use Rattle.std.proofs.lemmas.Bool.Decides.{nat_tests}
 use Rattle.std.proofs.lemmas.List.{length-replicate, length-set}
 use Rattle.std.proofs.Math.Nat.{min-eq_left}
+use Rattle.evl_base.proofs.Plain.{eqb-swap_false}
 use Rattle.evl_base.specs.Limits.{thread_limit}
 use Rattle.evl_base.specs.declared.board.Board.{Board}
 use Rattle.evl_base.specs.declared.call.Call.{Call}
@@ -38,12 +39,6 @@ use Rattle.evl_kernel.proofs.StateWalk.{KeptByEach, KeptByOwn, follows_holds, ho
 use Rattle.evl_kernel.proofs.WaitLaws.{over_if, over_set, wait_there}
 use Rattle.evl_kernel.proofs.WaitRecords.{index_here, index_there}
 use Rattle.evl_kernel.proofs.ProperSteps.{over_none, passed_all, proper_at}
-
-same_number : (m n : ℕ) → (m == n) ≡ true → m ≡ n
-same_number m n e = grind (arith, nat_tests)
-
-swapped : (m n : ℕ) → (m == n) ≡ false → (n == m) ≡ false
-swapped m n e = grind (arith, nat_tests)
 
 abbrev goes_on : Option Wait → Bool
 goes_on o = option_map_or (λ (w : Wait). is_none w.outcome) o false
@@ -100,7 +95,7 @@ module _ (thread : ℕ) (Q : Option ℕ → Type 0) where
   dated_wait s other wait over h = by (thread == other) refl
     where
       by : (b : Bool) → (thread == other) ≡ b → Dated (with_wait s other wait)
-      by true is = not_blocked (with_wait s other wait) (subst (λ (m : ℕ). over_if (wait_of (slice_set s.waits other wait) m)) (sym (same_number thread other is)) (over_set s.waits other wait over))
+      by true is = not_blocked (with_wait s other wait) (subst (λ (m : ℕ). over_if (wait_of (slice_set s.waits other wait) m)) (sym (eqb-true thread other is)) (over_set s.waits other wait over))
       by false ne = as_before s (with_wait s other wait) (wait_there s other wait thread ne) refl h
 
   dated_woken : (s : State) (other : ℕ) (outcome : Reply) → Dated s → Dated (woken s other outcome)
@@ -114,8 +109,8 @@ module _ (thread : ℕ) (Q : Option ℕ → Type 0) where
       over_now (Some w) = refl
 
       by : (b : Bool) → (thread == other) ≡ b → Dated (woken s other outcome)
-      by true is = not_blocked (woken s other outcome) (subst (λ (m : ℕ). over_if (wait_of (slice_set s.waits other wait) m)) (sym (same_number thread other is)) (over_set s.waits other wait (over_now (wait_at s other))))
-      by false ne = as_before s (woken s other outcome) (wait_there s other wait thread ne) (index_there s.clock.deadlines other thread None None (swapped thread other ne)) h
+      by true is = not_blocked (woken s other outcome) (subst (λ (m : ℕ). over_if (wait_of (slice_set s.waits other wait) m)) (sym (eqb-true thread other is)) (over_set s.waits other wait (over_now (wait_at s other))))
+      by false ne = as_before s (woken s other outcome) (wait_there s other wait thread ne) (index_there s.clock.deadlines other thread None None (eqb-swap_false thread other ne)) h
 
   dated_all_woken : (s : State) (served : List (ℕ × Reply)) → Dated s → Dated (all_woken s served)
   dated_all_woken s [] h = h
@@ -181,7 +176,7 @@ module _ (thread : ℕ) (Q : Option ℕ → Type 0) where
   begun_by_another s caller on until None ne h = by (is_past s.clock.now until)
     where
       suspended_so : Dated (suspended s caller on until)
-      suspended_so = as_before s (suspended s caller on until) (wait_there s caller (Some (going_on on)) thread ne) (index_there s.clock.deadlines caller thread until None (swapped thread caller ne)) h
+      suspended_so = as_before s (suspended s caller on until) (wait_there s caller (Some (going_on on)) thread ne) (index_there s.clock.deadlines caller thread until None (eqb-swap_false thread caller ne)) h
 
       by : (b : Bool) → Dated (posted_if b (suspended s caller on until))
       by true = suspended_so
@@ -231,7 +226,7 @@ deadlines_are h legal fits caller asked reply plays new step thread is = record 
         Q date = date ≡ deadline_at old.clock thread
 
         by : (b : Bool) → (thread == caller) ≡ b → KeptByOwn (Dated thread Q) old caller asked
-        by true same = kept_by_own thread Q old caller asked (λ on until its passed hx. absurd (false≢true (sym (idle on until its passed) ∙ ap (is_blocked old) (sym (same_number thread caller same)) ∙ was)))
+        by true same = kept_by_own thread Q old caller asked (λ on until its passed hx. absurd (false≢true (sym (idle on until its passed) ∙ ap (is_blocked old) (sym (eqb-true thread caller same)) ∙ was)))
         by false ne = kept_by_another thread Q old caller asked ne
 
     own_date : is_blocked old caller ≡ false → is_blocked new caller ≡ true → deadline_at new.clock caller ≡ until_of (task_of asked)
@@ -251,6 +246,6 @@ deadlines_are h legal fits caller asked reply plays new step thread is = record 
       where
         by : (b : Bool) → (thread == caller) ≡ b → (thread ≡ caller) × (deadline_at new.clock thread ≡ until_of (task_of asked))
         by true same =
-            let number = same_number thread caller same in
+            let number = eqb-true thread caller same in
             (number, subst (λ (m : ℕ). deadline_at new.clock m ≡ until_of (task_of asked)) (sym number) (own_date (ap (is_blocked old) (sym number) ∙ not) (ap (is_blocked new) (sym number) ∙ is)))
         by false ne = absurd (after thread (λ date. ⊥) (kept_by_another thread (λ date. ⊥) old caller asked ne) (λ was. absurd (false≢true (sym not ∙ was))) is)

@@ -1,5 +1,7 @@
 -- What is played next is a due item or a line.
 use Rattle.std.proofs.Common.{◌≡◌, ℕ, Bool, true, false, Option, Some, None, if◌then◌else◌, refl, ap, ◌∙◌, subst}
+use Rattle.std.proofs.lemmas.Option.{none-some, same_Some}
+use Rattle.evl_base.proofs.Plain.{some-none}
 use Rattle.evl_base.specs.declared.numbers.TimerId.{TimerId}
 use Rattle.evl_base.specs.declared.stage.Stage.{Stage}
 use Rattle.evl_base.specs.declared.stage.Stage.TheVariants.{Oob}
@@ -12,22 +14,13 @@ use Rattle.evl_clock.specs.Dues.{next_due}
 use Rattle.evl_clock.proofs.DueLaws.{not-empty}
 use Rattle.evl_kernel.specs.Settling.{Settling, item_played, item_touches, item_next, item_before, item_moves, line_next, move_of, moving, next_move, next_of, next_play, going_on, play_touches, played}
 
-some_is : {A : Type 0} {x y : A} → Some x ≡ Some y → x ≡ y
-some_is e = cc
-
-none_some : {A : Type 0} {x : A} → None ≡ Some x → ⊥
-none_some e = cc
-
-some_none : {A : Type 0} {x : A} → Some x ≡ None → ⊥
-some_none e = cc
-
 -- what is looked for in the clock is what is due
 pub item_due : (at : Settling) (found : Item) → item_next at ≡ Some found → next_due at.state.clock ≡ Some found
 item_due at found = by at.in_clock
   where
     by : (b : Bool) → (if b then next_due at.state.clock else None) ≡ Some found → next_due at.state.clock ≡ Some found
     by true e = e
-    by false e = absurd (none_some e)
+    by false e = absurd (none-some _ e)
 
 -- a timer that is due is there
 pub timer_found : {C : Type 0} (c : Clock C) (id : TimerId) → next_due c ≡ Some (item.Timer id) → (t : Timer C) × (timer_at c id.0 ≡ Some t)
@@ -46,12 +39,12 @@ unfolding next_play
 one_played P at mid one items each next = by (item_next at) refl next
   where
     by_line : item_next at ≡ None → (o : Option (Stage × ℕ)) → line_next at ≡ o → next_of at o ≡ Some (one, mid) → P (one, mid)
-    by_line none None is e = absurd (none_some e)
-    by_line none (Some (stage, line)) is e = subst P (some_is e) (each stage line none is)
+    by_line none None is e = absurd (none-some _ e)
+    by_line none (Some (stage, line)) is e = subst P (same_Some _ _ e) (each stage line none is)
 
     by : (o : Option Item) → item_next at ≡ o → item_before at o ≡ Some (one, mid) → P (one, mid)
     by None is e = by_line is (line_next at) refl e
-    by (Some found) is e = subst P (some_is e) (items found is)
+    by (Some found) is e = subst P (same_Some _ _ e) (items found is)
 
 -- where nothing is played, nothing is due in the clock's play, and no line is playable
 pub none_played : (at : Settling) → next_play at ≡ None → (item_next at ≡ None) × (line_next at ≡ None)
@@ -60,11 +53,11 @@ none_played at none = by (item_next at) refl none
   where
     by_line : item_next at ≡ None → (o : Option (Stage × ℕ)) → line_next at ≡ o → next_of at o ≡ None → (item_next at ≡ None) × (line_next at ≡ None)
     by_line no_item None is e = (no_item, is)
-    by_line no_item (Some x) is e = absurd (some_none e)
+    by_line no_item (Some x) is e = absurd (some-none _ e)
 
     by : (o : Option Item) → item_next at ≡ o → item_before at o ≡ None → (item_next at ≡ None) × (line_next at ≡ None)
     by None is e = by_line is (line_next at) refl e
-    by (Some found) is e = absurd (some_none e)
+    by (Some found) is e = absurd (some-none _ e)
 
 -- the same with the steps of elements
 pub moves_item : (at : Settling) (found : Item) → item_next at ≡ Some found → next_move at ≡ Some (moving (item_touches at.state found) (going_on at Oob (item_played at.state found)))

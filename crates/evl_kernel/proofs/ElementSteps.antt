@@ -32,12 +32,6 @@ use Rattle.evl_kernel.specs.KernelViews.{IsAnswer}
 use Rattle.evl_kernel.specs.Waits.{all_woken}
 use Rattle.evl_kernel.proofs.SetLaws.{set_same}
 
-pub none_some : {A : Type 0} {x : A} → None ≡ Some x → ⊥
-none_some e = cc
-
-pub some_is : {A : Type 0} {x y : A} → Some x ≡ Some y → x ≡ y
-some_is e = cc
-
 pub err_ok : {A B : Type 0} {x : B} {y : A} → ◌≡◌ {A = Result A B} (Err x) (Ok y) → ⊥
 err_ok e = cc
 

@@ -1,8 +1,9 @@
 -- What each step of a flag group leaves of its queue, and that it stays sound.
 use Rattle.std.proofs.Common.{◌≡◌, ◌<◌, ℕ, ◌==◌, Bool, true, false, ◌||◌, List, [], ◌∷◌, Option, Some, None, Ok, Err, if◌then◌else◌, refl, sym, ap, ◌∙◌, subst, arith}
 use Rattle.std.specs.Option.{option_map, option_map_or}
-use Rattle.std.proofs.lemmas.Bool.{false≢true}
+use Rattle.std.proofs.lemmas.Bool.{false≢true, eqb-true, or_left, or_parts, or_right}
 use Rattle.std.proofs.lemmas.Bool.Decides.{nat_tests}
+use Rattle.std.proofs.lemmas.Option.{none-some}
 use Rattle.evl_base.specs.Limits.{thread_limit}
 use Rattle.evl_base.specs.declared.refusal.Refusal.TheVariants.{Again, Invalid}
 use Rattle.evl_base.specs.declared.reply.Reply.{Reply}
@@ -18,23 +19,8 @@ use Rattle.evl_kernel.specs.Effects.{replied}
 use Rattle.evl_kernel.specs.FlagGroups as group
 use Rattle.evl_kernel.specs.FlagGroups.{all_served, flag_group as machine, flag_serves, flag_wakes}
 use Rattle.evl_kernel.specs.Standing.{in_flags, is_served}
-use Rattle.evl_kernel.proofs.ElementSteps.{err_ok, none_some, ok_is}
+use Rattle.evl_kernel.proofs.ElementSteps.{err_ok, ok_is}
 use Rattle.evl_kernel.proofs.QueueSteps.{OneGoes, OneComes, OneDrops, dropped_drops, enqueued_comes, same_queue}
-
-same_number : (m n : ℕ) → (m == n) ≡ true → m ≡ n
-same_number m n e = grind (arith, nat_tests)
-
-or_true : (a b : Bool) → b ≡ true → (a || b) ≡ true
-or_true true b e = refl
-or_true false b e = e
-
-or_first : (a b : Bool) → a ≡ true → (a || b) ≡ true
-or_first true b e = refl
-or_first false b e = absurd (false≢true e)
-
-or_neither : (a b : Bool) → (a || b) ≡ false → (a ≡ false) × (b ≡ false)
-or_neither true b e = absurd (false≢true (sym e))
-or_neither false b e = (refl, e)
 
 abbrev of : FlagWaiter → ℕ
 of w = w.thread
@@ -50,7 +36,7 @@ walk_goes (w ∷ ws) bits ranked = by (taken w.kind bits) (walk_of ws (left_of b
     apart t stands = test (w.thread == t) refl
       where
         test : (b : Bool) → (w.thread == t) ≡ b → b ≡ false
-        test true is = absurd (false≢true (sym ranked.1 ∙ (ap (λ (m : ℕ). stands_in of m ws) (same_number w.thread t is) ∙ stands)))
+        test true is = absurd (false≢true (sym ranked.1 ∙ (ap (λ (m : ℕ). stands_in of m ws) (eqb-true w.thread t is) ∙ stands)))
         test false is = refl
 
     nobody : (walk : Walk) → OneGoes (λ t. stands_in of t ws) (λ t. stands_in of t walk.waiting) (all_served walk.served) → (t : ℕ) → stands_in of t ws ≡ false → stands_in of t walk.waiting ≡ false
@@ -64,7 +50,7 @@ walk_goes (w ∷ ws) bits ranked = by (taken w.kind bits) (walk_of ws (left_of b
         → OneGoes (λ t. stands_in of t (w ∷ ws)) (λ t. stands_in of t (passed w got walk).waiting) (all_served (passed w got walk).served)
     by None walk rest = record {
       left = λ t is. (
-        or_true (w.thread == t) (stands_in of t ws) (rest.left t is).0,
+        or_right (w.thread == t) (stands_in of t ws) (rest.left t is).0,
         ap (λ (b : Bool). b || stands_in of t walk.waiting) (apart t (rest.left t is).0) ∙ (rest.left t is).1,
       );
       same = λ t is. ap (λ (b : Bool). (w.thread == t) || b) (rest.same t is);
@@ -74,14 +60,14 @@ walk_goes (w ∷ ws) bits ranked = by (taken w.kind bits) (walk_of ws (left_of b
         left : (t : ℕ) (b : Bool) → (w.thread == t) ≡ b → (b || is_served t (all_served walk.served)) ≡ true
             → (((w.thread == t) || stands_in of t ws) ≡ true) × (stands_in of t walk.waiting ≡ false)
         left t true is served = (
-          or_first (w.thread == t) (stands_in of t ws) is,
-          nobody walk rest t (ap (λ (m : ℕ). stands_in of m ws) (sym (same_number w.thread t is)) ∙ ranked.1),
+          or_left (w.thread == t) (stands_in of t ws) is,
+          nobody walk rest t (ap (λ (m : ℕ). stands_in of m ws) (sym (eqb-true w.thread t is)) ∙ ranked.1),
         )
-        left t false is served = (or_true (w.thread == t) (stands_in of t ws) (rest.left t served).0, (rest.left t served).1)
+        left t false is served = (or_right (w.thread == t) (stands_in of t ws) (rest.left t served).0, (rest.left t served).1)
 
         same : (t : ℕ) → ((w.thread == t) || is_served t (all_served walk.served)) ≡ false → stands_in of t walk.waiting ≡ ((w.thread == t) || stands_in of t ws)
         same t is =
-            let neither = or_neither (w.thread == t) (is_served t (all_served walk.served)) is in
+            let neither = or_parts (w.thread == t) (is_served t (all_served walk.served)) is in
             rest.same t neither.1 ∙ sym (ap (λ (b : Bool). b || stands_in of t ws) neither.0)
 
 -- a flag group after a step: sound, and these were let go
@@ -129,7 +115,7 @@ begun f g reply w h away within is =
         → Begun f (option_map_or (flags.without_bits f) got (flags.with_waiter w f)) w.thread (option_map (λ (n : ℕ). Bits n) got)
     by None none = record {
       sound = sound-begun w f.bits f.waiters away within none h;
-      at_once = λ outcome s. absurd (none_some s);
+      at_once = λ outcome s. absurd (none-some _ s);
       waits = λ s. enqueued_comes of (λ (v : FlagWaiter). v.rank) f.waiters w (enqueued (λ (v : FlagWaiter). v.rank) w f.waiters) refl;
     }
     by (Some n) some = record {

@@ -1,6 +1,7 @@
 -- What the play of a due item makes of the records, and that it leaves fewer plays to make.
 use Rattle.std.proofs.Common.{◌≡◌, ℕ, ◌+◌, ◌<◌, ◌≤◌, inr, Bool, true, false, List, [], Option, Some, None, Err, refl, sym, ap, ◌∙◌, subst, arith}
 use Rattle.std.specs.Option.{option_map, option_map_or}
+use Rattle.std.proofs.lemmas.Option.{none-some, same_Some}
 use Rattle.evl_base.specs.declared.numbers.ThreadId.{ThreadId}
 use Rattle.evl_base.specs.declared.numbers.TimerId.{TimerId}
 use Rattle.evl_base.specs.declared.stage.Stage.TheVariants.{Oob}
@@ -37,12 +38,6 @@ use Rattle.evl_kernel.specs.Records.{RecordsView, state_of, whereabouts, number_
 use Rattle.evl_kernel.proofs.ClockLaws.{timer-renamed, next-renamed, count-renamed, fired-renamed}
 use Rattle.evl_kernel.proofs.PlayLaws.{plan_told, oob_pending, due_in, answered-none, answered-due, deadline-due, deadline-pending}
 use Rattle.evl_kernel.proofs.SetLaws.{set_twice}
-
-some_is : {A : Type 0} {x y : A} → Some x ≡ Some y → x ≡ y
-some_is e = cc
-
-none_some : {A : Type 0} {x : A} → None ≡ Some x → ⊥
-none_some e = cc
 
 module _ {C : Type 0} (declared : C → ℕ) (plan : C → Plan) where
   -- a callback in a timer declares and answers what is told of its number
@@ -175,9 +170,9 @@ module _ {C : Type 0} where
     where
       by : (o : Option Item) → next_due (state_of r).clock ≡ o → option_map (item_played (state_of r)) o ≡ Some (one, state_of t)
           → item_before (settling r inband true) (item_next (settling r inband true)) ≡ Some (one, settling t (inband + one_inband (stage_of one)) (is_of_clock one))
-      by None is e = absurd (none_some e)
+      by None is e = absurd (none-some _ e)
       by (Some found) is e =
-          let same : ◌≡◌ {A = Play × State} (item_played (state_of r) found) (one, state_of t) = some_is e in
+          let same : ◌≡◌ {A = Play × State} (item_played (state_of r) found) (one, state_of t) = same_Some _ _ e in
           let kind = subst OfClock (ap (λ (x : Play × State). x.0) same) (item_of_clock (state_of r) found) in
           rw (is, kind.stage) (ap (λ (x : Play × State). Some (going_on (settling r inband true) Oob x)) same)
 
@@ -200,9 +195,9 @@ pub item_left : {C : Type 0} (r t : RecordsView C) (inband : ℕ) (one : Play) �
 item_left r t inband one played fewer = by (next_due (state_of r).clock) played
   where
     by : (o : Option Item) → option_map (item_played (state_of r)) o ≡ Some (one, state_of t) → left_after (state_of t) (inband + one_inband (stage_of one)) < left_after (state_of r) inband
-    by None e = absurd (none_some e)
+    by None e = absurd (none-some _ e)
     by (Some found) e =
-        let same : ◌≡◌ {A = Play × State} (item_played (state_of r) found) (one, state_of t) = some_is e in
+        let same : ◌≡◌ {A = Play × State} (item_played (state_of r) found) (one, state_of t) = same_Some _ _ e in
         let kind = subst OfClock (ap (λ (x : Play × State). x.0) same) (item_of_clock (state_of r) found) in
         rw kind.stage (omega (arith, fewer))
 
@@ -210,8 +205,8 @@ pub item_within : {C : Type 0} (r t : RecordsView C) (inband : ℕ) (one : Play)
 item_within r t inband one played few = by (next_due (state_of r).clock) played
   where
     by : (o : Option Item) → option_map (item_played (state_of r)) o ≡ Some (one, state_of t) → inband + one_inband (stage_of one) ≤ 64
-    by None e = absurd (none_some e)
+    by None e = absurd (none-some _ e)
     by (Some found) e =
-        let same : ◌≡◌ {A = Play × State} (item_played (state_of r) found) (one, state_of t) = some_is e in
+        let same : ◌≡◌ {A = Play × State} (item_played (state_of r) found) (one, state_of t) = same_Some _ _ e in
         let kind = subst OfClock (ap (λ (x : Play × State). x.0) same) (item_of_clock (state_of r) found) in
         rw kind.stage (omega (arith, few))

@@ -1,7 +1,7 @@
 -- What settling does to mutexes, and every call that isn't about one: waits for them end by their deadlines alone.
 use Rattle.std.proofs.Common.{◌≡◌, ◌≤◌, ◌⊎◌, inl, inr, ⊎_elim, ℕ, ◌==◌, ◌&&◌, Bool, true, false, not, List, [], ◌++◌, Option, Some, None, is_some, Result, Ok, Err, slice_get, slice_set, slice_index_or, refl, sym, ap, ◌∙◌, subst, arith}
 use Rattle.std.specs.Option.{option_map_or}
-use Rattle.std.proofs.lemmas.Bool.{false≢true}
+use Rattle.std.proofs.lemmas.Bool.{false≢true, eqb-true}
 use Rattle.evl_base.specs.Limits.{thread_limit}
 use Rattle.evl_base.specs.declared.call.Call.{Call}
 use Rattle.evl_base.specs.declared.refusal.Refusal.{Refusal}
@@ -42,7 +42,7 @@ use Rattle.evl_kernel.proofs.StateWalk.{holds-answer}
 use Rattle.evl_kernel.proofs.ProperLaws.{IsProper, kept_of, proper_asked, proper_expired}
 use Rattle.evl_kernel.proofs.BeginLaws.{free_to_begin}
 use Rattle.evl_kernel.proofs.ThreadSteps.{leaves-threads}
-use Rattle.evl_kernel.proofs.WaitRecords.{idle_away, same_number}
+use Rattle.evl_kernel.proofs.WaitRecords.{idle_away}
 use Rattle.evl_kernel.proofs.ProperSteps.{Passed, kept_by_each, kept_by_own, passed_all, proper_at}
 use Rattle.evl_kernel.proofs.WaitLaws.{index_set, wait_there}
 use Rattle.evl_kernel.proofs.MutexRests.{and_false, IsElse, else_at, else_got, got_set, left-both, mutexes_stay, Since, since_after, since_all_woken, since_expired, since_same, since_touched, went_same, with_mutexes}
@@ -188,7 +188,7 @@ module _ (n count : ℕ) (few : count ≤ thread_limit) (s : State) (h : IsPrope
           else_there v its t was = by (t == caller) refl
             where
               by : (b : Bool) → (t == caller) ≡ b → IsElse n (wait_of (slice_set s.waits caller v) t)
-              by true same = subst (λ (k : ℕ). IsElse n (wait_of (slice_set s.waits caller v) k)) (sym (same_number t caller same))
+              by true same = subst (λ (k : ℕ). IsElse n (wait_of (slice_set s.waits caller v) k)) (sym (eqb-true t caller same))
                   (⊎_elim (λ (e : slice_index_or (slice_set s.waits caller v) caller None ≡ v). subst (IsElse n) (sym e) its) (λ (e : slice_index_or (slice_set s.waits caller v) caller None ≡ None). subst (IsElse n) (sym e) refl) (index_set s.waits caller v))
               by false ne = subst (IsElse n) (sym (wait_there s caller v t ne)) was
       ended_here after same served it None told = subst (λ (ws : List (ℕ × Reply)). Since n s (all_woken (begun (with_elements s after) caller on until None) ws)) (sym (it.quiet told)) (by (is_past s.clock.now until))

@@ -1,7 +1,7 @@
 -- What each call on a mutex leaves before settling.
 use Rattle.std.proofs.Common.{◌≡◌, ◌≢◌, ◌≤◌, ◌<◌, ◌⊎◌, inl, inr, ⊎_elim, ℕ, zero, suc, nat_le, nat_lt, ◌==◌, eqb, eq-eqb, ne_eqb, ◌&&◌, ◌||◌, Bool, true, false, not, List, [], ◌∷◌, length, Option, Some, None, is_some, option_map, Result, Ok, Err, slice_get, slice_set, slice_index_or, if◌then◌else◌, refl, sym, ap, ◌∙◌, subst, arith}
 use Rattle.std.specs.Option.{option_map_or}
-use Rattle.std.proofs.lemmas.Bool.{false≢true}
+use Rattle.std.proofs.lemmas.Bool.{false≢true, eqb-true}
 use Rattle.std.proofs.lemmas.Bool.Decides.{nat_tests}
 use Rattle.evl_base.specs.declared.call.Call.{Call}
 use Rattle.evl_base.specs.declared.play.Play.{Play}
@@ -48,7 +48,7 @@ use Rattle.evl_kernel.proofs.SetLaws.{set_here, set_there}
 use Rattle.evl_kernel.proofs.ProperLaws.{IsProper}
 use Rattle.evl_kernel.proofs.ProperSteps.{passed_all, proper_at}
 use Rattle.evl_kernel.proofs.WaitLaws.{index_set, wait_there}
-use Rattle.evl_kernel.proofs.WaitRecords.{index_here, same_number}
+use Rattle.evl_kernel.proofs.WaitRecords.{index_here}
 use Rattle.evl_kernel.proofs.MutexRests.{and_false, got_set}
 
 -- what an effect leaves
@@ -235,7 +235,7 @@ module _ (count : ℕ) (s : State) (h : IsProper count s) (caller : ℕ) where
           or_false false = refl
 
           by : (b : Bool) → (t == next) ≡ b → got_it j (wait_of (slice_set s.waits next (option_map (ended_by Done) (wait_at s next))) t) ≡ (((id.0 == j) && (next == t)) || got_it j (wait_at s t))
-          by true e = subst (λ (k : ℕ). got_it j (wait_of (slice_set s.waits next (option_map (ended_by Done) (wait_at s next))) k) ≡ (((id.0 == j) && (next == k)) || got_it j (wait_at s k))) (sym (same_number t next e))
+          by true e = subst (λ (k : ℕ). got_it j (wait_of (slice_set s.waits next (option_map (ended_by Done) (wait_at s next))) k) ≡ (((id.0 == j) && (next == k)) || got_it j (wait_at s k))) (sym (eqb-true t next e))
               (ap (got_it j) at_next ∙ or_false (id.0 == j) ∙ ap (λ b. ((id.0 == j) && b) || false) (sym (eq-eqb next next refl)) ∙ ap (λ b. ((id.0 == j) && (next == next)) || b) (sym old_next))
           by false e = ap (got_it j) (wait_there s next (option_map (ended_by Done) (wait_at s next)) t e) ∙ ap (λ b. b || got_it j (wait_at s t)) (sym (ap (λ b. (id.0 == j) && b) (ne_eqb next t (λ x. false≢true (sym e ∙ eq-eqb t next (sym x)))) ∙ and_false (id.0 == j)))
 

@@ -1,7 +1,7 @@
 -- A wait for a mutex ends by getting it, or by its deadline.
 use Rattle.std.proofs.Common.{◌≡◌, ◌≤◌, ◌⊎◌, inl, inr, ⊎_elim, ℕ, ◌==◌, eqb, eq-eqb, ◌&&◌, ◌||◌, Bool, true, false, not, List, [], ◌∷◌, replicate, Option, Some, None, is_some, option_map, Result, Ok, Err, slice_get, slice_set, slice_index_or, if◌then◌else◌, refl, sym, ap, ◌∙◌, subst, arith}
 use Rattle.std.specs.Option.{option_map_or}
-use Rattle.std.proofs.lemmas.Bool.{false≢true}
+use Rattle.std.proofs.lemmas.Bool.{false≢true, eq-eqb, eqb-true, or_right}
 use Rattle.std.proofs.lemmas.Bool.Decides.{nat_tests}
 use Rattle.evl_base.specs.Limits.{thread_limit}
 use Rattle.evl_base.specs.Board.{board_fits}
@@ -48,8 +48,8 @@ use Rattle.evl_kernel.proofs.StateWalk.{KeptByEach, KeptByOwn, run_holds}
 use Rattle.evl_kernel.proofs.ProperLaws.{IsProper, kept_of}
 use Rattle.evl_kernel.proofs.ProperSteps.{Passed, kept_by_each, kept_by_own, passed_all, proper_opening}
 use Rattle.evl_kernel.proofs.WaitLaws.{index_set, wait_there}
-use Rattle.evl_kernel.proofs.WaitRecords.{idle_away, is_number, same_number}
-use Rattle.evl_kernel.proofs.MutexRests.{IsElse, else_at, else_woken, mutexes_stay, nobody_woken, or_second}
+use Rattle.evl_kernel.proofs.WaitRecords.{idle_away}
+use Rattle.evl_kernel.proofs.MutexRests.{IsElse, else_at, else_woken, mutexes_stay, nobody_woken}
 use Rattle.evl_kernel.proofs.MutexDrops.{other_step}
 
 or_true : (b : Bool) → (b || true) ≡ true
@@ -83,7 +83,7 @@ rightly_set : (s : State) (thread : ℕ) (v : Option Wait) → AllRightly s → 
 rightly_set s thread v all new t = by (t == thread) refl
   where
     by : (b : Bool) → (t == thread) ≡ b → ends_rightly (wait_of (slice_set s.waits thread v) t) ≡ true
-    by true same = subst (λ (k : ℕ). ends_rightly (wait_of (slice_set s.waits thread v) k) ≡ true) (sym (same_number t thread same))
+    by true same = subst (λ (k : ℕ). ends_rightly (wait_of (slice_set s.waits thread v) k) ≡ true) (sym (eqb-true t thread same))
         (⊎_elim (λ (e : slice_index_or (slice_set s.waits thread v) thread None ≡ v). ap ends_rightly e ∙ new) (λ (e : slice_index_or (slice_set s.waits thread v) thread None ≡ None). ap ends_rightly e) (index_set s.waits thread v))
     by false ne = ap ends_rightly (wait_there s thread v t ne) ∙ all t
 
@@ -94,8 +94,8 @@ rightly_all_woken : (s : State) (served : List (ℕ × Reply)) → AllRightly s 
 rightly_all_woken s [] all others = all
 rightly_all_woken s ((thread, outcome) ∷ rest) all others =
     rightly_all_woken (woken s thread outcome) rest
-    (rightly_woken s thread outcome all (else_rightly (wait_at s thread) (others thread (ap (λ b. b || is_served thread rest) (is_number thread thread refl))) outcome))
-    (λ t is n. else_woken n s thread outcome t (others t (or_second (thread == t) (is_served t rest) is) n))
+    (rightly_woken s thread outcome all (else_rightly (wait_at s thread) (others thread (ap (λ b. b || is_served thread rest) (eq-eqb thread thread refl))) outcome))
+    (λ t is n. else_woken n s thread outcome t (others t (or_right (thread == t) (is_served t rest) is) n))
 
 -- whom a release serves has got it
 rightly_served : (s : State) (o : Option ℕ) → AllRightly s → AllRightly (all_woken s (one_served o))
@@ -219,7 +219,7 @@ module _ (count : ℕ) (few : count ≤ thread_limit) where
             else_there its t n was = by (t == caller) refl
               where
                 by : (b : Bool) → (t == caller) ≡ b → IsElse n (wait_of (slice_set s.waits caller v) t)
-                by true same = subst (λ (k : ℕ). IsElse n (wait_of (slice_set s.waits caller v) k)) (sym (same_number t caller same))
+                by true same = subst (λ (k : ℕ). IsElse n (wait_of (slice_set s.waits caller v) k)) (sym (eqb-true t caller same))
                     (⊎_elim (λ (e : slice_index_or (slice_set s.waits caller v) caller None ≡ v). subst (IsElse n) (sym e) (its n)) (λ (e : slice_index_or (slice_set s.waits caller v) caller None ≡ None). subst (IsElse n) (sym e) refl) (index_set s.waits caller v))
                 by false ne = subst (IsElse n) (sym (wait_there s caller v t ne)) was
 

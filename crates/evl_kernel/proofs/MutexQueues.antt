@@ -1,8 +1,9 @@
 -- What each step of a mutex leaves of its queue, and that the recorded owners stay sound.
 use Rattle.std.proofs.Common.{◌≡◌, ◌≢◌, ◌<◌, ℕ, suc, ◌==◌, Bool, true, false, not, ◌&&◌, ◌||◌, List, [], ◌∷◌, length, Some, is_some, Ok, Err, slice_get, if◌then◌else◌, refl, sym, ap, ◌∙◌, subst, arith}
 use Rattle.std.specs.List.{list_any}
-use Rattle.std.proofs.lemmas.Bool.{false≢true}
+use Rattle.std.proofs.lemmas.Bool.{false≢true, eq-eqb, eqb-true}
 use Rattle.std.proofs.lemmas.Bool.Decides.{nat_tests}
+use Rattle.evl_base.proofs.Plain.{eqb-swap_false}
 use Rattle.evl_base.specs.declared.refusal.Refusal.TheVariants.{Busy, Invalid, NotOwner}
 use Rattle.evl_base.specs.declared.reply.Reply.{Reply}
 use Rattle.evl_base.specs.declared.reply.Reply.TheVariants.{Done}
@@ -26,15 +27,6 @@ use Rattle.evl_kernel.specs.Standing.{in_mutex, stands_at}
 use Rattle.evl_kernel.proofs.ElementSteps.{err_ok, ok_is}
 use Rattle.evl_kernel.proofs.QueueSteps.{OneGoes, OneComes, OneDrops, same_queue}
 
-same_number : (m n : ℕ) → (m == n) ≡ true → m ≡ n
-same_number m n e = grind (arith, nat_tests)
-
-is_number : (m n : ℕ) → m ≡ n → (m == n) ≡ true
-is_number m n e = grind (arith, nat_tests)
-
-swapped : (m n : ℕ) → (m == n) ≡ false → (n == m) ≡ false
-swapped m n e = grind (arith, nat_tests)
-
 -- that the owner waits for the thread is found within as many steps as there are threads
 pub back_is : (ms : List Mutex) (owner thread : ℕ) → waits_back ms owner thread ≡ reaches thread_limit (waits_for ms) owner thread
 unfolding waits_back
@@ -43,14 +35,14 @@ back_is ms owner thread = refl
 -- a waiter comes
 pub claim_comes : (m : Mutex) (w : Waiter) (owner : ℕ) → OneComes (in_mutex m) (in_mutex (recorded.claimed m w owner)) w.thread
 claim_comes m w owner = record {
-  there = stands-enqueued w m.waiters w.thread ∙ ap (λ (b : Bool). b || stands_in w.thread m.waiters) (is_number w.thread w.thread refl);
-  same = λ t ne. stands-enqueued w m.waiters t ∙ ap (λ (b : Bool). b || stands_in t m.waiters) (swapped t w.thread ne);
+  there = stands-enqueued w m.waiters w.thread ∙ ap (λ (b : Bool). b || stands_in w.thread m.waiters) (eq-eqb w.thread w.thread refl);
+  same = λ t ne. stands-enqueued w m.waiters t ∙ ap (λ (b : Bool). b || stands_in t m.waiters) (eqb-swap_false t w.thread ne);
 }
 
 -- and leaves
 pub drop_drops : (thread : ℕ) (m : Mutex) → OneDrops (in_mutex m) (in_mutex (recorded.drop_waiter thread m)) thread
 drop_drops thread m = record {
-  gone = stands-dropped thread m.waiters thread ∙ ap (λ (b : Bool). not b && stands_in thread m.waiters) (is_number thread thread refl);
+  gone = stands-dropped thread m.waiters thread ∙ ap (λ (b : Bool). not b && stands_in thread m.waiters) (eq-eqb thread thread refl);
   same = λ t ne. stands-dropped thread m.waiters t ∙ ap (λ (b : Bool). not b && stands_in t m.waiters) ne;
 }
 
@@ -70,7 +62,7 @@ head_goes w ws away = record { left = left; same = same }
     left t is =
         let same = or_false (w.thread == t) is in (
           ap (λ (b : Bool). b || stands_in t ws) same,
-          ap (λ (m : ℕ). stands_in m ws) (sym (same_number w.thread t same)) ∙ away,
+          ap (λ (m : ℕ). stands_in m ws) (sym (eqb-true w.thread t same)) ∙ away,
         )
 
     same : (t : ℕ) → ((w.thread == t) || false) ≡ false → stands_in t ws ≡ ((w.thread == t) || stands_in t ws)

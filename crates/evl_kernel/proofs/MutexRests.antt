@@ -1,7 +1,8 @@
 -- What leaves of a mutex waiters alone: ends of waits, and each step of another element.
 use Rattle.std.proofs.Common.{◌≡◌, ◌≤◌, ◌⊎◌, ⊎_elim, ℕ, ◌==◌, ◌&&◌, ◌||◌, Bool, true, false, not, List, [], ◌∷◌, ◌++◌, Option, Some, None, is_some, is_none, option_map, Ok, Err, slice_get, slice_set, slice_index_or, if◌then◌else◌, refl, sym, ap, ◌∙◌, subst}
 use Rattle.std.specs.Option.{option_map_or}
-use Rattle.std.proofs.lemmas.Bool.{false≢true}
+use Rattle.std.proofs.lemmas.Bool.{false≢true, eq-eqb, eqb-true, or_right}
+use Rattle.std.proofs.lemmas.Option.{same_Some}
 use Rattle.evl_base.specs.Limits.{thread_limit}
 use Rattle.evl_base.specs.declared.reply.Reply.{Reply}
 use Rattle.evl_base.specs.declared.reply.Reply.TheVariants.{TimedOut}
@@ -25,22 +26,17 @@ use Rattle.evl_kernel.specs.Settling.{deadline_left}
 use Rattle.evl_kernel.specs.Standing.{in_mutex, is_served, stands_at, stands_for}
 use Rattle.evl_kernel.specs.WaitOrder.{is_blocked}
 use Rattle.evl_kernel.specs.MutexRests.{is_for, is_done, got_it, is_of_mutexes, left_by}
-use Rattle.evl_kernel.proofs.ElementSteps.{nth-made, ok_is, some_is}
+use Rattle.evl_kernel.proofs.ElementSteps.{nth-made, ok_is}
 use Rattle.evl_kernel.proofs.QueueSteps.{Gone}
 use Rattle.evl_kernel.proofs.QueueLaws.{Dropped, IsAsked, asked_goes, drop_goes}
 use Rattle.evl_kernel.proofs.LeavesLaws.{Leaves}
 use Rattle.evl_kernel.proofs.SetLaws.{set_here, set_there}
 use Rattle.evl_kernel.proofs.ProperLaws.{IsProper}
 use Rattle.evl_kernel.proofs.WaitLaws.{index_set, wait_there}
-use Rattle.evl_kernel.proofs.WaitRecords.{is_number, same_number}
 
 pub and_false : (b : Bool) → (b && false) ≡ false
 and_false true = refl
 and_false false = refl
-
-pub or_second : (a b : Bool) → b ≡ true → (a || b) ≡ true
-or_second true b e = refl
-or_second false b e = e
 
 -- A wait that isn't for mutex n
 abbrev pub IsElse : ℕ → Option Wait → Type 0
@@ -70,7 +66,7 @@ module _ (n : ℕ) where
       here = ⊎_elim (λ (e : slice_index_or (slice_set s.waits thread v) thread None ≡ v). ap (got_it n) e ∙ new) (λ (e : slice_index_or (slice_set s.waits thread v) thread None ≡ None). ap (got_it n) e) (index_set s.waits thread v)
 
       by : (b : Bool) → (t == thread) ≡ b → got_it n (wait_of (slice_set s.waits thread v) t) ≡ got_it n (wait_at s t)
-      by true same = subst (λ (k : ℕ). got_it n (wait_of (slice_set s.waits thread v) k) ≡ got_it n (wait_at s k)) (sym (same_number t thread same)) (here ∙ sym old)
+      by true same = subst (λ (k : ℕ). got_it n (wait_of (slice_set s.waits thread v) k) ≡ got_it n (wait_at s k)) (sym (eqb-true t thread same)) (here ∙ sym old)
       by false ne = ap (got_it n) (wait_there s thread v t ne)
 
   pub else_woken : (s : State) (thread : ℕ) (outcome : Reply) (t : ℕ) → IsElse n (wait_at s t) → IsElse n (wait_at (woken s thread outcome) t)
@@ -83,7 +79,7 @@ module _ (n : ℕ) where
       here e = ⊎_elim (λ (x : slice_index_or (slice_set s.waits thread v) thread None ≡ v). subst (IsElse n) (sym x) (else_ended (wait_at s thread) outcome e)) (λ (x : slice_index_or (slice_set s.waits thread v) thread None ≡ None). subst (IsElse n) (sym x) refl) (index_set s.waits thread v)
 
       by : (b : Bool) → (t == thread) ≡ b → IsElse n (wait_of (slice_set s.waits thread v) t)
-      by true same = subst (λ (k : ℕ). IsElse n (wait_of (slice_set s.waits thread v) k)) (sym (same_number t thread same)) (here (subst (λ (k : ℕ). IsElse n (wait_at s k)) (same_number t thread same) was))
+      by true same = subst (λ (k : ℕ). IsElse n (wait_of (slice_set s.waits thread v) k)) (sym (eqb-true t thread same)) (here (subst (λ (k : ℕ). IsElse n (wait_at s k)) (eqb-true t thread same) was))
       by false ne = subst (IsElse n) (sym (wait_there s thread v t ne)) was
 
 -- of one mutex: the same, or only waiters left
@@ -151,10 +147,10 @@ module _ (n : ℕ) where
   pub since_all_woken : (s : State) (served : List (ℕ × Reply)) → ((t : ℕ) → is_served t served ≡ true → IsElse n (wait_at s t)) → Since n s (all_woken s served)
   since_all_woken s [] others = since_same s
   since_all_woken s ((thread, outcome) ∷ rest) others =
-      let own : IsElse n (wait_at s thread) = others thread (ap (λ b. b || is_served thread rest) (is_number thread thread refl)) in
+      let own : IsElse n (wait_at s thread) = others thread (ap (λ b. b || is_served thread rest) (eq-eqb thread thread refl)) in
       since_after s (woken s thread outcome) (all_woken (woken s thread outcome) rest)
       (since_woken s thread outcome (else_got n (wait_at s thread) own) (else_got n (option_map (ended_by outcome) (wait_at s thread)) (else_ended n (wait_at s thread) outcome own)))
-      (since_all_woken (woken s thread outcome) rest (λ t is. else_woken n s thread outcome t (others t (or_second (thread == t) (is_served t rest) is))))
+      (since_all_woken (woken s thread outcome) rest (λ t is. else_woken n s thread outcome t (others t (or_right (thread == t) (is_served t rest) is))))
 
 -- a step of another element leaves the mutexes
 pub mutexes_stay : (e after : Elements) (reply : Reply) (step : ElementStep) → is_of_mutexes step ≡ false → element e step ≡ Ok (reply, after) → after.mutexes ≡ e.mutexes
@@ -220,8 +216,8 @@ module _ (n count : ℕ) (few : count ≤ thread_limit) (s : State) (h : IsPrope
         by : (q p : MutexRecorded) → slice_get (elements s).mutexes k ≡ Some q → drop_waiter thread q ≡ p → slice_get (slice_set (elements s).mutexes k p) n ≡ Some m' → (b : Bool) → (k == n) ≡ b
             → (m : MutexRecorded) × (slice_get (elements s).mutexes n ≡ Some m) × Went m m'
         by q p here now at true same =
-            let number = same_number k n same in
-            let is_p : p ≡ m' = some_is (sym (set_here (elements s).mutexes k q p here) ∙ ap (slice_get (slice_set (elements s).mutexes k p)) number ∙ at) in
+            let number = eqb-true k n same in
+            let is_p : p ≡ m' = same_Some _ _ (sym (set_here (elements s).mutexes k q p here) ∙ ap (slice_get (slice_set (elements s).mutexes k p)) number ∙ at) in
             (q, ap (slice_get (elements s).mutexes) (sym number) ∙ here, subst (Went q) (now ∙ is_p) (went_dropped thread q))
         by q p here now at false other = (m', sym (set_there (elements s).mutexes k n p other) ∙ at, went_same m')
 

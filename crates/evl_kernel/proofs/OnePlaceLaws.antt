@@ -1,9 +1,9 @@
 -- What is counted once is in one place: a number in the records, and the callbacks themselves.
 use Rattle.std.proofs.Common.{◌≡◌, ℕ, zero, suc, ◌+◌, ◌==◌, ◌<◌, ◌≤◌, Bool, true, false, cond, List, [], ◌∷◌, length, Option, Some, None, is_some, slice_get, slice_index_or, refl, sym, ap, ◌∙◌, subst, arith}
 use Rattle.std.specs.Option.{option_map}
-use Rattle.std.proofs.lemmas.Bool.{false≢true}
+use Rattle.std.proofs.lemmas.Bool.{false≢true, eqb-true}
 use Rattle.std.proofs.lemmas.List.{length-map}
-use Rattle.std.proofs.lemmas.Option.{slice_get-map}
+use Rattle.std.proofs.lemmas.Option.{slice_get-map, none-some, same_Some}
 use Rattle.std.proofs.lemmas.Bool.Decides.{nat_tests}
 use Rattle.evl_base.specs.declared.stage.Stage.TheVariants.{Inband, Oob}
 use Rattle.evl_pipeline.specs.Lines as lines
@@ -20,7 +20,7 @@ use Rattle.evl_kernel.specs.Places as place
 use Rattle.evl_kernel.specs.Places.{Place, on_line, in_timer, IsAt, IsInOnePlace, CallbacksAreInOnePlace, StandsAt, AreInOnePlace}
 use Rattle.evl_kernel.proofs.RenamedLaws.{installed-renamed, lookup-map}
 use Rattle.evl_kernel.proofs.ClockLaws.{timer-renamed}
-use Rattle.evl_kernel.proofs.CountLaws.{none_some, some_is, same_number, Table, one_at, stood, one_home, one_banked, as_standing, table_of, timed, places}
+use Rattle.evl_kernel.proofs.CountLaws.{Table, one_at, stood, one_home, one_banked, as_standing, table_of, timed, places}
 use Rattle.evl_kernel.proofs.PlaceLaws.{placed-opening, run_placed}
 
 -- what is counted once is in one place
@@ -31,7 +31,7 @@ one_is n x at there is = ap (one_at n) there ∙ ap (λ (b : Bool). cond b 1 0) 
     number e = grind (arith, nat_tests)
 
 counted_in : (n : ℕ) (xs : Table) (line : ℕ) (at : lines.Installed ℕ) → slice_index_or xs line None ≡ Some at → at.callback ≡ n → 1 ≤ stood n xs
-counted_in n [] line at there is = absurd (none_some there)
+counted_in n [] line at there is = absurd (none-some _ there)
 counted_in n (x ∷ xs) zero at there is = omega (arith, one_is n x at there is)
 counted_in n (x ∷ xs) (suc line) at there is = omega (arith, counted_in n xs line at there is)
 
@@ -42,12 +42,12 @@ found_in n (Some at ∷ xs) some = by (found_in n xs) (at.callback == n) refl so
   where
     by : (1 ≤ stood n xs → (line : ℕ) × (now : lines.Installed ℕ) × (slice_index_or xs line None ≡ Some now) × (now.callback ≡ n))
         → (b : Bool) → (at.callback == n) ≡ b → 1 ≤ cond b 1 0 + stood n xs → (line : ℕ) × (now : lines.Installed ℕ) × (slice_index_or (Some at ∷ xs) line None ≡ Some now) × (now.callback ≡ n)
-    by later true is more = (0, at, refl, same_number at.callback n is)
+    by later true is more = (0, at, refl, eqb-true at.callback n is)
     by later false is more = let (line, now, there, its) = later (omega (arith, more)) in (suc line, now, there, its)
 
 twice_in : (n : ℕ) (xs : Table) (i j : ℕ) (a b : lines.Installed ℕ) → slice_index_or xs i None ≡ Some a → a.callback ≡ n → slice_index_or xs j None ≡ Some b → b.callback ≡ n
     → stood n xs ≤ 1 → i ≡ j
-twice_in n [] i j a b here is there too few = absurd (none_some here)
+twice_in n [] i j a b here is there too few = absurd (none-some _ here)
 twice_in n (x ∷ xs) zero zero a b here is there too few = refl
 twice_in n (x ∷ xs) zero (suc j) a b here is there too few = absurd (omega (arith, one_is n x a here is, counted_in n xs j b there too, few))
 twice_in n (x ∷ xs) (suc i) zero a b here is there too few = absurd (omega (arith, one_is n x b there too, counted_in n xs i a here is, few))
@@ -69,8 +69,8 @@ found_timer s n some =
     (found.0, by found.0 found.1 found.3 (timer_at s.clock found.0) refl (sym (lookup-map as_standing s.clock.timers found.0) ∙ found.2))
   where
     by : (m : ℕ) (at : lines.Installed ℕ) → at.callback ≡ n → (o : Option (Timer ℕ)) → timer_at s.clock m ≡ o → option_map as_standing o ≡ Some at → IsAt s n (in_timer m)
-    by m at is None there e = absurd (none_some e)
-    by m at is (Some t) there e = (t, there, ap (λ (x : lines.Installed ℕ). x.callback) (some_is e) ∙ is)
+    by m at is None there e = absurd (none-some _ e)
+    by m at is (Some t) there e = (t, there, ap (λ (x : lines.Installed ℕ). x.callback) (same_Some _ _ e) ∙ is)
 
 in_one : (s : State) (n : ℕ) → places s n ≡ 1 → IsInOnePlace (IsAt s n)
 in_one s n all = by (slice_get s.bank n) refl
@@ -160,18 +160,18 @@ module _ {C : Type 0} (r : RecordsView C) (n : ℕ) where
       held p here (Some callback) there e = (p, callback, here, there)
 
       by : (o : Option (BankPlace C)) → slice_get r.bank n ≡ o → option_map banked o ≡ Some b → StandsAt (whereabouts r) n place.at_home
-      by None here e = absurd (none_some e)
-      by (Some p) here e = held p here p.callback refl (ap (λ (x : Banked). x.home) (some_is e) ∙ home)
+      by None here e = absurd (none-some _ e)
+      by (Some p) here e = held p here p.callback refl (ap (λ (x : Banked). x.home) (same_Some _ _ e) ∙ home)
   stands_at (on_line stage line) (at, there, is) = by (lines.installed_at r.lines stage line) refl (sym (installed-renamed number_of r.lines stage line) ∙ there)
     where
       by : (o : Option (lines.Installed (Numbered C))) → lines.installed_at r.lines stage line ≡ o → option_map (named number_of) o ≡ Some at → StandsAt (whereabouts r) n (on_line stage line)
-      by None here e = absurd (none_some e)
-      by (Some now) here e = (now, here, ap (λ (x : lines.Installed ℕ). x.callback) (some_is e) ∙ is)
+      by None here e = absurd (none-some _ e)
+      by (Some now) here e = (now, here, ap (λ (x : lines.Installed ℕ). x.callback) (same_Some _ _ e) ∙ is)
   stands_at (in_timer m) (at, there, is) = by (timer_at r.clock m) refl (sym (timer-renamed number_of r.clock m) ∙ there)
     where
       by : (o : Option (Timer (Numbered C))) → timer_at r.clock m ≡ o → option_map (named_timer number_of) o ≡ Some at → StandsAt (whereabouts r) n (in_timer m)
-      by None here e = absurd (none_some e)
-      by (Some now) here e = (now, here, ap (λ (x : Timer ℕ). x.callback) (some_is e) ∙ is)
+      by None here e = absurd (none-some _ e)
+      by (Some now) here e = (now, here, ap (λ (x : Timer ℕ). x.callback) (same_Some _ _ e) ∙ is)
 
   one_stands : IsInOnePlace (IsAt (state_of r) n) → IsInOnePlace (StandsAt (whereabouts r) n)
   one_stands one = record { place = one.place; is = stands_at one.place one.is; alone = λ other stands. one.alone other (known_at other stands) }

@@ -5,9 +5,10 @@ use Rattle.std.specs.List.{list_all}
 use Rattle.std.proofs.lemmas.Bool.Decides.{nat_tests}
 use Rattle.evl_base.specs.Board.{board_fits}
 use Rattle.evl_base.specs.Limits.{within, count_fits, kind_fits, percent_fits, sizes_fit, stax_fits}
-use Rattle.std.proofs.lemmas.Bool.{false≢true}
+use Rattle.std.proofs.lemmas.Bool.{false≢true, and_parts}
 use Rattle.std.proofs.lemmas.List.{length-replicate}
 use Rattle.std.proofs.Math.Nat.{min-le_right}
+use Rattle.std.proofs.lemmas.Option.{none-some, same_Some}
 use Rattle.evl_base.specs.declared.board.Board.{Board}
 use Rattle.evl_base.specs.declared.stage.Stage.{Stage}
 use Rattle.evl_base.specs.declared.stage.Stage.TheVariants.{Inband, Oob}
@@ -50,12 +51,6 @@ use Rattle.evl_kernel.specs.declared.waits.Wait.{Wait}
 use Rattle.evl_kernel.proofs.ClockLaws.{clock-opening}
 use Rattle.evl_kernel.proofs.SchedLaws.{sched-fresh}
 
-none_some : {A : Type 0} {x : A} → None ≡ Some x → ⊥
-none_some e = cc
-
-some_is : {A : Type 0} {x y : A} → Some x ≡ Some y → x ≡ y
-some_is e = cc
-
 map-replicate : {A B : Type 0} (f : A → B) (n : ℕ) (x : A) → map f (replicate n x) ≡ replicate n (f x)
 map-replicate f zero x = refl
 map-replicate f (suc n) x = ap (λ xs. f x ∷ xs) (map-replicate f n x)
@@ -73,12 +68,12 @@ renamed-opening {X} {Y} name =
 
 pub nothing-opening : {X : Type 0} (stage : Stage) (line : ℕ) (at : lines.Installed X) → lines.installed_at lines.opening stage line ≡ Some at → ⊥
 unfolding lines.opening
-nothing-opening {X} Oob line at h = none_some (sym (at-none {A = lines.Installed X} line_count line) ∙ h)
-nothing-opening {X} Inband line at h = none_some (sym (at-none {A = lines.Installed X} line_count line) ∙ h)
+nothing-opening {X} Oob line at h = none-some _ (sym (at-none {A = lines.Installed X} line_count line) ∙ h)
+nothing-opening {X} Inband line at h = none-some _ (sym (at-none {A = lines.Installed X} line_count line) ∙ h)
 
 pub no_timer-opening : {X : Type 0} (threads n : ℕ) (at : Timer X) → clocks.timer_at (clocks.opening threads) n ≡ Some at → ⊥
 unfolding clocks.opening
-no_timer-opening {X} threads n at h = none_some (sym (at-none {A = Timer X} timer_count n) ∙ h)
+no_timer-opening {X} threads n at h = none-some _ (sym (at-none {A = Timer X} timer_count n) ∙ h)
 
 module _ {C : Type 0} (declared : C → ℕ) (plan : C → Plan) where
   abbrev pub handler_made : C → Handler
@@ -97,10 +92,10 @@ module _ {C : Type 0} (declared : C → ℕ) (plan : C → Plan) where
   -- the callback of a place is the one that it was filled with
   filled-at : (bank : List C) (places : List (BankPlace C)) (n : ℕ) (place : BankPlace C) (callback : C) → AreFilled declared plan bank places
       → slice_get places n ≡ Some place → place.callback ≡ Some callback → slice_get (handlers_in places) n ≡ Some (handler_made callback)
-  filled-at [] places n place callback none at has = absurd (none_some (ap (λ (ps : List (BankPlace C)). slice_get ps n) (sym none) ∙ at))
+  filled-at [] places n place callback none at has = absurd (none-some _ (ap (λ (ps : List (BankPlace C)). slice_get ps n) (sym none) ∙ at))
   filled-at (first ∷ bank) places zero place callback (its, others, split, its_has, is, rest) at has =
-      let same : its ≡ place = some_is (ap (λ (ps : List (BankPlace C)). slice_get ps 0) (sym split) ∙ at) in
-      let one : first ≡ callback = some_is (sym its_has ∙ (ap (λ (p : BankPlace C). p.callback) same ∙ has)) in
+      let same : its ≡ place = same_Some _ _ (ap (λ (ps : List (BankPlace C)). slice_get ps 0) (sym split) ∙ at) in
+      let one : first ≡ callback = same_Some _ _ (sym its_has ∙ (ap (λ (p : BankPlace C). p.callback) same ∙ has)) in
       ap (λ (ps : List (BankPlace C)). slice_get (handlers_in ps) 0) split ∙ (ap Some is ∙ ap (λ (x : C). Some (handler_made x)) one)
   filled-at (first ∷ bank) places (suc n) place callback (its, others, split, its_has, is, rest) at has =
       ap (λ (ps : List (BankPlace C)). slice_get (handlers_in ps) (suc n)) split
@@ -170,8 +165,8 @@ nobody_stands board (Mutex id) t = nobody_of mutexes.opened in_mutex (λ c t. re
 
 -- and each is sound
 pub sound_of : {C X : Type 0} (opened : C → X) (P : X → Type 0) → ((c : C) → P (opened c)) → (counts : List C) (n : ℕ) (x : X) → slice_get (map opened counts) n ≡ Some x → P x
-sound_of opened P each [] n x is = absurd (none_some is)
-sound_of opened P each (c ∷ counts) zero x is = subst P (some_is is) (each c)
+sound_of opened P each [] n x is = absurd (none-some _ is)
+sound_of opened P each (c ∷ counts) zero x is = subst P (same_Some _ _ is) (each c)
 sound_of opened P each (c ∷ counts) (suc n) x is = sound_of opened P each counts n x is
 
 -- a board that fits has few threads
@@ -179,38 +174,30 @@ first_of_six : (a b c d e f : Bool) → (a && b && c && d && e && f) ≡ true �
 first_of_six true b c d e f h = refl
 first_of_six false b c d e f h = absurd (false≢true h)
 
-first_of_two : (a b : Bool) → (a && b) ≡ true → a ≡ true
-first_of_two true b h = refl
-first_of_two false b h = absurd (false≢true h)
-
-second_of_two : (a b : Bool) → (a && b) ≡ true → b ≡ true
-second_of_two true b h = h
-second_of_two false b h = absurd (false≢true h)
-
 pub threads_few : (board : Board) → board_fits board ≡ true → board.threads ≤ thread_limit
 threads_few b fits =
-    at_most (second_of_two (nat_le 1 b.threads) (nat_le b.threads thread_limit)
-    (first_of_six (within 1 thread_limit b.threads) (list_all count_fits b.sems.items) (list_all sizes_fit b.xbufs.items) (list_all kind_fits b.mutexes.items) (list_all percent_fits b.groups.items) (list_all stax_fits b.staxes.items) fits))
+    at_most ((and_parts (nat_le 1 b.threads) (nat_le b.threads thread_limit)
+    (first_of_six (within 1 thread_limit b.threads) (list_all count_fits b.sems.items) (list_all sizes_fit b.xbufs.items) (list_all kind_fits b.mutexes.items) (list_all percent_fits b.groups.items) (list_all stax_fits b.staxes.items) fits)).1)
   where
     at_most : nat_le b.threads thread_limit ≡ true → b.threads ≤ thread_limit
     at_most e = grind (arith, nat_tests)
 
 -- cross-buffers, whose rings are within their limits
 sound_xbufs : (sizes : List (ℕ × ℕ)) → list_all sizes_fit sizes ≡ true → (n : ℕ) (x : Xbuf) → slice_get (map (λ (s : ℕ × ℕ). xbufs.opened s.0 s.1) sizes) n ≡ Some x → IsSoundXbuf x
-sound_xbufs [] fits n x is = absurd (none_some is)
+sound_xbufs [] fits n x is = absurd (none-some _ is)
 sound_xbufs (s ∷ sizes) fits zero x is =
-    let both = first_of_two (sizes_fit s) (list_all sizes_fit sizes) fits in
-    subst IsSoundXbuf (some_is is) (record {
-      inbound = sound-empty s.0 (ring (first_of_two (within 1 256 s.0) (within 1 256 s.1) both));
-      outbound = sound-empty s.1 (ring (second_of_two (within 1 256 s.0) (within 1 256 s.1) both));
+    let both = (and_parts (sizes_fit s) (list_all sizes_fit sizes) fits).0 in
+    subst IsSoundXbuf (same_Some _ _ is) (record {
+      inbound = sound-empty s.0 (ring ((and_parts (within 1 256 s.0) (within 1 256 s.1) both).0));
+      outbound = sound-empty s.1 (ring ((and_parts (within 1 256 s.0) (within 1 256 s.1) both).1));
     })
   where
     at_most : (n : ℕ) → nat_le n 256 ≡ true → n ≤ 256
     at_most n e = grind (arith, nat_tests)
 
     ring : {n : ℕ} → within 1 256 n ≡ true → n ≤ 256
-    ring {n} e = at_most n (second_of_two (nat_le 1 n) (nat_le n 256) e)
-sound_xbufs (s ∷ sizes) fits (suc n) x is = sound_xbufs sizes (second_of_two (sizes_fit s) (list_all sizes_fit sizes) fits) n x is
+    ring {n} e = at_most n ((and_parts (nat_le 1 n) (nat_le n 256) e).1)
+sound_xbufs (s ∷ sizes) fits (suc n) x is = sound_xbufs sizes ((and_parts (sizes_fit s) (list_all sizes_fit sizes) fits).1) n x is
 
 third_of_six : (a b c d e f : Bool) → (a && b && c && d && e && f) ≡ true → c ≡ true
 third_of_six true true true d e f h = refl

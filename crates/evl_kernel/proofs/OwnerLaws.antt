@@ -2,9 +2,11 @@
 use Rattle.std.proofs.Common.{◌≡◌, ◌≤◌, ◌<◌, ℕ, zero, suc, ◌==◌, Bool, true, false, ◌||◌, List, [], ◌∷◌, Option, Some, None, is_some, option_map, Result, Ok, Err, slice_get, slice_set, slice_index_or, if◌then◌else◌, refl, sym, ap, ◌∙◌, subst, arith}
 use Rattle.std.specs.List.{list_any}
 use Rattle.std.specs.Option.{option_map_or}
-use Rattle.std.proofs.lemmas.Bool.{false≢true}
+use Rattle.std.proofs.lemmas.Bool.{false≢true, eqb-true}
 use Rattle.std.proofs.lemmas.Bool.Decides.{nat_tests}
 use Rattle.std.proofs.lemmas.List.{length-replicate}
+use Rattle.std.proofs.lemmas.Option.{same_Some}
+use Rattle.evl_base.proofs.Plain.{some-none}
 use Rattle.evl_base.specs.Board.{board_fits}
 use Rattle.evl_base.specs.declared.board.Board.{Board}
 use Rattle.evl_base.specs.declared.call.Call.{Call}
@@ -63,15 +65,6 @@ use Rattle.evl_kernel.proofs.AskedSteps.{MayRaise}
 use Rattle.evl_kernel.proofs.StateWalk.{KeptByEach, KeptByOwn, run_holds}
 use Rattle.evl_kernel.proofs.WaitRecords.{index_there}
 
-same_number : (m n : ℕ) → (m == n) ≡ true → m ≡ n
-same_number m n e = grind (arith, nat_tests)
-
-some_none : {A : Type 0} {x : A} → Some x ≡ None → ⊥
-some_none e = cc
-
-some_is : {A : Type 0} {x y : A} → Some x ≡ Some y → x ≡ y
-some_is e = cc
-
 -- somebody sits there
 abbrev HasSeat : List (Option Seat) → ℕ → Type 0
 HasSeat seats t = is_some (slice_index_or seats t None) ≡ true
@@ -110,7 +103,7 @@ module _ (s : State) (caller : ℕ) (away : (on : Awaited) → stands_for (eleme
   owns_nothing = by (owns_in s.elements.mutexes caller) (passes (stranger_refusal s.sched caller) (owner_refusal s caller) unowned).1
     where
       by : (b : Bool) → (if b then Some Busy else None) ≡ None → b ≡ false
-      by true e = absurd (some_none e)
+      by true e = absurd (some-none _ e)
       by false e = refl
 
   not_first : (a b : Bool) → (a || b) ≡ false → a ≡ false
@@ -123,7 +116,7 @@ module _ (s : State) (caller : ℕ) (away : (on : Awaited) → stands_for (eleme
 
   none_owned : (ms : List Mutex) → list_any (is_owned_by caller) ms ≡ false → (n : ℕ) (m : Mutex) → slice_get ms n ≡ Some m → is_owned_by caller m ≡ false
   none_owned [] none n m here = cc
-  none_owned (x ∷ xs) none zero m here = ap (is_owned_by caller) (sym (some_is here)) ∙ not_first (is_owned_by caller x) (list_any (is_owned_by caller) xs) none
+  none_owned (x ∷ xs) none zero m here = ap (is_owned_by caller) (sym (same_Some _ _ here)) ∙ not_first (is_owned_by caller x) (list_any (is_owned_by caller) xs) none
   none_owned (x ∷ xs) none (suc n) m here = none_owned xs (not_second (is_owned_by caller x) (list_any (is_owned_by caller) xs) none) n m here
 
   unrecorded : (n : ℕ) (m : Mutex) → slice_get s.elements.mutexes n ≡ Some m → is_recorded m caller ≡ false
@@ -136,7 +129,7 @@ module _ (s : State) (caller : ℕ) (away : (on : Awaited) → stands_for (eleme
   seated_detached h n m here t is = by (caller == t) refl
     where
       by : (b : Bool) → (caller == t) ≡ b → HasSeat (slice_set s.sched.seats caller None) t
-      by true same = absurd (false≢true (sym (unrecorded n m here) ∙ (ap (is_recorded m) (same_number caller t same) ∙ is)))
+      by true same = absurd (false≢true (sym (unrecorded n m here) ∙ (ap (is_recorded m) (eqb-true caller t same) ∙ is)))
       by false ne = ap (λ (o : Option Seat). is_some o) (index_there s.sched.seats caller t None None ne) ∙ h n m here t is
 
 seated_threads : (s : State) (caller : ℕ) (step : ThreadStep) → ((on : Awaited) → stands_for (elements s) on caller ≡ false) → AreSeated s → Leaves AreSeated (thread_effect s caller step)

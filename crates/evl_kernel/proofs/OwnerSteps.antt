@@ -1,7 +1,7 @@
 -- Who is recorded at a mutex after a step of it: who was, and whom the step names.
 use Rattle.std.proofs.Common.{◌≡◌, ℕ, ◌==◌, ◌⊎◌, inl, inr, Bool, true, false, not, ◌&&◌, ◌||◌, List, [], ◌∷◌, Some, None, is_some, Ok, Err, slice_get, if◌then◌else◌, refl, sym, ap, ◌∙◌, subst, arith}
 use Rattle.std.specs.Option.{option_map_or}
-use Rattle.std.proofs.lemmas.Bool.{false≢true}
+use Rattle.std.proofs.lemmas.Bool.{false≢true, and_parts, eqb-true, or_cases, or_left, or_right}
 use Rattle.std.proofs.lemmas.Bool.Decides.{nat_tests}
 use Rattle.evl_base.specs.declared.refusal.Refusal.TheVariants.{Busy, Invalid, NotOwner}
 use Rattle.evl_base.specs.declared.reply.Reply.{Reply}
@@ -22,25 +22,6 @@ use Rattle.evl_kernel.specs.Standing.{in_mutex}
 use Rattle.evl_kernel.specs.OwnerOrder.{is_recorded}
 use Rattle.evl_kernel.proofs.ElementSteps.{err_ok, nth-made, ok_is}
 use Rattle.evl_kernel.proofs.QueueSteps.{all_at}
-
-same_number : (m n : ℕ) → (m == n) ≡ true → m ≡ n
-same_number m n e = grind (arith, nat_tests)
-
-either : (a b : Bool) → (a || b) ≡ true → (a ≡ true) ⊎ (b ≡ true)
-either true b e = inl refl
-either false b e = inr e
-
-or_first : (a b : Bool) → a ≡ true → (a || b) ≡ true
-or_first true b e = refl
-or_first false b e = absurd (false≢true e)
-
-or_second : (a b : Bool) → b ≡ true → (a || b) ≡ true
-or_second true b e = refl
-or_second false b e = e
-
-and_second : (a b : Bool) → (a && b) ≡ true → b ≡ true
-and_second true b e = e
-and_second false b e = absurd (false≢true e)
 
 -- whatever is said of threads
 module _ (A : ℕ → Type 0) where
@@ -65,18 +46,18 @@ module _ (A : ℕ → Type 0) where
 
   module _ (m : Mutex) (h : OfRecorded m) where
     waits : (t : ℕ) → stands_in t m.waiters ≡ true → A t
-    waits t is = h t (or_second (is_owned_by t m) (stands_in t m.waiters) is)
+    waits t is = h t (or_right (is_owned_by t m) (stands_in t m.waiters) is)
 
     after_claim : (w : Waiter) (owner : ℕ) → A w.thread → A owner → OfRecorded (mutex.claimed m w owner)
-    after_claim w owner mine its t is = by (either (owner == t) (stands_in t (enqueued w m.waiters)) is)
+    after_claim w owner mine its t is = by (or_cases (owner == t) (stands_in t (enqueued w m.waiters)) is)
       where
         waiting : ((w.thread == t) ≡ true) ⊎ (stands_in t m.waiters ≡ true) → A t
-        waiting (inl same) = subst A (same_number w.thread t same) mine
+        waiting (inl same) = subst A (eqb-true w.thread t same) mine
         waiting (inr stood) = waits t stood
 
         by : ((owner == t) ≡ true) ⊎ (stands_in t (enqueued w m.waiters) ≡ true) → A t
-        by (inl same) = subst A (same_number owner t same) its
-        by (inr stands) = waiting (either (w.thread == t) (stands_in t m.waiters) (sym (stands-enqueued w m.waiters t) ∙ stands))
+        by (inl same) = subst A (eqb-true owner t same) its
+        by (inr stands) = waiting (or_cases (w.thread == t) (stands_in t m.waiters) (sym (stands-enqueued w m.waiters t) ∙ stands))
 
     after_release : OfRecorded (mutex.released m).after
     after_release = by m.waiters refl
@@ -87,28 +68,28 @@ module _ (A : ℕ → Type 0) where
           where
             stood : (b : Bool) → (option_map_or (λ (o : ℕ). o == t) (if b then Some w.thread else None) false || stands_in t ws) ≡ true → stands_in t (w ∷ ws) ≡ true
             stood true e = e
-            stood false e = or_second (w.thread == t) (stands_in t ws) e
+            stood false e = or_right (w.thread == t) (stands_in t ws) e
 
     after_raise : (thread : ℕ) → A thread → OfRecorded (mutex.raised m thread)
-    after_raise thread its t is = by (either (thread == t) (stands_in t m.waiters) is)
+    after_raise thread its t is = by (or_cases (thread == t) (stands_in t m.waiters) is)
       where
         by : ((thread == t) ≡ true) ⊎ (stands_in t m.waiters ≡ true) → A t
-        by (inl same) = subst A (same_number thread t same) its
+        by (inl same) = subst A (eqb-true thread t same) its
         by (inr stood) = waits t stood
 
     after_drop : (thread : ℕ) → OfRecorded (mutex.drop_waiter thread m)
     after_drop thread t is = by (is_nobody (dropped thread m.waiters) && not (has_ceiling m)) is
       where
         stood : stands_in t (dropped thread m.waiters) ≡ true → A t
-        stood e = waits t (and_second (not (t == thread)) (stands_in t m.waiters) (sym (stands-dropped thread m.waiters t) ∙ e))
+        stood e = waits t ((and_parts (not (t == thread)) (stands_in t m.waiters) (sym (stands-dropped thread m.waiters t) ∙ e)).1)
 
         owned : (is_owned_by t m ≡ true) ⊎ (stands_in t (dropped thread m.waiters) ≡ true) → A t
-        owned (inl e) = h t (or_first (is_owned_by t m) (is_waited_for_by t m) e)
+        owned (inl e) = h t (or_left (is_owned_by t m) (is_waited_for_by t m) e)
         owned (inr e) = stood e
 
         by : (b : Bool) → (option_map_or (λ (o : ℕ). o == t) (if b then None else m.owner) false || stands_in t (dropped thread m.waiters)) ≡ true → A t
         by true e = stood e
-        by false e = owned (either (is_owned_by t m) (stands_in t (dropped thread m.waiters)) e)
+        by false e = owned (or_cases (is_owned_by t m) (stands_in t (dropped thread m.waiters)) e)
 
   left_is : (x p : Mutex) (said reply : Reply) → ◌≡◌ {A = Answered Mutex} (Ok (said, x)) (Ok (reply, p)) → OfRecorded x → OfRecorded p
   left_is x p said reply made h = subst OfRecorded (ap (λ (y : Reply × Mutex). y.1) (ok_is made)) h

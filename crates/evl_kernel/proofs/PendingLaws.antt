@@ -1,8 +1,10 @@
 -- After each call something is due only where line 0 is pending out-of-band.
 use Rattle.std.proofs.Common.{◌≡◌, ℕ, zero, suc, ◌+◌, ◌≤◌, ◌==◌, min, replicate, nat_le, Bool, true, false, not, ◌&&◌, ◌||◌, List, [], ◌∷◌, length, map, Option, Some, None, Result, Ok, Err, is_some, unwrap_or, slice_get, slice_set, if◌then◌else◌, refl, sym, ap, ◌∙◌, subst, arith, length-append}
 use Rattle.std.specs.Option.{option_map, option_map_or}
-use Rattle.std.proofs.lemmas.Bool.{false≢true}
+use Rattle.std.proofs.lemmas.Bool.{false≢true, or_right}
 use Rattle.std.proofs.lemmas.Bool.Decides.{nat_tests}
+use Rattle.std.proofs.lemmas.Option.{none-some}
+use Rattle.evl_base.proofs.Plain.{some-none}
 use Rattle.evl_base.specs.Limits.{thread_limit}
 use Rattle.evl_base.specs.declared.board.Board.{Board}
 use Rattle.evl_base.specs.declared.call.Call.{Call}
@@ -53,31 +55,25 @@ use Rattle.evl_kernel.proofs.ThreadSteps.{leaves-threads}
 use Rattle.evl_kernel.proofs.WaitSteps.{KeptByWakes, leaves-touched, leaves-beginning, leaves-finish, leaves-raising}
 use Rattle.evl_kernel.proofs.DueLaws.{one_played, none_played}
 
-none_some : {A : Type 0} {x : A} → None ≡ Some x → ⊥
-none_some e = cc
-
-some_none : {A : Type 0} {x : A} → Some x ≡ None → ⊥
-some_none e = cc
-
 -- nothing is next exactly where no item is due
 module _ where
   least_some : (d : ℕ × Item) (ds : List (ℕ × Item)) → option_map (λ e. e.1) (least_in (d ∷ ds)) ≡ None → ⊥
   least_some d ds = by (least_in ds)
     where
       by : (o : Option (ℕ × Item)) → option_map (λ e. e.1) (sooner (Some d) o) ≡ None → ⊥
-      by None e = some_none e
+      by None e = some-none _ e
       by (Some b) e = by_date (nat_le d.0 b.0) e
         where
           by_date : (c : Bool) → option_map (λ e. e.1) (if c then Some d else Some b) ≡ None → ⊥
-          by_date true e = some_none e
-          by_date false e = some_none e
+          by_date true e = some-none _ e
+          by_date false e = some-none _ e
 
   none_zero : (items : List (ℕ × Item)) → option_map (λ d. d.1) (earliest items) ≡ None → length items ≡ 0
   none_zero [] e = refl
   none_zero (d ∷ ds) e = absurd (least_some d ds (ap (option_map (λ d. d.1)) (sym (earliest-least (d ∷ ds))) ∙ e))
 
   some_one : (items : List (ℕ × Item)) (found : Item) → option_map (λ d. d.1) (earliest items) ≡ Some found → 1 ≤ length items
-  some_one [] found e = absurd (none_some (ap (option_map (λ d. d.1)) (sym (earliest-least [])) ∙ e))
+  some_one [] found e = absurd (none-some _ (ap (option_map (λ d. d.1)) (sym (earliest-least [])) ∙ e))
   some_one (d ∷ ds) found e = omega arith
 
 module _ {C : Type 0} where
@@ -145,10 +141,6 @@ Pends p = lines.is_pending p Oob 0 ≡ true
 abbrev IsHeld : State → Type 0
 IsHeld s = 1 ≤ due_count s.clock → Pends s.lines
 
-or_true : (a b : Bool) → b ≡ true → (a || b) ≡ true
-or_true true b e = refl
-or_true false b e = e
-
 pends-posted : (p : lines.Pipeline ℕ) (stage : Stage) (line : ℕ) → Pends p → Pends (lines.posted p stage line)
 pends-posted p Inband line h = by (lines.has_callback p Inband line)
   where
@@ -158,7 +150,7 @@ pends-posted p Inband line h = by (lines.has_callback p Inband line)
 pends-posted p Oob line h = by (lines.has_callback p Oob line)
   where
     by : (b : Bool) → Pends (if b then lines.with_side p Oob (lines.logged p.oob line) else record p { spurious = counted p.spurious line })
-    by true = contains-insert p.oob.pending line 0 ∙ or_true (line == 0) (contains p.oob.pending 0) h
+    by true = contains-insert p.oob.pending line 0 ∙ or_right (line == 0) (contains p.oob.pending 0) h
     by false = h
 
 -- an event of line 0 pends
@@ -205,7 +197,7 @@ free_other p line stage none = by (line == 0) refl
     by true is = absurd (never (grind (arith, nat_tests)))
       where
         never : line ≡ 0 → ⊥
-        never zero_is = some_none (sym (sym none ∙ ap (λ (l : ℕ). lines.free_refusal p l stage) zero_is) ∙ refl)
+        never zero_is = some-none _ (sym (sym none ∙ ap (λ (l : ℕ). lines.free_refusal p l stage) zero_is) ∙ refl)
 
 held-home : (s : State) (number : ℕ) → IsHeld s → IsHeld (come_home s number)
 held-home s number h = by (slice_get s.bank number)

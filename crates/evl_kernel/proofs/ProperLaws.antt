@@ -1,8 +1,10 @@
 -- Each kind of step leaves the waits proper.
 use Rattle.std.proofs.Common.{◌≡◌, ◌≤◌, ℕ, ◌==◌, Bool, true, false, ◌||◌, List, [], ◌∷◌, length, Option, Some, None, Ok, Err, refl, sym, ap, ◌∙◌, subst, arith}
-use Rattle.std.proofs.lemmas.Bool.{false≢true}
+use Rattle.std.proofs.lemmas.Bool.{false≢true, eq-eqb, eqb-true, or_parts, or_right}
 use Rattle.std.proofs.lemmas.Bool.Decides.{nat_tests}
 use Rattle.std.proofs.lemmas.List.{length-set}
+use Rattle.std.proofs.lemmas.Option.{same_Some}
+use Rattle.evl_base.proofs.Plain.{eqb-swap_false}
 use Rattle.evl_base.specs.Limits.{thread_limit}
 use Rattle.evl_base.specs.declared.reply.Reply.{Reply}
 use Rattle.evl_base.specs.declared.reply.Reply.TheVariants.{TimedOut}
@@ -18,27 +20,9 @@ use Rattle.evl_kernel.specs.WaitOrder.{WaitsAreProper}
 use Rattle.evl_kernel.specs.Records.{WaitsAreKept}
 use Rattle.evl_kernel.specs.Standing.{is_served, stands_for}
 use Rattle.evl_kernel.proofs.LeavesLaws.{Leaves}
-use Rattle.evl_kernel.proofs.ElementSteps.{some_is}
 use Rattle.evl_kernel.proofs.QueueLaws.{Dropped, IsAsked, Stepped, asked_goes, drop_goes}
 use Rattle.evl_kernel.proofs.WaitLaws.{ProperBeside, proper_all, proper_beside, proper_woken}
 use Rattle.evl_kernel.proofs.WaitRecords.{away_after, idle_away}
-
-same_number : (m n : ℕ) → (m == n) ≡ true → m ≡ n
-same_number m n e = grind (arith, nat_tests)
-
-is_number : (m n : ℕ) → m ≡ n → (m == n) ≡ true
-is_number m n e = grind (arith, nat_tests)
-
-swapped : (m n : ℕ) → (m == n) ≡ false → (n == m) ≡ false
-swapped m n e = grind (arith, nat_tests)
-
-or_true : (a b : Bool) → b ≡ true → (a || b) ≡ true
-or_true true b e = refl
-or_true false b e = e
-
-neither : (a b : Bool) → (a || b) ≡ false → (a ≡ false) × (b ≡ false)
-neither true b e = absurd (false≢true (sym e))
-neither false b e = (refl, e)
 
 -- proper, with a place for the wait of each thread
 pub record IsProper (n : ℕ) (s : State) : Type 0 where
@@ -56,8 +40,8 @@ pub is_woken : (n : ℕ) (s : State) (served : List (ℕ × Reply)) → s.thread
 is_woken n s [] threads_are places h away = record { proper = proper_all s h; threads_are = threads_are; places = places }
 is_woken n s ((thread, outcome) ∷ others) threads_are places h away =
     is_woken n (woken s thread outcome) others threads_are (length-set s.waits thread _ ∙ places)
-    (proper_woken s thread outcome (λ t. is_served t others) h (away thread (ap (λ (b : Bool). b || is_served thread others) (is_number thread thread refl))))
-    (λ t is. away t (or_true (thread == t) (is_served t others) is))
+    (proper_woken s thread outcome (λ t. is_served t others) h (away thread (ap (λ (b : Bool). b || is_served thread others) (eq-eqb thread thread refl))))
+    (λ t is. away t (or_right (thread == t) (is_served t others) is))
 
 module _ (n : ℕ) (few : n ≤ thread_limit) (s : State) (h : IsProper n s) where
   -- a step of an element: these are let go
@@ -90,7 +74,7 @@ module _ (n : ℕ) (few : n ≤ thread_limit) (s : State) (h : IsProper n s) whe
       or_second false b e f = e
 
       by : (t : ℕ) → ((thread == t) || is_served t served) ≡ true → (on : Awaited) (b : Bool) → (thread == t) ≡ b → stands_for after on t ≡ false
-      by t is on true same = ap (stands_for after on) (sym (same_number thread t same)) ∙ away on
+      by t is on true same = ap (stands_for after on) (sym (eqb-true thread t same)) ∙ away on
       by t is on false other = others t (or_second (thread == t) (is_served t served) is other) on
 
   -- it leaves the queue in which it waited
@@ -102,7 +86,7 @@ module _ (n : ℕ) (few : n ≤ thread_limit) (s : State) (h : IsProper n s) whe
         test : (b : Bool) → stands_for after on thread ≡ b → b ≡ false
         test false stands = refl
         test true stands =
-            let same : on ≡ w.on = sym (ap (λ (x : Wait). x.on) (some_is (sym its ∙ h.proper.stands on thread (gone.drops.old on thread stands)))) in
+            let same : on ≡ w.on = sym (ap (λ (x : Wait). x.on) (same_Some _ _ (sym its ∙ h.proper.stands on thread (gone.drops.old on thread stands)))) in
             sym stands ∙ (ap (λ (x : Awaited). stands_for after x thread) same ∙ gone.drops.gone)
 
     served_away : (t : ℕ) → is_served t served ≡ true → (on : Awaited) → stands_for after on t ≡ false
@@ -112,14 +96,14 @@ module _ (n : ℕ) (few : n ≤ thread_limit) (s : State) (h : IsProper n s) whe
         test false stands = refl
         test true stands =
             let went = gone.drops.left t is in
-            let same : on ≡ went.on = ap (λ (x : Wait). x.on) (some_is (sym (h.proper.stands on t (gone.drops.old on t stands)) ∙ h.proper.stands went.on t went.stood)) in
+            let same : on ≡ went.on = ap (λ (x : Wait). x.on) (same_Some _ _ (sym (h.proper.stands on t (gone.drops.old on t stands)) ∙ h.proper.stands went.on t went.stood)) in
             sym stands ∙ (ap (λ (x : Awaited). stands_for after x t) same ∙ went.gone)
 
     ended : IsProper n (all_woken (with_elements (woken s thread TimedOut) after) served)
     ended = ends_over thread after served (record {
       sound = gone.sound;
-      stands = λ on t ne stands. h.proper.stands on t (sym (gone.drops.same on t (swapped thread t (neither (thread == t) (is_served t served) ne).0) (neither (thread == t) (is_served t served) ne).1) ∙ stands);
-      waits = λ on t ne is. gone.drops.same on t (swapped thread t (neither (thread == t) (is_served t served) ne).0) (neither (thread == t) (is_served t served) ne).1 ∙ h.proper.waits on t is;
+      stands = λ on t ne stands. h.proper.stands on t (sym (gone.drops.same on t (eqb-swap_false thread t (or_parts (thread == t) (is_served t served) ne).0) (or_parts (thread == t) (is_served t served) ne).1) ∙ stands);
+      waits = λ on t ne is. gone.drops.same on t (eqb-swap_false thread t (or_parts (thread == t) (is_served t served) ne).0) (or_parts (thread == t) (is_served t served) ne).1 ∙ h.proper.waits on t is;
       ready = λ t ne. h.proper.ready t;
       dated = λ t date ne. h.proper.dated t date;
     }) left_away served_away

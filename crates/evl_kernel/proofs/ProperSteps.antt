@@ -1,9 +1,11 @@
 -- Waits that begin and end, and steps on threads, leave the waits proper; so does each run.
 use Rattle.std.proofs.Common.{◌≡◌, ◌<◌, ◌≤◌, ℕ, ◌==◌, ◌⊎◌, inl, inr, nat_le, min, Bool, true, false, not, ◌&&◌, ◌||◌, List, replicate, Option, Some, None, Ok, Err, is_none, is_some, slice_set, slice_index_or, if◌then◌else◌, refl, sym, ap, ◌∙◌, subst, arith}
 use Rattle.std.specs.Option.{option_map_or}
-use Rattle.std.proofs.lemmas.Bool.{false≢true}
+use Rattle.std.proofs.lemmas.Bool.{false≢true, and_parts, eqb-true}
 use Rattle.std.proofs.lemmas.Bool.Decides.{nat_tests}
 use Rattle.std.proofs.lemmas.List.{length-set, length-replicate}
+use Rattle.std.proofs.lemmas.Option.{none-some, same_Some}
+use Rattle.evl_base.proofs.Plain.{eqb-swap_false, some-none}
 use Rattle.evl_base.specs.Limits.{thread_limit}
 use Rattle.evl_base.specs.Board.{board_fits}
 use Rattle.evl_base.specs.declared.board.Board.{Board}
@@ -48,24 +50,6 @@ use Rattle.evl_kernel.proofs.WaitLaws.{ProperBeside, proper_all, proper_beside, 
 use Rattle.evl_kernel.proofs.WaitRecords.{away_after, away_of, idle_away, index_here, index_there}
 use Rattle.evl_kernel.proofs.ProperLaws.{IsProper, is_woken, kept_of, proper_asked, proper_expired}
 
-none_some : {A : Type 0} {x : A} → None ≡ Some x → ⊥
-none_some e = cc
-
-some_none : {A : Type 0} {x : A} → Some x ≡ None → ⊥
-some_none e = cc
-
-some_is : {A : Type 0} {x y : A} → Some x ≡ Some y → x ≡ y
-some_is e = cc
-
-same_number : (m n : ℕ) → (m == n) ≡ true → m ≡ n
-same_number m n e = grind (arith, nat_tests)
-
-is_number : (m n : ℕ) → m ≡ n → (m == n) ≡ true
-is_number m n e = grind (arith, nat_tests)
-
-swapped : (m n : ℕ) → (m == n) ≡ false → (n == m) ≡ false
-swapped m n e = grind (arith, nat_tests)
-
 and_true : (b : Bool) → (b && true) ≡ b
 and_true true = refl
 and_true false = refl
@@ -73,10 +57,6 @@ and_true false = refl
 and_false : (b : Bool) → (b && false) ≡ false
 and_false true = refl
 and_false false = refl
-
-first_true : (a b : Bool) → (a && b) ≡ true → a ≡ true
-first_true true b e = refl
-first_true false b e = absurd (false≢true e)
 
 -- A thread whose wait doesn't go on is ready as its stage says, has no deadline, and stands nowhere.
 module _ (n : ℕ) (few : n ≤ thread_limit) (s : State) (h : IsProper n s) (thread : ℕ) (over : over_if (wait_at s thread)) where
@@ -125,8 +105,8 @@ passed_all s caller asked other = by (ends_a_wait (task_of asked)) other (wait_a
     by : (ending : Bool) → ending ≡ false → (o : Option Wait) → wait_at s caller ≡ o → (out : Bool) → nat_le s.threads caller ≡ out
         → (if not ending && is_some o then Some Busy else (if out then Some Unknown else None)) ≡ None → Passed s caller
     by true e o its out is h = absurd (false≢true (sym e))
-    by false e (Some w) its out is h = absurd (some_none h)
-    by false e None its true is h = absurd (some_none h)
+    by false e (Some w) its out is h = absurd (some-none _ h)
+    by false e None its true is h = absurd (some-none _ h)
     by false e None its false is h = record { idle = its; there = below s.threads caller is }
 
 pub over_none : (s : State) (thread : ℕ) → wait_at s thread ≡ None → over_if (wait_at s thread)
@@ -236,17 +216,17 @@ module _ (n : ℕ) (few : n ≤ thread_limit) where
 
           stands_ : (other : Awaited) (t : ℕ) → stands_for after other t ≡ true → (b : Bool) → (t == caller) ≡ b → wait_of (slice_set s.waits caller (Some (going_on on))) t ≡ Some (going_on other)
           stands_ other t is true same =
-              subst (λ (m : ℕ). wait_of (slice_set s.waits caller (Some (going_on on))) m ≡ Some (going_on other)) (sym (same_number t caller same))
-              (mine ∙ ap (λ (x : Awaited). Some (going_on x)) (alone other (comes.alone other (ap (stands_for after other) (sym (same_number t caller same)) ∙ is))))
+              subst (λ (m : ℕ). wait_of (slice_set s.waits caller (Some (going_on on))) m ≡ Some (going_on other)) (sym (eqb-true t caller same))
+              (mine ∙ ap (λ (x : Awaited). Some (going_on x)) (alone other (comes.alone other (ap (stands_for after other) (sym (eqb-true t caller same)) ∙ is))))
           stands_ other t is false ne = theirs t ne ∙ h.proper.stands other t (sym (comes.same other t ne) ∙ is)
 
           on_is : (other : Awaited) → wait_of (slice_set s.waits caller (Some (going_on on))) caller ≡ Some (going_on other) → on ≡ other
-          on_is other is = ap (λ (w : Wait). w.on) (some_is (sym mine ∙ is))
+          on_is other is = ap (λ (w : Wait). w.on) (same_Some _ _ (sym mine ∙ is))
 
           waits_ : (other : Awaited) (t : ℕ) → wait_of (slice_set s.waits caller (Some (going_on on))) t ≡ Some (going_on other) → (b : Bool) → (t == caller) ≡ b → stands_for after other t ≡ true
           waits_ other t is true same =
-              subst (λ (m : ℕ). stands_for after other m ≡ true) (sym (same_number t caller same))
-              (ap (λ (x : Awaited). stands_for after x caller) (sym (on_is other (ap (wait_of (slice_set s.waits caller (Some (going_on on)))) (sym (same_number t caller same)) ∙ is))) ∙ comes.there)
+              subst (λ (m : ℕ). stands_for after other m ≡ true) (sym (eqb-true t caller same))
+              (ap (λ (x : Awaited). stands_for after x caller) (sym (on_is other (ap (wait_of (slice_set s.waits caller (Some (going_on on)))) (sym (eqb-true t caller same)) ∙ is))) ∙ comes.there)
           waits_ other t is false ne = comes.same other t ne ∙ h.proper.waits other t (sym (theirs t ne) ∙ is)
 
           block : Option Wait → Bool
@@ -254,7 +234,7 @@ module _ (n : ℕ) (few : n ≤ thread_limit) where
 
           ready_ : (t : ℕ) (b : Bool) → (t == caller) ≡ b → is_ready (unready s.sched caller) t ≡ (is_oob (stage_of s.sched t) && not (block (wait_of (slice_set s.waits caller (Some (going_on on))) t)))
           ready_ t true same =
-              subst (λ (m : ℕ). is_ready (unready s.sched caller) m ≡ (is_oob (stage_of s.sched m) && not (block (wait_of (slice_set s.waits caller (Some (going_on on))) m)))) (sym (same_number t caller same))
+              subst (λ (m : ℕ). is_ready (unready s.sched caller) m ≡ (is_oob (stage_of s.sched m) && not (block (wait_of (slice_set s.waits caller (Some (going_on on))) m)))) (sym (eqb-true t caller same))
               (unready-itself s.sched caller ∙ sym (ap (λ (o : Option Wait). is_oob (stage_of s.sched caller) && not (block o)) mine ∙ and_false (is_oob (stage_of s.sched caller))))
           ready_ t false ne =
               unready-other s.sched caller t ne ∙ (h.proper.ready t ∙ ap (λ (o : Option Wait). is_oob (stage_of s.sched t) && not (block o)) (sym (theirs t ne)))
@@ -262,8 +242,8 @@ module _ (n : ℕ) (few : n ≤ thread_limit) where
           dated_ : (t date : ℕ) → slice_index_or (slice_set s.clock.deadlines caller until) t None ≡ Some date → (b : Bool) → (t == caller) ≡ b
               → block (wait_of (slice_set s.waits caller (Some (going_on on))) t) ≡ true
           dated_ t date is true same =
-              subst (λ (m : ℕ). block (wait_of (slice_set s.waits caller (Some (going_on on))) m) ≡ true) (sym (same_number t caller same)) (ap block mine)
-          dated_ t date is false ne = ap block (theirs t ne) ∙ h.proper.dated t date (sym (index_there s.clock.deadlines caller t until None (swapped t caller ne)) ∙ is)
+              subst (λ (m : ℕ). block (wait_of (slice_set s.waits caller (Some (going_on on))) m) ≡ true) (sym (eqb-true t caller same)) (ap block mine)
+          dated_ t date is false ne = ap block (theirs t ne) ∙ h.proper.dated t date (sym (index_there s.clock.deadlines caller t until None (eqb-swap_false t caller ne)) ∙ is)
 
       proper_blocked : IsProper n (all_woken (begun at_once caller on until None) served)
       proper_blocked = subst (λ (ws : List (ℕ × Reply)). IsProper n (all_woken (begun at_once caller on until None) ws)) (sym (begins.quiet nothing)) (by (is_past s.clock.now until))
@@ -315,7 +295,7 @@ module _ (n : ℕ) (few : n ≤ thread_limit) where
   }
     where
       oob : (s : State) → IsProper n s → (t : ℕ) → is_ready s.sched t ≡ true → is_oob (stage_of s.sched t) ≡ true
-      oob s h t ready = first_true (is_oob (stage_of s.sched t)) (not (is_blocked s t)) (sym (h.proper.ready t) ∙ ready)
+      oob s h t ready = (and_parts (is_oob (stage_of s.sched t)) (not (is_blocked s t)) (sym (h.proper.ready t) ∙ ready)).0
 
       proper_paid : (s : State) (before delta now : ℕ) → IsProper n s → IsProper n (thread_call.paid_between s before delta now)
       proper_paid s before delta now h = record {
@@ -345,9 +325,9 @@ proper_opening board bank fits = record {
   proper = record {
     sound = opened_sound board fits;
     stands = λ on t stands. absurd (false≢true (sym (nobody on t) ∙ stands));
-    waits = λ on t is. absurd (none_some (sym (no_wait t) ∙ is));
+    waits = λ on t is. absurd (none-some _ (sym (no_wait t) ∙ is));
     ready = λ t. sym (ap (λ (o : Option Seat). is_oob (option_map_or (λ (seat : Seat). seat.stage) o Inband) && not (is_blocked (opening board bank) t)) (at-none {A = Seat} board.threads t));
-    dated = λ t date is. absurd (none_some (sym (at-none {A = ℕ} (min board.threads thread_limit) t) ∙ is));
+    dated = λ t date is. absurd (none-some _ (sym (at-none {A = ℕ} (min board.threads thread_limit) t) ∙ is));
   };
   threads_are = refl;
   places = length-replicate board.threads None;

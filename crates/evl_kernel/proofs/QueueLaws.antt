@@ -3,6 +3,7 @@ use Rattle.std.proofs.Common.{◌≡◌, ◌≢◌, ◌<◌, ℕ, true, false, a
 use Rattle.std.specs.Option.{option_map_or}
 use Rattle.std.proofs.lemmas.Bool.{false≢true}
 use Rattle.std.proofs.lemmas.List.{length-replicate}
+use Rattle.std.proofs.lemmas.Option.{none-some}
 use Rattle.arrayvec.specs.ArrayVec.{ArrayVec as Items}
 use Rattle.evl_base.specs.declared.numbers.FlagId.{FlagId}
 use Rattle.evl_base.specs.declared.numbers.SemId.{SemId}
@@ -43,7 +44,7 @@ use Rattle.evl_kernel.specs.Elements.{ElementStep, on_sem, on_flags, on_xbuf, on
 use Rattle.evl_kernel.specs.Beginnings.{awaited, is_open, step_of_waiter, waits_back}
 use Rattle.evl_kernel.specs.Endings.{drop_step}
 use Rattle.evl_kernel.specs.Standing.{AreSound, in_flags, in_mutex, in_readers, in_sem, in_writers, owners_in, stands_for}
-use Rattle.evl_kernel.proofs.ElementSteps.{none_some, nth-done, nth-made, nth-unknown, ok_is}
+use Rattle.evl_kernel.proofs.ElementSteps.{nth-done, nth-made, nth-unknown, ok_is}
 use Rattle.evl_kernel.proofs.QueueSteps.{Comes, Drops, LetsGo, mutex_comes, mutex_drops, mutex_goes, mutexes_sound, flags_come, flags_drop, flags_go, flags_sound, sem_comes, sem_drops, sem_goes, sems_sound, was_at_it}
 use Rattle.evl_kernel.proofs.SemQueues as sems
 use Rattle.evl_kernel.proofs.FlagQueues as flag_queues
@@ -218,7 +219,7 @@ module _ (e : Elements) (h : AreSound e) (after : Elements) (reply : Reply) (thr
         sound = mutexes_sound e id.0 made.before (mutex.claimed made.before w owner.0) made.here h
             (mutexes.claim_sound (owners_in e) id.0 made.before made.here h.mutexes w owner.0 (λ k. away (Mutex (record { 0 = k }))) unclaimed_here (omega (arith, within, length-replicate {A = ℕ} thread_limit 0)) differs
             (ap (λ (n : ℕ). reaches n (waits_for e.mutexes) owner.0 thread) (length-replicate {A = ℕ} thread_limit 0) ∙ (sym (mutexes.back_is e.mutexes owner.0 thread) ∙ none)));
-        at_once = λ outcome served. absurd (none_some served);
+        at_once = λ outcome served. absurd (none-some _ served);
         waits = λ none. mutex_comes e id.0 made.before (mutex.claimed made.before w owner.0) made.here thread (mutexes.claim_comes made.before w owner.0);
         quiet = λ none. nobody;
       })

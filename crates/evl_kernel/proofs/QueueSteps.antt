@@ -1,8 +1,10 @@
 -- What a change of one element means for the queues of all: who is let go, who comes, and who leaves.
 use Rattle.std.proofs.Common.{◌≡◌, ℕ, ◌==◌, ◌⊎◌, inl, inr, Bool, true, false, not, ◌||◌, cond, List, [], ◌∷◌, Option, Some, slice_get, slice_set, refl, sym, ap, ◌∙◌, subst, arith}
 use Rattle.std.specs.Option.{option_map_or}
-use Rattle.std.proofs.lemmas.Bool.{false≢true}
+use Rattle.std.proofs.lemmas.Bool.{false≢true, eq-eqb, eqb-true}
 use Rattle.std.proofs.lemmas.Bool.Decides.{nat_tests}
+use Rattle.std.proofs.lemmas.Option.{same_Some}
+use Rattle.evl_base.proofs.Plain.{eqb-swap_false}
 use Rattle.evl_base.specs.declared.reply.Reply.{Reply}
 use Rattle.evl_sync.specs.Queues.{dropped, enqueued, stands_in}
 use Rattle.evl_sync.specs.Semaphores.{Semaphore, IsSoundSemaphore}
@@ -15,16 +17,6 @@ use Rattle.evl_mutex.specs.Mutexes.{Mutex as MutexRecorded}
 use Rattle.evl_mutex.specs.Owners.{IsSound}
 use Rattle.evl_kernel.specs.Standing.{AreSound, in_flags, in_sem, is_served, stands_at, stands_for, in_mutex, owners_in}
 use Rattle.evl_kernel.proofs.SetLaws.{set_here, set_there}
-use Rattle.evl_kernel.proofs.ElementSteps.{some_is}
-
-same_number : (m n : ℕ) → (m == n) ≡ true → m ≡ n
-same_number m n e = grind (arith, nat_tests)
-
-is_number : (m n : ℕ) → m ≡ n → (m == n) ≡ true
-is_number m n e = grind (arith, nat_tests)
-
-swapped : (m n : ℕ) → (m == n) ≡ false → (n == m) ≡ false
-swapped m n e = grind (arith, nat_tests)
 
 -- the n-th of a kind is set
 module _ {X : Type 0} (has : X → ℕ → Bool) (xs : List X) (n : ℕ) (q p : X) (here : slice_get xs n ≡ Some q) where
@@ -41,7 +33,7 @@ module _ {X : Type 0} (has : X → ℕ → Bool) (xs : List X) (n : ℕ) (q p : 
   same_at m t same = by (n == m) refl
     where
       by : (b : Bool) → (n == m) ≡ b → stands_at has (slice_set xs n p) m t ≡ stands_at has xs m t
-      by true is = subst (λ (k : ℕ). stands_at has (slice_set xs n p) k t ≡ stands_at has xs k t) (same_number n m is) (at_it t ∙ (same ∙ sym (was_at_it t)))
+      by true is = subst (λ (k : ℕ). stands_at has (slice_set xs n p) k t ≡ stands_at has xs k t) (eqb-true n m is) (at_it t ∙ (same ∙ sym (was_at_it t)))
       by false is = at_other m t is
 
   pub old_at : (m t : ℕ) → (has p t ≡ true → has q t ≡ true) → stands_at has (slice_set xs n p) m t ≡ true → stands_at has xs m t ≡ true
@@ -49,7 +41,7 @@ module _ {X : Type 0} (has : X → ℕ → Bool) (xs : List X) (n : ℕ) (q p : 
     where
       by : (b : Bool) → (n == m) ≡ b → stands_at has (slice_set xs n p) m t ≡ true → stands_at has xs m t ≡ true
       by true is =
-          subst (λ (k : ℕ). stands_at has (slice_set xs n p) k t ≡ true → stands_at has xs k t ≡ true) (same_number n m is)
+          subst (λ (k : ℕ). stands_at has (slice_set xs n p) k t ≡ true → stands_at has xs k t ≡ true) (eqb-true n m is)
           (λ stands. was_at_it t ∙ old (sym (at_it t) ∙ stands))
       by false is = λ stands. sym (at_other m t is) ∙ stands
 
@@ -58,7 +50,7 @@ module _ {X : Type 0} (has : X → ℕ → Bool) (xs : List X) (n : ℕ) (q p : 
   all_at P all new m x at = by (n == m) refl
     where
       by : (b : Bool) → (n == m) ≡ b → P x
-      by true is = subst P (some_is (sym (set_here xs n q p here) ∙ (ap (slice_get (slice_set xs n p)) (same_number n m is) ∙ at))) new
+      by true is = subst P (same_Some _ _ (sym (set_here xs n q p here) ∙ (ap (slice_get (slice_set xs n p)) (eqb-true n m is) ∙ at))) new
       by false is = all m x (sym (set_there xs n m p is) ∙ at)
 
 -- the thread stood in a queue, and stands there no more
@@ -110,7 +102,7 @@ drops_old : (before after : ℕ → Bool) (thread : ℕ) → OneDrops before aft
 drops_old before after thread one t is = by (t == thread) refl
   where
     by : (b : Bool) → (t == thread) ≡ b → before t ≡ true
-    by true same = absurd (false≢true (sym one.gone ∙ (ap after (sym (same_number t thread same)) ∙ is)))
+    by true same = absurd (false≢true (sym one.gone ∙ (ap after (sym (eqb-true t thread same)) ∙ is)))
     by false ne = sym (one.same t ne) ∙ is
 
 -- The n-th of a kind changes. Whoever waits for something waits for one of this kind, or stands there as before.
@@ -156,7 +148,7 @@ module _ {X : Type 0} (has : X → ℕ → Bool) (xs : List X) (n : ℕ) (q p : 
       alone other is (inl (m, of_m)) = by (n == m) refl
         where
           by : (b : Bool) → (n == m) ≡ b → (of n ≡ other) ⊎ (stands_for e other thread ≡ true)
-          by true same = inl (ap of (same_number n m same) ∙ sym of_m)
+          by true same = inl (ap of (eqb-true n m same) ∙ sym of_m)
           by false ne = inr (subst (λ (x : Awaited). stands_for e x thread ≡ true) (sym of_m)
               (before_is m thread ∙ (sym (at_other has xs n q p here m thread ne) ∙ (sym (after_is m thread) ∙ (ap (λ (x : Awaited). stands_for after x thread) (sym of_m) ∙ is)))))
       alone other is (inr others) = inr (sym (others thread) ∙ is)
@@ -262,8 +254,8 @@ same_queue has q p same = record { left = λ t is. absurd (false≢true is); sam
 module _ {A : Type 0} (thread rank : A → ℕ) (ws : List A) where
   pub enqueued_comes : (w : A) (xs : List A) → xs ≡ enqueued rank w ws → OneComes (λ t. stands_in thread t ws) (λ t. stands_in thread t xs) (thread w)
   enqueued_comes w xs is = record {
-    there = stood (thread w) ∙ ap (λ (b : Bool). b || stands_in thread (thread w) ws) (is_number (thread w) (thread w) refl);
-    same = λ t ne. stood t ∙ ap (λ (b : Bool). b || stands_in thread t ws) (swapped t (thread w) ne);
+    there = stood (thread w) ∙ ap (λ (b : Bool). b || stands_in thread (thread w) ws) (eq-eqb (thread w) (thread w) refl);
+    same = λ t ne. stood t ∙ ap (λ (b : Bool). b || stands_in thread t ws) (eqb-swap_false t (thread w) ne);
   }
     where
       stood : (t : ℕ) → stands_in thread t xs ≡ ((thread w == t) || stands_in thread t ws)

@@ -2,6 +2,7 @@
 use Rattle.std.proofs.Common.{◌≡◌, ℕ, Bool, true, false, not, ◌&&◌, List, [], ◌∷◌, Option, Some, None, Result, Ok, Err, is_some, if◌then◌else◌, refl, sym, subst}
 use Rattle.std.proofs.lemmas.Bool.{false≢true}
 use Rattle.std.specs.Option.{option_map}
+use Rattle.evl_base.proofs.Plain.{some-none}
 use Rattle.evl_base.specs.declared.board.Board.{Board}
 use Rattle.evl_base.specs.declared.reply.Reply.{Reply}
 use Rattle.evl_base.specs.declared.play.Play.{Play}
@@ -24,14 +25,11 @@ use Rattle.evl_kernel.specs.Laws.{OobPendsOnlyWhileStalled}
 abbrev pub IsQuiet : State → Type 0
 IsQuiet s = (is_some (least s.lines.oob.pending) && not s.lines.oob.stalled) ≡ false
 
-some_none : {A : Type 0} {x : A} → Some x ≡ None → ⊥
-some_none e = cc
-
 quiet_of : (stalled : Bool) (low : Option ℕ) (other : Option (Stage × ℕ))
     → (if is_some low && not stalled then option_map {U = Stage × ℕ} (λ line. (Oob, line)) low else other) ≡ None → (is_some low && not stalled) ≡ false
 quiet_of stalled None other h = refl
 quiet_of true (Some n) other h = refl
-quiet_of false (Some n) other h = absurd (some_none h)
+quiet_of false (Some n) other h = absurd (some-none _ h)
 
 -- where a settling ends nothing is playable out-of-band
 pub ended_quiet : (at : Settling) → next_play at ≡ None → IsQuiet at.state

@@ -4,6 +4,7 @@ use Rattle.std.specs.Prelude.{filter}
 use Rattle.std.specs.List.{find, list_all, list_any}
 use Rattle.std.specs.Option.{option_map, option_map_or}
 use Rattle.std.proofs.lemmas.Bool.Decides.{nat_tests}
+use Rattle.std.proofs.lemmas.Bool.{eqb-true}
 use Rattle.evl_base.specs.declared.policy.Policy.{Policy}
 use Rattle.evl_base.specs.declared.policy.Policy.TheVariants.{Fifo, Rr, Quota, Weak}
 use Rattle.evl_base.specs.declared.stage.Stage.{Stage}
@@ -18,9 +19,6 @@ use Rattle.evl_sched.proofs.StageLaws.{stage-charged, stage-policy_set, stage-st
 
 abbrev is_in : List ℕ → ℕ → Bool
 is_in ts t = list_any (λ u. u == t) ts
-
-same_number : (m n : ℕ) → (m == n) ≡ true → m ≡ n
-same_number m n e = grind (arith, nat_tests)
 
 differs : (u n t : ℕ) → (u == n) ≡ true → (t == n) ≡ false → (u == t) ≡ false
 differs u n t e ne = grind (arith, nat_tests)
@@ -179,7 +177,7 @@ ready-charged rank q delta t oob = by (picked rank q) refl
         moved : (b : Bool) → (t == n) ≡ b → is_ready (readied mid n) t ≡ is_ready q t
         moved false ne = ready-other mid n t ne
         moved true is =
-            let here : t ≡ n = same_number t n is in
+            let here : t ≡ n = eqb-true t n is in
             subst (λ (m : ℕ). is_ready (readied mid n) m ≡ is_ready q m) (sym here)
             (ready-as mid n ∙ (ap is_oob (with-rest q n seat slice n there) ∙ (oob n ready ∙ sym ready)))
 

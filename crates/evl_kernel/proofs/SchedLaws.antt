@@ -3,6 +3,7 @@ use Rattle.std.proofs.lemmas.Bool.{false≢true}
 use Rattle.std.proofs.lemmas.Bool.Decides.{nat_tests}
 use Rattle.std.proofs.Common.{◌≡◌, ◌≢◌, ◌==◌, ◌/◌, not, arith, ℕ, Bool, true, false, if◌then◌else◌, List, Option, Some, None, Ok, Err, refl, sym, ap, ◌∙◌, subst}
 use Rattle.std.specs.Option.{option_map}
+use Rattle.std.proofs.lemmas.Option.{none-some, same_Some}
 use Rattle.evl_base.specs.declared.numbers.ThreadId.{ThreadId}
 use Rattle.evl_sched.specs.Threads.{Sched, opening}
 use Rattle.evl_sched.specs.Ranks.{Ranked, fresh, rank_of}
@@ -69,12 +70,6 @@ module _ {C : Type 0} (r : RecordsView C) (q : Ranked) (before delta now : ℕ) 
       let same = agree (before / 1000000000) (now / 1000000000) one in
       ap (with_sched (state_of r)) (ap (λ (x : Ranked). x.sched) is ∙ (by_rank ∙ sym (ap (λ (b : Bool). if b then refilled left else left) same)))
 
-first_is : {A : Type 0} {x y : A} → Some x ≡ Some y → x ≡ y
-first_is h = cc
-
-never : {A : Type 0} {x : A} → None ≡ Some x → ⊥
-never h = cc
-
 -- a refusal of a thread that isn't attached is one that the kernel answers
 pub stranger_answers : (q : Sched) (thread : ℕ) (e : Refusal) → stranger_refusal q thread ≡ Some e → IsAnswer (Err e)
 stranger_answers q thread e = by (is_thread q thread) (is_attached q thread)
@@ -93,24 +88,24 @@ stranger_answers q thread e = by (is_thread q thread) (is_attached q thread)
 -- and so is one of a policy
 policy_answers : (there known in_range : Bool) (other : Option Refusal) → ((e : Refusal) → other ≡ Some e → IsAnswer (Err e)) → (e : Refusal)
     → refused_first (if there then None else Some Unknown) (refused_first (if not known then Some Unknown else (if in_range then None else Some Range)) other) ≡ Some e → IsAnswer (Err e)
-policy_answers false known in_range other last e h = subst (λ (r : Refusal). IsAnswer (Err r)) (first_is h) (refl, tt)
-policy_answers true false in_range other last e h = subst (λ (r : Refusal). IsAnswer (Err r)) (first_is h) (refl, tt)
-policy_answers true true false other last e h = subst (λ (r : Refusal). IsAnswer (Err r)) (first_is h) (refl, tt)
+policy_answers false known in_range other last e h = subst (λ (r : Refusal). IsAnswer (Err r)) (same_Some _ _ h) (refl, tt)
+policy_answers true false in_range other last e h = subst (λ (r : Refusal). IsAnswer (Err r)) (same_Some _ _ h) (refl, tt)
+policy_answers true true false other last e h = subst (λ (r : Refusal). IsAnswer (Err r)) (same_Some _ _ h) (refl, tt)
 policy_answers true true true other last e h = last e h
 
 pub attach_answers : (q : Sched) (thread : ℕ) (policy : Policy) (e : Refusal) → attach_refusal q thread policy ≡ Some e → IsAnswer (Err e)
 attach_answers q thread policy e h = policy_answers (is_thread q thread) (is_known q.groups (group_of policy)) (is_in_range policy) (if is_attached q thread then Some Busy else None) (last (is_attached q thread)) e h
   where
     last : (b : Bool) (r : Refusal) → (if b then Some Busy else None) ≡ Some r → IsAnswer (Err r)
-    last true r h = subst (λ (x : Refusal). IsAnswer (Err x)) (first_is h) (refl, tt)
-    last false r h = absurd (never h)
+    last true r h = subst (λ (x : Refusal). IsAnswer (Err x)) (same_Some _ _ h) (refl, tt)
+    last false r h = absurd (none-some _ h)
 
 pub set_policy_answers : (q : Sched) (thread : ℕ) (policy : Policy) (e : Refusal) → set_policy_refusal q thread policy ≡ Some e → IsAnswer (Err e)
 set_policy_answers q thread policy e h = policy_answers (is_thread q thread) (is_known q.groups (group_of policy)) (is_in_range policy) (if is_attached q thread then None else Some Invalid) (last (is_attached q thread)) e h
   where
     last : (b : Bool) (r : Refusal) → (if b then None else Some Invalid) ≡ Some r → IsAnswer (Err r)
-    last false r h = subst (λ (x : Refusal). IsAnswer (Err x)) (first_is h) (refl, tt)
-    last true r h = absurd (never h)
+    last false r h = subst (λ (x : Refusal). IsAnswer (Err x)) (same_Some _ _ h) (refl, tt)
+    last true r h = absurd (none-some _ h)
 
 -- what is told of ranks and of who is picked
 module _ {C : Type 0} (r : RecordsView C) (h : IsSound r) where

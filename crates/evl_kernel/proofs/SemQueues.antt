@@ -1,6 +1,6 @@
 -- What each step of a semaphore leaves of its queue, and that it stays sound.
 use Rattle.std.proofs.Common.{◌≡◌, ◌<◌, ◌+◌, ◌-◌, ℕ, ◌==◌, nat_lt, Bool, true, false, ◌||◌, List, [], ◌∷◌, Option, Some, None, Ok, Err, if◌then◌else◌, refl, sym, ap, ◌∙◌, subst, arith}
-use Rattle.std.proofs.lemmas.Bool.{false≢true}
+use Rattle.std.proofs.lemmas.Bool.{false≢true, eqb-true}
 use Rattle.std.proofs.lemmas.Bool.Decides.{nat_tests}
 use Rattle.evl_base.specs.Limits.{thread_limit}
 use Rattle.evl_base.specs.declared.refusal.Refusal.TheVariants.{Again, Range}
@@ -17,13 +17,6 @@ use Rattle.evl_kernel.specs.Semaphores.{one_served, sem_wakes, sem_serves, semap
 use Rattle.evl_kernel.specs.Standing.{in_sem}
 use Rattle.evl_kernel.proofs.ElementSteps.{err_ok, ok_is}
 use Rattle.evl_kernel.proofs.QueueSteps.{OneGoes, OneComes, OneDrops, dropped_drops, enqueued_comes, same_queue}
-
-same_number : (m n : ℕ) → (m == n) ≡ true → m ≡ n
-same_number m n e = grind (arith, nat_tests)
-
-is_false : (a b : Bool) → (a || b) ≡ false → (a ≡ false) × (b ≡ false)
-is_false true b e = absurd (false≢true (sym e))
-is_false false b e = (refl, e)
 
 -- a semaphore after a step: sound, and these were let go
 pub record Left (q p : Semaphore) (served : List (ℕ × Reply)) : Type 0 where
@@ -60,7 +53,7 @@ head_goes w ws kept = record { left = left; same = same }
     left t is =
         let same = or_false (w.thread == t) is in (
           ap (λ (b : Bool). b || stands_in (λ (x : Waiter). x.thread) t ws) same,
-          ap (λ (m : ℕ). stands_in (λ (x : Waiter). x.thread) m ws) (sym (same_number w.thread t same)) ∙ kept.ranked.1,
+          ap (λ (m : ℕ). stands_in (λ (x : Waiter). x.thread) m ws) (sym (eqb-true w.thread t same)) ∙ kept.ranked.1,
         )
 
     same : (t : ℕ) → ((w.thread == t) || false) ≡ false → stands_in (λ (x : Waiter). x.thread) t ws ≡ ((w.thread == t) || stands_in (λ (x : Waiter). x.thread) t ws)

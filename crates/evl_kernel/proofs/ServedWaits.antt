@@ -1,23 +1,13 @@
 -- The waits of those whom a cross-buffer served end one after another.
 use Rattle.std.proofs.Common.{◌≡◌, ◌≤◌, ℕ, zero, suc, ◌+◌, ◌==◌, Bool, true, false, ◌||◌, List, [], ◌∷◌, Some, None, map, drop, length, slice_get, refl, sym, ap, ◌∙◌, arith}
-use Rattle.std.proofs.lemmas.Bool.{false≢true}
+use Rattle.std.proofs.lemmas.Bool.{false≢true, eq-eqb, or_left, or_right}
 use Rattle.std.proofs.lemmas.List.{drop_all, drop_more}
-use Rattle.std.proofs.lemmas.Option.{get_or_from_slice_get, slice_get_within}
+use Rattle.std.proofs.lemmas.Option.{get_or_from_slice_get, slice_get_within, none-some}
 use Rattle.evl_xbuf.specs.Streams.{Service, Wrote, Got}
 use Rattle.evl_kernel.specs.CrossBuffers.{service_told}
 use Rattle.evl_kernel.specs.Standing.{is_served}
 use Rattle.evl_kernel.specs.States.{State}
 use Rattle.evl_kernel.specs.Waits.{all_woken, woken}
-use Rattle.evl_kernel.proofs.ElementSteps.{none_some}
-use Rattle.evl_kernel.proofs.WaitRecords.{is_number}
-
-or_true : (a b : Bool) → b ≡ true → (a || b) ≡ true
-or_true true b e = refl
-or_true false b e = e
-
-true_or : (a b : Bool) → a ≡ true → (a || b) ≡ true
-true_or true b e = refl
-true_or false b e = absurd (false≢true e)
 
 first_woken : (s : State) (service : Service) (others : List Service)
     → all_woken s (map service_told (service ∷ others)) ≡ all_woken (woken s (service_told service).0 (service_told service).1) (map service_told others)
@@ -32,10 +22,10 @@ module _ (services : List Service) (place : ℕ) (service : Service) (here : sli
   pub itself_served : is_served (service_told service).0 (map service_told (drop place services)) ≡ true
   itself_served =
       ap (λ (xs : List Service). is_served (service_told service).0 (map service_told xs)) from_here
-      ∙ true_or ((service_told service).0 == (service_told service).0) _ (is_number (service_told service).0 (service_told service).0 refl)
+      ∙ or_left ((service_told service).0 == (service_told service).0) _ (eq-eqb (service_told service).0 (service_told service).0 refl)
 
   pub later_served : (t : ℕ) → is_served t (map service_told (drop (place + 1) services)) ≡ true → is_served t (map service_told (drop place services)) ≡ true
-  later_served t is = ap (λ (xs : List Service). is_served t (map service_told xs)) from_here ∙ or_true ((service_told service).0 == t) _ is
+  later_served t is = ap (λ (xs : List Service). is_served t (map service_told xs)) from_here ∙ or_right ((service_told service).0 == t) _ is
 
   pub later_woken : (s t : State) → t ≡ woken s (service_told service).0 (service_told service).1
       → all_woken t (map service_told (drop (place + 1) services)) ≡ all_woken s (map service_told (drop place services))
@@ -46,7 +36,7 @@ module _ (services : List Service) (place : ℕ) (service : Service) (here : sli
 -- and with none
 outside : (services : List Service) (place : ℕ) → slice_get services place ≡ None → length services ≤ place
 outside [] place none = omega arith
-outside (one ∷ others) zero none = absurd (none_some (sym none))
+outside (one ∷ others) zero none = absurd (none-some _ (sym none))
 outside (one ∷ others) (suc place) none = omega (arith, outside others place none)
 
 pub beyond_all : (services : List Service) (place : ℕ) → slice_get services place ≡ None → drop (place + 1) services ≡ drop place services

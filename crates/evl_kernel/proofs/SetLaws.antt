@@ -2,20 +2,15 @@
 use Rattle.std.proofs.Common.{◌≡◌, ℕ, zero, suc, ◌==◌, false, List, [], ◌∷◌, Some, None, slice_get, slice_set, refl, sym, ap, arith}
 use Rattle.std.proofs.lemmas.Bool.{false≢true}
 use Rattle.std.proofs.lemmas.Bool.Decides.{nat_tests}
-
-none_some : {A : Type 0} {x : A} → None ≡ Some x → ⊥
-none_some e = cc
-
-some_is : {A : Type 0} {x y : A} → Some x ≡ Some y → x ≡ y
-some_is e = cc
+use Rattle.std.proofs.lemmas.Option.{none-some, same_Some}
 
 fewer : (m n : ℕ) → (suc m == suc n) ≡ false → (m == n) ≡ false
 fewer m n e = grind (arith, nat_tests)
 
 module _ {X : Type 0} where
   pub set_here : (xs : List X) (n : ℕ) (c v : X) → slice_get xs n ≡ Some c → slice_get (slice_set xs n v) n ≡ Some v
-  set_here [] zero c v h = absurd (none_some h)
-  set_here [] (suc n) c v h = absurd (none_some h)
+  set_here [] zero c v h = absurd (none-some _ h)
+  set_here [] (suc n) c v h = absurd (none-some _ h)
   set_here (x ∷ xs) zero c v h = refl
   set_here (x ∷ xs) (suc n) c v h = set_here xs n c v h
 
@@ -29,13 +24,13 @@ module _ {X : Type 0} where
 -- an element that is set as it was
 pub set_same : {A : Type 0} (xs : List A) (n : ℕ) (c : A) → slice_get xs n ≡ Some c → slice_set xs n c ≡ xs
 set_same [] n c has = refl
-set_same {A} (x ∷ xs) zero c has = ap (λ (y : A). y ∷ xs) (some_is (sym has))
+set_same {A} (x ∷ xs) zero c has = ap (λ (y : A). y ∷ xs) (same_Some _ _ (sym has))
 set_same {A} (x ∷ xs) (suc n) c has = ap (λ (ys : List A). x ∷ ys) (set_same xs n c has)
 
 -- an element that was set is set back
 pub set_back : {A : Type 0} (xs : List A) (n : ℕ) (y x : A) → slice_get xs n ≡ Some x → slice_set (slice_set xs n y) n x ≡ xs
 set_back [] n y x has = refl
-set_back {A} (z ∷ xs) zero y x has = ap (λ (w : A). w ∷ xs) (some_is (sym has))
+set_back {A} (z ∷ xs) zero y x has = ap (λ (w : A). w ∷ xs) (same_Some _ _ (sym has))
 set_back {A} (z ∷ xs) (suc n) y x has = ap (λ (ws : List A). z ∷ ws) (set_back xs n y x has)
 
 -- an element that is set twice

@@ -25,12 +25,10 @@ use Rattle.evl_kernel.specs.Records.{RecordsView, state_of, number_of}
 use Rattle.evl_clock.specs.Clocks.{IsSoundClock}
 use Rattle.evl_clock.proofs.DueLaws.{few}
 use Rattle.std.proofs.lemmas.Bool.{false≢true}
+use Rattle.std.proofs.lemmas.Option.{same_Some}
 use Rattle.evl_kernel.proofs.ClockLaws.{count-renamed}
 use Rattle.evl_kernel.proofs.PlayLaws.{none_next}
 use Rattle.evl_kernel.proofs.ItemLaws.{line_behind}
-
-some_is : {A : Type 0} {x y : A} → Some x ≡ Some y → x ≡ y
-some_is e = cc
 
 -- a path goes on by one
 pub along_more : {S P : Type 0} (next : S → Option (P × S)) (at : S) (outs : List P) (mid : S) (one : P) (end : S)
@@ -105,7 +103,7 @@ module _ {C : Type 0} (gives : C → Fire → Answer → Type 0) (w : Whereabout
       (its, λ next is. all_called-more next made mid one (subst (λ (x : Settling). Plays x made mid) (same next is) path) (others next is) now)
     where
       same : (next : Settling) → next_play start ≡ Some (first, next) → after ≡ next
-      same next is = ap (λ (x : Play × Settling). x.1) (some_is (sym here ∙ is))
+      same next is = ap (λ (x : Play × Settling). x.1) (same_Some _ _ (sym here ∙ is))
 
   pub plays_on-more : (start : Settling) (before : List Play) (mid : Settling) (after : List Play) (one : Play) (end : Settling)
       → PlaysOn start before mid after → next_play mid ≡ Some (one, end) → Called gives w mid.state one → PlaysOn start before end (after ++ one ∷ [])

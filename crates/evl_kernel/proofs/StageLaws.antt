@@ -25,6 +25,7 @@ use Rattle.evl_kernel.specs.States.{Handler}
 use Rattle.evl_kernel.specs.Openings.{opening}
 use Rattle.evl_kernel.specs.Histories.{History, IsLegal, opened}
 use Rattle.std.specs.Prelude.{Result, Ok, Err}
+use Rattle.std.proofs.lemmas.Bool.{ne_eqb}
 use Rattle.evl_base.specs.declared.refusal.Refusal.{Refusal}
 use Rattle.evl_base.specs.declared.reply.Reply.{Reply}
 use Rattle.evl_sched.specs.Policies.{is_weak}
@@ -81,13 +82,6 @@ module _ (thread : ℕ) where
   stage-threads s caller pick other = refl
   stage-threads s caller (tell_rank n) other = leaves-refused (λ x. stage_of x.sched thread ≡ stage_of s.sched thread) (stranger_refusal s.sched n) _ (λ passed. refl)
 
-apart : (m n : ℕ) → m ≢ n → (m == n) ≡ false
-apart m n other = by (m == n) refl
-  where
-    by : (b : Bool) → (m == n) ≡ b → b ≡ false
-    by false is = refl
-    by true is = absurd (other (grind (arith, nat_tests)))
-
 pub stages_are : StagesAreTheThreadsOwn
 stages_are old caller asked reply plays new step thread other =
     let Q = λ (q : Sched). stage_of q thread ≡ stage_of old.sched thread in
@@ -96,7 +90,7 @@ stages_are old caller asked reply plays new step thread other =
     let each = kept_by_each Q pays queues in
     follows_holds (λ s. Q s.sched) each old (answer old caller asked) reply plays new refl
     (holds-answer (λ s. Q s.sched) each old caller asked
-    (kept_by_own Q pays queues old caller asked (λ step h. stage-threads thread old caller step (apart thread caller other)) (λ q h. stage-stage_set q caller Inband thread (apart thread caller other) ∙ h)) refl) step
+    (kept_by_own Q pays queues old caller asked (λ step h. stage-threads thread old caller step (ne_eqb thread caller other)) (λ q h. stage-stage_set q caller Inband thread (ne_eqb thread caller other) ∙ h)) refl) step
 
 -- the stage of every thread, where the caller isn't moved
 module _ (thread : ℕ) (stage : Stage) where

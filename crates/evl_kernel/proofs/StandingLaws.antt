@@ -1,15 +1,10 @@
 -- What stands on the lines after a change stood there before, but for what a request brings.
 use Rattle.std.proofs.Common.{◌≡◌, ℕ, zero, suc, ◌⊎◌, inl, inr, Bool, true, false, List, [], ◌∷◌, Option, Some, None, slice_set, slice_index_or, if◌then◌else◌, refl, sym, ap, subst}
+use Rattle.std.proofs.lemmas.Option.{none-some, same_Some}
 use Rattle.evl_base.specs.declared.stage.Stage.{Stage}
 use Rattle.evl_base.specs.declared.stage.Stage.TheVariants.{Inband, Oob}
 use Rattle.evl_pipeline.specs.Counts.{counted}
 use Rattle.evl_pipeline.specs.Lines.{Pipeline, Side, Installed, side, with_side, installed_at, has_callback, callback_on, logged, cleared, posted, arrived, stalled, unstalled, requested, freed, played}
-
-none_some : {A : Type 0} {x : A} → None ≡ Some x → ⊥
-none_some e = cc
-
-some_is : {A : Type 0} {x y : A} → Some x ≡ Some y → x ≡ y
-some_is e = cc
 
 -- what a table has after an entry was set: that entry, or what it had
 pub set-lookup : {A : Type 0} (xs : List (Option A)) (i q : ℕ) (x : Option A) (a : A) → slice_index_or (slice_set xs i x) q None ≡ Some a
@@ -71,14 +66,14 @@ module _ {X : Type 0} where
     where
       by : (other : ℕ) (at : Installed X) → (callback_on (side p stage) other ≡ Some at) ⊎ ((other ≡ line) × (None ≡ Some at)) → Stood p stage other at
       by other at (inl old) = (at, old, refl)
-      by other at (inr (same, is)) = absurd (none_some is)
+      by other at (inr (same, is)) = absurd (none-some _ is)
 
   pub old-played : (p : Pipeline X) (stage : Stage) (line : ℕ) (at : Installed X) (handled : Bool) → installed_at p stage line ≡ Some at → OnlyOld p (played p stage line at handled)
   old-played p stage line at handled here = old-with p stage _ (λ other now h. by other now (set-lookup (side p stage).installed line other _ now h))
     where
       by : (other : ℕ) (now : Installed X) → (callback_on (side p stage) other ≡ Some now) ⊎ ((other ≡ line) × (Some (record at { count = Rattle.evl_pipeline.specs.Counts.one_more at.count }) ≡ Some now)) → Stood p stage other now
       by other now (inl old) = (now, old, refl)
-      by other now (inr (same, is)) = (at, subst (λ (n : ℕ). installed_at p stage n ≡ Some at) (sym same) here, ap (λ (x : Installed X). x.callback) (sym (some_is is)))
+      by other now (inr (same, is)) = (at, subst (λ (n : ℕ). installed_at p stage n ≡ Some at) (sym same) here, ap (λ (x : Installed X). x.callback) (sym (same_Some _ _ is)))
 
   -- what stands after a request is what it brought, or stood there
   pub new-requested : (p : Pipeline X) (line : ℕ) (stage : Stage) (callback : X) (tag : ℕ) (other_stage : Stage) (other : ℕ) (at : Installed X)
@@ -88,11 +83,11 @@ module _ {X : Type 0} where
     where
       came : (callback_on p.oob other ≡ Some at) ⊎ ((other ≡ line) × (Some (record { callback = callback; tag = tag; count = 0 }) ≡ Some at)) → Stood p Oob other at ⊎ ((Oob ≡ Oob) × (at.callback ≡ callback))
       came (inl old) = inl (at, old, refl)
-      came (inr (same, is)) = inr (refl, ap (λ (x : Installed X). x.callback) (sym (some_is is)))
+      came (inr (same, is)) = inr (refl, ap (λ (x : Installed X). x.callback) (sym (same_Some _ _ is)))
   new-requested p line Oob callback tag Inband other at h = inl (at, h, refl)
   new-requested p line Inband callback tag Oob other at h = inl (at, h, refl)
   new-requested p line Inband callback tag Inband other at h = came (set-lookup p.inband.installed line other _ at h)
     where
       came : (callback_on p.inband other ≡ Some at) ⊎ ((other ≡ line) × (Some (record { callback = callback; tag = tag; count = 0 }) ≡ Some at)) → Stood p Inband other at ⊎ ((Inband ≡ Inband) × (at.callback ≡ callback))
       came (inl old) = inl (at, old, refl)
-      came (inr (same, is)) = inr (refl, ap (λ (x : Installed X). x.callback) (sym (some_is is)))
+      came (inr (same, is)) = inr (refl, ap (λ (x : Installed X). x.callback) (sym (same_Some _ _ is)))

@@ -1,7 +1,7 @@
 -- What a change of the clock leaves of the callbacks: which stand in timers, and that they are allowed there.
 use Rattle.std.proofs.Common.{◌≡◌, ◌≤◌, ℕ, zero, suc, nat_le, ◌⊎◌, inl, inr, Bool, true, false, not, List, [], ◌∷◌, Option, Some, None, is_some, slice_get, slice_set, slice_index_or, Result, Ok, Err, OnOk, OnErr, if◌then◌else◌, refl, sym, ap, ◌∙◌, subst}
 use Rattle.std.specs.Option.{option_map}
-use Rattle.std.proofs.lemmas.Option.{slice_get-map}
+use Rattle.std.proofs.lemmas.Option.{slice_get-map, none-some, same_Some}
 use Rattle.std.proofs.lemmas.List.{map-set, length-set}
 use Rattle.evl_base.specs.declared.refusal.Refusal.{Refusal}
 use Rattle.evl_base.specs.declared.refusal.Refusal.TheVariants.{Unknown, Invalid, Busy, Limit}
@@ -29,12 +29,6 @@ use Rattle.evl_kernel.specs.Records.{RecordsView, state_of, whereabouts, number_
 use Rattle.evl_kernel.proofs.StandingLaws.{OnlyOld, old-posted, set-lookup}
 use Rattle.evl_kernel.proofs.ClockLaws.{timer-renamed, new-renamed, dropped-renamed, free-renamed, refusal-renamed, start-renamed, stop-renamed, is_due-renamed}
 use Rattle.evl_kernel.proofs.BankLaws.{get-set, set-same, handlers-set, kinds-kept, place_of, allowed-kept}
-
-none_some : {A : Type 0} {x : A} → None ≡ Some x → ⊥
-none_some e = cc
-
-some_is : {A : Type 0} {x y : A} → Some x ≡ Some y → x ≡ y
-some_is e = cc
 
 module _ {X : Type 0} where
   pub sound-with_timer : (c : Clock X) (n : ℕ) (t : Option (Timer X)) → IsSoundClock c → IsSoundClock (with_timer c n t)
@@ -70,8 +64,8 @@ module _ {X : Type 0} where
   old-changed f same c n = old-with_timer c n (option_map f (timer_at c n)) (λ at e. by at (timer_at c n) refl e)
     where
       by : (at : Timer X) (o : Option (Timer X)) → timer_at c n ≡ o → option_map f o ≡ Some at → StoodIn c n at
-      by at None here e = absurd (none_some e)
-      by at (Some t) here e = (t, here, ap (λ (x : Timer X). x.callback) (sym (some_is e)) ∙ same t)
+      by at None here e = absurd (none-some _ e)
+      by at (Some t) here e = (t, here, ap (λ (x : Timer X). x.callback) (sym (same_Some _ _ e)) ∙ same t)
 
   pub old-start : (c : Clock X) (n date interval : ℕ) → OnlyOldTimers c (start c n date interval)
   old-start c n date interval = old-changed (λ t. started t date interval) (λ t. refl) c n
@@ -80,10 +74,10 @@ module _ {X : Type 0} where
   old-stop c n = old-changed stopped (λ t. refl) c n
 
   pub old-dropped : (c : Clock X) (n : ℕ) → OnlyOldTimers c (dropped c n)
-  old-dropped c n = old-with_timer c n None (λ at e. absurd (none_some e))
+  old-dropped c n = old-with_timer c n None (λ at e. absurd (none-some _ e))
 
   pub old-fired : (c : Clock X) (n : ℕ) (at : Timer X) → timer_at c n ≡ Some at → OnlyOldTimers c (fired c n at)
-  old-fired c n at there = old-with_timer c n (Some (after_fire c.now at)) (λ now e. (at, there, ap (λ (x : Timer X). x.callback) (sym (some_is e))))
+  old-fired c n at there = old-with_timer c n (Some (after_fire c.now at)) (λ now e. (at, there, ap (λ (x : Timer X). x.callback) (sym (same_Some _ _ e))))
 
   pub old-advanced : (c : Clock X) (delta : ℕ) → OnlyOldTimers c (advanced c delta)
   old-advanced c delta n at h = (at, h, refl)
@@ -97,7 +91,7 @@ module _ {X : Type 0} where
     where
       by : (slice_index_or c.timers other None ≡ Some at) ⊎ ((other ≡ n) × (Some (made callback tag) ≡ Some at)) → StoodIn c other at ⊎ (at.callback ≡ callback)
       by (inl old) = inl (at, old, refl)
-      by (inr (same, is)) = inr (ap (λ (x : Timer X). x.callback) (sym (some_is is)))
+      by (inr (same, is)) = inr (ap (λ (x : Timer X). x.callback) (sym (same_Some _ _ is)))
 
 -- a post of line 0 brings nothing, whatever comes of it
 pub old-tried : {X : Type 0} (p q : lines.Pipeline X) (result : Result (Unit {0}) Refusal) → OnOk result ((lines.post_refusal 0 ≡ None) × (q ≡ lines.posted p Oob 0)) → OnErr result (q ≡ p) → OnlyOld p q
@@ -105,8 +99,8 @@ old-tried p q (Ok done) ok err = subst (OnlyOld p) (sym ok.1) (old-posted p Oob 
 old-tried p q (Err refusal) ok err = subst (OnlyOld p) (sym err) (λ stage line at h. (at, h, refl))
 
 some_timer : {X Y : Type 0} (name : X → Y) (o : Option (Timer X)) (now : Timer Y) → option_map (named_timer name) o ≡ Some now → (at : Timer X) × (o ≡ Some at) × (now ≡ named_timer name at)
-some_timer name None now h = absurd (none_some h)
-some_timer name (Some at) now h = (at, refl, sym (some_is h))
+some_timer name None now h = absurd (none-some _ h)
+some_timer name (Some at) now h = (at, refl, sym (same_Some _ _ h))
 
 pub timers-renamed : {X Y : Type 0} (name : X → Y) (c d : Clock X) → OnlyOldTimers c d → OnlyOldTimers (renamed_clock name c) (renamed_clock name d)
 timers-renamed {X} {Y} name c d only n now h =
@@ -176,9 +170,9 @@ module _ {C : Type 0} where
   was_in declared plan r n numbered answers taken = by (timer_at r.clock n) refl taken
     where
       by : (o : Option (Timer (Numbered C))) → timer_at r.clock n ≡ o → option_map (λ t. t.callback) o ≡ Some numbered → WasIn r n numbered
-      by None here e = absurd (none_some e)
+      by None here e = absurd (none-some _ e)
       by (Some at) here e =
-          let same : at.callback ≡ numbered = some_is e in
+          let same : at.callback ≡ numbered = same_Some _ _ e in
           let place = place_of declared plan (whereabouts r) numbered.number numbered.callback answers (inr (inr (record {
             timer = n;
             at = at;
@@ -217,7 +211,7 @@ module _ {C : Type 0} where
         at = out.at;
         there = out.here;
         number_is = ap (λ (m : Numbered C). m.number) out.is ∙ sym same;
-        callback_is = ap (λ (m : Numbered C). m.callback) out.is ∙ some_is (ap (λ (q : BankPlace C). q.callback) is ∙ has);
+        callback_is = ap (λ (m : Numbered C). m.callback) out.is ∙ same_Some _ _ (ap (λ (q : BankPlace C). q.callback) is ∙ has);
       }))
 
       stood : BringsNone (whereabouts r) (whereabouts (dropped_back r n numbered out.place))
@@ -278,7 +272,7 @@ module _ {C : Type 0} where
       home : (number : ℕ) (other : C) (p : BankPlace C) → p.callback ≡ Some other
           → (slice_get r.bank number ≡ Some p) ⊎ ((number ≡ n) × (record place { callback = None } ≡ p)) → Stands (whereabouts r) number other
       home number other p here (inl old) = inl (record { place = p; at = old; there = here })
-      home number other p here (inr (same, is)) = absurd (none_some (ap (λ (q : BankPlace C). q.callback) is ∙ here))
+      home number other p here (inr (same, is)) = absurd (none-some _ (ap (λ (q : BankPlace C). q.callback) is ∙ here))
 
       timed : (number : ℕ) (other : C) (m : ℕ) (at : Timer (Numbered C)) → at.callback.number ≡ number → at.callback.callback ≡ other
           → StoodIn r.clock m at ⊎ (at.callback ≡ record { number = n; callback = callback }) → Stands (whereabouts r) number other
@@ -341,20 +335,20 @@ module _ {C : Type 0} where
   is_full c kinds refusal = by (is_timer_allowed kinds) (free_place c)
     where
       by : (b : Bool) (o : Option ℕ) → b ≡ true → (if not b then Some Invalid else (if is_some o then None else Some Limit)) ≡ Some refusal → (refusal ≡ Limit) × (o ≡ None)
-      by true None allowed e = (sym (some_is e), refl)
-      by true (Some n) allowed e = absurd (none_some e)
+      by true None allowed e = (sym (same_Some _ _ e), refl)
+      by true (Some n) allowed e = absurd (none-some _ e)
       by false o allowed e = absurd (false≢true allowed)
 
   pub overruns_told : (r : RecordsView C) (n k : ℕ) → option_map (λ t. t.overruns) (timer_at r.clock n) ≡ Some k → timer_call.overruns (state_of r) n ≡ Ok (Number k, state_of r)
   overruns_told r n k h = rw (timer-renamed number_of r.clock n) (by (timer_at r.clock n) h)
     where
       by : (o : Option (Timer (Numbered C))) → option_map (λ t. t.overruns) o ≡ Some k → known (option_map (named_timer number_of) o) (λ t. tells t.overruns (state_of r)) ≡ Ok (Number k, state_of r)
-      by None e = absurd (none_some e)
-      by (Some t) e = ap (λ (m : ℕ). Ok (Number m, state_of r)) (some_is e)
+      by None e = absurd (none-some _ e)
+      by (Some t) e = ap (λ (m : ℕ). Ok (Number m, state_of r)) (same_Some _ _ e)
 
   pub overruns_unknown : (r : RecordsView C) (n : ℕ) (e : Refusal) → timer_refusal r.clock n ≡ Some e → timer_call.overruns (state_of r) n ≡ Err Unknown
   overruns_unknown r n e h = rw (timer-renamed number_of r.clock n) (by (timer_at r.clock n) h)
     where
       by : (o : Option (Timer (Numbered C))) → (if is_some o then None else Some Unknown) ≡ Some e → known (option_map (named_timer number_of) o) (λ t. tells t.overruns (state_of r)) ≡ Err Unknown
       by None f = refl
-      by (Some t) f = absurd (none_some f)
+      by (Some t) f = absurd (none-some _ f)

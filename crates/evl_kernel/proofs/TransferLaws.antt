@@ -2,6 +2,7 @@
 use Rattle.std.proofs.Common.{◌≡◌, ℕ, zero, suc, nat_lt, Bool, true, false, not, ◌&&◌, List, [], ◌∷◌, ◌++◌, map, Option, Some, None, Result, Ok, Err, slice_get, if◌then◌else◌, refl, sym, ap, ◌∙◌, subst}
 use Rattle.std.specs.List.{cons_option}
 use Rattle.std.proofs.lemmas.Bool.{false≢true}
+use Rattle.std.proofs.lemmas.Option.{none-some, same_Some}
 use Rattle.evl_base.specs.declared.refusal.Refusal.{Refusal}
 use Rattle.evl_base.specs.declared.refusal.Refusal.TheVariants.{Range, WrongStage}
 use Rattle.evl_base.specs.declared.reply.Reply.{Reply}
@@ -22,7 +23,6 @@ use Rattle.evl_kernel.specs.CrossBuffers.{XbufStep, bytes_told, cross_buffer}
 use Rattle.evl_kernel.specs.Elements.{part, its_xbuf}
 use Rattle.evl_kernel.specs.Replays.{touches}
 use Rattle.evl_kernel.specs.Transfers.{ReadsFollowWritesThere, call_on, calls_on, if_reached, same_way}
-use Rattle.evl_kernel.proofs.ElementSteps.{none_some, some_is}
 use Rattle.evl_kernel.proofs.OwnRunLaws.{xbufs_by_themselves}
 
 way_is : (v w : Way) → same_way v w ≡ true → v ≡ w
@@ -136,9 +136,9 @@ leads way x y (made ∷ others) (said, rest) = by (call_on way made.step) (reach
 
 -- nothing is there at the beginning
 nothing_there : (sizes : List (ℕ × ℕ)) (n : ℕ) (x : Xbuf) → slice_get (map (λ (s : ℕ × ℕ). xbufs.opened s.0 s.1) sizes) n ≡ Some x → (way : Way) → (stream x way).there ≡ []
-nothing_there [] n x is way = absurd (none_some is)
-nothing_there (s ∷ sizes) zero x is In = ap (λ (z : Xbuf). z.inbound.there) (sym (some_is is))
-nothing_there (s ∷ sizes) zero x is Out = ap (λ (z : Xbuf). z.outbound.there) (sym (some_is is))
+nothing_there [] n x is way = absurd (none-some _ is)
+nothing_there (s ∷ sizes) zero x is In = ap (λ (z : Xbuf). z.inbound.there) (sym (same_Some _ _ is))
+nothing_there (s ∷ sizes) zero x is Out = ap (λ (z : Xbuf). z.outbound.there) (sym (same_Some _ _ is))
 nothing_there (s ∷ sizes) (suc n) x is way = nothing_there sizes n x is way
 
 pub reads_follow_there : ReadsFollowWritesThere

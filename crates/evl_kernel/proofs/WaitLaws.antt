@@ -1,8 +1,10 @@
 -- In every legal history the waits are proper: queues, waits, the ready list and deadlines agree.
 use Rattle.std.proofs.Common.{◌≡◌, ℕ, zero, suc, ◌==◌, ◌⊎◌, inl, inr, Bool, true, false, not, ◌&&◌, ◌||◌, List, [], ◌∷◌, Option, Some, None, is_none, slice_set, slice_index_or, refl, sym, ap, ◌∙◌, subst, arith}
 use Rattle.std.specs.Option.{option_map, option_map_or}
-use Rattle.std.proofs.lemmas.Bool.{false≢true}
+use Rattle.std.proofs.lemmas.Bool.{false≢true, eqb-true, or_from}
 use Rattle.std.proofs.lemmas.Bool.Decides.{nat_tests}
+use Rattle.std.proofs.lemmas.Option.{none-some}
+use Rattle.evl_base.proofs.Plain.{eqb-swap_false}
 use Rattle.evl_base.specs.declared.reply.Reply.{Reply}
 use Rattle.evl_clock.specs.Clocks.{deadline_at}
 use Rattle.evl_sched.specs.Threads.{Sched, is_oob, is_ready, readied, stage_of}
@@ -17,18 +19,6 @@ use Rattle.evl_kernel.specs.Standing.{AreSound, stands_for}
 use Rattle.evl_kernel.proofs.ReadyLaws.{ReadyAnew, ready-as}
 use Rattle.evl_kernel.proofs.WaitRecords.{index_there}
 
-none_some : {A : Type 0} {x : A} → None ≡ Some x → ⊥
-none_some e = cc
-
-some_is : {A : Type 0} {x y : A} → Some x ≡ Some y → x ≡ y
-some_is e = cc
-
-same_number : (m n : ℕ) → (m == n) ≡ true → m ≡ n
-same_number m n e = grind (arith, nat_tests)
-
-swapped : (m n : ℕ) → (m == n) ≡ false → (n == m) ≡ false
-swapped m n e = grind (arith, nat_tests)
-
 -- what stands where something was set: that, or nothing
 pub index_set : {A : Type 0} (xs : List (Option A)) (m : ℕ) (v : Option A) → (slice_index_or (slice_set xs m v) m None ≡ v) ⊎ (slice_index_or (slice_set xs m v) m None ≡ None)
 index_set [] m v = inr refl
@@ -38,7 +28,7 @@ index_set (x ∷ xs) (suc m) v = index_set xs m v
 -- the thread has another wait now, and all others the same
 module _ (s : State) (thread : ℕ) (wait : Option Wait) where
   pub wait_there : (t : ℕ) → (t == thread) ≡ false → wait_of (slice_set s.waits thread wait) t ≡ wait_at s t
-  wait_there t ne = index_there s.waits thread t wait None (swapped t thread ne)
+  wait_there t ne = index_there s.waits thread t wait None (eqb-swap_false t thread ne)
 
 -- all is proper beside these threads
 pub record ProperBeside (s : State) (others : ℕ → Bool) : Type 0 where
@@ -67,10 +57,6 @@ proper_all s h = record {
   dated = λ t date. h.dated t date refl;
 }
 
-neither : (a b : Bool) → a ≡ false → b ≡ false → (a || b) ≡ false
-neither true b e f = absurd (false≢true (sym e))
-neither false b e f = f
-
 and_true : (b : Bool) → (b && true) ≡ b
 and_true true = refl
 and_true false = refl
@@ -90,7 +76,7 @@ module _ (s : State) (thread : ℕ) (others : ℕ → Bool) (h : ProperBeside s 
   blocked_there t ne = ap (λ (o : Option Wait). option_map_or (λ (w : Wait). is_none w.outcome) o false) (beside t ne)
 
   apart : (t : ℕ) → (t == thread) ≡ false → others t ≡ false → ((thread == t) || others t) ≡ false
-  apart t ne other = neither (thread == t) (others t) (swapped t thread ne) other
+  apart t ne other = or_from (thread == t) (others t) (eqb-swap_false t thread ne) other
 
   pub proper_freed : ProperBeside freed others
   proper_freed = record {
@@ -102,25 +88,25 @@ module _ (s : State) (thread : ℕ) (others : ℕ → Bool) (h : ProperBeside s 
   }
     where
       stood : (on : Awaited) (t : ℕ) → others t ≡ false → stands_for (elements s) on t ≡ true → (b : Bool) → (t == thread) ≡ b → wait_of waits t ≡ Some (going_on on)
-      stood on t other stands true is = absurd (false≢true (sym (away on) ∙ (ap (λ (m : ℕ). stands_for (elements s) on m) (sym (same_number t thread is)) ∙ stands)))
+      stood on t other stands true is = absurd (false≢true (sym (away on) ∙ (ap (λ (m : ℕ). stands_for (elements s) on m) (sym (eqb-true t thread is)) ∙ stands)))
       stood on t other stands false ne = beside t ne ∙ h.stands on t (apart t ne other) stands
 
       never : (on : Awaited) → wait_of waits thread ≡ Some (going_on on) → ⊥
       never on is = false≢true (sym over ∙ ap (λ (o : Option Wait). option_map_or (λ (w : Wait). is_none w.outcome) o false) is)
 
       waited : (on : Awaited) (t : ℕ) → others t ≡ false → wait_of waits t ≡ Some (going_on on) → (b : Bool) → (t == thread) ≡ b → stands_for (elements s) on t ≡ true
-      waited on t other its true is = absurd (never on (ap (wait_of waits) (sym (same_number t thread is)) ∙ its))
+      waited on t other its true is = absurd (never on (ap (wait_of waits) (sym (eqb-true t thread is)) ∙ its))
       waited on t other its false ne = h.waits on t (apart t ne other) (sym (beside t ne) ∙ its)
 
       is_ready_ : (t : ℕ) → others t ≡ false → (b : Bool) → (t == thread) ≡ b → is_ready sched t ≡ (is_oob (stage_of sched t) && not (is_blocked freed t))
       is_ready_ t other true is =
-          subst (λ (m : ℕ). is_ready sched m ≡ (is_oob (stage_of sched m) && not (is_blocked freed m))) (sym (same_number t thread is))
+          subst (λ (m : ℕ). is_ready sched m ≡ (is_oob (stage_of sched m) && not (is_blocked freed m))) (sym (eqb-true t thread is))
           (anew.itself ∙ sym (ap (λ (c : Bool). is_oob (stage_of sched thread) && not c) over ∙ and_true (is_oob (stage_of sched thread))))
       is_ready_ t other false ne =
           anew.others t ne ∙ (h.ready t (apart t ne other) ∙ ((λ i. is_oob (sym (anew.stages t ne) i) && not (sym (blocked_there t ne) i))))
 
       is_dated : (t date : ℕ) → others t ≡ false → slice_index_or deadlines t None ≡ Some date → (b : Bool) → (t == thread) ≡ b → is_blocked freed t ≡ true
-      is_dated t date other its true is = absurd (none date (ap (λ (m : ℕ). slice_index_or deadlines m None) (sym (same_number t thread is)) ∙ its))
+      is_dated t date other its true is = absurd (none date (ap (λ (m : ℕ). slice_index_or deadlines m None) (sym (eqb-true t thread is)) ∙ its))
       is_dated t date other its false ne = blocked_there t ne ∙ h.dated t date (apart t ne other) (sym (same t ne) ∙ its)
 
 abbrev pub over_if : Option Wait → Type 0
@@ -141,7 +127,7 @@ proper_woken s thread outcome others h away =
     proper_freed s thread others h away (slice_set s.waits thread (option_map (ended_by outcome) (wait_at s thread))) (wait_there s thread (option_map (ended_by outcome) (wait_at s thread)))
     (over_set s.waits thread (option_map (ended_by outcome) (wait_at s thread)) (over_now (wait_at s thread))) (readied s.sched thread)
     (record { itself = ready-as s.sched thread; others = λ t ne. ready-other s.sched thread t ne; stages = λ t ne. refl })
-    (slice_set s.clock.deadlines thread None) none (λ t ne. index_there s.clock.deadlines thread t None None (swapped t thread ne))
+    (slice_set s.clock.deadlines thread None) none (λ t ne. index_there s.clock.deadlines thread t None None (eqb-swap_false t thread ne))
   where
     over_now : (o : Option Wait) → over_if (option_map (ended_by outcome) o)
     over_now None = refl
@@ -151,5 +137,5 @@ proper_woken s thread outcome others h away =
     none date is = by (index_set s.clock.deadlines thread None)
       where
         by : (slice_index_or (slice_set s.clock.deadlines thread None) thread None ≡ None) ⊎ (slice_index_or (slice_set s.clock.deadlines thread None) thread None ≡ None) → ⊥
-        by (inl nothing) = none_some (sym nothing ∙ is)
-        by (inr nothing) = none_some (sym nothing ∙ is)
+        by (inl nothing) = none-some _ (sym nothing ∙ is)
+        by (inr nothing) = none-some _ (sym nothing ∙ is)

@@ -1,7 +1,7 @@
 -- For what a thread waits is changed by its own calls alone.
 use Rattle.std.proofs.Common.{◌≡◌, ◌≢◌, ◌<◌, ◌≤◌, if◌then◌else◌, ◌⊎◌, inl, inr, ⊎_elim, ℕ, zero, suc, ◌==◌, eqb, eq-eqb, ne_eqb, Bool, true, false, List, [], ◌∷◌, length, Option, Some, None, option_map, Result, Ok, Err, slice_index_or, slice_set, refl, sym, ap, ◌∙◌, subst, arith}
 use Rattle.std.specs.Option.{option_map_or}
-use Rattle.std.proofs.lemmas.Bool.{false≢true}
+use Rattle.std.proofs.lemmas.Bool.{false≢true, eqb-true}
 use Rattle.std.proofs.lemmas.Bool.Decides.{nat_tests}
 use Rattle.evl_base.specs.Limits.{thread_limit}
 use mathlib.Core.Logic.{dite}
@@ -36,7 +36,7 @@ use Rattle.evl_kernel.proofs.ProperLaws.{IsProper}
 use Rattle.evl_kernel.proofs.ProperSteps.{kept_by_each, kept_by_own, passed_all, proper_at, proper_opening}
 use Rattle.evl_pipeline.proofs.PortLaws.{at-none}
 use Rattle.evl_kernel.proofs.WaitLaws.{index_set, wait_there}
-use Rattle.evl_kernel.proofs.WaitRecords.{index_here, same_number}
+use Rattle.evl_kernel.proofs.WaitRecords.{index_here}
 
 abbrev on_of : Option Wait → Option Awaited
 on_of o = option_map (λ (w : Wait). w.on) o
@@ -68,7 +68,7 @@ module _ (t : ℕ) (X : Option Awaited) where
           (index_set s.waits thread v)
 
       by : (b : Bool) → (t == thread) ≡ b → on_of (wait_of (slice_set s.waits thread v) t) ≡ X
-      by true e = subst (λ (k : ℕ). on_of (wait_of (slice_set s.waits thread v) k) ≡ X) (sym (same_number t thread e)) (here (ap (awaited_at s) (sym (same_number t thread e)) ∙ h))
+      by true e = subst (λ (k : ℕ). on_of (wait_of (slice_set s.waits thread v) k) ≡ X) (sym (eqb-true t thread e)) (here (ap (awaited_at s) (sym (eqb-true t thread e)) ∙ h))
       by false ne = ap on_of (wait_there s thread v t ne) ∙ h
 
   waits_all_woken : (s : State) (served : List (ℕ × Reply)) → Waits s → Waits (all_woken s served)
@@ -205,7 +205,7 @@ run_awaits count few old (e ∷ es) plays new proper (mine, rest, mid, split, (c
     run_awaits count few mid es rest new fine run t ∙ ap (awaited_along t es) (by one (e.caller.0 == t) refl)
   where
     by : WaitsGoBy old e.caller.0 e.call e.reply mid → (b : Bool) → (e.caller.0 == t) ≡ b → awaited_at mid t ≡ (if b then awaited_after (task_of e.call) e.reply (awaited_at old t) else awaited_at old t)
-    by one true is = subst (λ (n : ℕ). awaited_at mid n ≡ awaited_after (task_of e.call) e.reply (awaited_at old n)) (same_number e.caller.0 t is) one.own
+    by one true is = subst (λ (n : ℕ). awaited_at mid n ≡ awaited_after (task_of e.call) e.reply (awaited_at old n)) (eqb-true e.caller.0 t is) one.own
     by one false ne = one.others t (λ x. false≢true (sym ne ∙ eq-eqb e.caller.0 t (sym x)))
 
 pub waits_along : WaitsAreOfTheirCalls

@@ -1,9 +1,11 @@
 -- The waits of the records: whoever stands in a queue waits for that, after each step of an element.
 use Rattle.std.proofs.Common.{◌≡◌, ◌≢◌, ◌<◌, ℕ, zero, suc, ◌==◌, ◌⊎◌, inl, inr, Bool, true, false, ◌&&◌, ◌||◌, List, [], ◌∷◌, length, Option, Some, None, Ok, Err, slice_get, slice_set, slice_index_or, if◌then◌else◌, refl, sym, ap, ◌∙◌, subst, arith}
 use Rattle.std.specs.Option.{option_map, option_map_or}
-use Rattle.std.proofs.lemmas.Bool.{false≢true}
+use Rattle.std.proofs.lemmas.Bool.{false≢true, eq-eqb, eqb-true}
 use Rattle.std.proofs.lemmas.Bool.Decides.{nat_tests}
 use Rattle.std.proofs.lemmas.List.{length-set}
+use Rattle.std.proofs.lemmas.Option.{none-some, same_Some}
+use Rattle.evl_base.proofs.Plain.{eqb-swap_false}
 use Rattle.evl_base.specs.Limits.{thread_limit}
 use Rattle.evl_base.specs.declared.refusal.Refusal.{Refusal}
 use Rattle.evl_base.specs.declared.refusal.Refusal.TheVariants.{Unknown, Deadlock}
@@ -41,7 +43,7 @@ use Rattle.evl_kernel.specs.ThreadCalls.{rank_of}
 use Rattle.evl_kernel.specs.Standing.{is_served, stands_for}
 use Rattle.evl_kernel.specs.Waits.{wait_at, wait_of, going_on, begun, woken, all_woken, is_past, blocked}
 use Rattle.evl_kernel.specs.Records.{RanksAreKept, RecordsView, IsSound, KeepsCallbacks, WaitsAreKept, state_of}
-use Rattle.evl_kernel.proofs.ElementSteps.{none_some, ok_err, some_is, stepping-done, stepping-refused}
+use Rattle.evl_kernel.proofs.ElementSteps.{ok_err, stepping-done, stepping-refused}
 use Rattle.evl_kernel.proofs.QueueSteps.{Comes}
 use Rattle.evl_kernel.proofs.QueueLaws.{Begins, Dropped, IsAsked, Stepped, asked_goes, begin_goes}
 use Rattle.evl_kernel.proofs.BeginLaws.{free_to_begin}
@@ -49,15 +51,6 @@ use Rattle.evl_kernel.proofs.RankLaws.{attached_of}
 use Rattle.evl_kernel.proofs.EffectiveLaws.{given_as}
 use Rattle.evl_clock.specs.Clocks.{with_deadline}
 use Rattle.evl_kernel.specs.TimerCalls.{posted_if}
-
-pub same_number : (m n : ℕ) → (m == n) ≡ true → m ≡ n
-same_number m n e = grind (arith, nat_tests)
-
-pub is_number : (m n : ℕ) → m ≡ n → (m == n) ≡ true
-is_number m n e = grind (arith, nat_tests)
-
-swapped : (m n : ℕ) → (m == n) ≡ false → (n == m) ≡ false
-swapped m n e = grind (arith, nat_tests)
 
 fewer_by : (m n : ℕ) → (suc m == suc n) ≡ false → (m == n) ≡ false
 fewer_by m n e = grind (arith, nat_tests)
@@ -85,14 +78,14 @@ module _ (threads : ℕ) (e : Elements) (waits : List (Option Wait)) (kept : Wai
       by false is = refl
 
   pub idle_away : (thread : ℕ) → wait_of waits thread ≡ None → (on : Awaited) → stands_for e on thread ≡ false
-  idle_away thread none = away_of thread (λ on is. none_some (sym none ∙ is))
+  idle_away thread none = away_of thread (λ on is. none-some _ (sym none ∙ is))
 
   -- the wait of a thread that stands nowhere changes
   pub set_wait : (thread : ℕ) (w : Option Wait) → ((on : Awaited) → stands_for e on thread ≡ false) → WaitsAreKept threads e (slice_set waits thread w)
   set_wait thread w away = record { few = kept.few; sound = kept.sound; places = length-set waits thread w ∙ kept.places; going = λ on other stands. by on other stands (thread == other) refl }
     where
       by : (on : Awaited) (other : ℕ) → stands_for e on other ≡ true → (b : Bool) → (thread == other) ≡ b → wait_of (slice_set waits thread w) other ≡ Some (going_on on)
-      by on other stands true is = absurd (false≢true (sym (away on) ∙ (ap (λ (t : ℕ). stands_for e on t) (same_number thread other is) ∙ stands)))
+      by on other stands true is = absurd (false≢true (sym (away on) ∙ (ap (λ (t : ℕ). stands_for e on t) (eqb-true thread other is) ∙ stands)))
       by on other stands false is = index_there waits thread other w None is ∙ kept.going on other stands
 
   pub waits_set : (thread : ℕ) (w : Option Wait) (changed : List (Option Wait)) → changed ≡ slice_set waits thread w → ((on : Awaited) → stands_for e on thread ≡ false) → WaitsAreKept threads e changed
@@ -105,7 +98,7 @@ module _ (threads : ℕ) (e : Elements) (waits : List (Option Wait)) (kept : Wai
 
   -- a thread stands in one queue at most
   one_queue : (thread : ℕ) (on other : Awaited) → stands_for e on thread ≡ true → stands_for e other thread ≡ true → on ≡ other
-  one_queue thread on other first second = ap (λ (w : Wait). w.on) (some_is (sym (kept.going on thread first) ∙ kept.going other thread second))
+  one_queue thread on other first second = ap (λ (w : Wait). w.on) (same_Some _ _ (sym (kept.going on thread first) ∙ kept.going other thread second))
 
   -- a step of an element: some are let go
   module _ (served : List (ℕ × Reply)) (after : Elements) (stepped : Stepped e served after) where
@@ -140,7 +133,7 @@ module _ (threads : ℕ) (e : Elements) (waits : List (Option Wait)) (kept : Wai
         }
           where
             by : (other : Awaited) (t : ℕ) → stands_for after other t ≡ true → (b : Bool) → (thread == t) ≡ b → wait_of (slice_set waits thread w) t ≡ Some (going_on other)
-            by other t stands true same = absurd (none_some (sym none ∙ (ap (wait_of waits) (same_number thread t same) ∙ mid.going other t stands)))
+            by other t stands true same = absurd (none-some _ (sym none ∙ (ap (wait_of waits) (eqb-true thread t same) ∙ mid.going other t stands)))
             by other t stands false ne = index_there waits thread t w None ne ∙ mid.going other t stands
 
     -- it goes on
@@ -164,10 +157,10 @@ module _ (threads : ℕ) (e : Elements) (waits : List (Option Wait)) (kept : Wai
 
         by : (other : Awaited) (t : ℕ) → stands_for after other t ≡ true → (b : Bool) → (t == thread) ≡ b → wait_of (slice_set waits thread (Some (going_on on))) t ≡ Some (going_on other)
         by other t stands true same =
-            let is_t = same_number t thread same in
+            let is_t = eqb-true t thread same in
             ap (wait_of (slice_set waits thread (Some (going_on on)))) is_t
             ∙ (mine ∙ ap (λ (x : Awaited). Some (going_on x)) (alone other (comes.alone other (ap (stands_for after other) (sym is_t) ∙ stands))))
-        by other t stands false ne = index_there waits thread t _ None (swapped t thread ne) ∙ kept.going other t (sym (comes.same other t ne) ∙ stands)
+        by other t stands false ne = index_there waits thread t _ None (eqb-swap_false t thread ne) ∙ kept.going other t (sym (comes.same other t ne) ∙ stands)
 
   -- a thread leaves the queue in which it waits
   module _ (thread : ℕ) (on : Awaited) (served : List (ℕ × Reply)) (after : Elements) (dropped : Dropped e on thread served after) where
@@ -180,7 +173,7 @@ module _ (threads : ℕ) (e : Elements) (waits : List (Option Wait)) (kept : Wai
         by : (b : Bool) → stands_for after other thread ≡ b → b ≡ false
         by false stands = refl
         by true stands =
-            let same : on ≡ other = some_is (its ∙ ap (option_map (λ (w : Wait). w.on)) (kept.going other thread (dropped.drops.old other thread stands))) in
+            let same : on ≡ other = same_Some _ _ (its ∙ ap (option_map (λ (w : Wait). w.on)) (kept.going other thread (dropped.drops.old other thread stands))) in
             sym stands ∙ (ap (λ (x : Awaited). stands_for after x thread) (sym same) ∙ dropped.drops.gone)
 
     -- whoever is served by that stands nowhere then
@@ -252,7 +245,7 @@ refused_as r step refusal after (is, same) = (stepping-refused (λ s. s) (state_
 
 -- who is alone among the served
 pub alone_served : (t : ℕ) (outcome : Reply) (served : List (ℕ × Reply)) → served ≡ (t, outcome) ∷ [] → is_served t served ≡ true
-alone_served t outcome served is = ap (is_served t) is ∙ ap (λ (b : Bool). b || false) (is_number t t refl)
+alone_served t outcome served is = ap (is_served t) is ∙ ap (λ (b : Bool). b || false) (eq-eqb t t refl)
 
 -- a wait begins
 module _ {C : Type 0} (r : RecordsView C) (h : IsSound r) (thread rank : ℕ) (wants : Wanted) (until : Option ℕ) (none : wait_of r.waits thread ≡ None) (there : thread < r.threads)
@@ -310,7 +303,7 @@ there_to_begin s thread wants = by (is_there (elements s) (awaited wants)) (is_n
   where
     by : (b c : Bool) (others : Option Refusal) → refused_first (if b && c then None else Some Unknown) others ≡ None → b ≡ true
     by true c others none = refl
-    by false c others none = absurd (none_some (sym none))
+    by false c others none = absurd (none-some _ (sym none))
 
 -- a beginning that none of these refuses
 pub may_begin_all : (s : State) (thread : ℕ) (wants : Wanted) → is_there (elements s) (awaited wants) ≡ true → is_named s wants ≡ true → range_refusal wants ≡ None → waiter_refusal s thread wants ≡ None

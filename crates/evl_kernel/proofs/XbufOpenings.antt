@@ -1,22 +1,14 @@
 -- Lists of cross-buffers that are made one by one.
 use Rattle.std.proofs.Common.{◌≡◌, ◌+◌, ◌<◌, ℕ, zero, suc, Bool, true, false, ◌&&◌, List, [], ◌∷◌, ◌++◌, length, map, take, slice_index_or, refl, sym, ap, ◌∙◌, arith}
 use Rattle.std.specs.List.{list_all}
-use Rattle.std.proofs.lemmas.Bool.{false≢true}
-
-first : (a b : Bool) → (a && b) ≡ true → a ≡ true
-first true b e = refl
-first false b e = absurd (false≢true e)
-
-others : (a b : Bool) → (a && b) ≡ true → b ≡ true
-others true b e = e
-others false b e = absurd (false≢true e)
+use Rattle.std.proofs.lemmas.Bool.{false≢true, and_parts}
 
 module _ {A : Type 0} where
   -- what holds of all holds of the one at an index
   pub all_here : (p : A → Bool) (xs : List A) (i : ℕ) (d : A) → list_all p xs ≡ true → i < length xs → p (slice_index_or xs i d) ≡ true
   all_here p [] i d all l = absurd (omega (arith, l))
-  all_here p (x ∷ xs) zero d all l = first (p x) (list_all p xs) all
-  all_here p (x ∷ xs) (suc i) d all l = all_here p xs i d (others (p x) (list_all p xs) all) (omega (arith, l))
+  all_here p (x ∷ xs) zero d all l = (and_parts (p x) (list_all p xs) all).0
+  all_here p (x ∷ xs) (suc i) d all l = all_here p xs i d ((and_parts (p x) (list_all p xs) all).1) (omega (arith, l))
 
   more_taken : {B : Type 0} (f : A → B) (xs : List A) (i : ℕ) (d : A) → i < length xs → map f (take (suc i) xs) ≡ map f (take i xs) ++ f (slice_index_or xs i d) ∷ []
   more_taken f [] i d l = absurd (omega (arith, l))

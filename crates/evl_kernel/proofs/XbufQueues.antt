@@ -1,7 +1,9 @@
 -- What each step of a cross-buffer leaves of its queues, and that it stays sound.
 use Rattle.std.proofs.Common.{◌≡◌, ◌<◌, ℕ, ◌==◌, ◌⊎◌, inl, inr, Bool, true, false, ◌||◌, List, [], ◌∷◌, ◌++◌, map, Option, Some, None, Result, Ok, Err, if◌then◌else◌, refl, sym, ap, ◌∙◌, subst, arith}
-use Rattle.std.proofs.lemmas.Bool.{false≢true}
+use Rattle.std.proofs.lemmas.Bool.{false≢true, eq-eqb, eqb-true, or_left, or_parts, or_right}
 use Rattle.std.proofs.lemmas.Bool.Decides.{nat_tests}
+use Rattle.std.proofs.lemmas.Option.{none-some}
+use Rattle.evl_base.proofs.Plain.{eqb-swap_false, some-none}
 use Rattle.evl_base.specs.Limits.{thread_limit}
 use Rattle.evl_base.specs.declared.refusal.Refusal.{Refusal}
 use Rattle.evl_base.specs.declared.refusal.Refusal.TheVariants.{Again}
@@ -26,26 +28,8 @@ use Rattle.evl_kernel.specs.Effects.{replied}
 use Rattle.evl_kernel.specs.CrossBuffers as through
 use Rattle.evl_kernel.specs.CrossBuffers.{XbufStep, answered, at_once, bytes_told, cross_buffer as machine, done_at_once, read_at_once, served_beside, served_in, service_told, xbuf_serves, xbuf_wakes}
 use Rattle.evl_kernel.specs.Standing.{in_readers, in_writers, is_served}
-use Rattle.evl_kernel.proofs.ElementSteps.{err_ok, none_some, ok_is}
+use Rattle.evl_kernel.proofs.ElementSteps.{err_ok, ok_is}
 use Rattle.evl_kernel.proofs.QueueSteps.{dropped_gone, dropped_stays}
-
-same_number : (m n : ℕ) → (m == n) ≡ true → m ≡ n
-same_number m n e = grind (arith, nat_tests)
-
-some_none : {A : Type 0} {x : A} → Some x ≡ None → ⊥
-some_none e = cc
-
-or_true : (a b : Bool) → b ≡ true → (a || b) ≡ true
-or_true true b e = refl
-or_true false b e = e
-
-or_first : (a b : Bool) → a ≡ true → (a || b) ≡ true
-or_first true b e = refl
-or_first false b e = absurd (false≢true e)
-
-or_neither : (a b : Bool) → (a || b) ≡ false → (a ≡ false) × (b ≡ false)
-or_neither true b e = absurd (false≢true (sym e))
-or_neither false b e = (refl, e)
 
 -- one of the four queues of a cross-buffer
 pub data Queue : Type 0 where
@@ -83,33 +67,33 @@ served_either t (Got thread bytes ∷ others) is = by (thread == t) refl is (ser
     by : (b : Bool) → (thread == t) ≡ b → (b || is_served t (map service_told others)) ≡ true
         → (is_served t (map service_told others) ≡ true → (is_among t (readers_in others) ≡ true) ⊎ (is_among t (writers_in others) ≡ true))
         → (((thread == t) || is_among t (readers_in others)) ≡ true) ⊎ (is_among t (writers_in others) ≡ true)
-    by true e is rest = inl (or_first (thread == t) (is_among t (readers_in others)) e)
+    by true e is rest = inl (or_left (thread == t) (is_among t (readers_in others)) e)
     by false e is rest = deeper (rest is)
       where
         deeper : (is_among t (readers_in others) ≡ true) ⊎ (is_among t (writers_in others) ≡ true) → (((thread == t) || is_among t (readers_in others)) ≡ true) ⊎ (is_among t (writers_in others) ≡ true)
-        deeper (inl r) = inl (or_true (thread == t) (is_among t (readers_in others)) r)
+        deeper (inl r) = inl (or_right (thread == t) (is_among t (readers_in others)) r)
         deeper (inr w) = inr w
 served_either t (Wrote thread ∷ others) is = by (thread == t) refl is (served_either t others)
   where
     by : (b : Bool) → (thread == t) ≡ b → (b || is_served t (map service_told others)) ≡ true
         → (is_served t (map service_told others) ≡ true → (is_among t (readers_in others) ≡ true) ⊎ (is_among t (writers_in others) ≡ true))
         → (is_among t (readers_in others) ≡ true) ⊎ (((thread == t) || is_among t (writers_in others)) ≡ true)
-    by true e is rest = inr (or_first (thread == t) (is_among t (writers_in others)) e)
+    by true e is rest = inr (or_left (thread == t) (is_among t (writers_in others)) e)
     by false e is rest = deeper (rest is)
       where
         deeper : (is_among t (readers_in others) ≡ true) ⊎ (is_among t (writers_in others) ≡ true) → (is_among t (readers_in others) ≡ true) ⊎ (((thread == t) || is_among t (writers_in others)) ≡ true)
         deeper (inl r) = inl r
-        deeper (inr w) = inr (or_true (thread == t) (is_among t (writers_in others)) w)
+        deeper (inr w) = inr (or_right (thread == t) (is_among t (writers_in others)) w)
 
 -- and who wasn't served was neither
 served_neither : (t : ℕ) (services : List Service) → is_served t (map service_told services) ≡ false → (is_among t (readers_in services) ≡ false) × (is_among t (writers_in services) ≡ false)
 served_neither t [] is = (refl, refl)
 served_neither t (Got thread bytes ∷ others) is =
-    let two = or_neither (thread == t) (is_served t (map service_told others)) is in
+    let two = or_parts (thread == t) (is_served t (map service_told others)) is in
     let rest = served_neither t others two.1 in
     (ap (λ (b : Bool). b || is_among t (readers_in others)) two.0 ∙ rest.0, rest.1)
 served_neither t (Wrote thread ∷ others) is =
-    let two = or_neither (thread == t) (is_served t (map service_told others)) is in
+    let two = or_parts (thread == t) (is_served t (map service_told others)) is in
     let rest = served_neither t others two.1 in
     (rest.0, ap (λ (b : Bool). b || is_among t (writers_in others)) two.0 ∙ rest.1)
 
@@ -254,16 +238,10 @@ pub record Begun (x y : Xbuf) (queue : Queue) (thread : ℕ) (told : Option Repl
   pub quiet : told ≡ None → woken ≡ []
 
 at_once_as : (x y : Xbuf) (queue : Queue) (thread : ℕ) (outcome : Reply) (woken : List (ℕ × Reply)) → Left x y woken → Begun x y queue thread (Some outcome) woken
-at_once_as x y queue thread outcome woken left = record { sound = left.sound; at_once = λ told is. left; waits = λ none. absurd (some_none none); quiet = λ none. absurd (some_none none) }
+at_once_as x y queue thread outcome woken left = record { sound = left.sound; at_once = λ told is. left; waits = λ none. absurd (some-none _ none); quiet = λ none. absurd (some-none _ none) }
 
 waits_as : (x y : Xbuf) (queue : Queue) (thread : ℕ) → IsSoundXbuf y → Came x y queue thread → Begun x y queue thread None []
-waits_as x y queue thread sound came = record { sound = sound; at_once = λ told is. absurd (none_some is); waits = λ none. came; quiet = λ none. refl }
-
-is_number : (m n : ℕ) → m ≡ n → (m == n) ≡ true
-is_number m n e = grind (arith, nat_tests)
-
-swapped : (m n : ℕ) → (m == n) ≡ false → (n == m) ≡ false
-swapped m n e = grind (arith, nat_tests)
+waits_as x y queue thread sound came = record { sound = sound; at_once = λ told is. absurd (none-some _ is); waits = λ none. came; quiet = λ none. refl }
 
 -- who stands in a queue that one came to
 stands_last : {A : Type 0} (of : A → ℕ) (ws : List A) (w : A) (t : ℕ) → stands_in of t (ws ++ w ∷ []) ≡ (stands_in of t ws || (of w == t))
@@ -277,10 +255,6 @@ stands_last of (v ∷ vs) w t = by (of v == t) (stands_last of vs w t)
     by : (b : Bool) → stands_in of t (vs ++ w ∷ []) ≡ (stands_in of t vs || (of w == t)) → (b || stands_in of t (vs ++ w ∷ [])) ≡ ((b || stands_in of t vs) || (of w == t))
     by true rest = refl
     by false rest = rest
-
-or_last : (a b : Bool) → b ≡ true → (a || b) ≡ true
-or_last true b e = refl
-or_last false b e = e
 
 or_no : (a b : Bool) → b ≡ false → (a || b) ≡ a
 or_no true b e = refl
@@ -297,10 +271,10 @@ module _ (x : Xbuf) (thread : ℕ) where
       there : in_queue (writing way) (with_stream x way (with_writer (stream x way) thread bytes)) thread ≡ true
       there =
           ap (writes thread) (with_way x way (with_writer (stream x way) thread bytes))
-          ∙ (stood thread ∙ or_last (writes thread (stream x way)) (thread == thread) (is_number thread thread refl))
+          ∙ (stood thread ∙ or_right (writes thread (stream x way)) (thread == thread) (eq-eqb thread thread refl))
 
       same : (q : Queue) (t : ℕ) → (t == thread) ≡ false → in_queue q (with_stream x way (with_writer (stream x way) thread bytes)) t ≡ in_queue q x t
-      same q t ne = same_queues x way (with_writer (stream x way) thread bytes) q t refl (stood t ∙ or_no (writes t (stream x way)) (thread == t) (swapped t thread ne))
+      same q t ne = same_queues x way (with_writer (stream x way) thread bytes) q t refl (stood t ∙ or_no (writes t (stream x way)) (thread == t) (eqb-swap_false t thread ne))
 
       alone : (w : Way) (q : Queue) → in_queue q (with_stream x w (with_writer (stream x w) thread bytes)) thread ≡ true → (writing w ≡ q) ⊎ (in_queue q x thread ≡ true)
       alone In (reading In) is = inr is
@@ -322,10 +296,10 @@ module _ (x : Xbuf) (thread : ℕ) where
       there : in_queue (reading way) (with_stream x way (with_reader (stream x way) thread len)) thread ≡ true
       there =
           ap (reads thread) (with_way x way (with_reader (stream x way) thread len))
-          ∙ (stood thread ∙ or_last (reads thread (stream x way)) (thread == thread) (is_number thread thread refl))
+          ∙ (stood thread ∙ or_right (reads thread (stream x way)) (thread == thread) (eq-eqb thread thread refl))
 
       same : (q : Queue) (t : ℕ) → (t == thread) ≡ false → in_queue q (with_stream x way (with_reader (stream x way) thread len)) t ≡ in_queue q x t
-      same q t ne = same_queues x way (with_reader (stream x way) thread len) q t (stood t ∙ or_no (reads t (stream x way)) (thread == t) (swapped t thread ne)) refl
+      same q t ne = same_queues x way (with_reader (stream x way) thread len) q t (stood t ∙ or_no (reads t (stream x way)) (thread == t) (eqb-swap_false t thread ne)) refl
 
       alone : (w : Way) (q : Queue) → in_queue q (with_stream x w (with_reader (stream x w) thread len)) thread ≡ true → (reading w ≡ q) ⊎ (in_queue q x thread ≡ true)
       alone In (reading In) is = inl refl
@@ -406,7 +380,7 @@ drop_left x h thread way = record {
     stays of ws t is = by (t == thread) refl
       where
         by : (b : Bool) → (t == thread) ≡ b → stands_in of t ws ≡ true
-        by true same = absurd (false≢true (sym (dropped_gone of thread ws) ∙ (ap (λ (m : ℕ). stands_in of m (dropped of thread ws)) (sym (same_number t thread same)) ∙ is)))
+        by true same = absurd (false≢true (sym (dropped_gone of thread ws) ∙ (ap (λ (m : ℕ). stands_in of m (dropped of thread ws)) (sym (eqb-true t thread same)) ∙ is)))
         by false ne = sym (dropped_stays of thread t ne ws) ∙ is
 
     old_reads : (t : ℕ) → reads t changed ≡ true → reads t (stream x way) ≡ true

@@ -1,6 +1,7 @@
 -- What a change of one cross-buffer means for the queues of all elements.
 use Rattle.std.proofs.Common.{◌≡◌, ℕ, ◌==◌, ◌⊎◌, inl, inr, Bool, true, false, List, Some, slice_get, slice_set, refl, sym, ap, ◌∙◌, arith}
 use Rattle.std.proofs.lemmas.Bool.Decides.{nat_tests}
+use Rattle.std.proofs.lemmas.Bool.{eqb-true}
 use Rattle.evl_base.specs.declared.reply.Reply.{Reply}
 use Rattle.evl_base.specs.declared.way.Way.{Way}
 use Rattle.evl_base.specs.declared.way.Way.TheVariants.{In}
@@ -12,9 +13,6 @@ use Rattle.evl_kernel.specs.Standing.{AreSound, in_readers, in_writers, stands_f
 use Rattle.evl_kernel.proofs.QueueSteps.{Comes, Drops, Gone, LetsGo, all_at, at_it, at_other, old_at, same_at, was_at_it}
 use Rattle.evl_kernel.proofs.XbufQueues as queues
 use Rattle.evl_kernel.proofs.XbufQueues.{Queue, reading, writing, in_queue}
-
-same_number : (m n : ℕ) → (m == n) ≡ true → m ≡ n
-same_number m n e = grind (arith, nat_tests)
 
 -- who waits in this queue of the n-th waits for this
 abbrev pub of_xbuf : ℕ → Queue → Awaited
@@ -74,7 +72,7 @@ module _ (e : Elements) (n : ℕ) (x y : Xbuf) (here : slice_get e.xbufs n ≡ S
         where
           by : (b : Bool) → (n == m) ≡ b → (of_xbuf n queue ≡ of_xbuf m q) ⊎ (stands_for e (of_xbuf m q) thread ≡ true)
           by true at =
-              let number = same_number n m at in
+              let number = eqb-true n m at in
               either q m number (came.alone q (sym (is_there q thread) ∙ (ap (λ (k : ℕ). stands_for xbuf_set (of_xbuf k q) thread) number ∙ is))) (was_there q thread)
           by false ne = inr (sym (elsewhere ne) ∙ is)
 

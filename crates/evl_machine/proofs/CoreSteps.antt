@@ -2,6 +2,7 @@
 use Rattle.std.proofs.Common.{◌≡◌, ◌≢◌, eqb, true, false, ℕ, List, [], ◌∷◌, ◌++◌, set, Option, Some, None, refl, sym, ap, ◌∙◌, subst, ⊎_elim, inl, inr, arith, length-set}
 use Rattle.std.proofs.lemmas.List.{length-replicate}
 use Rattle.std.specs.Prelude.{replicate}
+use Rattle.std.proofs.lemmas.Option.{same_Some}
 use mathlib.Core.Option.{some, none, some-injective}
 use mathlib.Core.Logic.{dite}
 use native.Mathlib.Decide.{ℕ_discrete}
@@ -33,9 +34,6 @@ all_set {A} P xs k w mine others j u e =
 
 pub none_some : {X : Type 0} (x : X) (y : Option X) → y ≡ Some x → y ≡ None → ⊥
 none_some x y e f = let g : Some x ≡ None = sym e ∙ f in absurd (cc)
-
-Some-injective : {X : Type 0} (x y : X) → Some x ≡ Some y → x ≡ y
-Some-injective x y e = cc
 
 pub only_slot : {S : Type 0} (x y : Slot S) → x ∷ [] ≡ y ∷ [] → x ≡ y
 only_slot x y e = cc
@@ -161,7 +159,7 @@ module _ {S B : Type 0} (past : S → History) (comes : B → S → Type 0) (fir
       (λ same.
       let both : c ≡ t.holds.0 = some-injective c t.holds.0 (sym at ∙ (ap (get_elem? cores) same ∙ t.holds.1)) in (
         t,
-        Some-injective r.history h (sym t.holds.2 ∙ (sym (ap (λ (u : CorePart B). u.taken) both) ∙ has)),
+        same_Some r.history h (sym t.holds.2 ∙ (sym (ap (λ (u : CorePart B). u.taken) both) ∙ has)),
         λ j u other e. t.others j u (λ there. other (there ∙ sym same)) e,
       ))
       (λ other. absurd (none_some h c.taken has (t.others k c other at))))
@@ -213,7 +211,7 @@ module _ {S B : Type 0} (past : S → History) (comes : B → S → Type 0) (fir
         tt,
         both.0,
         both.1,
-        (λ z e. subst (λ (q : S). Back known q) (Some-injective y z (ap (λ (xs : List (ℕ × Option S)). first_slot xs) e)) (known, refl, n, event)),
+        (λ z e. subst (λ (q : S). Back known q) (same_Some y z (ap (λ (xs : List (ℕ × Option S)). first_slot xs) e)) (known, refl, n, event)),
       )
     where
       Back : LockView → S → Type 0

@@ -1,6 +1,7 @@
 -- The tie of each mutex to the kernel's records, over each call on a mutex, over every other call, and over what settling plays.
 use Rattle.std.proofs.Common.{◌≡◌, ◌≢◌, ℕ, ◌+◌, ◌<◌, ◌==◌, ne_eqb, ◌||◌, Bool, true, false, Option, Some, None, is_some, List, [], ◌∷◌, refl, sym, ap, ◌∙◌, subst}
 use Rattle.std.specs.Option.{option_map_or}
+use Rattle.std.proofs.lemmas.Option.{same_Some}
 use mathlib.Core.Logic.{dite}
 use native.Mathlib.Decide.{ℕ_discrete}
 use Rattle.evl_base.specs.declared.reply.Reply.{Reply}
@@ -19,9 +20,6 @@ use Rattle.evl_kernel.specs.MutexRests.{OnlyLeft}
 use Rattle.evl_kernel.specs.MutexEffects.{record_at, has_got, ClaimLeaves, ReleaseLeaves, RaiseLeaves, FinishLeaves}
 use Rattle.evl_machine.specs.Ties.{IsTied, AreTied, IsLeft}
 use Rattle.evl_machine.proofs.TieSteps.{tied_left, left_tied, claim_refused, claim_accepted, raise_tied, none_recorded, open_to_named, word_given, got_given, release_tied, accept_tied, offered_alone}
-
-some_is : {A : Type 0} {x y : A} → Some x ≡ Some y → x ≡ y
-some_is e = cc
 
 module _ (ceilings : ℕ → Bool) where
   -- settling, and every call that isn't on a mutex
@@ -52,7 +50,7 @@ module _ (ceilings : ℕ → Bool) where
     tied_claimed o new named leaves m at =
         let waiter : Waiter = record { thread = k; rank = rank_of s k } in
         let before = tied leaves.was leaves.changes.there in
-        let is : record_of.claimed leaves.was waiter o ≡ m = some_is (sym leaves.changes.now ∙ at) in
+        let is : record_of.claimed leaves.was waiter o ≡ m = same_Some _ _ (sym leaves.changes.now ∙ at) in
         let now = claim_accepted x k small here there leaves.was (has_got s i) waiter o named before.1 in
         subst (λ (q : Mutex). (has_ceiling q ≡ ceilings i) × IsTied q (has_got new i) (mutex_word (claimed x k))) is
         (before.0, record { owner = now.owner; offer = λ t. now.offer t ∙ sym (leaves.got i t) })
@@ -61,7 +59,7 @@ module _ (ceilings : ℕ → Bool) where
   pub tied_raised : (i : ℕ) (s new : State) (k : ℕ) → k < thread_limit → AreTied ceilings s i 0 → RaiseLeaves s i k new → AreTied ceilings new i (k + 1)
   tied_raised i s new k small tied leaves m at =
       let before = tied leaves.was leaves.changes.there in
-      let is : raised leaves.was k ≡ m = some_is (sym leaves.changes.now ∙ at) in
+      let is : raised leaves.was k ≡ m = same_Some _ _ (sym leaves.changes.now ∙ at) in
       let now = raise_tied leaves.was (has_got s i) k small leaves.ceiling before.1 in
       subst (λ (q : Mutex). (has_ceiling q ≡ ceilings i) × IsTied q (has_got new i) (k + 1)) is
       (before.0, record { owner = now.owner; offer = λ t. now.offer t ∙ sym (leaves.got i t) })
@@ -71,7 +69,7 @@ module _ (ceilings : ℕ → Bool) where
       → ((next : ℕ) → (released leaves.was).next ≡ Some next → next < thread_limit) → AreTied ceilings new i (word_given (released leaves.was).next (released leaves.was).more)
   tied_released i s new reply k marked small tied leaves low m at =
       let before = tied leaves.was leaves.changes.there in
-      let is : (released leaves.was).after ≡ m = some_is (sym leaves.changes.now ∙ at) in
+      let is : (released leaves.was).after ≡ m = same_Some _ _ (sym leaves.changes.now ∙ at) in
       let now = release_tied leaves.was low in
       let nobody : (t : ℕ) → has_got s i t ≡ false = λ t. sym (before.1.offer t) ∙ offers_to-word (owned k marked) t small in
       subst (λ (q : Mutex). (has_ceiling q ≡ ceilings i) × IsTied q (has_got new i) (word_given (released leaves.was).next (released leaves.was).more)) is

@@ -1,6 +1,7 @@
 -- Each step on the core's lock and on a mutex's word keeps the ties of the one table.
 use Rattle.std.proofs.Common.{◌≡◌, ◌≢◌, inl, ⊎_elim, ℕ, ◌==◌, eq-eqb, ne_eqb, Bool, true, false, List, [], ◌∷◌, set, Option, Some, None, refl, sym, ap, ◌∙◌, subst, arith}
 use Rattle.std.specs.Prelude.{MatchBool}
+use Rattle.std.proofs.lemmas.Option.{same_Some}
 use mathlib.Core.Option.{some, none, some-injective}
 use lib.ListN.{get_elem?}
 use Rattle.atomic_table.proofs.Lists.{at_set}
@@ -18,11 +19,8 @@ use Rattle.evl_machine.proofs.LockSteps.{lock_stays}
 use Rattle.evl_machine.proofs.CoreSteps.{Lock, Losing, Taking, Giving, none_some, holder_is}
 use Rattle.evl_machine.proofs.TieSteps.{StaysPlain, stays_left, stays_tied}
 
-Some-injective : {X : Type 0} (x y : X) → Some x ≡ Some y → x ≡ y
-Some-injective x y e = cc
-
 pub slot_is : {S : Type 0} (x y : S) → ◌≡◌ {A = Homes S} (some (Some x) ∷ []) (some (Some y) ∷ []) → x ≡ y
-slot_is {S} x y e = Some-injective x y (some-injective (Some x) (Some y) (ap first e))
+slot_is {S} x y e = same_Some x y (some-injective (Some x) (Some y) (ap first e))
   where
     first : Homes S → Slot S
     first [] = none
@@ -77,7 +75,7 @@ module _ {S B : Type 0} (past : S → History) (comes : B → S → Type 0) (fir
     taken = λ j u h there has. ⊎_elim
         (λ (same : (j ≡ k) × (after_take (past y) (room y) known c ≡ u)).
         let now : Some (past y) ≡ Some h = ap (λ (x : CorePart B). x.taken) same.1 ∙ has in
-        let is : past y ≡ h = Some-injective (past y) h now in
+        let is : past y ≡ h = same_Some (past y) h now in
         subst (λ (x : CorePart B). StandsNoted ceilings h.state i x.note word) same.1 (subst (λ (x : History). AreTied ceilings x.state i word) is (tied.free y refl)))
         (λ (other : (j ≢ k) × (get_elem? cores j ≡ some u)). absurd (none_some h u.taken has (nobody j u other.1)))
         (at_set cores k j (after_take (past y) (room y) known c) u there);
@@ -127,7 +125,7 @@ module _ {S B : Type 0} (past : S → History) (comes : B → S → Type 0) (fir
       free = λ y e. absurd (out_is y (sym holder.0.slot_is ∙ e));
       taken = λ m u g there took. ⊎_elim
           (λ (same : (m ≡ k) × (noting i left c ≡ u)).
-          let is : h ≡ g = Some-injective h g (sym has ∙ ap (λ (x : CorePart B). x.taken) same.1 ∙ took) in
+          let is : h ≡ g = same_Some h g (sym has ∙ ap (λ (x : CorePart B). x.taken) same.1 ∙ took) in
           subst (λ (x : CorePart B). StandsNoted ceilings g.state j x.note word) same.1 (subst (λ (x : History). StandsNoted ceilings x.state j (Some (noted i left)) word) is stands))
           (λ (other : (m ≢ k) × (get_elem? cores m ≡ some u)). absurd (none_some g u.taken took (holder.2 m u other.0 other.1)))
           (at_set cores k m (noting i left c) u there);

@@ -1,20 +1,19 @@
 -- The greatest ceiling that is recorded for a thread: what a change of one mutex leaves of it, and how it is looked up again.
 use Rattle.std.proofs.Common.{◌≡◌, ℕ, zero, suc, max, ◌<◌, ◌==◌, Bool, true, false, not, ◌&&◌, inl, inr, List, [], ◌∷◌, length, map, slice_get, slice_set, slice_index, Option, Some, None, is_some, unwrap_or, if◌then◌else◌, refl, sym, ap, ◌∙◌, subst, arith}
 use Rattle.std.specs.Option.{option_map_or}
-use Rattle.std.proofs.lemmas.Bool.{false≢true}
+use Rattle.std.proofs.lemmas.Bool.{false≢true, eqb-true}
 use Rattle.std.proofs.lemmas.List.{length-set, get_or-set_same, get_or-set_other}
 use Rattle.evl_mutex.specs.Queues.{is_nobody, dropped}
 use Rattle.evl_mutex.specs.Mutexes.{Mutex, has_ceiling, ceiling_of, drop_waiter}
 use Rattle.evl_mutex.specs.Ranks.{ceiling_for, ceilings}
 use Rattle.evl_mutex.specs.Views.{looked_up, looked_up_at}
-use Rattle.evl_mutex.proofs.ChainLaws.{is_same}
 use Rattle.evl_mutex.proofs.LendingLaws.{same_or_not}
 
 pub ceiling-away : (t : ℕ) (m : Mutex) → (m.owner ≡ Some t → ⊥) → ceiling_for t m ≡ 0
 ceiling-away t m away = by_owner m.owner refl
   where
     by_test : (owner : ℕ) → m.owner ≡ Some owner → (b : Bool) → (owner == t) ≡ b → (if b then unwrap_or (ceiling_of m.kind) 0 else 0) ≡ 0
-    by_test owner e true is = absurd (away (e ∙ ap Some (is_same owner t is)))
+    by_test owner e true is = absurd (away (e ∙ ap Some (eqb-true owner t is)))
     by_test owner e false is = refl
 
     by_owner : (o : Option ℕ) → m.owner ≡ o → (if option_map_or (λ o. o == t) o false then unwrap_or (ceiling_of m.kind) 0 else 0) ≡ 0

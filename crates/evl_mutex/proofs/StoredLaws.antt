@@ -1,7 +1,7 @@
 -- The ranks that are kept are the effective ranks, and what is known of them after each change.
 use Rattle.std.proofs.Common.{◌≡◌, ◌≢◌, ℕ, zero, suc, max, ◌<◌, ◌==◌, Bool, true, false, not, ◌||◌, ◌⊎◌, inl, inr, List, [], ◌∷◌, length, map, slice_get, slice_set, slice_index, slice_index_or, replicate, Option, Some, None, is_some, if◌then◌else◌, refl, sym, ap, ◌∙◌, subst, arith}
 use Rattle.std.specs.Option.{option_and, option_map_or}
-use Rattle.std.proofs.lemmas.Bool.{false≢true}
+use Rattle.std.proofs.lemmas.Bool.{false≢true, eqb-true}
 use Rattle.std.proofs.lemmas.List.{length-set, get_or-set_same, get_or-set_other}
 use Rattle.evl_base.specs.declared.mutex_kind.MutexKind.{MutexKind}
 use Rattle.evl_mutex.specs.declared.waiter.Waiter.{Waiter}
@@ -15,7 +15,7 @@ use Rattle.evl_mutex.specs.Owners.{Owners, IsSound, rank_of}
 use Rattle.evl_mutex.specs.Lending.{IsNearlyRight, IsOrderly, IsRight, rank_at}
 use Rattle.evl_mutex.specs.Views.{ahead_in, mutex_of, mutexes_of, AreNoted, AreStored, OwnersAreThere, looked_up, looked_up_at, noted_behind, unnoted}
 use Rattle.evl_mutex.proofs.ListLaws.{map-set}
-use Rattle.evl_mutex.proofs.ChainLaws.{same, is_same}
+use Rattle.evl_mutex.proofs.ChainLaws.{same}
 use Rattle.evl_mutex.proofs.MutexLaws.{waits-first, first_of, drop-owner, waits-moved, stands-queues}
 use Rattle.evl_mutex.proofs.NotedLaws.{behind-at, inherited-alike, not_noted}
 use Rattle.evl_mutex.proofs.SoundLaws.{all-set, all-at, here, stood}
@@ -390,11 +390,11 @@ owner-at n place m ms at h = all-at (λ m. (owner : ℕ) → m.owner ≡ Some ow
 
 pub owned-is : (thread t : ℕ) (owner : Option ℕ) → option_map_or (λ o. o == thread) owner false ≡ true → owner ≡ Some t → Some thread ≡ Some t
 owned-is thread t None e h = cc
-owned-is thread t (Some o) e h = ap Some (sym (is_same o thread e)) ∙ h
+owned-is thread t (Some o) e h = ap Some (sym (eqb-true o thread e)) ∙ h
 
 pub open-is : (thread t : ℕ) (owner : Option ℕ) → option_map_or (λ o. o == thread) owner true ≡ true → owner ≡ Some t → Some thread ≡ Some t
 open-is thread t None e h = cc
-open-is thread t (Some o) e h = ap Some (sym (is_same o thread e)) ∙ h
+open-is thread t (Some o) e h = ap Some (sym (eqb-true o thread e)) ∙ h
 
 pub free-is : (t : ℕ) (owner other : Option ℕ) → is_some owner ≡ false → owner ≡ Some t → other ≡ Some t
 free-is t None other e h = cc

@@ -4,6 +4,7 @@ use Rattle.std.proofs.lemmas.Nat.{and_assoc}
 use Rattle.std.proofs.lemmas.List.{get_or-set_same, get_or-set_other, length-map, length-set}
 use Rattle.std.proofs.lemmas.List.Sums.{length-filter, count_by-le-length}
 use Rattle.std.proofs.lemmas.List.Elements.{All-map, All-filter, All-weaker}
+use Rattle.std.proofs.lemmas.Bool.{eqb-false, eqb-true}
 use Rattle.evl_pipeline.specs.declared.action.Action.{Action}
 use Rattle.evl_pipeline.specs.declared.plan.Plan.{Plan}
 use Rattle.evl_base.specs.declared.refusal.Refusal.TheVariants.{Unknown, Invalid, Busy}
@@ -11,7 +12,6 @@ use Rattle.evl_base.specs.declared.stage.Stage.{Stage}
 use Rattle.evl_base.specs.declared.stage.Stage.TheVariants.{Inband, Oob}
 use Rattle.evl_pipeline.specs.Counts.{one_more, counted}
 use Rattle.evl_pipeline.specs.Lines.{AreAllowed, Installed, Pipeline, Side, arrived, callback_on, cleared, freed, has_callback, installed_at, logged, opening, played, posted, request_refusal, requested, side, stalled, unstalled, with_side}
-use Rattle.evl_pipeline.proofs.NumberSetLaws.{is_same, is_other}
 use Rattle.evl_pipeline.proofs.PortLaws.{at-none, none_there, within}
 use Rattle.evl_pipeline.specs.Plans.{IsSound, PostsNoOob, answer_of, declares, divides, is_allowed, kind_of}
 use Rattle.evl_pipeline.specs.Limits.{action_limit, line_count}
@@ -31,8 +31,8 @@ few kinds plan count sound =
 -- what is allowed out-of-band has no bit of a post
 posts_not : (kinds : ℕ) → is_allowed Oob kinds ≡ true → declares kinds 8 ≡ true → ⊥
 posts_not kinds allowed declared =
-    let within : bit_and 23 kinds ≡ kinds = is_same (bit_and 23 kinds) kinds allowed in
-    let posts : bit_and kinds 8 ≡ 8 = is_same (bit_and kinds 8) 8 declared in
+    let within : bit_and 23 kinds ≡ kinds = eqb-true (bit_and 23 kinds) kinds allowed in
+    let posts : bit_and kinds 8 ≡ 8 = eqb-true (bit_and kinds 8) 8 declared in
     let none : bit_and 23 8 ≡ 8 = ap (bit_and 23) (sym posts) ∙ sym (and_assoc 8 23 kinds) ∙ ap (λ k. bit_and k 8) within ∙ posts in
     absurd (omega (arith, none))
 
@@ -40,7 +40,7 @@ other_kind : (kinds : ℕ) (action : Action) → is_allowed Oob kinds ≡ true �
 other_kind kinds action allowed declared =
     elim (kind_of action == 8) as (λ b. (kind_of action == 8) ≡ b → b ≡ false) [
       | true ↦ λ e.
-          let is : kind_of action ≡ 8 = is_same (kind_of action) 8 e in
+          let is : kind_of action ≡ 8 = eqb-true (kind_of action) 8 e in
           absurd (posts_not kinds allowed (ap (declares kinds) (sym is) ∙ declared))
       | false ↦ λ _. refl
     ] refl
@@ -78,9 +78,9 @@ module _ {C : Type 0} (declared : C → ℕ) where
   allowed-set stage installed line slot old new other at e =
       elim (other == line) as (λ b. (other == line) ≡ b → is_allowed stage (declared at.callback) ≡ true) [
         | true ↦ λ is.
-            let here : slice_index_or (slice_set installed line slot) line None ≡ Some at = ap (λ k. slice_index_or (slice_set installed line slot) k None) (sym (is_same other line is)) ∙ e in
+            let here : slice_index_or (slice_set installed line slot) line None ≡ Some at = ap (λ k. slice_index_or (slice_set installed line slot) k None) (sym (eqb-true other line is)) ∙ e in
             new at (sym (get_or-set_same installed line slot None (inside here)) ∙ here)
-        | false ↦ λ no. old other at (sym (get_or-set_other installed line other slot None (is_other other line no)) ∙ e)
+        | false ↦ λ no. old other at (sym (get_or-set_other installed line other slot None (eqb-false other line no)) ∙ e)
       ] refl
     where
       inside : slice_index_or (slice_set installed line slot) line None ≡ Some at → line < length installed

@@ -1,6 +1,6 @@
 -- Each change of a pipeline keeps what is known of every pipeline.
 use Rattle.std.proofs.Common.{◌≡◌, ◌≢◌, ℕ, ◌<◌, ◌==◌, Bool, true, false, not, ◌&&◌, ◌||◌, List, length, Option, Some, None, IfNone, IfSome, is_some, slice_index_or, slice_set, refl, sym, ap, ◌∙◌, arith}
-use Rattle.std.proofs.lemmas.Bool.{false≢true}
+use Rattle.std.proofs.lemmas.Bool.{false≢true, eqb-false, eqb-true}
 use Rattle.std.proofs.lemmas.List.{get_or-set_same, get_or-set_other, length-set}
 use Rattle.evl_base.specs.declared.refusal.Refusal.TheVariants.{Invalid}
 use Rattle.evl_base.specs.declared.stage.Stage.{Stage}
@@ -11,7 +11,7 @@ use Rattle.evl_pipeline.specs.declared.plan.Plan.{Plan}
 use Rattle.evl_pipeline.specs.Counts.{counted}
 use Rattle.evl_pipeline.specs.Lines.{Installed, Side, Pipeline, IsSoundSide, IsSoundPipeline, PlaysOn, Taken, callback_on, cleared, emptied, empty_side, filled, has_callback, installed_at, is_pending, logged, opening, played_on, request_refusal, side, with_side}
 use Rattle.evl_pipeline.specs.NumberSet.{contains}
-use Rattle.evl_pipeline.proofs.NumberSetLaws.{is_same, is_other, contains-insert, contains-remove, rises-insert, rises-remove}
+use Rattle.evl_pipeline.proofs.NumberSetLaws.{contains-insert, contains-remove, rises-insert, rises-remove}
 use Rattle.evl_pipeline.proofs.PortLaws.{at-none, length-counted, none_there, within}
 use Rattle.evl_pipeline.specs.Limits.{line_count}
 
@@ -27,17 +27,13 @@ or-more : (a b c : Bool) → (a || b) ≡ true → (b ≡ true → c ≡ true) �
 or-more true b c e more = refl
 or-more false b c e more = more e
 
-or-right : (a b : Bool) → b ≡ true → (a || b) ≡ true
-or-right true b e = refl
-or-right false b e = e
-
 -- a callback that is written, or that stands elsewhere
 some-set : {A : Type 0} (xs : List (Option A)) (i q : ℕ) (x : A) → is_some (slice_index_or xs q None) ≡ true → is_some (slice_index_or (slice_set xs i (Some x)) q None) ≡ true
 some-set {A} xs i q x e =
     elim (q == i) as (λ b. (q == i) ≡ b → is_some (slice_index_or (slice_set xs i (Some x)) q None) ≡ true) [
-      | true ↦ λ is. ap (λ k. is_some (slice_index_or (slice_set xs i (Some x)) k None)) (is_same q i is)
-          ∙ ap is_some (get_or-set_same xs i (Some x) None (inside (slice_index_or xs i None) refl (ap (λ k. is_some (slice_index_or xs k None)) (sym (is_same q i is)) ∙ e)))
-      | false ↦ λ no. ap is_some (get_or-set_other xs i q (Some x) None (is_other q i no)) ∙ e
+      | true ↦ λ is. ap (λ k. is_some (slice_index_or (slice_set xs i (Some x)) k None)) (eqb-true q i is)
+          ∙ ap is_some (get_or-set_same xs i (Some x) None (inside (slice_index_or xs i None) refl (ap (λ k. is_some (slice_index_or xs k None)) (sym (eqb-true q i is)) ∙ e)))
+      | false ↦ λ no. ap is_some (get_or-set_other xs i q (Some x) None (eqb-false q i no)) ∙ e
     ] refl
   where
     inside : (o : Option A) → slice_index_or xs i None ≡ o → is_some o ≡ true → i < length xs
@@ -111,7 +107,7 @@ module _ {C : Type 0} where
       let s = h.sides stage in
       sound-with p stage _ h (record { lines = s.lines; counts = s.counts; rises = rises-insert 0 line_count line _ s.rises (omega arith) below; clock = s.clock })
       (λ other e. either (has_in stage (side p stage).installed other ≡ true) (line == other) (contains (side p stage).pending other) (sym (contains-insert (side p stage).pending line other) ∙ e)
-      (λ is. ap (has_in stage (side p stage).installed) (sym (is_same line other is)) ∙ sym (has_is p stage line) ∙ there)
+      (λ is. ap (has_in stage (side p stage).installed) (sym (eqb-true line other is)) ∙ sym (has_is p stage line) ∙ there)
       (has p stage h other))
 
   pub sound-cleared : (p : Pipeline C) (stage : Stage) (line : ℕ) → IsSoundPipeline p → IsSoundPipeline (with_side p stage (cleared (side p stage) line))
@@ -158,7 +154,7 @@ module _ {C : Type 0} where
       (λ other e.
       let left = first_false (line == other) _ (sym (contains-remove (side p stage).pending line other) ∙ e) in
       has-more stage (side p stage).installed _ other (has p stage h other left.1)
-      (λ some. ap is_some (get_or-set_other (side p stage).installed line other None None (λ q. is_other line other left.0 (sym q))) ∙ some))
+      (λ some. ap is_some (get_or-set_other (side p stage).installed line other None None (λ q. eqb-false line other left.0 (sym q))) ∙ some))
 
   -- a stage after a line of it was played, or after its event was taken where no callback stands
   pub sound-stepped : (p : Pipeline C) (stage : Stage) (line now : ℕ) (declared : C → ℕ) (plan : C → Plan) (gives : C → Fire → Answer → Type 0) (ran : Option (Fire × Answer)) (s : Side C) → IsSoundPipeline p
@@ -178,7 +174,7 @@ module _ {C : Type 0} where
 
   -- a line that has something to play and no callback is the clock's
   pub clock-only : (p : Pipeline C) (stage : Stage) (line : ℕ) → has_callback p stage line ≡ true → installed_at p stage line ≡ None → (stage ≡ Oob) × (line ≡ 0)
-  clock-only p Oob line e none = (refl, either (line ≡ 0) (line == 0) _ e (is_same line 0) (λ some. absurd (false≢true (sym (ap is_some none) ∙ some))))
+  clock-only p Oob line e none = (refl, either (line ≡ 0) (line == 0) _ e (eqb-true line 0) (λ some. absurd (false≢true (sym (ap is_some none) ∙ some))))
   clock-only p Inband line e none = absurd (false≢true (sym (ap is_some none) ∙ e))
 
   -- line 0 is refused

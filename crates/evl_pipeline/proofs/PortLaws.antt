@@ -2,6 +2,7 @@
 use Rattle.std.proofs.Common.{◌≡◌, ◌≢◌, ℕ, suc, zero, ◌+◌, ◌<◌, ◌≤◌, Bool, true, false, ◌==◌, List, [], ◌∷◌, length, map, Option, Some, None, is_some, option_map, slice_index_or, slice_set, refl, sym, ap, ◌∙◌, arith, count_by, cond, replicate, if◌then◌else◌}
 use Rattle.std.proofs.lemmas.List.Sums.{sum_by-set, count_by-le-length}
 use Rattle.std.proofs.lemmas.List.{get_or-set_same, get_or-set_other, length-set}
+use Rattle.std.proofs.lemmas.Bool.{eqb-false, eqb-true}
 use Rattle.slab.specs.Slab.{Slab, get, Updates}
 use Rattle.evl_pipeline.specs.declared.held.Held.{Held}
 use Rattle.evl_pipeline.specs.declared.port.Port.{Port}
@@ -13,7 +14,6 @@ use Rattle.evl_pipeline.specs.Counts.{one_more, counted}
 use Rattle.evl_pipeline.specs.Lines.{Side, PlaysOn, Taken}
 use Rattle.evl_pipeline.specs.NumberSet.{NumberSet, remove}
 use Rattle.evl_pipeline.specs.Plans.{IsSound, answer_of}
-use Rattle.evl_pipeline.proofs.NumberSetLaws.{is_same, is_other}
 use Rattle.evl_pipeline.specs.Sides.{installed_by, port_at, AreLinked}
 use Rattle.evl_pipeline.specs.Limits.{line_count}
 
@@ -124,11 +124,11 @@ module _ {C : Type 0} (ports : List (Option Port)) (callbacks : Slab (Held C)) (
   linked-set line port new e same_key q other at =
       elim (q == line) as (λ b. (q == line) ≡ b → option_map (λ held. held.line) (get callbacks other.key) ≡ Some q) [
         | true ↦ λ is.
-            let same : q ≡ line = is_same q line is in
+            let same : q ≡ line = eqb-true q line is in
             let there : Some other ≡ Some new = sym at ∙ ap (λ k. slice_index_or (slice_set ports line (Some new)) k None) same ∙ get_or-set_same ports line (Some new) None (within ports line port e) in
             let is_new : other ≡ new = cc in
             ap (λ k. option_map (λ held. held.line) (get callbacks k)) (ap (λ p. p.key) is_new ∙ same_key) ∙ linked line port e ∙ ap Some (sym same)
-        | false ↦ λ is. linked q other (sym (get_or-set_other ports line q (Some new) None (is_other q line is)) ∙ at)
+        | false ↦ λ is. linked q other (sym (get_or-set_other ports line q (Some new) None (eqb-false q line is)) ∙ at)
       ] refl
 
   -- no other line's port has the key of a line's port
@@ -167,11 +167,11 @@ module _ {C : Type 0} (ports : List (Option Port)) (before after : Slab (Held C)
   linked-changed slot inside new q other at =
       elim (q == line) as (λ b. (q == line) ≡ b → option_map (λ held. held.line) (get after other.key) ≡ Some q) [
         | true ↦ λ is.
-            let same : q ≡ line = is_same q line is in
+            let same : q ≡ line = eqb-true q line is in
             let there : slot ≡ Some other = sym (ap (λ k. slice_index_or (slice_set ports line slot) k None) same ∙ get_or-set_same ports line slot None inside) ∙ at in
             new other there ∙ ap Some (sym same)
         | false ↦ λ is.
-            let ne : q ≢ line = is_other q line is in
+            let ne : q ≢ line = eqb-false q line is in
             let old : port_at ports q ≡ Some other = sym (get_or-set_other ports line q slot None ne) ∙ at in
             ap (option_map (λ held. held.line)) (others_stay q other old ne) ∙ linked q other old
       ] refl

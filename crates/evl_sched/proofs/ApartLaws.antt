@@ -1,6 +1,6 @@
 -- A thread that stands alone, apart from the queues.
 use Rattle.std.proofs.Common.{◌≡◌, ◌≢◌, ℕ, suc, zero, ◌<◌, ◌==◌, Bool, true, false, List, [], ◌∷◌, length, Option, Some, None, is_some, slice_set, slice_index_or, if◌then◌else◌, refl, sym, ap, ◌∙◌, subst, arith}
-use Rattle.std.proofs.lemmas.Bool.{false≢true}
+use Rattle.std.proofs.lemmas.Bool.{false≢true, eqb-true}
 use Rattle.std.proofs.lemmas.Bool.Decides.{nat_tests}
 use Rattle.std.proofs.lemmas.List.{get_or-set_other, get_or-set_same, length-set, set-set}
 use Rattle.evl_sched.specs.declared.contenders.Alone.{Alone}
@@ -9,7 +9,6 @@ use Rattle.evl_sched.specs.Apart.{IsApart, is_alone, with_alone}
 use Rattle.evl_sched.specs.Places.{IsNotAfter, goes_before, place_of}
 use Rattle.evl_sched.specs.Queues.{IsFirstPlace}
 use Rattle.evl_sched.proofs.QueueChanges.{not_after, not_after_both, not_before}
-use Rattle.evl_sched.proofs.QueueLaws.{is_same}
 
 -- two cells are written in either order
 set-apart : {A : Type 0} (xs : List A) (i j : ℕ) (a b : A) → i ≢ j → slice_set (slice_set xs i a) j b ≡ slice_set (slice_set xs j b) i a
@@ -40,7 +39,7 @@ module _ (places : List (Option Place)) (alone : Alone) (h : IsApart places (Som
   others-place t ne = get_or-set_other places alone.thread t (Some alone.place) None ne
 
   pub place-alone : (t : ℕ) → (alone.thread == t) ≡ true → Some alone.place ≡ place_of all t
-  place-alone t is = sym (subst (λ u. place_of all u ≡ Some alone.place) (is_same alone.thread t is) its-place)
+  place-alone t is = sym (subst (λ u. place_of all u ≡ Some alone.place) (eqb-true alone.thread t is) its-place)
 
   pub place-beside : (t : ℕ) → (alone.thread == t) ≡ false → place_of places t ≡ place_of all t
   place-beside t ne = sym (others-place t (λ e. absurd (grind (arith, nat_tests))))
@@ -54,7 +53,7 @@ module _ (places : List (Option Place)) (alone : Alone) (h : IsApart places (Som
 
       by : (t : ℕ) (a b : Place) → place_of all alone.thread ≡ Some a → place_of all t ≡ Some b → (c : Bool) → (t == alone.thread) ≡ c → IsNotAfter a b
       by t a b at bt true is =
-          let same : alone.place ≡ b = mine b (subst (λ u. place_of all u ≡ Some b) (is_same t alone.thread is) bt) in
+          let same : alone.place ≡ b = mine b (subst (λ u. place_of all u ≡ Some b) (eqb-true t alone.thread is) bt) in
           let one : a ≡ b = sym (mine a at) ∙ same in
           subst (λ (p : Place). IsNotAfter a p) one (record { rank = omega arith; stamp = λ e. omega arith })
       by t a b at bt false ne =
@@ -76,7 +75,7 @@ module _ (places : List (Option Place)) (alone : Alone) (h : IsApart places (Som
 
       by : (t : ℕ) (a b : Place) → place_of all n ≡ Some a → place_of all t ≡ Some b → (c : Bool) → (t == alone.thread) ≡ c → IsNotAfter a b
       by t a b an bt true is =
-          let its : Some alone.place ≡ Some b = sym its-place ∙ subst (λ u. place_of all u ≡ Some b) (is_same t alone.thread is) bt in
+          let its : Some alone.place ≡ Some b = sym its-place ∙ subst (λ u. place_of all u ≡ Some b) (eqb-true t alone.thread is) bt in
           let one : alone.place ≡ b = cc in
           subst (λ (p : Place). IsNotAfter a p) one (subst (λ (p : Place). IsNotAfter p alone.place) (mine a an) before)
       by t a b an bt false ne =
@@ -86,7 +85,7 @@ module _ (places : List (Option Place)) (alone : Alone) (h : IsApart places (Som
   -- who stands alone goes
   pub alone-gone : (t : ℕ) → (alone.thread == t) ≡ true → places ≡ slice_set all t None
   alone-gone t is =
-      subst (λ u. places ≡ slice_set all u None) (is_same alone.thread t is)
+      subst (λ u. places ≡ slice_set all u None) (eqb-true alone.thread t is)
       (sym (set-none places alone.thread h.1) ∙ sym (set-set places alone.thread (Some alone.place) None))
 
 -- the first of the others, and who stands alone

@@ -1,11 +1,12 @@
 -- A walk to a thread ends behind the one that is linked to it.
 use Rattle.std.proofs.Common.{◌≡◌, ◌≢◌, ℕ, suc, zero, ◌<◌, ◌≤◌, ◌==◌, Bool, true, false, ◌||◌, List, [], ◌∷◌, length, Option, Some, None, is_some, refl, sym, ap, ◌∙◌, subst, arith}
-use Rattle.std.proofs.lemmas.Bool.{false≢true}
+use Rattle.std.proofs.lemmas.Bool.{false≢true, eqb-true, ne_eqb}
+use Rattle.evl_base.proofs.Plain.{eqb-same}
 use Rattle.evl_bitmap.specs.NumberSet.{NumberSet, contains}
 use Rattle.evl_sched.specs.declared.place.Place.{Place}
 use Rattle.evl_sched.specs.Queues.{IsChain, IsQueued, cell_of, next_in, reached, stands_in}
 use Rattle.evl_sched.specs.Ranks.{AreApart}
-use Rattle.evl_sched.proofs.QueueLaws.{all_at, all_others, goes_on, is_in, is_same, itself, stops, unlike}
+use Rattle.evl_sched.proofs.QueueLaws.{all_at, all_others, goes_on, is_in, stops}
 use Rattle.evl_sched.proofs.QueuedLaws.{lines-few}
 
 abbrev rest : List ℕ → List ℕ
@@ -22,7 +23,7 @@ module _ (links : List (Option ℕ)) (before n : ℕ) (linked : next_in links (c
   first_behind (t ∷ ts) e =
       let same : Some n ≡ Some t = sym linked ∙ e.0 in
       let one : t ≡ n = cc in
-      ap (λ m. (m == n) || is_in ts n) one ∙ ap (λ b. b || is_in ts n) (itself n)
+      ap (λ m. (m == n) || is_in ts n) one ∙ ap (λ b. b || is_in ts n) (eqb-same n)
 
   in-rest : (ts : List ℕ) → is_in (rest ts) n ≡ true → is_in ts n ≡ true
   in-rest [] e = e
@@ -34,25 +35,25 @@ module _ (links : List (Option ℕ)) (before n : ℕ) (linked : next_in links (c
   follows c (u ∷ us) e there = by (λ there. follows (cell_of u) us e.1 there) (u == before) refl there
     where
       by : (is_in us before ≡ true → is_in (rest us) n ≡ true) → (b : Bool) → (u == before) ≡ b → (b || is_in us before) ≡ true → is_in us n ≡ true
-      by more true at there = first_behind us (subst (λ m. IsChain links (cell_of m) us) (is_same u before at) e.1)
+      by more true at there = first_behind us (subst (λ m. IsChain links (cell_of m) us) (eqb-true u before at) e.1)
       by more false ne there = in-rest us (more there)
 
   stays : (steps : ℕ) → reached (λ t. t == n) links steps (cell_of before) ≡ cell_of before
   stays zero = refl
-  stays (suc steps) = stops (λ t. t == n) links steps (cell_of before) n linked (itself n)
+  stays (suc steps) = stops (λ t. t == n) links steps (cell_of before) n linked (eqb-same n)
 
   walk-before : (steps c : ℕ) (ts : List ℕ) → IsChain links c ts → length ts ≤ steps → AreApart ts → is_in ts before ≡ true → reached (λ t. t == n) links steps c ≡ cell_of before
   walk-before steps c [] e few once there = absurd (false≢true there)
   walk-before zero c (u ∷ us) e few once there = absurd (omega (arith, few))
   walk-before (suc steps) c (u ∷ us) e few once there =
       let shorter : length us ≤ steps = omega (arith, few) in
-      let ne : (u == n) ≡ false = unlike u n (λ same. all_at (λ v. v ≢ u) us (all_others u us once.0) n (follows c (u ∷ us) e there) (sym same)) in
+      let ne : (u == n) ≡ false = ne_eqb u n (λ same. all_at (λ v. v ≢ u) us (all_others u us once.0) n (follows c (u ∷ us) e there) (sym same)) in
       by ne (λ there. walk-before steps (cell_of u) us e.1 shorter once.1 there) (u == before) refl there
     where
       by : (u == n) ≡ false → (is_in us before ≡ true → reached (λ t. t == n) links steps (cell_of u) ≡ cell_of before) → (b : Bool) → (u == before) ≡ b
           → (b || is_in us before) ≡ true → reached (λ t. t == n) links (suc steps) c ≡ cell_of before
       by ne more true at there =
-          goes_on (λ t. t == n) links steps c u e.0 ne ∙ (ap (λ m. reached (λ t. t == n) links steps (cell_of m)) (is_same u before at) ∙ stays steps)
+          goes_on (λ t. t == n) links steps c u e.0 ne ∙ (ap (λ m. reached (λ t. t == n) links steps (cell_of m)) (eqb-true u before at) ∙ stays steps)
       by ne more false other there = goes_on (λ t. t == n) links steps c u e.0 ne ∙ more there
 
 pub before-reached : (places : List (Option Place)) (links : List (Option ℕ)) (marks : NumberSet) → IsQueued places links marks → (queue : ℕ) → queue < 612 → (before n : ℕ)
@@ -63,7 +64,7 @@ before-reached places links marks h queue low before n stands linked =
 -- who is first stands behind the queue's beginning
 pub first-reached : (links : List (Option ℕ)) (steps queue n : ℕ) → next_in links queue ≡ Some n → queue ≡ reached (λ t. t == n) links steps queue
 first-reached links zero queue n e = refl
-first-reached links (suc steps) queue n e = sym (stops (λ t. t == n) links steps queue n e (itself n))
+first-reached links (suc steps) queue n e = sym (stops (λ t. t == n) links steps queue n e (eqb-same n))
 
 -- a queue with a first thread is marked
 pub marked-first : (places : List (Option Place)) (links : List (Option ℕ)) (marks : NumberSet) → IsQueued places links marks → (queue : ℕ) → queue < 612 → (first : Option ℕ)

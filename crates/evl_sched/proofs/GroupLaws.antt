@@ -1,11 +1,11 @@
 -- Which groups have budget, where one group changes.
 use Rattle.std.proofs.Common.{◌≡◌, ℕ, suc, zero, ◌+◌, ◌<◌, ◌≤◌, ◌==◌, nat_lt, Bool, true, false, List, [], ◌∷◌, Option, Some, None, slice_get, slice_set, if◌then◌else◌, refl, sym, ap, ◌∙◌, arith}
 use Rattle.std.specs.Option.{option_map_or}
+use Rattle.std.proofs.lemmas.Bool.{eqb-false, eqb-true, ne_eqb}
 use Rattle.evl_sched.specs.declared.group.Group.{Group}
 use Rattle.evl_sched.specs.declared.place.Place.{Place}
 use Rattle.evl_sched.specs.Groups.{has_budget}
 use Rattle.evl_sched.specs.Places.{rank_in}
-use Rattle.evl_sched.proofs.QueueLaws.{is_other, is_same, unlike}
 
 -- one that has budget just where it had some before
 pub budget-set : (groups : List Group) (i : ℕ) (old new : Group) → slice_get groups i ≡ Some old → nat_lt 0 new.budget ≡ nat_lt 0 old.budget → (other : Option ℕ)
@@ -27,17 +27,17 @@ module _ (old now : List (Option Place)) (wanted : ℕ → Option ℕ) (n : ℕ)
   more_stand before t l = ranks t ∙ by (t == n) refl
     where
       by : (b : Bool) → (t == n) ≡ b → (if b then wanted n else rank_in old t) ≡ wanted t
-      by true at = ap wanted (sym (is_same t n at))
-      by false ne = let other = is_other t n ne in before t (omega (arith, l, other))
+      by true at = ap wanted (sym (eqb-true t n at))
+      by false ne = let other = eqb-false t n ne in before t (omega (arith, l, other))
 
   pub rest_stand : (first : List (Option Place)) → ((t : ℕ) → n ≤ t → rank_in old t ≡ rank_in first t) → (t : ℕ) → n + 1 ≤ t → rank_in now t ≡ rank_in first t
   rest_stand first rest t l =
-      ranks t ∙ (ap (λ (b : Bool). if b then wanted n else rank_in old t) (unlike t n (λ same. absurd (omega (arith, l, same)))) ∙ rest t (omega (arith, l)))
+      ranks t ∙ (ap (λ (b : Bool). if b then wanted n else rank_in old t) (ne_eqb t n (λ same. absurd (omega (arith, l, same)))) ∙ rest t (omega (arith, l)))
 
 -- one that stands as it is wanted
 pub stands_still : (places : List (Option Place)) (wanted : ℕ → Option ℕ) (n : ℕ) → rank_in places n ≡ wanted n → (t : ℕ) → rank_in places t ≡ (if t == n then wanted n else rank_in places t)
 stands_still places wanted n e t = by (t == n) refl
   where
     by : (b : Bool) → (t == n) ≡ b → rank_in places t ≡ (if b then wanted n else rank_in places t)
-    by true at = ap (rank_in places) (is_same t n at) ∙ e
+    by true at = ap (rank_in places) (eqb-true t n at) ∙ e
     by false ne = refl

@@ -2,13 +2,13 @@
 use Rattle.std.proofs.Common.{◌≡◌, ℕ, suc, zero, ◌<◌, ◌≤◌, ◌==◌, nat_lt, Bool, true, false, ◌||◌, List, [], ◌∷◌, length, Option, Some, None, is_some, if◌then◌else◌, refl, sym, ap, ◌∙◌, arith}
 use Rattle.std.specs.List.{AllByRecursion}
 use Rattle.std.specs.Option.{option_map_or}
-use Rattle.std.proofs.lemmas.Bool.{false≢true}
+use Rattle.std.proofs.lemmas.Bool.{false≢true, eqb-true}
 use Rattle.std.proofs.lemmas.Bool.Decides.{nat_tests}
 use Rattle.evl_bitmap.specs.NumberSet.{NumberSet}
 use Rattle.evl_sched.specs.declared.place.Place.{Place}
 use Rattle.evl_sched.specs.Places.{IsNotAfter, goes_before, place_of}
 use Rattle.evl_sched.specs.Queues.{AreInOrder, IsChain, IsQueued, StandsFirst, cell_of, is_before, next_in, reached, stands_in}
-use Rattle.evl_sched.proofs.QueueLaws.{all_at, all_from, ends, goes_on, is_in, is_same}
+use Rattle.evl_sched.proofs.QueueLaws.{all_at, all_from, ends, goes_on, is_in}
 use Rattle.evl_sched.proofs.QueueChanges.{not_after_both, not_before}
 use Rattle.evl_sched.proofs.QueuedLaws.{has_place, lines-few}
 
@@ -16,7 +16,7 @@ not_first : (a b : Place) → IsNotAfter a b → goes_before b a ≡ false
 not_first a b h = by (b.rank == a.rank) refl
   where
     by : (c : Bool) → (b.rank == a.rank) ≡ c → (if c then nat_lt b.stamp a.stamp else nat_lt a.rank b.rank) ≡ false
-    by true same = let l : a.stamp ≤ b.stamp = h.stamp (is_same b.rank a.rank same) in grind (arith, nat_tests)
+    by true same = let l : a.stamp ≤ b.stamp = h.stamp (eqb-true b.rank a.rank same) in grind (arith, nat_tests)
     by false ne = let l : b.rank ≤ a.rank = h.rank in grind (arith, nat_tests)
 
 module _ (places : List (Option Place)) (place : Place) (links : List (Option ℕ)) (last : ℕ) (own : Place) (its : place_of places last ≡ Some own) (after : is_before places place last ≡ false)
@@ -39,7 +39,7 @@ module _ (places : List (Option Place)) (place : Place) (links : List (Option �
       by : (is_in us last ≡ true → reached (is_before places place) links steps (cell_of u) ≡ cell_of last) → (b : Bool) → (u == last) ≡ b → (b || is_in us last) ≡ true
           → reached (is_before places place) links (suc steps) c ≡ cell_of last
       by more true at there =
-          let here : u ≡ last = is_same u last at in
+          let here : u ≡ last = eqb-true u last at in
           goes_on (is_before places place) links steps c u e.0 (ap (is_before places place) here ∙ after)
           ∙ (ap (λ m. reached (is_before places place) links steps (cell_of m)) here ∙ ends (is_before places place) links steps (cell_of last) none)
       by more false ne there =

@@ -1,7 +1,7 @@
 -- The threads whose policies name a group: each change keeps them.
 use Rattle.std.proofs.Common.{◌≡◌, ◌≢◌, ℕ, suc, zero, ◌<◌, ◌≤◌, ◌+◌, ◌*◌, ◌/◌, ◌==◌, Bool, true, false, List, [], ◌∷◌, length, Option, Some, None, is_some, replicate, slice_index_or, slice_set, if◌then◌else◌, refl, sym, ap, ◌∙◌, subst, arith}
 use Rattle.std.specs.Option.{option_map_or}
-use Rattle.std.proofs.lemmas.Bool.{false≢true}
+use Rattle.std.proofs.lemmas.Bool.{false≢true, eqb-true}
 use Rattle.std.proofs.lemmas.Bool.Decides.{nat_tests}
 use Rattle.std.proofs.lemmas.List.{get_or-set_other, length-replicate, length-set}
 use Rattle.evl_bitmap.specs.NumberSet.{NumberSet, contains}
@@ -12,7 +12,6 @@ use Rattle.evl_sched.specs.Members.{AreListed, AreMembers}
 use Rattle.evl_sched.specs.Places.{rank_in}
 use Rattle.evl_sched.specs.Policies.{group_of}
 use Rattle.evl_sched.specs.Wanted.{names_group}
-use Rattle.evl_sched.proofs.QueueLaws.{is_same, unlike}
 
 -- whether a seat's policy names a group
 abbrev pub names : Option Seat → Bool
@@ -31,7 +30,7 @@ module _ (seats : List (Option Seat)) (n : ℕ) (seat : Option Seat) (before now
 
       by : (b : Bool) → (t == n) ≡ b → contains now t ≡ true
       by true at =
-          let one : t ≡ n = is_same t n at in
+          let one : t ≡ n = eqb-true t n at in
           subst (λ m. contains now m ≡ true) (sym one) (its (written seats n (subst (λ m. names_group (slice_set seats n seat) m ≡ true) one names_one)))
       by false ne =
           let other : t ≢ n = λ e. absurd (grind (arith, nat_tests)) in
@@ -77,7 +76,7 @@ module _ (seats : List (Option Seat)) (wanted : ℕ → Option ℕ) (left rest :
     where
       by : (b : Bool) → (t == n) ≡ b → (contains now t ≡ true) × (rank_in places t ≡ wanted t)
       by true at =
-          let one : t ≡ n = is_same t n at in (
+          let one : t ≡ n = eqb-true t n at in (
             subst (λ m. contains now m ≡ true) (sym one) (member (subst (λ m. names_group seats m ≡ true) one names_one)),
             ranks t ∙ (ap (λ (b : Bool). if b then wanted n else rank_in old t) at ∙ ap wanted (sym one)),
           )
@@ -90,7 +89,7 @@ module _ (seats : List (Option Seat)) (wanted : ℕ → Option ℕ) (left rest :
   others_stand before t none = ranks t ∙ by (t == n) refl
     where
       by : (b : Bool) → (t == n) ≡ b → (if b then wanted n else rank_in old t) ≡ wanted t
-      by true at = ap wanted (sym (is_same t n at))
+      by true at = ap wanted (sym (eqb-true t n at))
       by false ne = before t none
 
 -- all have passed

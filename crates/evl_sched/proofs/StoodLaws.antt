@@ -2,8 +2,9 @@
 use Rattle.std.proofs.Common.{◌≡◌, ◌≢◌, ℕ, suc, zero, ◌<◌, ◌==◌, nat_le, Bool, true, false, ◌||◌, List, [], ◌∷◌, ◌++◌, filter, length, replicate, Option, Some, None, is_some, option_map, slice_index_or, slice_set, if◌then◌else◌, refl, sym, ap, ◌∙◌, subst, arith}
 use Rattle.std.specs.List.{list_any, AllByRecursion}
 use Rattle.std.specs.Option.{option_map_or}
-use Rattle.std.proofs.lemmas.Bool.{false≢true}
+use Rattle.std.proofs.lemmas.Bool.{false≢true, eqb-false, eqb-true}
 use Rattle.std.proofs.lemmas.List.{get_or-set_other, length-set, length-replicate}
+use Rattle.evl_base.proofs.Plain.{eqb-same, eqb-swap}
 use Rattle.evl_sched.specs.declared.group.Group.{Group}
 use Rattle.evl_sched.specs.declared.place.Place.{Place}
 use Rattle.evl_sched.specs.declared.seat.Seat.{Seat}
@@ -19,12 +20,12 @@ use Rattle.evl_sched.specs.Wanted.{names_group, IsStood, rank_to_run, wanted}
 use Rattle.evl_sched.proofs.AlikeLaws.{greatest_alike}
 use Rattle.evl_sched.proofs.KeptLaws.{SameElsewhere, kept_moved, kept_out, kept_queued, kept_stages, same_stage}
 use Rattle.evl_sched.proofs.PickLaws.{first-highest}
-use Rattle.evl_sched.proofs.QueueLaws.{all_from, is_in, is_other, is_same, itself, swapped}
+use Rattle.evl_sched.proofs.QueueLaws.{all_from, is_in}
 use Rattle.evl_sched.proofs.QueueChanges.{without_stranger}
 use Rattle.evl_sched.proofs.QueuedLaws.{in-others, nothing_in, out-of}
 
 last-in : (ts : List ℕ) (n : ℕ) → is_in (ts ++ n ∷ []) n ≡ true
-last-in [] n = ap (λ c. c || false) (itself n)
+last-in [] n = ap (λ c. c || false) (eqb-same n)
 last-in (u ∷ us) n = ap (λ c. (u == n) || c) (last-in us n) ∙ or_true (u == n)
   where
     or_true : (b : Bool) → (b || true) ≡ true
@@ -32,7 +33,7 @@ last-in (u ∷ us) n = ap (λ c. (u == n) || c) (last-in us n) ∙ or_true (u ==
     or_true false = refl
 
 last-other : (ts : List ℕ) (n t : ℕ) → (t == n) ≡ false → is_in (ts ++ n ∷ []) t ≡ is_in ts t
-last-other [] n t ne = ap (λ c. c || false) (swapped n t ∙ ne)
+last-other [] n t ne = ap (λ c. c || false) (eqb-swap n t ∙ ne)
 last-other (u ∷ us) n t ne = ap (λ c. (u == t) || c) (last-other us n t ne)
 
 -- the ready list after each change, for the thread itself and for all others
@@ -88,7 +89,7 @@ module _ (r : Ranked) (places : List (Option Place)) (h : IsStood r places) (n :
       stood-all t = ranks t ∙ by (t == n) refl
         where
           by : (b : Bool) → (t == n) ≡ b → (if b then wanted (changed ready) n else rank_in places t) ≡ wanted (changed ready) t
-          by true at = ap (wanted (changed ready)) (sym (is_same t n at))
+          by true at = ap (wanted (changed ready)) (sym (eqb-true t n at))
           by false ne = h.stood t ∙ (λ i. wants (sym (those t ne) i) (sym (elsewhere t ne) i) (may_with r.sched.groups) (sym (others t ne) i))
 
       stood-by : IsSoundSched (changed ready) → IsStood (changed ready) now
@@ -269,4 +270,4 @@ not_moved seats ts n e =
     ∙ sym (ap (λ (b : Bool). if b then (readied (record { seats = seats; ready = ts; groups = [] }) n).ready else ts) e)
 
 pub given-elsewhere : (given : List (Option ℕ)) (n : ℕ) (v : Option ℕ) (t : ℕ) → (t == n) ≡ false → slice_index_or (slice_set given n v) t None ≡ slice_index_or given t None
-given-elsewhere given n v t ne = get_or-set_other given n t v None (is_other t n ne)
+given-elsewhere given n v t ne = get_or-set_other given n t v None (eqb-false t n ne)

@@ -1,7 +1,7 @@
 -- What a call of the kernel does is the turn of its step.
 use Rattle.std.proofs.Common.{inl, inr, ◌≡◌, ℕ, ◌+◌, ◌==◌, Bool, true, false, List, [], ◌∷◌, length, length-append, append-nil, Some, None, Result, Ok, Err, IsTrue, IsFalse, if◌then◌else◌, refl, sym, ap, ◌∙◌, subst, arith, lt-ltb, nat_lt, ◌↔◌}
 use Rattle.std.proofs.lemmas.Bool.Decides.{eqb_tells}
-use Rattle.std.proofs.lemmas.Bool.{ne_eqb, false_from_ne_true, ltb-true}
+use Rattle.std.proofs.lemmas.Bool.{ne_eqb, false_from_ne_true, ltb-true, eq-eqb}
 use Rattle.evl_base.specs.declared.call.Call.{Call}
 use Rattle.evl_base.specs.declared.entry.Entry.{Entry}
 use Rattle.evl_base.specs.declared.refusal.Refusal.{Refusal}
@@ -23,17 +23,13 @@ chosen-true : {A : Type 0} (b : Bool) (x y : A) → b ≡ true → (if b then x 
 chosen-true true x y h = refl
 chosen-true false x y h = cc
 
-same_number : (a b : ℕ) → a ≡ b → (a == b) ≡ true
-same_number a b e = elim (eqb_tells a b) [
-  | inl same ↦ same.0
-  | inr other ↦ absurd (other.1 e)
 ]
 
 -- the turn of a step where the history is at its limit
 pub turn-away : (limit : ℕ) (m : Moment) (step : Step) → m.entries ≡ limit → turn limit m step ≡ turned_away m
 unfolding turn
 turn-away limit m step e =
-    chosen-true (m.entries == limit) (turned_away m) (entered m (stepped m.state step.who.0 step.call)) (same_number m.entries limit e)
+    chosen-true (m.entries == limit) (turned_away m) (entered m (stepped m.state step.who.0 step.call)) (eq-eqb m.entries limit e)
 
 -- the turn of a step where it is not
 pub turn-entered : (limit : ℕ) (m : Moment) (step : Step) (o : Outcome) → (m.entries ≡ limit → ⊥) → stepped m.state step.who.0 step.call ≡ o → turn limit m step ≡ entered m o

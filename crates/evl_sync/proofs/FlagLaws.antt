@@ -2,13 +2,14 @@
 use Rattle.std.proofs.Common.{◌≡◌, ℕ, ◌==◌, ◌≤◌, Bool, false, List, [], ◌∷◌, Option, Some, None, Result, Ok, if◌then◌else◌, refl}
 use Rattle.std.specs.List.{AllByRecursion}
 use Rattle.std.specs.Option.{option_map_or}
+use Rattle.std.proofs.lemmas.Bool.{or_from, or_parts}
 use Rattle.evl_base.specs.declared.refusal.Refusal.{Refusal}
 use Rattle.evl_base.specs.declared.refusal.Refusal.TheVariants.{Invalid}
 use Rattle.evl_sync.specs.declared.flag_waiter.FlagWaiter.{FlagWaiter}
 use Rattle.evl_sync.specs.Queues.{enqueued, stands_in, AreRanked, IsKept}
 use Rattle.evl_sync.specs.Steps.{unless}
 use Rattle.evl_sync.specs.FlagGroups.{FlagGroup, taken, left_of, is_empty_mask, take_refusal, begin_take, with_waiter, without_bits, passed, walk_of}
-use Rattle.evl_sync.proofs.QueueLaws.{or_false, or_left, or_right, came_before}
+use Rattle.evl_sync.proofs.QueueLaws.{came_before}
 
 abbrev thread : FlagWaiter → ℕ
 thread w = w.thread
@@ -37,10 +38,10 @@ all-walked P (w ∷ ws) bits h = by (taken w.kind bits) (all-walked P ws (left_o
 
 away-walked : (q : ℕ) (ws : List FlagWaiter) (bits : ℕ) → stands_in thread q ws ≡ false → stands_in thread q (walk_of ws bits).waiting ≡ false
 away-walked q [] bits e = refl
-away-walked q (w ∷ ws) bits e = by (taken w.kind bits) (away-walked q ws (left_of bits (taken w.kind bits)) (or_right (w.thread == q) (stands_in thread q ws) e))
+away-walked q (w ∷ ws) bits e = by (taken w.kind bits) (away-walked q ws (left_of bits (taken w.kind bits)) ((or_parts (w.thread == q) (stands_in thread q ws) e).1))
   where
     by : (o : Option ℕ) → stands_in thread q (walk_of ws (left_of bits o)).waiting ≡ false → stands_in thread q (passed w o (walk_of ws (left_of bits o))).waiting ≡ false
-    by None r = or_false (w.thread == q) (stands_in thread q (walk_of ws (left_of bits None)).waiting) (or_left (w.thread == q) (stands_in thread q ws) e) r
+    by None r = or_from (w.thread == q) (stands_in thread q (walk_of ws (left_of bits None)).waiting) ((or_parts (w.thread == q) (stands_in thread q ws) e).0) r
     by (Some got) r = r
 
 ranked-walked : (ws : List FlagWaiter) (bits : ℕ) → AreRanked thread rank ws → AreRanked thread rank (walk_of ws bits).waiting

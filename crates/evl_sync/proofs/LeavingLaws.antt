@@ -2,8 +2,9 @@
 use Rattle.std.proofs.Common.{◌≡◌, ℕ, suc, ◌+◌, ◌==◌, nat_lt, Bool, true, false, not, ◌||◌, cond, List, [], ◌∷◌, Option, Some, None, length, remove, refl, sym, ap, subst, ◌∙◌, arith}
 use Rattle.std.specs.List.{list_any, position, position_or_len}
 use Rattle.std.proofs.lemmas.Bool.Decides.{nat_tests}
+use Rattle.std.proofs.lemmas.Bool.{eqb-true, or_parts}
 use Rattle.evl_sync.specs.Queues.{dropped, stands_in, AreRanked}
-use Rattle.evl_sync.proofs.QueueLaws.{is_same, or_left, or_right, place_found, place_behind}
+use Rattle.evl_sync.proofs.QueueLaws.{place_found, place_behind}
 
 one_later : (m n : ℕ) → nat_lt (1 + m) (suc n) ≡ nat_lt m n
 one_later m n = grind (arith, nat_tests)
@@ -41,14 +42,14 @@ module _ {A : Type 0} where
   away-same : (thread : A → ℕ) (t : ℕ) (ws : List A) → stands_in thread t ws ≡ false → dropped thread t ws ≡ ws
   away-same thread t [] e = refl
   away-same thread t (w ∷ ws) e =
-      ap (λ b. cond (not b) (w ∷ dropped thread t ws) (dropped thread t ws)) (or_left (thread w == t) (stands_in thread t ws) e)
-      ∙ ap (λ xs. w ∷ xs) (away-same thread t ws (or_right (thread w == t) (stands_in thread t ws) e))
+      ap (λ b. cond (not b) (w ∷ dropped thread t ws) (dropped thread t ws)) ((or_parts (thread w == t) (stands_in thread t ws) e).0)
+      ∙ ap (λ xs. w ∷ xs) (away-same thread t ws ((or_parts (thread w == t) (stands_in thread t ws) e).1))
 
   removed : (thread rank : A → ℕ) (t : ℕ) (ws : List A) → AreRanked thread rank ws → remove ws (position_or_len (λ w. thread w == t) ws) ≡ dropped thread t ws
   removed thread rank t [] h = refl
   removed thread rank t (w ∷ ws) h =
       elim (thread w == t) as (λ b. (thread w == t) ≡ b → remove (w ∷ ws) (cond (not b) (1 + position_or_len (λ v. thread v == t) ws) 0) ≡ cond (not b) (w ∷ dropped thread t ws) (dropped thread t ws)) [
-        | true ↦ λ at. sym (away-same thread t ws (subst (λ q. stands_in thread q ws ≡ false) (is_same (thread w) t at) h.1))
+        | true ↦ λ at. sym (away-same thread t ws (subst (λ q. stands_in thread q ws ≡ false) (eqb-true (thread w) t at) h.1))
         | false ↦ λ at. ap (λ k. remove (w ∷ ws) k) (by_suc (position_or_len (λ v. thread v == t) ws)) ∙ ap (λ xs. w ∷ xs) (removed thread rank t ws h.2)
       ] refl
 

@@ -2,9 +2,10 @@
 use Rattle.std.proofs.Common.{◌≡◌, ℕ, suc, ◌+◌, ◌<◌, ◌≤◌, ◌==◌, nat_lt, eqb, Bool, true, false, not, ◌||◌, cond, List, [], ◌∷◌, ◌++◌, Some, None, length, map, insert, remove, if◌then◌else◌, refl, sym, ap, ◌∙◌, arith}
 use Rattle.std.specs.List.{list_any, AllByRecursion, IsDistinct, position, position_or_len}
 use Rattle.std.proofs.lemmas.Bool.Decides.{nat_tests}
-use Rattle.std.proofs.lemmas.Bool.{false≢true}
+use Rattle.std.proofs.lemmas.Bool.{false≢true, eqb-true, ltb-false, or_from, or_parts, or_right}
 use Rattle.std.proofs.lemmas.Map.Steps.{length-le_from_distinct_below}
 use Rattle.std.proofs.lemmas.Map.Keys.{IsDistinct-cons}
+use Rattle.evl_base.proofs.Plain.{eqb-same, eqb-swap}
 use Rattle.evl_base.specs.Limits.{thread_limit}
 use Rattle.evl_sync.specs.Queues.{enqueued, dropped, stands_in, rest_of, AreRanked, IsKept}
 
@@ -13,36 +14,8 @@ or_swap true true c = refl
 or_swap true false c = refl
 or_swap false b c = refl
 
-swapped : (n m : ℕ) → (n == m) ≡ (m == n)
-swapped n m = grind (arith, nat_tests)
-
-pub is_same : (n m : ℕ) → (n == m) ≡ true → n ≡ m
-is_same n m e = grind (arith, nat_tests)
-
-same : (n : ℕ) → (n == n) ≡ true
-same n = grind (arith, nat_tests)
-
 less : (n m : ℕ) → nat_lt n m ≡ true → n ≤ m
 less n m e = grind (arith, nat_tests)
-
-not_less : (n m : ℕ) → nat_lt n m ≡ false → m ≤ n
-not_less n m e = grind (arith, nat_tests)
-
-pub or_false : (a b : Bool) → a ≡ false → b ≡ false → (a || b) ≡ false
-or_false true b e h = absurd (false≢true (sym e))
-or_false false b e h = h
-
-pub or_left : (a b : Bool) → (a || b) ≡ false → a ≡ false
-or_left true b e = e
-or_left false b e = refl
-
-pub or_right : (a b : Bool) → (a || b) ≡ false → b ≡ false
-or_right true b e = absurd (false≢true (sym e))
-or_right false b e = e
-
-or_true : (a b : Bool) → b ≡ true → (a || b) ≡ true
-or_true true b e = refl
-or_true false b e = e
 
 none_twice : IsDistinct eqb []
 unfolding IsDistinct
@@ -76,9 +49,9 @@ module _ {A : Type 0} where
       elim (nat_lt (rank v) (rank w)) as (λ b. nat_lt (rank v) (rank w) ≡ b → AreRanked thread rank (if b then w ∷ v ∷ vs else v ∷ enqueued rank w vs)) [
         | true ↦ λ l. ((less (rank v) (rank w) l, at_most rank (rank v) (rank w) vs (less (rank v) (rank w) l) h.0), e, h)
         | false ↦ λ l. (
-          all-enqueued (λ u. rank u ≤ rank v) rank w vs (not_less (rank v) (rank w) l) h.0,
-          stands-enqueued thread rank w vs (thread v) ∙ or_false (thread w == thread v) (stands_in thread (thread v) vs) (swapped (thread w) (thread v) ∙ or_left (thread v == thread w) (stands_in thread (thread w) vs) e) h.1,
-          ranked-enqueued thread rank w vs (or_right (thread v == thread w) (stands_in thread (thread w) vs) e) h.2,
+          all-enqueued (λ u. rank u ≤ rank v) rank w vs (ltb-false (rank v) (rank w) l) h.0,
+          stands-enqueued thread rank w vs (thread v) ∙ or_from (thread w == thread v) (stands_in thread (thread v) vs) (eqb-swap (thread w) (thread v) ∙ (or_parts (thread v == thread w) (stands_in thread (thread w) vs) e).0) h.1,
+          ranked-enqueued thread rank w vs ((or_parts (thread v == thread w) (stands_in thread (thread w) vs) e).1) h.2,
         )
       ] refl
 
@@ -89,7 +62,7 @@ module _ {A : Type 0} where
   }
     where
       below : (t : ℕ) (b : Bool) → (thread w == t) ≡ b → (b || stands_in thread t ws) ≡ true → t < thread_limit
-      below t true at s = omega (arith, is_same (thread w) t at, l)
+      below t true at s = omega (arith, eqb-true (thread w) t at, l)
       below t false at s = h.few t s
 
   -- what is left after some went: nobody came, and the rest stands as it stood
@@ -105,8 +78,8 @@ module _ {A : Type 0} where
   away-dropped thread t [] q e = refl
   away-dropped thread t (w ∷ ws) q e =
       elim (thread w == t) as (λ b. stands_in thread q (cond (not b) (w ∷ dropped thread t ws) (dropped thread t ws)) ≡ false) [
-        | true ↦ away-dropped thread t ws q (or_right (thread w == q) (stands_in thread q ws) e)
-        | false ↦ or_false (thread w == q) (stands_in thread q (dropped thread t ws)) (or_left (thread w == q) (stands_in thread q ws) e) (away-dropped thread t ws q (or_right (thread w == q) (stands_in thread q ws) e))
+        | true ↦ away-dropped thread t ws q ((or_parts (thread w == q) (stands_in thread q ws) e).1)
+        | false ↦ or_from (thread w == q) (stands_in thread q (dropped thread t ws)) ((or_parts (thread w == q) (stands_in thread q ws) e).0) (away-dropped thread t ws q ((or_parts (thread w == q) (stands_in thread q ws) e).1))
       ]
 
   pub ranked-dropped : (thread rank : A → ℕ) (t : ℕ) (ws : List A) → AreRanked thread rank ws → AreRanked thread rank (dropped thread t ws)
@@ -132,14 +105,14 @@ module _ {A : Type 0} where
 
   pub kept-rest : (thread rank : A → ℕ) (ws : List A) → IsKept thread rank ws → IsKept thread rank (rest_of ws)
   kept-rest thread rank [] h = h
-  kept-rest thread rank (w ∷ ws) h = record { ranked = h.ranked.2; few = λ t e. h.few t (or_true (thread w == t) (stands_in thread t ws) e) }
+  kept-rest thread rank (w ∷ ws) h = record { ranked = h.ranked.2; few = λ t e. h.few t (or_right (thread w == t) (stands_in thread t ws) e) }
 
   abbrev numbers : (A → ℕ) → List A → List ℕ
   numbers thread ws = map thread ws
 
   apart_numbers : (thread : A → ℕ) (t : ℕ) (ws : List A) → stands_in thread t ws ≡ false → AllByRecursion (λ n. eqb t n ≡ false) (numbers thread ws)
   apart_numbers thread t [] e = tt
-  apart_numbers thread t (w ∷ ws) e = (swapped t (thread w) ∙ or_left (thread w == t) (stands_in thread t ws) e, apart_numbers thread t ws (or_right (thread w == t) (stands_in thread t ws) e))
+  apart_numbers thread t (w ∷ ws) e = (eqb-swap t (thread w) ∙ (or_parts (thread w == t) (stands_in thread t ws) e).0, apart_numbers thread t ws ((or_parts (thread w == t) (stands_in thread t ws) e).1))
 
   distinct_numbers : (thread rank : A → ℕ) (ws : List A) → AreRanked thread rank ws → IsDistinct eqb (numbers thread ws)
   distinct_numbers thread rank [] h = none_twice
@@ -147,7 +120,7 @@ module _ {A : Type 0} where
 
   stands_number : (thread : A → ℕ) (t : ℕ) (ws : List A) → list_any (eqb t) (numbers thread ws) ≡ stands_in thread t ws
   stands_number thread t [] = refl
-  stands_number thread t (w ∷ ws) = ap (λ b. b || list_any (eqb t) (numbers thread ws)) (swapped t (thread w)) ∙ ap (λ b. (thread w == t) || b) (stands_number thread t ws)
+  stands_number thread t (w ∷ ws) = ap (λ b. b || list_any (eqb t) (numbers thread ws)) (eqb-swap t (thread w)) ∙ ap (λ b. (thread w == t) || b) (stands_number thread t ws)
 
   count_numbers : (thread : A → ℕ) (ws : List A) → length (numbers thread ws) ≡ length ws
   count_numbers thread [] = refl
@@ -161,13 +134,13 @@ module _ {A : Type 0} where
       omega (arith, l, count_numbers thread ws)
     where
       within : (q : ℕ) (b : Bool) → (q == t) ≡ b → (b || list_any (eqb q) (numbers thread ws)) ≡ true → q < thread_limit
-      within q true at e = omega (arith, is_same q t at, below)
+      within q true at e = omega (arith, eqb-true q t at, below)
       within q false at e = h.few q (sym (stands_number thread q ws) ∙ e)
 
   -- there are no more than the threads
   pub few_kept : (thread rank : A → ℕ) (ws : List A) → IsKept thread rank ws → length ws ≤ thread_limit
   few_kept thread rank [] h = omega arith
-  few_kept thread rank (w ∷ ws) h = omega (arith, has_room thread rank (thread w) ws (kept-rest thread rank (w ∷ ws) h) h.ranked.1 (h.few (thread w) (rw (same (thread w)) refl)))
+  few_kept thread rank (w ∷ ws) h = omega (arith, has_room thread rank (thread w) ws (kept-rest thread rank (w ∷ ws) h) h.ranked.1 (h.few (thread w) (rw (eqb-same (thread w)) refl)))
 
   -- where a waiter is put
   pub inserted : (rank : A → ℕ) (w : A) (ws : List A) → insert ws (position_or_len (λ v. nat_lt (rank v) (rank w)) ws) w ≡ enqueued rank w ws
@@ -184,7 +157,7 @@ module _ {A : Type 0} where
       one_more : (n : ℕ) → insert vs n w ≡ enqueued rank w vs → insert (v ∷ vs) (1 + n) w ≡ v ∷ enqueued rank w vs
       one_more n e = ap (λ k. insert (v ∷ vs) k w) (by_suc n) ∙ ap (λ xs. v ∷ xs) e
 
-  -- behind all others, where all ranks are the same
+  -- behind all others, where all ranks are the eqb-same
   pub enqueued-last : (w : A) (ws : List A) → enqueued (λ v. 0) w ws ≡ ws ++ w ∷ []
   enqueued-last w [] = refl
   enqueued-last w (v ∷ vs) = ap (λ xs. v ∷ xs) (enqueued-last w vs)
@@ -219,4 +192,4 @@ module _ {A : Type 0} where
     where
       by : (b : Bool) → nat_lt (position_or_len p ws) (length ws) ≡ b → None ≡ cond b (Some (position_or_len p ws)) None → length ws ≡ position_or_len p ws
       by true at h = cc
-      by false at h = let l = within_all p ws in let m = not_less (position_or_len p ws) (length ws) at in omega (arith, l, m)
+      by false at h = let l = within_all p ws in let m = ltb-false (position_or_len p ws) (length ws) at in omega (arith, l, m)

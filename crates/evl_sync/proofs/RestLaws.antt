@@ -5,7 +5,7 @@ use Rattle.std.specs.Int.Bits.{and_self, and_zero_r}
 use Rattle.std.proofs.lemmas.Nat.{and_assoc, and_comm}
 use Rattle.std.proofs.lemmas.Nat.Bits.{bit_at_and, bit_at_xor, bit_at-lt, same_from_bits}
 use Rattle.std.proofs.lemmas.Bool.Decides.{nat_tests}
-use Rattle.std.proofs.lemmas.Bool.{false≢true}
+use Rattle.std.proofs.lemmas.Bool.{false≢true, eqb-true}
 use Rattle.evl_base.specs.declared.take.Take.{Take}
 use Rattle.evl_base.specs.declared.take.Take.TheVariants.{Any, Of, Exact}
 use Rattle.evl_sync.specs.declared.flag_waiter.FlagWaiter.{FlagWaiter}
@@ -15,9 +15,6 @@ use Rattle.evl_sync.specs.FlagGroups.{some_bits, taken, left_of, passed, walk_of
 abbrev AreIn : ℕ → ℕ → Type 0
 AreIn fewer bits = bit_and fewer bits ≡ fewer
 
-same : (n m : ℕ) → (n == m) ≡ true → n ≡ m
-same n m e = grind (arith, nat_tests)
-
 is_zero : (n : ℕ) → n ≡ 0 → some_bits n ≡ None
 is_zero n e = rw e refl
 
@@ -25,7 +22,7 @@ none-zero : (n : ℕ) → some_bits n ≡ None → n ≡ 0
 none-zero n e = by (n == 0) refl e
   where
     by : (b : Bool) → (n == 0) ≡ b → (if b then None else Some n) ≡ None → n ≡ 0
-    by true at h = same n 0 at
+    by true at h = eqb-true n 0 at
     by false at h = cc
 
 some-same : (n got : ℕ) → some_bits n ≡ Some got → n ≡ got
@@ -62,7 +59,7 @@ taken_there (Of mask) bits got e =
 taken_there (Exact mask) bits got e = by (bit_and bits mask == mask) refl e
   where
     by : (b : Bool) → (bit_and bits mask == mask) ≡ b → (if b then Some mask else None) ≡ Some got → bit_and bits got ≡ got
-    by true at h = let e : mask ≡ got = cc in rw (← e) (same (bit_and bits mask) mask at)
+    by true at h = let e : mask ≡ got = cc in rw (← e) (eqb-true (bit_and bits mask) mask at)
     by false at h = cc
 
 -- who isn't satisfied by some bits isn't by fewer
@@ -81,7 +78,7 @@ none_fewer (Exact mask) fewer bits h e = by (bit_and fewer mask == mask) refl (b
     by : (b : Bool) → (bit_and fewer mask == mask) ≡ b → (d : Bool) → (bit_and bits mask == mask) ≡ d → (if d then Some mask else None) ≡ None → (if b then Some mask else None) ≡ None
     by false at d met k = refl
     by true at true met k = cc
-    by true at false met k = absurd (false≢true (sym met ∙ equal (bit_and bits mask) mask (more (same (bit_and fewer mask) mask at))))
+    by true at false met k = absurd (false≢true (sym met ∙ equal (bit_and bits mask) mask (more (eqb-true (bit_and fewer mask) mask at))))
 
 left_of_in : (kind : Take) (bits : ℕ) (o : Option ℕ) → taken kind bits ≡ o → AreIn (left_of bits o) bits
 left_of_in kind bits None e = and_self bits

@@ -2,9 +2,10 @@
 use Rattle.std.proofs.Common.{◌≡◌, ℕ, zero, suc, ◌+◌, ◌<◌, ◌≤◌, ◌==◌, nat_le, nat_lt, inl, inr, Bool, true, false, ◌&&◌, ◌||◌, List, [], ◌∷◌, ◌++◌, length, take, drop, remove, Option, Some, None, if◌then◌else◌, refl, sym, ap, ◌∙◌, subst, length-append, arith}
 use Rattle.std.specs.Option.{option_or}
 use Rattle.std.specs.List.{AllByRecursion}
-use Rattle.std.proofs.lemmas.Bool.{false≢true}
+use Rattle.std.proofs.lemmas.Bool.{false≢true, leb-false, leb-true, or_parts}
 use Rattle.std.proofs.lemmas.Bool.Decides.{nat_tests}
 use Rattle.std.proofs.lemmas.List.{take-append-drop}
+use Rattle.std.proofs.lemmas.Option.{none-some}
 use Rattle.evl_base.specs.Limits.{thread_limit}
 use Rattle.evl_base.specs.declared.refusal.Refusal.TheVariants.{TooBig}
 use Rattle.evl_sync.specs.Queues.{dropped, is_nobody, stands_in}
@@ -13,15 +14,6 @@ use Rattle.evl_xbuf.specs.declared.waiters.Writer.{Writer}
 use Rattle.evl_xbuf.specs.Streams.{HasOneQueue, IsAtRest, IsKeptStream, IsSoundStream, Stream, Service, Wrote, Got, can_read, can_write, drop_waiter, empty, fits, given, is_empty, next_service, read, reader_served, served, served_from, too_big, waiting, with_reader, with_writer, without, writer_served, written}
 use Rattle.evl_xbuf.proofs.StreamLaws.{kept-reader, kept-reader_gone, kept-without, kept-writer, kept-writer_gone}
 use Rattle.evl_xbuf.proofs.ServingLaws.{at_rest, goes_on}
-
-none_some : {A : Type 0} {x : A} → None ≡ Some x → ⊥
-none_some e = cc
-
-at_most : (n m : ℕ) → nat_le n m ≡ true → n ≤ m
-at_most n m e = grind (arith, nat_tests)
-
-more : (n m : ℕ) → nat_le n m ≡ false → m < n
-more n m e = grind (arith, nat_tests)
 
 kept-written : (s : Stream) (bytes : List ℕ) → length s.there + length bytes ≤ s.size → IsKeptStream s → IsKeptStream (written s bytes)
 kept-written s bytes l h = record { few = h.few; within = omega (arith, l, length-append s.there bytes); short = h.short; writers = h.writers; readers = h.readers }
@@ -62,7 +54,7 @@ writer-keeps s (w ∷ ws) h e = by (fits s w.bytes.items) refl
 
     by : (b : Bool) → fits s w.bytes.items ≡ b → Keeps s (if b then Some (Wrote w.thread, record (written s w.bytes.items) { writers = ws }) else None)
     by true fit = (
-      kept-writer_gone (written s w.bytes.items) ws (sym (ap (λ (xs : List Writer). remove xs 0) e)) (kept-written s w.bytes.items (at_most _ _ fit) h),
+      kept-writer_gone (written s w.bytes.items) ws (sym (ap (λ (xs : List Writer). remove xs 0) e)) (kept-written s w.bytes.items (leb-true _ _ fit) h),
       queue,
       let l = ap length e in omega (arith, l),
     )
@@ -102,7 +94,7 @@ kept-can_write s bytes h can = kept-written s bytes (room bytes can) h.kept
 
     room : (bs : List ℕ) → can_write s bs ≡ true → length s.there + length bs ≤ s.size
     room [] e = let l = h.kept.within in omega (arith, l)
-    room (byte ∷ bs) e = at_most _ _ (behind (is_nobody s.writers) (fits s (byte ∷ bs)) e)
+    room (byte ∷ bs) e = leb-true _ _ (behind (is_nobody s.writers) (fits s (byte ∷ bs)) e)
 
 pub sound-written : (s : Stream) (bytes : List ℕ) → IsSoundStream s → can_write s bytes ≡ true → IsSoundStream (served (written s bytes)).1
 sound-written s bytes h can = sound-served (written s bytes) (kept-can_write s bytes h can) h.rest.one_queue
@@ -134,7 +126,7 @@ reader_stuck x r rs e w = ap (λ vs. option_or (reader_served vs x) (writer_serv
     by false = ap (λ vs. writer_served vs x) w
 
 is_false : {A : Type 0} (b : Bool) (x : A) → (if b then Some x else None) ≡ None → b ≡ false
-is_false true x e = absurd (none_some (sym e))
+is_false true x e = absurd (none-some _ (sym e))
 is_false false x e = refl
 
 none_if : {A : Type 0} (b : Bool) (x : A) → b ≡ false → (if b then Some x else None) ≡ None
@@ -148,10 +140,6 @@ not_both s w ws r rs ew er (inr none) = absurd (cc)
 second : (a b : Bool) → a ≡ true → (a && b) ≡ false → b ≡ false
 second true b e h = h
 second false b e h = absurd (false≢true e)
-
-neither : (a b : Bool) → (a || b) ≡ false → b ≡ false
-neither true b e = absurd (false≢true (sym e))
-neither false b e = e
 
 -- where nothing can be read, nothing is there
 empty_there : (s : Stream) (len : ℕ) → can_read s len ≡ false → length s.there ≡ 0
@@ -172,7 +160,7 @@ short_enough : (s : Stream) (bytes : List ℕ) → too_big s bytes ≡ None → 
 short_enough s bytes e = by (nat_lt s.size (length bytes)) refl e
   where
     by : (b : Bool) → nat_lt s.size (length bytes) ≡ b → (if b then Some TooBig else None) ≡ None → length bytes ≤ s.size
-    by true lt none = absurd (none_some (sym none))
+    by true lt none = absurd (none-some _ (sym none))
     by false lt none = grind (arith, nat_tests)
 
 abbrev writer_of : ℕ → List ℕ → Writer
@@ -190,7 +178,7 @@ sound-with_writer s t bytes h away below short cant = record { kept = kept-write
     l = short_enough s bytes short
 
     unfit : s.writers ≡ [] → fits s bytes ≡ false
-    unfit none = second (is_nobody s.writers) (fits s bytes) (ap is_nobody none) (neither (is_empty bytes) (is_nobody s.writers && fits s bytes) cant)
+    unfit none = second (is_nobody s.writers) (fits s bytes) (ap is_nobody none) ((or_parts (is_empty bytes) (is_nobody s.writers && fits s bytes) cant).1)
 
     by : (ws : List Writer) → s.writers ≡ ws → (rs : List Reader) → s.readers ≡ rs → IsAtRest (with_writer s t bytes)
     by (v ∷ vs) w (r ∷ rs) e = not_both s v vs r rs w e h.rest.one_queue
@@ -206,7 +194,7 @@ sound-with_writer s t bytes h away below short cant = record { kept = kept-write
     by [] w (r ∷ rs) e =
         let stuck : can_read s r.len ≡ false = is_false (can_read s r.len) _ (sym (reader_stuck s r rs e w) ∙ h.rest.rests) in
         let none = empty_there s r.len stuck in
-        let long = more (length s.there + length bytes) s.size (unfit w) in
+        let long = leb-false (length s.there + length bytes) s.size (unfit w) in
         absurd (omega (arith, none, long, l))
 
 -- a reader that begins to wait
@@ -218,7 +206,7 @@ sound-with_reader s t len h away below cant = record { kept = kept-reader s t le
     by (v ∷ vs) w [] e =
         let stuck : fits s v.bytes.items ≡ false = is_false (fits s v.bytes.items) _ (sym (writer_stuck s v vs e w) ∙ h.rest.rests) in
         let none = empty_there s len cant in
-        let long = more (length s.there + length v.bytes.items) s.size stuck in
+        let long = leb-false (length s.there + length v.bytes.items) s.size stuck in
         let fit = subst (λ (ws : List Writer). AllByRecursion (λ u. length u.bytes.items ≤ s.size) ws) w h.kept.short in
         absurd (omega (arith, none, long, fit.0))
     by [] w [] e = record {

@@ -7,6 +7,7 @@ use Rattle.std.proofs.KnownBytes.{Appends-trans}
 use Rattle.std.proofs.lemmas.List.{append_cancel_left}
 use Rattle.std.proofs.lemmas.List.Elements.{All-append, All-cons, All-nil}
 use Rattle.std.proofs.lemmas.List.Folds.{list_all-append}
+use Rattle.std.proofs.lemmas.Bool.{ne_eqb}
 use Rattle.evl_kernel.specs.Histories.{History}
 use Rattle.evl_kernel.specs.States.{Handler}
 use Rattle.evl_scenario.specs.Lines.{line_feed}
@@ -26,7 +27,6 @@ use Rattle.lab.specs.Lives.{AnswersAll, AnswersEach, AnswersInput, AnswersLine, 
 use Rattle.lab.specs.Outputs.{Output, Writes, prints, refuses}
 use Rattle.lab.specs.Texts.{IsAllOf}
 use Rattle.lab.proofs.OutputLemmas.{told_of}
-use Rattle.lab.proofs.TextLemmas.{other}
 
 -- ---- what is told behind a text, by itself
 
@@ -90,7 +90,7 @@ each_one line old new answer h = (new, answer, [], h, (refl, refl), sym (append-
 -- ---- bytes
 
 lacks_more : (c : ℕ) (text : List ℕ) (byte : ℕ) → Lacks c text → byte ≢ c → Lacks c (text ++ byte ∷ [])
-lacks_more c text byte h n = list_all-append (λ x. not (x == c)) text (byte ∷ []) ∙ rw (h, other byte c n) refl
+lacks_more c text byte h n = list_all-append (λ x. not (x == c)) text (byte ∷ []) ∙ rw (h, ne_eqb byte c n) refl
 
 -- a line feed behind the line that waits, which is answered
 pub heard_line : (line : List ℕ) (byte : ℕ) (old new : Driven) (answer : List ℕ) → Lacks 10 line → byte ≡ 10 → AnswersLine line old new answer → Hears (byte ∷ []) line [] old new answer

@@ -7,22 +7,15 @@ use Rattle.std.specs.List.{ends_with}
 use Rattle.std.specs.Str.{IsCharBoundary}
 use Rattle.std.specs.Str.Pattern.{FindsTextSuffix, RFindsChar, SplitsAroundMatch, StripsSuffix}
 use Rattle.std.specs.Prelude.{unwrap_or}
+use Rattle.std.proofs.lemmas.Bool.{ne_eqb}
 use Rattle.lab_traces.specs.Parts.{Lacks}
 use Rattle.lab.specs.Texts.{IsNameOf, stem_in}
-
--- a number isn't another one
-pub other : (a b : ℕ) → a ≢ b → (a == b) ≡ false
-other a b n = by (eqb_tells a b)
-  where
-    by : ((a == b) ≡ true) × (a ≡ b) ⊎ ((a == b) ≡ false) × (a ≢ b) → (a == b) ≡ false
-    by (inl h) = absurd (n h.1)
-    by (inr h) = h.0
 
 lacks_by : (c : ℕ) (text : List ℕ) → ((i : ℕ) → i < length text → get_or text i 0 ≢ c) → Lacks c text
 lacks_by c [] h = refl
 lacks_by c (x ∷ xs) h =
     let here : x ≢ c = h 0 (omega arith) in
-    rw (other x c here, lacks_by c xs (λ i l. h (suc i) (omega (arith, l)))) refl
+    rw (ne_eqb x c here, lacks_by c xs (λ i l. h (suc i) (omega (arith, l)))) refl
 
 -- a path with no slash is its name
 pub whole_name : (path : List ℕ) → RFindsChar 47 path None → IsNameOf path path

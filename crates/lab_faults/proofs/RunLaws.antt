@@ -3,16 +3,14 @@ use Rattle.std.proofs.Common.{◌≡◌, ◌∙◌, ℕ, ◌+◌, ◌==◌, ◌<
 use Rattle.std.proofs.lemmas.Bool.Decides.{eqb_tells}
 use Rattle.std.proofs.lemmas.List.{append-nil}
 use Rattle.std.specs.List.{prefix_len}
+use Rattle.std.proofs.lemmas.Bool.{eqb-true}
 use Rattle.lab_faults.specs.Steps.{all_step_faults, is_beside, number_of, onto_run, run_faults, run_length, runs}
 use Rattle.lab_faults.specs.Told.{Told}
 use Rattle.lab_faults.specs.declared.items.Item.{Item}
 
-same_number : (a b : ℕ) → (a == b) ≡ true → a ≡ b
-same_number a b e = grind (arith, eqb_tells, e)
-
 -- who stands beside one of two that stand in one step stands beside the other
 beside_both : (x y : Item) (rest : List Item) → is_beside x y ≡ true → prefix_len (is_beside y) rest ≡ prefix_len (is_beside x) rest
-beside_both x y rest e = ap (λ (n : ℕ). prefix_len (λ (item : Item). number_of item.section == n) rest) (same_number (number_of y.section) (number_of x.section) e)
+beside_both x y rest e = ap (λ (n : ℕ). prefix_len (λ (item : Item). number_of item.section == n) rest) (eqb-true (number_of y.section) (number_of x.section) e)
 
 -- an item before the first run of those behind it, or by itself
 cut_by : (x y : Item) (rest : List Item) (n m : ℕ) (b : Bool) → (b ≡ true → m ≡ n) → (y ∷ take m rest) ∷ runs (drop m rest) ≡ runs (y ∷ rest)

@@ -5,6 +5,7 @@ use Rattle.std.specs.List.{AllByRecursion, position_or_len}
 use Rattle.std.proofs.lemmas.Bool.Decides.{nat_tests}
 use Rattle.std.proofs.lemmas.List.Elements.{All-from_recursion}
 use Rattle.std.proofs.lemmas.List.Sums.{sum_by-cons}
+use Rattle.std.proofs.lemmas.Bool.{ltb-false}
 use Rattle.lab_orders.specs.Machines.{Run}
 use Rattle.lab_orders.specs.Tallies.{told_weight}
 use Rattle.lab_orders.specs.Weights.{total}
@@ -29,9 +30,6 @@ none_of : (b : Bool) → one_if b ≡ 0 → b ≡ false
 none_of true e = absurd (omega (arith, e))
 none_of false e = refl
 
-not_less : (n m : ℕ) → nat_lt n m ≡ false → m ≤ n
-not_less n m e = grind (arith, nat_tests)
-
 nothing : (is : List ℕ → Bool) (tallies : List Tally) → length tallies ≤ position_or_len (λ tally. is (string_bytes tally.told)) tallies → told_weight (counted is) tallies ≡ 0
 nothing is [] le = refl
 nothing is (tally ∷ tallies) le =
@@ -48,7 +46,7 @@ quiet {S} told is (r ∷ rs) none =
     (none_of (is (told r.at)) (omega (arith, each, none)), quiet told is rs (omega (arith, each, none)))
 
 past_all : {X : Type 0} (p : X → Bool) (xs : List X) → position p xs ≡ None → length xs ≤ position_or_len p xs
-past_all p xs none = not_less (position_or_len p xs) (length xs) (nowhere (nat_lt (position_or_len p xs) (length xs)) (position_or_len p xs) none)
+past_all p xs none = ltb-false (position_or_len p xs) (length xs) (nowhere (nat_lt (position_or_len p xs) (length xs)) (position_or_len p xs) none)
 
 pub no_order : {S : Type 0} (told : S → List ℕ) (is : List ℕ → Bool) (tallies : List Tally) (rs : List (Run S))
     → ((f : List ℕ → ℕ) → told_weight f tallies ≡ total (λ s. f (told s)) rs) → position (λ tally. is (string_bytes tally.told)) tallies ≡ None

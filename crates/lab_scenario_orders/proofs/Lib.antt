@@ -6,7 +6,6 @@ pub mod OutcomeLaws
 pub mod RisingLaws
 pub mod ScenarioLaws
 pub mod ShareLaws
-pub mod SplitLaws
 pub mod TextLaws
 pub mod ToldLaws
 pub mod TrailLaws

@@ -2,14 +2,10 @@
 use Rattle.std.proofs.Common.{◌≡◌, ℕ, zero, suc, ◌<◌, Bool, true, false, ◌&&◌, List, [], ◌∷◌, length, get_or, map, Result, refl, sym, ap, ◌∙◌, arith}
 use Rattle.std.specs.Prelude.{String, slice_index, slice_index_or, slice_set, string_bytes, string_eq}
 use Rattle.std.specs.Cmp.Lexicographic.{pointwise, same_text}
+use Rattle.std.proofs.lemmas.Bool.{and_parts}
 use Rattle.evl_base.specs.declared.refusal.Refusal.{Refusal}
 use Rattle.evl_base.specs.declared.reply.Reply.{Reply}
 use Rattle.lab_scenario_orders.specs.Callers.{answered}
-
-both_true : (a b : Bool) → (a && b) ≡ true → (a ≡ true) × (b ≡ true)
-both_true true true e = (refl, refl)
-both_true true false e = cc
-both_true false b e = cc
 
 -- lists of texts that are the same one by one
 pub same_texts : {Z : Type 0} (xs ys : List (String Z)) → pointwise string_eq xs ys ≡ true → map string_bytes xs ≡ map string_bytes ys
@@ -17,7 +13,7 @@ same_texts [] [] e = refl
 same_texts [] (y ∷ ys) e = cc
 same_texts (x ∷ xs) [] e = cc
 same_texts (x ∷ xs) (y ∷ ys) e =
-    let both = both_true (string_eq x y) (pointwise string_eq xs ys) e in
+    let both = and_parts (string_eq x y) (pointwise string_eq xs ys) e in
     let one : string_bytes x ≡ string_bytes y = same_text (string_bytes x) (string_bytes y) (sym both.0) in
     cc (one, same_texts xs ys both.1)
 

@@ -1,5 +1,6 @@
 -- The line of a board is read as that board's, and no other line is.
 use Rattle.std.proofs.Common.{arith, ◌≡◌, ℕ, ◌<◌, ◌^◌, List, ◌∷◌, ◌++◌, codes, decimal, Some, option_and_then, refl, sym, ap, ◌∙◌, append_assoc}
+use Rattle.std.proofs.lemmas.Option.{same_Some}
 use Rattle.evl_scenario.specs.declared.lines.BoardLine.{BoardLine}
 use Rattle.evl_scenario.specs.Values.{below, past_front}
 use Rattle.lab_traces.specs.Lines.{BoardFits, board_read, board_text, limit_read}
@@ -72,9 +73,6 @@ join : (a b c d e f g : List ℕ) (threads sems flags xbufs mutexes groups limit
 join a b c d e f g threads sems flags xbufs mutexes groups limit h1 h2 h3 h4 h5 h6 h7 =
     h1 ∙ rw (h2, h3, h4, h5, h6, h7) (sym (board_spelled threads sems flags xbufs mutexes groups limit))
 
-some_same : (m n : ℕ) → Some m ≡ Some n → m ≡ n
-some_same m n h = cc
-
 pub board-whole : (t : List ℕ) (line : BoardLine) → board_read t ≡ Some line → t ≡ board_text line
 board-whole t line h =
     let (first, one, h1) = and_then_some _ (counted_read (codes "board threads=") t) line h in
@@ -85,7 +83,7 @@ board-whole t line h =
     let (fifth, five, h6) = and_then_some _ (counted_read (codes "mutexes=") fourth.1) line h5 in
     let (sixth, six, h7) = and_then_some _ (counted_read (codes "groups=") fifth.1) line h6 in
     let (limit, seven, same) = limit_whole threads (second.0, third.0, fourth.0) (fifth.0, sixth.0) sixth.1 line h7 in
-    let given : first.0 ≡ threads = some_same first.0 threads (below-whole (2 ^ 16) threads (Some first.0) fits) in
+    let given : first.0 ≡ threads = same_Some first.0 threads (below-whole (2 ^ 16) threads (Some first.0) fits) in
     join t first.1 second.1 third.1 fourth.1 fifth.1 sixth.1 threads second.0 third.0 fourth.0 fifth.0 sixth.0 limit
     (counted-whole (codes "board threads=") t first.0 first.1 one ∙ ap (λ (n : ℕ). codes "board threads=" ++ (decimal n ++ 32 ∷ first.1)) given)
     (counted-whole (codes "sems=") first.1 second.0 second.1 two) (counted-whole (codes "flags=") second.1 third.0 third.1 three)

@@ -1,5 +1,6 @@
 use Rattle.std.proofs.Common.{Bool, true, false, ◌||◌, ◌≡◌, List, refl, sym, ap, ◌∙◌}
 use Rattle.std.proofs.lemmas.List.{at_drop_more}
+use Rattle.std.proofs.lemmas.Bool.{or_right}
 use Rattle.evl_sync.specs.FlagGroups.{pairs}
 use Rattle.evl_sync.specs.declared.flag_waiter.Served.{Served}
 use Rattle.evl_kernel.specs.States.{State}
@@ -11,10 +12,6 @@ use Rattle.evl_kernel.specs.Records.{state_of}
 use Rattle.evl_kernel.proofs.CallbackLaws.{keeps-both}
 use Rattle.evl_kernel.proofs.records.Records.wake_all.Goals as goal
 
-or_true : (a b : Bool) → b ≡ true → (a || b) ≡ true
-or_true true b e = refl
-or_true false b e = e
-
 pub loop-one-preserved : goal.loop-one-preserved
 loop-one-preserved g c = record {
   woken = rw c.wake.ensures.woken
@@ -23,6 +20,6 @@ loop-one-preserved g c = record {
   away = λ thread is on.
       ap (λ (s : State). stands_for (elements s) on thread) c.wake.ensures.woken
       ∙ c.loop-one.invariant.away thread
-      (at_drop_more (λ (served : List Served). is_served thread (all_served (pairs served))) c.args.served.now c.loop-one.one-index (record { thread = record { 0 = 0 }; bits = 0 }) c.loop-one-test.true ∙ or_true _ _ is) on;
+      (at_drop_more (λ (served : List Served). is_served thread (all_served (pairs served))) c.args.served.now c.loop-one.one-index (record { thread = record { 0 = 0 }; bits = 0 }) c.loop-one-test.true ∙ or_right _ _ is) on;
   stands = keeps-both c.args.self.now c.loop-one.self c.wake.new.self c.loop-one.invariant.stands c.wake.ensures.stands;
 }
