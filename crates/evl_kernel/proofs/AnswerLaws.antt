@@ -78,10 +78,6 @@ handed_by s s' t m reply plays step =
     by x there true = record { mutex = x; there = there; told = refl }
     by x there false = tt
 
--- an accepted release tells the next owner
-pub release_hands : (s s' : State) (t : ℕ) (m : MutexId) (reply : Reply) (plays : List Play) → Step s t (Release m) (Ok reply) plays s' → (next : Option ThreadId) × (more : Bool) × (reply ≡ Handed next more)
-release_hands s s' t m reply plays step = let h = handed_by s s' t m reply plays step in (_, _, h.told)
-
 -- who is handed a mutex, waited for it
 waited : (m : Mutex) (next : ThreadId) (more : Bool) → Handed (Some next) more ≡ handed_told (released m) → stands_in next.0 m.waiters ≡ true
 waited m next more told = by m.waiters told

@@ -45,10 +45,6 @@ module _ {X Y : Type 0} (name : X → Y) where
   unfolding due_count
   count-renamed c = ap (λ (items : List (ℕ × Item)). length items) (due-renamed c)
 
-  none-mapped : (t : Option (Timer X)) → is_none (option_map (named_timer name) t) ≡ is_none t
-  none-mapped None = refl
-  none-mapped (Some t) = refl
-
   first-mapped : (ts : List (Option (Timer X))) → position_or_len is_none (map (option_map (named_timer name)) ts) ≡ position_or_len is_none ts
   first-mapped [] = refl
   first-mapped (None ∷ ts) = refl

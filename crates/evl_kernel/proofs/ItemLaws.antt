@@ -188,25 +188,3 @@ module _ {C : Type 0} where
       by : (b : Bool) → (b ≡ true → next_due (state_of r).clock ≡ None) → item_before (settling r inband b) (item_next (settling r inband b)) ≡ line_goes (settling r inband false)
       by false h = refl
       by true h = rw (h refl) (same false (line_next (settling r inband false)))
-
--- as far as the plays that are left
-pub item_left : {C : Type 0} (r t : RecordsView C) (inband : ℕ) (one : Play) → due_played (state_of r) ≡ Some (one, state_of t) → waiting (state_of t) < waiting (state_of r)
-    → left_after (state_of t) (inband + one_inband (stage_of one)) < left_after (state_of r) inband
-item_left r t inband one played fewer = by (next_due (state_of r).clock) played
-  where
-    by : (o : Option Item) → option_map (item_played (state_of r)) o ≡ Some (one, state_of t) → left_after (state_of t) (inband + one_inband (stage_of one)) < left_after (state_of r) inband
-    by None e = absurd (none-some _ e)
-    by (Some found) e =
-        let same : ◌≡◌ {A = Play × State} (item_played (state_of r) found) (one, state_of t) = same_Some _ _ e in
-        let kind = subst OfClock (ap (λ (x : Play × State). x.0) same) (item_of_clock (state_of r) found) in
-        rw kind.stage (omega (arith, fewer))
-
-pub item_within : {C : Type 0} (r t : RecordsView C) (inband : ℕ) (one : Play) → due_played (state_of r) ≡ Some (one, state_of t) → inband ≤ 64 → inband + one_inband (stage_of one) ≤ 64
-item_within r t inband one played few = by (next_due (state_of r).clock) played
-  where
-    by : (o : Option Item) → option_map (item_played (state_of r)) o ≡ Some (one, state_of t) → inband + one_inband (stage_of one) ≤ 64
-    by None e = absurd (none-some _ e)
-    by (Some found) e =
-        let same : ◌≡◌ {A = Play × State} (item_played (state_of r) found) (one, state_of t) = same_Some _ _ e in
-        let kind = subst OfClock (ap (λ (x : Play × State). x.0) same) (item_of_clock (state_of r) found) in
-        rw kind.stage (omega (arith, few))

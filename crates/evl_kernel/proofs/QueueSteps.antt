@@ -161,10 +161,6 @@ module _ {X : Type 0} (has : X → ℕ → Bool) (xs : List X) (n : ℕ) (q p : 
     old = λ other t. old_for t (drops_old (has q) (has p) thread one t) other;
   }
 
--- nothing changes
-pub goes_nobody : (e : Elements) → LetsGo e [] e
-goes_nobody e = record { left = λ t is. absurd (false≢true is); same = λ on t is. refl; old = λ on t is. is }
-
 -- a semaphore changes
 module _ (e : Elements) (n : ℕ) (q p : Semaphore) (here : slice_get e.sems n ≡ Some q) where
   abbrev pub sem_set : Elements

@@ -27,25 +27,9 @@ module _ {X Y : Type 0} (name : X → Y) where
   pub stands-renamed : (p : Pipeline X) (stage : Stage) (line : ℕ) → is_some (installed_at (renamed name p) stage line) ≡ is_some (installed_at p stage line)
   stands-renamed p stage line = ap is_some (installed-renamed p stage line) ∙ is_some-map (named name) (installed_at p stage line)
 
-  pub has-renamed : (p : Pipeline X) (stage : Stage) (line : ℕ) → has_callback (renamed name p) stage line ≡ has_callback p stage line
-  has-renamed p Oob line = ap (λ b. line == 0 || b) (stands-renamed p Oob line)
-  has-renamed p Inband line = stands-renamed p Inband line
-
   with-renamed : (p : Pipeline X) (stage : Stage) (s : Side X) → renamed name (with_side p stage s) ≡ with_side (renamed name p) stage (renamed_side name s)
   with-renamed p Oob s = refl
   with-renamed p Inband s = refl
-
-  side-renamed : (p : Pipeline X) (stage : Stage) → side (renamed name p) stage ≡ renamed_side name (side p stage)
-  side-renamed p Oob = refl
-  side-renamed p Inband = refl
-
-  pub stalled-renamed : (p : Pipeline X) (stage : Stage) → renamed name (stalled p stage) ≡ stalled (renamed name p) stage
-  stalled-renamed p Oob = refl
-  stalled-renamed p Inband = refl
-
-  pub unstalled-renamed : (p : Pipeline X) (stage : Stage) → renamed name (unstalled p stage) ≡ unstalled (renamed name p) stage
-  unstalled-renamed p Oob = refl
-  unstalled-renamed p Inband = refl
 
   pub request_refusal-renamed : (p : Pipeline X) (line : ℕ) (stage : Stage) (kinds : ℕ) → request_refusal (renamed name p) line stage kinds ≡ request_refusal p line stage kinds
   request_refusal-renamed p line stage kinds = rw (stands-renamed p stage line) refl

@@ -27,12 +27,6 @@ set_same [] n c has = refl
 set_same {A} (x ∷ xs) zero c has = ap (λ (y : A). y ∷ xs) (same_Some _ _ (sym has))
 set_same {A} (x ∷ xs) (suc n) c has = ap (λ (ys : List A). x ∷ ys) (set_same xs n c has)
 
--- an element that was set is set back
-pub set_back : {A : Type 0} (xs : List A) (n : ℕ) (y x : A) → slice_get xs n ≡ Some x → slice_set (slice_set xs n y) n x ≡ xs
-set_back [] n y x has = refl
-set_back {A} (z ∷ xs) zero y x has = ap (λ (w : A). w ∷ xs) (same_Some _ _ (sym has))
-set_back {A} (z ∷ xs) (suc n) y x has = ap (λ (ws : List A). z ∷ ws) (set_back xs n y x has)
-
 -- an element that is set twice
 pub set_twice : {A : Type 0} (xs : List A) (n : ℕ) (y x : A) → slice_set (slice_set xs n y) n x ≡ slice_set xs n x
 set_twice [] n y x = refl

@@ -195,9 +195,6 @@ module _ {C : Type 0} (r : RecordsView C) where
   pub keeps-waits : (waits : List (Option Wait)) → KeepsCallbacks r (record r { waits = waits })
   keeps-waits waits = record { brings = λ number callback stands. stands; handlers_are = refl }
 
-  pub keeps-elements : (e : ElementsView) → KeepsCallbacks r (record r { elements = e })
-  keeps-elements e = record { brings = λ number callback stands. stands; handlers_are = refl }
-
   pub keeps-changed : (e : ElementsView) (q : Ranked) (waits : List (Option Wait)) → KeepsCallbacks r (record r { elements = e; sched = q; waits = waits })
   keeps-changed e q waits = record { brings = λ number callback stands. stands; handlers_are = refl }
 
@@ -297,13 +294,6 @@ module _ {C : Type 0} (r : RecordsView C) (h : IsSound r) (thread rank : ℕ) (w
 -- a beginning that nothing refuses is of an element that is there
 abbrev begin_rest : State → ℕ → Wanted → Option Refusal
 begin_rest s thread wants = refused_first (range_refusal wants) (refused_first (waiter_refusal s thread wants) (refused_first (size_refusal (elements s) wants) (ring_refusal s thread wants)))
-
-pub there_to_begin : (s : State) (thread : ℕ) (wants : Wanted) → begin_refusal s thread wants ≡ None → is_there (elements s) (awaited wants) ≡ true
-there_to_begin s thread wants = by (is_there (elements s) (awaited wants)) (is_named s wants) (begin_rest s thread wants)
-  where
-    by : (b c : Bool) (others : Option Refusal) → refused_first (if b && c then None else Some Unknown) others ≡ None → b ≡ true
-    by true c others none = refl
-    by false c others none = absurd (none-some _ (sym none))
 
 -- a beginning that none of these refuses
 pub may_begin_all : (s : State) (thread : ℕ) (wants : Wanted) → is_there (elements s) (awaited wants) ≡ true → is_named s wants ≡ true → range_refusal wants ≡ None → waiter_refusal s thread wants ≡ None

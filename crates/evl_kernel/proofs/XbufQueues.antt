@@ -197,9 +197,6 @@ module _ (x : Xbuf) where
       flows h way (read (stream x way) len) (kept-read (stream x way) len (sound_way h way).kept) (sound-read (stream x way) len (sound_way h way))
       (λ t is. is) (λ t is. is) (λ t. refl) (λ t. refl)
 
-  left_as_it_is : IsSoundXbuf x → Left x x []
-  left_as_it_is h = record { sound = h; left = λ t is. absurd (false≢true is); same = λ q t is. refl; old = λ q t is. is }
-
 -- the steps that calls ask for
 module _ (x y : Xbuf) (said : Reply) (h : IsSoundXbuf x) where
   pub write_left : (stage : Stage) (way : Way) (bytes : List ℕ) → machine x (through.write stage way bytes) ≡ Ok (said, y) → Left x y (xbuf_wakes x (through.write stage way bytes))

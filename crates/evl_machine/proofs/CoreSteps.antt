@@ -243,11 +243,3 @@ module _ {S B : Type 0} (past : S → History) (comes : B → S → Type 0) (fir
   pub all_fit : (n : ℕ) (homes : Homes S) (cores : List (CorePart B)) (k : ℕ) (c : CorePart B) (h : History) → Lock n homes cores → get_elem? cores k ≡ some c → c.taken ≡ Some h
       → (j : ℕ) (u : CorePart B) → get_elem? cores j ≡ some u → Fits h (account_at j u)
   all_fit n homes cores k c h r at has j u there = subst (λ (z : History). Fits z (account_at j u)) (holder_is n homes cores k c h r at has).1 (r.fits j u there)
-
-  -- where the word is 1, just one thread has the kernel
-  pub one_holder : (homes : Homes S) (cores : List (CorePart B)) → (r : Lock 1 homes cores)
-      → (holder : ℕ) × (c : CorePart B) × (get_elem? cores holder ≡ some c) × (c.taken ≡ Some r.history) × ((k : ℕ) (u : CorePart B) → k ≢ holder → get_elem? cores k ≡ some u → u.taken ≡ None)
-  one_holder homes cores r = ⊎_elim
-      (λ (f : IsFree past comes first r.history 1 homes cores). absurd (let e = f.word_is in omega arith))
-      (λ (t : IsTaken r.history 1 homes cores). (t.holder, t.holds.0, t.holds.1, t.holds.2, t.others))
-      r.who

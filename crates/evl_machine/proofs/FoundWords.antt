@@ -28,14 +28,6 @@ module _ (k : ℕ) (p q : MutexView) (kind : MutexKind) (found : ℕ) (d : Mutex
       let tied = d.event.stands.history.tied in
       record { mutex = d.event.stands.state; word = sym d.event.shows ∙ tied.word; below = names_within _ d.event.stands.state tied.few tied.below }
 
-  -- a thread that makes a step is one of at most 256
-  pub is_near : k < thread_limit
-  is_near =
-      let e = d.event in
-      let few = e.stands.history.tied.few in
-      let here = at_below (map (λ (x : MutexView). x.held) e.world.views) k p.held (at_map (λ (x : MutexView). x.held) e.world.views k p e.at) in
-      omega (arith, few, here)
-
   owner_of : (x : Mutex) → is_owner x k ≡ true → (marked : Bool) × (x ≡ owned k marked)
   owner_of unowned e = absurd (cc)
   owner_of (seized h) e = absurd (cc)

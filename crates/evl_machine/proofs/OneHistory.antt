@@ -96,10 +96,6 @@ module _ {C : Type 0} where
           let part = d.kept.parts i lt in
           at_mutex (record { word = get_or s.words (1 + i) 0; log = part.0; views = map (mutex_of i) d.views }) part.1 p.number q.number (mutex_of i p.view) (mutex_of i q.view) apart (at_map (mutex_of i) d.views p.number p.view here) (at_map (mutex_of i) d.views q.number q.view there)
 
-  -- who acts for a thread at rest acts alone
-  pub rests_alone : (a : SeatedActor C) → IsCaller (seen a.me) a.thread → AreItsPlaces a.me.0 a.places → IsAlone a.me
-  rests_alone a rests its = (place its.number its.thread, λ i. (its.one i, ap (λ (m : CoreMe (KernelView C)). m.1) rests.rests i))
-
   -- what two that act for threads know together, of the kernel
   pub kernel_together : (a b : SeatedActor C) → IsCaller (seen a.me) a.thread → IsCaller (seen b.me) b.thread → AreItsPlaces a.me.0 a.places → AreItsPlaces b.me.0 b.places → looks.AreTogether AreTogether a.me.0 b.me.0 → OneHistory (account_of (seen a.me)) (account_of (seen b.me))
   kernel_together a b rests also its theirs told =

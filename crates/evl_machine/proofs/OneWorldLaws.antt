@@ -245,11 +245,6 @@ module _ {S B : Type 0} (past : S → History) (room : S → ℕ) (comes : B →
     one_keeps (on_lock kind) may = lock_keeps kind may
     one_keeps (on_word i kind) may = word_step i kind may
 
-  -- after any list of events
-  pub one_events_keep : (w t : OneWorld S B) (events : List (Event (OneKind S))) → Stands w → Run (OneHappens past room comes ceilings m) w events t → Stands t
-  one_events_keep w t events stands run =
-      run_keeps (OneHappens past room comes ceilings m) Stands (λ s e u kept one. subst Stands (sym one.changed) (one_keeps s kept e.by one.view one.at e.kind one.may)) w t events stands run
-
   view_now : (w : OneWorld S B) (k : ℕ) (v : ThreadView B MutexView) (kind : OneKind S) → (one_after past room comes ceilings m w k v kind).views ≡ set w.views k (view_after past room comes ceilings m w k v kind)
   view_now w k v (on_lock kind) = refl
   view_now w k v (on_word i kind) = refl

@@ -26,10 +26,6 @@ use Rattle.evl_machine.proofs.TieOpens.{opens_ties}
 use Rattle.evl_machine.proofs.Calling.{is_caller}
 
 module _ {C : Type 0} where
-  -- a kernel that was just made has the history of no call
-  pub opened_legal : (declared : C → ℕ) (plan : C → Plan) (board : Board) (bank : List C) (limit : ℕ) (k : KernelView C) → IsOpened declared plan board bank limit k → IsLegal k.history × (k.history.entries ≡ [])
-  opened_legal declared plan board bank limit k o = (subst (λ (es : List Entry). Run (opened k.history) es k.history.plays k.history.state) (sym o.entries) (o.plays, o.state), o.entries)
-
   pub comes_itself : (k : KernelView C) → ComesFrom k k
   comes_itself k = record { board = refl; bank = refl; brings = λ number callback stands. stands; handlers_are = refl; limit = refl }
 

@@ -30,12 +30,6 @@ module _ {C : Type 0} (h : History) where
       let same : h ≡ g = same_history h g (sym taken ∙ is) in
       settled_none (ceilings_in hand) h.state after stay i word (subst (λ (z : History × Option Noted). StandsNoted (ceilings_in hand) z.0.state i z.1 word) (λ j. (sym same j, fresh j)) stands)
 
-  -- this word was left at this mutex
-  pub settled_left : (hand : CoreHand C) (after : State) (i left : ℕ) → taken_in hand ≡ Some h → note_in hand ≡ Some (noted i left) → AreTied (ceilings_in hand) after i left → OthersStay (ceilings_in hand) i h.state after → IsSettled hand after
-  settled_left hand after i left taken note mine others g is j word stands =
-      let same : h ≡ g = same_history h g (sym taken ∙ is) in
-      settled_noted (ceilings_in hand) h.state after i left mine others j word (subst (λ (z : History × Option Noted). StandsNoted (ceilings_in hand) z.0.state j z.1 word) (λ k. (sym same k, note k)) stands)
-
   -- what stood of the mutex at the first step on its word
   pub stood_fresh : (old new : CoreHand C) (i : ℕ) (kind : MutexKind) (so : Found) → taken_in old ≡ Some h → note_in old ≡ None → (n : Notes i kind so old new) → AreTied (ceilings_in old) h.state i n.found
   stood_fresh old new i kind so taken fresh n = subst (λ (o : Option Noted). StandsNoted (ceilings_in old) h.state i o n.found) fresh (n.stood h taken)

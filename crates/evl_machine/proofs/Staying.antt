@@ -112,11 +112,6 @@ awaits_after count w (BeginRead xbuf way len until) (Ok reply) was claims = tt
 awaits_after count w (Finish keep) (Ok reply) was claims = tt
 awaits_after count w _ (Ok reply) was claims = was
 
--- a call that no caller refuses by itself claims nothing
-pub claims_none : (count : ℕ) (wait : Option Unfinished) (stax mutex : Bool) (c : Call) → call_refusal wait stax mutex c ≡ None → ClaimsOneOf count c
-claims_none count wait stax mutex (Claim id owner until) free = absurd (cc)
-claims_none count wait stax mutex _ free = tt
-
 abbrev pub knowing : {C : Type 0} → SeatedActor C → Stage → Option Unfinished → SeatedActor C
 knowing a stage wait = record a { stage = stage; wait = wait }
 

@@ -40,15 +40,6 @@ module _ {S B : Type 0} (past : S → History) (room : S → ℕ) (comes : B →
   abbrev pub Seat : Type 0
   Seat = Me (Option S) (Hand (ThreadView B MutexView))
 
-  -- a take by a thread that has no slot owes the ties alone
-  pub takes_thread : (slots id k : ℕ) (v : ThreadView B MutexView) (me : Seat) → me ≡ (place k v ∷ [], []) → v.core.taken ≡ None → Losing past comes first (KeepsTies tie) k v.core → Taking past comes first room (KeepsTies tie) k v.core → (st : Step (Option S))
-      → Allows (MachineRule past comes tie first m) slots id me 0 (λ n. either (eqb n 0) 1 n) (Told (on_core (took past room comes)) st me)
-  takes_thread slots id k v me one rests losing ties st =
-      let turns = lock_turns (CoreRuled past comes first) MutexParts tie core_of put_core mutex_of put_mutex parts_apart m slots k v [] (λ n. either (eqb n 0) 1 n) (took past room comes st k (v.core, []))
-      (takes_core past comes first room (KeepsTies tie) slots k v.core rests losing ties st) in
-      subst (λ (z : Seat). Allows (MachineRule past comes tie first m) slots id z 0 (λ n. either (eqb n 0) 1 n) (Told (on_core (took past room comes)) st z)) (sym one)
-      (allows_of (ThreadRule past comes tie first m) slots id k v (place k v ∷ [], []) refl 0 (λ n. either (eqb n 0) 1 n) st (on_core (took past room comes)) turns)
-
   -- a give by the thread that has the kernel owes the ties alone
   pub gives_thread : (slots id k : ℕ) (v : ThreadView B MutexView) (y : S) (me : Seat) → me ≡ (place k v ∷ [], (0, Some y) ∷ []) → Giving past comes first (KeepsTies tie) k v.core y
       → MayGive k v.core (past y) → comes v.core.first y → (st : Step (Option S))

@@ -20,9 +20,6 @@ use Rattle.evl_kernel.specs.MutexRests.{LeftBy}
 use Rattle.evl_machine.specs.Ties.{is_claimed, IsPlain, OwnerTie, OfferTie, IsTied, IsLeft}
 use Rattle.evl_machine.proofs.TieWords.{number_in-offer, claimed-word, plain_unclaimed, plain_offers, number_small, number-claimed, marked-claimed, offered-claimed, names-claimed, try_plain, unlock_plain}
 
-some_none : {A : Type 0} {x : A} (o : Option A) → o ≡ Some x → o ≡ None → ⊥
-some_none o e f = let g = sym e ∙ f in absurd (cc)
-
 is_some-of : {A : Type 0} {x : A} (o : Option A) → o ≡ Some x → is_some o ≡ true
 is_some-of o e = ap is_some e
 
@@ -108,10 +105,6 @@ peopled_word (offered h marked) small there peopled = λ z. let n : h + 1 ≡ 0 
 pub not_seized : (m : Mutex) (h : ℕ) → OwnerTie m (mutex_word (seized h)) → ⊥
 not_seized m h tie = tie.peopled refl refl
 
--- and who owns one with a ceiling is recorded
-pub owner_recorded : (m : Mutex) (k : ℕ) (marked : Bool) → k < thread_limit → has_ceiling m ≡ true → OwnerTie m (mutex_word (owned k marked)) → m.owner ≡ Some k
-owner_recorded m k marked small ceiling tie = tie.ceiled ceiling k (number_in-owned k marked small)
-
 -- A claim: the word is marked, whether or not the kernel accepts the wait
 module _ (x : word.Mutex) (k : ℕ) (small : NamesBelow thread_limit x) (here : k < thread_limit) (there : x ≢ unowned) where
   marked_is : is_claimed (mutex_word (claimed x k)) ≡ true
@@ -190,9 +183,6 @@ word_given (Some next) more = offer_word next more
 abbrev pub got_given : Option ℕ → ℕ → Bool
 got_given None t = false
 got_given (Some next) t = next == t
-
-offered_word : (next : ℕ) (more : Bool) → mutex_word (offered next more) ≡ offer_word next more
-offered_word next more = refl
 
 pub release_tied : (m : Mutex) → ((next : ℕ) → (released m).next ≡ Some next → next < thread_limit) → IsTied (released m).after (got_given (released m).next) (word_given (released m).next (released m).more)
 release_tied m low = by m.waiters low

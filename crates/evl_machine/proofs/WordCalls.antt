@@ -188,8 +188,3 @@ one_deeper d some = grind (arith, nat_tests)
 
 pub one_less : (d : ℕ) → 0 < d → d ≢ 1 → nat_lt 0 (less d) ≡ nat_lt 0 d
 one_less d some more = let two : 1 < d = omega (arith, some, more) in grind (arith, nat_tests)
-
--- a mutex that is had once and isn't handed on at once has no ceiling
-pub plain_once : (ceiling : Bool) (d : ℕ) → (ceiling && (d == 1)) ≡ false → d ≡ 1 → ceiling ≡ false
-plain_once false d stays once = refl
-plain_once true d stays once = absurd (true≢false (sym (eq-eqb d 1 once) ∙ stays))

@@ -5,17 +5,6 @@ use Rattle.evl_pipeline.specs.ByLine.{filled_up}
 use Rattle.evl_pipeline.specs.Limits.{line_count}
 
 module _ {T : Type 0} (blank : T) where
-  at-blank : (n i : ℕ) → slice_index_or (replicate n blank) i blank ≡ blank
-  at-blank zero i = refl
-  at-blank (suc n) zero = refl
-  at-blank (suc n) (suc i) = at-blank n i
-
-  -- what is read behind the last one that was written is blank
-  pub item-is : (written : List T) (n i : ℕ) → slice_index_or (written ++ replicate n blank) i blank ≡ slice_index_or written i blank
-  item-is [] n i = at-blank n i
-  item-is (x ∷ xs) n zero = refl
-  item-is (x ∷ xs) n (suc i) = item-is xs n i
-
   one-more : (n k : ℕ) → n ≡ suc k → replicate n blank ≡ blank ∷ replicate k blank
   one-more n k e = ap (λ (m : ℕ). replicate m blank) e
 

@@ -39,9 +39,6 @@ pub is_none : {A : Type 0} (o : Option A) → is_some o ≡ false → o ≡ None
 is_none None e = refl
 is_none (Some x) e = cc
 
-pub is_there : {A : Type 0} (o : Option A) (x : A) → o ≡ Some x → is_some o ≡ true
-is_there o x e = ap is_some e
-
 -- what is found stands within the list
 pub within : {A : Type 0} (xs : List (Option A)) (i : ℕ) (x : A) → slice_index_or xs i None ≡ Some x → i < length xs
 within [] i x e = cc
@@ -108,9 +105,6 @@ module _ {C : Type 0} (ports : List (Option Port)) (callbacks : Slab (Held C)) (
   -- a callback is seen exactly where a port stands
   pub seen : (line : ℕ) → is_some (slice_index_or (map (installed_by callbacks) ports) line None) ≡ is_some (port_at ports line)
   seen line = ap is_some (at-map (installed_by callbacks) ports line None) ∙ same_slot line (port_at ports line) refl
-
-  pub seen-none : (line : ℕ) → port_at ports line ≡ None → slice_index_or (map (installed_by callbacks) ports) line None ≡ None
-  seen-none line e = at-map (installed_by callbacks) ports line None ∙ ap (installed_by callbacks) e
 
   pub free-none : (line : ℕ) → slice_index_or (map (installed_by callbacks) ports) line None ≡ None → port_at ports line ≡ None
   free-none line e = is_none (port_at ports line) (sym (seen line) ∙ ap is_some e)

@@ -18,19 +18,3 @@ Read = Result (List Handler) BankFault
 abbrev pub after_callbacks : List Handler → Read → Read
 after_callbacks done (Ok rest) = Ok (done ++ rest)
 after_callbacks done (Err e) = Err e
-
-after_one : (n : ℕ) (done : List Handler) (handler : Handler) (rest : Read) → after_callbacks (done ++ handler ∷ []) rest ≡ after_callbacks done (with_callback n (Ok handler) rest)
-after_one n done handler (Ok handlers) = ap (λ (r : List Handler). Ok r) (append_assoc done (handler ∷ []) handlers)
-after_one n done handler (Err e) = refl
-
--- one callback more was read
-pub one_callback : (values : List Value) (i : ℕ) (value : Value) (done more : List Planned) (planned : Planned) (all : Read)
-    → i < length values → value ≡ get_or values i value → callback_at i (view value) ≡ Ok (told planned) → more ≡ done ++ planned ∷ []
-    → after_callbacks (map told done) (callbacks_from i (items_view (drop i values))) ≡ all
-    → after_callbacks (map told more) (callbacks_from (i + 1) (items_view (drop (i + 1) values))) ≡ all
-one_callback values i value done more planned all h at is pushed kept =
-    let rest = callbacks_from (i + 1) (items_view (drop (i + 1) values)) in
-    ap (λ (p : List Planned). after_callbacks (map told p) rest) pushed ∙ ap (λ (p : List Handler). after_callbacks p rest) (map-append told done (planned ∷ []))
-    ∙ after_one i (map told done) (told planned) rest
-    ∙ ap (λ (r : Result Handler Part). after_callbacks (map told done) (with_callback i r rest)) (sym is ∙ ap (λ (v : Value). callback_at i (view v)) at)
-    ∙ ap (λ items. after_callbacks (map told done) (callbacks_from i items)) (sym (items_view-drop values i value h)) ∙ kept

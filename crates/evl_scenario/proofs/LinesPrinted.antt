@@ -108,9 +108,6 @@ ArePairs (p ∷ ps) = IsPair p × ArePairs ps
 pub pair_line : (started : Bool) (p : Pair) → IsPair p → IsLineText false started ([], p.0) (key_value p.1) (p.0 ++ (codes " = " ++ (value_text p.1 ++ codes "\n")))
 pair_line started p h = (value_text p.1, rw (key-bare p.0 h.0) refl, value_printed 2 p.1 h.1)
 
-pair_whole : (k v rest : List ℕ) → k ++ (codes " = " ++ (v ++ (codes "\n" ++ rest))) ≡ (k ++ (codes " = " ++ (v ++ codes "\n"))) ++ rest
-pair_whole k v rest = simp append_assoc refl
-
 -- the lines of keys, before other lines
 pub pairs_lines : (started : Bool) (ps : List Pair) (es : List Expression) (text : List ℕ) → ArePairs ps → IsLinesText false true es text
     → IsLinesText false true (map pair_expression ps ++ es) (pairs_text ps ++ text)

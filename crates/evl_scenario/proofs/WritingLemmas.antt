@@ -15,13 +15,6 @@ use Rattle.evl_scenario.specs.Widths.{BoardHolds, StepFits, StepsFit}
 use Rattle.evl_scenario.specs.Writings.{whole, ring_data, kind_text, list_data, pairs_text, opening_text, table_text, tables_text, step_of_entry, script_of_history, has_keys}
 use Rattle.evl_scenario.proofs.RoundTrip.{scenario_read_back}
 
--- a text whose front part is too long is too long
-pub too_long : (now more all : List ℕ) → nat_le (length now) 1048576 ≡ false → now ++ more ≡ all → 1048576 < length all
-too_long now more all h e =
-    let size = length-append now more in
-    let long = leb-false (length now) 1048576 h in
-    omega (arith, size, long, ap length e)
-
 -- the head of a scenario, in the parts in which it is written
 pub opening_written : (board : Board) (limit : ℕ) (old head sems flags xbufs mutexes groups : List ℕ)
     → head ≡ old ++ (codes "limit = " ++ (decimal limit ++ (codes "\n\n[board]\nthreads = " ++ (decimal board.threads ++ codes "\n"))))

@@ -24,10 +24,6 @@ set-none [] i e = refl
 set-none (x ∷ xs) zero e = ap (λ (y : Option Place). y ∷ xs) (sym e)
 set-none (x ∷ xs) (suc i) e = ap (λ (ys : List (Option Place)). x ∷ ys) (set-none xs i e)
 
-pub alone-count : (places : List (Option Place)) (alone : Option Alone) → length (with_alone places alone) ≡ length places
-alone-count places None = refl
-alone-count places (Some alone) = length-set places alone.thread (Some alone.place)
-
 module _ (places : List (Option Place)) (alone : Alone) (h : IsApart places (Some alone)) where
   abbrev all : List (Option Place)
   all = with_alone places (Some alone)
@@ -97,11 +93,6 @@ first-both places alone h n place at first false before =
 
 -- a thread that isn't alone comes to the others, or goes from them
 module _ (places : List (Option Place)) (t : ℕ) where
-  pub apart-set : (alone : Option Alone) → IsApart places alone → is_alone alone t ≡ false → (place : Option Place) → IsApart (slice_set places t place) alone
-  apart-set None h ne place = tt
-  apart-set (Some alone) h ne place =
-      (subst (λ n. alone.thread < n) (sym (length-set places t place)) h.0, get_or-set_other places t alone.thread place None (λ e. absurd (grind (arith, nat_tests))) ∙ h.1)
-
   pub alone-set : (alone : Option Alone) → is_alone alone t ≡ false → (place : Option Place) → with_alone (slice_set places t place) alone ≡ slice_set (with_alone places alone) t place
   alone-set None ne place = refl
   alone-set (Some alone) ne place = set-apart places t alone.thread place (Some alone.place) (λ e. absurd (grind (arith, nat_tests)))

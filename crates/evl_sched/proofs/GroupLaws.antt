@@ -23,17 +23,6 @@ budget-set groups i old new at same (Some n) = go groups i n at
 
 -- threads that stand anew, one after the other
 module _ (old now : List (Option Place)) (wanted : ℕ → Option ℕ) (n : ℕ) (ranks : (t : ℕ) → rank_in now t ≡ (if t == n then wanted n else rank_in old t)) where
-  pub more_stand : ((t : ℕ) → t < n → rank_in old t ≡ wanted t) → (t : ℕ) → t < n + 1 → rank_in now t ≡ wanted t
-  more_stand before t l = ranks t ∙ by (t == n) refl
-    where
-      by : (b : Bool) → (t == n) ≡ b → (if b then wanted n else rank_in old t) ≡ wanted t
-      by true at = ap wanted (sym (eqb-true t n at))
-      by false ne = let other = eqb-false t n ne in before t (omega (arith, l, other))
-
-  pub rest_stand : (first : List (Option Place)) → ((t : ℕ) → n ≤ t → rank_in old t ≡ rank_in first t) → (t : ℕ) → n + 1 ≤ t → rank_in now t ≡ rank_in first t
-  rest_stand first rest t l =
-      ranks t ∙ (ap (λ (b : Bool). if b then wanted n else rank_in old t) (ne_eqb t n (λ same. absurd (omega (arith, l, same)))) ∙ rest t (omega (arith, l)))
-
 -- one that stands as it is wanted
 pub stands_still : (places : List (Option Place)) (wanted : ℕ → Option ℕ) (n : ℕ) → rank_in places n ≡ wanted n → (t : ℕ) → rank_in places t ≡ (if t == n then wanted n else rank_in places t)
 stands_still places wanted n e t = by (t == n) refl

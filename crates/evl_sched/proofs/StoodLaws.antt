@@ -24,14 +24,6 @@ use Rattle.evl_sched.proofs.QueueLaws.{all_from, is_in}
 use Rattle.evl_sched.proofs.QueueChanges.{without_stranger}
 use Rattle.evl_sched.proofs.QueuedLaws.{in-others, nothing_in, out-of}
 
-last-in : (ts : List ℕ) (n : ℕ) → is_in (ts ++ n ∷ []) n ≡ true
-last-in [] n = ap (λ c. c || false) (eqb-same n)
-last-in (u ∷ us) n = ap (λ c. (u == n) || c) (last-in us n) ∙ or_true (u == n)
-  where
-    or_true : (b : Bool) → (b || true) ≡ true
-    or_true true = refl
-    or_true false = refl
-
 last-other : (ts : List ℕ) (n t : ℕ) → (t == n) ≡ false → is_in (ts ++ n ∷ []) t ≡ is_in ts t
 last-other [] n t ne = ap (λ c. c || false) (eqb-swap n t ∙ ne)
 last-other (u ∷ us) n t ne = ap (λ c. (u == t) || c) (last-other us n t ne)
@@ -39,9 +31,6 @@ last-other (u ∷ us) n t ne = ap (λ c. (u == t) || c) (last-other us n t ne)
 -- the ready list after each change, for the thread itself and for all others
 pub out-itself : (ts : List ℕ) (n : ℕ) → is_in (without ts n) n ≡ false
 out-itself ts n = out-of n ts
-
-pub last-itself : (ts : List ℕ) (n : ℕ) → is_in (without ts n ++ n ∷ []) n ≡ true
-last-itself ts n = last-in (without ts n) n
 
 out-other : (ts : List ℕ) (n t : ℕ) → (t == n) ≡ false → is_in (without ts n) t ≡ is_in ts t
 out-other ts n t ne = in-others n t ne ts

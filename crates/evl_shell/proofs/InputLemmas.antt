@@ -23,21 +23,9 @@ input-full (Some a) None text full h = absurd h
 input-full (Some a) (Some b) text full h =
     sym (ap (take 1048577) h ∙ ap (λ (n : ℕ). take n (text ++ b)) (sym full) ∙ take-append_seam text b)
 
--- what was read stays read where a read fails
-pub consumes-kept : (known left rest : Option (List ℕ)) (text : List ℕ) → Consumes known left text → Keeps left rest → Consumes known rest text
-consumes-kept None left rest text h k = tt
-consumes-kept (Some a) None rest text h k = absurd h
-consumes-kept (Some a) (Some b) None text h k = absurd k
-consumes-kept (Some a) (Some b) (Some c) text h k = h ∙ ap (λ (s : List ℕ). text ++ s) (sym k)
-
 -- and grows by a part more
 pub consumes-more : (known left rest : Option (List ℕ)) (text part : List ℕ) → Consumes known left text → Consumes left rest part → Consumes known rest (text ++ part)
 consumes-more None left rest text part h k = tt
 consumes-more (Some a) None rest text part h k = absurd h
 consumes-more (Some a) (Some b) None text part h k = absurd k
 consumes-more (Some a) (Some b) (Some c) text part h k = h ∙ (ap (λ (s : List ℕ). text ++ s) k ∙ sym (append_assoc text part c))
-
--- nothing was read
-pub reads-nothing : (known : Option (List ℕ)) → ReadsFew known known
-reads-nothing None = ([], omega arith, tt)
-reads-nothing (Some bytes) = ([], omega arith, refl)

@@ -10,16 +10,6 @@ use Rattle.evl_shell.specs.Faults.{Stopped, is_write_fault}
 use Rattle.evl_shell.specs.Sinks.{TakesPrefix, Passes, HandsOn}
 use Rattle.evl_shell.proofs.SinkLemmas.{Appends-append, Appends-nil}
 
--- the bytes wait behind what waited
-pub Passes-wait : (told : Option (List ℕ)) (waited waiting bytes : List ℕ) → waiting ≡ waited ++ bytes → Passes told waited told waiting bytes
-Passes-wait told waited waiting bytes e = record { front = []; whole = e; tells = Appends-nil told }
-
--- all that waits is told
-pub Passes-flush : (old new : Option (List ℕ)) (waited waiting all bytes : List ℕ) → all ≡ waited ++ bytes → waiting ≡ [] → Appends old new all
-    → Passes old waited new waiting bytes
-Passes-flush old new waited waiting all bytes e none h =
-    record { front = all; whole = ap (λ (s : List ℕ). all ++ s) none ∙ append-nil all ∙ e; tells = h }
-
 -- no bytes
 pub Passes-nil : (told : Option (List ℕ)) (waited : List ℕ) → Passes told waited told waited []
 Passes-nil told waited = record { front = []; whole = sym (append-nil waited); tells = Appends-nil told }
@@ -54,19 +44,6 @@ pub Passes-both : (old mid new : Option (List ℕ)) (waited between waiting head
 Passes-both old mid new waited between waiting head rest all e h k =
     let P : List ℕ → Type 0 = λ s. Passes old waited new waiting s in
     subst P e (Passes-append old mid new waited between waiting head rest h k)
-
--- for want of memory all that waited was told
-pub hands-all : (old new : Option (List ℕ)) (waited : List ℕ) (failed : Bool) → Appends old new waited → failed ≡ false → Stopped old waited new [] failed Memory
-hands-all old new waited failed h working =
-    let P : List ℕ → Type 0 = λ s. Appends old new s in
-    (record { lines = []; back = []; whole = refl; ends = inl refl; tells = subst P (sym (append-nil waited)) h }, working)
-
--- the sink failed while what waited was told
-pub hands-part : (old new : Option (List ℕ)) (waited all bytes : List ℕ) (failed : Bool) → all ≡ waited ++ bytes → TakesPrefix old new all → failed ≡ true
-    → Stopped old waited new bytes failed Write
-hands-part old new waited all bytes failed e took broken =
-    let P : List ℕ → Type 0 = λ s. TakesPrefix old new s in
-    (subst P e took, broken)
 
 -- what stopped some bytes stopped more
 pub Stopped-more : (old new : Option (List ℕ)) (waited xs ys : List ℕ) (failed : Bool) (fault : Fault) → Stopped old waited new xs failed fault
@@ -164,23 +141,6 @@ pub Stopped-none : (old new : Option (List ℕ)) (waited bytes : List ℕ) (fail
     → Stopped old [] new bytes failed fault
 Stopped-none old new waited bytes failed fault none h = let P : List ℕ → Type 0 = λ s. Stopped old s new bytes failed fault in subst P none h
 
--- what stopped isn't the text's fault
-pub stopped-later : (old new : Option (List ℕ)) (waited bytes : List ℕ) (failed : Bool) (fault : Fault) → Stopped old waited new bytes failed fault → IsRefusal fault → ⊥
-stopped-later old new waited bytes failed Text h refusal = h
-stopped-later old new waited bytes failed Board h refusal = h
-stopped-later old new waited bytes failed (Step n) h refusal = h
-stopped-later old new waited bytes failed Memory h refusal = refusal
-stopped-later old new waited bytes failed Write h refusal = refusal
-
--- the sink has failed at a write fault alone
-pub stopped-fails : (old new : Option (List ℕ)) (waited bytes : List ℕ) (failed : Bool) (fault : Fault) → Stopped old waited new bytes failed fault
-    → failed ≡ is_write_fault (Err fault)
-stopped-fails old new waited bytes failed Text h = absurd h
-stopped-fails old new waited bytes failed Board h = absurd h
-stopped-fails old new waited bytes failed (Step n) h = absurd h
-stopped-fails old new waited bytes failed Memory h = h.1
-stopped-fails old new waited bytes failed Write h = h.1
-
 -- nor at a fault of the text
 pub refused-fails : (fault : Fault) → IsRefusal fault → is_write_fault (Err fault) ≡ false
 refused-fails Text refusal = refl
@@ -188,11 +148,3 @@ refused-fails Board refusal = refl
 refused-fails (Step n) refusal = refl
 refused-fails Memory refusal = absurd refusal
 refused-fails Write refusal = absurd refusal
-
-pub stopped-memory : (old new : Option (List ℕ)) (waited bytes : List ℕ) (failed : Bool) (fault : Fault) → Stopped old waited new bytes failed fault → fault ≡ Memory
-    → HandsOn old waited new bytes
-stopped-memory old new waited bytes failed fault h is = let P : Fault → Type 0 = λ f. Stopped old waited new bytes failed f in (subst P is h).0
-
-pub stopped-write : (old new : Option (List ℕ)) (waited bytes : List ℕ) (failed : Bool) (fault : Fault) → Stopped old waited new bytes failed fault → fault ≡ Write
-    → TakesPrefix old new (waited ++ bytes)
-stopped-write old new waited bytes failed fault h is = let P : Fault → Type 0 = λ f. Stopped old waited new bytes failed f in (subst P is h).0

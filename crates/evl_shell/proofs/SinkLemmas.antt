@@ -39,10 +39,6 @@ TakesPrefix-stopped old between new front back all n e h k = record {
 pub TakesPrefix-nil : (told : Option (List ℕ)) (bytes : List ℕ) → TakesPrefix told told bytes
 TakesPrefix-nil told bytes = record { front = []; back = bytes; whole = refl; tells = Appends-nil told }
 
--- all is a front part
-pub TakesPrefix-whole : (old new : Option (List ℕ)) (bytes : List ℕ) → Appends old new bytes → TakesPrefix old new bytes
-TakesPrefix-whole old new bytes h = record { front = bytes; back = []; whole = append-nil bytes; tells = h }
-
 -- a front part of the first of two texts
 pub TakesPrefix-more : (old new : Option (List ℕ)) (shown xs ys : List ℕ) → shown ≡ xs → TakesPrefix old new shown → TakesPrefix old new (xs ++ ys)
 TakesPrefix-more old new shown xs ys is took = record {
@@ -90,8 +86,3 @@ pub Takes-next : (old mid new : Option (List ℕ)) (shown xs ys : List ℕ) (fai
 Takes-next old mid new shown xs ys false is h took =
     let P : List ℕ → Type 0 = λ s. Appends old new (s ++ ys) in subst P is (Appends-append old mid new shown ys h took)
 Takes-next old mid new shown xs ys true is h took = TakesPrefix-next old mid new shown xs ys is h took
-
--- whatever became of the sink, it took a front part
-pub Takes-prefix : (old new : Option (List ℕ)) (bytes : List ℕ) (failed : Bool) → Takes old new bytes failed → TakesPrefix old new bytes
-Takes-prefix old new bytes false h = TakesPrefix-whole old new bytes h
-Takes-prefix old new bytes true h = h

@@ -8,12 +8,6 @@ use Rattle.clap.specs.declared.builder.value_parser.ValueParser.TheVariants.{Uns
 use Rattle.clap.proofs.ValueTestLemmas.{accepts-Accepts, Accepts-accepts}
 use Rattle.evl_shell.specs.Words.{grammar, number_of}
 
-pub grammar-simple : is_simple grammar ≡ true
-grammar-simple = refl
-
-pub grammar-free : is_simple_and_free grammar ≡ true
-grammar-free = refl
-
 chosen : (b : Bool) (n : ℕ) → b ≡ true → (if b then Some n else None) ≡ Some n
 chosen true n h = refl
 chosen false n h = cc

@@ -40,9 +40,3 @@ module _ (served : List Served) (ws : List FlagWaiter) (place left : ℕ) (w : F
       ∙ (λ i. walk_after (map-append (λ (s : Served). (s.thread.0, s.bits)) served (record { thread = record { 0 = w.thread }; bits = got } ∷ []) i) (take-removed place ws i) (walk_of (drop-removed place ws i) (bit_xor left got)))
       ∙ (λ i. record { served = append_assoc (pairs served) ((w.thread, got) ∷ []) (rest (Some got)).served i; waiting = take place ws ++ (rest (Some got)).waiting; left = (rest (Some got)).left })
       ∙ sym (here (Some got) e)
-
-  pub walk-passed : None ≡ taken w.kind left → take (suc place) ws ≡ take place ws ++ w ∷ [] → walking served ws (suc place) left ≡ walking served ws place left
-  walk-passed e t =
-      (λ i. record { served = pairs served ++ (rest None).served; waiting = t i ++ (rest None).waiting; left = (rest None).left })
-      ∙ (λ i. record { served = pairs served ++ (rest None).served; waiting = append_assoc (take place ws) (w ∷ []) (rest None).waiting i; left = (rest None).left })
-      ∙ sym (here None e)

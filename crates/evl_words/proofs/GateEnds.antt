@@ -85,10 +85,6 @@ gate_closes gate seats s d there once =
       count_held vs,
     )
 
--- A gate whose table ended so
-pub ends_alone : (gate : GateState) (word : ℕ) → Ends (GateRule gate.limit gate.seats) word → Closes gate [] word
-ends_alone gate word e = subst (λ n. Closes gate [] n) (sym e.shown) (gate_closes gate [] e.state e.kept tt (λ k. omega arith))
-
 pub ends_with : (gate : GateState) (seats : List SeatState) (word : ℕ) → EndsWith (GateRule gate.limit gate.seats) (hand_back place_of seats) word → Closes gate seats word
 ends_with gate seats word e =
     let s = e.ends.state in

@@ -14,11 +14,6 @@ module _ {S E : Type 0} (step : S → E → S → Type 0) where
   run_split s u [] ys r = (s, refl, r)
   run_split s u (x ∷ xs) ys r = let q = run_split r.0 u xs ys r.2 in (q.0, (r.0, r.1, q.1), q.2)
 
-  pub legal_prefix : (opening : S) (xs ys : List E) → IsLegal step opening ys → IsPrefix xs ys → IsLegal step opening xs
-  legal_prefix opening xs ys legal pre =
-      let q = run_split opening legal.0 xs pre.0 (subst (λ z. Run step opening z legal.0) (sym pre.1) legal.1) in
-      (q.0, q.1)
-
   -- what each step keeps, each run keeps
   pub run_keeps : (P : S → Type 0) → ((s : S) (e : E) (t : S) → P s → step s e t → P t) → (s t : S) (es : List E) → P s → Run step s es t → P t
   run_keeps P keep s t [] h r = subst P r h

@@ -52,10 +52,6 @@ module _ {A : Type 0} where
   all_at P [] x ys h = All-head P x ys h
   all_at P (y ∷ xs) x ys h = all_at P xs x ys (All-tail P y (xs ++ x ∷ ys) h)
 
-  pub all_push : (P : A → Type 0) (xs : List A) (x : A) → All P xs → P x → All P (xs ++ x ∷ [])
-  all_push P [] x all here = All-cons P x [] here (All-nil P)
-  all_push P (y ∷ xs) x all here = All-cons P y (xs ++ x ∷ []) (All-head P y xs all) (all_push P xs x (All-tail P y xs all) here)
-
   -- what follows for each of the list without its last one
   pub all_front : (P Q : A → Type 0) → ((x : A) → P x → Q x) → (xs : List A) (x : A) → All P (xs ++ x ∷ []) → All Q xs
   all_front P Q f [] x all = All-nil Q

@@ -19,10 +19,6 @@ at_rest s e (suc n) = rw e refl
 pub goes_on : (s mid : Stream) (one : Service) (n : ℕ) → next_service s ≡ Some (one, mid) → served_from (suc n) s ≡ preceded_by one (served_from n mid)
 goes_on s mid one n e = rw e refl
 
-no_service : (o : Option (Service × Stream)) → is_some o ≡ false → o ≡ None
-no_service None e = refl
-no_service (Some x) e = cc
-
 few_waiting : (s : Stream) → IsKeptStream s → HasOneQueue s → waiting s ≤ thread_limit
 few_waiting s h (inl e) = let l = few_kept (λ r. r.thread) (λ v. 0) s.readers h.readers in omega (arith, ap length e, l)
 few_waiting s h (inr e) = let l = few_kept (λ w. w.thread) (λ v. 0) s.writers h.writers in omega (arith, ap length e, l)

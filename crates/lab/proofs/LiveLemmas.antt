@@ -89,9 +89,6 @@ each_one line old new answer h = (new, answer, [], h, (refl, refl), sym (append-
 
 -- ---- bytes
 
-lacks_more : (c : ℕ) (text : List ℕ) (byte : ℕ) → Lacks c text → byte ≢ c → Lacks c (text ++ byte ∷ [])
-lacks_more c text byte h n = list_all-append (λ x. not (x == c)) text (byte ∷ []) ∙ rw (h, ne_eqb byte c n) refl
-
 -- a line feed behind the line that waits, which is answered
 pub heard_line : (line : List ℕ) (byte : ℕ) (old new : Driven) (answer : List ℕ) → Lacks 10 line → byte ≡ 10 → AnswersLine line old new answer → Hears (byte ∷ []) line [] old new answer
 heard_line line byte old new answer lacks is h = record {
@@ -100,13 +97,6 @@ heard_line line byte old new answer lacks is h = record {
   alone = All-cons (Lacks 10) line [] lacks (All-nil (Lacks 10));
   answered = each_one line old new answer h;
 }
-
--- any other byte
-pub heard_byte : (line : List ℕ) (byte : ℕ) (s : Driven) → Hears (byte ∷ []) line (line ++ byte ∷ []) s s []
-heard_byte line byte s = record { lines = []; whole = refl; alone = All-nil (Lacks 10); answered = (refl, refl) }
-
-pub still_lacks : (line : List ℕ) (byte : ℕ) → Lacks 10 line → byte ≢ 10 → Lacks 10 (line ++ byte ∷ [])
-still_lacks line byte h n = lacks_more 10 line byte h n
 
 -- no bytes, and bytes behind others
 pub heard_none : (line : List ℕ) (s : Driven) → Hears [] line line s s []
@@ -136,16 +126,6 @@ all_answered bytes waiting old mid new x y h lacks line = record {
   alone = All-append (Lacks 10) h.lines (waiting ∷ []) h.alone (All-cons (Lacks 10) waiting [] lacks (All-nil (Lacks 10)));
   answered = each_append h.lines (waiting ∷ []) old mid new x y h.answered (each_one waiting mid new y line);
 }
-
--- what was read when a read gives no bytes is all
-pub all_read : (known mid end : Option (List ℕ)) (bytes part : List ℕ) (count : ℕ) → Consumes known mid bytes
-    → Consumes mid end (take count part) × (count ≡ 0 → 0 < length part → IsAtEnd end) → count ≡ 0 → 0 < length part → IsAllOf known bytes
-all_read None mid end bytes part count had reads none room = tt
-all_read (Some all) None end bytes part count had reads none room = absurd had
-all_read (Some all) (Some rest) None bytes part count had reads none room = absurd reads.0
-all_read (Some all) (Some rest) (Some left) bytes part count had reads none room =
-    let nothing : rest ≡ [] = reads.0 ∙ rw (none, reads.1 none room) refl in
-    sym (had ∙ rw (nothing, append-nil bytes) refl)
 
 -- the last line behind the others
 pub input_answered : (known : Option (List ℕ)) (bytes waiting line : List ℕ) (old mid new : Driven) (x : List ℕ) (start between end : Option (List ℕ)) → line ≡ waiting

@@ -280,10 +280,6 @@ lanes_touched : (l : Lane) (marks : List Mark) → list_any (is_lane l) (lanes_i
 lanes_touched l [] = refl
 lanes_touched l (mark ∷ rest) = touched_lanes l mark (lanes_in rest) ∙ ap (λ (b : Bool). touches l mark || b) (lanes_touched l rest)
 
--- what they are: those that the marks touch, each once, from the top
-pub are_lanes_in : (marks : List Mark) → AreLanesOf marks (lanes_in marks)
-are_lanes_in marks = record { sorted = lanes_sorted marks; touched = λ lane. lanes_touched lane marks }
-
 -- and no other list is
 pub lanes_are : (marks : List Mark) (lanes : List Lane) → AreLanesOf marks lanes → lanes ≡ lanes_in marks
 lanes_are marks lanes h = same_lanes lanes (lanes_in marks) h.sorted (lanes_sorted marks) (λ l. h.touched l ∙ sym (lanes_touched l marks))

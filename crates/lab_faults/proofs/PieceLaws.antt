@@ -40,15 +40,6 @@ word_on (Some from) at byte rest e =
     let one : 1 + prefix_len is_plain rest ≡ suc (prefix_len is_plain rest) = omega arith in
     further from at byte (prefix_len is_plain rest) _ rest (yes (is_plain byte) (1 + prefix_len is_plain rest) 0 e ∙ one)
 
--- a byte of none: the word is over
-pub word_over : (begun : Option ℕ) (at byte : ℕ) (rest : List ℕ) → is_plain byte ≡ false
-    → begun_word begun at (byte ∷ rest) ≡ ended begun at ++ pieces_from at 0 (byte ∷ rest)
-word_over None at byte rest e = refl
-word_over (Some from) at byte rest e =
-    let same : at + 0 ≡ at = omega arith in
-    ap (λ (n : ℕ). word from (at + n) ∷ pieces_from at n (byte ∷ rest)) (no (is_plain byte) (1 + prefix_len is_plain rest) 0 e)
-    ∙ ap (λ (to : ℕ). word from to ∷ pieces_from at 0 (byte ∷ rest)) same
-
 -- where a text ends
 pub word_ends : (begun : Option ℕ) (to : ℕ) → begun_word begun to [] ≡ ended begun to
 unfolding pieces_from
@@ -99,9 +90,6 @@ pub comment_on : (at byte : ℕ) (rest : List ℕ) → is_in_line byte ≡ true 
 comment_on at byte rest e =
     let one : 1 + prefix_len is_in_line rest ≡ suc (prefix_len is_in_line rest) = omega arith in
     ap (λ (n : ℕ). pieces_from at n (byte ∷ rest)) (yes (is_in_line byte) (1 + prefix_len is_in_line rest) 0 e ∙ one) ∙ one_passed at byte (prefix_len is_in_line rest) rest
-
-pub comment_over : (at byte : ℕ) (rest : List ℕ) → is_in_line byte ≡ false → to_come Comment at (byte ∷ rest) ≡ pieces_from at 0 (byte ∷ rest)
-comment_over at byte rest e = ap (λ (n : ℕ). pieces_from at n (byte ∷ rest)) (no (is_in_line byte) (1 + prefix_len is_in_line rest) 0 e)
 
 -- ---- behind those that were noted
 

@@ -43,27 +43,6 @@ module _ {M S : Type 0} (m : Machine S) (state : M → S) (fits : M → Type 0) 
   abbrev IsFit : Node M → Type 0
   IsFit n = fits n.at × (0 < n.count)
 
-  -- no callers yet
-  pub adds_none : (node : Node M) (nodes : List (Node M)) → AreFit fits nodes → AddsSteps m state fits node [] nodes nodes
-  adds_none node nodes fit = record {
-    fit = fit;
-    sums = λ f. omega arith;
-    led_there = λ s one all. all;
-    longer = λ long. long;
-  }
-
-  -- a caller that can make no step
-  pub adds_blocked : (node : Node M) (c : ℕ) (nodes : List (Node M)) → m.go (state node.at) c ≡ None → AreFit fits nodes → AddsSteps m state fits node (c ∷ []) nodes nodes
-  adds_blocked node c nodes none fit = record {
-    fit = fit;
-    sums = λ f.
-        let nothing : ahead_by m f (state node.at) (c ∷ []) ≡ 0 = zero-add (option_map_or f (m.go (state node.at) c) 0) ∙ ap (λ o. option_map_or f o 0) none in
-        let same : weight state f nodes ≡ weight state f nodes + node.count * 0 = omega arith in
-        same ∙ ap (λ n. weight state f nodes + node.count * n) (sym nothing);
-    led_there = λ s one all. all;
-    longer = λ long. long;
-  }
-
   -- what one step adds
   one_ahead : (node : Node M) (c : ℕ) (t : S) (f : S → ℕ) → m.go (state node.at) c ≡ Some t → ahead_by m f (state node.at) (c ∷ []) ≡ f t
   one_ahead node c t f goes = zero-add (option_map_or f (m.go (state node.at) c) 0) ∙ ap (λ o. option_map_or f o 0) goes
@@ -327,11 +306,6 @@ module _ {M S : Type 0} (m : Machine S) (state : M → S) (fits : M → Type 0) 
       subst (λ (ns : List (Node M)). IsFront m state fits (state start) 0 ns ends) (sym alone)
       (subst (λ (ns : List (Node M)). IsFront m state fits (state start) 0 (node ∷ []) ns) (sym empty)
       (subst (λ x. IsFront m state fits (state x) 0 (node ∷ []) []) same (front_first node (subst fits (sym same) fit) one none)))
-
-  pub front_next : (s : S) (steps more : ℕ) (level next old new : List (Node M)) → more ≡ steps + 1 → LeadsOn m state fits level next old new
-      → IsFront m state fits s steps level old → IsFront m state fits s more next new
-  front_next s steps more level next old new e leads front =
-      subst (λ k. IsFront m state fits s k next new) (sym e) (front_more s steps level next old new front leads)
 
   -- what is told of how far it was gone
   module _ (s : S) (steps told : ℕ) (level ends found : List (Node M)) (front : IsFront m state fits s steps level ends) (same : found ≡ ends) (count : told ≡ steps) where

@@ -84,8 +84,3 @@ entry_begun file begun parts rest old one new e f =
     ap (λ (x : List ℕ). x ++ left) f ∙ append_assoc one (head_json file (Some parts)) left
     ∙ ap (λ (x : List ℕ). x ++ (head_json file (Some parts) ++ left)) e ∙ append_assoc old (end_json begun) (head_json file (Some parts) ++ left)
     ∙ ap (λ (x : List ℕ). old ++ x) (begun_from file begun parts rest)
-
--- behind the last line of the trace nothing is left but the end
-pub last_told : (file : List ℕ) (begun : Option Bool) → left_json file begun [] ≡ end_json begun
-last_told file None = refl
-last_told file (Some is_first) = refl

@@ -63,18 +63,6 @@ module _ {M : Type 0} where
     pub later : All (λ node. most ≤ length node.order.items) rest
     pub rise : AllPairs IsLater rest
 
-  none_earlier : (rest : List (Node M)) → All (λ node. 0 ≤ length node.order.items) rest
-  none_earlier [] = All-nil (λ (node : Node M). 0 ≤ length node.order.items)
-  none_earlier (node ∷ rest) = All-cons (λ (n : Node M). 0 ≤ length n.order.items) node rest (omega arith) (none_earlier rest)
-
-  pub behind_none : (all : List Tally) (rest ends : List (Node M)) → all ≡ [] → rest ≡ ends → AllPairs IsLater ends → AreBehind all rest
-  behind_none all rest ends none same rise = record {
-    most = 0;
-    risen = subst (AreRisen 0) (sym none) (record { rise = λ i j d less within. absurd (omega (arith, within)); below = All-nil (IsUnder 0) });
-    later = none_earlier rest;
-    rise = subst (AllPairs IsLater) (sym same) rise;
-  }
-
   module _ (all : List Tally) (rest others : List (Node M)) (end : Node M) (split : rest ≡ end ∷ others) (behind : AreBehind all rest) where
     first_later : behind.most ≤ length end.order.items
     first_later = All-head (λ (node : Node M). behind.most ≤ length node.order.items) end others (subst (All (λ node. behind.most ≤ length node.order.items)) split behind.later)

@@ -190,19 +190,9 @@ call_bytes call fits = whole_said (parts_of call) fits
 said_point : (c : ℕ) → is_said c ≡ true → not (c == 62) ≡ true
 said_point c h = (and_parts (nat_le 32 c) (not (c == 62)) h).1
 
-said_feed : (c : ℕ) → is_said c ≡ true → not (c == 10) ≡ true
-said_feed c h = grind (arith, nat_tests)
-
 lacks_point : (text : List ℕ) → list_all is_said text ≡ true → Lacks 62 text
 lacks_point [] h = refl
 lacks_point (c ∷ rest) h = let (here, more) = and_parts (is_said c) (list_all is_said rest) h in rw (said_point c here, lacks_point rest more) refl
 
-lacks_feed : (text : List ℕ) → list_all is_said text ≡ true → Lacks 10 text
-lacks_feed [] h = refl
-lacks_feed (c ∷ rest) h = let (here, more) = and_parts (is_said c) (list_all is_said rest) h in rw (said_feed c here, lacks_feed rest more) refl
-
 pub call-no_arrow : (call : Call) → CallFits call → Lacks 62 (call_text call)
 call-no_arrow call fits = lacks_point (call_text call) (call_bytes call fits).all
-
-pub call-one_line : (call : Call) → CallFits call → Lacks 10 (call_text call)
-call-one_line call fits = lacks_feed (call_text call) (call_bytes call fits).all
