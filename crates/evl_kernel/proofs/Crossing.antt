@@ -17,7 +17,7 @@ use Rattle.evl_sched.proofs.Crossing.{sched_send}
 use Rattle.evl_sync.proofs.Crossing.{flag_group_send, sem_send}
 use Rattle.evl_sync.specs.contracts.sem.Sem as Sem
 use Rattle.evl_sync.specs.contracts.flag_group.FlagGroup as FlagGroup
-use Rattle.evl_sync.specs.contracts.flag_waiter.Served as FlagServed
+use Rattle.evl_sync.specs.contracts.flag_waiter.TakenBits as FlagServed
 use Rattle.evl_xbuf.proofs.Crossing.{served_send, xbuf_send}
 use Rattle.evl_mutex.proofs.Crossing.{owners_send}
 use Rattle.evl_xbuf.specs.contracts.xbuf.XbufOf as XbufOf

@@ -11,8 +11,8 @@ use std::alloc::Global;
 /// the call before told.
 #[derive(Drop)]
 pub(crate) struct ServedLists {
-    pub(crate) of_flags: Box<ArrayVec<evl_sync::Served, MAX_THREADS>>,
-    pub(crate) of_xbufs: Box<evl_xbuf::Served>,
+    pub(crate) of_flags: Box<ArrayVec<evl_sync::TakenBits, MAX_THREADS>>,
+    pub(crate) of_xbufs: Box<evl_xbuf::Services>,
     pub(crate) read: Box<Bytes>,
 }
 
@@ -22,7 +22,7 @@ impl ServedLists {
         ensures refusal { IfErr result (λ e. e ≡ Refusal.NoMemory) }
     {
         let of_flags = Box::new(boxes, ArrayVec::new()).map_err(|_| Refusal::NoMemory)?;
-        let of_xbufs = Box::new(boxes, evl_xbuf::Served::new()).map_err(|_| Refusal::NoMemory)?;
+        let of_xbufs = Box::new(boxes, evl_xbuf::Services::new()).map_err(|_| Refusal::NoMemory)?;
         let read = Box::new(boxes, ArrayVec::new()).map_err(|_| Refusal::NoMemory)?;
         Ok(ServedLists {
             of_flags,

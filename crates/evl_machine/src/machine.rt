@@ -18,7 +18,7 @@ ghost use Rattle.evl_machine.specs.Calls.{ActsOnCore, Answered, Called, HoldsAtI
 
 use crate::actor::Actor;
 use crate::caller::CallerOf;
-use crate::core_lock::{CoreLock, CoreSeat, Give, Take};
+use crate::core_lock::{CoreLock, CoreSeat, GiveStep, TakeStep};
 use crate::elements::Gates;
 use crate::kernel_box::KernelBox;
 use evl_base::{Call, MutexId, MutexKind, Refusal, Reply};
@@ -62,7 +62,7 @@ impl<C: Drop, A: Allocator> MachineOf<C, A> {
         ensures holder { MatchOption result ⊤ (λ k. HasTaken (account_of (seen seat.old.me)).thread k.history seat.new.me.0) }
     {
         let table = &self.core.shared;
-        if table.compare_exchange::<Take>(seat, 0, 0, 1) != 0 {
+        if table.compare_exchange::<TakeStep>(seat, 0, 0, 1) != 0 {
             return None;
         }
         table.exchange(seat, 0, None)
@@ -86,7 +86,7 @@ impl<C: Drop, A: Allocator> MachineOf<C, A> {
             None => {}
             Some(_) => unreachable!(),
         }
-        table.store::<Give>(seat, 0, 0);
+        table.store::<GiveStep>(seat, 0, 0);
     }
 }
 

@@ -24,7 +24,7 @@ mod writing;
 
 pub use faults::Fault;
 pub use lines::{
-    Answer, BoardLine, ElementCounts, EntryNumber, OwnerCounts, PlayLine, StepLine, board_line,
+    StepAnswer, BoardLine, ElementCounts, EntryNumber, OwnerCounts, PlayLine, StepLine, board_line,
 };
 pub use scenarios::{Scenario, read_scenario};
 pub use steps::{Step, step_keys_of};

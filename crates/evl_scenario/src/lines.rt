@@ -111,9 +111,9 @@ impl fmt::Display for EntryNumber {
 
 /// What a call answered: a reply, or the name of a refusal.
 #[derive(Debug, Drop)]
-pub struct Answer(pub Result<Reply, Refusal>);
+pub struct StepAnswer(pub Result<Reply, Refusal>);
 
-impl fmt::Display for Answer {
+impl fmt::Display for StepAnswer {
     ghost use Rattle.evl_base.specs.Reply.{outcome_text};
 
     ghost output = { λ answer. Some (outcome_text answer.0) };
@@ -143,7 +143,7 @@ impl fmt::Display for Step {
 pub struct StepLine<'a> {
     pub number: EntryNumber,
     pub step: &'a str,
-    pub answer: Answer,
+    pub answer: StepAnswer,
 }
 
 impl<'a> fmt::Display for StepLine<'a> {

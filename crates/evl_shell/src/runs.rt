@@ -18,7 +18,7 @@ use crate::texts::{Called, Texts};
 use evl_base::{Board, Play, Refusal, Reply};
 use evl_kernel::KernelOf;
 use evl_pipeline::{Callback, Handler};
-use evl_scenario::{Answer, EntryNumber, Fault, Scenario, Step, read_scenario};
+use evl_scenario::{StepAnswer, EntryNumber, Fault, Scenario, Step, read_scenario};
 use std::alloc::Global;
 
 /// Whether an answer stands for want of memory, so that its call made no entry and changed nothing.
@@ -55,7 +55,7 @@ fn make_call<C: Handler>(kernel: &mut KernelOf<C, Global>, step: Step) -> Result
     let number = number_after(before, kernel.history().len());
     Ok(Called {
         number: EntryNumber(number),
-        answer: Answer(answer),
+        answer: StepAnswer(answer),
     })
 }
 
@@ -219,7 +219,7 @@ fn play_scenario<C: Handler, S: Sink>(
 }
 
 // Writes the trace of a scenario, and what waits at its end.
-fn write_scenario<C: Handler, S: Sink>(
+fn write_trace<C: Handler, S: Sink>(
     alloc: Global,
     scenario: Scenario,
     bank: Vec<C>,
@@ -268,7 +268,7 @@ pub fn run<S: Sink>(
     ensures failed { S.has_failed out.new ≡ is_write_fault result }
 {
     match read_scenario(alloc, text, limit) {
-        Ok(scenario) => write_scenario(alloc, scenario, bank, out),
+        Ok(scenario) => write_trace(alloc, scenario, bank, out),
         Err(fault) => Err(fault),
     }
 }

@@ -3,7 +3,7 @@ ghost use Rattle.std.specs.Prelude.{◌≡◌, OnOk, IfSome, [], string_bytes};
 ghost use Rattle.evl_scenario.specs.Lines.{board_line_of, board_line_text, line_around, play_line_text, step_text};
 
 use evl_base::{Board, Play, Refusal};
-use evl_scenario::{Answer, EntryNumber, PlayLine, Step, StepLine, board_line};
+use evl_scenario::{StepAnswer, EntryNumber, PlayLine, Step, StepLine, board_line};
 use std::alloc::Global;
 use std::fmt::Display;
 
@@ -11,7 +11,7 @@ use std::fmt::Display;
 #[derive(Drop)]
 pub struct Called {
     pub number: EntryNumber,
-    pub answer: Answer,
+    pub answer: StepAnswer,
 }
 
 /// The memory that texts are written in, kept from line to line: that of a step until its call is answered, and that of

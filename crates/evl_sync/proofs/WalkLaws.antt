@@ -3,7 +3,7 @@ use Rattle.std.proofs.Common.{◌≡◌, ◌<◌, ℕ, zero, suc, ◌+◌, bit_x
 use Rattle.std.proofs.lemmas.List.{append_assoc, drop_more, map-append, take_more}
 use Rattle.evl_base.specs.declared.numbers.ThreadId.{ThreadId}
 use Rattle.evl_sync.specs.declared.flag_waiter.FlagWaiter.{FlagWaiter}
-use Rattle.evl_sync.specs.declared.flag_waiter.Served.{Served}
+use Rattle.evl_sync.specs.declared.flag_waiter.TakenBits.{TakenBits}
 use Rattle.evl_sync.specs.FlagGroups.{Walk, left_of, pairs, passed, taken, walk_after, walk_of}
 
 pub by_suc : (n : ℕ) → n + 1 ≡ suc n
@@ -23,20 +23,20 @@ module _ {A : Type 0} where
   drop-removed (suc n) (w ∷ ws) = drop-removed n ws
 
 -- what is said so far of a walk from a place on
-abbrev pub walking : List Served → List FlagWaiter → ℕ → ℕ → Walk
+abbrev pub walking : List TakenBits → List FlagWaiter → ℕ → ℕ → Walk
 walking served ws place left = walk_after (pairs served) (take place ws) (walk_of (drop place ws) left)
 
-module _ (served : List Served) (ws : List FlagWaiter) (place left : ℕ) (w : FlagWaiter) (is : drop place ws ≡ w ∷ drop (suc place) ws) where
+module _ (served : List TakenBits) (ws : List FlagWaiter) (place left : ℕ) (w : FlagWaiter) (is : drop place ws ≡ w ∷ drop (suc place) ws) where
   abbrev rest : Option ℕ → Walk
   rest got = walk_of (drop (suc place) ws) (left_of left got)
 
   here : (got : Option ℕ) → got ≡ taken w.kind left → walking served ws place left ≡ walk_after (pairs served) (take place ws) (passed w got (rest got))
   here got e = ap (λ xs. walk_after (pairs served) (take place ws) (walk_of xs left)) is ∙ ap (λ o. walk_after (pairs served) (take place ws) (passed w o (rest o))) (sym e)
 
-  pub walk-served : (got : ℕ) (one : Served) (after : List FlagWaiter) → Some got ≡ taken w.kind left → one ≡ record { thread = record { 0 = w.thread }; bits = got } → after ≡ remove ws place
+  pub walk-served : (got : ℕ) (one : TakenBits) (after : List FlagWaiter) → Some got ≡ taken w.kind left → one ≡ record { thread = record { 0 = w.thread }; bits = got } → after ≡ remove ws place
       → walking (served ++ one ∷ []) after place (bit_xor left got) ≡ walking served ws place left
   walk-served got one after e o r =
       (λ i. walk_after (pairs (served ++ o i ∷ [])) (take place (r i)) (walk_of (drop place (r i)) (bit_xor left got)))
-      ∙ (λ i. walk_after (map-append (λ (s : Served). (s.thread.0, s.bits)) served (record { thread = record { 0 = w.thread }; bits = got } ∷ []) i) (take-removed place ws i) (walk_of (drop-removed place ws i) (bit_xor left got)))
+      ∙ (λ i. walk_after (map-append (λ (s : TakenBits). (s.thread.0, s.bits)) served (record { thread = record { 0 = w.thread }; bits = got } ∷ []) i) (take-removed place ws i) (walk_of (drop-removed place ws i) (bit_xor left got)))
       ∙ (λ i. record { served = append_assoc (pairs served) ((w.thread, got) ∷ []) (rest (Some got)).served i; waiting = take place ws ++ (rest (Some got)).waiting; left = (rest (Some got)).left })
       ∙ sym (here (Some got) e)

@@ -7,7 +7,7 @@ use Rattle.evl_base.specs.declared.refusal.Refusal.TheVariants.{Invalid, Again}
 use Rattle.evl_base.specs.declared.take.Take.{Take}
 use Rattle.evl_base.specs.declared.take.Take.TheVariants.{Any, Of, Exact}
 use Rattle.evl_sync.specs.declared.flag_waiter.FlagWaiter.{FlagWaiter}
-use Rattle.evl_sync.specs.declared.flag_waiter.Served.{Served}
+use Rattle.evl_sync.specs.declared.flag_waiter.TakenBits.{TakenBits}
 use Rattle.evl_sync.specs.Queues.{enqueued, dropped, IsKept}
 use Rattle.evl_sync.specs.Steps.{unless}
 
@@ -82,7 +82,7 @@ abbrev pub drop_waiter : ℕ → FlagGroup → FlagGroup
 drop_waiter thread f = record f { waiters = dropped (λ w. w.thread) thread f.waiters }
 
 -- whom a post served, by number, with which bits
-abbrev pub pairs : List Served → List (ℕ × ℕ)
+abbrev pub pairs : List TakenBits → List (ℕ × ℕ)
 pairs served = map (λ s. (s.thread.0, s.bits)) served
 
 -- the served and the group after one walk

@@ -7,7 +7,7 @@ ghost use Rattle.evl_sync.specs.FlagGroups.{IsSoundGroup, begin_take, drop_waite
 
 mod likeness;
 
-use crate::flag_waiter::{FlagWaiter, Served};
+use crate::flag_waiter::{FlagWaiter, TakenBits};
 use crate::kinds::{is_empty_mask, taken};
 use crate::ranked::{leave, place_for};
 use arrayvec::ArrayVec;
@@ -67,7 +67,7 @@ impl FlagGroup {
     /// Adds bits, and goes once through the waiters in the order of the queue, each of which takes what it wants from
     /// what those before it left; says whom it served with which bits, in that order. Bits that nobody takes stay.
     /// `Invalid` where there are no bits to add; then nothing changes. (Xenomai 4: EVL event flag group)
-    pub fn post(&mut self, bits: u32) -> Result<ArrayVec<Served, MAX_THREADS>, Refusal>
+    pub fn post(&mut self, bits: u32) -> Result<ArrayVec<TakenBits, MAX_THREADS>, Refusal>
         ensures step { stepped (λ served. pairs served.items) result self.new ≡ unless (post_refusal bits) (Ok (walked (post bits self.old))) }
         ensures refused { IfErr result (λ e. self.new ≡ self.old) }
     {
@@ -83,7 +83,7 @@ impl FlagGroup {
     pub fn post_telling(
         &mut self,
         bits: u32,
-        told: &mut ArrayVec<Served, MAX_THREADS>,
+        told: &mut ArrayVec<TakenBits, MAX_THREADS>,
     ) -> Result<(), Refusal>
         requires nobody { told.old.items ≡ [] }
         ensures step { stepped (λ _. pairs told.new.items) result self.new ≡ unless (post_refusal bits) (Ok (walked (post bits self.old))) }
@@ -166,7 +166,7 @@ impl FlagGroup {
 fn walk(
     waiters: &mut ArrayVec<FlagWaiter, MAX_THREADS>,
     bits: u32,
-    told: &mut ArrayVec<Served, MAX_THREADS>,
+    told: &mut ArrayVec<TakenBits, MAX_THREADS>,
 ) -> u32
     requires few { length waiters.old.items ≤ thread_limit }
     requires nobody { told.old.items ≡ [] }
@@ -182,7 +182,7 @@ fn walk(
             Some(got) => {
                 left = left ^ got;
                 waiters.remove(place);
-                told.push(Served {
+                told.push(TakenBits {
                     thread: ThreadId(waiter.thread),
                     bits: got,
                 });

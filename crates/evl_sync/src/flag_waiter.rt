@@ -47,20 +47,20 @@ impl Ranked for FlagWaiter {
 
 /// A thread that a post served, and which bits it took.
 #[derive(Clone, Copy, Debug, PartialEq, Eq)]
-pub struct Served {
+pub struct TakenBits {
     /// Who waits no more.
     pub thread: ThreadId,
     /// The bits that it took; they are in the group no more.
     pub bits: u32,
 }
 
-impl Default for Served {
+impl Default for TakenBits {
     ghost use Rattle.std.specs.Prelude.{◌≡◌};
 
     ghost is_default = { λ s. s ≡ record { thread = record { 0 = 0 }; bits = 0 } };
 
-    fn default() -> Served {
-        Served {
+    fn default() -> TakenBits {
+        TakenBits {
             thread: ThreadId(0),
             bits: 0,
         }

@@ -15,7 +15,7 @@ mod waiter;
 pub use alike::{Alike, are_alike};
 pub use arrival_queue::ArrivalQueue;
 pub use flag_group::FlagGroup;
-pub use flag_waiter::{FlagWaiter, Served};
+pub use flag_waiter::{FlagWaiter, TakenBits};
 pub use sem::Sem;
 pub use wait_queue::WaitQueue;
 pub use waiter::Waiter;

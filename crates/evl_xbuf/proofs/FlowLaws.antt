@@ -6,7 +6,7 @@ use Rattle.evl_base.specs.declared.refusal.Refusal.TheVariants.{Again, TooBig}
 use Rattle.evl_sync.specs.Steps.{unless}
 use Rattle.evl_xbuf.specs.declared.waiters.Reader.{Reader}
 use Rattle.evl_xbuf.specs.declared.waiters.Writer.{Writer}
-use Rattle.evl_xbuf.specs.Served.{read_by}
+use Rattle.evl_xbuf.specs.Services.{read_by}
 use Rattle.evl_xbuf.specs.Streams.{Stream, Service, Wrote, Got, at_once, can_read, can_write, empty, fits, given, next_service, read, reader_served, served, served_from, waiting, with_bytes, with_reader, with_writer, without, writer_served, written}
 use Rattle.evl_xbuf.specs.Flows.{Call, Write, Read, BeginWrite, BeginRead, Drop, Flow, ReadsFollowWrites, flow, flowing, of_begin_read, of_begin_write, of_read, of_write, run, written_by}
 use Rattle.evl_xbuf.proofs.ServingLaws.{at_rest, goes_on}

@@ -3,9 +3,9 @@ use Rattle.std.proofs.Common.{◌≡◌, ℕ, ◌≤◌, ◌-◌, Bool, true, fa
 use Rattle.std.specs.List.{AllByRecursion}
 use Rattle.std.proofs.lemmas.List.{take-append-le, drop-append-le, map-append}
 use Rattle.std.proofs.Math.Seq.{take-append_seam, drop-append_seam}
-use Rattle.evl_xbuf.specs.declared.served.Turn.{Turn}
+use Rattle.evl_xbuf.specs.declared.services.Turn.{Turn}
 use Rattle.evl_xbuf.specs.Streams.{Service, Wrote, Got}
-use Rattle.evl_xbuf.specs.Served.{read_by, service_of, services, AreTurns}
+use Rattle.evl_xbuf.specs.Services.{read_by, service_of, services, AreTurns}
 
 pub read_by-append : (xs ys : List Service) → read_by (xs ++ ys) ≡ read_by xs ++ read_by ys
 read_by-append [] ys = refl

@@ -6,7 +6,7 @@ use Rattle.evl_base.specs.Limits.{thread_limit}
 use Rattle.evl_sync.proofs.QueueLaws.{few_kept}
 use Rattle.evl_xbuf.specs.declared.waiters.Reader.{Reader}
 use Rattle.evl_xbuf.specs.Streams.{HasOneQueue, IsKeptStream, Stream, Service, Got, can_read, given, next_service, preceded_by, read, reader_served, served_from, waiting}
-use Rattle.evl_xbuf.specs.Served.{read_by}
+use Rattle.evl_xbuf.specs.Services.{read_by}
 use Rattle.evl_xbuf.specs.Serving.{Fit, ServesOne, Serves}
 use Rattle.evl_xbuf.proofs.ServedLaws.{read_by-append}
 

@@ -2,7 +2,7 @@
 use Rattle.std.specs.Prelude.{ℕ, ◌≡◌, List, [], ◌∷◌, ◌++◌, Option, Some, None, Result, Ok, Err}
 use Rattle.evl_base.specs.declared.refusal.Refusal.{Refusal}
 use Rattle.evl_xbuf.specs.declared.waiters.Writer.{Writer}
-use Rattle.evl_xbuf.specs.Served.{read_by}
+use Rattle.evl_xbuf.specs.Services.{read_by}
 use Rattle.evl_xbuf.specs.Streams.{Stream, Service, Wrote, Got, begin_read, begin_write, drop_waiter, empty, try_read, try_write, without}
 
 -- the bytes of the writers that were served, who stood first in the queue

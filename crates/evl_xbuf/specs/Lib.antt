@@ -1,5 +1,5 @@
 pub mod Streams
-pub mod Served
+pub mod Services
 pub mod Serving
 pub mod Flows
 pub mod Arrivals

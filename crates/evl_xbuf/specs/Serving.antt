@@ -2,7 +2,7 @@
 use Rattle.std.specs.Prelude.{suc, ◌≡◌, ◌≤◌, ◌⊎◌, ◌+◌, List, [], ◌∷◌, ◌++◌, length, Some}
 use Rattle.evl_base.specs.Limits.{thread_limit}
 use Rattle.evl_xbuf.specs.Streams.{HasOneQueue, Stream, Service, next_service, served, waiting}
-use Rattle.evl_xbuf.specs.Served.{read_by}
+use Rattle.evl_xbuf.specs.Services.{read_by}
 
 -- readers are served with what is there alone
 abbrev pub Fit : List Service → Stream → Type 0

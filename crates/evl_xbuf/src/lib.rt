@@ -4,13 +4,13 @@
 
 mod bytes;
 mod laws;
-mod served;
+mod services;
 mod stream;
 mod waiters;
 mod xbuf;
 
 pub use laws::{reads_follow_writes, services_go_by_arrival};
-pub use served::{Served, Service};
+pub use services::{Services, Service};
 use std::alloc::Global;
 pub use waiters::{Reader, Writer};
 pub use xbuf::XbufOf;

@@ -11,7 +11,7 @@ ghost use Rattle.evl_xbuf.specs.Xbufs.{IsSoundXbuf, begin_read, begin_write, dro
 mod likeness;
 mod telling;
 
-use crate::served::Served;
+use crate::services::Services;
 use crate::stream::Stream;
 use arrayvec::ArrayVec;
 use evl_base::{Bytes, Refusal, Stage, ThreadId, Way};
@@ -67,11 +67,11 @@ impl<A: Allocator> XbufOf<A> {
     /// waited, in order, each with its bytes. Refused, in this order, with nothing changed: `WrongStage` from the other
     /// stage; `TooBig` where the bytes are longer than the ring; `Again` where a writer waits or the bytes don't fit. A
     /// write of no bytes is always accepted. (Xenomai 4: EVL cross-buffer; this profile)
-    pub fn try_write(&mut self, stage: Stage, way: Way, bytes: &[u8]) -> Result<Served, Refusal>
+    pub fn try_write(&mut self, stage: Stage, way: Way, bytes: &[u8]) -> Result<Services, Refusal>
         ensures step { stepped (λ served. served) result self.new ≡ try_write stage way bytes.now self.old }
         ensures refused { IfErr result (λ e. self.new ≡ self.old) }
     {
-        let mut told = Served::new();
+        let mut told = Services::new();
         match self.try_write_telling(stage, way, bytes, &mut told) {
             Ok(()) => Ok(told),
             Err(refusal) => Err(refusal),
@@ -82,12 +82,12 @@ impl<A: Allocator> XbufOf<A> {
     /// way, and says whom that served: the writers that waited and now fit, in order. Refused, in this order, with
     /// nothing changed: `Range` where `len` is above 256; `WrongStage` from the other stage; `Again` where nothing is
     /// there. A read of no bytes always gives none. (Xenomai 4: EVL cross-buffer)
-    pub fn try_read(&mut self, stage: Stage, way: Way, len: u16) -> Result<(Bytes, Served), Refusal>
+    pub fn try_read(&mut self, stage: Stage, way: Way, len: u16) -> Result<(Bytes, Services), Refusal>
         ensures step { stepped (λ told. (told.0.items, told.1)) result self.new ≡ try_read stage way len self.old }
         ensures refused { IfErr result (λ e. self.new ≡ self.old) }
     {
         let mut got = ArrayVec::new();
-        let mut told = Served::new();
+        let mut told = Services::new();
         match self.try_read_telling(stage, way, len, &mut got, &mut told) {
             Ok(()) => Ok((got, told)),
             Err(refusal) => Err(refusal),
@@ -104,13 +104,13 @@ impl<A: Allocator> XbufOf<A> {
         stage: Stage,
         way: Way,
         bytes: &[u8],
-    ) -> Result<Option<Served>, Refusal>
+    ) -> Result<Option<Services>, Refusal>
         requires away { stands_in (λ w. w.thread) thread.0 (stream self.old way).writers ≡ false }
         requires few { thread.0 < thread_limit }
         ensures step { stepped (λ served. served) result self.new ≡ begin_write thread.0 stage way bytes.now self.old }
         ensures refused { IfErr result (λ e. self.new ≡ self.old) }
     {
-        let mut told = Served::new();
+        let mut told = Services::new();
         match self.begin_write_telling(thread, stage, way, bytes, &mut told) {
             Ok(true) => Ok(Some(told)),
             Ok(false) => Ok(None),
@@ -128,13 +128,13 @@ impl<A: Allocator> XbufOf<A> {
         stage: Stage,
         way: Way,
         len: u16,
-    ) -> Result<Option<(Bytes, Served)>, Refusal>
+    ) -> Result<Option<(Bytes, Services)>, Refusal>
         requires away { stands_in (λ r. r.thread) thread.0 (stream self.old way).readers ≡ false }
         requires few { thread.0 < thread_limit }
         ensures step { stepped (λ told. option_map (λ t. (t.0.items, t.1)) told) result self.new ≡ begin_read thread.0 stage way len self.old }
         ensures refused { IfErr result (λ e. self.new ≡ self.old) }
     {
-        let mut told = Served::new();
+        let mut told = Services::new();
         match self.begin_read_telling(thread, stage, way, len, &mut told) {
             Ok(Some(bytes)) => Ok(Some((bytes, told))),
             Ok(None) => Ok(None),
@@ -144,10 +144,10 @@ impl<A: Allocator> XbufOf<A> {
 
     /// Lets a thread wait this way no more, and says whom that served: those behind it whom it held back, in order.
     /// Where it doesn't wait there nothing changes and nobody is served.
-    pub fn drop_waiter(&mut self, thread: ThreadId, way: Way) -> Served
+    pub fn drop_waiter(&mut self, thread: ThreadId, way: Way) -> Services
         ensures step { (result, self.new) ≡ drop_waiter thread.0 way self.old }
     {
-        let mut told = Served::new();
+        let mut told = Services::new();
         self.drop_waiter_telling(thread, way, &mut told);
         told
     }

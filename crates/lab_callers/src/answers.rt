@@ -13,7 +13,7 @@ use evl_base::{Call, MutexId, Refusal, StaxId, ThreadId};
 use lab_callers_text::Act;
 use evl_machine::{Begun, Ended};
 use evl_pipeline::Handler;
-use evl_scenario::Answer;
+use evl_scenario::StepAnswer;
 use evl_words::{MutexPass, StaxPass};
 use std::alloc::{AllocError, Global};
 
@@ -63,7 +63,7 @@ fn tell(alloc: Global, answer: &str, shows: Shows) -> Result<Told, AllocError>
 }
 
 // The answer of a call of the kernel.
-fn tell_reply(alloc: Global, answer: Answer) -> Result<Told, AllocError>
+fn tell_reply(alloc: Global, answer: StepAnswer) -> Result<Told, AllocError>
     ensures told { IfOk result (λ t. string_bytes t.answer ≡ outcome_text answer.0) }
     ensures shown { IfOk result (λ t. t.shows ≡ Shows.Nothing) }
 {
@@ -424,7 +424,7 @@ fn call<C: Handler>(
     ensures refused { IfErr result (λ stop. IsWhy (caller_fault (Act.Call call) (crew_at crew.old.callers.items crew.old.held crew.old.holder) who.0) stop) }
 {
     let answer = crew.call(who, call)?;
-    Ok(tell_reply(alloc, Answer(answer))?)
+    Ok(tell_reply(alloc, StepAnswer(answer))?)
 }
 
 /// Has a caller do what a step says.

@@ -15,7 +15,7 @@ use evl_base::{Board, Play, Refusal, Reply};
 use evl_kernel::KernelOf;
 use evl_plans::{Planned, PlannedKernel};
 use evl_scenario::{
-    Answer, EntryNumber, Fault, Scenario, Step, StepLine, Unwritten, read_scenario, write_entry,
+    StepAnswer, EntryNumber, Fault, Scenario, Step, StepLine, Unwritten, read_scenario, write_entry,
     write_scenario,
 };
 use evl_shell::trace_kernel;
@@ -126,7 +126,7 @@ fn tell_full(told: &mut String, step: &str) -> Result<(), AllocError>
     told.write(StepLine {
         number: EntryNumber(None),
         step,
-        answer: Answer(Err(Refusal::HistoryFull)),
+        answer: StepAnswer(Err(Refusal::HistoryFull)),
     })
 }
 

@@ -13,7 +13,7 @@ use arrayvec::ArrayVec;
 use evl_base::{Board, Call, Refusal, Reply, Spares, Stage, ThreadId};
 use evl_kernel::KernelOf;
 use evl_pipeline::Handler;
-use evl_scenario::{Answer, Step};
+use evl_scenario::{StepAnswer, Step};
 use std::alloc::{AllocError, Global};
 
 // The same list once more.
@@ -104,7 +104,7 @@ pub(crate) fn make_step<C: Handler>(
     alloc: Global,
     kernel: &mut KernelOf<C, Global>,
     step: &Step,
-) -> Result<Answer, AllocError>
+) -> Result<StepAnswer, AllocError>
     requires { AnswersByPlan C.declared C.plan kernel.old.callbacks }
     ensures by_plan { AnswersByPlan C.declared C.plan kernel.new.callbacks }
     ensures reply { IfOk result (λ answer. answer.0 ≡ (stepped kernel.old.history.state step.now.who.0 step.now.call).reply) }
@@ -117,7 +117,7 @@ pub(crate) fn make_step<C: Handler>(
     };
     let answer = kernel.apply(step.who, same);
     if has_entry(&answer) {
-        Ok(Answer(answer))
+        Ok(StepAnswer(answer))
     } else {
         Err(AllocError)
     }

@@ -4,7 +4,7 @@ ghost use Rattle.lab_scenario_orders.specs.Callers.{answered};
 ghost use Rattle.lab_scenario_orders.specs.Moments.{trail_after};
 
 use crate::callers::{Caller, Callers};
-use evl_scenario::Answer;
+use evl_scenario::StepAnswer;
 use std::alloc::{AllocError, Global};
 
 /// What is kept of callers at one moment: how many steps each has made, and what it was answered. The kernel itself is
@@ -80,7 +80,7 @@ fn made_with(
 }
 
 // Writes an answer behind what was answered so far.
-fn tell(told: &mut String, answer: &Answer) -> Result<(), AllocError>
+fn tell(told: &mut String, answer: &StepAnswer) -> Result<(), AllocError>
     ensures { OnOk result (string_bytes told.new ≡ answered (string_bytes told.old) answer.now.0) }
 {
     told.push_str(" -> ")?;
@@ -89,7 +89,7 @@ fn tell(told: &mut String, answer: &Answer) -> Result<(), AllocError>
 }
 
 // The same text, and an answer behind it.
-fn told_with(alloc: Global, text: &str, answer: &Answer) -> Result<String, AllocError>
+fn told_with(alloc: Global, text: &str, answer: &StepAnswer) -> Result<String, AllocError>
     ensures { IfOk result (λ told. string_bytes told ≡ answered text.now answer.now.0) }
 {
     let mut told = String::from_str(alloc, text)?;
@@ -113,7 +113,7 @@ fn answers_with(
     alloc: Global,
     answers: &[String],
     caller: usize,
-    answer: &Answer,
+    answer: &StepAnswer,
 ) -> Result<Vec<String>, AllocError>
     requires { caller < length answers.now }
     ensures { IfOk result (λ all. map string_bytes all.items ≡ slice_set (map string_bytes answers.now) caller (answered (slice_index_or (map string_bytes answers.now) caller []) answer.now.0)) }
@@ -129,7 +129,7 @@ fn trail_with(
     alloc: Global,
     trail: &[usize],
     place: usize,
-    answer: &Answer,
+    answer: &StepAnswer,
 ) -> Result<Vec<usize>, AllocError>
     ensures { IfOk result (λ all. all.items ≡ trail_after trail.now place answer.now.0) }
 {
@@ -149,7 +149,7 @@ pub(crate) fn moment_after(
     caller: usize,
     count: usize,
     place: usize,
-    answer: &Answer,
+    answer: &StepAnswer,
     standing: u64,
 ) -> Result<Moment, AllocError>
     requires made { caller < length before.now.made.items }

@@ -1,6 +1,6 @@
 //! The texts of answers and plays that no call that is built gives, and of each refusal.
 use evl_base::{Call, Refusal, SemId, ThreadId};
-use evl_scenario::{Answer, EntryNumber, Step, StepLine};
+use evl_scenario::{StepAnswer, EntryNumber, Step, StepLine};
 use std::alloc::{AllocError, Global};
 
 // The line of an entry that was refused so.
@@ -13,7 +13,7 @@ fn refused_line(alloc: Global, refusal: Refusal) -> Result<String, AllocError> {
     let line = StepLine {
         number: EntryNumber(Some(1_000_000)),
         step: text.as_str(),
-        answer: Answer(Err(refusal)),
+        answer: StepAnswer(Err(refusal)),
     };
     line.to_string(alloc)
 }

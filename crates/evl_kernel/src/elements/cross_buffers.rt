@@ -7,7 +7,7 @@ ghost use Rattle.evl_kernel.specs.ElementsViews.{owners_of};
 
 use super::Elements;
 use evl_base::{Bytes, Refusal, Reply, Stage, Way, XbufId};
-use evl_xbuf::Served;
+use evl_xbuf::Services;
 use std::alloc::Allocator;
 
 impl<A: Allocator> Elements<A> {
@@ -20,7 +20,7 @@ impl<A: Allocator> Elements<A> {
         xbuf: XbufId,
         way: Way,
         bytes: &[u8],
-        told: &mut Served,
+        told: &mut Services,
     ) -> Result<(), Refusal>
         requires nobody { told.old ≡ [] }
         ensures step { IfOk result (λ _. element self.old.elements (on_xbuf xbuf.0 (through.write stage way bytes.now)) ≡ Ok (Reply.Done, self.new.elements)) }
@@ -46,7 +46,7 @@ impl<A: Allocator> Elements<A> {
         way: Way,
         len: u16,
         got: &mut Bytes,
-        told: &mut Served,
+        told: &mut Services,
     ) -> Result<(), Refusal>
         requires nobody { told.old ≡ [] }
         ensures step { IfOk result (λ _. element self.old.elements (on_xbuf xbuf.0 (through.read stage way len)) ≡ Ok (bytes_told got.new.items, self.new.elements)) }

@@ -9,7 +9,7 @@ ghost use Rattle.evl_kernel.specs.FlagGroups.{all_served};
 use super::Elements;
 use arrayvec::ArrayVec;
 use evl_base::{FlagId, MAX_THREADS, Refusal, Reply, Take};
-use evl_sync::Served;
+use evl_sync::TakenBits;
 use std::alloc::Allocator;
 
 impl<A: Allocator> Elements<A> {
@@ -33,7 +33,7 @@ impl<A: Allocator> Elements<A> {
         &mut self,
         flags: FlagId,
         bits: u32,
-        told: &mut ArrayVec<Served, MAX_THREADS>,
+        told: &mut ArrayVec<TakenBits, MAX_THREADS>,
     ) -> Result<(), Refusal>
         requires nobody { told.old.items ≡ [] }
         ensures step { IfOk result (λ _. element self.old.elements (on_flags flags.0 (group.post bits)) ≡ Ok (Reply.Done, self.new.elements)) }

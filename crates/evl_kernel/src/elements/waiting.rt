@@ -18,7 +18,7 @@ use super::Elements;
 use crate::waits::{Awaited, Wanted};
 use evl_base::{Bytes, FlagId, Refusal, Reply, SemId, Stage, Take, ThreadId, Way, XbufId};
 use evl_mutex::RankChanges;
-use evl_xbuf::Served;
+use evl_xbuf::Services;
 use std::alloc::Allocator;
 
 impl<A: Allocator> Elements<A> {
@@ -111,7 +111,7 @@ impl<A: Allocator> Elements<A> {
         xbuf: XbufId,
         way: Way,
         bytes: &[u8],
-        told: &mut Served,
+        told: &mut Services,
     ) -> bool
         requires nobody { told.old ≡ [] }
         requires there { is_there self.old.elements (Awaited.Writing xbuf way) ≡ true }
@@ -139,7 +139,7 @@ impl<A: Allocator> Elements<A> {
         xbuf: XbufId,
         way: Way,
         len: u16,
-        told: &mut Served,
+        told: &mut Services,
     ) -> Option<Bytes>
         requires nobody { told.old ≡ [] }
         requires there { is_there self.old.elements (Awaited.Reading xbuf way) ≡ true }
@@ -167,7 +167,7 @@ impl<A: Allocator> Elements<A> {
         thread: ThreadId,
         on: Awaited,
         changes: &mut C,
-        told: &mut Served,
+        told: &mut Services,
     )
         requires nobody { told.old ≡ [] }
         ensures left { self.new.elements ≡ if_done self.old.elements (element self.old.elements (drop_step thread.0 on)) }
@@ -200,7 +200,7 @@ impl<A: Allocator> Elements<A> {
 
     // A thread waits for a cross-buffer no more this way, if it did and there is such a cross-buffer; whom that served
     // is told.
-    fn leave_xbuf(&mut self, thread: ThreadId, xbuf: XbufId, way: Way, told: &mut Served)
+    fn leave_xbuf(&mut self, thread: ThreadId, xbuf: XbufId, way: Way, told: &mut Services)
         requires nobody { told.old ≡ [] }
         ensures left { self.new.elements ≡ if_done self.old.elements (element self.old.elements (on_xbuf xbuf.0 (through.drop thread.0 way))) }
         ensures woken { wakes self.old.elements (on_xbuf xbuf.0 (through.drop thread.0 way)) ≡ map service_told told.new }

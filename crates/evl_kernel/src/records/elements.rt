@@ -19,7 +19,7 @@ use crate::served_lists::ServedLists;
 use crate::wait_place::Outcome;
 use arrayvec::ArrayVec;
 use evl_base::{FlagId, MAX_THREADS, Refusal, Reply, SemId, Spares, Take, ThreadId, Way, XbufId};
-use evl_sync::Served;
+use evl_sync::TakenBits;
 use evl_xbuf::{self as xbuf, Service};
 use std::alloc::Allocator;
 
@@ -74,7 +74,7 @@ impl<C, A: Allocator> Records<C, A> {
         &mut self,
         flags: FlagId,
         bits: u32,
-        told: &mut ArrayVec<Served, MAX_THREADS>,
+        told: &mut ArrayVec<TakenBits, MAX_THREADS>,
     ) -> Result<Reply, Refusal>
         ensures answer { IsAnswer result }
         ensures served { Has (state_of self.old) (stepping (state_of self.old) (on_flags flags.0 (group.post bits))) result (state_of self.new) }
@@ -98,7 +98,7 @@ impl<C, A: Allocator> Records<C, A> {
         xbuf: XbufId,
         way: Way,
         bytes: &[u8],
-        told: &mut xbuf::Served,
+        told: &mut xbuf::Services,
     ) -> Result<Reply, Refusal>
         ensures answer { IsAnswer result }
         ensures served { Has (state_of self.old) (stepping (state_of self.old) (on_xbuf xbuf.0 (through.write (stage_of (state_of self.old).sched thread.0) way bytes.now))) result (state_of self.new) }
@@ -147,7 +147,7 @@ impl<C, A: Allocator> Records<C, A> {
 
     /// The waits of those whom a cross-buffer served have ended, in this order, each with what it read, if it read.
     #[inline(never)]
-    pub(super) fn wake_served(&mut self, served: &xbuf::Served)
+    pub(super) fn wake_served(&mut self, served: &xbuf::Services)
         requires away { (thread : _) → is_served thread (map service_told served.now) ≡ true → (on : AwaitedOne) → stands_for (elements (state_of self.old)) on thread ≡ false }
         ensures woken { state_of self.new ≡ all_woken (state_of self.old) (map service_told served.now) }
         ensures stands { KeepsCallbacks self.old self.new }
@@ -162,7 +162,7 @@ impl<C, A: Allocator> Records<C, A> {
     }
 
     // The waits of those who were served have ended, in this order, each with the bits that it took.
-    fn wake_all(&mut self, served: &[Served])
+    fn wake_all(&mut self, served: &[TakenBits])
         requires away { (thread : _) → is_served thread (all_served (pairs served.now)) ≡ true → (on : AwaitedOne) → stands_for (elements (state_of self.old)) on thread ≡ false }
         ensures woken { state_of self.new ≡ all_woken (state_of self.old) (all_served (pairs served.now)) }
         ensures stands { KeepsCallbacks self.old self.new }

@@ -23,7 +23,7 @@ use crate::ranks;
 use crate::wait_place::Outcome;
 use crate::waits::{self, Awaited, Wanted};
 use evl_base::{Policy, Refusal, Reply, Spares, Stage, ThreadId, Way, XbufId};
-use evl_xbuf::Served;
+use evl_xbuf::Services;
 use std::alloc::Allocator;
 
 impl<C, A: Allocator> Records<C, A> {
@@ -36,7 +36,7 @@ impl<C, A: Allocator> Records<C, A> {
         thread: ThreadId,
         wanted: Wanted,
         until: Option<u64>,
-        told: &mut Served,
+        told: &mut Services,
     ) -> Result<Reply, Refusal>
         requires idle { wait_at (state_of self.old) thread.0 ≡ None }
         requires there { thread.0 < self.old.threads }
@@ -96,7 +96,7 @@ impl<C, A: Allocator> Records<C, A> {
         way: Way,
         bytes: &[u8],
         until: Option<u64>,
-        told: &mut Served,
+        told: &mut Services,
     )
         requires idle { wait_at (state_of self.old) thread.0 ≡ None }
         requires there { thread.0 < self.old.threads }
@@ -124,7 +124,7 @@ impl<C, A: Allocator> Records<C, A> {
         way: Way,
         len: u16,
         until: Option<u64>,
-        told: &mut Served,
+        told: &mut Services,
     )
         requires idle { wait_at (state_of self.old) thread.0 ≡ None }
         requires there { thread.0 < self.old.threads }
@@ -214,7 +214,7 @@ impl<C, A: Allocator> Records<C, A> {
 
     /// A deadline that fell due ends its thread's wait as timed out, and the thread leaves the queue in which it
     /// waited; then the waits of those end whom that serves.
-    pub(super) fn expire(&mut self, thread: ThreadId, told: &mut Served)
+    pub(super) fn expire(&mut self, thread: ThreadId, told: &mut Services)
         ensures expired { state_of self.new ≡ (deadline_left (state_of self.old) thread.0).1 }
         ensures stands { KeepsCallbacks self.old self.new }
     {
@@ -226,7 +226,7 @@ impl<C, A: Allocator> Records<C, A> {
 
     // A thread leaves the queue in which it waits, if it waits in one; whom that serves wait on, and are told into a
     // list where nobody stands yet. Where it was a mutex's, the ranks are handed on.
-    fn leave_queue(&mut self, thread: ThreadId, told: &mut Served)
+    fn leave_queue(&mut self, thread: ThreadId, told: &mut Services)
         requires nobody { told.old ≡ [] }
         ensures left { state_of self.new ≡ with_elements (state_of self.old) (left_by (elements (state_of self.old)) thread.0 (wait_at (state_of self.old) thread.0)) }
         ensures served { served_by_leaving (elements (state_of self.old)) thread.0 (wait_at (state_of self.old) thread.0) ≡ map service_told told.new }

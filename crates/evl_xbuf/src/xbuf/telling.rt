@@ -7,7 +7,7 @@ ghost use Rattle.evl_sync.specs.Steps.{stepped};
 ghost use Rattle.evl_xbuf.specs.Xbufs.{begin_read, begin_write, drop_waiter, reading_stage, same_stage, stream, try_read, try_write, writing_stage};
 
 use super::XbufOf;
-use crate::served::Served;
+use crate::services::Services;
 use evl_base::{Bytes, Refusal, Stage, ThreadId, Way};
 use std::alloc::Allocator;
 
@@ -22,7 +22,7 @@ impl<A: Allocator> XbufOf<A> {
         stage: Stage,
         way: Way,
         bytes: &[u8],
-        told: &mut Served,
+        told: &mut Services,
     ) -> Result<(), Refusal>
         requires nobody { told.old ≡ [] }
         ensures step { stepped (λ _. told.new) result self.new ≡ try_write stage way bytes.now self.old }
@@ -45,7 +45,7 @@ impl<A: Allocator> XbufOf<A> {
         way: Way,
         len: u16,
         got: &mut Bytes,
-        told: &mut Served,
+        told: &mut Services,
     ) -> Result<(), Refusal>
         requires nobody { told.old ≡ [] }
         ensures step { stepped (λ _. (got.new.items, told.new)) result self.new ≡ try_read stage way len self.old }
@@ -72,7 +72,7 @@ impl<A: Allocator> XbufOf<A> {
         stage: Stage,
         way: Way,
         bytes: &[u8],
-        told: &mut Served,
+        told: &mut Services,
     ) -> Result<bool, Refusal>
         requires nobody { told.old ≡ [] }
         requires away { stands_in (λ w. w.thread) thread.0 (stream self.old way).writers ≡ false }
@@ -97,7 +97,7 @@ impl<A: Allocator> XbufOf<A> {
         stage: Stage,
         way: Way,
         len: u16,
-        told: &mut Served,
+        told: &mut Services,
     ) -> Result<Option<Bytes>, Refusal>
         requires nobody { told.old ≡ [] }
         requires away { stands_in (λ r. r.thread) thread.0 (stream self.old way).readers ≡ false }
@@ -119,7 +119,7 @@ impl<A: Allocator> XbufOf<A> {
 
     /// Lets a thread wait this way no more as `drop_waiter` does, and tells whom that served into a list where nobody
     /// stands yet.
-    pub fn drop_waiter_telling(&mut self, thread: ThreadId, way: Way, told: &mut Served)
+    pub fn drop_waiter_telling(&mut self, thread: ThreadId, way: Way, told: &mut Services)
         requires nobody { told.old ≡ [] }
         ensures step { (told.new, self.new) ≡ drop_waiter thread.0 way self.old }
     {

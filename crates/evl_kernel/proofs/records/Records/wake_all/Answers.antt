@@ -2,7 +2,7 @@ use Rattle.std.proofs.Common.{Bool, true, false, ◌||◌, ◌≡◌, List, refl
 use Rattle.std.proofs.lemmas.List.{at_drop_more}
 use Rattle.std.proofs.lemmas.Bool.{or_right}
 use Rattle.evl_sync.specs.FlagGroups.{pairs}
-use Rattle.evl_sync.specs.declared.flag_waiter.Served.{Served}
+use Rattle.evl_sync.specs.declared.flag_waiter.TakenBits.{TakenBits}
 use Rattle.evl_kernel.specs.States.{State}
 use Rattle.evl_kernel.specs.Elements.{elements}
 use Rattle.evl_kernel.specs.FlagGroups.{all_served}
@@ -15,11 +15,11 @@ use Rattle.evl_kernel.proofs.records.Records.wake_all.Goals as goal
 pub loop-one-preserved : goal.loop-one-preserved
 loop-one-preserved g c = record {
   woken = rw c.wake.ensures.woken
-      (sym (at_drop_more (λ (served : List Served). all_woken (state_of c.loop-one.self) (all_served (pairs served))) c.args.served.now c.loop-one.one-index _ c.loop-one-test.true)
+      (sym (at_drop_more (λ (served : List TakenBits). all_woken (state_of c.loop-one.self) (all_served (pairs served))) c.args.served.now c.loop-one.one-index _ c.loop-one-test.true)
       ∙ c.loop-one.invariant.woken);
   away = λ thread is on.
       ap (λ (s : State). stands_for (elements s) on thread) c.wake.ensures.woken
       ∙ c.loop-one.invariant.away thread
-      (at_drop_more (λ (served : List Served). is_served thread (all_served (pairs served))) c.args.served.now c.loop-one.one-index (record { thread = record { 0 = 0 }; bits = 0 }) c.loop-one-test.true ∙ or_right _ _ is) on;
+      (at_drop_more (λ (served : List TakenBits). is_served thread (all_served (pairs served))) c.args.served.now c.loop-one.one-index (record { thread = record { 0 = 0 }; bits = 0 }) c.loop-one-test.true ∙ or_right _ _ is) on;
   stands = keeps-both c.args.self.now c.loop-one.self c.wake.new.self c.loop-one.invariant.stands c.wake.ensures.stands;
 }

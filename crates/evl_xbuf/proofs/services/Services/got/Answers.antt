@@ -1,6 +1,6 @@
 use Rattle.std.proofs.Common.{◌≡◌, ◌++◌, length, ap, ◌∙◌}
 use Rattle.evl_xbuf.proofs.ServedLaws.{services-got, turns-got}
-use Rattle.evl_xbuf.proofs.served.Served.got.Goals as goal
+use Rattle.evl_xbuf.proofs.services.Services.got.Goals as goal
 
 pub invariant_of-self : goal.invariant_of-self
 invariant_of-self c =

@@ -1,5 +1,5 @@
 use Rattle.evl_shell.proofs.PassLemmas.{Appends-flush, Stopped-flush, Stopped-none}
-use Rattle.evl_shell.proofs.runs.write_scenario.Goals as goal
+use Rattle.evl_shell.proofs.runs.write_trace.Goals as goal
 
 pub returns-in-Ok-flush-clause-ok : goal.returns-in-Ok-flush-clause-ok
 returns-in-Ok-flush-clause-ok g c = Appends-flush _ _ _ _ _ _ c.new-chunks.ensures c.in-Ok.ensures.ok c.in-Ok-flush.ensures.ok

@@ -2,7 +2,7 @@
 ghost use Rattle.std.specs.Prelude.{◌≡◌, ◌<◌, ◌≤◌, ◌+◌, [], ◌∷◌, ◌++◌, length, slice_get};
 ghost use Rattle.std.specs.Option.{option_map};
 ghost use Rattle.evl_base.specs.Limits.{thread_limit};
-ghost use Rattle.evl_xbuf.specs.Served.{IsShort, read_by, told_of};
+ghost use Rattle.evl_xbuf.specs.Services.{IsShort, read_by, told_of};
 ghost use Rattle.evl_xbuf.specs.Streams.{Got, Wrote};
 
 use arrayvec::ArrayVec;
@@ -30,15 +30,15 @@ pub struct Turn {
 /// Whom a call served, in the order in which they were served. To a contract it is the list of these services. It has
 /// places for `MAX_THREADS` threads and takes no memory.
 #[derive(Drop)]
-pub struct Served {
+pub struct Services {
     turns: ArrayVec<Turn, MAX_THREADS>,
     bytes: Bytes,
 }
 
-impl Model for Served {
+impl Model for Services {
     ghost use Rattle.std.specs.Prelude.{List};
     ghost use Rattle.evl_xbuf.specs.Streams.{Service};
-    ghost use Rattle.evl_xbuf.specs.Served.{services, AreTurns};
+    ghost use Rattle.evl_xbuf.specs.Services.{services, AreTurns};
 
     ghost Value = { List Service };
 
@@ -47,12 +47,12 @@ impl Model for Served {
     ghost invariant = { λ s. AreTurns s.bytes.items s.turns.items };
 }
 
-impl Served {
+impl Services {
     /// Nobody was served.
-    pub fn new() -> Served
+    pub fn new() -> Services
         ensures nobody { result ≡ [] }
     {
-        Served {
+        Services {
             turns: ArrayVec::new(),
             bytes: ArrayVec::new(),
         }

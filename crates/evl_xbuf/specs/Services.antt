@@ -1,9 +1,9 @@
 -- Whom a call served, and how that is kept: the bytes of all readers stand behind one another.
 use Rattle.std.specs.Prelude.{ℕ, ◌≡◌, ◌≤◌, List, [], ◌∷◌, ◌++◌, length, map, slice_range, Option, Some, None, if◌then◌else◌}
 use Rattle.std.specs.List.{AllByRecursion}
-use Rattle.evl_xbuf.specs.declared.served.Service.{Service as Told}
-use Rattle.evl_xbuf.specs.declared.served.Service.TheVariants as told
-use Rattle.evl_xbuf.specs.declared.served.Turn.{Turn}
+use Rattle.evl_xbuf.specs.declared.services.Service.{Service as Told}
+use Rattle.evl_xbuf.specs.declared.services.Service.TheVariants as told
+use Rattle.evl_xbuf.specs.declared.services.Turn.{Turn}
 use Rattle.evl_xbuf.specs.Streams.{Service, Wrote, Got}
 
 -- the bytes that readers got, in order
