@@ -10,7 +10,7 @@ mod waiters;
 mod xbuf;
 
 pub use laws::{reads_follow_writes, services_go_by_arrival};
-pub use services::{Services, Service};
+pub use services::{Service, Services};
 use std::alloc::Global;
 pub use waiters::{Reader, Writer};
 pub use xbuf::XbufOf;

@@ -82,7 +82,12 @@ impl<A: Allocator> XbufOf<A> {
     /// way, and says whom that served: the writers that waited and now fit, in order. Refused, in this order, with
     /// nothing changed: `Range` where `len` is above 256; `WrongStage` from the other stage; `Again` where nothing is
     /// there. A read of no bytes always gives none. (Xenomai 4: EVL cross-buffer)
-    pub fn try_read(&mut self, stage: Stage, way: Way, len: u16) -> Result<(Bytes, Services), Refusal>
+    pub fn try_read(
+        &mut self,
+        stage: Stage,
+        way: Way,
+        len: u16,
+    ) -> Result<(Bytes, Services), Refusal>
         ensures step { stepped (λ told. (told.0.items, told.1)) result self.new ≡ try_read stage way len self.old }
         ensures refused { IfErr result (λ e. self.new ≡ self.old) }
     {

@@ -3,7 +3,7 @@ ghost use Rattle.std.specs.Prelude.{◌≡◌};
 ghost use Rattle.evl_xbuf.specs.Xbufs.{opened};
 
 use evl_base::{Refusal, Stage, ThreadId, Way};
-use evl_xbuf::{Served, Service, XbufOf};
+use evl_xbuf::{Services, Service, XbufOf};
 use linked_list_allocator::LocalHeap;
 use std::alloc::Allocator;
 
@@ -22,7 +22,7 @@ fn is_got(service: Option<Service<'_>>, thread: ThreadId, wanted: &[u8]) -> bool
 }
 
 // Whether two readers were served, with two bytes and with one.
-fn are_shares(served: &Served) -> bool {
+fn are_shares(served: &Services) -> bool {
     served.len() == 2
         && is_got(served.get(0), TWO, b"ab")
         && is_got(served.get(1), ONE, b"c")
@@ -58,7 +58,7 @@ fn readers_share_a_write(rt: HostRuntime) {
 }
 
 // Whether one writer was served, and it is this one.
-fn is_written(served: &Served, thread: ThreadId) -> bool {
+fn is_written(served: &Services, thread: ThreadId) -> bool {
     let wrote = matches!(served.get(0), Some(Service::Wrote(writer)) if writer == thread);
     wrote && served.len() == 1
 }
