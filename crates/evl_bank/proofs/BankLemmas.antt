@@ -1,7 +1,7 @@
 -- What the callbacks of the program's bank declare and answer.
 use Rattle.std.proofs.Common.{◌≡◌, ℕ, ◌∙◌}
 use Rattle.evl_pipeline.specs.declared.plan.Plan.{Plan}
-use Rattle.evl_kernel.specs.States.{Handler}
+use Rattle.evl_kernel.specs.state.States.{Handler}
 
 abbrev pub handler : ℕ → Plan → Handler
 handler kinds plan = record { kinds = kinds; plan = plan }

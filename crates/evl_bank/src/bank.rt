@@ -1,12 +1,12 @@
 //! The callbacks of the program, each answering just its plan.
 ghost use Rattle.std.specs.Prelude.{◌≡◌, ◌≤◌, ℕ, List, [], ◌∷◌, true, false, if◌then◌else◌, length, map, None, OnErr, IfOk, is_some};
-ghost use Rattle.evl_kernel.specs.Limits.{callback_limit};
+ghost use Rattle.evl_kernel.specs.state.Limits.{callback_limit};
 ghost use Rattle.evl_shell.specs.Words.{file_of};
 ghost use Rattle.evl_pipeline.specs.Plans.{answer_of};
 ghost use Rattle.evl_shell.specs.Plays.{Plays, ReadsFew};
 ghost use Rattle.evl_shell.specs.Programs.{Answers};
 ghost use Rattle.evl_bank.specs.Bank.{plan_of, plan_of_none, program_bank};
-ghost use Rattle.evl_kernel.specs.States.{Handler};
+ghost use Rattle.evl_kernel.specs.state.States.{Handler};
 ghost use Rattle.evl_shell.specs.Runs.{handlers_of};
 ghost use denote.Param.Send.{IsSync};
 

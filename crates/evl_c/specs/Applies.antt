@@ -4,11 +4,11 @@ use Rattle.evl_base.specs.declared.call.Call.{Call}
 use Rattle.evl_base.specs.declared.refusal.Refusal.{Refusal}
 use Rattle.evl_base.specs.declared.refusal.Refusal.TheVariants.{HistoryFull, NoMemory}
 use Rattle.evl_base.specs.declared.reply.Reply.{Reply}
-use Rattle.evl_kernel.specs.Callbacks.{BringsNone, handlers_in}
-use Rattle.evl_kernel.specs.Fires.{AddsByCalls}
-use Rattle.evl_kernel.specs.Histories.{IsLegal}
-use Rattle.evl_kernel.specs.KernelViews.{KernelView, AddsEntry, IsKernelAnswer, makes_entry}
-use Rattle.evl_kernel.specs.Places.{AreInOnePlace}
+use Rattle.evl_kernel.specs.state.Callbacks.{BringsNone, handlers_in}
+use Rattle.evl_kernel.specs.settling.Fires.{AddsByCalls}
+use Rattle.evl_kernel.specs.histories.Histories.{IsLegal}
+use Rattle.evl_kernel.specs.state.KernelViews.{KernelView, AddsEntry, IsKernelAnswer, makes_entry}
+use Rattle.evl_kernel.specs.state.Places.{AreInOnePlace}
 use Rattle.evl_pipeline.specs.Plans.{answer_of}
 use Rattle.evl_plans.specs.declared.planned.Planned.{Planned}
 use Rattle.evl_c.specs.Answers.{answer_form, bytes_of}

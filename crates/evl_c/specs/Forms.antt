@@ -4,7 +4,7 @@ use Rattle.std.specs.List.{list_all}
 use Rattle.evl_pipeline.specs.declared.action.Action.{Action}
 use Rattle.evl_pipeline.specs.declared.action.Action.TheVariants.{PostSem, PostFlags, Propagate, PostOob, StopTimer}
 use Rattle.evl_pipeline.specs.Plans.{declares, kind_of}
-use Rattle.evl_kernel.specs.States.{Handler}
+use Rattle.evl_kernel.specs.state.States.{Handler}
 use Rattle.evl_c.specs.declared.forms.PlanForm.{PlanForm}
 use Rattle.evl_c.specs.declared.forms.RowForm.{RowForm}
 

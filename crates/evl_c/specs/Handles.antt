@@ -1,6 +1,6 @@
 -- What a handle holds.
 use Rattle.std.specs.Prelude.{Option}
-use Rattle.evl_kernel.specs.KernelViews.{KernelView}
+use Rattle.evl_kernel.specs.state.KernelViews.{KernelView}
 use Rattle.evl_plans.specs.declared.planned.Planned.{Planned}
 use Rattle.evl_c.specs.declared.handles.KernelHandle.{KernelHandle}
 

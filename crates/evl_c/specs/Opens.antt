@@ -1,10 +1,10 @@
 -- What a kernel is that C made.
 use Rattle.std.specs.Prelude.{◌≡◌, ℕ, Bool, ◌&&◌, List, []}
 use Rattle.evl_base.specs.declared.board.Board.{Board}
-use Rattle.evl_kernel.specs.Histories.{opened}
-use Rattle.evl_kernel.specs.KernelViews.{KernelView}
-use Rattle.evl_kernel.specs.Openings.{can_open}
-use Rattle.evl_kernel.specs.States.{Handler}
+use Rattle.evl_kernel.specs.histories.Histories.{opened}
+use Rattle.evl_kernel.specs.state.KernelViews.{KernelView}
+use Rattle.evl_kernel.specs.state.Openings.{can_open}
+use Rattle.evl_kernel.specs.state.States.{Handler}
 use Rattle.evl_plans.specs.declared.planned.Planned.{Planned}
 use Rattle.evl_c.specs.Boards.{board_of, is_board}
 use Rattle.evl_c.specs.declared.boards.BoardForm.{BoardForm}

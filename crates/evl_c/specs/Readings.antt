@@ -5,12 +5,12 @@ use Rattle.evl_base.specs.declared.stage.Stage.{Stage}
 use Rattle.evl_base.specs.declared.stage.Stage.TheVariants.{Inband, Oob}
 use Rattle.evl_base.specs.declared.way.Way.{Way}
 use Rattle.evl_base.specs.declared.way.Way.TheVariants.{In, Out}
-use Rattle.evl_kernel.specs.KernelViews.{KernelView}
-use Rattle.evl_kernel.specs.MutexEffects.{record_at}
-use Rattle.evl_kernel.specs.Standing.{queue_of}
-use Rattle.evl_kernel.specs.States.{State, date}
-use Rattle.evl_kernel.specs.ThreadCalls.{rank_of}
-use Rattle.evl_kernel.specs.Waits.{has_ended, has_timed_out, is_waiting}
+use Rattle.evl_kernel.specs.state.KernelViews.{KernelView}
+use Rattle.evl_kernel.specs.calls.MutexEffects.{record_at}
+use Rattle.evl_kernel.specs.waiting.Standing.{queue_of}
+use Rattle.evl_kernel.specs.state.States.{State, date}
+use Rattle.evl_kernel.specs.calls.ThreadCalls.{rank_of}
+use Rattle.evl_kernel.specs.waiting.Waits.{has_ended, has_timed_out, is_waiting}
 use Rattle.evl_kernel.specs.declared.waits.Awaited.{Awaited}
 use Rattle.evl_kernel.specs.declared.waits.Awaited.TheVariants.{Sem, Flags, Writing, Reading, Mutex}
 use Rattle.evl_mutex.specs.Owners.{owner_at}

@@ -1,11 +1,11 @@
 //! A kernel over plans, with what its scenario and its trace begin with.
 ghost use Rattle.std.specs.Prelude.{◌≡◌, ◌⊎◌, ◌↔◌, ◌+◌, ◌≤◌, length, true, false, None, Ok, Err, IsTrue, IsFalse, IfOk, IfErr, string_bytes};
-ghost use Rattle.evl_kernel.specs.Callbacks.{BringsNone, handlers_in};
-ghost use Rattle.evl_kernel.specs.Fires.{AddsByCalls};
-ghost use Rattle.evl_kernel.specs.Histories.{IsLegal};
-ghost use Rattle.evl_kernel.specs.KernelViews.{AddsEntry, IsKernelAnswer, IsOpened, makes_entry};
-ghost use Rattle.evl_kernel.specs.Openings.{can_open};
-ghost use Rattle.evl_kernel.specs.Places.{AreInOnePlace};
+ghost use Rattle.evl_kernel.specs.state.Callbacks.{BringsNone, handlers_in};
+ghost use Rattle.evl_kernel.specs.settling.Fires.{AddsByCalls};
+ghost use Rattle.evl_kernel.specs.histories.Histories.{IsLegal};
+ghost use Rattle.evl_kernel.specs.state.KernelViews.{AddsEntry, IsKernelAnswer, IsOpened, makes_entry};
+ghost use Rattle.evl_kernel.specs.state.Openings.{can_open};
+ghost use Rattle.evl_kernel.specs.state.Places.{AreInOnePlace};
 ghost use Rattle.evl_pipeline.specs.Plans.{answer_of};
 ghost use Rattle.evl_scenario.specs.Scenarios.{scenario_of};
 ghost use Rattle.evl_scenario.specs.Traces.{history_trace};
@@ -30,7 +30,7 @@ pub struct Held {
 
 impl Model for Held {
     ghost use Rattle.std.specs.Prelude.{◌≡◌};
-    ghost use Rattle.evl_kernel.specs.KernelViews.{KernelView};
+    ghost use Rattle.evl_kernel.specs.state.KernelViews.{KernelView};
     ghost use Rattle.evl_plans.specs.declared.planned.Planned.{Planned};
 
     ghost Value = { KernelView Planned };

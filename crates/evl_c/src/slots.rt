@@ -1,6 +1,6 @@
 //! The pointer of a box, or null, in a type that C may keep: it names no other type.
 ghost use Rattle.std.specs.Prelude.{◌≡◌, None, Option, Some, IsSome};
-ghost use Rattle.evl_kernel.specs.KernelViews.{KernelView};
+ghost use Rattle.evl_kernel.specs.state.KernelViews.{KernelView};
 ghost use Rattle.evl_plans.specs.declared.planned.Planned.{Planned};
 ghost use Rattle.evl_c.specs.Owning.{maybe_coded, slot_owns};
 

@@ -1,6 +1,6 @@
 //! The bank: the callbacks that a kernel was made with, each in its place or out on a line.
 ghost use Rattle.std.specs.Prelude.{◌≡◌, ◌<◌, Some, None, IfNone, map, option_map, slice_get, slice_set, true, vec_len};
-ghost use Rattle.evl_kernel.specs.Callbacks.{is_home};
+ghost use Rattle.evl_kernel.specs.state.Callbacks.{is_home};
 
 use evl_base::ActionKinds;
 use evl_pipeline::{Answer, Fire, Handler, Named, Plan};

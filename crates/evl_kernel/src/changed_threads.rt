@@ -2,7 +2,7 @@
 ghost use Rattle.std.specs.Prelude.{◌≡◌, IfErr, option_map};
 ghost use Rattle.evl_base.specs.declared.refusal.Refusal.{Refusal};
 ghost use Rattle.evl_bitmap.specs.NumberSet.{least};
-ghost use Rattle.evl_kernel.specs.ChangedThreads.{without_least};
+ghost use Rattle.evl_kernel.specs.state.ChangedThreads.{without_least};
 
 use evl_base::{MAX_THREADS, Refusal, ThreadId};
 use evl_bitmap::{Bitmap, Level, Word};
@@ -53,7 +53,7 @@ impl<A: Allocator> ChangedThreads<A> {
 }
 
 impl<A: Allocator> RankChanges for ChangedThreads<A> {
-    ghost use Rattle.evl_kernel.specs.ChangedThreads.{is_noted};
+    ghost use Rattle.evl_kernel.specs.state.ChangedThreads.{is_noted};
 
     ghost is_noted = { is_noted };
 

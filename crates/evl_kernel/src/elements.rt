@@ -2,7 +2,7 @@
 ghost use Rattle.std.specs.Prelude.{◌≡◌, IfErr, IfOk, map, replicate, true};
 ghost use Rattle.std.specs.List.{list_all};
 ghost use Rattle.evl_base.specs.Board.{board_fits};
-ghost use Rattle.evl_kernel.specs.Openings.{all_opened};
+ghost use Rattle.evl_kernel.specs.state.Openings.{all_opened};
 ghost use Rattle.evl_sync.specs.FlagGroups as flag_groups;
 ghost use Rattle.evl_sync.specs.Semaphores as semaphores;
 ghost use Rattle.evl_xbuf.specs.Xbufs as cross_buffers;
@@ -34,7 +34,7 @@ pub(crate) struct Elements<A: Allocator> {
 }
 
 impl<A: Allocator> Model for Elements<A> {
-    ghost use Rattle.evl_kernel.specs.ElementsViews.{ElementsView};
+    ghost use Rattle.evl_kernel.specs.state.ElementsViews.{ElementsView};
 
     ghost Value = { ElementsView };
 

@@ -8,16 +8,16 @@ ghost use Rattle.evl_clock.specs.Clocks.{timer_at};
 ghost use Rattle.evl_clock.specs.Limits.{timer_count};
 ghost use Rattle.evl_mutex.specs.Owners.{owner_at};
 ghost use Rattle.evl_sched.specs.Threads.{stage_of};
-ghost use Rattle.evl_kernel.specs.Callbacks.{AnswersByPlan, BringsNone, handlers_in};
-ghost use Rattle.evl_kernel.specs.Fires.{AddsByCalls};
-ghost use Rattle.evl_kernel.specs.Insides.{calls_in};
-ghost use Rattle.evl_kernel.specs.Limits.{history_limit};
-ghost use Rattle.evl_kernel.specs.Openings.{can_open};
-ghost use Rattle.evl_kernel.specs.Histories.{IsLegal};
-ghost use Rattle.evl_kernel.specs.MutexEffects.{record_at};
-ghost use Rattle.evl_kernel.specs.Waits.{has_ended, has_timed_out, is_waiting};
-ghost use Rattle.evl_kernel.specs.Places.{AreInOnePlace};
-ghost use Rattle.evl_kernel.specs.KernelViews.{AddsEntry, IsOpened, IsKernelAnswer, makes_entry};
+ghost use Rattle.evl_kernel.specs.state.Callbacks.{AnswersByPlan, BringsNone, handlers_in};
+ghost use Rattle.evl_kernel.specs.settling.Fires.{AddsByCalls};
+ghost use Rattle.evl_kernel.specs.state.Insides.{calls_in};
+ghost use Rattle.evl_kernel.specs.state.Limits.{history_limit};
+ghost use Rattle.evl_kernel.specs.state.Openings.{can_open};
+ghost use Rattle.evl_kernel.specs.histories.Histories.{IsLegal};
+ghost use Rattle.evl_kernel.specs.calls.MutexEffects.{record_at};
+ghost use Rattle.evl_kernel.specs.waiting.Waits.{has_ended, has_timed_out, is_waiting};
+ghost use Rattle.evl_kernel.specs.state.Places.{AreInOnePlace};
+ghost use Rattle.evl_kernel.specs.state.KernelViews.{AddsEntry, IsOpened, IsKernelAnswer, makes_entry};
 
 mod likeness;
 mod readers;
@@ -65,9 +65,9 @@ pub struct KernelOf<C, A: Allocator> {
 pub type Kernel = KernelOf<Callback, Global>;
 
 impl<C, A: Allocator> Model for KernelOf<C, A> {
-    ghost use Rattle.evl_kernel.specs.Places.{AreInOnePlace};
-    ghost use Rattle.evl_kernel.specs.KernelViews.{KernelView};
-    ghost use Rattle.evl_kernel.specs.Insides.{kernel_view, KernelIsSound};
+    ghost use Rattle.evl_kernel.specs.state.Places.{AreInOnePlace};
+    ghost use Rattle.evl_kernel.specs.state.KernelViews.{KernelView};
+    ghost use Rattle.evl_kernel.specs.state.Insides.{kernel_view, KernelIsSound};
 
     ghost Value = { KernelView C };
 

@@ -1,9 +1,9 @@
 //! Effective ranks, handed on to the scheduler.
 ghost use Rattle.std.specs.Prelude.{◌≡◌, ◌≢◌, ◌≤◌, ◌<◌, ℕ, true, [], length, slice_index};
 ghost use Rattle.evl_base.specs.Limits.{thread_limit};
-ghost use Rattle.evl_kernel.specs.ChangedThreads.{AreGivenBut, is_noted};
-ghost use Rattle.evl_kernel.specs.ElementsViews.{owners_of};
-ghost use Rattle.evl_kernel.specs.Records.{AreGiven, AreTold};
+ghost use Rattle.evl_kernel.specs.state.ChangedThreads.{AreGivenBut, is_noted};
+ghost use Rattle.evl_kernel.specs.state.ElementsViews.{owners_of};
+ghost use Rattle.evl_kernel.specs.state.Records.{AreGiven, AreTold};
 ghost use Rattle.evl_mutex.specs.Owners as owners;
 ghost use Rattle.evl_sched.specs.Ranks.{given_to, rank_of};
 ghost use Rattle.evl_sched.specs.Threads.{base_of, is_attached};

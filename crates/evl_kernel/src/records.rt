@@ -12,11 +12,11 @@ ghost use Rattle.evl_clock.specs.Limits.{timer_count};
 ghost use Rattle.evl_sched.specs.Ranks.{fresh};
 ghost use Rattle.evl_sched.specs.Threads.{stage_of};
 ghost use Rattle.evl_mutex.specs.Owners.{owner_at};
-ghost use Rattle.evl_kernel.specs.Callbacks.{AreFilled};
-ghost use Rattle.evl_kernel.specs.Openings.{all_opened};
-ghost use Rattle.evl_kernel.specs.Records.{IsOpened, state_of};
-ghost use Rattle.evl_kernel.specs.MutexEffects.{record_at};
-ghost use Rattle.evl_kernel.specs.Waits.{has_ended, has_timed_out, is_waiting};
+ghost use Rattle.evl_kernel.specs.state.Callbacks.{AreFilled};
+ghost use Rattle.evl_kernel.specs.state.Openings.{all_opened};
+ghost use Rattle.evl_kernel.specs.state.Records.{IsOpened, state_of};
+ghost use Rattle.evl_kernel.specs.calls.MutexEffects.{record_at};
+ghost use Rattle.evl_kernel.specs.waiting.Waits.{has_ended, has_timed_out, is_waiting};
 
 mod elements;
 mod likeness;
@@ -58,8 +58,8 @@ pub(crate) struct Records<C, A: Allocator> {
 }
 
 impl<C, A: Allocator> Model for Records<C, A> {
-    ghost use Rattle.evl_kernel.specs.Records.{RecordsView};
-    ghost use Rattle.evl_kernel.specs.RecordsInside.{RecordsAreSound, records_view};
+    ghost use Rattle.evl_kernel.specs.state.Records.{RecordsView};
+    ghost use Rattle.evl_kernel.specs.state.RecordsInside.{RecordsAreSound, records_view};
 
     ghost Value = { RecordsView C };
 
@@ -210,7 +210,7 @@ fn add_place<A: Allocator>(waits: &mut Vec<WaitPlace, A>, boxes: Global) -> Resu
 }
 
 // Every callback in its bank place.
-#[tactic(auto, using(crate::proofs::CallbackLaws::filled_more))]
+#[tactic(auto, using(crate::proofs::state::CallbackLaws::filled_more))]
 fn placed<C: Handler, A: Allocator + Clone>(
     alloc: &A,
     bank: Vec<C, A>,

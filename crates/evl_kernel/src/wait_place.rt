@@ -1,8 +1,8 @@
 //! The place of a thread's wait, with the box in which the thread reads.
 ghost use Rattle.std.specs.Prelude.{◌≡◌, ◌≤◌, ◌+◌, IfErr, IfOk, IsSome, IsTrue, None, Some, option_map};
-ghost use Rattle.evl_kernel.specs.Endings.{outcome_of};
-ghost use Rattle.evl_kernel.specs.WaitBoxes.{FitsBox, has_box, reply_of};
-ghost use Rattle.evl_kernel.specs.Waits.{ended_by};
+ghost use Rattle.evl_kernel.specs.waiting.Endings.{outcome_of};
+ghost use Rattle.evl_kernel.specs.state.WaitBoxes.{FitsBox, has_box, reply_of};
+ghost use Rattle.evl_kernel.specs.waiting.Waits.{ended_by};
 
 use crate::waits::{Awaited, Wait};
 use evl_base::{Refusal, Reply, Spares, Transfer};
@@ -26,7 +26,7 @@ pub(crate) struct WaitPlace {
 
 impl Model for WaitPlace {
     ghost use Rattle.std.specs.Prelude.{IsTrue, Option};
-    ghost use Rattle.evl_kernel.specs.WaitBoxes.{keeps_box};
+    ghost use Rattle.evl_kernel.specs.state.WaitBoxes.{keeps_box};
     ghost use Rattle.evl_kernel.specs.declared.waits.Wait.{Wait as WaitRecord};
 
     ghost Value = { Option WaitRecord };

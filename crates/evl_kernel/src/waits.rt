@@ -1,9 +1,9 @@
 //! Waits of threads.
 ghost use Rattle.std.specs.Prelude.{◌≡◌, ◌≤◌, ◌+◌, IfErr, IfOk, None, Some, option_map, slice_set};
-ghost use Rattle.evl_kernel.specs.Beginnings.{allowed_if, awaited, form_refusal, in_range_if, range_refusal, stage_wanted};
-ghost use Rattle.evl_kernel.specs.Endings.{has_got_mutex, is_of_mutex, outcome_of};
-ghost use Rattle.evl_kernel.specs.WaitBoxes.{FitsBox, reply_of};
-ghost use Rattle.evl_kernel.specs.Waits.{ended_by, wait_of};
+ghost use Rattle.evl_kernel.specs.waiting.Beginnings.{allowed_if, awaited, form_refusal, in_range_if, range_refusal, stage_wanted};
+ghost use Rattle.evl_kernel.specs.waiting.Endings.{has_got_mutex, is_of_mutex, outcome_of};
+ghost use Rattle.evl_kernel.specs.state.WaitBoxes.{FitsBox, reply_of};
+ghost use Rattle.evl_kernel.specs.waiting.Waits.{ended_by, wait_of};
 
 use crate::wait_place::{Outcome, WaitPlace};
 use evl_base::{

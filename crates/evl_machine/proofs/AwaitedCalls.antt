@@ -9,10 +9,10 @@ use Rattle.evl_base.specs.declared.refusal.Refusal.{Refusal}
 use Rattle.evl_base.specs.declared.reply.Reply.{Reply}
 use Rattle.evl_kernel.specs.declared.waits.Awaited.{Awaited}
 use Rattle.evl_kernel.specs.declared.waits.Awaited.TheVariants.{Sem, Flags, Writing, Reading, Mutex}
-use Rattle.evl_kernel.specs.Families.{Task, on_lines, on_clock, on_threads, on_element, on_staged, raises, begins, ends, task_of}
-use Rattle.evl_kernel.specs.Histories.{History, IsLegal}
-use Rattle.evl_kernel.specs.WaitOwners.{awaited_along, awaited_at, awaited_after}
-use Rattle.evl_kernel.proofs.WaitOwners.{waits_along}
+use Rattle.evl_kernel.specs.calls.Families.{Task, on_lines, on_clock, on_threads, on_element, on_staged, raises, begins, ends, task_of}
+use Rattle.evl_kernel.specs.histories.Histories.{History, IsLegal}
+use Rattle.evl_kernel.specs.histories.WaitOwners.{awaited_along, awaited_at, awaited_after}
+use Rattle.evl_kernel.proofs.histories.WaitOwners.{waits_along}
 use Rattle.evl_machine.specs.declared.unfinished.Unfinished.{Unfinished}
 use Rattle.evl_machine.specs.declared.unfinished.Unfinished.TheVariants.{Mutex as of_mutex, Element}
 use Rattle.evl_machine.specs.Accounts.{calls_by}

@@ -11,7 +11,7 @@ use prog.Atomic.{either}
 use Rattle.atomic_table.specs.Table.{Step, takes, keeps, gives}
 use Rattle.atomic_table.proofs.Lists.{at_set, set_else, set_here}
 use Rattle.evl_base.specs.declared.entry.Entry.{Entry}
-use Rattle.evl_kernel.specs.Histories.{History, IsLegal}
+use Rattle.evl_kernel.specs.histories.Histories.{History, IsLegal}
 use Rattle.evl_words.specs.Parts.{LockTurns, LockChange}
 use Rattle.evl_words.proofs.Sequences.{at_below, at_replicate}
 use Rattle.evl_machine.specs.declared.views.CorePart.{CorePart}

@@ -12,8 +12,8 @@ use Rattle.evl_words.specs.MutexWorld.{MutexView}
 use Rattle.evl_words.proofs.Dealing.{joins}
 use Rattle.evl_base.specs.declared.refusal.Refusal.{Refusal}
 use Rattle.evl_base.specs.declared.refusal.Refusal.TheVariants.{CoreBusy, Invalid}
-use Rattle.evl_kernel.specs.Histories.{History, IsLegal}
-use Rattle.evl_kernel.specs.KernelViews.{KernelView}
+use Rattle.evl_kernel.specs.histories.Histories.{History, IsLegal}
+use Rattle.evl_kernel.specs.state.KernelViews.{KernelView}
 use Rattle.evl_machine.specs.declared.views.Account.{Account}
 use Rattle.evl_machine.specs.declared.views.ThreadView.{ThreadView}
 use Rattle.evl_machine.specs.ThreadRule.{ThreadRule, core_of}

@@ -11,7 +11,7 @@ use lib.ListN.{get_elem?}
 use Rattle.atomic_table.specs.Table.{State, Step, Allows, keeps}
 use Rattle.atomic_table.proofs.Lists.{at_map, set_again}
 use Rattle.evl_base.specs.declared.numbers.ThreadId.{ThreadId}
-use Rattle.evl_kernel.specs.KernelViews.{KernelView}
+use Rattle.evl_kernel.specs.state.KernelViews.{KernelView}
 use Rattle.evl_words.specs.declared.mutex.Claim.{Claim}
 use Rattle.evl_words.specs.declared.mutex.Claim.TheVariants.{Won, Queued, Seizing}
 use Rattle.evl_words.specs.declared.mutex.MutexReply.{MutexReply}

@@ -8,8 +8,8 @@ use Rattle.evl_base.specs.declared.numbers.ThreadId.{ThreadId}
 use Rattle.evl_base.specs.declared.refusal.Refusal.{Refusal}
 use Rattle.evl_base.specs.declared.reply.Reply.{Reply}
 use Rattle.evl_pipeline.specs.declared.plan.Plan.{Plan}
-use Rattle.evl_kernel.specs.Callbacks.{AnswersByPlan}
-use Rattle.evl_kernel.specs.KernelViews.{KernelView}
+use Rattle.evl_kernel.specs.state.Callbacks.{AnswersByPlan}
+use Rattle.evl_kernel.specs.state.KernelViews.{KernelView}
 use Rattle.evl_machine.specs.declared.views.Account.{Account}
 use Rattle.evl_machine.specs.Accounts.{IsAccount, up_to_date}
 use Rattle.evl_machine.specs.Actors.{ActorState, AreHeldAt, IsSameActor, SeatedActor, Suits, acting, call_refusal, stage_in}

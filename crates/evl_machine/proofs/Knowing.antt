@@ -6,11 +6,11 @@ use native.Mathlib.Decide.{ℕ_discrete}
 use prog.Atomic.{either}
 use Rattle.atomic_table.specs.Table.{Step, Allows}
 use Rattle.evl_pipeline.specs.declared.plan.Plan.{Plan}
-use Rattle.evl_kernel.specs.States.{Handler}
-use Rattle.evl_kernel.specs.Histories.{History}
-use Rattle.evl_kernel.specs.KernelViews.{KernelView}
+use Rattle.evl_kernel.specs.state.States.{Handler}
+use Rattle.evl_kernel.specs.histories.Histories.{History}
+use Rattle.evl_kernel.specs.state.KernelViews.{KernelView}
 use Rattle.evl_mutex.specs.Mutexes.{is_open_to}
-use Rattle.evl_kernel.specs.Callbacks.{AnswersByPlan}
+use Rattle.evl_kernel.specs.state.Callbacks.{AnswersByPlan}
 use Rattle.evl_words.specs.Hands.{place}
 use Rattle.evl_words.specs.MutexWorld.{MutexView, owns}
 use Rattle.evl_words.specs.declared.mutex.place.MutexPlace.{MutexPlace}

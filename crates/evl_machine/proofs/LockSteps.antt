@@ -4,7 +4,7 @@ use Rattle.std.specs.Prelude.{replicate}
 use mathlib.Core.Option.{some}
 use lib.ListN.{get_elem?}
 use Rattle.atomic_table.proofs.Lists.{at_map, at_set, set_again}
-use Rattle.evl_kernel.specs.Histories.{History}
+use Rattle.evl_kernel.specs.histories.Histories.{History}
 use Rattle.evl_words.specs.History.{view_of}
 use Rattle.evl_words.specs.Machine.{Run}
 use Rattle.evl_words.proofs.Events.{call_stands, moved}

@@ -9,10 +9,10 @@ use Rattle.evl_base.specs.declared.numbers.ThreadId.{ThreadId}
 use Rattle.evl_base.specs.declared.refusal.Refusal.{Refusal}
 use Rattle.evl_base.specs.declared.reply.Reply.{Reply}
 use Rattle.evl_base.specs.declared.reply.Reply.TheVariants.{Begun, Handed, TimedOut}
-use Rattle.evl_kernel.specs.Histories.{History, IsLegal}
-use Rattle.evl_kernel.specs.KernelViews.{KernelView, makes_entry}
-use Rattle.evl_kernel.specs.Waits.{has_ended, has_timed_out, is_timeout}
-use Rattle.evl_kernel.proofs.AnswerLaws.{claim_begins, finish_tells, next_is_there}
+use Rattle.evl_kernel.specs.histories.Histories.{History, IsLegal}
+use Rattle.evl_kernel.specs.state.KernelViews.{KernelView, makes_entry}
+use Rattle.evl_kernel.specs.waiting.Waits.{has_ended, has_timed_out, is_timeout}
+use Rattle.evl_kernel.proofs.calls.AnswerLaws.{claim_begins, finish_tells, next_is_there}
 use Rattle.evl_words.specs.declared.mutex.Claim.TheVariants.{Won, Queued}
 use Rattle.evl_words.specs.declared.mutex.MutexPass.{MutexPass}
 use Rattle.evl_words.specs.MutexCalls.{IsPassOf, MutexSeatState}

@@ -8,9 +8,9 @@ use Rattle.evl_base.specs.declared.refusal.Refusal.{Refusal}
 use Rattle.evl_base.specs.declared.refusal.Refusal.TheVariants.{NoMemory, HistoryFull}
 use Rattle.evl_base.specs.declared.reply.Reply.{Reply}
 use Rattle.evl_pipeline.specs.declared.plan.Plan.{Plan}
-use Rattle.evl_kernel.specs.Callbacks.{AnswersByPlan, Stands, Whereabouts, handlers_in}
-use Rattle.evl_kernel.specs.Histories.{History, IsLegal}
-use Rattle.evl_kernel.specs.KernelViews.{AddsEntry, KernelView, makes_entry}
+use Rattle.evl_kernel.specs.state.Callbacks.{AnswersByPlan, Stands, Whereabouts, handlers_in}
+use Rattle.evl_kernel.specs.histories.Histories.{History, IsLegal}
+use Rattle.evl_kernel.specs.state.KernelViews.{AddsEntry, KernelView, makes_entry}
 use Rattle.evl_words.specs.declared.mutex.MutexPass.{MutexPass}
 use Rattle.evl_words.specs.MutexCalls.{MutexSeatState}
 use Rattle.evl_machine.specs.Accounts.{GoesOn, calls_by, newcomer}

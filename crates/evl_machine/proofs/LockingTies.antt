@@ -22,20 +22,20 @@ use Rattle.evl_mutex.specs.Mutexes.{Mutex, opened as opened_mutex}
 use Rattle.evl_kernel.specs.declared.waits.Awaited.{Awaited}
 use Rattle.evl_kernel.specs.declared.waits.Awaited.TheVariants.{Sem, Flags, Writing, Reading, Mutex as OnMutex}
 use Rattle.evl_kernel.specs.declared.waits.Wait.{Wait}
-use Rattle.evl_kernel.specs.Endings.{has_got_mutex}
-use Rattle.evl_kernel.specs.Families.{task_of}
-use Rattle.evl_kernel.specs.Histories.{History, IsLegal, Step}
-use Rattle.evl_kernel.specs.KernelViews.{KernelView, makes_entry}
-use Rattle.evl_kernel.specs.MutexEffects.{has_got, record_at}
-use Rattle.evl_kernel.specs.MutexRests.{got_it, is_for, touches_mutex}
-use Rattle.evl_kernel.specs.States.{State}
-use Rattle.evl_kernel.specs.WaitOwners.{awaited_at}
-use Rattle.evl_kernel.specs.Waits.{has_ended, has_timed_out, wait_at}
-use Rattle.evl_kernel.proofs.AnswerLaws.{finish_tells, next_is_there}
-use Rattle.evl_kernel.proofs.MutexEnds.{waits_end_rightly}
-use Rattle.evl_kernel.proofs.OpeningLaws.{threads_few}
-use Rattle.evl_kernel.proofs.OwnRunLaws.{mutexes_by_themselves}
-use Rattle.evl_kernel.proofs.ProperSteps.{proper_at}
+use Rattle.evl_kernel.specs.waiting.Endings.{has_got_mutex}
+use Rattle.evl_kernel.specs.calls.Families.{task_of}
+use Rattle.evl_kernel.specs.histories.Histories.{History, IsLegal, Step}
+use Rattle.evl_kernel.specs.state.KernelViews.{KernelView, makes_entry}
+use Rattle.evl_kernel.specs.calls.MutexEffects.{has_got, record_at}
+use Rattle.evl_kernel.specs.histories.MutexRests.{got_it, is_for, touches_mutex}
+use Rattle.evl_kernel.specs.state.States.{State}
+use Rattle.evl_kernel.specs.histories.WaitOwners.{awaited_at}
+use Rattle.evl_kernel.specs.waiting.Waits.{has_ended, has_timed_out, wait_at}
+use Rattle.evl_kernel.proofs.calls.AnswerLaws.{finish_tells, next_is_there}
+use Rattle.evl_kernel.proofs.histories.MutexEnds.{waits_end_rightly}
+use Rattle.evl_kernel.proofs.state.OpeningLaws.{threads_few}
+use Rattle.evl_kernel.proofs.histories.OwnRunLaws.{mutexes_by_themselves}
+use Rattle.evl_kernel.proofs.waiting.ProperSteps.{proper_at}
 use Rattle.evl_words.specs.declared.mutex.Claim.TheVariants.{Won, Queued, Seizing}
 use Rattle.evl_words.specs.declared.mutex.MutexPass.{MutexPass}
 use Rattle.evl_words.specs.Mutex as word
@@ -85,7 +85,7 @@ got_elsewhere : (s : State) (k : ℕ) (id : MutexId) → awaited_at s k ≡ Some
 got_elsewhere s k id on j other = by (wait_at s k) on
   where
     at : (w : Wait) → w.on ≡ OnMutex id → got_it j (Some w) ≡ false
-    at w is = ap (λ (a : Awaited). is_for j a && option_map_or Rattle.evl_kernel.specs.MutexRests.is_done w.outcome false) is ∙ ap (λ b. b && option_map_or Rattle.evl_kernel.specs.MutexRests.is_done w.outcome false) (ne_eqb id.0 j (λ e. other (sym e)))
+    at w is = ap (λ (a : Awaited). is_for j a && option_map_or Rattle.evl_kernel.specs.histories.MutexRests.is_done w.outcome false) is ∙ ap (λ b. b && option_map_or Rattle.evl_kernel.specs.histories.MutexRests.is_done w.outcome false) (ne_eqb id.0 j (λ e. other (sym e)))
 
     by : (o : Option Wait) → option_map (λ (w : Wait). w.on) o ≡ Some (OnMutex id) → got_it j o ≡ false
     by None is = refl
@@ -96,26 +96,26 @@ got_no_mutex : (o : Option Wait) → waits_for_mutex (kept (option_map (λ (w : 
 got_no_mutex None free = refl
 got_no_mutex (Some w) free = by w.on free
   where
-    by : (a : Awaited) → waits_for_mutex (Some (kept_of a)) ≡ false → option_map_or (Rattle.evl_kernel.specs.Endings.got_mutex a) w.outcome false ≡ false
+    by : (a : Awaited) → waits_for_mutex (Some (kept_of a)) ≡ false → option_map_or (Rattle.evl_kernel.specs.waiting.Endings.got_mutex a) w.outcome false ≡ false
     by (OnMutex id) free = absurd (true≢false free)
     by (Sem id) free = none w.outcome
       where
-        none : (o : Option Reply) → option_map_or (Rattle.evl_kernel.specs.Endings.got_mutex (Sem id)) o false ≡ false
+        none : (o : Option Reply) → option_map_or (Rattle.evl_kernel.specs.waiting.Endings.got_mutex (Sem id)) o false ≡ false
         none None = refl
         none (Some r) = refl
     by (Flags id) free = none w.outcome
       where
-        none : (o : Option Reply) → option_map_or (Rattle.evl_kernel.specs.Endings.got_mutex (Flags id)) o false ≡ false
+        none : (o : Option Reply) → option_map_or (Rattle.evl_kernel.specs.waiting.Endings.got_mutex (Flags id)) o false ≡ false
         none None = refl
         none (Some r) = refl
     by (Writing id way) free = none w.outcome
       where
-        none : (o : Option Reply) → option_map_or (Rattle.evl_kernel.specs.Endings.got_mutex (Writing id way)) o false ≡ false
+        none : (o : Option Reply) → option_map_or (Rattle.evl_kernel.specs.waiting.Endings.got_mutex (Writing id way)) o false ≡ false
         none None = refl
         none (Some r) = refl
     by (Reading id way) free = none w.outcome
       where
-        none : (o : Option Reply) → option_map_or (Rattle.evl_kernel.specs.Endings.got_mutex (Reading id way)) o false ≡ false
+        none : (o : Option Reply) → option_map_or (Rattle.evl_kernel.specs.waiting.Endings.got_mutex (Reading id way)) o false ≡ false
         none None = refl
         none (Some r) = refl
 

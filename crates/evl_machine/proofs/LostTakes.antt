@@ -7,7 +7,7 @@ use native.Mathlib.Decide.{ℕ_discrete}
 use lib.ListN.{get_elem?}
 use Rattle.atomic_table.specs.Table.{State}
 use Rattle.atomic_table.proofs.Lists.{at_map, set_else, set_here}
-use Rattle.evl_kernel.specs.KernelViews.{KernelView}
+use Rattle.evl_kernel.specs.state.KernelViews.{KernelView}
 use Rattle.evl_words.specs.Hands.{AreOf, Hand, place, places_of}
 use Rattle.evl_words.proofs.Dealing.{places_of-cons, zero_if}
 use Rattle.evl_words.proofs.Sequences.{at_below, map-set}

@@ -9,8 +9,8 @@ use Rattle.evl_base.specs.declared.refusal.Refusal.{Refusal}
 use Rattle.evl_base.specs.declared.refusal.Refusal.TheVariants.{Busy, CoreBusy, Deadlock, HistoryFull, Limit, NotOwner, Unknown, WrongStage}
 use Rattle.evl_base.specs.declared.stage.Stage.{Stage}
 use Rattle.evl_sched.specs.Threads.{is_oob}
-use Rattle.evl_kernel.specs.Histories.{History}
-use Rattle.evl_kernel.specs.KernelViews.{KernelView}
+use Rattle.evl_kernel.specs.histories.Histories.{History}
+use Rattle.evl_kernel.specs.state.KernelViews.{KernelView}
 use Rattle.evl_words.specs.MutexCalls.{MutexSeatState}
 use Rattle.evl_words.specs.declared.mutex.MutexPass.{MutexPass}
 use Rattle.evl_machine.specs.declared.locking.Begun.{Begun}

@@ -8,7 +8,7 @@ use mathlib.Core.Option.{none}
 use Rattle.atomic_table.specs.Seated.{TableId}
 use Rattle.atomic_table.specs.Table.{Step, step}
 use Rattle.evl_base.specs.declared.refusal.Refusal.TheVariants.{Again, Busy}
-use Rattle.evl_kernel.specs.KernelViews.{KernelView}
+use Rattle.evl_kernel.specs.state.KernelViews.{KernelView}
 use Rattle.evl_words.specs.declared.mutex.Claim.{Claim}
 use Rattle.evl_words.specs.declared.mutex.MutexHold.{MutexHold}
 use Rattle.evl_words.specs.declared.mutex.MutexPass.{MutexPass}

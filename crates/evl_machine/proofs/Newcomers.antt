@@ -15,10 +15,10 @@ use Rattle.evl_base.specs.declared.stage.Stage.TheVariants.{Inband}
 use Rattle.evl_sched.specs.declared.seat.Seat.{Seat}
 use Rattle.evl_sched.specs.Threads as threads
 use Rattle.evl_sched.specs.Threads.{stage_of}
-use Rattle.evl_kernel.specs.Histories.{History, IsLegal, Run, opened}
-use Rattle.evl_kernel.specs.KernelViews.{KernelView}
-use Rattle.evl_kernel.specs.Openings.{opening}
-use Rattle.evl_kernel.specs.States.{State, Handler}
+use Rattle.evl_kernel.specs.histories.Histories.{History, IsLegal, Run, opened}
+use Rattle.evl_kernel.specs.state.KernelViews.{KernelView}
+use Rattle.evl_kernel.specs.state.Openings.{opening}
+use Rattle.evl_kernel.specs.state.States.{State, Handler}
 use Rattle.evl_words.specs.GateCalls.{GateState, SeatState, new_seat}
 use Rattle.evl_words.specs.declared.mutex.MutexRole.TheVariants.{Bystander}
 use Rattle.evl_words.specs.declared.mutex.place.MutexPlace.{MutexPlace}

@@ -5,7 +5,7 @@ use mathlib.Core.Logic.{dite}
 use native.Mathlib.Decide.{ℕ_discrete}
 use lib.ListN.{get_elem?}
 use Rattle.atomic_table.proofs.Lists.{at_set, set_here, set_else}
-use Rattle.evl_kernel.specs.Histories.{History}
+use Rattle.evl_kernel.specs.histories.Histories.{History}
 use Rattle.evl_words.proofs.Sequences.{at_below}
 use Rattle.evl_machine.specs.declared.views.CorePart.{CorePart}
 use Rattle.evl_machine.specs.Accounts.{Fits}

@@ -8,11 +8,11 @@ use Rattle.atomic_table.specs.Seated.{TableId}
 use Rattle.atomic_table.proofs.Lists.{at_map}
 use Rattle.evl_base.specs.declared.entry.Entry.{Entry}
 use Rattle.evl_base.specs.declared.play.Play.{Play}
-use Rattle.evl_kernel.specs.States.{State}
-use Rattle.evl_kernel.specs.Openings.{opening}
-use Rattle.evl_kernel.specs.Histories.{History, Run, IsLegal, opened}
-use Rattle.evl_kernel.specs.KernelViews.{KernelView}
-use Rattle.evl_kernel.proofs.Determined.{run_one_way}
+use Rattle.evl_kernel.specs.state.States.{State}
+use Rattle.evl_kernel.specs.state.Openings.{opening}
+use Rattle.evl_kernel.specs.histories.Histories.{History, Run, IsLegal, opened}
+use Rattle.evl_kernel.specs.state.KernelViews.{KernelView}
+use Rattle.evl_kernel.proofs.histories.Determined.{run_one_way}
 use Rattle.evl_words.specs.declared.history.Place.{Place}
 use Rattle.evl_words.specs.declared.mutex.place.MutexPlace.{MutexPlace}
 use Rattle.evl_words.specs.Hands.{place}

@@ -8,7 +8,7 @@ use native.Mathlib.Decide.{ℕ_discrete}
 use lib.ListN.{get_elem?}
 use Rattle.atomic_table.proofs.Lists.{at_map, set_again, set_else}
 use Rattle.evl_base.specs.Limits.{thread_limit}
-use Rattle.evl_kernel.specs.Histories.{History, IsLegal}
+use Rattle.evl_kernel.specs.histories.Histories.{History, IsLegal}
 use Rattle.evl_words.specs.Machine.{Run}
 use Rattle.evl_words.specs.Events.{Event, seat_after, world_after}
 use Rattle.evl_words.specs.Hands.{place}

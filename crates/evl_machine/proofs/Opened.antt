@@ -16,7 +16,7 @@ use Rattle.evl_base.specs.declared.refusal.Refusal.TheVariants.{Busy, Deadlock, 
 use Rattle.evl_base.specs.declared.stage.Stage.{Stage}
 use Rattle.evl_base.specs.declared.stage.Stage.TheVariants.{Inband, Oob}
 use Rattle.evl_sched.specs.Threads.{is_oob}
-use Rattle.evl_kernel.specs.KernelViews.{KernelView}
+use Rattle.evl_kernel.specs.state.KernelViews.{KernelView}
 use Rattle.evl_mutex.specs.Mutexes.{is_open_to}
 use Rattle.evl_words.specs.MutexCalls.{MutexSeatState}
 use Rattle.evl_words.specs.MutexWorld.{MutexView, owns}

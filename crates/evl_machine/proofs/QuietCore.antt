@@ -1,10 +1,10 @@
 -- A legal history ends quiet, so what lies in the slot of a free core is quiet.
 use Rattle.std.proofs.Common.{◌≡◌, map, get_or, Option, sym, subst, ⊎_elim, arith}
 use Rattle.atomic_table.specs.Table.{State as TableState}
-use Rattle.evl_kernel.specs.Histories.{History, IsLegal}
-use Rattle.evl_kernel.specs.KernelViews.{KernelView}
-use Rattle.evl_kernel.proofs.QuietLaws.{stalled_while_pending}
-use Rattle.evl_kernel.proofs.PendingLaws.{due_pends}
+use Rattle.evl_kernel.specs.histories.Histories.{History, IsLegal}
+use Rattle.evl_kernel.specs.state.KernelViews.{KernelView}
+use Rattle.evl_kernel.proofs.settling.QuietLaws.{stalled_while_pending}
+use Rattle.evl_kernel.proofs.settling.PendingLaws.{due_pends}
 use Rattle.evl_machine.specs.CoreRule.{IsFree, IsTaken}
 use Rattle.evl_machine.specs.ThreadRule.{core_of}
 use Rattle.evl_machine.specs.Known.{ComesFrom, CoreHand, KeptKnown, past_of}

@@ -2,7 +2,7 @@
 use Rattle.std.proofs.Common.{◌≡◌, ⊎_elim, Some, ℕ, zero, suc, ◌+◌, ◌<◌, Bool, List, [], ◌∷◌, map, get_or, Option, refl, sym, ap, subst, arith}
 use mathlib.Core.Option.{some, none}
 use Rattle.atomic_table.specs.Table.{State}
-use Rattle.evl_kernel.specs.Histories.{History}
+use Rattle.evl_kernel.specs.histories.Histories.{History}
 use Rattle.evl_words.specs.Hands.{Deals, Hand}
 use Rattle.evl_words.specs.Mutex.{MutexEntry}
 use Rattle.evl_words.specs.MutexWorld.{MutexView, IsMutexWorld}

@@ -5,7 +5,7 @@ use Rattle.std.proofs.lemmas.List.{length-map}
 use Rattle.std.proofs.lemmas.Option.{slice_get-map}
 use Rattle.atomic_table.specs.Seated.{TableId}
 use Rattle.evl_base.specs.declared.refusal.Refusal.TheVariants.{NotOwner}
-use Rattle.evl_kernel.specs.KernelViews.{KernelView}
+use Rattle.evl_kernel.specs.state.KernelViews.{KernelView}
 use Rattle.evl_words.specs.declared.mutex.MutexPass.{MutexPass}
 use Rattle.evl_words.specs.declared.mutex.MutexRole.TheVariants.{Winner}
 use Rattle.evl_words.specs.declared.mutex.place.MutexPlace.{MutexPlace}

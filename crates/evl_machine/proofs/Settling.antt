@@ -1,7 +1,7 @@
 -- A thread that gives the kernel back owes the ties: where it made no step on a word, and where it left one.
 use Rattle.std.proofs.Common.{◌≡◌, ℕ, Bool, Option, Some, None, sym, ap, ◌∙◌, subst}
-use Rattle.evl_kernel.specs.States.{State}
-use Rattle.evl_kernel.specs.Histories.{History}
+use Rattle.evl_kernel.specs.state.States.{State}
+use Rattle.evl_kernel.specs.histories.Histories.{History}
 use Rattle.evl_words.specs.MutexWorld.{MutexKind, step_word}
 use Rattle.evl_machine.specs.declared.views.Noted.{Noted}
 use Rattle.evl_machine.specs.CoreRule.{IsAbout}

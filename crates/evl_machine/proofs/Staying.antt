@@ -11,11 +11,11 @@ use Rattle.evl_base.specs.declared.reply.Reply.{Reply}
 use Rattle.evl_base.specs.declared.stage.Stage.{Stage}
 use Rattle.evl_sched.specs.Threads.{stage_of}
 use Rattle.evl_words.specs.GateCalls.{SeatState}
-use Rattle.evl_kernel.specs.States.{State}
-use Rattle.evl_kernel.specs.Families.{moves_caller, task_of}
-use Rattle.evl_kernel.specs.Histories.{History, Run}
-use Rattle.evl_kernel.specs.KernelViews.{KernelView, entry_of, makes_entry}
-use Rattle.evl_kernel.proofs.StageLaws.{stages_are, stages_stay}
+use Rattle.evl_kernel.specs.state.States.{State}
+use Rattle.evl_kernel.specs.calls.Families.{moves_caller, task_of}
+use Rattle.evl_kernel.specs.histories.Histories.{History, Run}
+use Rattle.evl_kernel.specs.state.KernelViews.{KernelView, entry_of, makes_entry}
+use Rattle.evl_kernel.proofs.histories.StageLaws.{stages_are, stages_stay}
 use Rattle.evl_machine.specs.declared.unfinished.Unfinished.{Unfinished}
 use Rattle.evl_machine.specs.declared.views.Account.{Account}
 use Rattle.evl_machine.specs.Accounts.{BeginsWith, Fits, IsAccount, calls_by}

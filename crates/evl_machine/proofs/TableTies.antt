@@ -7,7 +7,7 @@ use prog.Atomic.{either}
 use Rattle.atomic_table.specs.Table.{State, Me, Step, Allows}
 use Rattle.atomic_table.proofs.Lists.{at_map, set_here}
 use Rattle.evl_base.specs.Limits.{thread_limit}
-use Rattle.evl_kernel.specs.Histories.{History}
+use Rattle.evl_kernel.specs.histories.Histories.{History}
 use Rattle.evl_words.specs.Hands.{Hand, Told, Turns, place}
 use Rattle.evl_words.specs.Parts.{Tells, PartTurns, LockTurns, KeepsTies, Tabled, AreParts}
 use Rattle.evl_words.specs.MutexWorld.{MutexView, MutexKind, MutexDoes, tries, unlocks, step_may, step_word, owns}

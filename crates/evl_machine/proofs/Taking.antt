@@ -1,7 +1,7 @@
 -- The kernel goes out of the slot after a take, and into it before a give.
 use Rattle.std.proofs.Common.{◌≡◌, ℕ, List, [], ◌∷◌, Option, Some, None, MatchOption, sym, ap, ◌∙◌, subst}
 use Rattle.atomic_table.specs.Table.{rest}
-use Rattle.evl_kernel.specs.Histories.{History, IsLegal}
+use Rattle.evl_kernel.specs.histories.Histories.{History, IsLegal}
 use Rattle.evl_machine.specs.declared.views.Account.{Account}
 use Rattle.evl_machine.specs.Seats.{CoreMe, AccountsFit, view, after_take}
 use Rattle.evl_machine.specs.Accounts.{HasNoStranger}

@@ -7,7 +7,7 @@ use lib.ListN.{get_elem?}
 use prog.Atomic.{either}
 use Rattle.atomic_table.specs.Table.{Me, Step, Allows, Splits, opening}
 use Rattle.evl_base.specs.Limits.{thread_limit}
-use Rattle.evl_kernel.specs.Histories.{History, IsLegal}
+use Rattle.evl_kernel.specs.histories.Histories.{History, IsLegal}
 use Rattle.evl_words.specs.Hands.{Hand, Told, Turns, place, first_of, rest_of}
 use Rattle.evl_words.specs.Parts.{Tells, Within, KeepsTies, AreParts}
 use Rattle.evl_words.specs.MutexWorld.{MutexView, MutexKind, MutexDoes, newcomer, step_may, step_word}

@@ -14,13 +14,13 @@ use Rattle.evl_sched.specs.Threads.{is_attached, seat_at, stage_of}
 use Rattle.evl_words.specs.MutexBits.{offers_to}
 use Rattle.evl_kernel.specs.declared.waits.Wait.{Wait}
 use Rattle.evl_kernel.specs.declared.waits.Awaited.TheVariants.{Mutex as OnMutex}
-use Rattle.evl_kernel.specs.States.{State}
-use Rattle.evl_kernel.specs.Waits.{has_ended, has_timed_out, wait_at}
-use Rattle.evl_kernel.specs.Histories.{History, IsLegal, Step}
-use Rattle.evl_kernel.specs.MutexEffects.{record_at}
-use Rattle.evl_kernel.specs.WaitOwners.{awaited_at}
-use Rattle.evl_kernel.proofs.MutexEffects.{mutex_calls_pass}
-use Rattle.evl_kernel.proofs.MutexEnds.{waits_end_rightly}
+use Rattle.evl_kernel.specs.state.States.{State}
+use Rattle.evl_kernel.specs.waiting.Waits.{has_ended, has_timed_out, wait_at}
+use Rattle.evl_kernel.specs.histories.Histories.{History, IsLegal, Step}
+use Rattle.evl_kernel.specs.calls.MutexEffects.{record_at}
+use Rattle.evl_kernel.specs.histories.WaitOwners.{awaited_at}
+use Rattle.evl_kernel.proofs.calls.MutexEffects.{mutex_calls_pass}
+use Rattle.evl_kernel.proofs.histories.MutexEnds.{waits_end_rightly}
 use Rattle.evl_machine.specs.Ties.{AreTied}
 use Rattle.evl_machine.proofs.TieRecords.{raise_finds, accept_finds}
 

@@ -11,12 +11,12 @@ use Rattle.evl_mutex.specs.Queues.{is_nobody}
 use Rattle.evl_mutex.specs.Mutexes.{Mutex, ceiling_of, has_ceiling, opened as opened_mutex}
 use Rattle.evl_words.proofs.Sequences.{at_replicate}
 use Rattle.evl_kernel.specs.declared.waits.Wait.{Wait}
-use Rattle.evl_kernel.specs.States.{State}
-use Rattle.evl_kernel.specs.KernelViews.{KernelView}
-use Rattle.evl_kernel.specs.Openings.{opening}
-use Rattle.evl_kernel.specs.Histories.{History, IsLegal, Run, opened}
-use Rattle.evl_kernel.specs.MutexRests.{got_it}
-use Rattle.evl_kernel.specs.MutexEffects.{record_at, has_got}
+use Rattle.evl_kernel.specs.state.States.{State}
+use Rattle.evl_kernel.specs.state.KernelViews.{KernelView}
+use Rattle.evl_kernel.specs.state.Openings.{opening}
+use Rattle.evl_kernel.specs.histories.Histories.{History, IsLegal, Run, opened}
+use Rattle.evl_kernel.specs.histories.MutexRests.{got_it}
+use Rattle.evl_kernel.specs.calls.MutexEffects.{record_at, has_got}
 use Rattle.evl_machine.specs.declared.views.CorePart.{CorePart}
 use Rattle.evl_machine.specs.Accounts.{threads_of}
 use Rattle.evl_machine.specs.CoreRule.{newcomer_part}

@@ -14,10 +14,10 @@ use Rattle.evl_words.specs.Mutex.{unowned, seized, owned, offered, claimed}
 use Rattle.evl_words.specs.MutexBits.{mutex_word, number_in, offers_to}
 use Rattle.evl_words.specs.MutexWorld.{NamesBelow}
 use Rattle.evl_words.proofs.MutexWords.{offers_to-word}
-use Rattle.evl_kernel.specs.States.{State}
-use Rattle.evl_kernel.specs.ThreadCalls.{rank_of}
-use Rattle.evl_kernel.specs.MutexRests.{OnlyLeft}
-use Rattle.evl_kernel.specs.MutexEffects.{record_at, has_got, ClaimLeaves, ReleaseLeaves, RaiseLeaves, FinishLeaves}
+use Rattle.evl_kernel.specs.state.States.{State}
+use Rattle.evl_kernel.specs.calls.ThreadCalls.{rank_of}
+use Rattle.evl_kernel.specs.histories.MutexRests.{OnlyLeft}
+use Rattle.evl_kernel.specs.calls.MutexEffects.{record_at, has_got, ClaimLeaves, ReleaseLeaves, RaiseLeaves, FinishLeaves}
 use Rattle.evl_machine.specs.Ties.{IsTied, AreTied, IsLeft}
 use Rattle.evl_machine.proofs.TieSteps.{tied_left, left_tied, claim_refused, claim_accepted, raise_tied, none_recorded, open_to_named, word_given, got_given, release_tied, accept_tied, offered_alone}
 

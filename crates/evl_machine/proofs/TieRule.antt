@@ -5,8 +5,8 @@ use Rattle.std.proofs.lemmas.Option.{same_Some}
 use mathlib.Core.Option.{some, none, some-injective}
 use lib.ListN.{get_elem?}
 use Rattle.atomic_table.proofs.Lists.{at_set}
-use Rattle.evl_kernel.specs.Histories.{History}
-use Rattle.evl_kernel.specs.States.{State}
+use Rattle.evl_kernel.specs.histories.Histories.{History}
+use Rattle.evl_kernel.specs.state.States.{State}
 use Rattle.evl_words.specs.Parts.{KeepsTies}
 use Rattle.evl_machine.specs.declared.views.CorePart.{CorePart}
 use Rattle.evl_machine.specs.declared.views.Noted.{Noted}

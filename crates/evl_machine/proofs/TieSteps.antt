@@ -16,7 +16,7 @@ use Rattle.evl_words.specs.Mutex.{unowned, seized, owned, offered, is_offered, i
 use Rattle.evl_words.specs.MutexBits.{mutex_word, offer_word, number_in, offers_to}
 use Rattle.evl_words.specs.MutexWorld.{NamesBelow}
 use Rattle.evl_words.proofs.MutexWords.{number_in-owned, offers_to-word}
-use Rattle.evl_kernel.specs.MutexRests.{LeftBy}
+use Rattle.evl_kernel.specs.histories.MutexRests.{LeftBy}
 use Rattle.evl_machine.specs.Ties.{is_claimed, IsPlain, OwnerTie, OfferTie, IsTied, IsLeft}
 use Rattle.evl_machine.proofs.TieWords.{number_in-offer, claimed-word, plain_unclaimed, plain_offers, number_small, number-claimed, marked-claimed, offered-claimed, names-claimed, try_plain, unlock_plain}
 

@@ -18,16 +18,16 @@ use Rattle.evl_words.specs.Mutex as word
 use Rattle.evl_words.specs.Mutex.{unowned, owned, offered, claimed}
 use Rattle.evl_words.specs.MutexBits.{mutex_word, offer_word, number_in}
 use Rattle.evl_words.specs.MutexWorld.{NamesBelow}
-use Rattle.evl_kernel.specs.States.{State}
-use Rattle.evl_kernel.specs.Families.{task_of}
-use Rattle.evl_kernel.specs.Mutexes.{handed_told, named}
-use Rattle.evl_kernel.specs.Histories.{History, IsLegal, Step, Follows}
-use Rattle.evl_kernel.specs.Serving.{answer}
-use Rattle.evl_kernel.specs.Effects.{Effect}
-use Rattle.evl_kernel.specs.MutexRests.{touches_mutex}
-use Rattle.evl_kernel.specs.MutexEffects.{has_got, Changes}
-use Rattle.evl_kernel.proofs.MutexDrops.{settling_drops, others_drop}
-use Rattle.evl_kernel.proofs.MutexEffects.{mutex_calls}
+use Rattle.evl_kernel.specs.state.States.{State}
+use Rattle.evl_kernel.specs.calls.Families.{task_of}
+use Rattle.evl_kernel.specs.calls.Mutexes.{handed_told, named}
+use Rattle.evl_kernel.specs.histories.Histories.{History, IsLegal, Step, Follows}
+use Rattle.evl_kernel.specs.calls.Serving.{answer}
+use Rattle.evl_kernel.specs.calls.Effects.{Effect}
+use Rattle.evl_kernel.specs.histories.MutexRests.{touches_mutex}
+use Rattle.evl_kernel.specs.calls.MutexEffects.{has_got, Changes}
+use Rattle.evl_kernel.proofs.histories.MutexDrops.{settling_drops, others_drop}
+use Rattle.evl_kernel.proofs.calls.MutexEffects.{mutex_calls}
 use Rattle.evl_machine.specs.Ties.{AreTied, IsLeft, IsPlain, StandsNoted}
 use Rattle.evl_machine.proofs.TieSteps.{word_given, plain_tied}
 use Rattle.evl_machine.proofs.TieRecords.{tied_rests, tied_elsewhere, tied_there, tied_claimed, tied_raised, tied_released, tied_accepted, tied_finished}

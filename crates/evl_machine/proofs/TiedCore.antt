@@ -1,7 +1,7 @@
 -- Where the core is free, each mutex's word is tied to the kernel in the slot.
 use Rattle.std.proofs.Common.{◌≡◌, ◌+◌, ◌<◌, map, get_or, length, Option, ⊎_elim, arith}
 use Rattle.atomic_table.specs.Table.{State as TableState}
-use Rattle.evl_kernel.specs.KernelViews.{KernelView}
+use Rattle.evl_kernel.specs.state.KernelViews.{KernelView}
 use Rattle.evl_machine.specs.CoreRule.{IsFree, IsTaken}
 use Rattle.evl_machine.specs.Known.{ComesFrom, CoreHand, KeptKnown, past_of}
 use Rattle.evl_machine.specs.ThreadRule.{core_of}

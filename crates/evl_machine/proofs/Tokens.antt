@@ -4,7 +4,7 @@ use mathlib.Core.Option.{some}
 use lib.ListN.{get_elem?}
 use Rattle.atomic_table.specs.Table.{State}
 use Rattle.atomic_table.proofs.Lists.{at_map}
-use Rattle.evl_kernel.specs.KernelViews.{KernelView}
+use Rattle.evl_kernel.specs.state.KernelViews.{KernelView}
 use Rattle.evl_words.specs.Hands.{Hand, Deals, place, places_of}
 use Rattle.evl_words.proofs.Dealing.{one_if, places_of-cons}
 use Rattle.evl_words.proofs.Sequences.{total_two}

@@ -10,8 +10,8 @@ use Rattle.evl_base.specs.declared.call.Call.{Call}
 use Rattle.evl_base.specs.declared.numbers.ThreadId.{ThreadId}
 use Rattle.evl_base.specs.declared.refusal.Refusal.{Refusal}
 use Rattle.evl_base.specs.declared.reply.Reply.{Reply}
-use Rattle.evl_kernel.specs.Histories.{History, IsLegal}
-use Rattle.evl_kernel.specs.KernelViews.{KernelView}
+use Rattle.evl_kernel.specs.histories.Histories.{History, IsLegal}
+use Rattle.evl_kernel.specs.state.KernelViews.{KernelView}
 use Rattle.evl_words.specs.MutexCalls.{MutexSeatState}
 use Rattle.evl_words.specs.declared.mutex.place.MutexPlace.{MutexPlace}
 use Rattle.evl_machine.specs.declared.views.Account.{Account}

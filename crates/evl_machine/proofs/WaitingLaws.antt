@@ -7,8 +7,8 @@ use Rattle.evl_base.specs.declared.numbers.ThreadId.{ThreadId}
 use Rattle.evl_base.specs.declared.refusal.Refusal.{Refusal}
 use Rattle.evl_base.specs.declared.refusal.Refusal.TheVariants.{Again, Invalid}
 use Rattle.evl_base.specs.declared.reply.Reply.{Reply}
-use Rattle.evl_kernel.specs.KernelViews.{KernelView, entry_of}
-use Rattle.evl_kernel.specs.Waits.{has_ended}
+use Rattle.evl_kernel.specs.state.KernelViews.{KernelView, entry_of}
+use Rattle.evl_kernel.specs.waiting.Waits.{has_ended}
 use Rattle.evl_machine.specs.declared.unfinished.Unfinished.{Unfinished}
 use Rattle.evl_machine.specs.declared.unfinished.Unfinished.TheVariants.{Element}
 use Rattle.evl_machine.specs.declared.unfinished.WaitStep.{WaitStep}

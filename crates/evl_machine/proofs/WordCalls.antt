@@ -7,7 +7,7 @@ use Rattle.atomic_table.specs.Seated.{TableId}
 use Rattle.evl_base.specs.declared.mutex_kind.MutexKind.{MutexKind}
 use Rattle.evl_base.specs.declared.refusal.Refusal.{Refusal}
 use Rattle.evl_base.specs.declared.refusal.Refusal.TheVariants.{NotOwner}
-use Rattle.evl_kernel.specs.KernelViews.{KernelView}
+use Rattle.evl_kernel.specs.state.KernelViews.{KernelView}
 use Rattle.evl_words.specs.MutexCalls.{MutexSeatState, at_depth}
 use Rattle.evl_words.specs.MutexPlaces.{IsOfPlace, is_pass_of}
 use Rattle.evl_words.specs.declared.mutex.MutexPass.{MutexPass}

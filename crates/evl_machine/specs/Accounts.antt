@@ -2,7 +2,7 @@
 use Rattle.std.specs.Prelude.{◌≡◌, ℕ, ◌+◌, ◌<◌, ◌≤◌, ◌==◌, cond, List, [], ◌∷◌, ◌++◌}
 use Rattle.evl_base.specs.declared.entry.Entry.{Entry}
 use Rattle.evl_base.specs.declared.play.Play.{Play}
-use Rattle.evl_kernel.specs.Histories.{History, Run, IsLegal}
+use Rattle.evl_kernel.specs.histories.Histories.{History, Run, IsLegal}
 use Rattle.evl_machine.specs.declared.views.Account.{Account}
 
 -- how many threads are on a history's board

@@ -7,7 +7,7 @@ use Rattle.evl_base.specs.declared.refusal.Refusal.{Refusal}
 use Rattle.evl_base.specs.declared.refusal.Refusal.TheVariants.{Invalid, HoldsStax, Busy}
 use Rattle.evl_base.specs.declared.stage.Stage.{Stage}
 use Rattle.evl_sched.specs.Threads.{stage_of}
-use Rattle.evl_kernel.specs.Histories.{History}
+use Rattle.evl_kernel.specs.histories.Histories.{History}
 use Rattle.evl_words.specs.GateCalls.{SeatState}
 use Rattle.evl_words.specs.MutexCalls.{MutexSeatState}
 use Rattle.evl_words.specs.declared.mutex.place.MutexPlace.{MutexPlace}

@@ -1,7 +1,7 @@
 -- What a contract reads of who acts for a thread, at rest and while it has the kernel.
 use Rattle.std.specs.Prelude.{◌≡◌, true}
 use Rattle.evl_base.specs.Board.{board_fits}
-use Rattle.evl_kernel.specs.KernelViews.{KernelView}
+use Rattle.evl_kernel.specs.state.KernelViews.{KernelView}
 use Rattle.evl_machine.specs.Actors.{SeatedActor, Suits, acting}
 use Rattle.evl_machine.specs.Calls.{IsCaller, IsHeld}
 use Rattle.evl_machine.specs.Handles.{CallerState, MachineState, account_of, caller_of, machine_of}

@@ -6,11 +6,11 @@ use Rattle.evl_base.specs.declared.reply.Reply.{Reply}
 use Rattle.evl_base.specs.declared.refusal.Refusal.{Refusal}
 use Rattle.evl_base.specs.declared.refusal.Refusal.TheVariants.{NoMemory, CoreBusy, HistoryFull}
 use Rattle.evl_base.specs.declared.play.Play.{Play}
-use Rattle.evl_kernel.specs.Histories.{History, IsLegal}
-use Rattle.evl_kernel.specs.MutexEffects.{record_at}
+use Rattle.evl_kernel.specs.histories.Histories.{History, IsLegal}
+use Rattle.evl_kernel.specs.calls.MutexEffects.{record_at}
 use Rattle.evl_mutex.specs.Mutexes.{Mutex, is_open_to}
 use Rattle.evl_words.specs.MutexCalls.{MutexSeatState}
-use Rattle.evl_kernel.specs.KernelViews.{KernelView, IsKernelAnswer, Adds, entry_of, makes_entry, refusal_enters}
+use Rattle.evl_kernel.specs.state.KernelViews.{KernelView, IsKernelAnswer, Adds, entry_of, makes_entry, refusal_enters}
 use Rattle.evl_machine.specs.declared.views.Account.{Account}
 use Rattle.evl_machine.specs.Accounts.{BeginsWith, IsAccount, lost_one}
 use Rattle.evl_machine.specs.Events.{FailsToTake, Gives, LosesTakes, Takes}

@@ -4,7 +4,7 @@ use mathlib.Core.Option.{some, none}
 use mathlib.Core.Option as maybe
 use lib.ListN.{get_elem?}
 use Rattle.evl_base.specs.declared.entry.Entry.{Entry}
-use Rattle.evl_kernel.specs.Histories.{History, IsLegal}
+use Rattle.evl_kernel.specs.histories.Histories.{History, IsLegal}
 use Rattle.evl_machine.specs.declared.views.Account.{Account}
 use Rattle.evl_machine.specs.declared.views.CorePart.{CorePart}
 use Rattle.evl_machine.specs.declared.views.Noted.{Noted}

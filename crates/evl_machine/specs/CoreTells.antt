@@ -1,7 +1,7 @@
 -- What the steps on the core's lock tell their thread.
 use Rattle.std.specs.Prelude.{◌≡◌, ◌≢◌, ℕ, [], ◌∷◌, Option, Some}
 use Rattle.atomic_table.specs.Table.{Me}
-use Rattle.evl_kernel.specs.Histories.{History, IsLegal}
+use Rattle.evl_kernel.specs.histories.Histories.{History, IsLegal}
 use Rattle.evl_words.specs.Parts.{Tells}
 use Rattle.evl_machine.specs.declared.views.CorePart.{CorePart}
 use Rattle.evl_machine.specs.Accounts.{Fits, HasNoStranger}

@@ -4,7 +4,7 @@ use prog.Atomic.{either}
 use mathlib.Core.Option.{some, none}
 use mathlib.Core.Option as maybe
 use lib.ListN.{get_elem?}
-use Rattle.evl_kernel.specs.Histories.{History}
+use Rattle.evl_kernel.specs.histories.Histories.{History}
 use Rattle.evl_words.specs.Events.{Event}
 use Rattle.evl_words.specs.Dealings.{DealingEvent, acts, cuts, gathers}
 use Rattle.evl_words.specs.Hands.{Hand, Deals, place, hand_from, first_of, rest_of}

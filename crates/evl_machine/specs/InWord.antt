@@ -8,9 +8,9 @@ use Rattle.evl_mutex.specs.Mutexes.{Mutex}
 use Rattle.evl_words.specs.declared.mutex.Claim.{Claim}
 use Rattle.evl_words.specs.declared.mutex.Claim.TheVariants.{Won, Queued, Seizing}
 use Rattle.evl_words.specs.MutexBits.{number_in}
-use Rattle.evl_kernel.specs.States.{State}
-use Rattle.evl_kernel.specs.KernelViews.{KernelView}
-use Rattle.evl_kernel.specs.MutexEffects.{record_at}
+use Rattle.evl_kernel.specs.state.States.{State}
+use Rattle.evl_kernel.specs.state.KernelViews.{KernelView}
+use Rattle.evl_kernel.specs.calls.MutexEffects.{record_at}
 use Rattle.evl_machine.specs.declared.in_word.InWord.{InWord}
 use Rattle.evl_machine.specs.Ties.{AreTied, is_claimed}
 use Rattle.evl_machine.specs.Known.{CoreHand, KernelMe}

@@ -1,8 +1,8 @@
 -- What who acts for a thread knows when it has just taken the kernel.
 use Rattle.std.specs.Prelude.{◌≡◌, ◌<◌, true}
 use Rattle.evl_base.specs.Board.{board_fits}
-use Rattle.evl_kernel.specs.Histories.{IsLegal}
-use Rattle.evl_kernel.specs.KernelViews.{KernelView}
+use Rattle.evl_kernel.specs.histories.Histories.{IsLegal}
+use Rattle.evl_kernel.specs.state.KernelViews.{KernelView}
 use Rattle.evl_machine.specs.Accounts.{threads_of}
 use Rattle.evl_machine.specs.Actors.{SeatedActor, Suits, acting}
 use Rattle.evl_machine.specs.Known.{ComesFrom, first_of}

@@ -2,9 +2,9 @@
 use Rattle.std.specs.Prelude.{◌≡◌, ◌==◌, ℕ, Bool, List, [], ◌∷◌, length, slice_get, Option, None, bit_and, bit_or}
 use prog.Atomic.{either}
 use Rattle.atomic_table.specs.Table.{State, Me, Step}
-use Rattle.evl_kernel.specs.Histories.{History}
-use Rattle.evl_kernel.specs.KernelViews.{KernelView}
-use Rattle.evl_kernel.specs.Callbacks.{BringsNone, handlers_in}
+use Rattle.evl_kernel.specs.histories.Histories.{History}
+use Rattle.evl_kernel.specs.state.KernelViews.{KernelView}
+use Rattle.evl_kernel.specs.state.Callbacks.{BringsNone, handlers_in}
 use Rattle.evl_words.specs.Hands.{Hand, Told}
 use Rattle.evl_words.specs.MutexWorld.{MutexView, accepts, frees, offers, settles}
 use Rattle.evl_words.specs.MutexRule.{awaited, claimed, does, forgot, tried, unlocked}

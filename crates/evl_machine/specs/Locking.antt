@@ -10,9 +10,9 @@ use Rattle.evl_base.specs.declared.refusal.Refusal.{Refusal}
 use Rattle.evl_base.specs.declared.refusal.Refusal.TheVariants.{Again, HistoryFull, NoMemory}
 use Rattle.evl_base.specs.declared.reply.Reply.{Reply}
 use Rattle.evl_base.specs.declared.reply.Reply.TheVariants.{Begun as Began, Handed, TimedOut as DeadlineCame}
-use Rattle.evl_kernel.specs.Histories.{IsLegal}
-use Rattle.evl_kernel.specs.KernelViews.{KernelView, AddsEntry, makes_entry}
-use Rattle.evl_kernel.specs.Waits.{has_ended, is_timeout}
+use Rattle.evl_kernel.specs.histories.Histories.{IsLegal}
+use Rattle.evl_kernel.specs.state.KernelViews.{KernelView, AddsEntry, makes_entry}
+use Rattle.evl_kernel.specs.waiting.Waits.{has_ended, is_timeout}
 use Rattle.evl_words.specs.declared.mutex.Claim.TheVariants.{Won, Queued}
 use Rattle.evl_words.specs.declared.mutex.MutexPass.{MutexPass}
 use Rattle.evl_words.specs.MutexCalls.{MutexSeatState}

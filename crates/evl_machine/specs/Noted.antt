@@ -3,9 +3,9 @@ use Rattle.std.specs.Prelude.{◌≡◌, ◌≢◌, ℕ, ◌<◌, Bool, true, fa
 use Rattle.evl_base.specs.declared.numbers.ThreadId.{ThreadId}
 use Rattle.evl_base.specs.declared.refusal.Refusal.{Refusal}
 use Rattle.evl_mutex.specs.Mutexes.{Mutex, is_open_to}
-use Rattle.evl_kernel.specs.States.{State}
-use Rattle.evl_kernel.specs.Histories.{History}
-use Rattle.evl_kernel.specs.MutexEffects.{record_at}
+use Rattle.evl_kernel.specs.state.States.{State}
+use Rattle.evl_kernel.specs.histories.Histories.{History}
+use Rattle.evl_kernel.specs.calls.MutexEffects.{record_at}
 use Rattle.evl_words.specs.declared.mutex.Claim.{Claim}
 use Rattle.evl_words.specs.declared.mutex.MutexPass.{MutexPass}
 use Rattle.evl_words.specs.MutexBits.{claim_reply, offers_to}

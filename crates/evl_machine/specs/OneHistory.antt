@@ -1,7 +1,7 @@
 -- What two callers of one machine know together: of its kernel, of each mutex's word, and of each stax.
 use Rattle.std.specs.Prelude.{◌≡◌, ◌≢◌, ◌⊎◌, ◌<◌, ℕ, List, Some, slice_get}
-use Rattle.evl_kernel.specs.Histories.{History}
-use Rattle.evl_kernel.specs.KernelViews.{KernelView}
+use Rattle.evl_kernel.specs.histories.Histories.{History}
+use Rattle.evl_kernel.specs.state.KernelViews.{KernelView}
 use Rattle.evl_words.specs.declared.history.Place.{Place}
 use Rattle.evl_words.specs.Hands.{place}
 use Rattle.evl_words.specs.GateCalls.{AgreeAtGate, SeatState}

@@ -3,7 +3,7 @@ use Rattle.std.specs.Prelude.{◌≡◌, ◌≢◌, ℕ, ◌<◌, ◌==◌, if�
 use mathlib.Core.Option.{some}
 use lib.ListN.{get_elem?}
 use Rattle.atomic_table.specs.Table.{State}
-use Rattle.evl_kernel.specs.Histories.{History}
+use Rattle.evl_kernel.specs.histories.Histories.{History}
 use Rattle.evl_words.specs.Dealings.{DealingEvent, acts, cuts, gathers}
 use Rattle.evl_words.specs.Events.{Event, seat_after}
 use Rattle.evl_words.specs.Hands.{Hand, Deals, place, hand_from, first_of, rest_of}

@@ -4,8 +4,8 @@ use mathlib.Core.Option.{some}
 use Rattle.evl_base.specs.declared.stage.Stage.TheVariants.{Oob}
 use Rattle.evl_pipeline.specs.Lines.{is_pending}
 use Rattle.evl_clock.specs.Dues.{is_due}
-use Rattle.evl_kernel.specs.Histories.{History, IsLegal}
-use Rattle.evl_kernel.specs.KernelViews.{KernelView}
+use Rattle.evl_kernel.specs.histories.Histories.{History, IsLegal}
+use Rattle.evl_kernel.specs.state.KernelViews.{KernelView}
 use Rattle.evl_machine.specs.CoreRule.{Homes}
 
 -- a line is pending out-of-band only while the out-of-band stage is stalled, and something is due only while line 0 is

@@ -3,7 +3,7 @@ use Rattle.std.specs.Prelude.{◌≡◌, ℕ, List, map, Option, Some, None}
 use mathlib.Core.Option.{some}
 use lib.ListN.{get_elem?}
 use Rattle.atomic_table.specs.Table.{Me}
-use Rattle.evl_kernel.specs.Histories.{History}
+use Rattle.evl_kernel.specs.histories.Histories.{History}
 use Rattle.evl_machine.specs.declared.views.Account.{Account}
 use Rattle.evl_machine.specs.declared.views.CoreView.{CoreView}
 use Rattle.evl_machine.specs.Accounts.{Fits, saw, up_to_date}

@@ -1,7 +1,7 @@
 -- The rule of the table in which the core's lock and the mutex words stand, over one view for each thread.
 use Rattle.std.specs.Prelude.{ℕ, ◌-◌, List, replicate, Option}
 use Rattle.atomic_table.specs.Table.{State}
-use Rattle.evl_kernel.specs.Histories.{History}
+use Rattle.evl_kernel.specs.histories.Histories.{History}
 use Rattle.evl_words.specs.Hands.{Hand, Dealt, hand_from}
 use Rattle.evl_words.specs.Parts.{Tells, Within, Tabled, part_in, put_in}
 use Rattle.evl_words.specs.MutexWorld.{MutexView, newcomer}

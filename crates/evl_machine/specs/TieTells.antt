@@ -2,8 +2,8 @@
 use Rattle.std.specs.Prelude.{◌≡◌, ℕ, ◌-◌, ◌<◌, Bool, true, Option, Some, None}
 use Rattle.atomic_table.specs.Table.{Step}
 use Rattle.evl_mutex.specs.Mutexes.{Mutex, is_open_to}
-use Rattle.evl_kernel.specs.Histories.{History}
-use Rattle.evl_kernel.specs.MutexEffects.{record_at}
+use Rattle.evl_kernel.specs.histories.Histories.{History}
+use Rattle.evl_kernel.specs.calls.MutexEffects.{record_at}
 use Rattle.evl_words.specs.Parts.{Tells}
 use Rattle.evl_words.specs.MutexWorld.{MutexView, owns}
 use Rattle.evl_machine.specs.declared.views.CorePart.{CorePart}

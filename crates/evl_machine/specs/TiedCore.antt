@@ -1,7 +1,7 @@
 -- A free core whose kernel records of each mutex what the mutex's word says.
 use Rattle.std.specs.Prelude.{◌≡◌, ◌+◌, ◌<◌, ℕ, [], ◌∷◌, slice_index, List, Some}
 use mathlib.Core.Option.{some}
-use Rattle.evl_kernel.specs.KernelViews.{KernelView}
+use Rattle.evl_kernel.specs.state.KernelViews.{KernelView}
 use Rattle.evl_machine.specs.CoreRule.{Homes}
 use Rattle.evl_machine.specs.Known.{ceilings_of, mutex_count}
 use Rattle.evl_machine.specs.Ties.{AreTied}

@@ -5,9 +5,9 @@ use lib.ListN.{get_elem?}
 use Rattle.evl_mutex.specs.Queues.{is_nobody}
 use Rattle.evl_mutex.specs.Mutexes.{Mutex, has_ceiling}
 use Rattle.evl_words.specs.MutexBits.{number_in, offers_to}
-use Rattle.evl_kernel.specs.States.{State}
-use Rattle.evl_kernel.specs.Histories.{History}
-use Rattle.evl_kernel.specs.MutexEffects.{record_at, has_got}
+use Rattle.evl_kernel.specs.state.States.{State}
+use Rattle.evl_kernel.specs.histories.Histories.{History}
+use Rattle.evl_kernel.specs.calls.MutexEffects.{record_at, has_got}
 use Rattle.evl_machine.specs.declared.views.CorePart.{CorePart}
 use Rattle.evl_machine.specs.declared.views.Noted.{Noted}
 use Rattle.evl_machine.specs.CoreRule.{Homes}

@@ -6,11 +6,11 @@ use Rattle.evl_base.specs.declared.refusal.Refusal.{Refusal}
 use Rattle.evl_base.specs.declared.refusal.Refusal.TheVariants.{Again}
 use Rattle.evl_base.specs.declared.reply.Reply.{Reply}
 use Rattle.evl_base.specs.declared.reply.Reply.TheVariants.{Begun}
-use Rattle.evl_kernel.specs.Waits.{has_ended}
+use Rattle.evl_kernel.specs.waiting.Waits.{has_ended}
 use Rattle.evl_machine.specs.declared.views.Account.{Account}
 use Rattle.evl_machine.specs.Accounts.{BeginsWith, IsAccount, saw}
 use Rattle.evl_machine.specs.Actors.{keeps_stage, stage_in}
-use Rattle.evl_kernel.specs.KernelViews.{KernelView}
+use Rattle.evl_kernel.specs.state.KernelViews.{KernelView}
 use Rattle.evl_machine.specs.Events.{FailsToTake, Gives, Takes}
 use Rattle.evl_machine.specs.Handles.{CallerState}
 use Rattle.evl_machine.specs.Calls.{Called, CalledAtLast}

@@ -2,8 +2,8 @@
 ghost use Rattle.std.specs.Prelude.{◌≡◌, ◌==◌, ◌&&◌, nat_lt, true, false, Some, None, if◌then◌else◌, All, length, map};
 ghost use Rattle.evl_base.specs.declared.refusal.Refusal.TheVariants.{Busy, HoldsStax};
 ghost use Rattle.evl_base.specs.declared.stage.Stage.TheVariants.{Inband};
-ghost use Rattle.evl_kernel.specs.Callbacks.{AnswersByPlan};
-ghost use Rattle.evl_kernel.specs.Families.{moves_caller, task_of};
+ghost use Rattle.evl_kernel.specs.state.Callbacks.{AnswersByPlan};
+ghost use Rattle.evl_kernel.specs.calls.Families.{moves_caller, task_of};
 ghost use Rattle.evl_machine.specs.Actors.{AreHeldAt, ClaimsOneOf, IsSameActor, Suits, acting, call_refusal, keeps_stage};
 ghost use Rattle.evl_machine.specs.Calls.{Applied};
 ghost use Rattle.evl_machine.specs.Ceilings.{has_ceiling};

@@ -1,9 +1,9 @@
 //! The machine of stored callbacks. These types have no `Model`, since they name the callbacks' type; each keeps, as a
 //! fact, that the callbacks answer what is told of them.
 ghost use Rattle.std.specs.Prelude.{◌≡◌, ◌≢◌, ◌⊎◌, ◌↔◌, ⊤, false, is_some, length, map, nat_lt, All, IfOk, IfErr, MatchOption, MatchResult};
-ghost use Rattle.evl_kernel.specs.Callbacks.{AnswersByPlan};
-ghost use Rattle.evl_kernel.specs.KernelViews.{IsOpened};
-ghost use Rattle.evl_kernel.specs.Openings.{can_open};
+ghost use Rattle.evl_kernel.specs.state.Callbacks.{AnswersByPlan};
+ghost use Rattle.evl_kernel.specs.state.KernelViews.{IsOpened};
+ghost use Rattle.evl_kernel.specs.state.Openings.{can_open};
 ghost use Rattle.evl_machine.specs.Handles.{Belongs, newcomers_of, returned, turned_away};
 ghost use Rattle.evl_machine.specs.Homes.{AreHomes};
 ghost use Rattle.evl_machine.specs.Events.{FailsToTake, Gives, Takes};

@@ -2,7 +2,7 @@
 ghost use Rattle.std.specs.Prelude.{◌≡◌, ◌≢◌, Err, Some};
 ghost use Rattle.evl_base.specs.declared.call.Call.TheVariants.{BeginGet, BeginRead, BeginTake, BeginWrite};
 ghost use Rattle.evl_base.specs.declared.refusal.Refusal.TheVariants.{CoreBusy};
-ghost use Rattle.evl_kernel.specs.Callbacks.{AnswersByPlan};
+ghost use Rattle.evl_kernel.specs.state.Callbacks.{AnswersByPlan};
 ghost use Rattle.evl_machine.specs.declared.unfinished.Unfinished.TheVariants.{Element};
 ghost use Rattle.evl_machine.specs.declared.unfinished.WaitStep.TheVariants.{Begins};
 ghost use Rattle.evl_machine.specs.Calls.{HoldsAtItsStage, wait_of_caller};

@@ -1,6 +1,6 @@
 //! What lies in the slot: the kernel in a box, so that only a pointer moves where the kernel goes out or in.
 ghost use Rattle.std.specs.Prelude.{◌≡◌, IfOk};
-ghost use Rattle.evl_kernel.specs.Callbacks.{AnswersByPlan};
+ghost use Rattle.evl_kernel.specs.state.Callbacks.{AnswersByPlan};
 ghost use Rattle.evl_machine.specs.Calls.{Applied};
 ghost use Rattle.evl_machine.specs.Locking.{Reserves};
 
@@ -17,7 +17,7 @@ pub struct KernelBox<C, A: Allocator> {
 }
 
 impl<C, A: Allocator> Model for KernelBox<C, A> {
-    ghost use Rattle.evl_kernel.specs.KernelViews.{KernelView};
+    ghost use Rattle.evl_kernel.specs.state.KernelViews.{KernelView};
 
     ghost Value = { KernelView C };
 

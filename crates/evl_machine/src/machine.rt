@@ -1,13 +1,13 @@
 //! The machine: the kernel behind the core's lock.
 ghost use Rattle.std.specs.Prelude.{◌≡◌, ◌≢◌, Err, IfErr, IfOk, MatchOption};
 ghost use Rattle.evl_base.specs.declared.refusal.Refusal.TheVariants.{CoreBusy};
-ghost use Rattle.evl_kernel.specs.Callbacks.{AnswersByPlan};
+ghost use Rattle.evl_kernel.specs.state.Callbacks.{AnswersByPlan};
 ghost use Rattle.evl_machine.specs.Accounts.{up_to_date, lost_one};
 ghost use Rattle.evl_machine.specs.Known.{ComesFrom, first_of, past_of, room_of, seen};
 ghost use Rattle.evl_machine.specs.Handles.{Belongs, Continues, IsSameCaller, Taken, account_of, holding, resting};
 ghost use Rattle.evl_machine.specs.Events.{FailsToTake, Gives, Takes};
 ghost use Rattle.std.specs.Prelude.{⊤, None, false, length, slice_get, true};
-ghost use Rattle.evl_kernel.specs.Families.{moves_caller, task_of};
+ghost use Rattle.evl_kernel.specs.calls.Families.{moves_caller, task_of};
 ghost use Rattle.evl_base.specs.Board.{board_fits};
 ghost use Rattle.evl_machine.specs.Actors.{AreHeldAt, ClaimsOneOf, IsSameActor, Suits, acting, call_refusal};
 ghost use Rattle.evl_machine.specs.MutexTokens.{KeepsPlaces};

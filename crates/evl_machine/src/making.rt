@@ -1,9 +1,9 @@
 //! Making a machine, with a caller for each thread of its board.
 ghost use Rattle.std.specs.Prelude.{◌≡◌, ◌≤◌, ◌⊎◌, ◌↔◌, [], ◌∷◌, Some, false, length, IfOk, IfErr};
-ghost use Rattle.evl_kernel.specs.Callbacks.{AnswersByPlan};
-ghost use Rattle.evl_kernel.specs.Histories.{IsLegal};
-ghost use Rattle.evl_kernel.specs.KernelViews.{IsOpened};
-ghost use Rattle.evl_kernel.specs.Openings.{can_open};
+ghost use Rattle.evl_kernel.specs.state.Callbacks.{AnswersByPlan};
+ghost use Rattle.evl_kernel.specs.histories.Histories.{IsLegal};
+ghost use Rattle.evl_kernel.specs.state.KernelViews.{IsOpened};
+ghost use Rattle.evl_kernel.specs.state.Openings.{can_open};
 ghost use Rattle.evl_machine.specs.Accounts.{threads_of};
 ghost use Rattle.evl_machine.specs.Known.{first_known, mutex_count};
 ghost use Rattle.evl_machine.specs.Handles.{newcomers_of};

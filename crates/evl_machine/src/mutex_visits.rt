@@ -1,7 +1,7 @@
 //! What a caller does with a mutex by the kernel: it takes the kernel once, and gives it back.
 ghost use Rattle.std.specs.Prelude.{◌≡◌, ◌<◌, Err, None, Some, length, true};
 ghost use Rattle.evl_base.specs.declared.refusal.Refusal.TheVariants.{CoreBusy};
-ghost use Rattle.evl_kernel.specs.Callbacks.{AnswersByPlan};
+ghost use Rattle.evl_kernel.specs.state.Callbacks.{AnswersByPlan};
 ghost use Rattle.evl_machine.specs.declared.unfinished.Unfinished.TheVariants.{Mutex};
 ghost use Rattle.evl_machine.specs.Calls.{HoldsAtItsStage, wait_of_caller};
 ghost use Rattle.evl_machine.specs.Ceilings.{has_ceiling};

@@ -1,6 +1,6 @@
 //! Locking a mutex, and giving it back, however long it takes.
 ghost use Rattle.std.specs.Prelude.{◌≡◌, false};
-ghost use Rattle.evl_kernel.specs.Callbacks.{AnswersByPlan};
+ghost use Rattle.evl_kernel.specs.state.Callbacks.{AnswersByPlan};
 ghost use Rattle.evl_machine.specs.Calls.{HoldsAtItsStage};
 ghost use Rattle.evl_machine.specs.Handles.{Belongs, IsSameCaller};
 ghost use Rattle.evl_machine.specs.MutexLocks.{BeginsToLock, FinishesToLock};

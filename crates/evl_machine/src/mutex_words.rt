@@ -1,6 +1,6 @@
 //! What a caller at rest does with a mutex by itself: a step of the mutex's word, or none.
 ghost use Rattle.std.specs.Prelude.{◌≡◌, ◌≢◌, ◌<◌, None, Ok, false};
-ghost use Rattle.evl_kernel.specs.Callbacks.{AnswersByPlan};
+ghost use Rattle.evl_kernel.specs.state.Callbacks.{AnswersByPlan};
 ghost use Rattle.evl_words.specs.declared.mutex.Unlock.TheVariants.{Done};
 ghost use Rattle.evl_machine.specs.Calls.{HoldsAtItsStage, wait_of_caller};
 ghost use Rattle.evl_machine.specs.Ceilings.{has_ceiling};

@@ -1,6 +1,6 @@
 //! Locking mutexes and unlocking them, without waiting.
 ghost use Rattle.std.specs.Prelude.{IfErr};
-ghost use Rattle.evl_kernel.specs.Callbacks.{AnswersByPlan};
+ghost use Rattle.evl_kernel.specs.state.Callbacks.{AnswersByPlan};
 ghost use Rattle.evl_machine.specs.Calls.{HoldsAtItsStage};
 ghost use Rattle.evl_machine.specs.Handles.{Belongs, IsSameCaller};
 ghost use Rattle.evl_machine.specs.MutexLocks.{BeginsToLock, FastAnswer, FinishesToLock, TriesToLock, TriesToUnlock, UnlocksFast};

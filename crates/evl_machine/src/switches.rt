@@ -3,7 +3,7 @@ ghost use Rattle.std.specs.Prelude.{◌≡◌, ◌≢◌, Err};
 ghost use Rattle.evl_base.specs.declared.call.Call.TheVariants.{SetStage};
 ghost use Rattle.evl_base.specs.declared.refusal.Refusal.TheVariants.{CoreBusy};
 ghost use Rattle.evl_base.specs.declared.stage.Stage.TheVariants.{Inband, Oob};
-ghost use Rattle.evl_kernel.specs.Callbacks.{AnswersByPlan};
+ghost use Rattle.evl_kernel.specs.state.Callbacks.{AnswersByPlan};
 ghost use Rattle.evl_machine.specs.Calls.{CalledAtLast, HoldsAtItsStage};
 ghost use Rattle.evl_machine.specs.Handles.{Belongs, IsSameCaller};
 

@@ -10,7 +10,7 @@ pub struct Past {
 }
 
 impl Model for Past {
-    ghost use Rattle.evl_kernel.specs.Histories.{History};
+    ghost use Rattle.evl_kernel.specs.histories.Histories.{History};
     ghost use Rattle.evl_machine.specs.Nothing.{no_history};
 
     ghost Value = { History };
@@ -80,7 +80,7 @@ pub struct Made<C> {
 }
 
 impl<C> Model for Made<C> {
-    ghost use Rattle.evl_kernel.specs.KernelViews.{KernelView};
+    ghost use Rattle.evl_kernel.specs.state.KernelViews.{KernelView};
     ghost use Rattle.evl_machine.specs.Nothing.{no_kernel};
 
     ghost Value = { KernelView C };

@@ -4,7 +4,7 @@ use Rattle.std.proofs.lemmas.List.{map-append}
 use Rattle.toml.specs.View.{view, items_view}
 use Rattle.toml.specs.declared.value.Value.{Value}
 use Rattle.toml.proofs.Views.{items_view-drop}
-use Rattle.evl_kernel.specs.States.{Handler}
+use Rattle.evl_kernel.specs.state.States.{Handler}
 use Rattle.evl_plans.specs.declared.faults.BankFault.{BankFault}
 use Rattle.evl_plans.specs.declared.faults.Part.{Part}
 use Rattle.evl_plans.specs.declared.planned.Planned.{Planned}

@@ -5,7 +5,7 @@ use Rattle.toml.specs.Data.{Data, Items, no_items, item, Members, get_member, as
 use Rattle.toml.specs.Parse.{parse_document}
 use Rattle.evl_pipeline.specs.declared.action.Action.{Action}
 use Rattle.evl_pipeline.specs.declared.action.Action.TheVariants.{PostSem, PostFlags, Propagate, PostOob, StopTimer}
-use Rattle.evl_kernel.specs.States.{Handler}
+use Rattle.evl_kernel.specs.state.States.{Handler}
 use Rattle.evl_scenario.specs.Tables.{has_only, value_at, value_or}
 use Rattle.evl_scenario.specs.Values.{number_from, word_from, half_word_from, truth_from}
 use Rattle.evl_plans.specs.Plans.{of_rows}

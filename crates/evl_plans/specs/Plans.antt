@@ -2,7 +2,7 @@
 use Rattle.std.specs.Prelude.{ℕ, List, [], ◌∷◌, bit_or}
 use Rattle.evl_pipeline.specs.declared.action.Action.{Action}
 use Rattle.evl_pipeline.specs.Plans.{kind_of}
-use Rattle.evl_kernel.specs.States.{Handler}
+use Rattle.evl_kernel.specs.state.States.{Handler}
 
 -- these kinds, and those of the actions of these rows
 abbrev pub kinds_with : ℕ → List (ℕ × Action) → ℕ

@@ -1,5 +1,5 @@
 -- What a callback that keeps its plan tells.
-use Rattle.evl_kernel.specs.States.{Handler}
+use Rattle.evl_kernel.specs.state.States.{Handler}
 use Rattle.evl_plans.specs.declared.planned.Planned.{Planned}
 
 -- what a callback declares, and what it answers

@@ -1,11 +1,11 @@
 //! A kernel over callbacks that keep their plans.
 ghost use Rattle.std.specs.Prelude.{◌≡◌, ◌⊎◌, ◌↔◌, ◌+◌, ◌≤◌, ◌<◌, length, false, Err, IsTrue, IsFalse, IfOk, IfErr, OnOk};
-ghost use Rattle.evl_kernel.specs.Callbacks.{BringsNone, handlers_in};
-ghost use Rattle.evl_kernel.specs.Fires.{AddsByCalls};
-ghost use Rattle.evl_kernel.specs.Histories.{IsLegal};
-ghost use Rattle.evl_kernel.specs.KernelViews.{AddsEntry, IsKernelAnswer, IsOpened, makes_entry};
-ghost use Rattle.evl_kernel.specs.Openings.{can_open};
-ghost use Rattle.evl_kernel.specs.Places.{AreInOnePlace};
+ghost use Rattle.evl_kernel.specs.state.Callbacks.{BringsNone, handlers_in};
+ghost use Rattle.evl_kernel.specs.settling.Fires.{AddsByCalls};
+ghost use Rattle.evl_kernel.specs.histories.Histories.{IsLegal};
+ghost use Rattle.evl_kernel.specs.state.KernelViews.{AddsEntry, IsKernelAnswer, IsOpened, makes_entry};
+ghost use Rattle.evl_kernel.specs.state.Openings.{can_open};
+ghost use Rattle.evl_kernel.specs.state.Places.{AreInOnePlace};
 ghost use Rattle.evl_pipeline.specs.Plans.{answer_of};
 
 use crate::planned::Planned;
@@ -21,8 +21,8 @@ pub struct PlannedKernel {
 }
 
 impl Model for PlannedKernel {
-    ghost use Rattle.evl_kernel.specs.Callbacks.{AnswersByPlan};
-    ghost use Rattle.evl_kernel.specs.KernelViews.{KernelView};
+    ghost use Rattle.evl_kernel.specs.state.Callbacks.{AnswersByPlan};
+    ghost use Rattle.evl_kernel.specs.state.KernelViews.{KernelView};
     ghost use Rattle.evl_plans.specs.declared.planned.Planned.{Planned};
 
     ghost Value = { KernelView Planned };

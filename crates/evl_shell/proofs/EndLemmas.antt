@@ -1,6 +1,6 @@
 -- How the program ends.
 use Rattle.std.proofs.Common.{◌≡◌, ◌⊎◌, inl, inr, ℕ, List, [], take, Bool, false, Option, Some, None, Ok, Err, refl, sym, subst}
-use Rattle.evl_kernel.specs.States.{Handler}
+use Rattle.evl_kernel.specs.state.States.{Handler}
 use Rattle.evl_scenario.specs.declared.faults.Fault.{Fault}
 use Rattle.evl_scenario.specs.declared.faults.Fault.TheVariants.{Text, Board, Step, Memory, Write}
 use Rattle.evl_shell.specs.declared.plays.Stop.{Stop}

@@ -7,16 +7,16 @@ use Rattle.evl_base.specs.declared.entry.Entry.{Entry}
 use Rattle.evl_base.specs.declared.play.Play.{Play}
 use Rattle.evl_base.specs.declared.refusal.Refusal.{Refusal}
 use Rattle.evl_base.specs.declared.reply.Reply.{Reply}
-use Rattle.evl_kernel.specs.Histories.{History, Run, Step, IsLegal}
-use Rattle.evl_kernel.specs.Limits.{play_limit}
-use Rattle.evl_kernel.specs.Openings.{opening}
-use Rattle.evl_kernel.specs.Replays.{Outcome, stepped}
-use Rattle.evl_kernel.specs.Serving.{answer}
-use Rattle.evl_kernel.specs.States.{State, Handler}
-use Rattle.evl_kernel.proofs.Determined.{follows_one_way}
-use Rattle.evl_kernel.proofs.EndingLaws.{every_step}
-use Rattle.evl_kernel.proofs.HistoryLaws.{run_more}
-use Rattle.evl_kernel.proofs.Walking.{step_is_stepped}
+use Rattle.evl_kernel.specs.histories.Histories.{History, Run, Step, IsLegal}
+use Rattle.evl_kernel.specs.state.Limits.{play_limit}
+use Rattle.evl_kernel.specs.state.Openings.{opening}
+use Rattle.evl_kernel.specs.histories.Replays.{Outcome, stepped}
+use Rattle.evl_kernel.specs.calls.Serving.{answer}
+use Rattle.evl_kernel.specs.state.States.{State, Handler}
+use Rattle.evl_kernel.proofs.histories.Determined.{follows_one_way}
+use Rattle.evl_kernel.proofs.waiting.EndingLaws.{every_step}
+use Rattle.evl_kernel.proofs.histories.HistoryLaws.{run_more}
+use Rattle.evl_kernel.proofs.settling.Walking.{step_is_stepped}
 use Rattle.evl_scenario.specs.Lines.{board_line_of, board_line_text}
 use Rattle.evl_scenario.specs.Traces.{entry_lines, history_trace, lines_behind}
 use Rattle.evl_scenario.specs.Writings.{step_of_entry}

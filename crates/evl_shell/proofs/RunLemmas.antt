@@ -6,8 +6,8 @@ use Rattle.evl_base.specs.declared.board.Board.{Board}
 use Rattle.evl_base.specs.declared.play.Play.{Play}
 use Rattle.evl_base.specs.declared.refusal.Refusal.{Refusal}
 use Rattle.evl_base.specs.declared.reply.Reply.{Reply}
-use Rattle.evl_kernel.specs.KernelViews.{KernelView, IsOpened}
-use Rattle.evl_kernel.specs.Openings.{opening}
+use Rattle.evl_kernel.specs.state.KernelViews.{KernelView, IsOpened}
+use Rattle.evl_kernel.specs.state.Openings.{opening}
 use Rattle.evl_pipeline.specs.declared.plan.Plan.{Plan}
 use Rattle.evl_scenario.specs.declared.steps.Step.{Step}
 use Rattle.evl_scenario.specs.declared.faults.Fault.{Fault}

@@ -3,7 +3,7 @@ use Rattle.std.proofs.Common.{List, [], ◌∷◌}
 use Rattle.std.proofs.lemmas.List.Elements.{All-nil, All-cons}
 use Rattle.evl_pipeline.specs.Plans.{IsSound}
 use Rattle.evl_pipeline.specs.declared.callback.Callback.{Callback}
-use Rattle.evl_kernel.specs.States.{Handler}
+use Rattle.evl_kernel.specs.state.States.{Handler}
 use Rattle.evl_shell.specs.Histories.{AreSound}
 use Rattle.evl_shell.specs.Runs.{handlers_of}
 

@@ -7,10 +7,10 @@ use Rattle.evl_base.specs.declared.entry.Entry.{Entry}
 use Rattle.evl_base.specs.declared.refusal.Refusal.{Refusal}
 use Rattle.evl_base.specs.declared.refusal.Refusal.TheVariants.{NoMemory, HistoryFull}
 use Rattle.evl_base.specs.declared.reply.Reply.{Reply}
-use Rattle.evl_kernel.specs.Histories.{History}
-use Rattle.evl_kernel.specs.KernelViews.{KernelView, AddsEntry, makes_entry, entry_of}
-use Rattle.evl_kernel.specs.Replays.{Outcome, stepped}
-use Rattle.evl_kernel.proofs.Walking.{step_is_stepped}
+use Rattle.evl_kernel.specs.histories.Histories.{History}
+use Rattle.evl_kernel.specs.state.KernelViews.{KernelView, AddsEntry, makes_entry, entry_of}
+use Rattle.evl_kernel.specs.histories.Replays.{Outcome, stepped}
+use Rattle.evl_kernel.proofs.settling.Walking.{step_is_stepped}
 use Rattle.evl_scenario.specs.declared.steps.Step.{Step}
 use Rattle.evl_shell.specs.Moments.{moment, Tells, wants_memory, number_after}
 use Rattle.evl_shell.specs.Runs.{Moment, Turn, turned_away, entered, turn}

@@ -3,7 +3,7 @@ use Rattle.std.specs.Prelude.{ℕ, ◌≡◌, ◌++◌, length, Bool, true, fals
 use Rattle.evl_base.specs.declared.refusal.Refusal.{Refusal}
 use Rattle.evl_base.specs.declared.refusal.Refusal.TheVariants.{NoMemory}
 use Rattle.evl_base.specs.declared.reply.Reply.{Reply}
-use Rattle.evl_kernel.specs.KernelViews.{KernelView}
+use Rattle.evl_kernel.specs.state.KernelViews.{KernelView}
 use Rattle.evl_shell.specs.Runs.{Moment, Turn}
 
 abbrev pub moment : {C : Type 0} → KernelView C → Moment

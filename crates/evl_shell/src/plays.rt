@@ -1,6 +1,6 @@
 //! Reads a scenario, plays it, and says why it stopped.
 ghost use Rattle.std.specs.Prelude.{◌≡◌, ◌⊎◌, ◌≤◌, ◌++◌, false, length, decimal, codes, IfOk, IfErr};
-ghost use Rattle.evl_kernel.specs.Limits.{callback_limit};
+ghost use Rattle.evl_kernel.specs.state.Limits.{callback_limit};
 ghost use Rattle.evl_scenario.specs.Lines.{line_feed};
 ghost use Rattle.evl_shell.specs.Sinks.{TakesPrefix, Takes};
 ghost use Rattle.evl_shell.specs.Runs.{handlers_of};

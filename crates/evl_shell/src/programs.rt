@@ -1,6 +1,6 @@
 //! The program: what it does with its words.
 ghost use Rattle.std.specs.Prelude.{◌≡◌, ◌≢◌, ◌≤◌, [], false, true, length, map, None, is_some, option_map, IfErr};
-ghost use Rattle.evl_kernel.specs.Limits.{callback_limit};
+ghost use Rattle.evl_kernel.specs.state.Limits.{callback_limit};
 ghost use Rattle.clap.specs.Words.{kind_of};
 ghost use Rattle.evl_shell.specs.Sinks.{Takes};
 ghost use Rattle.evl_shell.specs.Runs.{handlers_of};

@@ -1,9 +1,9 @@
 //! Plays a scenario into a sink.
 ghost use Rattle.std.specs.Prelude.{◌≡◌, ◌≤◌, ◌++◌, length, List, ℕ, [], true, false, Ok, Err, OnOk, OnErr, IfOk, IfErr, drop, string_bytes};
 ghost use Rattle.std.specs.Io.KnownBytes.{Appends};
-ghost use Rattle.evl_kernel.specs.Limits.{callback_limit};
-ghost use Rattle.evl_kernel.specs.Callbacks.{AnswersByPlan};
-ghost use Rattle.evl_kernel.specs.KernelViews.{IsOpened};
+ghost use Rattle.evl_kernel.specs.state.Limits.{callback_limit};
+ghost use Rattle.evl_kernel.specs.state.Callbacks.{AnswersByPlan};
+ghost use Rattle.evl_kernel.specs.state.KernelViews.{IsOpened};
 ghost use Rattle.evl_shell.specs.Sinks.{Passes};
 ghost use Rattle.evl_scenario.specs.Faults.{IsRefusal};
 ghost use Rattle.evl_shell.specs.Faults.{Stopped, Writes, WritesPart, WritesLines, is_write_fault};

@@ -1,7 +1,7 @@
 -- The report and the first outcome that is against what is asked, as the definitions of orders have them.
 use Rattle.std.proofs.Common.{◌≡◌, ◌⊎◌, inr, List, ℕ, Option, Result, Ok, Err, IfOk, refl, subst}
 use Rattle.std.specs.Prelude.{position, string_bytes}
-use Rattle.evl_kernel.specs.States.{Handler}
+use Rattle.evl_kernel.specs.state.States.{Handler}
 use Rattle.lab_orders.specs.declared.tallies.Tally.{Tally}
 use Rattle.lab_scenario_orders.specs.Asks.{is_against}
 use Rattle.lab_scenario_orders.specs.Reports.{report_text}

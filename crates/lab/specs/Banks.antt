@@ -1,6 +1,6 @@
 -- The callbacks that scenarios are played over.
 use Rattle.std.specs.Prelude.{◌≡◌, ℕ, List, Bool, true, Option, None, Some, is_some, is_err, Ok}
-use Rattle.evl_kernel.specs.States.{Handler}
+use Rattle.evl_kernel.specs.state.States.{Handler}
 use Rattle.evl_bank.specs.Bank.{program_bank}
 use Rattle.evl_plans.specs.Banks.{bank_of}
 

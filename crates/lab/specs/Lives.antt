@@ -1,7 +1,7 @@
 -- What `lab live` answers, line by line.
 use Rattle.std.specs.Prelude.{◌≡◌, ◌⊎◌, ℕ, List, [], ◌∷◌, ◌++◌, codes, true, false, Option, Some, None, IsSomeAnd, is_some, Ok, Err}
 use Rattle.std.specs.List.{All}
-use Rattle.evl_kernel.specs.States.{Handler}
+use Rattle.evl_kernel.specs.state.States.{Handler}
 use Rattle.evl_scenario.specs.Scenarios.{Script, scenario_of}
 use Rattle.evl_scenario.specs.Traces.{history_trace}
 use Rattle.evl_scenario.specs.declared.faults.Fault.{Fault}

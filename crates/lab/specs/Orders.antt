@@ -1,7 +1,7 @@
 -- What `lab orders` tells of the orders of callers.
 use Rattle.std.specs.Prelude.{◌≡◌, ◌⊎◌, ◌+◌, ◌-◌, ◌^◌, min, ℕ, Bool, ◌||◌, nat_lt, if◌then◌else◌, List, ◌++◌, codes, length, decimal, position, string_bytes, Option, Some, None, IsSomeAnd, option_and_then}
 use Rattle.toml.specs.Parse.{parse_document}
-use Rattle.evl_kernel.specs.States.{Handler}
+use Rattle.evl_kernel.specs.state.States.{Handler}
 use Rattle.lab_orders.specs.declared.tallies.Tally.{Tally}
 use Rattle.lab_scenario_orders.specs.Asks.{AreOfCallers, Asks, ask_table, is_against}
 use Rattle.lab_scenario_orders.specs.Callers.{IsRefused, IsSetUp}

@@ -1,7 +1,7 @@
 -- What the program writes, and the status that it ends with.
 use Rattle.std.specs.Prelude.{◌≡◌, ℕ, List, [], Bool, true, Option}
 use Rattle.std.specs.Io.KnownBytes.{Appends}
-use Rattle.evl_kernel.specs.States.{Handler}
+use Rattle.evl_kernel.specs.state.States.{Handler}
 use Rattle.lab.specs.Banks.{IsBank}
 use Rattle.lab.specs.Texts.{IsReadOf, reads_input}
 

@@ -19,7 +19,7 @@ use Rattle.lab_callers.specs.declared.views.Shows.{Shows}
 use Rattle.lab_callers.specs.declared.views.View.{View}
 use Rattle.lab_callers_text.specs.declared.acts.CallersStep.{CallersStep}
 use Rattle.lab_callers_text.specs.declared.reading.CallersText.{CallersText}
-use Rattle.evl_kernel.specs.KernelViews.{IsOpened, KernelView}
+use Rattle.evl_kernel.specs.state.KernelViews.{IsOpened, KernelView}
 use Rattle.evl_machine.specs.Closings.{Closes, KeepsOpen}
 use Rattle.evl_machine.specs.Handles.{CallerState, HeldState, MachineState, newcomers_of}
 use Rattle.evl_pipeline.specs.declared.plan.Plan.{Plan}

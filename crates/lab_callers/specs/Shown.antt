@@ -12,7 +12,7 @@ use Rattle.lab_callers.specs.declared.views.Shows.TheVariants as shows
 use Rattle.lab_callers.specs.declared.views.View.{View}
 use Rattle.lab_callers_text.specs.Acts.{act_text}
 use Rattle.lab_callers_text.specs.declared.acts.CallersStep.{CallersStep}
-use Rattle.evl_kernel.specs.Histories.{History}
+use Rattle.evl_kernel.specs.histories.Histories.{History}
 use Rattle.evl_machine.specs.declared.in_word.InWord.{InWord}
 use Rattle.evl_scenario.specs.Lines.{line_feed}
 use Rattle.evl_scenario.specs.Traces.{lines_behind}

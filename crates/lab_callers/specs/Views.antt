@@ -5,7 +5,7 @@ use Rattle.evl_base.specs.declared.stage.Stage.TheVariants.{Inband}
 use Rattle.lab_callers.specs.Crews.{CrewState, StepsAt}
 use Rattle.lab_callers.specs.declared.views.Question.{Question}
 use Rattle.lab_callers.specs.declared.views.View.{View}
-use Rattle.evl_kernel.specs.KernelViews.{KernelView}
+use Rattle.evl_kernel.specs.state.KernelViews.{KernelView}
 use Rattle.evl_machine.specs.Calls.{TookKernel}
 use Rattle.evl_machine.specs.Handles.{CallerState, HeldState, returned}
 use Rattle.evl_machine.specs.InWord.{Agrees}

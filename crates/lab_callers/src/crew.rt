@@ -4,7 +4,7 @@ ghost use Rattle.std.specs.Prelude.{◌≡◌, ◌<◌, All, IfErr, IfOk, IfSome
 ghost use Rattle.std.specs.List.{insert};
 ghost use Rattle.lab_callers.specs.Crews.{CallsByHolder, CallsKernel, GivesCore, Steps, TakesCore, call_fault, crew_at, give_fault, has_core, holder_of, place_fault, place_of};
 ghost use Rattle.lab_callers.specs.Views.{Looks, LooksAt, LooksHeld};
-ghost use Rattle.evl_kernel.specs.Callbacks.{AnswersByPlan};
+ghost use Rattle.evl_kernel.specs.state.Callbacks.{AnswersByPlan};
 ghost use Rattle.evl_machine.specs.Calls.{Called, stage_of_caller};
 ghost use Rattle.evl_machine.specs.MutexLocks.{BeginsToLock, FinishesToLock, TriesToLock, TriesToUnlock, UnlocksFast};
 ghost use Rattle.evl_machine.specs.StaxCalls.{StaxCall};

@@ -1,7 +1,7 @@
 //! Calls of the machine by the caller at a place.
 ghost use Rattle.std.specs.Prelude.{◌≡◌, ◌<◌, All, IfErr, length};
 ghost use Rattle.lab_callers.specs.Crews.{StepsAt};
-ghost use Rattle.evl_kernel.specs.Callbacks.{AnswersByPlan};
+ghost use Rattle.evl_kernel.specs.state.Callbacks.{AnswersByPlan};
 ghost use Rattle.evl_machine.specs.Calls.{Called, stage_of_caller};
 ghost use Rattle.evl_machine.specs.MutexLocks.{BeginsToLock, FinishesToLock, TriesToLock, TriesToUnlock, UnlocksFast};
 ghost use Rattle.evl_machine.specs.StaxCalls.{StaxCall};

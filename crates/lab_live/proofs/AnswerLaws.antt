@@ -1,7 +1,7 @@
 -- What a line is answered, behind what was told before.
 use Rattle.std.proofs.Common.{inl, inr, ◌≡◌, ◌≢◌, ◌∙◌, ◌++◌, ℕ, List, [], length, Option, Some, None, is_some, option_map, Result, Ok, Err, OnOk, append-nil, refl, subst, ap}
 use Rattle.std.proofs.lemmas.Bool.Decides.{eqb_tells}
-use Rattle.evl_kernel.specs.Histories.{History}
+use Rattle.evl_kernel.specs.histories.Histories.{History}
 use Rattle.evl_scenario.specs.Scenarios.{Script}
 use Rattle.evl_scenario.specs.Writings.{scenario_text}
 use Rattle.evl_scenario.specs.declared.steps.Step.{Step}

@@ -5,8 +5,8 @@ use Rattle.std.proofs.lemmas.List.{append_assoc, append-nil, length-append}
 use Rattle.evl_base.specs.declared.board.Board.{Board}
 use Rattle.evl_base.specs.declared.entry.Entry.{Entry}
 use Rattle.evl_base.specs.declared.play.Play.{Play}
-use Rattle.evl_kernel.specs.Histories.{History, IsLegal, Run, opened}
-use Rattle.evl_kernel.specs.States.{State}
+use Rattle.evl_kernel.specs.histories.Histories.{History, IsLegal, Run, opened}
+use Rattle.evl_kernel.specs.state.States.{State}
 use Rattle.evl_scenario.specs.Lines.{board_line_of, board_line_text}
 use Rattle.evl_scenario.specs.Traces.{entry_lines, history_trace, lines_behind}
 use Rattle.evl_scenario.specs.declared.steps.Step.{Step}

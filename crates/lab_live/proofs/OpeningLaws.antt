@@ -7,10 +7,10 @@ use Rattle.evl_base.specs.declared.board.Board.{Board}
 use Rattle.evl_base.specs.declared.entry.Entry.{Entry}
 use Rattle.evl_base.specs.declared.refusal.Refusal.{Refusal}
 use Rattle.evl_base.specs.declared.refusal.Refusal.TheVariants.{Range}
-use Rattle.evl_kernel.specs.Histories.{History}
-use Rattle.evl_kernel.specs.KernelViews.{IsOpened, KernelView}
-use Rattle.evl_kernel.specs.Limits.{callback_limit, history_limit}
-use Rattle.evl_kernel.specs.Openings.{can_open}
+use Rattle.evl_kernel.specs.histories.Histories.{History}
+use Rattle.evl_kernel.specs.state.KernelViews.{IsOpened, KernelView}
+use Rattle.evl_kernel.specs.state.Limits.{callback_limit, history_limit}
+use Rattle.evl_kernel.specs.state.Openings.{can_open}
 use Rattle.evl_plans.specs.declared.planned.Planned.{Planned}
 use Rattle.evl_shell.specs.Histories.{AreSound}
 use Rattle.evl_shell.specs.Runs.{handlers_of}

@@ -5,7 +5,7 @@ use Rattle.std.proofs.lemmas.Grind.{flat_map-append}
 use Rattle.std.proofs.lemmas.List.Elements.{filter-append}
 use Rattle.evl_base.specs.declared.stage.Stage.TheVariants.{Inband, Oob}
 use Rattle.evl_clock.specs.Limits.{timer_count}
-use Rattle.evl_kernel.specs.Histories.{History}
+use Rattle.evl_kernel.specs.histories.Histories.{History}
 use Rattle.evl_scenario.specs.Lines.{line_feed}
 use Rattle.lab_live.specs.Sessions.{Driven}
 use Rattle.lab_live.specs.States.{below, is_none, mutex_line, pending_end, pending_next, pending_so_far, pending_text, stage_line, state_text, thread_line, timer_line}

@@ -6,8 +6,8 @@ use Rattle.evl_base.specs.declared.entry.Entry.{Entry}
 use Rattle.evl_base.specs.declared.refusal.Refusal.{Refusal}
 use Rattle.evl_base.specs.declared.refusal.Refusal.TheVariants.{HistoryFull}
 use Rattle.evl_base.specs.declared.reply.Reply.{Reply}
-use Rattle.evl_kernel.specs.Histories.{History}
-use Rattle.evl_kernel.specs.KernelViews.{AddsEntry, entry_of, makes_entry}
+use Rattle.evl_kernel.specs.histories.Histories.{History}
+use Rattle.evl_kernel.specs.state.KernelViews.{AddsEntry, entry_of, makes_entry}
 use Rattle.evl_scenario.specs.Writings.{step_of_entry}
 use Rattle.evl_scenario.specs.declared.steps.Step.{Step}
 use Rattle.lab_live.specs.Sessions.{Enters, KeepsWithin, MayEnter, asked_under}

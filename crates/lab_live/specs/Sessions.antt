@@ -4,8 +4,8 @@ use Rattle.evl_base.specs.declared.board.Board.{Board}
 use Rattle.evl_base.specs.declared.entry.Entry.{Entry}
 use Rattle.evl_base.specs.declared.play.Play.{Play}
 use Rattle.evl_base.specs.declared.refusal.Refusal.TheVariants.{HistoryFull}
-use Rattle.evl_kernel.specs.Histories.{Extends, History}
-use Rattle.evl_kernel.specs.States.{Handler}
+use Rattle.evl_kernel.specs.histories.Histories.{Extends, History}
+use Rattle.evl_kernel.specs.state.States.{Handler}
 use Rattle.evl_scenario.specs.Lines.{line_text}
 use Rattle.evl_scenario.specs.Scenarios.{Script}
 use Rattle.evl_scenario.specs.Traces.{entry_lines, history_trace}

@@ -18,10 +18,10 @@ use Rattle.evl_clock.specs.declared.timer_state.TimerState.{TimerState}
 use Rattle.evl_clock.specs.declared.timer_state.TimerState.TheVariants.{Idle, Running, Ended}
 use Rattle.evl_sched.specs.Threads.{stage_of}
 use Rattle.evl_mutex.specs.Owners.{owner_at}
-use Rattle.evl_kernel.specs.Histories.{History}
-use Rattle.evl_kernel.specs.MutexEffects.{record_at}
-use Rattle.evl_kernel.specs.States.{State}
-use Rattle.evl_kernel.specs.Waits.{has_ended, has_timed_out, is_waiting}
+use Rattle.evl_kernel.specs.histories.Histories.{History}
+use Rattle.evl_kernel.specs.calls.MutexEffects.{record_at}
+use Rattle.evl_kernel.specs.state.States.{State}
+use Rattle.evl_kernel.specs.waiting.Waits.{has_ended, has_timed_out, is_waiting}
 use Rattle.evl_scenario.specs.Lines.{line_feed}
 use Rattle.lab_live.specs.Sessions.{Driven}
 

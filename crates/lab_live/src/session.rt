@@ -1,8 +1,8 @@
 //! A machine that is driven, with all that it was asked so far.
 ghost use Rattle.std.specs.Prelude.{◌≡◌, ◌≢◌, ◌≤◌, ◌⊎◌, ◌++◌, ◌∷◌, [], List, drop, length, map, None, Ok, Err, OnOk, IfOk, IfErr, IsTrue, IsFalse, string_bytes};
 ghost use Rattle.evl_base.specs.declared.entry.Entry.{Entry};
-ghost use Rattle.evl_kernel.specs.Histories.{IsLegal};
-ghost use Rattle.evl_kernel.specs.KernelViews.{makes_entry};
+ghost use Rattle.evl_kernel.specs.histories.Histories.{IsLegal};
+ghost use Rattle.evl_kernel.specs.state.KernelViews.{makes_entry};
 ghost use Rattle.evl_scenario.specs.Lines.{line_around, step_text};
 ghost use Rattle.evl_scenario.specs.Scenarios.{Script, scenario_of};
 ghost use Rattle.evl_scenario.specs.Traces.{entry_lines, history_trace};

@@ -2,7 +2,7 @@
 use Rattle.std.proofs.Common.{◌≡◌, ◌≤◌, ℕ, ◌+◌, Bool, true, false, arith, if◌then◌else◌, refl, sym, ap, add-one}
 use Rattle.evl_base.specs.declared.stage.Stage.{Stage}
 use Rattle.evl_pipeline.specs.Lines.{is_pending}
-use Rattle.evl_kernel.specs.States.{State}
+use Rattle.evl_kernel.specs.state.States.{State}
 use Rattle.lab_moments.specs.Standings.{pending_below}
 
 pub pending_none : (s : State) (stage : Stage) → 0 ≡ pending_below s stage 0

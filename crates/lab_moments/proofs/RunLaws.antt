@@ -7,8 +7,8 @@ use Rattle.evl_base.specs.declared.refusal.Refusal.TheVariants.{HistoryFull}
 use Rattle.evl_base.specs.declared.reply.Reply.{Reply}
 use Rattle.lab_drawing.specs.declared.lanes.Lane.{Lane}
 use Rattle.lab_drawing.specs.declared.moments.Moment as pictures
-use Rattle.evl_kernel.specs.KernelViews.{AddsEntry, IsOpened, KernelView, makes_entry}
-use Rattle.evl_kernel.specs.Openings.{can_open, opening}
+use Rattle.evl_kernel.specs.state.KernelViews.{AddsEntry, IsOpened, KernelView, makes_entry}
+use Rattle.evl_kernel.specs.state.Openings.{can_open, opening}
 use Rattle.evl_plans.specs.Told.{told}
 use Rattle.evl_plans.specs.declared.planned.Planned.{Planned}
 use Rattle.evl_scenario.specs.Scenarios.{Script}

@@ -3,8 +3,8 @@ use Rattle.std.specs.Prelude.{ℕ, List, [], ◌∷◌, length, filter_map, if�
 use Rattle.lab_drawing.specs.declared.lanes.Lane.{Lane}
 use Rattle.lab_drawing.specs.declared.moments.Moment.{Moment}
 use Rattle.lab_drawing.specs.declared.moments.Standing.{Standing}
-use Rattle.evl_kernel.specs.Openings.{can_open, opening}
-use Rattle.evl_kernel.specs.States.{Handler, State, date}
+use Rattle.evl_kernel.specs.state.Openings.{can_open, opening}
+use Rattle.evl_kernel.specs.state.States.{Handler, State, date}
 use Rattle.evl_scenario.specs.Scenarios.{Script}
 use Rattle.evl_scenario.specs.declared.faults.Fault.{Fault}
 use Rattle.evl_scenario.specs.declared.steps.Step.{Step}

@@ -9,9 +9,9 @@ use Rattle.evl_clock.specs.Timers.{date_of}
 use Rattle.evl_sched.specs.Picks.{picked}
 use Rattle.evl_sched.specs.Threads.{is_attached, is_oob, is_ready, stage_of}
 use Rattle.evl_mutex.specs.Owners.{owner_at}
-use Rattle.evl_kernel.specs.MutexEffects.{record_at}
-use Rattle.evl_kernel.specs.States.{State}
-use Rattle.evl_kernel.specs.ThreadCalls.{rank_of}
+use Rattle.evl_kernel.specs.calls.MutexEffects.{record_at}
+use Rattle.evl_kernel.specs.state.States.{State}
+use Rattle.evl_kernel.specs.calls.ThreadCalls.{rank_of}
 use Rattle.lab_drawing.specs.declared.lanes.Lane.{Lane}
 use Rattle.lab_drawing.specs.declared.lanes.Lane.TheVariants.{Thread, Mutex, Timer, Stage as OfStage}
 use Rattle.lab_drawing.specs.declared.moments.Condition.{Condition}

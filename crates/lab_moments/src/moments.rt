@@ -1,6 +1,6 @@
 //! A moment of a machine.
 ghost use Rattle.std.specs.Prelude.{◌≡◌, IfOk, filter_map};
-ghost use Rattle.evl_kernel.specs.States.{date};
+ghost use Rattle.evl_kernel.specs.state.States.{date};
 ghost use Rattle.lab_moments.specs.Standings.{stands};
 
 use crate::standings::standing;

@@ -5,15 +5,15 @@ use Rattle.evl_base.specs.declared.call.Call.{Call}
 use Rattle.evl_base.specs.declared.call.Call.TheVariants.{Write, BeginWrite}
 use Rattle.evl_base.specs.declared.refusal.Refusal.{Refusal}
 use Rattle.evl_base.specs.declared.reply.Reply.{Reply}
-use Rattle.evl_kernel.specs.Effects.{Effect}
-use Rattle.evl_kernel.specs.Elements.{Touch}
-use Rattle.evl_kernel.specs.Histories.{History}
-use Rattle.evl_kernel.specs.KernelViews.{AddsEntry}
-use Rattle.evl_kernel.specs.Limits.{play_limit}
-use Rattle.evl_kernel.specs.Replays.{Outcome, outcome_of, stepped}
-use Rattle.evl_kernel.specs.Serving.{what_call_does}
-use Rattle.evl_kernel.specs.States.{State}
-use Rattle.evl_kernel.proofs.Walking.{step_is_stepped}
+use Rattle.evl_kernel.specs.calls.Effects.{Effect}
+use Rattle.evl_kernel.specs.calls.Elements.{Touch}
+use Rattle.evl_kernel.specs.histories.Histories.{History}
+use Rattle.evl_kernel.specs.state.KernelViews.{AddsEntry}
+use Rattle.evl_kernel.specs.state.Limits.{play_limit}
+use Rattle.evl_kernel.specs.histories.Replays.{Outcome, outcome_of, stepped}
+use Rattle.evl_kernel.specs.calls.Serving.{what_call_does}
+use Rattle.evl_kernel.specs.state.States.{State}
+use Rattle.evl_kernel.proofs.settling.Walking.{step_is_stepped}
 
 -- one box is enough for a call
 pub few_boxes : (call : Call) → boxes_in_call call ≤ 1

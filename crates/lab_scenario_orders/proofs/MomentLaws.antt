@@ -1,7 +1,7 @@
 -- Moments, and what they stand for.
 use Rattle.std.proofs.Common.{◌≡◌, ℕ, List, [], ◌∷◌, length, map, refl, sym, ◌∙◌, ap}
 use Rattle.std.specs.Prelude.{string_bytes}
-use Rattle.evl_kernel.specs.States.{Handler}
+use Rattle.evl_kernel.specs.state.States.{Handler}
 use Rattle.lab_scenario_orders.specs.Callers.{Seen, begun, first}
 use Rattle.lab_scenario_orders.specs.Moments.{IsMoment, seen_at, trailed}
 use Rattle.lab_scenario_orders.specs.declared.callers.Callers.{Callers}

@@ -4,8 +4,8 @@ use Rattle.std.specs.Prelude.{slice_get, slice_index, slice_index_or, slice_set,
 use Rattle.std.specs.Option.{option_map_or}
 use Rattle.evl_base.specs.declared.refusal.Refusal.{Refusal}
 use Rattle.evl_base.specs.declared.reply.Reply.{Reply}
-use Rattle.evl_kernel.specs.Replays.{stepped}
-use Rattle.evl_kernel.specs.States.{State}
+use Rattle.evl_kernel.specs.histories.Replays.{stepped}
+use Rattle.evl_kernel.specs.state.States.{State}
 use Rattle.evl_scenario.specs.declared.steps.Step.{Step}
 use Rattle.lab_scenario_orders.specs.Callers.{Seen, after, answered, is_held, step_of}
 use Rattle.lab_scenario_orders.specs.Moments.{IsMoment, made_at, seen_from, trailed, trail_after}

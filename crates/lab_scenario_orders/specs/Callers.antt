@@ -10,11 +10,11 @@ use Rattle.evl_base.specs.declared.stage.Stage.{Stage}
 use Rattle.evl_base.specs.declared.stage.Stage.TheVariants.{Oob, Inband}
 use Rattle.evl_sched.specs.Picks.{picked}
 use Rattle.evl_sched.specs.Threads.{is_attached, stage_of}
-use Rattle.evl_kernel.specs.States.{State, Handler}
-use Rattle.evl_kernel.specs.Openings.{opening}
-use Rattle.evl_kernel.specs.Replays.{Outcome, stepped}
-use Rattle.evl_kernel.specs.ThreadCalls.{rank_of}
-use Rattle.evl_kernel.specs.Waits.{is_waiting, has_ended}
+use Rattle.evl_kernel.specs.state.States.{State, Handler}
+use Rattle.evl_kernel.specs.state.Openings.{opening}
+use Rattle.evl_kernel.specs.histories.Replays.{Outcome, stepped}
+use Rattle.evl_kernel.specs.calls.ThreadCalls.{rank_of}
+use Rattle.evl_kernel.specs.waiting.Waits.{is_waiting, has_ended}
 use Rattle.evl_scenario.specs.Scenarios.{Script, scenario_of}
 use Rattle.evl_scenario.specs.declared.faults.Fault.TheVariants.{Memory, Text}
 use Rattle.evl_scenario.specs.declared.steps.Step.{Step}

@@ -3,8 +3,8 @@ use Rattle.std.specs.Prelude.{ℕ, ◌≡◌, List, [], ◌∷◌, ◌++◌, len
 use Rattle.std.specs.Option.{option_map_or}
 use Rattle.evl_base.specs.declared.refusal.Refusal.{Refusal}
 use Rattle.evl_base.specs.declared.reply.Reply.{Reply}
-use Rattle.evl_kernel.specs.States.{State, Handler}
-use Rattle.evl_kernel.specs.Replays.{stepped}
+use Rattle.evl_kernel.specs.state.States.{State, Handler}
+use Rattle.evl_kernel.specs.histories.Replays.{stepped}
 use Rattle.lab_scenario_orders.specs.Callers.{Seen, begun}
 use Rattle.lab_scenario_orders.specs.declared.callers.Callers.{Callers}
 use Rattle.lab_scenario_orders.specs.declared.moments.Moment.{Moment}

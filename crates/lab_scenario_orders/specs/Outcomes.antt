@@ -1,6 +1,6 @@
 -- What all orders of callers end in.
 use Rattle.std.specs.Prelude.{ℕ, ◌≡◌, ◌≤◌, ◌<◌, ◌+◌, ◌⊎◌, true, false, List, [], length, map, All, AllPairs}
-use Rattle.evl_kernel.specs.States.{Handler}
+use Rattle.evl_kernel.specs.state.States.{Handler}
 use Rattle.lab_orders.specs.Fronts.{IsGone}
 use Rattle.lab_orders.specs.Machines.{orders, runs}
 use Rattle.lab_orders.specs.Tallies.{AreDistinct, told_weight}

@@ -15,9 +15,9 @@ use Rattle.evl_pipeline.specs.Lines.{is_pending}
 use Rattle.evl_mutex.specs.Owners.{owner_at}
 use Rattle.evl_sync.specs.Semaphores as semaphores
 use Rattle.evl_xbuf.specs.Xbufs.{stream}
-use Rattle.evl_kernel.specs.MutexEffects.{record_at}
-use Rattle.evl_kernel.specs.States.{State}
-use Rattle.evl_kernel.specs.Waits.{wait_at}
+use Rattle.evl_kernel.specs.calls.MutexEffects.{record_at}
+use Rattle.evl_kernel.specs.state.States.{State}
+use Rattle.evl_kernel.specs.waiting.Waits.{wait_at}
 use Rattle.evl_kernel.specs.declared.waits.Awaited.{Awaited}
 use Rattle.evl_kernel.specs.declared.waits.Awaited.TheVariants.{Sem, Flags, Writing, Reading, Mutex}
 use Rattle.evl_scenario.specs.Lines.{line_feed}

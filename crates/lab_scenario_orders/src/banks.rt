@@ -7,7 +7,7 @@ use std::alloc::{AllocError, Global};
 /// What makes the callbacks of a bank.
 pub trait BankMaker {
     ghost use Rattle.std.specs.Prelude.{List};
-    ghost use Rattle.evl_kernel.specs.States.{Handler};
+    ghost use Rattle.evl_kernel.specs.state.States.{Handler};
 
     /// A callback.
     type Made: Handler;

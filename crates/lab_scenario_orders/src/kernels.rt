@@ -1,9 +1,9 @@
 //! A kernel that is led along steps.
 ghost use Rattle.std.specs.Prelude.{◌≡◌, IfOk, OnOk, option_map};
-ghost use Rattle.evl_kernel.specs.Callbacks.{AnswersByPlan};
-ghost use Rattle.evl_kernel.specs.KernelViews.{makes_entry};
-ghost use Rattle.evl_kernel.specs.Openings.{opening};
-ghost use Rattle.evl_kernel.specs.Replays.{stepped};
+ghost use Rattle.evl_kernel.specs.state.Callbacks.{AnswersByPlan};
+ghost use Rattle.evl_kernel.specs.state.KernelViews.{makes_entry};
+ghost use Rattle.evl_kernel.specs.state.Openings.{opening};
+ghost use Rattle.evl_kernel.specs.histories.Replays.{stepped};
 ghost use Rattle.lab_scenario_orders.specs.Callers.{begun, goes_on, has_turn, is_held, is_turn, set_up};
 ghost use Rattle.lab_scenario_orders.specs.Moments.{made_at, trailed};
 

@@ -8,7 +8,7 @@ pub struct SeenState {}
 
 impl Model for SeenState {
     ghost use Rattle.std.specs.Prelude.{[]};
-    ghost use Rattle.evl_kernel.specs.Openings.{opening};
+    ghost use Rattle.evl_kernel.specs.state.Openings.{opening};
     ghost use Rattle.lab_scenario_orders.specs.Callers.{Seen};
 
     ghost Value = { Seen };

@@ -1,8 +1,8 @@
 //! The callers of a scenario as a world.
 ghost use Rattle.std.specs.Prelude.{◌≡◌, ◌<◌, Some, IfOk, IfSome, length, option_map, slice_get, slice_index};
-ghost use Rattle.evl_kernel.specs.Callbacks.{AnswersByPlan};
-ghost use Rattle.evl_kernel.specs.Replays.{stepped};
-ghost use Rattle.evl_kernel.specs.States.{State};
+ghost use Rattle.evl_kernel.specs.state.Callbacks.{AnswersByPlan};
+ghost use Rattle.evl_kernel.specs.histories.Replays.{stepped};
+ghost use Rattle.evl_kernel.specs.state.States.{State};
 ghost use Rattle.lab_scenario_orders.specs.Callers.{after, begun, go, step_of};
 ghost use Rattle.lab_scenario_orders.specs.Moments.{IsMoment, seen_at, seen_from, trailed};
 

@@ -3,7 +3,7 @@ use Rattle.std.proofs.Common.{◌≡◌, ◌∙◌, ◌<◌, ◌++◌, ◌+◌, 
 use Rattle.std.proofs.lemmas.List.{drop_more}
 use Rattle.evl_base.specs.declared.entry.Entry.{Entry}
 use Rattle.evl_base.specs.declared.stage.Stage.{Stage}
-use Rattle.evl_kernel.specs.States.{State}
+use Rattle.evl_kernel.specs.state.States.{State}
 use Rattle.lab_warnings.specs.Warnings.{pending_line, pending_lines, refusal_line, refusal_lines, wait_line, wait_lines}
 
 -- what is told behind what was told behind a text

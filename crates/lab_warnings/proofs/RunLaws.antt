@@ -7,12 +7,12 @@ use Rattle.evl_base.specs.declared.entry.Entry.{Entry}
 use Rattle.evl_base.specs.declared.refusal.Refusal.{Refusal}
 use Rattle.evl_base.specs.declared.refusal.Refusal.TheVariants.{NoMemory, HistoryFull, Range}
 use Rattle.evl_base.specs.declared.reply.Reply.{Reply}
-use Rattle.evl_kernel.specs.Histories.{History}
-use Rattle.evl_kernel.specs.KernelViews.{AddsEntry, IsOpened, KernelView, entry_of, makes_entry}
-use Rattle.evl_kernel.specs.Openings.{can_open, opening}
-use Rattle.evl_kernel.specs.Replays.{Outcome, stepped}
-use Rattle.evl_kernel.specs.States.{Handler, State}
-use Rattle.evl_kernel.proofs.Walking.{step_is_stepped}
+use Rattle.evl_kernel.specs.histories.Histories.{History}
+use Rattle.evl_kernel.specs.state.KernelViews.{AddsEntry, IsOpened, KernelView, entry_of, makes_entry}
+use Rattle.evl_kernel.specs.state.Openings.{can_open, opening}
+use Rattle.evl_kernel.specs.histories.Replays.{Outcome, stepped}
+use Rattle.evl_kernel.specs.state.States.{Handler, State}
+use Rattle.evl_kernel.proofs.settling.Walking.{step_is_stepped}
 use Rattle.evl_plans.specs.Told.{told}
 use Rattle.evl_plans.specs.declared.planned.Planned.{Planned}
 use Rattle.evl_scenario.specs.Scenarios.{Script}

@@ -6,10 +6,10 @@ use Rattle.evl_base.specs.declared.call.Call.TheVariants.{Arrive, Tick, Post}
 use Rattle.evl_base.specs.declared.entry.Entry.{Entry}
 use Rattle.evl_sched.specs.Picks.{picked}
 use Rattle.evl_sched.specs.Threads.{is_oob, stage_of}
-use Rattle.evl_kernel.specs.KernelViews.{KernelView, entry_of}
-use Rattle.evl_kernel.specs.States.{State}
-use Rattle.evl_kernel.specs.ThreadCalls.{rank_of}
-use Rattle.evl_kernel.specs.Waits.{is_waiting}
+use Rattle.evl_kernel.specs.state.KernelViews.{KernelView, entry_of}
+use Rattle.evl_kernel.specs.state.States.{State}
+use Rattle.evl_kernel.specs.calls.ThreadCalls.{rank_of}
+use Rattle.evl_kernel.specs.waiting.Waits.{is_waiting}
 use Rattle.evl_scenario.specs.declared.steps.Step.{Step}
 use Rattle.evl_shell.specs.Moments.{moment}
 use Rattle.evl_shell.specs.Runs.{Moment, Turn, turn}

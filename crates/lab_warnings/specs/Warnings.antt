@@ -11,9 +11,9 @@ use Rattle.evl_base.specs.declared.stage.Stage.{Stage}
 use Rattle.evl_base.specs.declared.stage.Stage.TheVariants.{Inband, Oob}
 use Rattle.evl_pipeline.specs.Limits.{line_count}
 use Rattle.evl_pipeline.specs.Lines.{is_pending}
-use Rattle.evl_kernel.specs.Openings.{can_open, opening}
-use Rattle.evl_kernel.specs.States.{Handler, State}
-use Rattle.evl_kernel.specs.Waits.{has_ended, is_waiting}
+use Rattle.evl_kernel.specs.state.Openings.{can_open, opening}
+use Rattle.evl_kernel.specs.state.States.{Handler, State}
+use Rattle.evl_kernel.specs.waiting.Waits.{has_ended, is_waiting}
 use Rattle.evl_scenario.specs.Lines.{line_feed, step_text}
 use Rattle.evl_scenario.specs.Scenarios.{Script}
 use Rattle.evl_scenario.specs.Writings.{step_of_entry}

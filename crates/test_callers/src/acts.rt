@@ -1,6 +1,6 @@
 //! What a caller does in a row, and what it is told. Of the caller its machine alone is told by the clauses.
 ghost use Rattle.std.specs.Prelude.{◌≡◌};
-ghost use Rattle.evl_kernel.specs.Callbacks.{AnswersByPlan};
+ghost use Rattle.evl_kernel.specs.state.Callbacks.{AnswersByPlan};
 
 use crate::boards::{FLAGS, XBUF};
 use crate::passes::{Passes, WRITTEN};

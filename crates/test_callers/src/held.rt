@@ -1,6 +1,6 @@
 //! The last caller of a row: it has the core while others call, calls itself meanwhile, and looks at what is left.
 ghost use Rattle.std.specs.Prelude.{◌≡◌, All};
-ghost use Rattle.evl_kernel.specs.Callbacks.{AnswersByPlan};
+ghost use Rattle.evl_kernel.specs.state.Callbacks.{AnswersByPlan};
 
 use crate::acts::{Act, Told, call_of, told_by};
 use crate::boards::FIRST;

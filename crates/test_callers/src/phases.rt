@@ -1,6 +1,6 @@
 //! Phases of a row as data: who calls what and is told what, beside whom, and what is left then.
 ghost use Rattle.std.specs.Prelude.{◌≡◌, All, IfSome};
-ghost use Rattle.evl_kernel.specs.Callbacks.{AnswersByPlan};
+ghost use Rattle.evl_kernel.specs.state.Callbacks.{AnswersByPlan};
 
 use crate::acts::{Act, Told, does};
 use crate::boards::seen_of;

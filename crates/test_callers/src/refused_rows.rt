@@ -1,7 +1,7 @@
 //! A row over memory of which one request is refused, at any of its steps: the step is made once more, and all steps are
 //! answered as they are with memory enough.
 ghost use Rattle.std.specs.Prelude.{◌≡◌, All};
-ghost use Rattle.evl_kernel.specs.Callbacks.{AnswersByPlan};
+ghost use Rattle.evl_kernel.specs.state.Callbacks.{AnswersByPlan};
 
 use crate::acts::{Act, SHORT, Told};
 use crate::boards::{ATTACH, FIRST, NORMAL, board_with};

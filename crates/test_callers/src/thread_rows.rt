@@ -1,6 +1,6 @@
 //! Rows of two host threads as data: what is done before and after them on one, what each does, and what they leave.
 ghost use Rattle.std.specs.Prelude.{◌≡◌, All};
-ghost use Rattle.evl_kernel.specs.Callbacks.{AnswersByPlan};
+ghost use Rattle.evl_kernel.specs.state.Callbacks.{AnswersByPlan};
 
 use crate::boards::{NORMAL, board_with};
 use crate::closing::{End, closes_with};

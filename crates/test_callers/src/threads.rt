@@ -1,6 +1,6 @@
 //! Callers on two host threads.
 ghost use Rattle.std.specs.Prelude.{◌≡◌, ◌≤◌};
-ghost use Rattle.evl_kernel.specs.Callbacks.{AnswersByPlan};
+ghost use Rattle.evl_kernel.specs.state.Callbacks.{AnswersByPlan};
 
 use crate::acts::{Act, Ask, CORE_BUSY, Element, Told, call_of, does};
 use crate::boards::{FIRST, GET, LINE, OTHER, PEEK, PUT, SEM, STAX, WIDE};
@@ -238,7 +238,7 @@ pub struct Hand<C: Drop, A: Allocator> {
 
 impl<C: Handler, A: Allocator> Worker<MachineOf<C, A>> for Hand<C, A> {
     ghost use Rattle.std.specs.Prelude.{◌≡◌};
-    ghost use Rattle.evl_kernel.specs.Callbacks.{AnswersByPlan};
+    ghost use Rattle.evl_kernel.specs.state.Callbacks.{AnswersByPlan};
 
     ghost fits = { λ hand m. (hand.caller.machine ≡ m) × AnswersByPlan C.declared C.plan m.first.callbacks };
 

@@ -1,6 +1,6 @@
 //! Which fires a handler is given, and how often it is called.
 ghost use Rattle.std.specs.Prelude.{◌≡◌, []};
-ghost use Rattle.evl_kernel.specs.Callbacks.{AnswersByPlan};
+ghost use Rattle.evl_kernel.specs.state.Callbacks.{AnswersByPlan};
 ghost use Rattle.evl_pipeline.specs.Plans.{answer_of};
 
 use crate::handlers::{does, quiet, quiet_plan};

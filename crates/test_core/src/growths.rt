@@ -1,6 +1,6 @@
 //! Room for calls, over memory that is too short for it.
 ghost use Rattle.std.specs.Prelude.{◌≡◌};
-ghost use Rattle.evl_kernel.specs.Callbacks.{AnswersByPlan};
+ghost use Rattle.evl_kernel.specs.state.Callbacks.{AnswersByPlan};
 
 use crate::handlers::{board_of, entries, makes_room, reserve};
 use crate::rows::{Row, on_a_quiet_kernel};

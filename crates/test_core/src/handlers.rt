@@ -1,6 +1,6 @@
 //! Plans, answers, handlers and boards for tests, and calls of thread 0.
 ghost use Rattle.std.specs.Prelude.{◌≡◌, [], ◌∷◌, true};
-ghost use Rattle.evl_kernel.specs.Callbacks.{AnswersByPlan};
+ghost use Rattle.evl_kernel.specs.state.Callbacks.{AnswersByPlan};
 ghost use Rattle.evl_pipeline.specs.Plans.{answer_of};
 
 use arrayvec::ArrayVec;

@@ -1,5 +1,5 @@
 //! Kernels over stored closures.
-ghost use Rattle.evl_kernel.specs.Callbacks.{AnswersByPlan};
+ghost use Rattle.evl_kernel.specs.state.Callbacks.{AnswersByPlan};
 
 use crate::handlers::{
     SEM, apply, asks, board_of, does, entries, makes_room, plan, plays, quiet_bank, reserve,

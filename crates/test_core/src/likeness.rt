@@ -1,5 +1,5 @@
 //! Kernels that stand alike, whatever calls led there, and the ready list.
-ghost use Rattle.evl_kernel.specs.Callbacks.{AnswersByPlan};
+ghost use Rattle.evl_kernel.specs.state.Callbacks.{AnswersByPlan};
 
 use crate::handlers::{ATTACH, SEM, board_of, does};
 use crate::rows::leave;

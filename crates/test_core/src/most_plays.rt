@@ -1,6 +1,6 @@
 //! The most plays that one call can be followed by, over a bank of 64 callbacks.
 ghost use Rattle.std.specs.Prelude.{◌≡◌, [], ◌∷◌, true};
-ghost use Rattle.evl_kernel.specs.Callbacks.{AnswersByPlan};
+ghost use Rattle.evl_kernel.specs.state.Callbacks.{AnswersByPlan};
 
 use crate::handlers::{CALLER, asks, bare_board, does, plan, plays, quiet, quiet_plan};
 use crate::rows::{Row, on_a_board};

@@ -1,5 +1,5 @@
 //! What the readers of a kernel tell of its date, its threads and its elements.
-ghost use Rattle.evl_kernel.specs.Callbacks.{AnswersByPlan};
+ghost use Rattle.evl_kernel.specs.state.Callbacks.{AnswersByPlan};
 
 use crate::handlers::{ATTACH, CALLER, SEM, apply, board_of, does};
 use crate::rows::{Row, on_a_quiet_kernel};

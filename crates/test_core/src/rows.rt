@@ -1,6 +1,6 @@
 //! New kernels and new pipelines, lent to what is asked of them, so that each is made in one place.
 ghost use Rattle.std.specs.Prelude.{◌≡◌};
-ghost use Rattle.evl_kernel.specs.Callbacks.{AnswersByPlan};
+ghost use Rattle.evl_kernel.specs.state.Callbacks.{AnswersByPlan};
 
 use crate::fires::{Given, gives_two_fires};
 use crate::growths::stays_as_it_is;

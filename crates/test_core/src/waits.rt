@@ -1,5 +1,5 @@
 //! Waits of a kernel, as its readers tell of them.
-ghost use Rattle.evl_kernel.specs.Callbacks.{AnswersByPlan};
+ghost use Rattle.evl_kernel.specs.state.Callbacks.{AnswersByPlan};
 
 use crate::handlers::{ATTACH, CALLER, SEM, apply, board_of, does, plays};
 use crate::rows::{Row, on_a_quiet_kernel};

@@ -1,6 +1,6 @@
 //! Rows over memory of which one request is refused: the first, the second, and so on until a run makes no more.
 ghost use Rattle.std.specs.Prelude.{◌≡◌};
-ghost use Rattle.evl_kernel.specs.Callbacks.{AnswersByPlan};
+ghost use Rattle.evl_kernel.specs.state.Callbacks.{AnswersByPlan};
 
 use crate::rows::{ROWS, Row};
 use crate::shown::{shown, shows};

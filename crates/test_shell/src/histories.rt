@@ -1,7 +1,7 @@
 //! Traces that are written from the histories of kernels: the program, playing the scenario of such a history, writes
 //! just its trace.
 ghost use Rattle.std.specs.Prelude.{◌≡◌, [], ◌∷◌, true};
-ghost use Rattle.evl_kernel.specs.Callbacks.{AnswersByPlan};
+ghost use Rattle.evl_kernel.specs.state.Callbacks.{AnswersByPlan};
 
 use crate::endings::ends;
 use arrayvec::ArrayVec;

@@ -1,6 +1,6 @@
 -- Why the scenario of a history isn't written is why the history has no texts.
 use Rattle.std.proofs.Common.{true≢false}
-use Rattle.evl_kernel.specs.Histories.{History}
+use Rattle.evl_kernel.specs.histories.Histories.{History}
 use Rattle.evl_scenario.specs.Writings.{IsUnwritten, script_of_history, without_staxes}
 use Rattle.evl_scenario.specs.declared.writing.Unwritten.{Unwritten}
 use Rattle.evl_scenario.specs.declared.writing.Unwritten.TheVariants as unwritten

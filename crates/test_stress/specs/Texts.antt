@@ -1,8 +1,8 @@
 -- A run's history as two texts.
 use Rattle.std.specs.Prelude.{◌≡◌, ◌<◌, List, Ok, None, false, length, string_bytes}
 use Rattle.evl_base.specs.declared.refusal.Refusal.TheVariants.{NoMemory}
-use Rattle.evl_kernel.specs.Histories.{History}
-use Rattle.evl_kernel.specs.States.{Handler}
+use Rattle.evl_kernel.specs.histories.Histories.{History}
+use Rattle.evl_kernel.specs.state.States.{Handler}
 use Rattle.evl_scenario.specs.Writings.{has_keys, scenario_text, script_of_history, without_staxes}
 use Rattle.evl_scenario.specs.declared.writing.Unwritten.TheVariants as unwritten
 use Rattle.evl_shell.specs.Runs.{trace_of}

@@ -1,6 +1,6 @@
 //! A host thread's caller, and what it does by chance.
 ghost use Rattle.std.specs.Prelude.{◌≡◌};
-ghost use Rattle.evl_kernel.specs.Callbacks.{AnswersByPlan};
+ghost use Rattle.evl_kernel.specs.state.Callbacks.{AnswersByPlan};
 
 use crate::session::Session;
 use crate::tools::Tools;

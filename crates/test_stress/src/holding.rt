@@ -1,6 +1,6 @@
 //! The core, taken for two calls.
 ghost use Rattle.std.specs.Prelude.{◌≡◌};
-ghost use Rattle.evl_kernel.specs.Callbacks.{AnswersByPlan};
+ghost use Rattle.evl_kernel.specs.state.Callbacks.{AnswersByPlan};
 
 use crate::boards::MUTEXES;
 use crate::session::Session;

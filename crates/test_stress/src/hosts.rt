@@ -1,6 +1,6 @@
 //! Host threads that work at once on what they share.
 ghost use Rattle.std.specs.Prelude.{◌≡◌, All, IfOk, length};
-ghost use Rattle.evl_kernel.specs.Callbacks.{AnswersByPlan};
+ghost use Rattle.evl_kernel.specs.state.Callbacks.{AnswersByPlan};
 
 use crate::hand::Hand;
 use crate::watch::Watch;
@@ -23,7 +23,7 @@ pub trait Worker<M>: Drop {
 
 impl<C: Handler, A: Allocator> Worker<MachineOf<C, A>> for Hand<C, A> {
     ghost use Rattle.std.specs.Prelude.{◌≡◌};
-    ghost use Rattle.evl_kernel.specs.Callbacks.{AnswersByPlan};
+    ghost use Rattle.evl_kernel.specs.state.Callbacks.{AnswersByPlan};
 
     ghost fits = { λ h m. (h.caller.machine ≡ m) × AnswersByPlan C.declared C.plan m.first.callbacks };
 

@@ -1,9 +1,9 @@
 //! A run of host threads on one machine, from a seed to the texts of what they did.
 ghost use Rattle.std.specs.Prelude.{◌≡◌, ◌≤◌, All, IfOk, length};
-ghost use Rattle.evl_kernel.specs.Limits.{callback_limit};
+ghost use Rattle.evl_kernel.specs.state.Limits.{callback_limit};
 ghost use denote.Param.Send.{IsSync};
 ghost use Rattle.evl_bank.specs.Bank.{program_bank};
-ghost use Rattle.evl_kernel.specs.Callbacks.{AnswersByPlan};
+ghost use Rattle.evl_kernel.specs.state.Callbacks.{AnswersByPlan};
 ghost use Rattle.evl_shell.specs.Histories.{AreSound};
 ghost use Rattle.evl_shell.specs.Runs.{handlers_of};
 ghost use Rattle.test_stress.specs.Boards.{shared_board};

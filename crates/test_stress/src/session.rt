@@ -19,7 +19,7 @@ pub struct Session<'m, C: Handler, A: Allocator> {
 
 impl<'m, C: Handler, A: Allocator> Model for Session<'m, C, A> {
     ghost use Rattle.std.specs.Prelude.{◌≡◌};
-    ghost use Rattle.evl_kernel.specs.Callbacks.{AnswersByPlan};
+    ghost use Rattle.evl_kernel.specs.state.Callbacks.{AnswersByPlan};
     ghost use Rattle.evl_machine.specs.Handles.{MachineState};
 
     ghost Value = { MachineState C };

@@ -1,9 +1,9 @@
 //! The steps of cross-buffers.
 ghost use Rattle.std.specs.Prelude.{◌≡◌, [], Ok, Err, IfErr, IfOk, map};
-ghost use Rattle.evl_kernel.specs.CrossBuffers as through;
-ghost use Rattle.evl_kernel.specs.CrossBuffers.{bytes_told, service_told};
-ghost use Rattle.evl_kernel.specs.Elements.{element, on_xbuf, wakes};
-ghost use Rattle.evl_kernel.specs.ElementsViews.{owners_of};
+ghost use Rattle.evl_kernel.specs.calls.CrossBuffers as through;
+ghost use Rattle.evl_kernel.specs.calls.CrossBuffers.{bytes_told, service_told};
+ghost use Rattle.evl_kernel.specs.calls.Elements.{element, on_xbuf, wakes};
+ghost use Rattle.evl_kernel.specs.state.ElementsViews.{owners_of};
 
 use super::Elements;
 use evl_base::{Bytes, Refusal, Reply, Stage, Way, XbufId};

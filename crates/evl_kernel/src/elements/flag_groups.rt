@@ -1,10 +1,10 @@
 //! The steps of flag groups that calls and actions ask for.
 ghost use Rattle.std.specs.Prelude.{◌≡◌, [], Ok, Err, IfErr, IfOk};
 ghost use Rattle.evl_sync.specs.FlagGroups.{pairs};
-ghost use Rattle.evl_kernel.specs.Elements.{element, on_flags, wakes};
-ghost use Rattle.evl_kernel.specs.ElementsViews.{owners_of};
-ghost use Rattle.evl_kernel.specs.FlagGroups as group;
-ghost use Rattle.evl_kernel.specs.FlagGroups.{all_served};
+ghost use Rattle.evl_kernel.specs.calls.Elements.{element, on_flags, wakes};
+ghost use Rattle.evl_kernel.specs.state.ElementsViews.{owners_of};
+ghost use Rattle.evl_kernel.specs.calls.FlagGroups as group;
+ghost use Rattle.evl_kernel.specs.calls.FlagGroups.{all_served};
 
 use super::Elements;
 use arrayvec::ArrayVec;

@@ -1,13 +1,13 @@
 //! The steps of mutexes, and the ranks that their recorded owners give.
 ghost use Rattle.std.specs.Prelude.{◌≡◌, ◌≢◌, ◌<◌, ℕ, Ok, Err, IfErr, IfOk, false, true, length, option_map, slice_get, slice_set};
 ghost use Rattle.std.specs.Option.{option_map_or};
-ghost use Rattle.evl_kernel.specs.Beginnings.{is_open, is_there, step_of_waiter};
-ghost use Rattle.evl_kernel.specs.Elements.{element, on_mutex, wakes};
-ghost use Rattle.evl_kernel.specs.ElementsViews.{owners_of};
-ghost use Rattle.evl_kernel.specs.Mutexes as recorded;
-ghost use Rattle.evl_kernel.specs.Semaphores.{one_served};
-ghost use Rattle.evl_kernel.specs.Standing.{in_mutex, stands_at};
-ghost use Rattle.evl_kernel.specs.ThreadCalls.{owns_in};
+ghost use Rattle.evl_kernel.specs.waiting.Beginnings.{is_open, is_there, step_of_waiter};
+ghost use Rattle.evl_kernel.specs.calls.Elements.{element, on_mutex, wakes};
+ghost use Rattle.evl_kernel.specs.state.ElementsViews.{owners_of};
+ghost use Rattle.evl_kernel.specs.calls.Mutexes as recorded;
+ghost use Rattle.evl_kernel.specs.calls.Semaphores.{one_served};
+ghost use Rattle.evl_kernel.specs.waiting.Standing.{in_mutex, stands_at};
+ghost use Rattle.evl_kernel.specs.calls.ThreadCalls.{owns_in};
 ghost use Rattle.evl_mutex.specs.Chains.{reaches, waits_for};
 ghost use Rattle.evl_mutex.specs.Changes.{ChangesAreNoted};
 ghost use Rattle.evl_mutex.specs.Owners.{owner_at, rank_of};

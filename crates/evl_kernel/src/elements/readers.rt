@@ -1,6 +1,6 @@
 //! What the elements tell besides the answers of calls.
 ghost use Rattle.std.specs.Prelude.{◌≡◌, length, map, option_map, slice_get};
-ghost use Rattle.evl_kernel.specs.Standing.{queue_at, queue_of};
+ghost use Rattle.evl_kernel.specs.waiting.Standing.{queue_at, queue_of};
 ghost use Rattle.evl_sync.specs.Semaphores as semaphores;
 ghost use Rattle.evl_xbuf.specs.Xbufs.{stream};
 

@@ -1,10 +1,10 @@
 //! The steps of semaphores that calls and actions ask for.
 ghost use Rattle.std.specs.Prelude.{◌≡◌, Ok, Err, IfErr, IfOk};
 ghost use Rattle.evl_sync.specs.Queues.{number_of};
-ghost use Rattle.evl_kernel.specs.Elements.{element, on_sem, wakes};
-ghost use Rattle.evl_kernel.specs.ElementsViews.{owners_of};
-ghost use Rattle.evl_kernel.specs.Semaphores as semaphore;
-ghost use Rattle.evl_kernel.specs.Semaphores.{one_served};
+ghost use Rattle.evl_kernel.specs.calls.Elements.{element, on_sem, wakes};
+ghost use Rattle.evl_kernel.specs.state.ElementsViews.{owners_of};
+ghost use Rattle.evl_kernel.specs.calls.Semaphores as semaphore;
+ghost use Rattle.evl_kernel.specs.calls.Semaphores.{one_served};
 
 use super::Elements;
 use evl_base::{Refusal, Reply, SemId, ThreadId};

@@ -2,11 +2,11 @@
 //! makes an entry.
 ghost use Rattle.std.specs.Prelude.{◌≡◌, ◌++◌, IfErr, None, OnErr, OnOk, Some, length, map, option_map, slice_get, if◌then◌else◌};
 ghost use Rattle.evl_base.specs.declared.refusal.Refusal.{Refusal};
-ghost use Rattle.evl_kernel.specs.Histories.{IsLegal};
-ghost use Rattle.evl_kernel.specs.Standing.{queue_of};
-ghost use Rattle.evl_kernel.specs.States.{date};
-ghost use Rattle.evl_kernel.specs.ThreadCalls.{rank_of};
-ghost use Rattle.evl_kernel.specs.Waits.{wait_at};
+ghost use Rattle.evl_kernel.specs.histories.Histories.{IsLegal};
+ghost use Rattle.evl_kernel.specs.waiting.Standing.{queue_of};
+ghost use Rattle.evl_kernel.specs.state.States.{date};
+ghost use Rattle.evl_kernel.specs.calls.ThreadCalls.{rank_of};
+ghost use Rattle.evl_kernel.specs.waiting.Waits.{wait_at};
 ghost use Rattle.evl_sched.specs.Picks.{picked};
 ghost use Rattle.evl_sched.specs.Threads.{is_attached, is_ready, seat_at};
 ghost use Rattle.evl_sync.specs.Semaphores as semaphores;

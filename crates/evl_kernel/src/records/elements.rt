@@ -1,17 +1,17 @@
 //! The calls on semaphores, flag groups and cross-buffers.
 ghost use Rattle.std.specs.Prelude.{◌≡◌, ◌≤◌, ◌+◌, true, false, map};
 ghost use Rattle.evl_sync.specs.FlagGroups.{pairs};
-ghost use Rattle.evl_kernel.specs.Elements.{elements, on_flags, on_sem, on_xbuf, stepping};
-ghost use Rattle.evl_kernel.specs.CrossBuffers as through;
-ghost use Rattle.evl_kernel.specs.CrossBuffers.{service_told};
+ghost use Rattle.evl_kernel.specs.calls.Elements.{elements, on_flags, on_sem, on_xbuf, stepping};
+ghost use Rattle.evl_kernel.specs.calls.CrossBuffers as through;
+ghost use Rattle.evl_kernel.specs.calls.CrossBuffers.{service_told};
 ghost use Rattle.evl_sched.specs.Threads.{stage_of};
-ghost use Rattle.evl_kernel.specs.FlagGroups as group;
-ghost use Rattle.evl_kernel.specs.FlagGroups.{all_served};
-ghost use Rattle.evl_kernel.specs.KernelViews.{Has, IsAnswer};
-ghost use Rattle.evl_kernel.specs.Records.{KeepsCallbacks, state_of};
-ghost use Rattle.evl_kernel.specs.Semaphores as semaphore;
-ghost use Rattle.evl_kernel.specs.Standing.{is_served, stands_for};
-ghost use Rattle.evl_kernel.specs.Waits.{all_woken};
+ghost use Rattle.evl_kernel.specs.calls.FlagGroups as group;
+ghost use Rattle.evl_kernel.specs.calls.FlagGroups.{all_served};
+ghost use Rattle.evl_kernel.specs.state.KernelViews.{Has, IsAnswer};
+ghost use Rattle.evl_kernel.specs.state.Records.{KeepsCallbacks, state_of};
+ghost use Rattle.evl_kernel.specs.calls.Semaphores as semaphore;
+ghost use Rattle.evl_kernel.specs.waiting.Standing.{is_served, stands_for};
+ghost use Rattle.evl_kernel.specs.waiting.Waits.{all_woken};
 ghost use Rattle.evl_kernel.specs.declared.waits.Awaited.{Awaited as AwaitedOne};
 
 use super::Records;

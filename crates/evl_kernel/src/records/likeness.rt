@@ -1,7 +1,7 @@
 //! Whether the records of two kernels stand alike.
 ghost use Rattle.std.specs.Prelude.{◌≡◌, true};
-ghost use Rattle.evl_kernel.specs.Callbacks.{handlers_in};
-ghost use Rattle.evl_kernel.specs.Records.{state_of};
+ghost use Rattle.evl_kernel.specs.state.Callbacks.{handlers_in};
+ghost use Rattle.evl_kernel.specs.state.Records.{state_of};
 
 use super::Records;
 use crate::bank::are_homes_alike;

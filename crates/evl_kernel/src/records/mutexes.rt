@@ -1,12 +1,12 @@
 //! The calls on mutexes: a claim, which begins a wait, a release and a raise.
 ghost use Rattle.std.specs.Prelude.{◌≡◌, ◌<◌, None, true};
-ghost use Rattle.evl_kernel.specs.Beginnings.{beginning, is_there, is_named, may_name, waiter_refusal};
-ghost use Rattle.evl_kernel.specs.Elements.{elements, on_mutex, stepping};
-ghost use Rattle.evl_kernel.specs.KernelViews.{Has, IsAnswer};
-ghost use Rattle.evl_kernel.specs.Mutexes as mutex_step;
-ghost use Rattle.evl_kernel.specs.OwnerCalls.{raising};
-ghost use Rattle.evl_kernel.specs.Records.{KeepsCallbacks, state_of};
-ghost use Rattle.evl_kernel.specs.Waits.{wait_at};
+ghost use Rattle.evl_kernel.specs.waiting.Beginnings.{beginning, is_there, is_named, may_name, waiter_refusal};
+ghost use Rattle.evl_kernel.specs.calls.Elements.{elements, on_mutex, stepping};
+ghost use Rattle.evl_kernel.specs.state.KernelViews.{Has, IsAnswer};
+ghost use Rattle.evl_kernel.specs.calls.Mutexes as mutex_step;
+ghost use Rattle.evl_kernel.specs.calls.OwnerCalls.{raising};
+ghost use Rattle.evl_kernel.specs.state.Records.{KeepsCallbacks, state_of};
+ghost use Rattle.evl_kernel.specs.waiting.Waits.{wait_at};
 ghost use Rattle.evl_kernel.specs.declared.waits.Awaited.TheVariants.{Mutex as OnMutex};
 ghost use Rattle.evl_kernel.specs.declared.waits.Wanted.TheVariants.{Mutex as WantsMutex};
 

@@ -1,12 +1,12 @@
 //! Settling: one play after another until nothing is playable.
 ghost use Rattle.std.specs.Prelude.{◌≡◌, ◌+◌, ◌≤◌, ◌<◌, ◌*◌, ◌-◌, false, None, Some, IfSome, IfNone, length, vec_len, vec_capacity};
 ghost use Rattle.evl_clock.specs.Dues.{next_due};
-ghost use Rattle.evl_kernel.specs.Callbacks.{AnswersByPlan};
-ghost use Rattle.evl_kernel.specs.Records.{KeepsCallbacks, state_of, whereabouts};
-ghost use Rattle.evl_kernel.specs.Fires.{Called};
-ghost use Rattle.evl_kernel.specs.Limits.{inband_limit, play_limit};
-ghost use Rattle.evl_kernel.specs.Settling.{acted, all_acted, answered, due_played, is_of_clock, line_goes, next_play, one_inband};
-ghost use Rattle.evl_kernel.specs.Settled.{Appends, left_after, left_to_play, settling, stage_of, waiting};
+ghost use Rattle.evl_kernel.specs.state.Callbacks.{AnswersByPlan};
+ghost use Rattle.evl_kernel.specs.state.Records.{KeepsCallbacks, state_of, whereabouts};
+ghost use Rattle.evl_kernel.specs.settling.Fires.{Called};
+ghost use Rattle.evl_kernel.specs.state.Limits.{inband_limit, play_limit};
+ghost use Rattle.evl_kernel.specs.settling.Settling.{acted, all_acted, answered, due_played, is_of_clock, line_goes, next_play, one_inband};
+ghost use Rattle.evl_kernel.specs.settling.Settled.{Appends, left_after, left_to_play, settling, stage_of, waiting};
 
 use super::Records;
 use crate::served_lists::ServedLists;

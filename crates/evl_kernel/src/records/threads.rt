@@ -1,9 +1,9 @@
 //! The calls on threads.
 ghost use Rattle.std.specs.Prelude.{◌≡◌};
 ghost use Rattle.evl_base.specs.declared.reply.Reply.{Reply};
-ghost use Rattle.evl_kernel.specs.KernelViews.{Has, IsAnswer};
-ghost use Rattle.evl_kernel.specs.Records.{KeepsCallbacks, state_of};
-ghost use Rattle.evl_kernel.specs.ThreadCalls as thread_call;
+ghost use Rattle.evl_kernel.specs.state.KernelViews.{Has, IsAnswer};
+ghost use Rattle.evl_kernel.specs.state.Records.{KeepsCallbacks, state_of};
+ghost use Rattle.evl_kernel.specs.calls.ThreadCalls as thread_call;
 
 use super::Records;
 use crate::ranks;

@@ -1,10 +1,10 @@
 //! The calls on the date and the timers.
 ghost use Rattle.std.specs.Prelude.{◌≡◌, ◌<◌, length, map, None, Some, slice_set, slice_index_or};
 ghost use Rattle.evl_clock.specs.Timers.{is_timer_allowed};
-ghost use Rattle.evl_kernel.specs.Callbacks.{AnswersByPlan};
-ghost use Rattle.evl_kernel.specs.KernelViews.{Has, IsAnswer};
-ghost use Rattle.evl_kernel.specs.Records.{KeepsCallbacks, state_of, whereabouts};
-ghost use Rattle.evl_kernel.specs.TimerCalls as timer_call;
+ghost use Rattle.evl_kernel.specs.state.Callbacks.{AnswersByPlan};
+ghost use Rattle.evl_kernel.specs.state.KernelViews.{Has, IsAnswer};
+ghost use Rattle.evl_kernel.specs.state.Records.{KeepsCallbacks, state_of, whereabouts};
+ghost use Rattle.evl_kernel.specs.calls.TimerCalls as timer_call;
 
 use super::Records;
 use crate::bank::{Numbered, kinds_in, put_back, take_out};

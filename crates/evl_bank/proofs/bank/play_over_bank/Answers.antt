@@ -1,6 +1,6 @@
 use Rattle.std.proofs.Common.{◌≡◌, List, [], ◌∷◌, map, subst, ap, ◌∙◌}
 use Rattle.evl_base.specs.declared.action_kinds.ActionKinds.{ActionKinds}
-use Rattle.evl_kernel.specs.States.{Handler}
+use Rattle.evl_kernel.specs.state.States.{Handler}
 use Rattle.evl_bank.specs.Bank.{program_bank}
 use Rattle.evl_shell.specs.Programs.{Answers}
 use Rattle.evl_shell.specs.Runs.{handlers_of}

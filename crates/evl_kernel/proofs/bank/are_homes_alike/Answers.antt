@@ -1,5 +1,5 @@
 use Rattle.std.proofs.Common.{◌≡◌, ◌<◌, length, refl, arith}
-use Rattle.evl_kernel.specs.Callbacks.{is_home}
+use Rattle.evl_kernel.specs.state.Callbacks.{is_home}
 use Rattle.evl_pipeline.proofs.LikenessLaws.{alike-at, alike-more}
 use Rattle.evl_kernel.proofs.bank.are_homes_alike.Goals as goal
 

@@ -1,7 +1,7 @@
 use Rattle.std.proofs.Common.{ℕ}
 use Rattle.evl_base.specs.Limits.{sizes_fit}
 use Rattle.evl_xbuf.specs.Xbufs as cross_buffers
-use Rattle.evl_kernel.proofs.XbufOpenings.{all_here, one_made}
+use Rattle.evl_kernel.proofs.calls.XbufOpenings.{all_here, one_made}
 use Rattle.evl_kernel.proofs.elements.opened_xbufs.Goals as goal
 
 pub opened_xbuf-requires : goal.opened_xbuf-requires

@@ -1,4 +1,4 @@
-use Rattle.evl_kernel.proofs.OwnRunLaws.{xbufs_by_themselves}
+use Rattle.evl_kernel.proofs.histories.OwnRunLaws.{xbufs_by_themselves}
 use Rattle.evl_kernel.proofs.laws.cross_buffers_run_by_themselves.Goals as goal
 
 pub returns : goal.returns

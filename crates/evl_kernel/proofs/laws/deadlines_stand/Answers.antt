@@ -1,4 +1,4 @@
-use Rattle.evl_kernel.proofs.DeadlineLaws.{deadlines_are}
+use Rattle.evl_kernel.proofs.waiting.DeadlineLaws.{deadlines_are}
 use Rattle.evl_kernel.proofs.laws.deadlines_stand.Goals as goal
 
 pub returns : goal.returns

@@ -1,4 +1,4 @@
-use Rattle.evl_kernel.proofs.OwnRunLaws.{flags_by_themselves}
+use Rattle.evl_kernel.proofs.histories.OwnRunLaws.{flags_by_themselves}
 use Rattle.evl_kernel.proofs.laws.flag_groups_run_by_themselves.Goals as goal
 
 pub returns : goal.returns

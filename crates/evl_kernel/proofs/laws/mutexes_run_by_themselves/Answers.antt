@@ -1,4 +1,4 @@
-use Rattle.evl_kernel.proofs.OwnRunLaws.{mutexes_by_themselves}
+use Rattle.evl_kernel.proofs.histories.OwnRunLaws.{mutexes_by_themselves}
 use Rattle.evl_kernel.proofs.laws.mutexes_run_by_themselves.Goals as goal
 
 pub returns : goal.returns

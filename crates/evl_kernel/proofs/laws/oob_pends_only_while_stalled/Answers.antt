@@ -1,4 +1,4 @@
-use Rattle.evl_kernel.proofs.QuietLaws.{stalled_while_pending}
+use Rattle.evl_kernel.proofs.settling.QuietLaws.{stalled_while_pending}
 use Rattle.evl_kernel.proofs.laws.oob_pends_only_while_stalled.Goals as goal
 
 pub returns : goal.returns

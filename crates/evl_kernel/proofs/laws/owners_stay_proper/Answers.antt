@@ -1,4 +1,4 @@
-use Rattle.evl_kernel.proofs.OwnerLaws.{owners_stay}
+use Rattle.evl_kernel.proofs.histories.OwnerLaws.{owners_stay}
 use Rattle.evl_kernel.proofs.laws.owners_stay_proper.Goals as goal
 
 pub returns : goal.returns

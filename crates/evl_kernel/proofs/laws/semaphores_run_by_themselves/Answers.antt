@@ -1,4 +1,4 @@
-use Rattle.evl_kernel.proofs.OwnRunLaws.{by_themselves}
+use Rattle.evl_kernel.proofs.histories.OwnRunLaws.{by_themselves}
 use Rattle.evl_kernel.proofs.laws.semaphores_run_by_themselves.Goals as goal
 
 pub returns : goal.returns

@@ -1,4 +1,4 @@
-use Rattle.evl_kernel.proofs.StageLaws.{stages_are}
+use Rattle.evl_kernel.proofs.histories.StageLaws.{stages_are}
 use Rattle.evl_kernel.proofs.laws.stages_are_the_threads_own.Goals as goal
 
 pub returns : goal.returns

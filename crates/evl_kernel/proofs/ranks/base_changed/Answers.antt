@@ -1,9 +1,9 @@
 use Rattle.std.proofs.Common.{ℕ, List, length, slice_set, ap, ◌∙◌}
 use Rattle.std.proofs.lemmas.List.{length-set}
-use Rattle.evl_kernel.specs.ChangedThreads.{is_noted}
-use Rattle.evl_kernel.specs.ElementsViews.{owners_of}
-use Rattle.evl_kernel.proofs.ChangedLaws.{given-told}
-use Rattle.evl_kernel.proofs.HandLaws.{base-told}
+use Rattle.evl_kernel.specs.state.ChangedThreads.{is_noted}
+use Rattle.evl_kernel.specs.state.ElementsViews.{owners_of}
+use Rattle.evl_kernel.proofs.state.ChangedLaws.{given-told}
+use Rattle.evl_kernel.proofs.calls.HandLaws.{base-told}
 use Rattle.evl_kernel.proofs.ranks.base_changed.Goals as goal
 
 pub hand_on-requires-clause-told : goal.hand_on-requires-clause-told

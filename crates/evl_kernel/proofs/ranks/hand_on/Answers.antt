@@ -3,10 +3,10 @@ use Rattle.std.specs.Option.{option_map_or}
 use Rattle.evl_bitmap.specs.NumberSet.{NumberSet, least, remove}
 use Rattle.evl_bitmap.proofs.NumberSetLaws.{least-none, length-remove_least}
 use Rattle.evl_sched.specs.Threads.{Sched}
-use Rattle.evl_kernel.specs.ChangedThreads.{AreGivenBut, is_noted}
-use Rattle.evl_kernel.specs.ElementsViews.{owners_of}
-use Rattle.evl_kernel.specs.Records.{AreTold}
-use Rattle.evl_kernel.proofs.ChangedLaws.{given-all, given-more}
+use Rattle.evl_kernel.specs.state.ChangedThreads.{AreGivenBut, is_noted}
+use Rattle.evl_kernel.specs.state.ElementsViews.{owners_of}
+use Rattle.evl_kernel.specs.state.Records.{AreTold}
+use Rattle.evl_kernel.proofs.state.ChangedLaws.{given-all, given-more}
 use Rattle.evl_kernel.proofs.ranks.hand_on.Goals as goal
 
 pub loop-thread-smaller : goal.loop-thread-smaller

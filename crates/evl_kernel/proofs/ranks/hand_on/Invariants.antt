@@ -1,6 +1,6 @@
 use Rattle.std.proofs.Common.{◌≡◌, length}
-use Rattle.evl_kernel.specs.ChangedThreads.{AreGivenBut, is_noted}
-use Rattle.evl_kernel.specs.ElementsViews.{owners_of}
+use Rattle.evl_kernel.specs.state.ChangedThreads.{AreGivenBut, is_noted}
+use Rattle.evl_kernel.specs.state.ElementsViews.{owners_of}
 use Rattle.evl_kernel.proofs.ranks.hand_on.Given as goal
 
 abbrev pub invariant-loop-thread : goal.invariant-loop-thread

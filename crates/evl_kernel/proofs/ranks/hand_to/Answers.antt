@@ -1,4 +1,4 @@
-use Rattle.evl_kernel.proofs.HandLaws.{given-rank}
+use Rattle.evl_kernel.proofs.calls.HandLaws.{given-rank}
 use Rattle.evl_kernel.proofs.ranks.hand_to.Goals as goal
 
 pub returns-then-given-rank-clause-given : goal.returns-then-given-rank-clause-given

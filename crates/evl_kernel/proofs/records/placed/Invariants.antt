@@ -1,4 +1,4 @@
-use Rattle.evl_kernel.specs.Callbacks.{AreFilled}
+use Rattle.evl_kernel.specs.state.Callbacks.{AreFilled}
 use Rattle.evl_kernel.proofs.records.placed.Given as goal
 
 abbrev pub invariant-loop-callback : goal.invariant-loop-callback

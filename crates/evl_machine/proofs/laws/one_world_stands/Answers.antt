@@ -1,4 +1,4 @@
-use Rattle.evl_kernel.proofs.OpeningLaws.{threads_few}
+use Rattle.evl_kernel.proofs.state.OpeningLaws.{threads_few}
 use Rattle.evl_machine.specs.Known.{ComesFrom, ceilings_of, mutex_count, past_of, room_of}
 use Rattle.evl_machine.proofs.OneWorldLaws.{one_dealings_keep}
 use Rattle.evl_machine.proofs.TieOpens.{opens_as_first}

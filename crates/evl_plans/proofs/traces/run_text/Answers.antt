@@ -1,5 +1,5 @@
 use Rattle.std.proofs.Common.{◌≡◌, ◌∙◌, List, map, take_all, ap, arith}
-use Rattle.evl_kernel.specs.States.{Handler}
+use Rattle.evl_kernel.specs.state.States.{Handler}
 use Rattle.evl_shell.specs.Runs.{trace_of}
 use Rattle.evl_shell.specs.Runs.{handlers_of}
 use Rattle.evl_plans.specs.Told.{told}

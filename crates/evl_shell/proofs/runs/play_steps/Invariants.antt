@@ -1,5 +1,5 @@
 use Rattle.std.proofs.Common.{◌≡◌, false, ℕ, List, ◌++◌}
-use Rattle.evl_kernel.specs.Callbacks.{AnswersByPlan}
+use Rattle.evl_kernel.specs.state.Callbacks.{AnswersByPlan}
 use Rattle.evl_scenario.specs.Lines.{AreLines}
 use Rattle.evl_shell.specs.Moments.{moment}
 use Rattle.evl_shell.specs.Runs.{lines_from}

@@ -1,6 +1,6 @@
 use Rattle.std.proofs.Common.{◌≡◌, ◌⊎◌, inl, inr, List, true, Result, Err, refl}
 use Rattle.std.specs.Prelude.{is_err}
-use Rattle.evl_kernel.specs.States.{Handler}
+use Rattle.evl_kernel.specs.state.States.{Handler}
 use Rattle.evl_plans.specs.declared.faults.BankFault.{BankFault}
 use Rattle.evl_plans.specs.declared.faults.BankFault.TheVariants.{Memory}
 use Rattle.lab.proofs.banks.read_text.Goals as goal

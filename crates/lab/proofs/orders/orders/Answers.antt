@@ -1,6 +1,6 @@
 use Rattle.std.proofs.Common.{List, ap, codes, map, option_map, refl, subst, sym}
 use Rattle.std.specs.Prelude.{unwrap_or}
-use Rattle.evl_kernel.specs.States.{Handler}
+use Rattle.evl_kernel.specs.state.States.{Handler}
 use Rattle.evl_plans.specs.Told.{told}
 use Rattle.evl_plans.specs.declared.planned.Planned.{Planned}
 use Rattle.lab.specs.Banks.{IsBank}

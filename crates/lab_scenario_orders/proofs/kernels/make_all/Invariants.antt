@@ -1,5 +1,5 @@
 use Rattle.std.proofs.Common.{◌≡◌, drop}
-use Rattle.evl_kernel.specs.Callbacks.{AnswersByPlan}
+use Rattle.evl_kernel.specs.state.Callbacks.{AnswersByPlan}
 use Rattle.lab_scenario_orders.specs.Moments.{trailed}
 use Rattle.lab_scenario_orders.proofs.kernels.make_all.Given as goal
 

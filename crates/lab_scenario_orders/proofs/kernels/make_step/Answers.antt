@@ -1,6 +1,6 @@
 use Rattle.std.proofs.Common.{◌∙◌, sym, ap}
 use Rattle.evl_base.specs.declared.call.Call.{Call}
-use Rattle.evl_kernel.specs.Replays.{stepped}
+use Rattle.evl_kernel.specs.histories.Replays.{stepped}
 use Rattle.lab_scenario_orders.proofs.CallLaws.{entered_bank, entered_reply, entered_state}
 use Rattle.lab_scenario_orders.proofs.kernels.make_step.Goals as goal
 

@@ -1,6 +1,6 @@
 use Rattle.std.proofs.Common.{◌++◌, ◌∙◌, ap, map}
 use Rattle.std.specs.Prelude.{string_bytes}
-use Rattle.evl_kernel.specs.States.{State}
+use Rattle.evl_kernel.specs.state.States.{State}
 use Rattle.lab_scenario_orders.specs.Told.{callers_text, elements_text, pending_text}
 use Rattle.lab_scenario_orders.proofs.outcomes.tally_at.Goals as goal
 

@@ -1,6 +1,6 @@
 use Rattle.std.proofs.Common.{Some, sym, ◌∙◌, ap}
-use Rattle.evl_kernel.specs.Replays.{stepped}
-use Rattle.evl_kernel.specs.States.{State}
+use Rattle.evl_kernel.specs.histories.Replays.{stepped}
+use Rattle.evl_kernel.specs.state.States.{State}
 use Rattle.lab_scenario_orders.specs.Callers.{Seen, after, begun, is_held}
 use Rattle.lab_scenario_orders.specs.Moments.{seen_at}
 use Rattle.lab_scenario_orders.proofs.TrailLaws.{blocked, makes}

@@ -1,6 +1,6 @@
 use Rattle.std.proofs.Common.{◌∙◌, ◌++◌, ℕ, List, ap, length, string_bytes}
 use Rattle.evl_base.specs.declared.entry.Entry.{Entry}
-use Rattle.evl_kernel.specs.KernelViews.{KernelView}
+use Rattle.evl_kernel.specs.state.KernelViews.{KernelView}
 use Rattle.evl_plans.specs.declared.planned.Planned.{Planned}
 use Rattle.lab_warnings.specs.Warnings.{end_lines, full_line, refusal_lines}
 use Rattle.lab_warnings.proofs.LineLaws.{behind_four}

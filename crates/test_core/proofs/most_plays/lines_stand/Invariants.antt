@@ -1,4 +1,4 @@
-use Rattle.evl_kernel.specs.Callbacks.{AnswersByPlan}
+use Rattle.evl_kernel.specs.state.Callbacks.{AnswersByPlan}
 use Rattle.test_core.proofs.most_plays.lines_stand.Given as goal
 
 abbrev pub invariant-loop-number : goal.invariant-loop-number

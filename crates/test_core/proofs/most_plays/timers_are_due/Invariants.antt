@@ -1,4 +1,4 @@
-use Rattle.evl_kernel.specs.Callbacks.{AnswersByPlan}
+use Rattle.evl_kernel.specs.state.Callbacks.{AnswersByPlan}
 use Rattle.test_core.proofs.most_plays.timers_are_due.Given as goal
 
 abbrev pub invariant-loop-callback : goal.invariant-loop-callback

@@ -1,4 +1,4 @@
-use Rattle.evl_kernel.specs.Callbacks.{AnswersByPlan}
+use Rattle.evl_kernel.specs.state.Callbacks.{AnswersByPlan}
 use Rattle.test_growths.proofs.growths.refusals.Given as goal
 
 abbrev pub invariant-loop-step : goal.invariant-loop-step

@@ -1,7 +1,7 @@
 use Rattle.std.proofs.Common.{ap, ◌∙◌}
 use Rattle.evl_bitmap.specs.NumberSet.{NumberSet}
-use Rattle.evl_kernel.specs.ChangedThreads.{is_noted}
-use Rattle.evl_kernel.proofs.ChangedLaws.{noted-inserted}
+use Rattle.evl_kernel.specs.state.ChangedThreads.{is_noted}
+use Rattle.evl_kernel.proofs.state.ChangedLaws.{noted-inserted}
 use Rattle.evl_kernel.proofs.changed_threads.ChangedThreadsRankChanges.note.Goals as goal
 
 pub returns-then-from-lt-MAX_THREADS : goal.returns-then-from-lt-MAX_THREADS

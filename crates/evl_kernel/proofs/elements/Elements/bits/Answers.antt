@@ -1,8 +1,8 @@
 use Rattle.std.proofs.Common.{ℕ, Ok, refl, sym, ap, arith}
 use Rattle.std.proofs.lemmas.Option.{slice_get_read}
 use Rattle.evl_base.specs.declared.reply.Reply.TheVariants.{Bits}
-use Rattle.evl_kernel.specs.FlagGroups as group
-use Rattle.evl_kernel.proofs.ElementSteps.{flags_told}
+use Rattle.evl_kernel.specs.calls.FlagGroups as group
+use Rattle.evl_kernel.proofs.calls.ElementSteps.{flags_told}
 use Rattle.evl_kernel.proofs.elements.Elements.bits.Goals as goal
 
 pub returns-clause-step : goal.returns-clause-step

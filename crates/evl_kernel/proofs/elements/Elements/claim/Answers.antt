@@ -1,6 +1,6 @@
 use Rattle.std.proofs.Common.{sym, ◌∙◌}
-use Rattle.evl_kernel.specs.ElementsViews.{ElementsView, owners_of}
-use Rattle.evl_kernel.proofs.MutexCalls.{claimed-step, ring-told, unrefused}
+use Rattle.evl_kernel.specs.state.ElementsViews.{ElementsView, owners_of}
+use Rattle.evl_kernel.proofs.calls.MutexCalls.{claimed-step, ring-told, unrefused}
 use Rattle.evl_kernel.proofs.elements.Elements.claim.Goals as goal
 
 pub returns-clause-ring : goal.returns-clause-ring

@@ -2,8 +2,8 @@ use Rattle.std.proofs.Common.{rules, ℤ, w64, Ok, refl, sym, ap, ◌∙◌, ari
 use Rattle.std.proofs.lemmas.Int.{to_z-of_z}
 use Rattle.std.proofs.lemmas.Option.{slice_get_read}
 use Rattle.evl_base.specs.declared.reply.Reply.TheVariants.{Count}
-use Rattle.evl_kernel.specs.Semaphores as semaphore
-use Rattle.evl_kernel.proofs.ElementSteps.{sem_told}
+use Rattle.evl_kernel.specs.calls.Semaphores as semaphore
+use Rattle.evl_kernel.proofs.calls.ElementSteps.{sem_told}
 use Rattle.evl_kernel.proofs.elements.Elements.peek.Goals as goal
 
 pub returns-clause-step : goal.returns-clause-step

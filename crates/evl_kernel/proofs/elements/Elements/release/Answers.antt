@@ -1,5 +1,5 @@
-use Rattle.evl_kernel.specs.ElementsViews.{ElementsView}
-use Rattle.evl_kernel.proofs.MutexCalls.{released-step}
+use Rattle.evl_kernel.specs.state.ElementsViews.{ElementsView}
+use Rattle.evl_kernel.proofs.calls.MutexCalls.{released-step}
 use Rattle.evl_kernel.proofs.elements.Elements.release.Goals as goal
 
 pub returns-clause-step : goal.returns-clause-step

@@ -1,8 +1,8 @@
 use Rattle.std.proofs.Common.{ℕ, Ok, refl, sym, ap, arith}
 use Rattle.std.proofs.lemmas.Option.{slice_get_read}
 use Rattle.evl_base.specs.declared.reply.Reply.TheVariants.{Number}
-use Rattle.evl_kernel.specs.CrossBuffers as through
-use Rattle.evl_kernel.proofs.ElementSteps.{xbuf_told}
+use Rattle.evl_kernel.specs.calls.CrossBuffers as through
+use Rattle.evl_kernel.proofs.calls.ElementSteps.{xbuf_told}
 use Rattle.evl_kernel.proofs.elements.Elements.room.Goals as goal
 
 pub returns-clause-step : goal.returns-clause-step

@@ -1,10 +1,10 @@
 use Rattle.std.proofs.Common.{refl, ap, arith}
 use Rattle.std.proofs.lemmas.Option.{slice_get_read}
-use Rattle.evl_kernel.specs.Semaphores as semaphore
-use Rattle.evl_kernel.specs.Semaphores.{semaphore as machine}
+use Rattle.evl_kernel.specs.calls.Semaphores as semaphore
+use Rattle.evl_kernel.specs.calls.Semaphores.{semaphore as machine}
 use Rattle.evl_base.specs.declared.reply.Reply.TheVariants as reply
-use Rattle.evl_kernel.specs.Effects.{replied}
-use Rattle.evl_kernel.proofs.ElementSteps.{nth-same}
+use Rattle.evl_kernel.specs.calls.Effects.{replied}
+use Rattle.evl_kernel.proofs.calls.ElementSteps.{nth-same}
 use Rattle.evl_kernel.proofs.elements.Elements.try_get.Goals as goal
 
 pub returns-clause-refused : goal.returns-clause-refused

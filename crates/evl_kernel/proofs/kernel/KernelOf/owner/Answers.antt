@@ -1,5 +1,5 @@
-use Rattle.evl_kernel.specs.Insides.{kernel_view}
-use Rattle.evl_kernel.proofs.MutexPlaces.{nobody_owns}
+use Rattle.evl_kernel.specs.state.Insides.{kernel_view}
+use Rattle.evl_kernel.proofs.histories.MutexPlaces.{nobody_owns}
 use Rattle.evl_kernel.proofs.kernel.KernelOf.owner.Goals as goal
 
 pub returns-clause-outside : goal.returns-clause-outside

@@ -1,6 +1,6 @@
 use Rattle.std.proofs.Common.{◌∙◌}
-use Rattle.evl_kernel.specs.Insides.{kernel_view}
-use Rattle.evl_kernel.proofs.WaitPlaces.{nobody_timed_out}
+use Rattle.evl_kernel.specs.state.Insides.{kernel_view}
+use Rattle.evl_kernel.proofs.waiting.WaitPlaces.{nobody_timed_out}
 use Rattle.evl_kernel.proofs.kernel.KernelOf.timed_out.Goals as goal
 
 pub returns-clause-outside : goal.returns-clause-outside

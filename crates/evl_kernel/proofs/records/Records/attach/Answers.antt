@@ -1,7 +1,7 @@
 use Rattle.std.proofs.Common.{refl}
-use Rattle.evl_kernel.proofs.SchedLaws.{attach_answers}
-use Rattle.evl_kernel.specs.ElementsViews.{owners_of}
-use Rattle.evl_kernel.proofs.ChangedLaws.{given-attached}
+use Rattle.evl_kernel.proofs.state.SchedLaws.{attach_answers}
+use Rattle.evl_kernel.specs.state.ElementsViews.{owners_of}
+use Rattle.evl_kernel.proofs.state.ChangedLaws.{given-attached}
 use Rattle.evl_kernel.proofs.records.Records.attach.Goals as goal
 
 pub returns-in-Err-clause-answer : goal.returns-in-Err-clause-answer

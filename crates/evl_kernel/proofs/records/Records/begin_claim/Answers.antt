@@ -3,17 +3,17 @@ use Rattle.evl_base.specs.declared.reply.Reply.TheVariants.{Begun}
 use Rattle.evl_mutex.specs.Owners.{rank_of}
 use Rattle.evl_kernel.specs.declared.waits.Awaited.TheVariants.{Mutex as OnMutex}
 use Rattle.evl_kernel.specs.declared.waits.Wanted.TheVariants.{Mutex as WantsMutex}
-use Rattle.evl_kernel.specs.ElementsViews.{owners_of}
-use Rattle.evl_kernel.specs.Records.{state_of}
-use Rattle.evl_kernel.specs.States.{State}
-use Rattle.evl_kernel.specs.RecordsInside.{records_view}
-use Rattle.evl_kernel.proofs.CallbackLaws.{keeps-both}
-use Rattle.evl_kernel.proofs.QueueLaws.{claim_wakes}
-use Rattle.evl_kernel.proofs.EffectiveLaws.{back_as, rank_as}
-use Rattle.evl_kernel.proofs.RankLaws.{ranks-handed}
-use Rattle.evl_kernel.proofs.WaitRecords.{begin_is, blocked_as, claim_rings, idle_away, keeps-changed, may_begin_all, sound_ranked}
-use Rattle.evl_kernel.specs.ChangedThreads.{is_noted}
-use Rattle.evl_kernel.proofs.ChangedLaws.{given-beside}
+use Rattle.evl_kernel.specs.state.ElementsViews.{owners_of}
+use Rattle.evl_kernel.specs.state.Records.{state_of}
+use Rattle.evl_kernel.specs.state.States.{State}
+use Rattle.evl_kernel.specs.state.RecordsInside.{records_view}
+use Rattle.evl_kernel.proofs.state.CallbackLaws.{keeps-both}
+use Rattle.evl_kernel.proofs.calls.QueueLaws.{claim_wakes}
+use Rattle.evl_kernel.proofs.state.EffectiveLaws.{back_as, rank_as}
+use Rattle.evl_kernel.proofs.state.RankLaws.{ranks-handed}
+use Rattle.evl_kernel.proofs.waiting.WaitRecords.{begin_is, blocked_as, claim_rings, idle_away, keeps-changed, may_begin_all, sound_ranked}
+use Rattle.evl_kernel.specs.state.ChangedThreads.{is_noted}
+use Rattle.evl_kernel.proofs.state.ChangedLaws.{given-beside}
 use Rattle.evl_kernel.proofs.records.Records.begin_claim.Goals as goal
 
 pub claim-requires-clause-away : goal.claim-requires-clause-away

@@ -1,6 +1,6 @@
 use Rattle.std.proofs.Common.{sym}
-use Rattle.evl_kernel.specs.RecordsInside.{records_view}
-use Rattle.evl_kernel.proofs.WaitRecords.{sound_served, sound_waiting}
+use Rattle.evl_kernel.specs.state.RecordsInside.{records_view}
+use Rattle.evl_kernel.proofs.waiting.WaitRecords.{sound_served, sound_waiting}
 use Rattle.evl_kernel.proofs.records.Records.begin_ranked.Goals as goal
 
 pub invariant_of-self : goal.invariant_of-self

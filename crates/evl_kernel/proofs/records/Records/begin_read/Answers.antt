@@ -1,7 +1,7 @@
 use Rattle.evl_kernel.specs.declared.waits.Awaited.TheVariants as awaited
 use Rattle.evl_kernel.specs.declared.waits.Wanted.TheVariants as wanted
-use Rattle.evl_kernel.specs.RecordsInside.{records_view}
-use Rattle.evl_kernel.proofs.WaitRecords.{begin_freed, idle_away, sound_served, sound_waiting}
+use Rattle.evl_kernel.specs.state.RecordsInside.{records_view}
+use Rattle.evl_kernel.proofs.waiting.WaitRecords.{begin_freed, idle_away, sound_served, sound_waiting}
 use Rattle.evl_kernel.proofs.records.Records.begin_read.Goals as goal
 
 pub begin_read-requires-clause-away : goal.begin_read-requires-clause-away

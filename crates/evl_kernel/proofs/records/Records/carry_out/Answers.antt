@@ -1,8 +1,8 @@
 use Rattle.std.proofs.Common.{sym, ◌∙◌}
 use Rattle.std.proofs.lemmas.List.{at_drop_more}
-use Rattle.evl_kernel.specs.Settling.{all_acted}
-use Rattle.evl_kernel.specs.Records.{state_of}
-use Rattle.evl_kernel.proofs.CallbackLaws.{keeps-both}
+use Rattle.evl_kernel.specs.settling.Settling.{all_acted}
+use Rattle.evl_kernel.specs.state.Records.{state_of}
+use Rattle.evl_kernel.proofs.state.CallbackLaws.{keeps-both}
 use Rattle.evl_kernel.proofs.records.Records.carry_out.Goals as goal
 
 pub loop-action-preserved : goal.loop-action-preserved

@@ -1,6 +1,6 @@
 use Rattle.std.proofs.Common.{◌≡◌, drop}
-use Rattle.evl_kernel.specs.Settling.{all_acted}
-use Rattle.evl_kernel.specs.Records.{KeepsCallbacks, state_of}
+use Rattle.evl_kernel.specs.settling.Settling.{all_acted}
+use Rattle.evl_kernel.specs.state.Records.{KeepsCallbacks, state_of}
 use Rattle.evl_kernel.proofs.records.Records.carry_out.Given as goal
 
 abbrev pub invariant-loop-action : goal.invariant-loop-action

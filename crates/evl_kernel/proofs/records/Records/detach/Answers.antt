@@ -1,7 +1,7 @@
 use Rattle.std.proofs.Common.{refl}
-use Rattle.evl_kernel.proofs.SchedLaws.{stranger_answers}
-use Rattle.evl_kernel.specs.ElementsViews.{owners_of}
-use Rattle.evl_kernel.proofs.ChangedLaws.{given-detached}
+use Rattle.evl_kernel.proofs.state.SchedLaws.{stranger_answers}
+use Rattle.evl_kernel.specs.state.ElementsViews.{owners_of}
+use Rattle.evl_kernel.proofs.state.ChangedLaws.{given-detached}
 use Rattle.evl_kernel.proofs.records.Records.detach.Goals as goal
 
 pub base_changed-requires-clause-given : goal.base_changed-requires-clause-given

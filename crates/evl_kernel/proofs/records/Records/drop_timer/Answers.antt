@@ -1,7 +1,7 @@
 use Rattle.std.proofs.Common.{arith}
 use Rattle.std.proofs.lemmas.Option.{slice_get_within}
-use Rattle.evl_kernel.proofs.TimerLaws.{was_in, dropped_state, dropped_keeps, dropped_allowed, dropped_timers_allowed, dropped_sound}
-use Rattle.evl_kernel.specs.RecordsInside.{records_view}
+use Rattle.evl_kernel.proofs.state.TimerLaws.{was_in, dropped_state, dropped_keeps, dropped_allowed, dropped_timers_allowed, dropped_sound}
+use Rattle.evl_kernel.specs.state.RecordsInside.{records_view}
 use Rattle.evl_kernel.proofs.records.Records.drop_timer.Goals as goal
 
 pub put_back-requires : goal.put_back-requires

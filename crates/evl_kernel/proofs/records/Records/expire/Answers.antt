@@ -1,8 +1,8 @@
 use Rattle.std.proofs.Common.{map}
-use Rattle.evl_kernel.specs.CrossBuffers.{service_told}
-use Rattle.evl_kernel.specs.Records.{state_of}
-use Rattle.evl_kernel.proofs.CallbackLaws.{keeps-both}
-use Rattle.evl_kernel.proofs.WaitRecords.{expired_by}
+use Rattle.evl_kernel.specs.calls.CrossBuffers.{service_told}
+use Rattle.evl_kernel.specs.state.Records.{state_of}
+use Rattle.evl_kernel.proofs.state.CallbackLaws.{keeps-both}
+use Rattle.evl_kernel.proofs.waiting.WaitRecords.{expired_by}
 use Rattle.evl_kernel.proofs.records.Records.expire.Goals as goal
 
 pub returns : goal.returns

@@ -1,9 +1,9 @@
 use Rattle.std.proofs.Common.{refl}
 use Rattle.evl_base.specs.declared.stage.Stage.TheVariants.{Inband}
-use Rattle.evl_kernel.specs.RecordsInside.{records_view}
-use Rattle.evl_kernel.specs.ElementsViews.{owners_of}
-use Rattle.evl_kernel.proofs.RankLaws.{ranks-stage_tried}
-use Rattle.evl_kernel.proofs.WaitRecords.{finished_kept, sound_with}
+use Rattle.evl_kernel.specs.state.RecordsInside.{records_view}
+use Rattle.evl_kernel.specs.state.ElementsViews.{owners_of}
+use Rattle.evl_kernel.proofs.state.RankLaws.{ranks-stage_tried}
+use Rattle.evl_kernel.proofs.waiting.WaitRecords.{finished_kept, sound_with}
 use Rattle.evl_kernel.proofs.records.Records.finish.Goals as goal
 
 pub invariant_of-self-then-goes : goal.invariant_of-self-then-goes

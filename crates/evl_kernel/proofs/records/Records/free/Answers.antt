@@ -1,8 +1,8 @@
 use Rattle.std.proofs.Common.{arith, refl}
 use Rattle.std.proofs.lemmas.Option.{slice_get_within}
-use Rattle.evl_kernel.proofs.BankLaws.{was_out, back, back_state, back_keeps, back_allowed}
-use Rattle.evl_kernel.proofs.TimerLaws.{timers_allowed-kept}
-use Rattle.evl_kernel.specs.RecordsInside.{records_view}
+use Rattle.evl_kernel.proofs.state.BankLaws.{was_out, back, back_state, back_keeps, back_allowed}
+use Rattle.evl_kernel.proofs.state.TimerLaws.{timers_allowed-kept}
+use Rattle.evl_kernel.specs.state.RecordsInside.{records_view}
 use Rattle.evl_kernel.proofs.records.Records.free.Goals as goal
 use Rattle.evl_kernel.proofs.records.Records.free.Goals.{In_ok-numbered, After-put_back}
 

@@ -1,14 +1,14 @@
 use Rattle.std.proofs.Common.{sym, ◌∙◌, subst}
-use Rattle.evl_kernel.specs.States.{Elements}
-use Rattle.evl_kernel.specs.Elements.{wakes}
-use Rattle.evl_kernel.specs.ElementsViews.{owners_of}
-use Rattle.evl_kernel.specs.Endings.{drop_step}
-use Rattle.evl_kernel.specs.RecordsInside.{records_view}
-use Rattle.evl_kernel.proofs.QueueLaws.{Dropped, drop_goes}
-use Rattle.evl_kernel.proofs.RankLaws.{ranks-handed}
-use Rattle.evl_kernel.proofs.WaitRecords.{dropped_apart, dropped_away, dropped_kept, ranks_as, sound_with}
-use Rattle.evl_kernel.specs.ChangedThreads.{is_noted}
-use Rattle.evl_kernel.proofs.ChangedLaws.{given-beside}
+use Rattle.evl_kernel.specs.state.States.{Elements}
+use Rattle.evl_kernel.specs.calls.Elements.{wakes}
+use Rattle.evl_kernel.specs.state.ElementsViews.{owners_of}
+use Rattle.evl_kernel.specs.waiting.Endings.{drop_step}
+use Rattle.evl_kernel.specs.state.RecordsInside.{records_view}
+use Rattle.evl_kernel.proofs.calls.QueueLaws.{Dropped, drop_goes}
+use Rattle.evl_kernel.proofs.state.RankLaws.{ranks-handed}
+use Rattle.evl_kernel.proofs.waiting.WaitRecords.{dropped_apart, dropped_away, dropped_kept, ranks_as, sound_with}
+use Rattle.evl_kernel.specs.state.ChangedThreads.{is_noted}
+use Rattle.evl_kernel.proofs.state.ChangedLaws.{given-beside}
 use Rattle.evl_kernel.proofs.records.Records.leave_queue.Goals as goal
 
 pub invariant_of-self : goal.invariant_of-self

@@ -3,13 +3,13 @@ use Rattle.evl_base.specs.declared.refusal.Refusal.TheVariants.{Invalid, WrongSt
 use Rattle.evl_sched.specs.Calls.{stranger_refusal}
 use Rattle.evl_sched.specs.Threads.{stage_of}
 use Rattle.evl_xbuf.specs.Xbufs.{same_stage}
-use Rattle.evl_kernel.specs.Beginnings.{form_refusal, may_name, stage_wanted, waiter_refusal}
-use Rattle.evl_kernel.specs.Records.{state_of}
-use Rattle.evl_kernel.specs.RecordsInside.{records_view}
-use Rattle.evl_kernel.specs.States.{State}
+use Rattle.evl_kernel.specs.waiting.Beginnings.{form_refusal, may_name, stage_wanted, waiter_refusal}
+use Rattle.evl_kernel.specs.state.Records.{state_of}
+use Rattle.evl_kernel.specs.state.RecordsInside.{records_view}
+use Rattle.evl_kernel.specs.state.States.{State}
 use Rattle.evl_kernel.specs.declared.waits.Wanted.{Wanted}
-use Rattle.evl_kernel.proofs.SchedLaws.{stranger_answers}
-use Rattle.evl_kernel.proofs.WaitRecords.{may_begin_is}
+use Rattle.evl_kernel.proofs.state.SchedLaws.{stranger_answers}
+use Rattle.evl_kernel.proofs.waiting.WaitRecords.{may_begin_is}
 use Rattle.evl_kernel.proofs.records.Records.may_begin.Goals as goal
 
 -- an attached thread may not begin to wait: the first that applies

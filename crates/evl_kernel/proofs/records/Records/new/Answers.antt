@@ -1,6 +1,6 @@
 use Rattle.std.proofs.Common.{refl}
-use Rattle.evl_kernel.proofs.OpeningLaws.{opened_records, allowed-new, ranks-new, timers_allowed-new, sound-opening_clock, waits-new}
-use Rattle.evl_kernel.specs.Records.{RecordsView}
+use Rattle.evl_kernel.proofs.state.OpeningLaws.{opened_records, allowed-new, ranks-new, timers_allowed-new, sound-opening_clock, waits-new}
+use Rattle.evl_kernel.specs.state.Records.{RecordsView}
 use Rattle.evl_kernel.proofs.records.Records.new.Goals as goal
 
 pub invariant_of-result : goal.invariant_of-result

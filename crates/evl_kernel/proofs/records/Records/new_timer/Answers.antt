@@ -4,10 +4,10 @@ use Rattle.std.proofs.lemmas.Option.{slice_get_within}
 use Rattle.evl_clock.specs.Timers.{is_timer_allowed}
 use Rattle.evl_kernel.specs.declared.bank.BankPlace.{BankPlace}
 use Rattle.evl_kernel.specs.declared.bank.Numbered.{Numbered}
-use Rattle.evl_kernel.specs.RecordsInside.{records_view}
-use Rattle.evl_kernel.proofs.BankLaws.{asked, declared_is}
-use Rattle.evl_kernel.proofs.CallbackLaws.{keeps-none}
-use Rattle.evl_kernel.proofs.TimerLaws.{new_busy, new_state, new_keeps, new_allowed, new_timers_allowed, new_limit, sound-with_timer, taken_there, restored, is_full}
+use Rattle.evl_kernel.specs.state.RecordsInside.{records_view}
+use Rattle.evl_kernel.proofs.state.BankLaws.{asked, declared_is}
+use Rattle.evl_kernel.proofs.state.CallbackLaws.{keeps-none}
+use Rattle.evl_kernel.proofs.state.TimerLaws.{new_busy, new_state, new_keeps, new_allowed, new_timers_allowed, new_limit, sound-with_timer, taken_there, restored, is_full}
 use Rattle.evl_kernel.proofs.records.Records.new_timer.Goals as goal
 
 pub returns-in_default-take_out-clause-served : goal.returns-in_default-take_out-clause-served

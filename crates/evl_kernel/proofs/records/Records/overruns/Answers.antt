@@ -1,6 +1,6 @@
 use Rattle.std.proofs.Common.{refl}
-use Rattle.evl_kernel.specs.RecordsInside.{records_view}
-use Rattle.evl_kernel.proofs.TimerLaws.{overruns_told, overruns_unknown}
+use Rattle.evl_kernel.specs.state.RecordsInside.{records_view}
+use Rattle.evl_kernel.proofs.state.TimerLaws.{overruns_told, overruns_unknown}
 use Rattle.evl_kernel.proofs.records.Records.overruns.Goals as goal
 
 pub returns-in-Ok-clause-served : goal.returns-in-Ok-clause-served

@@ -1,10 +1,10 @@
 use Rattle.std.proofs.Common.{ap, ◌∙◌}
 use Rattle.evl_sched.specs.Calls.{refill}
-use Rattle.evl_kernel.specs.RecordsInside.{records_view}
-use Rattle.evl_kernel.specs.ElementsViews.{owners_of}
-use Rattle.evl_kernel.proofs.RankLaws.{ranks-charged, ranks-refilled}
-use Rattle.evl_kernel.proofs.SchedLaws.{paid_anew, paid_within}
-use Rattle.evl_kernel.proofs.WaitRecords.{sound_with}
+use Rattle.evl_kernel.specs.state.RecordsInside.{records_view}
+use Rattle.evl_kernel.specs.state.ElementsViews.{owners_of}
+use Rattle.evl_kernel.proofs.state.RankLaws.{ranks-charged, ranks-refilled}
+use Rattle.evl_kernel.proofs.state.SchedLaws.{paid_anew, paid_within}
+use Rattle.evl_kernel.proofs.waiting.WaitRecords.{sound_with}
 use Rattle.evl_kernel.proofs.records.Records.pay.Goals as goal
 
 pub returns-then-before-now-clause-paid : goal.returns-then-before-now-clause-paid

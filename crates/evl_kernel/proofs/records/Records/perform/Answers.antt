@@ -1,8 +1,8 @@
 use Rattle.std.proofs.Common.{sym, ◌∙◌}
-use Rattle.evl_kernel.specs.Records.{state_of, whereabouts}
-use Rattle.evl_kernel.proofs.CallbackLaws.{answers-kept, keeps-both}
-use Rattle.evl_kernel.proofs.HistoryLaws.{performed_err, performed_ok}
-use Rattle.evl_kernel.proofs.SettlingLaws.{appends_before}
+use Rattle.evl_kernel.specs.state.Records.{state_of, whereabouts}
+use Rattle.evl_kernel.proofs.state.CallbackLaws.{answers-kept, keeps-both}
+use Rattle.evl_kernel.proofs.histories.HistoryLaws.{performed_err, performed_ok}
+use Rattle.evl_kernel.proofs.settling.SettlingLaws.{appends_before}
 use Rattle.evl_kernel.proofs.records.Records.perform.Goals as goal
 
 pub settle-requires-clause-by_plan : goal.settle-requires-clause-by_plan

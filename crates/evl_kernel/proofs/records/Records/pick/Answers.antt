@@ -1,5 +1,5 @@
-use Rattle.evl_kernel.specs.RecordsInside.{records_view}
-use Rattle.evl_kernel.proofs.SchedLaws.{told_pick}
+use Rattle.evl_kernel.specs.state.RecordsInside.{records_view}
+use Rattle.evl_kernel.proofs.state.SchedLaws.{told_pick}
 use Rattle.evl_kernel.proofs.records.Records.pick.Goals as goal
 
 pub returns-clause-served : goal.returns-clause-served

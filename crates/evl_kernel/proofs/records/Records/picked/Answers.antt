@@ -1,5 +1,5 @@
-use Rattle.evl_kernel.specs.RecordsInside.{records_view}
-use Rattle.evl_kernel.proofs.ReaderLaws.{pick_reads}
+use Rattle.evl_kernel.specs.state.RecordsInside.{records_view}
+use Rattle.evl_kernel.proofs.state.ReaderLaws.{pick_reads}
 use Rattle.evl_kernel.proofs.records.Records.picked.Goals as goal
 
 pub returns : goal.returns

@@ -1,9 +1,9 @@
 use Rattle.std.proofs.Common.{None, refl, sym, subst}
 use Rattle.evl_clock.specs.Clocks.{IsSoundClock}
-use Rattle.evl_kernel.specs.RecordsInside.{records_view}
-use Rattle.evl_kernel.proofs.CallbackLaws.{keeps-both}
-use Rattle.evl_kernel.proofs.TimerLaws.{OnlyOldTimers, keeps-clock, timers_allowed-clock, old-fired, old-with_deadline, sound-with_timer, sound-with_deadline}
-use Rattle.evl_kernel.proofs.ItemLaws.{nothing_due, deadline_next, deadline_nearer, timer_next, timer_called, timer_nearer}
+use Rattle.evl_kernel.specs.state.RecordsInside.{records_view}
+use Rattle.evl_kernel.proofs.state.CallbackLaws.{keeps-both}
+use Rattle.evl_kernel.proofs.state.TimerLaws.{OnlyOldTimers, keeps-clock, timers_allowed-clock, old-fired, old-with_deadline, sound-with_timer, sound-with_deadline}
+use Rattle.evl_kernel.proofs.settling.ItemLaws.{nothing_due, deadline_next, deadline_nearer, timer_next, timer_called, timer_nearer}
 use Rattle.evl_kernel.proofs.records.Records.play_item.Goals as goal
 
 pub returns-in_err-thread-clause-ended : goal.returns-in_err-thread-clause-ended

@@ -1,7 +1,7 @@
 use Rattle.std.proofs.Common.{refl}
-use Rattle.evl_kernel.specs.RecordsInside.{records_view}
-use Rattle.evl_kernel.proofs.CallbackLaws.{keeps-old, keeps-both, allowed-old}
-use Rattle.evl_kernel.proofs.PlayLaws.{line_next, line_called, clock_next, none_next, clock_nearer, line_nearer, clock_old, line_old}
+use Rattle.evl_kernel.specs.state.RecordsInside.{records_view}
+use Rattle.evl_kernel.proofs.state.CallbackLaws.{keeps-old, keeps-both, allowed-old}
+use Rattle.evl_kernel.proofs.settling.PlayLaws.{line_next, line_called, clock_next, none_next, clock_nearer, line_nearer, clock_old, line_old}
 use Rattle.evl_kernel.proofs.records.Records.play_line.Goals as goal
 
 pub returns-in-None-clause-ended : goal.returns-in-None-clause-ended

@@ -1,8 +1,8 @@
 use Rattle.std.proofs.Common.{◌≡◌, false, sym, ◌∙◌}
 use Rattle.std.proofs.lemmas.Bool.{false≢true}
-use Rattle.evl_kernel.specs.Settling.{line_goes, next_play}
-use Rattle.evl_kernel.specs.Settled.{settling}
-use Rattle.evl_kernel.proofs.ItemLaws.{item_goes, line_behind}
+use Rattle.evl_kernel.specs.settling.Settling.{line_goes, next_play}
+use Rattle.evl_kernel.specs.settling.Settled.{settling}
+use Rattle.evl_kernel.proofs.settling.ItemLaws.{item_goes, line_behind}
 use Rattle.evl_kernel.proofs.records.Records.play_next.Goals as goal
 use Rattle.evl_kernel.proofs.records.Records.play_next.Goals.{then-of_clock+in_default, else-of_clock}
 

@@ -1,11 +1,11 @@
 use Rattle.std.proofs.Common.{◌≡◌, ◌+◌, ◌≤◌, false, ◌∷◌, [], ◌++◌, List, sym, ◌∙◌, subst, arith}
 use Rattle.evl_base.specs.declared.play.Play.{Play}
-use Rattle.evl_kernel.specs.RecordsInside.{records_view}
-use Rattle.evl_kernel.specs.Limits.{play_limit}
-use Rattle.evl_kernel.specs.Records.{state_of, whereabouts}
-use Rattle.evl_kernel.specs.Settled.{settling, left_after}
-use Rattle.evl_kernel.proofs.CallbackLaws.{keeps-none, keeps-both, answers-kept}
-use Rattle.evl_kernel.proofs.SettlingLaws.{PlaysOn, called_before, plays_on-none, plays_on-more, left_at_first, stalled_settles}
+use Rattle.evl_kernel.specs.state.RecordsInside.{records_view}
+use Rattle.evl_kernel.specs.state.Limits.{play_limit}
+use Rattle.evl_kernel.specs.state.Records.{state_of, whereabouts}
+use Rattle.evl_kernel.specs.settling.Settled.{settling, left_after}
+use Rattle.evl_kernel.proofs.state.CallbackLaws.{keeps-none, keeps-both, answers-kept}
+use Rattle.evl_kernel.proofs.settling.SettlingLaws.{PlaysOn, called_before, plays_on-none, plays_on-more, left_at_first, stalled_settles}
 use Rattle.evl_kernel.proofs.records.Records.play_pending.Goals as goal
 
 pub returns-then-is_stalled-clause-settled : goal.returns-then-is_stalled-clause-settled

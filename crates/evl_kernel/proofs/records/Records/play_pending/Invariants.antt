@@ -1,8 +1,8 @@
 use Rattle.std.proofs.Common.{◌+◌, ◌≤◌, false, vec_len, vec_capacity}
-use Rattle.evl_kernel.specs.Limits.{inband_limit, play_limit}
-use Rattle.evl_kernel.specs.Settled.{settling, left_after}
-use Rattle.evl_kernel.specs.Records.{KeepsCallbacks, state_of, whereabouts}
-use Rattle.evl_kernel.proofs.SettlingLaws.{PlaysOn}
+use Rattle.evl_kernel.specs.state.Limits.{inband_limit, play_limit}
+use Rattle.evl_kernel.specs.settling.Settled.{settling, left_after}
+use Rattle.evl_kernel.specs.state.Records.{KeepsCallbacks, state_of, whereabouts}
+use Rattle.evl_kernel.proofs.settling.SettlingLaws.{PlaysOn}
 use Rattle.evl_kernel.proofs.records.Records.play_pending.Given as goal
 
 abbrev pub invariant-loop-play : goal.invariant-loop-play

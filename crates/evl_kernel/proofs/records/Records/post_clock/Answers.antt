@@ -1,6 +1,6 @@
-use Rattle.evl_kernel.proofs.CallbackLaws.{keeps-old, allowed-old}
-use Rattle.evl_kernel.proofs.TimerLaws.{old-tried}
-use Rattle.evl_kernel.specs.RecordsInside.{records_view}
+use Rattle.evl_kernel.proofs.state.CallbackLaws.{keeps-old, allowed-old}
+use Rattle.evl_kernel.proofs.state.TimerLaws.{old-tried}
+use Rattle.evl_kernel.specs.state.RecordsInside.{records_view}
 use Rattle.evl_kernel.proofs.records.Records.post_clock.Goals as goal
 
 pub invariant_of-self : goal.invariant_of-self

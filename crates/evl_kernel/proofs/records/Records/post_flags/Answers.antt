@@ -1,10 +1,10 @@
 use Rattle.evl_base.specs.declared.reply.Reply.TheVariants.{Done}
-use Rattle.evl_kernel.specs.RecordsInside.{records_view}
-use Rattle.evl_kernel.specs.Elements.{on_flags}
-use Rattle.evl_kernel.specs.FlagGroups as group
-use Rattle.evl_kernel.proofs.ElementSteps.{element_enters}
-use Rattle.evl_kernel.proofs.QueueLaws.{asks_post}
-use Rattle.evl_kernel.proofs.WaitRecords.{asked_away, asked_done, asked_sound, refused_as}
+use Rattle.evl_kernel.specs.state.RecordsInside.{records_view}
+use Rattle.evl_kernel.specs.calls.Elements.{on_flags}
+use Rattle.evl_kernel.specs.calls.FlagGroups as group
+use Rattle.evl_kernel.proofs.calls.ElementSteps.{element_enters}
+use Rattle.evl_kernel.proofs.calls.QueueLaws.{asks_post}
+use Rattle.evl_kernel.proofs.waiting.WaitRecords.{asked_away, asked_done, asked_sound, refused_as}
 use Rattle.evl_kernel.proofs.records.Records.post_flags.Goals as goal
 
 pub returns-in-Err-clause-served : goal.returns-in-Err-clause-served

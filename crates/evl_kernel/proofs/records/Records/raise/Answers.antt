@@ -4,22 +4,22 @@ use Rattle.evl_base.specs.declared.refusal.Refusal.TheVariants.{Unknown}
 use Rattle.evl_base.specs.declared.reply.Reply.TheVariants.{Done}
 use Rattle.evl_sched.specs.Calls.{stranger_refusal}
 use Rattle.evl_sched.specs.Threads.{Sched, refused_first}
-use Rattle.evl_kernel.specs.Beginnings.{is_there}
-use Rattle.evl_kernel.specs.Effects.{Effect, refused_by}
-use Rattle.evl_kernel.specs.Elements.{elements, on_mutex, stepping}
-use Rattle.evl_kernel.specs.ElementsViews.{owners_of}
-use Rattle.evl_kernel.specs.Mutexes as mutex
-use Rattle.evl_kernel.specs.OwnerCalls.{raiser_refusal}
-use Rattle.evl_kernel.specs.Records.{state_of}
-use Rattle.evl_kernel.specs.RecordsInside.{records_view}
-use Rattle.evl_kernel.specs.States.{with_sched}
+use Rattle.evl_kernel.specs.waiting.Beginnings.{is_there}
+use Rattle.evl_kernel.specs.calls.Effects.{Effect, refused_by}
+use Rattle.evl_kernel.specs.calls.Elements.{elements, on_mutex, stepping}
+use Rattle.evl_kernel.specs.state.ElementsViews.{owners_of}
+use Rattle.evl_kernel.specs.calls.Mutexes as mutex
+use Rattle.evl_kernel.specs.calls.OwnerCalls.{raiser_refusal}
+use Rattle.evl_kernel.specs.state.Records.{state_of}
+use Rattle.evl_kernel.specs.state.RecordsInside.{records_view}
+use Rattle.evl_kernel.specs.state.States.{with_sched}
 use Rattle.evl_kernel.specs.declared.waits.Awaited.TheVariants.{Mutex as OnMutex}
-use Rattle.evl_kernel.proofs.MutexCalls.{raise_wakes}
-use Rattle.evl_kernel.proofs.QueueLaws.{asks_raise}
-use Rattle.evl_kernel.proofs.RankLaws.{ranks-handed}
-use Rattle.evl_kernel.proofs.WaitRecords.{asked_done, asked_ranked, keeps-changed}
-use Rattle.evl_kernel.specs.ChangedThreads.{is_noted}
-use Rattle.evl_kernel.proofs.ChangedLaws.{given-beside}
+use Rattle.evl_kernel.proofs.calls.MutexCalls.{raise_wakes}
+use Rattle.evl_kernel.proofs.calls.QueueLaws.{asks_raise}
+use Rattle.evl_kernel.proofs.state.RankLaws.{ranks-handed}
+use Rattle.evl_kernel.proofs.waiting.WaitRecords.{asked_done, asked_ranked, keeps-changed}
+use Rattle.evl_kernel.specs.state.ChangedThreads.{is_noted}
+use Rattle.evl_kernel.proofs.state.ChangedLaws.{given-beside}
 use Rattle.evl_kernel.proofs.records.Records.raise.Goals as goal
 
 pub invariant_of-self-2 : goal.invariant_of-self-2

@@ -1,5 +1,5 @@
-use Rattle.evl_kernel.specs.RecordsInside.{records_view}
-use Rattle.evl_kernel.proofs.ReaderLaws.{no_rank_reads, rank_reads}
+use Rattle.evl_kernel.specs.state.RecordsInside.{records_view}
+use Rattle.evl_kernel.proofs.state.ReaderLaws.{no_rank_reads, rank_reads}
 use Rattle.evl_kernel.proofs.records.Records.rank.Goals as goal
 
 pub returns-in-Err : goal.returns-in-Err

@@ -1,6 +1,6 @@
 use Rattle.std.proofs.Common.{refl}
-use Rattle.evl_kernel.specs.RecordsInside.{records_view}
-use Rattle.evl_kernel.proofs.SchedLaws.{stranger_answers, told_rank}
+use Rattle.evl_kernel.specs.state.RecordsInside.{records_view}
+use Rattle.evl_kernel.proofs.state.SchedLaws.{stranger_answers, told_rank}
 use Rattle.evl_kernel.proofs.records.Records.rank_of.Goals as goal
 
 pub returns-in-Err-clause-answer : goal.returns-in-Err-clause-answer

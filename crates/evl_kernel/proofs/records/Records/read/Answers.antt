@@ -1,9 +1,9 @@
-use Rattle.evl_kernel.specs.RecordsInside.{records_view}
-use Rattle.evl_kernel.specs.CrossBuffers as through
-use Rattle.evl_kernel.specs.Elements.{on_xbuf}
-use Rattle.evl_kernel.proofs.ElementSteps.{element_enters}
-use Rattle.evl_kernel.proofs.QueueLaws.{asks_read}
-use Rattle.evl_kernel.proofs.WaitRecords.{asked_away, asked_sound, refused_as}
+use Rattle.evl_kernel.specs.state.RecordsInside.{records_view}
+use Rattle.evl_kernel.specs.calls.CrossBuffers as through
+use Rattle.evl_kernel.specs.calls.Elements.{on_xbuf}
+use Rattle.evl_kernel.proofs.calls.ElementSteps.{element_enters}
+use Rattle.evl_kernel.proofs.calls.QueueLaws.{asks_read}
+use Rattle.evl_kernel.proofs.waiting.WaitRecords.{asked_away, asked_sound, refused_as}
 use Rattle.evl_kernel.proofs.records.Records.read.Goals as goal
 
 pub invariant_of-self-in-Ok : goal.invariant_of-self-in-Ok

@@ -1,20 +1,20 @@
 use Rattle.std.proofs.Common.{Some, None, Ok, sym, ap, ◌∙◌}
 use Rattle.evl_base.specs.declared.reply.Reply.TheVariants.{Done, Handed}
 use Rattle.evl_sched.specs.Threads.{Sched}
-use Rattle.evl_kernel.specs.Effects.{Effect}
-use Rattle.evl_kernel.specs.Elements.{on_mutex}
-use Rattle.evl_kernel.specs.ElementsViews.{owners_of}
-use Rattle.evl_kernel.specs.Mutexes as mutex
-use Rattle.evl_kernel.specs.Records.{state_of}
-use Rattle.evl_kernel.specs.RecordsInside.{records_view}
-use Rattle.evl_kernel.specs.States.{with_sched}
-use Rattle.evl_kernel.specs.Waits.{woken}
-use Rattle.evl_kernel.proofs.CallbackLaws.{keeps-both}
-use Rattle.evl_kernel.proofs.QueueLaws.{asks_release}
-use Rattle.evl_kernel.proofs.RankLaws.{ranks-handed}
-use Rattle.evl_kernel.proofs.WaitRecords.{alone_served, asked_away, asked_done, asked_ranked, keeps-changed}
-use Rattle.evl_kernel.specs.ChangedThreads.{is_noted}
-use Rattle.evl_kernel.proofs.ChangedLaws.{given-beside}
+use Rattle.evl_kernel.specs.calls.Effects.{Effect}
+use Rattle.evl_kernel.specs.calls.Elements.{on_mutex}
+use Rattle.evl_kernel.specs.state.ElementsViews.{owners_of}
+use Rattle.evl_kernel.specs.calls.Mutexes as mutex
+use Rattle.evl_kernel.specs.state.Records.{state_of}
+use Rattle.evl_kernel.specs.state.RecordsInside.{records_view}
+use Rattle.evl_kernel.specs.state.States.{with_sched}
+use Rattle.evl_kernel.specs.waiting.Waits.{woken}
+use Rattle.evl_kernel.proofs.state.CallbackLaws.{keeps-both}
+use Rattle.evl_kernel.proofs.calls.QueueLaws.{asks_release}
+use Rattle.evl_kernel.proofs.state.RankLaws.{ranks-handed}
+use Rattle.evl_kernel.proofs.waiting.WaitRecords.{alone_served, asked_away, asked_done, asked_ranked, keeps-changed}
+use Rattle.evl_kernel.specs.state.ChangedThreads.{is_noted}
+use Rattle.evl_kernel.proofs.state.ChangedLaws.{given-beside}
 use Rattle.evl_kernel.proofs.records.Records.release.Goals as goal
 use Rattle.evl_kernel.proofs.records.Records.release.Goals.{in-Some, in_default}
 

@@ -1,9 +1,9 @@
 use Rattle.std.proofs.Common.{◌≡◌, Some, None, sym, ◌∙◌, refl, arith}
 use Rattle.std.proofs.lemmas.Option.{slice_get_within}
 use Rattle.evl_pipeline.specs.Lines.{request_refusal}
-use Rattle.evl_kernel.proofs.TimerLaws.{timers_allowed-kept}
-use Rattle.evl_kernel.specs.RecordsInside.{records_view}
-use Rattle.evl_kernel.proofs.BankLaws.{asked, declared_is, after_request, request_refused, request_busy, requested_state, requested_keeps, requested_allowed}
+use Rattle.evl_kernel.proofs.state.TimerLaws.{timers_allowed-kept}
+use Rattle.evl_kernel.specs.state.RecordsInside.{records_view}
+use Rattle.evl_kernel.proofs.state.BankLaws.{asked, declared_is, after_request, request_refused, request_busy, requested_state, requested_keeps, requested_allowed}
 use Rattle.evl_kernel.proofs.records.Records.request.Goals as goal
 
 never : {A : Type 0} {o : _} {x : A} → o ≡ None → o ≡ Some x → ⊥

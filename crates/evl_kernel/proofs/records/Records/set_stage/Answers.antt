@@ -1,7 +1,7 @@
-use Rattle.evl_kernel.specs.RecordsInside.{records_view}
-use Rattle.evl_kernel.specs.ElementsViews.{owners_of}
-use Rattle.evl_kernel.proofs.RankLaws.{ranks-stage_set}
-use Rattle.evl_kernel.proofs.WaitRecords.{sound_with}
+use Rattle.evl_kernel.specs.state.RecordsInside.{records_view}
+use Rattle.evl_kernel.specs.state.ElementsViews.{owners_of}
+use Rattle.evl_kernel.proofs.state.RankLaws.{ranks-stage_set}
+use Rattle.evl_kernel.proofs.waiting.WaitRecords.{sound_with}
 use Rattle.evl_kernel.proofs.records.Records.set_stage.Goals as goal
 
 pub invariant_of-self-2 : goal.invariant_of-self-2

@@ -1,7 +1,7 @@
 use Rattle.std.proofs.Common.{sym, ◌∙◌}
-use Rattle.evl_kernel.specs.RecordsInside.{records_view}
-use Rattle.evl_kernel.specs.Records.{whereabouts}
-use Rattle.evl_kernel.proofs.SettlingLaws.{idle_settles}
+use Rattle.evl_kernel.specs.state.RecordsInside.{records_view}
+use Rattle.evl_kernel.specs.state.Records.{whereabouts}
+use Rattle.evl_kernel.proofs.settling.SettlingLaws.{idle_settles}
 use Rattle.evl_kernel.proofs.records.Records.settle.Goals as goal
 
 pub returns-then-is_idle-clause-settled : goal.returns-then-is_idle-clause-settled

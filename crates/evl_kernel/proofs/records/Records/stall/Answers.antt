@@ -1,6 +1,6 @@
-use Rattle.evl_kernel.proofs.StandingLaws.{old-stalled}
-use Rattle.evl_kernel.proofs.CallbackLaws.{keeps-old, allowed-old}
-use Rattle.evl_kernel.specs.RecordsInside.{records_view}
+use Rattle.evl_kernel.proofs.waiting.StandingLaws.{old-stalled}
+use Rattle.evl_kernel.proofs.state.CallbackLaws.{keeps-old, allowed-old}
+use Rattle.evl_kernel.specs.state.RecordsInside.{records_view}
 use Rattle.evl_kernel.proofs.records.Records.stall.Goals as goal
 
 pub invariant_of-self : goal.invariant_of-self

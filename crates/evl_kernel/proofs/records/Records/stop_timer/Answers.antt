@@ -1,7 +1,7 @@
 use Rattle.std.proofs.Common.{sym, subst}
 use Rattle.evl_clock.specs.Clocks.{IsSoundClock}
-use Rattle.evl_kernel.specs.RecordsInside.{records_view}
-use Rattle.evl_kernel.proofs.TimerLaws.{OnlyOldTimers, keeps-clock, timers_allowed-clock, old-stop, sound-stop, stopped_state}
+use Rattle.evl_kernel.specs.state.RecordsInside.{records_view}
+use Rattle.evl_kernel.proofs.state.TimerLaws.{OnlyOldTimers, keeps-clock, timers_allowed-clock, old-stop, sound-stop, stopped_state}
 use Rattle.evl_kernel.proofs.records.Records.stop_timer.Goals as goal
 
 pub invariant_of-self-2 : goal.invariant_of-self-2

@@ -1,11 +1,11 @@
 use Rattle.std.proofs.Common.{None, Some, sym, subst}
 use Rattle.evl_clock.specs.Clocks.{IsSoundClock}
-use Rattle.evl_kernel.specs.RecordsInside.{records_view}
-use Rattle.evl_kernel.proofs.CallbackLaws.{keeps-both}
-use Rattle.evl_kernel.proofs.TimerLaws.{OnlyOldTimers, keeps-clock, timers_allowed-clock, old-with_deadline, sound-with_deadline}
-use Rattle.evl_kernel.specs.ElementsViews.{owners_of}
-use Rattle.evl_kernel.proofs.RankLaws.{ranks-blocked}
-use Rattle.evl_kernel.proofs.WaitRecords.{keeps-sched}
+use Rattle.evl_kernel.specs.state.RecordsInside.{records_view}
+use Rattle.evl_kernel.proofs.state.CallbackLaws.{keeps-both}
+use Rattle.evl_kernel.proofs.state.TimerLaws.{OnlyOldTimers, keeps-clock, timers_allowed-clock, old-with_deadline, sound-with_deadline}
+use Rattle.evl_kernel.specs.state.ElementsViews.{owners_of}
+use Rattle.evl_kernel.proofs.state.RankLaws.{ranks-blocked}
+use Rattle.evl_kernel.proofs.waiting.WaitRecords.{keeps-sched}
 use Rattle.evl_kernel.proofs.records.Records.suspend.Goals as goal
 
 pub invariant_of-self : goal.invariant_of-self

@@ -1,10 +1,10 @@
 use Rattle.std.proofs.Common.{[]}
 use Rattle.evl_base.specs.declared.reply.Reply.TheVariants.{Done}
-use Rattle.evl_kernel.specs.RecordsInside.{records_view}
-use Rattle.evl_kernel.specs.Elements.{on_sem}
-use Rattle.evl_kernel.specs.Semaphores as semaphore
-use Rattle.evl_kernel.proofs.QueueLaws.{get_wakes, asks_get}
-use Rattle.evl_kernel.proofs.WaitRecords.{asked_done, asked_sound, refused_as}
+use Rattle.evl_kernel.specs.state.RecordsInside.{records_view}
+use Rattle.evl_kernel.specs.calls.Elements.{on_sem}
+use Rattle.evl_kernel.specs.calls.Semaphores as semaphore
+use Rattle.evl_kernel.proofs.calls.QueueLaws.{get_wakes, asks_get}
+use Rattle.evl_kernel.proofs.waiting.WaitRecords.{asked_done, asked_sound, refused_as}
 use Rattle.evl_kernel.proofs.records.Records.try_get.Goals as goal
 
 pub returns-in-Err-clause-served : goal.returns-in-Err-clause-served

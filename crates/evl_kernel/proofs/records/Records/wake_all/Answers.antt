@@ -3,13 +3,13 @@ use Rattle.std.proofs.lemmas.List.{at_drop_more}
 use Rattle.std.proofs.lemmas.Bool.{or_right}
 use Rattle.evl_sync.specs.FlagGroups.{pairs}
 use Rattle.evl_sync.specs.declared.flag_waiter.TakenBits.{TakenBits}
-use Rattle.evl_kernel.specs.States.{State}
-use Rattle.evl_kernel.specs.Elements.{elements}
-use Rattle.evl_kernel.specs.FlagGroups.{all_served}
-use Rattle.evl_kernel.specs.Standing.{is_served, stands_for}
-use Rattle.evl_kernel.specs.Waits.{all_woken}
-use Rattle.evl_kernel.specs.Records.{state_of}
-use Rattle.evl_kernel.proofs.CallbackLaws.{keeps-both}
+use Rattle.evl_kernel.specs.state.States.{State}
+use Rattle.evl_kernel.specs.calls.Elements.{elements}
+use Rattle.evl_kernel.specs.calls.FlagGroups.{all_served}
+use Rattle.evl_kernel.specs.waiting.Standing.{is_served, stands_for}
+use Rattle.evl_kernel.specs.waiting.Waits.{all_woken}
+use Rattle.evl_kernel.specs.state.Records.{state_of}
+use Rattle.evl_kernel.proofs.state.CallbackLaws.{keeps-both}
 use Rattle.evl_kernel.proofs.records.Records.wake_all.Goals as goal
 
 pub loop-one-preserved : goal.loop-one-preserved

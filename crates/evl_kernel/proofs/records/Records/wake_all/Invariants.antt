@@ -1,11 +1,11 @@
 use Rattle.std.proofs.Common.{◌≡◌, ℕ, drop, true, false}
 use Rattle.evl_sync.specs.FlagGroups.{pairs}
 use Rattle.evl_kernel.specs.declared.waits.Awaited.{Awaited}
-use Rattle.evl_kernel.specs.Elements.{elements}
-use Rattle.evl_kernel.specs.FlagGroups.{all_served}
-use Rattle.evl_kernel.specs.Standing.{is_served, stands_for}
-use Rattle.evl_kernel.specs.Waits.{all_woken}
-use Rattle.evl_kernel.specs.Records.{KeepsCallbacks, state_of}
+use Rattle.evl_kernel.specs.calls.Elements.{elements}
+use Rattle.evl_kernel.specs.calls.FlagGroups.{all_served}
+use Rattle.evl_kernel.specs.waiting.Standing.{is_served, stands_for}
+use Rattle.evl_kernel.specs.waiting.Waits.{all_woken}
+use Rattle.evl_kernel.specs.state.Records.{KeepsCallbacks, state_of}
 use Rattle.evl_kernel.proofs.records.Records.wake_all.Given as goal
 
 abbrev pub invariant-loop-one : goal.invariant-loop-one

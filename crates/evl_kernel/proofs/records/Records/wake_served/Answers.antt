@@ -1,13 +1,13 @@
 use Rattle.std.proofs.Common.{List, map, sym, ap, ◌∙◌}
-use Rattle.evl_kernel.specs.CrossBuffers.{service_told}
-use Rattle.evl_kernel.specs.Records.{state_of}
-use Rattle.evl_kernel.specs.Waits.{all_woken}
+use Rattle.evl_kernel.specs.calls.CrossBuffers.{service_told}
+use Rattle.evl_kernel.specs.state.Records.{state_of}
+use Rattle.evl_kernel.specs.waiting.Waits.{all_woken}
 use Rattle.evl_xbuf.specs.Streams.{Service, Wrote, Got}
-use Rattle.evl_kernel.specs.States.{State}
-use Rattle.evl_kernel.specs.Elements.{elements}
-use Rattle.evl_kernel.specs.Standing.{is_served, stands_for}
-use Rattle.evl_kernel.proofs.CallbackLaws.{keeps-both}
-use Rattle.evl_kernel.proofs.ServedWaits.{beyond_all, itself_served, later_served, later_woken}
+use Rattle.evl_kernel.specs.state.States.{State}
+use Rattle.evl_kernel.specs.calls.Elements.{elements}
+use Rattle.evl_kernel.specs.waiting.Standing.{is_served, stands_for}
+use Rattle.evl_kernel.proofs.state.CallbackLaws.{keeps-both}
+use Rattle.evl_kernel.proofs.waiting.ServedWaits.{beyond_all, itself_served, later_served, later_woken}
 use Rattle.evl_kernel.proofs.records.Records.wake_served.Goals as goal
 use Rattle.evl_kernel.proofs.records.Records.wake_served.Goals.{in-Some-Wrote, in-Some-Got, in-None}
 

@@ -1,10 +1,10 @@
 use Rattle.std.proofs.Common.{◌≡◌, ℕ, drop, map, true, false}
 use Rattle.evl_kernel.specs.declared.waits.Awaited.{Awaited}
-use Rattle.evl_kernel.specs.Elements.{elements}
-use Rattle.evl_kernel.specs.CrossBuffers.{service_told}
-use Rattle.evl_kernel.specs.Standing.{is_served, stands_for}
-use Rattle.evl_kernel.specs.Waits.{all_woken}
-use Rattle.evl_kernel.specs.Records.{KeepsCallbacks, state_of}
+use Rattle.evl_kernel.specs.calls.Elements.{elements}
+use Rattle.evl_kernel.specs.calls.CrossBuffers.{service_told}
+use Rattle.evl_kernel.specs.waiting.Standing.{is_served, stands_for}
+use Rattle.evl_kernel.specs.waiting.Waits.{all_woken}
+use Rattle.evl_kernel.specs.state.Records.{KeepsCallbacks, state_of}
 use Rattle.evl_kernel.proofs.records.Records.wake_served.Given as goal
 
 abbrev pub invariant-loop-place : goal.invariant-loop-place

@@ -1,10 +1,10 @@
 use Rattle.evl_base.specs.declared.reply.Reply.TheVariants.{Done}
-use Rattle.evl_kernel.specs.RecordsInside.{records_view}
-use Rattle.evl_kernel.specs.CrossBuffers as through
-use Rattle.evl_kernel.specs.Elements.{on_xbuf}
-use Rattle.evl_kernel.proofs.ElementSteps.{element_enters}
-use Rattle.evl_kernel.proofs.QueueLaws.{asks_write}
-use Rattle.evl_kernel.proofs.WaitRecords.{asked_away, asked_done, asked_sound, refused_as}
+use Rattle.evl_kernel.specs.state.RecordsInside.{records_view}
+use Rattle.evl_kernel.specs.calls.CrossBuffers as through
+use Rattle.evl_kernel.specs.calls.Elements.{on_xbuf}
+use Rattle.evl_kernel.proofs.calls.ElementSteps.{element_enters}
+use Rattle.evl_kernel.proofs.calls.QueueLaws.{asks_write}
+use Rattle.evl_kernel.proofs.waiting.WaitRecords.{asked_away, asked_done, asked_sound, refused_as}
 use Rattle.evl_kernel.proofs.records.Records.write.Goals as goal
 
 pub invariant_of-self-in-Ok : goal.invariant_of-self-in-Ok

@@ -1,5 +1,5 @@
 use Rattle.std.proofs.Common.{length, sym, ap, ◌∙◌, subst}
-use Rattle.evl_kernel.specs.KernelViews.{KernelView}
+use Rattle.evl_kernel.specs.state.KernelViews.{KernelView}
 use Rattle.evl_machine.specs.Actors.{ClaimsOneOf, SeatedActor, Suits, acting, stage_in}
 use Rattle.evl_machine.specs.Unfinished.{wait_after}
 use Rattle.evl_machine.proofs.Staying.{actor_applied, suits_applied}

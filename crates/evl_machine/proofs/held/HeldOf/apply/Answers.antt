@@ -1,5 +1,5 @@
 use Rattle.std.proofs.Common.{ap, sym, ◌∙◌, subst}
-use Rattle.evl_kernel.specs.KernelViews.{KernelView}
+use Rattle.evl_kernel.specs.state.KernelViews.{KernelView}
 use Rattle.evl_machine.specs.Handles.{HeldState, MachineState}
 use Rattle.evl_machine.specs.Known.{ComesFrom}
 use Rattle.evl_machine.proofs.Knowing.{answers_still}

@@ -1,6 +1,6 @@
 use Rattle.std.proofs.Common.{sym, ap, ◌∙◌, subst}
 use Rattle.std.specs.Prelude.{⊤, MatchOption}
-use Rattle.evl_kernel.specs.KernelViews.{KernelView}
+use Rattle.evl_kernel.specs.state.KernelViews.{KernelView}
 use Rattle.evl_machine.specs.Actors.{SeatedActor, acting}
 use Rattle.evl_machine.specs.Callers.{HasInHand}
 use Rattle.evl_machine.specs.Handles.{HeldState, MachineState, account_of, caller_of}

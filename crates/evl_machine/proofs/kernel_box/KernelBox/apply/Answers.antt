@@ -1,6 +1,6 @@
 use Rattle.std.proofs.Common.{◌≡◌, sym, ◌∙◌, subst}
-use Rattle.evl_kernel.specs.Callbacks.{AnswersByPlan}
-use Rattle.evl_kernel.specs.KernelViews.{KernelView}
+use Rattle.evl_kernel.specs.state.Callbacks.{AnswersByPlan}
+use Rattle.evl_kernel.specs.state.KernelViews.{KernelView}
 use Rattle.evl_machine.specs.Calls.{Applied}
 use Rattle.evl_machine.proofs.Calling.{applies}
 use Rattle.evl_machine.proofs.kernel_box.KernelBox.apply.Goals as goal

@@ -1,5 +1,5 @@
 use Rattle.std.proofs.Common.{◌≡◌, ◌∙◌, subst}
-use Rattle.evl_kernel.specs.KernelViews.{KernelView}
+use Rattle.evl_kernel.specs.state.KernelViews.{KernelView}
 use Rattle.evl_machine.specs.Locking.{Reserves}
 use Rattle.evl_machine.proofs.LockingLaws.{reserves}
 use Rattle.evl_machine.proofs.kernel_box.KernelBox.reserve.Goals as goal

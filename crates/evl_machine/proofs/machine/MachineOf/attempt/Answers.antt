@@ -1,7 +1,7 @@
 use Rattle.std.proofs.Common.{◌≡◌, true, ap, sym, ◌∙◌, subst}
 use Rattle.evl_base.specs.Board.{board_fits}
-use Rattle.evl_kernel.specs.Callbacks.{AnswersByPlan}
-use Rattle.evl_kernel.specs.KernelViews.{KernelView}
+use Rattle.evl_kernel.specs.state.Callbacks.{AnswersByPlan}
+use Rattle.evl_kernel.specs.state.KernelViews.{KernelView}
 use Rattle.evl_machine.specs.Actors.{ActorState, acting, call_refusal}
 use Rattle.evl_machine.specs.Callers.{machine_by}
 use Rattle.evl_machine.specs.Handles.{CallerState, MachineState, account_of}

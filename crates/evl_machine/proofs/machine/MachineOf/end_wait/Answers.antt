@@ -1,7 +1,7 @@
 use Rattle.std.proofs.Common.{◌≡◌, true, ap, refl, sym, ◌∙◌, subst}
 use Rattle.evl_base.specs.Board.{board_fits}
-use Rattle.evl_kernel.specs.Callbacks.{AnswersByPlan}
-use Rattle.evl_kernel.specs.KernelViews.{KernelView}
+use Rattle.evl_kernel.specs.state.Callbacks.{AnswersByPlan}
+use Rattle.evl_kernel.specs.state.KernelViews.{KernelView}
 use Rattle.evl_machine.specs.Handles.{CallerState, MachineState}
 use Rattle.evl_machine.proofs.Opened.{opened_wait}
 use Rattle.evl_machine.proofs.Staying.{at_stage}

@@ -1,7 +1,7 @@
 use Rattle.std.proofs.Common.{◌≡◌, false, refl, ap, ◌∙◌, subst}
 use Rattle.evl_base.specs.declared.call.Call.TheVariants.{Finish}
 use Rattle.evl_base.specs.declared.numbers.ThreadId.{ThreadId}
-use Rattle.evl_kernel.specs.Waits.{has_ended}
+use Rattle.evl_kernel.specs.waiting.Waits.{has_ended}
 use Rattle.evl_machine.specs.Actors.{ActorState, acting, keeps_stage}
 use Rattle.evl_machine.specs.Calls.{Answered}
 use Rattle.evl_machine.specs.Handles.{account_of}

@@ -1,6 +1,6 @@
 use Rattle.std.proofs.Common.{ap, sym, ◌∙◌, subst}
 use Rattle.evl_base.specs.Board.{board_fits}
-use Rattle.evl_kernel.specs.KernelViews.{KernelView}
+use Rattle.evl_kernel.specs.state.KernelViews.{KernelView}
 use Rattle.evl_machine.specs.declared.views.Account.{Account}
 use Rattle.evl_machine.specs.Events.{FailsToTake, Takes}
 use Rattle.evl_machine.specs.Handles.{CallerState, MachineState, account_of, turned_away}

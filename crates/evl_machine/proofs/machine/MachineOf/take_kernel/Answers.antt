@@ -1,7 +1,7 @@
 use Rattle.std.proofs.Common.{sym, ap, ◌∙◌, arith, subst}
 use mathlib.Core.Option.{none}
 use Rattle.atomic_table.specs.Table.{step}
-use Rattle.evl_kernel.specs.KernelViews.{KernelView}
+use Rattle.evl_kernel.specs.state.KernelViews.{KernelView}
 use Rattle.evl_machine.specs.Seats.{CoreMe}
 use Rattle.evl_machine.specs.Handles.{MachineState, account_of}
 use Rattle.evl_machine.specs.declared.views.Account.{Account}

@@ -1,5 +1,5 @@
 use Rattle.std.proofs.Common.{subst, sym}
-use Rattle.evl_kernel.specs.Callbacks.{AnswersByPlan}
+use Rattle.evl_kernel.specs.state.Callbacks.{AnswersByPlan}
 use Rattle.evl_plans.proofs.kernels.PlannedKernel.reserve.Goals as goal
 
 pub invariant_of-self : goal.invariant_of-self

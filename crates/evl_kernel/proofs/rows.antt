@@ -1,0 +1,5 @@
+-- Worked rows, computed on the definitions.
+mod Rows
+mod WaitRows
+mod FlagRows
+mod OwnerRows

@@ -1,0 +1,39 @@
+-- A mutex of the kernel: the steps of its record, and what they mean to the threads that wait for it.
+use Rattle.std.specs.Prelude.{ℕ, List, [], Ok, Err, is_some, option_map, if◌then◌else◌}
+use Rattle.evl_base.specs.declared.refusal.Refusal.TheVariants.{Busy, Invalid, NotOwner}
+use Rattle.evl_base.specs.declared.numbers.ThreadId.{ThreadId}
+use Rattle.evl_base.specs.declared.reply.Reply.{Reply}
+use Rattle.evl_base.specs.declared.reply.Reply.TheVariants as reply
+use Rattle.evl_mutex.specs.declared.waiter.Waiter.{Waiter}
+use Rattle.evl_mutex.specs.Mutexes as recorded
+use Rattle.evl_mutex.specs.Mutexes.{Mutex, Handing, has_ceiling, is_open_to}
+use Rattle.evl_kernel.specs.calls.Effects.{Answered, done}
+use Rattle.evl_kernel.specs.calls.Semaphores.{one_served}
+
+pub data MutexStep : Type 0 where
+  -- a thread waits, and names the owner
+  claim : Waiter → ℕ → MutexStep
+  -- a thread hands it on to the first waiter
+  release : ℕ → MutexStep
+  -- a thread has its ceiling
+  raise : ℕ → MutexStep
+  -- a waiter leaves, as its deadline fell due
+  drop : ℕ → MutexStep
+
+abbrev pub named : ℕ → ThreadId
+named thread = record { 0 = thread }
+
+-- the next owner, and whether more wait
+abbrev pub handed_told : Handing → Reply
+handed_told h = reply.Handed (option_map named h.next) h.more
+
+abbrev pub mutex : Mutex → MutexStep → Answered Mutex
+mutex m (claim w owner) = Ok (reply.Begun, recorded.claimed m w owner)
+mutex m (release thread) = if is_open_to thread m then Ok (handed_told (recorded.released m), (recorded.released m).after) else Err NotOwner
+mutex m (raise thread) = if has_ceiling m then (if is_some m.owner then Err Busy else done (recorded.raised m thread)) else Err Invalid
+mutex m (drop thread) = done (recorded.drop_waiter thread m)
+
+-- whose wait a step ends, and with what
+abbrev pub mutex_wakes : Mutex → MutexStep → List (ℕ × Reply)
+mutex_wakes m (release thread) = one_served (recorded.released m).next
+mutex_wakes m _ = []

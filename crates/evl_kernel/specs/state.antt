@@ -1,0 +1,14 @@
+-- The kernel's records: what they are, where callbacks are, and how contracts see them.
+pub mod Limits
+pub mod States
+pub mod ElementsViews
+pub mod Openings
+pub mod Renamed
+pub mod Callbacks
+pub mod Records
+pub mod RecordsInside
+pub mod ChangedThreads
+pub mod KernelViews
+pub mod Places
+pub mod Insides
+pub mod WaitBoxes
