@@ -1,5 +1,5 @@
 -- What each step of the elements means for the queues, and that all elements stay sound.
-use Rattle.std.proofs.Common.{◌≡◌, ◌≢◌, ◌<◌, ℕ, true, false, arith, List, [], Option, Some, None, Ok, slice_get, slice_set, refl, sym, ap, ◌∙◌, subst}
+use Rattle.std.proofs.Common.{◌≡◌, ◌≢◌, ◌<◌, ℕ, Bool, true, false, arith, List, [], Option, Some, None, Ok, slice_get, slice_set, refl, sym, ap, ◌∙◌, subst}
 use Rattle.std.specs.Option.{option_map_or}
 use Rattle.std.proofs.lemmas.Bool.{false≢true}
 use Rattle.std.proofs.lemmas.List.{length-replicate}
@@ -54,15 +54,43 @@ use Rattle.evl_kernel.proofs.calls.XbufSteps.{of_xbuf, reader_drops, was_there, 
 
 -- a step of an element that calls and callbacks ask for and that changes it: no wait begins by it, and none ends by its
 -- deadline
-pub data IsAsked : ElementStep → Type 0 where
-  asks_get : (n : ℕ) → IsAsked (on_sem n semaphore.get)
-  asks_put : (n : ℕ) → IsAsked (on_sem n semaphore.put)
-  asks_take : (n : ℕ) (kind : Take) → IsAsked (on_flags n (group.take kind))
-  asks_post : (n bits : ℕ) → IsAsked (on_flags n (group.post bits))
-  asks_write : (n : ℕ) (stage : Stage) (way : Way) (bytes : List ℕ) → IsAsked (on_xbuf n (through.write stage way bytes))
-  asks_read : (n : ℕ) (stage : Stage) (way : Way) (len : ℕ) → IsAsked (on_xbuf n (through.read stage way len))
-  asks_release : (n thread : ℕ) → IsAsked (on_mutex n (recorded.release thread))
-  asks_raise : (n thread : ℕ) → IsAsked (on_mutex n (recorded.raise thread))
+abbrev pub is_asked : ElementStep → Bool
+is_asked (on_sem n semaphore.get) = true
+is_asked (on_sem n semaphore.put) = true
+is_asked (on_flags n (group.take kind)) = true
+is_asked (on_flags n (group.post bits)) = true
+is_asked (on_xbuf n (through.write stage way bytes)) = true
+is_asked (on_xbuf n (through.read stage way len)) = true
+is_asked (on_mutex n (recorded.release thread)) = true
+is_asked (on_mutex n (recorded.raise thread)) = true
+is_asked _ = false
+
+abbrev pub IsAsked : ElementStep → Type 0
+IsAsked step = is_asked step ≡ true
+
+pub asks_get : (n : ℕ) → IsAsked (on_sem n semaphore.get)
+asks_get n = refl
+
+pub asks_put : (n : ℕ) → IsAsked (on_sem n semaphore.put)
+asks_put n = refl
+
+pub asks_take : (n : ℕ) (kind : Take) → IsAsked (on_flags n (group.take kind))
+asks_take n kind = refl
+
+pub asks_post : (n bits : ℕ) → IsAsked (on_flags n (group.post bits))
+asks_post n bits = refl
+
+pub asks_write : (n : ℕ) (stage : Stage) (way : Way) (bytes : List ℕ) → IsAsked (on_xbuf n (through.write stage way bytes))
+asks_write n stage way bytes = refl
+
+pub asks_read : (n : ℕ) (stage : Stage) (way : Way) (len : ℕ) → IsAsked (on_xbuf n (through.read stage way len))
+asks_read n stage way len = refl
+
+pub asks_release : (n thread : ℕ) → IsAsked (on_mutex n (recorded.release thread))
+asks_release n thread = refl
+
+pub asks_raise : (n thread : ℕ) → IsAsked (on_mutex n (recorded.raise thread))
+asks_raise n thread = refl
 
 -- what a step leaves of elements: all sound, and these are let go
 pub record Stepped (e : Elements) (served : List (ℕ × Reply)) (after : Elements) : Type 0 where
@@ -120,14 +148,26 @@ module _ (e : Elements) (h : AreSound e) (after : Elements) (reply : Reply) wher
 
   -- a step that was asked for
   pub asked_goes : (step : ElementStep) → IsAsked step → element e step ≡ Ok (reply, after) → Stepped e (wakes e step) after
-  asked_goes step (asks_get n) is = of_sem_step n semaphore.get (λ q p here made. sems.get_left q p reply (h.sems n q here) made) is
-  asked_goes step (asks_put n) is = of_sem_step n semaphore.put (λ q p here made. sems.put_left q p reply (h.sems n q here) made) is
-  asked_goes step (asks_take n kind) is = of_flags_step n (group.take kind) (λ f g here made. flag_queues.take_left f g reply kind (h.flags n f here) made) is
-  asked_goes step (asks_post n bits) is = of_flags_step n (group.post bits) (λ f g here made. flag_queues.post_left f g reply bits (h.flags n f here) made) is
-  asked_goes step (asks_write n stage way bytes) is = of_xbuf_step n (through.write stage way bytes) (λ x y here made. queues.write_left x y reply (h.xbufs n x here) stage way bytes made) is
-  asked_goes step (asks_read n stage way len) is = of_xbuf_step n (through.read stage way len) (λ x y here made. queues.read_left_of x y reply (h.xbufs n x here) stage way len made) is
-  asked_goes step (asks_release n thread) is = of_mutex_step n (recorded.release thread) (λ m p here made. mutexes.release_left (owners_in e) n m here h.mutexes thread p reply made) is
-  asked_goes step (asks_raise n thread) is = of_mutex_step n (recorded.raise thread) (λ m p here made. mutexes.raise_left (owners_in e) n m here h.mutexes thread p reply made) is
+  asked_goes (on_sem n semaphore.get) asked is = of_sem_step n semaphore.get (λ q p here made. sems.get_left q p reply (h.sems n q here) made) is
+  asked_goes (on_sem n semaphore.put) asked is = of_sem_step n semaphore.put (λ q p here made. sems.put_left q p reply (h.sems n q here) made) is
+  asked_goes (on_flags n (group.take kind)) asked is = of_flags_step n (group.take kind) (λ f g here made. flag_queues.take_left f g reply kind (h.flags n f here) made) is
+  asked_goes (on_flags n (group.post bits)) asked is = of_flags_step n (group.post bits) (λ f g here made. flag_queues.post_left f g reply bits (h.flags n f here) made) is
+  asked_goes (on_xbuf n (through.write stage way bytes)) asked is = of_xbuf_step n (through.write stage way bytes) (λ x y here made. queues.write_left x y reply (h.xbufs n x here) stage way bytes made) is
+  asked_goes (on_xbuf n (through.read stage way len)) asked is = of_xbuf_step n (through.read stage way len) (λ x y here made. queues.read_left_of x y reply (h.xbufs n x here) stage way len made) is
+  asked_goes (on_mutex n (recorded.release thread)) asked is = of_mutex_step n (recorded.release thread) (λ m p here made. mutexes.release_left (owners_in e) n m here h.mutexes thread p reply made) is
+  asked_goes (on_mutex n (recorded.raise thread)) asked is = of_mutex_step n (recorded.raise thread) (λ m p here made. mutexes.raise_left (owners_in e) n m here h.mutexes thread p reply made) is
+  asked_goes (on_sem n semaphore.peek) asked is = absurd (false≢true asked)
+  asked_goes (on_sem n (semaphore.begin w)) asked is = absurd (false≢true asked)
+  asked_goes (on_sem n (semaphore.drop t)) asked is = absurd (false≢true asked)
+  asked_goes (on_flags n group.peek) asked is = absurd (false≢true asked)
+  asked_goes (on_flags n (group.begin w)) asked is = absurd (false≢true asked)
+  asked_goes (on_flags n (group.drop t)) asked is = absurd (false≢true asked)
+  asked_goes (on_xbuf n (through.room way)) asked is = absurd (false≢true asked)
+  asked_goes (on_xbuf n (through.begin_write t way bytes)) asked is = absurd (false≢true asked)
+  asked_goes (on_xbuf n (through.begin_read t way len)) asked is = absurd (false≢true asked)
+  asked_goes (on_xbuf n (through.drop t way)) asked is = absurd (false≢true asked)
+  asked_goes (on_mutex n (recorded.claim w owner)) asked is = absurd (false≢true asked)
+  asked_goes (on_mutex n (recorded.drop t)) asked is = absurd (false≢true asked)
 
 -- a thread that waits for a mutex names another one, which is the recorded owner or may be, and waits for itself by that
 -- along no owners

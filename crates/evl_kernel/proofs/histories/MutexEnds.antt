@@ -41,7 +41,7 @@ use Rattle.evl_kernel.specs.histories.MutexEnds.{ends_rightly, MutexWaitsEndRigh
 use Rattle.evl_kernel.proofs.calls.LeavesLaws.{Leaves, leaves-refused}
 use Rattle.evl_kernel.proofs.state.OpeningLaws.{threads_few}
 use Rattle.evl_kernel.proofs.calls.QueueSteps.{Gone}
-use Rattle.evl_kernel.proofs.calls.QueueLaws.{Begins, Dropped, IsAsked, asked_goes, begin_goes, drop_goes, asks_get, asks_put, asks_take, asks_post, asks_write, asks_read, asks_release, asks_raise}
+use Rattle.evl_kernel.proofs.calls.QueueLaws.{Begins, Dropped, IsAsked, asked_goes, begin_goes, drop_goes}
 use Rattle.evl_kernel.proofs.calls.BeginLaws.{free_to_begin}
 use Rattle.evl_kernel.proofs.calls.ThreadSteps.{leaves-threads}
 use Rattle.evl_kernel.proofs.histories.StateWalk.{KeptByEach, KeptByOwn, run_holds}
@@ -133,14 +133,13 @@ module _ (count : ℕ) (few : count ≤ thread_limit) where
             left (Ok (reply, after)) = wakes_one (slice_get (elements s).mutexes n) after
 
         by_step : (step : ElementStep) → IsAsked step → Leaves AllRightly (touched s by step).effect
-        by_step step (asks_get n) = beside step (asks_get n) refl
-        by_step step (asks_put n) = beside step (asks_put n) refl
-        by_step step (asks_take n kind) = beside step (asks_take n kind) refl
-        by_step step (asks_post n bits) = beside step (asks_post n bits) refl
-        by_step step (asks_write n stage way bytes) = beside step (asks_write n stage way bytes) refl
-        by_step step (asks_read n stage way len) = beside step (asks_read n stage way len) refl
-        by_step step (asks_release n thread) = on_mutexes n (mutex_step.release thread) (λ m. ((released m).next, refl))
-        by_step step (asks_raise n thread) = on_mutexes n (mutex_step.raise thread) (λ m. (None, refl))
+        by_step (on_sem n step) asked = beside (on_sem n step) asked refl
+        by_step (on_flags n step) asked = beside (on_flags n step) asked refl
+        by_step (on_xbuf n step) asked = beside (on_xbuf n step) asked refl
+        by_step (on_mutex n (mutex_step.release thread)) asked = on_mutexes n (mutex_step.release thread) (λ m. ((released m).next, refl))
+        by_step (on_mutex n (mutex_step.raise thread)) asked = on_mutexes n (mutex_step.raise thread) (λ m. (None, refl))
+        by_step (on_mutex n (mutex_step.claim w owner)) asked = absurd (false≢true asked)
+        by_step (on_mutex n (mutex_step.drop t)) asked = absurd (false≢true asked)
 
     -- a deadline
     rightly_expired : (thread : ℕ) → AllRightly (deadline_left s thread).1

@@ -38,7 +38,8 @@ use Rattle.evl_kernel.specs.declared.waits.Wanted.TheVariants as wanted
 use Rattle.evl_base.specs.Limits.{thread_limit}
 use Rattle.evl_kernel.specs.state.States.{Elements, Handler, State, with_sched}
 use Rattle.evl_kernel.specs.calls.Effects.{Answered, Effect, if_done, leaving, lifted}
-use Rattle.evl_kernel.specs.calls.Elements.{ElementStep, element, elements, serves, stepping_to, touched, wakes, with_elements}
+use Rattle.evl_kernel.specs.calls.Mutexes as mutex_step
+use Rattle.evl_kernel.specs.calls.Elements.{ElementStep, on_sem, on_flags, on_xbuf, on_mutex, element, elements, serves, stepping_to, touched, wakes, with_elements}
 use Rattle.evl_kernel.specs.waiting.Waits.{all_woken, begun, is_past, suspended, wait_at, with_wait, woken}
 use Rattle.evl_kernel.specs.waiting.Beginnings.{awaited, begin_refusal, begin_step, beginning, may_name, step_of_waiter}
 use Rattle.evl_kernel.specs.waiting.Endings.{drop_step, finish, goes_inband, inband_if, outcome_of}
@@ -58,7 +59,7 @@ use Rattle.evl_kernel.proofs.state.OpeningLaws.{sound_of, threads_few}
 use Rattle.evl_kernel.proofs.calls.OwnerSteps.{OfAll, OfNewcomers, OfRecorded, all_after}
 use Rattle.evl_kernel.proofs.waiting.ProperLaws.{IsProper}
 use Rattle.evl_kernel.proofs.waiting.ProperSteps.{kept_by_each as proper_by_each, kept_by_own as proper_by_own, over_none, passed_all, proper_opening, stands_nowhere}
-use Rattle.evl_kernel.proofs.calls.QueueLaws.{IsAsked, asks_get, asks_put, asks_take, asks_post, asks_write, asks_read, asks_raise, asks_release}
+use Rattle.evl_kernel.proofs.calls.QueueLaws.{IsAsked}
 use Rattle.evl_kernel.proofs.calls.QueueSteps.{was_at_it}
 use Rattle.evl_kernel.proofs.state.RankLaws.{attached_of}
 use Rattle.evl_kernel.proofs.calls.AskedSteps.{MayRaise}
@@ -175,14 +176,13 @@ seated_touched s by step named h = seated_stepping (λ x. x) s step (λ e here. 
 
 -- a step that is asked for names nobody, but for a raise
 asked_named : (s : State) (step : ElementStep) → IsAsked step → MayRaise s step → OfNewcomers (HasSeat s.sched.seats) step
-asked_named s step (asks_get n) may = tt
-asked_named s step (asks_put n) may = tt
-asked_named s step (asks_take n kind) may = tt
-asked_named s step (asks_post n bits) may = tt
-asked_named s step (asks_write n stage way bytes) may = tt
-asked_named s step (asks_read n stage way len) may = tt
-asked_named s step (asks_release n thread) may = tt
-asked_named s step (asks_raise n thread) may = attached_of s.sched thread (passes (if is_some (slice_get (elements s).mutexes n) then None else Some Unknown) (stranger_refusal s.sched thread) may).1
+asked_named s (on_sem n step) asked may = tt
+asked_named s (on_flags n step) asked may = tt
+asked_named s (on_xbuf n step) asked may = tt
+asked_named s (on_mutex n (mutex_step.release thread)) asked may = tt
+asked_named s (on_mutex n (mutex_step.raise thread)) asked may = attached_of s.sched thread (passes (if is_some (slice_get (elements s).mutexes n) then None else Some Unknown) (stranger_refusal s.sched thread) may).1
+asked_named s (on_mutex n (mutex_step.claim w owner)) asked may = absurd (false≢true asked)
+asked_named s (on_mutex n (mutex_step.drop t)) asked may = absurd (false≢true asked)
 
 -- a deadline
 drop_named : (s : State) (thread : ℕ) (on : Awaited) → OfNewcomers (HasSeat s.sched.seats) (drop_step thread on)
