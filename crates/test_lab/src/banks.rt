@@ -5,7 +5,7 @@ use evl_plans::{BankFault, Part, Planned, read_bank, trace_plans};
 use lab_reports::program_plans;
 use std::alloc::Global;
 
-// The program's eight callbacks as a bank, as banks/program.toml has them.
+// The program's eight callbacks as a bank, as examples/banks/program.toml has them.
 const PROGRAM: &str = r#"[[callback]]
 [[callback]]
 do = [{ post_sem = 0 }]

@@ -1,13 +1,14 @@
-"""Plays scenarios from Python: PYTHONPATH=python pytest examples, or python3 examples/test_play.py; a copy elsewhere plays those
+"""Plays scenarios from Python: PYTHONPATH=embed/python pytest examples, or the same with python3
+examples/python/test_play.py; a copy elsewhere plays those
 that are installed beside the module."""
 import glob
 import os
 
 import evl
 
-TOP = os.path.dirname(os.path.dirname(os.path.abspath(__file__)))
-if not os.path.isdir(f"{TOP}/scenarios"):
-    TOP = os.path.join(os.path.dirname(os.path.abspath(evl.__file__)), "../../../share/doc/evl-simulated")
+EXAMPLES = os.path.dirname(os.path.dirname(os.path.abspath(__file__)))
+if not os.path.isdir(f"{EXAMPLES}/scenarios"):
+    EXAMPLES = os.path.join(os.path.dirname(os.path.abspath(evl.__file__)), "../../../share/doc/evl-simulated/examples")
 BOARD = "[board]\nthreads = 1\nsems = [0]\n"
 PUT = '[[step]]\ndo = "put"\nwho = 0\nsem = 0\n'
 
@@ -18,7 +19,7 @@ def text_of(name):
 
 
 def test_each_stored_trace():
-    traces = glob.glob(f"{TOP}/scenarios/**/*.trace", recursive=True)
+    traces = glob.glob(f"{EXAMPLES}/scenarios/**/*.trace", recursive=True)
     assert traces
     for trace in traces:
         assert evl.play(text_of(trace[:-6] + ".toml")) == text_of(trace), trace

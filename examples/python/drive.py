@@ -1,9 +1,9 @@
 #!/usr/bin/env python3
-"""Drives a machine through `lab live`: a thread waits for a semaphore, an interrupt raises it.  examples/drive.py"""
+"""Drives a machine through `lab live`: a thread waits for a semaphore, an interrupt raises it.  examples/python/drive.py"""
 import os
 import subprocess
 
-LAB = os.path.join(os.path.dirname(os.path.dirname(os.path.abspath(__file__))), "lab")
+LAB = os.path.join(os.path.dirname(os.path.dirname(os.path.dirname(os.path.abspath(__file__)))), "lab")
 LAB = LAB if os.path.exists(LAB) else "lab"
 machine = subprocess.Popen([LAB, "live"], stdin=subprocess.PIPE, stdout=subprocess.PIPE, text=True, bufsize=1)
 

@@ -1,7 +1,7 @@
 """The out-of-band core, simulated, for Python: plays scenarios in the process, by the library libevl.so (docs/EMBEDDING.md).
 
     import evl
-    print(evl.play(open("scenarios/first_semaphore.toml").read()))
+    print(evl.play(open("examples/scenarios/first_semaphore.toml").read()))
 
     kernel = evl.Kernel(threads=2, sems=[0])
     assert kernel.try_get(0, sem=0).refusal == "Again"
@@ -17,7 +17,7 @@ __all__ = ["Answer", "BadBoard", "BadPlan", "BadStep", "BadText", "Kernel", "Pla
 
 PART = 1 << 16
 HERE = os.path.dirname(os.path.abspath(__file__))
-PLACES = ["../crates/evl_c/out/libevl.so", "../../libevl.so"]
+PLACES = ["../../crates/evl_c/out/libevl.so", "../../libevl.so"]
 
 
 class Refused(Exception):
@@ -73,7 +73,7 @@ def _load():
     try:
         library = ctypes.CDLL(named or next(filter(os.path.exists, near), "libevl.so"))
     except OSError as why:
-        raise ImportError(f"{why} (./library builds libevl.so, ./install installs it; EVL_LIBRARY may say where it lies)") from None
+        raise ImportError(f"{why} (tools/library builds libevl.so, ./install installs it; EVL_LIBRARY may say where it lies)") from None
     size, pointer = ctypes.c_size_t, ctypes.c_void_p
     library.evl_c_play.argtypes = [ctypes.c_char_p, size, ctypes.c_uint32, size, pointer, size, pointer]
     library.evl_c_play_over.argtypes = [pointer, size, *library.evl_c_play.argtypes]
