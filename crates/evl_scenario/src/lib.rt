@@ -24,7 +24,7 @@ mod writing;
 
 pub use faults::Fault;
 pub use lines::{
-    StepAnswer, BoardLine, ElementCounts, EntryNumber, OwnerCounts, PlayLine, StepLine, board_line,
+    BoardLine, ElementCounts, EntryNumber, OwnerCounts, PlayLine, StepAnswer, StepLine, board_line,
 };
 pub use scenarios::{Scenario, read_scenario};
 pub use steps::{Step, step_keys_of};

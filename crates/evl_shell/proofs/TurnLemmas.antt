@@ -23,8 +23,6 @@ chosen-true : {A : Type 0} (b : Bool) (x y : A) → b ≡ true → (if b then x 
 chosen-true true x y h = refl
 chosen-true false x y h = cc
 
-]
-
 -- the turn of a step where the history is at its limit
 pub turn-away : (limit : ℕ) (m : Moment) (step : Step) → m.entries ≡ limit → turn limit m step ≡ turned_away m
 unfolding turn

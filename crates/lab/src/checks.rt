@@ -9,8 +9,8 @@ ghost use Rattle.lab.specs.Endings as endings;
 
 use crate::banks::read_plans;
 use crate::statuses::{AT_FAULT, either, status_of};
-use lab_faults::report;
 use evl_plans::Planned;
+use lab_faults::report;
 use lab_warnings::warnings;
 use std::alloc::{AllocError, Global};
 use std::fs;

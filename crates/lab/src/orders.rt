@@ -12,8 +12,8 @@ use crate::endings::{tell_fault, tell_refused};
 use crate::statuses::{AGAINST, AT_FAULT, UNANSWERED, refused};
 use crate::texts::read_text;
 use crate::words::Asked;
-use lab_orders::OrdersError;
 use evl_plans::{Planned, copied_bank};
+use lab_orders::OrdersError;
 use lab_scenario_orders::{
     Ask, AskFault, Asked as Answered, BankMaker, Callers, Outcomes, TextFault, ask_all, read_ask,
     read_callers, write_report,
