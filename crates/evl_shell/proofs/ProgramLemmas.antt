@@ -11,7 +11,7 @@ use Rattle.evl_shell.specs.declared.plays.Stop.{Stop}
 use Rattle.evl_shell.specs.declared.plays.Stop.TheVariants.{Broken}
 use Rattle.evl_shell.specs.Plays.{Ended, Plays, stop_line}
 use Rattle.evl_shell.specs.Programs.{Answers, AnswersBy, Declines, TurnsAway, TurnsAwayFor, source}
-use Rattle.evl_shell.specs.Words.{file_of, grammar, limit_of}
+use Rattle.evl_shell.specs.Arguments.{file_of, grammar, limit_of}
 use Rattle.evl_shell.proofs.EndLemmas.{ended-unread}
 
 -- whether a file is named

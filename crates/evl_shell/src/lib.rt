@@ -11,7 +11,7 @@ mod programs;
 mod runs;
 mod sinks;
 mod texts;
-mod words;
+mod arguments;
 
 pub use evl_scenario::Fault;
 pub use histories::{know_bank, trace_kernel};

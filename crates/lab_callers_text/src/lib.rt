@@ -6,7 +6,7 @@ mod documents;
 mod marks;
 mod reading;
 mod tables;
-mod words;
+mod step_words;
 
 pub use acts::{Act, CallersStep};
 pub use reading::{CallersText, read_callers};

@@ -20,13 +20,13 @@ mod texts;
 mod tools;
 mod waits;
 mod watch;
-mod words;
+mod arguments;
 
 use crate::again::plays_so;
 use crate::events::Event;
 use crate::runs::run_hosts;
 use crate::texts::{Failure, Texts};
-use crate::words::read_words;
+use crate::arguments::read_words;
 use std::process::ExitCode;
 use std::{env, io};
 
