@@ -8,10 +8,10 @@ ghost use Rattle.evl_shell.specs.Plays.{Ended, Plays, ReadsFew, said, status};
 ghost use Rattle.evl_shell.specs.Programs.{Answers, AnswersAtLeast, Helps, PlaysAtLeast, TurnsAway, source};
 ghost use Rattle.evl_shell.specs.Arguments.{file_of};
 
+use crate::arguments::{Asked, read_words};
 use crate::lent::OverLent;
 use crate::plays::{Stop, conclude, play_input, put_line};
 use crate::sinks::{Sink, SinkFailed, put_all};
-use crate::arguments::{Asked, read_words};
 use clap::Error;
 use clap::error::ErrorKind;
 use evl_pipeline::Callback;

@@ -12,8 +12,8 @@ ghost use Rattle.lab_callers_text.specs.Tables.{with_value, without};
 ghost use Rattle.lab_callers_text.specs.StepWords.{name_key, number_key};
 
 use crate::acts::Act;
-use crate::tables::{field, put, take};
 use crate::step_words::{OwnWord, own_word};
+use crate::tables::{field, put, take};
 use evl_base::{Call, MutexId, StaxId};
 use std::alloc::Global;
 use toml::{Table, Value};
