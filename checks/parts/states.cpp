@@ -26,7 +26,7 @@ struct Step {
 using Programs = std::vector<std::vector<Step>>;
 
 struct Queue {
-    Byte count, threads[CALLERS], masks[CALLERS];
+    Byte count, threads[MACHINE], masks[MACHINE];
 
     // Behind all of at least this rank: a thread's rank is its number.
     void enter(int thread, int mask) {
@@ -46,11 +46,11 @@ struct Queue {
 enum : Byte { NoWait, Waits, Ended };
 
 struct State {
-    Byte places[CALLERS], answers[CALLERS][STEPS];
+    Byte places[MACHINE], answers[MACHINE][STEPS];
     Byte sem, bits, owner;
     Queue gets, takes, claims;
-    Byte ready_count, ready[CALLERS];
-    Byte waits[CALLERS], gains[CALLERS];
+    Byte ready_count, ready[MACHINE];
+    Byte waits[MACHINE], gains[MACHINE];
 };
 
 static bool keeps_answers, keeps_ready;

@@ -1,7 +1,7 @@
 //! The callbacks of the program, each answering just its plan.
 ghost use Rattle.std.specs.Prelude.{◌≡◌, ◌≤◌, ℕ, List, [], ◌∷◌, true, false, if◌then◌else◌, length, map, None, OnErr, IfOk, is_some};
 ghost use Rattle.evl_kernel.specs.state.Limits.{callback_limit};
-ghost use Rattle.evl_shell.specs.Words.{file_of};
+ghost use Rattle.evl_shell.specs.Arguments.{file_of};
 ghost use Rattle.evl_pipeline.specs.Plans.{answer_of};
 ghost use Rattle.evl_shell.specs.Plays.{Plays, ReadsFew};
 ghost use Rattle.evl_shell.specs.Programs.{Answers};

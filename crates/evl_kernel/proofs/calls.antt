@@ -14,7 +14,7 @@ pub mod AskedSteps
 pub mod BeginLaws
 pub mod MutexCalls
 pub mod HandLaws
-mod XbufOpenings
+pub mod XbufOpenings
 pub mod ElementLaws
 pub mod OwnerSteps
 pub mod AnswerLaws

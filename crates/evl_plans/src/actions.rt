@@ -6,9 +6,10 @@ ghost use Rattle.evl_scenario.specs.Tables.{value_at};
 ghost use Rattle.evl_scenario.specs.Values.{half_word_from, truth_from};
 ghost use Rattle.evl_plans.specs.Banks.{action_of, flags_posted, handed_on};
 
-use crate::tables::{half_word_at, has_only_keys, truth_at, word_at};
+use crate::tables::{half_word_at, truth_at, word_at};
 use evl_base::{FlagId, LineNo, SemId, TimerId};
 use evl_pipeline::Action;
+use evl_scenario::has_only_keys;
 use toml::Table;
 
 // `post_sem`: the semaphore.

@@ -10,7 +10,7 @@ ghost use Rattle.evl_plans.specs.Told.{told};
 use crate::callbacks::read_callback_at;
 use crate::faults::BankFault;
 use crate::planned::Planned;
-use crate::tables::{field, has_only_keys};
+use evl_scenario::{field, has_only_keys};
 use std::alloc::Global;
 use toml::{Table, Value};
 

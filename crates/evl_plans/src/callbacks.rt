@@ -7,7 +7,8 @@ ghost use Rattle.evl_plans.specs.Told.{told};
 use crate::faults::Part;
 use crate::planned::Planned;
 use crate::rows::rows_of;
-use crate::tables::{count_at, has_only_keys};
+use crate::tables::count_at;
+use evl_scenario::has_only_keys;
 use toml::{Table, Value};
 
 // The callback of a table.

@@ -6,9 +6,10 @@ ghost use Rattle.evl_plans.specs.Banks.{row_at, row_in, rows_at, rows_from};
 
 use crate::actions::read_action;
 use crate::faults::Part;
-use crate::tables::{count_at, field};
+use crate::tables::count_at;
 use arrayvec::ArrayVec;
 use evl_pipeline::Action;
+use evl_scenario::field;
 use toml::{Table, Value};
 
 /// The rows of a plan: periods, each 1 or more, with their actions.

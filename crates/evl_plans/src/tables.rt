@@ -1,58 +1,14 @@
 //! What stands at the keys of a TOML table.
-ghost use Rattle.std.specs.Prelude.{◌≡◌, option_map, map, string_bytes};
-ghost use Rattle.std.specs.List.{list_all, list_any};
-ghost use Rattle.std.specs.Str.{bytes_eq};
+ghost use Rattle.std.specs.Prelude.{◌≡◌};
 ghost use Rattle.std.specs.BTreeMap.{keys};
 ghost use Rattle.toml.specs.Data.{get_member};
 ghost use Rattle.toml.specs.View.{view, table_view};
-ghost use Rattle.evl_scenario.specs.Tables.{has_only, value_at, value_or};
-ghost use Rattle.evl_scenario.specs.Values.{half_word_from, number_from, text_number, truth_from, word_from};
+ghost use Rattle.evl_scenario.specs.Tables.{value_at, value_or};
+ghost use Rattle.evl_scenario.specs.Values.{half_word_from, number_from, truth_from, word_from};
 ghost use Rattle.evl_plans.specs.Banks.{count_at, from_one};
 
+use evl_scenario::{field, number_of_text};
 use toml::{Table, Value};
-
-/// What stands at a key.
-pub fn field<'a>(table: &'a Table, key: &str) -> Option<&'a Value>
-    ensures { option_map (λ v. view v.now) result ≡ get_member key.now (table_view table.now) }
-{
-    table.get(key)
-}
-
-fn is_among(known: &[&str], key: &str) -> bool
-    ensures { result ≡ list_any (λ k. bytes_eq key.now k.now) known.now }
-{
-    known.iter().any(|k| key == *k)
-}
-
-// Whether each key of a table is among these.
-fn are_keys_among(table: &Table, known: &[&str]) -> bool
-    ensures { result ≡ list_all (λ key. list_any (λ k. bytes_eq (string_bytes key) k.now) known.now) (keys table.now) }
-{
-    table.keys().all(|key| is_among(known, key.as_str()))
-}
-
-/// Whether a table has no other keys.
-pub fn has_only_keys(table: &Table, known: &[&str]) -> bool
-    ensures { result ≡ has_only (map (λ k. k.now) known.now) (table_view table.now) }
-{
-    are_keys_among(table, known)
-}
-
-// The number that a text writes in decimal digits without leading zeros.
-fn number_of_text(text: &str) -> Option<u64>
-    ensures { result ≡ text_number text.now }
-{
-    match text.parse::<u64>() {
-        Ok(number) => {
-            if itoa::Buffer::new().format(number) == text {
-                Some(number)
-            } else {
-                None
-            }
-        }
-        Err(_) => None,
-    }
-}
 
 // A TOML integer that isn't negative, or a text of a number.
 fn number(value: &Value) -> Option<u64>

@@ -1,6 +1,6 @@
 -- The text of a scenario as it grows.
-use Rattle.std.proofs.Common.{arith, ◌≡◌, ℕ, ◌+◌, ◌<◌, ◌≤◌, nat_le, ◌==◌, true, false, List, [], ◌∷◌, ◌++◌, length, get_or, drop, map, codes, decimal, String, string_bytes, None, Ok, refl, sym, subst, ap, ◌∙◌, append_assoc, length-append}
-use Rattle.std.proofs.lemmas.Bool.{and_parts, leb-false}
+use Rattle.std.proofs.Common.{arith, ◌≡◌, ℕ, ◌+◌, ◌<◌, ◌≤◌, ◌==◌, true, List, [], ◌∷◌, ◌++◌, length, get_or, drop, map, codes, decimal, String, string_bytes, None, Ok, refl, sym, subst, ap, ◌∙◌, append_assoc}
+use Rattle.std.proofs.lemmas.Bool.{and_parts}
 use Rattle.std.proofs.lemmas.Bool.Decides.{nat_tests}
 use Rattle.std.proofs.lemmas.List.{drop_more}
 use Rattle.std.proofs.lemmas.Str.{IsUtf8-string_bytes}

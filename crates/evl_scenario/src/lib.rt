@@ -24,9 +24,11 @@ mod writing;
 
 pub use faults::Fault;
 pub use lines::{
-    StepAnswer, BoardLine, ElementCounts, EntryNumber, OwnerCounts, PlayLine, StepLine, board_line,
+    BoardLine, ElementCounts, EntryNumber, OwnerCounts, PlayLine, StepAnswer, StepLine, board_line,
 };
 pub use scenarios::{Scenario, read_scenario};
 pub use steps::{Step, step_keys_of};
-pub use tracing::{trace_history, write_board_line, write_entry};
+pub use tables::{field, has_only_keys};
+pub use tracing::{trace_history, write_board_line, write_entry, write_history};
+pub use values::number_of_text;
 pub use writing::{Unwritten, without_staxes, write_opening, write_scenario, write_step};

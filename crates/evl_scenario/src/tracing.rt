@@ -111,8 +111,9 @@ pub fn write_entry<A: Allocator>(
     }
 }
 
-// Writes the lines of all entries, of which each takes its own plays off the front of those that are left.
-fn write_history<A: Allocator>(
+/// Writes the lines of all entries, of which each takes its own plays off the front of those that are left.
+/// `AllocError` where memory couldn't grow.
+pub fn write_history<A: Allocator>(
     text: &mut String<A>,
     entries: &[Entry],
     plays: &[Play],

@@ -17,8 +17,8 @@ pub trait FromToml: Sized {
         ensures { result ≡ gives (view value.now) };
 }
 
-// The number that a text writes in decimal digits without leading zeros.
-pub(crate) fn number_of_text(text: &str) -> Option<u64>
+/// The number of 64 bits that a text writes in decimal digits without leading zeros.
+pub fn number_of_text(text: &str) -> Option<u64>
     ensures { result ≡ text_number text.now }
 {
     match text.parse::<u64>() {

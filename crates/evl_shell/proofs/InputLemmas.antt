@@ -1,9 +1,9 @@
 -- Bytes that were read in parts.
-use Rattle.std.proofs.Common.{◌≡◌, ℕ, ◌≤◌, List, [], ◌++◌, take, length, Option, Some, None, ◌∙◌, refl, sym, ap, append-nil, append_assoc, arith}
+use Rattle.std.proofs.Common.{◌≡◌, ℕ, ◌≤◌, List, [], ◌++◌, take, length, Option, Some, None, ◌∙◌, sym, ap, append-nil, append_assoc}
 use Rattle.std.proofs.Math.Seq.{take-append_seam}
 use Rattle.std.proofs.lemmas.List.{take_all}
-use Rattle.std.specs.Io.KnownBytes.{Consumes, IsAtEnd, Keeps}
-use Rattle.evl_shell.specs.Plays.{IsInput, ReadsFew}
+use Rattle.std.specs.Io.KnownBytes.{Consumes, IsAtEnd}
+use Rattle.evl_shell.specs.Plays.{IsInput}
 
 -- what was read up to the end is the input
 pub input-ended : (known left rest : Option (List ℕ)) (text buffer : List ℕ) (count : ℕ) → length text ≤ 1048577 → Consumes known left text

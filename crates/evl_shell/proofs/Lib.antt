@@ -7,4 +7,4 @@ pub mod RunLemmas
 pub mod SinkLemmas
 pub mod SoundLemmas
 pub mod TurnLemmas
-pub mod WordLemmas
+pub mod ArgumentLemmas

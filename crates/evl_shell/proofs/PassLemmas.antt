@@ -1,5 +1,5 @@
 -- Bytes that wait for a sink, and are handed on in parts.
-use Rattle.std.proofs.Common.{◌≡◌, inl, ℕ, List, [], ◌++◌, Bool, true, false, Option, Err, ◌∙◌, sym, ap, append_assoc, append-nil, subst, refl}
+use Rattle.std.proofs.Common.{◌≡◌, ℕ, List, [], ◌++◌, Bool, true, false, Option, Err, ◌∙◌, sym, ap, append_assoc, append-nil, subst, refl}
 use Rattle.std.specs.Io.KnownBytes.{Appends}
 use Rattle.evl_scenario.proofs.LineLemmas.{lines-append}
 use Rattle.evl_scenario.specs.Faults.{IsRefusal}

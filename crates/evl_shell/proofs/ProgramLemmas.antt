@@ -1,5 +1,5 @@
 -- What the program does with its words.
-use Rattle.std.proofs.Common.{◌≡◌, ◌≢◌, ◌⊎◌, ◌≤◌, inl, inr, ℕ, List, [], ◌∷◌, length, map, option_map, is_some, Bool, false, Option, Some, None, Result, Err, refl, sym, subst, arith}
+use Rattle.std.proofs.Common.{◌≡◌, ◌≢◌, ◌⊎◌, ◌≤◌, inl, inr, ℕ, List, [], ◌∷◌, length, map, option_map, is_some, Bool, Option, Some, None, Result, Err, refl, sym, subst, arith}
 use Rattle.std.specs.Borrow.{Bor}
 use Rattle.clap.specs.Words.{IsAmong, Kinds, Text, fault_of}
 use Rattle.clap.specs.declared.error.kind.ErrorKind.{ErrorKind}
@@ -11,7 +11,7 @@ use Rattle.evl_shell.specs.declared.plays.Stop.{Stop}
 use Rattle.evl_shell.specs.declared.plays.Stop.TheVariants.{Broken}
 use Rattle.evl_shell.specs.Plays.{Ended, Plays, stop_line}
 use Rattle.evl_shell.specs.Programs.{Answers, AnswersBy, Declines, TurnsAway, TurnsAwayFor, source}
-use Rattle.evl_shell.specs.Words.{file_of, grammar, limit_of}
+use Rattle.evl_shell.specs.Arguments.{file_of, grammar, limit_of}
 use Rattle.evl_shell.proofs.EndLemmas.{ended-unread}
 
 -- whether a file is named

@@ -1,6 +1,5 @@
 -- What a call of the kernel does is the turn of its step.
-use Rattle.std.proofs.Common.{inl, inr, ◌≡◌, ℕ, ◌+◌, ◌==◌, Bool, true, false, List, [], ◌∷◌, length, length-append, append-nil, Some, None, Result, Ok, Err, IsTrue, IsFalse, if◌then◌else◌, refl, sym, ap, ◌∙◌, subst, arith, lt-ltb, nat_lt, ◌↔◌}
-use Rattle.std.proofs.lemmas.Bool.Decides.{eqb_tells}
+use Rattle.std.proofs.Common.{◌≡◌, ℕ, ◌+◌, ◌==◌, Bool, true, false, List, [], ◌∷◌, length, length-append, append-nil, Some, None, Result, Ok, Err, IsTrue, IsFalse, if◌then◌else◌, refl, sym, ap, ◌∙◌, subst, arith, lt-ltb, nat_lt, ◌↔◌}
 use Rattle.std.proofs.lemmas.Bool.{ne_eqb, false_from_ne_true, ltb-true, eq-eqb}
 use Rattle.evl_base.specs.declared.call.Call.{Call}
 use Rattle.evl_base.specs.declared.entry.Entry.{Entry}
@@ -22,8 +21,6 @@ chosen-false false x y h = refl
 chosen-true : {A : Type 0} (b : Bool) (x y : A) → b ≡ true → (if b then x else y) ≡ x
 chosen-true true x y h = refl
 chosen-true false x y h = cc
-
-]
 
 -- the turn of a step where the history is at its limit
 pub turn-away : (limit : ℕ) (m : Moment) (step : Step) → m.entries ≡ limit → turn limit m step ≡ turned_away m

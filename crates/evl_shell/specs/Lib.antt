@@ -5,4 +5,4 @@ pub mod Plays
 pub mod Programs
 pub mod Runs
 pub mod Sinks
-pub mod Words
+pub mod Arguments

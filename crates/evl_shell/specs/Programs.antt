@@ -9,7 +9,7 @@ use Rattle.evl_shell.specs.declared.plays.Stop.{Stop}
 use Rattle.evl_shell.specs.declared.plays.Stop.TheVariants.{Broken}
 use Rattle.evl_shell.specs.Plays.{Plays, said, status, stop_line}
 use Rattle.evl_shell.specs.Sinks.{Takes}
-use Rattle.evl_shell.specs.Words.{file_of, grammar, limit_of}
+use Rattle.evl_shell.specs.Arguments.{file_of, grammar, limit_of}
 
 -- what is known of the bytes that are read: those of the input, and nothing of a named file's
 abbrev pub source : Option Text → Option (List ℕ) → Option (List ℕ)

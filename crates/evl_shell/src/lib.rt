@@ -2,6 +2,7 @@
 //! What names no source is this profile's own.
 #![tactic(auto)]
 
+mod arguments;
 mod chunks;
 mod histories;
 mod laws;
@@ -11,7 +12,6 @@ mod programs;
 mod runs;
 mod sinks;
 mod texts;
-mod words;
 
 pub use evl_scenario::Fault;
 pub use histories::{know_bank, trace_kernel};

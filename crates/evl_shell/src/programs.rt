@@ -6,12 +6,12 @@ ghost use Rattle.evl_shell.specs.Sinks.{Takes};
 ghost use Rattle.evl_shell.specs.Runs.{handlers_of};
 ghost use Rattle.evl_shell.specs.Plays.{Ended, Plays, ReadsFew, said, status};
 ghost use Rattle.evl_shell.specs.Programs.{Answers, AnswersAtLeast, Helps, PlaysAtLeast, TurnsAway, source};
-ghost use Rattle.evl_shell.specs.Words.{file_of};
+ghost use Rattle.evl_shell.specs.Arguments.{file_of};
 
+use crate::arguments::{Asked, read_words};
 use crate::lent::OverLent;
 use crate::plays::{Stop, conclude, play_input, put_line};
 use crate::sinks::{Sink, SinkFailed, put_all};
-use crate::words::{Asked, read_words};
 use clap::Error;
 use clap::error::ErrorKind;
 use evl_pipeline::Callback;

@@ -18,7 +18,7 @@ use crate::texts::{Called, Texts};
 use evl_base::{Board, Play, Refusal, Reply};
 use evl_kernel::KernelOf;
 use evl_pipeline::{Callback, Handler};
-use evl_scenario::{StepAnswer, EntryNumber, Fault, Scenario, Step, read_scenario};
+use evl_scenario::{EntryNumber, Fault, Scenario, Step, StepAnswer, read_scenario};
 use std::alloc::Global;
 
 /// Whether an answer stands for want of memory, so that its call made no entry and changed nothing.

@@ -3,7 +3,7 @@ ghost use Rattle.std.specs.Prelude.{◌≡◌, OnOk, IfSome, [], string_bytes};
 ghost use Rattle.evl_scenario.specs.Lines.{board_line_of, board_line_text, line_around, play_line_text, step_text};
 
 use evl_base::{Board, Play, Refusal};
-use evl_scenario::{StepAnswer, EntryNumber, PlayLine, Step, StepLine, board_line};
+use evl_scenario::{EntryNumber, PlayLine, Step, StepAnswer, StepLine, board_line};
 use std::alloc::Global;
 use std::fmt::Display;
 

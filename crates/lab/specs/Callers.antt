@@ -1,5 +1,5 @@
 -- What `lab callers` tells of a text of callers.
-use Rattle.std.specs.Prelude.{◌≡◌, ◌⊎◌, ℕ, List, ◌++◌, codes, decimal, map, string_bytes, Option, Some, None, IsSomeAnd}
+use Rattle.std.specs.Prelude.{◌≡◌, ◌⊎◌, ℕ, List, ◌++◌, codes, decimal, map, string_bytes, Option, Some, None, IsSomeAnd, unwrap_or}
 use Rattle.evl_kernel.specs.state.States.{Handler}
 use Rattle.evl_scenario.specs.Lines.{line_feed}
 use Rattle.evl_scenario.specs.declared.faults.Fault.{Fault}
@@ -12,8 +12,9 @@ use Rattle.lab_callers.specs.Plays.{IsTold}
 use Rattle.lab_callers.specs.declared.playing.Ending.{Ending}
 use Rattle.lab_callers.specs.declared.playing.Ending.TheVariants as ending
 use Rattle.lab_callers.specs.declared.playing.Played.{Played}
+use Rattle.lab.specs.Banks.{Refuses}
 use Rattle.lab.specs.Endings.{fault_words, line_about}
-use Rattle.lab.specs.Outputs.{Output, refuses}
+use Rattle.lab.specs.Outputs.{Output, WritesOverBank, refuses}
 
 -- a step that can't be made is said
 abbrev pub ending_text : List ℕ → Ending → List ℕ
@@ -52,3 +53,9 @@ TellsText bank limit name text output =
 abbrev pub TellsRead : List Handler → Option ℕ → List ℕ → Option (List ℕ) → Output → Type 0
 TellsRead bank limit name None output = output ≡ refuses 2 (line_about name (codes "no file"))
 TellsRead bank limit name (Some text) output = TellsText bank limit name text output
+
+-- the bank's file is refused, or what the callers of a file or of the input do is told over its callbacks
+abbrev pub TellsCallers : Option (List ℕ) → Option ℕ → Option (List ℕ) → Option (List ℕ) → Option (List ℕ) → Option (List ℕ) → Option (List ℕ) → Option (List ℕ) → ℕ → Type 0
+TellsCallers plans limit file known old new quiet spoken status =
+    Refuses plans old new status
+    ⊎ WritesOverBank (λ bank. TellsRead bank limit (unwrap_or file (codes "-"))) plans file known old new quiet spoken status

@@ -1,5 +1,5 @@
 -- What `lab check` tells of scenarios.
-use Rattle.std.specs.Prelude.{◌≡◌, ℕ, List, [], ◌++◌, map, codes, Bool, true, Option, Some, None, Result, Ok, Err, is_err}
+use Rattle.std.specs.Prelude.{◌≡◌, ◌⊎◌, ℕ, List, [], ◌++◌, map, codes, Bool, true, Option, Some, None, Result, Ok, Err, is_err}
 use Rattle.std.specs.List.{All, concat, list_any}
 use Rattle.std.specs.Io.KnownBytes.{Appends}
 use Rattle.evl_kernel.specs.state.States.{Handler}
@@ -7,7 +7,7 @@ use Rattle.evl_scenario.specs.Scenarios.{Script, scenario_of}
 use Rattle.evl_scenario.specs.declared.faults.Fault.{Fault}
 use Rattle.lab_faults.specs.Checks.{TellsLines}
 use Rattle.lab_warnings.specs.Warnings.{warnings_of}
-use Rattle.lab.specs.Banks.{IsBank}
+use Rattle.lab.specs.Banks.{IsBank, Refuses}
 use Rattle.lab.specs.Endings.{status_of}
 
 -- ---- a scenario
@@ -50,3 +50,7 @@ pub record Checks (file : Option (List ℕ)) (names : List (List ℕ)) (old new 
   pub checks : ChecksEach bank names old new at_fault
   pub silent : spoken ≡ quiet
   pub status_is : status ≡ status_of at_fault
+
+-- or that bank's file is refused
+abbrev pub ChecksUnlessRefused : Option (List ℕ) → List (List ℕ) → Option (List ℕ) → Option (List ℕ) → Option (List ℕ) → Option (List ℕ) → ℕ → Type 0
+ChecksUnlessRefused file names old new quiet spoken status = Refuses file old new status ⊎ Checks file names old new quiet spoken status

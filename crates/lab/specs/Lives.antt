@@ -1,5 +1,5 @@
 -- What `lab live` answers, line by line.
-use Rattle.std.specs.Prelude.{◌≡◌, ◌⊎◌, ℕ, List, [], ◌∷◌, ◌++◌, codes, true, false, Option, Some, None, IsSomeAnd, is_some, Ok, Err}
+use Rattle.std.specs.Prelude.{◌≡◌, ◌⊎◌, ℕ, List, [], ◌∷◌, ◌++◌, codes, true, false, Option, Some, None, IsSomeAnd, is_some, option_map, Ok, Err}
 use Rattle.std.specs.List.{All}
 use Rattle.evl_kernel.specs.state.States.{Handler}
 use Rattle.evl_scenario.specs.Scenarios.{Script, scenario_of}
@@ -15,6 +15,7 @@ use Rattle.lab.specs.Banks.{IsBank, Refuses}
 use Rattle.lab.specs.Endings.{fault_words, line_about}
 use Rattle.lab.specs.Outputs.{Output, Writes, prints, refuses}
 use Rattle.lab.specs.Texts.{IsAllOf}
+use Rattle.lab.specs.declared.words.Driving.{Driving}
 
 -- ---- lines
 
@@ -90,6 +91,12 @@ pub record DrivesOver (plans : Option (List ℕ)) (limit : Option ℕ) (text : L
   pub bank : List Handler
   pub is_bank : IsBank plans bank
   pub writes : Writes (DrivesText bank limit known text) old new quiet spoken status
+
+-- or that bank's file is refused
+abbrev pub DrivesUnlessRefused : Driving → List ℕ → Option (List ℕ) → Option (List ℕ) → Option (List ℕ) → Option (List ℕ) → Option (List ℕ) → ℕ → Type 0
+DrivesUnlessRefused driving text known old new quiet spoken status =
+    Refuses (option_map (λ file. file.now) driving.bank) old new status
+    ⊎ DrivesOver (option_map (λ file. file.now) driving.bank) driving.limit text known old new quiet spoken status
 
 -- the bank is refused; or its machine is driven; or a file that is named can't be read
 abbrev pub Lives : Option (List ℕ) → Option (List ℕ) → Option ℕ → Option (List ℕ) → Option (List ℕ) → Option (List ℕ) → Option (List ℕ) → Option (List ℕ) → ℕ → Type 0

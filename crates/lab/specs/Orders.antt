@@ -1,5 +1,5 @@
 -- What `lab orders` tells of the orders of callers.
-use Rattle.std.specs.Prelude.{◌≡◌, ◌⊎◌, ◌+◌, ◌-◌, ◌^◌, min, ℕ, Bool, ◌||◌, nat_lt, if◌then◌else◌, List, ◌++◌, codes, length, decimal, position, string_bytes, Option, Some, None, IsSomeAnd, option_and_then}
+use Rattle.std.specs.Prelude.{◌≡◌, ◌⊎◌, ◌+◌, ◌-◌, ◌^◌, min, ℕ, Bool, ◌||◌, nat_lt, if◌then◌else◌, List, ◌++◌, codes, length, decimal, position, string_bytes, Option, Some, None, IsSomeAnd, option_and_then, option_map, unwrap_or}
 use Rattle.toml.specs.Parse.{parse_document}
 use Rattle.evl_kernel.specs.state.States.{Handler}
 use Rattle.lab_orders.specs.declared.tallies.Tally.{Tally}
@@ -16,9 +16,10 @@ use Rattle.lab_scenario_orders.specs.declared.callers.Callers.{Callers}
 use Rattle.lab_scenario_orders.specs.declared.outcomes.Outcomes.{Outcomes}
 use Rattle.lab_scenario_orders.specs.declared.texts.TextFault.{TextFault}
 use Rattle.lab_scenario_orders.specs.declared.texts.TextFault.TheVariants.{Limit, Mixed, Scenario}
-use Rattle.lab.specs.Banks.{IsBank}
+use Rattle.lab.specs.Banks.{Refuses}
 use Rattle.lab.specs.Endings.{fault_words, line_about}
-use Rattle.lab.specs.Outputs.{Output, refuses}
+use Rattle.lab.specs.Outputs.{Output, WritesOverBank, refuses}
+use Rattle.lab.specs.declared.words.Asked.{Asked}
 
 -- ---- the outcomes
 
@@ -86,16 +87,25 @@ pub record AsksOf (text : List ℕ) (callers : Callers) (asks : Ask) : Type 0 wh
   pub asked : IsSomeAnd (option_and_then ask_table (parse_document (ask_part text))) (λ table. Asks table asks)
   pub who : AreOfCallers callers.callers.items asks.never.items
 
+-- the same callers, set to what is asked: whether steps are made as threads are picked
+pub record IsSetTo (read : Callers) (asks : Ask) (set : Callers) : Type 0 where
+  pub board : set.board ≡ read.board
+  pub limit : set.limit ≡ read.limit
+  pub as_picked : set.as_picked ≡ asks.as_picked
+  pub setup : set.setup ≡ read.setup
+  pub steps : set.steps ≡ read.steps
+  pub callers : set.callers ≡ read.callers
+
 abbrev pub ask_fault_line : List ℕ → AskFault → Option (List ℕ)
 ask_fault_line name ask.Table = Some (line_about name (codes "[ask] has never, a list of texts, and always_ends and as_picked"))
 ask_fault_line name (ask.Never number) =
     Some (codes "lab: " ++ (name ++ (codes ": [ask]: text " ++ (decimal number ++ codes " of never isn't a caller and one answer, as \"T1 -> timed out\"\n"))))
 ask_fault_line name ask.Memory = None
 
--- or it can't be read, for some fault
+-- the outcomes of the callers that are set to it; or it can't be read, for some fault
 abbrev pub TellsAsked : List Handler → ℕ → List ℕ → Callers → List ℕ → Output → Type 0
 TellsAsked bank most name callers text output =
-    ((asks : Ask) × AsksOf text callers asks × TellsOutcomes bank most name (record callers { as_picked = asks.as_picked }) asks output)
+    ((asks : Ask) × AsksOf text callers asks × (set : Callers) × IsSetTo callers asks set × TellsOutcomes bank most name set asks output)
     ⊎ ((fault : AskFault) × IsSomeAnd (ask_fault_line name fault) (λ line. output ≡ refuses 2 line))
 
 -- ---- the text
@@ -119,3 +129,15 @@ TellsText bank most name text output =
 abbrev pub TellsRead : List Handler → ℕ → List ℕ → Option (List ℕ) → Output → Type 0
 TellsRead bank most name None output = output ≡ refuses 2 (line_about name (codes "no file"))
 TellsRead bank most name (Some text) output = TellsText bank most name text output
+
+-- ---- what the words ask
+
+-- how the text is called in messages
+abbrev pub text_name : Asked → List ℕ
+text_name asked = unwrap_or (option_map (λ file. file.now) asked.file) (codes "-")
+
+-- the bank's file is refused, or the orders of a file or of the input are told over its callbacks
+abbrev pub TellsOrders : Asked → Option (List ℕ) → Option (List ℕ) → Option (List ℕ) → Option (List ℕ) → Option (List ℕ) → ℕ → Type 0
+TellsOrders asked known old new quiet spoken status =
+    Refuses (option_map (λ file. file.now) asked.bank) old new status
+    ⊎ WritesOverBank (λ bank. TellsRead bank asked.most (text_name asked)) (option_map (λ file. file.now) asked.bank) (option_map (λ file. file.now) asked.file) known old new quiet spoken status

@@ -12,7 +12,7 @@ use Rattle.lab_traces.specs.Says.{IsLine, IsMisread, whole_lines}
 use Rattle.lab_reports.specs.Differences.{IsDifference}
 use Rattle.lab_reports.specs.Json.{trace_json}
 use Rattle.lab_reports.specs.declared.differences.Difference.{Difference}
-use Rattle.lab.specs.Banks.{IsBank}
+use Rattle.lab.specs.Banks.{IsBank, Refuses}
 use Rattle.lab.specs.Endings.{fault_words, line_about, status_of}
 use Rattle.lab.specs.Texts.{IsReadOf, is_input, names_or_input, text_in}
 use Rattle.lab.specs.declared.words.Playing.{Playing}
@@ -130,3 +130,8 @@ pub record Plays (asked : Playing) (names : List (List ℕ)) (known old new quie
   pub at_fault : Bool
   pub plays : PlaysEach (IsPlayed asked.telling bank asked.limit) (names_or_input names) known old new quiet spoken at_fault
   pub status_is : status ≡ status_of at_fault
+
+-- or that bank's file is refused
+abbrev pub PlaysUnlessRefused : Playing → List (List ℕ) → Option (List ℕ) → Option (List ℕ) → Option (List ℕ) → Option (List ℕ) → Option (List ℕ) → ℕ → Type 0
+PlaysUnlessRefused asked names known old new quiet spoken status =
+    Refuses (option_map (λ file. file.now) asked.bank) old new status ⊎ Plays asked names known old new quiet spoken status

@@ -4,7 +4,7 @@ use Rattle.std.specs.Option.{option_map_or}
 use Rattle.std.specs.Str.{bytes_eq}
 use Rattle.clap.specs.Words.{first_value, one_text}
 use Rattle.clap.specs.declared.parser.matches.Found.{Found}
-use Rattle.evl_shell.specs.Words.{number_of}
+use Rattle.evl_shell.specs.Arguments.{number_of}
 use Rattle.lab.specs.declared.words.Form.{Form}
 use Rattle.lab.specs.declared.words.Form.TheVariants.{Svg, Events, Table, Rows}
 use Rattle.lab.specs.declared.words.Telling.{Telling}

@@ -1,19 +1,18 @@
 //! `lab callers`: callers of both stages in a text, one step after another.
-ghost use Rattle.std.specs.Prelude.{◌≡◌, ◌++◌, ◌⊎◌, codes, map, option_map, string_bytes, unwrap_or, IfOk, OnOk};
+ghost use Rattle.std.specs.Prelude.{◌≡◌, ◌++◌, codes, map, option_map, string_bytes, unwrap_or, IfOk, OnOk};
 ghost use Rattle.std.specs.Io.KnownBytes.{Appends};
 ghost use Rattle.evl_plans.specs.Told.{told};
-ghost use Rattle.lab.specs.Banks.{Refuses};
-ghost use Rattle.lab.specs.Callers.{TellsPlayed, TellsRead, TellsText, ending_status, ending_text, played_told};
-ghost use Rattle.lab.specs.Outputs.{Writes, WritesOfText, WritesOverBank};
+ghost use Rattle.lab.specs.Callers.{TellsCallers, TellsPlayed, TellsRead, TellsText, ending_status, ending_text, played_told};
+ghost use Rattle.lab.specs.Outputs.{Writes, WritesOfText};
 
 use crate::banks::read_plans;
 use crate::endings::{tell_fault, tell_refused};
 use crate::statuses::{AT_FAULT, refused};
 use crate::texts::read_text;
 use evl_base::Refusal;
+use evl_plans::Planned;
 use lab_callers::{Ending, Played, StepFault, play_callers};
 use lab_callers_text::{CallersText, read_callers};
-use evl_plans::Planned;
 use std::alloc::{AllocError, Global};
 use std::io::{self, Read, Write};
 use std::rt::Files;
@@ -127,7 +126,7 @@ pub fn callers<R: Files + AllocGlobal, I: Read, O: Write, E: Write>(
     out: &mut O,
     err: &mut E,
 ) -> io::Result<u8>
-    ensures { IfOk result (λ status. Refuses (option_map (λ file. file.now) bank.entry) (O.contents out.old) (O.contents out.new) status ⊎ WritesOverBank (λ bank. TellsRead bank limit (unwrap_or (option_map (λ file. file.now) file.entry) (codes "-"))) (option_map (λ file. file.now) bank.entry) (option_map (λ file. file.now) file.entry) (I.remaining input.old) (O.contents out.old) (O.contents out.new) (E.contents err.old) (E.contents err.new) status) }
+    ensures { IfOk result (TellsCallers (option_map (λ file. file.now) bank.entry) limit (option_map (λ file. file.now) file.entry) (I.remaining input.old) (O.contents out.old) (O.contents out.new) (E.contents err.old) (E.contents err.new)) }
 {
     match read_plans(rt, bank, err) {
         Ok(Some(plans)) => play_file(rt, file, limit, plans, input, out, err),

@@ -1,16 +1,15 @@
 //! `lab check`: the faults of scenarios, and the warnings of a dry run.
-ghost use Rattle.std.specs.Prelude.{◌≡◌, ◌⊎◌, ◌++◌, List, [], ◌∷◌, ℕ, Bool, None, codes, is_err, map, option_map, string_bytes, true, IfOk, OnOk};
+ghost use Rattle.std.specs.Prelude.{◌≡◌, ◌++◌, List, [], ◌∷◌, ℕ, Bool, None, codes, is_err, map, option_map, string_bytes, true, IfOk, OnOk};
 ghost use Rattle.std.specs.Io.KnownBytes.{Appends};
 ghost use Rattle.evl_plans.specs.Told as callbacks;
 ghost use Rattle.evl_scenario.specs.Scenarios.{scenario_of};
-ghost use Rattle.lab.specs.Banks.{Refuses};
-ghost use Rattle.lab.specs.Checks.{Checks, ChecksEach, TellsText};
+ghost use Rattle.lab.specs.Checks.{ChecksEach, ChecksUnlessRefused, TellsText};
 ghost use Rattle.lab.specs.Endings as endings;
 
 use crate::banks::read_plans;
 use crate::statuses::{AT_FAULT, either, status_of};
-use lab_faults::report;
 use evl_plans::Planned;
+use lab_faults::report;
 use lab_warnings::warnings;
 use std::alloc::{AllocError, Global};
 use std::fs;
@@ -115,7 +114,7 @@ pub fn check_files<R: Files + AllocGlobal, O: Write, E: Write>(
     out: &mut O,
     err: &mut E,
 ) -> io::Result<u8>
-    ensures { IfOk result (λ status. Refuses (option_map (λ file. file.now) bank.entry) (O.contents out.old) (O.contents out.new) status ⊎ Checks (option_map (λ file. file.now) bank.entry) (map (λ name. name.now) names.now) (O.contents out.old) (O.contents out.new) (E.contents err.old) (E.contents err.new) status) }
+    ensures { IfOk result (ChecksUnlessRefused (option_map (λ file. file.now) bank.entry) (map (λ name. name.now) names.now) (O.contents out.old) (O.contents out.new) (E.contents err.old) (E.contents err.new)) }
 {
     match read_plans(rt, bank, err) {
         Ok(Some(plans)) => check_over(rt, plans.as_slice(), names, out),

@@ -13,14 +13,14 @@ ghost use Rattle.lab.specs.Texts as texts;
 use crate::statuses::AT_FAULT;
 use crate::texts::{read_text, text_in};
 use crate::words::{Drawing, Form};
+use evl_plans::trace_plans;
+use evl_scenario::Fault;
 use lab_drawing::{
     Mark, Moment, lanes_of, marks_of, page, page_count, page_moments, told_moments, write_rows,
     write_svg, write_table, write_told,
 };
 use lab_moments::moments_of;
-use evl_plans::trace_plans;
 use lab_reports::{program_plans, write_events};
-use evl_scenario::Fault;
 use lab_traces::{Misread, TraceLine, read_lines};
 use std::alloc::{AllocError, Global};
 use std::io::{self, Read, Write};

@@ -1,11 +1,10 @@
 //! `lab live`: a machine that is driven line by line.
-ghost use Rattle.std.specs.Prelude.{◌≡◌, ◌≤◌, ◌<◌, ◌⊎◌, ◌++◌, ◌∷◌, [], List, ℕ, Some, length, map, option_map, string_bytes, take, IfOk, OnOk};
+ghost use Rattle.std.specs.Prelude.{◌≡◌, ◌≤◌, ◌<◌, ◌++◌, ◌∷◌, [], List, ℕ, Some, length, map, option_map, string_bytes, take, IfOk, OnOk};
 ghost use Rattle.std.specs.Io.KnownBytes.{Appends};
 ghost use Rattle.evl_plans.specs.Told.{told};
 ghost use Rattle.evl_scenario.specs.Traces.{history_trace};
 ghost use Rattle.lab_traces.specs.Parts.{Lacks};
-ghost use Rattle.lab.specs.Banks.{Refuses};
-ghost use Rattle.lab.specs.Lives.{AnswersInput, AnswersLine, Drives, DrivesOver, DrivesText, Hears, Lives};
+ghost use Rattle.lab.specs.Lives.{AnswersInput, AnswersLine, Drives, DrivesText, DrivesUnlessRefused, Hears, Lives};
 ghost use Rattle.lab.specs.Outputs.{Output, Writes};
 ghost use Rattle.lab.specs.Texts.{IsAllOf};
 
@@ -13,8 +12,8 @@ use crate::banks::read_plans;
 use crate::endings::{tell_fault, tell_refused};
 use crate::statuses::{AT_FAULT, refused};
 use crate::words::Driving;
-use lab_live::{Session, answer_line};
 use evl_plans::Planned;
+use lab_live::{Session, answer_line};
 use std::alloc::{AllocError, Global};
 use std::fs;
 use std::io::{self, Read, Write};
@@ -226,7 +225,7 @@ fn drive_text<R: Files + AllocGlobal, I: Read, O: Write, E: Write>(
     out: &mut O,
     err: &mut E,
 ) -> io::Result<u8>
-    ensures { IfOk result (λ status. Refuses (option_map (λ file. file.now) driving.entry.bank) (O.contents out.old) (O.contents out.new) status ⊎ DrivesOver (option_map (λ file. file.now) driving.entry.bank) driving.entry.limit text.now (I.remaining input.old) (O.contents out.old) (O.contents out.new) (E.contents err.old) (E.contents err.new) status) }
+    ensures { IfOk result (DrivesUnlessRefused driving.entry text.now (I.remaining input.old) (O.contents out.old) (O.contents out.new) (E.contents err.old) (E.contents err.new)) }
 {
     match read_plans(rt, driving.bank, err) {
         Ok(Some(plans)) => { drive_plans(rt.alloc(), text, driving.limit, plans, input, out, err) }

@@ -1,19 +1,18 @@
 //! `lab orders`: every order in which the callers of a scenario may come.
-ghost use Rattle.std.specs.Prelude.{◌≡◌, ◌⊎◌, codes, map, option_map, unwrap_or, IfOk, OnOk, IsSomeAnd};
+ghost use Rattle.std.specs.Prelude.{◌≡◌, codes, map, option_map, unwrap_or, IfOk, OnOk, IsSomeAnd};
 ghost use Rattle.std.specs.Io.KnownBytes.{Appends};
 ghost use Rattle.evl_plans.specs.Told.{told};
-ghost use Rattle.lab.specs.Banks.{Refuses};
 ghost use Rattle.lab.specs.Endings.{line_about};
-ghost use Rattle.lab.specs.Orders.{TellsAsked, TellsOutcomes, TellsRead, TellsText, ask_fault_line, asked_status, asked_text, ends_words, holds_text, is_asked, none_status, none_text, picked_words, report_of, unanswered_text, text_fault_words};
-ghost use Rattle.lab.specs.Outputs.{Writes, WritesOfText, WritesOverBank};
+ghost use Rattle.lab.specs.Orders.{IsSetTo, TellsAsked, TellsOrders, TellsOutcomes, TellsRead, TellsText, ask_fault_line, asked_status, asked_text, ends_words, holds_text, is_asked, none_status, none_text, picked_words, report_of, unanswered_text, text_fault_words};
+ghost use Rattle.lab.specs.Outputs.{Writes, WritesOfText};
 
 use crate::banks::read_plans;
 use crate::endings::{tell_fault, tell_refused};
 use crate::statuses::{AGAINST, AT_FAULT, UNANSWERED, refused};
 use crate::texts::read_text;
 use crate::words::Asked;
-use lab_orders::OrdersError;
 use evl_plans::{Planned, copied_bank};
+use lab_orders::OrdersError;
 use lab_scenario_orders::{
     Ask, AskFault, Asked as Answered, BankMaker, Callers, Outcomes, TextFault, ask_all, read_ask,
     read_callers, write_report,
@@ -203,6 +202,15 @@ fn go_through<O: Write, E: Write>(
     }
 }
 
+// The callers, set to what is asked.
+fn set_to(callers: Callers, ask: &Ask) -> Callers
+    ensures { IsSetTo callers ask.now result }
+{
+    let mut set = callers;
+    set.as_picked = ask.as_picked;
+    set
+}
+
 // Goes through all orders of callers, and answers the status.
 fn tell_callers<O: Write, E: Write>(
     alloc: Global,
@@ -215,11 +223,10 @@ fn tell_callers<O: Write, E: Write>(
 ) -> io::Result<u8>
     ensures { IfOk result (Writes (TellsAsked (map told plans.now) asked.now.most (unwrap_or (option_map (λ file. file.now) asked.now.file) (codes "-")) callers text.now) (O.contents out.old) (O.contents out.new) (E.contents err.old) (E.contents err.new)) }
 {
-    let mut callers = callers;
     match read_ask(alloc, &callers, text) {
         Ok(ask) => {
-            callers.as_picked = ask.as_picked;
-            go_through(alloc, asked, &callers, &ask, plans, out, err)
+            let set = set_to(callers, &ask);
+            go_through(alloc, asked, &set, &ask, plans, out, err)
         }
         Err(fault) => {
             let told = tell_ask_fault(err, asked.name(), fault);
@@ -269,8 +276,8 @@ fn tell_file<R: Files + AllocGlobal, I: Read, O: Write, E: Write>(
 }
 
 /// Goes through every order in which the callers of a scenario may come, over a bank, prints how each ends, and answers
-/// the status: 1 where one is against what is asked, 5 where none is and longer orders were cut off, 2 where the text is refused or can't be read, or the bank is at
-/// fault.
+/// the status: 1 where one is against what is asked, 5 where none is and longer orders were cut off, 2 where the text is
+/// refused or can't be read, or the bank is at fault.
 pub fn orders<R: Files + AllocGlobal, I: Read, O: Write, E: Write>(
     rt: &R,
     asked: &Asked<'_>,
@@ -278,7 +285,7 @@ pub fn orders<R: Files + AllocGlobal, I: Read, O: Write, E: Write>(
     out: &mut O,
     err: &mut E,
 ) -> io::Result<u8>
-    ensures { IfOk result (λ status. Refuses (option_map (λ file. file.now) asked.now.bank) (O.contents out.old) (O.contents out.new) status ⊎ WritesOverBank (λ bank. TellsRead bank asked.now.most (unwrap_or (option_map (λ file. file.now) asked.now.file) (codes "-"))) (option_map (λ file. file.now) asked.now.bank) (option_map (λ file. file.now) asked.now.file) (I.remaining input.old) (O.contents out.old) (O.contents out.new) (E.contents err.old) (E.contents err.new) status) }
+    ensures { IfOk result (TellsOrders asked.now (I.remaining input.old) (O.contents out.old) (O.contents out.new) (E.contents err.old) (E.contents err.new)) }
 {
     match read_plans(rt, asked.bank, err) {
         Ok(Some(plans)) => tell_file(rt, asked, plans.as_slice(), input, out, err),

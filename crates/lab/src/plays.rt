@@ -1,13 +1,13 @@
 //! `lab play`: the traces of scenarios.
-ghost use Rattle.std.specs.Prelude.{◌≡◌, ◌≤◌, ◌⊎◌, List, [], ◌∷◌, ℕ, false, length, IfOk, OnOk, map, option_map};
+ghost use Rattle.std.specs.Prelude.{◌≡◌, ◌≤◌, List, [], ◌∷◌, ℕ, false, length, IfOk, OnOk, map, option_map};
 ghost use Rattle.std.specs.Io.KnownBytes.{Appends};
 ghost use Rattle.evl_shell.specs.Runs.{trace_of};
 ghost use Rattle.evl_plans.specs.Told.{told};
 ghost use Rattle.lab_traces.specs.Says.{says_of};
 ghost use Rattle.lab_reports.specs.Json.{trace_json};
-ghost use Rattle.lab.specs.Banks.{IsBank, Refuses};
+ghost use Rattle.lab.specs.Banks.{IsBank};
 ghost use Rattle.lab.specs.Texts.{is_input, names_or_input};
-ghost use Rattle.lab.specs.Plays.{IsJsonOf, IsPlayed, Plays, PlaysEach, Tells, TellsPlayed, TellsTrace};
+ghost use Rattle.lab.specs.Plays.{IsJsonOf, IsPlayed, Plays, PlaysEach, PlaysUnlessRefused, Tells, TellsPlayed, TellsTrace};
 
 use crate::banks::read_plans;
 use crate::compares::compare;
@@ -200,7 +200,7 @@ pub fn play_files<R: Files + AllocGlobal, I: Read, O: Write, E: Write>(
     out: &mut O,
     err: &mut E,
 ) -> io::Result<u8>
-    ensures { IfOk result (λ status. Refuses (option_map (λ file. file.now) playing.entry.bank) (O.contents out.old) (O.contents out.new) status ⊎ Plays playing.entry (map (λ file. file.now) files.now) (I.remaining input.old) (O.contents out.old) (O.contents out.new) (E.contents err.old) (E.contents err.new) status) }
+    ensures { IfOk result (PlaysUnlessRefused playing.entry (map (λ file. file.now) files.now) (I.remaining input.old) (O.contents out.old) (O.contents out.new) (E.contents err.old) (E.contents err.new)) }
 {
     match read_plans(rt, playing.bank, err) {
         Ok(Some(plans)) => play_bank(rt, plans.as_slice(), playing, files, input, out, err),

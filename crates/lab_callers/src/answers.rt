@@ -10,11 +10,11 @@ use crate::crew::Crew;
 use crate::passes::{Passes, StepFault};
 use crate::views::Shows;
 use evl_base::{Call, MutexId, Refusal, StaxId, ThreadId};
-use lab_callers_text::Act;
 use evl_machine::{Begun, Ended};
 use evl_pipeline::Handler;
 use evl_scenario::StepAnswer;
 use evl_words::{MutexPass, StaxPass};
+use lab_callers_text::Act;
 use std::alloc::{AllocError, Global};
 
 /// Why the steps end before the last one.

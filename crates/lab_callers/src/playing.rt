@@ -17,11 +17,11 @@ use crate::lines::{put_core, put_mutex, put_plays, put_stax};
 use crate::passes::{Passes, StepFault};
 use crate::views::{Question, Shows, View};
 use evl_base::{Board, Entry, Play, Refusal, StaxId, ThreadId};
-use lab_callers_text::{CallersStep, CallersText};
 use evl_kernel::KernelOf;
 use evl_machine::{CallerOf, MachineOf};
 use evl_pipeline::Handler;
 use evl_scenario::{write_board_line, write_entry};
+use lab_callers_text::{CallersStep, CallersText};
 use std::alloc::{AllocError, Global};
 
 /// How the steps ended.

@@ -5,9 +5,9 @@ use Rattle.toml.specs.Data.{Data, string, integer, array, table, Items, no_items
 use Rattle.toml.specs.View.{items_of}
 use Rattle.lab_callers_text.specs.Names.{named}
 use Rattle.lab_callers_text.specs.Tables.{with_value, without}
-use Rattle.lab_callers_text.specs.Words.{name_key, number_key, own_word, stand_in}
+use Rattle.lab_callers_text.specs.StepWords.{name_key, number_key, own_word, stand_in}
 use Rattle.lab_callers_text.specs.declared.marks.Mark.{Mark}
-use Rattle.lab_callers_text.specs.declared.words.OwnWord.{OwnWord}
+use Rattle.lab_callers_text.specs.declared.step_words.OwnWord.{OwnWord}
 use Rattle.evl_scenario.specs.Tables.{all_given, list_of, text_at, value_or}
 use Rattle.evl_scenario.specs.Values.{below}
 

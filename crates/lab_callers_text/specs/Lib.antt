@@ -4,4 +4,4 @@ pub mod Marks
 pub mod Names
 pub mod Readings
 pub mod Tables
-pub mod Words
+pub mod StepWords

@@ -6,8 +6,8 @@ use Rattle.evl_base.specs.declared.call.Call.TheVariants as call
 use Rattle.lab_callers_text.specs.declared.acts.Act.{Act}
 use Rattle.lab_callers_text.specs.declared.acts.Act.TheVariants as act
 use Rattle.lab_callers_text.specs.declared.marks.Mark.{Mark}
-use Rattle.lab_callers_text.specs.declared.words.OwnWord.{OwnWord}
-use Rattle.lab_callers_text.specs.declared.words.OwnWord.TheVariants as word
+use Rattle.lab_callers_text.specs.declared.step_words.OwnWord.{OwnWord}
+use Rattle.lab_callers_text.specs.declared.step_words.OwnWord.TheVariants as word
 
 -- a step that spends or gives a pass of this name
 abbrev pub plain_act : OwnWord → String Global → Act

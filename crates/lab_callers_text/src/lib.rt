@@ -5,8 +5,8 @@ mod acts;
 mod documents;
 mod marks;
 mod reading;
+mod step_words;
 mod tables;
-mod words;
 
 pub use acts::{Act, CallersStep};
 pub use reading::{CallersText, read_callers};

@@ -9,11 +9,11 @@ ghost use Rattle.lab_callers_text.specs.Documents.{mark_in, mark_view, marked, m
 ghost use Rattle.lab_callers_text.specs.Marks.{act_of, named_act, plain_act};
 ghost use Rattle.lab_callers_text.specs.Names.{is_letter, is_name, name_at, named};
 ghost use Rattle.lab_callers_text.specs.Tables.{with_value, without};
-ghost use Rattle.lab_callers_text.specs.Words.{name_key, number_key};
+ghost use Rattle.lab_callers_text.specs.StepWords.{name_key, number_key};
 
 use crate::acts::Act;
+use crate::step_words::{OwnWord, own_word};
 use crate::tables::{field, put, take};
-use crate::words::{OwnWord, own_word};
 use evl_base::{Call, MutexId, StaxId};
 use std::alloc::Global;
 use toml::{Table, Value};

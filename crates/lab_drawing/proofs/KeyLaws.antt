@@ -9,7 +9,7 @@ use Rattle.std.proofs.lemmas.Slice.Eq.{bytes_eq-Decides}
 use Rattle.evl_base.specs.Call.{call_text}
 use Rattle.evl_base.specs.declared.call.Call.{Call}
 use Rattle.evl_base.specs.Calls.{Parts, fields_of, name_of, parts, parts_of, told_by, told_in, word_in}
-use Rattle.evl_base.specs.Fields.{Key, Keyed, Values, keys_text, told, told_as, value_text}
+use Rattle.evl_base.specs.Fields.{Key, Values, keys_text, told, told_as, value_text}
 use Rattle.evl_base.specs.Fields as fields
 use Rattle.evl_scenario.specs.Widths.{AllFit, CallFits}
 use Rattle.evl_base.specs.declared.call.StepWord.{StepWord}

@@ -54,9 +54,11 @@ around_bar (x ∷ front) behind h =
 -- ---- the lane
 
 number_after : (word : List ℕ) (n : ℕ) → n < 2 ^ 16 → number_behind word (word ++ decimal n) ≡ Some n
+unfolding past_front
 number_after word n small = ap (option_and_then (number_in 16)) (past_at word (word ++ decimal n) (decimal n) refl) ∙ number_back n small
 
 no_number : (word : List ℕ) (c d : ℕ) (text : List ℕ) → not (c == d) ≡ true → number_behind (d ∷ word) (c ∷ text) ≡ None
+unfolding past_front
 no_number word c d text other = ap (option_and_then (number_in 16)) (past_lacks (d ∷ word) (c ∷ text) (λ r e. apart c d other (head_of e)))
 
 abbrev lane_fits : Word → Type 0

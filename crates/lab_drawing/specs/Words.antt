@@ -1,7 +1,8 @@
 -- What stands behind the answer in a caller's line: how a stax, a mutex's word or the core stands.
 use Rattle.std.specs.Prelude.{ℕ, List, [], ◌∷◌, codes, bytes_eq, if◌then◌else◌, Option, Some, None, option_and_then, option_map}
 use Rattle.std.specs.Option.{option_map_or, option_or}
-use Rattle.lab_drawing.specs.Texts.{around_part, number_in, past_front, up_to}
+use Rattle.evl_scenario.specs.Values.{past_front}
+use Rattle.lab_drawing.specs.Texts.{around_part, number_in, up_to}
 use Rattle.lab_drawing.specs.declared.lanes.Lane.{Lane}
 use Rattle.lab_drawing.specs.declared.lanes.Lane.TheVariants.{Core, Mutex, Stax}
 use Rattle.lab_drawing.specs.declared.moments.Condition.{Condition}

@@ -1,7 +1,6 @@
 //! Texts that are taken apart.
 ghost use Rattle.std.specs.Prelude.{◌≡◌, option_map};
-ghost use Rattle.lab_traces.specs.Parts.{before_end};
-ghost use Rattle.lab_drawing.specs.Texts.{around_part, number_in, past_front, up_to};
+ghost use Rattle.lab_drawing.specs.Texts.{around_part, number_in, up_to};
 
 /// What stands before the first such part of a text, and what behind it.
 pub fn around<'a>(part: &str, text: &'a str) -> Option<(&'a str, &'a str)>
@@ -20,26 +19,6 @@ pub fn up_to<'a>(part: &str, text: &'a str) -> &'a str
     match around(part, text) {
         Some((front, _)) => front,
         None => text,
-    }
-}
-
-/// What follows this front part of a text.
-pub fn behind<'a>(front: &str, text: &'a str) -> Option<&'a str>
-    ensures { option_map (λ rest. rest.now) result ≡ past_front front.now text.now }
-{
-    match text.strip_prefix(front) {
-        Some(rest) => Some(rest),
-        None => None,
-    }
-}
-
-/// What stands before this end of a text.
-pub fn before<'a>(end: &str, text: &'a str) -> Option<&'a str>
-    ensures { option_map (λ front. front.now) result ≡ before_end end.now text.now }
-{
-    match text.strip_suffix(end) {
-        Some(front) => Some(front),
-        None => None,
     }
 }
 

@@ -15,8 +15,9 @@ use crate::lanes::{Lane, is_lane};
 use crate::marks::Mark;
 use crate::moments::{Moment, Standing};
 use crate::pages::is_entry;
-use crate::texts::{around, before, long_number};
+use crate::texts::{around, long_number};
 use crate::words::{shown, standing_of};
+use lab_traces::before;
 use std::alloc::{AllocError, Global};
 
 // What stands before the answer of a call that is done.

@@ -4,7 +4,8 @@ ghost use Rattle.lab_drawing.specs.Words as words;
 
 use crate::lanes::Lane;
 use crate::moments::{Condition, Standing};
-use crate::texts::{around, behind, number, up_to};
+use crate::texts::{around, number, up_to};
+use lab_traces::behind;
 
 // What stands between an answer and what is shown.
 const BAR: &str = " | ";

@@ -4,7 +4,7 @@ use Rattle.std.proofs.lemmas.List.{drop_all}
 use Rattle.std.proofs.lemmas.Bool.Decides.{nat_tests}
 use Rattle.evl_base.specs.Firsts.{best, better}
 use Rattle.evl_base.proofs.FirstLaws as firsts
-use Rattle.lab_faults.specs.Words.{edits, near_words, nearest}
+use Rattle.lab_faults.specs.Wants.{edits, near_words, nearest}
 
 le_same : (a : ℕ) → nat_le a a ≡ true
 le_same a = grind (arith, nat_tests)

@@ -5,7 +5,7 @@ use Rattle.std.specs.Str.{bytes_eq}
 use Rattle.evl_scenario.specs.declared.faults.Fault.TheVariants.{Board as OfBoard}
 use Rattle.lab_faults.specs.Steps.{fits_board, fits_limit, is_among, name_between, text_between}
 use Rattle.lab_faults.specs.Told.{Told, told_at}
-use Rattle.lab_faults.specs.Words.{board_keys, board_wanted_text, hint_text, opening_keys}
+use Rattle.lab_faults.specs.Wants.{board_keys, board_wanted_text, hint_text, opening_keys}
 use Rattle.lab_faults.specs.declared.items.Heading.{Heading}
 use Rattle.lab_faults.specs.declared.items.Item.{Item}
 use Rattle.lab_faults.specs.declared.items.Section.{Section}

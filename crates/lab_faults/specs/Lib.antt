@@ -5,4 +5,4 @@ pub mod Keys
 pub mod Pieces
 pub mod Steps
 pub mod Told
-pub mod Words
+pub mod Wants

@@ -10,7 +10,7 @@ use Rattle.evl_scenario.specs.declared.faults.Fault.{Fault}
 use Rattle.evl_scenario.specs.declared.faults.Fault.TheVariants.{Step}
 use Rattle.lab_faults.specs.Faults.{may_lack}
 use Rattle.lab_faults.specs.Told.{Told, told_at}
-use Rattle.lab_faults.specs.Words.{hint_text, names_text, sample_text, wanted_text}
+use Rattle.lab_faults.specs.Wants.{hint_text, names_text, sample_text, wanted_text}
 use Rattle.lab_faults.specs.declared.items.Item.{Item}
 use Rattle.lab_faults.specs.declared.items.Section.{Section}
 use Rattle.lab_faults.specs.declared.items.Section.TheVariants.{Step as InStep}

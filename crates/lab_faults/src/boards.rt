@@ -5,14 +5,14 @@ ghost use Rattle.lab_faults.specs.Boards as boards;
 ghost use Rattle.lab_faults.specs.Boards.{board_faults, board_item_faults, heading_faults, heading_text, item_faults, no_board_key_text, no_key_text, no_threads_text, opening_item_faults, threads_faults, value_faults, value_text};
 ghost use Rattle.lab_faults.specs.Steps as steps;
 ghost use Rattle.lab_faults.specs.Told.{Adds};
-ghost use Rattle.lab_faults.specs.Words as words;
+ghost use Rattle.lab_faults.specs.Wants as words;
 
 use crate::found::Finding;
 use crate::items::{Heading, Item, Items, Section};
 use crate::judges::{fits_board, fits_limit};
 use crate::near::near_text;
 use crate::steps::{is_among, named, shown};
-use crate::words::{board_keys, board_wanted, opening_keys};
+use crate::wants::{board_keys, board_wanted, opening_keys};
 use evl_scenario::Fault;
 use std::alloc::{AllocError, Global};
 

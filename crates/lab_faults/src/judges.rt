@@ -4,7 +4,7 @@ ghost use Rattle.lab_faults.specs.Steps as steps;
 ghost use Rattle.lab_faults.specs.Steps.{is_scenario, other_line, other_lines, own_keys, pair_beside, pair_line, step_head, word_head};
 
 use crate::items::{Item, slice};
-use crate::words::{is_optional, keys_of, sample};
+use crate::wants::{is_optional, keys_of, sample};
 use evl_scenario::{Fault, read_scenario};
 use std::alloc::{AllocError, Global};
 

@@ -14,9 +14,9 @@ mod runs;
 mod standings;
 mod steps;
 mod tokens;
-mod words;
+mod wants;
 
 pub use checks::check;
 pub use found::{Found, Place};
 pub use reports::report;
-pub use words::{is_optional, keys_of};
+pub use wants::{is_optional, keys_of};

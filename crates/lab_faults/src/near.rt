@@ -1,6 +1,6 @@
 //! Words that are near another.
 ghost use Rattle.std.specs.Prelude.{◌≡◌, map, option_map, string_bytes, IfOk};
-ghost use Rattle.lab_faults.specs.Words.{hint_text, nearest};
+ghost use Rattle.lab_faults.specs.Wants.{hint_text, nearest};
 
 use std::alloc::{AllocError, Global};
 use strsim::levenshtein;

@@ -5,13 +5,13 @@ ghost use Rattle.lab_faults.specs.Faults.{are_of_steps};
 ghost use Rattle.lab_faults.specs.Steps as steps;
 ghost use Rattle.lab_faults.specs.Steps.{call_faults, key_faults, lacking_faults, misfit_faults, misfit_text, missing_faults, missing_text, name_between, no_call_text, no_word_text, own_keys, step_faults, step_told, step_words, text_between, unknown_faults, unknown_text, unread_text, word_faults};
 ghost use Rattle.lab_faults.specs.Told.{Adds};
-ghost use Rattle.lab_faults.specs.Words.{hint_text, names_text};
+ghost use Rattle.lab_faults.specs.Wants.{hint_text, names_text};
 
 use crate::found::Finding;
 use crate::items::{Item, bare, slice};
 use crate::judges::{fits_step, is_step};
 use crate::near::near_text;
-use crate::words::{is_optional, keys_of, wanted};
+use crate::wants::{is_optional, keys_of, wanted};
 use evl_base::STEP_WORDS;
 use evl_scenario::Fault;
 use std::alloc::{AllocError, Global};

@@ -2,8 +2,8 @@
 ghost use Rattle.std.specs.Prelude.{◌≡◌, ◌++◌, None, codes, is_some, string_bytes, IfOk, OnOk};
 ghost use Rattle.evl_scenario.specs.Steps.{word_of};
 
-use lab_faults::{check, is_optional, keys_of};
 use evl_base::STEP_WORDS;
+use lab_faults::{check, is_optional, keys_of};
 use std::alloc::{AllocError, Global};
 
 // A value that can stand at a key of a line.

@@ -7,8 +7,8 @@ ghost use Rattle.lab_live.specs.Lines.{heard_step, step_of_call, step_of_line, s
 
 use crate::places::{Pair, Part, bytes_at, odd_word, pairs_in, words_in};
 use crate::small::{WORD_LINE, small_scenario};
-use lab_faults::check;
 use evl_scenario::{Fault, Scenario, Step, read_scenario};
+use lab_faults::check;
 use std::alloc::{AllocError, Global};
 
 /// A line that can't be read: the byte, from 1, and what was wanted there.

@@ -15,8 +15,8 @@ use evl_base::{Board, Play, Refusal, Reply};
 use evl_kernel::KernelOf;
 use evl_plans::{Planned, PlannedKernel};
 use evl_scenario::{
-    StepAnswer, EntryNumber, Fault, Scenario, Step, StepLine, Unwritten, read_scenario, write_entry,
-    write_scenario,
+    EntryNumber, Fault, Scenario, Step, StepAnswer, StepLine, Unwritten, read_scenario,
+    write_entry, write_scenario,
 };
 use evl_shell::trace_kernel;
 use std::alloc::{AllocError, Global};

@@ -4,8 +4,8 @@ ghost use Rattle.evl_kernel.specs.state.States.{date};
 ghost use Rattle.lab_moments.specs.Standings.{stands};
 
 use crate::standings::standing;
-use lab_drawing::{Lane, Moment, Standing};
 use evl_kernel::KernelOf;
+use lab_drawing::{Lane, Moment, Standing};
 use std::alloc::{AllocError, Global};
 
 // How those of the lanes stand that show something, in order.

@@ -8,10 +8,10 @@ ghost use Rattle.lab_moments.specs.Moments.{script_shown, shown, shown_at, shown
 
 use crate::moments::moment_of;
 use evl_base::Refusal;
-use lab_drawing::{Lane, Moment};
 use evl_plans::{Planned, PlannedKernel, copied_bank};
 use evl_scenario::{Fault, Scenario, Step, read_scenario};
 use evl_shell::wants_memory;
+use lab_drawing::{Lane, Moment};
 use std::alloc::{AllocError, Global};
 
 // Makes a step, and answers how the lanes stand then.

@@ -4,8 +4,8 @@ ghost use Rattle.lab_moments.specs.Standings.{condition, is_picked, mutex_stands
 
 use crate::pending::pending_count;
 use evl_base::{MutexId, Stage, ThreadId, TimerId};
-use lab_drawing::{Condition, Lane, Standing};
 use evl_kernel::KernelOf;
+use lab_drawing::{Condition, Lane, Standing};
 use std::alloc::Global;
 
 // Whether a thread is picked.

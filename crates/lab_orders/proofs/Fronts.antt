@@ -1,6 +1,6 @@
 -- A world is gone through caller by caller, node by node, and step by step.
 use Rattle.std.proofs.Common.{◌≡◌, ℕ, zero, suc, ◌+◌, ◌*◌, Bool, true, false, cond, not, ◌&&◌, ◌||◌, List, [], ◌∷◌, ◌++◌, refl, sym, ◌∙◌, ap, subst, arith, zero-add, add-zero, add-one, append_assoc, append-nil, length-append}
-use Rattle.std.specs.Prelude.{◌<◌, ◌≤◌, All, AllPairs, Some, None, is_none, is_some, if◌then◌else◌, length, slice_get, slice_set}
+use Rattle.std.specs.Prelude.{◌<◌, ◌≤◌, All, AllPairs, Some, is_none, is_some, if◌then◌else◌, length, slice_get, slice_set}
 use Rattle.std.specs.List.{list_all}
 use Rattle.std.specs.Option.{option_map_or}
 use Rattle.std.proofs.lemmas.List.Sums.{sum_by_push, sum_by-cons}

@@ -1,5 +1,5 @@
 -- What is written of a trace, part by part.
-use Rattle.std.proofs.Common.{◌≡◌, ℕ, Bool, true, List, [], ◌∷◌, ◌++◌, append_assoc, codes, decimal, map, Option, Some, None, ap, refl, sym, ◌∙◌}
+use Rattle.std.proofs.Common.{◌≡◌, ℕ, Bool, true, List, ◌∷◌, ◌++◌, append_assoc, codes, decimal, map, Option, Some, None, ap, sym, ◌∙◌}
 use Rattle.lab_traces.specs.Entries.{EntryParts, names_refusal}
 use Rattle.lab_traces.specs.Lines.{Said, entry}
 use Rattle.lab_reports.specs.Calls.{Pair, call_pairs, call_word}

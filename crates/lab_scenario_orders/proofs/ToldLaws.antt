@@ -1,5 +1,5 @@
 -- Lines one behind the other.
-use Rattle.std.proofs.Common.{◌≡◌, ℕ, suc, ◌+◌, List, [], ◌++◌, refl, sym, ◌∙◌, ap, add-one, append-nil, append_assoc}
+use Rattle.std.proofs.Common.{◌≡◌, ℕ, ◌+◌, List, ◌++◌, sym, ◌∙◌, ap, add-one, append-nil, append_assoc}
 use Rattle.lab_scenario_orders.specs.Told.{lines_below}
 
 pub lines_none : (line : ℕ → List ℕ) (text : List ℕ) → text ≡ text ++ lines_below line 0

@@ -1,13 +1,12 @@
 //! What is asked of all orders.
-ghost use Rattle.std.specs.Prelude.{◌≡◌, ◌++◌, IfOk, IfSome, IsSomeAnd, Some, codes, false, map, option_and_then, option_map, position, string_bytes, true};
-ghost use Rattle.std.specs.BTreeMap.{keys};
-ghost use Rattle.std.specs.List.{list_all, list_any};
+ghost use Rattle.std.specs.Prelude.{◌≡◌, ◌++◌, IfOk, IfSome, IsSomeAnd, Some, codes, false, map, option_and_then, position, string_bytes, true};
+ghost use Rattle.std.specs.List.{list_any};
 ghost use Rattle.std.specs.Str.{bytes_eq};
 ghost use Rattle.std.specs.Str.Iter.{HasSubslice};
 ghost use Rattle.toml.specs.Data.{as_str, get_member};
 ghost use Rattle.toml.specs.Parse.{parse_document};
 ghost use Rattle.toml.specs.View.{items_view, table_view, view};
-ghost use Rattle.evl_scenario.specs.Tables.{all_given, has_only, value_or};
+ghost use Rattle.evl_scenario.specs.Tables.{all_given, value_or};
 ghost use Rattle.evl_scenario.specs.Values.{truth_from};
 ghost use Rattle.lab_scenario_orders.specs.Asks.{AreOfCallers, Asks, IsAnswerOf, ask_table, caller_text, is_against, is_caller_text, is_line_of, is_stuck_line, never_in, never_text, some_line};
 ghost use Rattle.lab_scenario_orders.specs.Splits.{ask_part};
@@ -15,6 +14,7 @@ ghost use Rattle.lab_scenario_orders.specs.Splits.{ask_part};
 use crate::callers::{Caller, Callers};
 use crate::searches::{Question, begins, behind, is_answered, some_line};
 use crate::splits::split_text;
+use evl_scenario::{field, has_only_keys};
 use lab_orders::Tally;
 use std::alloc::{AllocError, Global};
 use toml::{Table, Value};
@@ -145,13 +145,6 @@ fn read_all(alloc: Global, callers: &Callers, values: &[Value]) -> Result<Vec<Ne
     Ok(all)
 }
 
-// What stands at a key.
-fn field<'a>(table: &'a Table, key: &str) -> Option<&'a Value>
-    ensures { option_map (λ v. view v.now) result ≡ get_member key.now (table_view table.now) }
-{
-    table.get(key)
-}
-
 // The answers at `never`.
 fn never_at(alloc: Global, callers: &Callers, table: &Table) -> Result<Vec<Never>, AskFault>
     ensures texts { IfOk result (λ all. never_in (get_member (codes "never") (table_view table.now)) ≡ Some (map never_text all.items)) }
@@ -177,27 +170,6 @@ fn truth_at(table: &Table, key: &str) -> Result<bool, AskFault>
         },
         None => Ok(false),
     }
-}
-
-// Whether a key is among these.
-fn is_among(known: &[&str], key: &str) -> bool
-    ensures { result ≡ list_any (λ k. bytes_eq key.now k.now) known.now }
-{
-    known.iter().any(|k| key == *k)
-}
-
-// Whether each key of a table is among these.
-fn are_keys_among(table: &Table, known: &[&str]) -> bool
-    ensures { result ≡ list_all (λ key. list_any (λ k. bytes_eq (string_bytes key) k.now) known.now) (keys table.now) }
-{
-    table.keys().all(|key| is_among(known, key.as_str()))
-}
-
-// Whether a table has no other keys.
-fn has_only_keys(table: &Table, known: &[&str]) -> bool
-    ensures { result ≡ has_only (map (λ k. k.now) known.now) (table_view table.now) }
-{
-    are_keys_among(table, known)
 }
 
 // What a table `[ask]` asks.

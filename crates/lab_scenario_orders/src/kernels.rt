@@ -13,7 +13,7 @@ use arrayvec::ArrayVec;
 use evl_base::{Board, Call, Refusal, Reply, Spares, Stage, ThreadId};
 use evl_kernel::KernelOf;
 use evl_pipeline::Handler;
-use evl_scenario::{StepAnswer, Step};
+use evl_scenario::{Step, StepAnswer};
 use std::alloc::{AllocError, Global};
 
 // The same list once more.

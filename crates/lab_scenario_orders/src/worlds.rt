@@ -14,9 +14,9 @@ use crate::merging::are_merged;
 use crate::moments::{Moment, moment_after};
 use crate::seen::SeenState;
 use evl_kernel::KernelOf;
-use lab_orders::World;
 use evl_pipeline::Handler;
 use evl_scenario::Step;
+use lab_orders::World;
 use std::alloc::{AllocError, Global};
 
 /// Callers over a bank; kernels are led along their steps where it is asked.

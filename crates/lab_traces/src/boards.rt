@@ -2,9 +2,9 @@
 ghost use Rattle.std.specs.Prelude.{◌≡◌};
 ghost use Rattle.lab_traces.specs.Lines.{board_read, elements_read, owners_read};
 
-use crate::parts::{behind, number};
+use crate::parts::behind;
 use crate::plays::counted;
-use evl_scenario::{BoardLine, ElementCounts, OwnerCounts};
+use evl_scenario::{BoardLine, ElementCounts, OwnerCounts, number_of_text};
 
 // The line of a board, from its count of mutexes on.
 fn owners(threads: u16, elements: ElementCounts, text: &str) -> Option<BoardLine>
@@ -12,7 +12,7 @@ fn owners(threads: u16, elements: ElementCounts, text: &str) -> Option<BoardLine
 {
     let (mutexes, rest) = counted("mutexes=", text)?;
     let (groups, last) = counted("groups=", rest)?;
-    let limit = u32::try_from(number(behind("limit=", last)?)?).ok()?;
+    let limit = u32::try_from(number_of_text(behind("limit=", last)?)?).ok()?;
     let owners = OwnerCounts {
         mutexes: mutexes as usize,
         groups: groups as usize,

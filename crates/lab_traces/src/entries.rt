@@ -1,8 +1,9 @@
 //! The line of an entry: its number, who called, the call, and the answer.
-ghost use Rattle.std.specs.Prelude.{◌≡◌, Some, IfSome, option_map};
-ghost use Rattle.lab_traces.specs.Entries.{EntryParts, PartsFit, around_arrow, called_read, entry_read, entry_text, number_read, thread_read};
+ghost use Rattle.std.specs.Prelude.{◌≡◌, Some, option_map};
+ghost use Rattle.lab_traces.specs.Entries.{around_arrow, entry_read, number_read, thread_read};
 
-use crate::parts::{around_blank, around_point, before, behind, number, small_number};
+use crate::parts::{around_blank, around_point, before, behind, small_number};
+use evl_scenario::number_of_text;
 
 /// The parts of the line of an entry.
 #[derive(Clone, Copy, PartialEq, Eq, Debug)]
@@ -23,7 +24,7 @@ fn entry_number(text: &str) -> Option<Option<u64>>
 {
     match text {
         "-" => Some(None),
-        _ => Some(Some(number(text)?)),
+        _ => Some(Some(number_of_text(text)?)),
     }
 }
 

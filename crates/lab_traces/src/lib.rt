@@ -12,5 +12,6 @@ mod traces;
 pub use answers::is_refused;
 pub use boards::read_board;
 pub use entries::{EntryLine, read_entry};
+pub use parts::{before, behind};
 pub use plays::read_play;
 pub use traces::{Misread, Says, TraceLine, read_line, read_lines};

@@ -3,6 +3,8 @@ ghost use Rattle.std.specs.Prelude.{◌≡◌, ◌^◌, IfSome, option_map};
 ghost use Rattle.evl_scenario.specs.Values.{around_space, below, past_front, text_number};
 ghost use Rattle.lab_traces.specs.Parts.{around, before_end, Lacks};
 
+use evl_scenario::number_of_text;
+
 /// What stands before the first space, and what behind it.
 pub fn around_blank(text: &str) -> Option<(&str, &str)>
     ensures { option_map (λ parts. (parts.0.now, parts.1.now)) result ≡ around_space text.now }
@@ -54,25 +56,9 @@ pub fn before<'a>(end: &str, text: &'a str) -> Option<&'a str>
     }
 }
 
-/// The number that a text writes in decimal digits without leading zeros.
-pub fn number(text: &str) -> Option<u64>
-    ensures { result ≡ text_number text.now }
-{
-    match text.parse::<u64>() {
-        Ok(number) => {
-            if itoa::Buffer::new().format(number) == text {
-                Some(number)
-            } else {
-                None
-            }
-        }
-        Err(_) => None,
-    }
-}
-
-/// The same of a number that names a thread, a line or a timer.
+/// The number that a text writes in decimal digits without leading zeros, of a thread, a line or a timer.
 pub fn small_number(text: &str) -> Option<u16>
     ensures { result ≡ below (2 ^ 16) (text_number text.now) }
 {
-    u16::try_from(number(text)?).ok()
+    u16::try_from(number_of_text(text)?).ok()
 }

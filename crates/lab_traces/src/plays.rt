@@ -1,12 +1,12 @@
 //! The text of a play.
 ghost use Rattle.std.specs.Prelude.{◌≡◌, Some, option_and_then, option_map};
-ghost use Rattle.evl_base.specs.Play.{play_text};
 ghost use Rattle.evl_base.specs.declared.play.Play.{Play};
-ghost use Rattle.lab_traces.specs.Plays.{counted_read, deadline_read, fire_read, handled_read, line_read, named_read, play_read, timer_read};
+ghost use Rattle.lab_traces.specs.Plays.{counted_read, deadline_read, handled_read, line_read, play_read, timer_read};
 ghost use Rattle.evl_scenario.specs.Values.{around_space, stage_of};
 
-use crate::parts::{around_blank, behind, number, small_number};
+use crate::parts::{around_blank, behind, small_number};
 use evl_base::{LineNo, Play, Stage, ThreadId, TimerId};
+use evl_scenario::number_of_text;
 
 // Whether the callback handled its fire.
 fn handled(text: &str) -> Option<bool>
@@ -24,7 +24,7 @@ pub(crate) fn counted<'a>(word: &str, text: &'a str) -> Option<(u64, &'a str)>
     ensures { option_map (λ parts. (parts.0, parts.1.now)) result ≡ counted_read word.now text.now }
 {
     let (digits, rest) = around_blank(behind(word, text)?)?;
-    let count = number(digits)?;
+    let count = number_of_text(digits)?;
     Some((count, rest))
 }
 

@@ -20,7 +20,7 @@ use Rattle.evl_scenario.specs.declared.faults.Fault.{Fault}
 use Rattle.evl_scenario.specs.declared.faults.Fault.TheVariants.{Memory}
 use Rattle.evl_scenario.specs.declared.steps.Step.{Step}
 use Rattle.evl_shell.specs.Moments.{moment, wants_memory}
-use Rattle.evl_shell.specs.Runs.{Moment, Turn, beginning, entered, turn, turned_away}
+use Rattle.evl_shell.specs.Runs.{Moment, Turn, beginning, turn}
 use Rattle.evl_shell.proofs.TurnLemmas.{turn-away, turn-entered}
 use Rattle.lab_warnings.specs.Runs.{Makes, entries_from, entry_in, first_unpicked, state_from, unpicked_at}
 use Rattle.lab_warnings.specs.Warnings.{end_lines, run_lines, script_lines, unpicked_line, warnings_of}

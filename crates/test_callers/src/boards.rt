@@ -101,6 +101,15 @@ pub fn seen_of(left: Left) -> Option<(Seen, bool)> {
         Left::Free(entries) => Some((owned(entries, None, false, None), false)),
         Left::Over(entries) => Some((owned(entries, None, false, None), true)),
         Left::Owned(entries, thread) => Some((owned(entries, Some(thread), false, None), false)),
+        Left::Offered(entries, thread) => {
+            Some((offered(owned(entries, Some(thread), false, None)), false))
+        }
+        Left::OfferedOn(entries, thread, waiters) => {
+            Some((
+                offered(owned(entries, Some(thread), true, Some(waiters))),
+                false,
+            ))
+        }
         Left::Raised(entries, thread) => Some((
             owned(entries, Some(thread), false, Some(0)),
             false,
@@ -112,6 +121,24 @@ pub fn seen_of(left: Left) -> Option<(Seen, bool)> {
     }
 }
 
+// The same, while the mutex is offered to that thread, which hasn't accepted it yet.
+fn offered(seen: Seen) -> Seen {
+    let word = match seen.word {
+        Some(word) => Some(InWord {
+            owner: word.owner,
+            is_offered: true,
+            is_claimed: word.is_claimed,
+        }),
+        None => None,
+    };
+    Seen {
+        entries: seen.entries,
+        word,
+        owner: seen.owner,
+        waiters: seen.waiters,
+    }
+}
+
 // This thread has the first mutex, or nobody, and it is claimed or not; so many wait for it where the thread is the
 // recorded owner.
 fn owned(entries: usize, thread: Option<u16>, is_claimed: bool, recorded: Option<usize>) -> Seen {
@@ -119,7 +146,11 @@ fn owned(entries: usize, thread: Option<u16>, is_claimed: bool, recorded: Option
         Some(number) => Some(ThreadId(number)),
         None => None,
     };
-    let word = Some(InWord { owner, is_claimed });
+    let word = Some(InWord {
+        owner,
+        is_offered: false,
+        is_claimed,
+    });
     match recorded {
         Some(waiters) => Seen {
             entries,

@@ -28,6 +28,7 @@ fn made(alloc: Global, board: Board) -> Result<(Machine, Vec<Caller>), Refusal>
 fn is_third_put(put: Told, word: Option<InWord>, calls: usize) -> bool {
     let free = InWord {
         owner: None,
+        is_offered: false,
         is_claimed: false,
     };
     put == Told::Done && word == Some(free) && calls == 3

@@ -16,7 +16,7 @@ const LATE: [Step; 3] = [
 // The mutex was handed on, and the core is held: it stays offered, so nobody else gets it, and the next finish has it.
 const FINISHED_WHILE_HELD: [Phase<'_>; 4] = [
     (Side::Free, &CONTENDED, Left::Awaited(3, 0, 1)),
-    (Side::Free, &HANDED, Left::Owned(4, 1)),
+    (Side::Free, &HANDED, Left::Offered(4, 1)),
     (
         Side::Held,
         &[
@@ -24,7 +24,7 @@ const FINISHED_WHILE_HELD: [Phase<'_>; 4] = [
             (0, Act::Lock(FIRST), BUSY),
             (1, Act::Lock(SECOND), BUSY),
         ],
-        Left::Owned(4, 1),
+        Left::Offered(4, 1),
     ),
     (
         Side::Free,
@@ -44,7 +44,7 @@ fn finish_while_the_core_is_held(rt: HostRuntime) {
 // The same in a full history: the mutex stays offered, and the wait unfinished, for good.
 const FINISHED_IN_FULL: [Phase<'_>; 3] = [
     (Side::Free, &CONTENDED, Left::Awaited(3, 0, 1)),
-    (Side::Free, &HANDED, Left::Owned(4, 1)),
+    (Side::Free, &HANDED, Left::Offered(4, 1)),
     (
         Side::Free,
         &[
@@ -53,7 +53,7 @@ const FINISHED_IN_FULL: [Phase<'_>; 3] = [
             (1, Act::Lock(SECOND), BUSY),
             (0, Act::Lock(SECOND), Told::Passed),
         ],
-        Left::Owned(4, 1),
+        Left::Offered(4, 1),
     ),
 ];
 
@@ -65,7 +65,7 @@ fn finish_in_a_full_history(rt: HostRuntime) {
 // The same without memory: the next finish has it.
 const FINISHED_SHORT: [Phase<'_>; 4] = [
     (Side::Free, &CONTENDED, Left::Awaited(3, 0, 1)),
-    (Side::Free, &HANDED, Left::Owned(4, 1)),
+    (Side::Free, &HANDED, Left::Offered(4, 1)),
     (
         Side::Short,
         &[
@@ -73,7 +73,7 @@ const FINISHED_SHORT: [Phase<'_>; 4] = [
             (0, Act::Lock(FIRST), BUSY),
             (1, Act::Lock(SECOND), BUSY),
         ],
-        Left::Owned(4, 1),
+        Left::Offered(4, 1),
     ),
     (
         Side::Free,

@@ -5,10 +5,10 @@ use crate::rows::{ENOUGH, made};
 use crate::short::{Making, requests};
 use evl_base::{MutexId, Refusal, StaxId};
 use evl_pipeline::Callback;
-use test_refusing::Refusing;
 use evl_words::{MutexWord, StaxGate};
 use linked_list_allocator::LocalHeap;
 use std::alloc::Global;
+use test_refusing::Refusing;
 
 struct Gate;
 

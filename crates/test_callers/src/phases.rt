@@ -62,10 +62,14 @@ pub enum Left {
     Over(usize),
     // This thread, which nobody is recorded for, with no mark in the word.
     Owned(usize, u16),
-    // The same, and it is the recorded owner.
+    // It is offered to this thread, which nobody is recorded for, with no mark in the word.
+    Offered(usize, u16),
+    // This thread has it and is the recorded owner, with no mark in the word.
     Raised(usize, u16),
     // This thread, which is the recorded owner, with a mark in the word, and so many who wait by the records.
     Awaited(usize, u16, usize),
+    // It is offered to this thread, which is the recorded owner, with a mark in the word, and so many who wait.
+    OfferedOn(usize, u16, usize),
     // This thread, with a mark in the word that nobody is recorded for.
     Marked(usize, u16),
 }

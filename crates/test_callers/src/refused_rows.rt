@@ -13,10 +13,10 @@ use crate::short::is_all_back;
 use evl_base::{Board, Refusal};
 use evl_machine::{CallerOf, MachineOf};
 use evl_pipeline::{Callback, Handler};
-use test_refusing::Refusing;
 use linked_list_allocator::LocalHeap;
 use std::alloc::{Allocator, Global};
 use std::sync::Wait;
+use test_refusing::Refusing;
 
 // More requests than the row makes.
 const MANY: u64 = 200;

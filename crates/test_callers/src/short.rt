@@ -1,9 +1,9 @@
 //! Memory of which one request is refused, for what is made over it: the first, the second, and so on until none is
 //! left to be refused.
 use evl_base::Refusal;
-use test_refusing::Refusing;
 use linked_list_allocator::LocalHeap;
 use std::alloc::Global;
+use test_refusing::Refusing;
 
 // More requests than anything here makes.
 const MANY: u64 = 200;

@@ -31,7 +31,7 @@ const ONE_WAITER: [Phase<'_>; 2] = [
             (0, Act::Unlock(FIRST), Told::Done),
             (0, Act::Call(Ask::RankOf(ThreadId(0))), Told::Number(522)),
         ],
-        Left::Owned(6, 1),
+        Left::Offered(6, 1),
     ),
 ];
 
@@ -54,7 +54,7 @@ const TWO_WAITERS: [Phase<'_>; 2] = [
             (2, Act::Begin(FIRST, None), Told::Waiting),
             (0, Act::Unlock(FIRST), Told::Done),
         ],
-        Left::Awaited(6, 2, 1),
+        Left::OfferedOn(6, 2, 1),
     ),
     (
         Side::Free,

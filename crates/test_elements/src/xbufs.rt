@@ -3,7 +3,7 @@ ghost use Rattle.std.specs.Prelude.{◌≡◌};
 ghost use Rattle.evl_xbuf.specs.Xbufs.{opened};
 
 use evl_base::{Refusal, Stage, ThreadId, Way};
-use evl_xbuf::{Services, Service, XbufOf};
+use evl_xbuf::{Service, Services, XbufOf};
 use linked_list_allocator::LocalHeap;
 use std::alloc::Allocator;
 

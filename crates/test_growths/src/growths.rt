@@ -8,12 +8,12 @@ use evl_bank::{BankUser, with_program_bank};
 use evl_base::{Board, Refusal};
 use evl_kernel::KernelOf;
 use evl_pipeline::{Callback, Handler};
-use test_refusing::Refusing;
 use evl_scenario::{Scenario, Step, read_scenario, trace_history};
 use linked_list_allocator::LocalHeap;
 use std::alloc::{AllocError, Allocator, Global};
 use std::sync::Wait;
 use std::thread::Threads;
+use test_refusing::Refusing;
 
 // More requests than a row makes.
 const MANY: u64 = 100;

@@ -1,9 +1,9 @@
 //! Machines that are driven line by line.
 use crate::banks::trace_of_program;
-use lab_live::{Session, answer_line, write_forms};
-use lab_reports::program_plans;
 use evl_base::STEP_WORDS;
 use evl_scenario::Fault;
+use lab_live::{Session, answer_line, write_forms};
+use lab_reports::program_plans;
 use std::alloc::{AllocError, Global};
 
 // The board, and a step that comes first.

@@ -1,6 +1,6 @@
 //! Texts of callers that are refused.
-use lab_callers_text::read_callers;
 use evl_scenario::Fault;
+use lab_callers_text::read_callers;
 use std::alloc::Global;
 
 // Why a text is refused, or nothing.

@@ -1,6 +1,6 @@
 //! The texts of answers and plays that no call that is built gives, and of each refusal.
 use evl_base::{Call, Refusal, SemId, ThreadId};
-use evl_scenario::{StepAnswer, EntryNumber, Step, StepLine};
+use evl_scenario::{EntryNumber, Step, StepAnswer, StepLine};
 use std::alloc::{AllocError, Global};
 
 // The line of an entry that was refused so.

@@ -4,6 +4,7 @@
 #![tactic(auto)]
 
 mod again;
+mod arguments;
 mod boards;
 mod calls;
 mod choices;
@@ -20,13 +21,12 @@ mod texts;
 mod tools;
 mod waits;
 mod watch;
-mod words;
 
 use crate::again::plays_so;
+use crate::arguments::read_words;
 use crate::events::Event;
 use crate::runs::run_hosts;
 use crate::texts::{Failure, Texts};
-use crate::words::read_words;
 use std::process::ExitCode;
 use std::{env, io};
 

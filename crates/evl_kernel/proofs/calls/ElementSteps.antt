@@ -8,7 +8,7 @@ use Rattle.evl_base.specs.declared.reply.Reply.TheVariants.{Begun, Bits, Done}
 use Rattle.evl_base.specs.declared.way.Way.{Way}
 use Rattle.evl_sync.specs.Steps.{stepped, unless}
 use Rattle.evl_sync.specs.FlagGroups as flags
-use Rattle.evl_sync.specs.FlagGroups.{FlagGroup, is_empty_mask, post_refusal, taken}
+use Rattle.evl_sync.specs.FlagGroups.{FlagGroup, is_empty_mask, taken}
 use Rattle.evl_sync.specs.Semaphores as sem
 use Rattle.evl_sync.specs.Semaphores.{Semaphore}
 use Rattle.evl_sync.specs.declared.waiter.Waiter.{Waiter}

@@ -1,5 +1,5 @@
 -- What each call on a mutex leaves before settling.
-use Rattle.std.proofs.Common.{◌≡◌, ◌≢◌, ◌≤◌, ◌<◌, ◌⊎◌, inl, inr, ⊎_elim, ℕ, zero, suc, nat_le, nat_lt, ◌==◌, eqb, eq-eqb, ne_eqb, ◌&&◌, ◌||◌, Bool, true, false, not, List, [], ◌∷◌, length, Option, Some, None, is_some, option_map, Result, Ok, Err, slice_get, slice_set, slice_index_or, if◌then◌else◌, refl, sym, ap, ◌∙◌, subst, arith}
+use Rattle.std.proofs.Common.{◌≡◌, ◌≢◌, ◌≤◌, ◌<◌, ◌⊎◌, ⊎_elim, ℕ, zero, suc, nat_le, nat_lt, ◌==◌, eq-eqb, ne_eqb, ◌&&◌, ◌||◌, Bool, true, false, not, List, [], ◌∷◌, length, Option, Some, None, is_some, option_map, Result, Ok, Err, slice_get, slice_set, slice_index_or, if◌then◌else◌, refl, sym, ap, ◌∙◌, subst, arith}
 use Rattle.std.specs.Option.{option_map_or}
 use Rattle.std.proofs.lemmas.Bool.{false≢true, eqb-true}
 use Rattle.std.proofs.lemmas.Bool.Decides.{nat_tests}
@@ -11,7 +11,7 @@ use Rattle.evl_base.specs.declared.numbers.ThreadId.{ThreadId}
 use Rattle.evl_base.specs.declared.refusal.Refusal.{Refusal}
 use Rattle.evl_base.specs.declared.refusal.Refusal.TheVariants.{Busy, Invalid, NotOwner, Unknown}
 use Rattle.evl_base.specs.declared.reply.Reply.{Reply}
-use Rattle.evl_base.specs.declared.reply.Reply.TheVariants.{Begun, Done}
+use Rattle.evl_base.specs.declared.reply.Reply.TheVariants.{Done}
 use Rattle.evl_mutex.specs.declared.waiter.Waiter.{Waiter}
 use Rattle.evl_mutex.specs.Mutexes as recorded
 use Rattle.evl_mutex.specs.Mutexes.{Mutex as MutexRecorded, claimed, handed_to, has_ceiling, is_open_to, raised, released}
@@ -37,12 +37,11 @@ use Rattle.evl_kernel.specs.histories.Histories.{Follows}
 use Rattle.evl_sched.specs.declared.seat.Seat.{Seat}
 use Rattle.evl_sched.specs.Threads.{is_attached, refused_first}
 use Rattle.evl_sched.specs.Calls.{stranger_refusal}
-use Rattle.evl_kernel.specs.waiting.Standing.{in_mutex, stands_for}
-use Rattle.evl_kernel.specs.histories.MutexRests.{is_for, is_done, got_it}
-use Rattle.evl_kernel.specs.calls.MutexEffects.{record_at, has_got, Changes, GotTheSame, ClaimLeaves, ReleaseLeaves, RaiseLeaves, FinishLeaves, MutexCallsLeave, MutexCallsChange, MutexCallsAreAccepted}
+use Rattle.evl_kernel.specs.waiting.Standing.{in_mutex}
+use Rattle.evl_kernel.specs.histories.MutexRests.{is_for, got_it}
+use Rattle.evl_kernel.specs.calls.MutexEffects.{has_got, ClaimLeaves, ReleaseLeaves, RaiseLeaves, FinishLeaves, MutexCallsChange, MutexCallsAreAccepted}
 use Rattle.evl_kernel.proofs.calls.LeavesLaws.{Leaves, leaves-refused}
 use Rattle.evl_kernel.proofs.calls.ElementSteps.{nth-done, nth-made, ok_is}
-use Rattle.evl_kernel.proofs.state.OpeningLaws.{threads_few}
 use Rattle.evl_kernel.proofs.calls.QueueSteps.{was_at_it}
 use Rattle.evl_kernel.proofs.state.SetLaws.{set_here, set_there}
 use Rattle.evl_kernel.proofs.waiting.ProperLaws.{IsProper}

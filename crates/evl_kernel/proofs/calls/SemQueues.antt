@@ -13,7 +13,7 @@ use Rattle.evl_sync.specs.Semaphores.{Semaphore, IsSoundSemaphore}
 use Rattle.evl_sync.proofs.QueueLaws.{kept-dropped, kept-enqueued, kept-rest}
 use Rattle.evl_kernel.specs.calls.Effects.{replied}
 use Rattle.evl_kernel.specs.calls.Semaphores as semaphore
-use Rattle.evl_kernel.specs.calls.Semaphores.{one_served, sem_wakes, sem_serves, semaphore as machine}
+use Rattle.evl_kernel.specs.calls.Semaphores.{sem_wakes, sem_serves, semaphore as machine}
 use Rattle.evl_kernel.specs.waiting.Standing.{in_sem}
 use Rattle.evl_kernel.proofs.calls.ElementSteps.{err_ok, ok_is}
 use Rattle.evl_kernel.proofs.calls.QueueSteps.{OneGoes, OneComes, OneDrops, dropped_drops, enqueued_comes, same_queue}

@@ -1,7 +1,6 @@
 -- What each step of a cross-buffer leaves of its queues, and that it stays sound.
-use Rattle.std.proofs.Common.{◌≡◌, ◌<◌, ℕ, ◌==◌, ◌⊎◌, inl, inr, Bool, true, false, ◌||◌, List, [], ◌∷◌, ◌++◌, map, Option, Some, None, Result, Ok, Err, if◌then◌else◌, refl, sym, ap, ◌∙◌, subst, arith}
+use Rattle.std.proofs.Common.{◌≡◌, ◌<◌, ℕ, ◌==◌, ◌⊎◌, inl, inr, Bool, true, false, ◌||◌, List, [], ◌∷◌, ◌++◌, map, Option, Some, None, Result, Ok, Err, if◌then◌else◌, refl, sym, ap, ◌∙◌, subst}
 use Rattle.std.proofs.lemmas.Bool.{false≢true, eq-eqb, eqb-true, or_left, or_parts, or_right}
-use Rattle.std.proofs.lemmas.Bool.Decides.{nat_tests}
 use Rattle.std.proofs.lemmas.Option.{none-some}
 use Rattle.evl_base.proofs.Plain.{eqb-swap_false, some-none}
 use Rattle.evl_base.specs.Limits.{thread_limit}
@@ -26,7 +25,7 @@ use Rattle.evl_xbuf.proofs.SoundLaws.{kept-can_write, kept-read, sound-dropped, 
 use Rattle.evl_xbuf.proofs.LeavingLaws.{is_among, served_go}
 use Rattle.evl_kernel.specs.calls.Effects.{replied}
 use Rattle.evl_kernel.specs.calls.CrossBuffers as through
-use Rattle.evl_kernel.specs.calls.CrossBuffers.{XbufStep, answered, at_once, bytes_told, cross_buffer as machine, done_at_once, read_at_once, served_beside, served_in, service_told, xbuf_serves, xbuf_wakes}
+use Rattle.evl_kernel.specs.calls.CrossBuffers.{answered, at_once, bytes_told, cross_buffer as machine, done_at_once, read_at_once, served_beside, served_in, service_told, xbuf_serves, xbuf_wakes}
 use Rattle.evl_kernel.specs.waiting.Standing.{in_readers, in_writers, is_served}
 use Rattle.evl_kernel.proofs.calls.ElementSteps.{err_ok, ok_is}
 use Rattle.evl_kernel.proofs.calls.QueueSteps.{dropped_gone, dropped_stays}

@@ -1,5 +1,5 @@
 -- What settling does to mutexes, and every call that isn't about one: waits for them end by their deadlines alone.
-use Rattle.std.proofs.Common.{◌≡◌, ◌≤◌, ◌⊎◌, inl, inr, ⊎_elim, ℕ, ◌==◌, ◌&&◌, Bool, true, false, not, List, [], ◌++◌, Option, Some, None, is_some, Result, Ok, Err, slice_get, slice_set, slice_index_or, refl, sym, ap, ◌∙◌, subst, arith}
+use Rattle.std.proofs.Common.{◌≡◌, ◌≤◌, ◌⊎◌, inl, inr, ⊎_elim, ℕ, ◌==◌, ◌&&◌, Bool, true, false, not, List, ◌++◌, Option, Some, None, is_some, Result, Ok, Err, slice_get, slice_set, slice_index_or, refl, sym, ap, ◌∙◌, subst, arith}
 use Rattle.std.specs.Option.{option_map_or}
 use Rattle.std.proofs.lemmas.Bool.{false≢true, eqb-true}
 use Rattle.evl_base.specs.Limits.{thread_limit}
@@ -8,7 +8,6 @@ use Rattle.evl_base.specs.declared.refusal.Refusal.{Refusal}
 use Rattle.evl_base.specs.declared.refusal.Refusal.TheVariants.{Busy}
 use Rattle.evl_base.specs.declared.reply.Reply.{Reply}
 use Rattle.evl_base.specs.declared.reply.Reply.TheVariants.{Done, TimedOut, Begun, Count, Bits, Number, Bytes, Chosen, Handed}
-use Rattle.evl_pipeline.specs.declared.action.Action.TheVariants.{PostFlags}
 use Rattle.evl_pipeline.specs.Lines as lines
 use Rattle.evl_mutex.specs.Mutexes.{IsSoundMutex, ceiling_of}
 use Rattle.evl_mutex.specs.Queues.{dropped}

@@ -1,13 +1,11 @@
 -- A wait for a mutex ends by getting it, or by its deadline.
-use Rattle.std.proofs.Common.{◌≡◌, ◌≤◌, ◌⊎◌, inl, inr, ⊎_elim, ℕ, ◌==◌, eqb, eq-eqb, ◌&&◌, ◌||◌, Bool, true, false, not, List, [], ◌∷◌, replicate, Option, Some, None, is_some, option_map, Result, Ok, Err, slice_get, slice_set, slice_index_or, if◌then◌else◌, refl, sym, ap, ◌∙◌, subst, arith}
+use Rattle.std.proofs.Common.{◌≡◌, ◌≤◌, ◌⊎◌, ⊎_elim, ℕ, ◌==◌, eq-eqb, ◌&&◌, ◌||◌, Bool, true, false, not, List, [], ◌∷◌, Option, Some, None, is_some, option_map, Result, Ok, Err, slice_get, slice_set, slice_index_or, if◌then◌else◌, refl, sym, ap, ◌∙◌, subst, arith}
 use Rattle.std.specs.Option.{option_map_or}
 use Rattle.std.proofs.lemmas.Bool.{false≢true, eq-eqb, eqb-true, or_right}
-use Rattle.std.proofs.lemmas.Bool.Decides.{nat_tests}
 use Rattle.evl_base.specs.Limits.{thread_limit}
 use Rattle.evl_base.specs.Board.{board_fits}
 use Rattle.evl_base.specs.declared.board.Board.{Board}
 use Rattle.evl_base.specs.declared.call.Call.{Call}
-use Rattle.evl_base.specs.declared.numbers.MutexId.{MutexId}
 use Rattle.evl_base.specs.declared.refusal.Refusal.{Refusal}
 use Rattle.evl_base.specs.declared.reply.Reply.{Reply}
 use Rattle.evl_base.specs.declared.reply.Reply.TheVariants.{Done, TimedOut, Begun, Count, Bits, Number, Bytes, Chosen, Handed}
@@ -24,7 +22,7 @@ use Rattle.evl_kernel.specs.calls.Mutexes as mutex_step
 use Rattle.evl_kernel.specs.calls.Mutexes.{mutex_wakes}
 use Rattle.evl_kernel.specs.calls.Semaphores.{one_served}
 use Rattle.evl_kernel.specs.calls.Elements.{ElementStep, on_sem, on_flags, on_xbuf, on_mutex, element, elements, with_elements, touched, wakes, serves}
-use Rattle.evl_kernel.specs.waiting.Waits.{has_ended, has_timed_out, is_timeout, wait_of, wait_at, with_wait, going_on, ended_by, is_past, suspended, begun, woken, all_woken}
+use Rattle.evl_kernel.specs.waiting.Waits.{is_timeout, wait_of, wait_at, with_wait, going_on, ended_by, is_past, suspended, begun, woken, all_woken}
 use Rattle.evl_kernel.specs.waiting.Beginnings.{awaited, begin_refusal, begin_step, beginning}
 use Rattle.evl_kernel.specs.waiting.Endings.{drop_step, finish, goes_inband, inband_if, is_of_mutex, leaving_queue, outcome_of}
 use Rattle.evl_kernel.specs.calls.TimerCalls.{posted_if}
@@ -35,12 +33,9 @@ use Rattle.evl_kernel.specs.settling.Settling.{deadline_left}
 use Rattle.evl_kernel.specs.histories.Histories.{History, IsLegal, opened}
 use Rattle.evl_kernel.specs.waiting.Standing.{is_served}
 use Rattle.evl_kernel.specs.histories.MutexRests.{is_for, is_done, got_it, is_of_mutexes, wants_mutex}
-use Rattle.evl_kernel.specs.calls.MutexEffects.{has_got}
-use Rattle.evl_kernel.specs.histories.WaitOwners.{awaited_at}
 use Rattle.evl_kernel.specs.histories.MutexEnds.{ends_rightly, MutexWaitsEndRightly}
 use Rattle.evl_kernel.proofs.calls.LeavesLaws.{Leaves, leaves-refused}
 use Rattle.evl_kernel.proofs.state.OpeningLaws.{threads_few}
-use Rattle.evl_kernel.proofs.calls.QueueSteps.{Gone}
 use Rattle.evl_kernel.proofs.calls.QueueLaws.{Begins, Dropped, IsAsked, asked_goes, begin_goes, drop_goes}
 use Rattle.evl_kernel.proofs.calls.BeginLaws.{free_to_begin}
 use Rattle.evl_kernel.proofs.calls.ThreadSteps.{leaves-threads}
@@ -49,7 +44,7 @@ use Rattle.evl_kernel.proofs.waiting.ProperLaws.{IsProper, kept_of}
 use Rattle.evl_kernel.proofs.waiting.ProperSteps.{Passed, kept_by_each, kept_by_own, passed_all, proper_opening}
 use Rattle.evl_kernel.proofs.waiting.WaitLaws.{index_set, wait_there}
 use Rattle.evl_kernel.proofs.waiting.WaitRecords.{idle_away}
-use Rattle.evl_kernel.proofs.histories.MutexRests.{IsElse, else_at, else_woken, mutexes_stay, nobody_woken}
+use Rattle.evl_kernel.proofs.histories.MutexRests.{IsElse, else_at, else_woken, mutexes_stay}
 use Rattle.evl_kernel.proofs.histories.MutexDrops.{other_step}
 
 or_true : (b : Bool) → (b || true) ≡ true

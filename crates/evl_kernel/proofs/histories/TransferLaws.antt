@@ -11,7 +11,7 @@ use Rattle.evl_base.specs.declared.way.Way.{Way}
 use Rattle.evl_base.specs.declared.way.Way.TheVariants.{In, Out}
 use Rattle.evl_sync.specs.Steps.{unless}
 use Rattle.evl_xbuf.specs.Flows as flows
-use Rattle.evl_xbuf.specs.Flows.{Flow, flow, of_begin_read, of_begin_write, of_read, of_write, run}
+use Rattle.evl_xbuf.specs.Flows.{flow, of_begin_read, of_begin_write, of_read, of_write, run}
 use Rattle.evl_xbuf.specs.Streams as streams
 use Rattle.evl_xbuf.specs.Streams.{Service, Stream}
 use Rattle.evl_xbuf.specs.Xbufs as xbufs

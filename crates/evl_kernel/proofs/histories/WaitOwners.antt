@@ -1,11 +1,8 @@
 -- For what a thread waits is changed by its own calls alone.
-use Rattle.std.proofs.Common.{◌≡◌, ◌≢◌, ◌<◌, ◌≤◌, if◌then◌else◌, ◌⊎◌, inl, inr, ⊎_elim, ℕ, zero, suc, ◌==◌, eqb, eq-eqb, ne_eqb, Bool, true, false, List, [], ◌∷◌, length, Option, Some, None, option_map, Result, Ok, Err, slice_index_or, slice_set, refl, sym, ap, ◌∙◌, subst, arith}
+use Rattle.std.proofs.Common.{◌≡◌, ◌≢◌, ◌<◌, ◌≤◌, if◌then◌else◌, ◌⊎◌, ⊎_elim, ℕ, zero, suc, ◌==◌, eq-eqb, ne_eqb, Bool, true, false, List, [], ◌∷◌, length, Option, Some, None, option_map, Result, Ok, Err, slice_index_or, slice_set, refl, sym, ap, ◌∙◌, subst, arith}
 use Rattle.std.specs.Option.{option_map_or}
 use Rattle.std.proofs.lemmas.Bool.{false≢true, eqb-true}
-use Rattle.std.proofs.lemmas.Bool.Decides.{nat_tests}
 use Rattle.evl_base.specs.Limits.{thread_limit}
-use mathlib.Core.Logic.{dite}
-use native.Mathlib.Decide.{ℕ_discrete}
 use Rattle.evl_base.specs.declared.call.Call.{Call}
 use Rattle.evl_base.specs.declared.entry.Entry.{Entry}
 use Rattle.evl_base.specs.declared.play.Play.{Play}
@@ -26,7 +23,7 @@ use Rattle.evl_kernel.specs.calls.TimerCalls.{posted_if}
 use Rattle.evl_kernel.specs.calls.Families.{Task, on_lines, on_clock, on_threads, on_element, on_staged, raises, begins, ends, performing, task_of}
 use Rattle.evl_kernel.specs.calls.Serving.{answer, ends_a_wait, general_refusal}
 use Rattle.evl_kernel.specs.settling.Settling.{deadline_left}
-use Rattle.evl_kernel.specs.histories.Histories.{History, IsLegal, Follows, Run, Step, opened}
+use Rattle.evl_kernel.specs.histories.Histories.{Follows, Run, Step, opened}
 use Rattle.evl_kernel.specs.histories.WaitOwners.{awaited_along, awaited_at, awaited_after, WaitsAreOfTheirCalls, WaitsGoBy, WaitsAreTheThreadsOwn}
 use Rattle.evl_kernel.proofs.calls.LeavesLaws.{Leaves, leaves-if_done, leaves-refused}
 use Rattle.evl_kernel.proofs.state.OpeningLaws.{threads_few}

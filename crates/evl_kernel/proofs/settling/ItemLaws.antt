@@ -32,7 +32,7 @@ use Rattle.evl_kernel.specs.waiting.Waits.{wait_at, woken}
 use Rattle.evl_kernel.specs.waiting.Endings.{drop_step}
 use Rattle.evl_kernel.specs.settling.Settling.{Left, left, deadline_left, answered, timer_given, item_played, due_played, going_on, is_of_clock, item_next, item_before, line_next, next_of, line_goes, next_play, one_inband}
 use Rattle.evl_kernel.specs.settling.Fires.{Called}
-use Rattle.evl_kernel.specs.settling.Settled.{settling, stage_of, waiting, left_after}
+use Rattle.evl_kernel.specs.settling.Settled.{settling, stage_of, waiting}
 use Rattle.evl_kernel.specs.state.Callbacks.{AnswersByPlan}
 use Rattle.evl_kernel.specs.state.Records.{RecordsView, state_of, whereabouts, number_of, kinds_at, AreTimersAllowed}
 use Rattle.evl_kernel.proofs.settling.ClockLaws.{timer-renamed, next-renamed, count-renamed, fired-renamed}

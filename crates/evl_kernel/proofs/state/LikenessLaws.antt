@@ -1,12 +1,7 @@
 -- Records that mean the same.
-use Rattle.std.proofs.Common.{◌≡◌, Bool, List, [], ◌∷◌, map, refl, ap, ◌∙◌}
+use Rattle.std.proofs.Common.{◌≡◌, List, [], ◌∷◌, map, refl, ap, ◌∙◌}
 use Rattle.evl_kernel.specs.declared.bank.BankPlace.{BankPlace}
-use Rattle.evl_kernel.specs.state.States.{Handler, Banked, State}
 use Rattle.evl_kernel.specs.state.Callbacks.{handler_of, is_home}
-use Rattle.evl_pipeline.specs.Lines.{Pipeline}
-use Rattle.evl_clock.specs.Clocks.{Clock}
-use Rattle.evl_sched.specs.Threads.{Sched}
-use Rattle.evl_kernel.specs.declared.waits.Wait.{Wait}
 use Rattle.evl_kernel.specs.state.Renamed.{renamed, renamed_clock}
 use Rattle.evl_kernel.specs.state.Records.{RecordsView, banked, number_of, state_of}
 

@@ -37,7 +37,7 @@ use Rattle.evl_base.specs.declared.way.Way.TheVariants.{In, Out}
 use Rattle.evl_mutex.specs.Mutexes as mutexes
 use Rattle.evl_mutex.proofs.SoundLaws.{sound-fresh}
 use Rattle.evl_sched.specs.Threads as threads
-use Rattle.evl_sched.specs.Threads.{Sched, base_of, is_attached}
+use Rattle.evl_sched.specs.Threads.{Sched}
 use Rattle.evl_sched.specs.declared.seat.Seat.{Seat}
 use Rattle.evl_sched.specs.Policies.{base_rank}
 use Rattle.evl_base.specs.Limits.{thread_limit}

@@ -13,7 +13,7 @@ use Rattle.evl_mutex.proofs.RankLaws.{effective-is}
 use Rattle.evl_sched.specs.Calls as calls
 use Rattle.evl_sched.specs.Calls.{is_thread, stranger_refusal}
 use Rattle.evl_sched.specs.Ranks as ranks
-use Rattle.evl_sched.specs.Ranks.{Ranked, given_to, with_given}
+use Rattle.evl_sched.specs.Ranks.{Ranked, given_to}
 use Rattle.evl_sched.specs.Threads.{Sched, base_of, is_attached, refused_first}
 use Rattle.evl_sched.proofs.SeatLaws.{SamePolicies, attached-same, base-same, policies-charged, policies-stage_set}
 use Rattle.evl_base.specs.Limits.{thread_limit}

@@ -5,7 +5,7 @@ use Rattle.std.specs.Option.{option_map}
 use Rattle.evl_base.specs.declared.stage.Stage.{Stage}
 use Rattle.evl_base.specs.declared.stage.Stage.TheVariants.{Inband, Oob}
 use Rattle.evl_pipeline.specs.Counts.{one_more}
-use Rattle.evl_pipeline.specs.Lines.{Pipeline, Side, Installed, side, with_side, installed_at, has_callback, stalled, unstalled, requested, request_refusal, freed, free_refusal, played}
+use Rattle.evl_pipeline.specs.Lines.{Pipeline, Side, Installed, with_side, installed_at, requested, request_refusal, freed, free_refusal, played}
 use Rattle.evl_kernel.specs.state.Renamed.{named, renamed, renamed_side}
 use Rattle.evl_kernel.proofs.waiting.StandingLaws.{OnlyOld}
 

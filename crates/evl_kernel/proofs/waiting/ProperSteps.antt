@@ -15,7 +15,7 @@ use Rattle.evl_base.specs.declared.reply.Reply.{Reply}
 use Rattle.evl_base.specs.declared.stage.Stage.TheVariants.{Inband}
 use Rattle.evl_pipeline.proofs.PortLaws.{at-none}
 use Rattle.evl_clock.specs.Clocks as clocks
-use Rattle.evl_clock.specs.Clocks.{Clock, deadline_at, with_deadline}
+use Rattle.evl_clock.specs.Clocks.{deadline_at}
 use Rattle.evl_sched.specs.Calls.{attach_refusal, set_policy_refusal, stranger_refusal}
 use Rattle.evl_sched.specs.Threads as threads
 use Rattle.evl_sched.specs.Threads.{Sched, is_oob, is_ready, stage_of, stage_set, unready}

@@ -8,7 +8,7 @@ use Rattle.std.proofs.lemmas.Option.{none-some, same_Some}
 use Rattle.evl_base.proofs.Plain.{eqb-swap_false}
 use Rattle.evl_base.specs.Limits.{thread_limit}
 use Rattle.evl_base.specs.declared.refusal.Refusal.{Refusal}
-use Rattle.evl_base.specs.declared.refusal.Refusal.TheVariants.{Unknown, Deadlock}
+use Rattle.evl_base.specs.declared.refusal.Refusal.TheVariants.{Deadlock}
 use Rattle.evl_base.specs.declared.reply.Reply.{Reply}
 use Rattle.evl_base.specs.declared.reply.Reply.TheVariants.{Begun, TimedOut}
 use Rattle.evl_sched.specs.Calls.{stranger_refusal}

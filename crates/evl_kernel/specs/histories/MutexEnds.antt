@@ -1,11 +1,11 @@
 -- A wait for a mutex ends by getting it, or by its deadline.
-use Rattle.std.specs.Prelude.{◌≡◌, ◌⊎◌, ℕ, true, false, not, ◌||◌, Bool, Option, Some}
+use Rattle.std.specs.Prelude.{◌≡◌, ◌⊎◌, ℕ, true, not, ◌||◌, Bool, Option, Some}
 use Rattle.std.specs.Option.{option_map_or}
 use Rattle.evl_base.specs.Board.{board_fits}
 use Rattle.evl_base.specs.declared.numbers.MutexId.{MutexId}
 use Rattle.evl_kernel.specs.declared.waits.Awaited.TheVariants.{Mutex}
 use Rattle.evl_kernel.specs.declared.waits.Wait.{Wait}
-use Rattle.evl_kernel.specs.waiting.Waits.{has_ended, has_timed_out, is_timeout, wait_at}
+use Rattle.evl_kernel.specs.waiting.Waits.{has_ended, has_timed_out, is_timeout}
 use Rattle.evl_kernel.specs.waiting.Endings.{is_of_mutex}
 use Rattle.evl_kernel.specs.histories.Histories.{History, IsLegal}
 use Rattle.evl_kernel.specs.histories.MutexRests.{is_done}

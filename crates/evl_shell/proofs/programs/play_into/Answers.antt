@@ -1,6 +1,6 @@
-use Rattle.std.proofs.Common.{ℕ, List, map, is_some, sym, ap, ◌∙◌}
+use Rattle.std.proofs.Common.{map, is_some, sym, ap, ◌∙◌}
 use Rattle.clap.specs.Words.{fault_of, kind_of}
-use Rattle.evl_shell.specs.Words.{file_of, grammar, limit_of}
+use Rattle.evl_shell.specs.Arguments.{file_of, grammar, limit_of}
 use Rattle.evl_shell.proofs.ProgramLemmas.{played, plainly, some-mapped, turned}
 use Rattle.evl_shell.proofs.programs.play_into.Goals as goal
 

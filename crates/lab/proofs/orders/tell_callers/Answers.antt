@@ -12,7 +12,7 @@ returns-in-Ok g c =
     let most = c.args.asked.now.most in
     let callers = c.args.callers in
     let asks : AsksOf c.args.text.now callers c.in-Ok.ask = record { asked = c.in-Ok.ensures.asks; who = c.in-Ok.ensures.who } in
-    written_as _ (TellsAsked bank most name callers c.args.text.now) _ _ _ _ (TellsOutcomes bank most name (record callers { as_picked = c.in-Ok.ask.as_picked }) c.in-Ok.ask) c.go_through.result (λ output h. inl (c.in-Ok.ask, asks, h))
+    written_as _ (TellsAsked bank most name callers c.args.text.now) _ _ _ _ (TellsOutcomes bank most name c.set_to-set.result c.in-Ok.ask) c.go_through.result (λ output h. inl (c.in-Ok.ask, asks, c.set_to-set.result, c.set_to-set.ensures, h))
     c.go_through.ensures
 
 pub returns-in-Err : goal.returns-in-Err

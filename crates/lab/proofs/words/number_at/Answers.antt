@@ -1,5 +1,5 @@
 use Rattle.std.specs.Str.Parse.{ParsesUnsigned, ExplainsUnsignedError, HasUnsignedDigitsIfOk}
-use Rattle.evl_shell.proofs.WordLemmas.{reads_number}
+use Rattle.evl_shell.proofs.ArgumentLemmas.{reads_number}
 use Rattle.lab.proofs.words.number_at.Goals as goal
 
 pub returns : goal.returns

@@ -1,4 +1,4 @@
-use Rattle.std.proofs.Common.{◌∙◌, ◌++◌, ℕ, List, ap, length, string_bytes}
+use Rattle.std.proofs.Common.{◌∙◌, ◌++◌, List, ap, length, string_bytes}
 use Rattle.evl_base.specs.declared.entry.Entry.{Entry}
 use Rattle.evl_kernel.specs.state.KernelViews.{KernelView}
 use Rattle.evl_plans.specs.declared.planned.Planned.{Planned}

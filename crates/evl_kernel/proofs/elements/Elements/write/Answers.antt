@@ -1,7 +1,7 @@
 use Rattle.std.proofs.Common.{refl, ap, arith}
 use Rattle.std.proofs.lemmas.Option.{slice_get_read}
 use Rattle.evl_kernel.specs.calls.CrossBuffers as through
-use Rattle.evl_kernel.specs.calls.CrossBuffers.{bytes_told, cross_buffer}
+use Rattle.evl_kernel.specs.calls.CrossBuffers.{cross_buffer}
 use Rattle.evl_base.specs.declared.reply.Reply.TheVariants as reply
 use Rattle.evl_kernel.specs.calls.Effects.{replied}
 use Rattle.evl_kernel.proofs.calls.ElementSteps.{nth-same}

@@ -4,7 +4,6 @@ use Rattle.evl_kernel.proofs.state.BankLaws.{was_out, back, back_state, back_kee
 use Rattle.evl_kernel.proofs.state.TimerLaws.{timers_allowed-kept}
 use Rattle.evl_kernel.specs.state.RecordsInside.{records_view}
 use Rattle.evl_kernel.proofs.records.Records.free.Goals as goal
-use Rattle.evl_kernel.proofs.records.Records.free.Goals.{In_ok-numbered, After-put_back}
 
 pub put_back-requires : goal.put_back-requires
 put_back-requires g c =

@@ -1,6 +1,6 @@
 use Rattle.std.proofs.Common.{◌≡◌, map, refl, sym, ap, ◌∙◌}
-use Rattle.evl_kernel.specs.state.Callbacks.{is_home, handlers_in}
-use Rattle.evl_kernel.specs.state.Records.{banked, state_of}
+use Rattle.evl_kernel.specs.state.Callbacks.{is_home}
+use Rattle.evl_kernel.specs.state.Records.{state_of}
 use Rattle.evl_kernel.specs.state.RecordsInside.{records_view}
 use Rattle.evl_kernel.proofs.state.LikenessLaws.{banked-alike, homes-alike, state-alike}
 use Rattle.evl_kernel.proofs.records.Records.is_like.Goals as goal

@@ -1,4 +1,4 @@
-use Rattle.std.proofs.Common.{Bool, true, false, ◌||◌, ◌≡◌, List, refl, sym, ap, ◌∙◌}
+use Rattle.std.proofs.Common.{true, ◌||◌, ◌≡◌, List, sym, ap, ◌∙◌}
 use Rattle.std.proofs.lemmas.List.{at_drop_more}
 use Rattle.std.proofs.lemmas.Bool.{or_right}
 use Rattle.evl_sync.specs.FlagGroups.{pairs}

@@ -5,8 +5,8 @@ use Rattle.clap.specs.Simple.{app_of_fields}
 use Rattle.clap.specs.Words.{app_of, new_app, rule_of, signed_between, with_rule}
 use Rattle.clap.specs.declared.builder.value_parser.ValueParser.{ValueParser}
 use Rattle.clap.specs.declared.builder.value_parser.ValueParser.TheVariants.{Signed}
-use Rattle.evl_shell.specs.Words.{file_rule, limit_rule}
-use Rattle.evl_shell.proofs.words.command_line.Goals as goal
+use Rattle.evl_shell.specs.Arguments.{file_rule, limit_rule}
+use Rattle.evl_shell.proofs.arguments.command_line.Goals as goal
 
 -- the range of a `u32` within two bounds
 abbrev narrowed_to : ℤ → ℤ → ValueParser

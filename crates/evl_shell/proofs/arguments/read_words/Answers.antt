@@ -2,9 +2,9 @@ use Rattle.std.proofs.Common.{◌∙◌, ap, codes, option_and_then}
 use Rattle.std.specs.Str.Parse.{ParsesUnsigned, ExplainsUnsignedError, HasUnsignedDigitsIfOk}
 use Rattle.clap.specs.Words.{found_of, first_of, one_of}
 use Rattle.clap.proofs.WalkLemmas.{first_value-rows, one_text-rows}
-use Rattle.evl_shell.specs.Words.{named, number_of}
-use Rattle.evl_shell.proofs.WordLemmas.{reads_number}
-use Rattle.evl_shell.proofs.words.read_words.Goals as goal
+use Rattle.evl_shell.specs.Arguments.{named, number_of}
+use Rattle.evl_shell.proofs.ArgumentLemmas.{reads_number}
+use Rattle.evl_shell.proofs.arguments.read_words.Goals as goal
 
 pub returns-clause-file : goal.returns-clause-file
 returns-clause-file c =

@@ -1,7 +1,7 @@
 //! The words of steps that aren't calls of the kernel.
 
 ghost use Rattle.std.specs.Prelude.{◌≡◌, option_map};
-ghost use Rattle.lab_callers_text.specs.Words.{name_key, number_key, other_word, own_word, stand_in};
+ghost use Rattle.lab_callers_text.specs.StepWords.{name_key, number_key, other_word, own_word, stand_in};
 
 /// A word that names a step of a caller.
 #[derive(Clone, Copy, PartialEq, Eq, Debug)]

@@ -2,7 +2,7 @@
 ghost use Rattle.std.specs.Prelude.{◌≡◌, drop, map, option_map, string_bytes, IfOk};
 ghost use Rattle.evl_scenario.specs.Steps.{keys_of, word_of};
 ghost use Rattle.lab_faults.specs.Faults.{may_lack};
-ghost use Rattle.lab_faults.specs.Words.{board_keys, board_wanted_text, opening_keys, sample_text, wanted_text};
+ghost use Rattle.lab_faults.specs.Wants.{board_keys, board_wanted_text, opening_keys, sample_text, wanted_text};
 
 use evl_base::{Kind, MAX_THREADS, kind_named};
 use evl_scenario::step_keys_of;
@@ -13,7 +13,7 @@ const BOARD_KEYS: [&str; 6] = ["threads", "sems", "flags", "xbufs", "mutexes", "
 const OPENING_KEYS: [&str; 3] = ["limit", "board", "step"];
 
 /// The keys of a board.
-#[tactic(auto, unfolding(crate::specs::Words::board_keys))]
+#[tactic(auto, unfolding(crate::specs::Wants::board_keys))]
 pub fn board_keys() -> &'static [&'static str]
     ensures { map (λ key. key.now) result.now ≡ board_keys }
 {
@@ -21,7 +21,7 @@ pub fn board_keys() -> &'static [&'static str]
 }
 
 /// The keys beside the board.
-#[tactic(auto, unfolding(crate::specs::Words::opening_keys))]
+#[tactic(auto, unfolding(crate::specs::Wants::opening_keys))]
 pub fn opening_keys() -> &'static [&'static str]
     ensures { map (λ key. key.now) result.now ≡ opening_keys }
 {
@@ -86,7 +86,7 @@ pub fn sample(key: &str) -> &'static [u8]
 }
 
 /// What value is wanted at a key of a board, or at `limit`. `AllocError` where memory couldn't grow.
-#[tactic(auto, unfolding(crate::specs::Words::board_wanted_text))]
+#[tactic(auto, unfolding(crate::specs::Wants::board_wanted_text))]
 pub fn board_wanted(alloc: Global, key: &str) -> Result<String, AllocError>
     ensures { IfOk result (λ words. string_bytes words ≡ board_wanted_text key.now) }
 {

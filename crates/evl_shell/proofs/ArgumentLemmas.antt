@@ -1,12 +1,11 @@
 -- What the words of the program ask for.
 use Rattle.std.proofs.Common.{◌≡◌, ℕ, List, Bool, true, false, Option, Some, None, Ok, Err, Result, option_and_then, if◌then◌else◌, refl, sym, ap, ◌∙◌, arith}
 use Rattle.std.specs.Str.Parse.{ParsesUnsigned, digits_value, without_leading_plus}
-use Rattle.clap.specs.ValueTests.{accepts, is_unsigned_in}
-use Rattle.clap.specs.Words.{Text, ReadsOne, is_simple}
-use Rattle.clap.specs.Faults.{is_simple_and_free}
+use Rattle.clap.specs.ValueTests.{is_unsigned_in}
+use Rattle.clap.specs.Words.{Text, ReadsOne}
 use Rattle.clap.specs.declared.builder.value_parser.ValueParser.TheVariants.{Unsigned}
 use Rattle.clap.proofs.ValueTestLemmas.{accepts-Accepts, Accepts-accepts}
-use Rattle.evl_shell.specs.Words.{grammar, number_of}
+use Rattle.evl_shell.specs.Arguments.{number_of}
 
 chosen : (b : Bool) (n : ℕ) → b ≡ true → (if b then Some n else None) ≡ Some n
 chosen true n h = refl

@@ -1,7 +1,7 @@
 use Rattle.std.proofs.Common.{◌≡◌, ◌∙◌, List, drop, map, sym, ap, Option, Some}
 use Rattle.std.proofs.lemmas.List.{drop-map}
 use Rattle.std.specs.Option.{option_map}
-use Rattle.lab_faults.proofs.words.keys_of.Goals as goal
+use Rattle.lab_faults.proofs.wants.keys_of.Goals as goal
 
 behind : {A X : Type 0} (now : A → X) (own rest : List A) (keys : Option (List X)) → rest ≡ drop 2 own → Some (map now own) ≡ keys
     → Some (map now rest) ≡ option_map (drop 2) keys

@@ -1,8 +1,8 @@
 -- The words of steps that aren't calls of the kernel.
 use Rattle.std.specs.Prelude.{ℕ, List, codes, Option, Some, None, if◌then◌else◌}
 use Rattle.std.specs.Str.{bytes_eq}
-use Rattle.lab_callers_text.specs.declared.words.OwnWord.{OwnWord}
-use Rattle.lab_callers_text.specs.declared.words.OwnWord.TheVariants.{TryLockStax, UnlockStax, TryLockMutex, UnlockMutexFast, TryUnlockMutex, BeginLockMutex, FinishLockMutex, Take, Give}
+use Rattle.lab_callers_text.specs.declared.step_words.OwnWord.{OwnWord}
+use Rattle.lab_callers_text.specs.declared.step_words.OwnWord.TheVariants.{TryLockStax, UnlockStax, TryLockMutex, UnlockMutexFast, TryUnlockMutex, BeginLockMutex, FinishLockMutex, Take, Give}
 
 abbrev pub other_word : List ℕ → Option OwnWord
 other_word text =

@@ -1,7 +1,7 @@
 //! The words of the program: `[FILE] [--limit N]`.
 ghost use Rattle.std.specs.Prelude.{◌≡◌, IfOk, map, option_map};
 ghost use Rattle.clap.specs.Words.{FailsBy, app_of, fault_of, found_of, matches_of, rows_of};
-ghost use Rattle.evl_shell.specs.Words.{file_of, grammar, limit_of, named};
+ghost use Rattle.evl_shell.specs.Arguments.{file_of, grammar, limit_of, named};
 
 use clap::{Arg, ArgAction, ArgMatches, Command, Error, value_parser};
 use std::alloc::{AllocError, Global};

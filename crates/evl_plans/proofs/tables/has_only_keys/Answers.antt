@@ -1,6 +1,0 @@
-use Rattle.std.proofs.Common.{sym, ◌∙◌}
-use Rattle.evl_scenario.proofs.Keys.{has_only_entries}
-use Rattle.evl_plans.proofs.tables.has_only_keys.Goals as goal
-
-pub returns : goal.returns
-returns c = c.are_keys_among.ensures ∙ sym (has_only_entries c.args.known.now c.args.table.now.entries)
