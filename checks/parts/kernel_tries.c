@@ -305,11 +305,54 @@ static void try_refusals(void) {
   evlsim_close(NULL);
 }
 
+/* Counts and lengths far out of their ranges, a call of junk, a kernel that was moved, and one that is closed twice. */
+static void try_misuses(void) {
+  static uint32_t many[1000000];
+  static evlsim_plan plans[65];
+  evlsim_board board = {2, many, 1, NULL, 0, NULL, 0, NULL, 0, NULL, 0}, wide = board;
+  evlsim_kernel kernel, moved;
+  evlsim_call junk;
+  evlsim_event event;
+  uint8_t byte = 7;
+  size_t length = 0;
+  for (size_t it = 0; it < 65; it++) plans[it] = evlsim_program_bank[0];
+  wide.sem_count = 1000000;
+  require(evlsim_status_is(evlsim_open(&kernel, &wide, NULL, 0, 9), EVLSIM_BAD_BOARD), "a million semaphores");
+  wide.sem_count = SIZE_MAX;
+  require(evlsim_status_is(evlsim_open(&kernel, &wide, NULL, 0, 9), EVLSIM_BAD_BOARD), "all semaphores");
+  wide = board;
+  wide.threads = UINT16_MAX;
+  require(evlsim_status_is(evlsim_open(&kernel, &wide, NULL, 0, 9), EVLSIM_BAD_BOARD), "too many threads");
+  require(evlsim_status_is(evlsim_open(&kernel, &board, plans, 65, 9), EVLSIM_BAD_PLAN), "65 plans");
+  require(evlsim_status_is(evlsim_open(&kernel, &board, NULL, 8, 9), EVLSIM_NULL) && !kernel.is_open, "null plans");
+  require(evlsim_ok(evlsim_open(&kernel, &board, plans, 64, 9)), "64 plans");
+  memset(&junk, 0xff, sizeof junk);
+  require(evlsim_status_is(evlsim_why(evlsim_do(&kernel, 0, junk)), EVLSIM_BAD_NUMBER), "a call of junk");
+  junk = evlsim_call_write(0, EVLSIM_IN);
+  require(!evlsim_was_called(evlsim_do_bytes(&kernel, 0, junk, &byte, 257, NULL, 0)), "257 bytes");
+  require(!evlsim_was_called(evlsim_do_bytes(&kernel, 0, junk, &byte, SIZE_MAX, NULL, 0)), "all bytes");
+  require(evlsim_refused_as(evlsim_do(&kernel, 7, evlsim_call_put(0)), EVLSIM_REFUSAL_UNKNOWN), "thread 7 of 2");
+  require(evlsim_status_is(evlsim_event_at(&kernel, SIZE_MAX, &event), EVLSIM_BAD_NUMBER), "the last play of all");
+  require(evlsim_status_is(evlsim_event_at(&kernel, 0, NULL), EVLSIM_NULL), "a play and a null pointer");
+  require(evlsim_written(10, 4, 100) == 6 && evlsim_written(10, 4, 3) == 3 && evlsim_written(10, 11, 3) == 0,
+          "lengths");
+  moved = kernel;
+  memset(&kernel, 1, sizeof kernel);
+  require(evlsim_is_done(evlsim_do(&moved, 0, evlsim_call_put(0))) && evlsim_see_count(&moved, 0) == 1,
+          "a moved kernel");
+  evlsim_close(&moved);
+  evlsim_close(&moved);
+  require(!evlsim_was_called(evlsim_do(&moved, 0, evlsim_call_put(0))), "a closed kernel");
+  require(evlsim_status_is(evlsim_trace(&moved, 0, NULL, 0, &length), EVLSIM_NULL) && length == 0, "its trace");
+  require(evlsim_see_count(&moved, 0) == INT64_MIN && evlsim_see_now(&moved) == 0, "its count");
+}
+
 int main(int count, char **words) {
   require(count >= 2, "kernel_tries FOLDER [SEEDS [CALLS]]");
   uint32_t seeds = count > 2 ? (uint32_t)strtoul(words[2], NULL, 10) : 100;
   uint32_t calls = count > 3 ? (uint32_t)strtoul(words[3], NULL, 10) : 1000;
   try_refusals();
+  try_misuses();
   try_bare();
   for (uint32_t seed = 0; seed < seeds; seed++) try_seed(seed, calls, words[1]);
   printf("%" PRIu32 " kernels of %" PRIu32 " calls\n", seeds, calls);
