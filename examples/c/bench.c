@@ -1,5 +1,5 @@
 /* A bench in C: three threads, a chain of two mutexes, and which ranks the threads have by it. */
-#include <evl.h>
+#include <evlsim.h>
 #include <stdarg.h>
 #include <stdio.h>
 #include <stdlib.h>
@@ -18,12 +18,12 @@ static const char *step(const char *keys, ...) {
   vsnprintf(scenario + length, sizeof scenario - length, keys, values);
   va_end(values);
 
-  evl_played played;
+  evlsim_played played;
   memset(told, 0, sizeof told);
-  uint32_t answer = evl_play((const uint8_t *)scenario, strlen(scenario), 0, told_before, (uint8_t *)told,
-                             sizeof told - 1, &played);
-  if (answer != EVL_DONE) {
-    fprintf(stderr, "answer %u at step %u\n", (unsigned)answer, (unsigned)played.step);
+  evlsim_status answer = evlsim_play((const uint8_t *)scenario, strlen(scenario), 0, told_before, (uint8_t *)told,
+                                     sizeof told - 1, &played);
+  if (!evlsim_ok(answer)) {
+    fprintf(stderr, "%s at step %u\n", evlsim_status_text(answer), (unsigned)played.step);
     exit(EXIT_FAILURE);
   }
   told_before = played.length;

@@ -1,14 +1,13 @@
 """Plays scenarios from Python: PYTHONPATH=embed/python pytest examples, or the same with python3
-examples/python/test_play.py; a copy elsewhere plays those
-that are installed beside the module."""
+examples/python/test_play.py; a copy elsewhere plays those that are installed beside the module."""
 import glob
 import os
 
-import evl
+import evlsim
 
 EXAMPLES = os.path.dirname(os.path.dirname(os.path.abspath(__file__)))
 if not os.path.isdir(f"{EXAMPLES}/scenarios"):
-    EXAMPLES = os.path.join(os.path.dirname(os.path.abspath(evl.__file__)), "../../../share/doc/evl-simulated/examples")
+    EXAMPLES = os.path.join(os.path.dirname(os.path.abspath(evlsim.__file__)), "../../../../share/doc/evlsim/examples")
 BOARD = "[board]\nthreads = 1\nsems = [0]\n"
 PUT = '[[step]]\ndo = "put"\nwho = 0\nsem = 0\n'
 
@@ -22,54 +21,56 @@ def test_each_stored_trace():
     traces = glob.glob(f"{EXAMPLES}/scenarios/**/*.trace", recursive=True)
     assert traces
     for trace in traces:
-        assert evl.play(text_of(trace[:-6] + ".toml")) == text_of(trace), trace
+        assert evlsim.play(text_of(trace[:-6] + ".toml")) == text_of(trace), trace
 
 
 def test_step_at_fault():
     try:
-        evl.play(BOARD + PUT + '[[step]]\ndo = "push"\nwho = 0\n')
-    except evl.BadStep as refused:
+        evlsim.play(BOARD + PUT + '[[step]]\ndo = "push"\nwho = 0\n')
+    except evlsim.BadStep as refused:
         assert refused.step == 2
     else:
         raise AssertionError("a step that can't be read was played")
 
 
 def test_limit():
-    assert evl.play(BOARD + PUT + PUT, limit=1).endswith("- T0 put sem=0 -> HistoryFull\n")
+    assert evlsim.play(BOARD + PUT + PUT, limit=1).endswith("- T0 put sem=0 -> HistoryFull\n")
 
 
 def test_ranks_along_a_chain():
-    kernel = evl.Kernel(threads=4, mutexes=["normal", "normal"])
+    kernel = evlsim.Kernel(threads=4, mutexes=["normal", "normal"])
     for who, prio in ((1, 8), (2, 28), (3, 78)):
         assert kernel.attach(who, policy=f"fifo {prio}", stage="oob").text == "done"
     assert kernel.claim(2, mutex=0, owner=1).text == "begun"
     assert kernel.claim(3, mutex=1, owner=2, until=100).text == "begun"
     assert kernel.rank_of(0, thread=1).text == "number 590"
-    assert kernel.tick(0, delta=100) == ("done", ["clock", "deadline T3"])
+    ticked = kernel.tick(0, delta=100)
+    assert ticked == "done" and ticked.plays == (evlsim.Clock(), evlsim.Deadline(3))
     assert kernel.rank_of(0, thread=1).text == "number 540"
     assert kernel.put(0, sem=0).refusal == "Unknown"
-    assert evl.play(kernel.scenario()) == kernel.trace()
+    assert evlsim.play(kernel.scenario()) == kernel.trace()
     assert kernel.see_rank(2) == 540 and kernel.see_rank(0) is None
     assert kernel.see_owner(0) == 1 and kernel.see_waiter("mutex", 0) == 2
     assert kernel.finish(3).text == "timed out" and kernel.see_picked() == 3
 
 
 def test_callbacks():
-    bank = [evl.Plan(1, (3, "post_sem", 1), (1, "post_flags", 0, 6))]
-    kernel = evl.Kernel(threads=1, sems=[0, 0], flags=[0], bank=bank)
+    bank = [evlsim.Plan(1, (3, "post_sem", 1), (1, "post_flags", 0, 6))]
+    kernel = evlsim.Kernel(threads=1, sems=[0, 0], flags=[0], bank=bank)
     assert kernel.request(0, line=9, stage="oob", callback=0).text == "done"
     for count in range(1, 8):
-        assert kernel.arrive(0, line=9).plays == [f"line 9 oob count {count} handled"]
+        played = kernel.arrive(0, line=9).plays
+        assert played == (evlsim.Line(9, "oob", count, True),) and str(played[0]) == f"line 9 oob count {count} handled"
     assert kernel.peek(0, sem=1).text == "count 2"
     assert kernel.peek_flags(0, flags=0).text == "bits 6"
 
 
 def test_refusals():
-    kernel = evl.Kernel(threads=1, sems=[0])
+    kernel = evlsim.Kernel(threads=1, sems=[0])
     for wrong in ({"sem": 65536}, {"sem": -1}, {"mutex": 0}, {}):
         try:
             kernel.put(0, **wrong)
-        except evl.BadStep:
+        except (evlsim.BadStep, TypeError):
             continue
         raise AssertionError(wrong)
     assert kernel.see_count(0) == 0 and kernel.see_count(1) is None
@@ -82,25 +83,53 @@ def test_refusals():
         raise AssertionError("a closed kernel was called")
     for board in ({"threads": 0}, {"threads": 1, "sems": [1 << 31]}, {"threads": 1, "limit": 0}, {"threads": 1, "mutexes": ["weak"]}):
         try:
-            evl.Kernel(**board)
-        except evl.BadBoard:
+            evlsim.Kernel(**board)
+        except evlsim.BadBoard:
             continue
         raise AssertionError(board)
 
 
 def test_words():
-    assert list(evl.WORDS)[:6] == ["request", "free", "arrive", "post", "stall", "unstall"]
-    assert evl.WORDS["claim"] == (32, ["mutex", "owner", "until"]) and evl.WORDS["now"] == (7, [])
+    assert list(evlsim.WORDS)[:6] == ["request", "free", "arrive", "post", "stall", "unstall"]
+    assert evlsim.WORDS["claim"] == (32, ("mutex", "owner", "until")) and evlsim.WORDS["now"] == (7, ())
 
 
 def test_all_values():
-    kernel = evl.Kernel(threads=2, xbufs=[(16, 16)], limit=9)
-    assert kernel.attach(0, policy="fifo 1", stage="oob").text == "done"
+    kernel = evlsim.Kernel(threads=2, xbufs=[(16, 16)], limit=9)
+    assert kernel.attach(0, policy="fifo 1", stage="oob")
     assert kernel.write(1, xbuf=0, way="in", bytes=b"\x00\xff").text == "done"
     assert kernel.read(0, xbuf=0, way="in", len=8).text == "bytes 00ff"
     assert kernel.finish(0, keep=True).refusal == "Invalid"
     assert kernel.tick(0, delta=2**64 - 1).text == "done"
-    assert kernel.now(1).text == f"number {2**64 - 1}"
+    assert kernel.now(1).value == 2**64 - 1
+
+
+def test_answers_as_values():
+    kernel = evlsim.Kernel(threads=2, sems=[0], mutexes=["ceiling 20"])
+    assert not kernel.try_get(0, sem=0) and kernel.try_get(0, sem=0).refusal == "Again"
+    assert kernel.put(0, sem=0) and kernel.peek(0, sem=0).value == 1
+    assert kernel.attach(1, policy="fifo 10", stage="oob") and kernel.pick(0).value == 1
+    assert kernel.raise_(1, mutex=0) and kernel.release(1, mutex=0).value == evlsim.Next(None, False)
+    strict = evlsim.Kernel(threads=1, sems=[0], strict=True)
+    try:
+        strict.try_get(0, sem=0)
+    except evlsim.CallRefused as refused:
+        assert refused.answer == "Again" and "T0 try_get sem=0 -> Again" in refused.trace
+    else:
+        raise AssertionError("a strict kernel answered a refusal")
+
+
+def test_history_and_copy():
+    kernel = evlsim.Kernel(threads=2, sems=[0], xbufs=[(8, 8)])
+    kernel.request(0, line=5, stage="oob", callback=1)
+    kernel.arrive(0, line=5)
+    kernel.write(0, xbuf=0, way="in", bytes=b"ab")
+    words = [(entry.word, entry.keys, entry.plays) for entry in kernel]
+    assert words[1] == ("arrive", {"line": 5}, ("line 5 oob count 1 handled",))
+    assert words[2][1]["bytes"] == b"ab" and len(kernel) == 3
+    other = kernel.copy()
+    assert other.trace() == kernel.trace() and other.put(0, sem=0) and other.see_count(0) == 2
+    assert kernel.see_count(0) == 1 and "T0 arrive line=5 -> done" in repr(kernel)
 
 
 if __name__ == "__main__":

@@ -10,11 +10,11 @@ use Rattle.evl_c.specs.declared.calls.CallForm.{CallForm}
 abbrev pub is_among : List ℕ → ℕ → Bool
 is_among statuses status = list_any (λ s. s == status) statuses
 
--- of `evl_c_open`: done, bad board, no memory, bad plan
+-- of `evlsim_c_open`: done, bad board, no memory, bad plan
 abbrev pub of_open : List ℕ
 of_open = 0 ∷ 2 ∷ 4 ∷ 5 ∷ []
 
--- of `evl_c_apply`: done, no memory, no kernel, bad number
+-- of `evlsim_c_apply`: done, no memory, no kernel, bad number
 abbrev pub of_apply : List ℕ
 of_apply = 0 ∷ 4 ∷ 6 ∷ 7 ∷ []
 
@@ -22,15 +22,15 @@ of_apply = 0 ∷ 4 ∷ 6 ∷ 7 ∷ []
 abbrev pub of_look : List ℕ
 of_look = 0 ∷ 6 ∷ 7 ∷ []
 
--- of `evl_c_trace`: done, no memory, no kernel
+-- of `evlsim_c_trace`: done, no memory, no kernel
 abbrev pub of_trace : List ℕ
 of_trace = 0 ∷ 4 ∷ 6 ∷ []
 
--- of `evl_c_scenario`: done, bad board or limit, no memory, no kernel, too long
+-- of `evlsim_c_scenario`: done, bad board or limit, no memory, no kernel, too long
 abbrev pub of_scenario : List ℕ
 of_scenario = 0 ∷ 2 ∷ 4 ∷ 6 ∷ 8 ∷ []
 
--- of `evl_c_call_text` and `evl_c_refusal_text`: done, bad number
+-- of `evlsim_c_call_text` and `evlsim_c_refusal_text`: done, bad number
 abbrev pub of_numbered_text : List ℕ
 of_numbered_text = 0 ∷ 7 ∷ []
 

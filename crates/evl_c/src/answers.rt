@@ -6,7 +6,7 @@ ghost use Rattle.evl_c.specs.Windows.{window};
 use crate::windows::put_window;
 use evl_base::{Play, Refusal, Reply, Stage, ThreadId};
 
-/// What a call answered (include/evl.h: `evl_answer`).
+/// What a call answered (embed/include/evlsim/abi.h: `evlsim_answer`).
 #[repr(C)]
 #[derive(Clone, Copy)]
 pub struct AnswerForm {
@@ -28,7 +28,7 @@ pub struct AnswerForm {
     pub plays: usize,
 }
 
-/// A play (include/evl.h: `evl_event`).
+/// A play (embed/include/evlsim/abi.h: `evlsim_event`).
 #[repr(C)]
 #[derive(Clone, Copy)]
 pub struct PlayForm {

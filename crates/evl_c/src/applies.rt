@@ -31,7 +31,7 @@ fn make_call(kernel: &mut Held, caller: u16, call: Call, out: &mut [u8], form: &
 /// 0: the call is answered, or refused, as `answer` tells. 4: no memory for the bytes of a write. 6: no kernel is
 /// there. 7: a number of the call is out of its range, or there are more than 256 bytes. But for 0 nothing is done.
 #[unsafe(no_mangle)]
-pub extern "C" fn evl_c_apply(
+pub extern "C" fn evlsim_c_apply(
     alloc: Global,
     kernel: &mut KernelHandle,
     caller: u16,
@@ -62,12 +62,12 @@ pub extern "C" fn evl_c_apply(
     0
 }
 
-/// Makes a call of a thread that has an element and nothing else, as `evl_c_apply` does, in fewer steps.
+/// Makes a call of a thread that has an element and nothing else, as `evlsim_c_apply` does, in fewer steps.
 ///
 /// 0: the call is answered, or refused, as `answer` tells. 6: no kernel is there. 7: calls of this kind have more. But
 /// for 0 nothing is done, and `answer` says so.
 #[unsafe(no_mangle)]
-pub extern "C" fn evl_c_apply_bare(
+pub extern "C" fn evlsim_c_apply_bare(
     alloc: Global,
     kernel: &mut KernelHandle,
     caller: u16,
@@ -108,7 +108,7 @@ fn event_at(kernel: &Held, index: usize) -> Option<PlayForm>
 ///
 /// 0: done. 6: no kernel is there. 7: there is no such play. But for 0 nothing is written.
 #[unsafe(no_mangle)]
-pub extern "C" fn evl_c_event(
+pub extern "C" fn evlsim_c_event(
     alloc: Global,
     kernel: &mut KernelHandle,
     index: usize,

@@ -12,7 +12,7 @@ use std::alloc::Global;
 ///
 /// 0: done. 6: no kernel is there. 7: a number of the question is out of its range. But for 0 nothing is written.
 #[unsafe(no_mangle)]
-pub extern "C" fn evl_c_ask(
+pub extern "C" fn evlsim_c_ask(
     alloc: Global,
     kernel: &mut KernelHandle,
     question: &QuestionForm,

@@ -6,7 +6,7 @@ ghost use Rattle.evl_c.specs.Boards.{board_of, has_kind, is_board, kind_of, ring
 use arrayvec::ArrayVec;
 use evl_base::{Board, MutexKind};
 
-/// The rings of a cross-buffer (include/evl.h: `evl_rings`).
+/// The rings of a cross-buffer (embed/include/evlsim/abi.h: `evlsim_rings`).
 #[repr(C)]
 #[derive(Clone, Copy)]
 pub struct RingsForm {
@@ -16,7 +16,7 @@ pub struct RingsForm {
     pub out_size: u16,
 }
 
-/// A mutex (include/evl.h: `evl_mutex`).
+/// A mutex (embed/include/evlsim/abi.h: `evlsim_mutex`).
 #[repr(C)]
 #[derive(Clone, Copy)]
 pub struct MutexForm {
@@ -26,7 +26,7 @@ pub struct MutexForm {
     pub ceiling: u8,
 }
 
-/// A board (include/evl.h: `evl_board`).
+/// A board (embed/include/evlsim/abi.h: `evlsim_board`).
 #[repr(C)]
 #[derive(Clone, Copy)]
 pub struct BoardForm<'a> {

@@ -10,7 +10,8 @@ use evl_base::{
 };
 use std::alloc::Global;
 
-/// A call (include/evl.h: `evl_call`). Numbers that its kind doesn't use aren't looked at, but are in their ranges.
+/// A call (embed/include/evlsim/abi.h: `evlsim_call`). Numbers that its kind doesn't use aren't looked at, but are in
+/// their ranges.
 #[repr(C)]
 #[derive(Clone, Copy)]
 pub struct CallForm {

@@ -11,7 +11,7 @@ use evl_pipeline::{Action, Plan};
 use evl_plans::{Planned, kind_of};
 use std::alloc::{AllocError, Global};
 
-/// A row of a plan (include/evl.h: `evl_row`).
+/// A row of a plan (embed/include/evlsim/abi.h: `evlsim_row`).
 #[repr(C)]
 #[derive(Clone, Copy)]
 pub struct RowForm {
@@ -25,7 +25,7 @@ pub struct RowForm {
     pub bits: u32,
 }
 
-/// A plan (include/evl.h: `evl_plan`).
+/// A plan (embed/include/evlsim/abi.h: `evlsim_plan`).
 #[repr(C)]
 #[derive(Clone, Copy)]
 pub struct PlanForm {

@@ -7,7 +7,7 @@ use crate::slots::Slot;
 use std::alloc::Global;
 use std::mem;
 
-/// A kernel, or none (include/evl.h: `evl_kernel`).
+/// A kernel, or none (embed/include/evlsim/abi.h: `evlsim_kernel`).
 #[repr(C)]
 #[derive(Drop)]
 pub struct KernelHandle {

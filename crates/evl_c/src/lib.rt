@@ -1,5 +1,5 @@
-//! The simulator as a library for C. What each export takes, answers and refuses stands in include/evl.h too.
-//! What names no source is this profile's own.
+//! The simulator as a library for C. What each export takes, answers and refuses is in embed/include/evlsim too. What
+//! names no source is this profile's own.
 #![tactic(auto)]
 
 mod answers;
@@ -21,13 +21,13 @@ mod texts;
 mod windows;
 
 pub use answers::{AnswerForm, PlayForm};
-pub use applies::{evl_c_apply, evl_c_apply_bare, evl_c_event};
-pub use asks::evl_c_ask;
+pub use applies::{evlsim_c_apply, evlsim_c_apply_bare, evlsim_c_event};
+pub use asks::evlsim_c_ask;
 pub use boards::{BoardForm, MutexForm, RingsForm};
 pub use calls::CallForm;
 pub use forms::{PlanForm, RowForm};
 pub use handles::KernelHandle;
-pub use opens::{evl_c_close, evl_c_open};
-pub use plays::{Played, evl_c_play, evl_c_play_over};
+pub use opens::{evlsim_c_close, evlsim_c_open};
+pub use plays::{Played, evlsim_c_play, evlsim_c_play_over};
 pub use readings::{QuestionForm, ReadingForm};
-pub use texts::{evl_c_call_text, evl_c_scenario, evl_c_trace};
+pub use texts::{evlsim_c_call_text, evlsim_c_scenario, evlsim_c_trace};

@@ -63,7 +63,7 @@ fn open_over(
 /// 0: done. 2: bad board or limit. 4: no memory. 5: a plan is none, or there are more than 64. But for 0 no kernel is
 /// there then.
 #[unsafe(no_mangle)]
-pub extern "C" fn evl_c_open(
+pub extern "C" fn evlsim_c_open(
     alloc: Global,
     board: &BoardForm<'_>,
     plans: &[PlanForm],
@@ -86,7 +86,7 @@ pub extern "C" fn evl_c_open(
 
 /// Frees a kernel, if one is there.
 #[unsafe(no_mangle)]
-pub extern "C" fn evl_c_close(alloc: Global, kernel: &mut KernelHandle)
+pub extern "C" fn evlsim_c_close(alloc: Global, kernel: &mut KernelHandle)
     ensures { held kernel.new ≡ None }
 {
     drop(kernel.take(alloc));

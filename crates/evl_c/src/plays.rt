@@ -14,7 +14,7 @@ use evl_plans::trace_plans;
 use evl_shell::Fault;
 use std::alloc::Global;
 
-/// What a play told (include/evl.h: `evl_played`).
+/// What a play told (embed/include/evlsim/abi.h: `evlsim_played`).
 #[repr(C)]
 #[derive(Clone, Copy)]
 pub struct Played {
@@ -108,7 +108,7 @@ fn play_over(
 ///
 /// 0: done. 1: bad text. 2: bad board. 3: bad step. 4: no memory. But for 0 the buffer is as before.
 #[unsafe(no_mangle)]
-pub extern "C" fn evl_c_play(
+pub extern "C" fn evlsim_c_play(
     alloc: Global,
     text: &[u8],
     limit: u32,
@@ -124,7 +124,7 @@ pub extern "C" fn evl_c_play(
 /// The same over callbacks with these plans, at most 64. 5: a number of a plan is out of its range, it declares fewer
 /// kinds than it has, or there are more than 64; then nothing is played, and the buffer is as before.
 #[unsafe(no_mangle)]
-pub extern "C" fn evl_c_play_over(
+pub extern "C" fn evlsim_c_play_over(
     alloc: Global,
     plans: &[PlanForm],
     text: &[u8],

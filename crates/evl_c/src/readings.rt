@@ -8,7 +8,8 @@ use evl_kernel::{Awaited, KernelOf};
 use evl_plans::Planned;
 use std::alloc::Global;
 
-/// A question (include/evl.h: `evl_question`). Numbers that its kind doesn't use are in their ranges all the same.
+/// A question (embed/include/evlsim/abi.h: `evlsim_question`). Numbers that its kind doesn't use are in their ranges all
+/// the same.
 #[repr(C)]
 #[derive(Clone, Copy)]
 pub struct QuestionForm {
@@ -26,7 +27,7 @@ pub struct QuestionForm {
     pub place: usize,
 }
 
-/// What is told (include/evl.h: `evl_reading`).
+/// What is told (embed/include/evlsim/abi.h: `evlsim_reading`).
 #[repr(C)]
 #[derive(Clone, Copy)]
 pub struct ReadingForm {

@@ -43,7 +43,7 @@ fn tell_text(text: &str, start: usize, out: &mut [u8], length: &mut usize)
 ///
 /// 0: done, and `length` is the whole trace's. 4: no memory. 6: no kernel is there. But for 0 nothing is written.
 #[unsafe(no_mangle)]
-pub extern "C" fn evl_c_trace(
+pub extern "C" fn evlsim_c_trace(
     alloc: Global,
     kernel: &mut KernelHandle,
     start: usize,
@@ -90,7 +90,7 @@ fn status_of(fault: Unwritten) -> u32
 /// 0: done, and `length` is the whole text's. 4: no memory. 6: no kernel is there. 8: it would be longer than a
 /// scenario may be. But for 0 nothing is written.
 #[unsafe(no_mangle)]
-pub extern "C" fn evl_c_scenario(
+pub extern "C" fn evlsim_c_scenario(
     alloc: Global,
     kernel: &mut KernelHandle,
     start: usize,
@@ -130,7 +130,12 @@ fn text_of(word: StepWord) -> &'static str
 ///
 /// 0: done, and `length` is the whole text's. 7: no call has this kind. But for 0 nothing is written.
 #[unsafe(no_mangle)]
-pub extern "C" fn evl_c_call_text(kind: u8, start: usize, out: &mut [u8], length: &mut usize) -> u32
+pub extern "C" fn evlsim_c_call_text(
+    kind: u8,
+    start: usize,
+    out: &mut [u8],
+    length: &mut usize,
+) -> u32
     ensures told { result ≡ 0 → IsSomeAnd (slice_get words kind) (λ word. TellsText (texts.text_of word) start out.old out.new length.new) }
     ensures numbers { (result ≡ 7) ↔ (slice_get words kind ≡ None) }
     ensures statuses { is_among of_numbered_text result ≡ true }
@@ -148,7 +153,7 @@ pub extern "C" fn evl_c_call_text(kind: u8, start: usize, out: &mut [u8], length
 ///
 /// 0: done, and `length` is the whole name's. 7: no refusal has this number. But for 0 nothing is written.
 #[unsafe(no_mangle)]
-pub extern "C" fn evl_c_refusal_text(
+pub extern "C" fn evlsim_c_refusal_text(
     number: u16,
     start: usize,
     out: &mut [u8],

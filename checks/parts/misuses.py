@@ -1,0 +1,218 @@
+"""Misuses of the module evlsim: each raises an error that says what was given and what is wanted, and none changes the
+kernel. Run by checks/embed."""
+import copy
+import pathlib
+import pickle
+import sys
+import threading
+
+import evlsim
+
+BOARD = {"threads": 2, "sems": [0], "xbufs": [(16, 16)], "flags": [0], "mutexes": ["normal"]}
+STEP, BAD, PLAN, ASK = evlsim.BadStep, evlsim.BadBoard, evlsim.BadPlan, evlsim.BadQuestion
+
+
+def board(**other):
+    return evlsim.Kernel(**{**BOARD, **other})
+
+
+KERNEL = board()
+K = KERNEL
+# what is written, the error, and what it says
+CALLS = [
+    (lambda: K.put(0, semm=0), STEP, 'put has no key "semm"; did you mean "sem"? (its keys: sem)'),
+    (lambda: K.put(0), STEP, 'put needs the key "sem"'),
+    (lambda: K.put(0, 0), TypeError, "positional"),
+    (lambda: K.put(0, sem=0, until=3), STEP, 'put has no key "until"'),
+    (lambda: K.put(0, sem="0"), TypeError, "put: sem is '0': a whole number from 0 to 65535"),
+    (lambda: K.put(0, sem=0.9), TypeError, "sem is 0.9"),
+    (lambda: K.put(0, sem=True), TypeError, "sem is True"),
+    (lambda: K.put(0, sem=None), TypeError, "sem is None"),
+    (lambda: K.put(0, sem=1 << 16), STEP, "sem is 65536"),
+    (lambda: K.put(0, sem=-1), STEP, "sem is -1"),
+    (lambda: K.put("T1", sem=0), STEP, "who is 'T1'"),
+    (lambda: K.put(-1, sem=0), STEP, "who is -1"),
+    (lambda: K.put(1.5, sem=0), STEP, "who is 1.5"),
+    (lambda: K.put(True, sem=0), STEP, "who is True"),
+    (lambda: K.now(-1), STEP, "who is -1"),
+    (lambda: K.call("pust", 0, sem=0), STEP, "no step word 'pust'; did you mean \"put\"?"),
+    (lambda: K.call("put", 0), STEP, 'needs the key "sem"'),
+    (lambda: K.pust(0, sem=0), AttributeError, "no 'pust'; did you mean \"put\"?"),
+    (lambda: K.claim(0, mutex=0), STEP, 'claim needs the key "owner" (its keys: mutex, owner, until)'),
+    (lambda: K.request(0, line=5, stage="oob"), STEP, 'needs the key "callback"'),
+    (lambda: K.request(0, line=5, stage="oob", callback=300), STEP, "callback is 300"),
+    (lambda: K.attach(1, policy="fifo 10", stage="OOB"), STEP, "stage is 'OOB': one of 'inband', 'oob'"),
+    (lambda: K.attach(1, policy="fifo 10", stage=1), TypeError, "stage is 1: one of 'inband', 'oob'"),
+    (lambda: K.attach(1, policy=("fifo", 10), stage="oob"), TypeError, "policy is ('fifo', 10): 'fifo P'"),
+    (lambda: K.attach(1, policy="fifo", stage="oob"), STEP, "policy is 'fifo'"),
+    (lambda: K.attach(1, policy="fif 10", stage="oob"), STEP, 'did you mean "fifo"?'),
+    (lambda: K.attach(1, policy="fifo 300", stage="oob"), STEP, "is 300: a whole number from 0 to 255"),
+    (lambda: K.attach(1, policy="  fifo   10 ", stage="oob"), STEP, "policy is '  fifo   10 '"),
+    (lambda: K.set_policy(1, policy="fifo 0x10"), STEP, "policy is 'fifo 0x10'"),
+    (lambda: K.set_policy(1, policy="fifo 1_0"), STEP, "policy is 'fifo 1_0'"),
+    (lambda: K.set_policy(1, policy="fifo \u0661"), STEP, "policy is"),
+    (lambda: K.try_take(0, flags=0, kind="of"), STEP, "kind is 'of': 'any', 'of MASK' or 'exact MASK'"),
+    (lambda: K.try_take(0, flags=0, kind="of -1"), STEP, "kind is 'of -1'"),
+    (lambda: K.try_take(0, flags=0, kind=3), TypeError, "kind is 3"),
+    (lambda: K.post_flags(0, flags=0, bits=1 << 32), STEP, "bits is 4294967296"),
+    (lambda: K.write(0, xbuf=0, way="in", bytes="hello"), STEP, "bytes is 'hello'"),
+    (lambda: K.write(0, xbuf=0, way="in", bytes=5), TypeError, "bytes is 5"),
+    (lambda: K.write(0, xbuf=0, way="in", bytes=None), TypeError, "bytes is None"),
+    (lambda: K.write(0, xbuf=0, way="in", bytes=[256]), STEP, "bytes is [256]"),
+    (lambda: K.write(0, xbuf=0, way="in", bytes=b"x" * 257), STEP, "257 bytes"),
+    (lambda: K.write(0, xbuf=0, way="in"), STEP, 'needs the key "bytes"'),
+    (lambda: K.write(0, xbuf=0, way="up", bytes=b""), STEP, "way is 'up': one of 'in', 'out'"),
+    (lambda: K.read(1, xbuf=0, way="in", len=99999), STEP, "len is 99999"),
+    (lambda: K.read(1, xbuf=0, way="in", len=-1), STEP, "len is -1"),
+    (lambda: K.begin_get(1, sem=0, until=-5), STEP, "until is -5"),
+    (lambda: K.begin_get(1, sem=0, until=1e3), TypeError, "until is 1000.0"),
+    (lambda: K.finish(1, keep="false"), TypeError, "keep is 'false': True or False"),
+    (lambda: K.finish(1, keep=1), TypeError, "keep is 1: True or False"),
+    (lambda: K.tick(0, delta=-1), STEP, "delta is -1"),
+    (lambda: K.tick(0, delta=1 << 64), STEP, "delta is 18446744073709551616"),
+    (lambda: K.see_count(-1), ASK, "see_count: sem is -1"),
+    (lambda: K.see_count(1 << 16), ASK, "sem is 65536"),
+    (lambda: K.see_count("x"), TypeError, "sem is 'x'"),
+    (lambda: K.see_count(True), TypeError, "sem is True"),
+    (lambda: K.see_rank(), TypeError, "thread"),
+    (lambda: K.see_now(3), TypeError, "positional"),
+    (lambda: K.see_stored(0, "xx"), ASK, "way is 'xx': one of 'in', 'out'"),
+    (lambda: K.see_waiter("semaphore", 0), ASK, "on is 'semaphore': one of 'sem', 'flags'"),
+    (lambda: K.see_waiter("sem", 0, place=-1), ASK, "place is -1"),
+    (lambda: K.see_pending(5, "oob"), TypeError, "stage is 5"),
+    (lambda: K.trace(-1), ASK, "start is -1"),
+    (lambda: pickle.dumps(K), TypeError, "isn't pickled"),
+    (lambda: setattr(K.now(0), "kind", "done"), AttributeError, ""),
+]
+BOARDS = [
+    (lambda: board(threads=0), BAD, "threads is 0: a whole number from 1 to 256"),
+    (lambda: board(threads=257), BAD, "threads is 257"),
+    (lambda: board(threads="2"), TypeError, "threads is '2'"),
+    (lambda: board(threads=2.5), TypeError, "threads is 2.5"),
+    (lambda: board(sems=1), TypeError, "sems is 1: a list"),
+    (lambda: board(sems="0"), TypeError, "sems is '0': a list"),
+    (lambda: board(sems=[-1]), BAD, "sems[0] is -1"),
+    (lambda: board(sems=[0, 2**31]), BAD, "sems[1] is 2147483648"),
+    (lambda: board(sems=[1.5]), TypeError, "sems[0] is 1.5"),
+    (lambda: board(sems=[0] * 65), BAD, "sems has 65 items: 64"),
+    (lambda: board(flags=[2**32]), BAD, "flags[0] is 4294967296"),
+    (lambda: board(xbufs=[16, 16]), TypeError, "xbufs[0] is 16"),
+    (lambda: board(xbufs=[(70000, 16)]), BAD, "is 70000: a whole number from 1 to 256"),
+    (lambda: board(xbufs=[(65537, 16)]), BAD, "is 65537"),
+    (lambda: board(xbufs=[(16,)]), BAD, "xbufs[0] is (16,): two ring sizes"),
+    (lambda: board(xbufs=[(16, 16, 16)]), BAD, "two ring sizes"),
+    (lambda: board(mutexes=["Normal"]), BAD, 'did you mean "normal"?'),
+    (lambda: board(mutexes=["ceiling 300"]), BAD, "mutexes[0] is 'ceiling 300'"),
+    (lambda: board(mutexes=["ceiling 266"]), BAD, "'ceiling P' with P from 1 to 99"),
+    (lambda: board(mutexes=["ceiling -206"]), BAD, "'ceiling -206'"),
+    (lambda: board(mutexes=["normal 5"]), BAD, "'normal 5'"),
+    (lambda: board(mutexes=["ceiling 0"]), BAD, "'ceiling 0'"),
+    (lambda: board(mutexes=["ceiling"]), BAD, "'ceiling'"),
+    (lambda: board(mutexes=[7]), TypeError, "mutexes[0] is 7"),
+    (lambda: board(groups=[101]), BAD, "groups[0] is 101"),
+    (lambda: board(limit=0), BAD, "limit is 0: a whole number from 1 to 1000000"),
+    (lambda: board(limit="5"), TypeError, "limit is '5'"),
+    (lambda: board(limit=1.5), TypeError, "limit is 1.5"),
+    (lambda: board(limit=10**7), BAD, "limit is 10000000"),
+    (lambda: board(sem=[1]), BAD, 'a board has no key "sem"; did you mean "sems"?'),
+    (lambda: board(bank=[{"accepts": 1}]), TypeError, "plan 0 of the bank is"),
+    (lambda: board(bank=[evlsim.Plan(1)] * 65), PLAN, "65 plans: 64"),
+    (lambda: board(bank=[(1, (1, "post_sem", 0))]), TypeError, "an evlsim.Plan is wanted"),
+    (lambda: evlsim.Plan(0), PLAN, "accepts is 0"),
+    (lambda: evlsim.Plan(-1), PLAN, "accepts is -1"),
+    (lambda: evlsim.Plan(2**64 + 1), PLAN, "accepts is 18446744073709551617"),
+    (lambda: evlsim.Plan(1, (1, "post_semm", 0)), PLAN, 'did you mean "post_sem"?'),
+    (lambda: evlsim.Plan(1, (1, "post_sem", 65536)), PLAN, "is 65536"),
+    (lambda: evlsim.Plan(1, (1, "post_sem", -1)), PLAN, "is -1"),
+    (lambda: evlsim.Plan(1, (0, "post_sem", 0)), PLAN, "the period of (0, 'post_sem', 0) is 0"),
+    (lambda: evlsim.Plan(1, "post_sem"), TypeError, "a row of a plan is 'post_sem'"),
+    (lambda: evlsim.Plan(1, (1, "post_sem")), PLAN, "3 parts"),
+    (lambda: evlsim.Plan(1, (1, "propagate", 4)), PLAN, "2 parts"),
+    (lambda: evlsim.Plan(1, (1, "post_flags", 0)), PLAN, "4 parts"),
+    (lambda: evlsim.Plan(1, *[(1, "post_sem", 0)] * 5), PLAN, "5 rows: four"),
+]
+SMALL = "[board]\nthreads = 1\n"
+PLAYS = [
+    (lambda: evlsim.play(None), TypeError, "text is None"),
+    (lambda: evlsim.play(5), TypeError, "text is 5"),
+    (lambda: evlsim.play(pathlib.Path("/etc/passwd")), TypeError, "read_text()"),
+    (lambda: evlsim.play("x"), evlsim.BadText, "'x'"),
+    (lambda: evlsim.play("scenarios/first_semaphore.toml"), evlsim.BadText, "no TOML"),
+    (lambda: evlsim.play(SMALL + "\0"), evlsim.BadText, ""),
+    (lambda: evlsim.play("\ud800"), evlsim.BadText, "UTF-8"),
+    (lambda: evlsim.play("#" * 1048577), evlsim.BadText, "1,048,576"),
+    (lambda: evlsim.play(""), BAD, "board"),
+    (lambda: evlsim.play(SMALL, limit=-1), BAD, "limit is -1"),
+    (lambda: evlsim.play(SMALL, limit=2**32 + 5), BAD, "limit is 4294967301"),
+    (lambda: evlsim.play(SMALL, limit="5"), TypeError, "limit is '5'"),
+    (lambda: evlsim.play(SMALL, bank=[3]), TypeError, "plan 0"),
+    (lambda: evlsim.play(SMALL + '[[step]]\ndo = "push"\nwho = 0\n'), STEP, "step 1"),
+]
+
+
+def try_list(name, misuses):
+    before = K.trace()
+    for number, (function, error, part) in enumerate(misuses):
+        try:
+            answer = function()
+        except error as raised:
+            assert part in str(raised), f"{name} {number}: it says {raised}"
+        except Exception as raised:
+            raise AssertionError(f"{name} {number}: {type(raised).__name__}: {raised}") from None
+        else:
+            raise AssertionError(f"{name} {number}: it answered {answer!r}")
+    assert K.trace().startswith(before)
+    return len(misuses)
+
+
+def try_right_ones():
+    """What looks like a misuse and is none."""
+    assert board(sems=(it for it in [1, 2, 3])).see_count(2) == 3
+    assert board(groups=iter([50])).see_now() == 0
+    assert board(bank=[]).request(0, line=5, stage="oob", callback=0).refusal == "Unknown"
+    assert evlsim.Plan(1, [1, "post_sem", 0]) == evlsim.Plan(1, (1, "post_sem", 0))
+    kernel = board()
+    assert kernel.write(0, xbuf=0, way="in", bytes="41 42") and kernel.write(0, xbuf=0, way="in", bytes=[1, 2])
+    assert kernel.write(0, xbuf=0, way="in", bytes=bytearray(b"ab")) and kernel.see_stored(0, "in") == 6
+    assert copy.deepcopy(kernel).trace() == copy.copy(kernel).trace() == kernel.trace()
+    assert evlsim.play(SMALL.encode()) == evlsim.play(bytearray(SMALL.encode())) == evlsim.play(SMALL)
+
+
+def try_closed():
+    kernel = board()
+    with kernel:
+        kernel.put(0, sem=0)
+    kernel.close()
+    for function in (lambda: kernel.put(0, sem=0), kernel.see_now, kernel.trace, kernel.scenario, kernel.__enter__, kernel.copy):
+        try:
+            function()
+        except evlsim.KernelClosed:
+            continue
+        raise AssertionError("a closed kernel answered")
+    assert "closed" in repr(kernel)
+
+
+def try_threads(puts=50000):
+    """Three threads on one kernel: no put is lost, and no answer is another thread's."""
+    sys.setswitchinterval(1e-5)
+    kernel = evlsim.Kernel(threads=3, sems=[0, 0, 0], limit=1000000)
+    wrong = []
+
+    def work(who):
+        for count in range(1, puts + 1):
+            if not kernel.put(who, sem=who) or kernel.peek(who, sem=who).value != count:
+                wrong.append((who, count))
+
+    threads = [threading.Thread(target=work, args=(who,)) for who in range(3)]
+    for thread in threads:
+        thread.start()
+    for thread in threads:
+        thread.join()
+    assert not wrong and [kernel.see_count(sem) for sem in range(3)] == [puts] * 3
+
+
+tried = try_list("call", CALLS) + try_list("board", BOARDS) + try_list("play", PLAYS)
+try_right_ones()
+try_closed()
+try_threads()
+print(f"{tried} misuses raised what they should")

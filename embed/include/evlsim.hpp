@@ -1,0 +1,145 @@
+/*
+ * The out-of-band core, simulated, for C++17 to C++23, over evlsim.h (docs/EMBEDDING.md).
+ *
+ *   const std::uint32_t sems[] = {0};
+ *   evlsim_board board{};
+ *   board.threads = 2, board.sems = sems, board.sem_count = 1;
+ *   evlsim::kernel kernel(board);
+ *   assert(kernel.call(0, evlsim_call_try_get(0)).refused_as(EVLSIM_REFUSAL_AGAIN));
+ *
+ * A kernel is given to one call at a time, of the thread that made it. What is refused is thrown; what a kernel refuses
+ * is an answer.
+ */
+#ifndef EVLSIM_HPP
+#define EVLSIM_HPP
+
+#include <evlsim.h>
+
+#include <cstdint>
+#include <new>
+#include <optional>
+#include <stdexcept>
+#include <string>
+#include <string_view>
+#include <utility>
+#include <vector>
+
+/* Statuses, kinds and refusals are compared with their own kind alone. */
+constexpr bool operator==(evlsim_status one, evlsim_status other) noexcept { return one.number == other.number; }
+constexpr bool operator!=(evlsim_status one, evlsim_status other) noexcept { return one.number != other.number; }
+constexpr bool operator==(evlsim_kind one, evlsim_kind other) noexcept { return one.number == other.number; }
+constexpr bool operator!=(evlsim_kind one, evlsim_kind other) noexcept { return one.number != other.number; }
+constexpr bool operator==(evlsim_refusal one, evlsim_refusal other) noexcept { return one.number == other.number; }
+constexpr bool operator!=(evlsim_refusal one, evlsim_refusal other) noexcept { return one.number != other.number; }
+
+namespace evlsim {
+
+/* A text that is refused, a board, a plan or a number, with its status, and the step at fault or 0. */
+struct refused : std::runtime_error {
+  evlsim_status status;
+  std::uint32_t step;
+  explicit refused(evlsim_status why, std::uint32_t number = 0)
+      : std::runtime_error(evlsim_status_text(why) + (number == 0 ? std::string() : " " + std::to_string(number))),
+        status(why),
+        step(number) {}
+};
+
+/* The callbacks that a scenario names by their numbers. */
+using bank = std::vector<evlsim_plan>;
+
+/* Throws what a status says, if it isn't EVLSIM_OK. */
+inline void require_ok(evlsim_status status, std::uint32_t step = 0) {
+  if (status == EVLSIM_NO_MEMORY) throw std::bad_alloc();
+  if (status != EVLSIM_OK) throw refused(status, step);
+}
+
+/* The trace of a scenario's text from a byte on, as evlsim_play writes it, or as evlsim_play_over where there is a bank.
+   Throws refused and std::bad_alloc. */
+inline std::string play(std::string_view text, std::uint32_t limit = 0, std::size_t start = 0,
+                        const std::optional<bank> &plans = std::nullopt) {
+  std::string trace(4096, '\0');
+  auto bytes = reinterpret_cast<const std::uint8_t *>(text.data());
+  for (;;) {
+    evlsim_played played{0, 0};
+    auto out = reinterpret_cast<std::uint8_t *>(trace.data());
+    evlsim_status status =
+        plans ? evlsim_play_over(plans->data(), plans->size(), bytes, text.size(), limit, start, out, trace.size(), &played)
+              : evlsim_play(bytes, text.size(), limit, start, out, trace.size(), &played);
+    require_ok(status, played.step);
+    std::size_t left = played.length < start ? 0 : played.length - start;
+    bool is_whole = left <= trace.size();
+    trace.resize(left);
+    if (is_whole) return trace;
+  }
+}
+
+/* The callbacks of the program. */
+inline bank program_bank() { return bank(evlsim_program_bank, evlsim_program_bank + EVLSIM_PROGRAM_BANK); }
+
+/* What a call answered, with the bytes that it brought and what the kernel played. */
+struct answer : evlsim_answer {
+  std::string bytes{};
+  std::vector<evlsim_event> events{};
+  explicit answer(const evlsim_answer &told) : evlsim_answer(told) {}
+  bool is_done() const { return evlsim_is_done(*this); }
+  bool is_begun() const { return evlsim_is_begun(*this); }
+  bool is_timed_out() const { return evlsim_is_timed_out(*this); }
+  bool is_refused() const { return evlsim_is_refused(*this); }
+  bool refused_as(evlsim_refusal why) const { return evlsim_refused_as(*this, why); }
+  bool has(evlsim_kind what) const { return evlsim_has(*this, what); }
+};
+
+/* A kernel, which is closed with the object. It can be moved, and isn't copied. */
+class kernel {
+ public:
+  /* Throws refused if the board, the limit or a plan is, and std::bad_alloc. */
+  explicit kernel(const evlsim_board &board, std::uint32_t limit = 1000, const bank &plans = program_bank()) {
+    require_ok(evlsim_open(&kernel_, &board, plans.data(), plans.size(), limit));
+  }
+  ~kernel() { evlsim_close(&kernel_); }
+  kernel(kernel &&other) noexcept { std::swap(kernel_, other.kernel_); }
+  kernel &operator=(kernel &&other) noexcept {
+    std::swap(kernel_, other.kernel_);
+    return *this;
+  }
+  kernel(const kernel &) = delete;
+  kernel &operator=(const kernel &) = delete;
+
+  /* Makes a call of a thread: kernel.call(1, evlsim_call_put(0)). `bytes` are those of a write. Throws refused if a number
+     of the call is out of its range, and std::bad_alloc. */
+  answer call(std::uint16_t who, const evlsim_call &asked, std::string_view bytes = {}) {
+    evlsim_answer told{};
+    std::uint8_t read[256];
+    require_ok(evlsim_apply(&kernel_, who, &asked, reinterpret_cast<const std::uint8_t *>(bytes.data()), bytes.size(),
+                            read, sizeof read, &told));
+    answer whole(told);
+    if (told.kind == EVLSIM_BYTES) whole.bytes.assign(read, read + told.number);
+    whole.events.resize(told.plays);
+    for (std::size_t it = 0; it < told.plays; it++) {
+      require_ok(evlsim_event_at(&kernel_, told.first_play + it, &whole.events[it]));
+    }
+    return whole;
+  }
+
+  /* For the questions of evlsim.h: evlsim_see_rank(kernel.get(), 1). */
+  evlsim_kernel *get() { return &kernel_; }
+
+  std::string scenario() { return text(evlsim_scenario); }
+  std::string trace() { return text(evlsim_trace); }
+
+ private:
+  template <typename Function>
+  std::string text(Function function) {
+    std::size_t length = 0;
+    require_ok(function(&kernel_, 0, nullptr, 0, &length));
+    std::string whole(length, '\0');
+    require_ok(function(&kernel_, 0, reinterpret_cast<std::uint8_t *>(whole.data()), length, &length));
+    return whole;
+  }
+
+  evlsim_kernel kernel_ = EVLSIM_NO_KERNEL;
+};
+
+}  // namespace evlsim
+
+#endif

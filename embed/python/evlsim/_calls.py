@@ -1,0 +1,486 @@
+"""The calls of a kernel, one method each. Written by tools/python_calls, from the library's list of calls and
+docs/SCENARIOS.md."""
+
+from typing import NoReturn
+
+from ._answers import Answer
+from ._errors import BadStep, one_of, whole, wrong_type
+from ._kernel import POLICIES, POLICY_TEXTS, STAGES, TAKES, WAYS, Bytes, Calls, Stage, Until, Way
+from ._kernel import MISSING, no_key, put_form, read_bytes
+from ._library import CallForm
+
+
+class Words(Calls):
+    """A method for each step word: the caller's number, and then the word's keys by name."""
+
+    def request(
+        self,
+        who: int,
+        *,
+        line: int = MISSING,
+        stage: Stage = MISSING,
+        callback: int = MISSING,
+        tag: int = 0,
+        **wrong: NoReturn,
+    ) -> Answer:
+        """Puts a callback of the bank on a line of a stage; its count begins anew.
+
+        Answers done. Refusals: Unknown: no such line or callback; Invalid: line 0, or a callback that isn't allowed
+        on this stage (see *Allowed* in the table of the bank below); Busy: a callback stands there already, or this
+        callback already stands on another line or stage, or in a timer.
+        """
+        if wrong or line is MISSING or stage is MISSING or callback is MISSING:
+            no_key("request", wrong, line=line, stage=stage, callback=callback)
+        call = CallForm(0)
+        call.element = whole(BadStep, "request: line", line, 0, 65535)
+        call.stage = one_of(BadStep, "request: stage", stage, STAGES)
+        call.callback = whole(BadStep, "request: callback", callback, 0, 255)
+        call.bits = whole(BadStep, "request: tag", tag, 0, 4294967295)
+        return self._make("request", who, call)
+
+    def free(self, who: int, *, line: int = MISSING, stage: Stage = MISSING, **wrong: NoReturn) -> Answer:
+        """Takes the callback off a line; it is in its place of the bank again, and a pending event of that line and
+        stage is dropped.
+
+        Answers done. Refusals: Unknown: no such line; Invalid: line 0, on both stages; Unknown: no callback there.
+        """
+        if wrong or line is MISSING or stage is MISSING:
+            no_key("free", wrong, line=line, stage=stage)
+        call = CallForm(1)
+        call.element = whole(BadStep, "free: line", line, 0, 65535)
+        call.stage = one_of(BadStep, "free: stage", stage, STAGES)
+        return self._make("free", who, call)
+
+    def arrive(self, who: int, *, line: int = MISSING, **wrong: NoReturn) -> Answer:
+        """An interrupt arrives on a line: its event is pending out-of-band where a callback stands there, else in-band
+        where one stands there; else it is spurious and nothing is pending (the trace doesn't show that).
+
+        Answers done. Refusals: Unknown: no such line.
+        """
+        if wrong:
+            no_key("arrive", wrong, line=line)
+        return self._bare(2, "arrive", "line", who, line)
+
+    def post(self, who: int, *, stage: Stage = MISSING, line: int = MISSING, **wrong: NoReturn) -> Answer:
+        """Makes an event pending on a line of this stage where a callback stands there; else it is spurious.
+
+        Answers done. Refusals: Unknown: no such line.
+        """
+        if wrong or stage is MISSING or line is MISSING:
+            no_key("post", wrong, stage=stage, line=line)
+        call = CallForm(3)
+        call.stage = one_of(BadStep, "post: stage", stage, STAGES)
+        call.element = whole(BadStep, "post: line", line, 0, 65535)
+        return self._make("post", who, call)
+
+    def stall(self, who: int, *, stage: Stage = MISSING, **wrong: NoReturn) -> Answer:
+        """Sets the stall bit of a stage: its events stay pending. It is one bit: a second stall changes nothing.
+
+        Answers done.
+        """
+        if wrong or stage is MISSING:
+            no_key("stall", wrong, stage=stage)
+        call = CallForm(4)
+        call.stage = one_of(BadStep, "stall: stage", stage, STAGES)
+        return self._make("stall", who, call)
+
+    def unstall(self, who: int, *, stage: Stage = MISSING, **wrong: NoReturn) -> Answer:
+        """Clears it.
+
+        Answers done.
+        """
+        if wrong or stage is MISSING:
+            no_key("unstall", wrong, stage=stage)
+        call = CallForm(5)
+        call.stage = one_of(BadStep, "unstall: stage", stage, STAGES)
+        return self._make("unstall", who, call)
+
+    def tick(self, who: int, *, delta: int = MISSING, **wrong: NoReturn) -> Answer:
+        """Moves the date on by delta nanoseconds; it begins at 0. Line 0 is pending then if something is due.
+
+        Answers done. Refusals: Range: the date would pass 18,446,744,073,709,551,615.
+        """
+        if wrong or delta is MISSING:
+            no_key("tick", wrong, delta=delta)
+        call = CallForm(6)
+        call.date = whole(BadStep, "tick: delta", delta, 0, 18446744073709551615)
+        return self._make("tick", who, call)
+
+    def now(self, who: int, **wrong: NoReturn) -> Answer:
+        """Tells the date.
+
+        Answers number N.
+        """
+        if wrong:
+            no_key("now", wrong)
+        call = CallForm(7)
+        return self._make("now", who, call)
+
+    def new_timer(self, who: int, *, callback: int = MISSING, tag: int = 0, **wrong: NoReturn) -> Answer:
+        """Makes a timer with a callback of the bank; it has the least free number, from 0 on, and its first fire is
+        counted 1.
+
+        Answers number N. Refusals: Unknown: no such callback; Invalid: it isn't allowed in a timer; Busy: it stands
+        on a line or in a timer; Limit: there are 64 timers.
+        """
+        if wrong or callback is MISSING:
+            no_key("new_timer", wrong, callback=callback)
+        call = CallForm(8)
+        call.callback = whole(BadStep, "new_timer: callback", callback, 0, 255)
+        call.bits = whole(BadStep, "new_timer: tag", tag, 0, 4294967295)
+        return self._make("new_timer", who, call)
+
+    def start_timer(
+        self, who: int, *, timer: int = MISSING, date: int = MISSING, interval: int = MISSING, **wrong: NoReturn
+    ) -> Answer:
+        """Sets the date at which the timer fires next, and its interval; its overruns are 0 again. Where the date
+        isn't after now, line 0 is pending at once.
+
+        Answers done. Refusals: Unknown: no such timer.
+        """
+        if wrong or timer is MISSING or date is MISSING or interval is MISSING:
+            no_key("start_timer", wrong, timer=timer, date=date, interval=interval)
+        call = CallForm(9)
+        call.element = whole(BadStep, "start_timer: timer", timer, 0, 65535)
+        call.date = whole(BadStep, "start_timer: date", date, 0, 18446744073709551615)
+        call.span = whole(BadStep, "start_timer: interval", interval, 0, 18446744073709551615)
+        return self._make("start_timer", who, call)
+
+    def stop_timer(self, who: int, *, timer: int = MISSING, **wrong: NoReturn) -> Answer:
+        """The timer fires no more until it is started again.
+
+        Answers done. Refusals: Unknown: no such timer.
+        """
+        if wrong:
+            no_key("stop_timer", wrong, timer=timer)
+        return self._bare(10, "stop_timer", "timer", who, timer)
+
+    def drop_timer(self, who: int, *, timer: int = MISSING, **wrong: NoReturn) -> Answer:
+        """Takes the timer away; its callback is in its place of the bank again.
+
+        Answers done. Refusals: Unknown: no such timer.
+        """
+        if wrong:
+            no_key("drop_timer", wrong, timer=timer)
+        return self._bare(11, "drop_timer", "timer", who, timer)
+
+    def overruns(self, who: int, *, timer: int = MISSING, **wrong: NoReturn) -> Answer:
+        """Tells how many periods the timer missed since it was started.
+
+        Answers number N. Refusals: Unknown: no such timer.
+        """
+        if wrong:
+            no_key("overruns", wrong, timer=timer)
+        return self._bare(12, "overruns", "timer", who, timer)
+
+    def attach(self, who: int, *, policy: str = MISSING, stage: Stage = MISSING, **wrong: NoReturn) -> Answer:
+        """Makes the caller a thread of the core, with this policy, on this stage.
+
+        Answers done. Refusals: Unknown: a quota group that there isn't; Range: a number of the policy; Busy: the
+        caller is attached already.
+        """
+        if wrong or policy is MISSING or stage is MISSING:
+            no_key("attach", wrong, policy=policy, stage=stage)
+        call = CallForm(13)
+        put_form(call, "attach", "policy", POLICIES, policy, POLICY_TEXTS)
+        call.stage = one_of(BadStep, "attach: stage", stage, STAGES)
+        return self._make("attach", who, call)
+
+    def detach(self, who: int, **wrong: NoReturn) -> Answer:
+        """Takes the caller out of the core.
+
+        Answers done. Refusals: Invalid: the caller isn't attached; Busy: it is recorded as the owner of a mutex.
+        """
+        if wrong:
+            no_key("detach", wrong)
+        call = CallForm(14)
+        return self._make("detach", who, call)
+
+    def set_policy(self, who: int, *, policy: str = MISSING, **wrong: NoReturn) -> Answer:
+        """Sets the caller's policy; a ready caller goes behind all other ready threads.
+
+        Answers done. Refusals: Unknown: a quota group that there isn't; Range: a number of the policy; Invalid: the
+        caller isn't attached.
+        """
+        if wrong or policy is MISSING:
+            no_key("set_policy", wrong, policy=policy)
+        call = CallForm(15)
+        put_form(call, "set_policy", "policy", POLICIES, policy, POLICY_TEXTS)
+        return self._make("set_policy", who, call)
+
+    def set_stage(self, who: int, *, stage: Stage = MISSING, **wrong: NoReturn) -> Answer:
+        """Moves the caller to this stage; where it is there already, nothing changes.
+
+        Answers done. Refusals: Invalid: the caller isn't attached.
+        """
+        if wrong or stage is MISSING:
+            no_key("set_stage", wrong, stage=stage)
+        call = CallForm(16)
+        call.stage = one_of(BadStep, "set_stage: stage", stage, STAGES)
+        return self._make("set_stage", who, call)
+
+    def pick(self, who: int, **wrong: NoReturn) -> Answer:
+        """Tells which thread is picked.
+
+        Answers thread N, or thread none.
+        """
+        if wrong:
+            no_key("pick", wrong)
+        call = CallForm(17)
+        return self._make("pick", who, call)
+
+    def rank_of(self, who: int, *, thread: int = MISSING, **wrong: NoReturn) -> Answer:
+        """Tells a thread's effective rank: its policy's, or a greater one that it has by mutexes.
+
+        Answers number N. Refusals: Unknown: no such thread; Invalid: it isn't attached.
+        """
+        if wrong:
+            no_key("rank_of", wrong, thread=thread)
+        return self._bare(18, "rank_of", "thread", who, thread)
+
+    def try_get(self, who: int, *, sem: int = MISSING, **wrong: NoReturn) -> Answer:
+        """Takes one from a semaphore.
+
+        Answers done. Refusals: Unknown: no such semaphore; Again: its count is 0.
+        """
+        if wrong:
+            no_key("try_get", wrong, sem=sem)
+        return self._bare(19, "try_get", "sem", who, sem)
+
+    def put(self, who: int, *, sem: int = MISSING, **wrong: NoReturn) -> Answer:
+        """Gives one to the first thread that waits for the semaphore, or raises its count where nobody does.
+
+        Answers done. Refusals: Unknown: no such semaphore; Range: its count is at the maximum, 2,147,483,647.
+        """
+        if wrong:
+            no_key("put", wrong, sem=sem)
+        return self._bare(20, "put", "sem", who, sem)
+
+    def peek(self, who: int, *, sem: int = MISSING, **wrong: NoReturn) -> Answer:
+        """Tells the count, or minus the number of threads that wait where there are any.
+
+        Answers count N. Refusals: Unknown: no such semaphore.
+        """
+        if wrong:
+            no_key("peek", wrong, sem=sem)
+        return self._bare(21, "peek", "sem", who, sem)
+
+    def begin_get(self, who: int, *, sem: int = MISSING, until: Until = None, **wrong: NoReturn) -> Answer:
+        """Begins a wait for a semaphore: where its count is above 0 the caller is served at once; else it is blocked
+        until a put serves it or the date until comes.
+
+        Answers begun. Refusals: Unknown: no such semaphore; Invalid: the caller isn't attached; WrongStage: it is
+        in-band.
+        """
+        if wrong:
+            no_key("begin_get", wrong, sem=sem)
+        if until is None:
+            return self._bare(22, "begin_get", "sem", who, sem)
+        call = CallForm(22)
+        call.element = whole(BadStep, "begin_get: sem", sem, 0, 65535)
+        if until is not None and until != "none":
+            call.timed, call.date = 1, whole(BadStep, "begin_get: until", until, 0, 18446744073709551615)
+        return self._make("begin_get", who, call)
+
+    def try_take(self, who: int, *, flags: int = MISSING, kind: str = MISSING, **wrong: NoReturn) -> Answer:
+        """Takes bits from a flag group, whoever waits: all that are there (any), those of a mask that are there (of
+        MASK), or a whole mask (exact MASK).
+
+        Answers bits N. Refusals: Unknown: no such flag group; Invalid: the mask is 0; Again: nothing to take.
+        """
+        if wrong or flags is MISSING or kind is MISSING:
+            no_key("try_take", wrong, flags=flags, kind=kind)
+        call = CallForm(23)
+        call.element = whole(BadStep, "try_take: flags", flags, 0, 65535)
+        put_form(call, "try_take", "kind", TAKES, kind, "'any', 'of MASK' or 'exact MASK'")
+        return self._make("try_take", who, call)
+
+    def post_flags(self, who: int, *, flags: int = MISSING, bits: int = MISSING, **wrong: NoReturn) -> Answer:
+        """Adds bits to a flag group and goes once through those who wait for it, by rank and then by arrival: each
+        takes what it wants from what is left, or goes on waiting.
+
+        Answers done. Refusals: Unknown: no such flag group; Invalid: bits is 0.
+        """
+        if wrong or flags is MISSING or bits is MISSING:
+            no_key("post_flags", wrong, flags=flags, bits=bits)
+        call = CallForm(24)
+        call.element = whole(BadStep, "post_flags: flags", flags, 0, 65535)
+        call.bits = whole(BadStep, "post_flags: bits", bits, 0, 4294967295)
+        return self._make("post_flags", who, call)
+
+    def peek_flags(self, who: int, *, flags: int = MISSING, **wrong: NoReturn) -> Answer:
+        """Tells the bits.
+
+        Answers bits N. Refusals: Unknown: no such flag group.
+        """
+        if wrong:
+            no_key("peek_flags", wrong, flags=flags)
+        return self._bare(25, "peek_flags", "flags", who, flags)
+
+    def begin_take(
+        self, who: int, *, flags: int = MISSING, kind: str = MISSING, until: Until = None, **wrong: NoReturn
+    ) -> Answer:
+        """Begins a wait for bits: where they are there the caller is served at once, past all who wait; else it is
+        blocked until a post serves it or the date until comes.
+
+        Answers begun. Refusals: Unknown: no such flag group; Invalid: the caller isn't attached, or the mask is 0;
+        WrongStage: it is in-band.
+        """
+        if wrong or flags is MISSING or kind is MISSING:
+            no_key("begin_take", wrong, flags=flags, kind=kind)
+        call = CallForm(26)
+        call.element = whole(BadStep, "begin_take: flags", flags, 0, 65535)
+        put_form(call, "begin_take", "kind", TAKES, kind, "'any', 'of MASK' or 'exact MASK'")
+        if until is not None and until != "none":
+            call.timed, call.date = 1, whole(BadStep, "begin_take: until", until, 0, 18446744073709551615)
+        return self._make("begin_take", who, call)
+
+    def write(
+        self, who: int, *, xbuf: int = MISSING, way: Way = MISSING, bytes: Bytes = MISSING, **wrong: NoReturn
+    ) -> Answer:
+        """Writes bytes into a way of a cross-buffer, all of them; those who wait to read there get them. A write of no
+        bytes is done whoever waits, on the right stage.
+
+        Answers done. Refusals: Unknown: no such cross-buffer; WrongStage: way in is written in-band, way out out-
+        of-band; TooBig: longer than the ring; Again: they don't fit, or somebody waits to write there.
+        """
+        if wrong or xbuf is MISSING or way is MISSING or bytes is MISSING:
+            no_key("write", wrong, xbuf=xbuf, way=way, bytes=bytes)
+        call = CallForm(27)
+        call.element = whole(BadStep, "write: xbuf", xbuf, 0, 65535)
+        call.way = one_of(BadStep, "write: way", way, WAYS)
+        return self._make("write", who, call, read_bytes("write", bytes))
+
+    def read(
+        self, who: int, *, xbuf: int = MISSING, way: Way = MISSING, len: int = MISSING, **wrong: NoReturn
+    ) -> Answer:
+        """Reads the next bytes, len of them or as many as are there; those who wait to write and fit then do. A read
+        of 0 bytes is done also where nothing is there, on the right stage.
+
+        Answers bytes HEX (bytes - for none). Refusals: Unknown: no such cross-buffer; Range: len is above 256;
+        WrongStage: way in is read out-of-band, way out in-band; Again: nothing is there.
+        """
+        if wrong or xbuf is MISSING or way is MISSING or len is MISSING:
+            no_key("read", wrong, xbuf=xbuf, way=way, len=len)
+        call = CallForm(28)
+        call.element = whole(BadStep, "read: xbuf", xbuf, 0, 65535)
+        call.way = one_of(BadStep, "read: way", way, WAYS)
+        call.other = whole(BadStep, "read: len", len, 0, 65535)
+        return self._make("read", who, call)
+
+    def room(self, who: int, *, xbuf: int = MISSING, way: Way = MISSING, **wrong: NoReturn) -> Answer:
+        """Tells how many bytes of a way's ring are free.
+
+        Answers number N. Refusals: Unknown: no such cross-buffer.
+        """
+        if wrong or xbuf is MISSING or way is MISSING:
+            no_key("room", wrong, xbuf=xbuf, way=way)
+        call = CallForm(29)
+        call.element = whole(BadStep, "room: xbuf", xbuf, 0, 65535)
+        call.way = one_of(BadStep, "room: way", way, WAYS)
+        return self._make("room", who, call)
+
+    def begin_write(
+        self,
+        who: int,
+        *,
+        xbuf: int = MISSING,
+        way: Way = MISSING,
+        bytes: Bytes = MISSING,
+        until: Until = None,
+        **wrong: NoReturn,
+    ) -> Answer:
+        """Begins a wait to write: done at once where write would be; else the caller is blocked until its bytes are
+        written, or the date until comes.
+
+        Answers begun. Refusals: Unknown: no such cross-buffer; Invalid: the caller isn't attached; WrongStage;
+        TooBig.
+        """
+        if wrong or xbuf is MISSING or way is MISSING or bytes is MISSING:
+            no_key("begin_write", wrong, xbuf=xbuf, way=way, bytes=bytes)
+        call = CallForm(30)
+        call.element = whole(BadStep, "begin_write: xbuf", xbuf, 0, 65535)
+        call.way = one_of(BadStep, "begin_write: way", way, WAYS)
+        if until is not None and until != "none":
+            call.timed, call.date = 1, whole(BadStep, "begin_write: until", until, 0, 18446744073709551615)
+        return self._make("begin_write", who, call, read_bytes("begin_write", bytes))
+
+    def begin_read(
+        self,
+        who: int,
+        *,
+        xbuf: int = MISSING,
+        way: Way = MISSING,
+        len: int = MISSING,
+        until: Until = None,
+        **wrong: NoReturn,
+    ) -> Answer:
+        """Begins a wait to read: done at once where read would be; else the caller is blocked until something is
+        there, or the date until comes.
+
+        Answers begun. Refusals: Unknown: no such cross-buffer; Range: len is above 256; Invalid: the caller isn't
+        attached; WrongStage.
+        """
+        if wrong or xbuf is MISSING or way is MISSING or len is MISSING:
+            no_key("begin_read", wrong, xbuf=xbuf, way=way, len=len)
+        call = CallForm(31)
+        call.element = whole(BadStep, "begin_read: xbuf", xbuf, 0, 65535)
+        call.way = one_of(BadStep, "begin_read: way", way, WAYS)
+        call.other = whole(BadStep, "begin_read: len", len, 0, 65535)
+        if until is not None and until != "none":
+            call.timed, call.date = 1, whole(BadStep, "begin_read: until", until, 0, 18446744073709551615)
+        return self._make("begin_read", who, call)
+
+    def claim(
+        self, who: int, *, mutex: int = MISSING, owner: int = MISSING, until: Until = None, **wrong: NoReturn
+    ) -> Answer:
+        """Begins a wait for a mutex that thread owner has: that thread is recorded as its owner, and the caller is
+        blocked until a release hands it the mutex or the date until comes.
+
+        Answers begun. Refusals: Unknown: no such mutex, or no thread owner; Invalid: the caller or the owner isn't
+        attached, the owner is the caller, or another owner is recorded; WrongStage: the caller is in-band;
+        Deadlock: the owner waits for the caller, by itself or along a chain.
+        """
+        if wrong or mutex is MISSING or owner is MISSING:
+            no_key("claim", wrong, mutex=mutex, owner=owner)
+        call = CallForm(32)
+        call.element = whole(BadStep, "claim: mutex", mutex, 0, 65535)
+        call.other = whole(BadStep, "claim: owner", owner, 0, 65535)
+        if until is not None and until != "none":
+            call.timed, call.date = 1, whole(BadStep, "claim: until", until, 0, 18446744073709551615)
+        return self._make("claim", who, call)
+
+    def release(self, who: int, *, mutex: int = MISSING, **wrong: NoReturn) -> Answer:
+        """Hands a mutex on to the first thread that waits for it, and ends its wait.
+
+        Answers next N more, next N or next none (see *Mutexes*). Refusals: Unknown: no such mutex; NotOwner:
+        another thread is recorded as its owner.
+        """
+        if wrong:
+            no_key("release", wrong, mutex=mutex)
+        return self._bare(33, "release", "mutex", who, mutex)
+
+    def raise_(self, who: int, *, mutex: int = MISSING, **wrong: NoReturn) -> Answer:
+        """Records the caller as the owner of a mutex with a ceiling.
+
+        Answers done. Refusals: Unknown: no such mutex; Invalid: it has no ceiling, or the caller isn't attached;
+        Busy: an owner is recorded, also where that is the caller.
+        """
+        if wrong:
+            no_key("raise", wrong, mutex=mutex)
+        return self._bare(34, "raise", "mutex", who, mutex)
+
+    def finish(self, who: int, *, keep: bool = False, **wrong: NoReturn) -> Answer:
+        """Tells what ended the caller's wait; a weak caller that is out-of-band goes in-band then, unless keep is true
+        or it got a mutex.
+
+        Answers done, bits N after a wait for bits, bytes HEX after one to read, or timed out. Refusals: Invalid: it
+        has no wait; Again: its wait goes on.
+        """
+        if wrong:
+            no_key("finish", wrong)
+        call = CallForm(35)
+        if keep is not True and keep is not False:
+            raise wrong_type(BadStep, f"finish: keep is {keep!r}: True or False is wanted")
+        call.choice = keep
+        return self._make("finish", who, call)

@@ -1,0 +1,185 @@
+"""A kernel with its questions and its history."""
+
+from types import TracebackType
+from typing import Any, Dict, Iterator, NoReturn, Optional, Tuple, Type
+
+from . import _library as lib
+from ._answers import Answer
+from ._calls import Words
+from ._errors import BadQuestion, BadStep, KernelClosed, near, one_of, whole
+from ._kernel import AWAITED, STAGES, WAYS, Awaited, Entry, Stage, Way, read_trace
+
+
+class Kernel(Words):
+    """A kernel with the program's callbacks, or with those of a `bank`. It is freed with the object, or by `close`.
+
+    threads, sems, flags, xbufs, mutexes and groups are a board, as docs/SCENARIOS.md has it; `limit` is how many
+    entries the history may have. There is a method for each step word: the caller's number, and then the word's keys by
+    name (`raise_` for `raise`). An answer is false where the kernel refused the call; a kernel that is `strict` raises
+    CallRefused then.
+
+    >>> kernel = Kernel(threads=2, sems=[0])
+    >>> kernel.try_get(0, sem=0).refusal, bool(kernel.put(1, sem=0)), kernel.see_count(0)
+    ('Again', True, 1)
+    >>> kernel.put(0, sem=70000)
+    Traceback (most recent call last):
+    evlsim._errors.BadStep: put: sem is 70000: a whole number from 0 to 65535 is wanted
+    >>> print(kernel.trace(), end="")
+    board threads=2 sems=1 flags=0 xbufs=0 mutexes=0 groups=0 limit=1000
+    1 T0 try_get sem=0 -> Again
+    2 T1 put sem=0 -> done
+
+    Threads of Python may share a kernel: each call holds the interpreter's lock, so calls come one after the other.
+    After a fork each process has a kernel of its own.
+    """
+
+    def call(self, word: str, who: int, **keys: Any) -> Answer:
+        """Makes the call that a word and its keys are: kernel.call("put", 0, sem=0) is kernel.put(0, sem=0)."""
+        if word not in lib.WORDS:
+            raise BadStep(f"there is no step word {word!r}{near(word, lib.WORDS)}")
+        answer: Answer = getattr(self, word + "_" * (word == "raise"))(who, **keys)
+        return answer
+
+    def __getattr__(self, name: str) -> NoReturn:
+        names = [it for it in dir(type(self)) if not it.startswith("_")]
+        raise AttributeError(f"a kernel has no {name!r}{near(name, names)}")
+
+    def close(self) -> None:
+        """Frees the kernel; what is asked of it then raises KernelClosed."""
+        lib.LIBRARY.evlsim_c_close(self._at)
+
+    @property
+    def closed(self) -> bool:
+        """Whether it is closed."""
+        return not self._handle.is_open
+
+    def __enter__(self) -> "Kernel":
+        if self.closed:
+            raise KernelClosed("the kernel is closed")
+        return self
+
+    def __exit__(
+        self, kind: Optional[Type[BaseException]], error: Optional[BaseException], trace: Optional[TracebackType]
+    ) -> None:
+        self.close()
+
+    def __del__(self, close: Any = lib.LIBRARY.evlsim_c_close) -> None:
+        if "_at" in self.__dict__:
+            close(self._at)
+
+    def __repr__(self) -> str:
+        return "<evlsim.Kernel, closed>" if self.closed else f"<evlsim.Kernel: {self._last(12)}>"
+
+    def __reduce__(self) -> NoReturn:
+        raise TypeError("a kernel isn't pickled: its scenario() is a text, and copy() makes another one")
+
+    def copy(self) -> "Kernel":
+        """Another kernel in the same state, by playing the history again."""
+        made = Kernel(**self._board, limit=self._limit, bank=self._bank)
+        for entry in self:
+            made.call(entry.word, entry.who, **entry.keys)
+        made._strict = self._strict
+        return made
+
+    __copy__ = copy
+
+    def __deepcopy__(self, memo: Dict[int, Any]) -> "Kernel":
+        return self.copy()
+
+    def trace(self, start: int = 0) -> str:
+        """The trace of all calls so far, from a byte on."""
+        return self._text(lib.LIBRARY.evlsim_c_trace, whole(BadQuestion, "start", start, 0, (1 << 63) - 1))
+
+    def scenario(self) -> str:
+        """The scenario that the calls so far are: the program evl plays it again, if the bank is the program's."""
+        return self._text(lib.LIBRARY.evlsim_c_scenario, 0)
+
+    def history(self) -> Tuple[Entry, ...]:
+        """The entries of the history, from the first on; a call that made no entry isn't among them."""
+        return tuple(read_trace(self.trace()))
+
+    def __iter__(self) -> Iterator[Entry]:
+        return iter(self.history())
+
+    def __len__(self) -> int:
+        return len(self.history())
+
+    def __bool__(self) -> bool:
+        return True
+
+    def see_now(self) -> int:
+        """The date."""
+        return int(self._ask(0, "see_now").number)
+
+    def see_picked(self) -> Optional[int]:
+        """Who is picked, or None."""
+        return _number(self._ask(1, "see_picked"))
+
+    def see_rank(self, thread: int) -> Optional[int]:
+        """The effective rank of a thread, or None where it isn't attached."""
+        return _number(self._ask(2, "see_rank: thread", thread))
+
+    def see_ready(self, thread: int) -> bool:
+        """Whether a thread is on the ready list."""
+        return bool(self._ask(3, "see_ready: thread", thread).there)
+
+    def see_waits(self, thread: int) -> bool:
+        """Whether a thread has an unfinished wait."""
+        return bool(self._ask(4, "see_waits: thread", thread).there)
+
+    def see_finished(self, thread: int) -> bool:
+        """Whether a thread's unfinished wait has ended."""
+        return bool(self._ask(5, "see_finished: thread", thread).there)
+
+    def see_timed_out(self, thread: int) -> bool:
+        """Whether it has ended by its deadline."""
+        return bool(self._ask(6, "see_timed_out: thread", thread).there)
+
+    def see_stage(self, thread: int) -> str:
+        """The stage of a thread: "inband" or "oob"."""
+        return STAGES[self._ask(7, "see_stage: thread", thread).number]
+
+    def see_count(self, sem: int) -> Optional[int]:
+        """The count of a semaphore, or minus the number of threads that wait; None where there is none."""
+        reading = self._ask(8, "see_count: sem", sem)
+        return int(reading.count) if reading.there else None
+
+    def see_bits(self, flags: int) -> Optional[int]:
+        """The bits of a flag group, or None where there is none."""
+        return _number(self._ask(9, "see_bits: flags", flags))
+
+    def see_stored(self, xbuf: int, way: Way) -> Optional[int]:
+        """How many bytes are in a way of a cross-buffer ("in" or "out"), or None where there is none."""
+        place = one_of(BadQuestion, "see_stored: way", way, WAYS)
+        return _number(self._ask(10, "see_stored: xbuf", xbuf, way=place))
+
+    def see_owner(self, mutex: int) -> Optional[int]:
+        """Who is recorded as the owner of a mutex, or None."""
+        return _number(self._ask(11, "see_owner: mutex", mutex))
+
+    def see_waiters(self, mutex: int) -> int:
+        """How many threads wait for a mutex."""
+        return int(self._ask(12, "see_waiters: mutex", mutex).number)
+
+    def see_waiter(self, on: Awaited, element: int, place: int = 0, way: Way = "in") -> Optional[int]:
+        """Who waits at a place, the first at 0: for a "sem", "flags", a "mutex", or in "writing" or "reading" a
+        cross-buffer."""
+        return _number(
+            self._ask(
+                13,
+                "see_waiter: element",
+                element,
+                on=one_of(BadQuestion, "see_waiter: on", on, AWAITED),
+                way=one_of(BadQuestion, "see_waiter: way", way, WAYS),
+                place=whole(BadQuestion, "see_waiter: place", place, 0, (1 << 63) - 1),
+            )
+        )
+
+    def see_pending(self, stage: Stage, line: int) -> bool:
+        """Whether an event is pending on a line of a stage."""
+        place = one_of(BadQuestion, "see_pending: stage", stage, STAGES)
+        return bool(self._ask(14, "see_pending: line", line, stage=place).there)
+
+
+def _number(reading: lib.Reading) -> Optional[int]:
+    return int(reading.number) if reading.there else None
