@@ -113,8 +113,8 @@ stands (mutex number None true) fits = rw (around_first 44 (codes " claimed") (c
 stands (mutex number (Some owner) false) fits =
     ap (standing_by (Mutex number)) (append-nil (codes "T" ++ decimal owner))
     ∙ rw (around_lacking 44 (codes " claimed") (codes "T" ++ decimal owner) (decimal_lacks 44 owner refl), number_after (codes "T") owner fits.1) refl
-stands (mutex number None false) fits = rw (around_lacking 44 (codes " claimed") (codes "free") refl, no_number [] 102 84 (codes "ree") refl) refl
-stands (core None) fits = rw (no_number (codes "aken by T") 102 116 (codes "ree") refl) refl
+stands (mutex number None false) fits = rw (around_lacking 44 (codes " claimed") (codes "free") refl) refl
+stands (core None) fits = refl
 stands (core (Some holder)) fits = rw (number_after (codes "taken by T") holder fits) refl
 
 -- the word that a line shows stands as it is shown, and the others as before
