@@ -183,7 +183,14 @@ def try_closed():
     with kernel:
         kernel.put(0, sem=0)
     kernel.close()
-    for function in (lambda: kernel.put(0, sem=0), kernel.see_now, kernel.trace, kernel.scenario, kernel.__enter__, kernel.copy):
+    for function in (
+        lambda: kernel.put(0, sem=0),
+        kernel.see_now,
+        kernel.trace,
+        kernel.scenario,
+        kernel.__enter__,
+        kernel.copy,
+    ):
         try:
             function()
         except evlsim.KernelClosed:

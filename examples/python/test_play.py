@@ -81,7 +81,12 @@ def test_refusals():
         pass
     else:
         raise AssertionError("a closed kernel was called")
-    for board in ({"threads": 0}, {"threads": 1, "sems": [1 << 31]}, {"threads": 1, "limit": 0}, {"threads": 1, "mutexes": ["weak"]}):
+    for board in (
+        {"threads": 0},
+        {"threads": 1, "sems": [1 << 31]},
+        {"threads": 1, "limit": 0},
+        {"threads": 1, "mutexes": ["weak"]},
+    ):
         try:
             evlsim.Kernel(**board)
         except evlsim.BadBoard:

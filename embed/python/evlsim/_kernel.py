@@ -6,7 +6,18 @@ from typing import Any, Dict, Iterable, Iterator, List, Literal, NamedTuple, NoR
 from . import _library as lib
 from ._answers import Answer, Clock, Deadline, Line, Next, Play, Timer
 from ._errors import (
-    BadBoard, BadPlan, BadQuestion, BadStep, CallRefused, KernelClosed, Refused, items, near, one_of, whole, wrong_type,
+    BadBoard,
+    BadPlan,
+    BadQuestion,
+    BadStep,
+    CallRefused,
+    KernelClosed,
+    Refused,
+    items,
+    near,
+    one_of,
+    whole,
+    wrong_type,
 )
 
 STAGES = ("inband", "oob")
