@@ -1,0 +1,104 @@
+// Exercises: a text with a hole, a question, a check, a solution after a button; made here and shared as a link.
+import { $, now, escaped } from './now.js';
+import { gone_through, played } from './asks.js';
+import { copied, link_of } from './kept.js';
+import { show_line } from './editor.js';
+import { verdict_of } from './orders.js';
+import { ask_of, kind_of, lost_line, with_ask, HOLE, HOLE_LINE } from './text.js';
+
+/** @param {string} out */
+const bare_lines = out => out.split('\n').filter(Boolean).map(line => line.replace(/^(\d+|-) (?=T)/, '').trim());
+/** Whether wanted lines are in a trace, in order. @param {string[]} got @param {string[]} wanted */
+export function lines_there(got, wanted) {
+  let at = 0;
+  for (const [i, line] of wanted.entries()) {
+    while (at < got.length && got[at] !== line.trim()) at++;
+    if (at++ >= got.length)
+      return ['bad', `Not there yet: ${i} of ${wanted.length} wanted lines are in the trace, in order.`];
+  }
+  return ['good', `Right: all ${wanted.length} wanted lines are in the trace, in order.`];
+}
+/** Whether a trace is that of the solution. @param {string[]} got @param {string[]} wanted */
+export function same_trace(got, wanted) {
+  const at = got.findIndex((line, i) => line !== wanted[i]);
+  if (at < 0 && got.length === wanted.length) return ['good', 'Right: the trace is that of the solution.'];
+  if (at < 0) return ['bad', `So far it is right; ${wanted.length - got.length} more lines are wanted in the trace.`];
+  if (at >= wanted.length) return ['bad', `The first ${wanted.length - 1} lines are right; what follows is too much.`];
+  return ['bad', `Not yet: line ${at} of the trace is another one than the solution's: ${got[at]}`];
+}
+/** @param {any} it @param {string} text @param {string} bank */
+async function judged(it, text, bank) {
+  if (text.includes(HOLE)) return ['bad', `There is a hole (${HOLE}) left.`];
+  const lost = it.keeps === false ? null : lost_line(it.text, text);
+  if (lost !== null) return ['bad', `This line of the exercise has to stay: ${lost}`];
+  if (it.check === 'ask') return verdict_of(await gone_through({ kind: 'orders', text: with_ask(text, it.ask), bank }, it.ask));
+  const mine = await played({ kind: kind_of(text), text, bank });
+  if (mine.status) return ['bad', 'It does not play: ' + mine.err.trim().replace('scenario.toml: ', '')];
+  if (it.check === 'lines') return lines_there(bare_lines(mine.out), it.lines);
+  const right = await played({ kind: kind_of(it.solution), text: it.solution, bank: it.bank_solution || it.bank || '' });
+  return same_trace(bare_lines(mine.out), bare_lines(right.out));
+}
+export async function check_exercise() {
+  const box = $('checked');
+  box.className = 'busy';
+  box.textContent = 'checking ..';
+  [box.className, box.textContent] = await judged(now.lesson.exercise, $('text').value, $('bank').value);
+}
+/** @param {any} it */
+export const exercise_lesson = it => ({ key: 'exercise ' + it.title, title: it.title || 'An exercise', group: 'Exercises',
+  text: it.text, bank: it.bank || '', exercise: it,
+  story: `<h2>${escaped(it.title || '')}</h2>` + String(it.question || '').split('\n\n').map(p => `<p>${escaped(p)}</p>`).join('') });
+export function show_task() {
+  const it = now.lesson?.exercise;
+  $('task').hidden = !it;
+  if (!it) return;
+  $('question').textContent = it.question;
+  $('checked').textContent = $('checked').className = '';
+  const is_hole = (/** @type {string} */ line) => line.includes(HOLE) || line.trim() === HOLE_LINE;
+  const hole = $('text').value.split('\n').findIndex(is_hole);
+  if (hole >= 0) show_line(hole);
+  $('solution').open = false;
+  $('solution').hidden = !it.solution;
+  $('solution-text').textContent = it.solution || '';
+}
+/** The form in which a teacher makes one, filled with what is there. */
+export function make_exercise() {
+  const it = now.lesson?.exercise, text = $('text').value, put = (id, value) => { $('make-' + id).value = value; };
+  put('title', it ? it.title : now.lesson?.title || 'Exercise');
+  put('question', it ? it.question : '');
+  put('text', it ? it.text : text);
+  put('solution', it ? it.solution : text);
+  put('check', it ? it.check : kind_of(text) === 'orders' ? 'ask' : 'trace');
+  put('wanted', it ? it.ask || (it.lines || []).join('\n') : ask_of(text));
+  put('link', '');
+  $('make-said').textContent = '';
+  show_wanted();
+  $('make').showModal();
+}
+/** What is wanted is asked for only where the check takes it. */
+export function show_wanted() {
+  const check = $('make-check').value;
+  $('make-wanted-label').hidden = check === 'trace';
+  $('make-wanted-name').textContent = check === 'ask' ? 'The table [ask]' : 'The lines, without their numbers';
+}
+/** Makes a hole of what is selected, or of the quoted word around the caret. */
+export function make_hole() {
+  const box = $('make-text'), from = box.selectionStart, to = box.selectionEnd, part = box.value.slice(from, to);
+  if (from === to) $('make-said').textContent = 'Select in the text what is to be a hole.';
+  else box.setRangeText(part.includes('\n') ? HOLE_LINE + '\n' : HOLE);
+}
+/** Tries the exercise with its own solution, and makes the link. */
+export async function exercise_made() {
+  const value = id => $('make-' + id).value, check = value('check'), wanted = value('wanted').trim(), bank = $('bank').value;
+  const it = { title: value('title'), question: value('question'), text: value('text'), solution: value('solution'), check,
+    ...(bank.trim() ? { bank } : {}), ...(check === 'ask' ? { ask: wanted } : {}),
+    ...(check === 'lines' ? { lines: wanted.split('\n').filter(Boolean) } : {}) };
+  const [how, says] = await judged(it, it.solution, bank), open = it.text === it.solution;
+  $('make-link').value = await link_of('exercise', it);
+  $('make-link').select();
+  const done = await copied($('make-link').value);
+  const doubt = how !== 'good' ? `but its own solution is not accepted: ${says}` : open ? 'but it has no hole yet' : '';
+  $('make-said').className = doubt ? 'unknown' : 'good';
+  $('make-said').textContent = `The link is made${done ? ' and copied' : ''} (${$('make-link').value.length} characters)`
+    + (doubt ? ', ' + doubt : ', and its solution is accepted.');
+}
