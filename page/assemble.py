@@ -1,7 +1,7 @@
 #!/usr/bin/env python3
-"""assemble.py TOP KEPT BITS FOLDER: puts the page together of the module that KEPT holds (lab32.wasm or lab64.wasm, with
-its verdict and the toolchain's name) and of the lessons, orders and callers' texts of TOP. FOLDER gets evl.html, one
-file with all in it, and site/, the same as separate files. tools/page calls it."""
+"""assemble.py TOP KEPT BITS FOLDER: puts the page together of the module that KEPT holds (lab32.wasm or lab64.wasm,
+with its verdict and the toolchain's name) and of the lessons, orders and callers' texts of TOP. FOLDER gets evl.html,
+one file with all in it, and site/, the same as separate files. tools/page calls it."""
 import base64, gzip, hashlib, html, json, os, re, shutil, subprocess, sys
 
 HERE = os.path.dirname(os.path.abspath(__file__))
@@ -149,7 +149,8 @@ def main():
     with open(os.path.join(kept, f'lab{bits}.wasm'), 'rb') as file:
         module = file.read()
     is_proved, foot = foot_of(top, module, read(kept, 'verdict').strip(), read(kept, 'kit').strip())
-    mark = '<span id="unproved" title="Its answers are those of the same sources, but no proof was made">UNPROVED</span>'
+    why = 'Made with no proof of the program'
+    mark = f'<span id="unproved" title="{why}">UNPROVED</span>'
     parts = {'FOOT': foot, 'UNPROVED': '' if is_proved else mark}
     files = [f'js/{name}.js' for name in MODULES]
     lessons, stored = (json.dumps(it, ensure_ascii=False).encode() for it in (lessons_of(top), stored_of(top)))

@@ -2,8 +2,8 @@
 """lower.py IN.wasm OUT.wasm: makes of a module with a 64-bit memory and table one with a 32-bit memory and table, which
 every browser since 2020 and Node 18 take. Values stay as they are (a pointer is an i64); each address is wrapped to 32
 bits where it is used. An address past 4 GiB, at which the module would trap, wraps instead: only a stack that runs over
-could reach one, and it lands past the memory's end and traps there. An instruction that is not known here is refused, and so
-is a module that imports anything but the page's five functions."""
+could reach one, and it lands past the memory's end and traps there. An instruction that is not known here is refused,
+and so is a module that imports anything but the page's five functions."""
 import sys
 
 WRAP, EXTEND_U, EXTEND_S = b'\xa7', b'\xad', b'\xac'

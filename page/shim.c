@@ -1,5 +1,5 @@
-// What the program asks of C's library, for WebAssembly: a heap over memory.grow; files, words and errors from the page,
-// by its five functions; no threads. Compiled for a 64-bit memory, as the program's own code is.
+// What the program asks of C's library, for WebAssembly: a heap over memory.grow; files, words and errors from the
+// page, by its five functions; no threads. Compiled for a 64-bit memory, as the program's own code is.
 typedef unsigned char u8;
 typedef unsigned long long u64;
 typedef long long i64;

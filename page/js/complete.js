@@ -4,8 +4,8 @@ import { $, escaped } from './now.js';
 import { put_text } from './kept.js';
 
 /** @type {Map<string, any>} */
-let calls = new Map();
-export const offer_calls = (/** @type {Map<string, any>} */ list) => { calls = list; };
+let known_calls = new Map();
+export const offer_calls = (/** @type {Map<string, any>} */ list) => { known_calls = list; };
 
 const BOARD = ['threads', 'sems', 'flags', 'xbufs', 'mutexes', 'groups'], HEADS = ['[board]', '[[step]]'];
 const ORDERS_HEADS = ['[ask]', '[[setup]]', '[[step]]', '[board]'];
@@ -17,7 +17,7 @@ const step_of = text => ({ word: text.match(/\bdo\s*=\s*"(\w+)"/)?.[1] || '',
   has: new Set([...text.matchAll(/(\w+)\s*=/g)].map(it => it[1])) });
 /** @param {string} word @param {Set<string>} has @param {string} sign */
 const keys_left = (word, has, sign) => {
-  const call = calls.get(word), keys = call ? [...call.keys.keys()] : [];
+  const call = known_calls.get(word), keys = call ? [...call.keys.keys()] : [];
   return ['do', 'who', ...keys].filter(key => !has.has(key)).map(key => key + sign);
 };
 /**
@@ -36,8 +36,8 @@ export function offered(text, at, kind) {
   const { word, has } = step_of(step), value = line.match(/(\w+)\s*=\s*("[^"]*|\w*)$/);
   if (value) {
     if (name === 'board' || name === 'ask' || name === 'callback') return null;
-    const of = calls.get(word)?.keys.get(value[1]);
-    const values = value[1] === 'do' ? [...calls.keys()].map(it => `"${it}"`) : of?.values;
+    const of = known_calls.get(word)?.keys.get(value[1]);
+    const values = value[1] === 'do' ? [...known_calls.keys()].map(it => `"${it}"`) : of?.values;
     return values ? { size: value[2].length, words: values } : null;
   }
   const key = line.match(/(?:^|[{,])\s*(\w*)$/);
@@ -51,10 +51,10 @@ export function offered(text, at, kind) {
 }
 /** What may come in a line of the console. @param {string} line @param {number} at */
 export function offered_line(line, at) {
-  const parts = line.slice(0, at).split(' '), last = parts[parts.length - 1], of = calls.get(parts[1]);
+  const parts = line.slice(0, at).split(' '), last = parts[parts.length - 1];
+  const of = known_calls.get(parts[1]), after = parts[0] === '?' ? '' : ' ';
   if (parts.length === 1) return { size: last.length, words: ['T0 ', 'T1 ', 'T2 ', 'ps', 'scenario', '? '] };
-  const after = parts[0] === '?' ? '' : ' ';
-  if (parts.length === 2) return { size: last.length, words: [...calls.keys()].map(it => it + after) };
+  if (parts.length === 2) return { size: last.length, words: [...known_calls.keys()].map(it => it + after) };
   const value = last.match(/^(\w+)=(.*)$/), has = new Set(parts.slice(2, -1).map(it => it.split('=')[0]));
   if (!of) return null;
   if (!value) return { size: last.length, words: keys_left(parts[1], has, '=').slice(2) };
@@ -71,9 +71,10 @@ export function close_offers() {
 }
 function show_offers() {
   const { box, words, chosen, place } = open, list = $('offers'), from = Math.max(0, chosen - 7);
-  list.innerHTML = words.slice(from, from + 8).map((/** @type {string} */ it, /** @type {number} */ i) =>
-    `<div role="option" id="offer-${i}" data-n="${from + i}" aria-selected="${from + i === chosen}">${escaped(it)}</div>`)
-    .join('') + (words.length > from + 8 ? '<div class="dim">and more</div>' : '');
+  const option = (/** @type {string} */ it, /** @type {number} */ i) => `<div role="option" id="offer-${i}" `
+    + `data-n="${from + i}" aria-selected="${from + i === chosen}">${escaped(it)}</div>`;
+  const more = words.length > from + 8 ? '<div class="dim">and more</div>' : '';
+  list.innerHTML = words.slice(from, from + 8).map(option).join('') + more;
   list.hidden = false;
   const high = list.offsetHeight, top = place.bottom + high > innerHeight ? place.top - high : place.bottom;
   list.style.left = Math.max(0, Math.min(place.left, innerWidth - list.offsetWidth - 4)) + 'px';
@@ -99,7 +100,7 @@ export function take_offer(n) {
   put_text(box, word, at - size, at + (closes ? 1 : 0));
   box.dispatchEvent(new Event('input'));
 }
-/** A key while something is offered; whether it was for the list. @param {KeyboardEvent} event */
+/** A key while something is offered; whether it was for the list. @param {any} event */
 export function offer_key(event) {
   if (!open || event.target !== open.box) return false;
   const by = { ArrowUp: -1, ArrowDown: 1 }[event.key];

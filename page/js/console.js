@@ -14,10 +14,11 @@ export function begin_console() {
 }
 /** @param {string} [trouble] */
 function show_said(trouble = '') {
-  const refused = /^(!.*|.* -&#62; [A-Z].*)$/gm, head = `The machine after the last step of ${now.viewed ? 'the outcome' : 'the text'}.`;
-  $('said').innerHTML = `<span class="dim">${head}</span>\n` + lines.map(it => `<span class="me">&gt; ${escaped(it.line)}</span>\n`
-    + escaped(it.answer).replace(refused, '<span class="refused">$1</span>')).join('')
-    + (trouble && `<span class="refused">${escaped(trouble)}</span>\n`);
+  const refused = /^(!.*|.* -&#62; [A-Z].*)$/gm, of = now.viewed ? 'the outcome' : 'the text';
+  const told = lines.map(it => `<span class="me">&gt; ${escaped(it.line)}</span>\n`
+    + escaped(it.answer).replace(refused, '<span class="refused">$1</span>'));
+  if (trouble) told.push(`<span class="refused">${escaped(trouble)}</span>\n`);
+  $('said').innerHTML = `<span class="dim">The machine after the last step of ${of}.</span>\n${told.join('')}`;
   $('said').scrollTop = 1e9;
   $('undo').disabled = !lines.length;
 }

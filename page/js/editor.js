@@ -11,7 +11,8 @@ function marked(line, it, i) {
   let body = escaped(line) || ' ', kind = '';
   if (it) {
     kind = it.fault ? ' fault' : ' warned';
-    const at = Math.min(it.column || 0, line.length), size = line.slice(at).match(/^("[^"]*"|[\w.]+|\S)/)?.[0].length || 0;
+    const at = Math.min(it.column || 0, line.length);
+    const size = line.slice(at).match(/^("[^"]*"|[\w.]+|\S)/)?.[0].length || 0;
     const parts = [line.slice(0, at), line.slice(at, at + size), line.slice(at + size)].map(escaped);
     body = `${parts[0]}<u class="${it.fault ? '' : 'w'}">${parts[1] || ' '}</u>${parts[2]}`;
   }
@@ -51,22 +52,24 @@ export function show_line(n) {
 function fix_of(it) {
   const near = it.says.match(/"([^"]*)".*; did you mean "([^"]*)"\?/);
   if (!near || it.line === undefined) return null;
-  const line = $('text').value.split('\n')[it.line] || '', at = line.indexOf(near[1], Math.min(it.column, line.length));
+  const line = $('text').value.split('\n')[it.line] || '';
+  const at = line.indexOf(near[1], Math.min(it.column, line.length));
   return at < 0 ? null : { from: at, to: at + near[1].length, word: near[2] };
 }
 export function show_faults() {
   const well = { play: 'no fault, no warning', orders: 'no fault', callers: 'it plays' }[now.kind] || '';
   const items = now.told.slice(0, MOST_FAULTS).map((it, i) => {
     const fix = fix_of(it), place = `${it.fault ? 'fault' : 'warning'} ${it.where}`.trim();
+    const button = fix ? ` <button class="fix" data-fix="${i}">write ${escaped(fix.word)}</button>` : '';
     return `<li class="${it.fault ? 'f' : 'w'}"><button class="place" data-i="${i}">${escaped(place)}</button> `
-      + escaped(it.says) + (fix ? ` <button class="fix" data-fix="${i}">write ${escaped(fix.word)}</button>` : '') + '</li>';
+      + `${escaped(it.says)}${button}</li>`;
   });
   const rest = now.told.length - MOST_FAULTS;
   if (rest > 0) items.push(`<li>and ${rest} more</li>`);
   $('faults').innerHTML = items.join('') || (well ? `<li class="ok">${well}</li>` : '');
 }
 /** @param {number} line */
-const start_of = line => $('text').value.split('\n').slice(0, line).reduce((/** @type {number} */ n, it) => n + it.length + 1, 0);
+const start_of = line => line && $('text').value.split('\n').slice(0, line).join('\n').length + 1;
 /** @param {number} line */
 export function go_to(line, column = 0) {
   const at = start_of(line) + column;
@@ -121,7 +124,8 @@ export function offer_in_text(asked = false) {
 }
 /** Goes to the next place of what is sought, or the one before. @param {boolean} back */
 export function find(back) {
-  const box = $($('side-text').hidden ? 'bank' : 'text'), text = box.value.toLowerCase(), word = $('find').value.toLowerCase();
+  const box = $($('side-text').hidden ? 'bank' : 'text');
+  const text = box.value.toLowerCase(), word = $('find').value.toLowerCase();
   if (!word) return;
   const from = back ? box.selectionStart - 1 : box.selectionEnd, whole = text.split(word).length - 1;
   let at = back ? (from < 0 ? -1 : text.lastIndexOf(word, from)) : text.indexOf(word, from);

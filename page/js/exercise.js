@@ -31,11 +31,13 @@ async function judged(it, text, bank) {
   if (text.includes(HOLE)) return ['bad', `There is a hole (${HOLE}) left.`];
   const lost = it.keeps === false ? null : lost_line(it.text, text);
   if (lost !== null) return ['bad', `This line of the exercise has to stay: ${lost}`];
-  if (it.check === 'ask') return verdict_of(await gone_through({ kind: 'orders', text: with_ask(text, it.ask), bank }, it.ask));
+  const asking = { kind: 'orders', text: with_ask(text, it.ask || ''), bank };
+  if (it.check === 'ask') return verdict_of(await gone_through(asking, it.ask));
   const mine = await played({ kind: kind_of(text), text, bank });
   if (mine.status) return ['bad', 'It does not play: ' + mine.err.trim().replace('scenario.toml: ', '')];
   if (it.check === 'lines') return lines_there(bare_lines(mine.out), it.lines);
-  const right = await played({ kind: kind_of(it.solution), text: it.solution, bank: it.bank_solution || it.bank || '' });
+  const own = it.bank_solution || it.bank || '';
+  const right = await played({ kind: kind_of(it.solution), text: it.solution, bank: own });
   return same_trace(bare_lines(mine.out), bare_lines(right.out));
 }
 export async function check_exercise() {
@@ -45,9 +47,12 @@ export async function check_exercise() {
   [box.className, box.textContent] = await judged(now.lesson.exercise, $('text').value, $('bank').value);
 }
 /** @param {any} it */
-export const exercise_lesson = it => ({ key: 'exercise ' + it.title, title: it.title || 'An exercise', group: 'Exercises',
-  text: it.text, bank: it.bank || '', exercise: it,
-  story: `<h2>${escaped(it.title || '')}</h2>` + String(it.question || '').split('\n\n').map(p => `<p>${escaped(p)}</p>`).join('') });
+export function exercise_lesson(it) {
+  const title = it.title || 'An exercise', parts = String(it.question || '').split('\n\n');
+  const story = `<h2>${escaped(title)}</h2>` + parts.map(part => `<p>${escaped(part)}</p>`).join('');
+  const { text, bank = '' } = it;
+  return { key: 'exercise ' + title, title, group: 'Exercises', story, text, bank, exercise: it };
+}
 export function show_task() {
   const it = now.lesson?.exercise;
   $('task').hidden = !it;
@@ -63,7 +68,8 @@ export function show_task() {
 }
 /** The form in which a teacher makes one, filled with what is there. */
 export function make_exercise() {
-  const it = now.lesson?.exercise, text = $('text').value, put = (id, value) => { $('make-' + id).value = value; };
+  const it = now.lesson?.exercise, text = $('text').value;
+  const put = (/** @type {string} */ id, /** @type {string} */ value) => { $('make-' + id).value = value; };
   put('title', it ? it.title : now.lesson?.title || 'Exercise');
   put('question', it ? it.question : '');
   put('text', it ? it.text : text);
@@ -81,24 +87,28 @@ export function show_wanted() {
   $('make-wanted-label').hidden = check === 'trace';
   $('make-wanted-name').textContent = check === 'ask' ? 'The table [ask]' : 'The lines, without their numbers';
 }
-/** Makes a hole of what is selected, or of the quoted word around the caret. */
+/** Makes a hole of what is selected. */
 export function make_hole() {
-  const box = $('make-text'), from = box.selectionStart, to = box.selectionEnd, part = box.value.slice(from, to);
+  const box = $('make-text'), from = box.selectionStart, to = box.selectionEnd;
+  const part = box.value.slice(from, to);
   if (from === to) $('make-said').textContent = 'Select in the text what is to be a hole.';
   else box.setRangeText(part.includes('\n') ? HOLE_LINE + '\n' : HOLE);
 }
 /** Tries the exercise with its own solution, and makes the link. */
 export async function exercise_made() {
-  const value = id => $('make-' + id).value, check = value('check'), wanted = value('wanted').trim(), bank = $('bank').value;
-  const it = { title: value('title'), question: value('question'), text: value('text'), solution: value('solution'), check,
-    ...(bank.trim() ? { bank } : {}), ...(check === 'ask' ? { ask: wanted } : {}),
-    ...(check === 'lines' ? { lines: wanted.split('\n').filter(Boolean) } : {}) };
+  const value = (/** @type {string} */ id) => $('make-' + id).value;
+  const check = value('check'), wanted = value('wanted').trim(), bank = $('bank').value;
+  const [title, question, text, solution] = ['title', 'question', 'text', 'solution'].map(value);
+  const it = { title, question, text, solution, check, ...(bank.trim() ? { bank } : {}),
+    ...(check === 'ask' ? { ask: wanted } : check === 'lines' ? { lines: wanted.split('\n').filter(Boolean) } : {}) };
   const [how, says] = await judged(it, it.solution, bank), open = it.text === it.solution;
   $('make-link').value = await link_of('exercise', it);
   $('make-link').select();
   const done = await copied($('make-link').value);
-  const doubt = how !== 'good' ? `but its own solution is not accepted: ${says}` : open ? 'but it has no hole yet' : '';
+  const doubt = how !== 'good' ? `but its own solution is not accepted: ${says}`
+    : open ? 'but its text has no hole yet' : '';
   $('make-said').className = doubt ? 'unknown' : 'good';
-  $('make-said').textContent = `The link is made${done ? ' and copied' : ''} (${$('make-link').value.length} characters)`
+  const size = $('make-link').value.length;
+  $('make-said').textContent = `The link is made${done ? ' and copied' : ''} (${size} characters)`
     + (doubt ? ', ' + doubt : ', and its solution is accepted.');
 }

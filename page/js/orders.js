@@ -1,4 +1,4 @@
-// Every order in which the callers may come: a verdict, what was asked, a table of the outcomes, each opened by a click.
+// Every order in which the callers may come: a verdict, what was asked, a table of outcomes, each opened by a click.
 import { $, now, escaped } from './now.js';
 import { gone_through, stop_orders, ORDERS_SECONDS } from './asks.js';
 import { ask_of } from './text.js';
@@ -10,8 +10,8 @@ let shown = null;
 
 /** What the program does not report of a question that may be wrong. @param {any} it */
 function doubts(it) {
-  const found = [], answers = new Map();
-  if (/->\s{2,}|\s{2,}->/.test(it.asks)) found.push('An answer in "never" has two blanks at its arrow, so it never fits.');
+  const found = [], answers = new Map(), blanks = /->\s{2,}|\s{2,}->/.test(it.asks);
+  if (blanks) found.push('An answer in "never" has two blanks at its arrow, so it never fits.');
   for (const [, who, answer] of it.asks.matchAll(/"(T\d+) -> (\w+)[^"]*"/g))
     if (!it.outcomes.some(o => o.answers.some(line => line.startsWith(who + ' '))))
       found.push(`${who} has no step, so "${who} -> ${answer}" can never come.`);
@@ -32,10 +32,11 @@ function doubts(it) {
 }
 /** How it ended, and in which words. @param {any} it */
 export function verdict_of(it) {
-  const why = it.err.trim().replace(/^lab: /, '').replace('scenario.toml: ', ''), doubt = it.asks ? doubts(it)[0] : '';
+  const why = it.err.trim().replace(/^lab: /, '').replace('scenario.toml: ', '');
+  const doubt = it.asks ? doubts(it)[0] : '';
   if (it.status === -2) return ['unknown', `Not answered: ${why}. Fewer callers or fewer steps have fewer orders.`];
   if (it.against.length) return ['bad', `No: outcome ${it.against.join(', ')} is against what is asked.`];
-  if (it.cut) return ['unknown', `Not answered: cut off, nothing is known of longer orders (${it.orders} went to their end).`];
+  if (it.cut) return ['unknown', `Not answered: cut off; nothing is known of longer orders (${it.orders} ended).`];
   if (it.status) return ['bad', `Not gone through: ${why}`];
   if (!it.asks) return ['none', `Nothing is asked. There are ${it.orders} orders.`];
   const well = `holds in all ${it.orders} orders`;
@@ -65,7 +66,8 @@ export async function go_orders(mine, text) {
 /** @param {any} o @param {number} i @param {any} it @param {number} sum */
 function outcome_row(o, i, it, sum) {
   const bad = it.against.includes(o.number), sign = bad ? ' ✗<span class="heard"> against what is asked</span>' : '';
-  const ends = [...o.stuck.map(s => `<b class="refused">stuck: ${escaped(s)}</b>`), ...o.ends.map(escaped)].join('<br>');
+  const stuck = o.stuck.map(says => `<b class="refused">stuck: ${escaped(says)}</b>`);
+  const ends = [...stuck, ...o.ends.map(escaped)].join('<br>');
   const answers = o.answers.map(a => escaped(a.replace(' -> ', ': ').replace(/ -> /g, ', '))).join('<br>');
   return `<tr class="${bad ? 'bad' : ''}"><th scope="row">${o.number}${sign} <button data-open="${i}" `
     + `aria-label="Open outcome ${o.number}">Open</button></th><td class="n">${o.count}`
@@ -80,16 +82,18 @@ function show_orders(it) {
   $('verdict').textContent = says;
   $('asked').innerHTML = it.asks
     ? `<b>Asked</b> ${it.asks.split('\n').slice(1).map(line => `<code>${escaped(line)}</code>`).join(' ')}`
-    : 'Ask by a table <code>[ask]</code>, as <code>always_ends = true</code> or <code>never = ["T1 -> timed out"]</code>.';
+    : 'Ask by a table <code>[ask]</code>, as <code>always_ends = true</code>.';
   $('doubts').innerHTML = doubts(it).map(doubt => `<li>${escaped(doubt)}</li>`).join('');
-  const heads = ['outcome', 'orders', 'ends', 'answers of each caller', 'first order'].map(h => `<th scope="col">${h}</th>`);
-  const rows = it.outcomes.slice(0, MOST_OUTCOMES).map((o, i) => outcome_row(o, i, it, sum)), rest = it.outcomes.length - rows.length;
+  const heads = ['outcome', 'orders', 'ends', 'answers of each caller', 'first order'];
+  const rows = it.outcomes.slice(0, MOST_OUTCOMES).map((o, i) => outcome_row(o, i, it, sum));
+  const rest = it.outcomes.length - rows.length, head = heads.map(h => `<th scope="col">${h}</th>`).join('');
   $('outcomes').innerHTML = !rows.length ? '' : `<table><caption>${it.orders} orders, ${it.outcomes.length} outcomes, `
     + `${(it.ms / 1000).toFixed(2)} s. The first order of each outcome opens as trace and picture.</caption>`
-    + `<thead><tr>${heads.join('')}</tr></thead><tbody>${rows.join('')}</tbody></table>`
+    + `<thead><tr>${head}</tr></thead><tbody>${rows.join('')}</tbody></table>`
     + (rest > 0 ? `<p>and ${rest} more outcomes</p>` : '');
 }
 /** @param {any} it */
-export const view_of = it => ({ text: it.text, title: `Outcome ${it.number} (${it.count} orders), in the order ${it.order}` });
+export const view_of = it =>
+  ({ text: it.text, title: `Outcome ${it.number} (${it.count} orders), in the order ${it.order}` });
 /** @param {number} i */
 export const outcome_shown = i => view_of(shown.outcomes[i]);

@@ -4,10 +4,11 @@ import { begin_program, calls, checked, run, stop_orders } from './asks.js';
 import { close_offers, offer_calls, offer_key, take_offer } from './complete.js';
 import { begin_console, console_key, offer_in_line, say, scenario_of_console, undo_line } from './console.js';
 import { find, go_to, indent, offer_in_text, open_side, paint, put_fix, show_faults } from './editor.js';
-import { check_exercise, exercise_lesson, exercise_made, make_exercise, make_hole, show_task, show_wanted } from './exercise.js';
+import { check_exercise, exercise_lesson, exercise_made, make_exercise } from './exercise.js';
+import { make_hole, show_task, show_wanted } from './exercise.js';
 import { copied, handed, keep_texts, kept, link_of, put_text, save_file } from './kept.js';
 import { go_orders, outcome_shown, view_of } from './orders.js';
-import { fit, fit_again, mark_picture } from './picture.js';
+import { fit, mark_picture, zoom_by } from './picture.js';
 import { json_of, part_of } from './program.js';
 import { play_text, show_none, show_state, walk } from './steps.js';
 import { kind_of, steps_of, KINDS } from './text.js';
@@ -139,7 +140,10 @@ function split(id, name_of, low, high, is_across) {
     const box = bar.parentNode.getBoundingClientRect();
     put(100 * (is_across() ? (event.clientX - box.left) / box.width : (event.clientY - box.top) / box.height));
   };
-  bar.onpointerdown = (/** @type {any} */ event) => { bar.setPointerCapture(event.pointerId); bar.onpointermove = drag; };
+  bar.onpointerdown = (/** @type {any} */ event) => {
+    bar.setPointerCapture(event.pointerId);
+    bar.onpointermove = drag;
+  };
   bar.onpointerup = () => { bar.onpointermove = null; };
   bar.onkeydown = (/** @type {any} */ event) => {
     const by = { ArrowLeft: -2, ArrowUp: -2, ArrowRight: 2, ArrowDown: 2 }[event.key];
@@ -149,14 +153,16 @@ function split(id, name_of, low, high, is_across) {
     put(Number(bar.getAttribute('aria-valuenow')) + by);
   };
 }
-/** Arrow keys on a tab open the next one; else they walk through the steps, where nothing is typed. @param {any} event */
+/** Arrow keys on a tab open the next one; else they walk through the steps, but where one types. @param {any} event */
 function keys(event) {
-  const step = { ArrowLeft: '-1', ArrowRight: '1', ArrowUp: '-1', ArrowDown: '1', Home: 'first', End: 'last' }[event.key];
+  const by = { ArrowLeft: '-1', ArrowUp: '-1', ArrowRight: '1', ArrowDown: '1', Home: 'first', End: 'last' };
+  const step = by[event.key];
   if (!step || document.querySelector('dialog[open]')) return;
   const it = event.target, plain = !event.altKey && !event.ctrlKey && !event.metaKey;
   if (it.getAttribute('role') === 'tab') {
-    const tabs = [...it.parentNode.querySelectorAll('[role=tab]')].filter(tab => tab.offsetParent), at = tabs.indexOf(it);
-    const to = step === 'first' ? 0 : step === 'last' ? tabs.length - 1 : (at + Number(step) + tabs.length) % tabs.length;
+    const tabs = [...it.parentNode.querySelectorAll('[role=tab]')].filter(tab => tab.offsetParent);
+    const next = (tabs.indexOf(it) + Number(step) + tabs.length) % tabs.length;
+    const to = step === 'first' ? 0 : step === 'last' ? tabs.length - 1 : next;
     event.preventDefault();
     tabs[to].click();
     return tabs[to].focus();
@@ -178,8 +184,9 @@ async function compare() {
     + (differ.length ? `; not ${differ.join(', ')}` : '');
 }
 async function share() {
-  const bank = $('bank').value, it = { title: now.lesson.title, text: $('text').value, ...(bank.trim() ? { bank } : {}) };
-  const to = now.lesson.exercise ? await link_of('exercise', { ...now.lesson.exercise }) : await link_of('text', it);
+  const text = $('text').value, bank = $('bank').value, { title, exercise } = now.lesson;
+  const it = { title, text, ...(bank.trim() ? { bank } : {}) };
+  const to = exercise?.text === text ? await link_of('exercise', exercise) : await link_of('text', it);
   history.replaceState(null, '', to);
   const done = await copied(to);
   $('status').textContent = `${done ? 'link copied' : 'the link is in the address'} (${to.length} characters)`;
@@ -225,19 +232,24 @@ function view(view) {
   open_tab('walk');
   return play_text(now.turn);
 }
+/** Control and blank ask what may come here. @param {any} event @param {(asked: boolean) => void} does */
+function asks_offer(event, does) {
+  if (event.key !== ' ' || !event.ctrlKey) return false;
+  event.preventDefault();
+  does(true);
+  return true;
+}
 function wire_texts() {
   for (const id of ['text', 'bank']) {
     on(id, 'input', changed_text);
-    on(id, 'keydown', event => offer_key(event) || indent(event));
+    on(id, 'keydown', event => offer_key(event) || id === 'text' && asks_offer(event, offer_in_text) || indent(event));
     on(id + '-tab', 'click', () => open_side(id));
   }
   on('text', 'input', event => { if (event.isTrusted) offer_in_text(); });
   on('text', 'blur', close_offers);
-  on('text', 'keydown', event => { if (event.key === ' ' && event.ctrlKey) { event.preventDefault(); offer_in_text(true); } });
   on('line', 'input', event => { if (event.isTrusted) offer_in_line(); });
   on('line', 'blur', close_offers);
-  on('line', 'keydown', event => offer_key(event) || console_key(event));
-  on('line', 'keydown', event => { if (event.key === ' ' && event.ctrlKey) { event.preventDefault(); offer_in_line(true); } });
+  on('line', 'keydown', event => offer_key(event) || asks_offer(event, offer_in_line) || console_key(event));
   on('offers', 'pointerdown', event => {
     event.preventDefault();
     if (event.target.dataset.n) take_offer(Number(event.target.dataset.n));
@@ -260,13 +272,15 @@ function wire_views() {
   on('drawing', 'click', to_step);
   on('slider', 'input', () => show_state(Number($('slider').value)));
   for (const it of all('[data-walk]')) it.onclick = () => walk(it.dataset.walk);
-  for (const it of all('[data-zoom]')) it.onclick = () => { Number(it.dataset.zoom) ? fit(Number(it.dataset.zoom)) : fit_again(); mark_picture(); };
+  for (const it of all('[data-zoom]')) it.onclick = () => { zoom_by(Number(it.dataset.zoom)); mark_picture(); };
   for (const it of all('[role=tab][data-pane]')) it.onclick = () => open_tab(it.dataset.pane);
   on('key-button', 'click', () => {
     $('key-button').setAttribute('aria-expanded', String(!document.body.classList.toggle('keyless')));
     fit();
   });
-  on('outcomes', 'click', event => { if (event.target.dataset.open) view(outcome_shown(Number(event.target.dataset.open))); });
+  on('outcomes', 'click', event => {
+    if (event.target.dataset.open) view(outcome_shown(Number(event.target.dataset.open)));
+  });
   on('orders-stop', 'click', () => stop_orders('stopped by you'));
   on('viewed-back', 'click', () => open_tab('orders'));
   on('viewed-take', 'click', () => {
@@ -291,7 +305,10 @@ function wire_views() {
 function wire_head() {
   on('lessons-button', 'click', () => show_list(!document.body.classList.contains('listed')));
   on('open', 'click', () => $('file').click());
-  on('file', 'change', event => { if (event.target.files[0]) take_file(event.target.files[0]); event.target.value = ''; });
+  on('file', 'change', event => {
+    if (event.target.files[0]) take_file(event.target.files[0]);
+    event.target.value = '';
+  });
   on('save', 'click', save_text);
   on('back-to', 'click', () => {
     put_text($('text'), now.lesson.text);

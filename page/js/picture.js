@@ -42,7 +42,7 @@ function bands_of(parts) {
 /** A mark with its number below it in place of its line, which the trace has. @param {Element} it */
 function number_mark(it, number, band, x, y) {
   const says = it.querySelector('title')?.textContent || '', line = says.match(/^\s+line (\d+) /);
-  for (const text of it.querySelectorAll('text')) if (text.getAttribute('transform')?.includes('rotate(90)')) text.remove();
+  for (const text of it.querySelectorAll('text[transform*="rotate(90)"]')) text.remove();
   const below = { x: 0, y: band.low - y + 24, 'text-anchor': 'middle', 'font-size': 9 };
   it.append(made('text', below, /^\d/.test(says) ? String(number) : '·'));
   if (line) it.append(made('text', { x: 0, y: -11, 'text-anchor': 'middle', 'font-weight': 'bold' }, line[1]));
@@ -52,8 +52,9 @@ function number_mark(it, number, band, x, y) {
 }
 /** @param {string} text */
 function reshaped(text) {
-  const svg = new DOMParser().parseFromString(text, 'image/svg+xml').documentElement, parts = [...svg.children].slice(1);
+  const svg = new DOMParser().parseFromString(text, 'image/svg+xml').documentElement;
   if (svg.localName !== 'svg') return null;
+  const parts = [...svg.children].slice(1);
   const { lanes, bands, end } = bands_of(parts), key = [];
   if (!bands.length) return null;
   const out = made('svg', { 'font-family': 'DejaVu Sans Mono, monospace', 'font-size': 9 });
@@ -136,9 +137,9 @@ export function show_picture(text, name) {
   box.replaceChildren(at.out);
   fit();
 }
-export function fit(by = 0) {
-  zoom = by ? zoom * by : zoom;
-  const svg = $('drawing').firstElementChild, box = $('drawing'), most = document.body.classList.contains('wide') ? 3 : 2.2;
+export function fit() {
+  const svg = $('drawing').firstElementChild, box = $('drawing');
+  const most = document.body.classList.contains('wide') ? 3 : 2.2;
   if (svg?.localName !== 'svg') return;
   const least = Math.min((box.clientWidth - 4) / size[0], (box.clientHeight - 4) / size[1], most);
   const scale = Math.max(1, least) * zoom;
@@ -146,7 +147,11 @@ export function fit(by = 0) {
   svg.style.height = size[1] * scale + 'px';
   $('zoom').textContent = Math.round(scale * 100) + ' %';
 }
-export const fit_again = () => { zoom = 1; fit(); };
+/** Makes the picture larger or smaller; by 0 it fits again. @param {number} by */
+export function zoom_by(by) {
+  zoom = by ? zoom * by : 1;
+  fit();
+}
 export function mark_picture() {
   for (const it of all('#drawing .here')) it.remove();
   for (const it of columns) {
@@ -160,5 +165,6 @@ export function mark_picture() {
   const beside = here.left < around.left + 20 || here.right > around.right - 20;
   if (beside) box.scrollLeft += here.left - around.left - around.width / 2;
   if (here.top < around.top) box.scrollTop += here.top - around.top - 10;
-  else if (here.bottom > around.bottom && here.height < around.height) box.scrollTop += here.bottom - around.bottom + 10;
+  else if (here.bottom > around.bottom && here.height < around.height)
+    box.scrollTop += here.bottom - around.bottom + 10;
 }

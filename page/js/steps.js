@@ -10,7 +10,8 @@ let states = new Map();
 
 /** @param {any} it @param {number} i */
 function line_of(it, i) {
-  const text = escaped(it.line).replace(/ -&#62; (.*?)( \| .*)?$/, ' <span class="nb">-&gt; <b>$1</b></span><i>$2</i>');
+  const answer = ' <span class="nb">-&gt; <b>$1</b></span><i>$2</i>';
+  const text = escaped(it.line).replace(/ -&#62; (.*?)( \| .*)?$/, answer);
   if (it.kind === 'board') return `<div class="board">${escaped(it.line)}</div>`;
   const refused = it.kind === 'entry' && /^[A-Z]/.test(it.answer) ? ' refused' : '';
   return `<div id="line-${i}" role="option" aria-selected="false" class="${it.kind}${refused}" `
@@ -43,16 +44,19 @@ async function known_at(step) {
 /** The rows of a thread: its stage, policy, rank, what it is, and for what it waits. @param {any} at @param {any} it */
 function thread_row(at, it) {
   const rank = at.ranks.get(it.name), policy = at.policies.get(it.name) || '', parts = policy.split(' ');
-  const own = parts[0] === 'rr' ? +parts[1] : +parts[parts.length - 1], lifted = policy && rank % 256 !== own ? ' ↑' : '';
+  const own = parts[0] === 'rr' ? +parts[1] : +parts[parts.length - 1];
+  const says = rank === undefined ? '–' : rank_text(rank) + (policy && rank % 256 !== own ? ' ↑' : '');
   const is = it.waits ? 'blocked' : rank === undefined ? '–' : it.name === at.picked ? 'picked'
     : it.stage === 'oob' ? 'ready' : 'in-band';
-  return [it.name, it.stage === 'oob' ? 'oob' : 'in-band', policy || '–', rank === undefined ? '–' : rank_text(rank) + lifted,
-    is, it.waits.replace(/ until=none/, '')];
+  const stage = it.stage === 'oob' ? 'oob' : 'in-band';
+  return [it.name, stage, policy || '–', says, is, it.waits.replace(/ until=none/, '')];
 }
-/** @param {any} at */
-const table_of = at => ({ rows: [...at.rows],
-  threads: (at.threads.length > MOST_THREADS ? at.threads.filter((/** @type {any} */ it) => it.waits || at.ranks.has(it.name))
-    : at.threads).map((/** @type {any} */ it) => thread_row(at, it)) });
+/** Of many threads only those that are attached or wait. @param {any} at */
+function table_of(at) {
+  const is_told = (/** @type {any} */ it) => at.threads.length <= MOST_THREADS || it.waits || at.ranks.has(it.name);
+  const threads = at.threads.filter(is_told).map((/** @type {any} */ it) => thread_row(at, it));
+  return { threads, rows: [...at.rows] };
+}
 /** Of callers' texts: how each lock was when it was last shown. @param {number} step */
 function locks_at(step) {
   const rows = new Map();
@@ -75,13 +79,14 @@ function cell(text, was, head) {
 function show_table(at, before, step) {
   const were = new Map(before.threads.map(it => [it[0], it])), had = new Map(before.rows);
   const when = step ? `After step ${step}; what it changed is marked` : 'At the start';
-  const heads = ['thread', 'stage', 'policy', 'rank', 'is', 'waits for'].map(it => `<th scope="col">${it}</th>`).join('');
-  const threads = at.threads.map(it => `<tr>${it.map((text, i) => cell(text, were.get(it[0])?.[i], !i)).join('')}</tr>`);
+  const heads = ['thread', 'stage', 'policy', 'rank', 'is', 'waits for'].map(it => `<th scope="col">${it}</th>`);
+  const row_of = it => `<tr>${it.map((text, i) => cell(text, were.get(it[0])?.[i], !i)).join('')}</tr>`;
+  const threads = at.threads.map(row_of);
   const rows = at.rows.map(([of, says]) => {
     const was = had.has(of) ? had.get(of) : before.rows.length || step ? '' : undefined;
     return `<tr><th scope="row">${escaped(of)}</th>${cell(says, was, false)}</tr>`;
   });
-  const parts = [threads.length && `<table><caption>${when}</caption><thead><tr>${heads}</tr></thead>`
+  const parts = [threads.length && `<table><caption>${when}</caption><thead><tr>${heads.join('')}</tr></thead>`
     + `<tbody>${threads.join('')}</tbody></table>`,
     rows.length && `<table><caption class="${threads.length ? 'heard' : ''}">${when}</caption>`
     + `<tbody>${rows.join('')}</tbody></table>`];
@@ -93,7 +98,7 @@ function show_in(box, it) {
   if (here.top < around.top + 30) box.scrollTop += here.top - around.top - 40;
   else if (here.bottom > around.bottom - 40) box.scrollTop += here.bottom - around.bottom + 60;
 }
-/** Goes to a step: its lines, its column, its place in the text, and how the machine is after it. @param {number} step */
+/** Goes to a step: its lines, its column, its place in the text, and the machine after it. @param {number} step */
 export async function show_state(step) {
   now.shown = step;
   $('slider').value = step;
