@@ -8,6 +8,8 @@ HERE = os.path.dirname(os.path.abspath(__file__))
 # Each after those that it imports: the one file has them one after another.
 MODULES = ('now', 'program', 'text', 'reads', 'asks', 'kept', 'complete', 'editor', 'picture', 'steps', 'orders',
            'console', 'exercise', 'page')
+# A line of a trace in a lesson: a click goes to its step.
+STEP = r'<button class="at" data-step="\1">\g<0></button>'
 # Where texts lie: in examples/, or at the top.
 FOLDERS = ('examples', '.')
 
@@ -43,7 +45,8 @@ def story_of(title, body):
     parts = [f'<h2>{html.escape(title)}</h2>']
     for block in re.split(r'(```.*?```)', body, flags=re.S):
         if block.startswith('```'):
-            parts.append('<pre>' + html.escape(block.strip('`').lstrip('\n'), quote=False) + '</pre>')
+            text = html.escape(block.strip('`').strip('\n'), quote=False)
+            parts.append('<pre>' + re.sub(r'^(\d+) T\d.*$', STEP, text, flags=re.M) + '</pre>')
             continue
         paragraphs = [it.strip() for it in block.split('\n\n')]
         parts += [f'<p>{inline(it)}</p>' for it in paragraphs if it and not it.startswith('![')]
@@ -64,6 +67,8 @@ def lessons_of(top):
     if not lessons:
         sys.exit('page: docs/LESSONS.md names no lesson')
     for it in json.loads(read(HERE, 'exercises.json')):
+        it |= {key: '\n'.join(it[key]) + '\n' for key in ('text', 'solution', 'ask') if key in it}
+        it['question'] = ' '.join(it['question'])
         lessons.append({'group': 'Exercises', 'title': it['title'], 'exercise': it})
     for group, name in (('Orders', 'orders'), ('Callers', 'callers')):
         for file in texts_of(folder_of(top, name)):

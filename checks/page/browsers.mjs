@@ -79,7 +79,7 @@ export class Chromium extends Browser {
   send(method, params = {}) {
     return new Promise((done, fails) => {
       const id = ++this.last;
-      this.waits.set(id, answer => answer.error ? fails(new Error(`${method}: ${answer.error.message}`)) : done(answer.result));
+      this.waits.set(id, ({ error, result }) => error ? fails(new Error(`${method}: ${error.message}`)) : done(result));
       this.process.stdio[3].write(JSON.stringify({ id, method, params, sessionId: this.session }) + '\0');
     });
   }
@@ -96,8 +96,10 @@ export class Chromium extends Browser {
     await this.send('Emulation.setDeviceMetricsOverride', { width, height, deviceScaleFactor: 1, mobile: false });
   }
   async press(x, y) {
-    for (const type of ['mouseMoved', 'mousePressed', 'mouseReleased'])
-      await this.send('Input.dispatchMouseEvent', { type, x, y, button: type === 'mouseMoved' ? 'none' : 'left', clickCount: 1 });
+    for (const type of ['mouseMoved', 'mousePressed', 'mouseReleased']) {
+      const button = type === 'mouseMoved' ? 'none' : 'left';
+      await this.send('Input.dispatchMouseEvent', { type, x, y, button, clickCount: 1 });
+    }
   }
   async key(key, held = '') {
     const modifiers = { '': 0, Alt: 1, Control: 2, Shift: 8 }[held];
@@ -135,8 +137,10 @@ export class Firefox extends Browser {
   static async open() {
     const port = 20000 + process.pid % 20000;
     const it = new Firefox('firefox', 'firefox-esr', folder => {
-      fs.writeFileSync(path.join(folder, 'user.js'), `user_pref("marionette.port", ${port});\n`
-        + 'user_pref("browser.shell.checkDefaultBrowser", false);\nuser_pref("datareporting.policy.firstRunURL", "");\n');
+      const prefs = { 'marionette.port': port, 'browser.shell.checkDefaultBrowser': false,
+        'datareporting.policy.firstRunURL': '' };
+      fs.writeFileSync(path.join(folder, 'user.js'), Object.entries(prefs)
+        .map(([name, value]) => `user_pref(${JSON.stringify(name)}, ${JSON.stringify(value)});\n`).join(''));
       return ['--headless', '--marionette', '--no-remote', '--profile', folder];
     }, ['ignore', 'ignore', 'ignore']);
     it.socket = await it.reached(port);
@@ -204,8 +208,11 @@ export class Firefox extends Browser {
   }
   async key(key, held = '') {
     const stroke = value => [{ type: 'keyDown', value }, { type: 'keyUp', value }], value = KEYS[key] || key;
-    const actions = held ? [{ type: 'keyDown', value: KEYS[held] }, ...stroke(value), { type: 'keyUp', value: KEYS[held] }]
-      : stroke(value);
+    const actions = stroke(value);
+    if (held) {
+      actions.unshift({ type: 'keyDown', value: KEYS[held] });
+      actions.push({ type: 'keyUp', value: KEYS[held] });
+    }
     await this.act([{ type: 'key', id: 'keys', actions }]);
     await sleep(40);
   }

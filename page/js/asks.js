@@ -44,8 +44,8 @@ export function drawn(it, out) {
 /** Each step of a scenario as the program writes it, after a head; nothing where it doesn't play. @param {Text} it */
 export async function machine_of(it) {
   const { out } = await short.ask(['live', FILE, ...over(it)], files_of(it), '#\nscenario\n');
-  const text = out ? out.split('\n#\n').pop().trimEnd() + '\n' : '';
-  return text ? { ...it, parts: text.split(/^(?=\[\[step\]\])/m) } : null;
+  const text = out.slice(out.lastIndexOf('\n#\n') + 3).trimEnd();
+  return text ? { ...it, parts: (text + '\n').split(/^(?=\[\[step\]\])/m) } : null;
 }
 /** What a driven machine answers to each line, after the first steps. @param {any} machine @param {string[]} lines */
 async function driven(machine, steps, limit, lines) {
@@ -54,9 +54,9 @@ async function driven(machine, steps, limit, lines) {
   const { out } = await short.ask(words, files_of(it), lines.map(line => `# .\n${line}\n`).join(''));
   return out.split(/^# \.\n/m).slice(1);
 }
-/** The answer to the last of some lines, and the scenario of all. @param {Text} it @param {string[]} lines */
-export async function said(it, lines) {
-  const machine = { ...it, parts: [it.text] }, answers = await driven(machine, 0, 0, [...lines, 'scenario']);
+/** The answer to the last of some lines, and the scenario of all. @param {any} machine @param {string[]} lines */
+export async function said(machine, lines) {
+  const answers = await driven({ ...machine, parts: [machine.text] }, 0, 0, [...lines, 'scenario']);
   return { answer: answers[lines.length - 1] || '', scenario: answers[lines.length] || '' };
 }
 
@@ -66,8 +66,10 @@ export async function state_at(machine, step, entries) {
   for (const it of head.matchAll(/(\w+)=(\d+)/g)) board[it[1]] = +it[2];
   const limit = step <= board.limit ? step + 800 : 0, [ps = ''] = await driven(machine, step, limit, ['ps']);
   const lines = ps.split('\n').filter(Boolean);
-  const threads = lines.map(it => it.match(/^T(\d+) (\w+)(?:, waits: (.*))?$/)).filter(Boolean)
-    .map(it => ({ name: 'T' + it[1], number: +it[1], stage: it[2], waits: it[3] || '' }));
+  const threads = lines.flatMap(line => {
+    const [, number, stage, waits = ''] = line.match(/^T(\d+) (\w+)(?:, waits: (.*))?$/) || [];
+    return number ? [{ name: 'T' + number, number, stage, waits }] : [];
+  });
   const known = { ranks: new Map(), rows: new Map(), picked: '', date: '' }, free = threads.find(it => !it.waits);
   if (free) {
     const of = free.name, upto = (/** @type {number} */ n) => [...Array(Math.min(n || 0, 40)).keys()];

@@ -32,7 +32,7 @@ export function offered(text, at, kind) {
   const table = [...before.matchAll(/^\s*\[+\s*(\w+)\s*\]+/gm)].pop(), name = table ? table[1] : '';
   const inline = line.lastIndexOf('{') > line.lastIndexOf('}'), rest = text.slice(at);
   const step = inline ? line.slice(line.lastIndexOf('{')) + rest.split(/[}\n]/)[0]
-    : before.slice(table ? table.index + table[0].length : 0) + rest.split(/^\s*\[/m)[0];
+    : before.slice(before.lastIndexOf('[[') + 1) + rest.split(/^\s*\[/m)[0];
   const { word, has } = step_of(step), value = line.match(/(\w+)\s*=\s*("[^"]*|\w*)$/);
   if (value) {
     if (name === 'board' || name === 'ask' || name === 'callback') return null;

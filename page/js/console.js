@@ -1,5 +1,5 @@
 // The console: a driven machine answers each line; the lines before it are answered again, unseen.
-import { $, now, escaped, text_now } from './now.js';
+import { $, now, escaped } from './now.js';
 import { said } from './asks.js';
 import { offer, offered_line } from './complete.js';
 
@@ -26,7 +26,7 @@ function show_said(trouble = '') {
 export async function say(line) {
   at = past.push(line);
   if (!now.machine) return show_said('There is no machine to drive: the text is no scenario that plays.');
-  const mine = now.turn, { answer } = await said(text_now(), [...lines.map(it => it.line), line]);
+  const mine = now.turn, { answer } = await said(now.machine, [...lines.map(it => it.line), line]);
   if (mine !== now.turn) return;
   lines.push({ line, answer });
   show_said();
@@ -48,4 +48,5 @@ export function offer_in_line(asked = false) {
   offer(box, offered_line(box.value, box.selectionStart), () => box.getBoundingClientRect(), asked);
 }
 /** The calls of the text and those that were typed, as a scenario. */
-export const scenario_of_console = async () => (await said(text_now(), lines.map(it => it.line))).scenario;
+export const scenario_of_console = async () =>
+  now.machine ? (await said(now.machine, lines.map(it => it.line))).scenario : '';

@@ -92,9 +92,9 @@ export function indent(event) {
   event.preventDefault();
   put_text(box, '\n' + above, at, box.selectionEnd);
 }
-/** @param {string} name */
+/** Opens the lesson, the text or the handlers. @param {string} name */
 export function open_side(name) {
-  for (const it of ['text', 'bank']) {
+  for (const it of ['story', 'text', 'bank']) {
     $(`side-${it}`).hidden = it !== name;
     $(`${it}-tab`).setAttribute('aria-selected', it === name);
     $(`${it}-tab`).tabIndex = it === name ? 0 : -1;
@@ -108,7 +108,7 @@ function caret_place() {
   let left = before[before.length - 1].length;
   const walker = document.createTreeWalker(line, NodeFilter.SHOW_TEXT);
   for (let node = walker.nextNode(); node; node = walker.nextNode()) {
-    const size = node.textContent.length;
+    const size = (node.textContent || '').length;
     if (left <= size) {
       range.setStart(node, Math.max(0, Math.min(left, size)));
       const place = range.getBoundingClientRect();

@@ -1,10 +1,13 @@
 // What the page holds at a moment: one object that its modules share, and a few words for its elements.
 
-export const now = {
-  /** @type {any} */ lesson: null, /** @type {any} */ viewed: null, /** @type {any} */ machine: null,
-  kind: 'play', turn: 0, shown: 0, count: 0,
-  /** @type {any[]} */ steps: [], /** @type {any[]} */ told: [], /** @type {any[]} */ entries: [],
-};
+/**
+ * The lesson; an outcome of orders that is looked at; the machine that was played last, and of which lesson; the text's
+ * kind and steps; what is reported of it; the trace, its number of steps, and the step that is looked at.
+ * @type {{ lesson: any, viewed: any, machine: any, played: string, kind: string, steps: any[], told: any[],
+ *   entries: any[], count: number, shown: number, turn: number }}
+ */
+export const now = { lesson: null, viewed: null, machine: null, played: '', kind: 'play', steps: [], told: [],
+  entries: [], count: 0, shown: 0, turn: 0 };
 
 /** @param {string} id @returns {any} */
 export const $ = id => document.getElementById(id);

@@ -10,6 +10,7 @@ import { copied, handed, keep_texts, kept, link_of, put_text, save_file } from '
 import { go_orders, outcome_shown, view_of } from './orders.js';
 import { fit, mark_picture, zoom_by } from './picture.js';
 import { json_of, part_of } from './program.js';
+import { FILE } from './reads.js';
 import { play_text, show_none, show_state, walk } from './steps.js';
 import { kind_of, steps_of, KINDS } from './text.js';
 
@@ -90,11 +91,12 @@ async function open_lesson(it, plain = false) {
   document.title = `${it.title} - the lab`;
   $('text').value = (plain ? null : kept.get('text ' + it.key)) ?? it.text;
   $('bank').value = (plain ? null : kept.get('bank ' + it.key)) ?? (it.bank || '');
-  $('story').innerHTML = it.story || '<p>This text has no lesson.</p>';
+  $('story').innerHTML = it.story || '';
+  $('story-tab').hidden = !it.story || it.exercise;
   $('editor').scrollTop = 0;
   kept.set('last', it.key);
   keep_texts();
-  open_side('text');
+  open_side(it.story && !it.exercise && $('text').value === it.text ? 'story' : 'text');
   now.told = [];
   now.steps = steps_of($('text').value);
   paint();
@@ -178,7 +180,10 @@ function keys(event) {
 /** Plays and draws here what the repository has traces and pictures of, and counts how many are the same. */
 async function compare() {
   const stored = await json_of('stored.json'), begun = performance.now(), differ = [];
-  for (const it of stored) if ((await run(it.words, it.text)).out !== it.told) differ.push(it.name);
+  for (const it of stored) {
+    const { status, out, err } = await run(it.words, it.text);
+    if (out + (status ? err.replace(FILE, it.name) : '') !== it.told) differ.push(it.name);
+  }
   const seconds = ((performance.now() - begun) / 1000).toFixed(1), same = stored.length - differ.length;
   $('compared').textContent = `${same} of ${stored.length} are the same, ${seconds} s`
     + (differ.length ? `; not ${differ.join(', ')}` : '');
@@ -243,8 +248,8 @@ function wire_texts() {
   for (const id of ['text', 'bank']) {
     on(id, 'input', changed_text);
     on(id, 'keydown', event => offer_key(event) || id === 'text' && asks_offer(event, offer_in_text) || indent(event));
-    on(id + '-tab', 'click', () => open_side(id));
   }
+  for (const id of ['story', 'text', 'bank']) on(id + '-tab', 'click', () => open_side(id));
   on('text', 'input', event => { if (event.isTrusted) offer_in_text(); });
   on('text', 'blur', close_offers);
   on('line', 'input', event => { if (event.isTrusted) offer_in_line(); });
@@ -269,6 +274,7 @@ function wire_views() {
     if (it) show_state(Number(it.dataset.step));
   };
   on('lines', 'click', to_step);
+  on('story', 'click', to_step);
   on('drawing', 'click', to_step);
   on('slider', 'input', () => show_state(Number($('slider').value)));
   for (const it of all('[data-walk]')) it.onclick = () => walk(it.dataset.walk);

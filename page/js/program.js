@@ -6,21 +6,24 @@ import { $ } from './now.js';
 const base64 = raw => btoa(Array.from(raw, byte => String.fromCharCode(byte)).join(''));
 /** @param {string} text */
 const raw_of = text => Uint8Array.from(atob(text), c => c.charCodeAt(0));
-/** @param {any} raw @param {any} stream */
-const through = async (raw, stream) =>
-  new Uint8Array(await new Response(new Blob([raw]).stream().pipeThrough(stream)).arrayBuffer());
+/** @param {any} raw @param {any} by */
+const through = async (raw, by) =>
+  new Uint8Array(await new Response(new Blob([raw]).stream().pipeThrough(by)).arrayBuffer());
+
+/** @param {string} name @param {string} form */
+const stream = (name, form) => new (/** @type {any} */ (globalThis)[name])(form);
 
 /** A text in an address, and back. @param {string} text */
-export const packed = async text => base64(await through(text, new CompressionStream('deflate-raw')))
+export const packed = async text => base64(await through(text, stream('CompressionStream', 'deflate-raw')))
   .replace(/\+/g, '-').replace(/\//g, '_').replace(/=+$/, '');
 /** @param {string} part */
 export const unpacked = async part => new TextDecoder('utf-8', { fatal: true }).decode(
-  await through(raw_of(part.replace(/-/g, '+').replace(/_/g, '/')), new DecompressionStream('deflate-raw')));
+  await through(raw_of(part.replace(/-/g, '+').replace(/_/g, '/')), stream('DecompressionStream', 'deflate-raw')));
 
 /** A file that belongs to the page: in the page itself, packed, or beside it. @param {string} name */
 export async function part_of(name) {
   const here = $(name);
-  if (here) return through(raw_of(here.textContent.trim()), new DecompressionStream('gzip'));
+  if (here) return through(raw_of(here.textContent.trim()), stream('DecompressionStream', 'gzip'));
   const answer = await fetch(name);
   if (!answer.ok) throw new Error(`${name} is not there (${answer.status})`);
   return new Uint8Array(await answer.arrayBuffer());
@@ -42,12 +45,13 @@ export class Runner {
     this.last = 0;
     /** @type {Map<number, any>} */
     this.asked = new Map();
-    this.begin();
+    this.worker = this.begun();
   }
-  begin() {
-    this.worker = new_worker();
-    this.worker.onmessage = event => this.answered(event.data.id, event.data);
-    this.worker.postMessage({ code: this.code });
+  begun() {
+    const worker = new_worker();
+    worker.onmessage = event => this.answered(event.data.id, event.data);
+    worker.postMessage({ code: this.code });
+    return worker;
   }
   /** @param {number} id @param {Answer} answer */
   answered(id, answer) {
@@ -61,7 +65,7 @@ export class Runner {
   stop(why) {
     if (!this.asked.size) return;
     this.worker.terminate();
-    this.begin();
+    this.worker = this.begun();
     for (const [id, it] of [...this.asked])
       this.answered(id, { status: -2, out: '', err: why + '\n', ms: performance.now() - it.at, memory: 0 });
   }

@@ -27,8 +27,15 @@ function show_trace(entries) {
   $('slider').max = now.count;
   $('slider').disabled = !now.count;
 }
+/** What does not play leaves what the same text showed when it last played, pale. @param {string} why */
+function show_stale(why) {
+  $('stale').hidden = !now.entries.length || now.played !== now.lesson?.key;
+  if ($('stale').hidden) show_none(why);
+  else $('stale').textContent = why + ' Below is what played last.';
+}
 /** No trace, and why. @param {string} why */
 export function show_none(why) {
+  $('stale').hidden = true;
   show_trace([]);
   $('lines').innerHTML = `<div class="board">${escaped(why)}</div>`;
   now.machine = null;
@@ -90,7 +97,7 @@ function show_table(at, before, step) {
     + `<tbody>${threads.join('')}</tbody></table>`,
     rows.length && `<table><caption class="${threads.length ? 'heard' : ''}">${when}</caption>`
     + `<tbody>${rows.join('')}</tbody></table>`];
-  $('state').innerHTML = parts.filter(Boolean).join('') || '<p>Nothing is known of the machine here.</p>';
+  $('state').innerHTML = parts.filter(Boolean).join('');
 }
 /** @param {any} it */
 function show_in(box, it) {
@@ -106,6 +113,7 @@ export async function show_state(step) {
   for (const it of all('#lines [aria-selected=true]')) it.setAttribute('aria-selected', 'false');
   const lines = step ? all(`#lines [data-step="${step}"]`) : [];
   for (const it of lines) it.setAttribute('aria-selected', 'true');
+  for (const it of all('#story .at')) it.classList.toggle('now', it.dataset.step === String(step));
   if (lines[0]) $('lines').setAttribute('aria-activedescendant', lines[0].id);
   if (lines[0]) show_in($('lines'), lines[0]);
   else $('lines').scrollTop = 0;
@@ -113,8 +121,7 @@ export async function show_state(step) {
   mark_picture();
   if (now.steps[step - 1] && !now.viewed) show_line(now.steps[step - 1].from);
   const mine = now.turn;
-  if (text_now().kind === 'callers') return show_table(locks_at(step), locks_at(Math.max(0, step - 1)), step);
-  if (!now.machine) { $('state').textContent = ''; return; }
+  if (!now.machine) return show_table(locks_at(step), locks_at(Math.max(0, step - 1)), step);
   const at = table_of(await known_at(step)), before = step ? table_of(await known_at(step - 1)) : at;
   if (mine !== now.turn || now.shown !== step) return;
   show_table(at, before, step);
@@ -131,15 +138,16 @@ export async function play_text(mine, step = 0) {
   const picture = answer.out ? drawn(it, answer.out) : { out: '', err: '', ms: 0, memory: 0 };
   const [svg, machine] = await Promise.all([picture, it.kind === 'callers' || answer.status ? null : machine_of(it)]);
   if (mine !== now.turn) return answer;
-  states = new Map();
-  now.machine = machine;
   const title = now.viewed ? now.viewed.title : now.lesson?.title || 'the text';
   if (answer.out) {
+    Object.assign(now, { machine, played: now.lesson?.key });
+    states = new Map();
+    $('stale').hidden = true;
     show_trace(answer.entries);
     show_picture(svg.out, title);
   } else {
     const why = answer.err.trim().replace(/^lab: /, '').replace('scenario.toml: ', '') || 'there is nothing to play';
-    show_none(`It does not play: ${why}. What is to be mended is named below the text.`);
+    show_stale(`It does not play: ${why}. What is to be mended is named below the text.`);
   }
   const page = svg.err.match(/page 1 of \d+/), bare = it.bank.trim() && it.kind !== 'callers';
   $('note').textContent = [bare && 'no strips over handlers of your own', page && page[0]].filter(Boolean).join(', ');
@@ -147,6 +155,6 @@ export async function play_text(mine, step = 0) {
   $('viewed-title').textContent = now.viewed ? title : '';
   const memory = (Math.max(answer.memory, svg.memory) / 1048576).toFixed(1);
   $('times').textContent = `play ${answer.ms.toFixed(1)} ms, draw ${svg.ms.toFixed(1)} ms, memory ${memory} MiB`;
-  await show_state(Math.min(step, now.count));
+  if (answer.out) await show_state(Math.min(step, now.count));
   return answer;
 }
