@@ -24,7 +24,9 @@ class Browser {
   async close() {
     try { process.kill(-this.process.pid); } catch { /* it has ended */ }
     await sleep(400);
-    fs.rmSync(this.folder, { recursive: true, force: true, maxRetries: 5, retryDelay: 200 });
+    try {
+      fs.rmSync(this.folder, { recursive: true, force: true, maxRetries: 9, retryDelay: 300 });
+    } catch { /* it is in use still */ }
   }
   /** Waits until an expression holds. */
   async until(expression, ms = 20000) {

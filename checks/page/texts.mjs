@@ -48,7 +48,8 @@ const TRY = `async texts => {
     const says = ['faults', 'verdict', 'stale', 'lines'].map(id => $(id).textContent).join('');
     kinds[kind] = (kinds[kind] || 0) + 1;
     if (!says) amiss.push(['nothing is said', text]);
-    if ($('under').textContent.replace(/\\s/g, '') !== text.replace(/\\s/g, '')) amiss.push(['not painted', text]);
+    const shown = text.replace(/\\s/g, '').replaceAll('\\0', '\ufffd');
+    if ($('under').textContent.replace(/\\s/g, '') !== shown) amiss.push(['not painted', text]);
     document.querySelector('[data-walk="last"]').click();
     document.querySelector('[data-walk="-1"]').click();
   }

@@ -16,7 +16,8 @@ const least = async (times, measure) => {
   return Math.min(...all);
 };
 /** In the page: from an edit of a text to what it shows, checked, played, drawn, with the state of a step. */
-const EDIT = `async text => { const box = document.getElementById('text'), turn = Number(document.body.dataset.done || 0);
+const EDIT = `async text => {
+  const box = document.getElementById('text'), turn = Number(document.body.dataset.done || 0);
   box.value = text;
   const begun = performance.now();
   box.dispatchEvent(new Event('input'));

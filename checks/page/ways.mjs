@@ -80,8 +80,8 @@ async function walks(page) {
   await browser.until(`document.getElementById('state').textContent.includes('After step 5')`);
   assert.equal(await browser.evaluate(`document.querySelectorAll('#lines [aria-selected=true]').length`), 2);
   assert.equal(await browser.evaluate(`document.querySelectorAll('#drawing .here').length`), 2);
-  assert.match(await browser.evaluate(`[...document.querySelectorAll('#under .step')].map(it => it.textContent).join()`),
-    /do = "arrive"/);
+  const step = `[...document.querySelectorAll('#under .step')].map(it => it.textContent).join()`;
+  assert.match(await browser.evaluate(step), /do = "arrive"/);
   await browser.key('End');
   await page.step(9);
   await browser.key('Home');
@@ -307,7 +307,8 @@ async function keyboard(page) {
     await browser.key('Tab');
     seen.add(await page.at());
   }
-  for (const id of ['text', 'text-tab', 'walk-tab', 'lines', 'slider', 'link', 'find', 'split-left', 'drawing', 'state'])
+  const wanted = ['text', 'text-tab', 'walk-tab', 'lines', 'slider', 'link', 'find', 'split-left', 'drawing', 'state'];
+  for (const id of wanted)
     assert.ok(seen.has(id), `${id} is not reached by Tab`);
   await browser.evaluate(`document.getElementById('walk-tab').focus()`);
   await browser.key('ArrowRight');

@@ -14,7 +14,7 @@ export const $ = id => document.getElementById(id);
 /** @param {string} selector @returns {any[]} */
 export const all = selector => [...document.querySelectorAll(selector)];
 /** @param {string} text */
-export const escaped = text => text.replace(/[&<>"]/g, c => `&#${c.charCodeAt(0)};`);
+export const escaped = text => text.replace(/\0/g, '\ufffd').replace(/[&<>"]/g, c => `&#${c.charCodeAt(0)};`);
 /** @param {string} id @param {string} name @param {(event: any) => void} does */
 export const on = (id, name, does) => $(id).addEventListener(name, does);
 

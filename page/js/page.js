@@ -8,7 +8,7 @@ import { check_exercise, exercise_lesson, exercise_made, make_exercise } from '.
 import { make_hole, show_task, show_wanted } from './exercise.js';
 import { copied, handed, keep_texts, kept, link_of, put_text, save_file } from './kept.js';
 import { go_orders, outcome_shown, view_of } from './orders.js';
-import { fit, mark_picture, zoom_by } from './picture.js';
+import { draw_all, mark_picture, refit, zoom_by } from './picture.js';
 import { json_of, part_of } from './program.js';
 import { FILE } from './reads.js';
 import { play_text, show_none, show_state, walk } from './steps.js';
@@ -116,7 +116,7 @@ function open_tab(name) {
   }
   document.body.dataset.tab = name;
   if (name === 'walk') {
-    fit();
+    refit();
     mark_picture();
   }
   if (name === 'console') $('line').focus();
@@ -125,7 +125,7 @@ function open_tab(name) {
 function show_list(open) {
   document.body.classList.toggle('listed', open);
   $('lessons-button').setAttribute('aria-expanded', String(open));
-  fit();
+  refit();
 }
 /** A bar between two parts, dragged or moved by arrow keys; its place is kept. @param {() => string} name_of */
 function split(id, name_of, low, high, is_across) {
@@ -134,7 +134,7 @@ function split(id, name_of, low, high, is_across) {
     document.documentElement.style.setProperty(name_of(), to + '%');
     bar.setAttribute('aria-valuenow', Math.round(to));
     kept.set(name_of(), String(to));
-    fit();
+    refit();
   };
   const old = Number(kept.get(name_of()));
   if (old) put(old);
@@ -282,7 +282,7 @@ function wire_views() {
   for (const it of all('[role=tab][data-pane]')) it.onclick = () => open_tab(it.dataset.pane);
   on('key-button', 'click', () => {
     $('key-button').setAttribute('aria-expanded', String(!document.body.classList.toggle('keyless')));
-    fit();
+    refit();
   });
   on('outcomes', 'click', event => {
     if (event.target.dataset.open) view(outcome_shown(Number(event.target.dataset.open)));
@@ -332,7 +332,7 @@ function wire_head() {
   on('wide', 'click', () => {
     $('wide').setAttribute('aria-pressed', String(document.body.classList.toggle('wide')));
     if (tab_now() === 'left') open_tab('walk');
-    fit();
+    refit();
     mark_picture();
   });
   document.addEventListener('keydown', keys);
@@ -374,7 +374,8 @@ async function start() {
   wire_texts();
   wire_views();
   wire_head();
-  new ResizeObserver(() => fit()).observe($('drawing'));
+  new ResizeObserver(() => requestAnimationFrame(refit)).observe($('drawing'));
+  window.onbeforeprint = draw_all;
   window.onresize = () => { if (innerWidth > NARROW && tab_now() === 'left') open_tab('walk'); };
   window.onhashchange = async () => { const it = await lesson_of_link(); if (it) open_lesson(it); };
   show_list(innerWidth >= LISTED);

@@ -1,150 +1,117 @@
 // The picture that `lab draw` made, for a screen: numbers below the columns in place of the turned text (the trace is
-// beside it), the key beside it, the step that is looked at marked, and zoom.
-import { $, all, now } from './now.js';
-import { save_file } from './kept.js';
+// beside it), the key beside it, the step that is looked at marked, and zoom. The picture's text has a line for each
+// mark; each of its bands of lanes becomes a drawing of its own, which is made only once it is seen.
+import { $, all, now, escaped } from './now.js';
 
-const SVG = 'http://www.w3.org/2000/svg', GREAT = 1_500_000, PITCH = 30;
-/** @type {{ x: number, band: any, number: number }[]} */
-let columns = [];
-let size = [1, 1], zoom = 1;
-/** @param {string} name @param {Record<string, any>} keys @param {string} [text] */
-function made(name, keys, text) {
-  const it = document.createElementNS(SVG, name);
-  for (const key in keys) it.setAttribute(key, keys[key]);
-  if (text !== undefined) it.textContent = text;
-  return it;
-}
+const PITCH = 30, LEFT = 104, ABOVE = 50, BELOW = 34, EACH = 5;
+/** @typedef {{ first: number, low: number, top: number, parts: string[], box?: any }} Band */
+/** @type {Map<number, { x: number, band: Band }[]>} The columns of each step. */
+let columns = new Map();
+/** @type {Band[]} */
+let bands = [];
+let size = [1, 1], room = [1, 1], zoom = 1;
+
 /** A rank as the policy writes it: real-time, quota or weak. @param {number} n */
 export const rank_text = n => n >= 512 ? 'f' + (n - 512) : n >= 256 ? 'q' + (n - 256) : 'w' + n;
-/** @param {Element} it */
-function place_of(it) {
-  const at = it.getAttribute('transform')?.match(/translate\((-?[\d.]+),(-?[\d.]+)\)/)
-    || it.getAttribute('d')?.match(/M(-?[\d.]+) (-?[\d.]+)/) || [0, it.getAttribute('x'), it.getAttribute('y')];
-  return [Number(at[1]), Number(at[2])];
+/** Where a line of the picture's text draws. @param {string} line */
+function place_of(line) {
+  const it = line.match(/translate\((-?[\d.]+),(-?[\d.]+)\)|d="M(-?[\d.]+) (-?[\d.]+)/);
+  return it ? [Number(it[1] ?? it[3]), Number(it[2] ?? it[4])] : [0, 0];
 }
-/** The bands of lanes, one below another, by the lines of the lanes. @param {Element[]} parts */
-function bands_of(parts) {
-  const lanes = new Map(), bands = [];
-  let end = 104;
-  for (const it of parts) {
-    const lane = it.localName === 'path' && it.getAttribute('d')?.match(/^M104 (\d+)H(\d+)$/);
-    if (!lane) continue;
-    lanes.set(+lane[1], it.nextElementSibling?.textContent || '');
-    end = Math.max(end, +lane[2]);
+/** The lanes by their height, the bands of lanes, and how wide they are. @param {string[]} lines */
+function lanes_of(lines) {
+  const lanes = new Map(), found = [];
+  let end = LEFT;
+  for (const line of lines) {
+    const it = line.match(/^<path d="M104 (\d+)H(\d+)"[^>]*\/><text [^>]*>([^<]*)/);
+    if (!it) continue;
+    lanes.set(+it[1], it[3]);
+    end = Math.max(end, +it[2]);
   }
   for (const y of [...lanes.keys()].sort((a, b) => a - b)) {
-    const band = bands[bands.length - 1];
+    const band = found[found.length - 1];
     if (band && y - band.low <= PITCH) band.low = y;
-    else bands.push({ first: y, low: y, top: y - 50, group: made('g', {}) });
+    else found.push({ first: y, low: y, top: y - ABOVE, parts: [] });
   }
-  return { lanes, bands, end };
+  return { lanes, found, end };
 }
-/** A mark with its number below it in place of its line, which the trace has. @param {Element} it */
-function number_mark(it, number, band, x, y) {
-  const says = it.querySelector('title')?.textContent || '', line = says.match(/^\s+line (\d+) /);
-  for (const text of it.querySelectorAll('text[transform*="rotate(90)"]')) text.remove();
-  const below = { x: 0, y: band.low - y + 24, 'text-anchor': 'middle', 'font-size': 9 };
-  it.append(made('text', below, /^\d/.test(says) ? String(number) : '·'));
-  if (line) it.append(made('text', { x: 0, y: -11, 'text-anchor': 'middle', 'font-weight': 'bold' }, line[1]));
-  it.setAttribute('data-step', String(number));
-  it.classList.add('mark');
-  columns.push({ x, band, number });
+/** A mark with its number below it, and the number of a played line above. @param {string} line @param {Band} band */
+function mark_of(line, says, number, band, y) {
+  const played = says.match(/^\s+line (\d+) /), entry = /^\d/.test(says);
+  const below = !entry ? '·' : number < 100 || number % EACH === 0 ? number : '';
+  const more = `<text y="${band.low - y + 24}" text-anchor="middle">${below}</text>`
+    + (played ? `<text y="-11" text-anchor="middle" font-weight="bold">${played[1]}</text>` : '');
+  return line.replace(/<text [^>]*rotate\(90\)[^>]*>[^<]*<\/text>/, more)
+    .replace('<g ', `<g class="mark" data-step="${number}" `);
 }
-/** @param {string} text */
-function reshaped(text) {
-  const svg = new DOMParser().parseFromString(text, 'image/svg+xml').documentElement;
-  if (svg.localName !== 'svg') return null;
-  const parts = [...svg.children].slice(1);
-  const { lanes, bands, end } = bands_of(parts), key = [];
-  if (!bands.length) return null;
-  const out = made('svg', { 'font-family': 'DejaVu Sans Mono, monospace', 'font-size': 9 });
-  let height = 0, number = 0;
-  columns = [];
-  for (const band of bands) {
-    band.group.setAttribute('transform', `translate(0,${height - band.top})`);
-    out.append(band.group);
-    height += band.low - band.top + 34;
-  }
-  let at = 0;
-  for (const it of parts) {
-    const [x, y] = place_of(it);
-    if (y <= 28) { key.push(it); continue; }
+/** Puts each line of the picture's text into its band. @param {string} text */
+function read_picture(text) {
+  const lines = text.split('\n').slice(2), { lanes, found, end } = lanes_of(lines), key = [];
+  let number = 0, at = 0;
+  columns = new Map();
+  bands = found;
+  for (const line of bands.length ? lines : []) {
+    const [x, y] = place_of(line);
+    if (!y) continue;
+    if (y <= 28) { key.push(line); continue; }
     while (at + 1 < bands.length && y >= bands[at + 1].top) at++;
     while (at > 0 && y < bands[at].top) at--;
-    if (lanes.get(y)?.startsWith('T')) name_ranks(it);
-    const says = it.querySelector('title')?.textContent;
-    if (says) {
-      number = /^\d+ T/.test(says) ? parseInt(says) : says.startsWith('- ') ? number + 1 : number;
-      number_mark(it, number, bands[at], x, y);
-    }
-    bands[at].group.append(it);
+    const says = line.match(/<title>([^<]*)/)?.[1], band = bands[at], plain = lanes.get(y)?.startsWith('T')
+      ? line.replace(/font-size="7">(\d+)</, (_, n) => `font-size="9" font-weight="bold">${rank_text(+n)}<`) : line;
+    if (says === undefined) { band.parts.push(plain); continue; }
+    number = /^\d+ T/.test(says) ? parseInt(says) : says.startsWith('- ') ? number + 1 : number;
+    columns.set(number, [...columns.get(number) || [], { x, band }]);
+    band.parts.push(mark_of(plain, says, number, band, y));
   }
-  size = [end + 22, height];
-  out.setAttribute('viewBox', `0 0 ${size[0]} ${size[1]}`);
-  return { out, key };
+  size = [end + 22, bands.reduce((sum, band) => sum + band.low - band.top + BELOW, 0)];
+  return key;
 }
-/** @param {Element} it */
-function name_ranks(it) {
-  for (const text of it.querySelectorAll('text[font-size="7"]')) {
-    if (!/^\d+$/.test(text.textContent || '')) continue;
-    text.textContent = rank_text(Number(text.textContent));
-    text.setAttribute('font-size', '9');
-    text.setAttribute('font-weight', 'bold');
-  }
+/** The key has the marks that are somewhere in the picture. @param {string[]} key @param {string} text */
+function show_key(key, text) {
+  const items = key.map(line => line.match(/^<g [^>]*,(\d+)\)">(.*)<text [^>]*>(.*)<\/text><\/g>$/) || []);
+  const used = items.filter(it => it[2] && text.indexOf(it[2]) !== text.lastIndexOf(it[2]));
+  const svg = 'width="24" height="20" aria-hidden="true"';
+  $('key').innerHTML = used.map(([, y, shape, says]) =>
+    `<span><svg viewBox="-11 ${y === '28' ? 0 : -10} 22 20" ${svg}>${shape}</svg>${says}</span>`).join('');
 }
-/** The key has the marks that are somewhere in the picture. @param {Element} out @param {Element[]} key */
-function show_key(out, key) {
-  const form = (/** @type {any} */ it) => it.localName + [...it.attributes].map(a => `${a.name}=${a.value}`).join(' ');
-  const there = new Set([...out.querySelectorAll('circle, rect, path')].map(form));
-  const used = key.filter(it => there.has(form(it.firstElementChild)));
-  $('key').replaceChildren(...(used.length ? used : key).map(it => {
-    const low = it.getAttribute('transform')?.includes(',28)'), span = document.createElement('span');
-    const svg = made('svg', { viewBox: `-11 ${low ? 0 : -10} 22 20`, width: 24, height: 20, 'aria-hidden': 'true' });
-    const says = it.querySelector('text');
-    span.append(svg, says?.textContent || '');
-    says?.remove();
-    it.removeAttribute('transform');
-    svg.append(it);
-    return span;
-  }));
+/** Draws a band, once. @param {Band} band */
+function draw_band(band) {
+  if (!band.box || band.box.firstChild) return;
+  const height = band.low - band.top + BELOW;
+  band.box.innerHTML = `<svg viewBox="0 ${band.top} ${size[0]} ${height}" aria-hidden="true" font-size="9" `
+    + `font-family="DejaVu Sans Mono, monospace">${band.parts.join('')}</svg>`;
+  if (columns.get(now.shown)?.some(it => it.band === band)) mark_band(band);
 }
-/** A picture that takes a browser seconds is saved, or shown at a word. @param {string} text @param {string} name */
-function offer_great(text, name) {
-  const show = document.createElement('button'), save = document.createElement('button'), box = $('drawing');
-  show.textContent = 'Show it here, as the program draws it';
-  save.textContent = 'Save it as a file';
-  show.onclick = () => {
-    const image = new Image();
-    image.alt = `Picture of ${name}`;
-    image.src = URL.createObjectURL(new Blob([text], { type: 'image/svg+xml' }));
-    box.replaceChildren(image);
-  };
-  save.onclick = () => save_file('picture.svg', text);
-  $('key').textContent = `The picture has ${(text.length / 1048576).toFixed(1)} MiB, which takes a browser seconds.`;
-  box.replaceChildren(show, ' ', save);
-}
+const seen = typeof IntersectionObserver === 'undefined' ? null : new IntersectionObserver(found => {
+  for (const it of found) if (it.isIntersecting) draw_band(bands[Number(/** @type {any} */ (it.target).dataset.n)]);
+}, { rootMargin: '300px' });
+export const draw_all = () => bands.forEach(draw_band);
 /** @param {string} text @param {string} name */
 export function show_picture(text, name) {
-  const box = $('drawing');
-  columns = [];
-  if (text.length > GREAT) return offer_great(text, name);
-  const at = text ? reshaped(text) : null;
-  $('key').textContent = box.textContent = '';
-  if (!at) return;
-  at.out.setAttribute('role', 'img');
-  at.out.setAttribute('aria-label', `Picture of ${name}: ${columns.length} columns; the trace says the same in words`);
-  show_key(at.out, at.key);
-  box.replaceChildren(at.out);
+  const box = $('drawing'), key = read_picture(text);
+  seen?.disconnect();
+  const says = `Picture of ${escaped(name)}; the trace says the same in words`;
+  box.innerHTML = bands.length ? `<div role="img" aria-label="${says}">` + bands.map((band, i) =>
+    `<div class="band" data-n="${i}" style="--high:${band.low - band.top + BELOW}px"></div>`).join('') + '</div>' : '';
+  all('#drawing .band').forEach((it, i) => {
+    bands[i].box = it;
+    seen?.observe(it);
+  });
+  if (bands[0]) draw_band(bands[0]);
+  show_key(key, text);
+  fit();
+}
+/** The picture's room changed. */
+export function refit() {
+  room = [$('drawing').clientWidth - 4, $('drawing').clientHeight - 4];
   fit();
 }
 export function fit() {
-  const svg = $('drawing').firstElementChild, box = $('drawing');
-  const most = document.body.classList.contains('wide') ? 3 : 2.2;
-  if (svg?.localName !== 'svg') return;
-  const least = Math.min((box.clientWidth - 4) / size[0], (box.clientHeight - 4) / size[1], most);
+  const box = $('drawing'), most = document.body.classList.contains('wide') ? 3 : 2.2;
+  const least = Math.min(room[0] / size[0], room[1] / size[1], most);
   const scale = Math.max(1, least) * zoom;
-  svg.style.width = size[0] * scale + 'px';
-  svg.style.height = size[1] * scale + 'px';
+  box.style.setProperty('--wide', size[0] + 'px');
+  box.style.setProperty('--scale', String(scale));
   $('zoom').textContent = Math.round(scale * 100) + ' %';
 }
 /** Makes the picture larger or smaller; by 0 it fits again. @param {number} by */
@@ -152,13 +119,22 @@ export function zoom_by(by) {
   zoom = by ? zoom * by : 1;
   fit();
 }
+/** @param {Band} band */
+function mark_band(band) {
+  const svg = band.box.firstChild;
+  for (const it of columns.get(now.shown) || []) {
+    if (it.band !== band) continue;
+    const mark = document.createElementNS('http://www.w3.org/2000/svg', 'rect');
+    const keys = { class: 'here', x: it.x - 8, y: band.first - 14, width: 16, height: band.low - band.first + 44 };
+    for (const [key, value] of Object.entries(keys)) mark.setAttribute(key, String(value));
+    svg.prepend(mark);
+  }
+}
 export function mark_picture() {
   for (const it of all('#drawing .here')) it.remove();
-  for (const it of columns) {
-    if (!now.shown || it.number !== now.shown) continue;
-    const { first, low, group } = it.band;
-    group.prepend(made('rect', { class: 'here', x: it.x - 8, y: first - 14, width: 16, height: low - first + 44 }));
-  }
+  for (const band of new Set(columns.get(now.shown)?.map(it => it.band)))
+    if (band.box.firstChild) mark_band(band);
+    else draw_band(band);
   const at = all('#drawing .here')[0], box = $('drawing');
   if (!at) return;
   const here = at.getBoundingClientRect(), around = box.getBoundingClientRect();

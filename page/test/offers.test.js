@@ -5,7 +5,8 @@ import { offer_calls, offered, offered_line } from '../js/complete.js';
 import { lines_there, same_trace } from '../js/exercise.js';
 import { read_calls } from '../js/reads.js';
 
-offer_calls(read_calls(['T0 put sem=0\n  sem: a number is wanted\n', 'T0 stall stage=oob\n  stage: "inband" or "oob" is wanted\n']));
+offer_calls(read_calls(['T0 put sem=0\n  sem: a number is wanted\n',
+  'T0 stall stage=oob\n  stage: "inband" or "oob" is wanted\n']));
 /** What is offered at the bar of a text. */
 const at = (text, kind = 'play') => offered(text.replace('|', ''), text.indexOf('|'), kind);
 

@@ -8,15 +8,17 @@ test('a trace has entries, plays and other lines', () => {
     + '2 T0 give -> done | core: free\nclose -> done\n1 T0 put sem=0 -> done\n');
   assert.deepEqual(it.map(line => [line.kind, line.number]),
     [['board', 0], ['entry', 1], ['play', 1], ['entry', 2], ['entry', 2], ['board', 0], ['board', 0]]);
-  assert.deepEqual([it[1].who, it[1].call, it[1].keys, it[1].answer, it[4].lock], ['T0', 'put', 'sem=0', 'done', 'core: free']);
+  const { who, call, keys, answer } = it[1];
+  assert.deepEqual([who, call, keys, answer, it[4].lock], ['T0', 'put', 'sem=0', 'done', 'core: free']);
 });
 test('faults have their places, in characters', () => {
   const text = '# é\n[board]\nü = 1\n[[step]]\ndo = "x"\n', steps = [{ from: 3, to: 4 }];
   const told = read_faults('scenario.toml:3:1: no key "ü"\nscenario.toml:1:5: late\n'
     + 'scenario.toml: step 1: warning: T0 waits until the end\nlab: scenario.toml: bad board\n'
     + 'handlers.toml: callback 0: a table is wanted\nbad step 1\n', text, steps);
-  assert.deepEqual(told.map(it => [it.fault, it.line, it.column, it.where]), [[true, 2, 0, 'line 3'], [true, 0, 3, 'line 1'],
-    [false, 3, 0, 'step 1'], [true, 1, 0, 'line 2'], [true, undefined, 0, 'in the handlers'], [true, 3, 0, 'step 1']]);
+  assert.deepEqual(told.map(it => [it.fault, it.line, it.column, it.where]), [
+    [true, 2, 0, 'line 3'], [true, 0, 3, 'line 1'], [false, 3, 0, 'step 1'],
+    [true, 1, 0, 'line 2'], [true, undefined, 0, 'in the handlers'], [true, 3, 0, 'step 1']]);
 });
 test('outcomes have their notes and their scenario', () => {
   const it = read_orders('# 2 orders, 1 outcome\n# outcome 1: 2 orders\n# stuck: T1 waits for sem 1\n# T1 -> begun\n'
