@@ -15,10 +15,13 @@ export class Page {
   see(id) { return this.browser.evaluate(`document.getElementById(${JSON.stringify(id)}).textContent`); }
   value(id) { return this.browser.evaluate(`document.getElementById(${JSON.stringify(id)}).value`); }
   at() { return this.browser.evaluate(`document.activeElement.id || document.activeElement.tagName`); }
-  turn() { return this.browser.evaluate('Number(document.body.dataset.done || 0)'); }
+  async turn() {
+    await this.browser.until('!document.body.dataset.waits', 90000);
+    return this.browser.evaluate('Number(document.body.dataset.done || 0)');
+  }
   /** Waits until a text was checked, played and drawn after a turn. */
   async played(after, ms = 30000) {
-    await this.browser.until(`Number(document.body.dataset.done || 0) > ${after}`, ms);
+    await this.browser.until(`Number(document.body.dataset.done || 0) > ${after} && !document.body.dataset.waits`, ms);
   }
   /** Puts a text in, as pasting it does. */
   async put(text, id = 'text', ms = 30000) {

@@ -34,6 +34,7 @@ function show_kind(was) {
 /** Checks, plays and draws the text. */
 async function play() {
   const mine = ++now.turn, was = document.body.dataset.kind || '', text = $('text').value;
+  document.body.dataset.waits = 'yes';
   now.steps = steps_of(text);
   now.kind = kind_of(text);
   now.viewed = null;
@@ -55,6 +56,7 @@ async function play() {
   paint();
   document.body.dataset.at ||= String(performance.now());
   document.body.dataset.done = String(mine);
+  delete document.body.dataset.waits;
 }
 /** @param {number} mine */
 async function play_orders(mine) {
@@ -74,6 +76,7 @@ function changed_text() {
   now.steps = steps_of($('text').value);
   paint();
   keep_texts();
+  document.body.dataset.waits = 'yes';
   clearTimeout(timer);
   timer = setTimeout(play, WAIT);
 }

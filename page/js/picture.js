@@ -107,7 +107,7 @@ export function refit() {
   fit();
 }
 export function fit() {
-  const box = $('drawing'), most = document.body.classList.contains('wide') ? 3 : 2.2;
+  const box = $('drawing'), most = document.body.classList.contains('wide') || innerWidth >= 1800 ? 3.2 : 2.2;
   const least = Math.min(room[0] / size[0], room[1] / size[1], most);
   const scale = Math.max(1, least) * zoom;
   box.style.setProperty('--wide', size[0] + 'px');
