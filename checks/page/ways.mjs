@@ -292,6 +292,11 @@ async function shares(page) {
   await page.put((await page.value('text')).replace('____', 'arrive'));
   await browser.click('#check');
   await browser.until(`document.getElementById('checked').className === 'good'`);
+  await browser.evaluate(`(() => { const it = { title: 'From a file', question: 'Which?', text: 'a', check: 'trace' };
+    const file = new File([JSON.stringify(it)], 'it.json'), held = new DataTransfer();
+    held.items.add(file);
+    document.body.dispatchEvent(new DragEvent('drop', { dataTransfer: held, bubbles: true })); })()`);
+  await browser.until(`document.getElementById('name').textContent === 'From a file'`);
   await page.open(page.url + '#text=bad');
   assert.match(await page.see('status'), /The link could not be read/);
   await page.lesson('4. A handler that wakes');

@@ -8,14 +8,10 @@ import { steps_of, without_ask } from './text.js';
 export const ORDERS_SECONDS = 60;
 /** @type {Runner} One worker for what is short. */
 let short;
-/** @type {Runner} One for orders, so that an edit is answered while orders are gone through. */
-let long;
-/** @param {Uint8Array} code */
-export function begin_program(code) {
-  short = new Runner(code);
-  long = new Runner(code);
-}
-export const stop_orders = (/** @type {string} */ why) => long.stop(why);
+/** @type {Runner | null} One for orders, so that an edit is answered while orders are gone through. */
+let long = null;
+export const begin_program = (/** @type {Uint8Array} */ code) => { short = new Runner(code); };
+export const stop_orders = (/** @type {string} */ why) => long?.stop(why);
 /** @param {string[]} words @param {string} text */
 export const run = (words, text) => short.ask([...words, FILE], { [FILE]: text });
 
@@ -112,6 +108,7 @@ function policies_at(step, entries) {
 
 /** Every order in which the callers may come. @param {Text} it */
 export async function gone_through(it, asks) {
+  long ||= new Runner(short.code);
   const answer = await long.ask(['orders', FILE, ...over(it)], files_of(it), '', ORDERS_SECONDS);
   const against = [...answer.err.matchAll(/outcome (\d+) is against/g)].map(found => found[1]);
   return { ...read_orders(answer.out), ...answer, asks, against,

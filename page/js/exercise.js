@@ -1,7 +1,7 @@
 // Exercises: a text with a hole, a question, a check, a solution after a button; made here and shared as a link.
 import { $, now, escaped } from './now.js';
 import { gone_through, played } from './asks.js';
-import { copied, link_of } from './kept.js';
+import { copied, link_of, save_file } from './kept.js';
 import { show_line } from './editor.js';
 import { verdict_of } from './orders.js';
 import { ask_of, kind_of, lost_line, with_ask, HOLE, HOLE_LINE } from './text.js';
@@ -91,24 +91,46 @@ export function show_wanted() {
 export function make_hole() {
   const box = $('make-text'), from = box.selectionStart, to = box.selectionEnd;
   const part = box.value.slice(from, to);
-  if (from === to) $('make-said').textContent = 'Select in the text what is to be a hole.';
-  else box.setRangeText(part.includes('\n') ? HOLE_LINE + '\n' : HOLE);
+  $('make-said').className = '';
+  $('make-said').textContent = from === to ? 'First select in the text what is to be a hole.' : '';
+  if (from === to) return;
+  box.setRangeText(part.includes('\n') ? HOLE_LINE + '\n' : HOLE, from, to, 'select');
+  box.blur();
+  box.focus();
 }
-/** Tries the exercise with its own solution, and makes the link. */
-export async function exercise_made() {
+/** What the form says. */
+function exercise_asked() {
   const value = (/** @type {string} */ id) => $('make-' + id).value;
   const check = value('check'), wanted = value('wanted').trim(), bank = $('bank').value;
   const [title, question, text, solution] = ['title', 'question', 'text', 'solution'].map(value);
-  const it = { title, question, text, solution, check, ...(bank.trim() ? { bank } : {}),
+  return { title, question, text, solution, check, ...(bank.trim() ? { bank } : {}),
     ...(check === 'ask' ? { ask: wanted } : check === 'lines' ? { lines: wanted.split('\n').filter(Boolean) } : {}) };
-  const [how, says] = await judged(it, it.solution, bank), open = it.text === it.solution;
-  $('make-link').value = await link_of('exercise', it);
-  $('make-link').select();
-  const done = await copied($('make-link').value);
+}
+/** Tries the exercise with its own solution; reports that after what was done. @param {any} it @param {string} done */
+async function report_made(it, done) {
+  const [how, says] = await judged(it, it.solution, it.bank || ''), open = it.text === it.solution;
   const doubt = how !== 'good' ? `but its own solution is not accepted: ${says}`
     : open ? 'but its text has no hole yet' : '';
   $('make-said').className = doubt ? 'unknown' : 'good';
-  const size = $('make-link').value.length;
-  $('make-said').textContent = `The link is made${done ? ' and copied' : ''} (${size} characters)`
-    + (doubt ? ', ' + doubt : ', and its solution is accepted.');
+  $('make-said').textContent = `${done}, ${doubt || 'and its solution is accepted.'}`;
+}
+export async function exercise_made() {
+  const it = exercise_asked();
+  $('make-link').value = await link_of('exercise', it);
+  $('make-link').select();
+  const done = await copied($('make-link').value) ? ' and copied' : '', size = $('make-link').value.length;
+  await report_made(it, `The link is made${done} (${size} characters)`);
+}
+/** An exercise as a file, which "Open file" takes: for pages that have no common address. */
+export async function save_exercise() {
+  const it = exercise_asked(), name = it.title.toLowerCase().replace(/[^a-z0-9]+/g, '_').replace(/^_+|_+$/g, '');
+  save_file(`${name || 'exercise'}.json`, JSON.stringify(it, null, 1) + '\n');
+  await report_made(it, 'The exercise is saved as a file');
+}
+/** The exercise that a file holds, or null. @param {string} text */
+export function read_exercise(text) {
+  try {
+    const it = JSON.parse(text);
+    return typeof it.text === 'string' && it.check ? exercise_lesson(it) : null;
+  } catch { return null; }
 }

@@ -5,7 +5,7 @@ import { close_offers, offer_calls, offer_key, take_offer } from './complete.js'
 import { begin_console, console_key, offer_in_line, say, scenario_of_console, undo_line } from './console.js';
 import { find, go_to, indent, offer_in_text, open_side, paint, put_fix, show_faults } from './editor.js';
 import { check_exercise, exercise_lesson, exercise_made, make_exercise } from './exercise.js';
-import { make_hole, show_task, show_wanted } from './exercise.js';
+import { make_hole, read_exercise, save_exercise, show_task, show_wanted } from './exercise.js';
 import { copied, handed, keep_texts, kept, link_of, put_text, save_file } from './kept.js';
 import { go_orders, outcome_shown, view_of } from './orders.js';
 import { draw_all, mark_picture, refit, zoom_by } from './picture.js';
@@ -96,7 +96,7 @@ async function open_lesson(it, plain = false) {
   $('bank').value = (plain ? null : kept.get('bank ' + it.key)) ?? (it.bank || '');
   $('story').innerHTML = it.story || '';
   $('story-tab').hidden = !it.story || it.exercise;
-  $('editor').scrollTop = 0;
+  $('editor').scrollTop = $('side-story').scrollTop = 0;
   kept.set('last', it.key);
   keep_texts();
   open_side(it.story && !it.exercise && $('text').value === it.text ? 'story' : 'text');
@@ -197,7 +197,8 @@ async function share() {
   const to = exercise?.text === text ? await link_of('exercise', exercise) : await link_of('text', it);
   history.replaceState(null, '', to);
   const done = await copied(to);
-  $('status').textContent = `${done ? 'link copied' : 'the link is in the address'} (${to.length} characters)`;
+  const here = location.protocol === 'file:' ? '; it opens where this page has this address' : '';
+  $('status').textContent = `${done ? 'link copied' : 'the link is in the address'} (${to.length} characters)${here}`;
 }
 /** What a link brought, as a lesson; a link that can't be read is reported. */
 async function lesson_of_link() {
@@ -212,9 +213,10 @@ async function lesson_of_link() {
     return null;
   }
 }
-/** A text from a file: handlers go to their own tab, and another text is a lesson of its own. @param {File} file */
+/** A text from a file: handlers go to their own tab; another text or an exercise is a lesson. @param {File} file */
 async function take_file(file) {
-  const text = (await file.text()).replace(/\r\n/g, '\n');
+  const text = (await file.text()).replace(/\r\n/g, '\n'), exercise = read_exercise(text);
+  if (exercise) return open_lesson(exercise, true);
   if (kind_of(text) !== 'bank') return open_lesson({ key: 'file ' + file.name, title: file.name, text }, true);
   open_side('bank');
   put_text($('bank'), text);
@@ -332,6 +334,7 @@ function wire_head() {
   on('make-done', 'click', exercise_made);
   on('make-check', 'change', show_wanted);
   on('make-hole', 'click', make_hole);
+  on('make-save', 'click', save_exercise);
   on('wide', 'click', () => {
     $('wide').setAttribute('aria-pressed', String(document.body.classList.toggle('wide')));
     if (tab_now() === 'left') open_tab('walk');

@@ -5,7 +5,11 @@ import { $ } from './now.js';
 /** @param {Uint8Array} raw */
 const base64 = raw => btoa(Array.from(raw, byte => String.fromCharCode(byte)).join(''));
 /** @param {string} text */
-const raw_of = text => Uint8Array.from(atob(text), c => c.charCodeAt(0));
+function raw_of(text) {
+  const bytes = atob(text), raw = new Uint8Array(bytes.length);
+  for (let i = 0; i < raw.length; i++) raw[i] = bytes.charCodeAt(i);
+  return raw;
+}
 /** @param {any} raw @param {any} by */
 const through = async (raw, by) =>
   new Uint8Array(await new Response(new Blob([raw]).stream().pipeThrough(by)).arrayBuffer());

@@ -3,6 +3,7 @@ import { $, all, now, escaped, text_now } from './now.js';
 import { drawn, machine_of, played, state_at } from './asks.js';
 import { paint_step, show_line } from './editor.js';
 import { mark_picture, rank_text, show_picture } from './picture.js';
+import { HOLE } from './text.js';
 
 const MOST_LINES = 6000, MOST_THREADS = 12;
 /** @type {Map<number, any>} What the machine answered, by step. */
@@ -147,7 +148,8 @@ export async function play_text(mine, step = 0) {
     show_picture(svg.out, title);
   } else {
     const why = answer.err.trim().replace(/^lab: /, '').replace('scenario.toml: ', '') || 'there is nothing to play';
-    show_stale(`It does not play: ${why}. What is to be mended is named below the text.`);
+    show_stale(it.text.includes(HOLE) ? `The text has a hole (${HOLE}). Fill it, and it plays.`
+      : `It does not play: ${why}. What is to be mended is named below the text.`);
   }
   const page = svg.err.match(/page 1 of \d+/), bare = it.bank.trim() && it.kind !== 'callers';
   $('note').textContent = [bare && 'no strips over handlers of your own', page && page[0]].filter(Boolean).join(', ');
