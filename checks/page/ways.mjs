@@ -103,8 +103,39 @@ async function walks(page) {
   await browser.key('ArrowRight');
   await page.step(8);
 }
+/** The table has each thread after each step, and how its wait is. */
+async function tables(page) {
+  const { browser } = page;
+  const row = (step, name) => browser.evaluate(`[...document.querySelectorAll('#state tbody tr')]
+    .find(it => it.firstElementChild.textContent.startsWith('${name}'))?.innerText.replace(/\\s+/g, ' ')`);
+  const at = async step => {
+    await browser.click(`#lines [data-step="${step}"]`);
+    await browser.until(`document.getElementById('state').textContent.includes('After step ${step};')`);
+  };
+  await page.lesson('4. A handler that wakes');
+  await at(5);
+  assert.match(await row(5, 'T1'), /^T1 oob fifo 50 f50 blocked .*begin_get sem=0/);
+  await at(6);
+  assert.match(await row(6, 'T1'), /^T1 oob fifo 50 f50 picked .*served: begin_get sem=0/);
+  assert.match(await row(6, 'sem 0'), /^sem 0 0/);
+  await at(9);
+  assert.match(await row(9, 'T1'), /^T1 oob fifo 50 f50 picked (\(changed\))?$/);
+  await page.lesson('14. Inversion ended');
+  const count = await browser.evaluate(`document.querySelectorAll('#lines .entry').length`);
+  for (let step = 1; step <= count; step++) {
+    await at(step);
+    const names = await browser.evaluate(`[...document.querySelectorAll('#state table:first-child tbody th')]
+      .map(it => it.textContent.replace(' (changed)', '')).join()`);
+    assert.equal(names, 'T0,T1,T2,T3', `after step ${step}`);
+  }
+  await at(3);
+  assert.match(await row(3, 'T1'), /f30 ↑/);
+  assert.match(await row(3, 'mutex 0'), /owner T1, 1 waiting/);
+}
 async function edits(page) {
-  const { browser } = page, own = await page.value('text');
+  const { browser } = page;
+  await page.lesson('1. An interrupt');
+  const own = await page.value('text');
   await browser.evaluate(`document.getElementById('text').setSelectionRange(0, 0)`);
   await browser.evaluate(`document.getElementById('text').focus()`);
   let turn = await page.turn();
@@ -375,5 +406,5 @@ async function keeps(page) {
   await page.browser.click('#back-to');
 }
 
-export const WAYS = { opens, walks, edits, completes, drives, orders, stops, callers, handlers, exercises, shares,
-  keyboard, widths, keeps, compares };
+export const WAYS = { opens, walks, tables, edits, completes, drives, orders, stops, callers, handlers, exercises,
+  shares, keyboard, widths, keeps, compares };

@@ -56,17 +56,22 @@ export async function said(machine, lines) {
   return { answer: answers[lines.length - 1] || '', scenario: answers[lines.length] || '' };
 }
 
-/** How the machine is after a step: threads, and a row for each element. @param {any} machine */
+/**
+ * How the machine is after a step: threads, each with how its wait is (waits, served, timed out) and the call that
+ * began it, and a row for each element. Who has no unfinished wait is asked for ranks and counts.
+ * @param {any} machine
+ */
 export async function state_at(machine, step, entries) {
   const head = entries[0]?.line || '', board = {};
   for (const it of head.matchAll(/(\w+)=(\d+)/g)) board[it[1]] = +it[2];
   const limit = step <= board.limit ? step + 800 : 0, [ps = ''] = await driven(machine, step, limit, ['ps']);
   const lines = ps.split('\n').filter(Boolean);
   const threads = lines.flatMap(line => {
-    const [, number, stage, waits = ''] = line.match(/^T(\d+) (\w+)(?:, waits: (.*))?$/) || [];
-    return number ? [{ name: 'T' + number, number, stage, waits }] : [];
+    const [, number, stage, how = '', call = ''] = line.match(/^T(\d+) (\w+)(?:, ([^:]*)(?:: (.*))?)?$/) || [];
+    return number ? [{ name: 'T' + number, number, stage, how, call }] : [];
   });
-  const known = { ranks: new Map(), rows: new Map(), picked: '', date: '' }, free = threads.find(it => !it.waits);
+  const known = { ranks: new Map(), rows: new Map(), picked: '', date: '' };
+  const free = threads.find(it => !it.how);
   if (free) {
     const of = free.name, upto = (/** @type {number} */ n) => [...Array(Math.min(n || 0, 40)).keys()];
     read_looks(known, await driven(machine, step, limit, [

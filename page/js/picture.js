@@ -3,7 +3,7 @@
 // mark; each of its bands of lanes becomes a drawing of its own, which is made only once it is seen.
 import { $, all, now, escaped } from './now.js';
 
-const PITCH = 30, LEFT = 104, ABOVE = 50, BELOW = 34, EACH = 5;
+const PITCH = 30, LEFT = 104, ABOVE = 50, BELOW = 34, EACH = 5, LEAST = .85;
 /** @typedef {{ first: number, low: number, top: number, parts: string[], box?: any }} Band */
 /** @type {Map<number, { x: number, band: Band }[]>} The columns of each step. */
 let columns = new Map();
@@ -109,7 +109,7 @@ export function refit() {
 export function fit() {
   const box = $('drawing'), most = document.body.classList.contains('wide') || innerWidth >= 1800 ? 3.2 : 2.2;
   const least = Math.min(room[0] / size[0], room[1] / size[1], most);
-  const scale = Math.max(1, least) * zoom;
+  const scale = Math.max(LEAST, least) * zoom;
   box.style.setProperty('--wide', size[0] + 'px');
   box.style.setProperty('--scale', String(scale));
   $('zoom').textContent = Math.round(scale * 100) + ' %';

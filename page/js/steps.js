@@ -54,14 +54,15 @@ function thread_row(at, it) {
   const rank = at.ranks.get(it.name), policy = at.policies.get(it.name) || '', parts = policy.split(' ');
   const own = parts[0] === 'rr' ? +parts[1] : +parts[parts.length - 1];
   const says = rank === undefined ? '–' : rank_text(rank) + (policy && rank % 256 !== own ? ' ↑' : '');
-  const is = it.waits ? 'blocked' : rank === undefined ? '–' : it.name === at.picked ? 'picked'
+  const is = it.how === 'waits' ? 'blocked' : rank === undefined ? '–' : it.name === at.picked ? 'picked'
     : it.stage === 'oob' ? 'ready' : 'in-band';
   const stage = it.stage === 'oob' ? 'oob' : 'in-band';
-  return [it.name, stage, policy || '–', says, is, it.waits.replace(/ until=none/, '')];
+  const wait = (it.how && it.how !== 'waits' ? it.how + ': ' : '') + it.call.replace(/ until=none/, '');
+  return [it.name, stage, policy || '–', says, is, wait];
 }
 /** Of many threads only those that are attached or wait. @param {any} at */
 function table_of(at) {
-  const is_told = (/** @type {any} */ it) => at.threads.length <= MOST_THREADS || it.waits || at.ranks.has(it.name);
+  const is_told = (/** @type {any} */ it) => at.threads.length <= MOST_THREADS || it.how || at.ranks.has(it.name);
   const threads = at.threads.filter(is_told).map((/** @type {any} */ it) => thread_row(at, it));
   return { threads, rows: [...at.rows] };
 }
@@ -87,7 +88,7 @@ function cell(text, was, head) {
 function show_table(at, before, step) {
   const were = new Map(before.threads.map(it => [it[0], it])), had = new Map(before.rows);
   const when = step ? `After step ${step}; what it changed is marked` : 'At the start';
-  const heads = ['thread', 'stage', 'policy', 'rank', 'is', 'waits for'].map(it => `<th scope="col">${it}</th>`);
+  const heads = ['thread', 'stage', 'policy', 'rank', 'is', 'its wait'].map(it => `<th scope="col">${it}</th>`);
   const row_of = it => `<tr>${it.map((text, i) => cell(text, were.get(it[0])?.[i], !i)).join('')}</tr>`;
   const threads = at.threads.map(row_of);
   const rows = at.rows.map(([of, says]) => {
