@@ -6,9 +6,6 @@ import { mark_picture, rank_text, show_picture } from './picture.js';
 import { HOLE } from './text.js';
 
 const MOST_LINES = 6000, MOST_THREADS = 12;
-/** @type {Map<number, any>} What the machine answered, by step. */
-let states = new Map();
-
 /** @param {any} it @param {number} i */
 function line_of(it, i) {
   const answer = ' <span class="nb">-&gt; <b>$1</b></span><i>$2</i>';
@@ -43,10 +40,10 @@ export function show_none(why) {
   show_picture('', '');
   show_state(0);
 }
-/** @param {number} step */
-async function known_at(step) {
-  const known = states.get(step) || state_at(now.machine, step, now.entries);
-  states.set(step, known);
+/** How a machine is after a step: asked once. @param {any} machine @param {number} step */
+async function known_at(machine, step) {
+  const known = machine.states.get(step) || state_at(machine, step, machine.entries);
+  machine.states.set(step, known);
   return known;
 }
 /** The rows of a thread: its stage, policy, rank, what it is, and for what it waits. @param {any} at @param {any} it */
@@ -122,10 +119,10 @@ export async function show_state(step) {
   paint_step();
   mark_picture();
   if (now.steps[step - 1] && !now.viewed) show_line(now.steps[step - 1].from);
-  const mine = now.turn;
-  if (!now.machine) return show_table(locks_at(step), locks_at(Math.max(0, step - 1)), step);
-  const at = table_of(await known_at(step)), before = step ? table_of(await known_at(step - 1)) : at;
-  if (mine !== now.turn || now.shown !== step) return;
+  const { machine } = now;
+  if (!machine) return show_table(locks_at(step), locks_at(Math.max(0, step - 1)), step);
+  const at = table_of(await known_at(machine, step)), before = step ? table_of(await known_at(machine, step - 1)) : at;
+  if (machine !== now.machine || now.shown !== step) return;
   show_table(at, before, step);
   document.body.dataset.state = String(step);
 }
@@ -142,8 +139,8 @@ export async function play_text(mine, step = 0) {
   if (mine !== now.turn) return answer;
   const title = now.viewed ? now.viewed.title : now.lesson?.title || 'the text';
   if (answer.out) {
+    if (machine) Object.assign(machine, { entries: answer.entries, states: new Map() });
     Object.assign(now, { machine, played: now.lesson?.key });
-    states = new Map();
     $('stale').hidden = true;
     show_trace(answer.entries);
     show_picture(svg.out, title);
