@@ -65,6 +65,9 @@ export async function texts(page, top, count) {
     for (const kind in said.kinds) kinds[kind] = (kinds[kind] || 0) + said.kinds[kind];
   }
   await page.lesson('1. An interrupt');
+  const turn = await page.turn();
+  await page.browser.click('#back-to');
+  await page.played(turn);
   assert.match(await page.see('at'), /of 9$/);
   const told = Object.entries(kinds).map(([kind, n]) => `${n} ${kind}`).join(', ');
   return `${all.length} texts (${told}): each is answered, the page lives; the longest took ${worst} ms`;
