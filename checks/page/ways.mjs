@@ -1,0 +1,410 @@
+// A user's ways through the page, by clicks and keys, each with what must be there after it.
+import assert from 'node:assert/strict';
+import { sleep } from './browsers.mjs';
+
+/** Words for what is on the page. */
+export class Page {
+  constructor(browser, url, stored, shots) {
+    Object.assign(this, { browser, url, stored, shots });
+  }
+  async open(url = this.url) {
+    await this.browser.go('about:blank');
+    await this.browser.go(url);
+    await this.browser.until('document.body && document.body.dataset.ready');
+  }
+  see(id) { return this.browser.evaluate(`document.getElementById(${JSON.stringify(id)}).textContent`); }
+  value(id) { return this.browser.evaluate(`document.getElementById(${JSON.stringify(id)}).value`); }
+  at() { return this.browser.evaluate(`document.activeElement.id || document.activeElement.tagName`); }
+  async turn() {
+    await this.browser.until('!document.body.dataset.waits', 90000);
+    return this.browser.evaluate('Number(document.body.dataset.done || 0)');
+  }
+  /** Waits until a text was checked, played and drawn after a turn. */
+  async played(after, ms = 30000) {
+    await this.browser.until(`Number(document.body.dataset.done || 0) > ${after} && !document.body.dataset.waits`, ms);
+  }
+  /** Puts a text in, as pasting it does. */
+  async put(text, id = 'text', ms = 30000) {
+    const turn = await this.turn();
+    await this.browser.evaluate(`(() => { const it = document.getElementById('${id}');
+      it.value = ${JSON.stringify(text)}; it.dispatchEvent(new Event('input')); })()`);
+    await this.played(turn, ms);
+  }
+  /** Opens a lesson by a part of its title, or by the whole, and its text or another side of it. */
+  async lesson(title, side = 'text') {
+    const turn = await this.turn(), listed = 'document.body.classList.contains("listed")';
+    if (!await this.browser.evaluate(listed)) await this.browser.click('#lessons-button');
+    await this.browser.evaluate(`(() => { const all = [...document.querySelectorAll('#list button')];
+      const it = all.find(it => it.textContent === ${JSON.stringify(title)})
+        || all.find(it => it.textContent.includes(${JSON.stringify(title)}));
+      it.id = 'wanted'; })()`);
+    await this.browser.click('#wanted');
+    await this.browser.evaluate(`document.getElementById('wanted').removeAttribute('id')`);
+    await this.played(turn);
+    await this.browser.click(`#${side}-tab`);
+  }
+  async tab(name) { await this.browser.click(`#${name}-tab`); }
+  async step(wanted) {
+    await this.browser.until(`document.getElementById('at').textContent.startsWith('step ${wanted} ')`);
+  }
+  async shot(name) {
+    await sleep(250);
+    if (this.shots) await this.browser.shot(`${this.shots}/${this.browser.name}_${name}.png`);
+  }
+}
+
+async function opens(page) {
+  const { browser } = page;
+  assert.match(await page.see('name'), /^1\. An interrupt through a stalled/);
+  assert.equal(await page.see('kind'), 'scenario');
+  assert.match(await page.see('faults'), /no fault, no warning/);
+  assert.equal(await browser.evaluate(`document.querySelectorAll('#drawing .mark').length`), 13);
+  const unproved = await browser.evaluate(`Boolean(document.getElementById('unproved'))`);
+  const foot = await browser.evaluate(`document.querySelector('footer').textContent`);
+  assert.equal(unproved, foot.includes('UNPROVED'));
+  assert.match(foot, /SHA-256 of its code: [0-9a-f]{64}/);
+  assert.match(foot, /logic=/);
+  assert.equal(await browser.evaluate(`document.getElementById('side-story').hidden`), false);
+  await browser.click('#story .at[data-step="5"]');
+  await page.step(5);
+  await page.shot('lesson');
+}
+async function walks(page) {
+  const { browser } = page;
+  await browser.click('#text-tab');
+  await browser.click('#bar [data-walk="first"]');
+  await browser.click('#bar [data-walk="1"]');
+  await page.step(1);
+  await browser.key('ArrowRight');
+  await page.step(2);
+  await browser.evaluate(`document.getElementById('lines').focus()`);
+  for (let i = 0; i < 3; i++) await browser.key('ArrowDown');
+  await page.step(5);
+  await browser.until(`document.getElementById('state').textContent.includes('After step 5')`);
+  assert.equal(await browser.evaluate(`document.querySelectorAll('#lines [aria-selected=true]').length`), 2);
+  assert.equal(await browser.evaluate(`document.querySelectorAll('#drawing .here').length`), 2);
+  const step = `[...document.querySelectorAll('#under .step')].map(it => it.textContent).join()`;
+  assert.match(await browser.evaluate(step), /do = "arrive"/);
+  await browser.key('End');
+  await page.step(9);
+  await browser.key('Home');
+  await page.step(0);
+  await browser.click('#drawing .mark[data-step="3"]');
+  await page.step(3);
+  await browser.until(`document.querySelector('#state .changed')`);
+  await browser.click('#lines [data-step="8"]');
+  await page.step(8);
+  await browser.evaluate(`document.getElementById('slider').focus()`);
+  await browser.key('ArrowLeft');
+  await page.step(7);
+  await browser.evaluate(`document.getElementById('text').focus()`);
+  await browser.key('ArrowDown', 'Alt');
+  await page.step(8);
+  await browser.key('ArrowRight');
+  await page.step(8);
+}
+/** The table has each thread after each step, and how its wait is. */
+async function tables(page) {
+  const { browser } = page;
+  const row = (step, name) => browser.evaluate(`[...document.querySelectorAll('#state tbody tr')]
+    .find(it => it.firstElementChild.textContent.startsWith('${name}'))?.innerText.replace(/\\s+/g, ' ')`);
+  const at = async step => {
+    await browser.click(`#lines [data-step="${step}"]`);
+    await browser.until(`document.getElementById('state').textContent.includes('After step ${step};')`);
+  };
+  await page.lesson('4. A handler that wakes');
+  await at(5);
+  assert.match(await row(5, 'T1'), /^T1 oob fifo 50 f50 blocked .*begin_get sem=0/);
+  await at(6);
+  assert.match(await row(6, 'T1'), /^T1 oob fifo 50 f50 picked .*served: begin_get sem=0/);
+  assert.match(await row(6, 'sem 0'), /^sem 0 0/);
+  await at(9);
+  assert.match(await row(9, 'T1'), /^T1 oob fifo 50 f50 picked (\(changed\))?$/);
+  await page.lesson('14. Inversion ended');
+  const count = await browser.evaluate(`document.querySelectorAll('#lines .entry').length`);
+  for (let step = 1; step <= count; step++) {
+    await at(step);
+    const names = await browser.evaluate(`[...document.querySelectorAll('#state table:first-child tbody th')]
+      .map(it => it.textContent.replace(' (changed)', '')).join()`);
+    assert.equal(names, 'T0,T1,T2,T3', `after step ${step}`);
+  }
+  await at(3);
+  assert.match(await row(3, 'T1'), /f30 ↑/);
+  assert.match(await row(3, 'mutex 0'), /owner T1, 1 waiting/);
+}
+async function edits(page) {
+  const { browser } = page;
+  await page.lesson('1. An interrupt');
+  const own = await page.value('text');
+  await browser.evaluate(`document.getElementById('text').setSelectionRange(0, 0)`);
+  await browser.evaluate(`document.getElementById('text').focus()`);
+  let turn = await page.turn();
+  await browser.type('xx');
+  await page.played(turn);
+  assert.match(await page.see('faults'), /fault line 1/);
+  assert.equal(await browser.evaluate(`document.querySelectorAll('#under u').length`), 1);
+  assert.match(await page.see('kept'), /kept in this browser/);
+  turn = await page.turn();
+  await browser.undo();
+  if (await page.value('text') !== own) await browser.undo();
+  await page.played(turn);
+  assert.equal(await page.value('text'), own);
+  await browser.key('Tab');
+  assert.notEqual(await page.at(), 'text');
+  await page.put(own.replace('do = "unstall"', 'do = "unstal"').replace('who = 0', 'who = "T0"'));
+  assert.match(await page.see('faults'), /did you mean "unstall"/);
+  assert.match(await page.see('stale'), /^It does not play: bad step 1/);
+  assert.match(await page.see('at'), /of 9$/);
+  await page.shot('faults');
+  turn = await page.turn();
+  await browser.click('.fix');
+  await page.played(turn);
+  assert.doesNotMatch(await page.see('faults'), /unstal"/);
+  turn = await page.turn();
+  await browser.click('#back-to');
+  await page.played(turn);
+  assert.equal(await page.value('text'), own);
+  await browser.click('#find');
+  await browser.type('arrive');
+  await browser.key('Enter');
+  assert.match(await page.see('found'), /^\d of 5$/);
+}
+async function completes(page) {
+  const { browser } = page;
+  await page.put('[board]\nthreads = 2\nsems = [0]\n\n');
+  await browser.evaluate(`(() => { const it = document.getElementById('text'); it.focus();
+    it.setSelectionRange(it.value.length, it.value.length); })()`);
+  await browser.type('[[s');
+  assert.match(await page.see('offers'), /\[\[step\]\]/);
+  await browser.key('Enter');
+  await browser.key('Enter');
+  await browser.type('do = "be');
+  assert.match(await page.see('offers'), /"begin_get"/);
+  await page.shot('completion');
+  await browser.key('Enter');
+  assert.match(await page.value('text'), /do = "begin_get"$/);
+  await browser.key('Enter');
+  await browser.type('who = 0');
+  await browser.key('Enter');
+  await browser.type('s');
+  assert.match(await page.see('offers'), /^sem = $/);
+  await browser.key('Enter');
+  await browser.type('0');
+  await browser.key('Enter');
+  await browser.key(' ', 'Control');
+  assert.match(await page.see('offers'), /until = /);
+  await browser.key('Escape');
+  assert.equal(await browser.evaluate(`document.getElementById('offers').hidden`), true);
+  await browser.until(`document.getElementById('lines').textContent.includes('begin_get sem=0 until=none')`);
+}
+async function drives(page) {
+  const { browser } = page;
+  await page.lesson('Inversion ended by a mutex');
+  await page.tab('console');
+  assert.equal(await page.at(), 'line');
+  for (const line of ['T0 pick', 'T0 putt', 'ps']) {
+    await browser.type(line);
+    await browser.key('Escape');
+    await browser.key('Enter');
+    await browser.until(`document.getElementById('said').textContent.includes('> ${line}')`);
+  }
+  const said = await page.see('said');
+  assert.match(said, /15 T0 pick -> thread 2/);
+  assert.match(said, /! \d+: .*did you mean "put"/);
+  assert.match(said, /T1 oob/);
+  await browser.key('ArrowUp');
+  await browser.key('ArrowUp');
+  assert.equal(await page.value('line'), 'T0 putt');
+  await browser.click('#undo');
+  assert.doesNotMatch(await page.see('said'), /> ps/);
+  await browser.evaluate(`document.getElementById('line').value = ''`);
+  await browser.evaluate(`document.getElementById('line').focus()`);
+  await browser.type('T0 set_p');
+  assert.match(await page.see('offers'), /set_policy/);
+  await page.shot('console');
+  await browser.key('Escape');
+  const turn = await page.turn();
+  await browser.click('#to-text');
+  await page.played(turn);
+  assert.match(await page.see('at'), /of 15$/);
+  assert.match(await page.value('text'), /do = "pick"/);
+  await browser.click('#back-to');
+}
+async function orders(page) {
+  const { browser } = page;
+  await page.lesson('Two locks');
+  await browser.until(`document.getElementById('verdict').textContent.startsWith('No: ')`);
+  assert.equal(await browser.evaluate(`document.querySelectorAll('#outcomes tbody tr').length`), 2);
+  assert.match(await page.see('asked'), /always_ends = true/);
+  await page.shot('orders');
+  await browser.click('[data-open="1"]');
+  await browser.until(`document.getElementById('viewed-title').textContent.startsWith('Outcome 2 (20 orders)')`);
+  await browser.until(`document.getElementById('at').textContent.endsWith('of 14')`);
+  await page.shot('outcome');
+  const turn = await page.turn();
+  await browser.click('#viewed-take');
+  await page.played(turn);
+  assert.equal(await page.see('kind'), 'scenario');
+}
+/** Orders without end are stopped, by a click, and the page is answered meanwhile. */
+async function stops(page) {
+  const { browser } = page, callers = [1, 2, 3, 4, 5, 6, 7];
+  const text = '[board]\nthreads = 9\nsems = [0]\n[ask]\nalways_ends = true\n' + callers.map(n =>
+    `[[step]]\ndo = "put"\nwho = ${n}\nsem = 0\n`.repeat(7)).join('');
+  await browser.evaluate(`(() => { const it = document.getElementById('text');
+    it.value = ${JSON.stringify(text)}; it.dispatchEvent(new Event('input')); })()`);
+  await browser.until(`!document.getElementById('orders-stop').disabled`);
+  await sleep(700);
+  assert.match(await page.see('verdict'), /Going through all orders/);
+  await browser.click('#orders-stop');
+  await browser.until(`document.getElementById('verdict').textContent.includes('stopped by you')`);
+  await page.lesson('Any bits, or all');
+  assert.match(await page.see('at'), /of \d+$/);
+}
+async function callers(page) {
+  const { browser } = page;
+  await page.lesson('Stax stages');
+  assert.equal(await page.see('kind'), 'callers');
+  await page.tab('walk');
+  await browser.click('#lines [data-step="4"]');
+  await browser.until(`document.getElementById('state').textContent.includes('stax 0')`);
+  assert.match(await page.see('state'), /in-band, 2 holders/);
+  await page.shot('callers');
+}
+async function handlers(page) {
+  const { browser } = page;
+  await page.put('[board]\nthreads = 1\nsems = [0, 0]\n' + ['request"\nline = 5\nstage = "oob"\ncallback = 0',
+    'arrive"\nline = 5', 'arrive"\nline = 5', 'peek"\nsem = 1'].map(it => `[[step]]\nwho = 0\ndo = "${it}\n`).join(''));
+  assert.match(await page.see('lines'), /peek sem=1 -> count 0/);
+  await browser.click('#bank-tab');
+  await page.put('[[callback]]\naccepts = 2\ndo = [{ post_sem = 1 }]\n', 'bank');
+  assert.match(await page.see('lines'), /peek sem=1 -> count 1/);
+  assert.match(await page.see('lines'), /count 1 none/);
+  assert.match(await page.see('note'), /no strips/);
+  await page.put('[[callback]]\ndo = [{ post_semm = 1 }]\n', 'bank');
+  assert.match(await page.see('faults'), /in the handlers/);
+  await page.put('', 'bank');
+  await browser.click('#text-tab');
+}
+async function exercises(page) {
+  const { browser } = page;
+  await page.lesson('1. Ranks along a chain');
+  await browser.click('#check');
+  await browser.until(`document.getElementById('checked').className === 'bad'`);
+  const text = await page.value('text'), turn = await page.turn();
+  await page.put(text.replace('# your steps here', '[[step]]\ndo = "claim"\nwho = 4\nmutex = 1\nowner = 2\n'));
+  await browser.click('#check');
+  await browser.until(`document.getElementById('checked').className === 'good'`);
+  await page.shot('exercise');
+  assert.ok(await page.turn() > turn);
+}
+/** An exercise of one's own, with a question, shared as a link and opened as another student does. */
+async function shares(page) {
+  const { browser } = page, put = (id, text) => browser.evaluate(
+    `document.getElementById('make-${id}').value = ${JSON.stringify(text)}`);
+  await page.lesson('3. A handler that hands on');
+  await browser.click('#make-button');
+  await put('title', 'Whose half is first?');
+  await put('question', 'Which stage plays its half first? Fill the hole.');
+  await browser.evaluate(`(() => { const it = document.getElementById('make-text'), at = it.value.indexOf('arrive');
+    it.focus(); it.setSelectionRange(at, at + 6); })()`);
+  await browser.click('#make-hole');
+  assert.match(await page.value('make-text'), /do = "____"/);
+  await browser.click('#make-done');
+  await browser.until(`document.getElementById('make-said').textContent.includes('its solution is accepted')`);
+  await page.shot('make');
+  const link = await page.value('make-link');
+  assert.match(link, /#exercise=[\w-]+$/);
+  await page.open(link);
+  assert.equal(await page.see('name'), 'Whose half is first?');
+  assert.match(await page.see('question'), /Fill the hole/);
+  await browser.click('#check');
+  await browser.until(`document.getElementById('checked').textContent.includes('There is a hole')`);
+  await page.put((await page.value('text')).replace('____', 'arrive'));
+  await browser.click('#check');
+  await browser.until(`document.getElementById('checked').className === 'good'`);
+  await browser.evaluate(`(() => { const it = { title: 'From a file', question: 'Which?', text: 'a', check: 'trace' };
+    const file = new File([JSON.stringify(it)], 'it.json'), held = new DataTransfer();
+    held.items.add(file);
+    document.body.dispatchEvent(new DragEvent('drop', { dataTransfer: held, bubbles: true })); })()`);
+  await browser.until(`document.getElementById('name').textContent === 'From a file'`);
+  await page.open(page.url + '#text=bad');
+  assert.match(await page.see('status'), /The link could not be read/);
+  await page.lesson('4. A handler that wakes');
+  await browser.click('#link');
+  await browser.until(`location.hash.startsWith('#text=')`);
+  const text = await page.value('text'), href = await browser.evaluate('location.href');
+  await page.open(href);
+  assert.equal(await page.value('text'), text);
+  await page.open();
+}
+/** Keyboard alone: all that can be reached by Tab has a name, and the tabs go by arrow keys. */
+async function keyboard(page) {
+  const { browser } = page, seen = new Set();
+  await browser.evaluate('document.body.focus()');
+  for (let i = 0; i < 90; i++) {
+    await browser.key('Tab');
+    seen.add(await page.at());
+  }
+  const wanted = ['text', 'text-tab', 'walk-tab', 'lines', 'slider', 'link', 'find', 'split-left', 'drawing', 'state'];
+  for (const id of wanted)
+    assert.ok(seen.has(id), `${id} is not reached by Tab`);
+  await browser.evaluate(`document.getElementById('walk-tab').focus()`);
+  await browser.key('ArrowRight');
+  assert.equal(await page.at(), 'console-tab');
+  await browser.key('Home');
+  assert.equal(await page.at(), 'walk-tab');
+  await page.tab('walk');
+  const unnamed = await browser.evaluate(`[...document.querySelectorAll(
+    'button, input:not([hidden]), textarea, select, [tabindex], [role=region], [role=listbox]')].filter(it => {
+      const by = it.getAttribute('aria-labelledby');
+      return !(it.getAttribute('aria-label') || it.textContent.trim() || it.closest('label')
+        || by && document.getElementById(by).textContent);
+    }).map(it => it.outerHTML.slice(0, 80))`);
+  assert.deepEqual(unnamed, []);
+}
+/** Each width has no more than the window across, and shows what it should. */
+async function widths(page) {
+  const { browser } = page;
+  await page.lesson('13. Inversion by a semaphore');
+  for (const [width, height] of [[360, 740], [760, 900], [1280, 720], [1920, 1080], [2560, 1300]]) {
+    await browser.resize(width, height);
+    await sleep(200);
+    const across = await browser.evaluate('[document.documentElement.scrollWidth, innerWidth]');
+    assert.ok(across[0] <= across[1], `at ${width}: ${across}`);
+    if (width <= 760) await page.tab('walk');
+    await browser.evaluate(`document.querySelector('#lines [data-step="6"]').click()`);
+    await page.step(6);
+    await page.shot(`width_${width}`);
+  }
+  await browser.resize(1280, 720);
+  await browser.click('#wide');
+  await page.shot('projector');
+  await browser.click('#wide');
+  if (browser.dark) {
+    await browser.dark(true);
+    await page.shot('dark');
+    await browser.dark(false);
+  }
+}
+/** The page's own comparison, over all that the repository holds. */
+async function compares(page) {
+  const { browser, stored } = page;
+  await browser.evaluate(`document.getElementById('compare').closest('details').open = true`);
+  await browser.click('#compare');
+  await browser.until(`document.getElementById('compared').textContent.includes('are the same')`, 120000);
+  assert.match(await page.see('compared'), new RegExp(`^${stored} of ${stored} are the same`));
+}
+/** What is kept: a text is there again after the page is opened anew. */
+async function keeps(page) {
+  await page.lesson('5. A timer');
+  const text = (await page.value('text')) + '\n# mine\n';
+  await page.put(text);
+  await page.open();
+  assert.match(await page.see('name'), /^5\. A timer/);
+  assert.equal(await page.value('text'), text);
+  await page.browser.click('#back-to');
+}
+
+export const WAYS = { opens, walks, tables, edits, completes, drives, orders, stops, callers, handlers, exercises,
+  shares, keyboard, widths, keeps, compares };

@@ -1,0 +1,116 @@
+// What is offered while one types: words, keys and values of the program's own list of calls, for the text and the
+// console. Arrow keys choose, Enter takes, Escape closes; Tab leaves the box, as everywhere.
+import { $, escaped } from './now.js';
+import { put_text } from './kept.js';
+
+/** @type {Map<string, any>} */
+let known_calls = new Map();
+export const offer_calls = (/** @type {Map<string, any>} */ list) => { known_calls = list; };
+
+const BOARD = ['threads', 'sems', 'flags', 'xbufs', 'mutexes', 'groups'], HEADS = ['[board]', '[[step]]'];
+const ORDERS_HEADS = ['[ask]', '[[setup]]', '[[step]]', '[board]'];
+const ASK = ['always_ends', 'never', 'as_picked'], CALLBACK = ['accepts', 'do'];
+const ACTIONS = ['every', 'post_sem', 'post_flags', 'bits', 'post_oob', 'post_inband', 'propagate'];
+
+/** What one step's table or line has: its word, and which keys. @param {string} text */
+const step_of = text => ({ word: text.match(/\bdo\s*=\s*"(\w+)"/)?.[1] || '',
+  has: new Set([...text.matchAll(/(\w+)\s*=/g)].map(it => it[1])) });
+/** @param {string} word @param {Set<string>} has @param {string} sign */
+const keys_left = (word, has, sign) => {
+  const call = known_calls.get(word), keys = call ? [...call.keys.keys()] : [];
+  return ['do', 'who', ...keys].filter(key => !has.has(key)).map(key => key + sign);
+};
+/**
+ * What may come at a place of a text: how many characters before it are replaced, and the words.
+ * @param {string} text @param {number} at @param {string} kind
+ */
+export function offered(text, at, kind) {
+  const line = text.slice(text.lastIndexOf('\n', at - 1) + 1, at), before = text.slice(0, at);
+  if (/#/.test(line.replace(/"[^"]*"?/g, ''))) return null;
+  const head = line.match(/^\s*(\[+\w*)$/);
+  if (head) return { size: head[1].length, words: kind === 'orders' ? ORDERS_HEADS : HEADS };
+  const table = [...before.matchAll(/^\s*\[+\s*(\w+)\s*\]+/gm)].pop(), name = table ? table[1] : '';
+  const inline = line.lastIndexOf('{') > line.lastIndexOf('}'), rest = text.slice(at);
+  const step = inline ? line.slice(line.lastIndexOf('{')) + rest.split(/[}\n]/)[0]
+    : before.slice(before.lastIndexOf('[[') + 1) + rest.split(/^\s*\[/m)[0];
+  const { word, has } = step_of(step), value = line.match(/(\w+)\s*=\s*("[^"]*|\w*)$/);
+  if (value) {
+    if (name === 'board' || name === 'ask' || name === 'callback') return null;
+    const of = known_calls.get(word)?.keys.get(value[1]);
+    const values = value[1] === 'do' ? [...known_calls.keys()].map(it => `"${it}"`) : of?.values;
+    return values ? { size: value[2].length, words: values } : null;
+  }
+  const key = line.match(/(?:^|[{,])\s*(\w*)$/);
+  if (!key) return null;
+  const sign = ' = ', less = (/** @type {string[]} */ keys) => keys.filter(it => !has.has(it)).map(it => it + sign);
+  has.delete(key[1]);
+  const words = name === 'callback' ? (inline ? ACTIONS.map(it => it + sign) : less(CALLBACK))
+    : name === 'board' ? less(BOARD) : name === 'ask' ? less(ASK)
+    : inline || name === 'step' || name === 'setup' ? keys_left(word, has, sign) : ['limit = ', ...HEADS];
+  return { size: key[1].length, words };
+}
+/** What may come in a line of the console. @param {string} line @param {number} at */
+export function offered_line(line, at) {
+  const parts = line.slice(0, at).split(' '), last = parts[parts.length - 1];
+  const of = known_calls.get(parts[1]), after = parts[0] === '?' ? '' : ' ';
+  if (parts.length === 1) return { size: last.length, words: ['T0 ', 'T1 ', 'T2 ', 'ps', 'scenario', '? '] };
+  if (parts.length === 2) return { size: last.length, words: [...known_calls.keys()].map(it => it + after) };
+  const value = last.match(/^(\w+)=(.*)$/), has = new Set(parts.slice(2, -1).map(it => it.split('=')[0]));
+  if (!of) return null;
+  if (!value) return { size: last.length, words: keys_left(parts[1], has, '=').slice(2) };
+  const values = of.keys.get(value[1])?.values.map((/** @type {string} */ it) => it.replace(/"/g, ''));
+  return values ? { size: value[2].length, words: values } : null;
+}
+
+/** @type {any} The open list: its box, words, place and choice. */
+let open = null;
+export function close_offers() {
+  open = null;
+  $('offers').hidden = true;
+  for (const id of ['text', 'line']) $(id).removeAttribute('aria-activedescendant');
+}
+function show_offers() {
+  const { box, words, chosen, place } = open, list = $('offers'), from = Math.max(0, chosen - 7);
+  const option = (/** @type {string} */ it, /** @type {number} */ i) => `<div role="option" id="offer-${i}" `
+    + `data-n="${from + i}" aria-selected="${from + i === chosen}">${escaped(it)}</div>`;
+  const more = words.length > from + 8 ? '<div class="dim">and more</div>' : '';
+  list.innerHTML = words.slice(from, from + 8).map(option).join('') + more;
+  list.hidden = false;
+  const high = list.offsetHeight, top = place.bottom + high > innerHeight ? place.top - high : place.bottom;
+  list.style.left = Math.max(0, Math.min(place.left, innerWidth - list.offsetWidth - 4)) + 'px';
+  list.style.top = top + 'px';
+  box.setAttribute('aria-activedescendant', `offer-${chosen - from}`);
+}
+/** Offers what fits to what was typed. @param {any} box @param {any} found @param {() => DOMRect} place_of */
+export function offer(box, found, place_of, asked = false) {
+  close_offers();
+  if (!found || box.selectionStart !== box.selectionEnd) return;
+  const at = box.selectionStart, typed = box.value.slice(at - found.size, at), bare = typed.replace(/^"/, '');
+  const words = found.words.filter((/** @type {string} */ it) => it.replace(/^"/, '').startsWith(bare));
+  const whole = words.some((/** @type {string} */ it) => it.replace(/["\s=]/g, '') === bare);
+  if (!words.length || (!asked && (whole || !typed))) return;
+  open = { box, words, chosen: 0, size: found.size, place: place_of() };
+  show_offers();
+}
+/** @param {number} n */
+export function take_offer(n) {
+  const { box, words, size } = open, at = box.selectionStart, word = words[n];
+  const closes = word.startsWith('"') && box.value[at] === '"';
+  close_offers();
+  put_text(box, word, at - size, at + (closes ? 1 : 0));
+  box.dispatchEvent(new Event('input'));
+}
+/** A key while something is offered; whether it was for the list. @param {any} event */
+export function offer_key(event) {
+  if (!open || event.target !== open.box) return false;
+  const by = { ArrowUp: -1, ArrowDown: 1 }[event.key];
+  if (by && !event.altKey) {
+    open.chosen = (open.chosen + by + open.words.length) % open.words.length;
+    show_offers();
+  } else if (event.key === 'Enter') take_offer(open.chosen);
+  else if (event.key === 'Escape') close_offers();
+  else return false;
+  event.preventDefault();
+  event.stopPropagation();
+  return true;
+}

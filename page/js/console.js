@@ -1,0 +1,52 @@
+// The console: a driven machine answers each line; the lines before it are answered again, unseen.
+import { $, now, escaped } from './now.js';
+import { said } from './asks.js';
+import { offer, offered_line } from './complete.js';
+
+/** @type {{ line: string, answer: string }[]} */
+let lines = [];
+/** @type {string[]} Earlier lines, for the arrow keys. */
+const past = [];
+let at = 0;
+export function begin_console() {
+  lines = [];
+  show_said();
+}
+/** @param {string} [trouble] */
+function show_said(trouble = '') {
+  const refused = /^(!.*|.* -&#62; [A-Z].*)$/gm, of = now.viewed ? 'the outcome' : 'the text';
+  const told = lines.map(it => `<span class="me">&gt; ${escaped(it.line)}</span>\n`
+    + escaped(it.answer).replace(refused, '<span class="refused">$1</span>'));
+  if (trouble) told.push(`<span class="refused">${escaped(trouble)}</span>\n`);
+  $('said').innerHTML = `<span class="dim">The machine after the last step of ${of}.</span>\n${told.join('')}`;
+  $('said').scrollTop = 1e9;
+  $('undo').disabled = !lines.length;
+}
+/** @param {string} line */
+export async function say(line) {
+  at = past.push(line);
+  if (!now.machine) return show_said('There is no machine to drive: the text is no scenario that plays.');
+  const mine = now.turn, { answer } = await said(now.machine, [...lines.map(it => it.line), line]);
+  if (mine !== now.turn) return;
+  lines.push({ line, answer });
+  show_said();
+}
+export function undo_line() {
+  lines.pop();
+  show_said();
+}
+/** @param {any} event */
+export function console_key(event) {
+  const by = { ArrowUp: -1, ArrowDown: 1 }[event.key];
+  if (!by || !past.length) return;
+  event.preventDefault();
+  at = Math.max(0, Math.min(past.length, at + by));
+  event.target.value = past[at] || '';
+}
+export function offer_in_line(asked = false) {
+  const box = $('line');
+  offer(box, offered_line(box.value, box.selectionStart), () => box.getBoundingClientRect(), asked);
+}
+/** The calls of the text and those that were typed, as a scenario. */
+export const scenario_of_console = async () =>
+  now.machine ? (await said(now.machine, lines.map(it => it.line))).scenario : '';

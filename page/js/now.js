@@ -1,0 +1,23 @@
+// What the page holds at a moment: one object that its modules share, and a few words for its elements.
+
+/**
+ * The lesson; an outcome of orders that is looked at; the machine that was played last, and of which lesson; the text's
+ * kind and steps; what is reported of it; the trace, its number of steps, and the step that is looked at.
+ * @type {{ lesson: any, viewed: any, machine: any, played: string, kind: string, steps: any[], told: any[],
+ *   entries: any[], count: number, shown: number, turn: number }}
+ */
+export const now = { lesson: null, viewed: null, machine: null, played: '', kind: 'play', steps: [], told: [],
+  entries: [], count: 0, shown: 0, turn: 0 };
+
+/** @param {string} id @returns {any} */
+export const $ = id => document.getElementById(id);
+/** @param {string} selector @returns {any[]} */
+export const all = selector => [...document.querySelectorAll(selector)];
+/** @param {string} text */
+export const escaped = text => text.replace(/\0/g, '\ufffd').replace(/[&<>"]/g, c => `&#${c.charCodeAt(0)};`);
+/** @param {string} id @param {string} name @param {(event: any) => void} does */
+export const on = (id, name, does) => $(id).addEventListener(name, does);
+
+/** The text that is looked at: an outcome of orders, or what the editor has. */
+export const text_now = () => now.viewed ? { kind: 'play', text: now.viewed.text, bank: $('bank').value }
+  : { kind: now.kind, text: $('text').value, bank: $('bank').value };

@@ -1,0 +1,394 @@
+// The page: lessons, tabs, bars, keys, and what is done when a text changes.
+import { $, all, now, on, text_now } from './now.js';
+import { begin_program, calls, checked, run, stop_orders } from './asks.js';
+import { close_offers, offer_calls, offer_key, take_offer } from './complete.js';
+import { begin_console, console_key, offer_in_line, say, scenario_of_console, undo_line } from './console.js';
+import { find, go_to, indent, offer_in_text, open_side, paint, put_fix, show_faults } from './editor.js';
+import { check_exercise, exercise_lesson, exercise_made, make_exercise } from './exercise.js';
+import { make_hole, read_exercise, save_exercise, show_task, show_wanted } from './exercise.js';
+import { copied, handed, keep_texts, kept, link_of, put_text, save_file } from './kept.js';
+import { go_orders, outcome_shown, view_of } from './orders.js';
+import { draw_all, mark_picture, refit, zoom_by } from './picture.js';
+import { json_of, part_of } from './program.js';
+import { FILE } from './reads.js';
+import { play_text, show_none, show_state, walk } from './steps.js';
+import { kind_of, steps_of, KINDS } from './text.js';
+
+const NARROW = 760, LISTED = 1400, WAIT = 40;
+/** @type {number | undefined} */
+let timer;
+
+/** What the kind of the text changes on the page. @param {string} was */
+function show_kind(was) {
+  document.body.dataset.kind = now.kind;
+  $('kind').textContent = KINDS[now.kind];
+  $('as-bank').hidden = now.kind !== 'bank';
+  $('bank-tab').classList.toggle('used', !!$('bank').value.trim());
+  $('orders-tab').hidden = now.kind !== 'orders';
+  if (now.kind === 'orders' && was !== 'orders' && tab_now() === 'walk') open_tab('orders');
+  if (now.kind === 'orders') return;
+  if (tab_now() === 'orders') open_tab('walk');
+  stop_orders('an edit came');
+  $('verdict').textContent = '';
+}
+/** Checks, plays and draws the text. */
+async function play() {
+  const mine = ++now.turn, was = document.body.dataset.kind || '', text = $('text').value;
+  document.body.dataset.waits = 'yes';
+  now.steps = steps_of(text);
+  now.kind = kind_of(text);
+  now.viewed = null;
+  show_kind(was);
+  begin_console();
+  const told = await checked(text_now());
+  if (mine !== now.turn) return;
+  now.told = told;
+  if (now.kind === 'orders') await play_orders(mine);
+  else if (now.kind === 'bank' || now.kind === 'empty')
+    show_none(now.kind === 'empty' ? 'The text is empty.' : 'These are handlers: they belong into the second text.');
+  else {
+    const answer = await play_text(mine, now.shown);
+    if (mine !== now.turn) return;
+    if (answer.status && !now.told.some(it => it.fault)) now.told = now.told.concat(answer.told);
+  }
+  if (mine !== now.turn) return;
+  show_faults();
+  paint();
+  document.body.dataset.at ||= String(performance.now());
+  document.body.dataset.done = String(mine);
+  delete document.body.dataset.waits;
+}
+/** @param {number} mine */
+async function play_orders(mine) {
+  show_faults();
+  paint();
+  $('viewed').hidden = true;
+  show_none('An outcome is shown here once all orders are gone through.');
+  const answer = await go_orders(mine, text_now());
+  if (mine !== now.turn || !answer) return;
+  if (!now.told.length) now.told = answer.told;
+  const at = Math.max(0, answer.outcomes.findIndex(o => answer.against.includes(o.number)));
+  if (!answer.outcomes[at]) return show_none('There is no outcome to show.');
+  now.viewed = view_of(answer.outcomes[at]);
+  await play_text(mine);
+}
+function changed_text() {
+  now.steps = steps_of($('text').value);
+  paint();
+  keep_texts();
+  document.body.dataset.waits = 'yes';
+  clearTimeout(timer);
+  timer = setTimeout(play, WAIT);
+}
+/** @param {any} it @param {boolean} plain  whether its own text is taken, whatever is kept of it */
+async function open_lesson(it, plain = false) {
+  now.lesson = it;
+  now.shown = 0;
+  for (const button of all('#list button')) {
+    const is = button.dataset.key === it.key;
+    button.classList.toggle('now', is);
+    button.toggleAttribute('aria-current', is);
+    if (is) button.scrollIntoView({ block: 'nearest' });
+  }
+  $('name').textContent = it.title;
+  document.title = `${it.title} - the lab`;
+  $('text').value = (plain ? null : kept.get('text ' + it.key)) ?? it.text;
+  $('bank').value = (plain ? null : kept.get('bank ' + it.key)) ?? (it.bank || '');
+  $('story').innerHTML = it.story || '';
+  $('story-tab').hidden = !it.story || it.exercise;
+  $('editor').scrollTop = $('side-story').scrollTop = 0;
+  kept.set('last', it.key);
+  keep_texts();
+  open_side(it.story && !it.exercise && $('text').value === it.text ? 'story' : 'text');
+  now.told = [];
+  now.steps = steps_of($('text').value);
+  paint();
+  show_task();
+  if (innerWidth < LISTED) show_list(false);
+  const tab = tab_now(), orders = kind_of($('text').value) === 'orders';
+  open_tab(orders ? 'orders' : tab === 'orders' ? 'walk' : tab);
+  return play();
+}
+const tab_now = () => all('#tabs [aria-selected="true"]')[0]?.dataset.pane || 'walk';
+/** @param {string} name */
+function open_tab(name) {
+  for (const it of all('.pane')) it.hidden = it.id !== name;
+  for (const it of all('#tabs [role=tab]')) {
+    it.setAttribute('aria-selected', String(it.dataset.pane === name));
+    it.tabIndex = it.dataset.pane === name ? 0 : -1;
+  }
+  document.body.dataset.tab = name;
+  if (name === 'walk') {
+    refit();
+    mark_picture();
+  }
+  if (name === 'console') $('line').focus();
+}
+/** @param {boolean} open */
+function show_list(open) {
+  document.body.classList.toggle('listed', open);
+  $('lessons-button').setAttribute('aria-expanded', String(open));
+  refit();
+}
+/** A bar between two parts, dragged or moved by arrow keys; its place is kept. @param {() => string} name_of */
+function split(id, name_of, low, high, is_across) {
+  const bar = $(id), put = (/** @type {number} */ part) => {
+    const to = Math.max(low, Math.min(high, part));
+    document.documentElement.style.setProperty(name_of(), to + '%');
+    bar.setAttribute('aria-valuenow', Math.round(to));
+    kept.set(name_of(), String(to));
+    refit();
+  };
+  const old = Number(kept.get(name_of()));
+  if (old) put(old);
+  const drag = (/** @type {any} */ event) => {
+    const box = bar.parentNode.getBoundingClientRect();
+    put(100 * (is_across() ? (event.clientX - box.left) / box.width : (event.clientY - box.top) / box.height));
+  };
+  bar.onpointerdown = (/** @type {any} */ event) => {
+    bar.setPointerCapture(event.pointerId);
+    bar.onpointermove = drag;
+  };
+  bar.onpointerup = () => { bar.onpointermove = null; };
+  bar.onkeydown = (/** @type {any} */ event) => {
+    const by = { ArrowLeft: -2, ArrowUp: -2, ArrowRight: 2, ArrowDown: 2 }[event.key];
+    if (!by) return;
+    event.preventDefault();
+    event.stopPropagation();
+    put(Number(bar.getAttribute('aria-valuenow')) + by);
+  };
+}
+/** Arrow keys on a tab open the next one; else they walk through the steps, but where one types. @param {any} event */
+function keys(event) {
+  const by = { ArrowLeft: '-1', ArrowUp: '-1', ArrowRight: '1', ArrowDown: '1', Home: 'first', End: 'last' };
+  const step = by[event.key];
+  if (!step || document.querySelector('dialog[open]')) return;
+  const it = event.target, plain = !event.altKey && !event.ctrlKey && !event.metaKey;
+  if (it.getAttribute('role') === 'tab') {
+    const tabs = [...it.parentNode.querySelectorAll('[role=tab]')].filter(tab => tab.offsetParent);
+    const next = (tabs.indexOf(it) + Number(step) + tabs.length) % tabs.length;
+    const to = step === 'first' ? 0 : step === 'last' ? tabs.length - 1 : next;
+    event.preventDefault();
+    tabs[to].click();
+    return tabs[to].focus();
+  }
+  const typing = /^(TEXTAREA|INPUT|SELECT)$/.test(it.tagName) && it.type !== 'range';
+  const sideways = tab_now() === 'walk' && /Left|Right/.test(event.key);
+  const walks = typing ? it.id === 'text' && event.altKey && /Up|Down/.test(event.key)
+    : plain && (it.id === 'lines' || it.id === 'slider' || sideways);
+  if (!walks) return;
+  event.preventDefault();
+  walk(step);
+}
+/** Plays and draws here what the repository has traces and pictures of, and counts how many are the same. */
+async function compare() {
+  const stored = await json_of('stored.json'), begun = performance.now(), differ = [];
+  for (const it of stored) {
+    const { status, out, err } = await run(it.words, it.text);
+    if (out + (status ? err.replace(FILE, it.name) : '') !== it.told) differ.push(it.name);
+  }
+  const seconds = ((performance.now() - begun) / 1000).toFixed(1), same = stored.length - differ.length;
+  $('compared').textContent = `${same} of ${stored.length} are the same, ${seconds} s`
+    + (differ.length ? `; not ${differ.join(', ')}` : '');
+}
+async function share() {
+  const text = $('text').value, bank = $('bank').value, { title, exercise } = now.lesson;
+  const it = { title, text, ...(bank.trim() ? { bank } : {}) };
+  const to = exercise?.text === text ? await link_of('exercise', exercise) : await link_of('text', it);
+  history.replaceState(null, '', to);
+  const done = await copied(to);
+  const here = location.protocol === 'file:' ? '; it opens where this page has this address' : '';
+  $('status').textContent = `${done ? 'link copied' : 'the link is in the address'} (${to.length} characters)${here}`;
+}
+/** What a link brought, as a lesson; a link that can't be read is reported. */
+async function lesson_of_link() {
+  try {
+    const it = await handed();
+    if (!it) return null;
+    if (it.kind === 'exercise') return exercise_lesson(it.read);
+    const { title = 'From a link', text, bank = '' } = it.read;
+    return { key: 'link ' + it.key, title, text, bank };
+  } catch (error) {
+    $('status').textContent = `The link could not be read: ${error instanceof Error ? error.message : error}`;
+    return null;
+  }
+}
+/** A text from a file: handlers go to their own tab; another text or an exercise is a lesson. @param {File} file */
+async function take_file(file) {
+  const text = (await file.text()).replace(/\r\n/g, '\n'), exercise = read_exercise(text);
+  if (exercise) return open_lesson(exercise, true);
+  if (kind_of(text) !== 'bank') return open_lesson({ key: 'file ' + file.name, title: file.name, text }, true);
+  open_side('bank');
+  put_text($('bank'), text);
+  changed_text();
+}
+function save_text() {
+  const bank = !$('side-bank').hidden, title = now.lesson.title.toLowerCase().replace(/\.toml$/, '');
+  const name = bank ? 'handlers' : title.replace(/[^a-z0-9]+/g, '_').replace(/^_+|_+$/g, '') || 'scenario';
+  save_file(name + '.toml', $(bank ? 'bank' : 'text').value);
+}
+function put_as_bank() {
+  const text = $('text').value, own = now.lesson.text;
+  put_text($('text'), kind_of(own) === 'bank' ? '' : own);
+  open_side('bank');
+  put_text($('bank'), text);
+  changed_text();
+}
+/** @param {any} view */
+function view(view) {
+  now.viewed = view;
+  now.turn++;
+  begin_console();
+  open_tab('walk');
+  return play_text(now.turn);
+}
+/** Control and blank ask what may come here. @param {any} event @param {(asked: boolean) => void} does */
+function asks_offer(event, does) {
+  if (event.key !== ' ' || !event.ctrlKey) return false;
+  event.preventDefault();
+  does(true);
+  return true;
+}
+function wire_texts() {
+  for (const id of ['text', 'bank']) {
+    on(id, 'input', changed_text);
+    on(id, 'keydown', event => offer_key(event) || id === 'text' && asks_offer(event, offer_in_text) || indent(event));
+  }
+  for (const id of ['story', 'text', 'bank']) on(id + '-tab', 'click', () => open_side(id));
+  on('text', 'input', event => { if (event.isTrusted) offer_in_text(); });
+  on('text', 'blur', close_offers);
+  on('line', 'input', event => { if (event.isTrusted) offer_in_line(); });
+  on('line', 'blur', close_offers);
+  on('line', 'keydown', event => offer_key(event) || asks_offer(event, offer_in_line) || console_key(event));
+  on('offers', 'pointerdown', event => {
+    event.preventDefault();
+    if (event.target.dataset.n) take_offer(Number(event.target.dataset.n));
+  });
+  on('find', 'keydown', event => { if (event.key === 'Enter') { event.preventDefault(); find(event.shiftKey); } });
+  on('find-next', 'click', () => find(false));
+  on('faults', 'click', event => {
+    const { i, fix } = event.target.dataset, it = now.told[i ?? fix];
+    if (i && it.line !== undefined) go_to(it.line, it.column);
+    if (fix) { open_side('text'); put_fix(it); }
+  });
+  on('as-bank', 'click', put_as_bank);
+}
+function wire_views() {
+  const to_step = (/** @type {any} */ event) => {
+    const it = event.target.closest('[data-step]');
+    if (it) show_state(Number(it.dataset.step));
+  };
+  on('lines', 'click', to_step);
+  on('story', 'click', to_step);
+  on('drawing', 'click', to_step);
+  on('slider', 'input', () => show_state(Number($('slider').value)));
+  for (const it of all('[data-walk]')) it.onclick = () => walk(it.dataset.walk);
+  for (const it of all('[data-zoom]')) it.onclick = () => { zoom_by(Number(it.dataset.zoom)); mark_picture(); };
+  for (const it of all('[role=tab][data-pane]')) it.onclick = () => open_tab(it.dataset.pane);
+  on('key-button', 'click', () => {
+    $('key-button').setAttribute('aria-expanded', String(!document.body.classList.toggle('keyless')));
+    refit();
+  });
+  on('outcomes', 'click', event => {
+    if (event.target.dataset.open) view(outcome_shown(Number(event.target.dataset.open)));
+  });
+  on('orders-stop', 'click', () => stop_orders('stopped by you'));
+  on('viewed-back', 'click', () => open_tab('orders'));
+  on('viewed-take', 'click', () => {
+    const it = now.viewed;
+    open_lesson({ key: 'file outcome', title: it.title.split(',')[0], text: it.text }, true);
+  });
+  on('asks', 'submit', event => {
+    const line = $('line').value.trim();
+    event.preventDefault();
+    $('line').value = '';
+    if (line) say(line);
+  });
+  on('undo', 'click', undo_line);
+  on('to-text', 'click', async () => {
+    const text = await scenario_of_console();
+    if (!text.trim()) return;
+    put_text($('text'), text);
+    changed_text();
+    open_tab('walk');
+  });
+}
+function wire_head() {
+  on('lessons-button', 'click', () => show_list(!document.body.classList.contains('listed')));
+  on('open', 'click', () => $('file').click());
+  on('file', 'change', event => {
+    if (event.target.files[0]) take_file(event.target.files[0]);
+    event.target.value = '';
+  });
+  on('save', 'click', save_text);
+  on('back-to', 'click', () => {
+    put_text($('text'), now.lesson.text);
+    put_text($('bank'), now.lesson.bank || '');
+    changed_text();
+  });
+  on('link', 'click', share);
+  on('print', 'click', () => window.print());
+  on('compare', 'click', compare);
+  on('check', 'click', check_exercise);
+  on('make-button', 'click', make_exercise);
+  on('make-done', 'click', exercise_made);
+  on('make-check', 'change', show_wanted);
+  on('make-hole', 'click', make_hole);
+  on('make-save', 'click', save_exercise);
+  on('wide', 'click', () => {
+    $('wide').setAttribute('aria-pressed', String(document.body.classList.toggle('wide')));
+    if (tab_now() === 'left') open_tab('walk');
+    refit();
+    mark_picture();
+  });
+  document.addEventListener('keydown', keys);
+  document.body.ondragover = event => event.preventDefault();
+  document.body.ondrop = event => {
+    const file = event.dataTransfer?.files[0];
+    if (!file) return;
+    event.preventDefault();
+    take_file(file);
+  };
+  const is_wide = () => document.body.classList.contains('wide');
+  split('split-left', () => '--left', 18, 75, () => true);
+  split('split-state', () => is_wide() ? '--wide-trace' : '--trace', 20, 85, () => !is_wide());
+  split('split-picture', () => is_wide() ? '--wide' : '--top', 15, 85, is_wide);
+}
+/** @param {any[]} lessons */
+function list_lessons(lessons) {
+  let group = '', section = $('list');
+  for (const it of lessons) {
+    if (it.group !== group) {
+      group = it.group;
+      section = document.createElement('section');
+      section.innerHTML = `<h2>${group}</h2>`;
+      $('list').append(section);
+    }
+    const button = document.createElement('button');
+    button.textContent = it.title;
+    button.dataset.key = it.key;
+    button.onclick = () => { open_lesson(it); $('name').focus(); };
+    section.append(button);
+  }
+}
+async function start() {
+  begin_program(await part_of('lab.wasm'));
+  const given = await json_of('lessons.json');
+  const lessons = given.map((/** @type {any} */ it) =>
+    it.exercise ? exercise_lesson(it.exercise) : { key: `${it.group} ${it.title}`, ...it });
+  list_lessons(lessons);
+  wire_texts();
+  wire_views();
+  wire_head();
+  new ResizeObserver(() => requestAnimationFrame(refit)).observe($('drawing'));
+  window.onbeforeprint = draw_all;
+  window.onresize = () => { if (innerWidth > NARROW && tab_now() === 'left') open_tab('walk'); };
+  window.onhashchange = async () => { const it = await lesson_of_link(); if (it) open_lesson(it); };
+  show_list(innerWidth >= LISTED);
+  open_tab(innerWidth <= NARROW ? 'left' : 'walk');
+  const last = lessons.find((/** @type {any} */ it) => it.key === kept.get('last'));
+  await open_lesson(await lesson_of_link() || last || lessons[0]);
+  offer_calls(await calls());
+  document.body.dataset.ready = 'yes';
+}
+start().catch(error => { $('status').textContent = `The page could not begin: ${error.message || error}`; });

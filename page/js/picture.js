@@ -1,0 +1,146 @@
+// The picture that `lab draw` made, for a screen: numbers below the columns in place of the turned text (the trace is
+// beside it), the key beside it, the step that is looked at marked, and zoom. The picture's text has a line for each
+// mark; each of its bands of lanes becomes a drawing of its own, which is made only once it is seen.
+import { $, all, now, escaped } from './now.js';
+
+const PITCH = 30, LEFT = 104, ABOVE = 50, BELOW = 34, EACH = 5, LEAST = .85;
+/** @typedef {{ first: number, low: number, top: number, parts: string[], box?: any }} Band */
+/** @type {Map<number, { x: number, band: Band }[]>} The columns of each step. */
+let columns = new Map();
+/** @type {Band[]} */
+let bands = [];
+let size = [1, 1], room = [1, 1], zoom = 1;
+
+/** A rank as the policy writes it: real-time, quota or weak. @param {number} n */
+export const rank_text = n => n >= 512 ? 'f' + (n - 512) : n >= 256 ? 'q' + (n - 256) : 'w' + n;
+/** Where a line of the picture's text draws. @param {string} line */
+function place_of(line) {
+  const it = line.match(/translate\((-?[\d.]+),(-?[\d.]+)\)|d="M(-?[\d.]+) (-?[\d.]+)/);
+  return it ? [Number(it[1] ?? it[3]), Number(it[2] ?? it[4])] : [0, 0];
+}
+/** The lanes by their height, the bands of lanes, and how wide they are. @param {string[]} lines */
+function lanes_of(lines) {
+  const lanes = new Map(), found = [];
+  let end = LEFT;
+  for (const line of lines) {
+    const it = line.match(/^<path d="M104 (\d+)H(\d+)"[^>]*\/><text [^>]*>([^<]*)/);
+    if (!it) continue;
+    lanes.set(+it[1], it[3]);
+    end = Math.max(end, +it[2]);
+  }
+  for (const y of [...lanes.keys()].sort((a, b) => a - b)) {
+    const band = found[found.length - 1];
+    if (band && y - band.low <= PITCH) band.low = y;
+    else found.push({ first: y, low: y, top: y - ABOVE, parts: [] });
+  }
+  return { lanes, found, end };
+}
+/** A mark with its number below it, and the number of a played line above. @param {string} line @param {Band} band */
+function mark_of(line, says, number, band, y) {
+  const played = says.match(/^\s+line (\d+) /), entry = /^\d/.test(says);
+  const below = !entry ? '·' : number < 100 || number % EACH === 0 ? number : '';
+  const more = `<text y="${band.low - y + 24}" text-anchor="middle">${below}</text>`
+    + (played ? `<text y="-11" text-anchor="middle" font-weight="bold">${played[1]}</text>` : '');
+  return line.replace(/<text [^>]*rotate\(90\)[^>]*>[^<]*<\/text>/, more)
+    .replace('<g ', `<g class="mark" data-step="${number}" `);
+}
+/** Puts each line of the picture's text into its band. @param {string} text */
+function read_picture(text) {
+  const lines = text.split('\n').slice(2), { lanes, found, end } = lanes_of(lines), key = [];
+  let number = 0, at = 0;
+  columns = new Map();
+  bands = found;
+  for (const line of bands.length ? lines : []) {
+    const [x, y] = place_of(line);
+    if (!y) continue;
+    if (y <= 28) { key.push(line); continue; }
+    while (at + 1 < bands.length && y >= bands[at + 1].top) at++;
+    while (at > 0 && y < bands[at].top) at--;
+    const says = line.match(/<title>([^<]*)/)?.[1], band = bands[at], plain = lanes.get(y)?.startsWith('T')
+      ? line.replace(/font-size="7">(\d+)</, (_, n) => `font-size="9" font-weight="bold">${rank_text(+n)}<`) : line;
+    if (says === undefined) { band.parts.push(plain); continue; }
+    number = /^\d+ T/.test(says) ? parseInt(says) : says.startsWith('- ') ? number + 1 : number;
+    columns.set(number, [...columns.get(number) || [], { x, band }]);
+    band.parts.push(mark_of(plain, says, number, band, y));
+  }
+  size = [end + 22, bands.reduce((sum, band) => sum + band.low - band.top + BELOW, 0)];
+  return key;
+}
+/** The key has the marks that are somewhere in the picture. @param {string[]} key @param {string} text */
+function show_key(key, text) {
+  const items = key.map(line => line.match(/^<g [^>]*,(\d+)\)">(.*)<text [^>]*>(.*)<\/text><\/g>$/) || []);
+  const used = items.filter(it => it[2] && text.indexOf(it[2]) !== text.lastIndexOf(it[2]));
+  const svg = 'width="24" height="20" aria-hidden="true"';
+  $('key').innerHTML = used.map(([, y, shape, says]) =>
+    `<span><svg viewBox="-11 ${y === '28' ? 0 : -10} 22 20" ${svg}>${shape}</svg>${says}</span>`).join('');
+}
+/** Draws a band, once. @param {Band} band */
+function draw_band(band) {
+  if (!band.box || band.box.firstChild) return;
+  const height = band.low - band.top + BELOW;
+  band.box.innerHTML = `<svg viewBox="0 ${band.top} ${size[0]} ${height}" aria-hidden="true" font-size="9" `
+    + `font-family="DejaVu Sans Mono, monospace">${band.parts.join('')}</svg>`;
+  if (columns.get(now.shown)?.some(it => it.band === band)) mark_band(band);
+}
+const seen = typeof IntersectionObserver === 'undefined' ? null : new IntersectionObserver(found => {
+  for (const it of found) if (it.isIntersecting) draw_band(bands[Number(/** @type {any} */ (it.target).dataset.n)]);
+}, { rootMargin: '300px' });
+export const draw_all = () => bands.forEach(draw_band);
+/** @param {string} text @param {string} name */
+export function show_picture(text, name) {
+  const box = $('drawing'), key = read_picture(text);
+  seen?.disconnect();
+  const says = `Picture of ${escaped(name)}; the trace says the same in words`;
+  box.innerHTML = bands.length ? `<div role="img" aria-label="${says}">` + bands.map((band, i) =>
+    `<div class="band" data-n="${i}" style="--high:${band.low - band.top + BELOW}px"></div>`).join('') + '</div>' : '';
+  all('#drawing .band').forEach((it, i) => {
+    bands[i].box = it;
+    seen?.observe(it);
+  });
+  if (bands[0]) draw_band(bands[0]);
+  show_key(key, text);
+  fit();
+}
+/** The picture's room changed. */
+export function refit() {
+  room = [$('drawing').clientWidth - 4, $('drawing').clientHeight - 4];
+  fit();
+}
+export function fit() {
+  const box = $('drawing'), most = document.body.classList.contains('wide') || innerWidth >= 1800 ? 3.2 : 2.2;
+  const least = Math.min(room[0] / size[0], room[1] / size[1], most);
+  const scale = Math.max(LEAST, least) * zoom;
+  box.style.setProperty('--wide', size[0] + 'px');
+  box.style.setProperty('--scale', String(scale));
+  $('zoom').textContent = Math.round(scale * 100) + ' %';
+}
+/** Makes the picture larger or smaller; by 0 it fits again. @param {number} by */
+export function zoom_by(by) {
+  zoom = by ? zoom * by : 1;
+  fit();
+}
+/** @param {Band} band */
+function mark_band(band) {
+  const svg = band.box.firstChild;
+  for (const it of columns.get(now.shown) || []) {
+    if (it.band !== band) continue;
+    const mark = document.createElementNS('http://www.w3.org/2000/svg', 'rect');
+    const keys = { class: 'here', x: it.x - 8, y: band.first - 14, width: 16, height: band.low - band.first + 44 };
+    for (const [key, value] of Object.entries(keys)) mark.setAttribute(key, String(value));
+    svg.prepend(mark);
+  }
+}
+export function mark_picture() {
+  for (const it of all('#drawing .here')) it.remove();
+  for (const band of new Set(columns.get(now.shown)?.map(it => it.band)))
+    if (band.box.firstChild) mark_band(band);
+    else draw_band(band);
+  const at = all('#drawing .here')[0], box = $('drawing');
+  if (!at) return;
+  const here = at.getBoundingClientRect(), around = box.getBoundingClientRect();
+  const beside = here.left < around.left + 20 || here.right > around.right - 20;
+  if (beside) box.scrollLeft += here.left - around.left - around.width / 2;
+  if (here.top < around.top) box.scrollTop += here.top - around.top - 10;
+  else if (here.bottom > around.bottom && here.height < around.height)
+    box.scrollTop += here.bottom - around.bottom + 10;
+}

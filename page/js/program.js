@@ -1,0 +1,87 @@
+// The program lab: a worker runs it for each question, and is ended and begun again where an answer takes too long.
+import { $ } from './now.js';
+
+/** @typedef {{ status: number, out: string, err: string, ms: number, memory: number }} Answer */
+/** @param {Uint8Array} raw */
+const base64 = raw => btoa(Array.from(raw, byte => String.fromCharCode(byte)).join(''));
+/** @param {string} text */
+function raw_of(text) {
+  const bytes = atob(text), raw = new Uint8Array(bytes.length);
+  for (let i = 0; i < raw.length; i++) raw[i] = bytes.charCodeAt(i);
+  return raw;
+}
+/** @param {any} raw @param {any} by */
+const through = async (raw, by) =>
+  new Uint8Array(await new Response(new Blob([raw]).stream().pipeThrough(by)).arrayBuffer());
+
+/** @param {string} name @param {string} form */
+const stream = (name, form) => new (/** @type {any} */ (globalThis)[name])(form);
+
+/** A text in an address, and back. @param {string} text */
+export const packed = async text => base64(await through(text, stream('CompressionStream', 'deflate-raw')))
+  .replace(/\+/g, '-').replace(/\//g, '_').replace(/=+$/, '');
+/** @param {string} part */
+export const unpacked = async part => new TextDecoder('utf-8', { fatal: true }).decode(
+  await through(raw_of(part.replace(/-/g, '+').replace(/_/g, '/')), stream('DecompressionStream', 'deflate-raw')));
+
+/** A file that belongs to the page: in the page itself, packed, or beside it. @param {string} name */
+export async function part_of(name) {
+  const here = $(name);
+  if (here) return through(raw_of(here.textContent.trim()), stream('DecompressionStream', 'gzip'));
+  const answer = await fetch(name);
+  if (!answer.ok) throw new Error(`${name} is not there (${answer.status})`);
+  return new Uint8Array(await answer.arrayBuffer());
+}
+/** @param {string} name */
+export const json_of = async name => JSON.parse(new TextDecoder().decode(await part_of(name)));
+
+/** @returns {Worker} */
+function new_worker() {
+  const here = $('worker.js');
+  if (!here) return new Worker('worker.js', { type: 'module' });
+  return new Worker(URL.createObjectURL(new Blob([here.textContent], { type: 'text/javascript' })));
+}
+
+export class Runner {
+  /** @param {Uint8Array} code */
+  constructor(code) {
+    this.code = code;
+    this.last = 0;
+    /** @type {Map<number, any>} */
+    this.asked = new Map();
+    this.worker = this.begun();
+  }
+  begun() {
+    const worker = new_worker();
+    worker.onmessage = event => this.answered(event.data.id, event.data);
+    worker.postMessage({ code: this.code });
+    return worker;
+  }
+  /** @param {number} id @param {Answer} answer */
+  answered(id, answer) {
+    const it = this.asked.get(id);
+    if (!it) return;
+    this.asked.delete(id);
+    clearTimeout(it.timer);
+    it.done(answer);
+  }
+  /** Ends what runs; all that was asked is answered with why. @param {string} why */
+  stop(why) {
+    if (!this.asked.size) return;
+    this.worker.terminate();
+    this.worker = this.begun();
+    for (const [id, it] of [...this.asked])
+      this.answered(id, { status: -2, out: '', err: why + '\n', ms: performance.now() - it.at, memory: 0 });
+  }
+  /**
+   * Runs the program over words, files and an input.
+   * @param {string[]} words @param {Record<string, string>} files @returns {Promise<Answer>}
+   */
+  ask(words, files = {}, input = '', seconds = 10) {
+    return new Promise(done => {
+      const id = ++this.last, timer = setTimeout(() => this.stop(`stopped after ${seconds} s`), seconds * 1000);
+      this.asked.set(id, { done, at: performance.now(), timer });
+      this.worker.postMessage({ id, words: ['lab', ...words], files, input });
+    });
+  }
+}

@@ -1,0 +1,160 @@
+// The trace and how the machine is after each step, walked step by step.
+import { $, all, now, escaped, text_now } from './now.js';
+import { drawn, machine_of, played, state_at } from './asks.js';
+import { paint_step, show_line } from './editor.js';
+import { mark_picture, rank_text, show_picture } from './picture.js';
+import { HOLE } from './text.js';
+
+const MOST_LINES = 6000, MOST_THREADS = 12;
+/** @param {any} it @param {number} i */
+function line_of(it, i) {
+  const answer = ' <span class="nb">-&gt; <b>$1</b></span><i>$2</i>';
+  const text = escaped(it.line).replace(/ -&#62; (.*?)( \| .*)?$/, answer);
+  if (it.kind === 'board') return `<div class="board">${escaped(it.line)}</div>`;
+  const refused = it.kind === 'entry' && /^[A-Z]/.test(it.answer) ? ' refused' : '';
+  return `<div id="line-${i}" role="option" aria-selected="false" class="${it.kind}${refused}" `
+    + `data-step="${it.number}">${text}</div>`;
+}
+/** @param {any[]} entries */
+function show_trace(entries) {
+  now.entries = entries;
+  now.count = entries.reduce((most, it) => Math.max(most, it.number), 0);
+  const rest = entries.length - MOST_LINES;
+  $('lines').innerHTML = entries.slice(0, MOST_LINES).map(line_of).join('')
+    + (rest > 0 ? `<div class="board">and ${rest} more lines, which the program itself prints</div>` : '');
+  $('slider').max = now.count;
+  $('slider').disabled = !now.count;
+}
+/** What does not play leaves what the same text showed when it last played, pale. @param {string} why */
+function show_stale(why) {
+  $('stale').hidden = !now.entries.length || now.played !== now.lesson?.key;
+  if ($('stale').hidden) show_none(why);
+  else $('stale').textContent = why + ' Below is what played last.';
+}
+/** No trace, and why. @param {string} why */
+export function show_none(why) {
+  $('stale').hidden = true;
+  show_trace([]);
+  $('lines').innerHTML = `<div class="board">${escaped(why)}</div>`;
+  now.machine = null;
+  show_picture('', '');
+  show_state(0);
+}
+/** How a machine is after a step: asked once. @param {any} machine @param {number} step */
+async function known_at(machine, step) {
+  const known = machine.states.get(step) || state_at(machine, step, machine.entries);
+  machine.states.set(step, known);
+  return known;
+}
+/** The rows of a thread: its stage, policy, rank, what it is, and for what it waits. @param {any} at @param {any} it */
+function thread_row(at, it) {
+  const rank = at.ranks.get(it.name), policy = at.policies.get(it.name) || '', parts = policy.split(' ');
+  const own = parts[0] === 'rr' ? +parts[1] : +parts[parts.length - 1];
+  const says = rank === undefined ? '–' : rank_text(rank) + (policy && rank % 256 !== own ? ' ↑' : '');
+  const is = it.how === 'waits' ? 'blocked' : rank === undefined ? '–' : it.name === at.picked ? 'picked'
+    : it.stage === 'oob' ? 'ready' : 'in-band';
+  const stage = it.stage === 'oob' ? 'oob' : 'in-band';
+  const wait = (it.how && it.how !== 'waits' ? it.how + ': ' : '') + it.call.replace(/ until=none/, '');
+  return [it.name, stage, policy || '–', says, is, wait];
+}
+/** Of many threads only those that are attached or wait. @param {any} at */
+function table_of(at) {
+  const is_told = (/** @type {any} */ it) => at.threads.length <= MOST_THREADS || it.how || at.ranks.has(it.name);
+  const threads = at.threads.filter(is_told).map((/** @type {any} */ it) => thread_row(at, it));
+  return { threads, rows: [...at.rows] };
+}
+/** Of callers' texts: how each lock was when it was last shown. @param {number} step */
+function locks_at(step) {
+  const rows = new Map();
+  for (const it of now.entries) {
+    if (it.kind !== 'entry' || it.number > step || !it.lock) continue;
+    for (const part of it.lock.split('; ')) {
+      const [, of, says] = part.match(/^([^:]*): (.*)$/) || [0, part, ''];
+      rows.set(of, says);
+    }
+  }
+  return { threads: [], rows: [...rows] };
+}
+/** A cell; one that the step changed is marked, and has what it was. */
+function cell(text, was, head) {
+  const name = head ? 'th scope="row"' : 'td', is = /^(picked|ready|blocked)$/.test(text) ? text : '';
+  if (was === undefined || was === text) return `<${name} class="${is}">${escaped(text)}</${head ? 'th' : 'td'}>`;
+  return `<${name} class="changed ${is}" title="before: ${escaped(was || 'nothing')}">${escaped(text)}`
+    + `<span class="heard"> (changed)</span></${head ? 'th' : 'td'}>`;
+}
+function show_table(at, before, step) {
+  const were = new Map(before.threads.map(it => [it[0], it])), had = new Map(before.rows);
+  const when = step ? `After step ${step}; what it changed is marked` : 'At the start';
+  const heads = ['thread', 'stage', 'policy', 'rank', 'is', 'its wait'].map(it => `<th scope="col">${it}</th>`);
+  const row_of = it => `<tr>${it.map((text, i) => cell(text, were.get(it[0])?.[i], !i)).join('')}</tr>`;
+  const threads = at.threads.map(row_of);
+  const rows = at.rows.map(([of, says]) => {
+    const was = had.has(of) ? had.get(of) : before.rows.length || step ? '' : undefined;
+    return `<tr><th scope="row">${escaped(of)}</th>${cell(says, was, false)}</tr>`;
+  });
+  const parts = [threads.length && `<table><caption>${when}</caption><thead><tr>${heads.join('')}</tr></thead>`
+    + `<tbody>${threads.join('')}</tbody></table>`,
+    rows.length && `<table><caption class="${threads.length ? 'heard' : ''}">${when}</caption>`
+    + `<tbody>${rows.join('')}</tbody></table>`];
+  $('state').innerHTML = parts.filter(Boolean).join('');
+}
+/** @param {any} it */
+function show_in(box, it) {
+  const here = it.getBoundingClientRect(), around = box.getBoundingClientRect();
+  if (here.top < around.top + 30) box.scrollTop += here.top - around.top - 40;
+  else if (here.bottom > around.bottom - 40) box.scrollTop += here.bottom - around.bottom + 60;
+}
+/** Goes to a step: its lines, its column, its place in the text, and the machine after it. @param {number} step */
+export async function show_state(step) {
+  now.shown = step;
+  $('slider').value = step;
+  $('at').textContent = `step ${step} of ${now.count}`;
+  for (const it of all('#lines [aria-selected=true]')) it.setAttribute('aria-selected', 'false');
+  const lines = step ? all(`#lines [data-step="${step}"]`) : [];
+  for (const it of lines) it.setAttribute('aria-selected', 'true');
+  for (const it of all('#story .at')) it.classList.toggle('now', it.dataset.step === String(step));
+  if (lines[0]) $('lines').setAttribute('aria-activedescendant', lines[0].id);
+  if (lines[0]) show_in($('lines'), lines[0]);
+  else $('lines').scrollTop = 0;
+  paint_step();
+  mark_picture();
+  if (now.steps[step - 1] && !now.viewed) show_line(now.steps[step - 1].from);
+  const { machine } = now;
+  if (!machine) return show_table(locks_at(step), locks_at(Math.max(0, step - 1)), step);
+  const at = table_of(await known_at(machine, step)), before = step ? table_of(await known_at(machine, step - 1)) : at;
+  if (machine !== now.machine || now.shown !== step) return;
+  show_table(at, before, step);
+  document.body.dataset.state = String(step);
+}
+/** @param {string} by  a number of steps, or first or last */
+export function walk(by) {
+  const to = by === 'first' ? 0 : by === 'last' ? now.count : Math.max(0, Math.min(now.count, now.shown + Number(by)));
+  return show_state(to);
+}
+/** Plays and draws a scenario: the text's own, or that of an outcome. @param {number} mine */
+export async function play_text(mine, step = 0) {
+  const it = text_now(), answer = await played(it);
+  const picture = answer.out ? drawn(it, answer.out) : { out: '', err: '', ms: 0, memory: 0 };
+  const [svg, machine] = await Promise.all([picture, it.kind === 'callers' || answer.status ? null : machine_of(it)]);
+  if (mine !== now.turn) return answer;
+  const title = now.viewed ? now.viewed.title : now.lesson?.title || 'the text';
+  if (answer.out) {
+    if (machine) Object.assign(machine, { entries: answer.entries, states: new Map() });
+    Object.assign(now, { machine, played: now.lesson?.key });
+    $('stale').hidden = true;
+    show_trace(answer.entries);
+    show_picture(svg.out, title);
+  } else {
+    const why = answer.err.trim().replace(/^lab: /, '').replace('scenario.toml: ', '') || 'there is nothing to play';
+    show_stale(it.text.includes(HOLE) ? `The text has a hole (${HOLE}). Fill it, and it plays.`
+      : `It does not play: ${why}. What is to be mended is named below the text.`);
+  }
+  const page = svg.err.match(/page 1 of \d+/), bare = it.bank.trim() && it.kind !== 'callers';
+  $('note').textContent = [bare && 'no strips over handlers of your own', page && page[0]].filter(Boolean).join(', ');
+  $('viewed').hidden = !now.viewed;
+  $('viewed-title').textContent = now.viewed ? title : '';
+  const memory = (Math.max(answer.memory, svg.memory) / 1048576).toFixed(1);
+  $('times').textContent = `play ${answer.ms.toFixed(1)} ms, draw ${svg.ms.toFixed(1)} ms, memory ${memory} MiB`;
+  if (answer.out) await show_state(Math.min(step, now.count));
+  return answer;
+}

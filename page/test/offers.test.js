@@ -1,0 +1,41 @@
+// node --test test/: what is offered while one types, and how an exercise is judged.
+import assert from 'node:assert/strict';
+import test from 'node:test';
+import { offer_calls, offered, offered_line } from '../js/complete.js';
+import { lines_there, same_trace } from '../js/exercise.js';
+import { read_calls } from '../js/reads.js';
+
+offer_calls(read_calls(['T0 put sem=0\n  sem: a number is wanted\n',
+  'T0 stall stage=oob\n  stage: "inband" or "oob" is wanted\n']));
+/** What is offered at the bar of a text. */
+const at = (text, kind = 'play') => offered(text.replace('|', ''), text.indexOf('|'), kind);
+
+test('words, keys and values of a step', () => {
+  assert.deepEqual(at('[[step]]\ndo = |'), { size: 0, words: ['"put"', '"stall"'] });
+  assert.deepEqual(at('[[step]]\ndo = "pu|'), { size: 3, words: ['"put"', '"stall"'] });
+  assert.deepEqual(at('[[step]]\ndo = "put"\n|')?.words, ['who = ', 'sem = ']);
+  assert.deepEqual(at('[[step]]\ndo = "put"\nwho = 0\ns|\n[[step]]\nsem = 0\n')?.words, ['sem = ']);
+  assert.deepEqual(at('[[step]]\ndo = "stall"\nstage = |')?.words, ['"inband"', '"oob"']);
+  assert.deepEqual(at('step = [\n  { do = "stall", who = 0, s|')?.words, ['stage = ']);
+});
+test('tables, the board and the handlers', () => {
+  assert.deepEqual(at('[|')?.words, ['[board]', '[[step]]']);
+  assert.deepEqual(at('[[se|', 'orders')?.words, ['[ask]', '[[setup]]', '[[step]]', '[board]']);
+  assert.ok(at('[board]\nthreads = 1\n|')?.words.includes('sems = '));
+  assert.ok(!at('[board]\nthreads = 1\n|')?.words.includes('threads = '));
+  assert.equal(at('# a comment |'), null);
+});
+test('lines of the console', () => {
+  assert.ok(offered_line('T0', 2)?.words.includes('T0 '));
+  assert.deepEqual(offered_line('T0 p', 4), { size: 1, words: ['put ', 'stall '] });
+  assert.deepEqual(offered_line('T0 put ', 7), { size: 0, words: ['sem='] });
+  assert.deepEqual(offered_line('T0 stall stage=', 15), { size: 0, words: ['inband', 'oob'] });
+});
+test('an exercise is judged by its lines or by its trace', () => {
+  assert.equal(lines_there(['a', 'b', 'c'], ['a', 'c'])[0], 'good');
+  assert.deepEqual(lines_there(['a', 'b'], ['b', 'a']),
+    ['bad', 'Not there yet: 1 of 2 wanted lines are in the trace, in order.']);
+  assert.equal(same_trace(['a', 'b'], ['a', 'b'])[0], 'good');
+  assert.match(same_trace(['a'], ['a', 'b'])[1], /1 more lines are wanted/);
+  assert.match(same_trace(['a', 'x'], ['a', 'b'])[1], /line 1 of the trace is another one/);
+});

@@ -1,0 +1,43 @@
+// node --test test/: what is read of texts without the program.
+import assert from 'node:assert/strict';
+import fs from 'node:fs';
+import path from 'node:path';
+import test from 'node:test';
+import { ask_of, bare_of, kind_of, lost_line, steps_of, with_ask, without_ask } from '../js/text.js';
+
+const top = path.join(import.meta.dirname || path.dirname(new URL(import.meta.url).pathname), '../..');
+const folder = name => ['examples', '.'].map(above => path.join(top, above, name)).find(it => fs.existsSync(it)) || '';
+const texts = name => fs.readdirSync(folder(name)).filter(it => it.endsWith('.toml'))
+  .map(it => [it, fs.readFileSync(path.join(folder(name), it), 'utf8')]);
+
+test('the kind of each text of the repository is seen', () => {
+  const kinds = { orders: 'orders', scenarios: 'play', 'scenarios/lessons': 'play', banks: 'bank', callers: 'callers' };
+  for (const [name, kind] of Object.entries(kinds)) {
+    assert.ok(texts(name).length > 0, name);
+    for (const [file, text] of texts(name)) assert.equal(kind_of(text), kind, file);
+  }
+});
+test('comments and quotes do not mislead', () => {
+  assert.equal(kind_of('# [ask]\n[board]\nthreads = 1\n'), 'play');
+  assert.equal(kind_of('[board]\n[[step]]\ndo = "put" # do = "take"\n'), 'play');
+  assert.equal(bare_of('a = "#1" # no'), 'a = "#1" ');
+  assert.equal(bare_of('a = "\\"#" # no'), 'a = "\\"#" ');
+  assert.equal(kind_of(' \n# nothing\n'), 'empty');
+});
+test('steps are found as tables and in a list', () => {
+  const tables = steps_of('[board]\n[[step]]\ndo = "put"\nwho = 0\n\n[[setup]]\nx = 1\n');
+  assert.deepEqual(tables, [{ from: 1, to: 3 }, { from: 5, to: 6 }]);
+  const list = steps_of('step = [\n { do = "a" }, { do = "b" },\n]\n');
+  assert.deepEqual(list, [{ from: 1, to: 1 }, { from: 1, to: 1 }]);
+});
+test('[ask] is taken out and put in, line for line', () => {
+  const text = '[board]\n[ask]\nalways_ends = true\n[[setup]]\ndo = "x"\n';
+  assert.equal(without_ask(text), '[board]\n\n\n[[step]]\ndo = "x"\n');
+  assert.equal(ask_of(text), '[ask]\nalways_ends = true');
+  assert.equal(with_ask(text, '[ask]\nnever = []'), '[board]\n[[setup]]\ndo = "x"\n\n[ask]\nnever = []\n');
+});
+test('an exercise keeps what was given', () => {
+  assert.equal(lost_line('a = 1\ndo = "____"\n# your steps here\nb = 2', 'a = 1\ndo = "put"\nc = 3\nb = 2'), null);
+  assert.equal(lost_line('a = 1\nb = 2', 'a = 1\nb = 3'), 'b = 2');
+  assert.equal(lost_line('a = [1] # one', 'a = [1]'), null);
+});
