@@ -1,4 +1,4 @@
-//! The texts of the rows over which each request for memory is refused, as they lie in `examples/scenarios/`.
+//! The texts of the rows over which each request for memory is refused, as they lie in `scenarios/`.
 
 pub(crate) const FIRST_SEMAPHORE: &str = r#"limit = 100
 [board]
