@@ -5,9 +5,9 @@ import os
 
 import evlsim
 
-EXAMPLES = os.path.dirname(os.path.dirname(os.path.abspath(__file__)))
-if not os.path.isdir(f"{EXAMPLES}/scenarios"):
-    EXAMPLES = os.path.join(os.path.dirname(os.path.abspath(evlsim.__file__)), "../../../../share/doc/evlsim/examples")
+TOP = os.path.dirname(os.path.dirname(os.path.dirname(os.path.abspath(__file__))))
+if not os.path.isdir(f"{TOP}/scenarios"):
+    TOP = os.path.join(os.path.dirname(os.path.abspath(evlsim.__file__)), "../../../../share/doc/evlsim")
 BOARD = "[board]\nthreads = 1\nsems = [0]\n"
 PUT = '[[step]]\ndo = "put"\nwho = 0\nsem = 0\n'
 
@@ -18,7 +18,7 @@ def text_of(name):
 
 
 def test_each_stored_trace():
-    traces = glob.glob(f"{EXAMPLES}/scenarios/**/*.trace", recursive=True)
+    traces = glob.glob(f"{TOP}/scenarios/**/*.trace", recursive=True)
     assert traces
     for trace in traces:
         assert evlsim.play(text_of(trace[:-6] + ".toml")) == text_of(trace), trace
