@@ -59,6 +59,7 @@ impl<C: Handler, A: Allocator> MachineOf<C, A> {
         ensures told { MatchOption result ⊤ (λ r. (r ≢ Err Again) × (r ≢ Err CoreBusy)) }
         ensures stage { HoldsAtItsStage caller.new }
     {
+        // what holds of every machine is known where one of its fields is used
         let _ = &self.core;
         self.end_with(&mut caller.actor)
     }

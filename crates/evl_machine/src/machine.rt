@@ -1,24 +1,19 @@
-//! The machine: the kernel behind the core's lock.
-ghost use Rattle.std.specs.Prelude.{◌≡◌, ◌≢◌, Err, IfErr, IfOk, MatchOption};
-ghost use Rattle.evl_base.specs.declared.refusal.Refusal.TheVariants.{CoreBusy};
-ghost use Rattle.evl_kernel.specs.state.Callbacks.{AnswersByPlan};
-ghost use Rattle.evl_machine.specs.Accounts.{up_to_date, lost_one};
-ghost use Rattle.evl_machine.specs.Known.{ComesFrom, first_of, past_of, room_of, seen};
-ghost use Rattle.evl_machine.specs.Handles.{Belongs, Continues, IsSameCaller, Taken, account_of, holding, resting};
-ghost use Rattle.evl_machine.specs.Events.{FailsToTake, Gives, Takes};
-ghost use Rattle.std.specs.Prelude.{⊤, None, false, length, slice_get, true};
-ghost use Rattle.evl_kernel.specs.calls.Families.{moves_caller, task_of};
+//! The machine: the kernel behind the core's lock, and the calls of the kernel by callers that take it in turn.
+ghost use Rattle.std.specs.Prelude.{◌≡◌, ◌≢◌, Err, IfErr, IfOk, None, false, length, slice_get, true};
 ghost use Rattle.evl_base.specs.Board.{board_fits};
+ghost use Rattle.evl_base.specs.declared.refusal.Refusal.TheVariants.{CoreBusy};
+ghost use Rattle.evl_kernel.specs.calls.Families.{moves_caller, task_of};
+ghost use Rattle.evl_kernel.specs.state.Callbacks.{AnswersByPlan};
 ghost use Rattle.evl_machine.specs.Actors.{AreHeldAt, ClaimsOneOf, IsSameActor, Suits, acting, call_refusal};
-ghost use Rattle.evl_machine.specs.MutexTokens.{KeepsPlaces};
-ghost use Rattle.evl_machine.specs.Noted.{HasTaken, IsSettled};
+ghost use Rattle.evl_machine.specs.Calls.{ActsOnCore, Answered, Called, HoldsAtItsStage, IsCaller, KernelCall, answer_of, own_refusal};
+ghost use Rattle.evl_machine.specs.Handles.{Belongs, IsSameCaller, account_of};
+ghost use Rattle.evl_machine.specs.Known.{first_of, seen};
 ghost use Rattle.evl_machine.specs.MutexSeats.{holds_mutex};
 ghost use Rattle.evl_machine.specs.StaxSeats.{holds_stax};
-ghost use Rattle.evl_machine.specs.Calls.{ActsOnCore, Answered, Called, HoldsAtItsStage, IsCaller, KernelCall, answer_of, own_refusal};
 
 use crate::actor::Actor;
 use crate::caller::CallerOf;
-use crate::core_lock::{CoreLock, CoreSeat, GiveStep, TakeStep};
+use crate::core_lock::CoreLock;
 use crate::elements::Gates;
 use crate::kernel_box::KernelBox;
 use evl_base::{Call, MutexId, MutexKind, Refusal, Reply};
@@ -48,46 +43,6 @@ impl<C: Drop, A: Allocator> Model for MachineOf<C, A> {
     ghost view = { λ m. record { id = m.core.shared.table_id; first = m.core.shared.key.value; staxes = map gate_home m.gates; mutexes = word_homes m.core.shared.table_id (threads_of m.core.shared.key.value.history) (length m.kinds.items) } };
 
     ghost invariant = { λ m. (m.core.shared.table_id.words ≡ 1 + length m.kinds.items) × (m.core.shared.table_id.slots ≡ 1) × (threads_of m.core.shared.key.value.history ≡ m.threads) × (m.kinds.items ≡ m.core.shared.key.value.history.board.mutexes.items) × (board_fits m.core.shared.key.value.history.board ≡ true) };
-}
-
-impl<C: Drop, A: Allocator> MachineOf<C, A> {
-    /// Takes the kernel out of the slot, unless a seat has it: then one take more of this one's is lost.
-    #[inline]
-    pub(crate) fn take_kernel(&self, seat: &mut CoreSeat<C, A>) -> Option<KernelBox<C, A>>
-        requires { (seat.old.table_id ≡ self.now.id) × (seen seat.old.me ≡ resting (account_of (seen seat.old.me))) }
-        ensures same { (seat.new.table_id ≡ seat.old.table_id) × (seat.new.id ≡ seat.old.id) × (first_of seat.new.me.0 ≡ first_of seat.old.me.0) }
-        ensures event { MatchOption result (FailsToTake (first_of seat.old.me.0) (account_of (seen seat.old.me)) (account_of (seen seat.new.me))) (λ _. Takes (first_of seat.old.me.0) (account_of (seen seat.old.me)) (account_of (seen seat.new.me))) }
-        ensures taken { MatchOption result (seen seat.new.me ≡ resting (lost_one (account_of (seen seat.old.me)))) (λ k. Taken past_of room_of (seen seat.old.me) k (seen seat.new.me) × ComesFrom (first_of seat.old.me.0) k) }
-        ensures places { KeepsPlaces seat.old.me.0 seat.new.me.0 }
-        ensures holder { MatchOption result ⊤ (λ k. HasTaken (account_of (seen seat.old.me)).thread k.history seat.new.me.0) }
-    {
-        let table = &self.core.shared;
-        if table.compare_exchange::<TakeStep>(seat, 0, 0, 1) != 0 {
-            return None;
-        }
-        table.exchange(seat, 0, None)
-    }
-
-    /// Puts the kernel back. It goes on from the one that was taken, by calls of the seat's one caller, and what stands
-    /// of each mutex's word is tied to what it records.
-    #[inline]
-    pub(crate) fn give_kernel(&self, seat: &mut CoreSeat<C, A>, kernel: KernelBox<C, A>)
-        requires machine { seat.old.table_id ≡ self.now.id }
-        requires comes { ComesFrom (first_of seat.old.me.0) kernel }
-        requires kernel { (seen seat.old.me ≡ holding (account_of (seen seat.old.me))) × Continues (account_of (seen seat.old.me)) kernel.history }
-        requires settled { IsSettled seat.old.me.0 kernel.history.state }
-        ensures same { (seat.new.table_id ≡ seat.old.table_id) × (seat.new.id ≡ seat.old.id) × (first_of seat.new.me.0 ≡ first_of seat.old.me.0) }
-        ensures event { Gives (first_of seat.old.me.0) (account_of (seen seat.old.me)) kernel (account_of (seen seat.new.me)) }
-        ensures given { seen seat.new.me ≡ resting (up_to_date kernel.history (account_of (seen seat.old.me))) }
-        ensures places { KeepsPlaces seat.old.me.0 seat.new.me.0 }
-    {
-        let table = &self.core.shared;
-        match table.exchange(seat, 0, Some(kernel)) {
-            None => {}
-            Some(_) => unreachable!(),
-        }
-        table.store::<GiveStep>(seat, 0, 0);
-    }
 }
 
 impl<C: Drop, A: Allocator> MachineOf<C, A> {
@@ -144,6 +99,7 @@ impl<C: Handler, A: Allocator> MachineOf<C, A> {
         ensures entered { IfOk result (λ answer. answer ≢ Err CoreBusy) }
         ensures back { IfErr result (λ back. back ≡ call) }
     {
+        // what holds of every machine is known where one of its fields is used
         let _ = &self.core;
         self.call_with(&mut caller.actor, call)
     }

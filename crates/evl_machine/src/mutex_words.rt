@@ -50,6 +50,7 @@ impl<C: Drop, A: Allocator> MachineOf<C, A> {
         ensures tried { MutexCall caller.old (λ was is. TriesMutex (kinds_of caller.old) was mutex.0 (Ok result) is) caller.new }
         ensures stage { HoldsAtItsStage caller.new }
     {
+        // what holds of every machine is known where one of its fields is used
         let _ = &self.core;
         caller.actor.places.nest(mutex)
     }
@@ -84,6 +85,7 @@ impl<C: Drop, A: Allocator> MachineOf<C, A> {
         ensures seats { AreTheSame caller.old.mutexes caller.new.mutexes }
         ensures stage { HoldsAtItsStage caller.new }
     {
+        // what holds of every machine is known where one of its fields is used
         let _ = &self.core;
         caller.actor.places.spend(pass);
     }

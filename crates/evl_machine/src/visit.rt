@@ -1,15 +1,59 @@
-//! A caller that takes the kernel within one call, and gives it back.
-ghost use Rattle.std.specs.Prelude.{◌≡◌, MatchOption};
+//! Taking the kernel and giving it back: by a seat at the core's table, and by a caller within one call.
+ghost use Rattle.std.specs.Prelude.{◌≡◌, ⊤, MatchOption};
+ghost use Rattle.evl_machine.specs.Accounts.{lost_one, up_to_date};
 ghost use Rattle.evl_machine.specs.Calls.{IsCaller};
+ghost use Rattle.evl_machine.specs.Events.{FailsToTake, Gives, Takes};
+ghost use Rattle.evl_machine.specs.Handles.{Continues, Taken, account_of, holding, resting};
 ghost use Rattle.evl_machine.specs.InHand.{HasMissed, HasOpened, HasShut, MayShut};
-ghost use Rattle.evl_machine.specs.Known.{seen};
+ghost use Rattle.evl_machine.specs.Known.{ComesFrom, first_of, past_of, room_of, seen};
+ghost use Rattle.evl_machine.specs.MutexTokens.{KeepsPlaces};
+ghost use Rattle.evl_machine.specs.Noted.{HasTaken, IsSettled};
 
 use crate::actor::Actor;
+use crate::core_lock::{CoreSeat, GiveStep, TakeStep};
 use crate::kernel_box::KernelBox;
 use crate::machine::MachineOf;
 use std::alloc::Allocator;
 
 impl<C: Drop, A: Allocator> MachineOf<C, A> {
+    /// Takes the kernel out of the slot, unless a seat has it: then one take more of this one's is lost.
+    #[inline]
+    pub(crate) fn take_kernel(&self, seat: &mut CoreSeat<C, A>) -> Option<KernelBox<C, A>>
+        requires { (seat.old.table_id ≡ self.now.id) × (seen seat.old.me ≡ resting (account_of (seen seat.old.me))) }
+        ensures same { (seat.new.table_id ≡ seat.old.table_id) × (seat.new.id ≡ seat.old.id) × (first_of seat.new.me.0 ≡ first_of seat.old.me.0) }
+        ensures event { MatchOption result (FailsToTake (first_of seat.old.me.0) (account_of (seen seat.old.me)) (account_of (seen seat.new.me))) (λ _. Takes (first_of seat.old.me.0) (account_of (seen seat.old.me)) (account_of (seen seat.new.me))) }
+        ensures taken { MatchOption result (seen seat.new.me ≡ resting (lost_one (account_of (seen seat.old.me)))) (λ k. Taken past_of room_of (seen seat.old.me) k (seen seat.new.me) × ComesFrom (first_of seat.old.me.0) k) }
+        ensures places { KeepsPlaces seat.old.me.0 seat.new.me.0 }
+        ensures holder { MatchOption result ⊤ (λ k. HasTaken (account_of (seen seat.old.me)).thread k.history seat.new.me.0) }
+    {
+        let table = &self.core.shared;
+        if table.compare_exchange::<TakeStep>(seat, 0, 0, 1) != 0 {
+            return None;
+        }
+        table.exchange(seat, 0, None)
+    }
+
+    /// Puts the kernel back. It goes on from the one that was taken, by calls of the seat's one caller, and what stands
+    /// of each mutex's word is tied to what it records.
+    #[inline]
+    pub(crate) fn give_kernel(&self, seat: &mut CoreSeat<C, A>, kernel: KernelBox<C, A>)
+        requires machine { seat.old.table_id ≡ self.now.id }
+        requires comes { ComesFrom (first_of seat.old.me.0) kernel }
+        requires kernel { (seen seat.old.me ≡ holding (account_of (seen seat.old.me))) × Continues (account_of (seen seat.old.me)) kernel.history }
+        requires settled { IsSettled seat.old.me.0 kernel.history.state }
+        ensures same { (seat.new.table_id ≡ seat.old.table_id) × (seat.new.id ≡ seat.old.id) × (first_of seat.new.me.0 ≡ first_of seat.old.me.0) }
+        ensures event { Gives (first_of seat.old.me.0) (account_of (seen seat.old.me)) kernel (account_of (seen seat.new.me)) }
+        ensures given { seen seat.new.me ≡ resting (up_to_date kernel.history (account_of (seen seat.old.me))) }
+        ensures places { KeepsPlaces seat.old.me.0 seat.new.me.0 }
+    {
+        let table = &self.core.shared;
+        match table.exchange(seat, 0, Some(kernel)) {
+            None => {}
+            Some(_) => unreachable!(),
+        }
+        table.store::<GiveStep>(seat, 0, 0);
+    }
+
     /// Takes the kernel, unless another caller has it: then one take more is lost.
     pub(crate) fn open(&self, actor: &mut Actor<C, A>) -> Option<KernelBox<C, A>>
         requires machine { actor.old.table ≡ self.now.id }
