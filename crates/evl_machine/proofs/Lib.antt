@@ -43,6 +43,7 @@ pub mod LockingCalls
 pub mod MutexDeeds
 pub mod MutexStepLaws
 pub mod StepNotes
+pub mod StepDues
 pub mod MutexAccepts
 pub mod Visits
 pub mod Opened

@@ -5,17 +5,19 @@ use Rattle.std.specs.Prelude.{IsSomeAnd}
 use Rattle.std.proofs.lemmas.List.{length-map}
 use Rattle.std.proofs.lemmas.Option.{same_Some, slice_get-map, slice_get_within}
 use Rattle.atomic_table.specs.Seated.{TableId}
+use Rattle.evl_kernel.specs.state.KernelViews.{KernelView}
 use Rattle.evl_words.specs.declared.mutex.MutexPass.{MutexPass}
 use Rattle.evl_words.specs.declared.mutex.place.MutexPlace.{MutexPlace}
 use Rattle.evl_words.specs.MutexCalls.{MutexSeatState}
 use Rattle.evl_words.specs.MutexWorld.{EndsOffered}
 use Rattle.evl_machine.specs.AtSeats.{AtSeat}
-use Rattle.evl_machine.specs.Known.{CoreHand}
+use Rattle.evl_machine.specs.Known.{CoreHand, KernelMe}
 use Rattle.evl_machine.specs.MutexSeats.{AcceptsSo}
-use Rattle.evl_machine.specs.MutexTokens.{AreTheSame, AwaitsSo, SeesOffered, TakesOffer, seat_at, seats_at}
+use Rattle.evl_machine.specs.MutexTokens.{AreTheSame, AwaitsSo, DoesAtWord, IsAtTable, SeesOffered, TakesOffer, seat_at, seats_at}
 use Rattle.evl_machine.proofs.LockingCalls.{set_there}
 use Rattle.evl_machine.proofs.MutexDeeds.{accepts_so}
 use Rattle.evl_machine.proofs.MutexStepLaws.{some_place}
+use Rattle.evl_machine.proofs.SeatsAt.{core_twice}
 
 -- seats that are the same twice
 pub same_twice : {a b c : List MutexSeatState} → AreTheSame a b → AreTheSame b c → AreTheSame a c
@@ -55,3 +57,13 @@ module _ {C : Type 0} (id id' : TableId) (hand hand' : CoreHand C) (ps : List Mu
         does = accepts_so pass looked.was looked.is took.is (ap (λ (s : MutexSeatState). s.table) is_is ∙ same ∙ sym (ap (λ (s : MutexSeatState). s.table) was_is)) (ap (λ (s : MutexSeatState). s.mutex) is_is ∙ sym (ap (λ (s : MutexSeatState). s.mutex) was_is)) number looked.does
             (subst (λ (s : MutexSeatState). TakesOffer pass s took.is) mid took.does);
       }
+
+-- a look that found the offer, and the step that took it, are an acceptance
+pub accept_done : {C : Type 0} {id old mid new : TableId} {first : KernelView C} {me me' me'' : KernelMe C} {ps ps' : List MutexPlace} {i : ℕ} → IsAtTable id first old me.0 ps → DoesAtWord id first old me ps mid me' ps i (AwaitsSo (Ok tt)) → (pass : MutexPass)
+    → DoesAtWord id first mid me' ps new me'' ps' i (TakesOffer pass) → DoesAtWord id first old me ps new me'' ps' i (AcceptsSo (Ok pass))
+accept_done {C} {id} {old} {mid} {new} {first} {me} {me'} {me''} {ps} {ps'} {i} was one pass two = record {
+  table = two.table;
+  core = core_twice one.core two.core;
+  seats = same_twice one.seats two.seats;
+  at = accepted old mid me.0 me'.0 ps i (one.table.same ∙ sym was.same) one.at pass (seats_at new me''.0 ps') two.at;
+}

@@ -27,11 +27,11 @@ use Rattle.evl_machine.specs.AtSeats.{AtSeat}
 use Rattle.evl_machine.specs.Known.{CoreHand, KernelMe, accepted_known, awaited_known, claimed_known, forgot_known, freed_known, offered_known, settled_known, tried_held_known, tried_known, unlocked_known}
 use Rattle.evl_machine.specs.MutexPlaces.{Deepens, HoldsBy, less}
 use Rattle.evl_machine.specs.MutexSeats.{Claims, ForgetsSo, Frees, Offers, Settles, Tries, UnlocksSo}
-use Rattle.evl_machine.specs.MutexTokens.{AreItsPlaces, AreTheSame, AwaitsSo, IsAtTable, SeesOffered, TakesOffer, part_of, seat_at, seats_at}
+use Rattle.evl_machine.specs.MutexTokens.{AreItsPlaces, AreTheSame, AwaitsSo, DoesAtWord, IsAtTable, SeesOffered, TakesOffer, part_of, seat_at, seats_at}
 use Rattle.evl_machine.specs.ThreadRule.{mutex_of}
 use Rattle.evl_machine.proofs.MutexDeeds.{awaits_so, claims_so, comes_back_so, forgets_so, frees_so, loses_so, offers_so, owns_after, settles_so, takes_so, unlocks_so, wins_so}
 use Rattle.evl_machine.proofs.SeatLists.{some-within}
-use Rattle.evl_machine.proofs.MutexTokens.{Moved, Stepped, at_seat, its_after, moved, moved_held, same_place, same_seats, stepped, table_after}
+use Rattle.evl_machine.proofs.MutexTokens.{Moved, Stepped, at_seat, its_after, moved, moved_held, same_place, same_seats, stepped, table_after, tells_same}
 
 -- what stands at a place
 pub some_place : {S : Type 0} (xs : List S) (i : ℕ) → i < length xs → (x : S) × (slice_get xs i ≡ Some x)
@@ -90,10 +90,8 @@ module _ {C : Type 0} (hand : CoreHand C) (ps : List MutexPlace) (i : ℕ) (its 
       ap (λ m. m.0) (said_there (λ (p : MutexPlace). IsOfPlace pass p) ps i p.0 p.1 said).0 ∙ its.placed i p.0 p.1
 
 module _ {C : Type 0} (table : TableId) (first : KernelView C) (id id' : TableId) (me me' : KernelMe C) (ps : List MutexPlace) (i : ℕ) where
-  pub record Made (ps' : List MutexPlace) (step : MutexSeatState → MutexSeatState → Type 0) : Type 0 where
-    pub table_is : IsAtTable table first id' me'.0 ps'
-    pub at : AtSeat i (seats_at id me.0 ps) (seats_at id' me'.0 ps') step
-    pub seats : AreTheSame (seats_at id me.0 ps) (seats_at id' me'.0 ps')
+  abbrev pub Made : List MutexPlace → (MutexSeatState → MutexSeatState → Type 0) → Type 0
+  Made ps' step = DoesAtWord table first id me ps id' me' ps' i step
 
   module _ (t : IsAtTable table first id me.0 ps) (same : id' ≡ id) where
     made : (kind : MutexKind) (found : ℕ) (went : Moved i t.its.number t.its.thread kind found me me') (ps' : List MutexPlace) (f : ℕ → ℕ) (at : Deepens i f ps ps') → owns (mutex_of i went.now).held.role ≡ nat_lt 0 at.is.depth
@@ -102,7 +100,8 @@ module _ {C : Type 0} (table : TableId) (first : KernelView C) (id id' : TableId
         let k = t.its.number in
         let v = t.its.thread in
         let its = its_after i k v kind found me me' t.its.one went id ps ps' f t.its.placed at t.its.numbers t.its.owners owned in record {
-          table_is = table_after i k v kind found me me' t.its.one went id ps ps' f t.its.placed at table id' first (same ∙ t.same) t.words t.all its;
+          table = table_after i k v kind found me me' t.its.one went id ps ps' f t.its.placed at table id' first (same ∙ t.same) t.words t.all its;
+          core = tells_same i k v kind found me me' t.its.one went;
           at = subst (λ x. AtSeat i (seats_at id me.0 ps) (seats_at x me'.0 ps') step) (sym same)
               (at_seat i k v kind found me me' t.its.one went id ps ps' f t.its.placed at step (does (stepped i k v kind found me me' t.its.one went id ps ps' f t.its.placed at t.its.numbers)));
           seats = subst (λ x. AreTheSame (seats_at id me.0 ps) (seats_at x me'.0 ps')) (sym same) (same_seats i k v kind found me me' t.its.one went id ps ps' f t.its.placed at);

@@ -15,6 +15,7 @@ use Rattle.evl_words.specs.MutexCalls.{MutexSeatState, Calls, IsPassOf, Makes, S
 use Rattle.evl_words.specs.MutexWorld.{EndsOffered, MutexView, accepts, awaits, newcomer, owns}
 use Rattle.evl_machine.specs.declared.views.Noted.{Noted}
 use Rattle.evl_machine.specs.declared.views.ThreadView.{ThreadView}
+use Rattle.evl_machine.specs.AtSeats.{AtSeat}
 use Rattle.evl_machine.specs.CoreRule.{IsAbout}
 use Rattle.evl_machine.specs.Homes.{mutex_home}
 use Rattle.evl_machine.specs.ThreadRule.{mutex_of}
@@ -75,6 +76,13 @@ module _ {C : Type 0} where
 pub record AreTheSame (old new : List MutexSeatState) : Type 0 where
   pub homes : map mutex_home new ≡ map mutex_home old
   pub numbers : map (λ s. s.number) new ≡ map (λ s. s.number) old
+
+-- What each step on the word of mutex i keeps, and what it does: the token and the places are of the same table, of the core the token tells the same, and of its seats, which are the same, that at the mutex alone changes, and by this
+pub record DoesAtWord {C : Type 0} (id : TableId) (first : KernelView C) (old : TableId) (me : KernelMe C) (places : List MutexPlace) (new : TableId) (me' : KernelMe C) (places' : List MutexPlace) (i : ℕ) (step : MutexSeatState → MutexSeatState → Type 0) : Type 0 where
+  pub table : IsAtTable id first new me'.0 places'
+  pub core : TellsTheSame me me'
+  pub seats : AreTheSame (seats_at old me.0 places) (seats_at new me'.0 places')
+  pub at : AtSeat i (seats_at old me.0 places) (seats_at new me'.0 places') step
 
 -- what a seat does that looks for an offer, and what it does that takes the one that it saw
 abbrev pub AwaitsSo : Result (Unit {0}) Refusal → MutexSeatState → MutexSeatState → Type 0

@@ -4,11 +4,10 @@ ghost use Rattle.std.specs.Prelude.{◌≡◌, ◌<◌, IsSomeAnd, Ok, false, le
 ghost use Rattle.evl_words.specs.declared.mutex.MutexRole.TheVariants.{Winner};
 ghost use Rattle.evl_words.specs.MutexPlaces.{IsOfPlace};
 ghost use Rattle.evl_words.specs.MutexWorld.{accepts, awaits, claims, forgets, frees, offers, settles, tries};
-ghost use Rattle.evl_machine.specs.AtSeats.{AtSeat};
 ghost use Rattle.evl_machine.specs.Known.{ceilings_of};
 ghost use Rattle.evl_machine.specs.MutexSeats.{AcceptsSo, Claims, ForgetsSo, Frees, IsOfMutex, Offers, Settles, Tries, UnlocksSo};
 ghost use Rattle.evl_machine.specs.Noted.{FoundAny, FoundClaimed, FoundOffered, FoundTried, Notes, NotesAccept, is_done, is_refused};
-ghost use Rattle.evl_machine.specs.MutexTokens.{AreTheSame, AwaitsSo, HasKernelFor, IsAtTable, SeesOffered, TakesOffer, TellsTheSame, part_of, seats_at};
+ghost use Rattle.evl_machine.specs.MutexTokens.{AwaitsSo, DoesAtWord, HasKernelFor, IsAtTable, SeesOffered, TakesOffer, part_of, seats_at};
 
 use super::mutex_places::MutexPlaces;
 use crate::core_lock::{
@@ -33,10 +32,8 @@ pub(crate) fn try_there<C: Drop, A: Allocator>(
     requires table { IsAtTable core.now.shared.table_id core.now.shared.key.value seat.old.table_id seat.old.me.0 places.old }
     requires plain { ceilings_of core.now.shared.key.value mutex.0 ≡ false }
     requires free { IsSomeAnd (slice_get places.old mutex.0) (λ p. p.depth ≡ 0) }
-    ensures table { IsAtTable core.now.shared.table_id core.now.shared.key.value seat.new.table_id seat.new.me.0 places.new }
-    ensures core { TellsTheSame seat.old.me seat.new.me }
-    ensures seats { AreTheSame (seats_at seat.old.table_id seat.old.me.0 places.old) (seats_at seat.new.table_id seat.new.me.0 places.new) }
-    ensures tried { IsOfMutex mutex.0 result × AtSeat mutex.0 (seats_at seat.old.table_id seat.old.me.0 places.old) (seats_at seat.new.table_id seat.new.me.0 places.new) (Tries result) }
+    ensures word { DoesAtWord core.now.shared.table_id core.now.shared.key.value seat.old.table_id seat.old.me places.old seat.new.table_id seat.new.me places.new mutex.0 (Tries result) }
+    ensures pass { IsOfMutex mutex.0 result }
 {
     let word = 1 + usize::from(mutex.0);
     let number = u64::from(places.number(mutex)) + 1;
@@ -61,11 +58,9 @@ pub(crate) fn try_held<C: Drop, A: Allocator>(
     requires table { IsAtTable core.now.shared.table_id core.now.shared.key.value seat.old.table_id seat.old.me.0 places.old }
     requires holder { HasKernelFor mutex.0 seat.old.me.0 }
     requires free { IsSomeAnd (slice_get places.old mutex.0) (λ p. p.depth ≡ 0) }
-    ensures table { IsAtTable core.now.shared.table_id core.now.shared.key.value seat.new.table_id seat.new.me.0 places.new }
-    ensures core { TellsTheSame seat.old.me seat.new.me }
-    ensures seats { AreTheSame (seats_at seat.old.table_id seat.old.me.0 places.old) (seats_at seat.new.table_id seat.new.me.0 places.new) }
+    ensures word { DoesAtWord core.now.shared.table_id core.now.shared.key.value seat.old.table_id seat.old.me places.old seat.new.table_id seat.new.me places.new mutex.0 (Tries result) }
+    ensures pass { IsOfMutex mutex.0 result }
     ensures holder { HasKernelFor mutex.0 seat.new.me.0 }
-    ensures tried { IsOfMutex mutex.0 result × AtSeat mutex.0 (seats_at seat.old.table_id seat.old.me.0 places.old) (seats_at seat.new.table_id seat.new.me.0 places.new) (Tries result) }
     ensures noted { Notes mutex.0 tries (FoundTried result) seat.old.me.0 seat.new.me.0 }
 {
     let word = 1 + usize::from(mutex.0);
@@ -92,10 +87,7 @@ pub(crate) fn unlock_there<C: Drop, A: Allocator>(
     requires table { IsAtTable core.now.shared.table_id core.now.shared.key.value seat.old.table_id seat.old.me.0 places.old }
     requires plain { ceilings_of core.now.shared.key.value pass.mutex.0 ≡ false }
     requires once { IsSomeAnd (slice_get places.old pass.mutex.0) (λ p. IsOfPlace pass p × (p.depth ≡ 1)) }
-    ensures table { IsAtTable core.now.shared.table_id core.now.shared.key.value seat.new.table_id seat.new.me.0 places.new }
-    ensures core { TellsTheSame seat.old.me seat.new.me }
-    ensures seats { AreTheSame (seats_at seat.old.table_id seat.old.me.0 places.old) (seats_at seat.new.table_id seat.new.me.0 places.new) }
-    ensures unlocked { AtSeat pass.mutex.0 (seats_at seat.old.table_id seat.old.me.0 places.old) (seats_at seat.new.table_id seat.new.me.0 places.new) (UnlocksSo pass (Ok result)) }
+    ensures word { DoesAtWord core.now.shared.table_id core.now.shared.key.value seat.old.table_id seat.old.me places.old seat.new.table_id seat.new.me places.new pass.mutex.0 (UnlocksSo pass (Ok result)) }
 {
     let mutex = pass.mutex();
     let word = 1 + usize::from(mutex.0);
@@ -122,11 +114,8 @@ pub(crate) fn claim<C: Drop, A: Allocator>(
     requires table { IsAtTable core.now.shared.table_id core.now.shared.key.value seat.old.table_id seat.old.me.0 places.now }
     requires holder { HasKernelFor mutex.0 seat.old.me.0 }
     requires there { mutex.0 < length places.now }
-    ensures table { IsAtTable core.now.shared.table_id core.now.shared.key.value seat.new.table_id seat.new.me.0 places.now }
-    ensures core { TellsTheSame seat.old.me seat.new.me }
-    ensures seats { AreTheSame (seats_at seat.old.table_id seat.old.me.0 places.now) (seats_at seat.new.table_id seat.new.me.0 places.now) }
+    ensures word { DoesAtWord core.now.shared.table_id core.now.shared.key.value seat.old.table_id seat.old.me places.now seat.new.table_id seat.new.me places.now mutex.0 (Claims result) }
     ensures holder { HasKernelFor mutex.0 seat.new.me.0 }
-    ensures claimed { AtSeat mutex.0 (seats_at seat.old.table_id seat.old.me.0 places.now) (seats_at seat.new.table_id seat.new.me.0 places.now) (Claims result) }
     ensures noted { Notes mutex.0 claims (FoundClaimed result) seat.old.me.0 seat.new.me.0 }
 {
     let word = 1 + usize::from(mutex.0);
@@ -144,11 +133,8 @@ pub(crate) fn settle<C: Drop, A: Allocator>(
     requires holder { HasKernelFor mutex.0 seat.old.me.0 }
     requires there { mutex.0 < length places.old }
     requires won { (part_of seat.old.me.0 mutex.0).held.role ≡ Winner }
-    ensures table { IsAtTable core.now.shared.table_id core.now.shared.key.value seat.new.table_id seat.new.me.0 places.new }
-    ensures core { TellsTheSame seat.old.me seat.new.me }
-    ensures seats { AreTheSame (seats_at seat.old.table_id seat.old.me.0 places.old) (seats_at seat.new.table_id seat.new.me.0 places.new) }
+    ensures word { DoesAtWord core.now.shared.table_id core.now.shared.key.value seat.old.table_id seat.old.me places.old seat.new.table_id seat.new.me places.new mutex.0 (Settles result) }
     ensures holder { HasKernelFor mutex.0 seat.new.me.0 }
-    ensures settled { AtSeat mutex.0 (seats_at seat.old.table_id seat.old.me.0 places.old) (seats_at seat.new.table_id seat.new.me.0 places.new) (Settles result) }
     ensures noted { Notes mutex.0 settles FoundAny seat.old.me.0 seat.new.me.0 }
 {
     let word = 1 + usize::from(mutex.0);
@@ -170,11 +156,8 @@ pub(crate) fn offer<C: Drop, A: Allocator>(
     requires holder { HasKernelFor pass.mutex.0 seat.old.me.0 }
     requires once { IsSomeAnd (slice_get places.old pass.mutex.0) (λ p. IsOfPlace pass p × (p.depth ≡ 1)) }
     requires next { next.0 < (part_of seat.old.me.0 pass.mutex.0).held.seats }
-    ensures table { IsAtTable core.now.shared.table_id core.now.shared.key.value seat.new.table_id seat.new.me.0 places.new }
-    ensures core { TellsTheSame seat.old.me seat.new.me }
-    ensures seats { AreTheSame (seats_at seat.old.table_id seat.old.me.0 places.old) (seats_at seat.new.table_id seat.new.me.0 places.new) }
+    ensures word { DoesAtWord core.now.shared.table_id core.now.shared.key.value seat.old.table_id seat.old.me places.old seat.new.table_id seat.new.me places.new pass.mutex.0 (Offers next.0 more) }
     ensures holder { HasKernelFor pass.mutex.0 seat.new.me.0 }
-    ensures offered { AtSeat pass.mutex.0 (seats_at seat.old.table_id seat.old.me.0 places.old) (seats_at seat.new.table_id seat.new.me.0 places.new) (Offers next.0 more) }
     ensures noted { Notes pass.mutex.0 (offers next.0 more) FoundAny seat.old.me.0 seat.new.me.0 }
 {
     offer_as::<Brand, C, A>(core, seat, places, pass, next, more)
@@ -194,11 +177,8 @@ fn offer_as<H: Handing, C: Drop, A: Allocator>(
     requires once { IsSomeAnd (slice_get places.old pass.mutex.0) (λ p. IsOfPlace pass p × (p.depth ≡ 1)) }
     requires next { next.0 < (part_of seat.old.me.0 pass.mutex.0).held.seats }
     requires handing { (next.0 ≡ H.next) × (more ≡ H.more) }
-    ensures table { IsAtTable core.now.shared.table_id core.now.shared.key.value seat.new.table_id seat.new.me.0 places.new }
-    ensures core { TellsTheSame seat.old.me seat.new.me }
-    ensures seats { AreTheSame (seats_at seat.old.table_id seat.old.me.0 places.old) (seats_at seat.new.table_id seat.new.me.0 places.new) }
+    ensures word { DoesAtWord core.now.shared.table_id core.now.shared.key.value seat.old.table_id seat.old.me places.old seat.new.table_id seat.new.me places.new pass.mutex.0 (Offers next.0 more) }
     ensures holder { HasKernelFor pass.mutex.0 seat.new.me.0 }
-    ensures offered { AtSeat pass.mutex.0 (seats_at seat.old.table_id seat.old.me.0 places.old) (seats_at seat.new.table_id seat.new.me.0 places.new) (Offers next.0 more) }
     ensures noted { Notes pass.mutex.0 (offers next.0 more) FoundAny seat.old.me.0 seat.new.me.0 }
 {
     let word = 1 + usize::from(pass.mutex().0);
@@ -217,11 +197,8 @@ pub(crate) fn free<C: Drop, A: Allocator>(
     requires table { IsAtTable core.now.shared.table_id core.now.shared.key.value seat.old.table_id seat.old.me.0 places.old }
     requires holder { HasKernelFor pass.mutex.0 seat.old.me.0 }
     requires once { IsSomeAnd (slice_get places.old pass.mutex.0) (λ p. IsOfPlace pass p × (p.depth ≡ 1)) }
-    ensures table { IsAtTable core.now.shared.table_id core.now.shared.key.value seat.new.table_id seat.new.me.0 places.new }
-    ensures core { TellsTheSame seat.old.me seat.new.me }
-    ensures seats { AreTheSame (seats_at seat.old.table_id seat.old.me.0 places.old) (seats_at seat.new.table_id seat.new.me.0 places.new) }
+    ensures word { DoesAtWord core.now.shared.table_id core.now.shared.key.value seat.old.table_id seat.old.me places.old seat.new.table_id seat.new.me places.new pass.mutex.0 Frees }
     ensures holder { HasKernelFor pass.mutex.0 seat.new.me.0 }
-    ensures freed { AtSeat pass.mutex.0 (seats_at seat.old.table_id seat.old.me.0 places.old) (seats_at seat.new.table_id seat.new.me.0 places.new) (Frees) }
     ensures noted { Notes pass.mutex.0 frees FoundAny seat.old.me.0 seat.new.me.0 }
 {
     let word = 1 + usize::from(pass.mutex().0);
@@ -239,11 +216,8 @@ pub(crate) fn forget<C: Drop, A: Allocator>(
     requires table { IsAtTable core.now.shared.table_id core.now.shared.key.value seat.old.table_id seat.old.me.0 places.now }
     requires holder { HasKernelFor mutex.0 seat.old.me.0 }
     requires there { mutex.0 < length places.now }
-    ensures table { IsAtTable core.now.shared.table_id core.now.shared.key.value seat.new.table_id seat.new.me.0 places.now }
-    ensures core { TellsTheSame seat.old.me seat.new.me }
-    ensures seats { AreTheSame (seats_at seat.old.table_id seat.old.me.0 places.now) (seats_at seat.new.table_id seat.new.me.0 places.now) }
+    ensures word { DoesAtWord core.now.shared.table_id core.now.shared.key.value seat.old.table_id seat.old.me places.now seat.new.table_id seat.new.me places.now mutex.0 (ForgetsSo result) }
     ensures holder { HasKernelFor mutex.0 seat.new.me.0 }
-    ensures forgotten { AtSeat mutex.0 (seats_at seat.old.table_id seat.old.me.0 places.now) (seats_at seat.new.table_id seat.new.me.0 places.now) (ForgetsSo result) }
     ensures noted { Notes mutex.0 forgets (FoundOffered (is_refused result)) seat.old.me.0 seat.new.me.0 }
 {
     let word = 1 + usize::from(mutex.0);
@@ -265,11 +239,8 @@ pub(crate) fn accept<C: Drop, A: Allocator>(
     requires table { IsAtTable core.now.shared.table_id core.now.shared.key.value seat.old.table_id seat.old.me.0 places.old }
     requires holder { HasKernelFor mutex.0 seat.old.me.0 }
     requires there { mutex.0 < length places.old }
-    ensures table { IsAtTable core.now.shared.table_id core.now.shared.key.value seat.new.table_id seat.new.me.0 places.new }
-    ensures core { TellsTheSame seat.old.me seat.new.me }
-    ensures seats { AreTheSame (seats_at seat.old.table_id seat.old.me.0 places.old) (seats_at seat.new.table_id seat.new.me.0 places.new) }
+    ensures word { DoesAtWord core.now.shared.table_id core.now.shared.key.value seat.old.table_id seat.old.me places.old seat.new.table_id seat.new.me places.new mutex.0 (AcceptsSo result) }
     ensures holder { HasKernelFor mutex.0 seat.new.me.0 }
-    ensures accepted { AtSeat mutex.0 (seats_at seat.old.table_id seat.old.me.0 places.old) (seats_at seat.new.table_id seat.new.me.0 places.new) (AcceptsSo result) }
     ensures noted { NotesAccept mutex.0 result seat.old.me.0 seat.new.me.0 }
 {
     await_offer(core, seat, places, mutex)?;
@@ -286,11 +257,8 @@ fn await_offer<C: Drop, A: Allocator>(
     requires table { IsAtTable core.now.shared.table_id core.now.shared.key.value seat.old.table_id seat.old.me.0 places.now }
     requires holder { HasKernelFor mutex.0 seat.old.me.0 }
     requires there { mutex.0 < length places.now }
-    ensures table { IsAtTable core.now.shared.table_id core.now.shared.key.value seat.new.table_id seat.new.me.0 places.now }
-    ensures core { TellsTheSame seat.old.me seat.new.me }
-    ensures seats { AreTheSame (seats_at seat.old.table_id seat.old.me.0 places.now) (seats_at seat.new.table_id seat.new.me.0 places.now) }
+    ensures word { DoesAtWord core.now.shared.table_id core.now.shared.key.value seat.old.table_id seat.old.me places.now seat.new.table_id seat.new.me places.now mutex.0 (AwaitsSo result) }
     ensures holder { HasKernelFor mutex.0 seat.new.me.0 }
-    ensures awaited { AtSeat mutex.0 (seats_at seat.old.table_id seat.old.me.0 places.now) (seats_at seat.new.table_id seat.new.me.0 places.now) (AwaitsSo result) }
     ensures noted { Notes mutex.0 awaits (FoundOffered (is_done result)) seat.old.me.0 seat.new.me.0 }
 {
     let word = 1 + usize::from(mutex.0);
@@ -312,11 +280,8 @@ fn take_offer<C: Drop, A: Allocator>(
     requires table { IsAtTable core.now.shared.table_id core.now.shared.key.value seat.old.table_id seat.old.me.0 places.old }
     requires holder { HasKernelFor mutex.0 seat.old.me.0 }
     requires offered { SeesOffered (seats_at seat.old.table_id seat.old.me.0 places.old) mutex.0 }
-    ensures table { IsAtTable core.now.shared.table_id core.now.shared.key.value seat.new.table_id seat.new.me.0 places.new }
-    ensures core { TellsTheSame seat.old.me seat.new.me }
-    ensures seats { AreTheSame (seats_at seat.old.table_id seat.old.me.0 places.old) (seats_at seat.new.table_id seat.new.me.0 places.new) }
+    ensures word { DoesAtWord core.now.shared.table_id core.now.shared.key.value seat.old.table_id seat.old.me places.old seat.new.table_id seat.new.me places.new mutex.0 (TakesOffer result) }
     ensures holder { HasKernelFor mutex.0 seat.new.me.0 }
-    ensures taken { AtSeat mutex.0 (seats_at seat.old.table_id seat.old.me.0 places.old) (seats_at seat.new.table_id seat.new.me.0 places.new) (TakesOffer result) }
     ensures noted { Notes mutex.0 accepts FoundAny seat.old.me.0 seat.new.me.0 }
 {
     let word = 1 + usize::from(mutex.0);

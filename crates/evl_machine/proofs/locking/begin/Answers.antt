@@ -20,11 +20,14 @@ claim-requires-clause-table g c = (at_table_of _ _ c.actor.view_is _ _ c.actor.i
 pub claim-requires-clause-holder : goal.claim-requires-clause-holder
 claim-requires-clause-holder g c = holds_for _ _ c.actor.view_is c.args.core.now.shared.table_id c.args.core.now.shared.key.value (taken_holds _ _ _ c.requires.taken.taken) c.args.mutex.0
 
+pub settle-pass-requires-clause-table : goal.settle-pass-requires-clause-table
+settle-pass-requires-clause-table g c = c.claim.ensures.word.table
+
 pub settle-pass-requires-clause-won : goal.settle-pass-requires-clause-won
-settle-pass-requires-clause-won g c = won_at _ _ _ c.args.mutex.0 c.claim.ensures.table.its.placed (won_there _ _ _ c.in-Won.ensures.claimed)
+settle-pass-requires-clause-won g c = won_at _ _ _ c.args.mutex.0 c.claim.ensures.word.table.its.placed (won_there _ _ _ c.in-Won.ensures.word.at)
 
 pub invariant_of-actor : goal.invariant_of-actor
-invariant_of-actor g c = actor_at_mutexes _ _ _ _ _ _ c.actor.invariant (ap (λ (a : SeatedActor _). a.table) c.actor.view_is ∙ c.requires.table.0) (ap (λ (a : SeatedActor _). first_of a.me.0) c.actor.view_is ∙ c.requires.table.1) (core_twice c.claim.ensures.core c.settle-pass.ensures.core) c.settle-pass.ensures.table
+invariant_of-actor g c = actor_at_mutexes _ _ _ _ _ _ c.actor.invariant (ap (λ (a : SeatedActor _). a.table) c.actor.view_is ∙ c.requires.table.0) (ap (λ (a : SeatedActor _). first_of a.me.0) c.actor.view_is ∙ c.requires.table.1) (core_twice c.claim.ensures.word.core c.settle-pass.ensures.word.core) c.settle-pass.ensures.word.table
 
 pub apply-raised-requires-clause-by_plan : goal.apply-raised-requires-clause-by_plan
 apply-raised-requires-clause-by_plan g c = answers_roomier _ _ _ _ c.reserve.ensures.same c.requires.by_plan
@@ -34,11 +37,11 @@ apply-requires-clause-by_plan g c = answers_roomier _ _ _ _ c.reserve.ensures.sa
 
 pub returns-in_err-apply-in-Queued-clause-along : goal.returns-in_err-apply-in-Queued-clause-along
 returns-in_err-apply-in-Queued-clause-along g c =
-    along_call _ _ (ap acting c.actor.view_is) _ _ _ _ _ _ _ c.reserve.ensures.same c.claim.ensures.seats c.apply.ensures.applied c.apply.ensures.same c.apply.ensures.suits c.apply.ensures.held
+    along_call _ _ (ap acting c.actor.view_is) _ _ _ _ _ _ _ c.reserve.ensures.same c.claim.ensures.word.seats c.apply.ensures.applied c.apply.ensures.same c.apply.ensures.suits c.apply.ensures.held
 
 pub returns-then-ceiling-clause-along : goal.returns-then-ceiling-clause-along
 returns-then-ceiling-clause-along g c =
-    along_call _ _ (ap acting c.actor.view_is) _ _ _ _ _ _ _ c.reserve.ensures.same (same_twice c.claim.ensures.seats c.settle-pass.ensures.seats)
+    along_call _ _ (ap acting c.actor.view_is) _ _ _ _ _ _ _ c.reserve.ensures.same (same_twice c.claim.ensures.word.seats c.settle-pass.ensures.word.seats)
     c.apply-raised.ensures.applied c.apply-raised.ensures.same c.apply-raised.ensures.suits c.apply-raised.ensures.held
 
 pub returns-then-ceiling-clause-begun : goal.returns-then-ceiling-clause-begun
@@ -46,7 +49,7 @@ returns-then-ceiling-clause-begun g c =
     let just = just_as _ _ c.actor.view_is _ c.requires.taken in
     let may = may_raise _ _ c.actor.view_is c.args.core.now.shared.key.value c.args.mutex c.actor.invariant c.requires.there c.requires.table.1 (c.requires.kind ∙ c.if-ceiling.true) c.requires.may in
     let entered = enters_made _ _ c.apply-raised.new.kernel _ _ _ _ c.in_ok-reserve.ensures c.apply-raised.ensures.applied in
-    begins_raised _ _ (ap acting c.actor.view_is) _ _ _ _ _ c.args.until _ _ c.apply-raised.ensures.same _ c.in_ok-reserve.ensures _ _ _ c.if-ceiling.true c.in-Won.ensures.claimed c.settle-pass.ensures.settled entered
+    begins_raised _ _ (ap acting c.actor.view_is) _ _ _ _ _ c.args.until _ _ c.apply-raised.ensures.same _ c.in_ok-reserve.ensures _ _ _ c.if-ceiling.true c.in-Won.ensures.word.at c.settle-pass.ensures.word.at entered
     (begun_accepted _ _ just _ _ c.args.mutex c.in-Won.ensures.noted c.settle-pass.ensures.noted c.apply-raised.new.kernel _ may entered)
 
 pub returns-then-ceiling-clause-settled : goal.returns-then-ceiling-clause-settled
@@ -84,16 +87,16 @@ unreachable-requires g c =
 
 pub returns-else-ceiling-clause-along : goal.returns-else-ceiling-clause-along
 returns-else-ceiling-clause-along g c =
-    along_none _ _ (ap acting c.actor.view_is) _ _ _ c.reserve.ensures.same c.requires.held c.requires.taken.suits c.requires.taken.legal (same_twice c.claim.ensures.seats c.settle-pass.ensures.seats)
+    along_none _ _ (ap acting c.actor.view_is) _ _ _ c.reserve.ensures.same c.requires.held c.requires.taken.suits c.requires.taken.legal (same_twice c.claim.ensures.word.seats c.settle-pass.ensures.word.seats)
 
 pub returns-in_ok-apply-in-Queued-clause-along : goal.returns-in_ok-apply-in-Queued-clause-along
 returns-in_ok-apply-in-Queued-clause-along g c =
-    along_call _ _ (ap acting c.actor.view_is) _ _ _ _ _ _ _ c.reserve.ensures.same c.claim.ensures.seats c.apply.ensures.applied c.apply.ensures.same c.apply.ensures.suits c.apply.ensures.held
+    along_call _ _ (ap acting c.actor.view_is) _ _ _ _ _ _ _ c.reserve.ensures.same c.claim.ensures.word.seats c.apply.ensures.applied c.apply.ensures.same c.apply.ensures.suits c.apply.ensures.held
 
 pub returns-in_ok-apply-in-Queued-clause-begun : goal.returns-in_ok-apply-in-Queued-clause-begun
 returns-in_ok-apply-in-Queued-clause-begun g c =
-    begins_waiting _ _ (ap acting c.actor.view_is) _ _ _ c.args.ceiling _ _ _ _ c.apply.ensures.same _ c.in_ok-reserve.ensures c.in-Queued.owner _ c.in-Queued.ensures.claimed c.in_ok-apply-in-Queued.ensures.applied
+    begins_waiting _ _ (ap acting c.actor.view_is) _ _ _ c.args.ceiling _ _ _ _ c.apply.ensures.same _ c.in_ok-reserve.ensures c.in-Queued.owner _ c.in-Queued.ensures.word.at c.in_ok-apply-in-Queued.ensures.applied
 
 pub returns-in_err-apply-in-Queued-clause-begun : goal.returns-in_err-apply-in-Queued-clause-begun
 returns-in_err-apply-in-Queued-clause-begun g c =
-    begins_refused _ _ (ap acting c.actor.view_is) _ _ _ c.args.ceiling _ _ _ _ c.apply.ensures.same _ c.in_ok-reserve.ensures c.in-Queued.owner _ _ c.from_residual-in_err-apply-in-Queued.ensures.1 c.in-Queued.ensures.claimed c.in_err-apply-in-Queued.ensures.applied
+    begins_refused _ _ (ap acting c.actor.view_is) _ _ _ c.args.ceiling _ _ _ _ c.apply.ensures.same _ c.in_ok-reserve.ensures c.in-Queued.owner _ _ c.from_residual-in_err-apply-in-Queued.ensures.1 c.in-Queued.ensures.word.at c.in_err-apply-in-Queued.ensures.applied

@@ -26,18 +26,18 @@ pub end_wait-ended-requires-clause-by_plan : goal.end_wait-ended-requires-clause
 end_wait-ended-requires-clause-by_plan g c = answers_roomier _ _ _ _ c.reserve.ensures.same c.requires.by_plan
 
 pub invariant_of-actor : goal.invariant_of-actor
-invariant_of-actor g c = actor_at_mutexes _ _ _ _ _ _ c.actor.invariant (ap (λ (a : SeatedActor _). a.table) c.actor.view_is ∙ c.requires.table.0) (ap (λ (a : SeatedActor _). first_of a.me.0) c.actor.view_is ∙ c.requires.table.1) c.forget.ensures.core c.forget.ensures.table
+invariant_of-actor g c = actor_at_mutexes _ _ _ _ _ _ c.actor.invariant (ap (λ (a : SeatedActor _). a.table) c.actor.view_is ∙ c.requires.table.0) (ap (λ (a : SeatedActor _). first_of a.me.0) c.actor.view_is ∙ c.requires.table.1) c.forget.ensures.word.core c.forget.ensures.word.table
 
 pub returns-then-timed_out-clause-along : goal.returns-then-timed_out-clause-along
 returns-then-timed_out-clause-along g c =
-    along_call _ _ (ap acting c.actor.view_is) _ _ _ _ _ _ _ c.reserve.ensures.same c.forget.ensures.seats
+    along_call _ _ (ap acting c.actor.view_is) _ _ _ _ _ _ _ c.reserve.ensures.same c.forget.ensures.word.seats
     c.end_wait-ended.ensures.applied c.end_wait-ended.ensures.same c.end_wait-ended.ensures.suits c.end_wait-ended.ensures.held
 
 pub returns-then-timed_out-clause-finished : goal.returns-then-timed_out-clause-finished
 returns-then-timed_out-clause-finished g c =
     finishes_late _ _ (ap acting c.actor.view_is) _ _ _ _ _ _ c.end_wait-ended.ensures.same _ c.in_ok-reserve.ensures c.requires.taken.legal c.requires.taken.fits
     (on_board _ _ _ _ c.kernel.ensures c.if-not-finished.false c.finished.ensures.outside) (is_ended _ _ _ _ c.kernel.ensures c.finished.ensures.ended c.if-not-finished.false)
-    _ c.end_wait-ended.ensures.applied c.in-Ok.ensures.forgotten (is_timed _ _ _ _ _ _ c.reserve.ensures.same c.kernel-2.ensures c.timed_out.ensures.ended c.if-timed_out.true)
+    _ c.end_wait-ended.ensures.applied c.in-Ok.ensures.word.at (is_timed _ _ _ _ _ _ c.reserve.ensures.same c.kernel-2.ensures c.timed_out.ensures.ended c.if-timed_out.true)
 
 pub accept-requires-clause-table : goal.accept-requires-clause-table
 accept-requires-clause-table g c = (at_table_of _ _ c.actor.view_is _ _ c.actor.invariant c.requires.table)
@@ -49,18 +49,18 @@ pub end_wait-over-requires-clause-by_plan : goal.end_wait-over-requires-clause-b
 end_wait-over-requires-clause-by_plan g c = answers_roomier _ _ _ _ c.reserve.ensures.same c.requires.by_plan
 
 pub invariant_of-actor-2 : goal.invariant_of-actor-2
-invariant_of-actor-2 g c = actor_at_mutexes _ _ _ _ _ _ c.actor.invariant (ap (λ (a : SeatedActor _). a.table) c.actor.view_is ∙ c.requires.table.0) (ap (λ (a : SeatedActor _). first_of a.me.0) c.actor.view_is ∙ c.requires.table.1) c.accept.ensures.core c.accept.ensures.table
+invariant_of-actor-2 g c = actor_at_mutexes _ _ _ _ _ _ c.actor.invariant (ap (λ (a : SeatedActor _). a.table) c.actor.view_is ∙ c.requires.table.0) (ap (λ (a : SeatedActor _). first_of a.me.0) c.actor.view_is ∙ c.requires.table.1) c.accept.ensures.word.core c.accept.ensures.word.table
 
 pub returns-clause-along : goal.returns-clause-along
 returns-clause-along g c =
-    along_call _ _ (ap acting c.actor.view_is) _ _ _ _ _ _ _ c.reserve.ensures.same c.accept.ensures.seats
+    along_call _ _ (ap acting c.actor.view_is) _ _ _ _ _ _ _ c.reserve.ensures.same c.accept.ensures.word.seats
     c.end_wait-over.ensures.applied c.end_wait-over.ensures.same c.end_wait-over.ensures.suits c.end_wait-over.ensures.held
 
 pub returns-clause-finished : goal.returns-clause-finished
 returns-clause-finished g c =
     finishes_locked _ _ (ap acting c.actor.view_is) _ _ _ _ _ _ c.end_wait-over.ensures.same _ c.in_ok-reserve.ensures c.requires.taken.legal c.requires.taken.fits
     (on_board _ _ _ _ c.kernel.ensures c.if-not-finished.false c.finished.ensures.outside) (is_ended _ _ _ _ c.kernel.ensures c.finished.ensures.ended c.if-not-finished.false)
-    _ c.end_wait-over.ensures.applied _ c.in-Ok-accept.ensures.accepted (is_timed _ _ _ _ _ _ c.reserve.ensures.same c.kernel-2.ensures c.timed_out.ensures.ended c.if-timed_out.false)
+    _ c.end_wait-over.ensures.applied _ c.in-Ok-accept.ensures.word.at (is_timed _ _ _ _ _ _ c.reserve.ensures.same c.kernel-2.ensures c.timed_out.ensures.ended c.if-timed_out.false)
 
 pub returns-then-not-finished-clause-settled : goal.returns-then-not-finished-clause-settled
 returns-then-not-finished-clause-settled g c = same_settled _ _ c.requires.taken _ refl

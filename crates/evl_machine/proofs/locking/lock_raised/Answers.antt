@@ -23,23 +23,23 @@ pub try_held-requires-clause-holder : goal.try_held-requires-clause-holder
 try_held-requires-clause-holder g c = (holds_for _ _ c.actor.view_is c.args.core.now.shared.table_id c.args.core.now.shared.key.value (taken_holds _ _ _ c.requires.taken.taken) c.args.mutex.0)
 
 pub invariant_of-actor : goal.invariant_of-actor
-invariant_of-actor g c = actor_at_mutexes _ _ _ _ _ _ c.actor.invariant (ap (λ a. a.table) c.actor.view_is ∙ c.requires.table.0) (ap (λ a. Rattle.evl_machine.specs.Known.first_of a.me.0) c.actor.view_is ∙ c.requires.table.1) c.try_held.ensures.core c.try_held.ensures.table
+invariant_of-actor g c = actor_at_mutexes _ _ _ _ _ _ c.actor.invariant (ap (λ a. a.table) c.actor.view_is ∙ c.requires.table.0) (ap (λ a. Rattle.evl_machine.specs.Known.first_of a.me.0) c.actor.view_is ∙ c.requires.table.1) c.try_held.ensures.word.core c.try_held.ensures.word.table
 
 pub returns-in_err-pass-clause-along : goal.returns-in_err-pass-clause-along
 returns-in_err-pass-clause-along g c =
-    along_none _ _ (ap acting c.actor.view_is) _ _ _ c.reserve.ensures.same c.requires.held c.requires.taken.suits c.requires.taken.legal c.try_held.ensures.seats
+    along_none _ _ (ap acting c.actor.view_is) _ _ _ c.reserve.ensures.same c.requires.held c.requires.taken.suits c.requires.taken.legal c.try_held.ensures.word.seats
 
 pub apply-raised-requires-clause-by_plan : goal.apply-raised-requires-clause-by_plan
 apply-raised-requires-clause-by_plan g c = answers_roomier _ _ _ _ c.reserve.ensures.same c.requires.by_plan
 
 pub returns-clause-core : goal.returns-clause-core
 returns-clause-core g c =
-    let one = core_of_step _ _ c.actor.view_is _ _ _ _ _ c.requires.table c.try_held.ensures.core c.try_held.ensures.table in
+    let one = core_of_step _ _ c.actor.view_is _ _ _ _ _ c.requires.table c.try_held.ensures.word.core c.try_held.ensures.word.table in
     (core_twice one.0 (same_core _ _ c.apply-raised.ensures.seat.1), c.apply-raised.ensures.seat.0 ∙ one.1)
 
 pub returns-clause-along : goal.returns-clause-along
 returns-clause-along g c =
-    along_call _ _ (ap acting c.actor.view_is) _ _ _ _ _ _ _ c.reserve.ensures.same c.try_held.ensures.seats
+    along_call _ _ (ap acting c.actor.view_is) _ _ _ _ _ _ _ c.reserve.ensures.same c.try_held.ensures.word.seats
     c.apply-raised.ensures.applied c.apply-raised.ensures.same c.apply-raised.ensures.suits c.apply-raised.ensures.held
 
 pub returns-clause-locked : goal.returns-clause-locked
@@ -48,7 +48,7 @@ returns-clause-locked g c =
     let may = may_raise _ _ c.actor.view_is c.args.core.now.shared.key.value c.args.mutex c.actor.invariant (some-within _ _ _ c.requires.free) c.requires.table.1 c.requires.ceiling c.requires.may in
     let entered = enters_made _ _ c.apply-raised.new.kernel _ _ _ _ c.in_ok-reserve.ensures c.apply-raised.ensures.applied in
     let accepted = won_accepted _ _ just _ c.args.mutex c.apply-raised.new.kernel _ c.in_ok-pass.ensures.noted may entered in
-    locks_raised {C = g.row.C.Denot} _ _ (ap acting c.actor.view_is) c.args.kernel.now c.apply-raised.new.kernel c.args.core.now.shared.key.value.history.board.mutexes.items c.args.mutex c.in_ok-pass.pass (seats_at c.try_held.new.seat.table_id c.try_held.new.seat.me.0 c.try_held.new.places) _ _ (tries_so c.args.core.now.shared.key.value.history.board.mutexes.items (seats_at c.actor.inside.seat.table_id c.actor.inside.seat.me.0 c.actor.inside.places) (seats_at c.try_held.new.seat.table_id c.try_held.new.seat.me.0 c.try_held.new.places) c.args.mutex.0 (Ok c.in_ok-pass.pass) (ap (λ (a : SeatedActor _). mutex_refusal c.args.core.now.shared.key.value.history.board.mutexes.items (acting a).mutexes c.args.mutex.0) c.actor.view_is ∙ c.requires.unrefused) c.in_ok-pass.ensures.tried) c.apply-raised.ensures.same entered accepted
+    locks_raised {C = g.row.C.Denot} _ _ (ap acting c.actor.view_is) c.args.kernel.now c.apply-raised.new.kernel c.args.core.now.shared.key.value.history.board.mutexes.items c.args.mutex c.in_ok-pass.pass (seats_at c.try_held.new.seat.table_id c.try_held.new.seat.me.0 c.try_held.new.places) _ _ (tries_so c.args.core.now.shared.key.value.history.board.mutexes.items (seats_at c.actor.inside.seat.table_id c.actor.inside.seat.me.0 c.actor.inside.places) (seats_at c.try_held.new.seat.table_id c.try_held.new.seat.me.0 c.try_held.new.places) c.args.mutex.0 (Ok c.in_ok-pass.pass) (ap (λ (a : SeatedActor _). mutex_refusal c.args.core.now.shared.key.value.history.board.mutexes.items (acting a).mutexes c.args.mutex.0) c.actor.view_is ∙ c.requires.unrefused) (c.in_ok-pass.ensures.pass, c.in_ok-pass.ensures.word.at)) c.apply-raised.ensures.same entered accepted
 
 pub returns-clause-settled : goal.returns-clause-settled
 returns-clause-settled g c =

@@ -1,52 +1,23 @@
-use Rattle.std.proofs.Common.{◌+◌, ◌<◌, false, refl, sym, ◌∙◌, arith, subst}
-use mathlib.Core.Option.{none}
-use Rattle.atomic_table.specs.Table.{step}
-use Rattle.std.proofs.Common.{true}
+use Rattle.std.proofs.Common.{true, false, refl, sym, ◌∙◌}
 use Rattle.evl_words.specs.MutexWorld.{forgets}
 use Rattle.evl_words.specs.MutexRule.{forgot}
 use Rattle.evl_words.proofs.MutexSeats.{forgot_of}
-use Rattle.evl_machine.specs.Known.{mutex_count}
-use Rattle.evl_machine.specs.MutexTokens.{HasKernelFor}
-use Rattle.evl_machine.specs.ThreadRule.{mutex_of}
-use Rattle.evl_machine.proofs.MutexTokens.{marks_held}
 use Rattle.evl_machine.proofs.MutexStepLaws.{forget_made}
+use Rattle.evl_machine.proofs.StepDues.{held_due}
 use Rattle.evl_machine.proofs.StepNotes.{forget_noted}
 use Rattle.evl_machine.proofs.elements.mutex_steps.forget.Goals as goal
 
 pub load-found-requires : goal.load-found-requires
-load-found-requires g c =
-    let s = c.args.core.now.shared in
-    let t = c.requires.table in
-    let k = t.its.number in
-    let v = t.its.thread in
-    let i = c.from-word.result in
-    let e = c.from-word.ensures in
-    let within : i < mutex_count s.key.value = omega (arith, c.requires.there, e, t.all) in (
-      t.same,
-      omega (arith, within, t.words, t.all),
-      marks_held s.key.value s.table_id.slots c.args.seat.now.id k v c.args.seat.now.me t.its.one i within (subst (λ n. HasKernelFor n c.args.seat.now.me.0) (sym e) c.requires.holder) forgets tt (step s.table_id.slots (1 + i) 0 0 none) refl forgot (λ found u d. ((refl, d), forgot_of k (mutex_of i v) u found d)) (λ st n. n) (λ n. refl),
-    )
+load-found-requires g c = held_due _ _ _ c.args.seat.now.id c.args.seat.now.me _ c.requires.table _ _ c.from-word.ensures c.requires.there c.requires.holder forgets tt 0 0 forgot (λ found u d. ((refl, d), forgot_of _ _ u found d)) (λ st n. n) (λ n. refl)
 
-pub returns-then-is_offered_to-clause-table : goal.returns-then-is_offered_to-clause-table
-returns-then-is_offered_to-clause-table g c = (forget_made _ _ _ _ _ _ _ _ c.requires.table c.load-found.ensures.0 c.args.core.now.shared.table_id.slots c.from-word.result 0 0 c.load-found.result c.from-word.ensures c.number.result true c.number.ensures.number (sym c.if-is_offered_to.true ∙ c.is_offered_to.ensures) c.load-found.ensures.2).table_is
-
-pub returns-then-is_offered_to-clause-forgotten : goal.returns-then-is_offered_to-clause-forgotten
-returns-then-is_offered_to-clause-forgotten g c = (forget_made _ _ _ _ _ _ _ _ c.requires.table c.load-found.ensures.0 c.args.core.now.shared.table_id.slots c.from-word.result 0 0 c.load-found.result c.from-word.ensures c.number.result true c.number.ensures.number (sym c.if-is_offered_to.true ∙ c.is_offered_to.ensures) c.load-found.ensures.2).at
-
-pub returns-else-is_offered_to-clause-table : goal.returns-else-is_offered_to-clause-table
-returns-else-is_offered_to-clause-table g c = (forget_made _ _ _ _ _ _ _ _ c.requires.table c.load-found.ensures.0 c.args.core.now.shared.table_id.slots c.from-word.result 0 0 c.load-found.result c.from-word.ensures c.number.result false c.number.ensures.number (sym c.if-is_offered_to.false ∙ c.is_offered_to.ensures) c.load-found.ensures.2).table_is
-
-pub returns-else-is_offered_to-clause-forgotten : goal.returns-else-is_offered_to-clause-forgotten
-returns-else-is_offered_to-clause-forgotten g c = (forget_made _ _ _ _ _ _ _ _ c.requires.table c.load-found.ensures.0 c.args.core.now.shared.table_id.slots c.from-word.result 0 0 c.load-found.result c.from-word.ensures c.number.result false c.number.ensures.number (sym c.if-is_offered_to.false ∙ c.is_offered_to.ensures) c.load-found.ensures.2).at
-
-pub returns-then-is_offered_to-clause-seats : goal.returns-then-is_offered_to-clause-seats
-returns-then-is_offered_to-clause-seats g c = (forget_made _ _ _ _ _ _ _ _ c.requires.table c.load-found.ensures.0 c.args.core.now.shared.table_id.slots c.from-word.result 0 0 c.load-found.result c.from-word.ensures c.number.result true c.number.ensures.number (sym c.if-is_offered_to.true ∙ c.is_offered_to.ensures) c.load-found.ensures.2).seats
-
-pub returns-else-is_offered_to-clause-seats : goal.returns-else-is_offered_to-clause-seats
-returns-else-is_offered_to-clause-seats g c = (forget_made _ _ _ _ _ _ _ _ c.requires.table c.load-found.ensures.0 c.args.core.now.shared.table_id.slots c.from-word.result 0 0 c.load-found.result c.from-word.ensures c.number.result false c.number.ensures.number (sym c.if-is_offered_to.false ∙ c.is_offered_to.ensures) c.load-found.ensures.2).seats
+pub returns-then-is_offered_to-clause-word : goal.returns-then-is_offered_to-clause-word
+returns-then-is_offered_to-clause-word g c = forget_made _ _ _ _ _ _ _ _ c.requires.table c.load-found.ensures.0 c.args.core.now.shared.table_id.slots c.from-word.result 0 0 c.load-found.result c.from-word.ensures c.number.result true c.number.ensures.number (sym c.if-is_offered_to.true ∙ c.is_offered_to.ensures) c.load-found.ensures.2
 
 pub returns-then-is_offered_to-clause-noted : goal.returns-then-is_offered_to-clause-noted
 returns-then-is_offered_to-clause-noted g c = forget_noted _ _ _ _ _ _ _ c.requires.table c.args.core.now.shared.table_id.slots c.from-word.result 0 0 c.load-found.result c.from-word.ensures c.number.result c.number.ensures.number true (sym c.is_offered_to.ensures ∙ c.if-is_offered_to.true) c.load-found.ensures.2
+
+pub returns-else-is_offered_to-clause-word : goal.returns-else-is_offered_to-clause-word
+returns-else-is_offered_to-clause-word g c = forget_made _ _ _ _ _ _ _ _ c.requires.table c.load-found.ensures.0 c.args.core.now.shared.table_id.slots c.from-word.result 0 0 c.load-found.result c.from-word.ensures c.number.result false c.number.ensures.number (sym c.if-is_offered_to.false ∙ c.is_offered_to.ensures) c.load-found.ensures.2
 
 pub returns-else-is_offered_to-clause-noted : goal.returns-else-is_offered_to-clause-noted
 returns-else-is_offered_to-clause-noted g c = forget_noted _ _ _ _ _ _ _ c.requires.table c.args.core.now.shared.table_id.slots c.from-word.result 0 0 c.load-found.result c.from-word.ensures c.number.result c.number.ensures.number false (sym c.is_offered_to.ensures ∙ c.if-is_offered_to.false) c.load-found.ensures.2

@@ -1,44 +1,27 @@
-use Rattle.std.proofs.Common.{◌≡◌, ◌+◌, ◌<◌, subst, refl, sym, ap, ◌∙◌, arith, length}
-use mathlib.Core.Option.{none}
-use Rattle.atomic_table.specs.Table.{step}
-use Rattle.evl_words.specs.declared.mutex.MutexRole.TheVariants.{Owner}
+use Rattle.std.proofs.Common.{◌≡◌, ◌<◌, refl, sym, ap, ◌∙◌, arith}
 use Rattle.evl_words.specs.MutexBits.{offer_word}
 use Rattle.evl_words.specs.MutexWorld.{MutexView, offers}
 use Rattle.evl_words.specs.MutexRule.{does}
-use Rattle.evl_machine.specs.Known.{mutex_count}
-use Rattle.evl_machine.specs.MutexTokens.{HasKernelFor, part_of}
+use Rattle.evl_machine.specs.MutexTokens.{part_of}
 use Rattle.evl_machine.specs.ThreadRule.{mutex_of}
-use Rattle.evl_machine.proofs.MutexTokens.{marks_held}
 use Rattle.evl_machine.proofs.MutexStepLaws.{offer_made, owner_is, part_is}
 use Rattle.evl_machine.proofs.SeatLists.{some-within}
+use Rattle.evl_machine.proofs.StepDues.{held_due}
 use Rattle.evl_machine.proofs.StepNotes.{offer_noted}
 use Rattle.evl_machine.proofs.elements.mutex_steps.offer_as.Goals as goal
 
 pub swap-requires : goal.swap-requires
 swap-requires g c =
-    let s = c.args.core.now.shared in
-    let t = c.requires.table in
-    let k = t.its.number in
-    let v = t.its.thread in
-    let i = c.from-word.result in
-    let e = (c.from-word.ensures ∙ ap (λ m. m.0) c.mutex.ensures) in
-    let seats : (part_of c.args.seat.now.me.0 c.args.pass.mutex.0).held.seats ≡ (mutex_of c.args.pass.mutex.0 v).held.seats = ap (λ (x : MutexView). x.held.seats) (part_is _ _ _ t.its) in
-    let named : g.H.Handing.next < (mutex_of c.args.pass.mutex.0 v).held.seats = omega (arith, c.requires.next, c.requires.handing.0, seats) in
-    let here : c.args.pass.mutex.0 < length c.args.places.now = some-within _ _ _ c.requires.once in
-    let within : i < mutex_count s.key.value = omega (arith, here, e, t.all) in (
-      t.same,
-      omega (arith, within, t.words, t.all),
-      marks_held s.key.value s.table_id.slots c.args.seat.now.id k v c.args.seat.now.me t.its.one i within (subst (λ n. HasKernelFor n c.args.seat.now.me.0) (sym e) c.requires.holder) (offers g.H.Handing.next g.H.Handing.more) (subst (λ n. ((mutex_of n v).held.role ≡ Owner) × (g.H.Handing.next < (mutex_of n v).held.seats)) (sym e) (owner_is _ _ _ t.its c.args.pass c.requires.once, named)) (step s.table_id.slots (1 + i) c.offered_word.result 0 none) refl (does (offers g.H.Handing.next g.H.Handing.more)) (λ found u d. (refl, d)) (λ st n. st.first) (λ n. (λ j. offer_word (sym c.requires.handing.0 j) (sym c.requires.handing.1 j)) ∙ sym c.offered_word.ensures),
-    )
+    let its = c.requires.table.its in
+    let seats : (part_of c.args.seat.now.me.0 c.args.pass.mutex.0).held.seats ≡ (mutex_of c.args.pass.mutex.0 its.thread).held.seats = ap (λ (x : MutexView). x.held.seats) (part_is _ _ _ its) in
+    let named : g.H.Handing.next < (mutex_of c.args.pass.mutex.0 its.thread).held.seats = omega (arith, c.requires.next, c.requires.handing.0, seats) in
+    held_due _ _ _ c.args.seat.now.id c.args.seat.now.me _ c.requires.table _ _ (c.from-word.ensures ∙ ap (λ m. m.0) c.mutex.ensures) (some-within _ _ _ c.requires.once) c.requires.holder (offers g.H.Handing.next g.H.Handing.more) (owner_is _ _ _ its c.args.pass c.requires.once, named) c.offered_word.result 0 (does (offers g.H.Handing.next g.H.Handing.more)) (λ found u d. (refl, d)) (λ st n. st.first)
+    (λ n. (λ j. offer_word (sym c.requires.handing.0 j) (sym c.requires.handing.1 j)) ∙ sym c.offered_word.ensures)
 
-pub returns-clause-table : goal.returns-clause-table
-returns-clause-table g c = (offer_made _ _ _ _ _ _ _ _ c.requires.table c.swap.ensures.0 c.args.core.now.shared.table_id.slots c.from-word.result c.offered_word.result 0 c.swap.result (c.from-word.ensures ∙ ap (λ m. m.0) c.mutex.ensures) c.args.pass g.H.Handing.next g.H.Handing.more c.spend.new.self c.swap.ensures.2 c.requires.once c.spend.ensures.spent).table_is
-
-pub returns-clause-offered : goal.returns-clause-offered
-returns-clause-offered g c = rw (c.requires.handing.0, c.requires.handing.1) (offer_made _ _ _ _ _ _ _ _ c.requires.table c.swap.ensures.0 c.args.core.now.shared.table_id.slots c.from-word.result c.offered_word.result 0 c.swap.result (c.from-word.ensures ∙ ap (λ m. m.0) c.mutex.ensures) c.args.pass g.H.Handing.next g.H.Handing.more c.spend.new.self c.swap.ensures.2 c.requires.once c.spend.ensures.spent).at
-
-pub returns-clause-seats : goal.returns-clause-seats
-returns-clause-seats g c = (offer_made _ _ _ _ _ _ _ _ c.requires.table c.swap.ensures.0 c.args.core.now.shared.table_id.slots c.from-word.result c.offered_word.result 0 c.swap.result (c.from-word.ensures ∙ ap (λ m. m.0) c.mutex.ensures) c.args.pass g.H.Handing.next g.H.Handing.more c.spend.new.self c.swap.ensures.2 c.requires.once c.spend.ensures.spent).seats
+pub returns-clause-word : goal.returns-clause-word
+returns-clause-word g c =
+    rw (c.requires.handing.0, c.requires.handing.1)
+    (offer_made _ _ _ _ _ _ _ _ c.requires.table c.swap.ensures.0 c.args.core.now.shared.table_id.slots c.from-word.result c.offered_word.result 0 c.swap.result (c.from-word.ensures ∙ ap (λ m. m.0) c.mutex.ensures) c.args.pass g.H.Handing.next g.H.Handing.more c.spend.new.self c.swap.ensures.2 c.requires.once c.spend.ensures.spent)
 
 pub returns-clause-noted : goal.returns-clause-noted
 returns-clause-noted g c =

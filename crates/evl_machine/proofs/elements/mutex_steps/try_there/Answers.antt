@@ -29,20 +29,11 @@ compare_exchange-requires g c =
 pub own-requires : goal.own-requires
 own-requires g c = record { there = some-within _ _ _ c.requires.free }
 
-pub returns-then-compare_exchange-eq0-clause-table : goal.returns-then-compare_exchange-eq0-clause-table
-returns-then-compare_exchange-eq0-clause-table g c = (win_made _ _ _ _ _ _ _ _ c.requires.table c.compare_exchange.ensures.0 c.args.core.now.shared.table_id.slots c.from-word.result 0 (c.from-number.result + 1) c.compare_exchange.result c.from-word.ensures c.own.result c.own.new.self c.compare_exchange.ensures.2 c.if-compare_exchange-eq0.true c.requires.free c.own.ensures.pass c.own.ensures.owned).table_is
+pub returns-then-compare_exchange-eq0-clause-word : goal.returns-then-compare_exchange-eq0-clause-word
+returns-then-compare_exchange-eq0-clause-word g c = win_made _ _ _ _ _ _ _ _ c.requires.table c.compare_exchange.ensures.0 c.args.core.now.shared.table_id.slots c.from-word.result 0 (c.from-number.result + 1) c.compare_exchange.result c.from-word.ensures c.own.result c.own.new.self c.compare_exchange.ensures.2 c.if-compare_exchange-eq0.true c.requires.free c.own.ensures.pass c.own.ensures.owned
 
-pub returns-then-compare_exchange-eq0-clause-tried : goal.returns-then-compare_exchange-eq0-clause-tried
-returns-then-compare_exchange-eq0-clause-tried g c = (pass_is _ _ _ c.requires.table.its c.own.result c.own.ensures.pass, (win_made _ _ _ _ _ _ _ _ c.requires.table c.compare_exchange.ensures.0 c.args.core.now.shared.table_id.slots c.from-word.result 0 (c.from-number.result + 1) c.compare_exchange.result c.from-word.ensures c.own.result c.own.new.self c.compare_exchange.ensures.2 c.if-compare_exchange-eq0.true c.requires.free c.own.ensures.pass c.own.ensures.owned).at)
+pub returns-then-compare_exchange-eq0-clause-pass : goal.returns-then-compare_exchange-eq0-clause-pass
+returns-then-compare_exchange-eq0-clause-pass g c = pass_is _ _ _ c.requires.table.its c.own.result c.own.ensures.pass
 
-pub returns-else-compare_exchange-eq0-clause-table : goal.returns-else-compare_exchange-eq0-clause-table
-returns-else-compare_exchange-eq0-clause-table g c = (lose_made _ _ _ _ _ _ _ _ c.requires.table c.compare_exchange.ensures.0 c.args.core.now.shared.table_id.slots c.from-word.result 0 (c.from-number.result + 1) c.compare_exchange.result c.from-word.ensures c.compare_exchange.ensures.2 c.if-compare_exchange-eq0.false c.requires.free).table_is
-
-pub returns-else-compare_exchange-eq0-clause-tried : goal.returns-else-compare_exchange-eq0-clause-tried
-returns-else-compare_exchange-eq0-clause-tried g c = (tt, (lose_made _ _ _ _ _ _ _ _ c.requires.table c.compare_exchange.ensures.0 c.args.core.now.shared.table_id.slots c.from-word.result 0 (c.from-number.result + 1) c.compare_exchange.result c.from-word.ensures c.compare_exchange.ensures.2 c.if-compare_exchange-eq0.false c.requires.free).at)
-
-pub returns-then-compare_exchange-eq0-clause-seats : goal.returns-then-compare_exchange-eq0-clause-seats
-returns-then-compare_exchange-eq0-clause-seats g c = (win_made _ _ _ _ _ _ _ _ c.requires.table c.compare_exchange.ensures.0 c.args.core.now.shared.table_id.slots c.from-word.result 0 (c.from-number.result + 1) c.compare_exchange.result c.from-word.ensures c.own.result c.own.new.self c.compare_exchange.ensures.2 c.if-compare_exchange-eq0.true c.requires.free c.own.ensures.pass c.own.ensures.owned).seats
-
-pub returns-else-compare_exchange-eq0-clause-seats : goal.returns-else-compare_exchange-eq0-clause-seats
-returns-else-compare_exchange-eq0-clause-seats g c = (lose_made _ _ _ _ _ _ _ _ c.requires.table c.compare_exchange.ensures.0 c.args.core.now.shared.table_id.slots c.from-word.result 0 (c.from-number.result + 1) c.compare_exchange.result c.from-word.ensures c.compare_exchange.ensures.2 c.if-compare_exchange-eq0.false c.requires.free).seats
+pub returns-else-compare_exchange-eq0-clause-word : goal.returns-else-compare_exchange-eq0-clause-word
+returns-else-compare_exchange-eq0-clause-word g c = lose_made _ _ _ _ _ _ _ _ c.requires.table c.compare_exchange.ensures.0 c.args.core.now.shared.table_id.slots c.from-word.result 0 (c.from-number.result + 1) c.compare_exchange.result c.from-word.ensures c.compare_exchange.ensures.2 c.if-compare_exchange-eq0.false c.requires.free

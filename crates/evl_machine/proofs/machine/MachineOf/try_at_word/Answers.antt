@@ -35,21 +35,21 @@ invariant_of-caller-inside g c =
     let X = actor_in c.caller-inside.invariant in
     let was : caller_by X ≡ _ = ap (λ (x : Inside _ _). caller_by x.actor) c.caller-inside.view_is ∙ c.caller.view_is in
     let machine = c.requires.machine ∙ sym c.self.view_is in
-    actor_at_mutexes X _ _ _ _ _ c.caller-inside.invariant (ap (λ (s : CallerState _). s.machine.id) was ∙ ap (λ (m : MachineState _). m.id) machine) (ap (λ (s : CallerState _). s.machine.first) was ∙ ap (λ (m : MachineState _). m.first) machine) c.try_there.ensures.core c.try_there.ensures.table
+    actor_at_mutexes X _ _ _ _ _ c.caller-inside.invariant (ap (λ (s : CallerState _). s.machine.id) was ∙ ap (λ (m : MachineState _). m.id) machine) (ap (λ (s : CallerState _). s.machine.first) was ∙ ap (λ (m : MachineState _). m.first) machine) c.try_there.ensures.word.core c.try_there.ensures.word.table
 
 pub invariant_of-caller : goal.invariant_of-caller
 invariant_of-caller g c =
     let X = actor_in c.caller-inside.invariant in
     let was : caller_by X ≡ _ = ap (λ (x : Inside _ _). caller_by x.actor) c.caller-inside.view_is ∙ c.caller.view_is in
     let machine = c.requires.machine ∙ sym c.self.view_is in
-    resting_stepped X c.try_there.new.seat.table_id c.try_there.new.seat.me c.try_there.new.places c.try_there.ensures.core (c.try_there.ensures.table.same ∙ sym (ap (λ (s : CallerState _). s.machine.id) was ∙ ap (λ (m : MachineState _). m.id) machine)) (subst (λ (x : Inside _ _). IsResting x.actor) (sym c.caller-inside.view_is) c.caller.invariant)
+    resting_stepped X c.try_there.new.seat.table_id c.try_there.new.seat.me c.try_there.new.places c.try_there.ensures.word.core (c.try_there.ensures.word.table.same ∙ sym (ap (λ (s : CallerState _). s.machine.id) was ∙ ap (λ (m : MachineState _). m.id) machine)) (subst (λ (x : Inside _ _). IsResting x.actor) (sym c.caller-inside.view_is) c.caller.invariant)
 
 pub returns-clause-machine : goal.returns-clause-machine
 returns-clause-machine g c =
     let X = actor_in c.caller-inside.invariant in
     let was : caller_by X ≡ _ = ap (λ (x : Inside _ _). caller_by x.actor) c.caller-inside.view_is ∙ c.caller.view_is in
     let machine = c.requires.machine ∙ sym c.self.view_is in
-    ap (λ (s : CallerState _). s.machine) (caller_stepped X c.try_there.new.seat.table_id c.try_there.new.seat.me c.try_there.new.places c.try_there.ensures.core (c.try_there.ensures.table.same ∙ sym (ap (λ (s : CallerState _). s.machine.id) was ∙ ap (λ (m : MachineState _). m.id) machine)) c.try_there.ensures.seats _ was (λ a b. Unit {0}) tt).0
+    ap (λ (s : CallerState _). s.machine) (caller_stepped X c.try_there.new.seat.table_id c.try_there.new.seat.me c.try_there.new.places c.try_there.ensures.word.core (c.try_there.ensures.word.table.same ∙ sym (ap (λ (s : CallerState _). s.machine.id) was ∙ ap (λ (m : MachineState _). m.id) machine)) c.try_there.ensures.word.seats _ was (λ a b. Unit {0}) tt).0
 
 pub returns-clause-tried : goal.returns-clause-tried
 returns-clause-tried g c =
@@ -58,11 +58,11 @@ returns-clause-tried g c =
     let machine = c.requires.machine ∙ sym c.self.view_is in
     let kinds = ap (λ (m : MachineState _). m.first.history.board.mutexes.items) (c.self.view_is ∙ sym c.requires.machine) in
     let may = lock_open X X _ c.args.mutex was refl _ _ _ (ap (λ (s : CallerState _). s.machine.mutexes) was ∙ ap (λ (m : MachineState _). m.mutexes) machine) (ap (λ (s : CallerState _). s.machine.first) was ∙ ap (λ (m : MachineState _). m.first) machine) c.self.invariant.3 c.requires.unrefused in
-    caller_stepped X c.try_there.new.seat.table_id c.try_there.new.seat.me c.try_there.new.places c.try_there.ensures.core (c.try_there.ensures.table.same ∙ sym (ap (λ (s : CallerState _). s.machine.id) was ∙ ap (λ (m : MachineState _). m.id) machine)) c.try_there.ensures.seats c.args.caller.now was (λ a b. TriesMutex (kinds_of c.args.caller.now) a c.args.mutex.0 c.try_there.result b) (subst (λ ks. TriesMutex ks (acting X).mutexes c.args.mutex.0 c.try_there.result (seats_at c.try_there.new.seat.table_id c.try_there.new.seat.me.0 c.try_there.new.places)) kinds (tries_so c.self.inside.core.shared.key.value.history.board.mutexes.items (acting X).mutexes (seats_at c.try_there.new.seat.table_id c.try_there.new.seat.me.0 c.try_there.new.places) c.args.mutex.0 c.try_there.result may c.try_there.ensures.tried))
+    caller_stepped X c.try_there.new.seat.table_id c.try_there.new.seat.me c.try_there.new.places c.try_there.ensures.word.core (c.try_there.ensures.word.table.same ∙ sym (ap (λ (s : CallerState _). s.machine.id) was ∙ ap (λ (m : MachineState _). m.id) machine)) c.try_there.ensures.word.seats c.args.caller.now was (λ a b. TriesMutex (kinds_of c.args.caller.now) a c.args.mutex.0 c.try_there.result b) (subst (λ ks. TriesMutex ks (acting X).mutexes c.args.mutex.0 c.try_there.result (seats_at c.try_there.new.seat.table_id c.try_there.new.seat.me.0 c.try_there.new.places)) kinds (tries_so c.self.inside.core.shared.key.value.history.board.mutexes.items (acting X).mutexes (seats_at c.try_there.new.seat.table_id c.try_there.new.seat.me.0 c.try_there.new.places) c.args.mutex.0 c.try_there.result may (c.try_there.ensures.pass, c.try_there.ensures.word.at)))
 
 pub returns-clause-stage : goal.returns-clause-stage
 returns-clause-stage g c =
     let X = actor_in c.caller-inside.invariant in
     let was : caller_by X ≡ _ = ap (λ (x : Inside _ _). caller_by x.actor) c.caller-inside.view_is ∙ c.caller.view_is in
     let machine = c.requires.machine ∙ sym c.self.view_is in
-    stage_resting (record X { table = c.try_there.new.seat.table_id; me = c.try_there.new.seat.me; places = c.try_there.new.places }) c.caller-inside.invariant.held (resting_stepped X c.try_there.new.seat.table_id c.try_there.new.seat.me c.try_there.new.places c.try_there.ensures.core (c.try_there.ensures.table.same ∙ sym (ap (λ (s : CallerState _). s.machine.id) was ∙ ap (λ (m : MachineState _). m.id) machine)) (subst (λ (x : Inside _ _). IsResting x.actor) (sym c.caller-inside.view_is) c.caller.invariant))
+    stage_resting (record X { table = c.try_there.new.seat.table_id; me = c.try_there.new.seat.me; places = c.try_there.new.places }) c.caller-inside.invariant.held (resting_stepped X c.try_there.new.seat.table_id c.try_there.new.seat.me c.try_there.new.places c.try_there.ensures.word.core (c.try_there.ensures.word.table.same ∙ sym (ap (λ (s : CallerState _). s.machine.id) was ∙ ap (λ (m : MachineState _). m.id) machine)) (subst (λ (x : Inside _ _). IsResting x.actor) (sym c.caller-inside.view_is) c.caller.invariant))

@@ -34,39 +34,39 @@ invariant_of-caller-inside g c =
     let X = actor_in c.caller-inside.invariant in
     let was : caller_by X ≡ _ = ap (λ (x : Inside _ _). caller_by x.actor) c.caller-inside.view_is ∙ c.caller.view_is in
     let machine = c.requires.machine ∙ sym c.self.view_is in
-    actor_at_mutexes X _ _ _ _ _ c.caller-inside.invariant (ap (λ (s : CallerState _). s.machine.id) was ∙ ap (λ (m : MachineState _). m.id) machine) (ap (λ (s : CallerState _). s.machine.first) was ∙ ap (λ (m : MachineState _). m.first) machine) c.unlock_there.ensures.core c.unlock_there.ensures.table
+    actor_at_mutexes X _ _ _ _ _ c.caller-inside.invariant (ap (λ (s : CallerState _). s.machine.id) was ∙ ap (λ (m : MachineState _). m.id) machine) (ap (λ (s : CallerState _). s.machine.first) was ∙ ap (λ (m : MachineState _). m.first) machine) c.unlock_there.ensures.word.core c.unlock_there.ensures.word.table
 
 pub invariant_of-caller : goal.invariant_of-caller
 invariant_of-caller g c =
     let X = actor_in c.caller-inside.invariant in
     let was : caller_by X ≡ _ = ap (λ (x : Inside _ _). caller_by x.actor) c.caller-inside.view_is ∙ c.caller.view_is in
     let machine = c.requires.machine ∙ sym c.self.view_is in
-    resting_stepped X c.unlock_there.new.seat.table_id c.unlock_there.new.seat.me c.unlock_there.new.places c.unlock_there.ensures.core (c.unlock_there.ensures.table.same ∙ sym (ap (λ (s : CallerState _). s.machine.id) was ∙ ap (λ (m : MachineState _). m.id) machine)) (subst (λ (x : Inside _ _). IsResting x.actor) (sym c.caller-inside.view_is) c.caller.invariant)
+    resting_stepped X c.unlock_there.new.seat.table_id c.unlock_there.new.seat.me c.unlock_there.new.places c.unlock_there.ensures.word.core (c.unlock_there.ensures.word.table.same ∙ sym (ap (λ (s : CallerState _). s.machine.id) was ∙ ap (λ (m : MachineState _). m.id) machine)) (subst (λ (x : Inside _ _). IsResting x.actor) (sym c.caller-inside.view_is) c.caller.invariant)
 
 pub returns-clause-machine : goal.returns-clause-machine
 returns-clause-machine g c =
     let X = actor_in c.caller-inside.invariant in
     let was : caller_by X ≡ _ = ap (λ (x : Inside _ _). caller_by x.actor) c.caller-inside.view_is ∙ c.caller.view_is in
     let machine = c.requires.machine ∙ sym c.self.view_is in
-    ap (λ (s : CallerState _). s.machine) (caller_stepped X c.unlock_there.new.seat.table_id c.unlock_there.new.seat.me c.unlock_there.new.places c.unlock_there.ensures.core (c.unlock_there.ensures.table.same ∙ sym (ap (λ (s : CallerState _). s.machine.id) was ∙ ap (λ (m : MachineState _). m.id) machine)) c.unlock_there.ensures.seats _ was (λ a b. Unit {0}) tt).0
+    ap (λ (s : CallerState _). s.machine) (caller_stepped X c.unlock_there.new.seat.table_id c.unlock_there.new.seat.me c.unlock_there.new.places c.unlock_there.ensures.word.core (c.unlock_there.ensures.word.table.same ∙ sym (ap (λ (s : CallerState _). s.machine.id) was ∙ ap (λ (m : MachineState _). m.id) machine)) c.unlock_there.ensures.word.seats _ was (λ a b. Unit {0}) tt).0
 
 pub returns-clause-unlocked : goal.returns-clause-unlocked
 returns-clause-unlocked g c =
     let X = actor_in c.caller-inside.invariant in
     let was : caller_by X ≡ _ = ap (λ (x : Inside _ _). caller_by x.actor) c.caller-inside.view_is ∙ c.caller.view_is in
     let machine = c.requires.machine ∙ sym c.self.view_is in
-    caller_stepped X c.unlock_there.new.seat.table_id c.unlock_there.new.seat.me c.unlock_there.new.places c.unlock_there.ensures.core (c.unlock_there.ensures.table.same ∙ sym (ap (λ (s : CallerState _). s.machine.id) was ∙ ap (λ (m : MachineState _). m.id) machine)) c.unlock_there.ensures.seats c.args.caller.now was (λ a b. UnlocksMutex a c.args.pass (Ok c.unlock_there.result) b) (unlocks_so (acting X).mutexes (seats_at c.unlock_there.new.seat.table_id c.unlock_there.new.seat.me.0 c.unlock_there.new.places) c.args.pass c.unlock_there.result (ap (λ (s : CallerState _). unlock_refusal s.mutexes c.args.pass) was ∙ c.requires.own) c.unlock_there.ensures.unlocked)
+    caller_stepped X c.unlock_there.new.seat.table_id c.unlock_there.new.seat.me c.unlock_there.new.places c.unlock_there.ensures.word.core (c.unlock_there.ensures.word.table.same ∙ sym (ap (λ (s : CallerState _). s.machine.id) was ∙ ap (λ (m : MachineState _). m.id) machine)) c.unlock_there.ensures.word.seats c.args.caller.now was (λ a b. UnlocksMutex a c.args.pass (Ok c.unlock_there.result) b) (unlocks_so (acting X).mutexes (seats_at c.unlock_there.new.seat.table_id c.unlock_there.new.seat.me.0 c.unlock_there.new.places) c.args.pass c.unlock_there.result (ap (λ (s : CallerState _). unlock_refusal s.mutexes c.args.pass) was ∙ c.requires.own) c.unlock_there.ensures.word.at)
 
 pub returns-clause-seats : goal.returns-clause-seats
 returns-clause-seats g c =
     let X = actor_in c.caller-inside.invariant in
     let was : caller_by X ≡ _ = ap (λ (x : Inside _ _). caller_by x.actor) c.caller-inside.view_is ∙ c.caller.view_is in
     let machine = c.requires.machine ∙ sym c.self.view_is in
-    subst (λ (s : CallerState _). Rattle.evl_machine.specs.MutexTokens.AreTheSame s.mutexes (seats_at c.unlock_there.new.seat.table_id c.unlock_there.new.seat.me.0 c.unlock_there.new.places)) was c.unlock_there.ensures.seats
+    subst (λ (s : CallerState _). Rattle.evl_machine.specs.MutexTokens.AreTheSame s.mutexes (seats_at c.unlock_there.new.seat.table_id c.unlock_there.new.seat.me.0 c.unlock_there.new.places)) was c.unlock_there.ensures.word.seats
 
 pub returns-clause-stage : goal.returns-clause-stage
 returns-clause-stage g c =
     let X = actor_in c.caller-inside.invariant in
     let was : caller_by X ≡ _ = ap (λ (x : Inside _ _). caller_by x.actor) c.caller-inside.view_is ∙ c.caller.view_is in
     let machine = c.requires.machine ∙ sym c.self.view_is in
-    stage_resting (record X { table = c.unlock_there.new.seat.table_id; me = c.unlock_there.new.seat.me; places = c.unlock_there.new.places }) c.caller-inside.invariant.held (resting_stepped X c.unlock_there.new.seat.table_id c.unlock_there.new.seat.me c.unlock_there.new.places c.unlock_there.ensures.core (c.unlock_there.ensures.table.same ∙ sym (ap (λ (s : CallerState _). s.machine.id) was ∙ ap (λ (m : MachineState _). m.id) machine)) (subst (λ (x : Inside _ _). IsResting x.actor) (sym c.caller-inside.view_is) c.caller.invariant))
+    stage_resting (record X { table = c.unlock_there.new.seat.table_id; me = c.unlock_there.new.seat.me; places = c.unlock_there.new.places }) c.caller-inside.invariant.held (resting_stepped X c.unlock_there.new.seat.table_id c.unlock_there.new.seat.me c.unlock_there.new.places c.unlock_there.ensures.word.core (c.unlock_there.ensures.word.table.same ∙ sym (ap (λ (s : CallerState _). s.machine.id) was ∙ ap (λ (m : MachineState _). m.id) machine)) (subst (λ (x : Inside _ _). IsResting x.actor) (sym c.caller-inside.view_is) c.caller.invariant))
