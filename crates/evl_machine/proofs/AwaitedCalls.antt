@@ -15,7 +15,7 @@ use Rattle.evl_kernel.specs.histories.WaitOwners.{awaited_along, awaited_at, awa
 use Rattle.evl_kernel.proofs.histories.WaitOwners.{waits_along}
 use Rattle.evl_machine.specs.declared.unfinished.Unfinished.{Unfinished}
 use Rattle.evl_machine.specs.declared.unfinished.Unfinished.TheVariants.{Mutex as of_mutex, Element}
-use Rattle.evl_machine.specs.Accounts.{calls_by}
+use Rattle.evl_core.specs.Accounts.{calls_by}
 use Rattle.evl_machine.specs.Unfinished.{unfinished, unfinished_from, wait_after, wait_step}
 
 -- what a caller keeps of what its thread waits for

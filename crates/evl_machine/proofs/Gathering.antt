@@ -14,19 +14,20 @@ use Rattle.evl_base.specs.declared.refusal.Refusal.{Refusal}
 use Rattle.evl_base.specs.declared.refusal.Refusal.TheVariants.{CoreBusy, Invalid}
 use Rattle.evl_kernel.specs.histories.Histories.{History, IsLegal}
 use Rattle.evl_kernel.specs.state.KernelViews.{KernelView}
-use Rattle.evl_machine.specs.declared.views.Account.{Account}
-use Rattle.evl_machine.specs.declared.views.ThreadView.{ThreadView}
-use Rattle.evl_machine.specs.ThreadRule.{ThreadRule, core_of}
-use Rattle.evl_machine.specs.Accounts.{Fits, HasNoStranger, account, calls_by, up_to_date, lost_one, saw, threads_of}
-use Rattle.evl_machine.specs.Events.{FailsToTake, Gives, Takes}
-use Rattle.evl_machine.specs.Seats.{AccountsFit, CoreMe, view}
-use Rattle.evl_machine.specs.CoreRule.{account_at}
-use Rattle.evl_machine.specs.Known.{ComesFrom, CoreHand, IsLive, KeptKnown, KernelMe, accounts_in, ceilings_of, taken_in, mutex_count, past_of, seen}
-use Rattle.evl_machine.specs.Ties.{mutex_tie}
-use Rattle.evl_machine.specs.Handles.{Belongs, MachineState, CallerState, HeldState, holding, returned, shown, turned_away}
+use Rattle.evl_core.specs.declared.views.Account.{Account}
+use Rattle.evl_core.specs.declared.views.ThreadView.{ThreadView}
+use Rattle.evl_core.specs.ThreadRule.{ThreadRule, core_of}
+use Rattle.evl_core.specs.Accounts.{Fits, HasNoStranger, account, calls_by, up_to_date, lost_one, saw, threads_of}
+use Rattle.evl_core.specs.Events.{FailsToTake, Gives, Takes}
+use Rattle.evl_core.specs.Seats.{AccountsFit, CoreMe, view}
+use Rattle.evl_core.specs.CoreRule.{account_at}
+use Rattle.evl_core.specs.Known.{ComesFrom, CoreHand, IsLive, KeptKnown, KernelMe, accounts_in, ceilings_of, taken_in, mutex_count, past_of, seen}
+use Rattle.evl_core.specs.Ties.{mutex_tie}
+use Rattle.evl_machine.specs.Handles.{Belongs, MachineState, CallerState, HeldState, returned, shown, turned_away}
+use Rattle.evl_core.specs.Seats.{holding}
 use Rattle.evl_machine.specs.Calls.{TookKernel}
 use Rattle.evl_machine.specs.Closings.{Closes, KeepsOpen, LacksCaller, accounts_back, gathered}
-use Rattle.evl_machine.proofs.CoreSteps.{all_fit as fits_all}
+use Rattle.evl_core.proofs.CoreSteps.{all_fit as fits_all}
 
 fits_left : (h : History) (xs ys : List Account) → AccountsFit h (xs ++ ys) → AccountsFit h xs
 fits_left h [] ys f k a e = absurd (some-ne-none a (sym e))

@@ -21,13 +21,15 @@ use Rattle.evl_words.specs.MutexCalls.{reply_of}
 use Rattle.evl_machine.specs.declared.in_word.InWord.{InWord}
 use Rattle.evl_machine.specs.Actors.{SeatedActor}
 use Rattle.evl_machine.specs.Callers.{HasInHand}
-use Rattle.evl_machine.specs.Handles.{MachineState, account_of}
-use Rattle.evl_machine.specs.InWord.{Agrees, IsRead, SaysTied, in_word, looked_known, owner_of}
-use Rattle.evl_machine.specs.Known.{CoreHand, KernelMe, KeptKnown, ceilings_of, mutex_count, seen, taken_in}
-use Rattle.evl_machine.specs.Noted.{Stood}
-use Rattle.evl_machine.specs.Seats.{CoreMe}
-use Rattle.evl_machine.specs.ThreadRule.{core_of}
-use Rattle.evl_machine.specs.Ties.{AreTied, StandsNoted}
+use Rattle.evl_machine.specs.Handles.{MachineState}
+use Rattle.evl_core.specs.Seats.{account_of}
+use Rattle.evl_machine.specs.InWord.{Agrees, IsRead, SaysTied, in_word, owner_of}
+use Rattle.evl_core.specs.Noted.{looked_known}
+use Rattle.evl_core.specs.Known.{CoreHand, KernelMe, KeptKnown, ceilings_of, mutex_count, seen, taken_in}
+use Rattle.evl_core.specs.Noted.{Stood}
+use Rattle.evl_core.specs.Seats.{CoreMe}
+use Rattle.evl_core.specs.ThreadRule.{core_of}
+use Rattle.evl_core.specs.Ties.{AreTied, StandsNoted}
 
 -- a word that is written anew stays
 same_word : (words : List ℕ) (i : ℕ) → set words i (get_or words i 0) ≡ words

@@ -10,26 +10,29 @@ use Rattle.evl_base.specs.declared.reply.Reply.{Reply}
 use Rattle.evl_pipeline.specs.declared.plan.Plan.{Plan}
 use Rattle.evl_kernel.specs.state.Callbacks.{AnswersByPlan}
 use Rattle.evl_kernel.specs.state.KernelViews.{KernelView}
-use Rattle.evl_machine.specs.declared.views.Account.{Account}
-use Rattle.evl_machine.specs.Accounts.{IsAccount, up_to_date}
+use Rattle.evl_core.specs.declared.views.Account.{Account}
+use Rattle.evl_core.specs.Accounts.{IsAccount, up_to_date}
 use Rattle.evl_machine.specs.Actors.{ActorState, AreHeldAt, IsSameActor, SeatedActor, Suits, acting, call_refusal, stage_in}
 use Rattle.evl_machine.specs.Callers.{IsResting, caller_by, machine_by}
-use Rattle.evl_machine.specs.Calls.{ActsOnCore, Answered, Applied, AreOwnedAsRecorded, IsHeld}
-use Rattle.evl_machine.specs.Ceilings.{has_ceiling}
-use Rattle.evl_machine.specs.Events.{Gives}
-use Rattle.evl_machine.specs.Handles.{CallerState, MachineState, account_of, caller_of, machine_of}
-use Rattle.evl_machine.specs.Homes.{mutex_home}
+use Rattle.evl_machine.specs.Calls.{ActsOnCore, Answered, AreOwnedAsRecorded}
+use Rattle.evl_core.specs.KernelCalls.{Applied}
+use Rattle.evl_core.specs.Seats.{IsHeld}
+use Rattle.evl_core.specs.Ceilings.{has_ceiling}
+use Rattle.evl_core.specs.Events.{Gives}
+use Rattle.evl_machine.specs.Handles.{CallerState, MachineState, caller_of, machine_of}
+use Rattle.evl_core.specs.Seats.{account_of}
+use Rattle.evl_core.specs.Homes.{mutex_home}
 use Rattle.evl_machine.specs.InHand.{HasOpened, HasShut, MayShut}
 use Rattle.evl_machine.specs.JustTaken.{HasJustTaken}
-use Rattle.evl_machine.specs.Known.{ComesFrom, KernelMe, first_of, seen}
+use Rattle.evl_core.specs.Known.{ComesFrom, KernelMe, first_of, seen}
 use Rattle.evl_machine.specs.Locking.{GoesAlong}
 use Rattle.evl_machine.specs.MutexLocks.{kind_of}
-use Rattle.evl_machine.specs.MutexTokens.{TellsTheSame}
-use Rattle.evl_machine.specs.Noted.{IsSettled}
-use Rattle.evl_machine.specs.Seats.{CoreMe}
+use Rattle.evl_core.specs.MutexTokens.{TellsTheSame}
+use Rattle.evl_core.specs.Noted.{IsSettled}
+use Rattle.evl_core.specs.Seats.{CoreMe}
 use Rattle.evl_machine.specs.Visits.{Visited}
 use Rattle.evl_machine.proofs.Calling.{calls, took_and_gave}
-use Rattle.evl_machine.proofs.Knowing.{answers_still}
+use Rattle.evl_core.proofs.Knowing.{answers_still}
 use Rattle.evl_machine.proofs.LockingLaws.{along_call, along_none, same_kernel, the_same}
 use Rattle.evl_machine.proofs.LockingTies.{other_settled, same_settled}
 use Rattle.evl_machine.proofs.Opened.{just_took, owned_seats}

@@ -1,7 +1,6 @@
 -- What a caller's steps with the kernel in hand come to: a lock that begins, a release, and a wait that is finished.
-use Rattle.std.proofs.Common.{◌≡◌, ◌<◌, ◌≤◌, nat_lt, ℕ, zero, suc, List, [], ◌∷◌, Bool, true, false, true≢false, Option, Some, None, Result, Ok, Err, IsErrAnd, IfSome, IsSomeAnd, inr, slice_get, slice_set, refl, sym, ap, ◌∙◌, subst, arith}
+use Rattle.std.proofs.Common.{◌≡◌, ◌<◌, ◌≤◌, nat_lt, ℕ, List, Bool, true, false, true≢false, Option, Some, None, Result, Ok, Err, IsErrAnd, IfSome, IsSomeAnd, inr, slice_get, refl, sym, ap, ◌∙◌, subst, arith}
 use Rattle.std.proofs.lemmas.Bool.Decides.{nat_tests}
-use Rattle.std.proofs.lemmas.Option.{none-some}
 use Rattle.evl_base.specs.Board.{board_fits}
 use Rattle.evl_base.specs.declared.call.Call.TheVariants.{Claim as AsksToWait, Release, Raise, Finish}
 use Rattle.evl_base.specs.declared.numbers.MutexId.{MutexId}
@@ -20,19 +19,15 @@ use Rattle.evl_words.specs.declared.mutex.MutexHold.{MutexHold}
 use Rattle.evl_machine.specs.declared.locking.Begun.{Begun as LockBegun}
 use Rattle.evl_machine.specs.declared.locking.Begun.TheVariants as begun
 use Rattle.evl_machine.specs.declared.locking.Ended.TheVariants as ended
-use Rattle.evl_machine.specs.Accounts.{threads_of}
+use Rattle.evl_core.specs.Accounts.{threads_of}
 use Rattle.evl_machine.specs.Actors.{ActorState, IsSameActor, keeps_stage}
-use Rattle.evl_machine.specs.AtSeats.{AtSeat}
-use Rattle.evl_machine.specs.Calls.{Applied}
-use Rattle.evl_machine.specs.Locking.{Begins, EndsWait, EntersNone, EntersOne, FindsNoRoom, Finishes, GivesTo, HaveSeats, IsRoomier, RaisesIf, Releases, Reserves}
-use Rattle.evl_machine.specs.MutexSeats.{AcceptsSo, Claims, ForgetsSo, HasOnce, HasSeat, HasWon, Settles, holds_mutex}
+use Rattle.evl_core.specs.AtSeats.{AtSeat}
+use Rattle.evl_core.specs.KernelCalls.{Applied}
+use Rattle.evl_machine.specs.Locking.{Begins, EndsWait, EntersNone, EntersOne, Finishes, GivesTo, HaveSeats, RaisesIf, Releases}
+use Rattle.evl_core.specs.KernelCalls.{FindsNoRoom, IsRoomier, Reserves}
+use Rattle.evl_core.specs.MutexSeats.{AcceptsSo, Claims, ForgetsSo, HasOnce, HasSeat, HasWon, Settles, holds_mutex}
 use Rattle.evl_machine.specs.StaxSeats.{holds_stax}
 use Rattle.evl_machine.proofs.LockingLaws.{enters_made, no_room, seated_at}
-
-pub set_there : {S : Type 0} (xs : List S) (i : ℕ) (was is : S) → slice_get xs i ≡ Some was → slice_get (slice_set xs i is) i ≡ Some is
-set_there [] i was is there = absurd (none-some was there)
-set_there (x ∷ xs) zero was is there = refl
-set_there (x ∷ xs) (suc i) was is there = set_there xs i was is there
 
 -- who claimed a mutex and won it, may settle
 pub won_there : (i : ℕ) (old new : List MutexSeatState) → AtSeat i old new (Claims Won) → HasWon new i

@@ -1,5 +1,5 @@
 -- A caller that has the kernel in hand: what goes along with it, step by step.
-use Rattle.std.proofs.Common.{◌≡◌, ◌↔◌, ◌⊎◌, ◌+◌, ◌≤◌, ◌<◌, ℕ, List, [], true, Result, Ok, Err, IfOk, IfErr, length, map, refl, sym, ap, ◌∙◌, subst, arith, ⊎_elim}
+use Rattle.std.proofs.Common.{◌≡◌, ℕ, List, [], true, Result, Ok, Err, length, map, refl, sym, ap, ◌∙◌, subst, arith}
 use Rattle.evl_base.specs.declared.call.Call.{Call}
 use Rattle.evl_base.specs.declared.call.Call.TheVariants.{Raise}
 use Rattle.evl_base.specs.declared.mutex_kind.MutexKind.{MutexKind}
@@ -13,18 +13,20 @@ use Rattle.evl_kernel.specs.histories.Histories.{History, IsLegal}
 use Rattle.evl_kernel.specs.state.KernelViews.{AddsEntry, KernelView, makes_entry}
 use Rattle.evl_words.specs.declared.mutex.MutexPass.{MutexPass}
 use Rattle.evl_words.specs.MutexCalls.{MutexSeatState}
-use Rattle.evl_machine.specs.Accounts.{GoesOn, calls_by, newcomer}
+use Rattle.evl_core.specs.Accounts.{GoesOn, calls_by, newcomer}
 use Rattle.evl_machine.specs.Actors.{ActorState, AreHeldAt, IsSameActor, Suits, stage_in}
-use Rattle.evl_machine.specs.Calls.{Applied}
-use Rattle.evl_machine.specs.Homes.{mutex_home}
-use Rattle.evl_machine.specs.Known.{ComesFrom}
+use Rattle.evl_core.specs.KernelCalls.{Applied}
+use Rattle.evl_core.specs.Homes.{mutex_home}
+use Rattle.evl_core.specs.Known.{ComesFrom}
 use Rattle.evl_machine.specs.Unfinished.{unfinished}
-use Rattle.evl_machine.specs.Locking.{EntersNone, EntersOne, FindsNoRoom, GoesAlong, IsRoomier, LocksRaised, Reserves}
-use Rattle.evl_machine.specs.MutexSeats.{TriesMutex}
-use Rattle.evl_machine.specs.MutexTokens.{AreTheSame}
-use Rattle.evl_machine.proofs.Accounts.{goes_on_none}
+use Rattle.evl_machine.specs.Handles.{MachineState}
+use Rattle.evl_machine.specs.Locking.{EntersNone, EntersOne, GoesAlong, LocksRaised}
+use Rattle.evl_core.specs.KernelCalls.{FindsNoRoom, IsRoomier, Reserves}
+use Rattle.evl_core.specs.MutexSeats.{TriesMutex}
+use Rattle.evl_core.specs.MutexTokens.{AreTheSame}
+use Rattle.evl_core.proofs.Accounts.{goes_on_none}
 use Rattle.evl_machine.proofs.Calling.{Added, added_by}
-use Rattle.evl_machine.proofs.Knowing.{comes_on}
+use Rattle.evl_core.proofs.Knowing.{comes_on}
 
 -- the caller with other seats at the mutexes
 abbrev pub seated_at : ActorState → List MutexSeatState → ActorState
@@ -49,23 +51,8 @@ module _ {C : Type 0} where
   pub answers_roomier : (declared : C → ℕ) (plan : C → Plan) (k k' : KernelView C) → IsRoomier k k' → AnswersByPlan declared plan k.callbacks → AnswersByPlan declared plan k'.callbacks
   answers_roomier declared plan k k' same answers = subst (λ (w : Whereabouts C). AnswersByPlan declared plan w) (sym same.callbacks) answers
 
-  -- what the kernel's contract says of a reservation
-  pub reserves : (k : KernelView C) (r : Result (Unit {0}) Refusal) (k' : KernelView C)
-      → IfOk r (λ _. 1 ≤ k'.room) → ((r ≡ Err HistoryFull) ↔ (k.limit < length k.history.entries + 1)) → IfErr r (λ e. (e ≡ HistoryFull) ⊎ (e ≡ NoMemory))
-      → (r ≡ Err NoMemory → k.room < 1) → length k.history.entries ≤ k.limit → IsRoomier k k' → Reserves k r k'
-  reserves k (Ok done) k' room full refusals memory within same = record {
-    same = same;
-    made = (room, λ at. let no : Ok done ≡ Err HistoryFull = full.1 (omega (arith, at)) in absurd (cc));
-    refused = tt;
-  }
-  reserves k (Err refusal) k' room full refusals memory within same = record {
-    same = same;
-    made = tt;
-    refused = ⊎_elim
-        (λ (is : refusal ≡ HistoryFull). subst (FindsNoRoom k) (sym is) (let less = full.0 (ap Err is) in omega (arith, less, within)))
-        (λ (is : refusal ≡ NoMemory). subst (FindsNoRoom k) (sym is) (let less = memory (ap Err is) in
-        (omega (arith, less), λ at. let no : Err refusal ≡ Err HistoryFull = full.1 (omega (arith, at)) in absurd (cc)))) refusals;
-  }
+  pub answers_there : (declared : C → ℕ) (plan : C → Plan) (m m' : MachineState C) → m' ≡ m → AnswersByPlan declared plan m.first.callbacks → AnswersByPlan declared plan m'.first.callbacks
+  answers_there declared plan m m' same answers = subst (λ (x : MachineState C). AnswersByPlan declared plan x.first.callbacks) (sym same) answers
 
   module _ (x a : ActorState) (is : x ≡ a) (k : KernelView C) where
     -- a step of a word at most, and nothing entered

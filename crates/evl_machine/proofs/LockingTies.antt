@@ -45,28 +45,28 @@ use Rattle.evl_words.specs.MutexWorld.{MutexKind as Kind, MutexView, accepts, aw
 use Rattle.evl_words.proofs.MutexWords.{accept-word, mark-word}
 use Rattle.evl_machine.specs.declared.unfinished.Unfinished.{Unfinished}
 use Rattle.evl_machine.specs.declared.unfinished.Unfinished.TheVariants.{Mutex as of_mutex}
-use Rattle.evl_machine.specs.declared.views.Noted.{Noted as Note}
-use Rattle.evl_machine.specs.Accounts.{threads_of}
+use Rattle.evl_core.specs.declared.views.Noted.{Noted as Note}
+use Rattle.evl_core.specs.Accounts.{threads_of}
 use Rattle.evl_machine.specs.Actors.{IsActor, SeatedActor, acting, call_refusal, same_truth, keeps_stage, waits_for_mutex}
-use Rattle.evl_machine.specs.Calls.{Applied}
+use Rattle.evl_core.specs.KernelCalls.{Applied}
 use Rattle.evl_machine.specs.JustTaken.{HasJustTaken}
-use Rattle.evl_machine.specs.Known.{CoreHand, ceilings_of, first_of, mutex_count}
+use Rattle.evl_core.specs.Known.{CoreHand, ceilings_of, first_of, mutex_count}
 use Rattle.evl_machine.specs.Locking.{EntersOne}
-use Rattle.evl_machine.specs.MutexSeats.{HasOnce}
-use Rattle.evl_machine.specs.MutexTokens.{part_of}
-use Rattle.evl_machine.specs.Noted.{Found, FoundAny, FoundClaimed, FoundFree, FoundOffered, FoundTaken, IsSettled, Notes, NotesGiven, ceilings_in, number_of}
-use Rattle.evl_machine.specs.Ties.{AreTied, IsLeft, StandsNoted}
+use Rattle.evl_core.specs.MutexSeats.{HasOnce}
+use Rattle.evl_core.specs.MutexTokens.{part_of}
+use Rattle.evl_core.specs.Noted.{Found, FoundAny, FoundClaimed, FoundFree, FoundOffered, FoundTaken, IsSettled, Notes, NotesGiven, ceilings_in, number_of}
+use Rattle.evl_core.specs.Ties.{AreTied, IsLeft, StandsNoted}
 use Rattle.evl_machine.proofs.AwaitedCalls.{kept, kept_of, mutex_awaited, none_awaited, unfinished_is}
-use Rattle.evl_machine.proofs.FoundWords.{Shown, offer_found, owned_found, queued_found, seizing_found, shown, won_found}
-use Rattle.evl_machine.proofs.MutexStepLaws.{owner_is, part_is}
-use Rattle.evl_machine.proofs.SeatLists.{some-within}
+use Rattle.evl_core.proofs.FoundWords.{Shown, offer_found, owned_found, queued_found, seizing_found, shown, won_found}
+use Rattle.evl_core.proofs.MutexStepLaws.{owner_is, part_is}
+use Rattle.evl_core.proofs.SeatLists.{some-within}
 use Rattle.evl_machine.proofs.SeatsAt.{once_at}
-use Rattle.evl_machine.proofs.Settling.{settled_fresh, settled_noting, stay_same, stood_fresh}
-use Rattle.evl_machine.proofs.TieFinds.{over_finds, raise_passes, release_passes}
-use Rattle.evl_machine.proofs.TieRecords.{tied_refused}
-use Rattle.evl_machine.proofs.TieRule.{from_true}
-use Rattle.evl_machine.proofs.TieSteps.{not_seized, word_given}
-use Rattle.evl_machine.proofs.TieVisits.{OthersStay, TiesStay, accept_stays, claim_stays, finish_stays, left_offered, other_stays, raise_stays, refused_stays, release_stays, tied_plain}
+use Rattle.evl_core.proofs.Settling.{settled_fresh, settled_noting, stay_same, stood_fresh}
+use Rattle.evl_core.proofs.TieFinds.{over_finds, raise_passes, release_passes}
+use Rattle.evl_core.proofs.TieRecords.{tied_refused}
+use Rattle.evl_core.proofs.TieRule.{from_true}
+use Rattle.evl_core.proofs.TieSteps.{not_seized, word_given}
+use Rattle.evl_core.proofs.TieVisits.{OthersStay, TiesStay, accept_stays, claim_stays, finish_stays, left_offered, other_stays, raise_stays, refused_stays, release_stays, tied_plain}
 
 opened_there : (kinds : List MutexKind) (i : ℕ) → i < length kinds → (kind : MutexKind) × (slice_get (map opened_mutex kinds) i ≡ Some (opened_mutex kind))
 opened_there [] i less = absurd (omega (arith, less))
@@ -138,7 +138,7 @@ module _ {C : Type 0} where
 
   -- every other call leaves the ties
   pub other_call_stays : (ceilings : ℕ → Bool) (k k' : KernelView C) (t : ℕ) (c : Call) (r : Result Reply Refusal) (wait : Option Unfinished) (stax mutex : Bool) → IsLegal k.history → board_fits k.history.board ≡ true
-      → wait ≡ Rattle.evl_machine.specs.Unfinished.unfinished (Rattle.evl_machine.specs.Accounts.calls_by t k.history.entries) → call_refusal wait stax mutex c ≡ None → Applied k t c r k' → TiesStay ceilings k.history.state k'.history.state
+      → wait ≡ Rattle.evl_machine.specs.Unfinished.unfinished (Rattle.evl_core.specs.Accounts.calls_by t k.history.entries) → call_refusal wait stax mutex c ≡ None → Applied k t c r k' → TiesStay ceilings k.history.state k'.history.state
   other_call_stays ceilings k k' t c r wait stax mutex legal fits is free done = by (makes_entry r) refl
     where
       by : (b : Bool) → makes_entry r ≡ b → TiesStay ceilings k.history.state k'.history.state

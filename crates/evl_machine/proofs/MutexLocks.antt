@@ -18,13 +18,15 @@ use Rattle.evl_machine.specs.declared.locking.Begun.TheVariants.{Locked}
 use Rattle.evl_machine.specs.declared.unfinished.Unfinished.{Unfinished}
 use Rattle.evl_machine.specs.Actors.{ActorState, SeatedActor, acting}
 use Rattle.evl_machine.specs.Callers.{IsResting, caller_by, machine_by}
-use Rattle.evl_machine.specs.Known.{seen}
-use Rattle.evl_machine.specs.AtSeats.{AtSeat}
-use Rattle.evl_machine.specs.Ceilings.{has_ceiling}
-use Rattle.evl_machine.specs.Handles.{CallerState, MachineState, account_of}
-use Rattle.evl_machine.specs.Locking.{Begins, EntersNone, FindsNoRoom, Finishes, GoesAlong, IsNotFull, LocksRaised, Releases}
+use Rattle.evl_core.specs.Known.{seen}
+use Rattle.evl_core.specs.AtSeats.{AtSeat}
+use Rattle.evl_core.specs.Ceilings.{has_ceiling}
+use Rattle.evl_machine.specs.Handles.{CallerState, MachineState}
+use Rattle.evl_core.specs.Seats.{account_of}
+use Rattle.evl_machine.specs.Locking.{Begins, EntersNone, Finishes, GoesAlong, IsNotFull, LocksRaised, Releases}
+use Rattle.evl_core.specs.KernelCalls.{FindsNoRoom}
 use Rattle.evl_machine.specs.MutexLocks.{BeginsToLock, MutexCall, kind_of, kinds_of, lock_refusal, own_lock_refusal, spend_refusal}
-use Rattle.evl_machine.specs.MutexSeats.{depth_at, Tries, TriesMutex, IsOfMutex, is_owner, is_recursive, mutex_refusal, owner_refusal, pass_refusal}
+use Rattle.evl_core.specs.MutexSeats.{depth_at, Tries, TriesMutex, IsOfMutex, is_owner, is_recursive, mutex_refusal, owner_refusal, pass_refusal}
 use Rattle.evl_machine.specs.Visits.{FullOnly, Visits, actor_of}
 use Rattle.evl_machine.proofs.Visits.{same_actor}
 

@@ -8,14 +8,14 @@ use Rattle.evl_words.specs.MutexCalls.{IsPassOf, MutexSeatState, Releases, Unloc
 use Rattle.evl_words.specs.declared.mutex.MutexPass.{MutexPass}
 use Rattle.evl_words.specs.declared.mutex.Unlock.{Unlock}
 use Rattle.evl_words.specs.declared.mutex.Unlock.TheVariants.{Claimed, Done}
-use Rattle.evl_machine.specs.AtSeats.{AtSeat}
+use Rattle.evl_core.specs.AtSeats.{AtSeat}
 use Rattle.evl_machine.specs.Handles.{CallerState}
-use Rattle.evl_machine.specs.Homes.{mutex_home}
+use Rattle.evl_core.specs.Homes.{mutex_home}
 use Rattle.evl_machine.specs.MutexLocks.{HandsOn, MutexCall, UnlocksAtWord}
-use Rattle.evl_machine.specs.MutexTokens.{AreTheSame}
-use Rattle.evl_machine.specs.MutexSeats.{HasOnce, UnlocksMutex, UnlocksSo, is_owner, pass_refusal, unlock_refusal}
-use Rattle.evl_machine.proofs.LockingCalls.{set_there}
-use Rattle.evl_machine.proofs.SeatLists.{same-at}
+use Rattle.evl_core.specs.MutexTokens.{AreTheSame}
+use Rattle.evl_core.specs.MutexSeats.{HasOnce, UnlocksMutex, UnlocksSo, is_owner, pass_refusal, unlock_refusal}
+use Rattle.evl_core.proofs.SeatLists.{set_there}
+use Rattle.evl_core.proofs.SeatLists.{same-at}
 
 abbrev was_claimed : MutexPass → Result Unlock (Refusal × MutexPass)
 was_claimed back = Ok (Claimed back)

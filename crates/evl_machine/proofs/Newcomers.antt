@@ -26,21 +26,20 @@ use Rattle.evl_words.specs.Hands.{place}
 use Rattle.evl_words.specs.MutexWorld.{MutexView, owns}
 use Rattle.evl_words.specs.MutexWorld.{newcomer as at_mutex}
 use Rattle.evl_words.specs.Parts.{part_in}
-use Rattle.evl_machine.specs.Accounts.{calls_by, newcomer, threads_of}
+use Rattle.evl_core.specs.Accounts.{calls_by, newcomer, threads_of}
 use Rattle.evl_base.specs.declared.mutex_kind.MutexKind.{MutexKind}
 use Rattle.evl_machine.specs.Callers.{caller_by}
-use Rattle.evl_machine.specs.Known.{CoreHand, first_of, mutex_count, seen}
-use Rattle.evl_machine.specs.Makings.{new_place, new_places}
-use Rattle.evl_machine.specs.MutexPlaces.{AreCountedPlaces, place_passes}
-use Rattle.evl_machine.specs.MutexTokens.{AreItsPlaces, IsAtTable, seat_at, seats_at}
-use Rattle.evl_machine.specs.ThreadRule.{newcomer_view}
-use Rattle.evl_machine.specs.declared.views.ThreadView.{ThreadView}
-use Rattle.evl_machine.specs.Homes.{AreHomes, Home, gate_home, mutex_home, stax_home, word_home, word_homes}
+use Rattle.evl_core.specs.Known.{CoreHand, first_of, mutex_count, seen}
+use Rattle.evl_core.specs.MutexPlaces.{new_place, new_places}
+use Rattle.evl_core.specs.MutexTokens.{AreItsPlaces, IsAtTable, seat_at, seats_at}
+use Rattle.evl_core.specs.ThreadRule.{newcomer_view}
+use Rattle.evl_core.specs.declared.views.ThreadView.{ThreadView}
+use Rattle.evl_core.specs.Homes.{AreHomes, Home, gate_home, mutex_home, stax_home, word_home, word_homes}
 use Rattle.evl_machine.specs.StaxSeats.{AreGatesOf, holds_stax}
 use Rattle.evl_machine.specs.Actors.{ActorState, SeatedActor, Suits, acting}
 use Rattle.evl_machine.specs.Unfinished.{unfinished}
-use Rattle.evl_machine.proofs.DealLaws.{fresh-counted}
-use Rattle.evl_machine.specs.Handles.{CallerState, MachineState, account_of, caller_of, new_mutex, new_stax, newcomer_of, newcomers_of}
+use Rattle.evl_machine.specs.Handles.{CallerState, MachineState, caller_of, new_mutex, new_stax, newcomer_of, newcomers_of}
+use Rattle.evl_core.specs.Seats.{account_of}
 
 -- the seats of the thread k at these gates
 abbrev pub staxes_of : List GateState → ℕ → List SeatState
@@ -116,15 +115,6 @@ made_there f m i x there = by (slice_get (range_with_len 0 m) i) refl (sym (slic
     by : (o : Option ℕ) → slice_get (range_with_len 0 m) i ≡ o → option_map f o ≡ Some x → (f i ≡ x) × (i < m)
     by None is told = absurd (none-some x told)
     by (Some j) is told = let at = in_order 0 m i j is in let same : j ≡ i = omega (arith, at.0) in (ap f (sym same) ∙ same_Some (f j) x told, at.1)
-
--- places at which nothing is held
-pub new_counted : (m k : ℕ) → m ≤ 32 → AreCountedPlaces (new_places m k) 0
-new_counted m k few =
-    let long : length (range_with_len 0 m) ≡ m = length-range_with_len 0 m in
-    fresh-counted (λ i n. new_place n i) (λ i. i) (λ (p : MutexPlace). p.mutex.0) place_passes (λ m n. refl) (λ m n. refl) k (range_with_len 0 m) (omega (arith, few, long)) (map-id (range_with_len 0 m) ∙ ap (range_with_len 0) (sym long))
-
-pub one_place_more : (m k : ℕ) → new_places m k ++ new_place k m ∷ [] ≡ new_places (m + 1) k
-one_place_more m k = sym (map-range_with_len_more (new_place k) 0 m m (zero-add m))
 
 blank_part : (m n i : ℕ) → (part_in (at_mutex 0) i (replicate m (at_mutex n))).held.role ≡ Bystander
 blank_part zero n i = refl

@@ -23,23 +23,24 @@ use Rattle.evl_words.specs.MutexWorld.{MutexView, owns}
 use Rattle.evl_words.specs.declared.mutex.MutexPass.{MutexPass}
 use Rattle.evl_words.specs.declared.mutex.place.MutexPlace.{MutexPlace}
 use Rattle.evl_machine.specs.declared.unfinished.Unfinished.{Unfinished}
-use Rattle.evl_machine.specs.declared.views.Account.{Account}
-use Rattle.evl_machine.specs.Accounts.{IsAccount, saw, threads_of}
+use Rattle.evl_core.specs.declared.views.Account.{Account}
+use Rattle.evl_core.specs.Accounts.{IsAccount, saw, threads_of}
 use Rattle.evl_machine.specs.Actors.{ActorState, SeatedActor, Suits, acting}
 use Rattle.evl_machine.specs.Callers.{IsResting, caller_by, machine_by}
 use Rattle.evl_machine.specs.Calls.{AreOwnedAsRecorded, stage_of_caller, wait_of_caller}
-use Rattle.evl_machine.specs.Ceilings.{has_ceiling}
-use Rattle.evl_machine.specs.Handles.{CallerState, account_of}
-use Rattle.evl_machine.specs.Homes.{mutex_home, word_home, word_homes}
+use Rattle.evl_core.specs.Ceilings.{has_ceiling}
+use Rattle.evl_machine.specs.Handles.{CallerState}
+use Rattle.evl_core.specs.Seats.{account_of}
+use Rattle.evl_core.specs.Homes.{mutex_home, word_home, word_homes}
 use Rattle.evl_machine.specs.InHand.{HasOpened}
 use Rattle.evl_machine.specs.JustTaken.{HasJustTaken}
-use Rattle.evl_machine.specs.Known.{ComesFrom, CoreHand, first_of, mutex_count, seen}
+use Rattle.evl_core.specs.Known.{ComesFrom, CoreHand, first_of, mutex_count, seen}
 use Rattle.evl_machine.specs.Locking.{HaveSeats}
 use Rattle.evl_machine.specs.MutexLocks.{kind_of, lock_refusal, own_lock_refusal, spend_refusal}
-use Rattle.evl_machine.specs.MutexPlaces.{depth_in, place_passes}
-use Rattle.evl_machine.specs.MutexSeats.{depth_at, is_owner, is_recursive, mutex_passes, mutex_refusal, owner_refusal}
-use Rattle.evl_machine.specs.MutexTokens.{part_of, seat_at}
-use Rattle.evl_machine.specs.Noted.{HasTaken}
+use Rattle.evl_core.specs.MutexPlaces.{depth_in, place_passes}
+use Rattle.evl_core.specs.MutexSeats.{depth_at, is_owner, is_recursive, mutex_passes, mutex_refusal, owner_refusal}
+use Rattle.evl_core.specs.MutexTokens.{part_of, seat_at}
+use Rattle.evl_core.specs.Noted.{HasTaken}
 use Rattle.evl_machine.specs.Visits.{actor_of}
 use Rattle.evl_machine.proofs.SeatsAt.{depth_there, long_as}
 use Rattle.evl_machine.proofs.Visits.{have_seats, same_actor, suits_opened}

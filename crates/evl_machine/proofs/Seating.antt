@@ -13,16 +13,16 @@ use Rattle.evl_kernel.proofs.state.OpeningLaws.{threads_few}
 use Rattle.evl_words.specs.Hands.{place, hand_from, rest_of, first_of as first_place}
 use Rattle.evl_words.specs.MutexWorld.{MutexView}
 use Rattle.evl_words.proofs.Dealing.{hand_step}
-use Rattle.evl_machine.specs.declared.views.ThreadView.{ThreadView}
-use Rattle.evl_machine.specs.Accounts.{newcomer, calls_by, threads_of}
-use Rattle.evl_machine.specs.ThreadRule.{newcomer_view}
-use Rattle.evl_machine.specs.Seats.{CoreMe}
-use Rattle.evl_machine.specs.Known.{ComesFrom, CoreHand, KernelMe, KeptKnown, first_known, first_of, past_of, room_of, seen, ceilings_of, mutex_count}
-use Rattle.evl_machine.specs.Ties.{mutex_tie}
-use Rattle.evl_machine.specs.Handles.{resting}
-use Rattle.evl_machine.specs.Calls.{IsCaller}
-use Rattle.evl_machine.proofs.ThreadSteps.{opens_thread, splits_thread}
-use Rattle.evl_machine.proofs.TieOpens.{opens_ties}
+use Rattle.evl_core.specs.declared.views.ThreadView.{ThreadView}
+use Rattle.evl_core.specs.Accounts.{newcomer, calls_by, threads_of}
+use Rattle.evl_core.specs.ThreadRule.{newcomer_view}
+use Rattle.evl_core.specs.Seats.{CoreMe}
+use Rattle.evl_core.specs.Known.{ComesFrom, CoreHand, KernelMe, KeptKnown, first_known, first_of, past_of, room_of, seen, ceilings_of, mutex_count}
+use Rattle.evl_core.specs.Ties.{mutex_tie}
+use Rattle.evl_core.specs.Seats.{resting}
+use Rattle.evl_core.specs.Seats.{IsCaller}
+use Rattle.evl_core.proofs.ThreadSteps.{opens_thread, splits_thread}
+use Rattle.evl_core.proofs.TieOpens.{opens_ties}
 use Rattle.evl_machine.proofs.Calling.{is_caller}
 
 module _ {C : Type 0} where

@@ -12,10 +12,10 @@ use Rattle.evl_words.specs.declared.mutex.place.MutexPlace.{MutexPlace}
 use Rattle.evl_words.specs.MutexCalls.{IsPassOf, MutexSeatState}
 use Rattle.evl_words.specs.MutexPlaces.{IsOfPlace}
 use Rattle.evl_machine.specs.Actors.{IsActor, SeatedActor, acting}
-use Rattle.evl_machine.specs.Known.{CoreHand, KernelMe, first_of}
-use Rattle.evl_machine.specs.MutexPlaces.{depth_in, holds_place, place_passes, spend_refusal_in}
-use Rattle.evl_machine.specs.MutexSeats.{HasOnce, HasSeat, HasWon, depth_at, holds_mutex, mutex_passes, pass_refusal, unlock_refusal}
-use Rattle.evl_machine.specs.MutexTokens.{HasKernel, HasKernelFor, IsAtTable, KeepsPlaces, TellsTheSame, part_of, seat_at, seats_at}
+use Rattle.evl_core.specs.Known.{CoreHand, KernelMe, first_of}
+use Rattle.evl_core.specs.MutexPlaces.{depth_in, holds_place, place_passes, spend_refusal_in}
+use Rattle.evl_core.specs.MutexSeats.{HasOnce, HasSeat, HasWon, depth_at, holds_mutex, mutex_passes, pass_refusal, unlock_refusal}
+use Rattle.evl_core.specs.MutexTokens.{HasKernel, HasKernelFor, IsAtTable, KeepsPlaces, TellsTheSame, part_of, seat_at, seats_at}
 
 -- what is said of what a map gives at a place
 some_of_map : {S B : Type 0} (f : S → B) (P : B → Type 0) (xs : List S) (i : ℕ) → IsSomeAnd (slice_get (map f xs) i) P → IsSomeAnd (slice_get xs i) (λ x. P (f x))
@@ -82,7 +82,7 @@ module _ {C : Type 0} where
   at_table a id first same from is = record {
     same = same;
     words = subst (λ (t : TableId). t.words ≡ 1 + length a.places) same is.words;
-    all = is.all ∙ ap Rattle.evl_machine.specs.Known.mutex_count from;
+    all = is.all ∙ ap Rattle.evl_core.specs.Known.mutex_count from;
     its = is.its;
   }
 
@@ -91,7 +91,7 @@ module _ {C : Type 0} where
   at_own_table a id first at me ps same from is = record {
     same = refl;
     words = subst (λ (t : TableId). t.words ≡ 1 + length ps) (sym is.same) is.words;
-    all = is.all ∙ ap Rattle.evl_machine.specs.Known.mutex_count (sym from);
+    all = is.all ∙ ap Rattle.evl_core.specs.Known.mutex_count (sym from);
     its = is.its;
   }
 
@@ -100,7 +100,7 @@ module _ {C : Type 0} where
   still_at_table table first first' at hand hand' ps same from kept is = record {
     same = refl;
     words = subst (λ (t : TableId). t.words ≡ 1 + length ps) (sym same) is.words;
-    all = is.all ∙ ap Rattle.evl_machine.specs.Known.mutex_count (sym from);
+    all = is.all ∙ ap Rattle.evl_core.specs.Known.mutex_count (sym from);
     its = kept.its ps is.its;
   }
 
@@ -120,6 +120,3 @@ module _ {C : Type 0} (x a : SeatedActor C) (is : x ≡ a) (id : TableId) (first
   -- what a step, or two, tell of the core
   pub core_of_step : (table : TableId) (me : KernelMe C) (ps : List MutexPlace) → (a.table ≡ id) × (first_of a.me.0 ≡ first) → TellsTheSame x.me me → IsAtTable id first table me.0 ps → TellsTheSame a.me me × (table ≡ a.table)
   core_of_step table me ps at core is_at = (subst (λ (z : SeatedActor C). TellsTheSame z.me me) is core, is_at.same ∙ sym at.0)
-
-pub core_twice : {C : Type 0} {one two three : KernelMe C} → TellsTheSame one two → TellsTheSame two three → TellsTheSame one three
-core_twice first then = record { core = then.core ∙ first.core; first = then.first ∙ first.first }

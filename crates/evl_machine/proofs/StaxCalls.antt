@@ -8,9 +8,9 @@ use Rattle.evl_words.specs.declared.gate.StaxPass.{StaxPass}
 use Rattle.evl_words.specs.declared.gate.GateHold.{GateHold}
 use Rattle.evl_words.specs.GateCalls.{SeatState, FailsToEnter}
 use Rattle.evl_machine.specs.Actors.{AreHeldAt, IsActor, SeatedActor}
-use Rattle.evl_machine.specs.AtSeats.{AtSeat}
+use Rattle.evl_core.specs.AtSeats.{AtSeat}
 use Rattle.evl_machine.specs.StaxSeats.{Clears, Enters, Leaves, LeavesSo, LeavesStax, TriesStax, leave_refusal, stax_refusal}
-use Rattle.evl_machine.proofs.SeatLists.{each-set}
+use Rattle.evl_core.proofs.SeatLists.{each-set}
 
 -- where the seat holds its stax afterwards, it does so at this stage, or did before
 abbrev StaysAt : Stage → SeatState → SeatState → Type 0

@@ -13,11 +13,11 @@ use Rattle.evl_words.specs.declared.gate.StaxPass.{StaxPass}
 use Rattle.evl_words.specs.declared.gate.GateCall.TheVariants.{Enter}
 use Rattle.evl_words.specs.declared.gate.GateReply.TheVariants.{Entered}
 use Rattle.evl_words.specs.GateCalls.{AgreeAtGate, GateState, SeatState, new_seat, IsSeatOf, IsSameSeat, IsPassOf, Tries, Calls, FailsToEnter}
-use Rattle.evl_machine.specs.Homes.{Home, gate_home, stax_home}
-use Rattle.evl_machine.specs.AtSeats.{AtSeat}
+use Rattle.evl_core.specs.Homes.{Home, gate_home, stax_home}
+use Rattle.evl_core.specs.AtSeats.{AtSeat}
 use Rattle.evl_machine.specs.StaxSeats.{is_held, stax_passes, AreFresh, AreGatesOf, Leaves, Enters, TriesStax, LeavesSo, LeavesBy, LeavesStax, pass_refusal}
-use Rattle.evl_machine.proofs.DealLaws.{fresh-counted, range-more}
-use Rattle.evl_machine.proofs.SeatLists.{set-same, same-place, same-length}
+use Rattle.evl_core.proofs.DealLaws.{fresh-counted, range-more}
+use Rattle.evl_core.proofs.SeatLists.{set-same, same-place, same-length}
 
 -- the seat that stands at a place, which is the gate's there
 pub found : (xs old : List SeatState) (gs now : List GateState) (i : ℕ) (seat : SeatState) (gate : GateState) → xs ≡ old → gs ≡ now → map stax_home old ≡ map gate_home now

@@ -5,13 +5,13 @@ use Rattle.evl_base.specs.declared.stage.Stage.{Stage}
 use Rattle.evl_words.specs.declared.gate.GateHold.{GateHold}
 use Rattle.evl_words.specs.GateCalls.{GateState, IsSeatOf, SeatState}
 use Rattle.evl_machine.specs.Actors.{AreHeldAt}
-use Rattle.evl_machine.specs.AtSeats.{AtSeat}
+use Rattle.evl_core.specs.AtSeats.{AtSeat}
 use Rattle.evl_machine.specs.Handles.{CallerState}
-use Rattle.evl_machine.specs.Homes.{gate_home, stax_home}
+use Rattle.evl_core.specs.Homes.{gate_home, stax_home}
 use Rattle.evl_machine.specs.StaxCalls.{StaxCall}
 use Rattle.evl_machine.specs.StaxSeats.{stax_passes}
 use Rattle.evl_machine.specs.StaxWaits.{Marks, Retries, RetriesOnce, Retry, is_again}
-use Rattle.evl_machine.proofs.SeatLists.{each-set, same-length}
+use Rattle.evl_core.proofs.SeatLists.{each-set, same-length}
 use Rattle.evl_machine.proofs.StaxLaws.{found}
 
 -- whether the mark was set, after tries that were refused so

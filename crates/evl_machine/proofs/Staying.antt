@@ -17,13 +17,13 @@ use Rattle.evl_kernel.specs.histories.Histories.{History, Run}
 use Rattle.evl_kernel.specs.state.KernelViews.{KernelView, entry_of, makes_entry}
 use Rattle.evl_kernel.proofs.histories.StageLaws.{stages_are, stages_stay}
 use Rattle.evl_machine.specs.declared.unfinished.Unfinished.{Unfinished}
-use Rattle.evl_machine.specs.declared.views.Account.{Account}
-use Rattle.evl_machine.specs.Accounts.{BeginsWith, Fits, IsAccount, calls_by}
+use Rattle.evl_core.specs.declared.views.Account.{Account}
+use Rattle.evl_core.specs.Accounts.{BeginsWith, Fits, IsAccount, calls_by}
 use Rattle.evl_machine.specs.Actors.{ActorState, AreHeldAt, AwaitsOneOf, ClaimsOneOf, IsActor, SeatedActor, Suits, acting, call_refusal, stage_in}
 use Rattle.evl_machine.specs.StaxSeats.{holds_stax, is_held}
 use Rattle.evl_machine.specs.Unfinished.{unfinished, unfinished_from, wait_after, wait_step}
-use Rattle.evl_machine.specs.Calls.{Applied}
-use Rattle.evl_machine.proofs.Accounts.{calls_by-append, calls_by-own}
+use Rattle.evl_core.specs.KernelCalls.{Applied}
+use Rattle.evl_core.proofs.Accounts.{calls_by-append, calls_by-own}
 
 -- calls of others leave a thread's stage
 run_of_others : (t : ℕ) (old : State) (es : List Entry) (plays : List Play) (new : State) → calls_by t es ≡ [] → Run old es plays new → stage_of new.sched t ≡ stage_of old.sched t

@@ -6,10 +6,11 @@ use Rattle.evl_base.specs.declared.refusal.Refusal.TheVariants.{CoreBusy}
 use Rattle.evl_machine.specs.Actors.{ActorState, SeatedActor, acting, call_refusal}
 use Rattle.evl_machine.specs.Callers.{IsResting, caller_by, machine_by}
 use Rattle.evl_machine.specs.Calls.{IsTurnedAway, KernelCall, own_refusal}
-use Rattle.evl_machine.specs.Events.{FailsToTake}
-use Rattle.evl_machine.specs.Handles.{CallerState, account_of}
-use Rattle.evl_machine.specs.Known.{seen}
-use Rattle.evl_machine.specs.MutexSeats.{holds_mutex}
+use Rattle.evl_core.specs.Events.{FailsToTake}
+use Rattle.evl_machine.specs.Handles.{CallerState}
+use Rattle.evl_core.specs.Seats.{account_of}
+use Rattle.evl_core.specs.Known.{seen}
+use Rattle.evl_core.specs.MutexSeats.{holds_mutex}
 use Rattle.evl_machine.specs.StaxSeats.{holds_stax}
 use Rattle.evl_machine.specs.Unfinished.{unfinished}
 use Rattle.evl_machine.specs.Visits.{actor_of}

@@ -14,31 +14,34 @@ use Rattle.evl_kernel.specs.histories.Histories.{History, IsLegal}
 use Rattle.evl_kernel.specs.state.KernelViews.{KernelView}
 use Rattle.evl_words.specs.MutexCalls.{MutexSeatState}
 use Rattle.evl_words.specs.declared.mutex.place.MutexPlace.{MutexPlace}
-use Rattle.evl_machine.specs.declared.views.Account.{Account}
-use Rattle.evl_machine.specs.Accounts.{Fits, IsAccount, MadeBy, calls_by, up_to_date, lost_one, saw}
+use Rattle.evl_core.specs.declared.views.Account.{Account}
+use Rattle.evl_core.specs.Accounts.{Fits, IsAccount, MadeBy, calls_by, up_to_date, lost_one, saw}
 use Rattle.evl_machine.specs.Actors.{ActorState, AreHeldAt, AwaitsOneOf, IsActor, IsSameActor, SeatedActor, Suits, acting, call_refusal, stage_in}
 use Rattle.evl_machine.specs.Callers.{HasInHand, IsResting, caller_by, machine_by}
-use Rattle.evl_machine.specs.Calls.{Applied, AreOwnedAsRecorded, IsCaller, IsHeld, TookKernel}
-use Rattle.evl_machine.specs.Events.{FailsToTake, Gives, Takes}
-use Rattle.evl_machine.specs.Handles.{CallerState, Continues, HeldState, MachineState, account_of, caller_of, machine_of, returned, resting, shown, turned_away}
-use Rattle.evl_machine.specs.Homes.{Home, mutex_home, stax_home, word_home, word_homes}
-use Rattle.evl_machine.specs.Known.{ComesFrom, KernelMe, first_of, mutex_count, seen}
+use Rattle.evl_machine.specs.Calls.{AreOwnedAsRecorded, TookKernel}
+use Rattle.evl_core.specs.KernelCalls.{Applied}
+use Rattle.evl_core.specs.Seats.{IsCaller, IsHeld}
+use Rattle.evl_core.specs.Events.{FailsToTake, Gives, Takes}
+use Rattle.evl_machine.specs.Handles.{CallerState, HeldState, MachineState, caller_of, machine_of, returned, shown, turned_away}
+use Rattle.evl_core.specs.Seats.{Continues, account_of, resting}
+use Rattle.evl_core.specs.Homes.{Home, mutex_home, stax_home, word_home, word_homes}
+use Rattle.evl_core.specs.Known.{ComesFrom, KernelMe, first_of, mutex_count, seen}
 use Rattle.evl_machine.specs.Locking.{GoesAlong, HaveSeats}
 use Rattle.evl_machine.specs.InHand.{HasMissed, HasOpened, HasShut, IsSameAside, Opens}
-use Rattle.evl_machine.specs.MutexTokens.{IsAtTable, KeepsPlaces, TellsTheSame}
-use Rattle.evl_machine.specs.MutexSeats.{holds_mutex}
-use Rattle.evl_machine.specs.Noted.{HasTaken, IsSettled, ceilings_in}
-use Rattle.evl_machine.specs.Seats.{CoreMe}
+use Rattle.evl_core.specs.MutexTokens.{IsAtTable, KeepsPlaces, TellsTheSame}
+use Rattle.evl_core.specs.MutexSeats.{holds_mutex}
+use Rattle.evl_core.specs.Noted.{HasTaken, IsSettled, ceilings_in}
+use Rattle.evl_core.specs.Seats.{CoreMe}
 use Rattle.evl_machine.specs.StaxSeats.{holds_stax}
 use Rattle.evl_machine.specs.Unfinished.{unfinished}
 use Rattle.evl_machine.specs.Visits.{FindsTaken, Visited, actor_of}
-use Rattle.evl_machine.proofs.Accounts.{goes_on_more, made_by-append}
+use Rattle.evl_core.proofs.Accounts.{goes_on_more, made_by-append}
 use Rattle.evl_machine.proofs.Calling.{TakenOut, fits_one, given_account, gives_caller, held_applied, is_held, lost_caller, mine_after, takes_hold}
-use Rattle.evl_machine.proofs.Knowing.{comes_on}
+use Rattle.evl_core.proofs.Knowing.{comes_on}
 use Rattle.evl_machine.proofs.LockingTies.{other_call_stays, still_settled}
-use Rattle.evl_machine.proofs.QuietCore.{ends_quiet}
+use Rattle.evl_core.proofs.QuietCore.{ends_quiet}
 use Rattle.evl_machine.proofs.SeatsAt.{acting_kept, at_own_table, still_at_table}
-use Rattle.evl_machine.proofs.Settling.{settled_fresh, stay_same}
+use Rattle.evl_core.proofs.Settling.{settled_fresh, stay_same}
 use Rattle.evl_machine.proofs.Staying.{at_stage, fits_stage, suits_found}
 
 module _ {C : Type 0} where

@@ -13,18 +13,19 @@ use Rattle.evl_machine.specs.declared.unfinished.Unfinished.{Unfinished}
 use Rattle.evl_machine.specs.declared.unfinished.Unfinished.TheVariants.{Element}
 use Rattle.evl_machine.specs.declared.unfinished.WaitStep.{WaitStep}
 use Rattle.evl_machine.specs.declared.unfinished.WaitStep.TheVariants.{Begins}
-use Rattle.evl_machine.specs.declared.views.Account.{Account}
-use Rattle.evl_machine.specs.Accounts.{IsAccount, up_to_date}
+use Rattle.evl_core.specs.declared.views.Account.{Account}
+use Rattle.evl_core.specs.Accounts.{IsAccount, up_to_date}
 use Rattle.evl_machine.specs.Actors.{SeatedActor, call_refusal, keeps_stage, same_truth}
 use Rattle.evl_machine.specs.Calls.{Called, CalledAtLast, Enters, IsTurnedAway, KernelCall, own_refusal, wait_of_caller}
-use Rattle.evl_machine.specs.Handles.{CallerState, account_of}
+use Rattle.evl_machine.specs.Handles.{CallerState}
+use Rattle.evl_core.specs.Seats.{account_of}
 use Rattle.evl_machine.specs.InHand.{Opens}
-use Rattle.evl_machine.specs.Known.{KernelMe, first_of, seen}
-use Rattle.evl_machine.specs.MutexSeats.{holds_mutex}
+use Rattle.evl_core.specs.Known.{KernelMe, first_of, seen}
+use Rattle.evl_core.specs.MutexSeats.{holds_mutex}
 use Rattle.evl_machine.specs.StaxSeats.{holds_stax}
 use Rattle.evl_machine.specs.Unfinished.{unfinished, unfinished_from, wait_after, wait_step}
 use Rattle.evl_machine.specs.Waitings.{Look, Looked, Looks, LooksBy, WaitsOut, begins_wait, finish_of}
-use Rattle.evl_machine.specs.Events.{FailsToTake, Gives, LosesTakes, Takes}
+use Rattle.evl_core.specs.Events.{FailsToTake, Gives, LosesTakes, Takes}
 use Rattle.evl_machine.proofs.Calling.{took}
 use Rattle.evl_machine.proofs.Staying.{fits_stage}
 

@@ -16,19 +16,20 @@ use Rattle.evl_words.specs.declared.mutex.Unlock.TheVariants.{Done}
 use Rattle.evl_words.specs.declared.mutex.place.MutexPlace.{MutexPlace}
 use Rattle.evl_words.proofs.Sequences.{map-set}
 use Rattle.evl_machine.specs.Actors.{AwaitsOneOf, IsActor, SeatedActor, Suits, acting}
-use Rattle.evl_machine.specs.AtSeats.{AtSeat}
+use Rattle.evl_core.specs.AtSeats.{AtSeat}
 use Rattle.evl_machine.specs.Callers.{IsResting, caller_by}
-use Rattle.evl_machine.specs.Calls.{IsCaller}
-use Rattle.evl_machine.specs.Handles.{CallerState, account_of, caller_of}
-use Rattle.evl_machine.specs.Known.{CoreHand, KernelMe, seen}
+use Rattle.evl_core.specs.Seats.{IsCaller}
+use Rattle.evl_machine.specs.Handles.{CallerState, caller_of}
+use Rattle.evl_core.specs.Seats.{account_of}
+use Rattle.evl_core.specs.Known.{CoreHand, KernelMe, seen}
 use Rattle.evl_machine.specs.MutexLocks.{MutexCall}
-use Rattle.evl_machine.specs.MutexPlaces.{Deepens, HoldsBy, less, place_passes}
-use Rattle.evl_machine.specs.MutexSeats.{Gains, IsOfMutex, Tries, TriesMutex, UnlocksMutex, UnlocksSo, depth_at, is_recursive, mutex_refusal, owner_refusal, unlock_refusal}
-use Rattle.evl_machine.specs.MutexTokens.{AreTheSame, TellsTheSame, seat_at, seats_at}
-use Rattle.evl_machine.specs.Seats.{CoreMe}
+use Rattle.evl_core.specs.MutexPlaces.{Deepens, HoldsBy, less, place_passes}
+use Rattle.evl_core.specs.MutexSeats.{Gains, IsOfMutex, Tries, TriesMutex, UnlocksMutex, UnlocksSo, depth_at, is_recursive, mutex_refusal, owner_refusal, unlock_refusal}
+use Rattle.evl_core.specs.MutexTokens.{AreTheSame, TellsTheSame, seat_at, seats_at}
+use Rattle.evl_core.specs.Seats.{CoreMe}
 use Rattle.evl_words.specs.MutexWorld.{owns}
-use Rattle.evl_machine.specs.ThreadRule.{mutex_of}
-use Rattle.evl_machine.proofs.SeatLists.{each-set}
+use Rattle.evl_core.specs.ThreadRule.{mutex_of}
+use Rattle.evl_core.proofs.SeatLists.{each-set}
 use Rattle.evl_machine.proofs.SeatsAt.{depth_there, refusal_there, some_also}
 
 -- the actor of which this is known
@@ -57,7 +58,7 @@ module _ {C : Type 0} (x : SeatedActor C) (table : TableId) (me : KernelMe C) (p
   -- of its caller nothing but its seats at the mutexes changes
   pub caller_stepped : AreTheSame (acting x).mutexes (seats_at table me.0 places) → (old : CallerState C) → caller_by x ≡ old → (does : List MutexSeatState → List MutexSeatState → Type 0) → does (acting x).mutexes (seats_at table me.0 places) → MutexCall old does (caller_by stepped)
   caller_stepped seats old was does did = (
-    (λ i. caller_of (record { id = same i; first = core.first i; staxes = map Rattle.evl_machine.specs.Homes.stax_home x.staxes; mutexes = seats.homes i }) (account_of (core.core i)) x.staxes (seats_at table me.0 places)) ∙ ap (λ (s : CallerState C). record s { mutexes = seats_at table me.0 places }) was,
+    (λ i. caller_of (record { id = same i; first = core.first i; staxes = map Rattle.evl_core.specs.Homes.stax_home x.staxes; mutexes = seats.homes i }) (account_of (core.core i)) x.staxes (seats_at table me.0 places)) ∙ ap (λ (s : CallerState C). record s { mutexes = seats_at table me.0 places }) was,
     subst (λ (s : CallerState C). does s.mutexes (seats_at table me.0 places)) was did,
   )
 
@@ -82,8 +83,8 @@ deepened_seat table hand i f ps ps' at = record {
 pub same_at_depth : {C : Type 0} (table : TableId) (hand : CoreHand C) (i : ℕ) (f : ℕ → ℕ) (ps ps' : List MutexPlace) → Deepens i f ps ps' → AreTheSame (seats_at table hand ps) (seats_at table hand ps')
 same_at_depth table hand i f ps ps' at =
     let one = deepened_seat table hand i f ps ps' at in record {
-      homes = ap (map Rattle.evl_machine.specs.Homes.mutex_home) one.changed ∙ Rattle.evl_machine.proofs.SeatLists.map-kept Rattle.evl_machine.specs.Homes.mutex_home (seats_at table hand ps) i one.was one.is one.there (ap Rattle.evl_machine.specs.Homes.mutex_home one.does);
-      numbers = ap (map (λ (s : MutexSeatState). s.number)) one.changed ∙ Rattle.evl_machine.proofs.SeatLists.map-kept (λ (s : MutexSeatState). s.number) (seats_at table hand ps) i one.was one.is one.there (ap (λ (s : MutexSeatState). s.number) one.does);
+      homes = ap (map Rattle.evl_core.specs.Homes.mutex_home) one.changed ∙ Rattle.evl_core.proofs.SeatLists.map-kept Rattle.evl_core.specs.Homes.mutex_home (seats_at table hand ps) i one.was one.is one.there (ap Rattle.evl_core.specs.Homes.mutex_home one.does);
+      numbers = ap (map (λ (s : MutexSeatState). s.number)) one.changed ∙ Rattle.evl_core.proofs.SeatLists.map-kept (λ (s : MutexSeatState). s.number) (seats_at table hand ps) i one.was one.is one.there (ap (λ (s : MutexSeatState). s.number) one.does);
     }
 
 -- a mutex that is had once more
@@ -93,7 +94,7 @@ unfolding deepened_seat
 nests_so table hand i ps ps' pass held placed mine at =
     let one = deepened_seat table hand i (λ d. d + 1) ps ps' at in
     let own : IsOfPlace pass at.was = subst (λ (o : Option MutexPlace). IsSomeAnd o (λ p. IsOfPlace pass p)) at.there mine in
-    let depth : depth_at (seats_at table hand ps) i ≡ at.was.depth = ap (λ (o : Option MutexSeatState). option_map_or Rattle.evl_machine.specs.MutexSeats.mutex_passes o 0) one.there in
+    let depth : depth_at (seats_at table hand ps) i ≡ at.was.depth = ap (λ (o : Option MutexSeatState). option_map_or Rattle.evl_core.specs.MutexSeats.mutex_passes o 0) one.there in
     let some : (at.was.depth == 0) ≡ false = ne_eqb at.was.depth 0 (λ e. held (depth ∙ e)) in (
       ap (λ m. m.0) own.0 ∙ placed i at.was at.there,
       record {
@@ -126,7 +127,7 @@ pub spends_so : {C : Type 0} (table : TableId) (hand : CoreHand C) (ps ps' : Lis
 unfolding deepened_seat
 spends_so table hand ps ps' pass more at =
     let one = deepened_seat table hand pass.mutex.0 less ps ps' at in
-    let depth : depth_at (seats_at table hand ps) pass.mutex.0 ≡ at.was.depth = ap (λ (o : Option MutexSeatState). option_map_or Rattle.evl_machine.specs.MutexSeats.mutex_passes o 0) one.there in
+    let depth : depth_at (seats_at table hand ps) pass.mutex.0 ≡ at.was.depth = ap (λ (o : Option MutexSeatState). option_map_or Rattle.evl_core.specs.MutexSeats.mutex_passes o 0) one.there in
     let other : (at.was.depth == 1) ≡ false = ne_eqb at.was.depth 1 (λ e. more (depth ∙ e)) in
     record {
       was = one.was;

@@ -14,9 +14,9 @@ use Rattle.evl_words.specs.declared.mutex.place.MutexPlace.{MutexPlace}
 use Rattle.atomic_table.specs.Seated.{TableId}
 use Rattle.evl_machine.specs.declared.unfinished.Unfinished.{Unfinished}
 use Rattle.evl_machine.specs.declared.unfinished.Unfinished.TheVariants.{Mutex}
-use Rattle.evl_machine.specs.Accounts.{calls_by}
-use Rattle.evl_machine.specs.Known.{KernelMe, first_of}
-use Rattle.evl_machine.specs.MutexTokens.{IsAtTable, seats_at}
+use Rattle.evl_core.specs.Accounts.{calls_by}
+use Rattle.evl_core.specs.Known.{KernelMe, first_of}
+use Rattle.evl_core.specs.MutexTokens.{IsAtTable, seats_at}
 use Rattle.evl_machine.specs.Unfinished.{unfinished}
 
 -- the stage of a thread at the end of a history

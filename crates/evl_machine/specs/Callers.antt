@@ -3,10 +3,11 @@ use Rattle.std.specs.Prelude.{◌≡◌, true}
 use Rattle.evl_base.specs.Board.{board_fits}
 use Rattle.evl_kernel.specs.state.KernelViews.{KernelView}
 use Rattle.evl_machine.specs.Actors.{SeatedActor, Suits, acting}
-use Rattle.evl_machine.specs.Calls.{IsCaller, IsHeld}
-use Rattle.evl_machine.specs.Handles.{CallerState, MachineState, account_of, caller_of, machine_of}
-use Rattle.evl_machine.specs.Known.{ComesFrom, first_of, seen}
-use Rattle.evl_machine.specs.Noted.{IsSettled}
+use Rattle.evl_core.specs.Seats.{IsCaller, IsHeld}
+use Rattle.evl_machine.specs.Handles.{CallerState, MachineState, caller_of, machine_of}
+use Rattle.evl_core.specs.Seats.{account_of}
+use Rattle.evl_core.specs.Known.{ComesFrom, first_of, seen}
+use Rattle.evl_core.specs.Noted.{IsSettled}
 
 module _ {C : Type 0} where
   -- the machine to which its seats belong

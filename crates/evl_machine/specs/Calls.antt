@@ -1,47 +1,28 @@
 -- What one call of the kernel tells its caller.
-use Rattle.std.specs.Prelude.{◌≡◌, ◌≢◌, ◌+◌, ◌≤◌, ℕ, List, [], ◌∷◌, ◌++◌, Bool, true, false, length, Result, Ok, Err, Option, Some, MatchOption, slice_get}
-use Rattle.evl_base.specs.declared.numbers.ThreadId.{ThreadId}
+use Rattle.std.specs.Prelude.{◌≡◌, ◌≢◌, ◌+◌, ℕ, List, [], ◌∷◌, ◌++◌, Bool, true, false, length, Result, Ok, Err, Option, Some, MatchOption, slice_get}
 use Rattle.evl_base.specs.declared.call.Call.{Call}
 use Rattle.evl_base.specs.declared.reply.Reply.{Reply}
 use Rattle.evl_base.specs.declared.refusal.Refusal.{Refusal}
 use Rattle.evl_base.specs.declared.refusal.Refusal.TheVariants.{NoMemory, CoreBusy, HistoryFull}
 use Rattle.evl_base.specs.declared.play.Play.{Play}
-use Rattle.evl_kernel.specs.histories.Histories.{History, IsLegal}
+use Rattle.evl_kernel.specs.histories.Histories.{History}
 use Rattle.evl_kernel.specs.calls.MutexEffects.{record_at}
 use Rattle.evl_mutex.specs.Mutexes.{Mutex, is_open_to}
 use Rattle.evl_words.specs.MutexCalls.{MutexSeatState}
-use Rattle.evl_kernel.specs.state.KernelViews.{KernelView, IsKernelAnswer, Adds, entry_of, makes_entry, refusal_enters}
-use Rattle.evl_machine.specs.declared.views.Account.{Account}
-use Rattle.evl_machine.specs.Accounts.{BeginsWith, IsAccount, lost_one}
-use Rattle.evl_machine.specs.Events.{FailsToTake, Gives, LosesTakes, Takes}
-use Rattle.evl_machine.specs.Seats.{CoreMe}
-use Rattle.evl_machine.specs.QuietCore.{IsQuiet}
-use Rattle.evl_machine.specs.Known.{ComesFrom}
+use Rattle.evl_kernel.specs.state.KernelViews.{KernelView, Adds, entry_of, refusal_enters}
+use Rattle.evl_core.specs.declared.views.Account.{Account}
+use Rattle.evl_core.specs.Accounts.{BeginsWith, IsAccount, lost_one}
+use Rattle.evl_core.specs.Events.{FailsToTake, Gives, LosesTakes, Takes}
+use Rattle.evl_core.specs.QuietCore.{IsQuiet}
+use Rattle.evl_core.specs.Known.{ComesFrom}
 use Rattle.evl_base.specs.declared.stage.Stage.{Stage}
 use Rattle.evl_machine.specs.declared.unfinished.Unfinished.{Unfinished}
 use Rattle.evl_machine.specs.Unfinished.{unfinished}
 use Rattle.evl_machine.specs.Actors.{AreHeldAt, call_refusal, stage_in}
 use Rattle.evl_machine.specs.StaxSeats.{holds_stax}
-use Rattle.evl_machine.specs.MutexSeats.{holds_mutex, is_owner}
-use Rattle.evl_machine.specs.Handles.{CallerState, HeldState, Continues, account_of, returned, resting, holding, shown}
-
--- a call of the kernel adds just its entry, or leaves the history: it is full, or no room was made for the call
-pub record Applied {C : Type 0} (old : KernelView C) (thread : ℕ) (c : Call) (r : Result Reply Refusal) (new : KernelView C) : Type 0 where
-  pub entered : makes_entry r ≡ true → (plays : List Play) × Adds old.history thread c r plays new.history
-  pub refused : makes_entry r ≡ false → new.history ≡ old.history
-  pub full : r ≡ Err HistoryFull → length old.history.entries ≡ old.limit
-  pub filled : length old.history.entries ≡ old.limit → r ≡ Err HistoryFull
-  pub memory : r ≡ Err NoMemory → old.room ≡ 0
-  pub room : old.room ≤ new.room + 1
-  pub answers : IsKernelAnswer r
-  pub comes : ComesFrom old new
-  pub legal : IsLegal new.history
-
--- a caller's seat is at rest, with the account of its own thread
-pub record IsCaller {S : Type 0} (me : CoreMe S) (thread : ThreadId) : Type 0 where
-  pub rests : me ≡ resting (account_of me)
-  pub own : (account_of me).thread ≡ thread.0
-  pub account : IsAccount (account_of me)
+use Rattle.evl_core.specs.MutexSeats.{holds_mutex, is_owner}
+use Rattle.evl_machine.specs.Handles.{CallerState, HeldState, returned, shown}
+use Rattle.evl_core.specs.KernelCalls.{Applied}
 
 -- the answers that have an entry: all but NoMemory, HistoryFull and CoreBusy
 abbrev pub refusal_completes : Refusal → Bool
@@ -83,12 +64,6 @@ pub record ActsOnCore {C : Type 0} (first : KernelView C) (a : Account) (r : Res
 abbrev pub answer_of : Result (Result Reply Refusal) Call → Result Reply Refusal
 answer_of (Ok answer) = answer
 answer_of (Err back) = Err CoreBusy
-
--- a seat has the kernel, which goes on from the history that it took by calls of the seat's one caller
-pub record IsHeld {S : Type 0} {C : Type 0} (me : CoreMe S) (thread : ThreadId) (k : KernelView C) : Type 0 where
-  pub holds : me ≡ holding (account_of me)
-  pub own : (account_of me).thread ≡ thread.0
-  pub continues : Continues (account_of me) k.history
 
 -- of each mutex that these seats of a thread hold, a history's end records no other owner
 abbrev pub AreOwnedAsRecorded : ℕ → List MutexSeatState → History → Type 0

@@ -3,14 +3,14 @@ use Rattle.std.specs.Prelude.{◌≡◌}
 use Rattle.atomic_table.specs.Seated.{TableId}
 use Rattle.evl_base.specs.declared.numbers.ThreadId.{ThreadId}
 use Rattle.evl_kernel.specs.state.KernelViews.{KernelView}
-use Rattle.evl_machine.specs.declared.views.Account.{Account}
-use Rattle.evl_machine.specs.Accounts.{Fits, IsAccount, lost_one, saw, up_to_date}
+use Rattle.evl_core.specs.declared.views.Account.{Account}
+use Rattle.evl_core.specs.Accounts.{Fits, IsAccount, lost_one, saw, up_to_date}
 use Rattle.evl_machine.specs.Actors.{AreHeldAt, IsActor, SeatedActor, acting}
-use Rattle.evl_machine.specs.Calls.{IsCaller, IsHeld}
-use Rattle.evl_machine.specs.Events.{FailsToTake, Gives, Takes}
-use Rattle.evl_machine.specs.Handles.{account_of, resting}
-use Rattle.evl_machine.specs.Known.{ComesFrom, KernelMe, first_of, seen}
-use Rattle.evl_machine.specs.Noted.{HasTaken, IsSettled}
+use Rattle.evl_core.specs.Seats.{IsCaller, IsHeld}
+use Rattle.evl_core.specs.Events.{FailsToTake, Gives, Takes}
+use Rattle.evl_core.specs.Seats.{account_of, resting}
+use Rattle.evl_core.specs.Known.{ComesFrom, KernelMe, first_of, seen}
+use Rattle.evl_core.specs.Noted.{HasTaken, IsSettled}
 
 module _ {C : Type 0} where
   -- a seat has taken this kernel, whose history fits the account that the seat had

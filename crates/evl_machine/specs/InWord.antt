@@ -1,7 +1,6 @@
 -- What stands in a mutex's word, and what a look at it tells the caller that has the kernel.
 use Rattle.std.specs.Prelude.{◌≡◌, ℕ, ◌-◌, ◌/◌, ◌%◌, ◌==◌, Bool, true, false, Option, Some, None, if◌then◌else◌}
 use Rattle.std.specs.Option.{option_map}
-use Rattle.atomic_table.specs.Table.{Step}
 use Rattle.evl_base.specs.declared.numbers.ThreadId.{ThreadId}
 use Rattle.evl_mutex.specs.Queues.{is_nobody}
 use Rattle.evl_mutex.specs.Mutexes.{Mutex}
@@ -9,12 +8,11 @@ use Rattle.evl_words.specs.declared.mutex.Claim.{Claim}
 use Rattle.evl_words.specs.declared.mutex.Claim.TheVariants.{Won, Queued, Seizing}
 use Rattle.evl_words.specs.MutexBits.{number_in}
 use Rattle.evl_kernel.specs.state.States.{State}
-use Rattle.evl_kernel.specs.state.KernelViews.{KernelView}
 use Rattle.evl_kernel.specs.calls.MutexEffects.{record_at}
 use Rattle.evl_machine.specs.declared.in_word.InWord.{InWord}
-use Rattle.evl_machine.specs.Ties.{AreTied, is_claimed}
-use Rattle.evl_machine.specs.Known.{CoreHand, KernelMe}
-use Rattle.evl_machine.specs.Noted.{Stood}
+use Rattle.evl_core.specs.Ties.{AreTied, is_claimed}
+use Rattle.evl_core.specs.Known.{CoreHand}
+use Rattle.evl_core.specs.Noted.{Stood}
 
 -- who owns a mutex, by what a claim is answered
 abbrev pub owner_of : Claim → Option ThreadId
@@ -38,7 +36,3 @@ module _ {C : Type 0} where
   -- it is what the word of the mutex i said when this stood of it
   abbrev pub IsRead : CoreHand C → ℕ → InWord → Type 0
   IsRead hand i w = (word : ℕ) × (w ≡ in_word word) × Stood hand i word
-
-  -- a look leaves what the thread knows, and tells what stood of the mutex
-  abbrev pub looked_known : Step (Option (KernelView C)) → KernelMe C → ℕ → KernelMe C → Type 0
-  looked_known st m found n = (n ≡ m) × Stood m.0 (st.word - 1) found

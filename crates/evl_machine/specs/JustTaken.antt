@@ -3,10 +3,10 @@ use Rattle.std.specs.Prelude.{◌≡◌, ◌<◌, true}
 use Rattle.evl_base.specs.Board.{board_fits}
 use Rattle.evl_kernel.specs.histories.Histories.{IsLegal}
 use Rattle.evl_kernel.specs.state.KernelViews.{KernelView}
-use Rattle.evl_machine.specs.Accounts.{threads_of}
+use Rattle.evl_core.specs.Accounts.{threads_of}
 use Rattle.evl_machine.specs.Actors.{SeatedActor, Suits, acting}
-use Rattle.evl_machine.specs.Known.{ComesFrom, first_of}
-use Rattle.evl_machine.specs.Noted.{HasTaken}
+use Rattle.evl_core.specs.Known.{ComesFrom, first_of}
+use Rattle.evl_core.specs.Noted.{HasTaken}
 
 -- it has this kernel, of its machine, whose history is legal, and knows its thread's stage and wait there; its thread is on the board, which is within its limits
 pub record HasJustTaken {C : Type 0} (a : SeatedActor C) (k : KernelView C) : Type 0 where

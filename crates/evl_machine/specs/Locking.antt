@@ -1,5 +1,5 @@
 -- What a caller that has the kernel does with a mutex: steps of the mutex's word, and the calls of the kernel that go with them.
-use Rattle.std.specs.Prelude.{◌≡◌, ◌≢◌, ◌⊎◌, ◌+◌, ◌≤◌, ℕ, List, Bool, true, false, length, map, slice_get, Result, Ok, Err, Option, Some, None, IfOk, IfErr}
+use Rattle.std.specs.Prelude.{◌≡◌, ◌≢◌, ◌⊎◌, ◌+◌, ◌≤◌, ℕ, List, Bool, true, false, length, map, slice_get, Result, Ok, Err, Option, Some, None}
 use Rattle.evl_base.specs.declared.call.Call.{Call}
 use Rattle.evl_base.specs.declared.call.Call.TheVariants.{Claim as AsksToWait, Release, Raise, Finish}
 use Rattle.evl_base.specs.declared.entry.Entry.{Entry}
@@ -7,7 +7,7 @@ use Rattle.evl_base.specs.declared.mutex_kind.MutexKind.{MutexKind}
 use Rattle.evl_base.specs.declared.numbers.MutexId.{MutexId}
 use Rattle.evl_base.specs.declared.numbers.ThreadId.{ThreadId}
 use Rattle.evl_base.specs.declared.refusal.Refusal.{Refusal}
-use Rattle.evl_base.specs.declared.refusal.Refusal.TheVariants.{Again, HistoryFull, NoMemory}
+use Rattle.evl_base.specs.declared.refusal.Refusal.TheVariants.{Again}
 use Rattle.evl_base.specs.declared.reply.Reply.{Reply}
 use Rattle.evl_base.specs.declared.reply.Reply.TheVariants.{Begun as Began, Handed, TimedOut as DeadlineCame}
 use Rattle.evl_kernel.specs.histories.Histories.{IsLegal}
@@ -20,13 +20,14 @@ use Rattle.evl_machine.specs.declared.locking.Begun.{Begun}
 use Rattle.evl_machine.specs.declared.locking.Begun.TheVariants as begun
 use Rattle.evl_machine.specs.declared.locking.Ended.{Ended}
 use Rattle.evl_machine.specs.declared.locking.Ended.TheVariants as ended
-use Rattle.evl_machine.specs.Accounts.{GoesOn, MadeBy}
+use Rattle.evl_core.specs.Accounts.{GoesOn, MadeBy}
 use Rattle.evl_machine.specs.Actors.{ActorState, AreHeldAt, Suits, keeps_stage}
-use Rattle.evl_machine.specs.AtSeats.{AtSeat}
-use Rattle.evl_machine.specs.Homes.{mutex_home}
-use Rattle.evl_machine.specs.Known.{ComesFrom}
-use Rattle.evl_machine.specs.MutexSeats.{AcceptsSo, Claims, ForgetsSo, Frees, Offers, Settles, TriesMutex, holds_mutex}
+use Rattle.evl_core.specs.AtSeats.{AtSeat}
+use Rattle.evl_core.specs.Homes.{mutex_home}
+use Rattle.evl_core.specs.Known.{ComesFrom}
+use Rattle.evl_core.specs.MutexSeats.{AcceptsSo, Claims, ForgetsSo, Frees, Offers, Settles, TriesMutex, holds_mutex}
 use Rattle.evl_machine.specs.StaxSeats.{holds_stax}
+use Rattle.evl_core.specs.KernelCalls.{FindsNoRoom}
 
 -- each of these seats is one of so many
 abbrev pub HaveSeats : ℕ → List MutexSeatState → Type 0
@@ -38,12 +39,6 @@ GivesTo (Some next) more was is = Offers next.0 more was is
 GivesTo None more was is = Frees was is
 
 module _ {C : Type 0} where
-  -- why a call of the kernel makes no entry: the history is full, or it isn't, and no room was made
-  abbrev pub FindsNoRoom : KernelView C → Refusal → Type 0
-  FindsNoRoom k HistoryFull = length k.history.entries ≡ k.limit
-  FindsNoRoom k NoMemory = (k.room ≡ 0) × (length k.history.entries ≢ k.limit)
-  FindsNoRoom k refusal = ⊥
-
   -- the history has room for one more entry
   abbrev pub IsNotFull : KernelView C → Type 0
   IsNotFull k = length k.history.entries ≢ k.limit
@@ -54,19 +49,6 @@ module _ {C : Type 0} where
 
   abbrev pub EntersNone : KernelView C → KernelView C → Type 0
   EntersNone k k' = k'.history ≡ k.history
-
-  -- the kernel is as it was, with no less room
-  pub record IsRoomier (k k' : KernelView C) : Type 0 where
-    pub history : k'.history ≡ k.history
-    pub callbacks : k'.callbacks ≡ k.callbacks
-    pub limit : k'.limit ≡ k.limit
-    pub room : k.room ≤ k'.room
-
-  -- room for one call was made, and the history isn't full, or it was refused
-  pub record Reserves (k : KernelView C) (r : Result (Unit {0}) Refusal) (k' : KernelView C) : Type 0 where
-    pub same : IsRoomier k k'
-    pub made : IfOk r (λ _. (1 ≤ k'.room) × (length k.history.entries ≢ k.limit))
-    pub refused : IfErr r (FindsNoRoom k)
 
   -- The kernel goes on by calls of this thread alone, and the caller with it: it acts for the same thread, has the same seats at the staxes, and each seat at a mutex stays where it belongs
   pub record GoesAlong (a : ActorState) (k : KernelView C) (a' : ActorState) (k' : KernelView C) : Type 0 where

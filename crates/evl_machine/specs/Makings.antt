@@ -1,18 +1,11 @@
 -- The elements that a machine is made with.
-use Rattle.std.specs.Prelude.{◌≡◌, ℕ, List, length, map}
+use Rattle.std.specs.Prelude.{◌≡◌, length, map}
 use Rattle.std.specs.List.{range_with_len}
 use Rattle.evl_base.specs.declared.board.Board.{Board}
-use Rattle.evl_words.specs.declared.mutex.place.MutexPlace.{MutexPlace}
 use Rattle.evl_words.specs.GateCalls.{new_seat}
 use Rattle.evl_machine.specs.declared.elements.making.Elements.{Elements}
 use Rattle.evl_machine.specs.StaxSeats.{AreGatesOf}
-
--- the place of thread k at mutex i, and its places at so many, at which it holds nothing
-abbrev pub new_place : ℕ → ℕ → MutexPlace
-new_place k i = record { mutex = record { 0 = i }; number = k; depth = 0 }
-
-abbrev pub new_places : ℕ → ℕ → List MutexPlace
-new_places count k = map (new_place k) (range_with_len 0 count)
+use Rattle.evl_core.specs.MutexPlaces.{new_places}
 
 -- a gate for each stax of the board, and each thread's seats at them and places at the mutexes
 pub record AreMade {A : Type 0} (board : Board) (made : Elements A) : Type 0 where

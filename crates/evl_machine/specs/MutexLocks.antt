@@ -17,10 +17,10 @@ use Rattle.evl_machine.specs.declared.locking.Ended.{Ended}
 use Rattle.evl_machine.specs.declared.unfinished.Unfinished.{Unfinished}
 use Rattle.evl_machine.specs.declared.unfinished.Unfinished.TheVariants.{Mutex}
 use Rattle.evl_machine.specs.Calls.{stage_of_caller, wait_of_caller}
-use Rattle.evl_machine.specs.Ceilings.{has_ceiling}
+use Rattle.evl_core.specs.Ceilings.{has_ceiling}
 use Rattle.evl_machine.specs.Handles.{CallerState}
 use Rattle.evl_machine.specs.Locking.{Begins, Finishes, LocksRaised, Releases}
-use Rattle.evl_machine.specs.MutexSeats.{TriesMutex, UnlocksMutex, depth_at, owner_refusal, unlock_refusal}
+use Rattle.evl_core.specs.MutexSeats.{TriesMutex, UnlocksMutex, depth_at, owner_refusal, unlock_refusal}
 use Rattle.evl_machine.specs.Visits.{Visits}
 
 -- What refuses a lock by what the caller has itself: a wait that it has not finished, a mutex that isn't on the board, the in-band stage; and an owner that the mutex doesn't nest for, or that has it 255 times

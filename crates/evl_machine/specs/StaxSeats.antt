@@ -12,7 +12,7 @@ use Rattle.evl_words.specs.declared.gate.GateCall.TheVariants.{Enter, Leave, Unc
 use Rattle.evl_words.specs.declared.gate.GateReply.TheVariants.{Entered, Left as LeftGate, Done}
 use Rattle.evl_words.specs.GateWorld.{leaves, unclaims}
 use Rattle.evl_words.specs.GateCalls.{GateState, SeatState, IsPassOf, Makes, Tries, Calls, FailsToEnter}
-use Rattle.evl_machine.specs.AtSeats.{AtSeat, AreCounted}
+use Rattle.evl_core.specs.AtSeats.{AtSeat, AreCounted}
 
 abbrev pub is_held : SeatState → Bool
 is_held seat = is_some seat.view.held.stage

@@ -8,7 +8,7 @@ use Rattle.evl_words.specs.declared.gate.GateCall.TheVariants.{Claim}
 use Rattle.evl_words.specs.declared.gate.GateReply.TheVariants.{Done}
 use Rattle.evl_words.specs.GateCalls.{Calls, Makes, SeatState}
 use Rattle.evl_words.specs.GateWorld.{claims}
-use Rattle.evl_machine.specs.AtSeats.{AtSeat}
+use Rattle.evl_core.specs.AtSeats.{AtSeat}
 use Rattle.evl_machine.specs.StaxSeats.{TriesStax}
 
 -- a refusal that may pass: callers of the other stage hold the stax, or its limit of callers, or another step came in between

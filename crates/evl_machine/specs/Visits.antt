@@ -4,12 +4,12 @@ use Rattle.evl_base.specs.declared.entry.Entry.{Entry}
 use Rattle.evl_base.specs.declared.refusal.Refusal.{Refusal}
 use Rattle.evl_base.specs.declared.refusal.Refusal.TheVariants.{HistoryFull}
 use Rattle.evl_kernel.specs.state.KernelViews.{KernelView}
-use Rattle.evl_machine.specs.Accounts.{GoesOn, IsAccount, MadeBy}
+use Rattle.evl_core.specs.Accounts.{GoesOn, IsAccount, MadeBy}
 use Rattle.evl_machine.specs.Actors.{ActorState}
 use Rattle.evl_machine.specs.Calls.{TookKernel, stage_of_caller, wait_of_caller}
-use Rattle.evl_machine.specs.Events.{FailsToTake, Gives, Takes}
+use Rattle.evl_core.specs.Events.{FailsToTake, Gives, Takes}
 use Rattle.evl_machine.specs.Handles.{CallerState, HeldState, returned, turned_away}
-use Rattle.evl_machine.specs.Known.{ComesFrom}
+use Rattle.evl_core.specs.Known.{ComesFrom}
 
 module _ {C : Type 0} where
   -- what a caller has beside its seat at the core

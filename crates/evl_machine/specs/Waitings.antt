@@ -7,14 +7,14 @@ use Rattle.evl_base.specs.declared.refusal.Refusal.TheVariants.{Again}
 use Rattle.evl_base.specs.declared.reply.Reply.{Reply}
 use Rattle.evl_base.specs.declared.reply.Reply.TheVariants.{Begun}
 use Rattle.evl_kernel.specs.waiting.Waits.{has_ended}
-use Rattle.evl_machine.specs.declared.views.Account.{Account}
-use Rattle.evl_machine.specs.Accounts.{BeginsWith, IsAccount, saw}
+use Rattle.evl_core.specs.declared.views.Account.{Account}
+use Rattle.evl_core.specs.Accounts.{BeginsWith, IsAccount, saw}
 use Rattle.evl_machine.specs.Actors.{keeps_stage, stage_in}
 use Rattle.evl_kernel.specs.state.KernelViews.{KernelView}
-use Rattle.evl_machine.specs.Events.{FailsToTake, Gives, Takes}
+use Rattle.evl_core.specs.Events.{FailsToTake, Gives, Takes}
 use Rattle.evl_machine.specs.Handles.{CallerState}
 use Rattle.evl_machine.specs.Calls.{Called, CalledAtLast}
-use Rattle.evl_machine.specs.MutexSeats.{holds_mutex}
+use Rattle.evl_core.specs.MutexSeats.{holds_mutex}
 use Rattle.evl_machine.specs.StaxSeats.{holds_stax}
 
 -- A look: the kernel was taken and given back, and no call was made. The history that the caller has now seen begins with what it had seen, nobody has changed the stage of its thread, and its wait goes on there

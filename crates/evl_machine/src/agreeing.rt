@@ -1,16 +1,17 @@
 //! What two callers of one machine know together.
 ghost use Rattle.std.specs.Prelude.{◌≡◌, map};
 ghost use Rattle.evl_machine.specs.Actors.{acting};
-ghost use Rattle.evl_machine.specs.Calls.{IsCaller};
-ghost use Rattle.evl_machine.specs.Handles.{Belongs, account_of};
-ghost use Rattle.evl_machine.specs.Homes.{stax_home};
-ghost use Rattle.evl_machine.specs.Known.{seen};
-ghost use Rattle.evl_machine.specs.OneHistory.{AgreeOnMutexes, AgreeOnStaxes, OneHistory};
+ghost use Rattle.evl_core.specs.Seats.{IsCaller};
+ghost use Rattle.evl_machine.specs.Handles.{Belongs};
+ghost use Rattle.evl_core.specs.Seats.{account_of};
+ghost use Rattle.evl_core.specs.Homes.{stax_home};
+ghost use Rattle.evl_core.specs.Known.{seen};
+ghost use Rattle.evl_core.specs.OneHistory.{AgreeOnMutexes, AgreeOnStaxes, OneHistory};
 
 use crate::actor::Actor;
 use crate::caller::CallerOf;
 use crate::machine::MachineOf;
-use crate::views::{Made, ThreadView};
+use evl_core::{Made, ThreadView};
 use evl_words::{MutexCall, MutexHold, MutexReply, Together, View, WordEntry, look_together};
 use std::alloc::Allocator;
 use std::marker::PhantomData;
@@ -20,7 +21,7 @@ pub struct AtCore<C>(PhantomData<C>);
 
 impl<C> Together<ThreadView<Made<C>, View<WordEntry<MutexCall, MutexReply>, MutexHold>>>
     for AtCore<C> {
-    ghost use Rattle.evl_machine.specs.OneHistory.{AreTogether};
+    ghost use Rattle.evl_core.specs.OneHistory.{AreTogether};
 
     ghost together = { AreTogether };
 }

@@ -1,14 +1,14 @@
 //! What stands in a mutex's word, looked at by the caller that has the kernel.
 ghost use Rattle.std.specs.Prelude.{ℕ, ◌≡◌, ◌+◌, ◌<◌, ⊤, MatchOption, is_some, nat_lt};
 ghost use Rattle.evl_machine.specs.InWord.{Agrees, IsRead, SaysTied, in_word, owner_of};
-ghost use Rattle.evl_machine.specs.Known.{ceilings_of, first_of, mutex_count};
-ghost use Rattle.evl_machine.specs.Noted.{Stood};
+ghost use Rattle.evl_core.specs.Known.{ceilings_of, first_of, mutex_count};
+ghost use Rattle.evl_core.specs.Noted.{Stood};
 
 use crate::actor::Actor;
-use crate::core_lock::{CoreLock, CoreSeat, Looking};
 use crate::held::HeldOf;
 use crate::machine::MachineOf;
 use evl_base::{MutexId, ThreadId};
+use evl_core::{CoreLock, CoreSeat, Looking};
 use evl_words::{CLAIM_MARK, Claim, OFFERED, claim_on};
 use std::alloc::Allocator;
 

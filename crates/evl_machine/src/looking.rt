@@ -5,11 +5,13 @@ ghost use Rattle.evl_base.specs.declared.call.Call.TheVariants.{Finish};
 ghost use Rattle.evl_base.specs.declared.refusal.Refusal.TheVariants.{Again, CoreBusy};
 ghost use Rattle.evl_kernel.specs.state.Callbacks.{AnswersByPlan};
 ghost use Rattle.evl_machine.specs.Actors.{AreHeldAt, IsSameActor, Suits, acting, keeps_stage};
-ghost use Rattle.evl_machine.specs.Calls.{ActsOnCore, Answered, HoldsAtItsStage, IsCaller, KernelCall, wait_of_caller};
+ghost use Rattle.evl_machine.specs.Calls.{ActsOnCore, Answered, HoldsAtItsStage, KernelCall, wait_of_caller};
+ghost use Rattle.evl_core.specs.Seats.{IsCaller};
 ghost use Rattle.evl_machine.specs.declared.unfinished.Unfinished.TheVariants.{Element};
-ghost use Rattle.evl_machine.specs.Handles.{Belongs, account_of};
-ghost use Rattle.evl_machine.specs.Known.{first_of, seen};
-ghost use Rattle.evl_machine.specs.MutexSeats.{holds_mutex};
+ghost use Rattle.evl_machine.specs.Handles.{Belongs};
+ghost use Rattle.evl_core.specs.Seats.{account_of};
+ghost use Rattle.evl_core.specs.Known.{first_of, seen};
+ghost use Rattle.evl_core.specs.MutexSeats.{holds_mutex};
 ghost use Rattle.evl_machine.specs.StaxSeats.{holds_stax};
 ghost use Rattle.evl_machine.specs.Waitings.{Looked, Looks, finish_of};
 

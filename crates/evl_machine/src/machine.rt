@@ -5,18 +5,19 @@ ghost use Rattle.evl_base.specs.declared.refusal.Refusal.TheVariants.{CoreBusy};
 ghost use Rattle.evl_kernel.specs.calls.Families.{moves_caller, task_of};
 ghost use Rattle.evl_kernel.specs.state.Callbacks.{AnswersByPlan};
 ghost use Rattle.evl_machine.specs.Actors.{AreHeldAt, ClaimsOneOf, IsSameActor, Suits, acting, call_refusal};
-ghost use Rattle.evl_machine.specs.Calls.{ActsOnCore, Answered, Called, HoldsAtItsStage, IsCaller, KernelCall, answer_of, own_refusal};
-ghost use Rattle.evl_machine.specs.Handles.{Belongs, IsSameCaller, account_of};
-ghost use Rattle.evl_machine.specs.Known.{first_of, seen};
-ghost use Rattle.evl_machine.specs.MutexSeats.{holds_mutex};
+ghost use Rattle.evl_machine.specs.Calls.{ActsOnCore, Answered, Called, HoldsAtItsStage, KernelCall, answer_of, own_refusal};
+ghost use Rattle.evl_core.specs.Seats.{IsCaller};
+ghost use Rattle.evl_machine.specs.Handles.{Belongs, IsSameCaller};
+ghost use Rattle.evl_core.specs.Seats.{account_of};
+ghost use Rattle.evl_core.specs.Known.{first_of, seen};
+ghost use Rattle.evl_core.specs.MutexSeats.{holds_mutex};
 ghost use Rattle.evl_machine.specs.StaxSeats.{holds_stax};
 
 use crate::actor::Actor;
 use crate::caller::CallerOf;
-use crate::core_lock::CoreLock;
 use crate::elements::Gates;
-use crate::kernel_box::KernelBox;
 use evl_base::{Call, MutexId, MutexKind, Refusal, Reply};
+use evl_core::{CoreLock, KernelBox};
 use evl_pipeline::Handler;
 use std::alloc::Allocator;
 use std::marker::Model;
@@ -32,10 +33,10 @@ pub struct MachineOf<C: Drop, A: Allocator> {
 
 impl<C: Drop, A: Allocator> Model for MachineOf<C, A> {
     ghost use Rattle.std.specs.Prelude.{◌≡◌};
-    ghost use Rattle.evl_machine.specs.Accounts.{threads_of};
+    ghost use Rattle.evl_core.specs.Accounts.{threads_of};
     ghost use Rattle.std.specs.Prelude.{◌+◌, length, map, true};
     ghost use Rattle.evl_base.specs.Board.{board_fits};
-    ghost use Rattle.evl_machine.specs.Homes.{gate_home, word_homes};
+    ghost use Rattle.evl_core.specs.Homes.{gate_home, word_homes};
     ghost use Rattle.evl_machine.specs.Handles.{MachineState};
 
     ghost Value = { MachineState C };

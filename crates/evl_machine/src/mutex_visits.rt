@@ -4,11 +4,11 @@ ghost use Rattle.evl_base.specs.declared.refusal.Refusal.TheVariants.{CoreBusy};
 ghost use Rattle.evl_kernel.specs.state.Callbacks.{AnswersByPlan};
 ghost use Rattle.evl_machine.specs.declared.unfinished.Unfinished.TheVariants.{Mutex};
 ghost use Rattle.evl_machine.specs.Calls.{HoldsAtItsStage, wait_of_caller};
-ghost use Rattle.evl_machine.specs.Ceilings.{has_ceiling};
+ghost use Rattle.evl_core.specs.Ceilings.{has_ceiling};
 ghost use Rattle.evl_machine.specs.Handles.{Belongs, IsSameCaller};
 ghost use Rattle.evl_machine.specs.Locking.{Begins, Finishes, LocksRaised};
 ghost use Rattle.evl_machine.specs.MutexLocks.{HandsOn, kind_of, kinds_of, own_lock_refusal};
-ghost use Rattle.evl_machine.specs.MutexSeats.{HasOnce};
+ghost use Rattle.evl_core.specs.MutexSeats.{HasOnce};
 ghost use Rattle.evl_machine.specs.Visits.{Visits};
 
 use crate::caller::CallerOf;

@@ -3,16 +3,16 @@ ghost use Rattle.std.specs.Prelude.{◌≡◌, ◌≢◌, ◌<◌, None, Ok, fal
 ghost use Rattle.evl_kernel.specs.state.Callbacks.{AnswersByPlan};
 ghost use Rattle.evl_words.specs.declared.mutex.Unlock.TheVariants.{Done};
 ghost use Rattle.evl_machine.specs.Calls.{HoldsAtItsStage, wait_of_caller};
-ghost use Rattle.evl_machine.specs.Ceilings.{has_ceiling};
+ghost use Rattle.evl_core.specs.Ceilings.{has_ceiling};
 ghost use Rattle.evl_machine.specs.Handles.{Belongs, IsSameCaller};
 ghost use Rattle.evl_machine.specs.MutexLocks.{MutexCall, UnlocksAtWord, is_handed_on, kind_of, kinds_of, own_lock_refusal};
-ghost use Rattle.evl_machine.specs.MutexTokens.{AreTheSame};
-ghost use Rattle.evl_machine.specs.MutexSeats.{TriesMutex, UnlocksMutex, depth_at, unlock_refusal};
+ghost use Rattle.evl_core.specs.MutexTokens.{AreTheSame};
+ghost use Rattle.evl_core.specs.MutexSeats.{TriesMutex, UnlocksMutex, depth_at, unlock_refusal};
 
 use crate::caller::CallerOf;
-use crate::elements::mutex_steps;
 use crate::machine::MachineOf;
 use evl_base::{MutexId, Refusal};
+use evl_core::mutex_steps;
 use evl_pipeline::Handler;
 use evl_words::{MutexPass, Unlock};
 use std::alloc::Allocator;

@@ -1,6 +1,6 @@
 //! Entering a stax, however long others keep the caller out.
 ghost use Rattle.std.specs.Prelude.{◌≡◌, ◌<◌, ◌&&◌, IfErr, MatchResult, false, length, not};
-ghost use Rattle.evl_machine.specs.AtSeats.{AtSeat};
+ghost use Rattle.evl_core.specs.AtSeats.{AtSeat};
 ghost use Rattle.evl_machine.specs.Calls.{HoldsAtItsStage, stage_of_caller};
 ghost use Rattle.evl_machine.specs.Handles.{Belongs, IsSameCaller};
 ghost use Rattle.evl_machine.specs.StaxCalls.{StaxCall};

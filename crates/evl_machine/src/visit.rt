@@ -1,18 +1,17 @@
 //! Taking the kernel and giving it back: by a seat at the core's table, and by a caller within one call.
 ghost use Rattle.std.specs.Prelude.{◌≡◌, ⊤, MatchOption};
-ghost use Rattle.evl_machine.specs.Accounts.{lost_one, up_to_date};
-ghost use Rattle.evl_machine.specs.Calls.{IsCaller};
-ghost use Rattle.evl_machine.specs.Events.{FailsToTake, Gives, Takes};
-ghost use Rattle.evl_machine.specs.Handles.{Continues, Taken, account_of, holding, resting};
+ghost use Rattle.evl_core.specs.Accounts.{lost_one, up_to_date};
+ghost use Rattle.evl_core.specs.Seats.{IsCaller};
+ghost use Rattle.evl_core.specs.Events.{FailsToTake, Gives, Takes};
+ghost use Rattle.evl_core.specs.Seats.{Continues, Taken, account_of, holding, resting};
 ghost use Rattle.evl_machine.specs.InHand.{HasMissed, HasOpened, HasShut, MayShut};
-ghost use Rattle.evl_machine.specs.Known.{ComesFrom, first_of, past_of, room_of, seen};
-ghost use Rattle.evl_machine.specs.MutexTokens.{KeepsPlaces};
-ghost use Rattle.evl_machine.specs.Noted.{HasTaken, IsSettled};
+ghost use Rattle.evl_core.specs.Known.{ComesFrom, first_of, past_of, room_of, seen};
+ghost use Rattle.evl_core.specs.MutexTokens.{KeepsPlaces};
+ghost use Rattle.evl_core.specs.Noted.{HasTaken, IsSettled};
 
 use crate::actor::Actor;
-use crate::core_lock::{CoreSeat, GiveStep, TakeStep};
-use crate::kernel_box::KernelBox;
 use crate::machine::MachineOf;
+use evl_core::{CoreSeat, GiveStep, KernelBox, TakeStep};
 use std::alloc::Allocator;
 
 impl<C: Drop, A: Allocator> MachineOf<C, A> {

@@ -1,9 +1,9 @@
 //! Entering a stax by a seat of a thread, and leaving it.
 ghost use Rattle.std.specs.Prelude.{◌≡◌, ◌<◌, length, map};
 ghost use Rattle.evl_words.specs.GateCalls.{IsSeatOf, IsSameSeat};
-ghost use Rattle.evl_machine.specs.Homes.{gate_home, stax_home};
-ghost use Rattle.evl_machine.specs.AtSeats.{AtSeat};
-ghost use Rattle.evl_machine.specs.OneHistory.{AgreeOnStaxes};
+ghost use Rattle.evl_core.specs.Homes.{gate_home, stax_home};
+ghost use Rattle.evl_core.specs.AtSeats.{AtSeat};
+ghost use Rattle.evl_core.specs.OneHistory.{AgreeOnStaxes};
 ghost use Rattle.evl_machine.specs.StaxSeats.{LeavesBy, LeavesStax, TriesStax};
 ghost use Rattle.evl_machine.specs.StaxWaits.{Marks};
 

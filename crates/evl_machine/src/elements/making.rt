@@ -3,11 +3,12 @@ ghost use Rattle.std.specs.Prelude.{◌≡◌, ◌≤◌, IfOk, length, map, tru
 ghost use Rattle.std.specs.List.{list_all, range_with_len};
 ghost use Rattle.evl_base.specs.Limits.{thread_limit, stax_fits, within};
 ghost use Rattle.evl_words.specs.GateCalls.{new_seat};
-ghost use Rattle.evl_machine.specs.Makings.{new_places};
+ghost use Rattle.evl_core.specs.MutexPlaces.{new_places};
 ghost use Rattle.evl_machine.specs.StaxSeats.{AreGatesOf};
 
-use super::{Gates, MutexPlaces, StaxSeats};
+use super::{Gates, StaxSeats};
 use evl_base::MutexKind;
+use evl_core::MutexPlaces;
 use std::alloc::{AllocError, Allocator};
 
 /// The staxes of a machine and the kinds of its mutexes, and what each thread has at them.

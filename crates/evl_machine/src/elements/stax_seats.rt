@@ -16,7 +16,7 @@ pub(crate) struct StaxSeats<A: Allocator> {
 impl<A: Allocator> Model for StaxSeats<A> {
     ghost use Rattle.std.specs.Prelude.{List};
     ghost use Rattle.evl_words.specs.GateCalls.{SeatState};
-    ghost use Rattle.evl_machine.specs.AtSeats.{AreCounted};
+    ghost use Rattle.evl_core.specs.AtSeats.{AreCounted};
     ghost use Rattle.evl_machine.specs.StaxSeats.{stax_passes};
 
     ghost Value = { List SeatState };

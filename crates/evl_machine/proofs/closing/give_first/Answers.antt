@@ -1,5 +1,5 @@
 use Rattle.std.proofs.Common.{subst}
-use Rattle.evl_machine.specs.Events.{Gives}
+use Rattle.evl_core.specs.Events.{Gives}
 use Rattle.evl_machine.specs.Handles.{CallerState}
 use Rattle.evl_machine.proofs.closing.give_first.Goals as goal
 

@@ -1,7 +1,7 @@
 use Rattle.std.proofs.Common.{IfSome, sym, subst}
 use Rattle.evl_base.specs.declared.numbers.ThreadId.{ThreadId}
 use Rattle.evl_machine.specs.Actors.{SeatedActor, acting}
-use Rattle.evl_machine.specs.MutexSeats.{HasOnce, HasSeat}
+use Rattle.evl_core.specs.MutexSeats.{HasOnce, HasSeat}
 use Rattle.evl_machine.proofs.SeatsAt.{at_table_of, holds_for, once_at, seat_there}
 use Rattle.evl_machine.proofs.locking.hand_on.Goals as goal
 

@@ -1,6 +1,6 @@
 use Rattle.std.proofs.Common.{sym, ap, ◌∙◌}
 use Rattle.evl_machine.specs.Actors.{SeatedActor, acting}
-use Rattle.evl_machine.specs.MutexSeats.{depth_at}
+use Rattle.evl_core.specs.MutexSeats.{depth_at}
 use Rattle.evl_machine.proofs.SeatsAt.{depth_there}
 use Rattle.evl_machine.proofs.actor.Actor.depth.Goals as goal
 

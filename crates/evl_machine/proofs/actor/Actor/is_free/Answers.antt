@@ -1,6 +1,6 @@
 use Rattle.std.proofs.Common.{sym, ap, ◌∙◌, ◌==◌, ◌&&◌, nat_lt, length}
 use Rattle.evl_machine.specs.Actors.{SeatedActor, acting}
-use Rattle.evl_machine.specs.MutexSeats.{depth_at}
+use Rattle.evl_core.specs.MutexSeats.{depth_at}
 use Rattle.evl_machine.proofs.SeatsAt.{depth_there, long_as}
 use Rattle.evl_machine.proofs.actor.Actor.is_free.Goals as goal
 

@@ -1,8 +1,8 @@
 use Rattle.std.proofs.Common.{ap, sym, ◌∙◌, subst}
 use Rattle.evl_kernel.specs.state.KernelViews.{KernelView}
 use Rattle.evl_machine.specs.Handles.{HeldState, MachineState}
-use Rattle.evl_machine.specs.Known.{ComesFrom}
-use Rattle.evl_machine.proofs.Knowing.{answers_still}
+use Rattle.evl_core.specs.Known.{ComesFrom}
+use Rattle.evl_core.proofs.Knowing.{answers_still}
 use Rattle.evl_machine.proofs.Visits.{held_call}
 use Rattle.evl_machine.proofs.held.HeldOf.apply.Goals as goal
 

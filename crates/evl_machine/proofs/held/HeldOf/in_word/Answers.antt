@@ -3,9 +3,10 @@ use Rattle.std.specs.Prelude.{⊤, MatchOption}
 use Rattle.evl_kernel.specs.state.KernelViews.{KernelView}
 use Rattle.evl_machine.specs.Actors.{SeatedActor, acting}
 use Rattle.evl_machine.specs.Callers.{HasInHand}
-use Rattle.evl_machine.specs.Handles.{HeldState, MachineState, account_of, caller_of}
+use Rattle.evl_machine.specs.Handles.{HeldState, MachineState, caller_of}
+use Rattle.evl_core.specs.Seats.{account_of}
 use Rattle.evl_machine.specs.InWord.{Agrees, SaysTied}
-use Rattle.evl_machine.specs.Known.{ceilings_of, seen}
+use Rattle.evl_core.specs.Known.{ceilings_of, seen}
 use Rattle.evl_machine.proofs.InWords.{agreed_if, tied_if}
 use Rattle.evl_machine.proofs.held.HeldOf.in_word.Goals as goal
 

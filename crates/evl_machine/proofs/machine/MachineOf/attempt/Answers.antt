@@ -4,9 +4,10 @@ use Rattle.evl_kernel.specs.state.Callbacks.{AnswersByPlan}
 use Rattle.evl_kernel.specs.state.KernelViews.{KernelView}
 use Rattle.evl_machine.specs.Actors.{ActorState, acting, call_refusal}
 use Rattle.evl_machine.specs.Callers.{machine_by}
-use Rattle.evl_machine.specs.Handles.{CallerState, MachineState, account_of}
-use Rattle.evl_machine.specs.Known.{seen}
-use Rattle.evl_machine.specs.MutexSeats.{holds_mutex}
+use Rattle.evl_machine.specs.Handles.{CallerState, MachineState}
+use Rattle.evl_core.specs.Seats.{account_of}
+use Rattle.evl_core.specs.Known.{seen}
+use Rattle.evl_core.specs.MutexSeats.{holds_mutex}
 use Rattle.evl_machine.specs.StaxSeats.{holds_stax}
 use Rattle.evl_machine.specs.Visits.{actor_of}
 use Rattle.evl_machine.proofs.Staying.{at_stage}

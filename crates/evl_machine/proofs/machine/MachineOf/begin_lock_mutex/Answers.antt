@@ -2,12 +2,13 @@ use Rattle.std.proofs.Common.{None, arith, ap, sym, ◌∙◌, nat_lt, slice_get
 use Rattle.evl_machine.specs.Actors.{acting}
 use Rattle.evl_machine.specs.Callers.{machine_by}
 use Rattle.evl_machine.specs.Calls.{HoldsAtItsStage}
-use Rattle.evl_machine.specs.Ceilings.{has_ceiling}
-use Rattle.evl_machine.specs.Handles.{CallerState, MachineState, account_of}
-use Rattle.evl_machine.specs.Known.{seen}
+use Rattle.evl_core.specs.Ceilings.{has_ceiling}
+use Rattle.evl_machine.specs.Handles.{CallerState, MachineState}
+use Rattle.evl_core.specs.Seats.{account_of}
+use Rattle.evl_core.specs.Known.{seen}
 use Rattle.evl_machine.specs.Visits.{actor_of}
 use Rattle.evl_machine.proofs.MutexLocks.{begins_by_kernel, none_of, own_lock_is}
-use Rattle.evl_machine.specs.MutexSeats.{depth_at}
+use Rattle.evl_core.specs.MutexSeats.{depth_at}
 use Rattle.evl_machine.proofs.Visits.{same_actor}
 use Rattle.evl_machine.proofs.Staying.{at_stage}
 use Rattle.evl_machine.proofs.machine.MachineOf.begin_lock_mutex.Goals as goal

@@ -4,11 +4,11 @@ use Rattle.evl_base.specs.declared.numbers.ThreadId.{ThreadId}
 use Rattle.evl_kernel.specs.waiting.Waits.{has_ended}
 use Rattle.evl_machine.specs.Actors.{ActorState, acting, keeps_stage}
 use Rattle.evl_machine.specs.Calls.{Answered}
-use Rattle.evl_machine.specs.Handles.{account_of}
-use Rattle.evl_machine.specs.Known.{first_of, seen}
-use Rattle.evl_machine.specs.MutexSeats.{holds_mutex}
+use Rattle.evl_core.specs.Seats.{account_of}
+use Rattle.evl_core.specs.Known.{first_of, seen}
+use Rattle.evl_core.specs.MutexSeats.{holds_mutex}
 use Rattle.evl_machine.specs.StaxSeats.{holds_stax}
-use Rattle.evl_machine.proofs.Knowing.{first_in_me}
+use Rattle.evl_core.proofs.Knowing.{first_in_me}
 use Rattle.evl_machine.proofs.KernelVisits.{HasDone, acted_by, called_by, does_call, does_nothing, may_shut, opened_answers, same_as, same_on, suits_back}
 use Rattle.evl_machine.proofs.Opened.{just_took}
 use Rattle.evl_machine.proofs.Visits.{rests_lost, suits_opened, suits_lost}

@@ -1,7 +1,7 @@
 use Rattle.std.proofs.Common.{sym, subst}
 use Rattle.evl_kernel.specs.state.Callbacks.{AnswersByPlan}
 use Rattle.evl_kernel.specs.state.KernelViews.{KernelView}
-use Rattle.evl_machine.specs.Homes.{AreHomes}
+use Rattle.evl_core.specs.Homes.{AreHomes}
 use Rattle.evl_machine.proofs.Newcomers.{gate_homes, made_bounds}
 use Rattle.evl_machine.proofs.machine.MachineOf.over.Goals as goal
 

@@ -1,7 +1,7 @@
 use Rattle.std.proofs.Common.{ap, sym, ◌∙◌, subst, inl, inr, refl}
 use Rattle.evl_machine.specs.Actors.{ActorState}
 use Rattle.evl_machine.specs.Handles.{CallerState}
-use Rattle.evl_machine.specs.MutexSeats.{HasOnce}
+use Rattle.evl_core.specs.MutexSeats.{HasOnce}
 use Rattle.evl_machine.proofs.KernelVisits.{HasDone, its_first, its_homes, its_id, its_table, may_shut, opened_answers, rests_back, stage_back, visited}
 use Rattle.evl_machine.proofs.Opened.{just_took, opened_seats, opened_wait}
 use Rattle.evl_machine.proofs.Visits.{finds_taken, stage_lost}

@@ -1,10 +1,11 @@
 use Rattle.std.proofs.Common.{ap, sym, ◌∙◌, subst}
 use Rattle.evl_base.specs.Board.{board_fits}
 use Rattle.evl_kernel.specs.state.KernelViews.{KernelView}
-use Rattle.evl_machine.specs.declared.views.Account.{Account}
-use Rattle.evl_machine.specs.Events.{FailsToTake, Takes}
-use Rattle.evl_machine.specs.Handles.{CallerState, MachineState, account_of, turned_away}
-use Rattle.evl_machine.specs.Known.{seen}
+use Rattle.evl_core.specs.declared.views.Account.{Account}
+use Rattle.evl_core.specs.Events.{FailsToTake, Takes}
+use Rattle.evl_machine.specs.Handles.{CallerState, MachineState, turned_away}
+use Rattle.evl_core.specs.Seats.{account_of}
+use Rattle.evl_core.specs.Known.{seen}
 use Rattle.evl_machine.proofs.Opened.{owned_seats}
 use Rattle.evl_machine.proofs.Visits.{caller_lost, has_taken_it, took_it}
 use Rattle.evl_machine.proofs.machine.MachineOf.take.Goals as goal

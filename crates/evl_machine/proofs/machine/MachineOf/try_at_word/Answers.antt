@@ -2,11 +2,11 @@ use Rattle.std.proofs.Common.{◌≡◌, slice_get, refl, ap, sym, ◌∙◌, su
 use Rattle.evl_machine.specs.declared.caller.CallerOf.TheInside.{Inside}
 use Rattle.evl_machine.specs.Actors.{acting}
 use Rattle.evl_machine.specs.Callers.{IsResting, caller_by}
-use Rattle.evl_machine.specs.Ceilings.{has_ceiling}
+use Rattle.evl_core.specs.Ceilings.{has_ceiling}
 use Rattle.evl_machine.specs.Handles.{CallerState, MachineState}
 use Rattle.evl_machine.specs.MutexLocks.{kinds_of}
-use Rattle.evl_machine.specs.MutexSeats.{TriesMutex}
-use Rattle.evl_machine.specs.MutexTokens.{seats_at}
+use Rattle.evl_core.specs.MutexSeats.{TriesMutex}
+use Rattle.evl_core.specs.MutexTokens.{seats_at}
 use Rattle.evl_machine.proofs.Opened.{free_there, lock_open}
 use Rattle.evl_machine.proofs.SeatsAt.{at_table}
 use Rattle.evl_machine.proofs.Visits.{actor_at_mutexes, stage_resting}

@@ -1,7 +1,7 @@
 use Rattle.std.proofs.Common.{map}
 use Rattle.evl_words.specs.GateCalls.{new_seat}
 use Rattle.evl_machine.specs.StaxSeats.{AreFresh}
-use Rattle.evl_machine.proofs.DealLaws.{each-dealt}
+use Rattle.evl_core.proofs.DealLaws.{each-dealt}
 use Rattle.evl_machine.proofs.StaxLaws.{fresh}
 use Rattle.evl_machine.proofs.elements.gates.Gates.new.Goals as goal
 

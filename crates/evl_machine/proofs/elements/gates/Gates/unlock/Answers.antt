@@ -1,8 +1,8 @@
 use Rattle.std.proofs.Common.{ap, ◌∙◌, arith, map}
 use Rattle.evl_words.specs.GateCalls.{SeatState}
-use Rattle.evl_machine.specs.Homes.{stax_home}
+use Rattle.evl_core.specs.Homes.{stax_home}
 use Rattle.evl_machine.specs.StaxSeats.{stax_passes}
-use Rattle.evl_machine.proofs.SeatLists.{count-room, counted-set, map-kept}
+use Rattle.evl_core.proofs.SeatLists.{count-room, counted-set, map-kept}
 use Rattle.evl_machine.proofs.StaxLaws.{found, home_kept, few_passes, passes_of, byte_passes, left_passes, left_stax}
 use Rattle.evl_machine.proofs.elements.gates.Gates.unlock.Goals as goal
 

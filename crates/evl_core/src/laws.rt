@@ -1,0 +1,84 @@
+//! Laws of the core. Each is the contract of a function without a body.
+ghost use Rattle.std.specs.Prelude.{◌≡◌, ◌≢◌, ℕ, [], ◌∷◌, List, Option, None, slice_index, slice_set, true};
+ghost use Rattle.evl_base.specs.Board.{board_fits};
+ghost use mathlib.Core.Option.{some};
+ghost use lib.ListN.{get_elem?};
+ghost use Rattle.evl_words.specs.MutexWorld.{MutexView};
+ghost use Rattle.evl_core.specs.declared.views.ThreadView.{ThreadView};
+ghost use Rattle.atomic_table.specs.Table.{State};
+ghost use Rattle.evl_kernel.specs.histories.Histories.{IsLegal};
+ghost use Rattle.evl_kernel.specs.state.KernelViews.{KernelView};
+ghost use Rattle.evl_words.specs.Machine.{Run};
+ghost use Rattle.evl_words.specs.Events.{Event};
+ghost use Rattle.evl_words.specs.Dealings.{DealingEvent};
+ghost use Rattle.evl_core.specs.CoreWorld.{CoreWorld, CoreDealing, CoreKind, CoreHappens, CoreDealingStep, IsCoreWorld, StandsDealt, opened_core};
+ghost use Rattle.evl_core.specs.OneWorld.{IsOneWorld, LiesSo, OneDealing, OneDealingStep, OneKind, OneWorld, StandsInOne, opened_one};
+ghost use Rattle.evl_core.specs.Known.{ComesFrom, CoreHand, KeptKnown, ceilings_of, mutex_count, past_of, room_of};
+ghost use Rattle.evl_core.specs.QuietCore.{LiesQuiet};
+ghost use Rattle.evl_core.specs.TiedCore.{LiesTied};
+ghost use Rattle.evl_core.specs.Tokens.{HasOneHistory};
+ghost use Rattle.evl_core.specs.LostTakes.{AllAreDealt};
+ghost use Rattle.evl_words.specs.Hands.{place};
+
+/// What holds of the core's word and slot, and of what its threads know, holds after any list of their atomic steps.
+pub fn core_events_keep_order<C>()
+    ensures { (first : KernelView C) (w t : CoreWorld (KernelView C) (KernelView C)) (events : List (Event (CoreKind (KernelView C)))) → IsCoreWorld past_of room_of ComesFrom first w → Run (CoreHappens past_of room_of ComesFrom) w events t → IsCoreWorld past_of room_of ComesFrom first t }
+{}
+
+/// From the opening on it holds after any list of atomic steps, among which hands of threads are split and joined.
+pub fn core_world_stands<C>()
+    ensures { (first k : KernelView C) → IsLegal k.history → k.history.entries ≡ [] → ComesFrom first k → (events : List (DealingEvent (CoreKind (KernelView C)))) (t : CoreDealing (KernelView C) (KernelView C)) → Run (CoreDealingStep past_of room_of ComesFrom) (opened_core past_of room_of ComesFrom first k) events t → StandsDealt past_of room_of ComesFrom first t }
+{}
+
+/// From the opening of the one table on, its core's word and slot, each mutex's word, and what its threads know keep
+/// their conditions after any list of atomic steps, among which hands of threads are split and joined. Who has the
+/// kernel alone claims, settles, offers, frees, accepts and forgets a mutex, and tries one with a ceiling, which no
+/// exchange unlocks.
+pub fn one_world_stands<C>()
+    ensures { (first k : KernelView C) → board_fits k.history.board ≡ true → IsLegal k.history → k.history.entries ≡ [] → ComesFrom first k → (events : List (DealingEvent (OneKind (KernelView C)))) (t : OneDealing (KernelView C) (KernelView C)) → Run (OneDealingStep past_of room_of ComesFrom (ceilings_of first) (mutex_count first)) (opened_one past_of room_of ComesFrom (ceilings_of first) (mutex_count first) first k) events t → StandsInOne past_of room_of ComesFrom (ceilings_of first) (mutex_count first) first t }
+{}
+
+/// What the running rule of a machine's table keeps is what holds of the one world, no less and no more: the table lies
+/// as some world, with the hands of its tokens, that keeps its conditions; and any table that lies as such a world is
+/// within the rule.
+pub fn rule_is_one_world<C>()
+    ensures world { (first : KernelView C) → (s : State (Option (KernelView C)) (CoreHand C)) → KeptKnown first s → (d : OneDealing (KernelView C) (KernelView C)) × LiesSo s d × StandsInOne past_of room_of ComesFrom (ceilings_of first) (mutex_count first) first d }
+    ensures rule { (first : KernelView C) → (s : State (Option (KernelView C)) (CoreHand C)) → (d : OneDealing (KernelView C) (KernelView C)) → LiesSo s d → StandsInOne past_of room_of ComesFrom (ceilings_of first) (mutex_count first) first d → KeptKnown first s }
+{}
+
+/// A take is lost to another thread alone. Of two worlds that keep their conditions and differ in what one thread knows,
+/// and in words and histories as they may, that thread has lost as many takes in the one as in the other, unless another
+/// thread had the kernel in the first: no step, whatever it does, counts a lost take while the core is free.
+pub fn takes_are_lost_to_another<C>()
+    ensures { (first : KernelView C) → (w t : OneWorld (KernelView C) (KernelView C)) → IsOneWorld past_of room_of ComesFrom (ceilings_of first) (mutex_count first) first w → IsOneWorld past_of room_of ComesFrom (ceilings_of first) (mutex_count first) first t → (k : ℕ) (u v : ThreadView (KernelView C) MutexView) → get_elem? w.views k ≡ some u → ((j : ℕ) (x : ThreadView (KernelView C) MutexView) → j ≢ k → get_elem? w.views j ≡ some x → x.core.taken ≡ None) → t.views ≡ slice_set w.views k v → v.core.lost ≡ u.core.lost }
+{}
+
+/// So no step of a token at a free core counts a lost take. Of two states that the running rule of a machine's table
+/// keeps, both with a free core, of which the second has another thread's view at one token, which acts for this thread
+/// alone, that thread has lost as many takes in the one as in the other, where each thread of the board is some token's.
+pub fn free_core_turns_no_token_away<C>()
+    ensures { (first : KernelView C) → (s t : State (Option (KernelView C)) (CoreHand C)) → KeptKnown first s → KeptKnown first t → slice_index s.words 0 ≡ 0 → slice_index t.words 0 ≡ 0 → AllAreDealt first s → (id k : ℕ) (u v : ThreadView (KernelView C) MutexView) → get_elem? s.views id ≡ some (place k u ∷ []) → t.views ≡ slice_set s.views id (place k v ∷ []) → v.core.lost ≡ u.core.lost }
+{}
+
+/// Whenever the core of a running machine is free, the kernel lies in the slot with a legal history, and a line is
+/// pending there out-of-band only while the out-of-band stage is stalled, and a timer or deadline is due only while
+/// line 0 is (Dovetail: interrupt pipeline).
+pub fn free_core_is_quiet<C>()
+    ensures { (first : KernelView C) → (s : State (Option (KernelView C)) (CoreHand C)) → KeptKnown first s → slice_index s.words 0 ≡ 0 → LiesQuiet s.homes }
+{}
+
+/// Whenever the core of a running machine is free, the recorded owner of a mutex, if there is one, is the owner in its
+/// word, owning or offered; a mutex with waiters has its mark set, and one without has a recorded owner only at a
+/// ceiling, where whoever is in the word is recorded; the mark never stands alone; and the word offers the mutex to
+/// just the thread whose unfinished wait ended with it (Xenomai 4: EVL mutex).
+pub fn free_core_is_tied<C>()
+    ensures { (first : KernelView C) → (s : State (Option (KernelView C)) (CoreHand C)) → KeptKnown first s → slice_index s.words 0 ≡ 0 → LiesTied first s.words s.homes }
+{}
+
+/// Whatever the callers of a machine have done, there is one history of its kernel, which all that they know of it
+/// fits: in any state that the running rule of the machine's table keeps, what is read of its tokens
+/// (`CallerOf::token`) is the beginning of that history, with just the calls of its thread, and of any two one is the
+/// beginning of the other.
+pub fn callers_know_one_history<C>()
+    ensures { (first : KernelView C) → (s : State (Option (KernelView C)) (CoreHand C)) → KeptKnown first s → HasOneHistory s }
+{}

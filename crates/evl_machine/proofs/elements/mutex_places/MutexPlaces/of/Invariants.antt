@@ -1,6 +1,0 @@
-use Rattle.std.proofs.Common.{◌≡◌}
-use Rattle.evl_machine.specs.Makings.{new_places}
-use Rattle.evl_machine.proofs.elements.mutex_places.MutexPlaces.of.Given as goal
-
-abbrev pub invariant-loop-mutex : goal.invariant-loop-mutex
-invariant-loop-mutex g l = l.places.items ≡ new_places l.mutex l.thread

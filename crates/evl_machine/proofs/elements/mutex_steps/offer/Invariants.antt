@@ -1,4 +1,0 @@
-use Rattle.evl_machine.proofs.elements.mutex_steps.offer.Given as goal
-
-abbrev pub ghosts-offer_as : goal.ghosts-offer_as
-ghosts-offer_as g a = record { next = a.next.0; more = a.more }

@@ -1,5 +1,0 @@
-use Rattle.evl_machine.proofs.Tokens.{one_history_known}
-use Rattle.evl_machine.proofs.laws.callers_know_one_history.Goals as goal
-
-pub returns : goal.returns
-returns g c = one_history_known

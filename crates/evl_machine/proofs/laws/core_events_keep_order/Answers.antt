@@ -1,6 +1,0 @@
-use Rattle.evl_machine.specs.Known.{ComesFrom, past_of, room_of}
-use Rattle.evl_machine.proofs.CoreLaws.{events_keep}
-use Rattle.evl_machine.proofs.laws.core_events_keep_order.Goals as goal
-
-pub returns : goal.returns
-returns g c = events_keep past_of room_of ComesFrom

@@ -1,6 +1,0 @@
-use Rattle.evl_machine.specs.Known.{ComesFrom, past_of, room_of}
-use Rattle.evl_machine.proofs.CoreLaws.{dealings_keep}
-use Rattle.evl_machine.proofs.laws.core_world_stands.Goals as goal
-
-pub returns : goal.returns
-returns g c = λ first. dealings_keep past_of room_of ComesFrom first

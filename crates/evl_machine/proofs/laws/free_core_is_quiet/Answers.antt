@@ -1,5 +1,0 @@
-use Rattle.evl_machine.proofs.QuietCore.{free_is_quiet}
-use Rattle.evl_machine.proofs.laws.free_core_is_quiet.Goals as goal
-
-pub returns : goal.returns
-returns g c = free_is_quiet

@@ -1,5 +1,0 @@
-use Rattle.evl_machine.proofs.TiedCore.{free_is_tied}
-use Rattle.evl_machine.proofs.laws.free_core_is_tied.Goals as goal
-
-pub returns : goal.returns
-returns g c = free_is_tied

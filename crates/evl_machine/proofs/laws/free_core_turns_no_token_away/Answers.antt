@@ -1,5 +1,0 @@
-use Rattle.evl_machine.proofs.LostTakes.{none_lost_free}
-use Rattle.evl_machine.proofs.laws.free_core_turns_no_token_away.Goals as goal
-
-pub returns : goal.returns
-returns g c = none_lost_free
