@@ -21,7 +21,7 @@ pub struct CoreRule<C, A> {
 
 impl<C, A: Allocator> TableRule<Option<KernelBox<C, A>>, CoreHand<C>, Snapshot<KernelOf<C, A>>>
     for CoreRule<C, A> {
-    ghost use Rattle.evl_core.specs.Known.{KeptKnown, first_known};
+    ghost use Rattle.evl_core.specs.rule.Known.{KeptKnown, first_known};
 
     ghost holds = { λ key. KeptKnown key.value };
 
@@ -44,7 +44,7 @@ pub type CoreLock<C, A> = Table<
 pub struct TakeStep;
 
 impl<C, A: Allocator> Play<Option<KernelBox<C, A>>, CoreHand<C>> for TakeStep {
-    ghost use Rattle.evl_core.specs.Known.{took_known};
+    ghost use Rattle.evl_core.specs.rule.Known.{took_known};
 
     ghost then = { took_known };
 }
@@ -53,7 +53,7 @@ impl<C, A: Allocator> Play<Option<KernelBox<C, A>>, CoreHand<C>> for TakeStep {
 pub struct GiveStep;
 
 impl<C, A: Allocator> Play<Option<KernelBox<C, A>>, CoreHand<C>> for GiveStep {
-    ghost use Rattle.evl_core.specs.Known.{gave_known};
+    ghost use Rattle.evl_core.specs.rule.Known.{gave_known};
 
     ghost then = { gave_known };
 }
@@ -62,7 +62,7 @@ impl<C, A: Allocator> Play<Option<KernelBox<C, A>>, CoreHand<C>> for GiveStep {
 pub struct Trying;
 
 impl<C, A: Allocator> Play<Option<KernelBox<C, A>>, CoreHand<C>> for Trying {
-    ghost use Rattle.evl_core.specs.Known.{tried_known};
+    ghost use Rattle.evl_core.specs.rule.Known.{tried_known};
 
     ghost then = { tried_known };
 }
@@ -71,7 +71,7 @@ impl<C, A: Allocator> Play<Option<KernelBox<C, A>>, CoreHand<C>> for Trying {
 pub struct Unlocking;
 
 impl<C, A: Allocator> Play<Option<KernelBox<C, A>>, CoreHand<C>> for Unlocking {
-    ghost use Rattle.evl_core.specs.Known.{unlocked_known};
+    ghost use Rattle.evl_core.specs.rule.Known.{unlocked_known};
 
     ghost then = { unlocked_known };
 }
@@ -80,7 +80,7 @@ impl<C, A: Allocator> Play<Option<KernelBox<C, A>>, CoreHand<C>> for Unlocking {
 pub struct TryingHeld;
 
 impl<C, A: Allocator> Play<Option<KernelBox<C, A>>, CoreHand<C>> for TryingHeld {
-    ghost use Rattle.evl_core.specs.Known.{tried_held_known};
+    ghost use Rattle.evl_core.specs.rule.Known.{tried_held_known};
 
     ghost then = { tried_held_known };
 }
@@ -89,7 +89,7 @@ impl<C, A: Allocator> Play<Option<KernelBox<C, A>>, CoreHand<C>> for TryingHeld 
 pub struct Claiming;
 
 impl<C, A: Allocator> Play<Option<KernelBox<C, A>>, CoreHand<C>> for Claiming {
-    ghost use Rattle.evl_core.specs.Known.{claimed_known};
+    ghost use Rattle.evl_core.specs.rule.Known.{claimed_known};
 
     ghost then = { claimed_known };
 }
@@ -98,7 +98,7 @@ impl<C, A: Allocator> Play<Option<KernelBox<C, A>>, CoreHand<C>> for Claiming {
 pub struct Settling;
 
 impl<C, A: Allocator> Play<Option<KernelBox<C, A>>, CoreHand<C>> for Settling {
-    ghost use Rattle.evl_core.specs.Known.{settled_known};
+    ghost use Rattle.evl_core.specs.rule.Known.{settled_known};
 
     ghost then = { settled_known };
 }
@@ -107,7 +107,7 @@ impl<C, A: Allocator> Play<Option<KernelBox<C, A>>, CoreHand<C>> for Settling {
 pub struct Offering<H>(PhantomData<H>);
 
 impl<C, A: Allocator, H: Handing> Play<Option<KernelBox<C, A>>, CoreHand<C>> for Offering<H> {
-    ghost use Rattle.evl_core.specs.Known.{offered_known};
+    ghost use Rattle.evl_core.specs.rule.Known.{offered_known};
 
     ghost then = { offered_known H.next H.more };
 }
@@ -116,7 +116,7 @@ impl<C, A: Allocator, H: Handing> Play<Option<KernelBox<C, A>>, CoreHand<C>> for
 pub struct Freeing;
 
 impl<C, A: Allocator> Play<Option<KernelBox<C, A>>, CoreHand<C>> for Freeing {
-    ghost use Rattle.evl_core.specs.Known.{freed_known};
+    ghost use Rattle.evl_core.specs.rule.Known.{freed_known};
 
     ghost then = { freed_known };
 }
@@ -125,7 +125,7 @@ impl<C, A: Allocator> Play<Option<KernelBox<C, A>>, CoreHand<C>> for Freeing {
 pub struct Forgetting;
 
 impl<C, A: Allocator> Play<Option<KernelBox<C, A>>, CoreHand<C>> for Forgetting {
-    ghost use Rattle.evl_core.specs.Known.{forgot_known};
+    ghost use Rattle.evl_core.specs.rule.Known.{forgot_known};
 
     ghost then = { forgot_known };
 }
@@ -134,7 +134,7 @@ impl<C, A: Allocator> Play<Option<KernelBox<C, A>>, CoreHand<C>> for Forgetting 
 pub struct Awaiting;
 
 impl<C, A: Allocator> Play<Option<KernelBox<C, A>>, CoreHand<C>> for Awaiting {
-    ghost use Rattle.evl_core.specs.Known.{awaited_known};
+    ghost use Rattle.evl_core.specs.rule.Known.{awaited_known};
 
     ghost then = { awaited_known };
 }
@@ -143,7 +143,7 @@ impl<C, A: Allocator> Play<Option<KernelBox<C, A>>, CoreHand<C>> for Awaiting {
 pub struct Accepting;
 
 impl<C, A: Allocator> Play<Option<KernelBox<C, A>>, CoreHand<C>> for Accepting {
-    ghost use Rattle.evl_core.specs.Known.{accepted_known};
+    ghost use Rattle.evl_core.specs.rule.Known.{accepted_known};
 
     ghost then = { accepted_known };
 }
@@ -152,7 +152,7 @@ impl<C, A: Allocator> Play<Option<KernelBox<C, A>>, CoreHand<C>> for Accepting {
 pub struct Looking;
 
 impl<C, A: Allocator> Play<Option<KernelBox<C, A>>, CoreHand<C>> for Looking {
-    ghost use Rattle.evl_core.specs.Noted.{looked_known};
+    ghost use Rattle.evl_core.specs.words.Noted.{looked_known};
 
     ghost then = { looked_known };
 }

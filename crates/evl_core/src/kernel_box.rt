@@ -1,8 +1,7 @@
 //! What lies in the slot: the kernel in a box, so that only a pointer moves where the kernel goes out or in.
 ghost use Rattle.std.specs.Prelude.{◌≡◌, IfOk};
 ghost use Rattle.evl_kernel.specs.state.Callbacks.{AnswersByPlan};
-ghost use Rattle.evl_core.specs.KernelCalls.{Applied};
-ghost use Rattle.evl_core.specs.KernelCalls.{Reserves};
+ghost use Rattle.evl_core.specs.accounts.KernelCalls.{Applied, Reserves};
 
 use evl_base::{Call, Refusal, Reply, ThreadId};
 use evl_kernel::KernelOf;

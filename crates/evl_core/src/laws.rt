@@ -11,13 +11,13 @@ ghost use Rattle.evl_kernel.specs.state.KernelViews.{KernelView};
 ghost use Rattle.evl_words.specs.Machine.{Run};
 ghost use Rattle.evl_words.specs.Events.{Event};
 ghost use Rattle.evl_words.specs.Dealings.{DealingEvent};
-ghost use Rattle.evl_core.specs.CoreWorld.{CoreWorld, CoreDealing, CoreKind, CoreHappens, CoreDealingStep, IsCoreWorld, StandsDealt, opened_core};
-ghost use Rattle.evl_core.specs.OneWorld.{IsOneWorld, LiesSo, OneDealing, OneDealingStep, OneKind, OneWorld, StandsInOne, opened_one};
-ghost use Rattle.evl_core.specs.Known.{ComesFrom, CoreHand, KeptKnown, ceilings_of, mutex_count, past_of, room_of};
-ghost use Rattle.evl_core.specs.QuietCore.{LiesQuiet};
-ghost use Rattle.evl_core.specs.TiedCore.{LiesTied};
-ghost use Rattle.evl_core.specs.Tokens.{HasOneHistory};
-ghost use Rattle.evl_core.specs.LostTakes.{AllAreDealt};
+ghost use Rattle.evl_core.specs.worlds.CoreWorld.{CoreWorld, CoreDealing, CoreKind, CoreHappens, CoreDealingStep, IsCoreWorld, StandsDealt, opened_core};
+ghost use Rattle.evl_core.specs.worlds.OneWorld.{IsOneWorld, LiesSo, OneDealing, OneDealingStep, OneKind, OneWorld, StandsInOne, opened_one};
+ghost use Rattle.evl_core.specs.rule.Known.{ComesFrom, CoreHand, KeptKnown, ceilings_of, mutex_count, past_of, room_of};
+ghost use Rattle.evl_core.specs.worlds.QuietCore.{LiesQuiet};
+ghost use Rattle.evl_core.specs.worlds.TiedCore.{LiesTied};
+ghost use Rattle.evl_core.specs.worlds.Tokens.{HasOneHistory};
+ghost use Rattle.evl_core.specs.worlds.LostTakes.{AllAreDealt};
 ghost use Rattle.evl_words.specs.Hands.{place};
 
 /// What holds of the core's word and slot, and of what its threads know, holds after any list of their atomic steps.

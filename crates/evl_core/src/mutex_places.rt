@@ -1,7 +1,6 @@
 //! A thread's places at the mutexes of a machine.
 ghost use Rattle.std.specs.Prelude.{◌≡◌, ◌≢◌, ◌<◌, ◌≤◌, ◌+◌, ◌==◌, ◌&&◌, IfOk, length, nat_lt, IsSomeAnd, slice_get};
-ghost use Rattle.evl_core.specs.MutexPlaces.{new_places};
-ghost use Rattle.evl_core.specs.MutexPlaces.{Deepens, HoldsBy, depth_in, holds_place, less, spend_refusal_in};
+ghost use Rattle.evl_core.specs.words.MutexPlaces.{new_places, Deepens, HoldsBy, depth_in, holds_place, less, spend_refusal_in};
 
 use evl_base::{MutexId, Refusal};
 use evl_words::{MutexPass, MutexPlace};
@@ -18,7 +17,7 @@ pub struct MutexPlaces<A: Allocator> {
 impl<A: Allocator> Model for MutexPlaces<A> {
     ghost use Rattle.std.specs.Prelude.{List};
     ghost use Rattle.evl_words.specs.declared.mutex.place.MutexPlace.{MutexPlace};
-    ghost use Rattle.evl_core.specs.MutexPlaces.{AreCountedPlaces};
+    ghost use Rattle.evl_core.specs.words.MutexPlaces.{AreCountedPlaces};
 
     ghost Value = { List MutexPlace };
 

@@ -4,10 +4,10 @@ ghost use Rattle.std.specs.Prelude.{◌≡◌, ◌<◌, IsSomeAnd, Ok, false, le
 ghost use Rattle.evl_words.specs.declared.mutex.MutexRole.TheVariants.{Winner};
 ghost use Rattle.evl_words.specs.MutexPlaces.{IsOfPlace};
 ghost use Rattle.evl_words.specs.MutexWorld.{accepts, awaits, claims, forgets, frees, offers, settles, tries};
-ghost use Rattle.evl_core.specs.Known.{ceilings_of};
-ghost use Rattle.evl_core.specs.MutexSeats.{AcceptsSo, Claims, ForgetsSo, Frees, IsOfMutex, Offers, Settles, Tries, UnlocksSo};
-ghost use Rattle.evl_core.specs.Noted.{FoundAny, FoundClaimed, FoundOffered, FoundTried, Notes, NotesAccept, is_done, is_refused};
-ghost use Rattle.evl_core.specs.MutexTokens.{AwaitsSo, DoesAtWord, HasKernelFor, IsAtTable, SeesOffered, TakesOffer, part_of, seats_at};
+ghost use Rattle.evl_core.specs.rule.Known.{ceilings_of};
+ghost use Rattle.evl_core.specs.words.MutexSeats.{AcceptsSo, Claims, ForgetsSo, Frees, IsOfMutex, Offers, Settles, Tries, UnlocksSo};
+ghost use Rattle.evl_core.specs.words.Noted.{FoundAny, FoundClaimed, FoundOffered, FoundTried, Notes, NotesAccept, is_done, is_refused};
+ghost use Rattle.evl_core.specs.words.MutexTokens.{AwaitsSo, DoesAtWord, HasKernelFor, IsAtTable, SeesOffered, TakesOffer, part_of, seats_at};
 
 use crate::core_lock::{
     Accepting, Awaiting, Claiming, CoreLock, CoreSeat, Forgetting, Freeing, Offering, Settling,

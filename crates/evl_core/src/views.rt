@@ -11,7 +11,7 @@ pub struct Past {
 
 impl Model for Past {
     ghost use Rattle.evl_kernel.specs.histories.Histories.{History};
-    ghost use Rattle.evl_core.specs.Nothing.{no_history};
+    ghost use Rattle.evl_core.specs.accounts.Nothing.{no_history};
 
     ghost Value = { History };
 
@@ -81,7 +81,7 @@ pub struct Made<C> {
 
 impl<C> Model for Made<C> {
     ghost use Rattle.evl_kernel.specs.state.KernelViews.{KernelView};
-    ghost use Rattle.evl_core.specs.Nothing.{no_kernel};
+    ghost use Rattle.evl_core.specs.accounts.Nothing.{no_kernel};
 
     ghost Value = { KernelView C };
 

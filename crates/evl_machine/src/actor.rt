@@ -4,14 +4,14 @@ ghost use Rattle.evl_base.specs.declared.refusal.Refusal.TheVariants.{Busy, Hold
 ghost use Rattle.evl_base.specs.declared.stage.Stage.TheVariants.{Inband};
 ghost use Rattle.evl_kernel.specs.state.Callbacks.{AnswersByPlan};
 ghost use Rattle.evl_kernel.specs.calls.Families.{moves_caller, task_of};
-ghost use Rattle.evl_machine.specs.Actors.{AreHeldAt, ClaimsOneOf, IsSameActor, Suits, acting, call_refusal, keeps_stage};
-ghost use Rattle.evl_core.specs.KernelCalls.{Applied};
-ghost use Rattle.evl_core.specs.Ceilings.{has_ceiling};
-ghost use Rattle.evl_core.specs.Known.{first_of};
-ghost use Rattle.evl_machine.specs.MutexLocks.{is_handed_on, lock_refusal, spend_refusal};
-ghost use Rattle.evl_core.specs.MutexSeats.{depth_at, holds_mutex, owner_refusal, unlock_refusal};
-ghost use Rattle.evl_core.specs.MutexTokens.{IsAtTable};
-ghost use Rattle.evl_machine.specs.StaxSeats.{holds_stax};
+ghost use Rattle.evl_machine.specs.callers.Actors.{AreHeldAt, ClaimsOneOf, IsSameActor, Suits, acting, call_refusal, keeps_stage};
+ghost use Rattle.evl_core.specs.accounts.KernelCalls.{Applied};
+ghost use Rattle.evl_core.specs.rule.Ceilings.{has_ceiling};
+ghost use Rattle.evl_core.specs.rule.Known.{first_of};
+ghost use Rattle.evl_machine.specs.mutex_locks.MutexLocks.{is_handed_on, lock_refusal, spend_refusal};
+ghost use Rattle.evl_core.specs.words.MutexSeats.{depth_at, holds_mutex, owner_refusal, unlock_refusal};
+ghost use Rattle.evl_core.specs.words.MutexTokens.{IsAtTable};
+ghost use Rattle.evl_machine.specs.stax_locks.StaxSeats.{holds_stax};
 
 use crate::elements::StaxSeats;
 use crate::unfinished::{Unfinished, wait_after, wait_step};
@@ -36,7 +36,7 @@ pub struct Actor<C, A: Allocator> {
 }
 
 impl<C, A: Allocator> Model for Actor<C, A> {
-    ghost use Rattle.evl_machine.specs.Actors.{IsActor, SeatedActor};
+    ghost use Rattle.evl_machine.specs.callers.Actors.{IsActor, SeatedActor};
 
     ghost Value = { SeatedActor C };
 

@@ -1,12 +1,11 @@
 //! What two callers of one machine know together.
 ghost use Rattle.std.specs.Prelude.{◌≡◌, map};
-ghost use Rattle.evl_machine.specs.Actors.{acting};
-ghost use Rattle.evl_core.specs.Seats.{IsCaller};
-ghost use Rattle.evl_machine.specs.Handles.{Belongs};
-ghost use Rattle.evl_core.specs.Seats.{account_of};
-ghost use Rattle.evl_core.specs.Homes.{stax_home};
-ghost use Rattle.evl_core.specs.Known.{seen};
-ghost use Rattle.evl_core.specs.OneHistory.{AgreeOnMutexes, AgreeOnStaxes, OneHistory};
+ghost use Rattle.evl_machine.specs.callers.Actors.{acting};
+ghost use Rattle.evl_core.specs.accounts.Seats.{IsCaller, account_of};
+ghost use Rattle.evl_machine.specs.callers.Handles.{Belongs};
+ghost use Rattle.evl_core.specs.words.Homes.{stax_home};
+ghost use Rattle.evl_core.specs.rule.Known.{seen};
+ghost use Rattle.evl_core.specs.accounts.OneHistory.{AgreeOnMutexes, AgreeOnStaxes, OneHistory};
 
 use crate::actor::Actor;
 use crate::caller::CallerOf;
@@ -21,7 +20,7 @@ pub struct AtCore<C>(PhantomData<C>);
 
 impl<C> Together<ThreadView<Made<C>, View<WordEntry<MutexCall, MutexReply>, MutexHold>>>
     for AtCore<C> {
-    ghost use Rattle.evl_core.specs.OneHistory.{AreTogether};
+    ghost use Rattle.evl_core.specs.accounts.OneHistory.{AreTogether};
 
     ghost together = { AreTogether };
 }

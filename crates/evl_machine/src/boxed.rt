@@ -4,13 +4,13 @@ ghost use Rattle.std.specs.Prelude.{◌≡◌, ◌≢◌, ◌⊎◌, ◌↔◌, 
 ghost use Rattle.evl_kernel.specs.state.Callbacks.{AnswersByPlan};
 ghost use Rattle.evl_kernel.specs.state.KernelViews.{IsOpened};
 ghost use Rattle.evl_kernel.specs.state.Openings.{can_open};
-ghost use Rattle.evl_machine.specs.Handles.{Belongs, newcomers_of, returned, turned_away};
-ghost use Rattle.evl_core.specs.Homes.{AreHomes};
-ghost use Rattle.evl_core.specs.Events.{FailsToTake, Gives, Takes};
-ghost use Rattle.evl_machine.specs.Calls.{CalledHeld, HoldsAtItsStage, TookKernel};
-ghost use Rattle.evl_machine.specs.Closings.{Closes, KeepsOpen};
-ghost use Rattle.evl_machine.specs.InWord.{Agrees, SaysTied};
-ghost use Rattle.evl_core.specs.Known.{ceilings_of, mutex_count};
+ghost use Rattle.evl_machine.specs.callers.Handles.{Belongs, newcomers_of, returned, turned_away};
+ghost use Rattle.evl_core.specs.words.Homes.{AreHomes};
+ghost use Rattle.evl_core.specs.worlds.Events.{FailsToTake, Gives, Takes};
+ghost use Rattle.evl_machine.specs.calls.Calls.{CalledHeld, HoldsAtItsStage, TookKernel};
+ghost use Rattle.evl_machine.specs.calls.Closings.{Closes, KeepsOpen};
+ghost use Rattle.evl_machine.specs.mutex_locks.InWord.{Agrees, SaysTied};
+ghost use Rattle.evl_core.specs.rule.Known.{ceilings_of, mutex_count};
 
 use crate::caller::CallerOf;
 use crate::held::HeldOf;

@@ -5,10 +5,10 @@ ghost use Rattle.evl_base.specs.declared.refusal.Refusal.TheVariants.{CoreBusy};
 ghost use Rattle.evl_kernel.specs.state.Callbacks.{AnswersByPlan};
 ghost use Rattle.evl_machine.specs.declared.unfinished.Unfinished.TheVariants.{Element};
 ghost use Rattle.evl_machine.specs.declared.unfinished.WaitStep.TheVariants.{Begins};
-ghost use Rattle.evl_machine.specs.Calls.{HoldsAtItsStage, wait_of_caller};
-ghost use Rattle.evl_machine.specs.Handles.{Belongs, IsSameCaller};
-ghost use Rattle.evl_machine.specs.Unfinished.{wait_step};
-ghost use Rattle.evl_machine.specs.Waitings.{Waits, WaitsOut, begins_wait};
+ghost use Rattle.evl_machine.specs.calls.Calls.{HoldsAtItsStage, wait_of_caller};
+ghost use Rattle.evl_machine.specs.callers.Handles.{Belongs, IsSameCaller};
+ghost use Rattle.evl_machine.specs.callers.Unfinished.{wait_step};
+ghost use Rattle.evl_machine.specs.calls.Waitings.{Waits, WaitsOut, begins_wait};
 
 use crate::caller::CallerOf;
 use crate::machine::MachineOf;

@@ -1,8 +1,8 @@
 //! What stands in a mutex's word, looked at by the caller that has the kernel.
 ghost use Rattle.std.specs.Prelude.{ℕ, ◌≡◌, ◌+◌, ◌<◌, ⊤, MatchOption, is_some, nat_lt};
-ghost use Rattle.evl_machine.specs.InWord.{Agrees, IsRead, SaysTied, in_word, owner_of};
-ghost use Rattle.evl_core.specs.Known.{ceilings_of, first_of, mutex_count};
-ghost use Rattle.evl_core.specs.Noted.{Stood};
+ghost use Rattle.evl_machine.specs.mutex_locks.InWord.{Agrees, IsRead, SaysTied, in_word, owner_of};
+ghost use Rattle.evl_core.specs.rule.Known.{ceilings_of, first_of, mutex_count};
+ghost use Rattle.evl_core.specs.words.Noted.{Stood};
 
 use crate::actor::Actor;
 use crate::held::HeldOf;

@@ -3,8 +3,8 @@ ghost use Rattle.std.specs.Prelude.{◌≡◌, ℕ, Some, slice_get};
 ghost use mathlib.Core.Option.{some};
 ghost use lib.ListN.{get_elem?};
 ghost use Rattle.evl_base.specs.declared.stage.Stage.{Stage};
-ghost use Rattle.evl_machine.specs.Calls.{HoldsAtItsStage, stage_of_caller};
-ghost use Rattle.evl_machine.specs.Handles.{CallerState};
+ghost use Rattle.evl_machine.specs.calls.Calls.{HoldsAtItsStage, stage_of_caller};
+ghost use Rattle.evl_machine.specs.callers.Handles.{CallerState};
 ghost use Rattle.evl_words.specs.GateCalls.{SeatState};
 ghost use Rattle.evl_words.specs.GateWorld.{GateWorld, IsGateWorld};
 

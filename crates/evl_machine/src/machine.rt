@@ -4,14 +4,13 @@ ghost use Rattle.evl_base.specs.Board.{board_fits};
 ghost use Rattle.evl_base.specs.declared.refusal.Refusal.TheVariants.{CoreBusy};
 ghost use Rattle.evl_kernel.specs.calls.Families.{moves_caller, task_of};
 ghost use Rattle.evl_kernel.specs.state.Callbacks.{AnswersByPlan};
-ghost use Rattle.evl_machine.specs.Actors.{AreHeldAt, ClaimsOneOf, IsSameActor, Suits, acting, call_refusal};
-ghost use Rattle.evl_machine.specs.Calls.{ActsOnCore, Answered, Called, HoldsAtItsStage, KernelCall, answer_of, own_refusal};
-ghost use Rattle.evl_core.specs.Seats.{IsCaller};
-ghost use Rattle.evl_machine.specs.Handles.{Belongs, IsSameCaller};
-ghost use Rattle.evl_core.specs.Seats.{account_of};
-ghost use Rattle.evl_core.specs.Known.{first_of, seen};
-ghost use Rattle.evl_core.specs.MutexSeats.{holds_mutex};
-ghost use Rattle.evl_machine.specs.StaxSeats.{holds_stax};
+ghost use Rattle.evl_machine.specs.callers.Actors.{AreHeldAt, ClaimsOneOf, IsSameActor, Suits, acting, call_refusal};
+ghost use Rattle.evl_machine.specs.calls.Calls.{ActsOnCore, Answered, Called, HoldsAtItsStage, KernelCall, answer_of, own_refusal};
+ghost use Rattle.evl_core.specs.accounts.Seats.{IsCaller, account_of};
+ghost use Rattle.evl_machine.specs.callers.Handles.{Belongs, IsSameCaller};
+ghost use Rattle.evl_core.specs.rule.Known.{first_of, seen};
+ghost use Rattle.evl_core.specs.words.MutexSeats.{holds_mutex};
+ghost use Rattle.evl_machine.specs.stax_locks.StaxSeats.{holds_stax};
 
 use crate::actor::Actor;
 use crate::caller::CallerOf;
@@ -33,11 +32,11 @@ pub struct MachineOf<C: Drop, A: Allocator> {
 
 impl<C: Drop, A: Allocator> Model for MachineOf<C, A> {
     ghost use Rattle.std.specs.Prelude.{◌≡◌};
-    ghost use Rattle.evl_core.specs.Accounts.{threads_of};
+    ghost use Rattle.evl_core.specs.accounts.Accounts.{threads_of};
     ghost use Rattle.std.specs.Prelude.{◌+◌, length, map, true};
     ghost use Rattle.evl_base.specs.Board.{board_fits};
-    ghost use Rattle.evl_core.specs.Homes.{gate_home, word_homes};
-    ghost use Rattle.evl_machine.specs.Handles.{MachineState};
+    ghost use Rattle.evl_core.specs.words.Homes.{gate_home, word_homes};
+    ghost use Rattle.evl_machine.specs.callers.Handles.{MachineState};
 
     ghost Value = { MachineState C };
 

@@ -1,18 +1,17 @@
 //! Making a machine, with a caller for each thread of its board.
-ghost use Rattle.std.specs.Prelude.{◌≡◌, ◌≤◌, ◌⊎◌, ◌↔◌, [], ◌∷◌, Some, false, length, IfOk, IfErr};
+ghost use Rattle.std.specs.Prelude.{◌≡◌, ◌≤◌, ◌⊎◌, ◌↔◌, [], ◌∷◌, Some, false, length, IfOk, IfErr, ◌<◌, ◌+◌, map, replicate, true, vec_capacity, vec_len};
 ghost use Rattle.evl_kernel.specs.state.Callbacks.{AnswersByPlan};
 ghost use Rattle.evl_kernel.specs.histories.Histories.{IsLegal};
 ghost use Rattle.evl_kernel.specs.state.KernelViews.{IsOpened};
 ghost use Rattle.evl_kernel.specs.state.Openings.{can_open};
-ghost use Rattle.evl_core.specs.Accounts.{threads_of};
-ghost use Rattle.evl_core.specs.Known.{first_known, mutex_count};
-ghost use Rattle.evl_machine.specs.Handles.{newcomers_of};
-ghost use Rattle.evl_machine.specs.Makings.{AreMade};
-ghost use Rattle.std.specs.Prelude.{◌<◌, ◌+◌, map, replicate, true, vec_capacity, vec_len};
+ghost use Rattle.evl_core.specs.accounts.Accounts.{threads_of};
+ghost use Rattle.evl_core.specs.rule.Known.{first_known, mutex_count};
+ghost use Rattle.evl_machine.specs.callers.Handles.{newcomers_of};
+ghost use Rattle.evl_machine.specs.calls.Makings.{AreMade};
 ghost use Rattle.std.specs.List.{range_with_len};
 ghost use Rattle.evl_base.specs.Board.{board_fits};
-ghost use Rattle.evl_core.specs.Homes.{AreHomes, gate_home, word_homes};
-ghost use Rattle.evl_core.specs.MutexPlaces.{new_places};
+ghost use Rattle.evl_core.specs.words.Homes.{AreHomes, gate_home, word_homes};
+ghost use Rattle.evl_core.specs.words.MutexPlaces.{new_places};
 ghost use Rattle.evl_words.specs.GateCalls.{new_seat};
 
 use crate::actor::Actor;

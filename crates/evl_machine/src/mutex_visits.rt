@@ -3,13 +3,13 @@ ghost use Rattle.std.specs.Prelude.{◌≡◌, ◌<◌, Err, None, Some, length,
 ghost use Rattle.evl_base.specs.declared.refusal.Refusal.TheVariants.{CoreBusy};
 ghost use Rattle.evl_kernel.specs.state.Callbacks.{AnswersByPlan};
 ghost use Rattle.evl_machine.specs.declared.unfinished.Unfinished.TheVariants.{Mutex};
-ghost use Rattle.evl_machine.specs.Calls.{HoldsAtItsStage, wait_of_caller};
-ghost use Rattle.evl_core.specs.Ceilings.{has_ceiling};
-ghost use Rattle.evl_machine.specs.Handles.{Belongs, IsSameCaller};
-ghost use Rattle.evl_machine.specs.Locking.{Begins, Finishes, LocksRaised};
-ghost use Rattle.evl_machine.specs.MutexLocks.{HandsOn, kind_of, kinds_of, own_lock_refusal};
-ghost use Rattle.evl_core.specs.MutexSeats.{HasOnce};
-ghost use Rattle.evl_machine.specs.Visits.{Visits};
+ghost use Rattle.evl_machine.specs.calls.Calls.{HoldsAtItsStage, wait_of_caller};
+ghost use Rattle.evl_core.specs.rule.Ceilings.{has_ceiling};
+ghost use Rattle.evl_machine.specs.callers.Handles.{Belongs, IsSameCaller};
+ghost use Rattle.evl_machine.specs.mutex_locks.Locking.{Begins, Finishes, LocksRaised};
+ghost use Rattle.evl_machine.specs.mutex_locks.MutexLocks.{HandsOn, kind_of, kinds_of, own_lock_refusal};
+ghost use Rattle.evl_core.specs.words.MutexSeats.{HasOnce};
+ghost use Rattle.evl_machine.specs.calls.Visits.{Visits};
 
 use crate::caller::CallerOf;
 use crate::locking::{Begun, Ended, begin, finish, lock_raised, release};

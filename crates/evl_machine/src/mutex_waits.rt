@@ -1,10 +1,10 @@
 //! Locking a mutex, and giving it back, however long it takes.
 ghost use Rattle.std.specs.Prelude.{◌≡◌, false};
 ghost use Rattle.evl_kernel.specs.state.Callbacks.{AnswersByPlan};
-ghost use Rattle.evl_machine.specs.Calls.{HoldsAtItsStage};
-ghost use Rattle.evl_machine.specs.Handles.{Belongs, IsSameCaller};
-ghost use Rattle.evl_machine.specs.MutexLocks.{BeginsToLock, FinishesToLock};
-ghost use Rattle.evl_machine.specs.MutexWaits.{Lasts, UnlocksAtLast, WaitsForMutex, passes};
+ghost use Rattle.evl_machine.specs.calls.Calls.{HoldsAtItsStage};
+ghost use Rattle.evl_machine.specs.callers.Handles.{Belongs, IsSameCaller};
+ghost use Rattle.evl_machine.specs.mutex_locks.MutexLocks.{BeginsToLock, FinishesToLock};
+ghost use Rattle.evl_machine.specs.mutex_locks.MutexWaits.{Lasts, UnlocksAtLast, WaitsForMutex, passes};
 
 use crate::caller::CallerOf;
 use crate::locking::{Begun, Ended};

@@ -2,12 +2,12 @@
 ghost use Rattle.std.specs.Prelude.{◌≡◌, ◌≢◌, ◌<◌, None, Ok, false};
 ghost use Rattle.evl_kernel.specs.state.Callbacks.{AnswersByPlan};
 ghost use Rattle.evl_words.specs.declared.mutex.Unlock.TheVariants.{Done};
-ghost use Rattle.evl_machine.specs.Calls.{HoldsAtItsStage, wait_of_caller};
-ghost use Rattle.evl_core.specs.Ceilings.{has_ceiling};
-ghost use Rattle.evl_machine.specs.Handles.{Belongs, IsSameCaller};
-ghost use Rattle.evl_machine.specs.MutexLocks.{MutexCall, UnlocksAtWord, is_handed_on, kind_of, kinds_of, own_lock_refusal};
-ghost use Rattle.evl_core.specs.MutexTokens.{AreTheSame};
-ghost use Rattle.evl_core.specs.MutexSeats.{TriesMutex, UnlocksMutex, depth_at, unlock_refusal};
+ghost use Rattle.evl_machine.specs.calls.Calls.{HoldsAtItsStage, wait_of_caller};
+ghost use Rattle.evl_core.specs.rule.Ceilings.{has_ceiling};
+ghost use Rattle.evl_machine.specs.callers.Handles.{Belongs, IsSameCaller};
+ghost use Rattle.evl_machine.specs.mutex_locks.MutexLocks.{MutexCall, UnlocksAtWord, is_handed_on, kind_of, kinds_of, own_lock_refusal};
+ghost use Rattle.evl_core.specs.words.MutexTokens.{AreTheSame};
+ghost use Rattle.evl_core.specs.words.MutexSeats.{TriesMutex, UnlocksMutex, depth_at, unlock_refusal};
 
 use crate::caller::CallerOf;
 use crate::machine::MachineOf;

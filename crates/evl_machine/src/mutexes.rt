@@ -1,10 +1,10 @@
 //! Locking mutexes and unlocking them, without waiting.
 ghost use Rattle.std.specs.Prelude.{IfErr};
 ghost use Rattle.evl_kernel.specs.state.Callbacks.{AnswersByPlan};
-ghost use Rattle.evl_machine.specs.Calls.{HoldsAtItsStage};
-ghost use Rattle.evl_machine.specs.Handles.{Belongs, IsSameCaller};
-ghost use Rattle.evl_machine.specs.MutexLocks.{BeginsToLock, FastAnswer, FinishesToLock, TriesToLock, TriesToUnlock, UnlocksFast};
-ghost use Rattle.evl_machine.specs.Visits.{FullOnly};
+ghost use Rattle.evl_machine.specs.calls.Calls.{HoldsAtItsStage};
+ghost use Rattle.evl_machine.specs.callers.Handles.{Belongs, IsSameCaller};
+ghost use Rattle.evl_machine.specs.mutex_locks.MutexLocks.{BeginsToLock, FastAnswer, FinishesToLock, TriesToLock, TriesToUnlock, UnlocksFast};
+ghost use Rattle.evl_machine.specs.calls.Visits.{FullOnly};
 
 use crate::actor::{has_ceiling, is_handed_on};
 use crate::caller::CallerOf;

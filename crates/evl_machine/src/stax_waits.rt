@@ -1,11 +1,11 @@
 //! Entering a stax, however long others keep the caller out.
 ghost use Rattle.std.specs.Prelude.{◌≡◌, ◌<◌, ◌&&◌, IfErr, MatchResult, false, length, not};
-ghost use Rattle.evl_core.specs.AtSeats.{AtSeat};
-ghost use Rattle.evl_machine.specs.Calls.{HoldsAtItsStage, stage_of_caller};
-ghost use Rattle.evl_machine.specs.Handles.{Belongs, IsSameCaller};
-ghost use Rattle.evl_machine.specs.StaxCalls.{StaxCall};
-ghost use Rattle.evl_machine.specs.StaxSeats.{TriesStax};
-ghost use Rattle.evl_machine.specs.StaxWaits.{Marks, RetriesOnce, WaitsForStax, is_again, may_pass};
+ghost use Rattle.evl_core.specs.words.AtSeats.{AtSeat};
+ghost use Rattle.evl_machine.specs.calls.Calls.{HoldsAtItsStage, stage_of_caller};
+ghost use Rattle.evl_machine.specs.callers.Handles.{Belongs, IsSameCaller};
+ghost use Rattle.evl_machine.specs.stax_locks.StaxCalls.{StaxCall};
+ghost use Rattle.evl_machine.specs.stax_locks.StaxSeats.{TriesStax};
+ghost use Rattle.evl_machine.specs.stax_locks.StaxWaits.{Marks, RetriesOnce, WaitsForStax, is_again, may_pass};
 
 use crate::caller::CallerOf;
 use crate::machine::MachineOf;

@@ -1,9 +1,9 @@
 //! Entering staxes and leaving them.
 ghost use Rattle.std.specs.Prelude.{◌≡◌};
-ghost use Rattle.evl_machine.specs.Handles.{Belongs, IsSameCaller};
-ghost use Rattle.evl_machine.specs.Calls.{HoldsAtItsStage, stage_of_caller};
-ghost use Rattle.evl_machine.specs.StaxSeats.{LeavesStax, TriesStax};
-ghost use Rattle.evl_machine.specs.StaxCalls.{StaxCall};
+ghost use Rattle.evl_machine.specs.callers.Handles.{Belongs, IsSameCaller};
+ghost use Rattle.evl_machine.specs.calls.Calls.{HoldsAtItsStage, stage_of_caller};
+ghost use Rattle.evl_machine.specs.stax_locks.StaxSeats.{LeavesStax, TriesStax};
+ghost use Rattle.evl_machine.specs.stax_locks.StaxCalls.{StaxCall};
 
 use crate::caller::CallerOf;
 use crate::machine::MachineOf;

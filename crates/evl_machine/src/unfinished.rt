@@ -1,6 +1,6 @@
 //! For what a caller waits, by its own calls.
 ghost use Rattle.std.specs.Prelude.{◌≡◌};
-ghost use Rattle.evl_machine.specs.Unfinished.{wait_after, wait_step};
+ghost use Rattle.evl_machine.specs.callers.Unfinished.{wait_after, wait_step};
 
 use evl_base::{Call, MutexId, Refusal, Reply};
 

@@ -1,13 +1,12 @@
 //! Taking the kernel and giving it back: by a seat at the core's table, and by a caller within one call.
 ghost use Rattle.std.specs.Prelude.{◌≡◌, ⊤, MatchOption};
-ghost use Rattle.evl_core.specs.Accounts.{lost_one, up_to_date};
-ghost use Rattle.evl_core.specs.Seats.{IsCaller};
-ghost use Rattle.evl_core.specs.Events.{FailsToTake, Gives, Takes};
-ghost use Rattle.evl_core.specs.Seats.{Continues, Taken, account_of, holding, resting};
-ghost use Rattle.evl_machine.specs.InHand.{HasMissed, HasOpened, HasShut, MayShut};
-ghost use Rattle.evl_core.specs.Known.{ComesFrom, first_of, past_of, room_of, seen};
-ghost use Rattle.evl_core.specs.MutexTokens.{KeepsPlaces};
-ghost use Rattle.evl_core.specs.Noted.{HasTaken, IsSettled};
+ghost use Rattle.evl_core.specs.accounts.Accounts.{lost_one, up_to_date};
+ghost use Rattle.evl_core.specs.accounts.Seats.{IsCaller, Continues, Taken, account_of, holding, resting};
+ghost use Rattle.evl_core.specs.worlds.Events.{FailsToTake, Gives, Takes};
+ghost use Rattle.evl_machine.specs.callers.InHand.{HasMissed, HasOpened, HasShut, MayShut};
+ghost use Rattle.evl_core.specs.rule.Known.{ComesFrom, first_of, past_of, room_of, seen};
+ghost use Rattle.evl_core.specs.words.MutexTokens.{KeepsPlaces};
+ghost use Rattle.evl_core.specs.words.Noted.{HasTaken, IsSettled};
 
 use crate::actor::Actor;
 use crate::machine::MachineOf;

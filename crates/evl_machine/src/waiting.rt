@@ -2,8 +2,8 @@
 ghost use Rattle.std.specs.Prelude.{◌≡◌, ◌≢◌, Err};
 ghost use Rattle.evl_kernel.specs.state.Callbacks.{AnswersByPlan};
 ghost use Rattle.evl_base.specs.declared.refusal.Refusal.TheVariants.{CoreBusy};
-ghost use Rattle.evl_machine.specs.Handles.{Belongs, IsSameCaller};
-ghost use Rattle.evl_machine.specs.Calls.{CalledAtLast, HoldsAtItsStage};
+ghost use Rattle.evl_machine.specs.callers.Handles.{Belongs, IsSameCaller};
+ghost use Rattle.evl_machine.specs.calls.Calls.{CalledAtLast, HoldsAtItsStage};
 
 use crate::caller::CallerOf;
 use crate::machine::MachineOf;

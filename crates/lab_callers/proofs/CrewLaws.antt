@@ -5,7 +5,7 @@ use Rattle.std.specs.List.{insert, remove}
 use Rattle.std.proofs.lemmas.List.Elements.{All-append, All-cons, All-drop, All-take}
 use Rattle.std.proofs.lemmas.Option.{slice_get_read}
 use Rattle.lab_callers.specs.Crews.{StepsAt}
-use Rattle.evl_machine.specs.Handles.{CallerState}
+use Rattle.evl_machine.specs.callers.Handles.{CallerState}
 
 -- whoever comes to the place that was left stands there instead
 comes_back : {X : Type 0} (xs : List X) (k : ℕ) (x : X) → k < length xs → insert (remove xs k) k x ≡ slice_set xs k x

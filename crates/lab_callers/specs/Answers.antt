@@ -17,11 +17,11 @@ use Rattle.lab_callers.specs.declared.views.Shows.{Shows}
 use Rattle.lab_callers.specs.declared.views.Shows.TheVariants as shows
 use Rattle.lab_callers_text.specs.declared.acts.Act.{Act}
 use Rattle.lab_callers_text.specs.declared.acts.Act.TheVariants as act
-use Rattle.evl_machine.specs.Calls.{stage_of_caller}
-use Rattle.evl_machine.specs.Handles.{CallerState}
-use Rattle.evl_machine.specs.MutexLocks.{BeginsToLock, FinishesToLock, TriesToLock, TriesToUnlock, UnlocksFast}
-use Rattle.evl_machine.specs.StaxCalls.{StaxCall}
-use Rattle.evl_machine.specs.StaxSeats.{LeavesStax, TriesStax}
+use Rattle.evl_machine.specs.calls.Calls.{stage_of_caller}
+use Rattle.evl_machine.specs.callers.Handles.{CallerState}
+use Rattle.evl_machine.specs.mutex_locks.MutexLocks.{BeginsToLock, FinishesToLock, TriesToLock, TriesToUnlock, UnlocksFast}
+use Rattle.evl_machine.specs.stax_locks.StaxCalls.{StaxCall}
+use Rattle.evl_machine.specs.stax_locks.StaxSeats.{LeavesStax, TriesStax}
 use Rattle.evl_machine.specs.declared.locking.Begun.{Begun}
 use Rattle.evl_machine.specs.declared.locking.Begun.TheVariants as begun
 use Rattle.evl_machine.specs.declared.locking.Ended.{Ended}

@@ -6,8 +6,8 @@ use Rattle.evl_base.specs.declared.refusal.Refusal.{Refusal}
 use Rattle.evl_base.specs.declared.reply.Reply.{Reply}
 use Rattle.lab_callers.specs.declared.passes.StepFault.{StepFault}
 use Rattle.lab_callers.specs.declared.passes.StepFault.TheVariants.{HasCore, HasNoCore, NoCaller}
-use Rattle.evl_machine.specs.Calls.{Called, CalledHeld, TookKernel}
-use Rattle.evl_machine.specs.Handles.{CallerState, HeldState, returned, turned_away}
+use Rattle.evl_machine.specs.calls.Calls.{Called, CalledHeld, TookKernel}
+use Rattle.evl_machine.specs.callers.Handles.{CallerState, HeldState, returned, turned_away}
 
 -- The caller at this place does this, and no other one does anything
 pub record StepsAt {C : Type 0} (old : List (CallerState C)) (place : ℕ) (does : CallerState C → CallerState C → Type 0) (new : List (CallerState C)) : Type 0 where

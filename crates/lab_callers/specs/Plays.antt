@@ -20,8 +20,8 @@ use Rattle.lab_callers.specs.declared.views.View.{View}
 use Rattle.lab_callers_text.specs.declared.acts.CallersStep.{CallersStep}
 use Rattle.lab_callers_text.specs.declared.reading.CallersText.{CallersText}
 use Rattle.evl_kernel.specs.state.KernelViews.{IsOpened, KernelView}
-use Rattle.evl_machine.specs.Closings.{Closes, KeepsOpen}
-use Rattle.evl_machine.specs.Handles.{CallerState, HeldState, MachineState, newcomers_of}
+use Rattle.evl_machine.specs.calls.Closings.{Closes, KeepsOpen}
+use Rattle.evl_machine.specs.callers.Handles.{CallerState, HeldState, MachineState, newcomers_of}
 use Rattle.evl_pipeline.specs.declared.plan.Plan.{Plan}
 use Rattle.evl_scenario.specs.Lines.{board_line_of, board_line_text, line_feed, play_lines}
 

@@ -6,9 +6,9 @@ use Rattle.lab_callers.specs.Crews.{CrewState, StepsAt}
 use Rattle.lab_callers.specs.declared.views.Question.{Question}
 use Rattle.lab_callers.specs.declared.views.View.{View}
 use Rattle.evl_kernel.specs.state.KernelViews.{KernelView}
-use Rattle.evl_machine.specs.Calls.{TookKernel}
-use Rattle.evl_machine.specs.Handles.{CallerState, HeldState, returned}
-use Rattle.evl_machine.specs.InWord.{Agrees}
+use Rattle.evl_machine.specs.calls.Calls.{TookKernel}
+use Rattle.evl_machine.specs.callers.Handles.{CallerState, HeldState, returned}
+use Rattle.evl_machine.specs.mutex_locks.InWord.{Agrees}
 use Rattle.evl_sched.specs.Threads.{stage_of}
 
 module _ {C : Type 0} where

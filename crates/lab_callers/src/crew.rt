@@ -5,10 +5,10 @@ ghost use Rattle.std.specs.List.{insert};
 ghost use Rattle.lab_callers.specs.Crews.{CallsByHolder, CallsKernel, GivesCore, Steps, TakesCore, call_fault, crew_at, give_fault, has_core, holder_of, place_fault, place_of};
 ghost use Rattle.lab_callers.specs.Views.{Looks, LooksAt, LooksHeld};
 ghost use Rattle.evl_kernel.specs.state.Callbacks.{AnswersByPlan};
-ghost use Rattle.evl_machine.specs.Calls.{Called, stage_of_caller};
-ghost use Rattle.evl_machine.specs.MutexLocks.{BeginsToLock, FinishesToLock, TriesToLock, TriesToUnlock, UnlocksFast};
-ghost use Rattle.evl_machine.specs.StaxCalls.{StaxCall};
-ghost use Rattle.evl_machine.specs.StaxSeats.{LeavesStax, TriesStax};
+ghost use Rattle.evl_machine.specs.calls.Calls.{Called, stage_of_caller};
+ghost use Rattle.evl_machine.specs.mutex_locks.MutexLocks.{BeginsToLock, FinishesToLock, TriesToLock, TriesToUnlock, UnlocksFast};
+ghost use Rattle.evl_machine.specs.stax_locks.StaxCalls.{StaxCall};
+ghost use Rattle.evl_machine.specs.stax_locks.StaxSeats.{LeavesStax, TriesStax};
 
 use crate::passes::StepFault;
 use crate::steps_at;

@@ -7,7 +7,7 @@ ghost use Rattle.lab_callers.specs.Plays.{ClosesSo, EndsSo, HaveMade, IsStopped,
 ghost use Rattle.lab_callers.specs.Shown.{closed_text, mutex_asked, open_text, shown_text, step_text, thread_asked};
 ghost use Rattle.evl_kernel.specs.state.Callbacks.{AnswersByPlan};
 ghost use Rattle.evl_kernel.specs.state.KernelViews.{IsOpened};
-ghost use Rattle.evl_machine.specs.Handles.{newcomers_of};
+ghost use Rattle.evl_machine.specs.callers.Handles.{newcomers_of};
 ghost use Rattle.evl_scenario.specs.Lines.{board_line_of, board_line_text};
 ghost use Rattle.evl_scenario.specs.Traces.{lines_behind};
 

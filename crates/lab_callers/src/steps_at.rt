@@ -2,10 +2,10 @@
 ghost use Rattle.std.specs.Prelude.{◌≡◌, ◌<◌, All, IfErr, length};
 ghost use Rattle.lab_callers.specs.Crews.{StepsAt};
 ghost use Rattle.evl_kernel.specs.state.Callbacks.{AnswersByPlan};
-ghost use Rattle.evl_machine.specs.Calls.{Called, stage_of_caller};
-ghost use Rattle.evl_machine.specs.MutexLocks.{BeginsToLock, FinishesToLock, TriesToLock, TriesToUnlock, UnlocksFast};
-ghost use Rattle.evl_machine.specs.StaxCalls.{StaxCall};
-ghost use Rattle.evl_machine.specs.StaxSeats.{LeavesStax, TriesStax};
+ghost use Rattle.evl_machine.specs.calls.Calls.{Called, stage_of_caller};
+ghost use Rattle.evl_machine.specs.mutex_locks.MutexLocks.{BeginsToLock, FinishesToLock, TriesToLock, TriesToUnlock, UnlocksFast};
+ghost use Rattle.evl_machine.specs.stax_locks.StaxCalls.{StaxCall};
+ghost use Rattle.evl_machine.specs.stax_locks.StaxSeats.{LeavesStax, TriesStax};
 
 use evl_base::{Call, MutexId, Refusal, Reply, StaxId};
 use evl_machine::{Begun, CallerOf, Ended, MachineOf};

@@ -2,7 +2,7 @@
 ghost use Rattle.std.specs.Prelude.{◌≡◌, ⊤, IfOk, MatchOption, drop};
 ghost use Rattle.std.specs.Option.{option_map_or};
 ghost use Rattle.lab_callers.specs.Views.{Sees};
-ghost use Rattle.evl_machine.specs.InWord.{Agrees};
+ghost use Rattle.evl_machine.specs.mutex_locks.InWord.{Agrees};
 ghost use Rattle.evl_sched.specs.Threads.{stage_of};
 
 use evl_base::{MutexId, Play, Stage, StaxId, ThreadId};

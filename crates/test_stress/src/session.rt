@@ -20,7 +20,7 @@ pub struct Session<'m, C: Handler, A: Allocator> {
 impl<'m, C: Handler, A: Allocator> Model for Session<'m, C, A> {
     ghost use Rattle.std.specs.Prelude.{◌≡◌};
     ghost use Rattle.evl_kernel.specs.state.Callbacks.{AnswersByPlan};
-    ghost use Rattle.evl_machine.specs.Handles.{MachineState};
+    ghost use Rattle.evl_machine.specs.callers.Handles.{MachineState};
 
     ghost Value = { MachineState C };
 

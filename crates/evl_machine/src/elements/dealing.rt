@@ -1,7 +1,7 @@
 //! The seats of each element go to the threads.
 ghost use Rattle.std.specs.Prelude.{◌≡◌, IfOk, map, length, []};
 ghost use Rattle.std.specs.List.{range_with_len};
-ghost use Rattle.evl_core.specs.AtSeats.{dealt};
+ghost use Rattle.evl_core.specs.words.AtSeats.{dealt};
 
 use std::alloc::{AllocError, Allocator};
 

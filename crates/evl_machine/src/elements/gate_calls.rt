@@ -1,11 +1,11 @@
 //! Entering a stax by a seat of a thread, and leaving it.
 ghost use Rattle.std.specs.Prelude.{◌≡◌, ◌<◌, length, map};
 ghost use Rattle.evl_words.specs.GateCalls.{IsSeatOf, IsSameSeat};
-ghost use Rattle.evl_core.specs.Homes.{gate_home, stax_home};
-ghost use Rattle.evl_core.specs.AtSeats.{AtSeat};
-ghost use Rattle.evl_core.specs.OneHistory.{AgreeOnStaxes};
-ghost use Rattle.evl_machine.specs.StaxSeats.{LeavesBy, LeavesStax, TriesStax};
-ghost use Rattle.evl_machine.specs.StaxWaits.{Marks};
+ghost use Rattle.evl_core.specs.words.Homes.{gate_home, stax_home};
+ghost use Rattle.evl_core.specs.words.AtSeats.{AtSeat};
+ghost use Rattle.evl_core.specs.accounts.OneHistory.{AgreeOnStaxes};
+ghost use Rattle.evl_machine.specs.stax_locks.StaxSeats.{LeavesBy, LeavesStax, TriesStax};
+ghost use Rattle.evl_machine.specs.stax_locks.StaxWaits.{Marks};
 
 use super::gates::Gates;
 use super::stax_seats::StaxSeats;

@@ -3,7 +3,7 @@ ghost use Rattle.std.specs.Prelude.{◌≡◌, ◌≤◌, ℕ, IfOk, Some, lengt
 ghost use Rattle.std.specs.List.{list_all, range_with_len};
 ghost use Rattle.evl_base.specs.Limits.{thread_limit, stax_fits, within};
 ghost use Rattle.evl_words.specs.GateCalls.{new_seat};
-ghost use Rattle.evl_machine.specs.StaxSeats.{AreFresh, AreGatesOf};
+ghost use Rattle.evl_machine.specs.stax_locks.StaxSeats.{AreFresh, AreGatesOf};
 
 use super::dealing::{deal, empty_lists};
 use super::stax_seats::StaxSeats;

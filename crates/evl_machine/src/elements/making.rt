@@ -3,8 +3,8 @@ ghost use Rattle.std.specs.Prelude.{◌≡◌, ◌≤◌, IfOk, length, map, tru
 ghost use Rattle.std.specs.List.{list_all, range_with_len};
 ghost use Rattle.evl_base.specs.Limits.{thread_limit, stax_fits, within};
 ghost use Rattle.evl_words.specs.GateCalls.{new_seat};
-ghost use Rattle.evl_core.specs.MutexPlaces.{new_places};
-ghost use Rattle.evl_machine.specs.StaxSeats.{AreGatesOf};
+ghost use Rattle.evl_core.specs.words.MutexPlaces.{new_places};
+ghost use Rattle.evl_machine.specs.stax_locks.StaxSeats.{AreGatesOf};
 
 use super::{Gates, StaxSeats};
 use evl_base::MutexKind;

@@ -1,6 +1,6 @@
 //! A thread's seats at the gates of a machine.
 ghost use Rattle.std.specs.Prelude.{◌≡◌};
-ghost use Rattle.evl_machine.specs.StaxSeats.{AreFresh, holds_stax};
+ghost use Rattle.evl_machine.specs.stax_locks.StaxSeats.{AreFresh, holds_stax};
 
 use evl_words::StaxSeat;
 use std::alloc::Allocator;
@@ -16,8 +16,8 @@ pub(crate) struct StaxSeats<A: Allocator> {
 impl<A: Allocator> Model for StaxSeats<A> {
     ghost use Rattle.std.specs.Prelude.{List};
     ghost use Rattle.evl_words.specs.GateCalls.{SeatState};
-    ghost use Rattle.evl_core.specs.AtSeats.{AreCounted};
-    ghost use Rattle.evl_machine.specs.StaxSeats.{stax_passes};
+    ghost use Rattle.evl_core.specs.words.AtSeats.{AreCounted};
+    ghost use Rattle.evl_machine.specs.stax_locks.StaxSeats.{stax_passes};
 
     ghost Value = { List SeatState };
 

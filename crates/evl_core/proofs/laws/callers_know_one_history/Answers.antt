@@ -1,4 +1,4 @@
-use Rattle.evl_core.proofs.Tokens.{one_history_known}
+use Rattle.evl_core.proofs.worlds.Tokens.{one_history_known}
 use Rattle.evl_core.proofs.laws.callers_know_one_history.Goals as goal
 
 pub returns : goal.returns

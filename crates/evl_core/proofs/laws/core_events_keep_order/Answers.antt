@@ -1,5 +1,5 @@
-use Rattle.evl_core.specs.Known.{ComesFrom, past_of, room_of}
-use Rattle.evl_core.proofs.CoreLaws.{events_keep}
+use Rattle.evl_core.specs.rule.Known.{ComesFrom, past_of, room_of}
+use Rattle.evl_core.proofs.worlds.CoreLaws.{events_keep}
 use Rattle.evl_core.proofs.laws.core_events_keep_order.Goals as goal
 
 pub returns : goal.returns

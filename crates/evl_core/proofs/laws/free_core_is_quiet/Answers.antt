@@ -1,4 +1,4 @@
-use Rattle.evl_core.proofs.QuietCore.{free_is_quiet}
+use Rattle.evl_core.proofs.worlds.QuietCore.{free_is_quiet}
 use Rattle.evl_core.proofs.laws.free_core_is_quiet.Goals as goal
 
 pub returns : goal.returns

@@ -1,7 +1,7 @@
 use Rattle.evl_kernel.proofs.state.OpeningLaws.{threads_few}
-use Rattle.evl_core.specs.Known.{ComesFrom, ceilings_of, mutex_count, past_of, room_of}
-use Rattle.evl_core.proofs.OneWorldLaws.{one_dealings_keep}
-use Rattle.evl_core.proofs.TieOpens.{opens_as_first}
+use Rattle.evl_core.specs.rule.Known.{ComesFrom, ceilings_of, mutex_count, past_of, room_of}
+use Rattle.evl_core.proofs.worlds.OneWorldLaws.{one_dealings_keep}
+use Rattle.evl_core.proofs.rule.TieOpens.{opens_as_first}
 use Rattle.evl_core.proofs.laws.one_world_stands.Goals as goal
 
 pub returns : goal.returns

@@ -1,5 +1,5 @@
-use Rattle.evl_core.specs.Known.{ComesFrom, ceilings_of, mutex_count, past_of, room_of}
-use Rattle.evl_core.proofs.RuleWorld.{rule_to_world, world_to_rule}
+use Rattle.evl_core.specs.rule.Known.{ComesFrom, ceilings_of, mutex_count, past_of, room_of}
+use Rattle.evl_core.proofs.worlds.RuleWorld.{rule_to_world, world_to_rule}
 use Rattle.evl_core.proofs.laws.rule_is_one_world.Goals as goal
 
 pub returns-clause-world : goal.returns-clause-world

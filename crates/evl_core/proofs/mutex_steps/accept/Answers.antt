@@ -1,5 +1,5 @@
 use Rattle.std.proofs.Common.{sym, ◌∙◌}
-use Rattle.evl_core.proofs.MutexAccepts.{accept_done, sees_offered}
+use Rattle.evl_core.proofs.words.MutexAccepts.{accept_done, sees_offered}
 use Rattle.evl_core.proofs.mutex_steps.accept.Goals as goal
 
 pub take_offer-requires-clause-table : goal.take_offer-requires-clause-table

@@ -2,9 +2,9 @@ use Rattle.std.proofs.Common.{true, false, refl, sym, ◌∙◌}
 use Rattle.evl_words.specs.MutexWorld.{awaits}
 use Rattle.evl_words.specs.MutexRule.{awaited}
 use Rattle.evl_words.proofs.MutexSeats.{awaited_of}
-use Rattle.evl_core.proofs.MutexStepLaws.{await_made}
-use Rattle.evl_core.proofs.StepDues.{held_due}
-use Rattle.evl_core.proofs.StepNotes.{await_noted}
+use Rattle.evl_core.proofs.words.MutexStepLaws.{await_made}
+use Rattle.evl_core.proofs.words.StepDues.{held_due}
+use Rattle.evl_core.proofs.words.StepNotes.{await_noted}
 use Rattle.evl_core.proofs.mutex_steps.await_offer.Goals as goal
 
 pub load-found-requires : goal.load-found-requires

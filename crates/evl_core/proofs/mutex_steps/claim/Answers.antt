@@ -3,9 +3,9 @@ use Rattle.std.specs.Prelude.{bit_or}
 use Rattle.evl_words.specs.MutexWorld.{claims}
 use Rattle.evl_words.specs.MutexRule.{claimed}
 use Rattle.evl_words.proofs.MutexSeats.{claimed_owns}
-use Rattle.evl_core.proofs.MutexStepLaws.{claim_made}
-use Rattle.evl_core.proofs.StepDues.{held_due}
-use Rattle.evl_core.proofs.StepNotes.{claim_noted}
+use Rattle.evl_core.proofs.words.MutexStepLaws.{claim_made}
+use Rattle.evl_core.proofs.words.StepDues.{held_due}
+use Rattle.evl_core.proofs.words.StepNotes.{claim_noted}
 use Rattle.evl_core.proofs.mutex_steps.claim.Goals as goal
 
 pub fetch_or-requires : goal.fetch_or-requires

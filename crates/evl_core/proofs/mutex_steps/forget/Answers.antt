@@ -2,9 +2,9 @@ use Rattle.std.proofs.Common.{true, false, refl, sym, ◌∙◌}
 use Rattle.evl_words.specs.MutexWorld.{forgets}
 use Rattle.evl_words.specs.MutexRule.{forgot}
 use Rattle.evl_words.proofs.MutexSeats.{forgot_of}
-use Rattle.evl_core.proofs.MutexStepLaws.{forget_made}
-use Rattle.evl_core.proofs.StepDues.{held_due}
-use Rattle.evl_core.proofs.StepNotes.{forget_noted}
+use Rattle.evl_core.proofs.words.MutexStepLaws.{forget_made}
+use Rattle.evl_core.proofs.words.StepDues.{held_due}
+use Rattle.evl_core.proofs.words.StepNotes.{forget_noted}
 use Rattle.evl_core.proofs.mutex_steps.forget.Goals as goal
 
 pub load-found-requires : goal.load-found-requires

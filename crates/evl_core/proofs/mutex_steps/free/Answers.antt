@@ -1,10 +1,10 @@
 use Rattle.std.proofs.Common.{refl, ap, ◌∙◌}
 use Rattle.evl_words.specs.MutexWorld.{frees}
 use Rattle.evl_words.specs.MutexRule.{does}
-use Rattle.evl_core.proofs.MutexStepLaws.{free_made, owner_is}
-use Rattle.evl_core.proofs.SeatLists.{some-within}
-use Rattle.evl_core.proofs.StepDues.{held_due}
-use Rattle.evl_core.proofs.StepNotes.{free_noted}
+use Rattle.evl_core.proofs.words.MutexStepLaws.{free_made, owner_is}
+use Rattle.evl_core.proofs.words.SeatLists.{some-within}
+use Rattle.evl_core.proofs.words.StepDues.{held_due}
+use Rattle.evl_core.proofs.words.StepNotes.{free_noted}
 use Rattle.evl_core.proofs.mutex_steps.free.Goals as goal
 
 pub swap-requires : goal.swap-requires

@@ -2,12 +2,12 @@ use Rattle.std.proofs.Common.{◌≡◌, ◌<◌, refl, sym, ap, ◌∙◌, arit
 use Rattle.evl_words.specs.MutexBits.{offer_word}
 use Rattle.evl_words.specs.MutexWorld.{MutexView, offers}
 use Rattle.evl_words.specs.MutexRule.{does}
-use Rattle.evl_core.specs.MutexTokens.{part_of}
-use Rattle.evl_core.specs.ThreadRule.{mutex_of}
-use Rattle.evl_core.proofs.MutexStepLaws.{offer_made, owner_is, part_is}
-use Rattle.evl_core.proofs.SeatLists.{some-within}
-use Rattle.evl_core.proofs.StepDues.{held_due}
-use Rattle.evl_core.proofs.StepNotes.{offer_noted}
+use Rattle.evl_core.specs.words.MutexTokens.{part_of}
+use Rattle.evl_core.specs.rule.ThreadRule.{mutex_of}
+use Rattle.evl_core.proofs.words.MutexStepLaws.{offer_made, owner_is, part_is}
+use Rattle.evl_core.proofs.words.SeatLists.{some-within}
+use Rattle.evl_core.proofs.words.StepDues.{held_due}
+use Rattle.evl_core.proofs.words.StepNotes.{offer_noted}
 use Rattle.evl_core.proofs.mutex_steps.offer_as.Goals as goal
 
 pub swap-requires : goal.swap-requires

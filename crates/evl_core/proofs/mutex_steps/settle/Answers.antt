@@ -1,9 +1,9 @@
 use Rattle.std.proofs.Common.{◌+◌, refl, sym, ap, ◌∙◌}
 use Rattle.evl_words.specs.MutexWorld.{MutexView, settles}
 use Rattle.evl_words.specs.MutexRule.{does}
-use Rattle.evl_core.proofs.MutexStepLaws.{number_is, part_is, settle_made}
-use Rattle.evl_core.proofs.StepDues.{held_due}
-use Rattle.evl_core.proofs.StepNotes.{settle_noted}
+use Rattle.evl_core.proofs.words.MutexStepLaws.{number_is, part_is, settle_made}
+use Rattle.evl_core.proofs.words.StepDues.{held_due}
+use Rattle.evl_core.proofs.words.StepNotes.{settle_noted}
 use Rattle.evl_core.proofs.mutex_steps.settle.Goals as goal
 
 pub swap-requires : goal.swap-requires

@@ -2,9 +2,9 @@ use Rattle.std.proofs.Common.{refl}
 use Rattle.std.specs.Prelude.{bit_and}
 use Rattle.evl_words.specs.MutexWorld.{accepts}
 use Rattle.evl_words.specs.MutexRule.{does}
-use Rattle.evl_core.proofs.MutexStepLaws.{offer_is, offered_within, take_made}
-use Rattle.evl_core.proofs.StepDues.{held_due}
-use Rattle.evl_core.proofs.StepNotes.{take_noted}
+use Rattle.evl_core.proofs.words.MutexStepLaws.{offer_is, offered_within, take_made}
+use Rattle.evl_core.proofs.words.StepDues.{held_due}
+use Rattle.evl_core.proofs.words.StepNotes.{take_noted}
 use Rattle.evl_core.proofs.mutex_steps.take_offer.Goals as goal
 
 pub fetch_and-requires : goal.fetch_and-requires

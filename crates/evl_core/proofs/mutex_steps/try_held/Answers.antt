@@ -4,10 +4,10 @@ use Rattle.evl_base.specs.declared.refusal.Refusal.TheVariants.{Busy}
 use Rattle.evl_words.specs.MutexWorld.{tries}
 use Rattle.evl_words.specs.MutexRule.{tried}
 use Rattle.evl_words.proofs.MutexSeats.{tried_of}
-use Rattle.evl_core.proofs.MutexStepLaws.{lose_held_made, number_is, pass_is, stranger_is, win_held_made}
-use Rattle.evl_core.proofs.SeatLists.{some-within}
-use Rattle.evl_core.proofs.StepDues.{held_due}
-use Rattle.evl_core.proofs.StepNotes.{lost_noted, won_noted}
+use Rattle.evl_core.proofs.words.MutexStepLaws.{lose_held_made, number_is, pass_is, stranger_is, win_held_made}
+use Rattle.evl_core.proofs.words.SeatLists.{some-within}
+use Rattle.evl_core.proofs.words.StepDues.{held_due}
+use Rattle.evl_core.proofs.words.StepNotes.{lost_noted, won_noted}
 use Rattle.evl_core.proofs.mutex_steps.try_held.Goals as goal
 
 pub compare_exchange-requires : goal.compare_exchange-requires

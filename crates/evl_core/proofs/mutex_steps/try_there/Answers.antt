@@ -3,11 +3,11 @@ use mathlib.Core.Option.{none}
 use prog.Atomic.{either}
 use Rattle.atomic_table.specs.Table.{step}
 use Rattle.evl_words.specs.MutexWorld.{owns}
-use Rattle.evl_core.specs.Known.{ceilings_of, mutex_count}
-use Rattle.evl_core.specs.ThreadRule.{mutex_of}
-use Rattle.evl_core.proofs.MutexTokens.{tries_known}
-use Rattle.evl_core.proofs.MutexStepLaws.{lose_made, number_is, pass_is, stranger_is, win_made}
-use Rattle.evl_core.proofs.SeatLists.{some-within}
+use Rattle.evl_core.specs.rule.Known.{ceilings_of, mutex_count}
+use Rattle.evl_core.specs.rule.ThreadRule.{mutex_of}
+use Rattle.evl_core.proofs.words.MutexTokens.{tries_known}
+use Rattle.evl_core.proofs.words.MutexStepLaws.{lose_made, number_is, pass_is, stranger_is, win_made}
+use Rattle.evl_core.proofs.words.SeatLists.{some-within}
 use Rattle.evl_core.proofs.mutex_steps.try_there.Goals as goal
 
 pub compare_exchange-requires : goal.compare_exchange-requires

@@ -4,11 +4,11 @@ use prog.Atomic.{either}
 use Rattle.atomic_table.specs.Table.{step}
 use Rattle.evl_base.specs.declared.numbers.MutexId.{MutexId}
 use Rattle.evl_words.specs.declared.mutex.MutexRole.TheVariants.{Owner}
-use Rattle.evl_core.specs.Known.{ceilings_of, mutex_count}
-use Rattle.evl_core.specs.ThreadRule.{mutex_of}
-use Rattle.evl_core.proofs.MutexTokens.{unlocks_known}
-use Rattle.evl_core.proofs.MutexStepLaws.{back_made, number_is, owner_is, unlock_made}
-use Rattle.evl_core.proofs.SeatLists.{some-within}
+use Rattle.evl_core.specs.rule.Known.{ceilings_of, mutex_count}
+use Rattle.evl_core.specs.rule.ThreadRule.{mutex_of}
+use Rattle.evl_core.proofs.words.MutexTokens.{unlocks_known}
+use Rattle.evl_core.proofs.words.MutexStepLaws.{back_made, number_is, owner_is, unlock_made}
+use Rattle.evl_core.proofs.words.SeatLists.{some-within}
 use Rattle.evl_core.proofs.mutex_steps.unlock_there.Goals as goal
 
 pub compare_exchange-requires : goal.compare_exchange-requires

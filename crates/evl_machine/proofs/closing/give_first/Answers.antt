@@ -1,6 +1,6 @@
 use Rattle.std.proofs.Common.{subst}
-use Rattle.evl_core.specs.Events.{Gives}
-use Rattle.evl_machine.specs.Handles.{CallerState}
+use Rattle.evl_core.specs.worlds.Events.{Gives}
+use Rattle.evl_machine.specs.callers.Handles.{CallerState}
 use Rattle.evl_machine.proofs.closing.give_first.Goals as goal
 
 pub returns-clause-event : goal.returns-clause-event

@@ -1,9 +1,9 @@
 use Rattle.std.proofs.Common.{◌≡◌, ◌<◌, ◌+◌, ◌-◌, refl, subst, arith}
 use mathlib.Core.Option.{none}
 use Rattle.atomic_table.specs.Table.{step}
-use Rattle.evl_core.specs.Known.{mutex_count}
-use Rattle.evl_core.specs.Noted.{Stood}
-use Rattle.evl_machine.proofs.InWords.{looks_known}
+use Rattle.evl_core.specs.rule.Known.{mutex_count}
+use Rattle.evl_core.specs.words.Noted.{Stood}
+use Rattle.evl_machine.proofs.mutex_locks.InWords.{looks_known}
 use Rattle.evl_machine.proofs.in_word.look_at.Goals as goal
 
 pub load-requires : goal.load-requires

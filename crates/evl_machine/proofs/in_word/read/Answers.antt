@@ -1,5 +1,5 @@
 use Rattle.std.proofs.Common.{◌∙◌}
-use Rattle.evl_machine.proofs.InWords.{mark_reads, offer_reads, owner_reads}
+use Rattle.evl_machine.proofs.mutex_locks.InWords.{mark_reads, offer_reads, owner_reads}
 use Rattle.evl_machine.proofs.in_word.read.Goals as goal
 
 pub returns : goal.returns

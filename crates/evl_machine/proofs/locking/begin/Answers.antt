@@ -1,15 +1,15 @@
 use Rattle.std.proofs.Common.{refl, ap, sym, ◌∙◌, subst}
-use Rattle.evl_machine.specs.Actors.{SeatedActor, acting}
-use Rattle.evl_core.specs.Known.{KernelMe, first_of}
-use Rattle.evl_core.specs.Noted.{IsSettled}
-use Rattle.evl_machine.proofs.LockingLaws.{along_call, along_none, answers_roomier, enters_made, the_same}
-use Rattle.evl_machine.proofs.LockingTies.{begun_accepted, begun_settled, ceiling_as, count_as, just_as, may_raise, never_seizing, plain_settled, queued_settled, same_settled}
-use Rattle.evl_machine.proofs.LockingCalls.{begins_raised, begins_refused, begins_waiting, won_there}
-use Rattle.evl_core.proofs.MutexAccepts.{same_twice}
-use Rattle.evl_machine.proofs.SeatsAt.{at_table_of, holds_for, won_at}
-use Rattle.evl_core.proofs.MutexTokens.{core_twice}
-use Rattle.evl_machine.proofs.Visits.{actor_at_mutexes}
-use Rattle.evl_core.proofs.Settling.{taken_holds}
+use Rattle.evl_machine.specs.callers.Actors.{SeatedActor, acting}
+use Rattle.evl_core.specs.rule.Known.{KernelMe, first_of}
+use Rattle.evl_core.specs.words.Noted.{IsSettled}
+use Rattle.evl_machine.proofs.mutex_locks.LockingLaws.{along_call, along_none, answers_roomier, enters_made, the_same}
+use Rattle.evl_machine.proofs.mutex_locks.LockingTies.{begun_accepted, begun_settled, ceiling_as, count_as, just_as, may_raise, never_seizing, plain_settled, queued_settled, same_settled}
+use Rattle.evl_machine.proofs.mutex_locks.LockingCalls.{begins_raised, begins_refused, begins_waiting, won_there}
+use Rattle.evl_core.proofs.words.MutexAccepts.{same_twice}
+use Rattle.evl_machine.proofs.mutex_locks.SeatsAt.{at_table_of, holds_for, won_at}
+use Rattle.evl_core.proofs.words.MutexTokens.{core_twice}
+use Rattle.evl_machine.proofs.callers.Visits.{actor_at_mutexes}
+use Rattle.evl_core.proofs.ties.Settling.{taken_holds}
 use Rattle.evl_machine.proofs.locking.begin.Goals as goal
 
 pub returns-in_err-reserve-clause-along : goal.returns-in_err-reserve-clause-along

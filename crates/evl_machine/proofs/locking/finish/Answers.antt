@@ -1,13 +1,13 @@
 use Rattle.std.proofs.Common.{refl, ap, sym, ◌∙◌, subst}
-use Rattle.evl_machine.specs.Actors.{SeatedActor, acting}
-use Rattle.evl_core.specs.Known.{KernelMe, first_of}
-use Rattle.evl_core.specs.Noted.{IsSettled}
-use Rattle.evl_machine.proofs.LockingLaws.{along_call, along_none, answers_roomier, enters_made, same_kernel, the_same}
-use Rattle.evl_machine.proofs.LockingTies.{count_as, got_accepts, got_settled, just_as, late_forgets, late_settled, same_settled}
-use Rattle.evl_machine.proofs.LockingCalls.{finishes_late, finishes_locked, is_ended, is_timed, on_board}
-use Rattle.evl_machine.proofs.SeatsAt.{at_table_of, holds_for}
-use Rattle.evl_machine.proofs.Visits.{actor_at_mutexes}
-use Rattle.evl_core.proofs.Settling.{taken_holds}
+use Rattle.evl_machine.specs.callers.Actors.{SeatedActor, acting}
+use Rattle.evl_core.specs.rule.Known.{KernelMe, first_of}
+use Rattle.evl_core.specs.words.Noted.{IsSettled}
+use Rattle.evl_machine.proofs.mutex_locks.LockingLaws.{along_call, along_none, answers_roomier, enters_made, same_kernel, the_same}
+use Rattle.evl_machine.proofs.mutex_locks.LockingTies.{count_as, got_accepts, got_settled, just_as, late_forgets, late_settled, same_settled}
+use Rattle.evl_machine.proofs.mutex_locks.LockingCalls.{finishes_late, finishes_locked, is_ended, is_timed, on_board}
+use Rattle.evl_machine.proofs.mutex_locks.SeatsAt.{at_table_of, holds_for}
+use Rattle.evl_machine.proofs.callers.Visits.{actor_at_mutexes}
+use Rattle.evl_core.proofs.ties.Settling.{taken_holds}
 use Rattle.evl_machine.proofs.locking.finish.Goals as goal
 
 pub returns-then-not-finished-clause-along : goal.returns-then-not-finished-clause-along

@@ -1,8 +1,8 @@
 use Rattle.std.proofs.Common.{IfSome, sym, subst}
 use Rattle.evl_base.specs.declared.numbers.ThreadId.{ThreadId}
-use Rattle.evl_machine.specs.Actors.{SeatedActor, acting}
-use Rattle.evl_core.specs.MutexSeats.{HasOnce, HasSeat}
-use Rattle.evl_machine.proofs.SeatsAt.{at_table_of, holds_for, once_at, seat_there}
+use Rattle.evl_machine.specs.callers.Actors.{SeatedActor, acting}
+use Rattle.evl_core.specs.words.MutexSeats.{HasOnce, HasSeat}
+use Rattle.evl_machine.proofs.mutex_locks.SeatsAt.{at_table_of, holds_for, once_at, seat_there}
 use Rattle.evl_machine.proofs.locking.hand_on.Goals as goal
 
 pub offer-requires-clause-table : goal.offer-requires-clause-table

@@ -1,17 +1,17 @@
 use Rattle.std.proofs.Common.{Ok, refl, ap, sym, ◌∙◌, subst}
-use Rattle.evl_machine.specs.Actors.{SeatedActor, acting}
-use Rattle.evl_machine.proofs.LockingLaws.{along_call, along_none, answers_roomier, enters_made, locks_raised, the_same}
-use Rattle.evl_machine.proofs.LockingTies.{just_as, lost_settled, may_raise, same_settled, won_accepted, won_settled}
-use Rattle.evl_core.proofs.SeatLists.{some-within}
-use Rattle.evl_machine.proofs.SeatsAt.{at_table_of, core_of_step, holds_for}
-use Rattle.evl_core.proofs.MutexTokens.{core_twice}
-use Rattle.evl_core.specs.MutexSeats.{mutex_refusal}
-use Rattle.evl_core.specs.MutexTokens.{seats_at}
-use Rattle.evl_core.specs.Known.{KernelMe}
-use Rattle.evl_core.specs.Noted.{IsSettled}
-use Rattle.evl_machine.proofs.Visits.{actor_at_mutexes, same_core}
-use Rattle.evl_machine.proofs.WordCalls.{tries_so}
-use Rattle.evl_core.proofs.Settling.{taken_holds}
+use Rattle.evl_machine.specs.callers.Actors.{SeatedActor, acting}
+use Rattle.evl_machine.proofs.mutex_locks.LockingLaws.{along_call, along_none, answers_roomier, enters_made, locks_raised, the_same}
+use Rattle.evl_machine.proofs.mutex_locks.LockingTies.{just_as, lost_settled, may_raise, same_settled, won_accepted, won_settled}
+use Rattle.evl_core.proofs.words.SeatLists.{some-within}
+use Rattle.evl_machine.proofs.mutex_locks.SeatsAt.{at_table_of, core_of_step, holds_for}
+use Rattle.evl_core.proofs.words.MutexTokens.{core_twice}
+use Rattle.evl_core.specs.words.MutexSeats.{mutex_refusal}
+use Rattle.evl_core.specs.words.MutexTokens.{seats_at}
+use Rattle.evl_core.specs.rule.Known.{KernelMe}
+use Rattle.evl_core.specs.words.Noted.{IsSettled}
+use Rattle.evl_machine.proofs.callers.Visits.{actor_at_mutexes, same_core}
+use Rattle.evl_machine.proofs.mutex_locks.WordCalls.{tries_so}
+use Rattle.evl_core.proofs.ties.Settling.{taken_holds}
 use Rattle.evl_machine.proofs.locking.lock_raised.Goals as goal
 
 pub returns-in_err-reserve-clause-along : goal.returns-in_err-reserve-clause-along
@@ -24,7 +24,7 @@ pub try_held-requires-clause-holder : goal.try_held-requires-clause-holder
 try_held-requires-clause-holder g c = (holds_for _ _ c.actor.view_is c.args.core.now.shared.table_id c.args.core.now.shared.key.value (taken_holds _ _ _ c.requires.taken.taken) c.args.mutex.0)
 
 pub invariant_of-actor : goal.invariant_of-actor
-invariant_of-actor g c = actor_at_mutexes _ _ _ _ _ _ c.actor.invariant (ap (λ a. a.table) c.actor.view_is ∙ c.requires.table.0) (ap (λ a. Rattle.evl_core.specs.Known.first_of a.me.0) c.actor.view_is ∙ c.requires.table.1) c.try_held.ensures.word.core c.try_held.ensures.word.table
+invariant_of-actor g c = actor_at_mutexes _ _ _ _ _ _ c.actor.invariant (ap (λ a. a.table) c.actor.view_is ∙ c.requires.table.0) (ap (λ a. Rattle.evl_core.specs.rule.Known.first_of a.me.0) c.actor.view_is ∙ c.requires.table.1) c.try_held.ensures.word.core c.try_held.ensures.word.table
 
 pub returns-in_err-pass-clause-along : goal.returns-in_err-pass-clause-along
 returns-in_err-pass-clause-along g c =

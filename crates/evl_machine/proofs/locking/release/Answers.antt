@@ -1,18 +1,18 @@
 use Rattle.std.proofs.Common.{◌≡◌, ap, refl, sym, ◌∙◌, subst, Ok, Result}
 use Rattle.evl_base.specs.declared.refusal.Refusal.{Refusal}
 use Rattle.evl_words.specs.declared.mutex.MutexPass.{MutexPass}
-use Rattle.evl_machine.specs.Locking.{GoesAlong, Releases}
-use Rattle.evl_core.specs.Noted.{IsSettled, NotesGiven}
-use Rattle.evl_machine.specs.Actors.{ActorState, SeatedActor, acting}
-use Rattle.evl_core.specs.Known.{KernelMe, first_of}
-use Rattle.evl_core.specs.MutexSeats.{HasOnce}
-use Rattle.evl_core.specs.MutexTokens.{HasKernel, TellsTheSame}
-use Rattle.evl_machine.proofs.LockingLaws.{along_call, along_word, same_kernel, the_same}
-use Rattle.evl_machine.proofs.LockingCalls.{next_named, release_entered, releases_not, releases_on}
-use Rattle.evl_machine.proofs.LockingTies.{given_settled, owner_once, release_accepted, same_settled}
-use Rattle.evl_core.proofs.MutexTokens.{core_twice}
-use Rattle.evl_machine.proofs.Visits.{same_core}
-use Rattle.evl_core.proofs.Settling.{taken_holds}
+use Rattle.evl_machine.specs.mutex_locks.Locking.{GoesAlong, Releases}
+use Rattle.evl_core.specs.words.Noted.{IsSettled, NotesGiven}
+use Rattle.evl_machine.specs.callers.Actors.{ActorState, SeatedActor, acting}
+use Rattle.evl_core.specs.rule.Known.{KernelMe, first_of}
+use Rattle.evl_core.specs.words.MutexSeats.{HasOnce}
+use Rattle.evl_core.specs.words.MutexTokens.{HasKernel, TellsTheSame}
+use Rattle.evl_machine.proofs.mutex_locks.LockingLaws.{along_call, along_word, same_kernel, the_same}
+use Rattle.evl_machine.proofs.mutex_locks.LockingCalls.{next_named, release_entered, releases_not, releases_on}
+use Rattle.evl_machine.proofs.mutex_locks.LockingTies.{given_settled, owner_once, release_accepted, same_settled}
+use Rattle.evl_core.proofs.words.MutexTokens.{core_twice}
+use Rattle.evl_machine.proofs.callers.Visits.{same_core}
+use Rattle.evl_core.proofs.ties.Settling.{taken_holds}
 use Rattle.evl_machine.proofs.locking.release.Goals as goal
 use Rattle.evl_machine.proofs.locking.release.Goals.{in-Ok-Handed, in-Err}
 

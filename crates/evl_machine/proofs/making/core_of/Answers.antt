@@ -1,5 +1,5 @@
 use Rattle.std.proofs.Common.{Some, [], ◌∷◌, ap, ◌∙◌}
-use Rattle.evl_machine.proofs.Seating.{opens_as}
+use Rattle.evl_machine.proofs.callers.Seating.{opens_as}
 use Rattle.evl_machine.proofs.making.core_of.Goals as goal
 
 pub new-requires-2 : goal.new-requires-2

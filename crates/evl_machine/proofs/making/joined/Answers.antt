@@ -1,5 +1,5 @@
 use Rattle.std.proofs.Common.{sym, subst}
-use Rattle.evl_machine.specs.Makings.{AreMade}
+use Rattle.evl_machine.specs.calls.Makings.{AreMade}
 use Rattle.evl_machine.proofs.making.joined.Goals as goal
 
 -- src/making.rt:126:32

@@ -1,8 +1,8 @@
 use Rattle.std.proofs.Common.{map, length, ◌+◌, ap, sym, ◌∙◌}
 use Rattle.std.specs.List.{range_with_len}
-use Rattle.evl_core.specs.Known.{mutex_count}
-use Rattle.evl_core.specs.MutexPlaces.{new_places}
-use Rattle.evl_machine.proofs.Newcomers.{staxes_of}
+use Rattle.evl_core.specs.rule.Known.{mutex_count}
+use Rattle.evl_core.specs.words.MutexPlaces.{new_places}
+use Rattle.evl_machine.proofs.callers.Newcomers.{staxes_of}
 use Rattle.evl_machine.proofs.making.with_seats.Goals as goal
 
 pub seat_callers-requires-clause-seats : goal.seat_callers-requires-clause-seats

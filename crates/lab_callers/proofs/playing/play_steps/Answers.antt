@@ -2,7 +2,7 @@ use Rattle.std.proofs.Common.{◌≡◌, ◌+◌, ◌∷◌, ◌∙◌, List, ap
 use Rattle.lab_callers.specs.Plays.{HaveMade, MakesStep, run_at}
 use Rattle.lab_callers.proofs.PlayLaws.{made_one_more}
 use Rattle.lab_callers_text.specs.declared.acts.CallersStep.{CallersStep}
-use Rattle.evl_machine.specs.Handles.{MachineState}
+use Rattle.evl_machine.specs.callers.Handles.{MachineState}
 use Rattle.lab_callers.proofs.playing.play_steps.Goals as goal
 
 pub loop-step-preserved : goal.loop-step-preserved

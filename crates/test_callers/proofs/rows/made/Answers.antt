@@ -2,7 +2,7 @@ use Rattle.std.proofs.Common.{◌≡◌, refl, sym, subst}
 use Rattle.std.specs.Prelude.{All}
 use Rattle.std.specs.List.{range_with_len}
 use Rattle.std.proofs.lemmas.List.Elements.{All-map}
-use Rattle.evl_machine.specs.Handles.{newcomer_of}
+use Rattle.evl_machine.specs.callers.Handles.{newcomer_of}
 use Rattle.test_callers.proofs.rows.made.Goals as goal
 
 pub returns-in-Ok-clause-callers : goal.returns-in-Ok-clause-callers

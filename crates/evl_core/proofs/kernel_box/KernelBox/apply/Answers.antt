@@ -1,8 +1,8 @@
 use Rattle.std.proofs.Common.{◌≡◌, sym, ◌∙◌, subst}
 use Rattle.evl_kernel.specs.state.Callbacks.{AnswersByPlan}
 use Rattle.evl_kernel.specs.state.KernelViews.{KernelView}
-use Rattle.evl_core.specs.KernelCalls.{Applied}
-use Rattle.evl_core.proofs.KernelCalls.{applies}
+use Rattle.evl_core.specs.accounts.KernelCalls.{Applied}
+use Rattle.evl_core.proofs.accounts.KernelCalls.{applies}
 use Rattle.evl_core.proofs.kernel_box.KernelBox.apply.Goals as goal
 
 pub apply-requires : goal.apply-requires

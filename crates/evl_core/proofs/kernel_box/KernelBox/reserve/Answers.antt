@@ -1,7 +1,7 @@
 use Rattle.std.proofs.Common.{◌≡◌, ◌∙◌, subst}
 use Rattle.evl_kernel.specs.state.KernelViews.{KernelView}
-use Rattle.evl_core.specs.KernelCalls.{Reserves}
-use Rattle.evl_core.proofs.KernelCalls.{reserves}
+use Rattle.evl_core.specs.accounts.KernelCalls.{Reserves}
+use Rattle.evl_core.proofs.accounts.KernelCalls.{reserves}
 use Rattle.evl_core.proofs.kernel_box.KernelBox.reserve.Goals as goal
 
 pub returns : goal.returns

@@ -1,7 +1,7 @@
 use Rattle.std.proofs.Common.{refl, ap, ◌∙◌}
 use Rattle.std.specs.Prelude.{nat_lt}
-use Rattle.evl_core.specs.MutexPlaces.{holds_place, place_passes}
-use Rattle.evl_core.proofs.SeatLists.{some-counted}
+use Rattle.evl_core.specs.words.MutexPlaces.{holds_place, place_passes}
+use Rattle.evl_core.proofs.words.SeatLists.{some-counted}
 use Rattle.evl_core.proofs.mutex_places.MutexPlaces.holds_any.Goals as goal
 
 pub returns : goal.returns

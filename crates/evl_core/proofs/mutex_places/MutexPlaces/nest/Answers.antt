@@ -1,8 +1,8 @@
 use Rattle.std.proofs.Common.{◌≡◌, ◌≢◌, ◌+◌, ap, arith}
 use Rattle.evl_words.specs.declared.mutex.place.MutexPlace.{MutexPlace}
-use Rattle.evl_core.specs.MutexPlaces.{deepened, place_passes}
-use Rattle.evl_core.proofs.MutexPlaces.{held_by, place_there}
-use Rattle.evl_core.proofs.SeatLists.{at-seat, count-room, counted-set, some-here, some-within}
+use Rattle.evl_core.specs.words.MutexPlaces.{deepened, place_passes}
+use Rattle.evl_core.proofs.words.MutexPlaces.{held_by, place_there}
+use Rattle.evl_core.proofs.words.SeatLists.{at-seat, count-room, counted-set, some-here, some-within}
 use Rattle.evl_core.proofs.mutex_places.MutexPlaces.nest.Goals as goal
 
 pub recounted-self-inside-requires : goal.recounted-self-inside-requires

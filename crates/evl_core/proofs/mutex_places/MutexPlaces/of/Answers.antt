@@ -1,6 +1,6 @@
 use Rattle.std.proofs.Common.{◌++◌, ◌∷◌, [], sym, ◌∙◌, subst, arith}
-use Rattle.evl_core.specs.MutexPlaces.{AreCountedPlaces}
-use Rattle.evl_core.proofs.MutexPlaces.{new_counted, one_place_more}
+use Rattle.evl_core.specs.words.MutexPlaces.{AreCountedPlaces}
+use Rattle.evl_core.proofs.words.MutexPlaces.{new_counted, one_place_more}
 use Rattle.evl_core.proofs.mutex_places.MutexPlaces.of.Goals as goal
 
 pub loop-mutex-preserved : goal.loop-mutex-preserved

@@ -1,8 +1,8 @@
 use Rattle.std.proofs.Common.{◌≡◌, ap, ◌∙◌, arith}
 use Rattle.evl_words.specs.declared.mutex.place.MutexPlace.{MutexPlace}
-use Rattle.evl_core.specs.MutexPlaces.{deepened, less, place_passes}
-use Rattle.evl_core.proofs.MutexPlaces.{place_there}
-use Rattle.evl_core.proofs.SeatLists.{at-seat, count-room, counted-set, some-within}
+use Rattle.evl_core.specs.words.MutexPlaces.{deepened, less, place_passes}
+use Rattle.evl_core.proofs.words.MutexPlaces.{place_there}
+use Rattle.evl_core.proofs.words.SeatLists.{at-seat, count-room, counted-set, some-within}
 use Rattle.evl_core.proofs.mutex_places.MutexPlaces.spend.Goals as goal
 
 pub recounted-self-inside-requires : goal.recounted-self-inside-requires

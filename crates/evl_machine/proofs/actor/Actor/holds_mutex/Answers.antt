@@ -1,7 +1,7 @@
 use Rattle.std.proofs.Common.{sym, ap, ◌∙◌}
-use Rattle.evl_machine.specs.Actors.{SeatedActor, acting}
-use Rattle.evl_core.specs.MutexSeats.{holds_mutex}
-use Rattle.evl_machine.proofs.SeatsAt.{holds_at}
+use Rattle.evl_machine.specs.callers.Actors.{SeatedActor, acting}
+use Rattle.evl_core.specs.words.MutexSeats.{holds_mutex}
+use Rattle.evl_machine.proofs.mutex_locks.SeatsAt.{holds_at}
 use Rattle.evl_machine.proofs.actor.Actor.holds_mutex.Goals as goal
 
 pub returns : goal.returns

@@ -1,7 +1,7 @@
 use Rattle.std.proofs.Common.{sym, ap, ◌∙◌, ◌==◌, ◌&&◌, nat_lt, length}
-use Rattle.evl_machine.specs.Actors.{SeatedActor, acting}
-use Rattle.evl_core.specs.MutexSeats.{depth_at}
-use Rattle.evl_machine.proofs.SeatsAt.{depth_there, long_as}
+use Rattle.evl_machine.specs.callers.Actors.{SeatedActor, acting}
+use Rattle.evl_core.specs.words.MutexSeats.{depth_at}
+use Rattle.evl_machine.proofs.mutex_locks.SeatsAt.{depth_there, long_as}
 use Rattle.evl_machine.proofs.actor.Actor.is_free.Goals as goal
 
 pub returns : goal.returns

@@ -1,5 +1,5 @@
 use Rattle.evl_base.specs.declared.stage.Stage.TheVariants.{Inband}
-use Rattle.evl_machine.proofs.Staying.{free_held}
+use Rattle.evl_machine.proofs.callers.Staying.{free_held}
 use Rattle.evl_machine.proofs.actor.Actor.new.Goals as goal
 
 pub invariant_of-result : goal.invariant_of-result

@@ -1,7 +1,7 @@
 use Rattle.std.proofs.Common.{sym, ap, ◌∙◌}
-use Rattle.evl_machine.specs.Actors.{SeatedActor, acting}
-use Rattle.evl_core.specs.MutexSeats.{unlock_refusal}
-use Rattle.evl_machine.proofs.SeatsAt.{refusal_there}
+use Rattle.evl_machine.specs.callers.Actors.{SeatedActor, acting}
+use Rattle.evl_core.specs.words.MutexSeats.{unlock_refusal}
+use Rattle.evl_machine.proofs.mutex_locks.SeatsAt.{refusal_there}
 use Rattle.evl_machine.proofs.actor.Actor.pass_refusal.Goals as goal
 
 pub returns : goal.returns

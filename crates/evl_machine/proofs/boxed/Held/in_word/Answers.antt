@@ -1,6 +1,6 @@
 use Rattle.std.proofs.Common.{ap}
-use Rattle.evl_machine.specs.Handles.{HeldState}
-use Rattle.evl_machine.proofs.LockingLaws.{answers_there}
+use Rattle.evl_machine.specs.callers.Handles.{HeldState}
+use Rattle.evl_machine.proofs.mutex_locks.LockingLaws.{answers_there}
 use Rattle.evl_machine.proofs.boxed.Held.in_word.Goals as goal
 
 pub invariant_of-self : goal.invariant_of-self

@@ -1,5 +1,5 @@
-use Rattle.evl_core.proofs.Knowing.{answers_still}
-use Rattle.evl_machine.proofs.LockingLaws.{answers_there}
+use Rattle.evl_core.proofs.accounts.Knowing.{answers_still}
+use Rattle.evl_machine.proofs.mutex_locks.LockingLaws.{answers_there}
 use Rattle.evl_machine.proofs.boxed.Machine.close.Goals as goal
 
 pub invariant_of-result : goal.invariant_of-result

@@ -1,6 +1,6 @@
 use Rattle.std.proofs.Common.{ap, ◌∙◌}
-use Rattle.evl_machine.specs.Handles.{CallerState}
-use Rattle.evl_machine.proofs.LockingLaws.{answers_there}
+use Rattle.evl_machine.specs.callers.Handles.{CallerState}
+use Rattle.evl_machine.proofs.mutex_locks.LockingLaws.{answers_there}
 use Rattle.evl_machine.proofs.boxed.Machine.take.Goals as goal
 
 pub invariant_of-result : goal.invariant_of-result

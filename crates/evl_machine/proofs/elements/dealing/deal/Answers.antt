@@ -1,5 +1,5 @@
 use Rattle.std.proofs.Common.{arith}
-use Rattle.evl_core.proofs.DealLaws.{dealt-end, deal-turn}
+use Rattle.evl_core.proofs.words.DealLaws.{dealt-end, deal-turn}
 use Rattle.evl_machine.proofs.elements.dealing.deal.Goals as goal
 
 pub loop-seat-preserved : goal.loop-seat-preserved

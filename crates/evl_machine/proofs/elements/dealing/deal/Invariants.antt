@@ -1,5 +1,5 @@
 use Rattle.std.proofs.Common.{◌≡◌, ◌≤◌, map, length}
-use Rattle.evl_core.specs.AtSeats.{dealt}
+use Rattle.evl_core.specs.words.AtSeats.{dealt}
 use Rattle.evl_machine.proofs.elements.dealing.deal.Given as goal
 
 abbrev pub invariant-loop-seat : goal.invariant-loop-seat

@@ -1,4 +1,4 @@
-use Rattle.evl_core.proofs.DealLaws.{one-empty}
+use Rattle.evl_core.proofs.words.DealLaws.{one-empty}
 use Rattle.evl_machine.proofs.elements.dealing.empty_lists.Goals as goal
 
 pub loop-thread-preserved : goal.loop-thread-preserved

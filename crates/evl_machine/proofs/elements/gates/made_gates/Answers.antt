@@ -1,9 +1,9 @@
 use Rattle.std.proofs.Common.{◌≡◌, length, ap, sym, ◌∙◌, subst, map, arith}
 use Rattle.std.specs.List.{range_with_len}
 use Rattle.evl_words.specs.GateCalls.{new_seat}
-use Rattle.evl_machine.specs.StaxSeats.{AreGatesOf}
-use Rattle.evl_core.proofs.DealLaws.{deals-one, dealt-turn}
-use Rattle.evl_machine.proofs.StaxLaws.{gates-more}
+use Rattle.evl_machine.specs.stax_locks.StaxSeats.{AreGatesOf}
+use Rattle.evl_core.proofs.words.DealLaws.{deals-one, dealt-turn}
+use Rattle.evl_machine.proofs.stax_locks.StaxLaws.{gates-more}
 use Rattle.evl_machine.proofs.elements.gates.made_gates.Goals as goal
 
 pub deal-requires : goal.deal-requires

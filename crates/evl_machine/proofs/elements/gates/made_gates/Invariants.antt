@@ -1,7 +1,7 @@
 use Rattle.std.proofs.Common.{◌≡◌, map, take}
 use Rattle.std.specs.List.{range_with_len}
 use Rattle.evl_words.specs.GateCalls.{new_seat}
-use Rattle.evl_machine.specs.StaxSeats.{AreGatesOf}
+use Rattle.evl_machine.specs.stax_locks.StaxSeats.{AreGatesOf}
 use Rattle.evl_machine.proofs.elements.gates.made_gates.Given as goal
 
 abbrev pub invariant-loop-limit : goal.invariant-loop-limit

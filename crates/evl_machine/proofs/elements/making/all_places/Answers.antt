@@ -1,6 +1,6 @@
 use Rattle.std.proofs.Common.{◌++◌, ◌∷◌, [], zero-add, sym, ◌∙◌}
 use Rattle.std.proofs.lemmas.List.FromFn.{map-range_with_len_more}
-use Rattle.evl_core.specs.MutexPlaces.{new_places}
+use Rattle.evl_core.specs.words.MutexPlaces.{new_places}
 use Rattle.evl_machine.proofs.elements.making.all_places.Goals as goal
 
 pub loop-thread-preserved : goal.loop-thread-preserved

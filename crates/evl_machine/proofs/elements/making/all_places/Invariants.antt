@@ -1,6 +1,6 @@
 use Rattle.std.proofs.Common.{◌≡◌, map}
 use Rattle.std.specs.List.{range_with_len}
-use Rattle.evl_core.specs.MutexPlaces.{new_places}
+use Rattle.evl_core.specs.words.MutexPlaces.{new_places}
 use Rattle.evl_machine.proofs.elements.making.all_places.Given as goal
 
 abbrev pub invariant-loop-thread : goal.invariant-loop-thread

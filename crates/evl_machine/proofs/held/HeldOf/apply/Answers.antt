@@ -1,9 +1,9 @@
 use Rattle.std.proofs.Common.{ap, sym, ◌∙◌, subst}
 use Rattle.evl_kernel.specs.state.KernelViews.{KernelView}
-use Rattle.evl_machine.specs.Handles.{HeldState, MachineState}
-use Rattle.evl_core.specs.Known.{ComesFrom}
-use Rattle.evl_core.proofs.Knowing.{answers_still}
-use Rattle.evl_machine.proofs.Visits.{held_call}
+use Rattle.evl_machine.specs.callers.Handles.{HeldState, MachineState}
+use Rattle.evl_core.specs.rule.Known.{ComesFrom}
+use Rattle.evl_core.proofs.accounts.Knowing.{answers_still}
+use Rattle.evl_machine.proofs.callers.Visits.{held_call}
 use Rattle.evl_machine.proofs.held.HeldOf.apply.Goals as goal
 
 pub apply-requires-clause-by_plan : goal.apply-requires-clause-by_plan

@@ -1,6 +1,6 @@
 use Rattle.std.proofs.Common.{sym, ap}
-use Rattle.evl_machine.specs.Handles.{MachineState}
-use Rattle.evl_machine.proofs.Visits.{given_back, given_event, given_suits, stage_resting}
+use Rattle.evl_machine.specs.callers.Handles.{MachineState}
+use Rattle.evl_machine.proofs.callers.Visits.{given_back, given_event, given_suits, stage_resting}
 use Rattle.evl_machine.proofs.held.HeldOf.give.Goals as goal
 
 pub shut-requires : goal.shut-requires

@@ -1,13 +1,13 @@
 use Rattle.std.proofs.Common.{sym, ap, ◌∙◌, subst}
 use Rattle.std.specs.Prelude.{⊤, MatchOption}
 use Rattle.evl_kernel.specs.state.KernelViews.{KernelView}
-use Rattle.evl_machine.specs.Actors.{SeatedActor, acting}
-use Rattle.evl_machine.specs.Callers.{HasInHand}
-use Rattle.evl_machine.specs.Handles.{HeldState, MachineState, caller_of}
-use Rattle.evl_core.specs.Seats.{account_of}
-use Rattle.evl_machine.specs.InWord.{Agrees, SaysTied}
-use Rattle.evl_core.specs.Known.{ceilings_of, seen}
-use Rattle.evl_machine.proofs.InWords.{agreed_if, tied_if}
+use Rattle.evl_machine.specs.callers.Actors.{SeatedActor, acting}
+use Rattle.evl_machine.specs.callers.Callers.{HasInHand}
+use Rattle.evl_machine.specs.callers.Handles.{HeldState, MachineState, caller_of}
+use Rattle.evl_core.specs.accounts.Seats.{account_of}
+use Rattle.evl_machine.specs.mutex_locks.InWord.{Agrees, SaysTied}
+use Rattle.evl_core.specs.rule.Known.{ceilings_of, seen}
+use Rattle.evl_machine.proofs.mutex_locks.InWords.{agreed_if, tied_if}
 use Rattle.evl_machine.proofs.held.HeldOf.in_word.Goals as goal
 
 pub look-requires : goal.look-requires

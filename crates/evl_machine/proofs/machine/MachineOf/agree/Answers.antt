@@ -1,7 +1,7 @@
 use Rattle.std.proofs.Common.{ap, subst, ◌∙◌}
-use Rattle.evl_machine.specs.Callers.{caller_by}
-use Rattle.evl_machine.specs.Handles.{CallerState, MachineState}
-use Rattle.evl_core.specs.OneHistory.{AgreeOnMutexes, AgreeOnStaxes, OneHistory}
+use Rattle.evl_machine.specs.callers.Callers.{caller_by}
+use Rattle.evl_machine.specs.callers.Handles.{CallerState, MachineState}
+use Rattle.evl_core.specs.accounts.OneHistory.{AgreeOnMutexes, AgreeOnStaxes, OneHistory}
 use Rattle.evl_machine.proofs.machine.MachineOf.agree.Goals as goal
 
 pub agree_by-requires-clause-machine : goal.agree_by-requires-clause-machine

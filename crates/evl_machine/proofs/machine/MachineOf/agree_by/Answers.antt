@@ -1,13 +1,13 @@
 use Rattle.std.proofs.Common.{subst}
 use Rattle.evl_words.specs.Looks as looks
-use Rattle.evl_machine.specs.Actors.{SeatedActor}
-use Rattle.evl_core.specs.Known.{first_of}
-use Rattle.evl_core.specs.MutexTokens.{AreItsPlaces, IsAtTable}
-use Rattle.evl_core.specs.OneHistory.{AgreeOnStaxes, AreTogether}
-use Rattle.evl_machine.proofs.Gathering.{joins_known}
-use Rattle.evl_machine.proofs.Seating.{splits_known}
-use Rattle.evl_core.proofs.OneHistory.{two_known}
-use Rattle.evl_machine.proofs.Together.{kernel_together, mutexes_together}
+use Rattle.evl_machine.specs.callers.Actors.{SeatedActor}
+use Rattle.evl_core.specs.rule.Known.{first_of}
+use Rattle.evl_core.specs.words.MutexTokens.{AreItsPlaces, IsAtTable}
+use Rattle.evl_core.specs.accounts.OneHistory.{AgreeOnStaxes, AreTogether}
+use Rattle.evl_machine.proofs.callers.Gathering.{joins_known}
+use Rattle.evl_machine.proofs.callers.Seating.{splits_known}
+use Rattle.evl_core.proofs.accounts.OneHistory.{two_known}
+use Rattle.evl_machine.proofs.callers.Together.{kernel_together, mutexes_together}
 use Rattle.evl_machine.proofs.machine.MachineOf.agree_by.Goals as goal
 
 pub look_together-requires-clause-splits : goal.look_together-requires-clause-splits

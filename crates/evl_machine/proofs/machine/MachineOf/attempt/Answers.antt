@@ -2,16 +2,16 @@ use Rattle.std.proofs.Common.{◌≡◌, true, ap, sym, ◌∙◌, subst}
 use Rattle.evl_base.specs.Board.{board_fits}
 use Rattle.evl_kernel.specs.state.Callbacks.{AnswersByPlan}
 use Rattle.evl_kernel.specs.state.KernelViews.{KernelView}
-use Rattle.evl_machine.specs.Actors.{ActorState, acting, call_refusal}
-use Rattle.evl_machine.specs.Callers.{machine_by}
-use Rattle.evl_machine.specs.Handles.{CallerState, MachineState}
-use Rattle.evl_core.specs.Seats.{account_of}
-use Rattle.evl_core.specs.Known.{seen}
-use Rattle.evl_core.specs.MutexSeats.{holds_mutex}
-use Rattle.evl_machine.specs.StaxSeats.{holds_stax}
-use Rattle.evl_machine.specs.Visits.{actor_of}
-use Rattle.evl_machine.proofs.Staying.{at_stage}
-use Rattle.evl_machine.proofs.Visits.{same_actor}
+use Rattle.evl_machine.specs.callers.Actors.{ActorState, acting, call_refusal}
+use Rattle.evl_machine.specs.callers.Callers.{machine_by}
+use Rattle.evl_machine.specs.callers.Handles.{CallerState, MachineState}
+use Rattle.evl_core.specs.accounts.Seats.{account_of}
+use Rattle.evl_core.specs.rule.Known.{seen}
+use Rattle.evl_core.specs.words.MutexSeats.{holds_mutex}
+use Rattle.evl_machine.specs.stax_locks.StaxSeats.{holds_stax}
+use Rattle.evl_machine.specs.calls.Visits.{actor_of}
+use Rattle.evl_machine.proofs.callers.Staying.{at_stage}
+use Rattle.evl_machine.proofs.callers.Visits.{same_actor}
 use Rattle.evl_machine.proofs.machine.MachineOf.attempt.Goals as goal
 
 pub call_with-requires-clause-by_plan : goal.call_with-requires-clause-by_plan

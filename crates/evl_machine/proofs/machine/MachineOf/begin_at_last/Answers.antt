@@ -1,6 +1,6 @@
 use Rattle.std.proofs.Common.{sym, ◌∙◌}
-use Rattle.evl_machine.specs.MutexLocks.{BeginsToLock}
-use Rattle.evl_machine.proofs.MutexWaitLaws.{repeats_more}
+use Rattle.evl_machine.specs.mutex_locks.MutexLocks.{BeginsToLock}
+use Rattle.evl_machine.proofs.mutex_locks.MutexWaitLaws.{repeats_more}
 use Rattle.evl_machine.proofs.machine.MachineOf.begin_at_last.Goals as goal
 
 pub loop-preserved : goal.loop-preserved

@@ -1,16 +1,16 @@
 use Rattle.std.proofs.Common.{None, arith, ap, sym, ◌∙◌, nat_lt, slice_get, subst}
-use Rattle.evl_machine.specs.Actors.{acting}
-use Rattle.evl_machine.specs.Callers.{machine_by}
-use Rattle.evl_machine.specs.Calls.{HoldsAtItsStage}
-use Rattle.evl_core.specs.Ceilings.{has_ceiling}
-use Rattle.evl_machine.specs.Handles.{CallerState, MachineState}
-use Rattle.evl_core.specs.Seats.{account_of}
-use Rattle.evl_core.specs.Known.{seen}
-use Rattle.evl_machine.specs.Visits.{actor_of}
-use Rattle.evl_machine.proofs.MutexLocks.{begins_by_kernel, none_of, own_lock_is}
-use Rattle.evl_core.specs.MutexSeats.{depth_at}
-use Rattle.evl_machine.proofs.Visits.{same_actor}
-use Rattle.evl_machine.proofs.Staying.{at_stage}
+use Rattle.evl_machine.specs.callers.Actors.{acting}
+use Rattle.evl_machine.specs.callers.Callers.{machine_by}
+use Rattle.evl_machine.specs.calls.Calls.{HoldsAtItsStage}
+use Rattle.evl_core.specs.rule.Ceilings.{has_ceiling}
+use Rattle.evl_machine.specs.callers.Handles.{CallerState, MachineState}
+use Rattle.evl_core.specs.accounts.Seats.{account_of}
+use Rattle.evl_core.specs.rule.Known.{seen}
+use Rattle.evl_machine.specs.calls.Visits.{actor_of}
+use Rattle.evl_machine.proofs.mutex_locks.MutexLocks.{begins_by_kernel, none_of, own_lock_is}
+use Rattle.evl_core.specs.words.MutexSeats.{depth_at}
+use Rattle.evl_machine.proofs.callers.Visits.{same_actor}
+use Rattle.evl_machine.proofs.callers.Staying.{at_stage}
 use Rattle.evl_machine.proofs.machine.MachineOf.begin_lock_mutex.Goals as goal
 
 pub returns-in-Some-clause-stage : goal.returns-in-Some-clause-stage

@@ -1,7 +1,7 @@
 use Rattle.std.proofs.Common.{ap, ◌∙◌, subst}
-use Rattle.evl_machine.specs.Calls.{HoldsAtItsStage, own_refusal}
-use Rattle.evl_machine.proofs.Staying.{at_stage}
-use Rattle.evl_machine.proofs.TurnedAway.{away_free, away_more, own_call_is}
+use Rattle.evl_machine.specs.calls.Calls.{HoldsAtItsStage, own_refusal}
+use Rattle.evl_machine.proofs.callers.Staying.{at_stage}
+use Rattle.evl_machine.proofs.calls.TurnedAway.{away_free, away_more, own_call_is}
 use Rattle.evl_machine.proofs.machine.MachineOf.call.Goals as goal
 
 pub returns-in-Some-clause-stage : goal.returns-in-Some-clause-stage

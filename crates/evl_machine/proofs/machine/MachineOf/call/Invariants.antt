@@ -1,5 +1,5 @@
 use Rattle.std.proofs.Common.{◌≡◌}
-use Rattle.evl_machine.specs.Calls.{IsTurnedAway}
+use Rattle.evl_machine.specs.calls.Calls.{IsTurnedAway}
 use Rattle.evl_machine.proofs.machine.MachineOf.call.Given as goal
 
 abbrev pub invariant-loop : goal.invariant-loop

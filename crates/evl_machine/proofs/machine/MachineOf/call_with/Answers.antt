@@ -1,12 +1,12 @@
 use Rattle.std.proofs.Common.{length, refl, ap, sym, ◌∙◌, subst}
-use Rattle.evl_machine.specs.Actors.{ActorState, ClaimsOneOf, acting, call_refusal}
-use Rattle.evl_core.specs.MutexSeats.{holds_mutex}
-use Rattle.evl_machine.specs.StaxSeats.{holds_stax}
-use Rattle.evl_machine.proofs.Calling.{found_taken, called_none}
-use Rattle.evl_core.proofs.Knowing.{first_in_me}
-use Rattle.evl_machine.proofs.KernelVisits.{HasDone, acted_by, called_by, does_call, may_shut, opened_answers, same_as, same_on, suits_back}
-use Rattle.evl_machine.proofs.Opened.{just_took}
-use Rattle.evl_machine.proofs.Visits.{rests_lost, suits_opened, suits_lost}
+use Rattle.evl_machine.specs.callers.Actors.{ActorState, ClaimsOneOf, acting, call_refusal}
+use Rattle.evl_core.specs.words.MutexSeats.{holds_mutex}
+use Rattle.evl_machine.specs.stax_locks.StaxSeats.{holds_stax}
+use Rattle.evl_machine.proofs.callers.Calling.{found_taken, called_none}
+use Rattle.evl_core.proofs.accounts.Knowing.{first_in_me}
+use Rattle.evl_machine.proofs.calls.KernelVisits.{HasDone, acted_by, called_by, does_call, may_shut, opened_answers, same_as, same_on, suits_back}
+use Rattle.evl_machine.proofs.callers.Opened.{just_took}
+use Rattle.evl_machine.proofs.callers.Visits.{rests_lost, suits_opened, suits_lost}
 use Rattle.evl_machine.proofs.machine.MachineOf.call_with.Goals as goal
 use Rattle.evl_machine.proofs.machine.MachineOf.call_with.Goals.{After-apply-reply}
 

@@ -1,5 +1,5 @@
 use Rattle.std.proofs.Common.{◌∙◌}
-use Rattle.evl_machine.proofs.Gathering.{one_full, none_full, closes_known}
+use Rattle.evl_machine.proofs.callers.Gathering.{one_full, none_full, closes_known}
 use Rattle.evl_machine.proofs.machine.MachineOf.close_with.Goals as goal
 
 pub take-requires : goal.take-requires

@@ -2,9 +2,9 @@ use Rattle.std.proofs.Common.{◌≡◌, true, ap, refl, sym, ◌∙◌, subst}
 use Rattle.evl_base.specs.Board.{board_fits}
 use Rattle.evl_kernel.specs.state.Callbacks.{AnswersByPlan}
 use Rattle.evl_kernel.specs.state.KernelViews.{KernelView}
-use Rattle.evl_machine.specs.Handles.{CallerState, MachineState}
-use Rattle.evl_machine.proofs.Opened.{opened_wait}
-use Rattle.evl_machine.proofs.Staying.{at_stage}
+use Rattle.evl_machine.specs.callers.Handles.{CallerState, MachineState}
+use Rattle.evl_machine.proofs.callers.Opened.{opened_wait}
+use Rattle.evl_machine.proofs.callers.Staying.{at_stage}
 use Rattle.evl_machine.proofs.machine.MachineOf.end_wait.Goals as goal
 
 pub end_with-requires-clause-board : goal.end_with-requires-clause-board

@@ -2,17 +2,17 @@ use Rattle.std.proofs.Common.{◌≡◌, false, refl, ap, ◌∙◌, subst}
 use Rattle.evl_base.specs.declared.call.Call.TheVariants.{Finish}
 use Rattle.evl_base.specs.declared.numbers.ThreadId.{ThreadId}
 use Rattle.evl_kernel.specs.waiting.Waits.{has_ended}
-use Rattle.evl_machine.specs.Actors.{ActorState, acting, keeps_stage}
-use Rattle.evl_machine.specs.Calls.{Answered}
-use Rattle.evl_core.specs.Seats.{account_of}
-use Rattle.evl_core.specs.Known.{first_of, seen}
-use Rattle.evl_core.specs.MutexSeats.{holds_mutex}
-use Rattle.evl_machine.specs.StaxSeats.{holds_stax}
-use Rattle.evl_core.proofs.Knowing.{first_in_me}
-use Rattle.evl_machine.proofs.KernelVisits.{HasDone, acted_by, called_by, does_call, does_nothing, may_shut, opened_answers, same_as, same_on, suits_back}
-use Rattle.evl_machine.proofs.Opened.{just_took}
-use Rattle.evl_machine.proofs.Visits.{rests_lost, suits_opened, suits_lost}
-use Rattle.evl_machine.proofs.WaitingLaws.{goes_on, look_lost, look_opened, may_finish}
+use Rattle.evl_machine.specs.callers.Actors.{ActorState, acting, keeps_stage}
+use Rattle.evl_machine.specs.calls.Calls.{Answered}
+use Rattle.evl_core.specs.accounts.Seats.{account_of}
+use Rattle.evl_core.specs.rule.Known.{first_of, seen}
+use Rattle.evl_core.specs.words.MutexSeats.{holds_mutex}
+use Rattle.evl_machine.specs.stax_locks.StaxSeats.{holds_stax}
+use Rattle.evl_core.proofs.accounts.Knowing.{first_in_me}
+use Rattle.evl_machine.proofs.calls.KernelVisits.{HasDone, acted_by, called_by, does_call, does_nothing, may_shut, opened_answers, same_as, same_on, suits_back}
+use Rattle.evl_machine.proofs.callers.Opened.{just_took}
+use Rattle.evl_machine.proofs.callers.Visits.{rests_lost, suits_opened, suits_lost}
+use Rattle.evl_machine.proofs.calls.WaitingLaws.{goes_on, look_lost, look_opened, may_finish}
 use Rattle.evl_machine.proofs.machine.MachineOf.end_with.Goals as goal
 use Rattle.evl_machine.proofs.machine.MachineOf.end_with.Goals.{After-apply-reply}
 

@@ -1,8 +1,8 @@
 use Rattle.std.proofs.Common.{◌≡◌, List}
 use Rattle.evl_base.specs.declared.refusal.Refusal.{Refusal}
-use Rattle.evl_machine.specs.Handles.{CallerState}
-use Rattle.evl_machine.specs.MutexLocks.{FinishesToLock}
-use Rattle.evl_machine.specs.MutexWaits.{Repeats}
+use Rattle.evl_machine.specs.callers.Handles.{CallerState}
+use Rattle.evl_machine.specs.mutex_locks.MutexLocks.{FinishesToLock}
+use Rattle.evl_machine.specs.mutex_locks.MutexWaits.{Repeats}
 use Rattle.evl_machine.proofs.machine.MachineOf.finish_at_last.Given as goal
 
 abbrev pub invariant-loop : goal.invariant-loop

@@ -2,7 +2,7 @@ use Rattle.std.proofs.Common.{Some, ap, sym, ◌∙◌}
 use Rattle.evl_machine.specs.declared.unfinished.Unfinished.{Unfinished}
 use Rattle.evl_machine.specs.declared.unfinished.Unfinished.TheVariants.{Mutex}
 use Rattle.evl_machine.specs.declared.caller.CallerOf.TheInside.{Inside}
-use Rattle.evl_machine.proofs.Opened.{own_wait}
+use Rattle.evl_machine.proofs.callers.Opened.{own_wait}
 use Rattle.evl_machine.proofs.machine.MachineOf.finish_lock_mutex.Goals as goal
 
 pub finish_with_kernel-requires-clause-waits : goal.finish_with_kernel-requires-clause-waits

@@ -1,7 +1,7 @@
 use Rattle.std.proofs.Common.{inl, inr, refl}
-use Rattle.evl_machine.proofs.KernelVisits.{HasDone, its_first, its_id, its_table, may_shut, opened_answers, rests_back, stage_back, visited}
-use Rattle.evl_machine.proofs.Opened.{just_took, opened_wait, places_there}
-use Rattle.evl_machine.proofs.Visits.{finds_taken, stage_lost}
+use Rattle.evl_machine.proofs.calls.KernelVisits.{HasDone, its_first, its_id, its_table, may_shut, opened_answers, rests_back, stage_back, visited}
+use Rattle.evl_machine.proofs.callers.Opened.{just_took, opened_wait, places_there}
+use Rattle.evl_machine.proofs.callers.Visits.{finds_taken, stage_lost}
 use Rattle.evl_machine.proofs.machine.MachineOf.finish_with_kernel.Goals as goal
 use Rattle.evl_machine.proofs.machine.MachineOf.finish_with_kernel.Goals.{After-finish-result}
 

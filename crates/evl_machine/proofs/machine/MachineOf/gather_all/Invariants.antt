@@ -1,8 +1,8 @@
 use Rattle.std.proofs.Common.{◌≡◌, ◌++◌, List}
 use Rattle.std.specs.Prelude.{vec_len}
-use Rattle.evl_core.specs.Known.{seen}
-use Rattle.evl_machine.specs.Handles.{CallerState}
-use Rattle.evl_machine.specs.Closings.{accounts_back, gathered}
+use Rattle.evl_core.specs.rule.Known.{seen}
+use Rattle.evl_machine.specs.callers.Handles.{CallerState}
+use Rattle.evl_machine.specs.calls.Closings.{accounts_back, gathered}
 use Rattle.evl_machine.proofs.machine.MachineOf.gather_all.Given as goal
 
 abbrev pub invariant-loop-caller : goal.invariant-loop-caller

@@ -2,14 +2,14 @@ use Rattle.std.proofs.Common.{sym, ap, ◌∙◌, arith, subst}
 use mathlib.Core.Option.{none}
 use Rattle.atomic_table.specs.Table.{step}
 use Rattle.evl_kernel.specs.state.KernelViews.{KernelView}
-use Rattle.evl_core.specs.Events.{Gives}
-use Rattle.evl_machine.specs.Handles.{MachineState}
-use Rattle.evl_core.specs.Seats.{account_of}
-use Rattle.evl_core.specs.Known.{ComesFrom, past_of, room_of, seen}
-use Rattle.evl_core.specs.MutexTokens.{KeepsPlaces}
-use Rattle.evl_core.specs.Noted.{IsSettled}
-use Rattle.evl_core.proofs.Knowing.{gives_known, gave_places, gave_seen, first_in_me, hand_in_me}
-use Rattle.evl_core.proofs.Taking.{is_loaded}
+use Rattle.evl_core.specs.worlds.Events.{Gives}
+use Rattle.evl_machine.specs.callers.Handles.{MachineState}
+use Rattle.evl_core.specs.accounts.Seats.{account_of}
+use Rattle.evl_core.specs.rule.Known.{ComesFrom, past_of, room_of, seen}
+use Rattle.evl_core.specs.words.MutexTokens.{KeepsPlaces}
+use Rattle.evl_core.specs.words.Noted.{IsSettled}
+use Rattle.evl_core.proofs.accounts.Knowing.{gives_known, gave_places, gave_seen, first_in_me, hand_in_me}
+use Rattle.evl_core.proofs.accounts.Taking.{is_loaded}
 use Rattle.evl_machine.proofs.machine.MachineOf.give_kernel.Goals as goal
 
 pub store-requires : goal.store-requires

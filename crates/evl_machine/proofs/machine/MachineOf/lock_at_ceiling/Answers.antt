@@ -1,10 +1,10 @@
 use Rattle.std.proofs.Common.{ap, sym, ◌∙◌, subst, inl, inr, refl}
-use Rattle.evl_machine.specs.Actors.{acting}
-use Rattle.evl_machine.specs.Handles.{MachineState}
-use Rattle.evl_machine.specs.Locking.{LocksRaised}
-use Rattle.evl_machine.proofs.KernelVisits.{HasDone, its_first, its_homes, its_id, its_kind, its_table, may_shut, opened_answers, rests_back, stage_back, visited}
-use Rattle.evl_machine.proofs.Opened.{free_at_ceiling, just_took, lock_open, opened_may}
-use Rattle.evl_machine.proofs.Visits.{finds_taken, stage_lost}
+use Rattle.evl_machine.specs.callers.Actors.{acting}
+use Rattle.evl_machine.specs.callers.Handles.{MachineState}
+use Rattle.evl_machine.specs.mutex_locks.Locking.{LocksRaised}
+use Rattle.evl_machine.proofs.calls.KernelVisits.{HasDone, its_first, its_homes, its_id, its_kind, its_table, may_shut, opened_answers, rests_back, stage_back, visited}
+use Rattle.evl_machine.proofs.callers.Opened.{free_at_ceiling, just_took, lock_open, opened_may}
+use Rattle.evl_machine.proofs.callers.Visits.{finds_taken, stage_lost}
 use Rattle.evl_machine.proofs.machine.MachineOf.lock_at_ceiling.Goals as goal
 use Rattle.evl_machine.proofs.machine.MachineOf.lock_at_ceiling.Goals.{After-lock_raised-result}
 

@@ -1,10 +1,10 @@
 use Rattle.std.proofs.Common.{None, ap, sym, ◌∙◌, subst, slice_get, arith}
-use Rattle.evl_machine.specs.Calls.{HoldsAtItsStage}
-use Rattle.evl_core.specs.Ceilings.{has_ceiling}
-use Rattle.evl_machine.specs.Handles.{CallerState, MachineState}
-use Rattle.evl_core.specs.MutexSeats.{depth_at}
-use Rattle.evl_machine.proofs.MutexLocks.{own_lock_is}
-use Rattle.evl_machine.proofs.Staying.{at_stage}
+use Rattle.evl_machine.specs.calls.Calls.{HoldsAtItsStage}
+use Rattle.evl_core.specs.rule.Ceilings.{has_ceiling}
+use Rattle.evl_machine.specs.callers.Handles.{CallerState, MachineState}
+use Rattle.evl_core.specs.words.MutexSeats.{depth_at}
+use Rattle.evl_machine.proofs.mutex_locks.MutexLocks.{own_lock_is}
+use Rattle.evl_machine.proofs.callers.Staying.{at_stage}
 use Rattle.evl_machine.proofs.machine.MachineOf.lock_rarely.Goals as goal
 
 pub returns-in-Some-clause-stage : goal.returns-in-Some-clause-stage

@@ -1,8 +1,8 @@
 use Rattle.std.proofs.Common.{ap, subst}
-use Rattle.evl_machine.specs.Calls.{stage_of_caller}
-use Rattle.evl_machine.specs.StaxCalls.{StaxCall}
-use Rattle.evl_machine.specs.StaxWaits.{RetriesOnce}
-use Rattle.evl_machine.proofs.StaxWaitLaws.{retries_again}
+use Rattle.evl_machine.specs.calls.Calls.{stage_of_caller}
+use Rattle.evl_machine.specs.stax_locks.StaxCalls.{StaxCall}
+use Rattle.evl_machine.specs.stax_locks.StaxWaits.{RetriesOnce}
+use Rattle.evl_machine.proofs.stax_locks.StaxWaitLaws.{retries_again}
 use Rattle.evl_machine.proofs.machine.MachineOf.lock_stax.Goals as goal
 
 pub loop-preserved : goal.loop-preserved

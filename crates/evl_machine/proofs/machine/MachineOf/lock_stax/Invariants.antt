@@ -1,6 +1,6 @@
-use Rattle.evl_machine.specs.Calls.{stage_of_caller}
-use Rattle.evl_machine.specs.StaxCalls.{StaxCall}
-use Rattle.evl_machine.proofs.StaxWaitLaws.{RetriesSoFar}
+use Rattle.evl_machine.specs.calls.Calls.{stage_of_caller}
+use Rattle.evl_machine.specs.stax_locks.StaxCalls.{StaxCall}
+use Rattle.evl_machine.proofs.stax_locks.StaxWaitLaws.{RetriesSoFar}
 use Rattle.evl_machine.proofs.machine.MachineOf.lock_stax.Given as goal
 
 abbrev pub invariant-loop : goal.invariant-loop

@@ -1,14 +1,13 @@
 use Rattle.std.proofs.Common.{◌≡◌, ◌+◌, Ok, refl, ap, sym, ◌∙◌, subst, arith}
 use Rattle.evl_machine.specs.declared.caller.CallerOf.TheInside.{Inside}
-use Rattle.evl_machine.specs.Actors.{acting}
-use Rattle.evl_machine.specs.Callers.{caller_by}
-use Rattle.evl_machine.specs.Handles.{CallerState, MachineState}
-use Rattle.evl_machine.specs.MutexLocks.{kinds_of}
-use Rattle.evl_core.specs.MutexSeats.{TriesMutex, UnlocksMutex, unlock_refusal}
-use Rattle.evl_core.specs.MutexTokens.{seats_at}
-use Rattle.evl_machine.proofs.Opened.{lock_open, nests_there}
-use Rattle.evl_machine.proofs.WordCalls.{actor_in, caller_stepped, nests_so, same_at_depth, tries_so}
-use Rattle.evl_machine.proofs.WordCalls.{depth_is, its_deeper, no_step, one_deeper}
+use Rattle.evl_machine.specs.callers.Actors.{acting}
+use Rattle.evl_machine.specs.callers.Callers.{caller_by}
+use Rattle.evl_machine.specs.callers.Handles.{CallerState, MachineState}
+use Rattle.evl_machine.specs.mutex_locks.MutexLocks.{kinds_of}
+use Rattle.evl_core.specs.words.MutexSeats.{TriesMutex, UnlocksMutex, unlock_refusal}
+use Rattle.evl_core.specs.words.MutexTokens.{seats_at}
+use Rattle.evl_machine.proofs.callers.Opened.{lock_open, nests_there}
+use Rattle.evl_machine.proofs.mutex_locks.WordCalls.{actor_in, caller_stepped, nests_so, same_at_depth, tries_so, depth_is, its_deeper, no_step, one_deeper}
 use Rattle.evl_machine.proofs.machine.MachineOf.nest.Goals as goal
 
 pub nest-requires : goal.nest-requires
@@ -40,5 +39,5 @@ returns-clause-tried g c =
     let machine = c.requires.machine ∙ sym c.self.view_is in
     let kinds = ap (λ (m : MachineState _). m.first.history.board.mutexes.items) (c.self.view_is ∙ sym c.requires.machine) in
     let may = lock_open X X _ c.args.mutex was refl _ _ _ (ap (λ (s : CallerState _). s.machine.mutexes) was ∙ ap (λ (m : MachineState _). m.mutexes) machine) (ap (λ (s : CallerState _). s.machine.first) was ∙ ap (λ (m : MachineState _). m.first) machine) c.self.invariant.3 c.requires.unrefused in
-    let held = ap (λ (s : CallerState _). Rattle.evl_core.specs.MutexSeats.depth_at s.mutexes c.args.mutex.0) was in
+    let held = ap (λ (s : CallerState _). Rattle.evl_core.specs.words.MutexSeats.depth_at s.mutexes c.args.mutex.0) was in
     caller_stepped X X.table X.me c.nest.new.self (no_step X.me) refl (same_at_depth X.table X.me.0 c.args.mutex.0 (λ d. d + 1) X.places c.nest.new.self c.nest.ensures.nested) c.args.caller.now was (λ a b. TriesMutex (kinds_of c.args.caller.now) a c.args.mutex.0 (Ok c.nest.result) b) (subst (λ ks. TriesMutex ks (acting X).mutexes c.args.mutex.0 (Ok c.nest.result) (seats_at X.table X.me.0 c.nest.new.self)) kinds (tries_so c.self.inside.core.shared.key.value.history.board.mutexes.items (acting X).mutexes (seats_at X.table X.me.0 c.nest.new.self) c.args.mutex.0 (Ok c.nest.result) may (nests_so X.table X.me.0 c.args.mutex.0 X.places c.nest.new.self c.nest.result (λ e. absurd (omega (arith, c.requires.held, held, e))) c.caller-inside.invariant.places.its.placed c.nest.ensures.pass c.nest.ensures.nested)))

@@ -1,4 +1,4 @@
-use Rattle.evl_machine.proofs.Visits.{actor_kept, opened_or_missed}
+use Rattle.evl_machine.proofs.callers.Visits.{actor_kept, opened_or_missed}
 use Rattle.evl_machine.proofs.machine.MachineOf.open.Goals as goal
 
 pub invariant_of-actor : goal.invariant_of-actor

@@ -1,8 +1,8 @@
 use Rattle.std.proofs.Common.{sym, subst}
 use Rattle.evl_kernel.specs.state.Callbacks.{AnswersByPlan}
 use Rattle.evl_kernel.specs.state.KernelViews.{KernelView}
-use Rattle.evl_core.specs.Homes.{AreHomes}
-use Rattle.evl_machine.proofs.Newcomers.{gate_homes, made_bounds}
+use Rattle.evl_core.specs.words.Homes.{AreHomes}
+use Rattle.evl_machine.proofs.callers.Newcomers.{gate_homes, made_bounds}
 use Rattle.evl_machine.proofs.machine.MachineOf.over.Goals as goal
 
 pub returns-in_ok-made-in-Ok-parts-clause-by_plan : goal.returns-in_ok-made-in-Ok-parts-clause-by_plan

@@ -1,10 +1,10 @@
 use Rattle.std.proofs.Common.{ap, sym, ◌∙◌, subst, inl, inr, refl}
-use Rattle.evl_machine.specs.Actors.{ActorState}
-use Rattle.evl_machine.specs.Handles.{CallerState}
-use Rattle.evl_core.specs.MutexSeats.{HasOnce}
-use Rattle.evl_machine.proofs.KernelVisits.{HasDone, its_first, its_homes, its_id, its_table, may_shut, opened_answers, rests_back, stage_back, visited}
-use Rattle.evl_machine.proofs.Opened.{just_took, opened_seats, opened_wait}
-use Rattle.evl_machine.proofs.Visits.{finds_taken, stage_lost}
+use Rattle.evl_machine.specs.callers.Actors.{ActorState}
+use Rattle.evl_machine.specs.callers.Handles.{CallerState}
+use Rattle.evl_core.specs.words.MutexSeats.{HasOnce}
+use Rattle.evl_machine.proofs.calls.KernelVisits.{HasDone, its_first, its_homes, its_id, its_table, may_shut, opened_answers, rests_back, stage_back, visited}
+use Rattle.evl_machine.proofs.callers.Opened.{just_took, opened_seats, opened_wait}
+use Rattle.evl_machine.proofs.callers.Visits.{finds_taken, stage_lost}
 use Rattle.evl_machine.proofs.machine.MachineOf.release_with_kernel.Goals as goal
 use Rattle.evl_machine.proofs.machine.MachineOf.release_with_kernel.Goals.{After-release-result}
 

@@ -1,7 +1,7 @@
 use Rattle.std.proofs.Common.{sym, subst}
-use Rattle.evl_machine.specs.Actors.{SeatedActor}
-use Rattle.evl_machine.specs.InHand.{MayShut}
-use Rattle.evl_machine.proofs.Visits.{actor_kept, has_shut}
+use Rattle.evl_machine.specs.callers.Actors.{SeatedActor}
+use Rattle.evl_machine.specs.callers.InHand.{MayShut}
+use Rattle.evl_machine.proofs.callers.Visits.{actor_kept, has_shut}
 use Rattle.evl_machine.proofs.machine.MachineOf.shut.Goals as goal
 
 pub give_kernel-requires : goal.give_kernel-requires

@@ -2,12 +2,12 @@ use Rattle.std.proofs.Common.{ap, sym, ◌∙◌, subst}
 use Rattle.evl_base.specs.Board.{board_fits}
 use Rattle.evl_kernel.specs.state.KernelViews.{KernelView}
 use Rattle.evl_core.specs.declared.views.Account.{Account}
-use Rattle.evl_core.specs.Events.{FailsToTake, Takes}
-use Rattle.evl_machine.specs.Handles.{CallerState, MachineState, turned_away}
-use Rattle.evl_core.specs.Seats.{account_of}
-use Rattle.evl_core.specs.Known.{seen}
-use Rattle.evl_machine.proofs.Opened.{owned_seats}
-use Rattle.evl_machine.proofs.Visits.{caller_lost, has_taken_it, took_it}
+use Rattle.evl_core.specs.worlds.Events.{FailsToTake, Takes}
+use Rattle.evl_machine.specs.callers.Handles.{CallerState, MachineState, turned_away}
+use Rattle.evl_core.specs.accounts.Seats.{account_of}
+use Rattle.evl_core.specs.rule.Known.{seen}
+use Rattle.evl_machine.proofs.callers.Opened.{owned_seats}
+use Rattle.evl_machine.proofs.callers.Visits.{caller_lost, has_taken_it, took_it}
 use Rattle.evl_machine.proofs.machine.MachineOf.take.Goals as goal
 
 pub open-requires-clause-machine : goal.open-requires-clause-machine

@@ -2,16 +2,15 @@ use Rattle.std.proofs.Common.{sym, ap, ◌∙◌, arith, subst}
 use mathlib.Core.Option.{none}
 use Rattle.atomic_table.specs.Table.{step}
 use Rattle.evl_kernel.specs.state.KernelViews.{KernelView}
-use Rattle.evl_core.specs.Seats.{CoreMe}
-use Rattle.evl_machine.specs.Handles.{MachineState}
-use Rattle.evl_core.specs.Seats.{account_of}
+use Rattle.evl_core.specs.accounts.Seats.{CoreMe, account_of}
+use Rattle.evl_machine.specs.callers.Handles.{MachineState}
 use Rattle.evl_core.specs.declared.views.Account.{Account}
-use Rattle.evl_core.specs.Events.{Takes}
-use Rattle.evl_core.specs.Known.{first_of, past_of, room_of, seen}
-use Rattle.evl_core.specs.MutexTokens.{KeepsPlaces}
-use Rattle.evl_core.specs.Noted.{HasTaken}
-use Rattle.evl_core.proofs.Knowing.{takes_known, took_holds, took_places, took_seen, first_in_me, hand_in_me}
-use Rattle.evl_core.proofs.Taking.{one_slot, out_as, takes_out, comes_out}
+use Rattle.evl_core.specs.worlds.Events.{Takes}
+use Rattle.evl_core.specs.rule.Known.{first_of, past_of, room_of, seen}
+use Rattle.evl_core.specs.words.MutexTokens.{KeepsPlaces}
+use Rattle.evl_core.specs.words.Noted.{HasTaken}
+use Rattle.evl_core.proofs.accounts.Knowing.{takes_known, took_holds, took_places, took_seen, first_in_me, hand_in_me}
+use Rattle.evl_core.proofs.accounts.Taking.{one_slot, out_as, takes_out, comes_out}
 use Rattle.evl_machine.proofs.machine.MachineOf.take_kernel.Goals as goal
 
 pub compare_exchange-requires : goal.compare_exchange-requires

@@ -1,16 +1,16 @@
 use Rattle.std.proofs.Common.{◌≡◌, slice_get, refl, ap, sym, ◌∙◌, subst}
 use Rattle.evl_machine.specs.declared.caller.CallerOf.TheInside.{Inside}
-use Rattle.evl_machine.specs.Actors.{acting}
-use Rattle.evl_machine.specs.Callers.{IsResting, caller_by}
-use Rattle.evl_core.specs.Ceilings.{has_ceiling}
-use Rattle.evl_machine.specs.Handles.{CallerState, MachineState}
-use Rattle.evl_machine.specs.MutexLocks.{kinds_of}
-use Rattle.evl_core.specs.MutexSeats.{TriesMutex}
-use Rattle.evl_core.specs.MutexTokens.{seats_at}
-use Rattle.evl_machine.proofs.Opened.{free_there, lock_open}
-use Rattle.evl_machine.proofs.SeatsAt.{at_table}
-use Rattle.evl_machine.proofs.Visits.{actor_at_mutexes, stage_resting}
-use Rattle.evl_machine.proofs.WordCalls.{actor_in, caller_stepped, resting_stepped, tries_so}
+use Rattle.evl_machine.specs.callers.Actors.{acting}
+use Rattle.evl_machine.specs.callers.Callers.{IsResting, caller_by}
+use Rattle.evl_core.specs.rule.Ceilings.{has_ceiling}
+use Rattle.evl_machine.specs.callers.Handles.{CallerState, MachineState}
+use Rattle.evl_machine.specs.mutex_locks.MutexLocks.{kinds_of}
+use Rattle.evl_core.specs.words.MutexSeats.{TriesMutex}
+use Rattle.evl_core.specs.words.MutexTokens.{seats_at}
+use Rattle.evl_machine.proofs.callers.Opened.{free_there, lock_open}
+use Rattle.evl_machine.proofs.mutex_locks.SeatsAt.{at_table}
+use Rattle.evl_machine.proofs.callers.Visits.{actor_at_mutexes, stage_resting}
+use Rattle.evl_machine.proofs.mutex_locks.WordCalls.{actor_in, caller_stepped, resting_stepped, tries_so}
 use Rattle.evl_machine.proofs.machine.MachineOf.try_at_word.Goals as goal
 
 pub try_there-requires-clause-table : goal.try_there-requires-clause-table

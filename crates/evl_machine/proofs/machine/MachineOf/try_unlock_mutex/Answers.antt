@@ -1,7 +1,7 @@
 use Rattle.std.proofs.Common.{subst, sym}
-use Rattle.evl_machine.specs.Calls.{HoldsAtItsStage}
-use Rattle.evl_machine.proofs.Opened.{own_wait, spends_idle}
-use Rattle.evl_machine.proofs.Staying.{at_stage}
+use Rattle.evl_machine.specs.calls.Calls.{HoldsAtItsStage}
+use Rattle.evl_machine.proofs.callers.Opened.{own_wait, spends_idle}
+use Rattle.evl_machine.proofs.callers.Staying.{at_stage}
 use Rattle.evl_machine.proofs.machine.MachineOf.try_unlock_mutex.Goals as goal
 
 pub returns-in-Some-clause-stage : goal.returns-in-Some-clause-stage

@@ -1,6 +1,6 @@
 use Rattle.std.proofs.Common.{ap, ◌∙◌}
-use Rattle.evl_machine.specs.Calls.{wait_of_caller}
-use Rattle.evl_machine.proofs.MutexUnlocks.{still_has, unlocked_by_kernel}
+use Rattle.evl_machine.specs.calls.Calls.{wait_of_caller}
+use Rattle.evl_machine.proofs.mutex_locks.MutexUnlocks.{still_has, unlocked_by_kernel}
 use Rattle.evl_machine.proofs.machine.MachineOf.unlock_at_word.Goals as goal
 
 pub release_with_kernel-requires-clause-once : goal.release_with_kernel-requires-clause-once

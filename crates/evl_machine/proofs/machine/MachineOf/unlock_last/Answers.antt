@@ -1,15 +1,14 @@
 use Rattle.std.proofs.Common.{◌≡◌, slice_get, Ok, ap, sym, ◌∙◌, subst}
 use Rattle.evl_machine.specs.declared.caller.CallerOf.TheInside.{Inside}
-use Rattle.evl_machine.specs.Actors.{acting}
-use Rattle.evl_machine.specs.Callers.{IsResting, caller_by}
-use Rattle.evl_core.specs.Ceilings.{has_ceiling}
-use Rattle.evl_machine.specs.Handles.{CallerState, MachineState}
-use Rattle.evl_core.specs.MutexSeats.{UnlocksMutex, unlock_refusal}
-use Rattle.evl_core.specs.MutexTokens.{TellsTheSame, seats_at}
-use Rattle.evl_machine.proofs.SeatsAt.{at_table}
-use Rattle.evl_machine.proofs.Visits.{actor_at_mutexes, stage_resting}
-use Rattle.evl_machine.proofs.WordCalls.{actor_in, caller_stepped, resting_stepped, unlocks_so}
-use Rattle.evl_machine.proofs.WordCalls.{once_there}
+use Rattle.evl_machine.specs.callers.Actors.{acting}
+use Rattle.evl_machine.specs.callers.Callers.{IsResting, caller_by}
+use Rattle.evl_core.specs.rule.Ceilings.{has_ceiling}
+use Rattle.evl_machine.specs.callers.Handles.{CallerState, MachineState}
+use Rattle.evl_core.specs.words.MutexSeats.{UnlocksMutex, unlock_refusal}
+use Rattle.evl_core.specs.words.MutexTokens.{TellsTheSame, seats_at}
+use Rattle.evl_machine.proofs.mutex_locks.SeatsAt.{at_table}
+use Rattle.evl_machine.proofs.callers.Visits.{actor_at_mutexes, stage_resting}
+use Rattle.evl_machine.proofs.mutex_locks.WordCalls.{actor_in, caller_stepped, resting_stepped, unlocks_so, once_there}
 use Rattle.evl_machine.proofs.machine.MachineOf.unlock_last.Goals as goal
 
 pub unlock_there-requires-clause-table : goal.unlock_there-requires-clause-table
@@ -62,7 +61,7 @@ returns-clause-seats g c =
     let X = actor_in c.caller-inside.invariant in
     let was : caller_by X ≡ _ = ap (λ (x : Inside _ _). caller_by x.actor) c.caller-inside.view_is ∙ c.caller.view_is in
     let machine = c.requires.machine ∙ sym c.self.view_is in
-    subst (λ (s : CallerState _). Rattle.evl_core.specs.MutexTokens.AreTheSame s.mutexes (seats_at c.unlock_there.new.seat.table_id c.unlock_there.new.seat.me.0 c.unlock_there.new.places)) was c.unlock_there.ensures.word.seats
+    subst (λ (s : CallerState _). Rattle.evl_core.specs.words.MutexTokens.AreTheSame s.mutexes (seats_at c.unlock_there.new.seat.table_id c.unlock_there.new.seat.me.0 c.unlock_there.new.places)) was c.unlock_there.ensures.word.seats
 
 pub returns-clause-stage : goal.returns-clause-stage
 returns-clause-stage g c =

@@ -1,5 +1,5 @@
 use Rattle.std.proofs.Common.{Err, ◌∷◌, ap, ◌∙◌, subst}
-use Rattle.evl_machine.specs.MutexLocks.{TriesToUnlock}
+use Rattle.evl_machine.specs.mutex_locks.MutexLocks.{TriesToUnlock}
 use Rattle.evl_machine.proofs.machine.MachineOf.unlock_mutex.Goals as goal
 
 pub loop-preserved : goal.loop-preserved

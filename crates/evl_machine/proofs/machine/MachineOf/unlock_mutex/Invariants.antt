@@ -1,7 +1,7 @@
 use Rattle.std.proofs.Common.{◌≡◌, List}
 use Rattle.evl_words.specs.declared.mutex.MutexPass.{MutexPass}
-use Rattle.evl_machine.specs.Handles.{CallerState}
-use Rattle.evl_machine.specs.MutexWaits.{FindsBusy}
+use Rattle.evl_machine.specs.callers.Handles.{CallerState}
+use Rattle.evl_machine.specs.mutex_locks.MutexWaits.{FindsBusy}
 use Rattle.evl_machine.proofs.machine.MachineOf.unlock_mutex.Given as goal
 
 abbrev pub invariant-loop : goal.invariant-loop

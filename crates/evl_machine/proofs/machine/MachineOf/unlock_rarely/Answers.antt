@@ -1,6 +1,6 @@
 use Rattle.std.proofs.Common.{subst}
-use Rattle.evl_machine.specs.Calls.{HoldsAtItsStage}
-use Rattle.evl_machine.proofs.Staying.{at_stage}
+use Rattle.evl_machine.specs.calls.Calls.{HoldsAtItsStage}
+use Rattle.evl_machine.proofs.callers.Staying.{at_stage}
 use Rattle.evl_machine.proofs.machine.MachineOf.unlock_rarely.Goals as goal
 
 pub returns-in-Some-clause-stage : goal.returns-in-Some-clause-stage

@@ -1,8 +1,8 @@
 use Rattle.std.proofs.Common.{sym, subst}
-use Rattle.evl_machine.specs.Callers.{IsResting}
+use Rattle.evl_machine.specs.callers.Callers.{IsResting}
 use Rattle.evl_machine.specs.declared.caller.CallerOf.TheInside.{Inside}
-use Rattle.evl_machine.proofs.Staying.{at_stage}
-use Rattle.evl_machine.proofs.StaxCalls.{actor_at_staxes, left_held}
+use Rattle.evl_machine.proofs.callers.Staying.{at_stage}
+use Rattle.evl_machine.proofs.stax_locks.StaxCalls.{actor_at_staxes, left_held}
 use Rattle.evl_machine.proofs.machine.MachineOf.unlock_stax.Goals as goal
 
 pub invariant_of-caller-inside : goal.invariant_of-caller-inside

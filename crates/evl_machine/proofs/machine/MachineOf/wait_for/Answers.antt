@@ -1,5 +1,5 @@
 use Rattle.std.proofs.Common.{sym, ◌∙◌}
-use Rattle.evl_machine.proofs.WaitingLaws.{begun_waits}
+use Rattle.evl_machine.proofs.calls.WaitingLaws.{begun_waits}
 use Rattle.evl_machine.proofs.machine.MachineOf.wait_for.Goals as goal
 
 pub wait_out-requires-clause-waits : goal.wait_out-requires-clause-waits

@@ -1,4 +1,4 @@
-use Rattle.evl_machine.proofs.WaitingLaws.{looked_more, still_waits, waits_out}
+use Rattle.evl_machine.proofs.calls.WaitingLaws.{looked_more, still_waits, waits_out}
 use Rattle.evl_machine.proofs.machine.MachineOf.wait_out.Goals as goal
 
 pub end_wait-requires-clause-waits : goal.end_wait-requires-clause-waits

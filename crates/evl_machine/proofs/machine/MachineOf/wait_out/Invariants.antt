@@ -1,4 +1,4 @@
-use Rattle.evl_machine.specs.Waitings.{Looked}
+use Rattle.evl_machine.specs.calls.Waitings.{Looked}
 use Rattle.evl_machine.proofs.machine.MachineOf.wait_out.Given as goal
 
 abbrev pub invariant-loop : goal.invariant-loop

@@ -1,5 +1,5 @@
 use Rattle.std.proofs.Common.{sym, ◌∙◌}
-use Rattle.evl_machine.proofs.Newcomers.{fits_checked}
+use Rattle.evl_machine.proofs.callers.Newcomers.{fits_checked}
 use Rattle.evl_machine.proofs.making.Parts.of.Goals as goal
 
 pub returns-clause-fits : goal.returns-clause-fits

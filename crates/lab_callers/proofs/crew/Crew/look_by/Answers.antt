@@ -1,8 +1,8 @@
 use Rattle.std.proofs.Common.{◌≡◌, ◌∙◌, ap, arith}
 use Rattle.lab_callers.specs.Views.{LooksAt, Sees}
 use Rattle.lab_callers.proofs.CrewLaws.{back_at, ok_gives}
-use Rattle.evl_machine.specs.Calls.{TookKernel}
-use Rattle.evl_machine.specs.Handles.{HeldState, returned}
+use Rattle.evl_machine.specs.calls.Calls.{TookKernel}
+use Rattle.evl_machine.specs.callers.Handles.{HeldState, returned}
 use Rattle.lab_callers.proofs.crew.Crew.look_by.Goals as goal
 
 pub returns-in-Ok-put_back-clause-looked : goal.returns-in-Ok-put_back-clause-looked

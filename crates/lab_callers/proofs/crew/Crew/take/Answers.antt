@@ -1,7 +1,7 @@
 use Rattle.std.proofs.Common.{◌≡◌, subst}
 use Rattle.lab_callers.specs.Crews.{StepsAt}
 use Rattle.lab_callers.proofs.CrewLaws.{back_at}
-use Rattle.evl_machine.specs.Handles.{turned_away}
+use Rattle.evl_machine.specs.callers.Handles.{turned_away}
 use Rattle.lab_callers.proofs.crew.Crew.take.Goals as goal
 
 pub returns-in-Ok-put_back-clause-taken : goal.returns-in-Ok-put_back-clause-taken

@@ -1,6 +1,6 @@
 use Rattle.std.proofs.Common.{ap, sym, subst, ◌∙◌}
 use Rattle.evl_kernel.specs.state.Callbacks.{AnswersByPlan}
-use Rattle.evl_machine.specs.Handles.{HeldState}
+use Rattle.evl_machine.specs.callers.Handles.{HeldState}
 use Rattle.test_stress.proofs.session.Session.holds.Goals as goal
 
 pub applies-caller-requires : goal.applies-caller-requires

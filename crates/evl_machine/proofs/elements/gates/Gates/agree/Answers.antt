@@ -2,11 +2,11 @@ use Rattle.std.proofs.Common.{◌<◌, length, slice_set, ap, ◌∙◌, sym, ar
 use Rattle.std.proofs.Common.{slice_get}
 use Rattle.std.proofs.lemmas.Option.{slice_get_within}
 use Rattle.evl_words.specs.GateCalls.{SeatState}
-use Rattle.evl_core.specs.Homes.{gate_home, stax_home}
-use Rattle.evl_core.specs.AtSeats.{AreCounted}
-use Rattle.evl_machine.specs.StaxSeats.{stax_passes}
-use Rattle.evl_core.proofs.SeatLists.{same-length, set-same}
-use Rattle.evl_machine.proofs.StaxLaws.{agree_more, found}
+use Rattle.evl_core.specs.words.Homes.{gate_home, stax_home}
+use Rattle.evl_core.specs.words.AtSeats.{AreCounted}
+use Rattle.evl_machine.specs.stax_locks.StaxSeats.{stax_passes}
+use Rattle.evl_core.proofs.words.SeatLists.{same-length, set-same}
+use Rattle.evl_machine.proofs.stax_locks.StaxLaws.{agree_more, found}
 use Rattle.evl_machine.proofs.elements.gates.Gates.agree.Goals as goal
 
 pub invariant_of-one : goal.invariant_of-one

@@ -1,11 +1,11 @@
 use Rattle.std.proofs.Common.{ap, ◌∙◌, arith, map}
 use Rattle.evl_words.specs.GateCalls.{SeatState}
-use Rattle.evl_core.specs.Homes.{stax_home}
-use Rattle.evl_machine.specs.StaxSeats.{stax_passes}
-use Rattle.evl_machine.specs.StaxWaits.{Marks}
-use Rattle.evl_core.proofs.SeatLists.{at-seat, counted-set, map-kept}
-use Rattle.evl_machine.proofs.StaxLaws.{few_passes, home_kept}
-use Rattle.evl_machine.proofs.StaxWaitLaws.{marks_passes, seat_there}
+use Rattle.evl_core.specs.words.Homes.{stax_home}
+use Rattle.evl_machine.specs.stax_locks.StaxSeats.{stax_passes}
+use Rattle.evl_machine.specs.stax_locks.StaxWaits.{Marks}
+use Rattle.evl_core.proofs.words.SeatLists.{at-seat, counted-set, map-kept}
+use Rattle.evl_machine.proofs.stax_locks.StaxLaws.{few_passes, home_kept}
+use Rattle.evl_machine.proofs.stax_locks.StaxWaitLaws.{marks_passes, seat_there}
 use Rattle.evl_machine.proofs.elements.gates.Gates.claim.Goals as goal
 
 pub claim-requires : goal.claim-requires

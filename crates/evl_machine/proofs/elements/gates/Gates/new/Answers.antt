@@ -1,8 +1,8 @@
 use Rattle.std.proofs.Common.{map}
 use Rattle.evl_words.specs.GateCalls.{new_seat}
-use Rattle.evl_machine.specs.StaxSeats.{AreFresh}
-use Rattle.evl_core.proofs.DealLaws.{each-dealt}
-use Rattle.evl_machine.proofs.StaxLaws.{fresh}
+use Rattle.evl_machine.specs.stax_locks.StaxSeats.{AreFresh}
+use Rattle.evl_core.proofs.words.DealLaws.{each-dealt}
+use Rattle.evl_machine.proofs.stax_locks.StaxLaws.{fresh}
 use Rattle.evl_machine.proofs.elements.gates.Gates.new.Goals as goal
 
 pub counted-requires : goal.counted-requires

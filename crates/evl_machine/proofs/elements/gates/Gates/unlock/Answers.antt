@@ -1,9 +1,9 @@
 use Rattle.std.proofs.Common.{ap, ◌∙◌, arith, map}
 use Rattle.evl_words.specs.GateCalls.{SeatState}
-use Rattle.evl_core.specs.Homes.{stax_home}
-use Rattle.evl_machine.specs.StaxSeats.{stax_passes}
-use Rattle.evl_core.proofs.SeatLists.{count-room, counted-set, map-kept}
-use Rattle.evl_machine.proofs.StaxLaws.{found, home_kept, few_passes, passes_of, byte_passes, left_passes, left_stax}
+use Rattle.evl_core.specs.words.Homes.{stax_home}
+use Rattle.evl_machine.specs.stax_locks.StaxSeats.{stax_passes}
+use Rattle.evl_core.proofs.words.SeatLists.{count-room, counted-set, map-kept}
+use Rattle.evl_machine.proofs.stax_locks.StaxLaws.{found, home_kept, few_passes, passes_of, byte_passes, left_passes, left_stax}
 use Rattle.evl_machine.proofs.elements.gates.Gates.unlock.Goals as goal
 
 pub leave-result-requires : goal.leave-result-requires

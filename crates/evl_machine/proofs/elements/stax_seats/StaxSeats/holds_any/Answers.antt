@@ -1,7 +1,7 @@
 use Rattle.std.proofs.Common.{ap, ◌∙◌, nat_lt}
-use Rattle.evl_machine.specs.StaxSeats.{holds_stax, is_held, stax_passes}
-use Rattle.evl_core.proofs.SeatLists.{some-counted}
-use Rattle.evl_machine.proofs.StaxLaws.{has_passes}
+use Rattle.evl_machine.specs.stax_locks.StaxSeats.{holds_stax, is_held, stax_passes}
+use Rattle.evl_core.proofs.words.SeatLists.{some-counted}
+use Rattle.evl_machine.proofs.stax_locks.StaxLaws.{has_passes}
 use Rattle.evl_machine.proofs.elements.stax_seats.StaxSeats.holds_any.Goals as goal
 
 pub returns : goal.returns

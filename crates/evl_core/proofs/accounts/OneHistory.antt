@@ -1,0 +1,84 @@
+-- What two callers of one machine know together: two tokens are one for a moment, in which the rule tells that their threads fit one history.
+use Rattle.std.proofs.Common.{◌≡◌, ◌≢◌, inl, inr, ⊎_elim, ℕ, ◌+◌, ◌<◌, List, [], ◌∷◌, ◌++◌, length, map, get_or, refl, sym, ap, ◌∙◌, subst, append_assoc, arith}
+use mathlib.Core.Option.{some}
+use lib.ListN.{get_elem?}
+use Rattle.atomic_table.proofs.Lists.{at_map}
+use Rattle.evl_base.specs.declared.entry.Entry.{Entry}
+use Rattle.evl_base.specs.declared.play.Play.{Play}
+use Rattle.evl_kernel.specs.state.States.{State}
+use Rattle.evl_kernel.specs.state.Openings.{opening}
+use Rattle.evl_kernel.specs.histories.Histories.{History, Run, IsLegal, opened}
+use Rattle.evl_kernel.specs.state.KernelViews.{KernelView}
+use Rattle.evl_kernel.proofs.histories.Determined.{run_one_way}
+use Rattle.evl_words.specs.Hands.{place}
+use Rattle.evl_words.specs.Looks.{TellsOfTwo}
+use Rattle.evl_words.specs.Looks as looks
+use Rattle.evl_words.specs.MutexCalls.{AreAtMutex}
+use Rattle.evl_words.proofs.LookLaws.{beginnings, picked_before, two_apart}
+use Rattle.evl_words.proofs.MutexSeats.{at_mutex}
+use Rattle.evl_core.specs.declared.views.Account.{Account}
+use Rattle.evl_core.specs.accounts.Accounts.{Fits, GoesOn, IsAccount, calls_by}
+use Rattle.evl_core.specs.rule.ThreadRule.{core_of, mutex_of}
+use Rattle.evl_core.specs.rule.Known.{KeptKnown, mutex_count, seen}
+use Rattle.evl_core.specs.accounts.OneHistory.{AreTogether, OneHistory}
+use Rattle.evl_core.proofs.accounts.Accounts.{calls_by-append}
+
+run_splits : (old : State) (xs ys : List Entry) (plays : List Play) (new : State) → Run old (xs ++ ys) plays new → (ps qs : List Play) × (mid : State) × (plays ≡ ps ++ qs) × Run old xs ps mid × Run mid ys qs new
+run_splits old [] ys plays new r = ([], plays, old, refl, (refl, refl), r)
+run_splits old (x ∷ xs) ys plays new (own, rest, next, split, step, run) =
+    let t = run_splits next xs ys rest new run in
+    (own ++ t.0, t.1, t.2, split ∙ (ap (λ (rs : List Play). own ++ rs) t.3 ∙ sym (append_assoc own t.0 t.1)), (own, t.0, next, refl, step, t.4), t.5)
+
+-- a legal history with the entries of another, and more, goes on from it
+goes_on : (old new : History) (ws : List Entry) → IsLegal old → IsLegal new → new.board ≡ old.board → new.bank ≡ old.bank → new.entries ≡ old.entries ++ ws → GoesOn old ws new
+goes_on old new ws legal longer board bank more =
+    let run : Run (opened old) (old.entries ++ ws) new.plays new.state = subst (λ (z : State × List Entry). Run z.0 z.1 new.plays new.state) (λ i. (opening (board i) (bank i), more i)) longer in
+    let t = run_splits (opened old) old.entries ws new.plays new.state run in
+    let same = run_one_way (opened old) old.entries old.entries t.0 old.plays t.2 old.state refl t.4 legal in record {
+      plays = t.1;
+      board = board;
+      bank = bank;
+      entries_are = more;
+      plays_are = t.3 ∙ ap (λ (ps : List Play). ps ++ t.1) same.1;
+      run = subst (λ (s : State). Run s ws t.1 new.state) same.2 t.5;
+    }
+
+-- an account of which the other's history is the longer one fits it
+fits_other : (h : History) (a b : Account) (ws : List Entry) → IsAccount a → IsAccount b → Fits h a → Fits h b → b.seen.entries ≡ a.seen.entries ++ ws → Fits b.seen a
+fits_other h a b ws is other f g more = record {
+  seen = (ws, goes_on a.seen b.seen ws is.legal other.legal (sym g.seen.1.board ∙ f.seen.1.board) (sym g.seen.1.bank ∙ f.seen.1.bank) more);
+  mine = ap (calls_by a.thread) more
+      ∙ picked_before (calls_by a.thread) (calls_by-append a.thread) h.entries a.seen.entries ws g.seen.0 a.mine (g.seen.1.entries_are ∙ ap (λ (es : List Entry). es ++ g.seen.0) more) f.mine is.mine;
+}
+
+pub one_history : (h : History) (a b : Account) → a.thread ≢ b.thread → IsAccount a → IsAccount b → Fits h a → Fits h b → OneHistory a b
+one_history h a b apart is other f g = record {
+  apart = apart;
+  one = is;
+  other = other;
+  longer = ⊎_elim
+      (λ (e : (ws : List Entry) × (b.seen.entries ≡ a.seen.entries ++ ws)). inl (fits_other h a b e.0 is other f g e.1))
+      (λ (e : (ws : List Entry) × (a.seen.entries ≡ b.seen.entries ++ ws)). inr (fits_other h b a e.0 other is g f e.1))
+      (beginnings a.seen.entries f.seen.0 b.seen.entries g.seen.0 (sym f.seen.1.entries_are ∙ g.seen.1.entries_are));
+}
+
+module _ {C : Type 0} where
+  -- the threads of a token that has two fit one history of the kernel, and are together at each mutex's word
+  pub two_known : (first : KernelView C) → TellsOfTwo (KeptKnown first) AreTogether
+  two_known first s id p q d at =
+      let are = d.deals.same id (p ∷ q ∷ []) at in
+      let kept = d.kept.locked.1 in
+      let apart = two_apart d.views s.views id p q d.deals at in record {
+        apart = apart;
+        history = kept.history;
+        one = kept.fits p.number p.view.core (at_map core_of d.views p.number p.view are.0);
+        other = kept.fits q.number q.view.core (at_map core_of d.views q.number q.view are.1.0);
+        mutexes = λ i within. on_word i (subst (λ (f : KernelView C). i < mutex_count f) (kept.knows p.number p.view.core (at_map core_of d.views p.number p.view are.0)) within) apart are.0 are.1.0;
+      }
+    where
+      on_word : (i : ℕ) → i < mutex_count first → p.number ≢ q.number → get_elem? d.views p.number ≡ some p.view → get_elem? d.views q.number ≡ some q.view → AreAtMutex (place p.number (mutex_of i p.view)) (place q.number (mutex_of i q.view))
+      on_word i within apart here there =
+          let long = d.kept.long in
+          let lt : 1 + i < length s.words = omega arith in
+          let part = d.kept.parts i lt in
+          at_mutex (record { word = get_or s.words (1 + i) 0; log = part.0; views = map (mutex_of i) d.views }) part.1 p.number q.number (mutex_of i p.view) (mutex_of i q.view) apart (at_map (mutex_of i) d.views p.number p.view here) (at_map (mutex_of i) d.views q.number q.view there)

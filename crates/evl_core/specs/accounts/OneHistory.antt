@@ -1,0 +1,37 @@
+-- What two callers of one machine know together: of its kernel, of each mutex's word, and of each stax.
+use Rattle.std.specs.Prelude.{◌≡◌, ◌≢◌, ◌⊎◌, ◌<◌, ℕ, List, Some, slice_get}
+use Rattle.evl_kernel.specs.histories.Histories.{History}
+use Rattle.evl_kernel.specs.state.KernelViews.{KernelView}
+use Rattle.evl_words.specs.declared.history.Place.{Place}
+use Rattle.evl_words.specs.Hands.{place}
+use Rattle.evl_words.specs.GateCalls.{AgreeAtGate, SeatState}
+use Rattle.evl_words.specs.MutexCalls.{AgreeAtMutex, AreAtMutex, MutexSeatState}
+use Rattle.evl_words.specs.MutexWorld.{MutexView}
+use Rattle.evl_core.specs.declared.views.Account.{Account}
+use Rattle.evl_core.specs.declared.views.ThreadView.{ThreadView}
+use Rattle.evl_core.specs.accounts.Accounts.{Fits, IsAccount}
+use Rattle.evl_core.specs.rule.CoreRule.{account_at}
+use Rattle.evl_core.specs.rule.ThreadRule.{mutex_of}
+use Rattle.evl_core.specs.rule.Known.{mutex_count}
+
+-- They act for threads of their own, and each knows what an account knows. Of what they have seen of the kernel one history is the beginning of the other, and the longer one has just the other's own calls of its thread
+pub record OneHistory (a b : Account) : Type 0 where
+  pub apart : a.thread ≢ b.thread
+  pub one : IsAccount a
+  pub other : IsAccount b
+  pub longer : Fits b.seen a ⊎ Fits a.seen b
+
+-- their seats at each mutex agree, and those at each stax
+abbrev pub AgreeOnMutexes : List MutexSeatState → List MutexSeatState → Type 0
+AgreeOnMutexes ps qs = (i : ℕ) (p q : MutexSeatState) → slice_get ps i ≡ Some p → slice_get qs i ≡ Some q → AgreeAtMutex p q
+
+abbrev pub AgreeOnStaxes : List SeatState → List SeatState → Type 0
+AgreeOnStaxes ps qs = (i : ℕ) (p q : SeatState) → slice_get ps i ≡ Some p → slice_get qs i ≡ Some q → AgreeAtGate p q
+
+-- two threads fit one history of the kernel, and are together at each mutex's word
+pub record AreTogether {C : Type 0} (p q : Place (ThreadView (KernelView C) MutexView)) : Type 0 where
+  pub apart : p.number ≢ q.number
+  pub history : History
+  pub one : Fits history (account_at p.number p.view.core)
+  pub other : Fits history (account_at q.number q.view.core)
+  pub mutexes : (i : ℕ) → i < mutex_count p.view.core.first → AreAtMutex (place p.number (mutex_of i p.view)) (place q.number (mutex_of i q.view))

@@ -1,0 +1,2 @@
+-- The history of the core's lock.
+pub mod Lock

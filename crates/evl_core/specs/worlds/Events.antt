@@ -1,0 +1,38 @@
+-- The core's steps as events, read at a caller's account.
+use Rattle.std.specs.Prelude.{◌≡◌, ◌≢◌, ℕ, List, [], ◌∷◌, Option, Some, None}
+use Rattle.evl_kernel.specs.state.KernelViews.{KernelView}
+use Rattle.evl_core.specs.declared.views.Account.{Account}
+use Rattle.evl_core.specs.declared.views.CorePart.{CorePart}
+use Rattle.evl_core.specs.declared.views.Noted.{Noted}
+use Rattle.evl_core.specs.accounts.Accounts.{lost_one}
+use Rattle.evl_core.specs.lock.Lock.{LockView, LosesTo}
+use Rattle.evl_core.specs.rule.CoreRule.{core_part}
+use Rattle.evl_core.specs.worlds.CoreWorld.{CoreKind, IsCoreEvent, takes, gives}
+use Rattle.evl_core.specs.rule.Known.{ComesFrom, past_of, room_of}
+
+module _ {C : Type 0} where
+  -- what a thread with this account knows of the core, while it has nothing of it and while it has the kernel
+  abbrev pub at_rest : KernelView C → Account → Option Noted → LockView → CorePart (KernelView C)
+  at_rest first a note lock = core_part None a.seen a.mine a.found a.lost first note lock
+
+  abbrev pub in_hand : KernelView C → Account → Option Noted → LockView → CorePart (KernelView C)
+  in_hand first a note lock = core_part (Some a.seen) a.seen a.mine a.found a.lost first note lock
+
+  abbrev pub KernelEvent : ℕ → CorePart (KernelView C) → CoreKind (KernelView C) → ℕ → CorePart (KernelView C) → Type 0
+  KernelEvent = IsCoreEvent past_of room_of ComesFrom
+
+  -- A take found the core free. Or it found it taken: then its thread has lost one more, and knows nothing else but that another thread had the kernel, behind all that it had seen of the lock's history
+  abbrev pub Takes : KernelView C → Account → Account → Type 0
+  Takes first a a' = (was is : Option Noted) × (old new : LockView) × KernelEvent a.thread (at_rest first a was old) takes 0 (in_hand first a' is new)
+
+  abbrev pub FailsToTake : KernelView C → Account → Account → Type 0
+  FailsToTake first a a' = (a' ≡ lost_one a) × (found : ℕ) × (found ≢ 0) × (was is : Option Noted) × (old new : LockView) × LosesTo a.thread old new × KernelEvent a.thread (at_rest first a was old) takes found (at_rest first a' is new)
+
+  -- takes that found the core taken, the last one first, each with the account before it
+  abbrev pub LosesTakes : KernelView C → Account → List Account → Account → Type 0
+  LosesTakes first a [] a' = a' ≡ a
+  LosesTakes first a (before ∷ earlier) a' = LosesTakes first a earlier before × FailsToTake first before a'
+
+  -- the kernel was given back
+  abbrev pub Gives : KernelView C → Account → KernelView C → Account → Type 0
+  Gives first a k a' = (found : ℕ) × (was is : Option Noted) × (old new : LockView) × KernelEvent a.thread (in_hand first a was old) (gives k) found (at_rest first a' is new)

@@ -1,0 +1,67 @@
+-- What a caller does that waits for an element: it begins the wait, looks at the kernel until the wait is over, and finishes it.
+use Rattle.std.specs.Prelude.{◌≡◌, ◌≢◌, ◌⊎◌, ℕ, List, [], ◌∷◌, Bool, true, false, Result, Ok, Err, MatchBool}
+use Rattle.evl_base.specs.declared.call.Call.{Call}
+use Rattle.evl_base.specs.declared.call.Call.TheVariants.{Finish}
+use Rattle.evl_base.specs.declared.refusal.Refusal.{Refusal}
+use Rattle.evl_base.specs.declared.refusal.Refusal.TheVariants.{Again}
+use Rattle.evl_base.specs.declared.reply.Reply.{Reply}
+use Rattle.evl_base.specs.declared.reply.Reply.TheVariants.{Begun}
+use Rattle.evl_kernel.specs.waiting.Waits.{has_ended}
+use Rattle.evl_core.specs.declared.views.Account.{Account}
+use Rattle.evl_core.specs.accounts.Accounts.{BeginsWith, IsAccount, saw}
+use Rattle.evl_machine.specs.callers.Actors.{keeps_stage, stage_in}
+use Rattle.evl_kernel.specs.state.KernelViews.{KernelView}
+use Rattle.evl_core.specs.worlds.Events.{FailsToTake, Gives, Takes}
+use Rattle.evl_machine.specs.callers.Handles.{CallerState}
+use Rattle.evl_machine.specs.calls.Calls.{Called, CalledAtLast}
+use Rattle.evl_core.specs.words.MutexSeats.{holds_mutex}
+use Rattle.evl_machine.specs.stax_locks.StaxSeats.{holds_stax}
+
+-- A look: the kernel was taken and given back, and no call was made. The history that the caller has now seen begins with what it had seen, nobody has changed the stage of its thread, and its wait goes on there
+pub record Look {C : Type 0} (first : KernelView C) (a a' : Account) : Type 0 where
+  pub room : ℕ
+  pub now : a' ≡ saw a'.seen room a
+  pub later : BeginsWith a'.seen a.seen
+  pub stage : stage_in a'.seen a.thread ≡ stage_in a.seen a.thread
+  pub goes_on : has_ended a'.seen.state a.thread ≡ false
+  pub account : IsAccount a'
+  pub held : Account
+  pub kernel : KernelView C
+  pub takes : Takes first a held
+  pub gives : Gives first held kernel a'
+
+-- whether an answer begins a wait
+abbrev pub begins_wait : Result Reply Refusal → Bool
+begins_wait (Ok Begun) = true
+begins_wait answer = false
+
+module _ {C : Type 0} where
+  -- looks, and takes that found the core taken, one after another, each from where the one before it ended
+  abbrev pub LooksBy : KernelView C → Account → List Account → Account → Type 0
+  LooksBy first a [] a' = a' ≡ a
+  LooksBy first a (next ∷ looks) a' = (Look first a next ⊎ FailsToTake first a next) × LooksBy first next looks a'
+
+  abbrev pub Looks : KernelView C → Account → Account → Type 0
+  Looks first a a' = (looks : List Account) × LooksBy first a looks a'
+
+  -- of the caller only its account changes, and that by looks
+  abbrev pub Looked : CallerState C → CallerState C → Type 0
+  Looked old new = (new ≡ record old { account = new.account }) × Looks old.machine.first old.account new.account
+
+  -- the end of a wait, at which the thread keeps its stage where the caller holds a stax or a mutex
+  abbrev pub finish_of : CallerState C → Call
+  finish_of c = Finish (keeps_stage (holds_stax c.staxes) (holds_mutex c.mutexes))
+
+  -- The caller looked until its wait was over, and finished it then: that was the answer, and isn't Again
+  pub record WaitsOut (limit : ℕ) (old : CallerState C) (r : Result Reply Refusal) (new : CallerState C) : Type 0 where
+    pub over : CallerState C
+    pub looked : Looked old over
+    pub finished : Called limit over (finish_of over) r new
+    pub told : r ≢ Err Again
+
+  -- The caller called this, and where that began a wait, it waited it out, which gave the answer; else the call's answer is the answer
+  pub record Waits (limit : ℕ) (old : CallerState C) (begin : Call) (r : Result Reply Refusal) (new : CallerState C) : Type 0 where
+    pub answer : Result Reply Refusal
+    pub begun : CallerState C
+    pub called : CalledAtLast limit old begin answer begun
+    pub ends : MatchBool (begins_wait answer) (WaitsOut limit begun r new) ((r ≡ answer) × (new ≡ begun))
