@@ -7,7 +7,7 @@ use Rattle.evl_base.specs.declared.reply.Reply.{Reply}
 use Rattle.lab_callers.specs.declared.passes.StepFault.{StepFault}
 use Rattle.lab_callers.specs.declared.passes.StepFault.TheVariants.{HasCore, HasNoCore, NoCaller}
 use Rattle.evl_machine.specs.calls.Calls.{Called, CalledHeld, TookKernel}
-use Rattle.evl_machine.specs.callers.Handles.{CallerState, HeldState, returned, turned_away}
+use Rattle.evl_machine.specs.callers.Handles.{CallerState, HeldState, MachineState, returned, turned_away}
 
 -- The caller at this place does this, and no other one does anything
 pub record StepsAt {C : Type 0} (old : List (CallerState C)) (place : ℕ) (does : CallerState C → CallerState C → Type 0) (new : List (CallerState C)) : Type 0 where
@@ -17,14 +17,16 @@ pub record StepsAt {C : Type 0} (old : List (CallerState C)) (place : ℕ) (does
   pub others : new ≡ slice_set old place after
   pub done : does before after
 
--- the callers that haven't the core, in their order, and who has it
+-- a machine's callers: those that haven't the core, in their order, and who has it
 pub record CrewState (C : Type 0) : Type 0 where
+  pub machine : MachineState C
   pub callers : List (CallerState C)
   pub held : Option (HeldState C)
   pub holder : ℕ
 
-abbrev pub crew_at : {C : Type 0} → List (CallerState C) → Option (HeldState C) → ℕ → CrewState C
-crew_at callers held holder = record { callers = callers; held = held; holder = holder }
+-- callers of whom none has the core
+abbrev pub crew_of : {C : Type 0} → MachineState C → List (CallerState C) → CrewState C
+crew_of machine callers = record { machine = machine; callers = callers; held = None; holder = 0 }
 
 -- whether a thread's caller has the core
 abbrev pub has_core : Bool → ℕ → ℕ → Bool
@@ -58,6 +60,7 @@ module _ {C : Type 0} where
   pub record Steps (old : CrewState C) (who : ℕ) (does : CallerState C → CallerState C → Type 0) (new : CrewState C) : Type 0 where
     pub apart : has_core (is_some old.held) old.holder who ≡ false
     pub made : StepsAt old.callers (place_of (is_some old.held) old.holder who) does new.callers
+    pub machine : new.machine ≡ old.machine
     pub held : new.held ≡ old.held
     pub holder : new.holder ≡ old.holder
 
@@ -68,6 +71,7 @@ module _ {C : Type 0} where
     pub was : old.held ≡ Some before
     pub is : new.held ≡ Some after
     pub called : CalledHeld before asked reply after
+    pub machine : new.machine ≡ old.machine
     pub callers : new.callers ≡ old.callers
     pub holder : new.holder ≡ old.holder
 
@@ -84,6 +88,7 @@ module _ {C : Type 0} where
     pub taker : HeldState C
     pub there : slice_get old.callers (place_of (is_some old.held) old.holder who) ≡ Some caller
     pub took : TookKernel caller taker
+    pub machine : new.machine ≡ old.machine
     pub others : new.callers ≡ remove old.callers (place_of (is_some old.held) old.holder who)
     pub held : new.held ≡ Some taker
     pub holder : new.holder ≡ who
@@ -97,5 +102,6 @@ module _ {C : Type 0} where
     pub giver : HeldState C
     pub was : old.held ≡ Some giver
     pub who_is : old.holder ≡ who
+    pub machine : new.machine ≡ old.machine
     pub others : new.callers ≡ insert old.callers who (returned giver.kernel.history giver.caller)
     pub held : new.held ≡ None

@@ -6,7 +6,6 @@ use Rattle.evl_base.specs.declared.numbers.MutexId.{MutexId}
 use Rattle.evl_base.specs.declared.numbers.ThreadId.{ThreadId}
 use Rattle.evl_base.specs.declared.refusal.Refusal.{Refusal}
 use Rattle.lab_callers.specs.Names.{is_named}
-use Rattle.lab_callers.specs.declared.passes.Passes.{Passes}
 use Rattle.evl_machine.specs.declared.locking.Begun.{Begun}
 use Rattle.evl_machine.specs.declared.locking.Begun.TheVariants as begun
 use Rattle.evl_machine.specs.declared.locking.Ended.{Ended}
@@ -22,9 +21,6 @@ pub record Holdings : Type 0 where
 
 abbrev pub nothing_held : Holdings
 nothing_held = record { staxes = []; mutexes = []; waits = [] }
-
-abbrev pub holdings_of : Passes → Holdings
-holdings_of passes = record { staxes = passes.staxes.items; mutexes = passes.mutexes.items; waits = passes.waits.items }
 
 -- a name holds a pass
 abbrev pub is_held : List ℕ → Holdings → Bool

@@ -4,5 +4,6 @@ pub mod Faults
 pub mod Holdings
 pub mod Names
 pub mod Plays
+pub mod Reports
 pub mod Shown
 pub mod Views

@@ -1,15 +1,15 @@
 -- What is told of the steps of a text of callers, one after another.
-use Rattle.std.specs.Prelude.{◌≡◌, ◌+◌, ℕ, ⊤, List, [], ◌∷◌, ◌++◌, codes, length, Option, Some, None, is_some, Result, Ok, Err, string_bytes}
+use Rattle.std.specs.Prelude.{◌≡◌, ◌+◌, ℕ, ⊤, List, [], ◌∷◌, ◌++◌, codes, length, Option, Some, is_some, Result, Ok, Err, string_bytes}
 use Rattle.evl_base.specs.declared.refusal.Refusal.{Refusal}
 use Rattle.lab_callers.specs.Answers.{Makes}
-use Rattle.lab_callers.specs.Crews.{CrewState, crew_at, holder_of}
+use Rattle.lab_callers.specs.Crews.{CrewState, crew_of, holder_of}
 use Rattle.lab_callers.specs.Faults.{step_fault}
-use Rattle.lab_callers.specs.Holdings.{Holdings, holdings_of, nothing_held}
+use Rattle.lab_callers.specs.Holdings.{Holdings, nothing_held}
 use Rattle.lab_callers.specs.Shown.{closed_text, mutex_asked, open_text, shown_text, step_text, thread_asked}
+use Rattle.lab_callers.specs.Reports.{ReportState}
 use Rattle.lab_callers.specs.Views.{Looks}
 use Rattle.lab_callers.specs.declared.answers.Stop.{Stop}
 use Rattle.lab_callers.specs.declared.answers.Stop.TheVariants as stop
-use Rattle.lab_callers.specs.declared.passes.Passes.{Passes}
 use Rattle.lab_callers.specs.declared.passes.StepFault.{StepFault}
 use Rattle.lab_callers.specs.declared.playing.Ending.{Ending}
 use Rattle.lab_callers.specs.declared.playing.Ending.TheVariants as ending
@@ -21,7 +21,7 @@ use Rattle.lab_callers_text.specs.declared.acts.CallersStep.{CallersStep}
 use Rattle.lab_callers_text.specs.declared.reading.CallersText.{CallersText}
 use Rattle.evl_kernel.specs.state.KernelViews.{IsOpened, KernelView}
 use Rattle.evl_machine.specs.calls.Closings.{Closes, KeepsOpen}
-use Rattle.evl_machine.specs.callers.Handles.{CallerState, HeldState, MachineState, newcomers_of}
+use Rattle.evl_machine.specs.callers.Handles.{CallerState, MachineState, newcomers_of}
 use Rattle.evl_pipeline.specs.declared.plan.Plan.{Plan}
 use Rattle.evl_scenario.specs.Lines.{board_line_of, board_line_text, line_feed, play_lines}
 
@@ -32,12 +32,12 @@ pub record Run (C : Type 0) : Type 0 where
   pub staxes : ℕ
   pub plays : ℕ
 
-abbrev pub run_at : {C : Type 0} → List (CallerState C) → Option (HeldState C) → ℕ → Passes → ℕ → ℕ → Run C
-run_at callers held holder passes staxes plays = record { crew = crew_at callers held holder; holdings = holdings_of passes; staxes = staxes; plays = plays }
+abbrev pub run_of : {C : Type 0} → CrewState C → ReportState → Run C
+run_of crew report = record { crew = crew; holdings = report.holdings; staxes = report.staxes; plays = report.plays }
 
 -- before the first step nobody has the core, no name holds a pass, nobody waits, and no play was told
-abbrev pub start_at : {C : Type 0} → List (CallerState C) → ℕ → Run C
-start_at callers staxes = record { crew = crew_at callers None 0; holdings = nothing_held; staxes = staxes; plays = 0 }
+abbrev pub start_at : {C : Type 0} → MachineState C → List (CallerState C) → ℕ → Run C
+start_at machine callers staxes = record { crew = crew_of machine callers; holdings = nothing_held; staxes = staxes; plays = 0 }
 
 abbrev pub whose : {C : Type 0} → CrewState C → Option ℕ
 whose crew = holder_of (is_some crew.held) crew.holder
@@ -126,4 +126,4 @@ EndsSo machine start steps before closes lines closing = (callers : List (Caller
 pub record IsTold {C : Type 0} (declared : C → ℕ) (plan : C → Plan) (text : CallersText) (bank : List C) (told : Played) : Type 0 where
   pub machine : MachineState C
   pub opened : IsOpened declared plan text.board bank text.limit machine.first
-  pub ends : EndsSo machine (start_at (newcomers_of machine text.board.threads) (length text.board.staxes.items)) text.steps.items (board_line_text (board_line_of text.board text.limit)) told.ending (string_bytes told.lines) (string_bytes told.closing)
+  pub ends : EndsSo machine (start_at machine (newcomers_of machine text.board.threads) (length text.board.staxes.items)) text.steps.items (board_line_text (board_line_of text.board text.limit)) told.ending (string_bytes told.lines) (string_bytes told.closing)

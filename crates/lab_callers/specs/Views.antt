@@ -35,6 +35,7 @@ module _ {C : Type 0} where
   -- by the caller of a thread, where nobody has the core
   pub record LooksFree (old : CrewState C) (who : ℕ) (q : Question) (v : View) (new : CrewState C) : Type 0 where
     pub looked : LooksAt old.callers who q v new.callers
+    pub machine : new.machine ≡ old.machine
     pub held : new.held ≡ old.held
     pub holder : new.holder ≡ old.holder
 

@@ -2,9 +2,8 @@
 ghost use Rattle.std.specs.Prelude.{◌≡◌, IfErr, IfOk, OnOk, false, string_bytes, true};
 ghost use Rattle.evl_base.specs.Reply.{outcome_text};
 ghost use Rattle.lab_callers.specs.Answers.{BeginsLock, CallsSo, EntersStax, FinishesLock, GivesSo, LeavesBy, LocksMutex, Makes, TakesSo, UnlocksBy, UnlocksFastBy, begun_text, ended_shows, ended_text, given_text, left_text, taken_text, unlocked_text, word_shown};
-ghost use Rattle.lab_callers.specs.Crews.{crew_at};
 ghost use Rattle.lab_callers.specs.Faults.{IsWhy, caller_fault, step_fault};
-ghost use Rattle.lab_callers.specs.Holdings.{awaited, holdings_of, is_held, lock_begun, lock_ended, mutex_given, mutex_left, stax_given, stax_left, with_mutex, with_stax};
+ghost use Rattle.lab_callers.specs.Holdings.{awaited, is_held, lock_begun, lock_ended, mutex_given, mutex_left, stax_given, stax_left, with_mutex, with_stax};
 
 use crate::crew::Crew;
 use crate::passes::{Passes, StepFault};
@@ -85,7 +84,7 @@ fn keep_stax(
 ) -> Result<Told, AllocError>
     ensures told { IfOk result (λ t. string_bytes t.answer ≡ string_bytes name) }
     ensures shown { IfOk result (λ t. t.shows ≡ shows) }
-    ensures left { OnOk result (holdings_of passes.new ≡ with_stax (holdings_of passes.old) name pass) }
+    ensures left { OnOk result (passes.new ≡ with_stax passes.old name pass) }
 {
     let answer = String::from_str(alloc, name.as_str())?;
     passes.put_stax(name, pass)?;
@@ -102,7 +101,7 @@ fn keep_mutex(
 ) -> Result<Told, AllocError>
     ensures told { IfOk result (λ t. string_bytes t.answer ≡ string_bytes name) }
     ensures shown { IfOk result (λ t. t.shows ≡ shows) }
-    ensures left { OnOk result (holdings_of passes.new ≡ with_mutex (holdings_of passes.old) name pass) }
+    ensures left { OnOk result (passes.new ≡ with_mutex passes.old name pass) }
 {
     let answer = String::from_str(alloc, name.as_str())?;
     passes.put_mutex(name, pass)?;
@@ -111,8 +110,8 @@ fn keep_mutex(
 
 // A name that holds no pass.
 fn free_name(passes: &Passes, name: &String) -> Result<(), StepFault>
-    ensures free { OnOk result (is_held (string_bytes name.now) (holdings_of passes.now) ≡ false) }
-    ensures held { IfErr result (λ fault. (fault ≡ StepFault.Held) × (is_held (string_bytes name.now) (holdings_of passes.now) ≡ true)) }
+    ensures free { OnOk result (is_held (string_bytes name.now) passes.now ≡ false) }
+    ensures held { IfErr result (λ fault. (fault ≡ StepFault.Held) × (is_held (string_bytes name.now) passes.now ≡ true)) }
 {
     if passes.holds(name.as_str()) {
         Err(StepFault::Held)
@@ -131,7 +130,7 @@ fn tell_entered(
 ) -> Result<Told, AllocError>
     ensures told { IfOk result (λ t. string_bytes t.answer ≡ given_text (string_bytes name) answer) }
     ensures shown { IfOk result (λ t. t.shows ≡ Shows.Stax stax) }
-    ensures left { OnOk result (holdings_of passes.new ≡ stax_given (holdings_of passes.old) name answer) }
+    ensures left { OnOk result (passes.new ≡ stax_given passes.old name answer) }
 {
     match answer {
         Ok(pass) => keep_stax(alloc, passes, name, pass, Shows::Stax(stax)),
@@ -147,9 +146,9 @@ fn lock_stax<C: Handler>(
     stax: StaxId,
     name: String,
 ) -> Result<Told, Stop>
-    ensures same { crew.new.machine.now ≡ crew.old.machine.now }
-    ensures told { IfOk result (λ t. EntersStax stax name (crew_at crew.old.callers.items crew.old.held crew.old.holder) (holdings_of passes.old) who (string_bytes t.answer) t.shows (crew_at crew.new.callers.items crew.new.held crew.new.holder) (holdings_of passes.new)) }
-    ensures refused { IfErr result (λ stop. IsWhy (step_fault (Act.TryLockStax stax name) (crew_at crew.old.callers.items crew.old.held crew.old.holder) (holdings_of passes.old) who.0) stop) }
+    ensures same { crew.new.machine ≡ crew.old.machine }
+    ensures told { IfOk result (λ t. EntersStax stax name crew.old passes.old who (string_bytes t.answer) t.shows crew.new passes.new) }
+    ensures refused { IfErr result (λ stop. IsWhy (step_fault (Act.TryLockStax stax name) crew.old passes.old who.0) stop) }
 {
     free_name(passes, &name)?;
     let answer = crew.try_lock_stax(who, stax)?;
@@ -166,7 +165,7 @@ fn tell_left(
 ) -> Result<Told, AllocError>
     ensures told { IfOk result (λ t. string_bytes t.answer ≡ left_text answer) }
     ensures shown { IfOk result (λ t. t.shows ≡ Shows.Stax stax) }
-    ensures left { OnOk result (holdings_of passes.new ≡ stax_left (holdings_of passes.old) name answer) }
+    ensures left { OnOk result (passes.new ≡ stax_left passes.old name answer) }
 {
     match answer {
         Ok(true) => tell(alloc, "done, others want in", Shows::Stax(stax)),
@@ -185,9 +184,9 @@ fn leave_stax<C: Handler>(
     who: ThreadId,
     name: String,
 ) -> Result<Told, Stop>
-    ensures same { crew.new.machine.now ≡ crew.old.machine.now }
-    ensures told { IfOk result (λ t. LeavesBy name (crew_at crew.old.callers.items crew.old.held crew.old.holder) (holdings_of passes.old) who (string_bytes t.answer) t.shows (crew_at crew.new.callers.items crew.new.held crew.new.holder) (holdings_of passes.new)) }
-    ensures refused { IfErr result (λ stop. IsWhy (step_fault (Act.UnlockStax name) (crew_at crew.old.callers.items crew.old.held crew.old.holder) (holdings_of passes.old) who.0) stop) }
+    ensures same { crew.new.machine ≡ crew.old.machine }
+    ensures told { IfOk result (λ t. LeavesBy name crew.old passes.old who (string_bytes t.answer) t.shows crew.new passes.new) }
+    ensures refused { IfErr result (λ stop. IsWhy (step_fault (Act.UnlockStax name) crew.old passes.old who.0) stop) }
 {
     let pass = passes.take_stax(&name)?;
     let stax = pass.gate();
@@ -205,7 +204,7 @@ fn tell_locked(
 ) -> Result<Told, AllocError>
     ensures told { IfOk result (λ t. string_bytes t.answer ≡ given_text (string_bytes name) answer) }
     ensures shown { IfOk result (λ t. t.shows ≡ Shows.Mutex mutex) }
-    ensures left { OnOk result (holdings_of passes.new ≡ mutex_given (holdings_of passes.old) name answer) }
+    ensures left { OnOk result (passes.new ≡ mutex_given passes.old name answer) }
 {
     match answer {
         Ok(pass) => keep_mutex(alloc, passes, name, pass, Shows::Mutex(mutex)),
@@ -221,9 +220,9 @@ fn lock_mutex<C: Handler>(
     mutex: MutexId,
     name: String,
 ) -> Result<Told, Stop>
-    ensures same { crew.new.machine.now ≡ crew.old.machine.now }
-    ensures told { IfOk result (λ t. LocksMutex mutex name (crew_at crew.old.callers.items crew.old.held crew.old.holder) (holdings_of passes.old) who (string_bytes t.answer) t.shows (crew_at crew.new.callers.items crew.new.held crew.new.holder) (holdings_of passes.new)) }
-    ensures refused { IfErr result (λ stop. IsWhy (step_fault (Act.TryLockMutex mutex name) (crew_at crew.old.callers.items crew.old.held crew.old.holder) (holdings_of passes.old) who.0) stop) }
+    ensures same { crew.new.machine ≡ crew.old.machine }
+    ensures told { IfOk result (λ t. LocksMutex mutex name crew.old passes.old who (string_bytes t.answer) t.shows crew.new passes.new) }
+    ensures refused { IfErr result (λ stop. IsWhy (step_fault (Act.TryLockMutex mutex name) crew.old passes.old who.0) stop) }
 {
     free_name(passes, &name)?;
     let answer = crew.try_lock_mutex(who, mutex)?;
@@ -240,7 +239,7 @@ fn tell_unlocked(
 ) -> Result<Told, AllocError>
     ensures told { IfOk result (λ t. string_bytes t.answer ≡ unlocked_text answer) }
     ensures shown { IfOk result (λ t. t.shows ≡ shows) }
-    ensures left { OnOk result (holdings_of passes.new ≡ mutex_left (holdings_of passes.old) name answer) }
+    ensures left { OnOk result (passes.new ≡ mutex_left passes.old name answer) }
 {
     match answer {
         Ok(()) => tell(alloc, "done", shows),
@@ -258,9 +257,9 @@ fn unlock_fast<C: Handler>(
     who: ThreadId,
     name: String,
 ) -> Result<Told, Stop>
-    ensures same { crew.new.machine.now ≡ crew.old.machine.now }
-    ensures told { IfOk result (λ t. UnlocksFastBy name (crew_at crew.old.callers.items crew.old.held crew.old.holder) (holdings_of passes.old) who (string_bytes t.answer) t.shows (crew_at crew.new.callers.items crew.new.held crew.new.holder) (holdings_of passes.new)) }
-    ensures refused { IfErr result (λ stop. IsWhy (step_fault (Act.UnlockMutexFast name) (crew_at crew.old.callers.items crew.old.held crew.old.holder) (holdings_of passes.old) who.0) stop) }
+    ensures same { crew.new.machine ≡ crew.old.machine }
+    ensures told { IfOk result (λ t. UnlocksFastBy name crew.old passes.old who (string_bytes t.answer) t.shows crew.new passes.new) }
+    ensures refused { IfErr result (λ stop. IsWhy (step_fault (Act.UnlockMutexFast name) crew.old passes.old who.0) stop) }
 {
     let pass = passes.take_mutex(&name)?;
     let mutex = pass.mutex();
@@ -275,9 +274,9 @@ fn unlock<C: Handler>(
     who: ThreadId,
     name: String,
 ) -> Result<Told, Stop>
-    ensures same { crew.new.machine.now ≡ crew.old.machine.now }
-    ensures told { IfOk result (λ t. UnlocksBy name (crew_at crew.old.callers.items crew.old.held crew.old.holder) (holdings_of passes.old) who (string_bytes t.answer) t.shows (crew_at crew.new.callers.items crew.new.held crew.new.holder) (holdings_of passes.new)) }
-    ensures refused { IfErr result (λ stop. IsWhy (step_fault (Act.TryUnlockMutex name) (crew_at crew.old.callers.items crew.old.held crew.old.holder) (holdings_of passes.old) who.0) stop) }
+    ensures same { crew.new.machine ≡ crew.old.machine }
+    ensures told { IfOk result (λ t. UnlocksBy name crew.old passes.old who (string_bytes t.answer) t.shows crew.new passes.new) }
+    ensures refused { IfErr result (λ stop. IsWhy (step_fault (Act.TryUnlockMutex name) crew.old passes.old who.0) stop) }
 {
     let pass = passes.take_mutex(&name)?;
     let mutex = pass.mutex();
@@ -296,7 +295,7 @@ fn tell_begun(
 ) -> Result<Told, AllocError>
     ensures told { IfOk result (λ t. string_bytes t.answer ≡ begun_text (string_bytes name) answer) }
     ensures shown { IfOk result (λ t. t.shows ≡ Shows.Mutex mutex) }
-    ensures left { OnOk result (holdings_of passes.new ≡ lock_begun (holdings_of passes.old) who mutex name answer) }
+    ensures left { OnOk result (passes.new ≡ lock_begun passes.old who mutex name answer) }
 {
     match answer {
         Ok(Begun::Locked(pass)) => keep_mutex(alloc, passes, name, pass, Shows::Mutex(mutex)),
@@ -317,9 +316,9 @@ fn begin<C: Handler>(
     until: Option<u64>,
     name: String,
 ) -> Result<Told, Stop>
-    ensures same { crew.new.machine.now ≡ crew.old.machine.now }
-    ensures told { IfOk result (λ t. BeginsLock mutex until name (crew_at crew.old.callers.items crew.old.held crew.old.holder) (holdings_of passes.old) who (string_bytes t.answer) t.shows (crew_at crew.new.callers.items crew.new.held crew.new.holder) (holdings_of passes.new)) }
-    ensures refused { IfErr result (λ stop. IsWhy (step_fault (Act.BeginLockMutex mutex until name) (crew_at crew.old.callers.items crew.old.held crew.old.holder) (holdings_of passes.old) who.0) stop) }
+    ensures same { crew.new.machine ≡ crew.old.machine }
+    ensures told { IfOk result (λ t. BeginsLock mutex until name crew.old passes.old who (string_bytes t.answer) t.shows crew.new passes.new) }
+    ensures refused { IfErr result (λ stop. IsWhy (step_fault (Act.BeginLockMutex mutex until name) crew.old passes.old who.0) stop) }
 {
     free_name(passes, &name)?;
     let answer = crew.begin_lock_mutex(who, mutex, until)?;
@@ -328,7 +327,7 @@ fn begin<C: Handler>(
 
 // What a caller's wait is shown by.
 fn awaited(passes: &Passes, who: ThreadId) -> Shows
-    ensures { result ≡ word_shown (awaited (holdings_of passes.now) who) }
+    ensures { result ≡ word_shown (awaited passes.now who) }
 {
     match passes.awaited(who) {
         Some(mutex) => Shows::Mutex(mutex),
@@ -345,8 +344,8 @@ fn tell_ended(
     answer: Result<Ended, Refusal>,
 ) -> Result<Told, AllocError>
     ensures told { IfOk result (λ t. string_bytes t.answer ≡ ended_text (string_bytes name) answer) }
-    ensures shown { IfOk result (λ t. t.shows ≡ ended_shows (holdings_of passes.old) who answer) }
-    ensures left { OnOk result (holdings_of passes.new ≡ lock_ended (holdings_of passes.old) who name answer) }
+    ensures shown { IfOk result (λ t. t.shows ≡ ended_shows passes.old who answer) }
+    ensures left { OnOk result (passes.new ≡ lock_ended passes.old who name answer) }
 {
     let shows = awaited(passes, who);
     match answer {
@@ -370,9 +369,9 @@ fn finish<C: Handler>(
     who: ThreadId,
     name: String,
 ) -> Result<Told, Stop>
-    ensures same { crew.new.machine.now ≡ crew.old.machine.now }
-    ensures told { IfOk result (λ t. FinishesLock name (crew_at crew.old.callers.items crew.old.held crew.old.holder) (holdings_of passes.old) who (string_bytes t.answer) t.shows (crew_at crew.new.callers.items crew.new.held crew.new.holder) (holdings_of passes.new)) }
-    ensures refused { IfErr result (λ stop. IsWhy (step_fault (Act.FinishLockMutex name) (crew_at crew.old.callers.items crew.old.held crew.old.holder) (holdings_of passes.old) who.0) stop) }
+    ensures same { crew.new.machine ≡ crew.old.machine }
+    ensures told { IfOk result (λ t. FinishesLock name crew.old passes.old who (string_bytes t.answer) t.shows crew.new passes.new) }
+    ensures refused { IfErr result (λ stop. IsWhy (step_fault (Act.FinishLockMutex name) crew.old passes.old who.0) stop) }
 {
     free_name(passes, &name)?;
     let answer = crew.finish_lock_mutex(who)?;
@@ -392,9 +391,9 @@ fn tell_taken(alloc: Global, free: bool) -> Result<Told, AllocError>
 }
 
 fn take<C: Handler>(alloc: Global, crew: &mut Crew<'_, C>, who: ThreadId) -> Result<Told, Stop>
-    ensures same { crew.new.machine.now ≡ crew.old.machine.now }
-    ensures told { IfOk result (λ t. TakesSo (crew_at crew.old.callers.items crew.old.held crew.old.holder) who.0 (string_bytes t.answer) t.shows (crew_at crew.new.callers.items crew.new.held crew.new.holder)) }
-    ensures refused { IfErr result (λ stop. IsWhy (caller_fault Act.Take (crew_at crew.old.callers.items crew.old.held crew.old.holder) who.0) stop) }
+    ensures same { crew.new.machine ≡ crew.old.machine }
+    ensures told { IfOk result (λ t. TakesSo crew.old who.0 (string_bytes t.answer) t.shows crew.new) }
+    ensures refused { IfErr result (λ stop. IsWhy (caller_fault Act.Take crew.old who.0) stop) }
 {
     match crew.take(who)? {
         Ok(free) => Ok(tell_taken(alloc, free)?),
@@ -403,9 +402,9 @@ fn take<C: Handler>(alloc: Global, crew: &mut Crew<'_, C>, who: ThreadId) -> Res
 }
 
 fn give<C: Handler>(alloc: Global, crew: &mut Crew<'_, C>, who: ThreadId) -> Result<Told, Stop>
-    ensures same { crew.new.machine.now ≡ crew.old.machine.now }
-    ensures told { IfOk result (λ t. GivesSo (crew_at crew.old.callers.items crew.old.held crew.old.holder) who.0 (string_bytes t.answer) t.shows (crew_at crew.new.callers.items crew.new.held crew.new.holder)) }
-    ensures refused { IfErr result (λ stop. IsWhy (caller_fault Act.Give (crew_at crew.old.callers.items crew.old.held crew.old.holder) who.0) stop) }
+    ensures same { crew.new.machine ≡ crew.old.machine }
+    ensures told { IfOk result (λ t. GivesSo crew.old who.0 (string_bytes t.answer) t.shows crew.new) }
+    ensures refused { IfErr result (λ stop. IsWhy (caller_fault Act.Give crew.old who.0) stop) }
 {
     match crew.give(who)? {
         Ok(()) => Ok(tell(alloc, "done", Shows::Core)?),
@@ -419,9 +418,9 @@ fn call<C: Handler>(
     who: ThreadId,
     call: Call,
 ) -> Result<Told, Stop>
-    ensures same { crew.new.machine.now ≡ crew.old.machine.now }
-    ensures told { IfOk result (λ t. CallsSo crew.old.machine.now.first.limit call (crew_at crew.old.callers.items crew.old.held crew.old.holder) who.0 (string_bytes t.answer) t.shows (crew_at crew.new.callers.items crew.new.held crew.new.holder)) }
-    ensures refused { IfErr result (λ stop. IsWhy (caller_fault (Act.Call call) (crew_at crew.old.callers.items crew.old.held crew.old.holder) who.0) stop) }
+    ensures same { crew.new.machine ≡ crew.old.machine }
+    ensures told { IfOk result (λ t. CallsSo crew.old.machine.first.limit call crew.old who.0 (string_bytes t.answer) t.shows crew.new) }
+    ensures refused { IfErr result (λ stop. IsWhy (caller_fault (Act.Call call) crew.old who.0) stop) }
 {
     let answer = crew.call(who, call)?;
     Ok(tell_reply(alloc, StepAnswer(answer))?)
@@ -435,9 +434,9 @@ pub fn make<C: Handler>(
     who: ThreadId,
     act: Act,
 ) -> Result<Told, Stop>
-    ensures same { crew.new.machine.now ≡ crew.old.machine.now }
-    ensures told { IfOk result (λ t. Makes crew.old.machine.now.first.limit act (crew_at crew.old.callers.items crew.old.held crew.old.holder) (holdings_of passes.old) who (string_bytes t.answer) t.shows (crew_at crew.new.callers.items crew.new.held crew.new.holder) (holdings_of passes.new)) }
-    ensures refused { IfErr result (λ stop. IsWhy (step_fault act (crew_at crew.old.callers.items crew.old.held crew.old.holder) (holdings_of passes.old) who.0) stop) }
+    ensures same { crew.new.machine ≡ crew.old.machine }
+    ensures told { IfOk result (λ t. Makes crew.old.machine.first.limit act crew.old passes.old who (string_bytes t.answer) t.shows crew.new passes.new) }
+    ensures refused { IfErr result (λ stop. IsWhy (step_fault act crew.old passes.old who.0) stop) }
 {
     match act {
         Act::Call(asked) => call(alloc, crew, who, asked),

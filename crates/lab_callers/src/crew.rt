@@ -1,8 +1,8 @@
 //! The callers of a machine on one host thread, of which one may have the core.
 ghost use Rattle.std.proofs.Props.{props};
-ghost use Rattle.std.specs.Prelude.{◌≡◌, ◌<◌, All, IfErr, IfOk, IfSome, None, OnErr, OnOk, Some, false, is_some, length};
+ghost use Rattle.std.specs.Prelude.{◌≡◌, ◌<◌, All, IfErr, IfOk, IfSome, OnErr, OnOk, Some, false, is_some, length};
 ghost use Rattle.std.specs.List.{insert};
-ghost use Rattle.lab_callers.specs.Crews.{CallsByHolder, CallsKernel, GivesCore, Steps, TakesCore, call_fault, crew_at, give_fault, has_core, holder_of, place_fault, place_of};
+ghost use Rattle.lab_callers.specs.Crews.{CallsByHolder, CallsKernel, GivesCore, Steps, TakesCore, call_fault, crew_of, give_fault, has_core, holder_of, place_fault, place_of};
 ghost use Rattle.lab_callers.specs.Views.{Looks, LooksAt, LooksHeld};
 ghost use Rattle.evl_kernel.specs.state.Callbacks.{AnswersByPlan};
 ghost use Rattle.evl_machine.specs.calls.Calls.{Called, stage_of_caller};
@@ -18,6 +18,7 @@ use evl_machine::{Begun, CallerOf, Ended, HeldOf, MachineOf};
 use evl_pipeline::Handler;
 use evl_words::{MutexPass, StaxPass};
 use std::alloc::{AllocError, Global};
+use std::marker::Model;
 
 /// The callers of a machine. Who has the core stands apart from the others, which keep their order.
 #[derive(Drop)]
@@ -31,6 +32,14 @@ pub struct Crew<'a, C: Handler> {
     ghost by_plan: { AnswersByPlan C.declared C.plan machine.now.first.callbacks },
 }
 
+impl<'a, C: Handler> Model for Crew<'a, C> {
+    ghost use Rattle.lab_callers.specs.Crews.{CrewState};
+
+    ghost Value = { CrewState C };
+
+    ghost view = { λ c. record { machine = c.machine.now; callers = c.callers.items; held = c.held; holder = c.holder } };
+}
+
 /// What a call of a caller answers, or why it can't be made.
 pub type Made<T> = Result<T, StepFault>;
 
@@ -39,8 +48,8 @@ impl<'a, C: Handler> Crew<'a, C> {
     pub fn new(machine: &'a MachineOf<C, Global>, callers: Vec<CallerOf<C, Global>>) -> Crew<'a, C>
         requires belong { All (λ c. c.machine ≡ machine.now) callers.items }
         requires by_plan { AnswersByPlan C.declared C.plan machine.now.first.callbacks }
-        ensures machine { result.machine.now ≡ machine.now }
-        ensures all { crew_at result.callers.items result.held result.holder ≡ crew_at callers.items None 0 }
+        ensures machine { result.machine ≡ machine.now }
+        ensures all { result ≡ crew_of machine.now callers.items }
     {
         Crew {
             machine,
@@ -52,8 +61,8 @@ impl<'a, C: Handler> Crew<'a, C> {
 
     /// The callers that haven't the core. Where one has it, it is gone with it.
     pub fn into_callers(self) -> Vec<CallerOf<C, Global>>
-        ensures machine { All (λ c. c.machine ≡ self.entry.machine.now) result.items }
-        ensures callers { result.items ≡ self.entry.callers.items }
+        ensures machine { All (λ c. c.machine ≡ self.entry.machine) result.items }
+        ensures callers { result.items ≡ self.entry.callers }
     {
         let Crew { callers, held, .. } = self;
         drop(held);
@@ -80,9 +89,9 @@ impl<'a, C: Handler> Crew<'a, C> {
 
     // The place of a caller that hasn't the core.
     fn place(&self, who: ThreadId) -> Result<usize, StepFault>
-        ensures place { IfOk result (λ k. (k ≡ place_of (is_some self.now.held) self.now.holder who.0) × (k < length self.now.callers.items)) }
+        ensures place { IfOk result (λ k. (k ≡ place_of (is_some self.now.held) self.now.holder who.0) × (k < length self.now.callers)) }
         ensures apart { OnOk result (has_core (is_some self.now.held) self.now.holder who.0 ≡ false) }
-        ensures refused { IfErr result (λ e. place_fault (is_some self.now.held) self.now.holder who.0 (length self.now.callers.items) ≡ Some e) }
+        ensures refused { IfErr result (λ e. place_fault (is_some self.now.held) self.now.holder who.0 (length self.now.callers) ≡ Some e) }
     {
         let number = usize::from(who.0);
         if self.has_core(who) {
@@ -102,9 +111,9 @@ impl<'a, C: Handler> Crew<'a, C> {
 
     // A call of the kernel, by a caller that hasn't the core.
     fn call_at(&mut self, who: ThreadId, call: Call) -> Made<Result<Reply, Refusal>>
-        ensures machine { self.new.machine.now ≡ self.old.machine.now }
-        ensures stepped { IfOk result (λ r. Steps (crew_at self.old.callers.items self.old.held self.old.holder) who.0 (λ old new. Called self.old.machine.now.first.limit old call r new) (crew_at self.new.callers.items self.new.held self.new.holder)) }
-        ensures refused { IfErr result (λ e. place_fault (is_some self.old.held) self.old.holder who.0 (length self.old.callers.items) ≡ Some e) }
+        ensures machine { self.new.machine ≡ self.old.machine }
+        ensures stepped { IfOk result (λ r. Steps self.old who.0 (λ old new. Called self.old.machine.first.limit old call r new) self.new) }
+        ensures refused { IfErr result (λ e. place_fault (is_some self.old.held) self.old.holder who.0 (length self.old.callers) ≡ Some e) }
     {
         let place = self.place(who)?;
         Ok(steps_at::try_call(self.machine, &mut self.callers, place, call))
@@ -112,9 +121,9 @@ impl<'a, C: Handler> Crew<'a, C> {
 
     /// A call of the kernel, by the core where the caller has it.
     pub fn call(&mut self, who: ThreadId, call: Call) -> Made<Result<Reply, Refusal>>
-        ensures machine { self.new.machine.now ≡ self.old.machine.now }
-        ensures called { IfOk result (λ r. CallsKernel self.old.machine.now.first.limit (crew_at self.old.callers.items self.old.held self.old.holder) who.0 call r (crew_at self.new.callers.items self.new.held self.new.holder)) }
-        ensures refused { IfErr result (λ e. call_fault (is_some self.old.held) self.old.holder who.0 (length self.old.callers.items) ≡ Some e) }
+        ensures machine { self.new.machine ≡ self.old.machine }
+        ensures called { IfOk result (λ r. CallsKernel self.old.machine.first.limit self.old who.0 call r self.new) }
+        ensures refused { IfErr result (λ e. call_fault (is_some self.old.held) self.old.holder who.0 (length self.old.callers) ≡ Some e) }
     {
         if self.has_core(who) {
             self.call_by_holder(call)
@@ -125,8 +134,8 @@ impl<'a, C: Handler> Crew<'a, C> {
 
     // A call of the kernel, by the caller that has the core.
     fn call_by_holder(&mut self, call: Call) -> Made<Result<Reply, Refusal>>
-        ensures machine { self.new.machine.now ≡ self.old.machine.now }
-        ensures called { IfOk result (λ r. CallsByHolder (crew_at self.old.callers.items self.old.held self.old.holder) call r (crew_at self.new.callers.items self.new.held self.new.holder)) }
+        ensures machine { self.new.machine ≡ self.old.machine }
+        ensures called { IfOk result (λ r. CallsByHolder self.old call r self.new) }
         ensures refused { OnErr result (is_some self.old.held ≡ false) }
     {
         match &mut self.held {
@@ -137,9 +146,9 @@ impl<'a, C: Handler> Crew<'a, C> {
 
     /// `try_lock_stax` of the machine, by a caller that hasn't the core.
     pub fn try_lock_stax(&mut self, who: ThreadId, stax: StaxId) -> Made<Result<StaxPass, Refusal>>
-        ensures machine { self.new.machine.now ≡ self.old.machine.now }
-        ensures stepped { IfOk result (λ r. Steps (crew_at self.old.callers.items self.old.held self.old.holder) who.0 (λ old new. StaxCall old (λ o n. TriesStax o stax.0 (stage_of_caller old) r n) new) (crew_at self.new.callers.items self.new.held self.new.holder)) }
-        ensures refused { IfErr result (λ e. place_fault (is_some self.old.held) self.old.holder who.0 (length self.old.callers.items) ≡ Some e) }
+        ensures machine { self.new.machine ≡ self.old.machine }
+        ensures stepped { IfOk result (λ r. Steps self.old who.0 (λ old new. StaxCall old (λ o n. TriesStax o stax.0 (stage_of_caller old) r n) new) self.new) }
+        ensures refused { IfErr result (λ e. place_fault (is_some self.old.held) self.old.holder who.0 (length self.old.callers) ≡ Some e) }
     {
         let place = self.place(who)?;
         Ok(steps_at::try_lock_stax(self.machine, &mut self.callers, place, stax))
@@ -151,9 +160,9 @@ impl<'a, C: Handler> Crew<'a, C> {
         who: ThreadId,
         pass: StaxPass,
     ) -> Made<Result<bool, (Refusal, StaxPass)>>
-        ensures machine { self.new.machine.now ≡ self.old.machine.now }
-        ensures stepped { IfOk result (λ r. Steps (crew_at self.old.callers.items self.old.held self.old.holder) who.0 (λ old new. StaxCall old (λ o n. LeavesStax o pass r n) new) (crew_at self.new.callers.items self.new.held self.new.holder)) }
-        ensures refused { IfErr result (λ e. place_fault (is_some self.old.held) self.old.holder who.0 (length self.old.callers.items) ≡ Some e) }
+        ensures machine { self.new.machine ≡ self.old.machine }
+        ensures stepped { IfOk result (λ r. Steps self.old who.0 (λ old new. StaxCall old (λ o n. LeavesStax o pass r n) new) self.new) }
+        ensures refused { IfErr result (λ e. place_fault (is_some self.old.held) self.old.holder who.0 (length self.old.callers) ≡ Some e) }
     {
         let place = self.place(who)?;
         Ok(steps_at::unlock_stax(self.machine, &mut self.callers, place, pass))
@@ -165,9 +174,9 @@ impl<'a, C: Handler> Crew<'a, C> {
         who: ThreadId,
         mutex: MutexId,
     ) -> Made<Result<MutexPass, Refusal>>
-        ensures machine { self.new.machine.now ≡ self.old.machine.now }
-        ensures stepped { IfOk result (λ r. Steps (crew_at self.old.callers.items self.old.held self.old.holder) who.0 (λ old new. TriesToLock old mutex r new) (crew_at self.new.callers.items self.new.held self.new.holder)) }
-        ensures refused { IfErr result (λ e. place_fault (is_some self.old.held) self.old.holder who.0 (length self.old.callers.items) ≡ Some e) }
+        ensures machine { self.new.machine ≡ self.old.machine }
+        ensures stepped { IfOk result (λ r. Steps self.old who.0 (λ old new. TriesToLock old mutex r new) self.new) }
+        ensures refused { IfErr result (λ e. place_fault (is_some self.old.held) self.old.holder who.0 (length self.old.callers) ≡ Some e) }
     {
         let place = self.place(who)?;
         Ok(steps_at::try_lock_mutex(self.machine, &mut self.callers, place, mutex))
@@ -179,9 +188,9 @@ impl<'a, C: Handler> Crew<'a, C> {
         who: ThreadId,
         pass: MutexPass,
     ) -> Made<Result<(), (Refusal, MutexPass)>>
-        ensures machine { self.new.machine.now ≡ self.old.machine.now }
-        ensures stepped { IfOk result (λ r. Steps (crew_at self.old.callers.items self.old.held self.old.holder) who.0 (λ old new. UnlocksFast old pass r new) (crew_at self.new.callers.items self.new.held self.new.holder)) }
-        ensures refused { IfErr result (λ e. place_fault (is_some self.old.held) self.old.holder who.0 (length self.old.callers.items) ≡ Some e) }
+        ensures machine { self.new.machine ≡ self.old.machine }
+        ensures stepped { IfOk result (λ r. Steps self.old who.0 (λ old new. UnlocksFast old pass r new) self.new) }
+        ensures refused { IfErr result (λ e. place_fault (is_some self.old.held) self.old.holder who.0 (length self.old.callers) ≡ Some e) }
     {
         let place = self.place(who)?;
         Ok(steps_at::unlock_mutex_fast(self.machine, &mut self.callers, place, pass))
@@ -193,9 +202,9 @@ impl<'a, C: Handler> Crew<'a, C> {
         who: ThreadId,
         pass: MutexPass,
     ) -> Made<Result<(), (Refusal, MutexPass)>>
-        ensures machine { self.new.machine.now ≡ self.old.machine.now }
-        ensures stepped { IfOk result (λ r. Steps (crew_at self.old.callers.items self.old.held self.old.holder) who.0 (λ old new. TriesToUnlock old pass r new) (crew_at self.new.callers.items self.new.held self.new.holder)) }
-        ensures refused { IfErr result (λ e. place_fault (is_some self.old.held) self.old.holder who.0 (length self.old.callers.items) ≡ Some e) }
+        ensures machine { self.new.machine ≡ self.old.machine }
+        ensures stepped { IfOk result (λ r. Steps self.old who.0 (λ old new. TriesToUnlock old pass r new) self.new) }
+        ensures refused { IfErr result (λ e. place_fault (is_some self.old.held) self.old.holder who.0 (length self.old.callers) ≡ Some e) }
     {
         let place = self.place(who)?;
         Ok(steps_at::try_unlock_mutex(self.machine, &mut self.callers, place, pass))
@@ -208,9 +217,9 @@ impl<'a, C: Handler> Crew<'a, C> {
         mutex: MutexId,
         until: Option<u64>,
     ) -> Made<Result<Begun, Refusal>>
-        ensures machine { self.new.machine.now ≡ self.old.machine.now }
-        ensures stepped { IfOk result (λ r. Steps (crew_at self.old.callers.items self.old.held self.old.holder) who.0 (λ old new. BeginsToLock old mutex until r new) (crew_at self.new.callers.items self.new.held self.new.holder)) }
-        ensures refused { IfErr result (λ e. place_fault (is_some self.old.held) self.old.holder who.0 (length self.old.callers.items) ≡ Some e) }
+        ensures machine { self.new.machine ≡ self.old.machine }
+        ensures stepped { IfOk result (λ r. Steps self.old who.0 (λ old new. BeginsToLock old mutex until r new) self.new) }
+        ensures refused { IfErr result (λ e. place_fault (is_some self.old.held) self.old.holder who.0 (length self.old.callers) ≡ Some e) }
     {
         let place = self.place(who)?;
         Ok(steps_at::begin_lock_mutex(self.machine, &mut self.callers, place, mutex, until))
@@ -218,9 +227,9 @@ impl<'a, C: Handler> Crew<'a, C> {
 
     /// `finish_lock_mutex` of the machine, by a caller that hasn't the core.
     pub fn finish_lock_mutex(&mut self, who: ThreadId) -> Made<Result<Ended, Refusal>>
-        ensures machine { self.new.machine.now ≡ self.old.machine.now }
-        ensures stepped { IfOk result (λ r. Steps (crew_at self.old.callers.items self.old.held self.old.holder) who.0 (λ old new. FinishesToLock old r new) (crew_at self.new.callers.items self.new.held self.new.holder)) }
-        ensures refused { IfErr result (λ e. place_fault (is_some self.old.held) self.old.holder who.0 (length self.old.callers.items) ≡ Some e) }
+        ensures machine { self.new.machine ≡ self.old.machine }
+        ensures stepped { IfOk result (λ r. Steps self.old who.0 (λ old new. FinishesToLock old r new) self.new) }
+        ensures refused { IfErr result (λ e. place_fault (is_some self.old.held) self.old.holder who.0 (length self.old.callers) ≡ Some e) }
     {
         let place = self.place(who)?;
         Ok(steps_at::finish_lock_mutex(self.machine, &mut self.callers, place))
@@ -228,10 +237,10 @@ impl<'a, C: Handler> Crew<'a, C> {
 
     // A caller comes to its place among the others.
     fn put_back(&mut self, place: usize, caller: CallerOf<C, Global>) -> Result<(), AllocError>
-        requires { caller.machine ≡ self.old.machine.now }
-        ensures machine { self.new.machine.now ≡ self.old.machine.now }
+        requires { caller.machine ≡ self.old.machine }
+        ensures machine { self.new.machine ≡ self.old.machine }
         ensures core { (self.new.held ≡ self.old.held) × (self.new.holder ≡ self.old.holder) }
-        ensures back { OnOk result (self.new.callers.items ≡ insert self.old.callers.items place caller) }
+        ensures back { OnOk result (self.new.callers ≡ insert self.old.callers place caller) }
     {
         if place > self.callers.len() {
             return Err(AllocError);
@@ -244,9 +253,9 @@ impl<'a, C: Handler> Crew<'a, C> {
 
     /// `take` of the machine: whether the caller has the core then.
     pub fn take(&mut self, who: ThreadId) -> Made<Result<bool, AllocError>>
-        ensures machine { self.new.machine.now ≡ self.old.machine.now }
-        ensures taken { IfOk result (λ answer. IfOk answer (λ free. TakesCore (crew_at self.old.callers.items self.old.held self.old.holder) who.0 free (crew_at self.new.callers.items self.new.held self.new.holder))) }
-        ensures refused { IfErr result (λ e. place_fault (is_some self.old.held) self.old.holder who.0 (length self.old.callers.items) ≡ Some e) }
+        ensures machine { self.new.machine ≡ self.old.machine }
+        ensures taken { IfOk result (λ answer. IfOk answer (λ free. TakesCore self.old who.0 free self.new)) }
+        ensures refused { IfErr result (λ e. place_fault (is_some self.old.held) self.old.holder who.0 (length self.old.callers) ≡ Some e) }
     {
         let place = self.place(who)?;
         let caller = self.callers.remove(place);
@@ -265,9 +274,9 @@ impl<'a, C: Handler> Crew<'a, C> {
 
     /// `give` of who has the core.
     pub fn give(&mut self, who: ThreadId) -> Made<Result<(), AllocError>>
-        ensures machine { self.new.machine.now ≡ self.old.machine.now }
+        ensures machine { self.new.machine ≡ self.old.machine }
         ensures refused { IfErr result (λ e. give_fault (is_some self.old.held) self.old.holder who.0 ≡ Some e) }
-        ensures given { IfOk result (λ answer. OnOk answer (GivesCore (crew_at self.old.callers.items self.old.held self.old.holder) who.0 (crew_at self.new.callers.items self.new.held self.new.holder))) }
+        ensures given { IfOk result (λ answer. OnOk answer (GivesCore self.old who.0 self.new)) }
     {
         if !self.has_core(who) {
             return Err(StepFault::HasNoCore);
@@ -285,9 +294,9 @@ impl<'a, C: Handler> Crew<'a, C> {
         place: usize,
         question: Question,
     ) -> Result<View, AllocError>
-        ensures machine { self.new.machine.now ≡ self.old.machine.now }
+        ensures machine { self.new.machine ≡ self.old.machine }
         ensures core { (self.new.held ≡ self.old.held) × (self.new.holder ≡ self.old.holder) }
-        ensures looked { IfOk result (λ view. LooksAt self.old.callers.items place question view self.new.callers.items) }
+        ensures looked { IfOk result (λ view. LooksAt self.old.callers place question view self.new.callers) }
     {
         if place >= self.callers.len() {
             return Err(AllocError);
@@ -311,8 +320,8 @@ impl<'a, C: Handler> Crew<'a, C> {
 
     // What the caller sees that has the core.
     fn look_held(&mut self, alloc: Global, question: Question) -> Result<View, AllocError>
-        ensures machine { self.new.machine.now ≡ self.old.machine.now }
-        ensures looked { IfOk result (λ view. LooksHeld (crew_at self.old.callers.items self.old.held self.old.holder) question view (crew_at self.new.callers.items self.new.held self.new.holder)) }
+        ensures machine { self.new.machine ≡ self.old.machine }
+        ensures looked { IfOk result (λ view. LooksHeld self.old question view self.new) }
     {
         match &mut self.held {
             Some(held) => look(alloc, held, question),
@@ -327,8 +336,8 @@ impl<'a, C: Handler> Crew<'a, C> {
         who: ThreadId,
         question: Question,
     ) -> Result<View, AllocError>
-        ensures machine { self.new.machine.now ≡ self.old.machine.now }
-        ensures looked { IfOk result (λ view. Looks (crew_at self.old.callers.items self.old.held self.old.holder) who.0 question view (crew_at self.new.callers.items self.new.held self.new.holder)) }
+        ensures machine { self.new.machine ≡ self.old.machine }
+        ensures looked { IfOk result (λ view. Looks self.old who.0 question view self.new) }
     {
         if self.held.is_some() {
             self.look_held(alloc, question)

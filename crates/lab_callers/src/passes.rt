@@ -2,12 +2,13 @@
 ghost use Rattle.std.specs.Prelude.{◌≡◌, IfErr, IfOk, MatchOption, OnOk, count_by, false, position, string_bytes, true};
 ghost use Rattle.std.specs.List.{remove};
 ghost use Rattle.lab_callers.specs.Faults.{fault_words};
-ghost use Rattle.lab_callers.specs.Holdings.{awaited, holdings_of, is_held, is_of_stax, is_wait_of, nothing_held, stax_holder, with_mutex, with_mutexes, with_stax, with_staxes, with_wait, without_wait};
+ghost use Rattle.lab_callers.specs.Holdings.{awaited, is_held, is_of_stax, is_wait_of, nothing_held, stax_holder, with_mutex, with_mutexes, with_stax, with_staxes, with_wait, without_wait};
 ghost use Rattle.lab_callers.specs.Names.{TakesPass, has_pass, is_named, is_of_name};
 
 use evl_base::{MutexId, StaxId, ThreadId};
 use evl_words::{MutexPass, StaxPass};
 use std::alloc::{AllocError, Global};
+use std::marker::Model;
 
 /// Why a step of a text can't be made.
 #[derive(Clone, Copy, PartialEq, Eq, Debug)]
@@ -47,6 +48,14 @@ pub struct Passes {
     waits: Vec<(ThreadId, MutexId)>,
 }
 
+impl Model for Passes {
+    ghost use Rattle.lab_callers.specs.Holdings.{Holdings};
+
+    ghost Value = { Holdings };
+
+    ghost view = { λ p. record { staxes = p.staxes.items; mutexes = p.mutexes.items; waits = p.waits.items } };
+}
+
 // Whether a name is among these.
 fn is_among<P>(passes: &[(String, P)], name: &str) -> bool
     ensures { result ≡ is_named name.now passes.now }
@@ -57,7 +66,7 @@ fn is_among<P>(passes: &[(String, P)], name: &str) -> bool
 impl Passes {
     /// None.
     pub fn new(alloc: Global) -> Passes
-        ensures { holdings_of result ≡ nothing_held }
+        ensures { result ≡ nothing_held }
     {
         Passes {
             staxes: Vec::new(alloc),
@@ -68,7 +77,7 @@ impl Passes {
 
     // The place of a name among the passes of staxes.
     fn stax_place(&self, name: &str) -> Option<usize>
-        ensures { result ≡ position (is_of_name name.now) self.now.staxes.items }
+        ensures { result ≡ position (is_of_name name.now) self.now.staxes }
     {
         self.staxes
             .iter()
@@ -77,7 +86,7 @@ impl Passes {
 
     // The place of a name among the passes of mutexes.
     fn mutex_place(&self, name: &str) -> Option<usize>
-        ensures { result ≡ position (is_of_name name.now) self.now.mutexes.items }
+        ensures { result ≡ position (is_of_name name.now) self.now.mutexes }
     {
         self.mutexes
             .iter()
@@ -86,18 +95,18 @@ impl Passes {
 
     /// Whether a name holds a pass.
     pub fn holds(&self, name: &str) -> bool
-        ensures { result ≡ is_held name.now (holdings_of self.now) }
+        ensures { result ≡ is_held name.now self.now }
     {
         is_among(self.staxes.as_slice(), name) || is_among(self.mutexes.as_slice(), name)
     }
 
     /// The pass of a stax that a name holds, which is taken away.
     pub fn take_stax(&mut self, name: &String) -> Result<StaxPass, StepFault>
-        ensures taken { IfOk result (λ pass. TakesPass (string_bytes name.now) self.old.staxes.items pass self.new.staxes.items) }
+        ensures taken { IfOk result (λ pass. TakesPass (string_bytes name.now) self.old.staxes pass self.new.staxes) }
         ensures others { (self.new.mutexes ≡ self.old.mutexes) × (self.new.waits ≡ self.old.waits) }
-        ensures left { holdings_of self.new ≡ with_staxes (holdings_of self.old) self.new.staxes.items }
-        ensures there { OnOk result (has_pass (string_bytes name.now) self.old.staxes.items ≡ true) }
-        ensures refused { IfErr result (λ e. (e ≡ StepFault.HoldsNothing) × (has_pass (string_bytes name.now) self.old.staxes.items ≡ false) × (self.new ≡ self.old)) }
+        ensures left { self.new ≡ with_staxes self.old self.new.staxes }
+        ensures there { OnOk result (has_pass (string_bytes name.now) self.old.staxes ≡ true) }
+        ensures refused { IfErr result (λ e. (e ≡ StepFault.HoldsNothing) × (has_pass (string_bytes name.now) self.old.staxes ≡ false) × (self.new ≡ self.old)) }
     {
         match self.stax_place(name.as_str()) {
             Some(place) => Ok(self.staxes.remove(place).1),
@@ -107,11 +116,11 @@ impl Passes {
 
     /// The pass of a mutex that a name holds, which is taken away.
     pub fn take_mutex(&mut self, name: &String) -> Result<MutexPass, StepFault>
-        ensures taken { IfOk result (λ pass. TakesPass (string_bytes name.now) self.old.mutexes.items pass self.new.mutexes.items) }
+        ensures taken { IfOk result (λ pass. TakesPass (string_bytes name.now) self.old.mutexes pass self.new.mutexes) }
         ensures others { (self.new.staxes ≡ self.old.staxes) × (self.new.waits ≡ self.old.waits) }
-        ensures left { holdings_of self.new ≡ with_mutexes (holdings_of self.old) self.new.mutexes.items }
-        ensures there { OnOk result (has_pass (string_bytes name.now) self.old.mutexes.items ≡ true) }
-        ensures refused { IfErr result (λ e. (e ≡ StepFault.HoldsNothing) × (has_pass (string_bytes name.now) self.old.mutexes.items ≡ false) × (self.new ≡ self.old)) }
+        ensures left { self.new ≡ with_mutexes self.old self.new.mutexes }
+        ensures there { OnOk result (has_pass (string_bytes name.now) self.old.mutexes ≡ true) }
+        ensures refused { IfErr result (λ e. (e ≡ StepFault.HoldsNothing) × (has_pass (string_bytes name.now) self.old.mutexes ≡ false) × (self.new ≡ self.old)) }
     {
         match self.mutex_place(name.as_str()) {
             Some(place) => Ok(self.mutexes.remove(place).1),
@@ -121,7 +130,7 @@ impl Passes {
 
     /// Has a name hold a pass of a stax.
     pub fn put_stax(&mut self, name: String, pass: StaxPass) -> Result<(), AllocError>
-        ensures held { OnOk result (holdings_of self.new ≡ with_stax (holdings_of self.old) name pass) }
+        ensures held { OnOk result (self.new ≡ with_stax self.old name pass) }
         ensures others { (self.new.mutexes ≡ self.old.mutexes) × (self.new.waits ≡ self.old.waits) }
     {
         match self.staxes.push((name, pass)) {
@@ -132,7 +141,7 @@ impl Passes {
 
     /// Has a name hold a pass of a mutex.
     pub fn put_mutex(&mut self, name: String, pass: MutexPass) -> Result<(), AllocError>
-        ensures held { OnOk result (holdings_of self.new ≡ with_mutex (holdings_of self.old) name pass) }
+        ensures held { OnOk result (self.new ≡ with_mutex self.old name pass) }
         ensures others { (self.new.staxes ≡ self.old.staxes) × (self.new.waits ≡ self.old.waits) }
     {
         match self.mutexes.push((name, pass)) {
@@ -143,7 +152,7 @@ impl Passes {
 
     /// How many callers hold a stax.
     pub fn holders(&self, stax: StaxId) -> usize
-        ensures { result ≡ count_by (is_of_stax stax.0) self.now.staxes.items }
+        ensures { result ≡ count_by (is_of_stax stax.0) self.now.staxes }
     {
         self.staxes
             .iter()
@@ -153,7 +162,7 @@ impl Passes {
 
     /// The number of a caller that holds a stax.
     pub fn holder(&self, stax: StaxId) -> Option<u16>
-        ensures { result ≡ stax_holder (holdings_of self.now) stax.0 }
+        ensures { result ≡ stax_holder self.now stax.0 }
     {
         match self.staxes.iter().find(|named| named.1.gate() == stax) {
             Some(named) => Some(named.1.seat()),
@@ -163,7 +172,7 @@ impl Passes {
 
     /// A caller waits for a mutex from now on.
     pub fn begin_wait(&mut self, who: ThreadId, mutex: MutexId) -> Result<(), AllocError>
-        ensures waits { OnOk result (holdings_of self.new ≡ with_wait (holdings_of self.old) who mutex) }
+        ensures waits { OnOk result (self.new ≡ with_wait self.old who mutex) }
         ensures others { (self.new.staxes ≡ self.old.staxes) × (self.new.mutexes ≡ self.old.mutexes) }
     {
         match self.waits.push((who, mutex)) {
@@ -174,14 +183,14 @@ impl Passes {
 
     // The place of a caller among those that wait.
     fn wait_place(&self, who: ThreadId) -> Option<usize>
-        ensures { result ≡ position (is_wait_of who.0) self.now.waits.items }
+        ensures { result ≡ position (is_wait_of who.0) self.now.waits }
     {
         self.waits.iter().position(|wait| wait.0 == who)
     }
 
     /// For which mutex a caller waits.
     pub fn awaited(&self, who: ThreadId) -> Option<MutexId>
-        ensures { result ≡ awaited (holdings_of self.now) who }
+        ensures { result ≡ awaited self.now who }
     {
         match self.waits.iter().find(|wait| wait.0 == who) {
             Some(wait) => Some(wait.1),
@@ -191,8 +200,8 @@ impl Passes {
 
     /// A caller waits no more.
     pub fn end_wait(&mut self, who: ThreadId)
-        ensures waits { MatchOption (position (is_wait_of who.0) self.old.waits.items) (self.new ≡ self.old) (λ place. self.new.waits.items ≡ remove self.old.waits.items place) }
-        ensures over { holdings_of self.new ≡ without_wait (holdings_of self.old) who }
+        ensures waits { MatchOption (position (is_wait_of who.0) self.old.waits) (self.new ≡ self.old) (λ place. self.new.waits ≡ remove self.old.waits place) }
+        ensures over { self.new ≡ without_wait self.old who }
         ensures others { (self.new.staxes ≡ self.old.staxes) × (self.new.mutexes ≡ self.old.mutexes) }
     {
         if let Some(place) = self.wait_place(who) {

@@ -1,9 +1,9 @@
 //! Texts of callers, played over a machine.
-ghost use Rattle.std.specs.Prelude.{◌≡◌, ◌++◌, ℕ, List, [], All, IfErr, IfOk, MatchResult, None, OnOk, codes, length, string_bytes};
+ghost use Rattle.std.specs.Prelude.{◌≡◌, ◌++◌, ℕ, List, [], All, IfErr, IfOk, MatchResult, OnOk, codes, length, string_bytes};
 ghost use Rattle.lab_callers.specs.Faults.{IsWhy, step_fault};
-ghost use Rattle.lab_callers.specs.Crews.{crew_at};
-ghost use Rattle.lab_callers.specs.Holdings.{holdings_of, nothing_held};
-ghost use Rattle.lab_callers.specs.Plays.{ClosesSo, EndsSo, HaveMade, IsStopped, IsTold, LeavesText, MakesEach, MakesStep, ShowsAfter, StopsFor, run_at};
+ghost use Rattle.lab_callers.specs.Crews.{crew_of};
+ghost use Rattle.lab_callers.specs.Holdings.{nothing_held};
+ghost use Rattle.lab_callers.specs.Plays.{ClosesSo, EndsSo, HaveMade, IsStopped, IsTold, LeavesText, MakesEach, MakesStep, ShowsAfter, StopsFor, run_of};
 ghost use Rattle.lab_callers.specs.Shown.{closed_text, mutex_asked, open_text, shown_text, step_text, thread_asked};
 ghost use Rattle.evl_kernel.specs.state.Callbacks.{AnswersByPlan};
 ghost use Rattle.evl_kernel.specs.state.KernelViews.{IsOpened};
@@ -23,6 +23,7 @@ use evl_pipeline::Handler;
 use evl_scenario::{write_board_line, write_entry};
 use lab_callers_text::{CallersStep, CallersText};
 use std::alloc::{AllocError, Global};
+use std::marker::Model;
 
 /// How the steps ended.
 #[derive(Clone, Copy, PartialEq, Eq, Debug)]
@@ -55,9 +56,18 @@ struct Report {
     staxes: usize,
 }
 
+impl Model for Report {
+    ghost use Rattle.std.specs.Prelude.{string_bytes};
+    ghost use Rattle.lab_callers.specs.Reports.{ReportState};
+
+    ghost Value = { ReportState };
+
+    ghost view = { λ r. record { text = string_bytes r.text; holdings = r.passes; plays = r.plays; staxes = r.staxes } };
+}
+
 // The first thread that holds a stax.
 fn holding(passes: &Passes, stax: StaxId) -> Option<ThreadId>
-    ensures { result ≡ thread_asked (holdings_of passes.now) (Shows.Stax stax) }
+    ensures { result ≡ thread_asked passes.now (Shows.Stax stax) }
 {
     match passes.holder(stax) {
         Some(number) => Some(ThreadId(number)),
@@ -69,7 +79,7 @@ fn holding(passes: &Passes, stax: StaxId) -> Option<ThreadId>
 fn question(report: &Report, shows: Shows) -> Question
     ensures plays { result.plays ≡ report.now.plays }
     ensures mutex { result.mutex ≡ mutex_asked shows }
-    ensures thread { result.thread ≡ thread_asked (holdings_of report.now.passes) shows }
+    ensures thread { result.thread ≡ thread_asked report.now.holdings shows }
 {
     let plays = report.plays;
     match shows {
@@ -98,8 +108,8 @@ fn put_shown(
     holder: Option<usize>,
     view: &View,
 ) -> Result<(), AllocError>
-    ensures same { (report.new.plays ≡ report.old.plays) × (report.new.passes ≡ report.old.passes) × (report.new.staxes ≡ report.old.staxes) }
-    ensures shown { OnOk result (string_bytes report.new.text ≡ string_bytes report.old.text ++ shown_text report.old.staxes (holdings_of report.old.passes) holder view.now shows) }
+    ensures same { (report.new.plays ≡ report.old.plays) × (report.new.holdings ≡ report.old.holdings) × (report.new.staxes ≡ report.old.staxes) }
+    ensures shown { OnOk result (report.new.text ≡ report.old.text ++ shown_text report.old.staxes report.old.holdings holder view.now shows) }
 {
     match shows {
         Shows::Nothing => Ok(()),
@@ -133,8 +143,8 @@ fn put_told<C: Handler>(
     who: ThreadId,
     told: &Told,
 ) -> Result<(), AllocError>
-    ensures same { crew.new.machine.now ≡ crew.old.machine.now }
-    ensures told { OnOk result ((text : List ℕ) × ShowsAfter (run_at crew.old.callers.items crew.old.held crew.old.holder report.old.passes report.old.staxes report.old.plays) who.0 (string_bytes told.now.answer) told.now.shows text (run_at crew.new.callers.items crew.new.held crew.new.holder report.new.passes report.new.staxes report.new.plays) × (string_bytes report.new.text ≡ string_bytes report.old.text ++ text)) }
+    ensures same { crew.new.machine ≡ crew.old.machine }
+    ensures told { OnOk result ((text : List ℕ) × ShowsAfter (run_of crew.old report.old) who.0 (string_bytes told.now.answer) told.now.shows text (run_of crew.new report.new) × (report.new.text ≡ report.old.text ++ text)) }
 {
     let answer = told.answer.as_str();
     write!(report.text, " -> {answer}")?;
@@ -155,8 +165,8 @@ fn put_line<C: Handler>(
     front: &str,
     told: &Told,
 ) -> Result<(), AllocError>
-    ensures same { crew.new.machine.now ≡ crew.old.machine.now }
-    ensures told { OnOk result ((text : List ℕ) × ShowsAfter (run_at crew.old.callers.items crew.old.held crew.old.holder report.old.passes report.old.staxes report.old.plays) who.0 (string_bytes told.now.answer) told.now.shows text (run_at crew.new.callers.items crew.new.held crew.new.holder report.new.passes report.new.staxes report.new.plays) × (string_bytes report.new.text ≡ string_bytes report.old.text ++ (front.now ++ text))) }
+    ensures same { crew.new.machine ≡ crew.old.machine }
+    ensures told { OnOk result ((text : List ℕ) × ShowsAfter (run_of crew.old report.old) who.0 (string_bytes told.now.answer) told.now.shows text (run_of crew.new report.new) × (report.new.text ≡ report.old.text ++ (front.now ++ text))) }
 {
     report.text.push_str(front)?;
     put_told(report, crew, who, told)
@@ -169,10 +179,10 @@ fn play_step<C: Handler>(
     number: usize,
     step: CallersStep,
 ) -> Result<(), Stop>
-    ensures same { crew.new.machine.now ≡ crew.old.machine.now }
-    ensures made { OnOk result ((lines : List ℕ) × MakesStep crew.old.machine.now.first.limit (run_at crew.old.callers.items crew.old.held crew.old.holder report.old.passes report.old.staxes report.old.plays) number step lines (run_at crew.new.callers.items crew.new.held crew.new.holder report.new.passes report.new.staxes report.new.plays) × (string_bytes report.new.text ≡ string_bytes report.old.text ++ lines)) }
-    ensures stopped { IfErr result (λ stop. LeavesText stop (string_bytes report.old.text) (string_bytes report.new.text)) }
-    ensures refused { IfErr result (λ stop. IsWhy (step_fault step.act (crew_at crew.old.callers.items crew.old.held crew.old.holder) (holdings_of report.old.passes) step.who.0) stop) }
+    ensures same { crew.new.machine ≡ crew.old.machine }
+    ensures made { OnOk result ((lines : List ℕ) × MakesStep crew.old.machine.first.limit (run_of crew.old report.old) number step lines (run_of crew.new report.new) × (report.new.text ≡ report.old.text ++ lines)) }
+    ensures stopped { IfErr result (λ stop. LeavesText stop report.old.text report.new.text) }
+    ensures refused { IfErr result (λ stop. IsWhy (step_fault step.act crew.old report.old.holdings step.who.0) stop) }
 {
     let Ok(front) = step_text(report.alloc, number, &step) else {
         return Err(Stop::Memory);
@@ -193,9 +203,9 @@ fn play_steps<C: Handler>(
     crew: &mut Crew<'_, C>,
     steps: Vec<CallersStep>,
 ) -> Result<(), (usize, Stop)>
-    ensures same { crew.new.machine.now ≡ crew.old.machine.now }
-    ensures made { OnOk result (HaveMade crew.old.machine.now.first.limit (run_at crew.old.callers.items crew.old.held crew.old.holder report.old.passes report.old.staxes report.old.plays) steps.items (string_bytes report.old.text) (string_bytes report.new.text) (run_at crew.new.callers.items crew.new.held crew.new.holder report.new.passes report.new.staxes report.new.plays) (length steps.items) []) }
-    ensures stopped { IfErr result (λ e. StopsFor crew.old.machine.now.first.limit (run_at crew.old.callers.items crew.old.held crew.old.holder report.old.passes report.old.staxes report.old.plays) steps.items (string_bytes report.old.text) (string_bytes report.new.text) e.0 e.1) }
+    ensures same { crew.new.machine ≡ crew.old.machine }
+    ensures made { OnOk result (HaveMade crew.old.machine.first.limit (run_of crew.old report.old) steps.items report.old.text report.new.text (run_of crew.new report.new) (length steps.items) []) }
+    ensures stopped { IfErr result (λ e. StopsFor crew.old.machine.first.limit (run_of crew.old report.old) steps.items report.old.text report.new.text e.0 e.1) }
 {
     let count = steps.len();
     let mut number: usize = 0;
@@ -212,8 +222,8 @@ fn play_steps<C: Handler>(
 impl Report {
     // What is told before the first step.
     fn new(alloc: Global, board: &Board, limit: u32) -> Result<Report, AllocError>
-        ensures line { IfOk result (λ report. string_bytes report.text ≡ board_line_text (board_line_of board.now limit)) }
-        ensures none { IfOk result (λ report. (report.plays ≡ 0) × (holdings_of report.passes ≡ nothing_held)) }
+        ensures line { IfOk result (λ report. report.text ≡ board_line_text (board_line_of board.now limit)) }
+        ensures none { IfOk result (λ report. (report.plays ≡ 0) × (report.holdings ≡ nothing_held)) }
         ensures staxes { IfOk result (λ report. report.staxes ≡ length board.now.staxes.items) }
     {
         let mut text = String::new(alloc);
@@ -256,7 +266,7 @@ fn play_over<C: Handler>(
     requires callers { All (λ c. c.machine ≡ machine.now) callers.items }
     requires by_plan { AnswersByPlan C.declared C.plan machine.now.first.callbacks }
     ensures belong { All (λ c. c.machine ≡ machine.now) result.1.items }
-    ensures played { let start = run_at callers.items None 0 report.old.passes report.old.staxes report.old.plays in MatchResult result.0 (λ _. MakesEach machine.now.first.limit start steps.items (string_bytes report.old.text) (string_bytes report.new.text) result.1.items) (λ e. StopsFor machine.now.first.limit start steps.items (string_bytes report.old.text) (string_bytes report.new.text) e.0 e.1) }
+    ensures played { let start = run_of (crew_of machine.now callers.items) report.old in MatchResult result.0 (λ _. MakesEach machine.now.first.limit start steps.items report.old.text report.new.text result.1.items) (λ e. StopsFor machine.now.first.limit start steps.items report.old.text report.new.text e.0 e.1) }
 {
     let mut crew = Crew::new(machine, callers);
     let made = play_steps(report, &mut crew, steps);
@@ -353,7 +363,7 @@ fn closed<C: Handler>(
     callers: Vec<CallerOf<C, Global>>,
 ) -> Result<Played, Refusal>
     requires { All (λ c. c.machine ≡ machine) callers.items }
-    ensures lines { IfOk result (λ told. string_bytes told.lines ≡ string_bytes report.text) }
+    ensures lines { IfOk result (λ told. string_bytes told.lines ≡ report.text) }
     ensures closed { IfOk result (λ told. ClosesSo machine callers.items told.ending (string_bytes told.closing)) }
 {
     let Report { alloc, text, .. } = report;
@@ -369,7 +379,7 @@ fn closed<C: Handler>(
 
 // What is told of steps that end before the last one.
 fn stopped(report: Report, number: usize, stop: Stop) -> Result<Played, Refusal>
-    ensures lines { IfOk result (λ told. string_bytes told.lines ≡ string_bytes report.text) }
+    ensures lines { IfOk result (λ told. string_bytes told.lines ≡ report.text) }
     ensures ending { IfOk result (λ told. IsStopped number stop told) }
 {
     let Report { alloc, text, .. } = report;
@@ -392,7 +402,7 @@ fn told_over<C: Handler>(
 ) -> Result<Played, Refusal>
     requires callers { All (λ c. c.machine ≡ machine) callers.items }
     requires by_plan { AnswersByPlan C.declared C.plan machine.first.callbacks }
-    ensures { IfOk result (λ told. EndsSo machine (run_at callers.items None 0 report.passes report.staxes report.plays) steps.items (string_bytes report.text) told.ending (string_bytes told.lines) (string_bytes told.closing)) }
+    ensures { IfOk result (λ told. EndsSo machine (run_of (crew_of machine callers.items) report) steps.items report.text told.ending (string_bytes told.lines) (string_bytes told.closing)) }
 {
     let mut report = report;
     let (made, callers) = play_over(&mut report, &machine, callers, steps);
