@@ -9,18 +9,17 @@ ghost use Rattle.evl_kernel.specs.state.Callbacks.{AnswersByPlan};
 ghost use Rattle.evl_kernel.specs.state.KernelViews.{IsOpened};
 ghost use Rattle.evl_machine.specs.callers.Handles.{newcomers_of};
 ghost use Rattle.evl_scenario.specs.Lines.{board_line_of, board_line_text};
-ghost use Rattle.evl_scenario.specs.Traces.{lines_behind};
 
 use crate::answers::{Stop, Told, make};
 use crate::crew::Crew;
 use crate::lines::{put_core, put_mutex, put_plays, put_stax};
 use crate::passes::{Passes, StepFault};
 use crate::views::{Question, Shows, View};
-use evl_base::{Board, Entry, Play, Refusal, StaxId, ThreadId};
+use evl_base::{Board, Refusal, StaxId, ThreadId};
 use evl_kernel::KernelOf;
 use evl_machine::{CallerOf, MachineOf};
 use evl_pipeline::Handler;
-use evl_scenario::{write_board_line, write_entry};
+use evl_scenario::{write_board_line, write_history};
 use lab_callers_text::{CallersStep, CallersText};
 use std::alloc::{AllocError, Global};
 use std::marker::Model;
@@ -273,27 +272,12 @@ fn play_over<C: Handler>(
     (made, crew.into_callers())
 }
 
-// Writes the entries of a history, each with its own plays.
-fn put_history(text: &mut String, entries: &[Entry], plays: &[Play]) -> Result<(), AllocError>
-    ensures { OnOk result (string_bytes text.new ≡ string_bytes text.old ++ lines_behind 0 entries.now plays.now) }
-{
-    let mut left = plays;
-    for (i, entry) in entries.iter().enumerate() {
-        let (own, others) = left.split_at(entry.plays.min(left.len()));
-        match write_entry(text, i + 1, entry, own) {
-            Ok(()) => left = others,
-            Err(_) => return Err(AllocError),
-        }
-    }
-    Ok(())
-}
-
 // What is told of a closed machine's kernel.
 fn closing_of<C: Handler>(alloc: Global, kernel: &KernelOf<C, Global>) -> Result<String, AllocError>
     ensures { IfOk result (λ text. string_bytes text ≡ closed_text kernel.now.history) }
 {
     let mut text = String::from_str(alloc, "close -> done\n")?;
-    put_history(&mut text, kernel.history(), kernel.plays())?;
+    write_history(&mut text, kernel.history(), kernel.plays())?;
     Ok(text)
 }
 
