@@ -13,8 +13,8 @@ plan_of_none = record { accepts = 1; rows = record { items = [] } }
 abbrev pub plan_of : ℕ → ℕ → Action → Plan
 plan_of accepts every action = record { accepts = accepts; rows = record { items = (every, action) ∷ [] } }
 
-abbrev pub quiet : Handler
-quiet = record { kinds = 0; plan = plan_of_none }
+abbrev pub quiet_handler : Handler
+quiet_handler = record { kinds = 0; plan = plan_of_none }
 
 -- raises semaphore 0 at every event, or at every second
 abbrev pub posting : ℕ → Handler
@@ -38,4 +38,4 @@ stopping = record { kinds = 16; plan = plan_of 2 1 (StopTimer (record { 0 = 0 })
 
 -- callbacks 0 to 7
 abbrev pub program_bank : List Handler
-program_bank = quiet ∷ posting 1 ∷ posting 2 ∷ propagating ∷ posting_line ∷ flagging ∷ stopping ∷ quiet ∷ []
+program_bank = quiet_handler ∷ posting 1 ∷ posting 2 ∷ propagating ∷ posting_line ∷ flagging ∷ stopping ∷ quiet_handler ∷ []

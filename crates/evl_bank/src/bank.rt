@@ -1,5 +1,5 @@
 //! The callbacks of the program, each answering just its plan.
-ghost use Rattle.std.specs.Prelude.{◌≡◌, ◌≤◌, ℕ, List, [], ◌∷◌, true, false, if◌then◌else◌, length, map, None, OnErr, IfOk, is_some};
+ghost use Rattle.std.specs.Prelude.{◌≡◌, ◌≤◌, ℕ, List, true, false, if◌then◌else◌, length, map, None, OnErr, IfOk, is_some};
 ghost use Rattle.evl_kernel.specs.state.Limits.{callback_limit};
 ghost use Rattle.evl_shell.specs.Arguments.{file_of};
 ghost use Rattle.evl_pipeline.specs.Plans.{answer_of};
@@ -29,38 +29,14 @@ const POST_BIT: Action = Action::PostFlags(FlagId(0), 1);
 
 const STOP: Action = Action::StopTimer(TimerId(0));
 
-// Handled, and nothing asked for.
-fn quiet() -> Answer
-    ensures handled { result.handled ≡ true }
-    ensures actions { result.actions.items ≡ [] }
-{
-    Answer {
-        handled: true,
-        actions: ArrayVec::new(),
-    }
-}
-
-// Handled, and one action asked for.
-fn asks(action: Action) -> Answer
-    ensures handled { result.handled ≡ true }
-    ensures actions { result.actions.items ≡ action ∷ [] }
-{
-    let mut actions = ArrayVec::new();
-    actions.push(action);
-    Answer {
-        handled: true,
-        actions,
-    }
-}
-
 // Handled, and the action asked for at every second count.
 fn asks_each_second(count: u64, action: Action) -> Answer
     ensures { result ≡ answer_of (plan_of 1 2 action) count }
 {
     if count % 2 == 0 {
-        asks(action)
+        Answer::one(action)
     } else {
-        quiet()
+        Answer::quiet()
     }
 }
 
@@ -68,7 +44,7 @@ fn asks_each_second(count: u64, action: Action) -> Answer
 fn handles_each_second(count: u64, action: Action) -> Answer
     ensures { result ≡ answer_of (plan_of 2 1 action) count }
 {
-    let mut answer = asks(action);
+    let mut answer = Answer::one(action);
     answer.handled = count % 2 == 0;
     answer
 }
@@ -110,17 +86,17 @@ fn boxed<S: Drop, T: Drop>(
 macro_rules! callbacks {
     ($alloc:expr) => {{
         let none = ActionKinds::from_bits_retain(0);
-        let (zero, one) = boxed($alloc, |_: Fire| quiet(), |_: Fire| asks(POST))?;
+        let (zero, one) = boxed($alloc, |_: Fire| Answer::quiet(), |_: Fire| Answer::one(POST))?;
         let (two, three) = boxed(
             $alloc,
             |fire: Fire| asks_each_second(fire.count, POST),
-            |_: Fire| asks(Action::Propagate),
+            |_: Fire| Answer::one(Action::Propagate),
         )?;
-        let (four, five) = boxed($alloc, |_: Fire| asks(POST_LINE), |_: Fire| asks(POST_BIT))?;
+        let (four, five) = boxed($alloc, |_: Fire| Answer::one(POST_LINE), |_: Fire| Answer::one(POST_BIT))?;
         let (six, seven) = boxed(
             $alloc,
             |fire: Fire| handles_each_second(fire.count, STOP),
-            |_: Fire| quiet(),
+            |_: Fire| Answer::quiet(),
         )?;
         vec![in $alloc;
             Callback::new(none, &quiet_plan(), zero),

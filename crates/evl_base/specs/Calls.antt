@@ -8,7 +8,7 @@ use Rattle.evl_base.specs.declared.call.StepWord.TheVariants as word
 use Rattle.evl_base.specs.declared.fields.Kind.TheVariants as kind
 use Rattle.evl_base.specs.declared.reply.ReplyKind.{ReplyKind}
 use Rattle.evl_base.specs.declared.reply.ReplyKind.TheVariants as answer
-use Rattle.evl_base.specs.Fields.{Key, Values, Keyed, required, optional, told}
+use Rattle.evl_base.specs.Fields.{Key, Values, Keyed, required_key, optional_key, keyed_values}
 
 -- ---- words
 
@@ -36,42 +36,42 @@ words = word.Request ∷ word.Free ∷ word.Arrive ∷ word.Post ∷ word.Stall 
 
 -- the name of a word, the keys after `do` and `who`, in the order in which they are written, and the kind of its answers
 abbrev pub form_of : StepWord → List ℕ × List Key × ReplyKind
-form_of word.Request = (codes "request", required kind.Half (codes "line") ∷ required kind.Stage (codes "stage") ∷ required kind.Byte (codes "callback") ∷ optional kind.Word 0 (codes "tag") ∷ [], answer.Done)
-form_of word.Free = (codes "free", required kind.Half (codes "line") ∷ required kind.Stage (codes "stage") ∷ [], answer.Done)
-form_of word.Arrive = (codes "arrive", required kind.Half (codes "line") ∷ [], answer.Done)
-form_of word.Post = (codes "post", required kind.Stage (codes "stage") ∷ required kind.Half (codes "line") ∷ [], answer.Done)
-form_of word.Stall = (codes "stall", required kind.Stage (codes "stage") ∷ [], answer.Done)
-form_of word.Unstall = (codes "unstall", required kind.Stage (codes "stage") ∷ [], answer.Done)
-form_of word.Tick = (codes "tick", required kind.Number (codes "delta") ∷ [], answer.Done)
+form_of word.Request = (codes "request", required_key kind.Half (codes "line") ∷ required_key kind.Stage (codes "stage") ∷ required_key kind.Byte (codes "callback") ∷ optional_key kind.Word 0 (codes "tag") ∷ [], answer.Done)
+form_of word.Free = (codes "free", required_key kind.Half (codes "line") ∷ required_key kind.Stage (codes "stage") ∷ [], answer.Done)
+form_of word.Arrive = (codes "arrive", required_key kind.Half (codes "line") ∷ [], answer.Done)
+form_of word.Post = (codes "post", required_key kind.Stage (codes "stage") ∷ required_key kind.Half (codes "line") ∷ [], answer.Done)
+form_of word.Stall = (codes "stall", required_key kind.Stage (codes "stage") ∷ [], answer.Done)
+form_of word.Unstall = (codes "unstall", required_key kind.Stage (codes "stage") ∷ [], answer.Done)
+form_of word.Tick = (codes "tick", required_key kind.Number (codes "delta") ∷ [], answer.Done)
 form_of word.Now = (codes "now", [], answer.Number)
-form_of word.NewTimer = (codes "new_timer", required kind.Byte (codes "callback") ∷ optional kind.Word 0 (codes "tag") ∷ [], answer.Number)
-form_of word.StartTimer = (codes "start_timer", required kind.Half (codes "timer") ∷ required kind.Number (codes "date") ∷ required kind.Number (codes "interval") ∷ [], answer.Done)
-form_of word.StopTimer = (codes "stop_timer", required kind.Half (codes "timer") ∷ [], answer.Done)
-form_of word.DropTimer = (codes "drop_timer", required kind.Half (codes "timer") ∷ [], answer.Done)
-form_of word.Overruns = (codes "overruns", required kind.Half (codes "timer") ∷ [], answer.Number)
-form_of word.Attach = (codes "attach", required kind.Policy (codes "policy") ∷ required kind.Stage (codes "stage") ∷ [], answer.Done)
+form_of word.NewTimer = (codes "new_timer", required_key kind.Byte (codes "callback") ∷ optional_key kind.Word 0 (codes "tag") ∷ [], answer.Number)
+form_of word.StartTimer = (codes "start_timer", required_key kind.Half (codes "timer") ∷ required_key kind.Number (codes "date") ∷ required_key kind.Number (codes "interval") ∷ [], answer.Done)
+form_of word.StopTimer = (codes "stop_timer", required_key kind.Half (codes "timer") ∷ [], answer.Done)
+form_of word.DropTimer = (codes "drop_timer", required_key kind.Half (codes "timer") ∷ [], answer.Done)
+form_of word.Overruns = (codes "overruns", required_key kind.Half (codes "timer") ∷ [], answer.Number)
+form_of word.Attach = (codes "attach", required_key kind.Policy (codes "policy") ∷ required_key kind.Stage (codes "stage") ∷ [], answer.Done)
 form_of word.Detach = (codes "detach", [], answer.Done)
-form_of word.SetPolicy = (codes "set_policy", required kind.Policy (codes "policy") ∷ [], answer.Done)
-form_of word.SetStage = (codes "set_stage", required kind.Stage (codes "stage") ∷ [], answer.Done)
+form_of word.SetPolicy = (codes "set_policy", required_key kind.Policy (codes "policy") ∷ [], answer.Done)
+form_of word.SetStage = (codes "set_stage", required_key kind.Stage (codes "stage") ∷ [], answer.Done)
 form_of word.Pick = (codes "pick", [], answer.Chosen)
-form_of word.RankOf = (codes "rank_of", required kind.Half (codes "thread") ∷ [], answer.Number)
-form_of word.TryGet = (codes "try_get", required kind.Half (codes "sem") ∷ [], answer.Done)
-form_of word.Put = (codes "put", required kind.Half (codes "sem") ∷ [], answer.Done)
-form_of word.Peek = (codes "peek", required kind.Half (codes "sem") ∷ [], answer.Count)
-form_of word.BeginGet = (codes "begin_get", required kind.Half (codes "sem") ∷ optional kind.Until None (codes "until") ∷ [], answer.Begun)
-form_of word.TryTake = (codes "try_take", required kind.Half (codes "flags") ∷ required kind.Take (codes "kind") ∷ [], answer.Bits)
-form_of word.PostFlags = (codes "post_flags", required kind.Half (codes "flags") ∷ required kind.Word (codes "bits") ∷ [], answer.Done)
-form_of word.PeekFlags = (codes "peek_flags", required kind.Half (codes "flags") ∷ [], answer.Bits)
-form_of word.BeginTake = (codes "begin_take", required kind.Half (codes "flags") ∷ required kind.Take (codes "kind") ∷ optional kind.Until None (codes "until") ∷ [], answer.Begun)
-form_of word.Write = (codes "write", required kind.Half (codes "xbuf") ∷ required kind.Way (codes "way") ∷ required kind.Bytes (codes "bytes") ∷ [], answer.Done)
-form_of word.Read = (codes "read", required kind.Half (codes "xbuf") ∷ required kind.Way (codes "way") ∷ required kind.Half (codes "len") ∷ [], answer.Bytes)
-form_of word.Room = (codes "room", required kind.Half (codes "xbuf") ∷ required kind.Way (codes "way") ∷ [], answer.Number)
-form_of word.BeginWrite = (codes "begin_write", required kind.Half (codes "xbuf") ∷ required kind.Way (codes "way") ∷ required kind.Bytes (codes "bytes") ∷ optional kind.Until None (codes "until") ∷ [], answer.Begun)
-form_of word.BeginRead = (codes "begin_read", required kind.Half (codes "xbuf") ∷ required kind.Way (codes "way") ∷ required kind.Half (codes "len") ∷ optional kind.Until None (codes "until") ∷ [], answer.Begun)
-form_of word.Claim = (codes "claim", required kind.Half (codes "mutex") ∷ required kind.Half (codes "owner") ∷ optional kind.Until None (codes "until") ∷ [], answer.Begun)
-form_of word.Release = (codes "release", required kind.Half (codes "mutex") ∷ [], answer.Handed)
-form_of word.Raise = (codes "raise", required kind.Half (codes "mutex") ∷ [], answer.Done)
-form_of word.Finish = (codes "finish", optional kind.Truth false (codes "keep") ∷ [], answer.Outcome)
+form_of word.RankOf = (codes "rank_of", required_key kind.Half (codes "thread") ∷ [], answer.Number)
+form_of word.TryGet = (codes "try_get", required_key kind.Half (codes "sem") ∷ [], answer.Done)
+form_of word.Put = (codes "put", required_key kind.Half (codes "sem") ∷ [], answer.Done)
+form_of word.Peek = (codes "peek", required_key kind.Half (codes "sem") ∷ [], answer.Count)
+form_of word.BeginGet = (codes "begin_get", required_key kind.Half (codes "sem") ∷ optional_key kind.Until None (codes "until") ∷ [], answer.Begun)
+form_of word.TryTake = (codes "try_take", required_key kind.Half (codes "flags") ∷ required_key kind.Take (codes "kind") ∷ [], answer.Bits)
+form_of word.PostFlags = (codes "post_flags", required_key kind.Half (codes "flags") ∷ required_key kind.Word (codes "bits") ∷ [], answer.Done)
+form_of word.PeekFlags = (codes "peek_flags", required_key kind.Half (codes "flags") ∷ [], answer.Bits)
+form_of word.BeginTake = (codes "begin_take", required_key kind.Half (codes "flags") ∷ required_key kind.Take (codes "kind") ∷ optional_key kind.Until None (codes "until") ∷ [], answer.Begun)
+form_of word.Write = (codes "write", required_key kind.Half (codes "xbuf") ∷ required_key kind.Way (codes "way") ∷ required_key kind.Bytes (codes "bytes") ∷ [], answer.Done)
+form_of word.Read = (codes "read", required_key kind.Half (codes "xbuf") ∷ required_key kind.Way (codes "way") ∷ required_key kind.Half (codes "len") ∷ [], answer.Bytes)
+form_of word.Room = (codes "room", required_key kind.Half (codes "xbuf") ∷ required_key kind.Way (codes "way") ∷ [], answer.Number)
+form_of word.BeginWrite = (codes "begin_write", required_key kind.Half (codes "xbuf") ∷ required_key kind.Way (codes "way") ∷ required_key kind.Bytes (codes "bytes") ∷ optional_key kind.Until None (codes "until") ∷ [], answer.Begun)
+form_of word.BeginRead = (codes "begin_read", required_key kind.Half (codes "xbuf") ∷ required_key kind.Way (codes "way") ∷ required_key kind.Half (codes "len") ∷ optional_key kind.Until None (codes "until") ∷ [], answer.Begun)
+form_of word.Claim = (codes "claim", required_key kind.Half (codes "mutex") ∷ required_key kind.Half (codes "owner") ∷ optional_key kind.Until None (codes "until") ∷ [], answer.Begun)
+form_of word.Release = (codes "release", required_key kind.Half (codes "mutex") ∷ [], answer.Handed)
+form_of word.Raise = (codes "raise", required_key kind.Half (codes "mutex") ∷ [], answer.Done)
+form_of word.Finish = (codes "finish", optional_key kind.Truth false (codes "keep") ∷ [], answer.Outcome)
 
 abbrev pub name_of : StepWord → List ℕ
 name_of step = (form_of step).0
@@ -131,7 +131,7 @@ abbrev pub word_in : Parts → StepWord
 word_in (parts step values) = step
 
 abbrev pub told_by : Parts → List Keyed
-told_by (parts step values) = told (fields_of step) values
+told_by (parts step values) = keyed_values (fields_of step) values
 
 -- what makes a call
 abbrev pub parts_of : Call → Parts

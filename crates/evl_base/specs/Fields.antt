@@ -43,11 +43,11 @@ pub record Key : Type 0 where
   pub kind : Kind
   pub default : Option (Value kind)
 
-abbrev pub required : Kind → List ℕ → Key
-required kind name = record { name = name; kind = kind; default = None }
+abbrev pub required_key : Kind → List ℕ → Key
+required_key kind name = record { name = name; kind = kind; default = None }
 
-abbrev pub optional : (kind : Kind) → Value kind → List ℕ → Key
-optional kind default name = record { name = name; kind = kind; default = Some default }
+abbrev pub optional_key : (kind : Kind) → Value kind → List ℕ → Key
+optional_key kind default name = record { name = name; kind = kind; default = Some default }
 
 -- the kind of the value behind a key of this name, in each call that has it
 unfoldable pub kind_named : List ℕ → Kind
@@ -102,9 +102,9 @@ told_as kind.Truth x = a_truth x
 abbrev pub Keyed : Type 0
 Keyed = List ℕ × Told
 
-abbrev pub told : (keys : List Key) → Values keys → List Keyed
-told [] values = []
-told (key ∷ keys) values = (key.name, told_as key.kind values.0) ∷ told keys values.1
+abbrev pub keyed_values : (keys : List Key) → Values keys → List Keyed
+keyed_values [] values = []
+keyed_values (key ∷ keys) values = (key.name, told_as key.kind values.0) ∷ keyed_values keys values.1
 
 -- ---- texts in a trace
 

@@ -28,11 +28,11 @@ pub struct Board {
 }
 
 impl Board {
-    ghost use Rattle.evl_base.specs.Board.{checked};
+    ghost use Rattle.evl_base.specs.Board.{check_of};
 
     /// `Range` exactly where a number is outside its limits.
     pub fn check(&self) -> Result<(), Refusal>
-        ensures { result ≡ checked self.now }
+        ensures { result ≡ check_of self.now }
     {
         let fits = 1 <= self.threads
             && usize::from(self.threads) <= MAX_THREADS

@@ -53,7 +53,7 @@ fn at(all: &[Refusal], place: usize) -> Option<Refusal>
 impl Refusal {
     /// The refusal with this number in the table of refusals, `Raced` with zeros; none where no refusal has it.
     pub fn numbered(number: u16) -> Option<Refusal>
-        ensures { result ≡ refusal.numbered number }
+        ensures { result ≡ refusal.refusal_numbered number }
     {
         let all = [
             Refusal::NoMemory,

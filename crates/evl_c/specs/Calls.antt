@@ -64,21 +64,21 @@ value_in kind.Until form bytes = until_of form
 value_in kind.Truth form bytes = not (nat_eq form.choice 0)
 
 -- the form for the keys behind one of this kind: the second number of 16 bits is `other`, and of 64 bits `span`
-abbrev pub behind : Kind → CallForm → CallForm
-behind kind.Half form = record form { element = form.other }
-behind kind.Number form = record form { date = form.span }
-behind kind.Until form = record form { date = form.span }
-behind other form = form
+abbrev pub after_value : Kind → CallForm → CallForm
+after_value kind.Half form = record form { element = form.other }
+after_value kind.Number form = record form { date = form.span }
+after_value kind.Until form = record form { date = form.span }
+after_value other form = form
 
 -- the values of a form at these keys
 abbrev pub values_in : (keys : List Key) → CallForm → List ℕ → Values keys
 values_in [] form bytes = tt
-values_in (key ∷ keys) form bytes = (value_in key.kind form bytes, values_in keys (behind key.kind form) bytes)
+values_in (key ∷ keys) form bytes = (value_in key.kind form bytes, values_in keys (after_value key.kind form) bytes)
 
 -- the call of a word that a form stands for; one word by itself, so that this is opened only where the word is known
-abbrev pub filled : StepWord → CallForm → List ℕ → Call
-filled Finish form bytes = call_with Finish (values_in (fields_of Finish) form bytes)
-filled word form bytes = call_with word (values_in (fields_of word) form bytes)
+abbrev pub call_filled : StepWord → CallForm → List ℕ → Call
+call_filled Finish form bytes = call_with Finish (values_in (fields_of Finish) form bytes)
+call_filled word form bytes = call_with word (values_in (fields_of word) form bytes)
 
 -- the word of a form, whose place among all is the form's kind; `finish` where there is none
 abbrev pub word_of : CallForm → StepWord
@@ -86,7 +86,7 @@ word_of form = unwrap_or (slice_get words form.kind) Finish
 
 -- the call that a form stands for
 abbrev pub call_of : CallForm → List ℕ → Call
-call_of form bytes = filled (word_of form) form bytes
+call_of form bytes = call_filled (word_of form) form bytes
 
 -- kinds of calls on semaphores, flag groups and mutexes that have an element and nothing else: a `begin_get` where it has no
 -- deadline

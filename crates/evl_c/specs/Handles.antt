@@ -5,5 +5,5 @@ use Rattle.evl_plans.specs.declared.planned.Planned.{Planned}
 use Rattle.evl_c.specs.declared.handles.KernelHandle.{KernelHandle}
 
 -- the kernel that is there, if one is
-abbrev pub held : KernelHandle → Option (KernelView Planned)
-held handle = handle.slot.held
+abbrev pub kernel_held : KernelHandle → Option (KernelView Planned)
+kernel_held handle = handle.slot.held

@@ -1,7 +1,7 @@
 -- What a kernel is that C made.
 use Rattle.std.specs.Prelude.{◌≡◌, ℕ, Bool, ◌&&◌, List, []}
 use Rattle.evl_base.specs.declared.board.Board.{Board}
-use Rattle.evl_kernel.specs.histories.Histories.{opened}
+use Rattle.evl_kernel.specs.histories.Histories.{opened_kernel}
 use Rattle.evl_kernel.specs.state.KernelViews.{KernelView}
 use Rattle.evl_kernel.specs.state.Openings.{can_open}
 use Rattle.evl_kernel.specs.state.States.{Handler}
@@ -17,7 +17,7 @@ can_be_opened form count limit = is_board form && can_open (board_of form) count
 pub record IsFresh (board : Board) (bank : List Handler) (limit : ℕ) (k : KernelView Planned) : Type 0 where
   pub board_is : k.history.board ≡ board
   pub bank_is : k.history.bank ≡ bank
-  pub state : k.history.state ≡ opened k.history
+  pub state : k.history.state ≡ opened_kernel k.history
   pub entries : k.history.entries ≡ []
   pub plays : k.history.plays ≡ []
   pub limit_is : k.limit ≡ limit

@@ -63,8 +63,8 @@ rank k thread = number (if is_attached k.history.state.sched thread then Some (r
 abbrev pub bits : KernelView Planned → ℕ → ReadingForm
 bits k flags = number (option_map (λ group. group.bits) (slice_get k.history.state.elements.flags flags))
 
-abbrev pub stored : KernelView Planned → ℕ → Way → ReadingForm
-stored k xbuf way = number (option_map (λ x. length (stream x way).there) (slice_get k.history.state.elements.xbufs xbuf))
+abbrev pub reading_stored : KernelView Planned → ℕ → Way → ReadingForm
+reading_stored k xbuf way = number (option_map (λ x. length (stream x way).there) (slice_get k.history.state.elements.xbufs xbuf))
 
 -- 0 to 7: the date and the threads
 abbrev pub thread_reading : KernelView Planned → QuestionForm → ReadingForm
@@ -83,7 +83,7 @@ abbrev pub element_reading : KernelView Planned → QuestionForm → ReadingForm
 element_reading k form =
     if nat_eq form.kind 8 then count (option_map peek (slice_get k.history.state.elements.sems form.element)) else
     if nat_eq form.kind 9 then bits k form.element else
-    if nat_eq form.kind 10 then stored k form.element (way_of form) else
+    if nat_eq form.kind 10 then reading_stored k form.element (way_of form) else
     if nat_eq form.kind 11 then number (owner_at (record_at k.history.state form.element)) else
     if nat_eq form.kind 12 then number (Some (option_map_or (λ m. length m.waiters) (record_at k.history.state form.element) 0)) else
     if nat_eq form.kind 13 then number (slice_get (queue_of k.history.state.elements (awaited_of form)) form.place) else

@@ -3,7 +3,7 @@ ghost use Rattle.std.specs.Prelude.{◌≡◌, ◌≢◌, ◌↔◌, [], false, 
 ghost use Rattle.evl_c.specs.Answers as answers;
 ghost use Rattle.evl_c.specs.Applies.{Applied, Applies};
 ghost use Rattle.evl_c.specs.Calls as calls;
-ghost use Rattle.evl_c.specs.Handles.{held};
+ghost use Rattle.evl_c.specs.Handles.{kernel_held};
 ghost use Rattle.evl_c.specs.Statuses.{brings_bytes, is_among, of_apply, of_look};
 
 use crate::answers::{AnswerForm, PlayForm, not_called, play_form, tell};
@@ -40,12 +40,12 @@ pub extern "C" fn evlsim_c_apply(
     out: &mut [u8],
     answer: &mut AnswerForm,
 ) -> u32
-    ensures applied { result ≡ 0 → Applies (held kernel.old) (held kernel.new) caller (calls.call_of call.now bytes.now) out.old out.new answer.new }
+    ensures applied { result ≡ 0 → Applies (kernel_held kernel.old) (kernel_held kernel.new) caller (calls.call_of call.now bytes.now) out.old out.new answer.new }
     ensures numbers { (result ≡ 7) ↔ (calls.is_call call.now bytes.now ≡ false) }
-    ensures none { (result ≡ 6) ↔ ((calls.is_call call.now bytes.now ≡ true) × (held kernel.old ≡ None)) }
+    ensures none { (result ≡ 6) ↔ ((calls.is_call call.now bytes.now ≡ true) × (kernel_held kernel.old ≡ None)) }
     ensures memory { result ≡ 4 → brings_bytes call.now ≡ true }
     ensures statuses { is_among of_apply result ≡ true }
-    ensures refused { result ≢ 0 → (held kernel.new ≡ held kernel.old) × (out.new ≡ out.old) × (answer.new ≡ answer.old) }
+    ensures refused { result ≢ 0 → (kernel_held kernel.new ≡ kernel_held kernel.old) × (out.new ≡ out.old) × (answer.new ≡ answer.old) }
 {
     if !is_call(call, bytes) {
         return 7;
@@ -75,11 +75,11 @@ pub extern "C" fn evlsim_c_apply_bare(
     element: u16,
     answer: &mut AnswerForm,
 ) -> u32
-    ensures applied { result ≡ 0 → Applies (held kernel.old) (held kernel.new) caller (calls.call_of (calls.bare_form kind element) []) [] [] answer.new }
+    ensures applied { result ≡ 0 → Applies (kernel_held kernel.old) (kernel_held kernel.new) caller (calls.call_of (calls.bare_form kind element) []) [] [] answer.new }
     ensures numbers { (result ≡ 7) ↔ (calls.is_bare kind ≡ false) }
-    ensures none { (result ≡ 6) ↔ ((calls.is_bare kind ≡ true) × (held kernel.old ≡ None)) }
+    ensures none { (result ≡ 6) ↔ ((calls.is_bare kind ≡ true) × (kernel_held kernel.old ≡ None)) }
     ensures statuses { is_among of_look result ≡ true }
-    ensures refused { result ≢ 0 → (held kernel.new ≡ held kernel.old) × (answer.new ≡ answers.not_called result) }
+    ensures refused { result ≢ 0 → (kernel_held kernel.new ≡ kernel_held kernel.old) × (answer.new ≡ answers.not_called result) }
 {
     let Some(made) = bare_call(kind, element) else {
         *answer = not_called(7);
@@ -114,11 +114,11 @@ pub extern "C" fn evlsim_c_event(
     index: usize,
     event: &mut PlayForm,
 ) -> u32
-    ensures told { result ≡ 0 → IsSomeAnd (held kernel.old) (λ k. option_map answers.play_form (slice_get k.history.plays index) ≡ Some event.new) }
-    ensures beyond { result ≡ 7 → IsSomeAnd (held kernel.old) (λ k. option_map answers.play_form (slice_get k.history.plays index) ≡ None) }
-    ensures none { (result ≡ 6) ↔ (held kernel.old ≡ None) }
+    ensures told { result ≡ 0 → IsSomeAnd (kernel_held kernel.old) (λ k. option_map answers.play_form (slice_get k.history.plays index) ≡ Some event.new) }
+    ensures beyond { result ≡ 7 → IsSomeAnd (kernel_held kernel.old) (λ k. option_map answers.play_form (slice_get k.history.plays index) ≡ None) }
+    ensures none { (result ≡ 6) ↔ (kernel_held kernel.old ≡ None) }
     ensures statuses { is_among of_look result ≡ true }
-    ensures kept { held kernel.new ≡ held kernel.old }
+    ensures kept { kernel_held kernel.new ≡ kernel_held kernel.old }
     ensures refused { result ≢ 0 → event.new ≡ event.old }
 {
     let Some(there) = kernel.take(alloc) else {

@@ -1,6 +1,6 @@
 //! Questions to kernels, of C.
 ghost use Rattle.std.specs.Prelude.{◌≡◌, ◌≢◌, ◌↔◌, false, true, None, IsSomeAnd};
-ghost use Rattle.evl_c.specs.Handles.{held};
+ghost use Rattle.evl_c.specs.Handles.{kernel_held};
 ghost use Rattle.evl_c.specs.Readings as readings;
 ghost use Rattle.evl_c.specs.Statuses.{is_among, of_look};
 
@@ -18,11 +18,11 @@ pub extern "C" fn evlsim_c_ask(
     question: &QuestionForm,
     reading: &mut ReadingForm,
 ) -> u32
-    ensures told { result ≡ 0 → IsSomeAnd (held kernel.old) (λ k. reading.new ≡ readings.reading_of k question.now) }
+    ensures told { result ≡ 0 → IsSomeAnd (kernel_held kernel.old) (λ k. reading.new ≡ readings.reading_of k question.now) }
     ensures numbers { (result ≡ 7) ↔ (readings.is_question question.now ≡ false) }
-    ensures none { (result ≡ 6) ↔ ((readings.is_question question.now ≡ true) × (held kernel.old ≡ None)) }
+    ensures none { (result ≡ 6) ↔ ((readings.is_question question.now ≡ true) × (kernel_held kernel.old ≡ None)) }
     ensures statuses { is_among of_look result ≡ true }
-    ensures kept { held kernel.new ≡ held kernel.old }
+    ensures kept { kernel_held kernel.new ≡ kernel_held kernel.old }
     ensures refused { result ≢ 0 → reading.new ≡ reading.old }
 {
     if !is_question(question) {

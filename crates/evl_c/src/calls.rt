@@ -164,7 +164,7 @@ fn word_of(form: &CallForm) -> StepWord
 // The call of a word that a form stands for. `NoMemory` where it carries bytes and a box for them was refused.
 fn filled(word: StepWord, alloc: Global, form: &CallForm, bytes: &[u8]) -> Result<Call, Refusal>
     requires { length bytes.now ≤ 256 }
-    ensures call { IfOk result (λ call. call ≡ calls.filled word form.now bytes.now) }
+    ensures call { IfOk result (λ call. call ≡ calls.call_filled word form.now bytes.now) }
     ensures refusal { IfErr result (λ e. (e ≡ Refusal.NoMemory) × (statuses.word_brings_bytes word ≡ true)) }
 {
     each_call!(call(word (form alloc bytes)))

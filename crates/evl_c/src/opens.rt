@@ -2,7 +2,7 @@
 ghost use Rattle.std.specs.Prelude.{◌≡◌, ◌≢◌, ◌↔◌, false, true, length, map, None, Some, IsSomeAnd};
 ghost use Rattle.evl_c.specs.Boards.{board_of};
 ghost use Rattle.evl_c.specs.Forms.{are_plans, handler_of};
-ghost use Rattle.evl_c.specs.Handles.{held};
+ghost use Rattle.evl_c.specs.Handles.{kernel_held};
 ghost use Rattle.evl_c.specs.Opens.{IsFresh, can_be_opened};
 ghost use Rattle.evl_c.specs.Statuses.{is_among, of_open};
 
@@ -15,9 +15,9 @@ use std::alloc::Global;
 
 // Puts a kernel into a handle. 4: no memory.
 fn put_new(alloc: Global, kernel: &mut KernelHandle, new: Held) -> u32
-    ensures put { result ≡ 0 → held kernel.new ≡ Some new }
+    ensures put { result ≡ 0 → kernel_held kernel.new ≡ Some new }
     ensures statuses { is_among of_open result ≡ true }
-    ensures refused { result ≢ 0 → (result ≡ 4) × (held kernel.new ≡ held kernel.old) }
+    ensures refused { result ≢ 0 → (result ≡ 4) × (kernel_held kernel.new ≡ kernel_held kernel.old) }
 {
     match Box::new(alloc, new) {
         Ok(made) => {
@@ -37,12 +37,12 @@ fn open_over(
     kernel: &mut KernelHandle,
 ) -> u32
     requires plans { are_plans plans.now ≡ true }
-    ensures opened { result ≡ 0 → IsSomeAnd (held kernel.new) (λ k. IsFresh (board_of board.now) (map handler_of plans.now) limit k) }
+    ensures opened { result ≡ 0 → IsSomeAnd (kernel_held kernel.new) (λ k. IsFresh (board_of board.now) (map handler_of plans.now) limit k) }
     ensures fits { result ≡ 0 → can_be_opened board.now (length plans.now) limit ≡ true }
     ensures board { result ≡ 2 → can_be_opened board.now (length plans.now) limit ≡ false }
     ensures plans { result ≢ 5 }
     ensures statuses { is_among of_open result ≡ true }
-    ensures refused { result ≢ 0 → held kernel.new ≡ held kernel.old }
+    ensures refused { result ≢ 0 → kernel_held kernel.new ≡ kernel_held kernel.old }
 {
     if !is_board(board) {
         return 2;
@@ -70,12 +70,12 @@ pub extern "C" fn evlsim_c_open(
     limit: u32,
     kernel: &mut KernelHandle,
 ) -> u32
-    ensures opened { result ≡ 0 → IsSomeAnd (held kernel.new) (λ k. IsFresh (board_of board.now) (map handler_of plans.now) limit k) }
+    ensures opened { result ≡ 0 → IsSomeAnd (kernel_held kernel.new) (λ k. IsFresh (board_of board.now) (map handler_of plans.now) limit k) }
     ensures fits { result ≡ 0 → can_be_opened board.now (length plans.now) limit ≡ true }
     ensures board { result ≡ 2 → can_be_opened board.now (length plans.now) limit ≡ false }
     ensures plans { (result ≡ 5) ↔ (are_plans plans.now ≡ false) }
     ensures statuses { is_among of_open result ≡ true }
-    ensures refused { result ≢ 0 → held kernel.new ≡ None }
+    ensures refused { result ≢ 0 → kernel_held kernel.new ≡ None }
 {
     drop(kernel.take(alloc));
     if !are_plans(plans) {
@@ -87,7 +87,7 @@ pub extern "C" fn evlsim_c_open(
 /// Frees a kernel, if one is there.
 #[unsafe(no_mangle)]
 pub extern "C" fn evlsim_c_close(alloc: Global, kernel: &mut KernelHandle)
-    ensures { held kernel.new ≡ None }
+    ensures { kernel_held kernel.new ≡ None }
 {
     drop(kernel.take(alloc));
 }

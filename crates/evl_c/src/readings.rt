@@ -148,7 +148,7 @@ fn bits(kernel: &KernelOf<Planned, Global>, flags: FlagId) -> ReadingForm
 
 // How many bytes stand in a way of a cross-buffer, if it is there.
 fn stored(kernel: &KernelOf<Planned, Global>, xbuf: XbufId, way: Way) -> ReadingForm
-    ensures { result ≡ readings.stored kernel.now xbuf.0 way }
+    ensures { result ≡ readings.reading_stored kernel.now xbuf.0 way }
 {
     match kernel.there(xbuf, way) {
         Some(there) => number(Some(there as u64)),

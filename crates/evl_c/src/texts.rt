@@ -1,11 +1,11 @@
 //! Texts for C: scenarios and traces of kernels, of each call its word and its keys, and the names of refusals.
 ghost use Rattle.std.specs.Prelude.{◌≡◌, ◌≢◌, ◌↔◌, true, None, Ok, length, slice_get, IsSomeAnd, string_bytes};
-ghost use Rattle.evl_base.specs.Refusal.{name_of, numbered};
+ghost use Rattle.evl_base.specs.Refusal.{name_of, refusal_numbered};
 ghost use Rattle.evl_base.specs.Calls.{words};
 ghost use Rattle.evl_scenario.specs.Scenarios.{scenario_of};
 ghost use Rattle.evl_scenario.specs.Traces.{history_trace};
 ghost use Rattle.evl_scenario.specs.Writings.{script_of_history};
-ghost use Rattle.evl_c.specs.Handles.{held};
+ghost use Rattle.evl_c.specs.Handles.{kernel_held};
 ghost use Rattle.evl_c.specs.Statuses.{is_among, of_numbered_text, of_scenario, of_trace};
 ghost use Rattle.evl_c.specs.Texts as texts;
 ghost use Rattle.evl_c.specs.Texts.{TellsScenario, TellsText, Unwrites};
@@ -50,10 +50,10 @@ pub extern "C" fn evlsim_c_trace(
     out: &mut [u8],
     length: &mut usize,
 ) -> u32
-    ensures told { result ≡ 0 → IsSomeAnd (held kernel.old) (λ k. TellsText (history_trace k.history.board k.limit k.history.entries k.history.plays) start out.old out.new length.new) }
-    ensures none { (result ≡ 6) ↔ (held kernel.old ≡ None) }
+    ensures told { result ≡ 0 → IsSomeAnd (kernel_held kernel.old) (λ k. TellsText (history_trace k.history.board k.limit k.history.entries k.history.plays) start out.old out.new length.new) }
+    ensures none { (result ≡ 6) ↔ (kernel_held kernel.old ≡ None) }
     ensures statuses { is_among of_trace result ≡ true }
-    ensures kept { held kernel.new ≡ held kernel.old }
+    ensures kept { kernel_held kernel.new ≡ kernel_held kernel.old }
     ensures refused { result ≢ 0 → (out.new ≡ out.old) × (length.new ≡ length.old) }
 {
     let Some(there) = kernel.take(alloc) else {
@@ -97,11 +97,11 @@ pub extern "C" fn evlsim_c_scenario(
     out: &mut [u8],
     length: &mut usize,
 ) -> u32
-    ensures told { result ≡ 0 → IsSomeAnd (held kernel.old) (λ k. TellsScenario (script_of_history k.history.board k.limit k.history.entries) start out.old out.new length.new) }
-    ensures none { (result ≡ 6) ↔ (held kernel.old ≡ None) }
-    ensures unwritten { result ≢ 0 → result ≢ 6 → IsSomeAnd (held kernel.old) (λ k. Unwrites (script_of_history k.history.board k.limit k.history.entries) result) }
+    ensures told { result ≡ 0 → IsSomeAnd (kernel_held kernel.old) (λ k. TellsScenario (script_of_history k.history.board k.limit k.history.entries) start out.old out.new length.new) }
+    ensures none { (result ≡ 6) ↔ (kernel_held kernel.old ≡ None) }
+    ensures unwritten { result ≢ 0 → result ≢ 6 → IsSomeAnd (kernel_held kernel.old) (λ k. Unwrites (script_of_history k.history.board k.limit k.history.entries) result) }
     ensures statuses { is_among of_scenario result ≡ true }
-    ensures kept { held kernel.new ≡ held kernel.old }
+    ensures kept { kernel_held kernel.new ≡ kernel_held kernel.old }
     ensures refused { result ≢ 0 → (out.new ≡ out.old) × (length.new ≡ length.old) }
 {
     let Some(there) = kernel.take(alloc) else {
@@ -159,8 +159,8 @@ pub extern "C" fn evlsim_c_refusal_text(
     out: &mut [u8],
     length: &mut usize,
 ) -> u32
-    ensures told { result ≡ 0 → IsSomeAnd (numbered number) (λ refusal. TellsText (name_of refusal) start out.old out.new length.new) }
-    ensures numbers { (result ≡ 7) ↔ (numbered number ≡ None) }
+    ensures told { result ≡ 0 → IsSomeAnd (refusal_numbered number) (λ refusal. TellsText (name_of refusal) start out.old out.new length.new) }
+    ensures numbers { (result ≡ 7) ↔ (refusal_numbered number ≡ None) }
     ensures statuses { is_among of_numbered_text result ≡ true }
     ensures refused { result ≢ 0 → (out.new ≡ out.old) × (length.new ≡ length.old) }
 {

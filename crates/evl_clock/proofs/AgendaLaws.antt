@@ -6,7 +6,7 @@ use Rattle.std.proofs.lemmas.List.{get_or-set_same, length-set, set-get_or, set-
 use Rattle.std.proofs.lemmas.Option.{same_Some}
 use Rattle.evl_pipeline.proofs.PortLaws.{within}
 use Rattle.evl_clock.specs.declared.agenda.Entry.{Entry}
-use Rattle.evl_clock.specs.Agenda.{IsOrdered, agenda_from, entered, entry, first, is_before, left, place_of, placed}
+use Rattle.evl_clock.specs.Agenda.{IsOrdered, agenda_from, with_date, entry, first_entry as first, is_before, without_date, place_of, with_entry}
 
 -- the order
 
@@ -88,11 +88,11 @@ before-not a b c h k = before_is a c (with_not a b c (before-of a b h) (not-befo
 
 -- an entry put in its place
 
-past : (e x : Entry) (xs : List Entry) → is_before e x ≡ true → placed e (x ∷ xs) ≡ x ∷ placed e xs
-past e x xs h = ap (λ q. if q then x ∷ placed e xs else e ∷ x ∷ xs) h
+past : (e x : Entry) (xs : List Entry) → is_before e x ≡ true → with_entry e (x ∷ xs) ≡ x ∷ with_entry e xs
+past e x xs h = ap (λ q. if q then x ∷ with_entry e xs else e ∷ x ∷ xs) h
 
-here : (e x : Entry) (xs : List Entry) → is_before e x ≡ false → placed e (x ∷ xs) ≡ e ∷ x ∷ xs
-here e x xs h = ap (λ q. if q then x ∷ placed e xs else e ∷ x ∷ xs) h
+here : (e x : Entry) (xs : List Entry) → is_before e x ≡ false → with_entry e (x ∷ xs) ≡ e ∷ x ∷ xs
+here e x xs h = ap (λ q. if q then x ∷ with_entry e xs else e ∷ x ∷ xs) h
 
 -- two behind each other, in front of the rest
 in_front : (x y : Entry) (rest : List Entry) (p : Bool) → is_before x y ≡ p → (x.place ≡ y.place → ⊥)
@@ -101,40 +101,40 @@ in_front x y rest true e other = sym (ap (λ q. if q then x ∷ y ∷ rest else 
 in_front x y rest false e other = sym (ap (λ q. if q then x ∷ y ∷ rest else y ∷ x ∷ rest) (before-apart x y other e))
 
 -- the order in which two are put there doesn't matter
-pub placed-both : (x y : Entry) (zs : List Entry) → (x.place ≡ y.place → ⊥) → placed x (placed y zs) ≡ placed y (placed x zs)
+pub placed-both : (x y : Entry) (zs : List Entry) → (x.place ≡ y.place → ⊥) → with_entry x (with_entry y zs) ≡ with_entry y (with_entry x zs)
 placed-both x y [] other = in_front x y [] (is_before x y) refl other
 placed-both x y (z ∷ zs) other = by (is_before x z) (is_before y z) (placed-both x y zs other) refl refl
   where
-    by : (p q : Bool) → placed x (placed y zs) ≡ placed y (placed x zs) → is_before x z ≡ p → is_before y z ≡ q → placed x (placed y (z ∷ zs)) ≡ placed y (placed x (z ∷ zs))
+    by : (p q : Bool) → with_entry x (with_entry y zs) ≡ with_entry y (with_entry x zs) → is_before x z ≡ p → is_before y z ≡ q → with_entry x (with_entry y (z ∷ zs)) ≡ with_entry y (with_entry x (z ∷ zs))
     by true true rest e f =
-        ap (placed x) (past y z zs f) ∙ past x z (placed y zs) e ∙ ap (λ l. z ∷ l) rest
-        ∙ sym (past y z (placed x zs) f) ∙ sym (ap (placed y) (past x z zs e))
+        ap (with_entry x) (past y z zs f) ∙ past x z (with_entry y zs) e ∙ ap (λ l. z ∷ l) rest
+        ∙ sym (past y z (with_entry x zs) f) ∙ sym (ap (with_entry y) (past x z zs e))
     by true false rest e f =
-        ap (placed x) (here y z zs f) ∙ past x y (z ∷ zs) (before-not x z y e f) ∙ ap (λ l. y ∷ l) (past x z zs e)
-        ∙ sym (here y z (placed x zs) f) ∙ sym (ap (placed y) (past x z zs e))
+        ap (with_entry x) (here y z zs f) ∙ past x y (z ∷ zs) (before-not x z y e f) ∙ ap (λ l. y ∷ l) (past x z zs e)
+        ∙ sym (here y z (with_entry x zs) f) ∙ sym (ap (with_entry y) (past x z zs e))
     by false true rest e f =
-        ap (placed x) (past y z zs f) ∙ here x z (placed y zs) e ∙ ap (λ l. x ∷ l) (sym (past y z zs f))
-        ∙ sym (past y x (z ∷ zs) (before-not y z x f e)) ∙ sym (ap (placed y) (here x z zs e))
+        ap (with_entry x) (past y z zs f) ∙ here x z (with_entry y zs) e ∙ ap (λ l. x ∷ l) (sym (past y z zs f))
+        ∙ sym (past y x (z ∷ zs) (before-not y z x f e)) ∙ sym (ap (with_entry y) (here x z zs e))
     by false false rest e f =
-        ap (placed x) (here y z zs f) ∙ ap (λ l. if is_before x y then y ∷ l else x ∷ y ∷ z ∷ zs) (here x z zs e)
+        ap (with_entry x) (here y z zs f) ∙ ap (λ l. if is_before x y then y ∷ l else x ∷ y ∷ z ∷ zs) (here x z zs e)
         ∙ in_front x y (z ∷ zs) (is_before x y) refl other
-        ∙ sym (ap (λ l. if is_before y x then x ∷ l else y ∷ x ∷ z ∷ zs) (here y z zs f)) ∙ sym (ap (placed y) (here x z zs e))
+        ∙ sym (ap (λ l. if is_before y x then x ∷ l else y ∷ x ∷ z ∷ zs) (here y z zs f)) ∙ sym (ap (with_entry y) (here x z zs e))
 
 -- each entry
 
-all-placed : (P : Entry → Type 0) (e : Entry) (xs : List Entry) → P e → AllByRecursion P xs → AllByRecursion P (placed e xs)
+all-placed : (P : Entry → Type 0) (e : Entry) (xs : List Entry) → P e → AllByRecursion P xs → AllByRecursion P (with_entry e xs)
 all-placed P e [] p h = (p, tt)
 all-placed P e (x ∷ xs) p h = by (is_before e x) (all-placed P e xs p h.1)
   where
-    by : (q : Bool) → AllByRecursion P (placed e xs) → AllByRecursion P (if q then x ∷ placed e xs else e ∷ x ∷ xs)
+    by : (q : Bool) → AllByRecursion P (with_entry e xs) → AllByRecursion P (if q then x ∷ with_entry e xs else e ∷ x ∷ xs)
     by true rest = (h.0, rest)
     by false rest = (p, h)
 
-from-placed : (P : Entry → Type 0) (e : Entry) (xs : List Entry) → AllByRecursion P (placed e xs) → P e × AllByRecursion P xs
+from-placed : (P : Entry → Type 0) (e : Entry) (xs : List Entry) → AllByRecursion P (with_entry e xs) → P e × AllByRecursion P xs
 from-placed P e [] h = h
 from-placed P e (x ∷ xs) h = by (is_before e x) (from-placed P e xs) h
   where
-    by : (q : Bool) → (AllByRecursion P (placed e xs) → P e × AllByRecursion P xs) → AllByRecursion P (if q then x ∷ placed e xs else e ∷ x ∷ xs) → P e × AllByRecursion P (x ∷ xs)
+    by : (q : Bool) → (AllByRecursion P (with_entry e xs) → P e × AllByRecursion P xs) → AllByRecursion P (if q then x ∷ with_entry e xs else e ∷ x ∷ xs) → P e × AllByRecursion P (x ∷ xs)
     by true rest h = ((rest h.1).0, (h.0, (rest h.1).1))
     by false rest h = h
 
@@ -167,11 +167,11 @@ from-all P n (Some date ∷ dates) h (suc k) t e =
 
 -- the agenda is ordered
 
-ordered-placed : (e : Entry) (xs : List Entry) → AllByRecursion (λ x. e.place ≡ x.place → ⊥) xs → IsOrdered xs → IsOrdered (placed e xs)
+ordered-placed : (e : Entry) (xs : List Entry) → AllByRecursion (λ x. e.place ≡ x.place → ⊥) xs → IsOrdered xs → IsOrdered (with_entry e xs)
 ordered-placed e [] apart h = (tt, tt)
 ordered-placed e (x ∷ xs) apart h = by (is_before e x) refl (ordered-placed e xs apart.1 h.1)
   where
-    by : (q : Bool) → is_before e x ≡ q → IsOrdered (placed e xs) → IsOrdered (if q then x ∷ placed e xs else e ∷ x ∷ xs)
+    by : (q : Bool) → is_before e x ≡ q → IsOrdered (with_entry e xs) → IsOrdered (if q then x ∷ with_entry e xs else e ∷ x ∷ xs)
     by true f rest = (all-placed (λ y. is_before y x ≡ true) e xs f h.0, rest)
     by false f rest =
         let before : is_before x e ≡ true = before-apart e x apart.0 f in
@@ -185,20 +185,20 @@ ordered-from n (Some date ∷ dates) =
 
 -- a date is written where there was none
 
-moved : (n m t : ℕ) (xs : List Entry) → n ≡ m → placed (entry n t) xs ≡ placed (entry m t) xs
-moved n m t xs e = ap (λ k. placed (entry k t) xs) e
+moved : (n m t : ℕ) (xs : List Entry) → n ≡ m → with_entry (entry n t) xs ≡ with_entry (entry m t) xs
+moved n m t xs e = ap (λ k. with_entry (entry k t) xs) e
 
 pub from-written : (n : ℕ) (dates : List (Option ℕ)) (k t : ℕ) → slice_index_or dates k None ≡ None → k < length dates
-    → agenda_from n (slice_set dates k (Some t)) ≡ placed (entry (n + k) t) (agenda_from n dates)
+    → agenda_from n (slice_set dates k (Some t)) ≡ with_entry (entry (n + k) t) (agenda_from n dates)
 from-written n [] k t e inside = absurd (omega arith)
 from-written n (None ∷ dates) zero t e inside = moved n (n + 0) t (agenda_from (n + 1) dates) (omega arith)
 from-written n (Some date ∷ dates) zero t e inside = absurd (nothing_there date (sym e))
 from-written n (None ∷ dates) (suc k) t e inside =
     from-written (n + 1) dates k t e (omega arith) ∙ moved (n + 1 + k) (n + suc k) t (agenda_from (n + 1) dates) (omega arith)
 from-written n (Some date ∷ dates) (suc k) t e inside =
-    ap (placed (entry n date)) (from-written (n + 1) dates k t e (omega arith))
+    ap (with_entry (entry n date)) (from-written (n + 1) dates k t e (omega arith))
     ∙ placed-both (entry n date) (entry (n + 1 + k) t) (agenda_from (n + 1) dates) (λ same. omega (arith, same))
-    ∙ moved (n + 1 + k) (n + suc k) t (placed (entry n date) (agenda_from (n + 1) dates)) (omega arith)
+    ∙ moved (n + 1 + k) (n + suc k) t (with_entry (entry n date) (agenda_from (n + 1) dates)) (omega arith)
 
 -- the place of an entry
 
@@ -210,31 +210,31 @@ place-range e (x ∷ xs) = by (is_before e x) (place-range e xs)
     by true h = omega arith
     by false h = omega arith
 
-pub placed-there : (e : Entry) (xs : List Entry) → insert xs (place_of e xs) e ≡ placed e xs
+pub placed-there : (e : Entry) (xs : List Entry) → insert xs (place_of e xs) e ≡ with_entry e xs
 placed-there e [] = refl
 placed-there e (x ∷ xs) = by (is_before e x) (placed-there e xs)
   where
-    by : (q : Bool) → insert xs (place_of e xs) e ≡ placed e xs → insert (x ∷ xs) (if q then suc (place_of e xs) else 0) e ≡ (if q then x ∷ placed e xs else e ∷ x ∷ xs)
+    by : (q : Bool) → insert xs (place_of e xs) e ≡ with_entry e xs → insert (x ∷ xs) (if q then suc (place_of e xs) else 0) e ≡ (if q then x ∷ with_entry e xs else e ∷ x ∷ xs)
     by true h = ap (λ l. x ∷ l) h
     by false h = refl
 
-pub place-within : (e : Entry) (xs : List Entry) → place_of e (placed e xs) < length (placed e xs)
+pub place-within : (e : Entry) (xs : List Entry) → place_of e (with_entry e xs) < length (with_entry e xs)
 place-within e [] = let first : is_before e e ≡ false = itself e (is_before e e) refl in omega (arith, ap {B = ℕ} (λ q. if q then 1 else 0) first)
 place-within e (x ∷ xs) = by (is_before e x) refl (place-within e xs)
   where
-    by : (q : Bool) → is_before e x ≡ q → place_of e (placed e xs) < length (placed e xs)
-        → place_of e (if q then x ∷ placed e xs else e ∷ x ∷ xs) < length (if q then x ∷ placed e xs else e ∷ x ∷ xs)
-    by true f h = omega (arith, h, ap {B = ℕ} (λ q. if q then suc (place_of e (placed e xs)) else 0) f)
+    by : (q : Bool) → is_before e x ≡ q → place_of e (with_entry e xs) < length (with_entry e xs)
+        → place_of e (if q then x ∷ with_entry e xs else e ∷ x ∷ xs) < length (if q then x ∷ with_entry e xs else e ∷ x ∷ xs)
+    by true f h = omega (arith, h, ap {B = ℕ} (λ q. if q then suc (place_of e (with_entry e xs)) else 0) f)
     by false f h = omega (arith, ap {B = ℕ} (λ q. if q then suc (place_of e (x ∷ xs)) else 0) (itself e (is_before e e) refl))
 
 -- put there and taken away again
-pub taken-again : (e : Entry) (xs : List Entry) → remove (placed e xs) (place_of e (placed e xs)) ≡ xs
+pub taken-again : (e : Entry) (xs : List Entry) → remove (with_entry e xs) (place_of e (with_entry e xs)) ≡ xs
 taken-again e [] = ap (λ q. remove (e ∷ []) (if q then 1 else 0)) (itself e (is_before e e) refl)
 taken-again e (x ∷ xs) = by (is_before e x) refl (taken-again e xs)
   where
-    by : (q : Bool) → is_before e x ≡ q → remove (placed e xs) (place_of e (placed e xs)) ≡ xs
-        → remove (if q then x ∷ placed e xs else e ∷ x ∷ xs) (place_of e (if q then x ∷ placed e xs else e ∷ x ∷ xs)) ≡ x ∷ xs
-    by true f h = ap (λ q. remove (x ∷ placed e xs) (if q then suc (place_of e (placed e xs)) else 0)) f ∙ ap (λ l. x ∷ l) h
+    by : (q : Bool) → is_before e x ≡ q → remove (with_entry e xs) (place_of e (with_entry e xs)) ≡ xs
+        → remove (if q then x ∷ with_entry e xs else e ∷ x ∷ xs) (place_of e (if q then x ∷ with_entry e xs else e ∷ x ∷ xs)) ≡ x ∷ xs
+    by true f h = ap (λ q. remove (x ∷ with_entry e xs) (if q then suc (place_of e (with_entry e xs)) else 0)) f ∙ ap (λ l. x ∷ l) h
     by false f h = ap (λ q. remove (e ∷ x ∷ xs) (if q then suc (place_of e (x ∷ xs)) else 0)) (itself e (is_before e e) refl)
 
 -- what falls due after it stands before its place, and nothing else
@@ -302,11 +302,11 @@ first-taken (x ∷ y ∷ ys) e h is =
 
 -- how many there are
 
-length-placed : (e : Entry) (xs : List Entry) → length (placed e xs) ≡ length xs + 1
+length-placed : (e : Entry) (xs : List Entry) → length (with_entry e xs) ≡ length xs + 1
 length-placed e [] = omega arith
 length-placed e (x ∷ xs) = by (is_before e x) (length-placed e xs)
   where
-    by : (q : Bool) → length (placed e xs) ≡ length xs + 1 → length (if q then x ∷ placed e xs else e ∷ x ∷ xs) ≡ suc (length xs) + 1
+    by : (q : Bool) → length (with_entry e xs) ≡ length xs + 1 → length (if q then x ∷ with_entry e xs else e ∷ x ∷ xs) ≡ suc (length xs) + 1
     by true h = omega (arith, h)
     by false h = omega arith
 
@@ -325,17 +325,17 @@ from-none n (Some date ∷ dates) h = absurd (nothing_there date (sym (h 0)))
 emptied : (dates : List (Option ℕ)) (p : ℕ) → p < length dates → slice_index_or (slice_set dates p None) p None ≡ None
 emptied dates p inside = get_or-set_same dates p None None inside
 
-written : (dates : List (Option ℕ)) (p t : ℕ) → p < length dates → agenda_from 0 (slice_set dates p (Some t)) ≡ placed (entry p t) (agenda_from 0 (slice_set dates p None))
+written : (dates : List (Option ℕ)) (p t : ℕ) → p < length dates → agenda_from 0 (slice_set dates p (Some t)) ≡ with_entry (entry p t) (agenda_from 0 (slice_set dates p None))
 written dates p t inside =
     let rest : List (Option ℕ) = slice_set dates p None in
     let there : p < length rest = omega (arith, inside, length-set dates p None) in
     sym (ap (agenda_from 0) (set-set dates p None (Some t))) ∙ from-written 0 rest p t (emptied dates p inside) there ∙ moved (0 + p) p t (agenda_from 0 rest) (omega arith)
 
-parted : (dates : List (Option ℕ)) (p t : ℕ) → slice_index_or dates p None ≡ Some t → agenda_from 0 dates ≡ placed (entry p t) (agenda_from 0 (slice_set dates p None))
+parted : (dates : List (Option ℕ)) (p t : ℕ) → slice_index_or dates p None ≡ Some t → agenda_from 0 dates ≡ with_entry (entry p t) (agenda_from 0 (slice_set dates p None))
 parted dates p t e =
     ap (agenda_from 0) (sym (set-get_or dates p None) ∙ ap (slice_set dates p) e) ∙ written dates p t (within dates p t e)
 
-pub without-place : (dates : List (Option ℕ)) (p : ℕ) (date : Option ℕ) → slice_index_or dates p None ≡ date → left p date (agenda_from 0 dates) ≡ agenda_from 0 (slice_set dates p None)
+pub without-place : (dates : List (Option ℕ)) (p : ℕ) (date : Option ℕ) → slice_index_or dates p None ≡ date → without_date p date (agenda_from 0 dates) ≡ agenda_from 0 (slice_set dates p None)
 without-place dates p None e = ap (agenda_from 0) (sym (set-get_or dates p None) ∙ ap (slice_set dates p) e)
 without-place dates p (Some t) e =
     ap (λ l. remove l (place_of (entry p t) l)) (parted dates p t e) ∙ taken-again (entry p t) (agenda_from 0 (slice_set dates p None))
@@ -346,7 +346,7 @@ place-there dates p None e = tt
 place-there dates p (Some t) e =
     subst (λ l. place_of (entry p t) l < length l) (sym (parted dates p t e)) (place-within (entry p t) (agenda_from 0 (slice_set dates p None)))
 
-pub with-place : (dates : List (Option ℕ)) (p : ℕ) (date : Option ℕ) → p < length dates → entered p date (agenda_from 0 (slice_set dates p None)) ≡ agenda_from 0 (slice_set dates p date)
+pub with-place : (dates : List (Option ℕ)) (p : ℕ) (date : Option ℕ) → p < length dates → with_date p date (agenda_from 0 (slice_set dates p None)) ≡ agenda_from 0 (slice_set dates p date)
 with-place dates p None inside = refl
 with-place dates p (Some t) inside = sym (written dates p t inside)
 

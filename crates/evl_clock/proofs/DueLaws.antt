@@ -13,7 +13,7 @@ use Rattle.evl_clock.specs.Clocks.{Clock, IsSoundClock, timer_at, deadline_at, w
 use Rattle.evl_clock.specs.ClockSteps.{fired}
 use Rattle.evl_clock.specs.Dues.{all_due, deadline, due_count, due_from, due_of, next_due, timer, timer_date}
 use Rattle.evl_clock.specs.Limits.{thread_count, timer_count}
-use Rattle.evl_clock.specs.Searching.{deadlines_due, least_in, sooner, timers_due}
+use Rattle.evl_clock.specs.Searching.{deadlines_due, least_in, sooner_item, timers_due}
 use Rattle.evl_clock.specs.Timers.{after_fire, date_of, missed_of, next_date, state_after, stopped}
 use Rattle.evl_clock.proofs.LeastLaws.{earliest-least, either, least-append}
 
@@ -150,7 +150,7 @@ same_deadline : (p n : ℕ) → deadline (0 + p) ≡ deadline n → p ≡ n
 same_deadline p n e = omega (arith, ap number_of e)
 
 module _ {C : Type 0} where
-  pub next-least : (c : Clock C) → option_map (λ d. d.1) (sooner (least_in (timers_due c)) (least_in (deadlines_due c))) ≡ next_due c
+  pub next-least : (c : Clock C) → option_map (λ d. d.1) (sooner_item (least_in (timers_due c)) (least_in (deadlines_due c))) ≡ next_due c
   unfolding next_due
   next-least c = ap (option_map (λ d. d.1)) (sym (least-append (timers_due c) (deadlines_due c)) ∙ sym (earliest-least (all_due c)))
 
@@ -183,7 +183,7 @@ module _ {C : Type 0} where
       let place : s.place ≡ n = same_deadline s.place n (sym s.item_is ∙ e) in
       record { at = d.0; is = ap (λ k. deadline_at c k) (sym place) ∙ s.dated; due = s.due }
 
-  found_timer : (c : Clock C) (n : ℕ) (l : Option (ℕ × Item)) → sooner (least_in (timers_due c)) (least_in (deadlines_due c)) ≡ l → option_map (λ d. d.1) l ≡ Some (timer n) → Dated c (timer_date (timer_at c n))
+  found_timer : (c : Clock C) (n : ℕ) (l : Option (ℕ × Item)) → sooner_item (least_in (timers_due c)) (least_in (deadlines_due c)) ≡ l → option_map (λ d. d.1) l ≡ Some (timer n) → Dated c (timer_date (timer_at c n))
   found_timer c n None e f = absurd (cc)
   found_timer c n (Some d) e f =
       let is : d.1 ≡ timer n = cc in
@@ -191,7 +191,7 @@ module _ {C : Type 0} where
       (λ g. let s = stands deadline c.now 0 c.deadlines d g in absurd (not_timer n (0 + s.place) (sym is ∙ s.item_is)))
       (either (least_in (timers_due c)) (least_in (deadlines_due c)) d e)
 
-  found_deadline : (c : Clock C) (n : ℕ) (l : Option (ℕ × Item)) → sooner (least_in (timers_due c)) (least_in (deadlines_due c)) ≡ l → option_map (λ d. d.1) l ≡ Some (deadline n) → Dated c (deadline_at c n)
+  found_deadline : (c : Clock C) (n : ℕ) (l : Option (ℕ × Item)) → sooner_item (least_in (timers_due c)) (least_in (deadlines_due c)) ≡ l → option_map (λ d. d.1) l ≡ Some (deadline n) → Dated c (deadline_at c n)
   found_deadline c n None e f = absurd (cc)
   found_deadline c n (Some d) e f =
       let is : d.1 ≡ deadline n = cc in

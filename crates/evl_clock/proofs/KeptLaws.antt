@@ -9,7 +9,7 @@ use Rattle.evl_clock.specs.declared.agenda.Entry.{Entry}
 use Rattle.evl_clock.specs.declared.due.Item.{Item}
 use Rattle.evl_clock.specs.declared.due.Item.TheVariants as item
 use Rattle.evl_clock.specs.declared.timer.Timer.{Timer}
-use Rattle.evl_clock.specs.Agenda.{IsKept, IsOrdered, agenda_from, dates_of, entered, entry, first, is_before, item_at, left, place_of}
+use Rattle.evl_clock.specs.Agenda.{IsKept, IsOrdered, agenda_from, dates_of, with_date, entry, first_entry as first, is_before, item_at, without_date, place_of}
 use Rattle.evl_clock.specs.Clocks.{Clock, IsSoundClock, deadline_at, free_place, timer_at, with_deadline, with_timer}
 use Rattle.evl_clock.specs.Dues.{IsBefore, IsDated, IsNextDue, NothingIsDue, deadline, next_due, timer, timer_date}
 use Rattle.evl_clock.specs.Limits.{thread_count, timer_count}
@@ -149,8 +149,8 @@ module _ {C : Type 0} where
   others-few c xs room p ys h inside e =
       omega (arith, few-without (dates_of c) p (omega (arith, inside, places c h.sound)), ap length e, places c h.sound, h.room)
 
-  others_left : (c : Clock C) (xs : List Entry) (room p : ℕ) (date : Option ℕ) (ys : List Entry) → IsKept c xs room → slice_index_or (dates_of c) p None ≡ date → ys ≡ left p date xs → Others c p ys
-  others_left c xs room p date ys h there e = e ∙ ap (left p date) h.agenda ∙ without-place (dates_of c) p date there
+  others_left : (c : Clock C) (xs : List Entry) (room p : ℕ) (date : Option ℕ) (ys : List Entry) → IsKept c xs room → slice_index_or (dates_of c) p None ≡ date → ys ≡ without_date p date xs → Others c p ys
+  others_left c xs room p date ys h there e = e ∙ ap (without_date p date) h.agenda ∙ without-place (dates_of c) p date there
 
   stands_left : (c : Clock C) (xs : List Entry) (room p : ℕ) (date : Option ℕ) → IsKept c xs room → slice_index_or (dates_of c) p None ≡ date
       → IfSome date (λ t. place_of (entry p t) xs < length xs)
@@ -160,7 +160,7 @@ module _ {C : Type 0} where
   date_there : (c : Clock C) (n : ℕ) (t : Timer C) → n < length c.timers → timer_at c n ≡ Some t → slice_index_or (dates_of c) n None ≡ date_of t.state
   date_there c n t inside there = at_timer c n inside ∙ ap timer_date there
 
-  pub others-timer : (c : Clock C) (xs : List Entry) (room n : ℕ) (t : Timer C) (ys : List Entry) → IsKept c xs room → n < length c.timers → timer_at c n ≡ Some t → ys ≡ left n (date_of t.state) xs
+  pub others-timer : (c : Clock C) (xs : List Entry) (room n : ℕ) (t : Timer C) (ys : List Entry) → IsKept c xs room → n < length c.timers → timer_at c n ≡ Some t → ys ≡ without_date n (date_of t.state) xs
       → Others c n ys
   others-timer c xs room n t ys h inside there e = others_left c xs room n (date_of t.state) ys h (date_there c n t inside there) e
 
@@ -172,7 +172,7 @@ module _ {C : Type 0} where
   read_there c n date sound inside read = at_deadline c n (timer_count + n) sound refl ∙ sym (read ∙ get_or_default c.deadlines n date None inside)
 
   pub others-deadline : (c : Clock C) (xs : List Entry) (room n : ℕ) (date : Option ℕ) (ys : List Entry) → IsKept c xs room → n < length c.deadlines → date ≡ slice_index_or c.deadlines n date
-      → ys ≡ left (timer_count + n) date xs → Others c (timer_count + n) ys
+      → ys ≡ without_date (timer_count + n) date xs → Others c (timer_count + n) ys
   others-deadline c xs room n date ys h inside read e = others_left c xs room (timer_count + n) date ys h (read_there c n date h.sound inside read) e
 
   pub stands-deadline : (c : Clock C) (xs : List Entry) (room n : ℕ) (date : Option ℕ) → IsKept c xs room → n < length c.deadlines → date ≡ slice_index_or c.deadlines n date
@@ -215,20 +215,20 @@ module _ {C : Type 0} where
   -- a timer that was taken out of its place is put back, or isn't
 
   pub kept-timer : (c : Clock C) (xs ys : List Entry) (room room_after n : ℕ) (t : Option (Timer C)) → IsKept c xs room → n < length c.timers → Others c n ys → room_after ≡ room
-      → IsKept (with_timer c n t) (entered n (timer_date t) ys) room_after
+      → IsKept (with_timer c n t) (with_date n (timer_date t) ys) room_after
   kept-timer c xs ys room room_after n t h inside others same = record {
     sound = record { timers = length-set c.timers n t ∙ h.sound.timers; deadlines = h.sound.deadlines };
-    agenda = ap (entered n (timer_date t)) others ∙ with-place (dates_of c) n (timer_date t) (omega (arith, inside, places c h.sound, h.sound.timers)) ∙ ap (agenda_from 0) (sym (timer_written c n t inside));
+    agenda = ap (with_date n (timer_date t)) others ∙ with-place (dates_of c) n (timer_date t) (omega (arith, inside, places c h.sound, h.sound.timers)) ∙ ap (agenda_from 0) (sym (timer_written c n t inside));
     room = omega (arith, h.room, same);
   }
 
   pub kept-put : (c : Clock C) (xs ys zs : List Entry) (room room_after n : ℕ) (t : Timer C) (after : List (Option (Timer C))) → IsKept c xs room → n < length c.timers → Others c n ys
-      → zs ≡ entered n (date_of t.state) ys → room_after ≡ room → after ≡ slice_set c.timers n None
+      → zs ≡ with_date n (date_of t.state) ys → room_after ≡ room → after ≡ slice_set c.timers n None
       → IsKept (record { now = c.now; timers = slice_set after n (Some t); deadlines = c.deadlines }) zs room_after
   kept-put c xs ys zs room room_after n t after h inside others e same taken =
       let timers : slice_set after n (Some t) ≡ slice_set c.timers n (Some t) = ap (λ ts. slice_set ts n (Some t)) taken ∙ set-set c.timers n None (Some t) in
       subst (λ l. IsKept (record { now = c.now; timers = slice_set after n (Some t); deadlines = c.deadlines }) l room_after) (sym e)
-      (subst (λ ts. IsKept (record { now = c.now; timers = ts; deadlines = c.deadlines }) (entered n (date_of t.state) ys) room_after) (sym timers)
+      (subst (λ ts. IsKept (record { now = c.now; timers = ts; deadlines = c.deadlines }) (with_date n (date_of t.state) ys) room_after) (sym timers)
       (kept-timer c xs ys room room_after n (Some t) h inside others same))
 
   pub kept-taken : (c : Clock C) (xs ys : List Entry) (room room_after n : ℕ) (after : List (Option (Timer C))) → IsKept c xs room → n < length c.timers → Others c n ys
@@ -252,15 +252,15 @@ module _ {C : Type 0} where
   kept-idle c xs room n t h free idle =
       let inside : n < length c.timers = free_inside c n free in
       let others : Others c n xs = others_left c xs room n None xs h (at_timer c n inside ∙ ap timer_date (free_is c n free)) refl in
-      subst (λ d. IsKept (with_timer c n (Some t)) (entered n d xs) room) idle (kept-timer c xs xs room room n (Some t) h inside others refl)
+      subst (λ d. IsKept (with_timer c n (Some t)) (with_date n d xs) room) idle (kept-timer c xs xs room room n (Some t) h inside others refl)
 
   -- the deadline of a thread is written
 
   pub kept-until : (c : Clock C) (xs ys zs : List Entry) (room room_after n : ℕ) (until : Option ℕ) → IsKept c xs room → n < length c.deadlines → Others c (timer_count + n) ys
-      → zs ≡ entered (timer_count + n) until ys → room_after ≡ room → IsKept (with_deadline c n until) zs room_after
+      → zs ≡ with_date (timer_count + n) until ys → room_after ≡ room → IsKept (with_deadline c n until) zs room_after
   kept-until c xs ys zs room room_after n until h inside others e same = record {
     sound = record { timers = h.sound.timers; deadlines = omega (arith, length-set c.deadlines n until, h.sound.deadlines) };
-    agenda = e ∙ ap (entered (timer_count + n) until) others ∙ with-place (dates_of c) (timer_count + n) until (omega (arith, inside, places c h.sound))
+    agenda = e ∙ ap (with_date (timer_count + n) until) others ∙ with-place (dates_of c) (timer_count + n) until (omega (arith, inside, places c h.sound))
         ∙ ap (agenda_from 0) (sym (until_written c n until h.sound));
     room = omega (arith, h.room, same, length-set c.deadlines n until);
   }

@@ -8,7 +8,7 @@ use Rattle.evl_clock.specs.ClockSteps.{fired}
 use Rattle.evl_clock.specs.Dues.{deadline, due_count, next_due, timer}
 use Rattle.evl_clock.specs.Limits.{timer_count}
 use Rattle.evl_clock.specs.declared.timer.Timer.{Timer}
-use Rattle.evl_clock.specs.Timers.{after_fire, made, missed, overrun, state_after, stopped}
+use Rattle.evl_clock.specs.Timers.{after_fire, made, missed_periods, overrun, state_after, stopped}
 
 abbrev quiet : Plan
 quiet = record { accepts = 1; rows = record { items = [] } }
@@ -28,7 +28,7 @@ periodic_timer-next : next_due periodic ≡ Some (timer 0)
 unfolding opening next_due
 periodic_timer-next = refl
 
-periodic_timer-missed : missed 135 (Running 100 10) ≡ 3
+periodic_timer-missed : missed_periods 135 (Running 100 10) ≡ 3
 periodic_timer-missed = refl
 
 periodic_timer-after : timer_at (fired periodic 0 (running 100 10)) 0 ≡ Some (record (running 140 10) { count = 1; overruns = 3 })

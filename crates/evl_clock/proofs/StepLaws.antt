@@ -8,7 +8,7 @@ use Rattle.evl_pipeline.specs.declared.answer.Answer.{Answer}
 use Rattle.evl_pipeline.specs.declared.fire.Fire.{Fire}
 use Rattle.evl_pipeline.specs.declared.plan.Plan.{Plan}
 use Rattle.evl_pipeline.specs.Limits.{action_limit}
-use Rattle.evl_pipeline.specs.Plans.{PostsNoOob, allowed, is_allowed}
+use Rattle.evl_pipeline.specs.Plans.{PostsNoOob, allowed_kinds, is_allowed}
 use Rattle.evl_pipeline.proofs.AllowedLaws.{few, posts-no_oob}
 use Rattle.evl_clock.specs.declared.timer.Timer.{Timer}
 use Rattle.evl_clock.specs.Clocks.{Clock, with_deadline}
@@ -21,8 +21,8 @@ use Rattle.evl_clock.proofs.DueLaws.{fewer-deadline, fewer-timer, fewer-dropped}
 allowed_oob : (kinds : ℕ) → is_timer_allowed kinds ≡ true → is_allowed Oob kinds ≡ true
 allowed_oob kinds e =
     let within : bit_and timer_kinds kinds ≡ kinds = eqb-true (bit_and timer_kinds kinds) kinds e in
-    let same : bit_and (allowed Oob) kinds ≡ kinds = ap (bit_and (allowed Oob)) (sym within) ∙ sym (and_assoc kinds (allowed Oob) timer_kinds) ∙ within in
-    eq-eqb (bit_and (allowed Oob) kinds) kinds same
+    let same : bit_and (allowed_kinds Oob) kinds ≡ kinds = ap (bit_and (allowed_kinds Oob)) (sym within) ∙ sym (and_assoc kinds (allowed_kinds Oob) timer_kinds) ∙ within in
+    eq-eqb (bit_and (allowed_kinds Oob) kinds) kinds same
 
 module _ {C : Type 0} (declared : C → ℕ) (plan : C → Plan) (gives : C → Fire → Answer → Type 0) (old : Clock C) (n : ℕ) (fire : Fire) (misses : ℕ) (answer : Answer) (new : Clock C) where
   pub bounded : Fires declared plan gives old n fire misses answer new → (length answer.actions.items ≤ action_limit) × (AreAllowed declared old → PostsNoOob answer.actions.items)

@@ -19,8 +19,8 @@ abbrev pub is_before : Entry → Entry → Bool
 is_before a b = if a.date == b.date then nat_lt a.place b.place else nat_lt a.date b.date
 
 -- what falls due first stands last
-abbrev pub first : List Entry → Option Entry
-first entries = slice_get entries (length entries - 1)
+abbrev pub first_entry : List Entry → Option Entry
+first_entry entries = slice_get entries (length entries - 1)
 
 -- each falls due before those that stand before it
 abbrev pub IsOrdered : List Entry → Type 0
@@ -32,25 +32,25 @@ abbrev pub place_of : Entry → List Entry → ℕ
 place_of e [] = 0
 place_of e (x ∷ xs) = if is_before e x then suc (place_of e xs) else 0
 
-abbrev pub placed : Entry → List Entry → List Entry
-placed e [] = e ∷ []
-placed e (x ∷ xs) = if is_before e x then x ∷ placed e xs else e ∷ x ∷ xs
+abbrev pub with_entry : Entry → List Entry → List Entry
+with_entry e [] = e ∷ []
+with_entry e (x ∷ xs) = if is_before e x then x ∷ with_entry e xs else e ∷ x ∷ xs
 
 -- a place has this date, if any
-abbrev pub entered : ℕ → Option ℕ → List Entry → List Entry
-entered place None entries = entries
-entered place (Some date) entries = placed (entry place date) entries
+abbrev pub with_date : ℕ → Option ℕ → List Entry → List Entry
+with_date place None entries = entries
+with_date place (Some date) entries = with_entry (entry place date) entries
 
 -- it has it no more
-abbrev pub left : ℕ → Option ℕ → List Entry → List Entry
-left place None entries = entries
-left place (Some date) entries = remove entries (place_of (entry place date) entries)
+abbrev pub without_date : ℕ → Option ℕ → List Entry → List Entry
+without_date place None entries = entries
+without_date place (Some date) entries = remove entries (place_of (entry place date) entries)
 
 -- all dates of a list whose first is that of place n
 abbrev pub agenda_from : ℕ → List (Option ℕ) → List Entry
 agenda_from n [] = []
 agenda_from n (None ∷ dates) = agenda_from (n + 1) dates
-agenda_from n (Some date ∷ dates) = placed (entry n date) (agenda_from (n + 1) dates)
+agenda_from n (Some date ∷ dates) = with_entry (entry n date) (agenda_from (n + 1) dates)
 
 module _ {C : Type 0} where
   -- the dates by their places

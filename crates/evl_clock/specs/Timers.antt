@@ -36,10 +36,10 @@ state_after now Idle = Idle
 state_after now Ended = Ended
 
 -- what a fire misses
-abbrev pub missed : ℕ → TimerState → ℕ
-missed now (Running date interval) = missed_of now date interval
-missed now Idle = 0
-missed now Ended = 0
+abbrev pub missed_periods : ℕ → TimerState → ℕ
+missed_periods now (Running date interval) = missed_of now date interval
+missed_periods now Idle = 0
+missed_periods now Ended = 0
 
 -- the date at which a timer fires
 abbrev pub date_of : TimerState → Option ℕ
@@ -67,7 +67,7 @@ module _ {C : Type 0} where
   abbrev pub after_fire : ℕ → Timer C → Timer C
   after_fire now t = record t {
     count = one_more t.count;
-    overruns = overrun t.overruns (missed now t.state);
+    overruns = overrun t.overruns (missed_periods now t.state);
     state = state_after now t.state;
   }
 
@@ -80,5 +80,5 @@ module _ {C : Type 0} where
     pub fire_is : fire ≡ fire_of old now
     pub called : gives old.callback fire answer
     pub answered : answer ≡ answer_of (plan old.callback) (one_more old.count)
-    pub misses_is : misses ≡ missed now old.state
+    pub misses_is : misses ≡ missed_periods now old.state
     pub sound : IsSound (declared old.callback) (plan old.callback)

@@ -82,7 +82,7 @@ fn opened_xbufs<A: Allocator + Clone>(
     sizes: &[(u16, u16)],
 ) -> Result<Vec<XbufOf<A>, A>, Refusal>
     requires fit { list_all sizes_fit sizes.now ≡ true }
-    ensures xbufs { IfOk result (λ xbufs. xbufs.items ≡ map (λ pair. cross_buffers.opened pair.0 pair.1) sizes.now) }
+    ensures xbufs { IfOk result (λ xbufs. xbufs.items ≡ map (λ pair. cross_buffers.opened_xbuf pair.0 pair.1) sizes.now) }
     ensures refusal { IfErr result (λ e. e ≡ Refusal.NoMemory) }
 {
     let for_rings = another(&alloc)?;
@@ -103,7 +103,7 @@ fn opened_xbufs<A: Allocator + Clone>(
 // A cross-buffer with rings of these sizes.
 fn opened_xbuf<A: Allocator + Clone>(alloc: &A, pair: (u16, u16)) -> Result<XbufOf<A>, Refusal>
     requires fit { sizes_fit pair ≡ true }
-    ensures xbuf { IfOk result (λ xbuf. xbuf ≡ cross_buffers.opened pair.0 pair.1) }
+    ensures xbuf { IfOk result (λ xbuf. xbuf ≡ cross_buffers.opened_xbuf pair.0 pair.1) }
     ensures refusal { IfErr result (λ e. e ≡ Refusal.NoMemory) }
 {
     let rings = another(alloc)?;
@@ -112,7 +112,7 @@ fn opened_xbuf<A: Allocator + Clone>(alloc: &A, pair: (u16, u16)) -> Result<Xbuf
 
 // A semaphore of each count.
 fn opened_sems<A: Allocator>(alloc: A, counts: &[u32]) -> Result<Vec<Sem, A>, AllocError>
-    ensures sems { IfOk result (λ sems. sems.items ≡ map semaphores.opened counts.now) }
+    ensures sems { IfOk result (λ sems. sems.items ≡ map semaphores.opened_semaphore counts.now) }
 {
     let mut sems = Vec::with_capacity(alloc, counts.len())?;
     for count in counts {
@@ -123,7 +123,7 @@ fn opened_sems<A: Allocator>(alloc: A, counts: &[u32]) -> Result<Vec<Sem, A>, Al
 
 // A flag group of each of these bits.
 fn opened_flags<A: Allocator>(alloc: A, openings: &[u32]) -> Result<Vec<FlagGroup, A>, AllocError>
-    ensures flags { IfOk result (λ flags. flags.items ≡ map flag_groups.opened openings.now) }
+    ensures flags { IfOk result (λ flags. flags.items ≡ map flag_groups.opened_group openings.now) }
 {
     let mut flags = Vec::with_capacity(alloc, openings.len())?;
     for bits in openings {

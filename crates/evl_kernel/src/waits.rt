@@ -1,6 +1,6 @@
 //! Waits of threads.
 ghost use Rattle.std.specs.Prelude.{◌≡◌, ◌≤◌, ◌+◌, IfErr, IfOk, None, Some, option_map, slice_set};
-ghost use Rattle.evl_kernel.specs.waiting.Beginnings.{allowed_if, awaited, form_refusal, in_range_if, range_refusal, stage_wanted};
+ghost use Rattle.evl_kernel.specs.waiting.Beginnings.{allowed_if, awaited_by, form_refusal, in_range_if, range_refusal, stage_wanted};
 ghost use Rattle.evl_kernel.specs.waiting.Endings.{has_got_mutex, is_of_mutex, outcome_of};
 ghost use Rattle.evl_kernel.specs.state.WaitBoxes.{FitsBox, reply_of};
 ghost use Rattle.evl_kernel.specs.waiting.Waits.{ended_by, wait_of};
@@ -49,7 +49,7 @@ pub(crate) enum Wanted {
 impl Wanted {
     /// For what the thread waits, where it isn't served at once.
     pub(crate) fn awaited(&self) -> Awaited
-        ensures on { result ≡ awaited self.now }
+        ensures on { result ≡ awaited_by self.now }
     {
         match self {
             Wanted::Sem(sem) => Awaited::Sem(*sem),

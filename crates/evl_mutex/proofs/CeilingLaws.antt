@@ -3,7 +3,7 @@ use Rattle.std.proofs.Common.{◌≡◌, ℕ, zero, suc, max, ◌<◌, ◌==◌,
 use Rattle.std.specs.Option.{option_map_or}
 use Rattle.std.proofs.lemmas.Bool.{false≢true, eqb-true}
 use Rattle.std.proofs.lemmas.List.{length-set, get_or-set_same, get_or-set_other}
-use Rattle.evl_mutex.specs.Queues.{is_nobody, dropped}
+use Rattle.evl_mutex.specs.Queues.{is_nobody, dropped_from}
 use Rattle.evl_mutex.specs.Mutexes.{Mutex, has_ceiling, ceiling_of, drop_waiter}
 use Rattle.evl_mutex.specs.Ranks.{ceiling_for, ceilings}
 use Rattle.evl_mutex.specs.Views.{looked_up, looked_up_at}
@@ -38,7 +38,7 @@ ceilings-set t m m2 alike (x ∷ xs) (suc n) at = ap (max (ceiling_for t x)) (ce
 
 -- a waiter that leaves takes no ceiling with it
 pub ceiling-left : (t u : ℕ) (m : Mutex) → ceiling_for t (drop_waiter u m) ≡ ceiling_for t m
-ceiling-left t u m = by_test (is_nobody (dropped u m.waiters)) (has_ceiling m) refl
+ceiling-left t u m = by_test (is_nobody (dropped_from u m.waiters)) (has_ceiling m) refl
   where
     by_test : (a b : Bool) → has_ceiling m ≡ b
         → (if option_map_or (λ o. o == t) (if a && not b then None else m.owner) false then unwrap_or (ceiling_of m.kind) 0 else 0) ≡ ceiling_for t m

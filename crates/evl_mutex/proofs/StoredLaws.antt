@@ -8,7 +8,7 @@ use Rattle.evl_mutex.specs.declared.waiter.Waiter.{Waiter}
 use Rattle.evl_mutex.specs.declared.mutex_record.MutexRecord.{MutexRecord}
 use Rattle.evl_mutex.specs.Queues.{is_nobody, stands_in, AreApart}
 use Rattle.evl_mutex.specs.Mutexes as mutex
-use Rattle.evl_mutex.specs.Mutexes.{Mutex, has_ceiling, ceiling_of, drop_waiter, is_waited_for_by, opened, released}
+use Rattle.evl_mutex.specs.Mutexes.{Mutex, has_ceiling, ceiling_of, drop_waiter, is_waited_for_by, opened_mutex, released_mutex}
 use Rattle.evl_mutex.specs.Chains.{waits_for, Follows}
 use Rattle.evl_mutex.specs.Ranks.{ceiling_for, ceilings}
 use Rattle.evl_mutex.specs.Owners.{Owners, IsSound, rank_of}
@@ -51,7 +51,7 @@ pub there-dropped : (n u : ℕ) (ms : List Mutex) → OwnersAreThere n ms → Ow
 there-dropped n u [] h = tt
 there-dropped n u (m ∷ ms) h = (λ owner e. h.0 owner (drop-owner u m owner e), there-dropped n u ms h.1)
 
-pub there-opened : (n : ℕ) (kinds : List MutexKind) → OwnersAreThere n (map opened kinds)
+pub there-opened : (n : ℕ) (kinds : List MutexKind) → OwnersAreThere n (map opened_mutex kinds)
 there-opened n [] = tt
 there-opened n (k ∷ ks) = (λ owner e. nobody e, there-opened n ks)
   where
@@ -219,8 +219,8 @@ module _ (base : ℕ → ℕ) (lent : ℕ → ℕ) (ahead : List (Option ℕ)) w
                   handed-at from ∙ ap (λ b. if b then Some w.thread else ahead_in (slice_set ahead w.thread None) from) at_behind ∙ get_or-set_other ahead w.thread from None None differs ∙ e
 
     -- all but the next owner, where more wait, and the one before
-    pub right-released : ((t : ℕ) → IsRight base next lent t) → (t : ℕ) → ((if (released m).more then (released m).next else None) ≡ Some t → ⊥) → (option_and (released m).next m.owner ≡ Some t → ⊥)
-        → IsRight base (ahead_in (noted_behind (released m).after.waiters (released m).next (unnoted ahead (released m).next))) lent t
+    pub right-released : ((t : ℕ) → IsRight base next lent t) → (t : ℕ) → ((if (released_mutex m).more then (released_mutex m).next else None) ≡ Some t → ⊥) → (option_and (released_mutex m).next m.owner ≡ Some t → ⊥)
+        → IsRight base (ahead_in (noted_behind (released_mutex m).after.waiters (released_mutex m).next (unnoted ahead (released_mutex m).next))) lent t
     right-released right t not_served away = by_queue m.waiters refl not_served away
       where
         by_queue : (ws : List Waiter) → m.waiters ≡ ws → ((if (mutex.handed_to m ws).more then (mutex.handed_to m ws).next else None) ≡ Some t → ⊥) → (option_and (mutex.handed_to m ws).next m.owner ≡ Some t → ⊥)
@@ -230,8 +230,8 @@ module _ (base : ℕ → ℕ) (lent : ℕ → ℕ) (ahead : List (Option ℕ)) w
         by_queue (w ∷ v ∷ vs) e not_served away = right-handed w (v ∷ vs) e t (λ from stands here. not_served (ap Some (sym here))) away (right t)
 
     -- the next owner is a thread, and waits for nobody
-    pub released-next : (t : ℕ) → (released m).next ≡ Some t
-        → (t < length o.base) × (ahead_in (noted_behind (released m).after.waiters (released m).next (unnoted ahead (released m).next)) t ≡ None)
+    pub released-next : (t : ℕ) → (released_mutex m).next ≡ Some t
+        → (t < length o.base) × (ahead_in (noted_behind (released_mutex m).after.waiters (released_mutex m).next (unnoted ahead (released_mutex m).next)) t ≡ None)
     released-next t e = by_queue m.waiters refl e
       where
         by_queue : (ws : List Waiter) → m.waiters ≡ ws → (mutex.handed_to m ws).next ≡ Some t
@@ -246,7 +246,7 @@ module _ (base : ℕ → ℕ) (lent : ℕ → ℕ) (ahead : List (Option ℕ)) w
             one e = cc
 
 -- who is recorded of a mutex that is handed on
-pub released-owner : (m : Mutex) (t : ℕ) → (released m).after.owner ≡ Some t → (released m).next ≡ Some t
+pub released-owner : (m : Mutex) (t : ℕ) → (released_mutex m).after.owner ≡ Some t → (released_mutex m).next ≡ Some t
 released-owner m t e = by_queue m.waiters e
   where
     by_test : (b : Bool) (w : ℕ) → (if b then Some w else None) ≡ Some t → Some w ≡ Some t
@@ -257,7 +257,7 @@ released-owner m t e = by_queue m.waiters e
     by_queue [] e = cc
     by_queue (w ∷ ws) e = by_test (not (is_nobody ws) || has_ceiling m) w.thread e
 
-pub released-kind : (m : Mutex) → (released m).after.kind ≡ m.kind
+pub released-kind : (m : Mutex) → (released_mutex m).after.kind ≡ m.kind
 released-kind m = by_queue m.waiters
   where
     by_queue : (ws : List Waiter) → (mutex.handed_to m ws).after.kind ≡ m.kind
@@ -412,7 +412,7 @@ nobody_ahead zero t = refl
 nobody_ahead (suc n) zero = refl
 nobody_ahead (suc n) (suc t) = nobody_ahead n t
 
-pub stored-fresh : (threads : ℕ) (kinds : List MutexKind) → AreStored (replicate threads 0) (map opened kinds) (replicate threads None) (replicate threads 0) (replicate threads 0)
+pub stored-fresh : (threads : ℕ) (kinds : List MutexKind) → AreStored (replicate threads 0) (map opened_mutex kinds) (replicate threads None) (replicate threads 0) (replicate threads 0)
 stored-fresh threads kinds = record {
   there = there-opened (length (replicate threads 0)) kinds;
   lent_all = refl;
@@ -422,7 +422,7 @@ stored-fresh threads kinds = record {
     behind = λ from e. absurd (nothing (nobody_ahead threads from) e);
     counts = inl refl;
   };
-  raised_right = λ t. nothing_there threads t ∙ sym (ceilings-unowned (map opened kinds) (unowned-opened kinds) t);
+  raised_right = λ t. nothing_there threads t ∙ sym (ceilings-unowned (map opened_mutex kinds) (unowned-opened kinds) t);
 }
   where
     nothing : {t : ℕ} {p : Option ℕ} → p ≡ None → p ≡ Some t → ⊥

@@ -4,8 +4,8 @@ ghost use Rattle.std.specs.List.{list_any};
 ghost use Rattle.std.specs.Option.{option_map_or};
 ghost use Rattle.evl_base.specs.declared.refusal.Refusal.{Refusal};
 ghost use Rattle.evl_mutex.specs.Changes.{ChangesAreNoted};
-ghost use Rattle.evl_mutex.specs.Mutexes.{raised, lowered, opened, is_owned_by, is_waited_for_by, drop_waiter};
-ghost use Rattle.evl_mutex.specs.Owners.{IsClaim, IsRelease, IsRingFree, IsSound, base_of, changed, claim_answer, claim_refusal, dropped, fresh, is_thread, lower_refusal, next_of, owner_of, raise_refusal, rank_of, ranks_of, unless_refused, with_base};
+ghost use Rattle.evl_mutex.specs.Mutexes.{raised_mutex, lowered_mutex, opened_mutex, is_owned_by, is_waited_for_by, drop_waiter};
+ghost use Rattle.evl_mutex.specs.Owners.{IsClaim, IsRelease, IsRingFree, IsSound, base_of, mutex_changed, claim_answer, claim_refusal, waiter_dropped, fresh, is_thread, lower_refusal, next_of, owner_of, raise_refusal, rank_of, ranks_of, unless_refused, with_base};
 ghost use Rattle.evl_mutex.specs.Ranks.{IsEffective};
 ghost use Rattle.evl_mutex.specs.Views.{HaveRoom, ahead_in, mutexes_of, numbers_of};
 
@@ -163,7 +163,7 @@ impl<A: Allocator> OwnersOf<A> {
     /// Lets a thread wait for no mutex any more, if it does. Where it was the last waiter, no owner of that mutex is
     /// recorded any more; at a ceiling the owner stays. (Xenomai 4: EVL mutexes; this profile)
     pub fn drop_waiter(&mut self, thread: ThreadId)
-        ensures state { self.new ≡ dropped self.old thread.0 }
+        ensures state { self.new ≡ waiter_dropped self.old thread.0 }
     {
         let owner = notes::ahead_of(&self.ahead, thread.0);
         walks::drop_waiter(&mut self.mutexes, thread.0);
@@ -175,7 +175,7 @@ impl<A: Allocator> OwnersOf<A> {
     /// it was the last waiter, no owner of the mutex is recorded any more; at a ceiling the owner stays. (Xenomai 4:
     /// EVL mutexes)
     pub fn leave(&mut self, mutex: MutexId, thread: ThreadId)
-        ensures state { self.new ≡ changed self.old mutex.0 (drop_waiter thread.0) }
+        ensures state { self.new ≡ mutex_changed self.old mutex.0 (drop_waiter thread.0) }
     {
         self.leave_noting(mutex, thread, &mut Unnoted);
     }
@@ -187,7 +187,7 @@ impl<A: Allocator> OwnersOf<A> {
         thread: ThreadId,
         changes: &mut C,
     )
-        ensures state { self.new ≡ changed self.old mutex.0 (drop_waiter thread.0) }
+        ensures state { self.new ≡ mutex_changed self.old mutex.0 (drop_waiter thread.0) }
         ensures noted { ChangesAreNoted (C.is_noted changes.old) (C.is_noted changes.new) (rank_of self.old) (rank_of self.new) }
     {
         let place = mutex.0 as usize;
@@ -322,7 +322,7 @@ impl<A: Allocator> OwnersOf<A> {
     /// too. A refused call changes nothing. (Xenomai 4: EVL mutexes, priority ceilings)
     pub fn raise(&mut self, mutex: MutexId, thread: ThreadId) -> Result<(), Refusal>
         ensures answer { result ≡ unless_refused (raise_refusal self.old mutex.0 thread.0) tt }
-        ensures state { self.new ≡ (if is_ok result then changed self.old mutex.0 (λ m. raised m thread.0) else self.old) }
+        ensures state { self.new ≡ (if is_ok result then mutex_changed self.old mutex.0 (λ m. raised_mutex m thread.0) else self.old) }
     {
         self.raise_noting(mutex, thread, &mut Unnoted)
     }
@@ -336,7 +336,7 @@ impl<A: Allocator> OwnersOf<A> {
         changes: &mut C,
     ) -> Result<(), Refusal>
         ensures answer { result ≡ unless_refused (raise_refusal self.old mutex.0 thread.0) tt }
-        ensures state { self.new ≡ (if is_ok result then changed self.old mutex.0 (λ m. raised m thread.0) else self.old) }
+        ensures state { self.new ≡ (if is_ok result then mutex_changed self.old mutex.0 (λ m. raised_mutex m thread.0) else self.old) }
         ensures noted { ChangesAreNoted (C.is_noted changes.old) (C.is_noted changes.new) (rank_of self.old) (rank_of self.new) }
     {
         if let Some(refusal) = raise_refusal(self.base.len(), &self.mutexes, mutex.0, thread.0) {
@@ -358,7 +358,7 @@ impl<A: Allocator> OwnersOf<A> {
     /// somebody waits. A refused call changes nothing. (Xenomai 4: EVL mutexes, priority ceilings)
     pub fn lower(&mut self, mutex: MutexId, thread: ThreadId) -> Result<(), Refusal>
         ensures answer { result ≡ unless_refused (lower_refusal self.old mutex.0 thread.0) tt }
-        ensures state { self.new ≡ (if is_ok result then changed self.old mutex.0 lowered else self.old) }
+        ensures state { self.new ≡ (if is_ok result then mutex_changed self.old mutex.0 lowered_mutex else self.old) }
     {
         if let Some(refusal) = lower_refusal(&self.mutexes, mutex.0, thread.0) {
             return Err(refusal);
@@ -395,7 +395,7 @@ fn opened<A: Allocator + Clone>(
     kinds: &[MutexKind],
     room: usize,
 ) -> Result<Vec<MutexRecord<A>, A>, AllocError>
-    ensures opened { IfOk result (λ ms. mutexes_of ms.items ≡ map opened kinds.now) }
+    ensures opened_mutex { IfOk result (λ ms. mutexes_of ms.items ≡ map opened_mutex kinds.now) }
     ensures room { IfOk result (λ ms. HaveRoom room ms.items) }
 {
     let mut mutexes = Vec::with_capacity(alloc.clone()?, kinds.len())?;

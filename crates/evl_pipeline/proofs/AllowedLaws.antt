@@ -10,7 +10,7 @@ use Rattle.evl_pipeline.specs.declared.plan.Plan.{Plan}
 use Rattle.evl_base.specs.declared.refusal.Refusal.TheVariants.{Unknown, Invalid, Busy}
 use Rattle.evl_base.specs.declared.stage.Stage.{Stage}
 use Rattle.evl_base.specs.declared.stage.Stage.TheVariants.{Inband, Oob}
-use Rattle.evl_pipeline.specs.Counts.{one_more, counted}
+use Rattle.evl_pipeline.specs.Counts.{one_more, count_raised}
 use Rattle.evl_pipeline.specs.Lines.{AreAllowed, Installed, Pipeline, Side, arrived, callback_on, cleared, freed, has_callback, installed_at, logged, opening, played, posted, request_refusal, requested, side, stalled, unstalled, with_side}
 use Rattle.evl_pipeline.proofs.PortLaws.{at-none, none_there, within}
 use Rattle.evl_pipeline.specs.Plans.{IsSound, PostsNoOob, answer_of, declares, divides, is_allowed, kind_of}

@@ -8,7 +8,7 @@ use Rattle.evl_base.specs.declared.stage.Stage.TheVariants.{Inband, Oob}
 use Rattle.evl_pipeline.specs.declared.answer.Answer.{Answer}
 use Rattle.evl_pipeline.specs.declared.fire.Fire.{Fire}
 use Rattle.evl_pipeline.specs.declared.plan.Plan.{Plan}
-use Rattle.evl_pipeline.specs.Counts.{counted}
+use Rattle.evl_pipeline.specs.Counts.{count_raised}
 use Rattle.evl_pipeline.specs.Lines.{Installed, Side, Pipeline, IsSoundSide, IsSoundPipeline, PlaysOn, Taken, callback_on, cleared, emptied, empty_side, filled, has_callback, installed_at, is_pending, logged, opening, played_on, request_refusal, side, with_side}
 use Rattle.evl_pipeline.specs.NumberSet.{contains}
 use Rattle.evl_pipeline.proofs.NumberSetLaws.{contains-insert, contains-remove, rises-insert, rises-remove}
@@ -93,11 +93,11 @@ module _ {C : Type 0} where
       let s = h.sides stage in
       sound-with p stage _ h (record { lines = s.lines; counts = s.counts; rises = s.rises; clock = s.clock }) (has p stage h)
 
-  pub sound-spurious : (p : Pipeline C) (line : ℕ) → IsSoundPipeline p → IsSoundPipeline (record p { spurious = counted p.spurious line })
+  pub sound-spurious : (p : Pipeline C) (line : ℕ) → IsSoundPipeline p → IsSoundPipeline (record p { spurious = count_raised p.spurious line })
   sound-spurious p line h = record {
-    sides = λ v. elim v as (λ v. IsSoundSide (side (record p { spurious = counted p.spurious line }) v)) [ Oob ↦ h.sides Oob | Inband ↦ h.sides Inband ];
+    sides = λ v. elim v as (λ v. IsSoundSide (side (record p { spurious = count_raised p.spurious line }) v)) [ Oob ↦ h.sides Oob | Inband ↦ h.sides Inband ];
     counts = length-set p.spurious line _ ∙ h.counts;
-    stands = λ v. elim v as (λ v. (other : ℕ) → is_pending (record p { spurious = counted p.spurious line }) v other ≡ true → has_callback (record p { spurious = counted p.spurious line }) v other ≡ true)
+    stands = λ v. elim v as (λ v. (other : ℕ) → is_pending (record p { spurious = count_raised p.spurious line }) v other ≡ true → has_callback (record p { spurious = count_raised p.spurious line }) v other ≡ true)
         [ Oob ↦ h.stands Oob | Inband ↦ h.stands Inband ];
   }
 

@@ -10,7 +10,7 @@ use Rattle.evl_base.specs.declared.stage.Stage.{Stage}
 use Rattle.evl_pipeline.specs.declared.answer.Answer.{Answer}
 use Rattle.evl_pipeline.specs.declared.fire.Fire.{Fire}
 use Rattle.evl_pipeline.specs.declared.plan.Plan.{Plan}
-use Rattle.evl_pipeline.specs.Counts.{one_more, counted}
+use Rattle.evl_pipeline.specs.Counts.{one_more, count_raised}
 use Rattle.evl_pipeline.specs.Lines.{Side, PlaysOn, Taken}
 use Rattle.evl_pipeline.specs.NumberSet.{NumberSet, remove}
 use Rattle.evl_pipeline.specs.Plans.{IsSound, answer_of}
@@ -176,7 +176,7 @@ linked-nothing callbacks line port e = absurd (none_there _ port (at-none line_c
 pub filled-nothing : 0 ≡ count_by is_some (replicate {A = Option Port} line_count None)
 filled-nothing = refl
 
-pub length-counted : (handled : Bool) (counts : List ℕ) (line : ℕ) → length (if handled then counts else counted counts line) ≡ length counts
+pub length-counted : (handled : Bool) (counts : List ℕ) (line : ℕ) → length (if handled then counts else count_raised counts line) ≡ length counts
 length-counted true counts line = refl
 length-counted false counts line = length-set counts line _
 
@@ -191,7 +191,7 @@ module _ {C : Type 0} (ports : List (Option Port)) (callbacks : Slab (Held C)) (
   pub plays-on : (declared : C → ℕ) (plan : C → Plan) (gives : C → Fire → Answer → Type 0) (stalled : Bool) (pending : NumberSet) (unhandled after : List ℕ) (stage : Stage) (now : ℕ) (answer : Answer)
       → answer ≡ answer_of (plan held.callback) (one_more port.count)
       → IsSound (declared held.callback) (plan held.callback)
-      → after ≡ (if answer.handled then unhandled else counted unhandled line)
+      → after ≡ (if answer.handled then unhandled else count_raised unhandled line)
       → gives held.callback (record { line = record { 0 = line }; stage = stage; tag = port.tag; count = one_more port.count; moment = now }) answer
       → PlaysOn declared plan gives (seen_side stalled pending ports callbacks unhandled) stage line now
       (record { line = record { 0 = line }; stage = stage; tag = port.tag; count = one_more port.count; moment = now }) answer
@@ -204,7 +204,7 @@ module _ {C : Type 0} (ports : List (Option Port)) (callbacks : Slab (Held C)) (
     answered = answered;
     after =
         ap (λ counts. seen_side stalled (remove pending line) (slice_set ports line (Some (record { key = port.key; tag = port.tag; count = one_more port.count }))) callbacks counts) is
-        ∙ ap (λ installed. record { stalled = stalled; pending = remove pending line; installed = installed; unhandled = if answer.handled then unhandled else counted unhandled line })
+        ∙ ap (λ installed. record { stalled = stalled; pending = remove pending line; installed = installed; unhandled = if answer.handled then unhandled else count_raised unhandled line })
         (map-set (installed_by callbacks) ports line (Some (record { key = port.key; tag = port.tag; count = one_more port.count }))
         ∙ ap (slice_set (map (installed_by callbacks) ports) line) (shows callbacks (record { key = port.key; tag = port.tag; count = one_more port.count }) held leads_to));
     sound = sound;

@@ -5,7 +5,7 @@ ghost use Rattle.evl_pipeline.specs.Counts.{count_at};
 ghost use Rattle.evl_pipeline.specs.Limits.{line_count};
 ghost use Rattle.evl_pipeline.specs.Lines.{IsBounded, IsSoundPipeline, Plays, PlaysOn, arrived, cleared, free_refusal, freed, has_callback, installed_at, is_pending, next_line, opening, post_refusal, posted, request_refusal, requested, side, stalled, unstalled, with_side};
 ghost use Rattle.evl_pipeline.specs.NumberSet.{least};
-ghost use Rattle.evl_pipeline.specs.Plans.{allowed};
+ghost use Rattle.evl_pipeline.specs.Plans.{allowed_kinds};
 
 mod likeness;
 
@@ -67,7 +67,7 @@ impl<C: Drop, A: Allocator + Clone> PipelineOf<C, A> {
 // The kinds of action that a callback on a line of the stage may declare: an out-of-band one posts no out-of-band
 // lines, and an in-band one hands nothing on to the in-band stage.
 fn allowed(stage: Stage) -> ActionKinds
-    ensures kinds { result.0 ≡ allowed stage }
+    ensures kinds { result.0 ≡ allowed_kinds stage }
 {
     let others = ActionKinds::POST_SEM
         .union(ActionKinds::POST_FLAGS)

@@ -1,6 +1,6 @@
 //! One stage: its stall bit, its log and the callbacks on its lines.
 ghost use Rattle.std.specs.Prelude.{◌≡◌, ◌<◌, ◌≤◌, false, length, replicate, None, is_none, is_some, if◌then◌else◌, IfOk, IfNone, IfSome};
-ghost use Rattle.evl_pipeline.specs.Counts.{count_at, counted};
+ghost use Rattle.evl_pipeline.specs.Counts.{count_at, count_raised};
 ghost use Rattle.evl_pipeline.specs.Limits.{line_count};
 ghost use Rattle.evl_pipeline.specs.Lines.{PlaysOn, Taken, callback_on, cleared, empty_side, filled, logged};
 ghost use Rattle.evl_pipeline.specs.NumberSet.{contains, least};
@@ -159,7 +159,7 @@ fn port_of<A: Allocator>(ports: &ByLine<Option<Port>, A>, line: u16) -> Option<P
 // Counts one more unhandled answer of a line, if the answer is one.
 fn count_unless<A: Allocator>(counts: &mut ByLine<u64, A>, line: u16, handled: bool)
     requires { line < line_count }
-    ensures counted { counts.new.items ≡ (if handled then counts.old.items else counted counts.old.items line) }
+    ensures count_raised { counts.new.items ≡ (if handled then counts.old.items else count_raised counts.old.items line) }
 {
     if !handled {
         let count = counts.get(line);

@@ -3,5 +3,5 @@ use Rattle.evl_kernel.specs.state.States.{Handler}
 use Rattle.evl_plans.specs.declared.planned.Planned.{Planned}
 
 -- what a callback declares, and what it answers
-abbrev pub told : Planned → Handler
-told planned = record { kinds = planned.kinds.0; plan = planned.plan }
+abbrev pub handler_of : Planned → Handler
+handler_of planned = record { kinds = planned.kinds.0; plan = planned.plan }

@@ -5,7 +5,7 @@ ghost use Rattle.toml.specs.Data.{get_member};
 ghost use Rattle.toml.specs.Parse.{parse_document};
 ghost use Rattle.toml.specs.View.{items_view, table_view};
 ghost use Rattle.evl_plans.specs.Banks.{bank_in, bank_of, callbacks_at, callbacks_from, document_bank};
-ghost use Rattle.evl_plans.specs.Told.{told};
+ghost use Rattle.evl_plans.specs.Told.{handler_of};
 
 use crate::callbacks::read_callback_at;
 use crate::faults::BankFault;
@@ -16,7 +16,7 @@ use toml::{Table, Value};
 
 // The callbacks that these values stand for.
 fn read_callbacks(alloc: Global, values: &[Value]) -> Result<Vec<Planned>, BankFault>
-    ensures ok { IfOk result (λ bank. callbacks_from 0 (items_view values.now) ≡ Ok (map told bank.items)) }
+    ensures ok { IfOk result (λ bank. callbacks_from 0 (items_view values.now) ≡ Ok (map handler_of bank.items)) }
     ensures few { IfOk result (λ bank. length bank.items ≤ 64) }
     ensures err { IfErr result (λ e. (e ≡ BankFault.Memory) ⊎ (callbacks_from 0 (items_view values.now) ≡ Err e)) }
 {
@@ -36,7 +36,7 @@ fn read_callbacks(alloc: Global, values: &[Value]) -> Result<Vec<Planned>, BankF
 
 // The callbacks at the key `callback`.
 fn callbacks_at(alloc: Global, table: &Table) -> Result<Vec<Planned>, BankFault>
-    ensures ok { IfOk result (λ bank. callbacks_at (get_member (codes "callback") (table_view table.now)) ≡ Ok (map told bank.items)) }
+    ensures ok { IfOk result (λ bank. callbacks_at (get_member (codes "callback") (table_view table.now)) ≡ Ok (map handler_of bank.items)) }
     ensures few { IfOk result (λ bank. length bank.items ≤ 64) }
     ensures err { IfErr result (λ e. (e ≡ BankFault.Memory) ⊎ (callbacks_at (get_member (codes "callback") (table_view table.now)) ≡ Err e)) }
 {
@@ -51,7 +51,7 @@ fn callbacks_at(alloc: Global, table: &Table) -> Result<Vec<Planned>, BankFault>
 
 // The bank of a document.
 fn read_document(alloc: Global, table: &Table) -> Result<Vec<Planned>, BankFault>
-    ensures ok { IfOk result (λ bank. bank_in (table_view table.now) ≡ Ok (map told bank.items)) }
+    ensures ok { IfOk result (λ bank. bank_in (table_view table.now) ≡ Ok (map handler_of bank.items)) }
     ensures few { IfOk result (λ bank. length bank.items ≤ 64) }
     ensures err { IfErr result (λ e. (e ≡ BankFault.Memory) ⊎ (bank_in (table_view table.now) ≡ Err e)) }
 {
@@ -74,7 +74,7 @@ fn text_of(bytes: &[u8]) -> Option<&str>
 
 // The bank that a text in UTF-8 is.
 fn read_text(alloc: Global, text: &str) -> Result<Vec<Planned>, BankFault>
-    ensures ok { IfOk result (λ bank. document_bank (parse_document text.now) ≡ Ok (map told bank.items)) }
+    ensures ok { IfOk result (λ bank. document_bank (parse_document text.now) ≡ Ok (map handler_of bank.items)) }
     ensures few { IfOk result (λ bank. length bank.items ≤ 64) }
     ensures err { IfErr result (λ e. (e ≡ BankFault.Memory) ⊎ (document_bank (parse_document text.now) ≡ Err e)) }
 {
@@ -94,7 +94,7 @@ fn read_text(alloc: Global, text: &str) -> Result<Vec<Planned>, BankFault>
 /// `Text` for other bytes than UTF-8 or no document, `Document` for another key, `Callback` for the first that can't be
 /// read; `Memory` where a growth was refused.
 pub fn read_bank(alloc: Global, text: &[u8]) -> Result<Vec<Planned>, BankFault>
-    ensures ok { IfOk result (λ bank. bank_of text.now ≡ Ok (map told bank.items)) }
+    ensures ok { IfOk result (λ bank. bank_of text.now ≡ Ok (map handler_of bank.items)) }
     ensures few { IfOk result (λ bank. length bank.items ≤ 64) }
     ensures err { IfErr result (λ e. (e ≡ BankFault.Memory) ⊎ (bank_of text.now ≡ Err e)) }
 {

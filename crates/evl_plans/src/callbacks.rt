@@ -2,7 +2,7 @@
 ghost use Rattle.std.specs.Prelude.{◌≡◌, ◌<◌, IfOk, IfErr, OnOk, Ok, Err};
 ghost use Rattle.toml.specs.View.{table_view, view};
 ghost use Rattle.evl_plans.specs.Banks.{callback_at, callback_in};
-ghost use Rattle.evl_plans.specs.Told.{told};
+ghost use Rattle.evl_plans.specs.Told.{handler_of};
 
 use crate::faults::Part;
 use crate::planned::Planned;
@@ -13,7 +13,7 @@ use toml::{Table, Value};
 
 // The callback of a table.
 fn read_callback(table: &Table) -> Result<Planned, Part>
-    ensures ok { IfOk result (λ planned. callback_in (table_view table.now) ≡ Ok (told planned)) }
+    ensures ok { IfOk result (λ planned. callback_in (table_view table.now) ≡ Ok (handler_of planned)) }
     ensures err { IfErr result (λ e. callback_in (table_view table.now) ≡ Err e) }
 {
     if !has_only_keys(table, &["accepts", "do"]) {
@@ -31,7 +31,7 @@ fn read_callback(table: &Table) -> Result<Planned, Part>
 /// The callback that a value stands for, which is the one with this number, from 0, of 64 at most: a table with
 /// `accepts` (1 where it is left out) and `do` (no rows where it is left out). Else the first part that can't be read.
 pub fn read_callback_at(number: usize, value: &Value) -> Result<Planned, Part>
-    ensures ok { IfOk result (λ planned. callback_at number (view value.now) ≡ Ok (told planned)) }
+    ensures ok { IfOk result (λ planned. callback_at number (view value.now) ≡ Ok (handler_of planned)) }
     ensures few { OnOk result (number < 64) }
     ensures err { IfErr result (λ e. callback_at number (view value.now) ≡ Err e) }
 {

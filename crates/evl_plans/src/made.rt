@@ -2,7 +2,7 @@
 ghost use Rattle.std.specs.Prelude.{◌≡◌, ◌≤◌, length, All};
 ghost use Rattle.evl_pipeline.specs.Plans as plans;
 ghost use Rattle.evl_plans.specs.Plans.{kinds_with, of_rows};
-ghost use Rattle.evl_plans.specs.Told.{told};
+ghost use Rattle.evl_plans.specs.Told.{handler_of};
 
 use crate::planned::Planned;
 use arrayvec::ArrayVec;
@@ -53,7 +53,7 @@ impl Planned {
     pub fn of_rows(accepts: u64, rows: ArrayVec<(u64, Action), 4>) -> Planned
         requires accepts { 1 ≤ accepts }
         requires periods { All (λ row. 1 ≤ row.0) rows.items }
-        ensures { told result ≡ of_rows accepts rows.items }
+        ensures { handler_of result ≡ of_rows accepts rows.items }
     {
         let kinds = ActionKinds::from_bits_retain(kinds_of(rows.as_slice()));
         Planned::new(kinds, Plan { accepts, rows })

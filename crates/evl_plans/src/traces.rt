@@ -1,7 +1,7 @@
 //! The trace of a text over callbacks that keep their plans.
 ghost use Rattle.std.specs.Prelude.{◌≡◌, ◌≤◌, [], false, length, map, Ok, IfOk, IfErr};
 ghost use Rattle.evl_shell.specs.Runs.{trace_of};
-ghost use Rattle.evl_plans.specs.Told.{told};
+ghost use Rattle.evl_plans.specs.Told.{handler_of};
 ghost use Rattle.evl_plans.specs.Traces.{Refuses, Runs};
 
 use crate::planned::Planned;
@@ -20,7 +20,7 @@ fn run_text(
     requires few { length plans.now ≤ 64 }
     requires working { out.old.failed ≡ false }
     requires empty { out.old.writer.items ≡ [] }
-    ensures { IfOk result (λ end. Runs (trace_of (map told plans.now) limit text.now) out.new.writer.items end) }
+    ensures { IfOk result (λ end. Runs (trace_of (map handler_of plans.now) limit text.now) out.new.writer.items end) }
 {
     let mut bank = Vec::new(alloc);
     for plan in plans {
@@ -41,8 +41,8 @@ pub fn trace_plans(
     limit: Option<u32>,
 ) -> Result<Vec<u8>, Fault>
     requires few { length plans.now ≤ 64 }
-    ensures traced { IfOk result (λ trace. trace_of (map told plans.now) limit text.now ≡ Ok trace.items) }
-    ensures refused { IfErr result (λ e. Refuses (trace_of (map told plans.now) limit text.now) e) }
+    ensures traced { IfOk result (λ trace. trace_of (map handler_of plans.now) limit text.now ≡ Ok trace.items) }
+    ensures refused { IfErr result (λ e. Refuses (trace_of (map handler_of plans.now) limit text.now) e) }
 {
     let mut out = Over::new(Vec::new(alloc));
     match run_text(alloc, plans, text, limit, &mut out) {

@@ -8,7 +8,7 @@ use Rattle.evl_scenario.specs.declared.faults.Fault.{Fault}
 use Rattle.evl_scenario.specs.declared.faults.Fault.TheVariants as fault
 use Rattle.evl_scenario.specs.declared.steps.Step.{Step}
 use Rattle.evl_scenario.specs.Faults.{IsRefusal}
-use Rattle.evl_scenario.specs.Scenarios.{Script, step_fault, with_first, steps_of, script_with, opened, step_tables, opening_of, document_script, scenario_of}
+use Rattle.evl_scenario.specs.Scenarios.{Script, step_fault, with_first, steps_of, script_with, script_opened, step_tables, opening_of, document_script, scenario_of}
 use Rattle.evl_scenario.specs.Steps.{step_of}
 
 along : (f e : Fault) → f ≡ e → IsRefusal f → IsRefusal e
@@ -38,7 +38,7 @@ board_fault r e is h = along fault.Board e (same_fault r fault.Board e is h) tt
 text_fault : (r : Result Script Fault) (e : Fault) → r ≡ Err fault.Text → r ≡ Err e → IsRefusal e
 text_fault r e is h = along fault.Text e (same_fault r fault.Text e is h) tt
 
-opened-fault : (o : Option (Board × ℕ)) (values : Option Items) (e : Fault) → opened o values ≡ Err e → IsRefusal e
+opened-fault : (o : Option (Board × ℕ)) (values : Option Items) (e : Fault) → script_opened o values ≡ Err e → IsRefusal e
 opened-fault None values e h = board_fault _ e refl h
 opened-fault (Some o) None e h = board_fault _ e refl h
 opened-fault (Some o) (Some values) e h = script_with-fault o (steps_of 1 values) e (steps_of-fault 1 values) h

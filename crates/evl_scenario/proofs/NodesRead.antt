@@ -10,7 +10,7 @@ use Rattle.evl_base.specs.declared.call.Call.{Call}
 use Rattle.evl_base.specs.declared.call.Call.TheVariants.{Now}
 use Rattle.evl_base.specs.declared.numbers.ThreadId.{ThreadId}
 use Rattle.evl_scenario.specs.declared.steps.Step.{Step}
-use Rattle.evl_scenario.specs.Writings.{Pair, whole, step_pairs, board_pairs}
+use Rattle.evl_scenario.specs.Writings.{Pair, whole_number, step_pairs, board_pairs}
 use Rattle.evl_scenario.proofs.LinesPrinted.{pair_expression}
 
 -- ---- the nodes of a table
@@ -55,10 +55,10 @@ steps_expressions (step ∷ rest) = step_expressions step ++ steps_expressions r
 
 abbrev pub opening_expressions : Board → ℕ → List Expression
 opening_expressions board limit =
-    (([], codes "limit"), key_value (whole limit)) ∷ (([], codes "board"), std_table) ∷ map pair_expression (board_pairs board)
+    (([], codes "limit"), key_value (whole_number limit)) ∷ (([], codes "board"), std_table) ∷ map pair_expression (board_pairs board)
 
 -- the limit and the board
-opening_run : (board : Board) (limit : ℕ) → run (no_nodes, []) (opening_expressions board limit) ≡ Some (opened_nodes (board_nodes board) (whole limit), codes "board" ∷ [])
+opening_run : (board : Board) (limit : ℕ) → run (no_nodes, []) (opening_expressions board limit) ≡ Some (opened_nodes (board_nodes board) (whole_number limit), codes "board" ∷ [])
 unfolding define along_header along_dots at_key
 opening_run board limit = refl
 
@@ -134,7 +134,7 @@ step_members (step ∷ rest) = member (codes "step") (array (steps_data (step �
 
 abbrev pub script_members : Board → ℕ → List Step → Members
 script_members board limit steps =
-    member (codes "board") (table (close (board_nodes board))) (member (codes "limit") (whole limit) (step_members steps))
+    member (codes "board") (table (close (board_nodes board))) (member (codes "limit") (whole_number limit) (step_members steps))
 
 -- a document, and the table that it is
 abbrev pub Makes : List Expression → Members → Type 0
@@ -143,11 +143,11 @@ Makes es ms = (doc : Document) × (run (no_nodes, []) es ≡ Some doc) × (close
 -- the expressions of a scenario make its table
 pub script_made : (board : Board) (limit : ℕ) (steps : List Step) → Makes (opening_expressions board limit ++ steps_expressions steps) (script_members board limit steps)
 script_made board limit [] =
-    let begun : Document = (opened_nodes (board_nodes board) (whole limit), codes "board" ∷ []) in
+    let begun : Document = (opened_nodes (board_nodes board) (whole_number limit), codes "board" ∷ []) in
     (begun, run-append (no_nodes, []) (opening_expressions board limit) [] ∙ rw (opening_run board limit) refl, refl)
 script_made board limit (step ∷ rest) =
     let b = board_nodes board in
-    let l = whole limit in
+    let l = whole_number limit in
     let e = ended b l no_items (step_nodes step) rest in
     let begun : Document = (opened_nodes b l, codes "board" ∷ []) in
     let ran : run begun (steps_expressions (step ∷ rest)) ≡ Some (at_step b l e.0 e.1) =

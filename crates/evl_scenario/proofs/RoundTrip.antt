@@ -11,13 +11,13 @@ use Rattle.toml.specs.Text.{IsLinesText}
 use Rattle.toml.specs.View.{items_of}
 use Rattle.toml.proofs.ReadLines.{AllPrinted}
 use Rattle.evl_base.specs.Board.{board_fits}
-use Rattle.evl_base.specs.Limits.{count_fits, sizes_fit, kind_fits, percent_fits, within}
+use Rattle.evl_base.specs.Limits.{count_fits, sizes_fit, kind_fits, percent_fits, is_within}
 use Rattle.evl_base.specs.declared.board.Board.{Board}
 use Rattle.evl_base.specs.declared.mutex_kind.MutexKind.{MutexKind}
 use Rattle.evl_scenario.specs.Boards.{is_limit}
 use Rattle.evl_scenario.specs.Scenarios.{Script, scenario_of, document_script}
 use Rattle.evl_scenario.specs.Widths.{BoardHolds, StepsFit}
-use Rattle.evl_scenario.specs.Writings.{whole, ring_data, kind_text, board_pairs, pairs_text, tables_text, scenario_text}
+use Rattle.evl_scenario.specs.Writings.{whole_number, ring_data, kind_text, board_pairs, pairs_text, tables_text, scenario_text}
 use Rattle.evl_scenario.specs.declared.steps.Step.{Step}
 use Rattle.evl_scenario.proofs.LinesPrinted.{IsWritten, AreWritten, ArePairs, pair_line, pairs_lines, header_line, pair_printed, pairs_printed, printed-append, lines_read}
 use Rattle.evl_scenario.proofs.NodesRead.{opening_expressions, steps_expressions, script_members, script_made}
@@ -34,18 +34,18 @@ module _ {A : Type 0} (n : ℕ) (data_of : A → Data) (fits : A → Bool) (writ
       let (here, more) = and_parts (fits x) (list_all fits xs) h in
       (writes x here, each_written xs more)
 
-word-fits : (n : ℕ) → is_word n ≡ true → IsWritten 1 (whole n)
+word-fits : (n : ℕ) → is_word n ≡ true → IsWritten 1 (whole_number n)
 word-fits n h = word-written n (ltb-true n (2 ^ 32) h)
 
-count-fits : (n : ℕ) → count_fits n ≡ true → IsWritten 1 (whole n)
+count-fits : (n : ℕ) → count_fits n ≡ true → IsWritten 1 (whole_number n)
 count-fits n h = let small : n < 2 ^ 32 = grind (arith, nat_tests) in word-written n small
 
-percent-fits : (n : ℕ) → percent_fits n ≡ true → IsWritten 1 (whole n)
+percent-fits : (n : ℕ) → percent_fits n ≡ true → IsWritten 1 (whole_number n)
 percent-fits n h = let small : n < 2 ^ 8 = grind (arith, nat_tests) in byte-written n small
 
 ring-fits : (sizes : ℕ × ℕ) → sizes_fit sizes ≡ true → IsWritten 1 (ring_data sizes)
 ring-fits sizes h =
-    let (inbound, outbound) = and_parts (within 1 256 sizes.0) (within 1 256 sizes.1) h in
+    let (inbound, outbound) = and_parts (is_within 1 256 sizes.0) (is_within 1 256 sizes.1) h in
     let first : sizes.0 < 2 ^ 16 = grind (arith, nat_tests) in
     let second : sizes.1 < 2 ^ 16 = grind (arith, nat_tests) in
     (half-written sizes.0 first, (half-written sizes.1 second, tt))
@@ -60,14 +60,14 @@ board_written board w holds =
     let threads : board.threads < 2 ^ 16 = ltb-true board.threads (2 ^ 16) w.threads in (
       (refl, half-written board.threads threads),
       (
-        (refl, each_written 1 whole count_fits count-fits board.sems.items w.sems),
+        (refl, each_written 1 whole_number count_fits count-fits board.sems.items w.sems),
         (
-          (refl, each_written 1 whole is_word word-fits board.flags.items (all_words board.flags.items holds.5)),
+          (refl, each_written 1 whole_number is_word word-fits board.flags.items (all_words board.flags.items holds.5)),
           (
             (refl, each_written 1 ring_data sizes_fit ring-fits board.xbufs.items w.xbufs),
             (
               (refl, each_written 1 (λ kind. string (kind_text kind)) kind_fits kind-fits board.mutexes.items w.mutexes),
-              ((refl, each_written 1 whole percent_fits percent-fits board.groups.items w.groups), tt),
+              ((refl, each_written 1 whole_number percent_fits percent-fits board.groups.items w.groups), tt),
             ),
           ),
         ),
@@ -84,18 +84,18 @@ module _ (board : Board) (limit : ℕ) (steps : List Step) (small : limit < 2 ^ 
   text_lines =
       let inner = pairs_text (board_pairs board) ++ tables_text steps in
       let below_header = pairs_lines true (board_pairs board) (steps_expressions steps) (tables_text steps) pairs (steps_lines steps fit) in
-      let first = pairs_text ((codes "limit", whole limit) ∷ []) in
+      let first = pairs_text ((codes "limit", whole_number limit) ∷ []) in
       let whole_text : scenario_text script ≡ first ++ (codes "\n[board]\n" ++ inner) = simp append_assoc refl in (
         first,
         codes "\n[board]\n" ++ inner,
         whole_text,
-        pair_line false (codes "limit", whole limit) (refl, word-written limit small),
+        pair_line false (codes "limit", whole_number limit) (refl, word-written limit small),
         (codes "\n[board]\n", inner, refl, header_line (codes "board") refl, below_header),
       )
 
   text_printed : AllPrinted (opening_expressions board limit ++ steps_expressions steps)
   text_printed =
-      let first = pair_printed (codes "limit", whole limit) (refl, word-written limit small) in
+      let first = pair_printed (codes "limit", whole_number limit) (refl, word-written limit small) in
       printed-append (opening_expressions board limit) (steps_expressions steps) (first.0, (omega arith, pairs_printed (board_pairs board) pairs)) (steps_printed steps fit)
 
   -- the reader of TOML has the table of the scenario

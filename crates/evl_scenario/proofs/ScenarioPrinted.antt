@@ -17,7 +17,7 @@ use Rattle.evl_base.specs.declared.way.Way.TheVariants.{In, Out}
 use Rattle.evl_base.specs.Calls.{Parts, parts, fields_of, name_of, word_in, parts_of, told_by}
 use Rattle.evl_base.specs.declared.fields.Kind.{Kind}
 use Rattle.evl_base.specs.declared.fields.Kind.TheVariants as kind
-use Rattle.evl_base.specs.Fields.{Value, Key, Values, told_as, told}
+use Rattle.evl_base.specs.Fields.{Value, Key, Values, told_as, keyed_values}
 use Rattle.evl_scenario.specs.Widths.{AllFit, Fits, UntilFits, CallFits, StepFits, StepsFit}
 use Rattle.evl_scenario.specs.Writings.{wide, until_data, data_of, pair_of, call_pairs, step_pairs, pairs_text, tables_text}
 use Rattle.evl_base.specs.declared.call.StepWord.{StepWord}
@@ -84,7 +84,7 @@ fields_bare : (step : StepWord) → are_bare (fields_of step) ≡ true
 fields_bare Pick = refl
 fields_bare _ = refl
 
-told_written : (keys : List Key) (values : Values keys) → are_bare keys ≡ true → AllFit (told keys values) → ArePairs (map pair_of (told keys values))
+told_written : (keys : List Key) (values : Values keys) → are_bare keys ≡ true → AllFit (keyed_values keys values) → ArePairs (map pair_of (keyed_values keys values))
 told_written [] values bare h = tt
 told_written (key ∷ keys) values bare h =
     let (here, more) = and_parts (nat_lt 0 (length key.name) && list_all is_bare key.name) (are_bare keys) bare in

@@ -7,7 +7,7 @@ use Rattle.toml.specs.Data.{Data, string}
 use Rattle.toml.specs.Tables.{at_key, close}
 use Rattle.toml.specs.View.{items_of}
 use Rattle.evl_base.specs.Board.{board_fits}
-use Rattle.evl_base.specs.Limits.{count_fits, sizes_fit, kind_fits, percent_fits, stax_fits, thread_limit, within}
+use Rattle.evl_base.specs.Limits.{count_fits, sizes_fit, kind_fits, percent_fits, stax_fits, thread_limit, is_within}
 use Rattle.evl_base.specs.declared.board.Board.{Board}
 use Rattle.evl_base.specs.declared.mutex_kind.MutexKind.{MutexKind}
 use Rattle.evl_base.specs.declared.mutex_kind.MutexKind.TheVariants.{Normal, Recursive, Ceiling}
@@ -16,7 +16,7 @@ use Rattle.evl_scenario.specs.Scenarios.{are_tables, steps_of, script_of}
 use Rattle.evl_scenario.specs.Tables.{all_given, list_of}
 use Rattle.evl_scenario.specs.Values.{word_from, byte_from, ring_sizes_from, mutex_kind_from}
 use Rattle.evl_scenario.specs.Widths.{AreWords, BoardHolds, StepsFit}
-use Rattle.evl_scenario.specs.Writings.{whole, ring_data, kind_text, list_data}
+use Rattle.evl_scenario.specs.Writings.{whole_number, ring_data, kind_text, list_data}
 use Rattle.evl_scenario.specs.declared.steps.Step.{Step}
 use Rattle.evl_scenario.proofs.NodesRead.{board_nodes, steps_data, script_members}
 use Rattle.evl_scenario.proofs.StepsRead.{step_read}
@@ -37,18 +37,18 @@ module _ {A : Type 0} (data_of : A → Data) (from : Data → Option A) (fits : 
 abbrev pub is_word : ℕ → Bool
 is_word n = nat_lt n (2 ^ 32)
 
-word-read : (n : ℕ) → is_word n ≡ true → word_from (whole n) ≡ Some n
+word-read : (n : ℕ) → is_word n ≡ true → word_from (whole_number n) ≡ Some n
 word-read n h = rw h refl
 
-count-read : (n : ℕ) → count_fits n ≡ true → word_from (whole n) ≡ Some n
+count-read : (n : ℕ) → count_fits n ≡ true → word_from (whole_number n) ≡ Some n
 count-read n h = let small : nat_lt n (2 ^ 32) ≡ true = grind (arith, nat_tests) in rw small refl
 
-percent-read : (n : ℕ) → percent_fits n ≡ true → byte_from (whole n) ≡ Some n
+percent-read : (n : ℕ) → percent_fits n ≡ true → byte_from (whole_number n) ≡ Some n
 percent-read n h = let small : nat_lt n (2 ^ 8) ≡ true = grind (arith, nat_tests) in rw small refl
 
 sizes-read : (sizes : ℕ × ℕ) → sizes_fit sizes ≡ true → ring_sizes_from (ring_data sizes) ≡ Some sizes
 sizes-read sizes h =
-    let (inbound, outbound) = and_parts (within 1 256 sizes.0) (within 1 256 sizes.1) h in
+    let (inbound, outbound) = and_parts (is_within 1 256 sizes.0) (is_within 1 256 sizes.1) h in
     let first : nat_lt sizes.0 (2 ^ 16) ≡ true = grind (arith, nat_tests) in
     let second : nat_lt sizes.1 (2 ^ 16) ≡ true = grind (arith, nat_tests) in
     rw (first, second) refl
@@ -85,8 +85,8 @@ within_limits board h =
     let b = and_parts _ (list_all percent_fits board.groups.items) a.0 in
     let c = and_parts _ (list_all kind_fits board.mutexes.items) b.0 in
     let d = and_parts _ (list_all sizes_fit board.xbufs.items) c.0 in
-    let e = and_parts (within 1 thread_limit board.threads) (list_all count_fits board.sems.items) d.0 in
-    let count : within 1 thread_limit board.threads ≡ true = e.0 in
+    let e = and_parts (is_within 1 thread_limit board.threads) (list_all count_fits board.sems.items) d.0 in
+    let count : is_within 1 thread_limit board.threads ≡ true = e.0 in
     record {
       threads = grind (arith, nat_tests);
       sems = e.1;
@@ -101,11 +101,11 @@ bare_read board fits holds =
     let w = within_limits (bare board) fits in
     rw (
       w.threads,
-      list_read whole word_from count_fits count-read 64 board.sems.items w.sems holds.0,
-      list_read whole word_from is_word word-read 64 board.flags.items (all_words board.flags.items holds.5) holds.1,
+      list_read whole_number word_from count_fits count-read 64 board.sems.items w.sems holds.0,
+      list_read whole_number word_from is_word word-read 64 board.flags.items (all_words board.flags.items holds.5) holds.1,
       list_read ring_data ring_sizes_from sizes_fit sizes-read 16 board.xbufs.items w.xbufs holds.2,
       list_read (λ kind. string (kind_text kind)) mutex_kind_from kind_fits kind_given 32 board.mutexes.items w.mutexes holds.3,
-      list_read whole byte_from percent_fits percent-read 16 board.groups.items w.groups holds.4,
+      list_read whole_number byte_from percent_fits percent-read 16 board.groups.items w.groups holds.4,
       fits,
     ) refl
 

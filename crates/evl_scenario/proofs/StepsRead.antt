@@ -17,13 +17,13 @@ use Rattle.evl_base.specs.declared.way.Way.TheVariants.{In, Out}
 use Rattle.evl_base.specs.Calls.{Parts, parts, call_with, fields_of, parts_of, told_by}
 use Rattle.evl_base.specs.declared.fields.Kind.{Kind}
 use Rattle.evl_base.specs.declared.fields.Kind.TheVariants as kind
-use Rattle.evl_base.specs.Fields.{Value, Key, Values, told_as, told}
+use Rattle.evl_base.specs.Fields.{Value, Key, Values, told_as, keyed_values}
 use Rattle.evl_scenario.specs.Fields.{value_from}
 use Rattle.evl_scenario.specs.Steps.{step_in}
 use Rattle.evl_scenario.specs.Transfers.{bytes_of, way_of}
 use Rattle.evl_scenario.specs.Values.{number_from, until_from, stage_of, thread_from}
 use Rattle.evl_scenario.specs.Widths.{AllFit, Fits, UntilFits, BytesFit, StepFits}
-use Rattle.evl_scenario.specs.Writings.{whole, wide, until_data, data_of}
+use Rattle.evl_scenario.specs.Writings.{whole_number, wide, until_data, data_of}
 use Rattle.evl_scenario.specs.declared.steps.Step.{Step}
 use Rattle.evl_scenario.proofs.NodesRead.{step_nodes}
 use Rattle.evl_scenario.proofs.TextsRead.{below-read, decimal-other, number-read, policy-read, take-read}
@@ -81,7 +81,7 @@ read_back [] values = Some tt
 read_back (key ∷ keys) values =
     option_and_then (λ v. option_map (λ vs. (v, vs)) (read_back keys values.1)) (value_from key.kind (data_of (told_as key.kind values.0)))
 
-values-read : (keys : List Key) (values : Values keys) → AllFit (told keys values) → read_back keys values ≡ Some values
+values-read : (keys : List Key) (values : Values keys) → AllFit (keyed_values keys values) → read_back keys values ≡ Some values
 values-read [] values h = refl
 values-read (key ∷ keys) values h = rw (value-read key.kind values.0 h.0, values-read keys values.1 h.1) refl
 
@@ -90,7 +90,7 @@ abbrev step_back : Parts → ThreadId → Option Step
 step_back (parts word values) who = option_map (λ call. record { who = who; call = call }) (option_map (call_with word) (read_back (fields_of word) values))
 
 -- in a step's table its word, its thread and each of its keys are found; the keys differ
-step_found : (who : ThreadId) (call : Call) → step_in (close (step_nodes (record { who = who; call = call }))) ≡ option_and_then (step_back (parts_of call)) (thread_from (whole who.0))
+step_found : (who : ThreadId) (call : Call) → step_in (close (step_nodes (record { who = who; call = call }))) ≡ option_and_then (step_back (parts_of call)) (thread_from (whole_number who.0))
 unfolding at_key
 step_found who Now = refl
 step_found who _ = refl

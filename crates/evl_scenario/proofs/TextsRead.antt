@@ -20,7 +20,7 @@ use Rattle.evl_base.specs.declared.mutex_kind.MutexKind.{MutexKind}
 use Rattle.evl_base.specs.declared.mutex_kind.MutexKind.TheVariants.{Normal, Recursive, Ceiling}
 use Rattle.evl_scenario.specs.Policies.{policy_of, small_number}
 use Rattle.evl_scenario.specs.Takes.{take_of, mask_of}
-use Rattle.evl_scenario.specs.Values.{text_number, below, is_space, around_space, mutex_kind_of}
+use Rattle.evl_scenario.specs.Values.{text_number, number_below, is_space, around_space, mutex_kind_of}
 use Rattle.evl_scenario.specs.Widths.{PolicyFits, TakeFits}
 use Rattle.evl_scenario.specs.Writings.{kind_text}
 use Rattle.evl_scenario.proofs.Numbers.{number_of_text-at}
@@ -92,10 +92,10 @@ parts_at a b h =
 pub number-read : (n : ℕ) → n < 2 ^ 64 → text_number (decimal n) ≡ Some n
 number-read n small = number_of_text-at n (decimal n) small refl
 
-pub below-read : (bound n : ℕ) → n < bound → below bound (Some n) ≡ Some n
+pub below-read : (bound n : ℕ) → n < bound → number_below bound (Some n) ≡ Some n
 below-read bound n h = rw (lt-ltb n bound h) refl
 
-below_text : (bound n : ℕ) → n < bound → bound ≤ 2 ^ 64 → below bound (text_number (decimal n)) ≡ Some n
+below_text : (bound n : ℕ) → n < bound → bound ≤ 2 ^ 64 → number_below bound (text_number (decimal n)) ≡ Some n
 below_text bound n h small = rw (number-read n (omega arith)) (below-read bound n h)
 
 small-read : (n : ℕ) → n < 2 ^ 8 → small_number (decimal n) ≡ Some n
@@ -168,7 +168,7 @@ plain_below-at zero k h lt = absurd (omega arith)
 plain_below-at (suc n) k h lt =
     let parts = and_parts (is_plain (slice_index lower_digits n)) (plain_below n) h in
     elim (cases_lt k n) [
-      | inl below ↦ plain_below-at n k parts.1 below
+      | inl number_below ↦ plain_below-at n k parts.1 number_below
       | inr top ↦
           let e : k ≡ n = omega arith in
           rw e parts.0

@@ -12,17 +12,17 @@ use Rattle.evl_base.specs.declared.entry.Entry.{Entry}
 use Rattle.evl_scenario.specs.Boards.{is_limit}
 use Rattle.evl_scenario.specs.Scenarios.{scenario_of}
 use Rattle.evl_scenario.specs.Widths.{BoardHolds, StepFits, StepsFit}
-use Rattle.evl_scenario.specs.Writings.{whole, ring_data, kind_text, list_data, pairs_text, opening_text, table_text, tables_text, step_of_entry, script_of_history, has_keys}
+use Rattle.evl_scenario.specs.Writings.{whole_number, ring_data, kind_text, list_data, pairs_text, opening_text, table_text, tables_text, step_of_entry, script_of_history, has_keys}
 use Rattle.evl_scenario.proofs.RoundTrip.{scenario_read_back}
 
 -- the head of a scenario, in the parts in which it is written
 pub opening_written : (board : Board) (limit : ℕ) (old head sems flags xbufs mutexes groups : List ℕ)
     → head ≡ old ++ (codes "limit = " ++ (decimal limit ++ (codes "\n\n[board]\nthreads = " ++ (decimal board.threads ++ codes "\n"))))
-    → sems ≡ head ++ pairs_text ((codes "sems", list_data whole board.sems.items) ∷ [])
-    → flags ≡ sems ++ pairs_text ((codes "flags", list_data whole board.flags.items) ∷ [])
+    → sems ≡ head ++ pairs_text ((codes "sems", list_data whole_number board.sems.items) ∷ [])
+    → flags ≡ sems ++ pairs_text ((codes "flags", list_data whole_number board.flags.items) ∷ [])
     → xbufs ≡ flags ++ pairs_text ((codes "xbufs", list_data ring_data board.xbufs.items) ∷ [])
     → mutexes ≡ xbufs ++ pairs_text ((codes "mutexes", list_data (λ kind. string (kind_text kind)) board.mutexes.items) ∷ [])
-    → groups ≡ mutexes ++ pairs_text ((codes "groups", list_data whole board.groups.items) ∷ [])
+    → groups ≡ mutexes ++ pairs_text ((codes "groups", list_data whole_number board.groups.items) ∷ [])
     → groups ≡ old ++ opening_text board limit
 opening_written board limit old head sems flags xbufs mutexes groups a b c d e f =
     f ∙ rw (e, d, c, b, a) (simp append_assoc refl)

@@ -3,7 +3,7 @@ use Rattle.std.specs.Prelude.{ℕ, ◌&&◌, Bool, List, [], ◌∷◌, if◌the
 use Rattle.toml.specs.Data.{Data, Members, get_member}
 use Rattle.evl_base.specs.Limits.{flags_limit, sem_limit}
 use Rattle.evl_base.specs.Board.{board_fits}
-use Rattle.evl_base.specs.Limits.{within}
+use Rattle.evl_base.specs.Limits.{is_within}
 use Rattle.evl_base.specs.declared.board.Board.{Board}
 use Rattle.evl_scenario.specs.Tables.{has_only, value_at, list_of}
 use Rattle.evl_scenario.specs.Values.{word_from, half_word_from, byte_from, ring_sizes_from, mutex_kind_from}
@@ -44,7 +44,7 @@ board_of ms = if has_only board_keys ms then option_and_then in_range (board_wit
 
 -- how many entries a history may be limited to
 abbrev pub is_limit : ℕ → Bool
-is_limit n = within 1 1000000 n
+is_limit n = is_within 1 1000000 n
 
 -- the limit of a document
 abbrev pub own_limit : Option Data → Option ℕ

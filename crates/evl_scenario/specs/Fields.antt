@@ -24,12 +24,12 @@ value_from kind.Bytes = bytes_from
 value_from kind.Until = until_from
 value_from kind.Truth = truth_from
 
-abbrev pub given : {A : Type 0} → (Data → Option A) → List ℕ → Option A → Members → Option A
-given gives name None table = value_at gives name table
-given gives name (Some default) table = value_or gives default (get_member name table)
+abbrev pub value_given : {A : Type 0} → (Data → Option A) → List ℕ → Option A → Members → Option A
+value_given gives name None table = value_at gives name table
+value_given gives name (Some default) table = value_or gives default (get_member name table)
 
 -- the values of a table at these keys
 abbrev pub values_of : (keys : List Key) → Members → Option (Values keys)
 values_of [] table = Some tt
 values_of (key ∷ keys) table =
-    option_and_then (λ value. option_map (λ values. (value, values)) (values_of keys table)) (given (value_from key.kind) key.name key.default table)
+    option_and_then (λ value. option_map (λ values. (value, values)) (values_of keys table)) (value_given (value_from key.kind) key.name key.default table)

@@ -4,16 +4,16 @@ use Rattle.std.specs.Str.{bytes_eq}
 use Rattle.toml.specs.Data.{Data, as_str}
 use Rattle.evl_base.specs.declared.policy.Policy.{Policy}
 use Rattle.evl_base.specs.declared.policy.Policy.TheVariants.{Fifo, Rr, Quota, Weak}
-use Rattle.evl_scenario.specs.Values.{text_number, below, around_space}
+use Rattle.evl_scenario.specs.Values.{text_number, number_below, around_space}
 
 abbrev pub small_number : List ℕ → Option ℕ
-small_number text = below (2 ^ 8) (text_number text)
+small_number text = number_below (2 ^ 8) (text_number text)
 
 abbrev pub round_robin : List ℕ × List ℕ → Option Policy
 round_robin (prio, slice) = option_and_then (λ n. option_map (Rr n) (text_number slice)) (small_number prio)
 
 abbrev pub quota : List ℕ × List ℕ → Option Policy
-quota (group, prio) = option_and_then (λ n. option_map (Quota n) (small_number prio)) (below (2 ^ 16) (text_number group))
+quota (group, prio) = option_and_then (λ n. option_map (Quota n) (small_number prio)) (number_below (2 ^ 16) (text_number group))
 
 abbrev pub policy_named : List ℕ × List ℕ → Option Policy
 policy_named (word, numbers) =

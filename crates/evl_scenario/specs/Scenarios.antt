@@ -59,14 +59,14 @@ abbrev pub script_with : Board × ℕ → Result (List Step) Fault → Result Sc
 script_with opening (Ok steps) = Ok (record { board = opening.0; limit = opening.1; steps = steps })
 script_with opening (Err e) = Err e
 
-abbrev pub opened : Option (Board × ℕ) → Option Items → Result Script Fault
-opened None values = Err fault.Board
-opened (Some opening) None = Err fault.Board
-opened (Some opening) (Some values) = script_with opening (steps_of 1 values)
+abbrev pub script_opened : Option (Board × ℕ) → Option Items → Result Script Fault
+script_opened None values = Err fault.Board
+script_opened (Some opening) None = Err fault.Board
+script_opened (Some opening) (Some values) = script_with opening (steps_of 1 values)
 
 -- what a document asks to be played
 abbrev pub script_of : Option ℕ → Members → Result Script Fault
-script_of given ms = opened (opening_of given ms) (step_tables (get_member (codes "step") ms))
+script_of given ms = script_opened (opening_of given ms) (step_tables (get_member (codes "step") ms))
 
 abbrev pub document_script : Option ℕ → Option Members → Result Script Fault
 document_script given None = Err fault.Text

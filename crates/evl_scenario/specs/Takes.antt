@@ -4,10 +4,10 @@ use Rattle.std.specs.Str.{bytes_eq}
 use Rattle.toml.specs.Data.{Data, as_str}
 use Rattle.evl_base.specs.declared.take.Take.{Take}
 use Rattle.evl_base.specs.declared.take.Take.TheVariants.{Any, Of, Exact}
-use Rattle.evl_scenario.specs.Values.{text_number, below, around_space}
+use Rattle.evl_scenario.specs.Values.{text_number, number_below, around_space}
 
 abbrev pub mask_of : List ℕ → Option ℕ
-mask_of text = below (2 ^ 32) (text_number text)
+mask_of text = number_below (2 ^ 32) (text_number text)
 
 abbrev pub take_named : List ℕ × List ℕ → Option Take
 take_named (word, mask) =

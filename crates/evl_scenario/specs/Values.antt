@@ -30,17 +30,17 @@ number_from (string text) = text_number text
 number_from _ = None
 
 -- the number, where it is below a bound
-abbrev pub below : ℕ → Option ℕ → Option ℕ
-below bound number = option_and_then (λ n. if nat_lt n bound then Some n else None) number
+abbrev pub number_below : ℕ → Option ℕ → Option ℕ
+number_below bound number = option_and_then (λ n. if nat_lt n bound then Some n else None) number
 
 abbrev pub word_from : Data → Option ℕ
-word_from value = below (2 ^ 32) (number_from value)
+word_from value = number_below (2 ^ 32) (number_from value)
 
 abbrev pub half_word_from : Data → Option ℕ
-half_word_from value = below (2 ^ 16) (number_from value)
+half_word_from value = number_below (2 ^ 16) (number_from value)
 
 abbrev pub byte_from : Data → Option ℕ
-byte_from value = below (2 ^ 8) (number_from value)
+byte_from value = number_below (2 ^ 8) (number_from value)
 
 abbrev pub thread_from : Data → Option ThreadId
 thread_from value = option_map (λ n. record { 0 = n }) (half_word_from value)
@@ -83,7 +83,7 @@ abbrev pub mutex_kind_of : List ℕ → Option MutexKind
 mutex_kind_of text =
     if bytes_eq text (codes "normal") then Some Normal
     else if bytes_eq text (codes "recursive") then Some Recursive
-    else option_map Ceiling (below (2 ^ 8) (option_and_then text_number (past_front (codes "ceiling ") text)))
+    else option_map Ceiling (number_below (2 ^ 8) (option_and_then text_number (past_front (codes "ceiling ") text)))
 
 abbrev pub mutex_kind_from : Data → Option MutexKind
 mutex_kind_from value = option_and_then mutex_kind_of (as_str value)

@@ -27,12 +27,12 @@ use Rattle.evl_scenario.specs.declared.writing.Unwritten.TheVariants as unwritte
 -- ---- values
 
 -- a number of at most 63 bits
-abbrev pub whole : ℕ → Data
-whole n = integer (pos n)
+abbrev pub whole_number : ℕ → Data
+whole_number n = integer (pos n)
 
 -- a number of at most 64 bits: its digits as a text where no integer of TOML is as large
 abbrev pub wide : ℕ → Data
-wide n = if nat_lt n (2 ^ 63) then whole n else string (decimal n)
+wide n = if nat_lt n (2 ^ 63) then whole_number n else string (decimal n)
 
 -- the date of a deadline, or the text `none`
 abbrev pub until_data : Option ℕ → Data
@@ -45,7 +45,7 @@ kind_text Recursive = codes "recursive"
 kind_text (Ceiling prio) = codes "ceiling " ++ decimal prio
 
 abbrev pub ring_data : ℕ × ℕ → Data
-ring_data sizes = array (item (whole sizes.0) (item (whole sizes.1) no_items))
+ring_data sizes = array (item (whole_number sizes.0) (item (whole_number sizes.1) no_items))
 
 abbrev pub list_data : {A : Type 0} → (A → Data) → List A → Data
 list_data one xs = array (items_of (map one xs))
@@ -57,9 +57,9 @@ Pair = List ℕ × Data
 
 -- what is written of a value
 abbrev pub data_of : Told → Data
-data_of (a_byte n) = whole n
-data_of (a_half n) = whole n
-data_of (a_word n) = whole n
+data_of (a_byte n) = whole_number n
+data_of (a_half n) = whole_number n
+data_of (a_word n) = whole_number n
 data_of (a_number n) = wide n
 data_of (a_stage stage) = string (stage_text stage)
 data_of (a_policy policy) = string (policy_text policy)
@@ -77,16 +77,16 @@ abbrev pub call_pairs : Call → List Pair
 call_pairs call = map pair_of (told_in call)
 
 abbrev pub step_pairs : Step → List Pair
-step_pairs step = (codes "do", string (call_word step.call)) ∷ (codes "who", whole step.who.0) ∷ call_pairs step.call
+step_pairs step = (codes "do", string (call_word step.call)) ∷ (codes "who", whole_number step.who.0) ∷ call_pairs step.call
 
 abbrev pub board_pairs : Board → List Pair
 board_pairs board =
-    (codes "threads", whole board.threads)
-    ∷ (codes "sems", list_data whole board.sems.items)
-    ∷ (codes "flags", list_data whole board.flags.items)
+    (codes "threads", whole_number board.threads)
+    ∷ (codes "sems", list_data whole_number board.sems.items)
+    ∷ (codes "flags", list_data whole_number board.flags.items)
     ∷ (codes "xbufs", list_data ring_data board.xbufs.items)
     ∷ (codes "mutexes", list_data (λ kind. string (kind_text kind)) board.mutexes.items)
-    ∷ (codes "groups", list_data whole board.groups.items) ∷ []
+    ∷ (codes "groups", list_data whole_number board.groups.items) ∷ []
 
 -- ---- texts
 
@@ -110,7 +110,7 @@ pairs_text (p ∷ ps) = p.0 ++ (codes " = " ++ (value_text p.1 ++ (codes "\n" ++
 
 -- the limit and the board
 abbrev pub opening_text : Board → ℕ → List ℕ
-opening_text board limit = pairs_text ((codes "limit", whole limit) ∷ []) ++ (codes "\n[board]\n" ++ pairs_text (board_pairs board))
+opening_text board limit = pairs_text ((codes "limit", whole_number limit) ∷ []) ++ (codes "\n[board]\n" ++ pairs_text (board_pairs board))
 
 -- a step's table
 abbrev pub table_text : Step → List ℕ

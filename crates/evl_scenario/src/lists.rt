@@ -21,9 +21,9 @@ pub trait Listed: Copy {
 }
 
 impl Listed for u32 {
-    ghost use Rattle.evl_scenario.specs.Writings.{whole};
+    ghost use Rattle.evl_scenario.specs.Writings.{whole_number};
 
-    ghost data_of = { whole };
+    ghost data_of = { whole_number };
 
     fn write_to<A: Allocator>(self, text: &mut String<A>) -> Result<(), AllocError> {
         text.write(self)
@@ -31,9 +31,9 @@ impl Listed for u32 {
 }
 
 impl Listed for u8 {
-    ghost use Rattle.evl_scenario.specs.Writings.{whole};
+    ghost use Rattle.evl_scenario.specs.Writings.{whole_number};
 
-    ghost data_of = { whole };
+    ghost data_of = { whole_number };
 
     fn write_to<A: Allocator>(self, text: &mut String<A>) -> Result<(), AllocError> {
         text.write(self)

@@ -4,7 +4,7 @@ use Rattle.std.proofs.lemmas.Bool.{false≢true, eqb-true, ne_eqb}
 use Rattle.evl_base.proofs.Plain.{eqb-same}
 use Rattle.evl_bitmap.specs.NumberSet.{NumberSet, contains}
 use Rattle.evl_sched.specs.declared.place.Place.{Place}
-use Rattle.evl_sched.specs.Queues.{IsChain, IsQueued, cell_of, next_in, reached, stands_in}
+use Rattle.evl_sched.specs.Queues.{IsChain, IsQueued, cell_of, next_in, reached_place, stands_in}
 use Rattle.evl_sched.specs.Ranks.{AreApart}
 use Rattle.evl_sched.proofs.QueueLaws.{all_at, all_others, goes_on, is_in, stops}
 use Rattle.evl_sched.proofs.QueuedLaws.{lines-few}
@@ -38,11 +38,11 @@ module _ (links : List (Option ℕ)) (before n : ℕ) (linked : next_in links (c
       by more true at there = first_behind us (subst (λ m. IsChain links (cell_of m) us) (eqb-true u before at) e.1)
       by more false ne there = in-rest us (more there)
 
-  stays : (steps : ℕ) → reached (λ t. t == n) links steps (cell_of before) ≡ cell_of before
+  stays : (steps : ℕ) → reached_place (λ t. t == n) links steps (cell_of before) ≡ cell_of before
   stays zero = refl
   stays (suc steps) = stops (λ t. t == n) links steps (cell_of before) n linked (eqb-same n)
 
-  walk-before : (steps c : ℕ) (ts : List ℕ) → IsChain links c ts → length ts ≤ steps → AreApart ts → is_in ts before ≡ true → reached (λ t. t == n) links steps c ≡ cell_of before
+  walk-before : (steps c : ℕ) (ts : List ℕ) → IsChain links c ts → length ts ≤ steps → AreApart ts → is_in ts before ≡ true → reached_place (λ t. t == n) links steps c ≡ cell_of before
   walk-before steps c [] e few once there = absurd (false≢true there)
   walk-before zero c (u ∷ us) e few once there = absurd (omega (arith, few))
   walk-before (suc steps) c (u ∷ us) e few once there =
@@ -50,19 +50,19 @@ module _ (links : List (Option ℕ)) (before n : ℕ) (linked : next_in links (c
       let ne : (u == n) ≡ false = ne_eqb u n (λ same. all_at (λ v. v ≢ u) us (all_others u us once.0) n (follows c (u ∷ us) e there) (sym same)) in
       by ne (λ there. walk-before steps (cell_of u) us e.1 shorter once.1 there) (u == before) refl there
     where
-      by : (u == n) ≡ false → (is_in us before ≡ true → reached (λ t. t == n) links steps (cell_of u) ≡ cell_of before) → (b : Bool) → (u == before) ≡ b
-          → (b || is_in us before) ≡ true → reached (λ t. t == n) links (suc steps) c ≡ cell_of before
+      by : (u == n) ≡ false → (is_in us before ≡ true → reached_place (λ t. t == n) links steps (cell_of u) ≡ cell_of before) → (b : Bool) → (u == before) ≡ b
+          → (b || is_in us before) ≡ true → reached_place (λ t. t == n) links (suc steps) c ≡ cell_of before
       by ne more true at there =
-          goes_on (λ t. t == n) links steps c u e.0 ne ∙ (ap (λ m. reached (λ t. t == n) links steps (cell_of m)) (eqb-true u before at) ∙ stays steps)
+          goes_on (λ t. t == n) links steps c u e.0 ne ∙ (ap (λ m. reached_place (λ t. t == n) links steps (cell_of m)) (eqb-true u before at) ∙ stays steps)
       by ne more false other there = goes_on (λ t. t == n) links steps c u e.0 ne ∙ more there
 
 pub before-reached : (places : List (Option Place)) (links : List (Option ℕ)) (marks : NumberSet) → IsQueued places links marks → (queue : ℕ) → queue < 612 → (before n : ℕ)
-    → stands_in places queue before ≡ true → next_in links (cell_of before) ≡ Some n → cell_of before ≡ reached (λ t. t == n) links (length places) queue
+    → stands_in places queue before ≡ true → next_in links (cell_of before) ≡ Some n → cell_of before ≡ reached_place (λ t. t == n) links (length places) queue
 before-reached places links marks h queue low before n stands linked =
     sym (walk-before links before n linked (length places) queue (h.line queue) (h.chain queue low) (lines-few places links marks h queue) (h.once queue) (h.member queue before ∙ stands))
 
 -- who is first stands behind the queue's beginning
-pub first-reached : (links : List (Option ℕ)) (steps queue n : ℕ) → next_in links queue ≡ Some n → queue ≡ reached (λ t. t == n) links steps queue
+pub first-reached : (links : List (Option ℕ)) (steps queue n : ℕ) → next_in links queue ≡ Some n → queue ≡ reached_place (λ t. t == n) links steps queue
 first-reached links zero queue n e = refl
 first-reached links (suc steps) queue n e = sym (stops (λ t. t == n) links steps queue n e (eqb-same n))
 

@@ -7,7 +7,7 @@ use Rattle.std.proofs.lemmas.Bool.Decides.{nat_tests}
 use Rattle.evl_bitmap.specs.NumberSet.{NumberSet}
 use Rattle.evl_sched.specs.declared.place.Place.{Place}
 use Rattle.evl_sched.specs.Places.{IsNotAfter, goes_before, place_of}
-use Rattle.evl_sched.specs.Queues.{AreInOrder, IsChain, IsQueued, StandsFirst, cell_of, is_before, next_in, reached, stands_in}
+use Rattle.evl_sched.specs.Queues.{AreInOrder, IsChain, IsQueued, StandsFirst, cell_of, is_before, next_in, reached_place, stands_in}
 use Rattle.evl_sched.proofs.QueueLaws.{all_at, all_from, ends, goes_on, is_in}
 use Rattle.evl_sched.proofs.QueueChanges.{not_after_both, not_before}
 use Rattle.evl_sched.proofs.QueuedLaws.{has_place, lines-few}
@@ -29,25 +29,25 @@ module _ (places : List (Option Place)) (place : Place) (links : List (Option �
   passes u p e h = ap (λ (o : Option Place). option_map_or (λ other. goes_before place other) o false) e ∙ not_first p place (not_after_both p own place h comes_behind)
 
   pub walk-to-last : (steps c : ℕ) (ts : List ℕ) → IsChain links c ts → length ts ≤ steps → AreInOrder places ts → AllByRecursion (λ u. (p : Place) × (place_of places u ≡ Some p)) ts
-      → is_in ts last ≡ true → reached (is_before places place) links steps c ≡ cell_of last
+      → is_in ts last ≡ true → reached_place (is_before places place) links steps c ≡ cell_of last
   walk-to-last steps c [] e few order those there = absurd (false≢true there)
   walk-to-last zero c (u ∷ us) e few order those there = absurd (omega (arith, few))
   walk-to-last (suc steps) c (u ∷ us) e few order those there =
       let shorter : length us ≤ steps = omega (arith, few) in
       by (λ there. walk-to-last steps (cell_of u) us e.1 shorter order.1 those.1 there) (u == last) refl there
     where
-      by : (is_in us last ≡ true → reached (is_before places place) links steps (cell_of u) ≡ cell_of last) → (b : Bool) → (u == last) ≡ b → (b || is_in us last) ≡ true
-          → reached (is_before places place) links (suc steps) c ≡ cell_of last
+      by : (is_in us last ≡ true → reached_place (is_before places place) links steps (cell_of u) ≡ cell_of last) → (b : Bool) → (u == last) ≡ b → (b || is_in us last) ≡ true
+          → reached_place (is_before places place) links (suc steps) c ≡ cell_of last
       by more true at there =
           let here : u ≡ last = eqb-true u last at in
           goes_on (is_before places place) links steps c u e.0 (ap (is_before places place) here ∙ after)
-          ∙ (ap (λ m. reached (is_before places place) links steps (cell_of m)) here ∙ ends (is_before places place) links steps (cell_of last) none)
+          ∙ (ap (λ m. reached_place (is_before places place) links steps (cell_of m)) here ∙ ends (is_before places place) links steps (cell_of last) none)
       by more false ne there =
           let p = those.0 in
           goes_on (is_before places place) links steps c u e.0 (passes u p.0 p.1 (all_at (StandsFirst places u) us order.0 last there p.0 own p.1 its)) ∙ more there
 
 pub last-reached : (places : List (Option Place)) (links : List (Option ℕ)) (marks : NumberSet) → IsQueued places links marks → (place : Place) (queue : ℕ) → queue < 612 → (last : ℕ)
-    → stands_in places queue last ≡ true → next_in links (cell_of last) ≡ None → is_before places place last ≡ false → cell_of last ≡ reached (is_before places place) links (length places) queue
+    → stands_in places queue last ≡ true → next_in links (cell_of last) ≡ None → is_before places place last ≡ false → cell_of last ≡ reached_place (is_before places place) links (length places) queue
 last-reached places links marks h place queue low last stands none after =
     let there : is_in (h.line queue) last ≡ true = h.member queue last ∙ stands in
     let p = has_place places links marks h queue last there in
@@ -56,6 +56,6 @@ last-reached places links marks h place queue low last stands none after =
 
 -- a walk along an empty queue ends at its beginning
 pub empty-reached : (places : List (Option Place)) (place : Place) (links : List (Option ℕ)) (queue : ℕ) (first : Option ℕ) → first ≡ next_in links queue → is_some first ≡ false
-    → queue ≡ reached (is_before places place) links (length places) queue
+    → queue ≡ reached_place (is_before places place) links (length places) queue
 empty-reached places place links queue None at e = sym (ends (is_before places place) links (length places) queue (sym at))
 empty-reached places place links queue (Some t) at e = absurd (false≢true (sym e))

@@ -16,7 +16,7 @@ use Rattle.evl_sched.specs.Policies.{base_rank, group_of}
 use Rattle.evl_sched.specs.Ranks.{IsSoundSched, Ranked, given_to, rank_of}
 use Rattle.evl_sched.specs.Searching.{higher, highest}
 use Rattle.evl_sched.specs.Threads.{is_oob, is_ready, moved_to_end, readied, seat_at, stage_of, without}
-use Rattle.evl_sched.specs.Wanted.{names_group, IsStood, rank_to_run, wanted}
+use Rattle.evl_sched.specs.Wanted.{names_group, IsStood, rank_to_run, wanted_rank}
 use Rattle.evl_sched.proofs.AlikeLaws.{greatest_alike}
 use Rattle.evl_sched.proofs.KeptLaws.{SameElsewhere, kept_moved, kept_out, kept_queued, kept_stages, same_stage}
 use Rattle.evl_sched.proofs.PickLaws.{first-highest}
@@ -58,10 +58,10 @@ abbrev may_with : List Group → Option Seat → Bool
 may_with groups seat = option_map_or (λ (seat : Seat). has_budget groups (group_of seat.policy)) seat false
 
 -- nobody who isn't ready stands
-pub unwanted : (r : Ranked) (t : ℕ) → is_ready r.sched t ≡ false → wanted r t ≡ None
+pub unwanted : (r : Ranked) (t : ℕ) → is_ready r.sched t ≡ false → wanted_rank r t ≡ None
 unwanted r t e = ap (λ (b : Bool). if b then rank_to_run r t else None) e
 
-pub wanted-ready : (r : Ranked) (t : ℕ) → is_ready r.sched t ≡ true → wanted r t ≡ rank_to_run r t
+pub wanted-ready : (r : Ranked) (t : ℕ) → is_ready r.sched t ≡ true → wanted_rank r t ≡ rank_to_run r t
 wanted-ready r t e = ap (λ (b : Bool). if b then rank_to_run r t else None) e
 
 module _ (r : Ranked) (places : List (Option Place)) (h : IsStood r places) (n : ℕ) (seats : List (Option Seat)) (given : List (Option ℕ)) where
@@ -73,12 +73,12 @@ module _ (r : Ranked) (places : List (Option Place)) (h : IsStood r places) (n :
       (now : List (Option Place)) (many : length now ≡ length places) where
     -- one thread changed, and stands where it is wanted
     module _ (ready : List ℕ) (those : (t : ℕ) → (t == n) ≡ false → is_in ready t ≡ is_in r.sched.ready t)
-        (ranks : (t : ℕ) → rank_in now t ≡ (if t == n then wanted (changed ready) n else rank_in places t)) where
-      stood-all : (t : ℕ) → rank_in now t ≡ wanted (changed ready) t
+        (ranks : (t : ℕ) → rank_in now t ≡ (if t == n then wanted_rank (changed ready) n else rank_in places t)) where
+      stood-all : (t : ℕ) → rank_in now t ≡ wanted_rank (changed ready) t
       stood-all t = ranks t ∙ by (t == n) refl
         where
-          by : (b : Bool) → (t == n) ≡ b → (if b then wanted (changed ready) n else rank_in places t) ≡ wanted (changed ready) t
-          by true at = ap (wanted (changed ready)) (sym (eqb-true t n at))
+          by : (b : Bool) → (t == n) ≡ b → (if b then wanted_rank (changed ready) n else rank_in places t) ≡ wanted_rank (changed ready) t
+          by true at = ap (wanted_rank (changed ready)) (sym (eqb-true t n at))
           by false ne = h.stood t ∙ (λ i. wants (sym (those t ne) i) (sym (elsewhere t ne) i) (may_with r.sched.groups) (sym (others t ne) i))
 
       stood-by : IsSoundSched (changed ready) → IsStood (changed ready) now
@@ -91,17 +91,17 @@ module _ (r : Ranked) (places : List (Option Place)) (h : IsStood r places) (n :
         (kept_out r n seats h.sound same given r.sched.groups alike elsewhere ready e)
 
     pub stood_queued : (ready : List ℕ) → ready ≡ (readied (record { seats = seats; ready = r.sched.ready; groups = [] }) n).ready
-        → ((t : ℕ) → rank_in now t ≡ (if t == n then wanted (changed ready) n else rank_in places t)) → IsStood (changed ready) now
+        → ((t : ℕ) → rank_in now t ≡ (if t == n then wanted_rank (changed ready) n else rank_in places t)) → IsStood (changed ready) now
     stood_queued ready e ranks =
         stood-by ready (λ t ne. ap (λ ts. is_in ts t) e ∙ queued-other seats r.sched.ready n t ne) ranks (kept_queued r n seats h.sound same given r.sched.groups alike elsewhere ready e)
 
     pub stood_moved : (ready : List ℕ) → ready ≡ (moved_to_end (record { seats = seats; ready = r.sched.ready; groups = [] }) n).ready
-        → ((t : ℕ) → rank_in now t ≡ (if t == n then wanted (changed ready) n else rank_in places t)) → IsStood (changed ready) now
+        → ((t : ℕ) → rank_in now t ≡ (if t == n then wanted_rank (changed ready) n else rank_in places t)) → IsStood (changed ready) now
     stood_moved ready e ranks =
         stood-by ready (λ t ne. ap (λ ts. is_in ts t) e ∙ moved-other seats r.sched.ready n t ne) ranks (kept_moved r n seats h.sound same given r.sched.groups alike elsewhere ready e)
 
     -- the ready list is the same
-    pub stood_again : (ready : List ℕ) → ready ≡ r.sched.ready → ((t : ℕ) → rank_in now t ≡ (if t == n then wanted (changed r.sched.ready) n else rank_in places t))
+    pub stood_again : (ready : List ℕ) → ready ≡ r.sched.ready → ((t : ℕ) → rank_in now t ≡ (if t == n then wanted_rank (changed r.sched.ready) n else rank_in places t))
         → ((t : ℕ) → is_oob (stage_of r.sched t) ≡ true → is_oob (stage_of (changed r.sched.ready).sched t) ≡ true) → IsStood (changed ready) now
     stood_again ready e ranks more =
         subst (λ ready. IsStood (changed ready) now) (sym e)
@@ -141,7 +141,7 @@ module _ (r : Ranked) (places : List (Option Place)) (h : IsStood r places) (gro
   sound-regrouped = record { same = h.sound.same; oob = h.sound.oob; once = h.sound.once }
 
   -- and all stand anew
-  pub stood_anew : (ready : List ℕ) (now : List (Option Place)) → ready ≡ r.sched.ready → length now ≡ length places → ((t : ℕ) → rank_in now t ≡ wanted (regrouped r.sched.ready) t) → IsStood (regrouped ready) now
+  pub stood_anew : (ready : List ℕ) (now : List (Option Place)) → ready ≡ r.sched.ready → length now ≡ length places → ((t : ℕ) → rank_in now t ≡ wanted_rank (regrouped r.sched.ready) t) → IsStood (regrouped ready) now
   stood_anew ready now e many ranks = subst (λ ready. IsStood (regrouped ready) now) (sym e) (record { sound = sound-regrouped; many = h.many ∙ sym many; few = h.few; stood = ranks })
 
   -- and no group ran out of budget
@@ -154,7 +154,7 @@ module _ (r : Ranked) (places : List (Option Place)) (h : IsStood r places) (gro
           ap (λ (b : Bool). if is_ready r.sched t then (if b then Some (option_map_or (λ rank. rank) (given_to r t) (base_rank seat.policy)) else None) else None) (sym (same (group_of seat.policy)))
 
   -- who names no group stands as before
-  pub stood_ungrouped : (t : ℕ) → names_group r.sched.seats t ≡ false → rank_in places t ≡ wanted (regrouped r.sched.ready) t
+  pub stood_ungrouped : (t : ℕ) → names_group r.sched.seats t ≡ false → rank_in places t ≡ wanted_rank (regrouped r.sched.ready) t
   stood_ungrouped t e = h.stood t ∙ by (seat_at r.sched t) e
     where
       budget : (group : Option ℕ) → is_some group ≡ false → has_budget r.sched.groups group ≡ has_budget groups group
@@ -248,7 +248,7 @@ stood-fresh n m k groups few same alike = record {
 
 -- a thread that leaves isn't wanted any more
 pub out-ranks : (r : Ranked) (places now : List (Option Place)) (n : ℕ) (ts : List ℕ) → r.sched.ready ≡ without ts n → ((t : ℕ) → rank_in now t ≡ (if t == n then None else rank_in places t))
-    → (t : ℕ) → rank_in now t ≡ (if t == n then wanted r n else rank_in places t)
+    → (t : ℕ) → rank_in now t ≡ (if t == n then wanted_rank r n else rank_in places t)
 out-ranks r places now n ts e ranks t =
     ranks t ∙ ap (λ (o : Option ℕ). if t == n then o else rank_in places t) (sym (unwanted r n (ap (λ ts. is_in ts n) e ∙ out-itself ts n)))
 

@@ -18,12 +18,12 @@ abbrev pub rank_to_run : Ranked → ℕ → Option ℕ
 rank_to_run r thread = if may_run r.sched thread then Some (rank_of r thread) else None
 
 -- the rank of a ready thread that may run: a group without budget keeps its threads out of the queues
-abbrev pub wanted : Ranked → ℕ → Option ℕ
-wanted r thread = if is_ready r.sched thread then rank_to_run r thread else None
+abbrev pub wanted_rank : Ranked → ℕ → Option ℕ
+wanted_rank r thread = if is_ready r.sched thread then rank_to_run r thread else None
 
 -- what every call keeps: the ready threads that may run stand in the queues of their ranks
 pub record IsStood (r : Ranked) (places : List (Option Place)) : Type 0 where
   pub sound : IsSoundSched r
   pub many : length r.sched.seats ≡ length places
   pub few : length r.sched.seats < 65536
-  pub stood : (thread : ℕ) → rank_in places thread ≡ wanted r thread
+  pub stood : (thread : ℕ) → rank_in places thread ≡ wanted_rank r thread

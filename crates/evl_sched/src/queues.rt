@@ -2,7 +2,7 @@
 ghost use Rattle.std.specs.Prelude.{◌≡◌, ◌<◌, ◌==◌, ◌&&◌, ℕ, true, false, length, None, Some, IfOk, is_some, replicate, slice_set};
 ghost use Rattle.evl_sched.specs.Places.{place_of};
 ghost use Rattle.evl_bitmap.specs.NumberSet.{contains};
-ghost use Rattle.evl_sched.specs.Queues.{IsFirstPlace, IsQueued, cell_of, is_before, next_in, queue_of, reached, stands_in};
+ghost use Rattle.evl_sched.specs.Queues.{IsFirstPlace, IsQueued, cell_of, is_before, next_in, queue_of, reached_place, stands_in};
 
 use crate::guesses::Guesses;
 use crate::place::Place;
@@ -263,7 +263,7 @@ fn cell_from<A: Allocator>(
 ) -> usize
     requires queued { IsQueued places.now.items links.now.items marks.now }
     requires low { queue < 612 }
-    ensures cell { result ≡ reached (is_before places.now.items place) links.now.items (length places.now.items) queue }
+    ensures cell { result ≡ reached_place (is_before places.now.items place) links.now.items (length places.now.items) queue }
 {
     if first_in(links, queue).is_none() {
         return queue as usize;
@@ -305,7 +305,7 @@ fn cell_for<A: Allocator>(
     queue: u16,
     place: Place,
 ) -> usize
-    ensures cell { result ≡ reached (is_before places.now.items place) links.now.items (length places.now.items) queue }
+    ensures cell { result ≡ reached_place (is_before places.now.items place) links.now.items (length places.now.items) queue }
 {
     before_place(links, places, places.len(), queue as usize, place)
 }
@@ -322,7 +322,7 @@ fn cell_before<A: Allocator>(
 ) -> usize
     requires queued { IsQueued places.now.items links.now.items marks.now }
     requires low { queue < 612 }
-    ensures cell { result ≡ reached (λ other. other == thread) links.now.items (length places.now.items) queue }
+    ensures cell { result ≡ reached_place (λ other. other == thread) links.now.items (length places.now.items) queue }
 {
     if is_linked(first_in(links, queue), thread) {
         return queue as usize;
@@ -370,7 +370,7 @@ fn before_place(
     queue: usize,
     place: Place,
 ) -> usize
-    ensures cell { result ≡ reached (is_before places.now place) links.now steps queue }
+    ensures cell { result ≡ reached_place (is_before places.now place) links.now steps queue }
 {
     let mut cell = queue;
     for _step in 0..steps {
@@ -388,7 +388,7 @@ fn before_place(
 // The cell behind which a thread stands, in a walk of so many steps.
 #[inline(never)]
 fn before_thread(links: &[Option<u16>], steps: usize, queue: usize, thread: u16) -> usize
-    ensures cell { result ≡ reached (λ other. other == thread) links.now steps queue }
+    ensures cell { result ≡ reached_place (λ other. other == thread) links.now steps queue }
 {
     let mut cell = queue;
     for _step in 0..steps {

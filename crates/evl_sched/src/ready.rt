@@ -4,7 +4,7 @@ ghost use Rattle.evl_bitmap.specs.NumberSet.{contains};
 ghost use Rattle.evl_sched.specs.Members.{AreListed, AreMembers};
 ghost use Rattle.evl_sched.specs.Places.{rank_in};
 ghost use Rattle.evl_sched.specs.Threads.{is_oob, is_ready, moved_to_end, readied, stage_of};
-ghost use Rattle.evl_sched.specs.Wanted.{names_group, rank_to_run, wanted};
+ghost use Rattle.evl_sched.specs.Wanted.{names_group, rank_to_run, wanted_rank};
 
 use crate::group::Group;
 use crate::order::Order;
@@ -25,7 +25,7 @@ pub fn queue<A: Allocator>(
 )
     requires { length seats.now.items ≡ length order.old.places }
     ensures ready { order.new.ready ≡ (readied (record { seats = seats.now.items; ready = order.old.ready; groups = [] }) thread).ready }
-    ensures ranks { (t : ℕ) → rank_in order.new.places t ≡ (if t == thread then wanted (record { sched = record { seats = seats.now.items; ready = order.new.ready; groups = groups.now.items }; given = given.now.items }) thread else rank_in order.old.places t) }
+    ensures ranks { (t : ℕ) → rank_in order.new.places t ≡ (if t == thread then wanted_rank (record { sched = record { seats = seats.now.items; ready = order.new.ready; groups = groups.now.items }; given = given.now.items }) thread else rank_in order.old.places t) }
     ensures many { length order.new.places ≡ length order.old.places }
 {
     match search::stage_of(seats, thread) {
@@ -44,7 +44,7 @@ pub fn move_to_end<A: Allocator>(
 )
     requires { length seats.now.items ≡ length order.old.places }
     ensures ready { order.new.ready ≡ (moved_to_end (record { seats = seats.now.items; ready = order.old.ready; groups = [] }) thread).ready }
-    ensures ranks { (t : ℕ) → rank_in order.new.places t ≡ (if t == thread then wanted (record { sched = record { seats = seats.now.items; ready = order.new.ready; groups = groups.now.items }; given = given.now.items }) thread else rank_in order.old.places t) }
+    ensures ranks { (t : ℕ) → rank_in order.new.places t ≡ (if t == thread then wanted_rank (record { sched = record { seats = seats.now.items; ready = order.new.ready; groups = groups.now.items }; given = given.now.items }) thread else rank_in order.old.places t) }
     ensures many { length order.new.places ≡ length order.old.places }
 {
     if order.is_ready(thread) {
@@ -63,7 +63,7 @@ pub fn stand<A: Allocator>(
     thread: u16,
 )
     ensures ready { order.new.ready ≡ order.old.ready }
-    ensures ranks { (t : ℕ) → rank_in order.new.places t ≡ (if t == thread then wanted (record { sched = record { seats = seats.now.items; ready = order.old.ready; groups = groups.now.items }; given = given.now.items }) thread else rank_in order.old.places t) }
+    ensures ranks { (t : ℕ) → rank_in order.new.places t ≡ (if t == thread then wanted_rank (record { sched = record { seats = seats.now.items; ready = order.old.ready; groups = groups.now.items }; given = given.now.items }) thread else rank_in order.old.places t) }
     ensures many { length order.new.places ≡ length order.old.places }
 {
     order.stand(thread, search::rank_to_run(seats, groups, given, thread));
@@ -80,9 +80,9 @@ pub fn stand_grouped<A: Allocator>(
     spare: &mut ThreadSet<A>,
 )
     requires listed { AreListed seats.now.items members.old spare.old }
-    requires others { (t : ℕ) → names_group seats.now.items t ≡ false → rank_in order.old.places t ≡ wanted (record { sched = record { seats = seats.now.items; ready = order.old.ready; groups = groups.now.items }; given = given.now.items }) t }
+    requires others { (t : ℕ) → names_group seats.now.items t ≡ false → rank_in order.old.places t ≡ wanted_rank (record { sched = record { seats = seats.now.items; ready = order.old.ready; groups = groups.now.items }; given = given.now.items }) t }
     ensures ready { order.new.ready ≡ order.old.ready }
-    ensures ranks { (t : ℕ) → rank_in order.new.places t ≡ wanted (record { sched = record { seats = seats.now.items; ready = order.old.ready; groups = groups.now.items }; given = given.now.items }) t }
+    ensures ranks { (t : ℕ) → rank_in order.new.places t ≡ wanted_rank (record { sched = record { seats = seats.now.items; ready = order.old.ready; groups = groups.now.items }; given = given.now.items }) t }
     ensures many { length order.new.places ≡ length order.old.places }
     ensures listed { AreListed seats.now.items members.new spare.new }
 {
@@ -100,9 +100,9 @@ fn stand_members<A: Allocator>(
     next: &mut ThreadSet<A>,
 )
     requires listed { AreListed seats.now.items members.old next.old }
-    requires others { (t : ℕ) → names_group seats.now.items t ≡ false → rank_in order.old.places t ≡ wanted (record { sched = record { seats = seats.now.items; ready = order.old.ready; groups = groups.now.items }; given = given.now.items }) t }
+    requires others { (t : ℕ) → names_group seats.now.items t ≡ false → rank_in order.old.places t ≡ wanted_rank (record { sched = record { seats = seats.now.items; ready = order.old.ready; groups = groups.now.items }; given = given.now.items }) t }
     ensures ready { order.new.ready ≡ order.old.ready }
-    ensures ranks { (t : ℕ) → rank_in order.new.places t ≡ wanted (record { sched = record { seats = seats.now.items; ready = order.old.ready; groups = groups.now.items }; given = given.now.items }) t }
+    ensures ranks { (t : ℕ) → rank_in order.new.places t ≡ wanted_rank (record { sched = record { seats = seats.now.items; ready = order.old.ready; groups = groups.now.items }; given = given.now.items }) t }
     ensures many { length order.new.places ≡ length order.old.places }
     ensures next { AreMembers seats.now.items next.new.members }
     ensures limits { (members.new.limit ≡ members.old.limit) × (next.new.limit ≡ next.old.limit) }
@@ -121,10 +121,10 @@ fn stand_if_grouped<A: Allocator>(
     members: &mut ThreadSet<A>,
     thread: u16,
 )
-    requires stands { names_group seats.now.items thread ≡ false → rank_in order.old.places thread ≡ wanted (record { sched = record { seats = seats.now.items; ready = order.old.ready; groups = groups.now.items }; given = given.now.items }) thread }
+    requires stands { names_group seats.now.items thread ≡ false → rank_in order.old.places thread ≡ wanted_rank (record { sched = record { seats = seats.now.items; ready = order.old.ready; groups = groups.now.items }; given = given.now.items }) thread }
     requires limit { thread < members.old.limit }
     ensures ready { order.new.ready ≡ order.old.ready }
-    ensures ranks { (t : ℕ) → rank_in order.new.places t ≡ (if t == thread then wanted (record { sched = record { seats = seats.now.items; ready = order.old.ready; groups = groups.now.items }; given = given.now.items }) thread else rank_in order.old.places t) }
+    ensures ranks { (t : ℕ) → rank_in order.new.places t ≡ (if t == thread then wanted_rank (record { sched = record { seats = seats.now.items; ready = order.old.ready; groups = groups.now.items }; given = given.now.items }) thread else rank_in order.old.places t) }
     ensures many { length order.new.places ≡ length order.old.places }
     ensures member { names_group seats.now.items thread ≡ true → contains members.new.members thread ≡ true }
     ensures others { (t : ℕ) → t ≢ thread → contains members.new.members t ≡ contains members.old.members t }

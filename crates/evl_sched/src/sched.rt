@@ -4,7 +4,7 @@ ghost use Rattle.evl_base.specs.declared.refusal.Refusal.{Refusal};
 ghost use Rattle.evl_sched.specs.Calls as calls;
 ghost use Rattle.evl_sched.specs.Calls.{attach_refusal, set_policy_refusal, stranger_refusal};
 ghost use Rattle.evl_sched.specs.Charges.{slice_charged, thread_charged};
-ghost use Rattle.evl_sched.specs.Groups.{drained, has_budget, opened, refilled};
+ghost use Rattle.evl_sched.specs.Groups.{drained, has_budget, opened_group, refilled_budgets};
 ghost use Rattle.evl_bitmap.specs.NumberSet.{contains};
 ghost use Rattle.evl_sched.specs.Policies.{group_of};
 ghost use Rattle.evl_sched.specs.Picks.{IsPicked, eligible, is_anyone_eligible, picked};
@@ -290,7 +290,7 @@ impl<A: Allocator> SchedOf<A> {
     /// A thread is blocked no more: it goes to the end of the ready list, where it is attached and out-of-band.
     /// (Xenomai 4: EVL threads)
     pub fn ready(&mut self, thread: ThreadId)
-        ensures state { self.new ≡ calls.ready self.old thread.0 }
+        ensures state { self.new ≡ calls.made_ready self.old thread.0 }
     {
         ready::queue(
             &self.seats,
@@ -413,7 +413,7 @@ fn drain_group<A: Allocator>(groups: &mut Vec<Group, A>, group: u16, delta: u64)
 
 // Each group has its whole budget again; tells whether one of them had none before.
 fn refill_all<A: Allocator>(groups: &mut Vec<Group, A>) -> bool
-    ensures refilled { groups.new.items ≡ refilled groups.old.items }
+    ensures refilled_budgets { groups.new.items ≡ refilled_budgets groups.old.items }
     ensures same { result ≡ false → (other : Option ℕ) → has_budget groups.new.items other ≡ has_budget groups.old.items other }
 {
     let mut is_back = false;
@@ -470,7 +470,7 @@ fn no_ranks<A: Allocator>(alloc: A, threads: usize) -> Result<Vec<Option<u16>, A
 
 // A group of each part, with its whole budget.
 fn opened<A: Allocator>(alloc: A, percents: &[u8]) -> Result<Vec<Group, A>, AllocError>
-    ensures opened { IfOk result (λ gs. gs.items ≡ map opened percents.now) }
+    ensures opened_group { IfOk result (λ gs. gs.items ≡ map opened_group percents.now) }
 {
     let mut groups = Vec::with_capacity(alloc, percents.len())?;
     for percent in percents {

@@ -10,7 +10,7 @@ use Rattle.evl_base.specs.declared.reply.Reply.{Reply}
 use Rattle.evl_kernel.specs.histories.Histories.{History, Run, Step, IsLegal}
 use Rattle.evl_kernel.specs.state.Limits.{play_limit}
 use Rattle.evl_kernel.specs.state.Openings.{opening}
-use Rattle.evl_kernel.specs.histories.Replays.{Outcome, stepped}
+use Rattle.evl_kernel.specs.histories.Replays.{Outcome, step_outcome}
 use Rattle.evl_kernel.specs.calls.Serving.{answer}
 use Rattle.evl_kernel.specs.state.States.{State, Handler}
 use Rattle.evl_kernel.proofs.histories.Determined.{follows_one_way}
@@ -21,7 +21,7 @@ use Rattle.evl_scenario.specs.Lines.{board_line_of, board_line_text}
 use Rattle.evl_scenario.specs.Traces.{entry_lines, history_trace, lines_behind}
 use Rattle.evl_scenario.specs.Writings.{step_of_entry}
 use Rattle.evl_shell.specs.Histories.{AreSound, IsPlayedAs, HistoriesPlayAgain, PlaysAgain, StaxesLeaveNoTrace}
-use Rattle.evl_shell.specs.Runs.{Moment, Turn, turn, entered, turn_lines, lines_from, beginning, trace_with}
+use Rattle.evl_shell.specs.Runs.{Moment, Turn, turn, turn_entered, turn_lines, lines_from, beginning, trace_with}
 use Rattle.evl_shell.proofs.TurnLemmas.{turn-entered}
 
 -- what plays stand behind an entry's own
@@ -35,10 +35,10 @@ module _ (board : Board) (bank : List Handler) (sound : AreSound bank) where
   -- the step that a call of a history made is the one that is computed
   computed : (done : List Entry) (played : List Play) (now : State) (caller : ℕ) (asked : Call) (reply : Result Reply Refusal) (own : List Play) (after : State)
       → Run (opening board bank) done played now → Step now caller asked reply own after
-      → stepped now caller asked ≡ record { reply = reply; plays = own; touches = (stepped now caller asked).touches; after = after }
+      → step_outcome now caller asked ≡ record { reply = reply; plays = own; touches = (step_outcome now caller asked).touches; after = after }
   computed done played now caller asked reply own after legal step =
       let h : History = record { board = board; bank = bank; entries = done; plays = played; state = now } in
-      let o = stepped now caller asked in
+      let o = step_outcome now caller asked in
       let made = every_step h sound legal caller asked in
       let same = follows_one_way now (answer now caller asked) reply o.reply own o.plays after o.after step made.0 in
       step_is_stepped now caller asked reply own after step (subst (λ (ps : List Play). length ps ≤ play_limit) (sym same.1) made.1)
@@ -51,9 +51,9 @@ module _ (board : Board) (bank : List Handler) (sound : AreSound bank) where
   lines_again limit count done played now (entry ∷ rest) plays end legal (own, others, mid, split, step, run) within =
       let m : Moment = record { entries = count; state = now } in
       let after : Moment = record { entries = count + 1; state = mid } in
-      let o : Outcome = record { reply = entry.reply; plays = own; touches = (stepped now entry.caller.0 entry.call).touches; after = mid } in
-      let is : stepped now entry.caller.0 entry.call ≡ o = computed done played now entry.caller.0 entry.call entry.reply own mid legal step.1 in
-      let turned : turn limit m (step_of_entry entry) ≡ entered m o = turn-entered limit m (step_of_entry entry) o (λ e. absurd (omega (arith, e, within))) is in
+      let o : Outcome = record { reply = entry.reply; plays = own; touches = (step_outcome now entry.caller.0 entry.call).touches; after = mid } in
+      let is : step_outcome now entry.caller.0 entry.call ≡ o = computed done played now entry.caller.0 entry.call entry.reply own mid legal step.1 in
+      let turned : turn limit m (step_of_entry entry) ≡ turn_entered m o = turn-entered limit m (step_of_entry entry) o (λ e. absurd (omega (arith, e, within))) is in
       let next : lines_from limit after (map step_of_entry rest) ≡ lines_behind (count + 1) rest others =
       lines_again limit (count + 1) (done ++ entry ∷ []) (played ++ own) mid rest others end
       (run_more (opening board bank) done played now entry own mid legal step) run (omega (arith, within)) in

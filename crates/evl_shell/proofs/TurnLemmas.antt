@@ -8,11 +8,11 @@ use Rattle.evl_base.specs.declared.refusal.Refusal.TheVariants.{NoMemory, Histor
 use Rattle.evl_base.specs.declared.reply.Reply.{Reply}
 use Rattle.evl_kernel.specs.histories.Histories.{History}
 use Rattle.evl_kernel.specs.state.KernelViews.{KernelView, AddsEntry, makes_entry, entry_of}
-use Rattle.evl_kernel.specs.histories.Replays.{Outcome, stepped}
+use Rattle.evl_kernel.specs.histories.Replays.{Outcome, step_outcome}
 use Rattle.evl_kernel.proofs.settling.Walking.{step_is_stepped}
 use Rattle.evl_scenario.specs.declared.steps.Step.{Step}
 use Rattle.evl_shell.specs.Moments.{moment, Tells, wants_memory, number_after}
-use Rattle.evl_shell.specs.Runs.{Moment, Turn, turned_away, entered, turn}
+use Rattle.evl_shell.specs.Runs.{Moment, Turn, turned_away, turn_entered, turn}
 
 chosen-false : {A : Type 0} (b : Bool) (x y : A) → b ≡ false → (if b then x else y) ≡ y
 chosen-false true x y h = cc
@@ -26,14 +26,14 @@ chosen-true false x y h = cc
 pub turn-away : (limit : ℕ) (m : Moment) (step : Step) → m.entries ≡ limit → turn limit m step ≡ turned_away m
 unfolding turn
 turn-away limit m step e =
-    chosen-true (m.entries == limit) (turned_away m) (entered m (stepped m.state step.who.0 step.call)) (eq-eqb m.entries limit e)
+    chosen-true (m.entries == limit) (turned_away m) (turn_entered m (step_outcome m.state step.who.0 step.call)) (eq-eqb m.entries limit e)
 
 -- the turn of a step where it is not
-pub turn-entered : (limit : ℕ) (m : Moment) (step : Step) (o : Outcome) → (m.entries ≡ limit → ⊥) → stepped m.state step.who.0 step.call ≡ o → turn limit m step ≡ entered m o
+pub turn-entered : (limit : ℕ) (m : Moment) (step : Step) (o : Outcome) → (m.entries ≡ limit → ⊥) → step_outcome m.state step.who.0 step.call ≡ o → turn limit m step ≡ turn_entered m o
 unfolding turn
 turn-entered limit m step o below is =
-    chosen-false (m.entries == limit) (turned_away m) (entered m (stepped m.state step.who.0 step.call)) (ne_eqb m.entries limit below)
-    ∙ ap (λ (x : Outcome). entered m x) is
+    chosen-false (m.entries == limit) (turned_away m) (turn_entered m (step_outcome m.state step.who.0 step.call)) (ne_eqb m.entries limit below)
+    ∙ ap (λ (x : Outcome). turn_entered m x) is
 
 -- an answer that stands for want of memory is that refusal
 pub wanted : (reply : Result Reply Refusal) → wants_memory reply ≡ true → reply ≡ Err NoMemory
@@ -69,8 +69,8 @@ enters : {C : Type 0} (old new : KernelView C) (step : Step) (limit : ℕ) (repl
 enters old new step limit reply below added bound =
     let plays = added.0 in
     let by = added.1 in
-    let o : Outcome = record { reply = reply; plays = plays; touches = (stepped old.history.state step.who.0 step.call).touches; after = new.history.state } in
-    let is : stepped old.history.state step.who.0 step.call ≡ o =
+    let o : Outcome = record { reply = reply; plays = plays; touches = (step_outcome old.history.state step.who.0 step.call).touches; after = new.history.state } in
+    let is : step_outcome old.history.state step.who.0 step.call ≡ o =
     step_is_stepped old.history.state step.who.0 step.call reply plays new.history.state by.extends.step.1 by.few in
     let count : length new.history.entries ≡ length old.history.entries + 1 =
     ap (λ (es : List Entry). length es) by.extends.entries ∙ length-append old.history.entries (entry_of step.who.0 step.call reply plays ∷ []) in

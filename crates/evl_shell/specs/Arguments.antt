@@ -19,13 +19,13 @@ abbrev pub grammar : App
 grammar = with_rule (with_rule (new_app (codes "evl")) file_rule) limit_rule
 
 -- `-` names standard input, and no file
-abbrev pub named : Option Text → Option Text
-named None = None
-named (Some word) = if bytes_eq word (codes "-") then None else Some word
+abbrev pub file_named : Option Text → Option Text
+file_named None = None
+file_named (Some word) = if bytes_eq word (codes "-") then None else Some word
 
 -- the file that the words name
 abbrev pub file_of : List Text → Option Text
-file_of words = named (first_of (codes "FILE") (matches_of grammar words))
+file_of words = file_named (first_of (codes "FILE") (matches_of grammar words))
 
 -- the number that a text says
 abbrev pub number_of : Text → Option ℕ

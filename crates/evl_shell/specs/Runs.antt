@@ -7,7 +7,7 @@ use Rattle.evl_base.specs.declared.reply.Reply.{Reply}
 use Rattle.evl_pipeline.specs.declared.plan.Plan.{Plan}
 use Rattle.evl_kernel.specs.state.States.{State, Handler}
 use Rattle.evl_kernel.specs.state.Openings.{opening}
-use Rattle.evl_kernel.specs.histories.Replays.{Outcome, stepped}
+use Rattle.evl_kernel.specs.histories.Replays.{Outcome, step_outcome}
 use Rattle.evl_scenario.specs.declared.faults.Fault.{Fault}
 use Rattle.evl_scenario.specs.declared.steps.Step.{Step}
 use Rattle.evl_scenario.specs.Lines.{board_line_of, board_line_text, line_text, play_lines}
@@ -30,8 +30,8 @@ abbrev pub turned_away : Moment → Turn
 turned_away m = record { number = None; answer = Err HistoryFull; plays = []; after = m }
 
 -- a step that makes an entry
-abbrev pub entered : Moment → Outcome → Turn
-entered m o = record {
+abbrev pub turn_entered : Moment → Outcome → Turn
+turn_entered m o = record {
   number = Some (m.entries + 1);
   answer = o.reply;
   plays = o.plays;
@@ -40,7 +40,7 @@ entered m o = record {
 
 -- the turn of a step under a limit
 unfoldable pub turn : ℕ → Moment → Step → Turn
-turn limit m step = if m.entries == limit then turned_away m else entered m (stepped m.state step.who.0 step.call)
+turn limit m step = if m.entries == limit then turned_away m else turn_entered m (step_outcome m.state step.who.0 step.call)
 
 -- the line of a step, and those of its plays
 abbrev pub turn_lines : Step → Turn → List ℕ

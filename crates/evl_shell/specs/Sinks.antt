@@ -20,8 +20,8 @@ Takes old new bytes false = Appends old new bytes
 Takes old new bytes true = TakesPrefix old new bytes
 
 -- what waits of these bytes: a chunk of 4096 bytes or more is handed on
-abbrev pub kept : List ℕ → List ℕ
-kept bytes = if nat_lt (length bytes) 4096 then bytes else []
+abbrev pub kept_bytes : List ℕ → List ℕ
+kept_bytes bytes = if nat_lt (length bytes) 4096 then bytes else []
 
 -- what waited and then the bytes: a front part was told, and the rest waits
 pub record Passes (old : Option (List ℕ)) (waited : List ℕ) (new : Option (List ℕ)) (waiting bytes : List ℕ) : Type 0 where

@@ -1,7 +1,7 @@
 //! The words of the program: `[FILE] [--limit N]`.
 ghost use Rattle.std.specs.Prelude.{◌≡◌, IfOk, map, option_map};
 ghost use Rattle.clap.specs.Words.{FailsBy, app_of, fault_of, found_of, matches_of, rows_of};
-ghost use Rattle.evl_shell.specs.Arguments.{file_of, grammar, limit_of, named};
+ghost use Rattle.evl_shell.specs.Arguments.{file_of, grammar, limit_of, file_named};
 
 use clap::{Arg, ArgAction, ArgMatches, Command, Error, value_parser};
 use std::alloc::{AllocError, Global};
@@ -46,7 +46,7 @@ fn parse_words<'a>(alloc: Global, words: &'a [&'a str]) -> Result<ArgMatches<'a>
 
 // The file that a word names: `-` is standard input.
 fn file_named<'a>(word: Option<&'a str>) -> Option<&'a str>
-    ensures { option_map (λ s. s.now) result ≡ named (option_map (λ s. s.now) word.entry) }
+    ensures { option_map (λ s. s.now) result ≡ file_named (option_map (λ s. s.now) word.entry) }
 {
     match word {
         None | Some("-") => None,

@@ -1,7 +1,7 @@
 //! A trace on its way to a sink, in chunks.
 ghost use Rattle.std.specs.Prelude.{◌≡◌, ◌++◌, [], true, false, OnOk, OnErr, IfErr};
 ghost use Rattle.std.specs.Io.KnownBytes.{Appends};
-ghost use Rattle.evl_shell.specs.Sinks.{TakesPrefix, Passes, kept};
+ghost use Rattle.evl_shell.specs.Sinks.{TakesPrefix, Passes, kept_bytes};
 ghost use Rattle.evl_shell.specs.Faults.{Stopped};
 
 use crate::sinks::{Sink, SinkFailed, put_all};
@@ -67,7 +67,7 @@ impl Chunks {
     pub fn put<S: Sink>(&mut self, text: &str, out: &mut S) -> Result<(), Fault>
         requires working { S.has_failed out.old ≡ false }
         ensures ok { OnOk result (Passes (S.told out.old) self.old (S.told out.new) self.new text.now) }
-        ensures waits { OnOk result (self.new ≡ kept (self.old ++ text.now)) }
+        ensures waits { OnOk result (self.new ≡ kept_bytes (self.old ++ text.now)) }
         ensures working { OnOk result (S.has_failed out.new ≡ false) }
         ensures stopped { IfErr result (Stopped (S.told out.old) self.old (S.told out.new) text.now (S.has_failed out.new)) }
         ensures empty { OnErr result (self.new ≡ []) }

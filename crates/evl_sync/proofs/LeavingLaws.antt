@@ -3,7 +3,7 @@ use Rattle.std.proofs.Common.{◌≡◌, ℕ, suc, ◌+◌, ◌==◌, nat_lt, Bo
 use Rattle.std.specs.List.{list_any, position, position_or_len}
 use Rattle.std.proofs.lemmas.Bool.Decides.{nat_tests}
 use Rattle.std.proofs.lemmas.Bool.{eqb-true, or_parts}
-use Rattle.evl_sync.specs.Queues.{dropped, stands_in, AreRanked}
+use Rattle.evl_sync.specs.Queues.{dropped_by, stands_in, AreRanked}
 use Rattle.evl_sync.proofs.QueueLaws.{place_found, place_behind}
 
 one_later : (m n : ℕ) → nat_lt (1 + m) (suc n) ≡ nat_lt m n
@@ -39,22 +39,22 @@ module _ {A : Type 0} where
   pub stands_nowhere : (thread : A → ℕ) (t : ℕ) (ws : List A) → None ≡ position (λ w. thread w == t) ws → false ≡ stands_in thread t ws
   stands_nowhere thread t ws e = no-place _ _ e ∙ any-at (λ w. thread w == t) ws
 
-  away-same : (thread : A → ℕ) (t : ℕ) (ws : List A) → stands_in thread t ws ≡ false → dropped thread t ws ≡ ws
+  away-same : (thread : A → ℕ) (t : ℕ) (ws : List A) → stands_in thread t ws ≡ false → dropped_by thread t ws ≡ ws
   away-same thread t [] e = refl
   away-same thread t (w ∷ ws) e =
-      ap (λ b. cond (not b) (w ∷ dropped thread t ws) (dropped thread t ws)) ((or_parts (thread w == t) (stands_in thread t ws) e).0)
+      ap (λ b. cond (not b) (w ∷ dropped_by thread t ws) (dropped_by thread t ws)) ((or_parts (thread w == t) (stands_in thread t ws) e).0)
       ∙ ap (λ xs. w ∷ xs) (away-same thread t ws ((or_parts (thread w == t) (stands_in thread t ws) e).1))
 
-  removed : (thread rank : A → ℕ) (t : ℕ) (ws : List A) → AreRanked thread rank ws → remove ws (position_or_len (λ w. thread w == t) ws) ≡ dropped thread t ws
+  removed : (thread rank : A → ℕ) (t : ℕ) (ws : List A) → AreRanked thread rank ws → remove ws (position_or_len (λ w. thread w == t) ws) ≡ dropped_by thread t ws
   removed thread rank t [] h = refl
   removed thread rank t (w ∷ ws) h =
-      elim (thread w == t) as (λ b. (thread w == t) ≡ b → remove (w ∷ ws) (cond (not b) (1 + position_or_len (λ v. thread v == t) ws) 0) ≡ cond (not b) (w ∷ dropped thread t ws) (dropped thread t ws)) [
+      elim (thread w == t) as (λ b. (thread w == t) ≡ b → remove (w ∷ ws) (cond (not b) (1 + position_or_len (λ v. thread v == t) ws) 0) ≡ cond (not b) (w ∷ dropped_by thread t ws) (dropped_by thread t ws)) [
         | true ↦ λ at. sym (away-same thread t ws (subst (λ q. stands_in thread q ws ≡ false) (eqb-true (thread w) t at) h.1))
         | false ↦ λ at. ap (λ k. remove (w ∷ ws) k) (by_suc (position_or_len (λ v. thread v == t) ws)) ∙ ap (λ xs. w ∷ xs) (removed thread rank t ws h.2)
       ] refl
 
-  pub dropped_found : (thread rank : A → ℕ) (t n : ℕ) (ws after : List A) → after ≡ remove ws n → AreRanked thread rank ws → Some n ≡ position (λ w. thread w == t) ws → after ≡ dropped thread t ws
+  pub dropped_found : (thread rank : A → ℕ) (t n : ℕ) (ws after : List A) → after ≡ remove ws n → AreRanked thread rank ws → Some n ≡ position (λ w. thread w == t) ws → after ≡ dropped_by thread t ws
   dropped_found thread rank t n ws after left h e = left ∙ ap (λ k. remove ws k) (place_found (λ w. thread w == t) ws n e) ∙ removed thread rank t ws h
 
-  pub dropped_nowhere : (thread : A → ℕ) (t : ℕ) (ws : List A) → None ≡ position (λ w. thread w == t) ws → ws ≡ dropped thread t ws
+  pub dropped_nowhere : (thread : A → ℕ) (t : ℕ) (ws : List A) → None ≡ position (λ w. thread w == t) ws → ws ≡ dropped_by thread t ws
   dropped_nowhere thread t ws e = sym (away-same thread t ws (sym (stands_nowhere thread t ws e)))

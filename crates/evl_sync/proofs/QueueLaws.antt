@@ -7,7 +7,7 @@ use Rattle.std.proofs.lemmas.Map.Steps.{length-le_from_distinct_below}
 use Rattle.std.proofs.lemmas.Map.Keys.{IsDistinct-cons}
 use Rattle.evl_base.proofs.Plain.{eqb-same, eqb-swap}
 use Rattle.evl_base.specs.Limits.{thread_limit}
-use Rattle.evl_sync.specs.Queues.{enqueued, dropped, stands_in, rest_of, AreRanked, IsKept}
+use Rattle.evl_sync.specs.Queues.{enqueued_by, dropped_by, stands_in, rest_of, AreRanked, IsKept}
 
 or_swap : (a b c : Bool) → (a || (b || c)) ≡ (b || (a || c))
 or_swap true true c = refl
@@ -23,18 +23,18 @@ none_twice = tt
 
 module _ {A : Type 0} where
   -- the waiter came, and nobody else
-  pub stands-enqueued : (thread rank : A → ℕ) (w : A) (ws : List A) (t : ℕ) → stands_in thread t (enqueued rank w ws) ≡ ((thread w == t) || stands_in thread t ws)
+  pub stands-enqueued : (thread rank : A → ℕ) (w : A) (ws : List A) (t : ℕ) → stands_in thread t (enqueued_by rank w ws) ≡ ((thread w == t) || stands_in thread t ws)
   stands-enqueued thread rank w [] t = refl
   stands-enqueued thread rank w (v ∷ vs) t =
-      elim (nat_lt (rank v) (rank w)) as (λ b. stands_in thread t (if b then w ∷ v ∷ vs else v ∷ enqueued rank w vs) ≡ ((thread w == t) || ((thread v == t) || stands_in thread t vs))) [
+      elim (nat_lt (rank v) (rank w)) as (λ b. stands_in thread t (if b then w ∷ v ∷ vs else v ∷ enqueued_by rank w vs) ≡ ((thread w == t) || ((thread v == t) || stands_in thread t vs))) [
         | true ↦ refl
         | false ↦ ap (λ b. (thread v == t) || b) (stands-enqueued thread rank w vs t) ∙ or_swap (thread v == t) (thread w == t) (stands_in thread t vs)
       ]
 
-  pub all-enqueued : (P : A → Type 0) (rank : A → ℕ) (w : A) (ws : List A) → P w → AllByRecursion P ws → AllByRecursion P (enqueued rank w ws)
+  pub all-enqueued : (P : A → Type 0) (rank : A → ℕ) (w : A) (ws : List A) → P w → AllByRecursion P ws → AllByRecursion P (enqueued_by rank w ws)
   all-enqueued P rank w [] p h = (p, tt)
   all-enqueued P rank w (v ∷ vs) p h =
-      elim (nat_lt (rank v) (rank w)) as (λ b. AllByRecursion P (if b then w ∷ v ∷ vs else v ∷ enqueued rank w vs)) [
+      elim (nat_lt (rank v) (rank w)) as (λ b. AllByRecursion P (if b then w ∷ v ∷ vs else v ∷ enqueued_by rank w vs)) [
         | true ↦ (p, h)
         | false ↦ (h.0, all-enqueued P rank w vs p h.1)
       ]
@@ -43,10 +43,10 @@ module _ {A : Type 0} where
   at_most rank n m [] l h = tt
   at_most rank n m (w ∷ ws) l h = (omega (arith, l, h.0), at_most rank n m ws l h.1)
 
-  pub ranked-enqueued : (thread rank : A → ℕ) (w : A) (ws : List A) → stands_in thread (thread w) ws ≡ false → AreRanked thread rank ws → AreRanked thread rank (enqueued rank w ws)
+  pub ranked-enqueued : (thread rank : A → ℕ) (w : A) (ws : List A) → stands_in thread (thread w) ws ≡ false → AreRanked thread rank ws → AreRanked thread rank (enqueued_by rank w ws)
   ranked-enqueued thread rank w [] e h = (tt, refl, tt)
   ranked-enqueued thread rank w (v ∷ vs) e h =
-      elim (nat_lt (rank v) (rank w)) as (λ b. nat_lt (rank v) (rank w) ≡ b → AreRanked thread rank (if b then w ∷ v ∷ vs else v ∷ enqueued rank w vs)) [
+      elim (nat_lt (rank v) (rank w)) as (λ b. nat_lt (rank v) (rank w) ≡ b → AreRanked thread rank (if b then w ∷ v ∷ vs else v ∷ enqueued_by rank w vs)) [
         | true ↦ λ l. ((less (rank v) (rank w) l, at_most rank (rank v) (rank w) vs (less (rank v) (rank w) l) h.0), e, h)
         | false ↦ λ l. (
           all-enqueued (λ u. rank u ≤ rank v) rank w vs (ltb-false (rank v) (rank w) l) h.0,
@@ -55,7 +55,7 @@ module _ {A : Type 0} where
         )
       ] refl
 
-  pub kept-enqueued : (thread rank : A → ℕ) (w : A) (ws : List A) → stands_in thread (thread w) ws ≡ false → thread w < thread_limit → IsKept thread rank ws → IsKept thread rank (enqueued rank w ws)
+  pub kept-enqueued : (thread rank : A → ℕ) (w : A) (ws : List A) → stands_in thread (thread w) ws ≡ false → thread w < thread_limit → IsKept thread rank ws → IsKept thread rank (enqueued_by rank w ws)
   kept-enqueued thread rank w ws e l h = record {
     ranked = ranked-enqueued thread rank w ws e h.ranked;
     few = λ t s. below t (thread w == t) refl (sym (stands-enqueued thread rank w ws t) ∙ s);
@@ -66,26 +66,26 @@ module _ {A : Type 0} where
       below t false at s = h.few t s
 
   -- what is left after some went: nobody came, and the rest stands as it stood
-  pub all-dropped : (P : A → Type 0) (thread : A → ℕ) (t : ℕ) (ws : List A) → AllByRecursion P ws → AllByRecursion P (dropped thread t ws)
+  pub all-dropped : (P : A → Type 0) (thread : A → ℕ) (t : ℕ) (ws : List A) → AllByRecursion P ws → AllByRecursion P (dropped_by thread t ws)
   all-dropped P thread t [] h = tt
   all-dropped P thread t (w ∷ ws) h =
-      elim (thread w == t) as (λ b. AllByRecursion P (cond (not b) (w ∷ dropped thread t ws) (dropped thread t ws))) [
+      elim (thread w == t) as (λ b. AllByRecursion P (cond (not b) (w ∷ dropped_by thread t ws) (dropped_by thread t ws))) [
         | true ↦ all-dropped P thread t ws h.1
         | false ↦ (h.0, all-dropped P thread t ws h.1)
       ]
 
-  pub away-dropped : (thread : A → ℕ) (t : ℕ) (ws : List A) (q : ℕ) → stands_in thread q ws ≡ false → stands_in thread q (dropped thread t ws) ≡ false
+  pub away-dropped : (thread : A → ℕ) (t : ℕ) (ws : List A) (q : ℕ) → stands_in thread q ws ≡ false → stands_in thread q (dropped_by thread t ws) ≡ false
   away-dropped thread t [] q e = refl
   away-dropped thread t (w ∷ ws) q e =
-      elim (thread w == t) as (λ b. stands_in thread q (cond (not b) (w ∷ dropped thread t ws) (dropped thread t ws)) ≡ false) [
+      elim (thread w == t) as (λ b. stands_in thread q (cond (not b) (w ∷ dropped_by thread t ws) (dropped_by thread t ws)) ≡ false) [
         | true ↦ away-dropped thread t ws q ((or_parts (thread w == q) (stands_in thread q ws) e).1)
-        | false ↦ or_from (thread w == q) (stands_in thread q (dropped thread t ws)) ((or_parts (thread w == q) (stands_in thread q ws) e).0) (away-dropped thread t ws q ((or_parts (thread w == q) (stands_in thread q ws) e).1))
+        | false ↦ or_from (thread w == q) (stands_in thread q (dropped_by thread t ws)) ((or_parts (thread w == q) (stands_in thread q ws) e).0) (away-dropped thread t ws q ((or_parts (thread w == q) (stands_in thread q ws) e).1))
       ]
 
-  pub ranked-dropped : (thread rank : A → ℕ) (t : ℕ) (ws : List A) → AreRanked thread rank ws → AreRanked thread rank (dropped thread t ws)
+  pub ranked-dropped : (thread rank : A → ℕ) (t : ℕ) (ws : List A) → AreRanked thread rank ws → AreRanked thread rank (dropped_by thread t ws)
   ranked-dropped thread rank t [] h = tt
   ranked-dropped thread rank t (w ∷ ws) h =
-      elim (thread w == t) as (λ b. AreRanked thread rank (cond (not b) (w ∷ dropped thread t ws) (dropped thread t ws))) [
+      elim (thread w == t) as (λ b. AreRanked thread rank (cond (not b) (w ∷ dropped_by thread t ws) (dropped_by thread t ws))) [
         | true ↦ ranked-dropped thread rank t ws h.2
         | false ↦ (all-dropped (λ v. rank v ≤ rank w) thread t ws h.0, away-dropped thread t ws (thread w) h.1, ranked-dropped thread rank t ws h.2)
       ]
@@ -97,10 +97,10 @@ module _ {A : Type 0} where
       by true at = refl
       by false at = absurd (false≢true (sym (f at) ∙ e))
 
-  pub kept-dropped : (thread rank : A → ℕ) (t : ℕ) (ws : List A) → IsKept thread rank ws → IsKept thread rank (dropped thread t ws)
+  pub kept-dropped : (thread rank : A → ℕ) (t : ℕ) (ws : List A) → IsKept thread rank ws → IsKept thread rank (dropped_by thread t ws)
   kept-dropped thread rank t ws h = record {
     ranked = ranked-dropped thread rank t ws h.ranked;
-    few = λ q e. h.few q (came_before thread (dropped thread t ws) ws q (away-dropped thread t ws q) e);
+    few = λ q e. h.few q (came_before thread (dropped_by thread t ws) ws q (away-dropped thread t ws q) e);
   }
 
   pub kept-rest : (thread rank : A → ℕ) (ws : List A) → IsKept thread rank ws → IsKept thread rank (rest_of ws)
@@ -143,10 +143,10 @@ module _ {A : Type 0} where
   few_kept thread rank (w ∷ ws) h = omega (arith, has_room thread rank (thread w) ws (kept-rest thread rank (w ∷ ws) h) h.ranked.1 (h.few (thread w) (rw (eqb-same (thread w)) refl)))
 
   -- where a waiter is put
-  pub inserted : (rank : A → ℕ) (w : A) (ws : List A) → insert ws (position_or_len (λ v. nat_lt (rank v) (rank w)) ws) w ≡ enqueued rank w ws
+  pub inserted : (rank : A → ℕ) (w : A) (ws : List A) → insert ws (position_or_len (λ v. nat_lt (rank v) (rank w)) ws) w ≡ enqueued_by rank w ws
   inserted rank w [] = refl
   inserted rank w (v ∷ vs) =
-      elim (nat_lt (rank v) (rank w)) as (λ b. insert (v ∷ vs) (cond (not b) (1 + position_or_len (λ v. nat_lt (rank v) (rank w)) vs) 0) w ≡ (if b then w ∷ v ∷ vs else v ∷ enqueued rank w vs)) [
+      elim (nat_lt (rank v) (rank w)) as (λ b. insert (v ∷ vs) (cond (not b) (1 + position_or_len (λ v. nat_lt (rank v) (rank w)) vs) 0) w ≡ (if b then w ∷ v ∷ vs else v ∷ enqueued_by rank w vs)) [
         | true ↦ refl
         | false ↦ one_more (position_or_len (λ v. nat_lt (rank v) (rank w)) vs) (inserted rank w vs)
       ]
@@ -154,11 +154,11 @@ module _ {A : Type 0} where
       by_suc : (n : ℕ) → 1 + n ≡ suc n
       by_suc n = omega arith
 
-      one_more : (n : ℕ) → insert vs n w ≡ enqueued rank w vs → insert (v ∷ vs) (1 + n) w ≡ v ∷ enqueued rank w vs
+      one_more : (n : ℕ) → insert vs n w ≡ enqueued_by rank w vs → insert (v ∷ vs) (1 + n) w ≡ v ∷ enqueued_by rank w vs
       one_more n e = ap (λ k. insert (v ∷ vs) k w) (by_suc n) ∙ ap (λ xs. v ∷ xs) e
 
   -- behind all others, where all ranks are the eqb-same
-  pub enqueued-last : (w : A) (ws : List A) → enqueued (λ v. 0) w ws ≡ ws ++ w ∷ []
+  pub enqueued-last : (w : A) (ws : List A) → enqueued_by (λ v. 0) w ws ≡ ws ++ w ∷ []
   enqueued-last w [] = refl
   enqueued-last w (v ∷ vs) = ap (λ xs. v ∷ xs) (enqueued-last w vs)
 

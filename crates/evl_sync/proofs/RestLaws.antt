@@ -9,7 +9,7 @@ use Rattle.std.proofs.lemmas.Bool.{false≢true, eqb-true}
 use Rattle.evl_base.specs.declared.take.Take.{Take}
 use Rattle.evl_base.specs.declared.take.Take.TheVariants.{Any, Of, Exact}
 use Rattle.evl_sync.specs.declared.flag_waiter.FlagWaiter.{FlagWaiter}
-use Rattle.evl_sync.specs.FlagGroups.{some_bits, taken, left_of, passed, walk_of, Rests}
+use Rattle.evl_sync.specs.FlagGroups.{some_bits, bits_taken, left_of, waiter_passed, walk_of, Rests}
 
 -- all bits of the one are in the other
 abbrev AreIn : ℕ → ℕ → Type 0
@@ -52,7 +52,7 @@ trans_in a b c h k =
     ap (λ n. bit_and n c) (sym h) ∙ and_assoc c a b ∙ ap (λ n. bit_and a n) k ∙ h
 
 -- what is taken was there
-taken_there : (kind : Take) (bits got : ℕ) → taken kind bits ≡ Some got → bit_and bits got ≡ got
+taken_there : (kind : Take) (bits got : ℕ) → bits_taken kind bits ≡ Some got → bit_and bits got ≡ got
 taken_there Any bits got e = rw (← some-same bits got e) (and_self bits)
 taken_there (Of mask) bits got e =
     rw (← some-same (bit_and bits mask) got e) (sym (and_assoc mask bits bits) ∙ ap (λ n. bit_and n mask) (and_self bits))
@@ -63,7 +63,7 @@ taken_there (Exact mask) bits got e = by (bit_and bits mask == mask) refl e
     by false at h = cc
 
 -- who isn't satisfied by some bits isn't by fewer
-pub none_fewer : (kind : Take) (fewer bits : ℕ) → AreIn fewer bits → taken kind bits ≡ None → taken kind fewer ≡ None
+pub none_fewer : (kind : Take) (fewer bits : ℕ) → AreIn fewer bits → bits_taken kind bits ≡ None → bits_taken kind fewer ≡ None
 none_fewer Any fewer bits h e = is_zero fewer (sym h ∙ ap (λ n. bit_and fewer n) (none-zero bits e) ∙ and_zero_r fewer)
 none_fewer (Of mask) fewer bits h e =
     is_zero (bit_and fewer mask) (ap (λ n. bit_and n mask) (sym h) ∙ and_assoc mask fewer bits ∙ ap (λ n. bit_and fewer n) (none-zero (bit_and bits mask) e) ∙ and_zero_r fewer)
@@ -80,7 +80,7 @@ none_fewer (Exact mask) fewer bits h e = by (bit_and fewer mask == mask) refl (b
     by true at true met k = cc
     by true at false met k = absurd (false≢true (sym met ∙ equal (bit_and bits mask) mask (more (eqb-true (bit_and fewer mask) mask at))))
 
-left_of_in : (kind : Take) (bits : ℕ) (o : Option ℕ) → taken kind bits ≡ o → AreIn (left_of bits o) bits
+left_of_in : (kind : Take) (bits : ℕ) (o : Option ℕ) → bits_taken kind bits ≡ o → AreIn (left_of bits o) bits
 left_of_in kind bits None e = and_self bits
 left_of_in kind bits (Some got) e = left_in bits got (taken_there kind bits got e)
 
@@ -89,23 +89,23 @@ pub rests-fewer : (ws : List FlagWaiter) (fewer bits : ℕ) → AreIn fewer bits
 rests-fewer [] fewer bits h r = tt
 rests-fewer (w ∷ ws) fewer bits h r = (none_fewer w.kind fewer bits h r.0, rests-fewer ws fewer bits h r.1)
 
-pub rests-taken : (kind : Take) (ws : List FlagWaiter) (bits got : ℕ) → taken kind bits ≡ Some got → Rests bits ws → Rests (bit_xor bits got) ws
+pub rests-taken : (kind : Take) (ws : List FlagWaiter) (bits got : ℕ) → bits_taken kind bits ≡ Some got → Rests bits ws → Rests (bit_xor bits got) ws
 rests-taken kind ws bits got e r = rests-fewer ws (bit_xor bits got) bits (left_in bits got (taken_there kind bits got e)) r
 
 walk-left_in : (ws : List FlagWaiter) (bits : ℕ) → AreIn (walk_of ws bits).left bits
 walk-left_in [] bits = and_self bits
-walk-left_in (w ∷ ws) bits = by (taken w.kind bits) refl (walk-left_in ws (left_of bits (taken w.kind bits)))
+walk-left_in (w ∷ ws) bits = by (bits_taken w.kind bits) refl (walk-left_in ws (left_of bits (bits_taken w.kind bits)))
   where
-    by : (o : Option ℕ) → taken w.kind bits ≡ o → AreIn (walk_of ws (left_of bits o)).left (left_of bits o) → AreIn (passed w o (walk_of ws (left_of bits o))).left bits
+    by : (o : Option ℕ) → bits_taken w.kind bits ≡ o → AreIn (walk_of ws (left_of bits o)).left (left_of bits o) → AreIn (waiter_passed w o (walk_of ws (left_of bits o))).left bits
     by None at h = h
     by (Some got) at h = trans_in (walk_of ws (bit_xor bits got)).left (bit_xor bits got) bits h (left_of_in w.kind bits (Some got) at)
 
 -- after a walk, whoever waited before it
 pub rests-walked : (ws : List FlagWaiter) (bits : ℕ) → Rests (walk_of ws bits).left (walk_of ws bits).waiting
 rests-walked [] bits = tt
-rests-walked (w ∷ ws) bits = by (taken w.kind bits) refl (rests-walked ws (left_of bits (taken w.kind bits)))
+rests-walked (w ∷ ws) bits = by (bits_taken w.kind bits) refl (rests-walked ws (left_of bits (bits_taken w.kind bits)))
   where
-    by : (o : Option ℕ) → taken w.kind bits ≡ o → Rests (walk_of ws (left_of bits o)).left (walk_of ws (left_of bits o)).waiting
-        → Rests (passed w o (walk_of ws (left_of bits o))).left (passed w o (walk_of ws (left_of bits o))).waiting
+    by : (o : Option ℕ) → bits_taken w.kind bits ≡ o → Rests (walk_of ws (left_of bits o)).left (walk_of ws (left_of bits o)).waiting
+        → Rests (waiter_passed w o (walk_of ws (left_of bits o))).left (waiter_passed w o (walk_of ws (left_of bits o))).waiting
     by None at r = (none_fewer w.kind (walk_of ws bits).left bits (walk-left_in ws bits) at, r)
     by (Some got) at r = r

@@ -4,7 +4,7 @@ use Rattle.std.proofs.lemmas.List.{append_assoc, drop_more, map-append, take_mor
 use Rattle.evl_base.specs.declared.numbers.ThreadId.{ThreadId}
 use Rattle.evl_sync.specs.declared.flag_waiter.FlagWaiter.{FlagWaiter}
 use Rattle.evl_sync.specs.declared.flag_waiter.TakenBits.{TakenBits}
-use Rattle.evl_sync.specs.FlagGroups.{Walk, left_of, pairs, passed, taken, walk_after, walk_of}
+use Rattle.evl_sync.specs.FlagGroups.{Walk, left_of, pairs, waiter_passed, bits_taken, walk_after, walk_of}
 
 pub by_suc : (n : ℕ) → n + 1 ≡ suc n
 by_suc n = omega arith
@@ -30,10 +30,10 @@ module _ (served : List TakenBits) (ws : List FlagWaiter) (place left : ℕ) (w 
   abbrev rest : Option ℕ → Walk
   rest got = walk_of (drop (suc place) ws) (left_of left got)
 
-  here : (got : Option ℕ) → got ≡ taken w.kind left → walking served ws place left ≡ walk_after (pairs served) (take place ws) (passed w got (rest got))
-  here got e = ap (λ xs. walk_after (pairs served) (take place ws) (walk_of xs left)) is ∙ ap (λ o. walk_after (pairs served) (take place ws) (passed w o (rest o))) (sym e)
+  here : (got : Option ℕ) → got ≡ bits_taken w.kind left → walking served ws place left ≡ walk_after (pairs served) (take place ws) (waiter_passed w got (rest got))
+  here got e = ap (λ xs. walk_after (pairs served) (take place ws) (walk_of xs left)) is ∙ ap (λ o. walk_after (pairs served) (take place ws) (waiter_passed w o (rest o))) (sym e)
 
-  pub walk-served : (got : ℕ) (one : TakenBits) (after : List FlagWaiter) → Some got ≡ taken w.kind left → one ≡ record { thread = record { 0 = w.thread }; bits = got } → after ≡ remove ws place
+  pub walk-served : (got : ℕ) (one : TakenBits) (after : List FlagWaiter) → Some got ≡ bits_taken w.kind left → one ≡ record { thread = record { 0 = w.thread }; bits = got } → after ≡ remove ws place
       → walking (served ++ one ∷ []) after place (bit_xor left got) ≡ walking served ws place left
   walk-served got one after e o r =
       (λ i. walk_after (pairs (served ++ o i ∷ [])) (take place (r i)) (walk_of (drop place (r i)) (bit_xor left got)))

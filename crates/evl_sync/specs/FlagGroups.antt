@@ -8,15 +8,15 @@ use Rattle.evl_base.specs.declared.take.Take.{Take}
 use Rattle.evl_base.specs.declared.take.Take.TheVariants.{Any, Of, Exact}
 use Rattle.evl_sync.specs.declared.flag_waiter.FlagWaiter.{FlagWaiter}
 use Rattle.evl_sync.specs.declared.flag_waiter.TakenBits.{TakenBits}
-use Rattle.evl_sync.specs.Queues.{enqueued, dropped, IsKept}
+use Rattle.evl_sync.specs.Queues.{enqueued_by, dropped_by, IsKept}
 use Rattle.evl_sync.specs.Steps.{unless}
 
 pub record FlagGroup : Type 0 where
   pub bits : ℕ
   pub waiters : List FlagWaiter
 
-abbrev pub opened : ℕ → FlagGroup
-opened bits = record { bits = bits; waiters = [] }
+abbrev pub opened_group : ℕ → FlagGroup
+opened_group bits = record { bits = bits; waiters = [] }
 
 -- a mask without bits is not allowed
 abbrev pub is_empty_mask : Take → Bool
@@ -34,10 +34,10 @@ abbrev pub some_bits : ℕ → Option ℕ
 some_bits got = if got == 0 then None else Some got
 
 -- which of the bits the kind takes, if it is satisfied
-abbrev pub taken : Take → ℕ → Option ℕ
-taken Any bits = some_bits bits
-taken (Of mask) bits = some_bits (bit_and bits mask)
-taken (Exact mask) bits = if bit_and bits mask == mask then Some mask else None
+abbrev pub bits_taken : Take → ℕ → Option ℕ
+bits_taken Any bits = some_bits bits
+bits_taken (Of mask) bits = some_bits (bit_and bits mask)
+bits_taken (Exact mask) bits = if bit_and bits mask == mask then Some mask else None
 
 abbrev pub left_of : ℕ → Option ℕ → ℕ
 left_of bits got = option_map_or (λ g. bit_xor bits g) got bits
@@ -47,7 +47,7 @@ without_bits f got = record f { bits = bit_xor f.bits got }
 
 -- whoever waits
 abbrev pub try_take : Take → FlagGroup → Result (ℕ × FlagGroup) Refusal
-try_take kind f = unless (take_refusal kind) (option_map_or (λ got. Ok (got, without_bits f got)) (taken kind f.bits) (Err Again))
+try_take kind f = unless (take_refusal kind) (option_map_or (λ got. Ok (got, without_bits f got)) (bits_taken kind f.bits) (Err Again))
 
 -- a walk through waiters: whom it serves with which bits, who goes on waiting, and which bits are left
 pub record Walk : Type 0 where
@@ -55,14 +55,14 @@ pub record Walk : Type 0 where
   pub waiting : List FlagWaiter
   pub left : ℕ
 
-abbrev pub passed : FlagWaiter → Option ℕ → Walk → Walk
-passed w None walk = record walk { waiting = w ∷ walk.waiting }
-passed w (Some got) walk = record walk { served = (w.thread, got) ∷ walk.served }
+abbrev pub waiter_passed : FlagWaiter → Option ℕ → Walk → Walk
+waiter_passed w None walk = record walk { waiting = w ∷ walk.waiting }
+waiter_passed w (Some got) walk = record walk { served = (w.thread, got) ∷ walk.served }
 
 -- each waiter takes from what the ones before it left
 abbrev pub walk_of : List FlagWaiter → ℕ → Walk
 walk_of [] bits = record { served = []; waiting = []; left = bits }
-walk_of (w ∷ ws) bits = let got = taken w.kind bits in passed w got (walk_of ws (left_of bits got))
+walk_of (w ∷ ws) bits = let got = bits_taken w.kind bits in waiter_passed w got (walk_of ws (left_of bits got))
 
 -- the bits are ored in, and one walk goes through the waiters
 abbrev pub post : ℕ → FlagGroup → Walk
@@ -72,22 +72,22 @@ abbrev pub after_walk : Walk → FlagGroup
 after_walk walk = record { bits = walk.left; waiters = walk.waiting }
 
 abbrev pub with_waiter : FlagWaiter → FlagGroup → FlagGroup
-with_waiter w f = record f { waiters = enqueued (λ v. v.rank) w f.waiters }
+with_waiter w f = record f { waiters = enqueued_by (λ v. v.rank) w f.waiters }
 
 -- what the thread is served with at once, if it is; else it waits
 abbrev pub begin_take : FlagWaiter → FlagGroup → Option ℕ × FlagGroup
-begin_take w f = let got = taken w.kind f.bits in (got, option_map_or (without_bits f) got (with_waiter w f))
+begin_take w f = let got = bits_taken w.kind f.bits in (got, option_map_or (without_bits f) got (with_waiter w f))
 
 abbrev pub drop_waiter : ℕ → FlagGroup → FlagGroup
-drop_waiter thread f = record f { waiters = dropped (λ w. w.thread) thread f.waiters }
+drop_waiter thread f = record f { waiters = dropped_by (λ w. w.thread) thread f.waiters }
 
 -- whom a post served, by number, with which bits
 abbrev pub pairs : List TakenBits → List (ℕ × ℕ)
 pairs served = map (λ s. (s.thread.0, s.bits)) served
 
 -- the served and the group after one walk
-abbrev pub walked : Walk → List (ℕ × ℕ) × FlagGroup
-walked walk = (walk.served, after_walk walk)
+abbrev pub walk_waiters : Walk → List (ℕ × ℕ) × FlagGroup
+walk_waiters walk = (walk.served, after_walk walk)
 
 -- what a walk says after a stretch that served and passed these
 abbrev pub walk_after : List (ℕ × ℕ) → List FlagWaiter → Walk → Walk
@@ -95,7 +95,7 @@ walk_after served waiting walk = record { served = served ++ walk.served; waitin
 
 -- who waits isn't satisfied by the bits that are there
 abbrev pub Rests : ℕ → List FlagWaiter → Type 0
-Rests bits waiters = AllByRecursion (λ w. taken w.kind bits ≡ None) waiters
+Rests bits waiters = AllByRecursion (λ w. bits_taken w.kind bits ≡ None) waiters
 
 -- what is known of a flag group
 pub record IsSoundGroup (f : FlagGroup) : Type 0 where

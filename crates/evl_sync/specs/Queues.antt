@@ -5,13 +5,13 @@ use Rattle.evl_base.specs.Limits.{thread_limit}
 use Rattle.evl_base.specs.declared.numbers.ThreadId.{ThreadId}
 
 -- behind those of its rank or a greater one, before the others
-abbrev pub enqueued : {A : Type 0} → (A → ℕ) → A → List A → List A
-enqueued rank w [] = w ∷ []
-enqueued rank w (v ∷ vs) = if nat_lt (rank v) (rank w) then w ∷ v ∷ vs else v ∷ enqueued rank w vs
+abbrev pub enqueued_by : {A : Type 0} → (A → ℕ) → A → List A → List A
+enqueued_by rank w [] = w ∷ []
+enqueued_by rank w (v ∷ vs) = if nat_lt (rank v) (rank w) then w ∷ v ∷ vs else v ∷ enqueued_by rank w vs
 
 -- without this thread
-abbrev pub dropped : {A : Type 0} → (A → ℕ) → ℕ → List A → List A
-dropped thread t ws = filter (λ w. not (thread w == t)) ws
+abbrev pub dropped_by : {A : Type 0} → (A → ℕ) → ℕ → List A → List A
+dropped_by thread t ws = filter (λ w. not (thread w == t)) ws
 
 abbrev pub stands_in : {A : Type 0} → (A → ℕ) → ℕ → List A → Bool
 stands_in thread t ws = list_any (λ w. thread w == t) ws

@@ -3,15 +3,15 @@ use Rattle.std.specs.Prelude.{ℕ, ◌≡◌, ◌≤◌, ◌+◌, ◌-◌, ◌==
 use Rattle.evl_base.specs.declared.refusal.Refusal.{Refusal}
 use Rattle.evl_base.specs.declared.refusal.Refusal.TheVariants.{Again, Range}
 use Rattle.evl_sync.specs.declared.waiter.Waiter.{Waiter}
-use Rattle.evl_sync.specs.Queues.{enqueued, dropped, is_nobody, IsKept}
+use Rattle.evl_sync.specs.Queues.{enqueued_by, dropped_by, is_nobody, IsKept}
 
 pub record Semaphore : Type 0 where
   pub count : ℕ
   pub waiters : List Waiter
 
 -- with this count, or the greatest where it is greater
-abbrev pub opened : ℕ → Semaphore
-opened count = record { count = min count 2147483647; waiters = [] }
+abbrev pub opened_semaphore : ℕ → Semaphore
+opened_semaphore count = record { count = min count 2147483647; waiters = [] }
 
 -- lowers the count
 abbrev pub try_get : Semaphore → Result (Unit {0} × Semaphore) Refusal
@@ -22,8 +22,8 @@ put_before q [] = if nat_lt q.count 2147483647 then Ok (None, record q { count =
 put_before q (w ∷ ws) = Ok (Some w.thread, record q { waiters = ws })
 
 -- releases the head waiter, and says whom, else raises the count up to its maximum
-abbrev pub put : Semaphore → Result (Option ℕ × Semaphore) Refusal
-put q = put_before q q.waiters
+abbrev pub put_count : Semaphore → Result (Option ℕ × Semaphore) Refusal
+put_count q = put_before q q.waiters
 
 -- the count, or minus the number of waiters where there are any
 abbrev pub peek : Semaphore → ℤ
@@ -32,11 +32,11 @@ peek q = if is_nobody q.waiters then pos q.count else neg_ℤ (pos (length q.wai
 -- whether the thread is served at once; else it waits
 abbrev pub begin_get : Waiter → Semaphore → Bool × Semaphore
 begin_get w q =
-    if q.count == 0 then (false, record q { waiters = enqueued (λ v. v.rank) w q.waiters })
+    if q.count == 0 then (false, record q { waiters = enqueued_by (λ v. v.rank) w q.waiters })
     else (true, record q { count = q.count - 1 })
 
 abbrev pub drop_waiter : ℕ → Semaphore → Semaphore
-drop_waiter thread q = record q { waiters = dropped (λ w. w.thread) thread q.waiters }
+drop_waiter thread q = record q { waiters = dropped_by (λ w. w.thread) thread q.waiters }
 
 -- the count is 0 where somebody waits, and never above its maximum
 pub record IsKeptSemaphore (count : ℕ) (waiters : List Waiter) : Type 0 where

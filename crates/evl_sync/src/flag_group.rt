@@ -2,8 +2,8 @@
 ghost use Rattle.std.specs.Prelude.{◌≡◌, ◌<◌, ◌≤◌, false, [], length, option_map, slice_get, IfErr, Ok};
 ghost use Rattle.evl_base.specs.Limits.{thread_limit};
 ghost use Rattle.evl_sync.specs.Queues.{number_of, stands_in};
-ghost use Rattle.evl_sync.specs.Steps.{stepped, unless};
-ghost use Rattle.evl_sync.specs.FlagGroups.{IsSoundGroup, begin_take, drop_waiter, opened, pairs, post, post_refusal, take_refusal, try_take, walk_of, walked};
+ghost use Rattle.evl_sync.specs.Steps.{step_by, unless};
+ghost use Rattle.evl_sync.specs.FlagGroups.{IsSoundGroup, begin_take, drop_waiter, opened_group, pairs, post, post_refusal, take_refusal, try_take, walk_of, walk_waiters};
 
 mod likeness;
 
@@ -35,7 +35,7 @@ impl Model for FlagGroup {
 impl FlagGroup {
     /// A flag group with these bits, for which nobody waits. (Xenomai 4: EVL event flag group)
     pub fn new(bits: u32) -> FlagGroup
-        ensures opened { result ≡ opened bits }
+        ensures opened_group { result ≡ opened_group bits }
     {
         FlagGroup {
             bits,
@@ -49,7 +49,7 @@ impl FlagGroup {
     /// group)
     #[tactic(auto, using(crate::proofs::GroupLaws::sound_taken))]
     pub fn try_take(&mut self, kind: Take) -> Result<u32, Refusal>
-        ensures step { stepped (λ got. got) result self.new ≡ try_take kind self.old }
+        ensures step { step_by (λ got. got) result self.new ≡ try_take kind self.old }
         ensures refused { IfErr result (λ e. self.new ≡ self.old) }
     {
         if is_empty_mask(kind) {
@@ -68,7 +68,7 @@ impl FlagGroup {
     /// what those before it left; says whom it served with which bits, in that order. Bits that nobody takes stay.
     /// `Invalid` where there are no bits to add; then nothing changes. (Xenomai 4: EVL event flag group)
     pub fn post(&mut self, bits: u32) -> Result<ArrayVec<TakenBits, MAX_THREADS>, Refusal>
-        ensures step { stepped (λ served. pairs served.items) result self.new ≡ unless (post_refusal bits) (Ok (walked (post bits self.old))) }
+        ensures step { step_by (λ served. pairs served.items) result self.new ≡ unless (post_refusal bits) (Ok (walk_waiters (post bits self.old))) }
         ensures refused { IfErr result (λ e. self.new ≡ self.old) }
     {
         let mut told = ArrayVec::new();
@@ -86,7 +86,7 @@ impl FlagGroup {
         told: &mut ArrayVec<TakenBits, MAX_THREADS>,
     ) -> Result<(), Refusal>
         requires nobody { told.old.items ≡ [] }
-        ensures step { stepped (λ _. pairs told.new.items) result self.new ≡ unless (post_refusal bits) (Ok (walked (post bits self.old))) }
+        ensures step { step_by (λ _. pairs told.new.items) result self.new ≡ unless (post_refusal bits) (Ok (walk_waiters (post bits self.old))) }
         ensures refused { IfErr result (λ e. self.new ≡ self.old) }
     {
         if bits == 0 {
@@ -108,7 +108,7 @@ impl FlagGroup {
     ) -> Result<Option<u32>, Refusal>
         requires away { stands_in (λ w. w.thread) thread.0 self.old.waiters ≡ false }
         requires few { thread.0 < thread_limit }
-        ensures step { stepped (λ got. got) result self.new
+        ensures step { step_by (λ got. got) result self.new
             ≡ unless (take_refusal kind) (Ok (begin_take (record { thread = thread.0; rank = rank; kind = kind }) self.old)) }
         ensures refused { IfErr result (λ e. self.new ≡ self.old) }
     {

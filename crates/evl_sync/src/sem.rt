@@ -2,8 +2,8 @@
 ghost use Rattle.std.specs.Prelude.{◌≡◌, ◌<◌, ◌≤◌, false, option_map, slice_get, IfErr};
 ghost use Rattle.evl_base.specs.Limits.{thread_limit};
 ghost use Rattle.evl_sync.specs.Queues.{number_of, stands_in};
-ghost use Rattle.evl_sync.specs.Steps.{stepped};
-ghost use Rattle.evl_sync.specs.Semaphores.{IsSoundSemaphore, begin_get, drop_waiter, opened, peek, put, try_get};
+ghost use Rattle.evl_sync.specs.Steps.{step_by};
+ghost use Rattle.evl_sync.specs.Semaphores.{IsSoundSemaphore, begin_get, drop_waiter, opened_semaphore, peek, put_count, try_get};
 
 mod likeness;
 
@@ -36,7 +36,7 @@ impl Sem {
     /// A semaphore with this count, or with 2,147,483,647 where it is greater, for which nobody waits.
     /// (Xenomai 4: EVL semaphore; this profile)
     pub fn new(count: u32) -> Sem
-        ensures opened { result ≡ opened count }
+        ensures opened_semaphore { result ≡ opened_semaphore count }
     {
         Sem {
             count: count.min(MAX_COUNT),
@@ -46,7 +46,7 @@ impl Sem {
 
     /// Lowers the count by 1. `Again` where it is 0; then nothing changes. (Xenomai 4: EVL semaphore)
     pub fn try_get(&mut self) -> Result<(), Refusal>
-        ensures step { stepped (λ u. u) result self.new ≡ try_get self.old }
+        ensures step { step_by (λ u. u) result self.new ≡ try_get self.old }
         ensures refused { IfErr result (λ e. self.new ≡ self.old) }
     {
         if self.count == 0 {
@@ -59,7 +59,7 @@ impl Sem {
     /// Lets the first waiter wait no more, and says who that was; where nobody waits, raises the count by 1. `Range`
     /// where nobody waits and the count is 2,147,483,647; then nothing changes. (Xenomai 4: EVL semaphore)
     pub fn put(&mut self) -> Result<Option<ThreadId>, Refusal>
-        ensures step { stepped number_of result self.new ≡ put self.old }
+        ensures step { step_by number_of result self.new ≡ put_count self.old }
         ensures sound { IsSoundSemaphore self.old }
         ensures refused { IfErr result (λ e. self.new ≡ self.old) }
     {

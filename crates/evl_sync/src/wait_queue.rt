@@ -1,7 +1,7 @@
 //! Threads that wait, by rank and arrival.
 ghost use Rattle.std.specs.Prelude.{◌≡◌, ◌<◌, ◌≤◌, [], false, length, option_map, slice_get};
 ghost use Rattle.evl_base.specs.Limits.{thread_limit};
-ghost use Rattle.evl_sync.specs.Queues.{IsKept, dropped, enqueued, first_of, number_of, rest_of, stands_in};
+ghost use Rattle.evl_sync.specs.Queues.{IsKept, dropped_by, enqueued_by, first_of, number_of, rest_of, stands_in};
 
 mod likeness;
 
@@ -45,7 +45,7 @@ impl WaitQueue {
     pub fn push(&mut self, thread: ThreadId, rank: u16)
         requires away { stands_in (λ w. w.thread) thread.0 self.old ≡ false }
         requires few { thread.0 < thread_limit }
-        ensures pushed { self.new ≡ enqueued (λ w. w.rank) (record { thread = thread.0; rank = rank }) self.old }
+        ensures pushed { self.new ≡ enqueued_by (λ w. w.rank) (record { thread = thread.0; rank = rank }) self.old }
     {
         let place = place_for(self.waiters.as_slice(), rank);
         self.waiters.insert(
@@ -95,7 +95,7 @@ impl WaitQueue {
     /// didn't.
     pub fn remove(&mut self, thread: ThreadId) -> bool
         ensures there { result ≡ stands_in (λ w. w.thread) thread.0 self.old }
-        ensures dropped { self.new ≡ dropped (λ w. w.thread) thread.0 self.old }
+        ensures dropped_by { self.new ≡ dropped_by (λ w. w.thread) thread.0 self.old }
     {
         leave(&mut self.waiters, thread.0)
     }

@@ -7,7 +7,7 @@ use Rattle.evl_words.specs.declared.history.View.{View}
 use Rattle.evl_words.specs.Machine.{Run}
 use Rattle.evl_words.specs.Hands.{place}
 use Rattle.evl_words.specs.Events.{World, Steps, seat_after, world_after}
-use Rattle.evl_words.specs.Dealings.{Dealing, DealingEvent, DealingStep, Holds, acts, cuts, gathers, opened}
+use Rattle.evl_words.specs.Dealings.{Dealing, DealingEvent, DealingStep, Holds, acts, cuts, gathers, opened_dealing}
 use Rattle.evl_words.proofs.Machines.{run_keeps}
 use Rattle.evl_words.proofs.Dealing.{deals_turn, deals_split, deals_join, deals_opening}
 
@@ -22,5 +22,5 @@ module _ {E H K : Type 0} (steps : Steps E H K) (Stands : World E H → Type 0)
       subst (Holds Stands) (sym changed) (h.0, deals_join d.world.views d.hands id other hand theirs h.1 at ne (set_else d.hands id other (hand ++ theirs) ne ∙ at'))
 
   -- after any list of events from the opening
-  pub dealings_hold : (views : List (View E H)) → Stands (opened views).world → (events : List (DealingEvent K)) (t : Dealing E H) → Run (DealingStep steps) (opened views) events t → Holds Stands t
-  dealings_hold views first events t run = run_keeps (DealingStep steps) (Holds Stands) dealing_keeps (opened views) t events (first, deals_opening views) run
+  pub dealings_hold : (views : List (View E H)) → Stands (opened_dealing views).world → (events : List (DealingEvent K)) (t : Dealing E H) → Run (DealingStep steps) (opened_dealing views) events t → Holds Stands t
+  dealings_hold views first events t run = run_keeps (DealingStep steps) (Holds Stands) dealing_keeps (opened_dealing views) t events (first, deals_opening views) run

@@ -15,7 +15,7 @@ use Rattle.evl_words.specs.Machine.{Run}
 use Rattle.evl_words.specs.History.{Fits}
 use Rattle.evl_words.specs.Hands.{Hand, places_of, AreOf, hand_back}
 use Rattle.evl_words.specs.Endings.{Ends, EndsWith}
-use Rattle.evl_words.specs.Dealings.{Dealing, DealingEvent, DealingStep, Holds, opened}
+use Rattle.evl_words.specs.Dealings.{Dealing, DealingEvent, DealingStep, Holds, opened_dealing}
 use Rattle.evl_words.specs.Gate.{stage_held, open_gate}
 use Rattle.evl_words.specs.GateWorld.{GateView, GateKind, IsGateWorld, gate_steps, gate_author, newcomer, hold}
 use Rattle.evl_words.specs.GateRule.{GateRule, all_seats}
@@ -52,7 +52,7 @@ rule_opens limit seats bounded = record {
 }
 
 -- after any list of events from the opening
-pub gate_law : (limit seats : ℕ) → limit ≤ 1000 → (events : List (DealingEvent GateKind)) (t : Dealing _ _) → Run (DealingStep gate_steps) (opened (replicate seats (newcomer limit))) events t → Holds (IsGateWorld limit) t
+pub gate_law : (limit seats : ℕ) → limit ≤ 1000 → (events : List (DealingEvent GateKind)) (t : Dealing _ _) → Run (DealingStep gate_steps) (opened_dealing (replicate seats (newcomer limit))) events t → Holds (IsGateWorld limit) t
 gate_law limit seats bounded = dealings_hold gate_steps (IsGateWorld limit) (step_keeps limit) (replicate seats (newcomer limit)) (gate_opens limit seats bounded)
 
 -- A closed gate, where these seats were in one hand

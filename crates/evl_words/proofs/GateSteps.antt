@@ -20,8 +20,8 @@ use Rattle.evl_words.specs.History.{Extends}
 use Rattle.evl_words.specs.Events.{LeadsTo}
 use Rattle.evl_words.specs.Parts.{PartTurns}
 use Rattle.evl_words.specs.Gate.{Gate, Holder, GateStep, open_gate, stage_held, gate_machine, gate_may, gate_answer, gate_change, entry_refusal, gate_after, answer_to}
-use Rattle.evl_words.specs.GateWord.{packed, word_of, word_refusal, entered_word, left_in, count_in, stage_in, mark_in}
-use Rattle.evl_words.specs.GateWorld.{GateView, GateWorld, GateTie, GateKind, IsGateWorld, GateDoes, GateLooks, GateAppends, looks, exchanges, leaves, claims, unclaims, peeks, step_may, step_word, refused, gate_steps, gate_author, gate_entry, hold}
+use Rattle.evl_words.specs.GateWord.{packed_gate, word_of, word_refusal, entered_word, left_in, count_in, stage_in, mark_in}
+use Rattle.evl_words.specs.GateWorld.{GateView, GateWorld, GateTie, GateKind, IsGateWorld, GateDoes, GateLooks, GateAppends, looks, exchanges, leaves, claims, unclaims, peeks, step_may, step_word, refused_entries, gate_steps, gate_author, gate_entry, hold}
 use Rattle.evl_words.specs.GateRule.{GatePart, Shows, Finds, Enters}
 use Rattle.evl_words.proofs.Sequences.{total_set}
 use Rattle.evl_words.proofs.Events.{moved, stands_moved, call_stands, does_turn}
@@ -106,7 +106,7 @@ module _ (limit : ℕ) where
       entering stage = record { stage = stage; holders = record { seat = k; stage = stage } ∷ g.holders; marked = g.marked }
 
       abbrev finding : Stage → Option Refusal → GateWorld
-      finding stage r = moved w k v w.word (refused k stage r) v.held
+      finding stage r = moved w k v w.word (refused_entries k stage r) v.held
 
       finds : (stage : Stage) → v.held.stage ≡ None → IsGateWorld limit (finding stage (word_refusal v.held.limit w.word stage))
       finds stage none = go (entry_refusal limit (length g.holders) g.stage stage) refl
@@ -127,12 +127,12 @@ module _ (limit : ℕ) where
           let count : count_in w.word + 1 ≡ suc (length g.holders) = let c = count_found in omega arith in
           let here : stage_held k (entering stage).holders ≡ Some stage = rw (eq-eqb k k refl) refl in
           let back = limit_is in
-          adds (Enter stage) (free none) Entered (ap answer_to e) (entered_word w.word stage) ((λ i. packed (count i) stage (mark_found i)) ∙ ap word_of (sym new)) (hold v.held.limit (Some stage))
+          adds (Enter stage) (free none) Entered (ap answer_to e) (entered_word w.word stage) ((λ i. packed_gate (count i) stage (mark_found i)) ∙ ap word_of (sym new)) (hold v.held.limit (Some stage))
           (ap (λ (z : Gate). hold limit (stage_held k z.holders)) new ∙ (λ i. hold (sym back i) (here i)))
 
       abbrev exchanged : Stage → ℕ → Bool → GateWorld
       exchanged stage old b =
-          moved w k v (either b (entered_word old stage) w.word) (if b then gate_entry k (Enter stage) Entered ∷ [] else refused k stage (word_refusal v.held.limit w.word stage)) (if b then hold v.held.limit (Some stage) else v.held)
+          moved w k v (either b (entered_word old stage) w.word) (if b then gate_entry k (Enter stage) Entered ∷ [] else refused_entries k stage (word_refusal v.held.limit w.word stage)) (if b then hold v.held.limit (Some stage) else v.held)
 
       exchange_keeps : (stage : Stage) (old : ℕ) → v.held.stage ≡ None → word_refusal v.held.limit old stage ≡ None → IsGateWorld limit (exchanged stage old (eqb w.word old))
       exchange_keeps stage old none fits = dite (ℕ_discrete w.word old)
@@ -148,7 +148,7 @@ module _ (limit : ℕ) where
           let fewer : length t.holders + 1 ≡ length g.holders = length-without k g.holders sound.distinct may in
           let below = small in
           let shows : (w.word + (2 ^ 64 - 1)) % 2 ^ 64 ≡ word_of t =
-          ap (λ n. (n + (2 ^ 64 - 1)) % 2 ^ 64) (shown ∙ ap (λ n. packed n g.stage g.marked) (sym fewer)) ∙ minus_one-packed (length t.holders) g.stage g.marked (omega arith) in
+          ap (λ n. (n + (2 ^ 64 - 1)) % 2 ^ 64) (shown ∙ ap (λ n. packed_gate n g.stage g.marked) (sym fewer)) ∙ minus_one-packed (length t.holders) g.stage g.marked (omega arith) in
           let count = count_found in
           let mark = mark_found in
           let back = limit_is in
@@ -176,16 +176,16 @@ gate_turn limit k v kind may found views part at =
     (t.0, t.1, subst (λ l. GateDoes l k v kind found t.0) (sym same) t.2)
 
 module _ (k : ℕ) (v u : GateView) (stage : Stage) (found : ℕ) where
-  finds_of : u.held ≡ v.held → Extends gate_author (GateStep v.held.limit) open_gate k v (refused k stage (word_refusal v.held.limit found stage)) u → LeadsTo gate_author (GateStep v.held.limit) open_gate (GateTie v.held.limit) found u.seen
+  finds_of : u.held ≡ v.held → Extends gate_author (GateStep v.held.limit) open_gate k v (refused_entries k stage (word_refusal v.held.limit found stage)) u → LeadsTo gate_author (GateStep v.held.limit) open_gate (GateTie v.held.limit) found u.seen
       → Finds k v stage found u
   finds_of held more leads = (held, go (word_refusal v.held.limit found stage) refl)
     where
       go : (r : Option Refusal) → word_refusal v.held.limit found stage ≡ r
           → MatchOption (word_refusal v.held.limit found stage) (GateLooks v.held.limit k v u × Shows v.held.limit u.seen found) (λ refusal. GateAppends v.held.limit k v (Enter stage) (Refused refusal) u)
       go None e = subst (λ o. MatchOption o (GateLooks v.held.limit k v u × Shows v.held.limit u.seen found) (λ refusal. GateAppends v.held.limit k v (Enter stage) (Refused refusal) u)) (sym e)
-          (subst (λ o. Extends gate_author (GateStep v.held.limit) open_gate k v (refused k stage o) u) e more, (leads.0, leads.1, leads.3.word))
+          (subst (λ o. Extends gate_author (GateStep v.held.limit) open_gate k v (refused_entries k stage o) u) e more, (leads.0, leads.1, leads.3.word))
       go (Some refusal) e = subst (λ o. MatchOption o (GateLooks v.held.limit k v u × Shows v.held.limit u.seen found) (λ refusal. GateAppends v.held.limit k v (Enter stage) (Refused refusal) u)) (sym e)
-          (subst (λ o. Extends gate_author (GateStep v.held.limit) open_gate k v (refused k stage o) u) e more)
+          (subst (λ o. Extends gate_author (GateStep v.held.limit) open_gate k v (refused_entries k stage o) u) e more)
 
   pub looks_finds : GateDoes v.held.limit k v (looks stage) found u → Finds k v stage found u
   looks_finds d = finds_of d.held d.extends d.leads
@@ -197,7 +197,7 @@ module _ (k : ℕ) (v u : GateView) (stage : Stage) (found : ℕ) where
     where
       Facts : Bool → Type 0
       Facts b = (u.held ≡ (if b then hold v.held.limit (Some stage) else v.held))
-          × Extends gate_author (GateStep v.held.limit) open_gate k v (if b then gate_entry k (Enter stage) Entered ∷ [] else refused k stage (word_refusal v.held.limit found stage)) u
+          × Extends gate_author (GateStep v.held.limit) open_gate k v (if b then gate_entry k (Enter stage) Entered ∷ [] else refused_entries k stage (word_refusal v.held.limit found stage)) u
           × LeadsTo gate_author (GateStep v.held.limit) open_gate (GateTie v.held.limit) (either b (entered_word old stage) found) u.seen
 
       Goal : Bool → Type 0

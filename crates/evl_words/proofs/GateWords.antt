@@ -8,21 +8,21 @@ use native.Mathlib.Decide.{ℕ_discrete}
 use Rattle.std.specs.Prelude.{◌≢◌, not, nat_eq, bit_and, bit_or}
 use Rattle.evl_base.specs.declared.stage.Stage.{Stage}
 use Rattle.evl_base.specs.declared.stage.Stage.TheVariants.{Inband, Oob}
-use Rattle.evl_words.specs.GateWord.{packed, count_in, stage_in, mark_in, stage_bit, mark_bit}
+use Rattle.evl_words.specs.GateWord.{packed_gate, count_in, stage_in, mark_in, stage_bit, mark_bit}
 
-pub count_in-packed : (count : ℕ) (stage : Stage) (marked : Bool) → count < 65536 → count_in (packed count stage marked) ≡ count
+pub count_in-packed : (count : ℕ) (stage : Stage) (marked : Bool) → count < 65536 → count_in (packed_gate count stage marked) ≡ count
 count_in-packed count Inband false small = omega arith
 count_in-packed count Inband true small = omega arith
 count_in-packed count Oob false small = omega arith
 count_in-packed count Oob true small = omega arith
 
-pub stage_in-packed : (count : ℕ) (stage : Stage) (marked : Bool) → count < 65536 → stage_in (packed count stage marked) ≡ stage
+pub stage_in-packed : (count : ℕ) (stage : Stage) (marked : Bool) → count < 65536 → stage_in (packed_gate count stage marked) ≡ stage
 stage_in-packed count Inband false small = let e : (count + 0 + 0) / 1073741824 % 2 ≡ 0 = omega arith in rw e refl
 stage_in-packed count Inband true small = let e : (count + 0 + 2147483648) / 1073741824 % 2 ≡ 0 = omega arith in rw e refl
 stage_in-packed count Oob false small = let e : (count + 1073741824 + 0) / 1073741824 % 2 ≡ 1 = omega arith in rw e refl
 stage_in-packed count Oob true small = let e : (count + 1073741824 + 2147483648) / 1073741824 % 2 ≡ 1 = omega arith in rw e refl
 
-pub mark_in-packed : (count : ℕ) (stage : Stage) (marked : Bool) → count < 65536 → mark_in (packed count stage marked) ≡ marked
+pub mark_in-packed : (count : ℕ) (stage : Stage) (marked : Bool) → count < 65536 → mark_in (packed_gate count stage marked) ≡ marked
 mark_in-packed count Inband false small = let e : (count + 0 + 0) / 2147483648 % 2 ≡ 0 = omega arith in rw e refl
 mark_in-packed count Inband true small = let e : (count + 0 + 2147483648) / 2147483648 % 2 ≡ 1 = omega arith in rw e refl
 mark_in-packed count Oob false small = let e : (count + 1073741824 + 0) / 2147483648 % 2 ≡ 0 = omega arith in rw e refl
@@ -37,11 +37,11 @@ low-lt count Inband small = omega arith
 low-lt count Oob small = omega arith
 
 -- the mark stands above the rest of the word
-in_blocks : (count : ℕ) (stage : Stage) (marked : Bool) → packed count stage marked ≡ mark_bit marked * 2 ^ 31 + low count stage
+in_blocks : (count : ℕ) (stage : Stage) (marked : Bool) → packed_gate count stage marked ≡ mark_bit marked * 2 ^ 31 + low count stage
 unfolding low
 in_blocks count stage marked = omega arith
 
-pub bit_or-packed : (count : ℕ) (stage : Stage) (marked : Bool) → count < 65536 → bit_or (packed count stage marked) 2147483648 ≡ packed count stage true
+pub bit_or-packed : (count : ℕ) (stage : Stage) (marked : Bool) → count < 65536 → bit_or (packed_gate count stage marked) 2147483648 ≡ packed_gate count stage true
 bit_or-packed count stage marked small =
     let below : low count stage < 2 ^ 31 = low-lt count stage small in
     ap (λ n. bit_or n 2147483648) (in_blocks count stage marked) ∙ or_block 31 (mark_bit marked) 1 (low count stage) 0 below (omega arith) ∙ last marked (or_zero_r (low count stage)) ∙ sym (in_blocks count stage true)
@@ -50,7 +50,7 @@ bit_or-packed count stage marked small =
     last false e = ap (λ n. 2147483648 + n) e
     last true e = ap (λ n. 2147483648 + n) e
 
-pub bit_and-packed : (count : ℕ) (stage : Stage) (marked : Bool) → count < 65536 → bit_and (packed count stage marked) 18446744071562067967 ≡ packed count stage false
+pub bit_and-packed : (count : ℕ) (stage : Stage) (marked : Bool) → count < 65536 → bit_and (packed_gate count stage marked) 18446744071562067967 ≡ packed_gate count stage false
 bit_and-packed count stage marked small =
     let below : low count stage < 2 ^ 31 = low-lt count stage small in
     let mask : bit_and (low count stage) (2 ^ 31 - 1) ≡ low count stage % 2 ^ 31 = and_mask (low count stage) 31 in
@@ -62,7 +62,7 @@ bit_and-packed count stage marked small =
     last true e = ap (λ n. 0 + n) e
 
 -- one holder fewer
-pub minus_one-packed : (count : ℕ) (stage : Stage) (marked : Bool) → count < 65536 → (packed (count + 1) stage marked + (2 ^ 64 - 1)) % 2 ^ 64 ≡ packed count stage marked
+pub minus_one-packed : (count : ℕ) (stage : Stage) (marked : Bool) → count < 65536 → (packed_gate (count + 1) stage marked + (2 ^ 64 - 1)) % 2 ^ 64 ≡ packed_gate count stage marked
 minus_one-packed count Inband false small = omega arith
 minus_one-packed count Inband true small = omega arith
 minus_one-packed count Oob false small = omega arith

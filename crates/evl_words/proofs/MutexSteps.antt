@@ -18,9 +18,9 @@ use Rattle.evl_words.specs.declared.mutex.MutexReply.TheVariants.{Passed, Refuse
 use Rattle.evl_words.specs.Machine.{Run}
 use Rattle.evl_words.specs.Events.{world_after}
 use Rattle.evl_words.specs.Parts.{PartTurns}
-use Rattle.evl_words.specs.Mutex.{Mutex, MutexStep, unowned, seized, owned, offered, mutex_machine, mutex_may, mutex_answer, mutex_change, claim_answer, claimed, is_owner, is_seizing, is_offered, is_marked}
+use Rattle.evl_words.specs.Mutex.{Mutex, MutexStep, unowned, seized, owned, offered, mutex_machine, mutex_may, mutex_answer, mutex_change, claim_answer, claimed_word, is_owner, is_seizing, is_offered, is_marked}
 use Rattle.evl_words.specs.MutexBits.{number_in, mutex_word, offer_word, offers_to, claim_reply}
-use Rattle.evl_words.specs.MutexWorld.{MutexView, MutexWorld, MutexTie, MutexKind, IsMutexWorld, MutexDoes, EndsOffered, NamesBelow, tries, unlocks, claims, settles, offers, frees, asks, forgets, awaits, accepts, step_may, step_word, mutex_steps, mutex_author, mutex_entry, role_of, role_claimed, queued, forgotten, owns, wins, HasIt}
+use Rattle.evl_words.specs.MutexWorld.{MutexView, MutexWorld, MutexTie, MutexKind, IsMutexWorld, MutexDoes, EndsOffered, NamesBelow, tries, unlocks, claims, settles, offers, frees, asks, forgets, awaits, accepts, step_may, step_word, mutex_steps, mutex_author, mutex_entry, role_of, role_claimed, queued_role, forgotten, owns, wins, HasIt}
 use Rattle.evl_words.specs.MutexRule.{MutexPart}
 use Rattle.std.proofs.lemmas.List.{length-map}
 use Rattle.evl_base.specs.Limits.{thread_limit}
@@ -87,13 +87,13 @@ offered_is (seized h) k e = absurd (cc)
 offered_is (owned h marked) k e = absurd (cc)
 offered_is (offered h marked) k e = (marked, ap (λ i. offered i marked) (same_seat h k e))
 
-owns-queued : (role : MutexRole) → owns (queued role) ≡ owns role
+owns-queued : (role : MutexRole) → owns (queued_role role) ≡ owns role
 owns-queued Bystander = refl
 owns-queued Winner = refl
 owns-queued Waiter = refl
 owns-queued Owner = refl
 
-wins-queued : (role : MutexRole) → false ≡ wins (queued role)
+wins-queued : (role : MutexRole) → false ≡ wins (queued_role role)
 wins-queued Bystander = refl
 wins-queued Winner = refl
 wins-queued Waiter = refl
@@ -112,25 +112,25 @@ wins-forgotten Waiter = refl
 wins-forgotten Owner = refl
 
 -- what a claim makes of its seat's role
-claim_owner : (m : Mutex) (k : ℕ) (role : MutexRole) → is_owner m k ≡ owns role → is_owner (claimed m k) k ≡ owns (role_claimed (claim_answer m) role)
+claim_owner : (m : Mutex) (k : ℕ) (role : MutexRole) → is_owner m k ≡ owns role → is_owner (claimed_word m k) k ≡ owns (role_claimed (claim_answer m) role)
 claim_owner unowned k role own = refl
 claim_owner (seized h) k role own = own
 claim_owner (owned h marked) k role own = own ∙ sym (owns-queued role)
 claim_owner (offered h marked) k role own = own ∙ sym (owns-queued role)
 
-claim_winner : (m : Mutex) (k : ℕ) (role : MutexRole) → is_seizing m k ≡ wins role → is_seizing (claimed m k) k ≡ wins (role_claimed (claim_answer m) role)
+claim_winner : (m : Mutex) (k : ℕ) (role : MutexRole) → is_seizing m k ≡ wins role → is_seizing (claimed_word m k) k ≡ wins (role_claimed (claim_answer m) role)
 claim_winner unowned k role win = eq-eqb k k refl
 claim_winner (seized h) k role win = win
 claim_winner (owned h marked) k role win = wins-queued role
 claim_winner (offered h marked) k role win = wins-queued role
 
-claim_names : (n : ℕ) (m : Mutex) (k : ℕ) → k < n → NamesBelow n m → NamesBelow n (claimed m k)
+claim_names : (n : ℕ) (m : Mutex) (k : ℕ) → k < n → NamesBelow n m → NamesBelow n (claimed_word m k)
 claim_names n unowned k here below = here
 claim_names n (seized h) k here below = below
 claim_names n (owned h marked) k here below = below
 claim_names n (offered h marked) k here below = below
 
-claim_owns : (m : Mutex) (k : ℕ) → is_owner (claimed m k) k ≡ is_owner m k
+claim_owns : (m : Mutex) (k : ℕ) → is_owner (claimed_word m k) k ≡ is_owner m k
 claim_owns unowned k = refl
 claim_owns (seized h) k = refl
 claim_owns (owned h marked) k = refl

@@ -8,7 +8,7 @@ use native.Mathlib.Decide.{ℕ_discrete}
 use Rattle.std.specs.Prelude.{bit_and, bit_or}
 use Rattle.evl_base.specs.Limits.{thread_limit}
 use Rattle.evl_words.specs.declared.mutex.MutexReply.TheVariants.{Queued}
-use Rattle.evl_words.specs.Mutex.{Mutex, unowned, seized, owned, offered, is_offered, claim_answer, claimed}
+use Rattle.evl_words.specs.Mutex.{Mutex, unowned, seized, owned, offered, is_offered, claim_answer, claimed_word}
 use Rattle.evl_words.specs.MutexBits.{mutex_word, claim_bit, offer_word, number_in, offers_to, claim_reply}
 use Rattle.evl_words.specs.MutexWorld.{NamesBelow}
 
@@ -66,7 +66,7 @@ or_mark : (low : ℕ) (marked : Bool) → low < 2147483648 → bit_or (low + cla
 or_mark low false small = ap (λ n. bit_or n 2147483648) (let e : low + 0 ≡ 0 * 2 ^ 31 + low = omega arith in e) ∙ or_block 31 0 1 low 0 small (omega arith) ∙ (let z = or_zero_r low in let e : 1 * 2 ^ 31 + bit_or low 0 ≡ low + 2147483648 = omega arith in e)
 or_mark low true small = ap (λ n. bit_or n 2147483648) (let e : low + 2147483648 ≡ 1 * 2 ^ 31 + low = omega arith in e) ∙ or_block 31 1 1 low 0 small (omega arith) ∙ (let z = or_zero_r low in let e : 1 * 2 ^ 31 + bit_or low 0 ≡ low + 2147483648 = omega arith in e)
 
-pub mark-word : (m : Mutex) (k : ℕ) → NamesBelow thread_limit m → bit_or (mutex_word m) 2147483648 ≡ mutex_word (claimed m k)
+pub mark-word : (m : Mutex) (k : ℕ) → NamesBelow thread_limit m → bit_or (mutex_word m) 2147483648 ≡ mutex_word (claimed_word m k)
 mark-word unowned k small = refl
 mark-word (seized h) k small = refl
 mark-word (owned h marked) k small = or_mark (h + 1) marked (omega arith)

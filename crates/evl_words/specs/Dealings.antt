@@ -25,8 +25,8 @@ module _ {E H K : Type 0} where
       × (t ≡ record { world = d.world; hands = slice_set (slice_set d.hands id (hand ++ theirs)) other [] })
 
 -- at the opening the word is 0, nothing has happened, and one hand has all seats
-abbrev pub opened : {E H : Type 0} → List (View E H) → Dealing E H
-opened views = record { world = record { word = 0; log = []; views = views }; hands = hand_from 0 views ∷ [] }
+abbrev pub opened_dealing : {E H : Type 0} → List (View E H) → Dealing E H
+opened_dealing views = record { world = record { word = 0; log = []; views = views }; hands = hand_from 0 views ∷ [] }
 
 -- the world stands, no seat is in two hands, and each hand has the views of its seats
 abbrev pub Holds : {E H : Type 0} → (World E H → Type 0) → Dealing E H → Type 0

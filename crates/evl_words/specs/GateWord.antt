@@ -15,11 +15,11 @@ abbrev pub mark_bit : Bool → ℕ
 mark_bit false = 0
 mark_bit true = 1
 
-abbrev pub packed : ℕ → Stage → Bool → ℕ
-packed count stage marked = count + stage_bit stage * 1073741824 + mark_bit marked * 2147483648
+abbrev pub packed_gate : ℕ → Stage → Bool → ℕ
+packed_gate count stage marked = count + stage_bit stage * 1073741824 + mark_bit marked * 2147483648
 
 abbrev pub word_of : Gate → ℕ
-word_of g = packed (length g.holders) g.stage g.marked
+word_of g = packed_gate (length g.holders) g.stage g.marked
 
 abbrev pub count_in : ℕ → ℕ
 count_in word = word % 65536
@@ -36,7 +36,7 @@ word_refusal limit word wanted = entry_refusal limit (count_in word) (stage_in w
 
 -- the word with one holder more, of this stage
 abbrev pub entered_word : ℕ → Stage → ℕ
-entered_word word stage = packed (count_in word + 1) stage (mark_in word)
+entered_word word stage = packed_gate (count_in word + 1) stage (mark_in word)
 
 -- who leaves a gate with this word
 abbrev pub left_in : ℕ → Left

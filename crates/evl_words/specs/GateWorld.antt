@@ -77,13 +77,13 @@ step_word found k v unclaims = bit_and found 18446744071562067967
 step_word found k v peeks = found
 
 -- a seat that wants in makes an entry only where it is refused
-abbrev pub refused : ℕ → Stage → Option Refusal → List GateEntry
-refused k stage None = []
-refused k stage (Some refusal) = gate_entry k (Enter stage) (Refused refusal) ∷ []
+abbrev pub refused_entries : ℕ → Stage → Option Refusal → List GateEntry
+refused_entries k stage None = []
+refused_entries k stage (Some refusal) = gate_entry k (Enter stage) (Refused refusal) ∷ []
 
 abbrev pub step_entries : ℕ → ℕ → GateView → GateKind → List GateEntry
-step_entries found k v (looks stage) = refused k stage (word_refusal v.held.limit found stage)
-step_entries found k v (exchanges stage old) = if found == old then gate_entry k (Enter stage) Entered ∷ [] else refused k stage (word_refusal v.held.limit found stage)
+step_entries found k v (looks stage) = refused_entries k stage (word_refusal v.held.limit found stage)
+step_entries found k v (exchanges stage old) = if found == old then gate_entry k (Enter stage) Entered ∷ [] else refused_entries k stage (word_refusal v.held.limit found stage)
 step_entries found k v leaves = gate_entry k Leave (Left (left_in found)) ∷ []
 step_entries found k v claims = gate_entry k Claim Done ∷ []
 step_entries found k v unclaims = gate_entry k Unclaim Done ∷ []

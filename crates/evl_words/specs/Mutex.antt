@@ -66,22 +66,22 @@ mutex_answer m by Accept = if is_offered m by then Passed else Refused Again
 mutex_answer m by Forget = if is_offered m by then Refused Busy else Done
 mutex_answer m by SeenOffer = Seen (is_offered m by)
 
-abbrev pub tried : Mutex → ℕ → Mutex
-tried unowned by = owned by false
-tried (seized h) by = seized h
-tried (owned h marked) by = owned h marked
-tried (offered h marked) by = offered h marked
+abbrev pub tried_word : Mutex → ℕ → Mutex
+tried_word unowned by = owned by false
+tried_word (seized h) by = seized h
+tried_word (owned h marked) by = owned h marked
+tried_word (offered h marked) by = offered h marked
 
-abbrev pub claimed : Mutex → ℕ → Mutex
-claimed unowned by = seized by
-claimed (seized h) by = seized h
-claimed (owned h marked) by = owned h true
-claimed (offered h marked) by = offered h true
+abbrev pub claimed_word : Mutex → ℕ → Mutex
+claimed_word unowned by = seized by
+claimed_word (seized h) by = seized h
+claimed_word (owned h marked) by = owned h true
+claimed_word (offered h marked) by = offered h true
 
 abbrev pub mutex_change : Mutex → ℕ → MutexCall → Mutex
-mutex_change m by Try = tried m by
+mutex_change m by Try = tried_word m by
 mutex_change m by Unlock = if is_marked m then m else unowned
-mutex_change m by Claim = claimed m by
+mutex_change m by Claim = claimed_word m by
 mutex_change m by Settle = owned by false
 mutex_change m by (Offer next more) = offered next more
 mutex_change m by Free = unowned

@@ -133,15 +133,15 @@ step_entries found k v awaits = if offers_to found k then [] else mutex_entry k 
 step_entries found k v accepts = mutex_entry k Accept Passed ∷ []
 
 -- a claim on a word with an owner makes its seat wait, unless it owns the mutex itself
-abbrev pub queued : MutexRole → MutexRole
-queued Bystander = Waiter
-queued Winner = Waiter
-queued Waiter = Waiter
-queued Owner = Owner
+abbrev pub queued_role : MutexRole → MutexRole
+queued_role Bystander = Waiter
+queued_role Winner = Waiter
+queued_role Waiter = Waiter
+queued_role Owner = Owner
 
 abbrev pub role_claimed : MutexReply → MutexRole → MutexRole
 role_claimed Won role = Winner
-role_claimed (Queued owner) role = queued role
+role_claimed (Queued owner) role = queued_role role
 role_claimed Seizing role = role
 role_claimed Passed role = role
 role_claimed (Refused refusal) role = role

@@ -11,7 +11,7 @@ ghost use Rattle.evl_words.specs.MutexRule.{MutexRule};
 ghost use Rattle.evl_words.specs.Lying.{LiesInWorld};
 ghost use Rattle.evl_words.specs.Machine.{Run};
 ghost use Rattle.evl_words.specs.Events.{Event, Happens};
-ghost use Rattle.evl_words.specs.Dealings.{DealingEvent, DealingStep, Holds, opened};
+ghost use Rattle.evl_words.specs.Dealings.{DealingEvent, DealingStep, Holds, opened_dealing};
 ghost use Rattle.evl_words.specs.Gate.{Gate, GateEntry, GateStep, open_gate, HasOneStage};
 ghost use Rattle.evl_words.specs.GateWord.{count_in, stage_in};
 ghost use Rattle.evl_words.specs.GateWorld.{GateView, GateWorld, GateDealing, GateKind, IsGateWorld, gate_steps, newcomer};
@@ -31,7 +31,7 @@ pub fn gate_events_keep_order()
 
 /// From the opening on it holds after any list of atomic steps, among which hands of seats are split and joined.
 pub fn gate_world_stands()
-    ensures { (limit seats : ℕ) → limit ≤ 1000 → (events : List (DealingEvent GateKind)) (t : GateDealing) → Run (DealingStep gate_steps) (opened (replicate seats (newcomer limit))) events t → Holds (IsGateWorld limit) t }
+    ensures { (limit seats : ℕ) → limit ≤ 1000 → (events : List (DealingEvent GateKind)) (t : GateDealing) → Run (DealingStep gate_steps) (opened_dealing (replicate seats (newcomer limit))) events t → Holds (IsGateWorld limit) t }
 {}
 
 /// What the running rule of a gate's table keeps is what holds of the gate's world, no less and no more: the table lies
@@ -58,7 +58,7 @@ pub fn mutex_events_keep_order()
 
 /// From the opening on it holds after any list of atomic steps, among which hands of seats are split and joined.
 pub fn mutex_world_stands()
-    ensures { (seats : ℕ) → seats ≤ thread_limit → (events : List (DealingEvent MutexKind)) (t : MutexDealing) → Run (DealingStep mutex_steps) (opened (replicate seats (bystander seats))) events t → Holds IsMutexWorld t }
+    ensures { (seats : ℕ) → seats ≤ thread_limit → (events : List (DealingEvent MutexKind)) (t : MutexDealing) → Run (DealingStep mutex_steps) (opened_dealing (replicate seats (bystander seats))) events t → Holds IsMutexWorld t }
 {}
 
 /// So it is of a mutex word's table and the mutex's world.

@@ -3,7 +3,7 @@ use Rattle.std.proofs.Common.{◌≡◌, ℕ, zero, suc, Bool, true, false, List
 use Rattle.std.specs.Option.{option_or}
 use Rattle.evl_xbuf.specs.declared.waiters.Reader.{Reader}
 use Rattle.evl_xbuf.specs.declared.waiters.Writer.{Writer}
-use Rattle.evl_xbuf.specs.Streams.{Stream, Service, Wrote, Got, can_read, fits, given, next_service, read, reader_served, served_from, waiting, writer_served, written}
+use Rattle.evl_xbuf.specs.Streams.{Stream, Service, Wrote, Got, can_read, fits, bytes_given, next_service, bytes_read, reader_served, served_from, waiting, writer_served, bytes_written}
 use Rattle.evl_xbuf.specs.Arrivals.{GoesByArrival, ServicesGoByArrival}
 use Rattle.evl_xbuf.proofs.ServingLaws.{at_rest, goes_on}
 
@@ -16,7 +16,7 @@ reader-goes : (s : Stream) (rs : List Reader) (o : Option (Service × Stream)) �
 reader-goes s [] o e h = h
 reader-goes s (r ∷ rs) o e h = by (can_read s r.len)
   where
-    by : (b : Bool) → Goes s (option_or {T = Service × Stream} (if b then Some (Got r.thread (given s r.len), record (read s r.len) { readers = rs }) else None) o)
+    by : (b : Bool) → Goes s (option_or {T = Service × Stream} (if b then Some (Got r.thread (bytes_given s r.len), record (bytes_read s r.len) { readers = rs }) else None) o)
     by true = λ rest end i. record { readers = ap (map (λ r. r.thread)) e ∙ ap (λ xs. r.thread ∷ xs) i.readers; writers = i.writers }
     by false = h
 
@@ -24,7 +24,7 @@ writer-goes : (s : Stream) (ws : List Writer) → s.writers ≡ ws → Goes s (w
 writer-goes s [] e = tt
 writer-goes s (w ∷ ws) e = by (fits s w.bytes.items)
   where
-    by : (b : Bool) → Goes s (if b then Some (Wrote w.thread, record (written s w.bytes.items) { writers = ws }) else None)
+    by : (b : Bool) → Goes s (if b then Some (Wrote w.thread, record (bytes_written s w.bytes.items) { writers = ws }) else None)
     by true = λ rest end i. record { readers = i.readers; writers = ap (map (λ w. w.thread)) e ∙ ap (λ xs. w.thread ∷ xs) i.writers }
     by false = tt
 

@@ -7,7 +7,7 @@ use Rattle.evl_sync.specs.Steps.{unless}
 use Rattle.evl_xbuf.specs.declared.waiters.Reader.{Reader}
 use Rattle.evl_xbuf.specs.declared.waiters.Writer.{Writer}
 use Rattle.evl_xbuf.specs.Services.{read_by}
-use Rattle.evl_xbuf.specs.Streams.{Stream, Service, Wrote, Got, at_once, can_read, can_write, empty, fits, given, next_service, read, reader_served, served, served_from, waiting, with_bytes, with_reader, with_writer, without, writer_served, written}
+use Rattle.evl_xbuf.specs.Streams.{Stream, Service, Wrote, Got, at_once, can_read, can_write, empty, fits, bytes_given, next_service, bytes_read, reader_served, services_made, served_from, waiting, with_bytes, with_reader, with_writer, without, writer_served, bytes_written}
 use Rattle.evl_xbuf.specs.Flows.{Call, Write, Read, BeginWrite, BeginRead, Drop, Flow, ReadsFollowWrites, flow, flowing, of_begin_read, of_begin_write, of_read, of_write, run, written_by}
 use Rattle.evl_xbuf.proofs.ServingLaws.{at_rest, goes_on}
 
@@ -24,7 +24,7 @@ reader-flows : (s : Stream) (rs : List Reader) (o : Option (Service × Stream)) 
 reader-flows s [] o h = h
 reader-flows s (r ∷ rs) o h = by (can_read s r.len)
   where
-    by : (b : Bool) → Flows s (option_or {T = Service × Stream} (if b then Some (Got r.thread (given s r.len), record (read s r.len) { readers = rs }) else None) o)
+    by : (b : Bool) → Flows s (option_or {T = Service × Stream} (if b then Some (Got r.thread (bytes_given s r.len), record (bytes_read s r.len) { readers = rs }) else None) o)
     by true = λ rest x e.
         ap (λ xs. xs ++ written_by rest s.writers) (sym (take-append-drop r.len s.there)) ∙ append_assoc (take r.len s.there) (drop r.len s.there) (written_by rest s.writers)
         ∙ ap (λ xs. take r.len s.there ++ xs) e ∙ sym (append_assoc (take r.len s.there) (read_by rest) x)
@@ -34,7 +34,7 @@ writer-flows : (s : Stream) (ws : List Writer) → s.writers ≡ ws → Flows s 
 writer-flows s [] e = tt
 writer-flows s (w ∷ ws) e = by (fits s w.bytes.items)
   where
-    by : (b : Bool) → Flows s (if b then Some (Wrote w.thread, record (written s w.bytes.items) { writers = ws }) else None)
+    by : (b : Bool) → Flows s (if b then Some (Wrote w.thread, record (bytes_written s w.bytes.items) { writers = ws }) else None)
     by true = λ rest x h. ap (λ vs. s.there ++ written_by (Wrote w.thread ∷ rest) vs) e ∙ sym (append_assoc s.there w.bytes.items (written_by rest ws)) ∙ h
     by false = tt
 
@@ -52,36 +52,36 @@ served-flows (suc n) s = by (next_service s) refl (served-flows n)
     by (Some (one, mid)) e more = rw (goes_on s mid one n e) (let f : Flows s (Some (one, mid)) = rw e at (next-flows s) in f (served_from n mid).0 (served_from n mid).1.there (more mid))
 
 -- a change, and whom it serves
-write-goes : (s : Stream) (bytes : List ℕ) → Goes s.there (flowing s.writers bytes [] (served (written s bytes)))
-write-goes s bytes = sym (append_assoc s.there bytes (written_by (served (written s bytes)).0 s.writers)) ∙ served-flows (waiting s) (written s bytes)
+write-goes : (s : Stream) (bytes : List ℕ) → Goes s.there (flowing s.writers bytes [] (services_made (bytes_written s bytes)))
+write-goes s bytes = sym (append_assoc s.there bytes (written_by (services_made (bytes_written s bytes)).0 s.writers)) ∙ served-flows (waiting s) (bytes_written s bytes)
 
-read-goes : (s : Stream) (len : ℕ) → Goes s.there (flowing s.writers [] (given s len) (served (read s len)))
+read-goes : (s : Stream) (len : ℕ) → Goes s.there (flowing s.writers [] (bytes_given s len) (services_made (bytes_read s len)))
 read-goes s len =
-    let ss = (served (read s len)).0 in
+    let ss = (services_made (bytes_read s len)).0 in
     ap (λ xs. xs ++ written_by ss s.writers) (sym (take-append-drop len s.there)) ∙ append_assoc (take len s.there) (drop len s.there) (written_by ss s.writers)
-    ∙ ap (λ xs. take len s.there ++ xs) (served-flows (waiting s) (read s len)) ∙ sym (append_assoc (take len s.there) (read_by ss) (served (read s len)).1.there)
+    ∙ ap (λ xs. take len s.there ++ xs) (served-flows (waiting s) (bytes_read s len)) ∙ sym (append_assoc (take len s.there) (read_by ss) (services_made (bytes_read s len)).1.there)
 
 call-goes : (call : Call) (s : Stream) → Goes s.there (flow call s)
 call-goes (Write bytes) s = by (nat_lt s.size (length bytes)) (can_write s bytes)
   where
-    by : (big can : Bool) → Goes s.there (of_write s bytes (unless (if big then Some TooBig else None) (if can then Ok (served (written s bytes)) else Err Again)))
+    by : (big can : Bool) → Goes s.there (of_write s bytes (unless (if big then Some TooBig else None) (if can then Ok (services_made (bytes_written s bytes)) else Err Again)))
     by true can = append-nil s.there
     by false true = write-goes s bytes
     by false false = append-nil s.there
 call-goes (Read len) s = by (can_read s len)
   where
-    by : (can : Bool) → Goes s.there (of_read s (if can then Ok (with_bytes (given s len) (served (read s len))) else Err Again))
+    by : (can : Bool) → Goes s.there (of_read s (if can then Ok (with_bytes (bytes_given s len) (services_made (bytes_read s len))) else Err Again))
     by true = read-goes s len
     by false = append-nil s.there
 call-goes (BeginWrite thread bytes) s = by (nat_lt s.size (length bytes)) (can_write s bytes)
   where
-    by : (big can : Bool) → Goes s.there (of_begin_write s bytes (unless (if big then Some TooBig else None) (Ok (if can then at_once (served (written s bytes)) else (None, with_writer s thread bytes)))))
+    by : (big can : Bool) → Goes s.there (of_begin_write s bytes (unless (if big then Some TooBig else None) (Ok (if can then at_once (services_made (bytes_written s bytes)) else (None, with_writer s thread bytes)))))
     by true can = append-nil s.there
     by false true = write-goes s bytes
     by false false = append-nil s.there
 call-goes (BeginRead thread len) s = by (can_read s len)
   where
-    by : (can : Bool) → Goes s.there (of_begin_read s (if can then at_once (with_bytes (given s len) (served (read s len))) else (None, with_reader s thread len)))
+    by : (can : Bool) → Goes s.there (of_begin_read s (if can then at_once (with_bytes (bytes_given s len) (services_made (bytes_read s len))) else (None, with_reader s thread len)))
     by true = read-goes s len
     by false = append-nil s.there
 call-goes (Drop thread) s = served-flows (waiting (without s thread)) (without s thread)

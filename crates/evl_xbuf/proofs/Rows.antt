@@ -21,7 +21,7 @@ reader thread len = record { thread = thread; len = len }
 abbrev holds : List ℕ → Xbuf
 holds bytes = record { inbound = record { size = 4; there = bytes; writers = []; readers = [] }; outbound = streams.empty 4 }
 
-fresh : xbufs.opened 4 4 ≡ holds []
+fresh : xbufs.opened_xbuf 4 4 ≡ holds []
 fresh = refl
 
 cross_buffer-write : xbufs.try_write Inband In (0x61 ∷ 0x62 ∷ 0x63 ∷ 0x64 ∷ []) (holds []) ≡ Ok ([], holds (0x61 ∷ 0x62 ∷ 0x63 ∷ 0x64 ∷ []))

@@ -5,7 +5,7 @@ use Rattle.std.proofs.lemmas.List.{take-append-drop}
 use Rattle.evl_base.specs.Limits.{thread_limit}
 use Rattle.evl_sync.proofs.QueueLaws.{few_kept}
 use Rattle.evl_xbuf.specs.declared.waiters.Reader.{Reader}
-use Rattle.evl_xbuf.specs.Streams.{HasOneQueue, IsKeptStream, Stream, Service, Got, can_read, given, next_service, preceded_by, read, reader_served, served_from, waiting}
+use Rattle.evl_xbuf.specs.Streams.{HasOneQueue, IsKeptStream, Stream, Service, Got, can_read, bytes_given, next_service, preceded_by, bytes_read, reader_served, served_from, waiting}
 use Rattle.evl_xbuf.specs.Services.{read_by}
 use Rattle.evl_xbuf.specs.Serving.{Fit, ServesOne, Serves}
 use Rattle.evl_xbuf.proofs.ServedLaws.{read_by-append}
@@ -34,9 +34,9 @@ serves-begin s h q = record {
 -- the reader at the head is served
 pub reader-serves : (mid : Stream) (r : Reader) (done : List Service) → can_read mid r.len ≡ true
     → HasOneQueue (record mid { readers = r ∷ mid.readers }) → Fit done (record mid { readers = r ∷ mid.readers })
-    → ServesOne (record mid { readers = r ∷ mid.readers }) done (read mid r.len) (done ++ Got r.thread (given mid r.len) ∷ [])
+    → ServesOne (record mid { readers = r ∷ mid.readers }) done (bytes_read mid r.len) (done ++ Got r.thread (bytes_given mid r.len) ∷ [])
 reader-serves mid r done can q fit = record {
-  one = Got r.thread (given mid r.len);
+  one = Got r.thread (bytes_given mid r.len);
   is = rw can refl;
   told = refl;
   fewer = omega arith;
@@ -44,19 +44,19 @@ reader-serves mid r done can q fit = record {
   fit = within fit;
 }
   where
-    queue : HasOneQueue (record mid { readers = r ∷ mid.readers }) → HasOneQueue (read mid r.len)
+    queue : HasOneQueue (record mid { readers = r ∷ mid.readers }) → HasOneQueue (bytes_read mid r.len)
     queue (inl e) = inl e
     queue (inr e) = absurd (cc)
 
-    within : Fit done (record mid { readers = r ∷ mid.readers }) → Fit (done ++ Got r.thread (given mid r.len) ∷ []) (read mid r.len)
+    within : Fit done (record mid { readers = r ∷ mid.readers }) → Fit (done ++ Got r.thread (bytes_given mid r.len) ∷ []) (bytes_read mid r.len)
     within (inl e) = absurd (cc)
     within (inr l) =
         let parts = ap length (take-append-drop r.len mid.there) in
-        inr (rw (read_by-append done (Got r.thread (given mid r.len) ∷ []), append-nil (take r.len mid.there)) (omega (arith, l, parts, length-append (read_by done) (take r.len mid.there), length-append (take r.len mid.there) (drop r.len mid.there))))
+        inr (rw (read_by-append done (Got r.thread (bytes_given mid r.len) ∷ []), append-nil (take r.len mid.there)) (omega (arith, l, parts, length-append (read_by done) (take r.len mid.there), length-append (take r.len mid.there) (drop r.len mid.there))))
 
 pub can_be_read : (s : Stream) (r : Reader) (rs : List Reader) → is_some (reader_served (r ∷ rs) s) ≡ true → can_read s r.len ≡ true
 can_be_read s r rs e = by (can_read s r.len) e
   where
-    by : (b : Bool) → is_some {T = Service × Stream} (if b then Some (Got r.thread (given s r.len), record (read s r.len) { readers = rs }) else None) ≡ true → b ≡ true
+    by : (b : Bool) → is_some {T = Service × Stream} (if b then Some (Got r.thread (bytes_given s r.len), record (bytes_read s r.len) { readers = rs }) else None) ≡ true → b ≡ true
     by true h = refl
     by false h = cc

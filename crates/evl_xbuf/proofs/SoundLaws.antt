@@ -8,17 +8,17 @@ use Rattle.std.proofs.lemmas.List.{take-append-drop}
 use Rattle.std.proofs.lemmas.Option.{none-some}
 use Rattle.evl_base.specs.Limits.{thread_limit}
 use Rattle.evl_base.specs.declared.refusal.Refusal.TheVariants.{TooBig}
-use Rattle.evl_sync.specs.Queues.{dropped, is_nobody, stands_in}
+use Rattle.evl_sync.specs.Queues.{dropped_by, is_nobody, stands_in}
 use Rattle.evl_xbuf.specs.declared.waiters.Reader.{Reader}
 use Rattle.evl_xbuf.specs.declared.waiters.Writer.{Writer}
-use Rattle.evl_xbuf.specs.Streams.{HasOneQueue, IsAtRest, IsKeptStream, IsSoundStream, Stream, Service, Wrote, Got, can_read, can_write, drop_waiter, empty, fits, given, is_empty, next_service, read, reader_served, served, served_from, too_big, waiting, with_reader, with_writer, without, writer_served, written}
+use Rattle.evl_xbuf.specs.Streams.{HasOneQueue, IsAtRest, IsKeptStream, IsSoundStream, Stream, Service, Wrote, Got, can_read, can_write, drop_waiter, empty, fits, bytes_given, is_empty, next_service, bytes_read, reader_served, services_made, served_from, too_big, waiting, with_reader, with_writer, without, writer_served, bytes_written}
 use Rattle.evl_xbuf.proofs.StreamLaws.{kept-reader, kept-reader_gone, kept-without, kept-writer, kept-writer_gone}
 use Rattle.evl_xbuf.proofs.ServingLaws.{at_rest, goes_on}
 
-kept-written : (s : Stream) (bytes : List ℕ) → length s.there + length bytes ≤ s.size → IsKeptStream s → IsKeptStream (written s bytes)
+kept-written : (s : Stream) (bytes : List ℕ) → length s.there + length bytes ≤ s.size → IsKeptStream s → IsKeptStream (bytes_written s bytes)
 kept-written s bytes l h = record { few = h.few; within = omega (arith, l, length-append s.there bytes); short = h.short; writers = h.writers; readers = h.readers }
 
-pub kept-read : (s : Stream) (len : ℕ) → IsKeptStream s → IsKeptStream (read s len)
+pub kept-read : (s : Stream) (len : ℕ) → IsKeptStream s → IsKeptStream (bytes_read s len)
 kept-read s len h = record {
   few = h.few;
   within = let parts = ap length (take-append-drop len s.there) in omega (arith, h.within, parts, length-append (take len s.there) (drop len s.there));
@@ -36,25 +36,25 @@ reader-keeps : (s : Stream) (rs : List Reader) (o : Option (Service × Stream)) 
 reader-keeps s [] o h e k = k
 reader-keeps s (r ∷ rs) o h e k = by (can_read s r.len)
   where
-    queue : HasOneQueue s → HasOneQueue (record (read s r.len) { readers = rs })
+    queue : HasOneQueue s → HasOneQueue (record (bytes_read s r.len) { readers = rs })
     queue (inl none) = inl none
     queue (inr none) = absurd (cc)
 
-    by : (b : Bool) → Keeps s (option_or {T = Service × Stream} (if b then Some (Got r.thread (given s r.len), record (read s r.len) { readers = rs }) else None) o)
-    by true = (kept-reader_gone (read s r.len) rs (sym (ap (λ (xs : List Reader). remove xs 0) e)) (kept-read s r.len h), queue, let l = ap length e in omega (arith, l))
+    by : (b : Bool) → Keeps s (option_or {T = Service × Stream} (if b then Some (Got r.thread (bytes_given s r.len), record (bytes_read s r.len) { readers = rs }) else None) o)
+    by true = (kept-reader_gone (bytes_read s r.len) rs (sym (ap (λ (xs : List Reader). remove xs 0) e)) (kept-read s r.len h), queue, let l = ap length e in omega (arith, l))
     by false = k
 
 writer-keeps : (s : Stream) (ws : List Writer) → IsKeptStream s → s.writers ≡ ws → Keeps s (writer_served ws s)
 writer-keeps s [] h e = tt
 writer-keeps s (w ∷ ws) h e = by (fits s w.bytes.items) refl
   where
-    queue : HasOneQueue s → HasOneQueue (record (written s w.bytes.items) { writers = ws })
+    queue : HasOneQueue s → HasOneQueue (record (bytes_written s w.bytes.items) { writers = ws })
     queue (inl none) = absurd (cc)
     queue (inr none) = inr none
 
-    by : (b : Bool) → fits s w.bytes.items ≡ b → Keeps s (if b then Some (Wrote w.thread, record (written s w.bytes.items) { writers = ws }) else None)
+    by : (b : Bool) → fits s w.bytes.items ≡ b → Keeps s (if b then Some (Wrote w.thread, record (bytes_written s w.bytes.items) { writers = ws }) else None)
     by true fit = (
-      kept-writer_gone (written s w.bytes.items) ws (sym (ap (λ (xs : List Writer). remove xs 0) e)) (kept-written s w.bytes.items (leb-true _ _ fit) h),
+      kept-writer_gone (bytes_written s w.bytes.items) ws (sym (ap (λ (xs : List Writer). remove xs 0) e)) (kept-written s w.bytes.items (leb-true _ _ fit) h),
       queue,
       let l = ap length e in omega (arith, l),
     )
@@ -81,11 +81,11 @@ served-keeps (suc n) s few h q = by (next_service s) refl (next-keeps s h) (serv
     by None e k rest = rw (at_rest s e (suc n)) (record { kept = h; rest = record { rests = e; one_queue = q } })
     by (Some (one, mid)) e k rest = rw (goes_on s mid one n e) (rest mid (omega (arith, few, k.2)) k.0 (k.1 q))
 
-pub sound-served : (s : Stream) → IsKeptStream s → HasOneQueue s → IsSoundStream (served s).1
+pub sound-served : (s : Stream) → IsKeptStream s → HasOneQueue s → IsSoundStream (services_made s).1
 sound-served s h q = served-keeps (waiting s) s (omega arith) h q
 
 -- a write that is done
-pub kept-can_write : (s : Stream) (bytes : List ℕ) → IsSoundStream s → can_write s bytes ≡ true → IsKeptStream (written s bytes)
+pub kept-can_write : (s : Stream) (bytes : List ℕ) → IsSoundStream s → can_write s bytes ≡ true → IsKeptStream (bytes_written s bytes)
 kept-can_write s bytes h can = kept-written s bytes (room bytes can) h.kept
   where
     behind : (a b : Bool) → (a && b) ≡ true → b ≡ true
@@ -96,32 +96,32 @@ kept-can_write s bytes h can = kept-written s bytes (room bytes can) h.kept
     room [] e = let l = h.kept.within in omega (arith, l)
     room (byte ∷ bs) e = leb-true _ _ (behind (is_nobody s.writers) (fits s (byte ∷ bs)) e)
 
-pub sound-written : (s : Stream) (bytes : List ℕ) → IsSoundStream s → can_write s bytes ≡ true → IsSoundStream (served (written s bytes)).1
-sound-written s bytes h can = sound-served (written s bytes) (kept-can_write s bytes h can) h.rest.one_queue
+pub sound-written : (s : Stream) (bytes : List ℕ) → IsSoundStream s → can_write s bytes ≡ true → IsSoundStream (services_made (bytes_written s bytes)).1
+sound-written s bytes h can = sound-served (bytes_written s bytes) (kept-can_write s bytes h can) h.rest.one_queue
 
 -- a read that is done
-pub sound-read : (s : Stream) (len : ℕ) → IsSoundStream s → IsSoundStream (served (read s len)).1
-sound-read s len h = sound-served (read s len) (kept-read s len h.kept) h.rest.one_queue
+pub sound-read : (s : Stream) (len : ℕ) → IsSoundStream s → IsSoundStream (services_made (bytes_read s len)).1
+sound-read s len h = sound-served (bytes_read s len) (kept-read s len h.kept) h.rest.one_queue
 
 -- a waiter that leaves
 pub sound-dropped : (s : Stream) (t : ℕ) → IsSoundStream s → IsSoundStream (drop_waiter t s).1
 sound-dropped s t h = sound-served (without s t) (kept-without s t h.kept) (queue h.rest.one_queue)
   where
     queue : HasOneQueue s → HasOneQueue (without s t)
-    queue (inl none) = inl (ap (dropped (λ w. w.thread) t) none)
-    queue (inr none) = inr (ap (dropped (λ r. r.thread) t) none)
+    queue (inl none) = inl (ap (dropped_by (λ w. w.thread) t) none)
+    queue (inr none) = inr (ap (dropped_by (λ r. r.thread) t) none)
 
 -- the writer at the head can't be served where nobody reads, and the reader at the head can't be where nobody writes
 writer_stuck : (x : Stream) (w : Writer) (ws : List Writer) → x.readers ≡ [] → x.writers ≡ w ∷ ws
-    → next_service x ≡ (if fits x w.bytes.items then Some (Wrote w.thread, record (written x w.bytes.items) { writers = ws }) else None)
+    → next_service x ≡ (if fits x w.bytes.items then Some (Wrote w.thread, record (bytes_written x w.bytes.items) { writers = ws }) else None)
 writer_stuck x w ws r e = ap (λ rs. option_or (reader_served rs x) (writer_served x.writers x)) r ∙ ap (λ vs. writer_served vs x) e
 
 reader_stuck : (x : Stream) (r : Reader) (rs : List Reader) → x.readers ≡ r ∷ rs → x.writers ≡ []
-    → next_service x ≡ (if can_read x r.len then Some (Got r.thread (given x r.len), record (read x r.len) { readers = rs }) else None)
+    → next_service x ≡ (if can_read x r.len then Some (Got r.thread (bytes_given x r.len), record (bytes_read x r.len) { readers = rs }) else None)
 reader_stuck x r rs e w = ap (λ vs. option_or (reader_served vs x) (writer_served x.writers x)) e ∙ by (can_read x r.len)
   where
-    by : (b : Bool) → option_or {T = Service × Stream} (if b then Some (Got r.thread (given x r.len), record (read x r.len) { readers = rs }) else None) (writer_served x.writers x)
-        ≡ (if b then Some (Got r.thread (given x r.len), record (read x r.len) { readers = rs }) else None)
+    by : (b : Bool) → option_or {T = Service × Stream} (if b then Some (Got r.thread (bytes_given x r.len), record (bytes_read x r.len) { readers = rs }) else None) (writer_served x.writers x)
+        ≡ (if b then Some (Got r.thread (bytes_given x r.len), record (bytes_read x r.len) { readers = rs }) else None)
     by true = refl
     by false = ap (λ vs. writer_served vs x) w
 

@@ -1,6 +1,6 @@
 -- The queues go by arrival alone.
 use Rattle.std.specs.Prelude.{ℕ, ◌≡◌, List, [], ◌∷◌, ◌++◌, map}
-use Rattle.evl_xbuf.specs.Streams.{Stream, Service, Wrote, Got, served}
+use Rattle.evl_xbuf.specs.Streams.{Stream, Service, Wrote, Got, services_made}
 
 -- the readers that were served, in order
 abbrev pub readers_in : List Service → List ℕ
@@ -20,4 +20,4 @@ pub record GoesByArrival (s : Stream) (services : List Service) (after : Stream)
   pub writers : map (λ w. w.thread) s.writers ≡ writers_in services ++ map (λ w. w.thread) after.writers
 
 abbrev pub ServicesGoByArrival : Type 0
-ServicesGoByArrival = (s : Stream) → GoesByArrival s (served s).0 (served s).1
+ServicesGoByArrival = (s : Stream) → GoesByArrival s (services_made s).0 (services_made s).1

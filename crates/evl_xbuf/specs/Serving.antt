@@ -1,7 +1,7 @@
 -- Serving waiters one by one, as it goes on.
 use Rattle.std.specs.Prelude.{suc, ◌≡◌, ◌≤◌, ◌⊎◌, ◌+◌, List, [], ◌∷◌, ◌++◌, length, Some}
 use Rattle.evl_base.specs.Limits.{thread_limit}
-use Rattle.evl_xbuf.specs.Streams.{HasOneQueue, Stream, Service, next_service, served, waiting}
+use Rattle.evl_xbuf.specs.Streams.{HasOneQueue, Stream, Service, next_service, services_made, waiting}
 use Rattle.evl_xbuf.specs.Services.{read_by}
 
 -- readers are served with what is there alone
@@ -22,7 +22,7 @@ after_these done (others, end) = (done ++ others, end)
 
 -- some were served, and the rest is yet to be served
 pub record Serves (start : Stream) (done : List Service) (now : Stream) : Type 0 where
-  pub whole : after_these done (served now) ≡ served start
+  pub whole : after_these done (services_made now) ≡ services_made start
   pub one_queue : HasOneQueue now
   pub few : length done + waiting now ≤ thread_limit
   pub fit : Fit done now

@@ -4,7 +4,7 @@ use Rattle.std.specs.List.{AllByRecursion}
 use Rattle.std.specs.Option.{option_or}
 use Rattle.evl_base.specs.declared.refusal.Refusal.{Refusal}
 use Rattle.evl_base.specs.declared.refusal.Refusal.TheVariants.{Again, Range, TooBig}
-use Rattle.evl_sync.specs.Queues.{dropped, is_nobody, IsKept}
+use Rattle.evl_sync.specs.Queues.{dropped_by, is_nobody, IsKept}
 use Rattle.evl_sync.specs.Steps.{unless}
 use Rattle.evl_xbuf.specs.declared.waiters.Reader.{Reader}
 use Rattle.evl_xbuf.specs.declared.waiters.Writer.{Writer}
@@ -47,15 +47,15 @@ too_big s bytes = if nat_lt s.size (length bytes) then Some TooBig else None
 abbrev pub out_of_range : ℕ → Option Refusal
 out_of_range len = if nat_lt 256 len then Some Range else None
 
-abbrev pub written : Stream → List ℕ → Stream
-written s bytes = record s { there = s.there ++ bytes }
+abbrev pub bytes_written : Stream → List ℕ → Stream
+bytes_written s bytes = record s { there = s.there ++ bytes }
 
 -- what a read gives: the next bytes, as many as are wanted or are there
-abbrev pub given : Stream → ℕ → List ℕ
-given s len = take len s.there
+abbrev pub bytes_given : Stream → ℕ → List ℕ
+bytes_given s len = take len s.there
 
-abbrev pub read : Stream → ℕ → Stream
-read s len = record s { there = drop len s.there }
+abbrev pub bytes_read : Stream → ℕ → Stream
+bytes_read s len = record s { there = drop len s.there }
 
 abbrev pub with_writer : Stream → ℕ → List ℕ → Stream
 with_writer s thread bytes = record s { writers = s.writers ++ record { thread = thread; bytes = record { items = bytes } } ∷ [] }
@@ -64,7 +64,7 @@ abbrev pub with_reader : Stream → ℕ → ℕ → Stream
 with_reader s thread len = record s { readers = s.readers ++ record { thread = thread; len = len } ∷ [] }
 
 abbrev pub without : Stream → ℕ → Stream
-without s thread = record s { writers = dropped (λ w. w.thread) thread s.writers; readers = dropped (λ r. r.thread) thread s.readers }
+without s thread = record s { writers = dropped_by (λ w. w.thread) thread s.writers; readers = dropped_by (λ r. r.thread) thread s.readers }
 
 -- a waiter that was served, and with which bytes where it was a reader
 pub data Service : Type 0 where
@@ -74,12 +74,12 @@ pub data Service : Type 0 where
 -- the reader at the head of its queue, where it can be served
 abbrev pub reader_served : List Reader → Stream → Option (Service × Stream)
 reader_served [] s = None
-reader_served (r ∷ rs) s = if can_read s r.len then Some (Got r.thread (given s r.len), record (read s r.len) { readers = rs }) else None
+reader_served (r ∷ rs) s = if can_read s r.len then Some (Got r.thread (bytes_given s r.len), record (bytes_read s r.len) { readers = rs }) else None
 
 -- the writer at the head of its queue, where it can be served
 abbrev pub writer_served : List Writer → Stream → Option (Service × Stream)
 writer_served [] s = None
-writer_served (w ∷ ws) s = if fits s w.bytes.items then Some (Wrote w.thread, record (written s w.bytes.items) { writers = ws }) else None
+writer_served (w ∷ ws) s = if fits s w.bytes.items then Some (Wrote w.thread, record (bytes_written s w.bytes.items) { writers = ws }) else None
 
 abbrev pub next_service : Stream → Option (Service × Stream)
 next_service s = option_or (reader_served s.readers s) (writer_served s.writers s)
@@ -101,33 +101,33 @@ abbrev pub waiting : Stream → ℕ
 waiting s = length s.readers + length s.writers
 
 -- whom a change serves, in order, and the way after that
-abbrev pub served : Stream → List Service × Stream
-served s = served_from (waiting s) s
+abbrev pub services_made : Stream → List Service × Stream
+services_made s = served_from (waiting s) s
 
 -- the calls, each as one step of a way: what it answers, and the way after it
 
 abbrev pub try_write : List ℕ → Stream → Result (List Service × Stream) Refusal
-try_write bytes s = unless (too_big s bytes) (if can_write s bytes then Ok (served (written s bytes)) else Err Again)
+try_write bytes s = unless (too_big s bytes) (if can_write s bytes then Ok (services_made (bytes_written s bytes)) else Err Again)
 
 abbrev pub with_bytes : List ℕ → List Service × Stream → (List ℕ × List Service) × Stream
 with_bytes bytes (services, after) = ((bytes, services), after)
 
 abbrev pub try_read : ℕ → Stream → Result ((List ℕ × List Service) × Stream) Refusal
-try_read len s = if can_read s len then Ok (with_bytes (given s len) (served (read s len))) else Err Again
+try_read len s = if can_read s len then Ok (with_bytes (bytes_given s len) (services_made (bytes_read s len))) else Err Again
 
 abbrev pub at_once : {A : Type 0} → A × Stream → Option A × Stream
 at_once (answer, after) = (Some answer, after)
 
 -- none where the thread begins to wait
 abbrev pub begin_write : ℕ → List ℕ → Stream → Result (Option (List Service) × Stream) Refusal
-begin_write thread bytes s = unless (too_big s bytes) (Ok (if can_write s bytes then at_once (served (written s bytes)) else (None, with_writer s thread bytes)))
+begin_write thread bytes s = unless (too_big s bytes) (Ok (if can_write s bytes then at_once (services_made (bytes_written s bytes)) else (None, with_writer s thread bytes)))
 
 -- none where the thread begins to wait
 abbrev pub begin_read : ℕ → ℕ → Stream → Option (List ℕ × List Service) × Stream
-begin_read thread len s = if can_read s len then at_once (with_bytes (given s len) (served (read s len))) else (None, with_reader s thread len)
+begin_read thread len s = if can_read s len then at_once (with_bytes (bytes_given s len) (services_made (bytes_read s len))) else (None, with_reader s thread len)
 
 abbrev pub drop_waiter : ℕ → Stream → List Service × Stream
-drop_waiter thread s = served (without s thread)
+drop_waiter thread s = services_made (without s thread)
 
 -- at most one of the two queues has anybody
 abbrev pub HasOneQueue : Stream → Type 0

@@ -15,8 +15,8 @@ pub record Xbuf : Type 0 where
   pub outbound : Stream
 
 -- the size of the ring of way `In`, and that of way `Out`
-abbrev pub opened : ℕ → ℕ → Xbuf
-opened inbound outbound = record { inbound = empty inbound; outbound = empty outbound }
+abbrev pub opened_xbuf : ℕ → ℕ → Xbuf
+opened_xbuf inbound outbound = record { inbound = empty inbound; outbound = empty outbound }
 
 abbrev pub stream : Xbuf → Way → Stream
 stream x In = x.inbound
@@ -44,11 +44,11 @@ abbrev pub stage_refusal : Stage → Stage → Option Refusal
 stage_refusal wanted stage = if same_stage wanted stage then None else Some WrongStage
 
 -- a step of one way leaves the other as it is
-abbrev pub beside : {A : Type 0} → Xbuf → Way → A × Stream → A × Xbuf
-beside x way (answer, after) = (answer, with_stream x way after)
+abbrev pub with_other_way : {A : Type 0} → Xbuf → Way → A × Stream → A × Xbuf
+with_other_way x way (answer, after) = (answer, with_stream x way after)
 
 abbrev pub unless_refused : {A : Type 0} → Xbuf → Way → Result (A × Stream) Refusal → Result (A × Xbuf) Refusal
-unless_refused x way (Ok step) = Ok (beside x way step)
+unless_refused x way (Ok step) = Ok (with_other_way x way step)
 unless_refused x way (Err refusal) = Err refusal
 
 -- the calls, each as one step of a cross-buffer: what it answers, and the buffer after it
@@ -67,10 +67,10 @@ begin_write thread stage way bytes x =
 
 abbrev pub begin_read : ℕ → Stage → Way → ℕ → Xbuf → Result (Option (List ℕ × List Service) × Xbuf) Refusal
 begin_read thread stage way len x =
-    unless (out_of_range len) (unless (stage_refusal (reading_stage way) stage) (Ok (beside x way (streams.begin_read thread len (stream x way)))))
+    unless (out_of_range len) (unless (stage_refusal (reading_stage way) stage) (Ok (with_other_way x way (streams.begin_read thread len (stream x way)))))
 
 abbrev pub drop_waiter : ℕ → Way → Xbuf → List Service × Xbuf
-drop_waiter thread way x = beside x way (streams.drop_waiter thread (stream x way))
+drop_waiter thread way x = with_other_way x way (streams.drop_waiter thread (stream x way))
 
 -- what is known of a cross-buffer
 pub record IsSoundXbuf (x : Xbuf) : Type 0 where

@@ -4,9 +4,9 @@ ghost use Rattle.std.specs.Option.{option_map};
 ghost use Rattle.evl_base.specs.Limits.{thread_limit};
 ghost use Rattle.evl_base.specs.declared.refusal.Refusal.{Refusal};
 ghost use Rattle.evl_sync.specs.Queues.{stands_in};
-ghost use Rattle.evl_sync.specs.Steps.{stepped};
+ghost use Rattle.evl_sync.specs.Steps.{step_by};
 ghost use Rattle.evl_xbuf.specs.Streams.{room};
-ghost use Rattle.evl_xbuf.specs.Xbufs.{IsSoundXbuf, begin_read, begin_write, drop_waiter, opened, same_stage, reading_stage, stream, try_read, try_write, writing_stage};
+ghost use Rattle.evl_xbuf.specs.Xbufs.{IsSoundXbuf, begin_read, begin_write, drop_waiter, opened_xbuf, same_stage, reading_stage, stream, try_read, try_write, writing_stage};
 
 mod likeness;
 mod telling;
@@ -45,7 +45,7 @@ impl<A: Allocator + Clone> XbufOf<A> {
     pub fn new(alloc: A, inbound: u16, outbound: u16) -> Result<XbufOf<A>, Refusal>
         requires inbound { inbound ≤ 256 }
         requires outbound { outbound ≤ 256 }
-        ensures opened { IfOk result (λ x. x ≡ opened inbound outbound) }
+        ensures opened_xbuf { IfOk result (λ x. x ≡ opened_xbuf inbound outbound) }
         ensures refusal { IfErr result (λ e. e ≡ Refusal.NoMemory) }
     {
         XbufOf::with_room(alloc, inbound, outbound).map_err(|_| Refusal::NoMemory)
@@ -54,7 +54,7 @@ impl<A: Allocator + Clone> XbufOf<A> {
     fn with_room(alloc: A, inbound: u16, outbound: u16) -> Result<XbufOf<A>, AllocError>
         requires inbound { inbound ≤ 256 }
         requires outbound { outbound ≤ 256 }
-        ensures opened { IfOk result (λ x. x ≡ opened inbound outbound) }
+        ensures opened_xbuf { IfOk result (λ x. x ≡ opened_xbuf inbound outbound) }
     {
         let inbound = Stream::new(alloc.clone()?, inbound)?;
         let outbound = Stream::new(alloc, outbound)?;
@@ -68,7 +68,7 @@ impl<A: Allocator> XbufOf<A> {
     /// stage; `TooBig` where the bytes are longer than the ring; `Again` where a writer waits or the bytes don't fit. A
     /// write of no bytes is always accepted. (Xenomai 4: EVL cross-buffer; this profile)
     pub fn try_write(&mut self, stage: Stage, way: Way, bytes: &[u8]) -> Result<Services, Refusal>
-        ensures step { stepped (λ served. served) result self.new ≡ try_write stage way bytes.now self.old }
+        ensures step { step_by (λ served. served) result self.new ≡ try_write stage way bytes.now self.old }
         ensures refused { IfErr result (λ e. self.new ≡ self.old) }
     {
         let mut told = Services::new();
@@ -88,7 +88,7 @@ impl<A: Allocator> XbufOf<A> {
         way: Way,
         len: u16,
     ) -> Result<(Bytes, Services), Refusal>
-        ensures step { stepped (λ told. (told.0.items, told.1)) result self.new ≡ try_read stage way len self.old }
+        ensures step { step_by (λ told. (told.0.items, told.1)) result self.new ≡ try_read stage way len self.old }
         ensures refused { IfErr result (λ e. self.new ≡ self.old) }
     {
         let mut got = ArrayVec::new();
@@ -112,7 +112,7 @@ impl<A: Allocator> XbufOf<A> {
     ) -> Result<Option<Services>, Refusal>
         requires away { stands_in (λ w. w.thread) thread.0 (stream self.old way).writers ≡ false }
         requires few { thread.0 < thread_limit }
-        ensures step { stepped (λ served. served) result self.new ≡ begin_write thread.0 stage way bytes.now self.old }
+        ensures step { step_by (λ served. served) result self.new ≡ begin_write thread.0 stage way bytes.now self.old }
         ensures refused { IfErr result (λ e. self.new ≡ self.old) }
     {
         let mut told = Services::new();
@@ -136,7 +136,7 @@ impl<A: Allocator> XbufOf<A> {
     ) -> Result<Option<(Bytes, Services)>, Refusal>
         requires away { stands_in (λ r. r.thread) thread.0 (stream self.old way).readers ≡ false }
         requires few { thread.0 < thread_limit }
-        ensures step { stepped (λ told. option_map (λ t. (t.0.items, t.1)) told) result self.new ≡ begin_read thread.0 stage way len self.old }
+        ensures step { step_by (λ told. option_map (λ t. (t.0.items, t.1)) told) result self.new ≡ begin_read thread.0 stage way len self.old }
         ensures refused { IfErr result (λ e. self.new ≡ self.old) }
     {
         let mut told = Services::new();

@@ -3,7 +3,7 @@ use Rattle.std.specs.Prelude.{◌≡◌, ◌⊎◌, ℕ, List, ◌++◌, codes, 
 use Rattle.evl_kernel.specs.state.States.{Handler}
 use Rattle.evl_scenario.specs.Lines.{line_feed}
 use Rattle.evl_scenario.specs.declared.faults.Fault.{Fault}
-use Rattle.evl_plans.specs.Told.{told}
+use Rattle.evl_plans.specs.Told.{handler_of}
 use Rattle.evl_plans.specs.declared.planned.Planned.{Planned}
 use Rattle.lab_callers_text.specs.Readings.{IsRead}
 use Rattle.lab_callers_text.specs.declared.reading.CallersText.{CallersText}
@@ -35,7 +35,7 @@ played_told name played = record {
 -- a text is played over these callbacks
 pub record PlaysOver (bank : List Handler) (asked : CallersText) (played : Played) : Type 0 where
   pub plans : List Planned
-  pub bank_is : map told plans ≡ bank
+  pub bank_is : map handler_of plans ≡ bank
   pub is_told : IsTold (λ p. p.kinds.0) (λ p. p.plan) asked plans played
 
 -- or no machine has its board

@@ -21,7 +21,7 @@ use Rattle.lab_drawing.specs.declared.frames.Shows.TheVariants.{Words}
 use Rattle.lab_drawing.specs.declared.lanes.Lane.{Lane}
 use Rattle.lab_drawing.specs.declared.marks.Mark.{Mark}
 use Rattle.lab_drawing.specs.declared.moments.Moment.{Moment}
-use Rattle.lab_moments.specs.Moments.{shown, shown_of}
+use Rattle.lab_moments.specs.Moments.{moment_shown, shown_of}
 use Rattle.lab_reports.specs.Events.{events_text}
 use Rattle.lab.specs.Outputs.{Output, prints, refuses}
 use Rattle.lab.specs.Texts.{text_in}
@@ -48,7 +48,7 @@ origin_of source.Callers = callers
 -- callbacks, of callers by what their lines show.
 abbrev pub AreMomentsOf : Origin → List Mark → List Moment → Type 0
 AreMomentsOf trace marks moments = moments ≡ []
-AreMomentsOf (scenario text) marks moments = (lanes : List Lane) × AreLanesOf marks lanes × (map shown moments ≡ shown_of lanes program_bank (scenario_of None text))
+AreMomentsOf (scenario text) marks moments = (lanes : List Lane) × AreLanesOf marks lanes × (map moment_shown moments ≡ shown_of lanes program_bank (scenario_of None text))
 AreMomentsOf callers marks moments = map told_at moments ≡ all_told marks
 
 -- ---- as SVG

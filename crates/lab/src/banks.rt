@@ -3,7 +3,7 @@ ghost use Rattle.std.specs.Prelude.{◌≡◌, ◌≤◌, Some, true, false, len
 ghost use Rattle.std.specs.IoError.{error_kind};
 ghost use Rattle.std.specs.declared.io.ErrorKind.TheVariants.{OutOfMemory};
 ghost use Rattle.evl_bank.specs.Bank.{program_bank};
-ghost use Rattle.evl_plans.specs.Told.{told};
+ghost use Rattle.evl_plans.specs.Told.{handler_of};
 ghost use Rattle.lab.specs.Banks.{IsBank, IsReadAs};
 
 use evl_plans::{BankFault, Planned, read_bank};
@@ -37,7 +37,7 @@ fn read_text<E: Write>(
     err: &mut E,
 ) -> io::Result<Option<Vec<Planned>>>
     ensures few { IfOk result (λ plans. IfSome plans (λ p. length p.items ≤ 64)) }
-    ensures read { IfOk result (λ plans. IsReadAs text.now (option_map (λ p. map told p.items) plans)) }
+    ensures read { IfOk result (λ plans. IsReadAs text.now (option_map (λ p. map handler_of p.items) plans)) }
     ensures quiet { IfOk result (λ plans. is_some plans ≡ true → err.new ≡ err.old) }
 {
     match read_bank(alloc, text) {
@@ -56,7 +56,7 @@ fn read_file<R: Files + AllocGlobal, E: Write>(
     err: &mut E,
 ) -> io::Result<Option<Vec<Planned>>>
     ensures few { IfOk result (λ plans. IfSome plans (λ p. length p.items ≤ 64)) }
-    ensures bank { IfOk result (λ plans. IfSome plans (λ p. IsBank (Some path.now) (map told p.items))) }
+    ensures bank { IfOk result (λ plans. IfSome plans (λ p. IsBank (Some path.now) (map handler_of p.items))) }
     ensures quiet { IfOk result (λ plans. is_some plans ≡ true → err.new ≡ err.old) }
 {
     match fs::read(rt, path) {
@@ -71,7 +71,7 @@ fn read_file<R: Files + AllocGlobal, E: Write>(
 // The program's callbacks.
 fn own_plans(alloc: Global) -> io::Result<Option<Vec<Planned>>>
     ensures few { IfOk result (λ plans. IfSome plans (λ p. length p.items ≤ 64)) }
-    ensures bank { IfOk result (λ plans. option_map (λ p. map told p.items) plans ≡ Some program_bank) }
+    ensures bank { IfOk result (λ plans. option_map (λ p. map handler_of p.items) plans ≡ Some program_bank) }
 {
     match program_plans(alloc) {
         Ok(plans) => Ok(Some(plans)),
@@ -87,7 +87,7 @@ pub fn read_plans<R: Files + AllocGlobal, E: Write>(
     err: &mut E,
 ) -> io::Result<Option<Vec<Planned>>>
     ensures few { IfOk result (λ plans. IfSome plans (λ p. length p.items ≤ 64)) }
-    ensures bank { IfOk result (λ plans. IfSome plans (λ p. IsBank (option_map (λ file. file.now) bank.entry) (map told p.items))) }
+    ensures bank { IfOk result (λ plans. IfSome plans (λ p. IsBank (option_map (λ file. file.now) bank.entry) (map handler_of p.items))) }
     ensures own { is_some bank.entry ≡ false → IfOk result (λ plans. is_some plans ≡ true) }
     ensures quiet { IfOk result (λ plans. is_some plans ≡ true → err.new ≡ err.old) }
 {

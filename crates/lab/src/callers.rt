@@ -1,7 +1,7 @@
 //! `lab callers`: callers of both stages in a text, one step after another.
 ghost use Rattle.std.specs.Prelude.{◌≡◌, ◌++◌, codes, map, option_map, string_bytes, unwrap_or, IfOk, OnOk};
 ghost use Rattle.std.specs.Io.KnownBytes.{Appends};
-ghost use Rattle.evl_plans.specs.Told.{told};
+ghost use Rattle.evl_plans.specs.Told.{handler_of};
 ghost use Rattle.lab.specs.Callers.{TellsCallers, TellsPlayed, TellsRead, TellsText, ending_status, ending_text, played_told};
 ghost use Rattle.lab.specs.Outputs.{Writes, WritesOfText};
 
@@ -61,7 +61,7 @@ fn play<O: Write, E: Write>(
     out: &mut O,
     err: &mut E,
 ) -> io::Result<u8>
-    ensures { IfOk result (Writes (TellsPlayed (map told plans.items) name.now asked) (O.contents out.old) (O.contents out.new) (E.contents err.old) (E.contents err.new)) }
+    ensures { IfOk result (Writes (TellsPlayed (map handler_of plans.items) name.now asked) (O.contents out.old) (O.contents out.new) (E.contents err.old) (E.contents err.new)) }
 {
     match play_callers(alloc, asked, plans) {
         Ok(played) => tell_played(name, &played, out, err),
@@ -80,7 +80,7 @@ fn play_text<O: Write, E: Write>(
     out: &mut O,
     err: &mut E,
 ) -> io::Result<u8>
-    ensures { IfOk result (Writes (TellsText (map told plans.items) limit name.now text.now) (O.contents out.old) (O.contents out.new) (E.contents err.old) (E.contents err.new)) }
+    ensures { IfOk result (Writes (TellsText (map handler_of plans.items) limit name.now text.now) (O.contents out.old) (O.contents out.new) (E.contents err.old) (E.contents err.new)) }
 {
     match read_callers(alloc, text, limit) {
         Ok(asked) => play(alloc, name, asked, plans, out, err),
@@ -105,7 +105,7 @@ fn play_file<R: Files + AllocGlobal, I: Read, O: Write, E: Write>(
     out: &mut O,
     err: &mut E,
 ) -> io::Result<u8>
-    ensures { IfOk result (WritesOfText (TellsRead (map told plans.items) limit (unwrap_or (option_map (λ file. file.now) file.entry) (codes "-"))) (option_map (λ file. file.now) file.entry) (I.remaining input.old) (O.contents out.old) (O.contents out.new) (E.contents err.old) (E.contents err.new)) }
+    ensures { IfOk result (WritesOfText (TellsRead (map handler_of plans.items) limit (unwrap_or (option_map (λ file. file.now) file.entry) (codes "-"))) (option_map (λ file. file.now) file.entry) (I.remaining input.old) (O.contents out.old) (O.contents out.new) (E.contents err.old) (E.contents err.new)) }
 {
     let name = name_of(file);
     match read_text(rt, file, input) {

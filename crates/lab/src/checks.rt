@@ -25,7 +25,7 @@ fn tell_faults(
     told: &mut String,
 ) -> Result<bool, AllocError>
     ensures answers { IfOk result (λ is_at_fault. is_at_fault ≡ is_err (scenario_of None text.now)) }
-    ensures told { OnOk result (TellsText (map callbacks.told plans.now) name.now text.now (scenario_of None text.now) (string_bytes told.old) (string_bytes told.new)) }
+    ensures told { OnOk result (TellsText (map callbacks.handler_of plans.now) name.now text.now (scenario_of None text.now) (string_bytes told.old) (string_bytes told.new)) }
 {
     if report(alloc, name, text, told)? {
         return Ok(true);
@@ -43,7 +43,7 @@ fn check_text<O: Write>(
     out: &mut O,
 ) -> io::Result<bool>
     ensures answers { IfOk result (λ is_at_fault. is_at_fault ≡ is_err (scenario_of None text.now)) }
-    ensures told { OnOk result ((printed : List ℕ) × TellsText (map callbacks.told plans.now) name.now text.now (scenario_of None text.now) [] printed × Appends (O.contents out.old) (O.contents out.new) printed) }
+    ensures told { OnOk result ((printed : List ℕ) × TellsText (map callbacks.handler_of plans.now) name.now text.now (scenario_of None text.now) [] printed × Appends (O.contents out.old) (O.contents out.new) printed) }
 {
     let mut told = String::new(alloc);
     let is_at_fault = tell_faults(alloc, plans, name, text, &mut told)?;
@@ -67,7 +67,7 @@ fn check_file<R: Files + AllocGlobal, O: Write>(
     name: &str,
     out: &mut O,
 ) -> io::Result<bool>
-    ensures { IfOk result (ChecksEach (map callbacks.told plans.now) (name.now ∷ []) (O.contents out.old) (O.contents out.new)) }
+    ensures { IfOk result (ChecksEach (map callbacks.handler_of plans.now) (name.now ∷ []) (O.contents out.old) (O.contents out.new)) }
 {
     match fs::read(rt, name) {
         Ok(text) => check_text(rt.alloc(), plans, name, text.as_slice(), out),
@@ -82,7 +82,7 @@ fn check_each<R: Files + AllocGlobal, O: Write>(
     names: &[&str],
     out: &mut O,
 ) -> io::Result<bool>
-    ensures { IfOk result (ChecksEach (map callbacks.told plans.now) (map (λ name. name.now) names.now) (O.contents out.old) (O.contents out.new)) }
+    ensures { IfOk result (ChecksEach (map callbacks.handler_of plans.now) (map (λ name. name.now) names.now) (O.contents out.old) (O.contents out.new)) }
 {
     let mut is_at_fault = false;
     for name in names {
@@ -99,7 +99,7 @@ fn check_over<R: Files + AllocGlobal, O: Write>(
     names: &[&str],
     out: &mut O,
 ) -> io::Result<u8>
-    ensures { IfOk result (λ status. (at_fault : Bool) × ChecksEach (map callbacks.told plans.now) (map (λ name. name.now) names.now) (O.contents out.old) (O.contents out.new) at_fault × (status ≡ endings.status_of at_fault)) }
+    ensures { IfOk result (λ status. (at_fault : Bool) × ChecksEach (map callbacks.handler_of plans.now) (map (λ name. name.now) names.now) (O.contents out.old) (O.contents out.new) at_fault × (status ≡ endings.status_of at_fault)) }
 {
     let is_at_fault = check_each(rt, plans, names, out)?;
     Ok(status_of(is_at_fault))

@@ -1,7 +1,7 @@
 //! `lab live`: a machine that is driven line by line.
 ghost use Rattle.std.specs.Prelude.{◌≡◌, ◌≤◌, ◌<◌, ◌++◌, ◌∷◌, [], List, ℕ, Some, length, map, option_map, string_bytes, take, IfOk, OnOk};
 ghost use Rattle.std.specs.Io.KnownBytes.{Appends};
-ghost use Rattle.evl_plans.specs.Told.{told};
+ghost use Rattle.evl_plans.specs.Told.{handler_of};
 ghost use Rattle.evl_scenario.specs.Traces.{history_trace};
 ghost use Rattle.lab_traces.specs.Parts.{Lacks};
 ghost use Rattle.lab.specs.Lives.{AnswersInput, AnswersLine, Drives, DrivesText, DrivesUnlessRefused, Hears, Lives};
@@ -43,7 +43,7 @@ fn take_byte(
 ) -> Result<(), AllocError>
     requires { Lacks 10 waiting.old.items }
     ensures waits { OnOk result (Lacks 10 waiting.new.items) }
-    ensures heard { OnOk result ((answers : List ℕ) × Hears (byte ∷ []) waiting.old.items waiting.new.items session.old session.new answers × (string_bytes told.new ≡ string_bytes told.old ++ answers)) }
+    ensures heard { OnOk result ((answers : List ℕ) × Hears (byte ∷ []) waiting.old.items waiting.new.items session.old session.new answers × (string_bytes handler_of.new ≡ string_bytes handler_of.old ++ answers)) }
 {
     if byte == b'\n' {
         answer_line(alloc, session, waiting.as_slice(), told)?;
@@ -64,7 +64,7 @@ fn take_bytes(
 ) -> Result<(), AllocError>
     requires { Lacks 10 waiting.old.items }
     ensures waits { OnOk result (Lacks 10 waiting.new.items) }
-    ensures heard { OnOk result ((answers : List ℕ) × Hears bytes.now waiting.old.items waiting.new.items session.old session.new answers × (string_bytes told.new ≡ string_bytes told.old ++ answers)) }
+    ensures heard { OnOk result ((answers : List ℕ) × Hears bytes.now waiting.old.items waiting.new.items session.old session.new answers × (string_bytes handler_of.new ≡ string_bytes handler_of.old ++ answers)) }
 {
     for byte in bytes {
         take_byte(alloc, session, *byte, waiting, told)?;
@@ -204,7 +204,7 @@ fn drive_plans<I: Read, O: Write, E: Write>(
     err: &mut E,
 ) -> io::Result<u8>
     requires { length plans.items ≤ 64 }
-    ensures { IfOk result (Writes (DrivesText (map told plans.items) limit (I.remaining input.old) text.now) (O.contents out.old) (O.contents out.new) (E.contents err.old) (E.contents err.new)) }
+    ensures { IfOk result (Writes (DrivesText (map handler_of plans.items) limit (I.remaining input.old) text.now) (O.contents out.old) (O.contents out.new) (E.contents err.old) (E.contents err.new)) }
 {
     match Session::open(alloc, text, limit, plans) {
         Ok(mut session) => {

@@ -2,7 +2,7 @@
 ghost use Rattle.std.specs.Prelude.{◌≡◌, ◌≤◌, List, [], ◌∷◌, ℕ, false, length, IfOk, OnOk, map, option_map};
 ghost use Rattle.std.specs.Io.KnownBytes.{Appends};
 ghost use Rattle.evl_shell.specs.Runs.{trace_of};
-ghost use Rattle.evl_plans.specs.Told.{told};
+ghost use Rattle.evl_plans.specs.Told.{handler_of};
 ghost use Rattle.lab_traces.specs.Says.{says_of};
 ghost use Rattle.lab_reports.specs.Json.{trace_json};
 ghost use Rattle.lab.specs.Banks.{IsBank};
@@ -104,7 +104,7 @@ fn play_text<R: Files + AllocGlobal, O: Write, E: Write>(
     err: &mut E,
 ) -> io::Result<bool>
     requires { length plans.now ≤ 64 }
-    ensures { IfOk result (Tells (TellsPlayed playing.entry.telling name.now (trace_of (map told plans.now) playing.entry.limit text.now)) (O.contents out.old) (O.contents out.new) (E.contents err.old) (E.contents err.new)) }
+    ensures { IfOk result (Tells (TellsPlayed playing.entry.telling name.now (trace_of (map handler_of plans.now) playing.entry.limit text.now)) (O.contents out.old) (O.contents out.new) (E.contents err.old) (E.contents err.new)) }
 {
     match trace_plans(rt.alloc(), plans, text, playing.limit) {
         Ok(trace) => tell_trace(rt, playing.telling, name, trace.as_slice(), out, err),
@@ -123,7 +123,7 @@ fn play_file<R: Files + AllocGlobal, I: Read, O: Write, E: Write>(
     err: &mut E,
 ) -> io::Result<bool>
     requires { length plans.now ≤ 64 }
-    ensures told { IfOk result (PlaysEach (IsPlayed playing.entry.telling (map told plans.now) playing.entry.limit) (name.now ∷ []) (I.remaining input.old) (O.contents out.old) (O.contents out.new) (E.contents err.old) (E.contents err.new)) }
+    ensures handler_of { IfOk result (PlaysEach (IsPlayed playing.entry.telling (map handler_of plans.now) playing.entry.limit) (name.now ∷ []) (I.remaining input.old) (O.contents out.old) (O.contents out.new) (E.contents err.old) (E.contents err.new)) }
     ensures input { is_input name.now ≡ false → input.new ≡ input.old }
 {
     match read_text(rt, Some(name), input) {
@@ -143,7 +143,7 @@ fn play_each<R: Files + AllocGlobal, I: Read, O: Write, E: Write>(
     err: &mut E,
 ) -> io::Result<bool>
     requires { length plans.now ≤ 64 }
-    ensures { IfOk result (PlaysEach (IsPlayed playing.entry.telling (map told plans.now) playing.entry.limit) (map (λ file. file.now) files.now) (I.remaining input.old) (O.contents out.old) (O.contents out.new) (E.contents err.old) (E.contents err.new)) }
+    ensures { IfOk result (PlaysEach (IsPlayed playing.entry.telling (map handler_of plans.now) playing.entry.limit) (map (λ file. file.now) files.now) (I.remaining input.old) (O.contents out.old) (O.contents out.new) (E.contents err.old) (E.contents err.new)) }
 {
     let mut is_at_fault = false;
     for file in files {
@@ -164,7 +164,7 @@ fn play_over<R: Files + AllocGlobal, I: Read, O: Write, E: Write>(
     err: &mut E,
 ) -> io::Result<bool>
     requires { length plans.now ≤ 64 }
-    ensures { IfOk result (PlaysEach (IsPlayed playing.entry.telling (map told plans.now) playing.entry.limit) (names_or_input (map (λ file. file.now) files.now)) (I.remaining input.old) (O.contents out.old) (O.contents out.new) (E.contents err.old) (E.contents err.new)) }
+    ensures { IfOk result (PlaysEach (IsPlayed playing.entry.telling (map handler_of plans.now) playing.entry.limit) (names_or_input (map (λ file. file.now) files.now)) (I.remaining input.old) (O.contents out.old) (O.contents out.new) (E.contents err.old) (E.contents err.new)) }
 {
     if files.is_empty() {
         play_file(rt, plans, playing, "-", input, out, err)
@@ -184,7 +184,7 @@ fn play_bank<R: Files + AllocGlobal, I: Read, O: Write, E: Write>(
     err: &mut E,
 ) -> io::Result<u8>
     requires { length plans.now ≤ 64 }
-    ensures { IsBank (option_map (λ file. file.now) playing.entry.bank) (map told plans.now) → IfOk result (Plays playing.entry (map (λ file. file.now) files.now) (I.remaining input.old) (O.contents out.old) (O.contents out.new) (E.contents err.old) (E.contents err.new)) }
+    ensures { IsBank (option_map (λ file. file.now) playing.entry.bank) (map handler_of plans.now) → IfOk result (Plays playing.entry (map (λ file. file.now) files.now) (I.remaining input.old) (O.contents out.old) (O.contents out.new) (E.contents err.old) (E.contents err.new)) }
 {
     let is_at_fault = play_over(rt, plans, playing, files, input, out, err)?;
     Ok(status_of(is_at_fault))

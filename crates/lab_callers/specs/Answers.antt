@@ -11,7 +11,7 @@ use Rattle.evl_base.specs.declared.refusal.Refusal.{Refusal}
 use Rattle.evl_base.specs.declared.refusal.Refusal.TheVariants.{CoreBusy}
 use Rattle.evl_base.specs.declared.reply.Reply.{Reply}
 use Rattle.lab_callers.specs.Crews.{CallsKernel, CrewState, GivesCore, Steps, TakesCore}
-use Rattle.lab_callers.specs.Holdings.{Holdings, awaited, is_held, lock_begun, lock_ended, mutex_given, mutex_left, stax_given, stax_left, with_mutexes, with_staxes}
+use Rattle.lab_callers.specs.Holdings.{Holdings, awaited_mutex, is_held, lock_begun, lock_ended, mutex_given, mutex_left, stax_given, stax_left, with_mutexes, with_staxes}
 use Rattle.lab_callers.specs.Names.{TakesPass}
 use Rattle.lab_callers.specs.declared.views.Shows.{Shows}
 use Rattle.lab_callers.specs.declared.views.Shows.TheVariants as shows
@@ -70,8 +70,8 @@ word_shown (Some mutex) = shows.Mutex mutex
 -- what the end of a lock shows: the mutex whose pass it gives, or the one for which the caller waits
 abbrev pub ended_shows : Holdings → ThreadId → Result Ended Refusal → Shows
 ended_shows had who (Ok (ended.Locked pass)) = shows.Mutex pass.mutex
-ended_shows had who (Ok ended.TimedOut) = word_shown (awaited had who)
-ended_shows had who (Err refusal) = word_shown (awaited had who)
+ended_shows had who (Ok ended.TimedOut) = word_shown (awaited_mutex had who)
+ended_shows had who (Err refusal) = word_shown (awaited_mutex had who)
 
 -- a thread's caller makes a call of the machine: what is told is its answer, and what names hold then follows from it
 pub record Tells {C R : Type 0} (text : R → List ℕ) (leaves : R → Holdings) (does : R → CallerState C → CallerState C → Type 0) (old : CrewState C) (who : ℕ) (told : List ℕ) (new : CrewState C) (has : Holdings) : Type 0 where

@@ -92,8 +92,8 @@ lock_ended had who name (Ok ended.TimedOut) = without_wait had who
 lock_ended had who name (Err refusal) = had
 
 -- for which mutex a caller waits
-abbrev pub awaited : Holdings → ThreadId → Option MutexId
-awaited had who = option_map (λ wait. wait.1) (find (is_wait_of who.0) had.waits)
+abbrev pub awaited_mutex : Holdings → ThreadId → Option MutexId
+awaited_mutex had who = option_map (λ wait. wait.1) (find (is_wait_of who.0) had.waits)
 
 -- the number of the first caller that holds a stax
 abbrev pub stax_holder : Holdings → ℕ → Option ℕ

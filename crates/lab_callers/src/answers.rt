@@ -3,7 +3,7 @@ ghost use Rattle.std.specs.Prelude.{◌≡◌, IfErr, IfOk, OnOk, false, string_
 ghost use Rattle.evl_base.specs.Reply.{outcome_text};
 ghost use Rattle.lab_callers.specs.Answers.{BeginsLock, CallsSo, EntersStax, FinishesLock, GivesSo, LeavesBy, LocksMutex, Makes, TakesSo, UnlocksBy, UnlocksFastBy, begun_text, ended_shows, ended_text, given_text, left_text, taken_text, unlocked_text, word_shown};
 ghost use Rattle.lab_callers.specs.Faults.{IsWhy, caller_fault, step_fault};
-ghost use Rattle.lab_callers.specs.Holdings.{awaited, is_held, lock_begun, lock_ended, mutex_given, mutex_left, stax_given, stax_left, with_mutex, with_stax};
+ghost use Rattle.lab_callers.specs.Holdings.{awaited_mutex, is_held, lock_begun, lock_ended, mutex_given, mutex_left, stax_given, stax_left, with_mutex, with_stax};
 
 use crate::crew::Crew;
 use crate::passes::{Passes, StepFault};
@@ -327,7 +327,7 @@ fn begin<C: Handler>(
 
 // What a caller's wait is shown by.
 fn awaited(passes: &Passes, who: ThreadId) -> Shows
-    ensures { result ≡ word_shown (awaited passes.now who) }
+    ensures { result ≡ word_shown (awaited_mutex passes.now who) }
 {
     match passes.awaited(who) {
         Some(mutex) => Shows::Mutex(mutex),

@@ -2,7 +2,7 @@
 ghost use Rattle.std.specs.Prelude.{◌≡◌, IfErr, IfOk, MatchOption, OnOk, count_by, false, position, string_bytes, true};
 ghost use Rattle.std.specs.List.{remove};
 ghost use Rattle.lab_callers.specs.Faults.{fault_words};
-ghost use Rattle.lab_callers.specs.Holdings.{awaited, is_held, is_of_stax, is_wait_of, nothing_held, stax_holder, with_mutex, with_mutexes, with_stax, with_staxes, with_wait, without_wait};
+ghost use Rattle.lab_callers.specs.Holdings.{awaited_mutex, is_held, is_of_stax, is_wait_of, nothing_held, stax_holder, with_mutex, with_mutexes, with_stax, with_staxes, with_wait, without_wait};
 ghost use Rattle.lab_callers.specs.Names.{TakesPass, has_pass, is_named, is_of_name};
 
 use evl_base::{MutexId, StaxId, ThreadId};
@@ -190,7 +190,7 @@ impl Passes {
 
     /// For which mutex a caller waits.
     pub fn awaited(&self, who: ThreadId) -> Option<MutexId>
-        ensures { result ≡ awaited self.now who }
+        ensures { result ≡ awaited_mutex self.now who }
     {
         match self.waits.iter().find(|wait| wait.0 == who) {
             Some(wait) => Some(wait.1),

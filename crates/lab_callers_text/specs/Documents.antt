@@ -3,13 +3,13 @@ use Rattle.std.specs.Prelude.{ℕ, List, codes, ◌^◌, is_some, if◌then◌el
 use Rattle.std.specs.Option.{option_map_or}
 use Rattle.toml.specs.Data.{Data, string, integer, array, table, Items, no_items, Members, get_member, as_array, as_table}
 use Rattle.toml.specs.View.{items_of}
-use Rattle.lab_callers_text.specs.Names.{named}
+use Rattle.lab_callers_text.specs.Names.{pass_named}
 use Rattle.lab_callers_text.specs.Tables.{with_value, without}
 use Rattle.lab_callers_text.specs.StepWords.{name_key, number_key, own_word, stand_in}
 use Rattle.lab_callers_text.specs.declared.marks.Mark.{Mark}
 use Rattle.lab_callers_text.specs.declared.step_words.OwnWord.{OwnWord}
 use Rattle.evl_scenario.specs.Tables.{all_given, list_of, text_at, value_or}
-use Rattle.evl_scenario.specs.Values.{below}
+use Rattle.evl_scenario.specs.Values.{number_below}
 
 -- ---- steps
 
@@ -18,13 +18,13 @@ abbrev pub word_in : Members → Option OwnWord
 word_in step = option_and_then own_word (text_at (codes "do") step)
 
 -- a word, and the name of a pass with it
-abbrev pub marked : Option OwnWord → Members → Option (Option (OwnWord × Option (List ℕ)))
-marked None step = Some None
-marked (Some word) step = option_map (λ name. Some (word, name)) (named (name_key word) step)
+abbrev pub marked_word : Option OwnWord → Members → Option (Option (OwnWord × Option (List ℕ)))
+marked_word None step = Some None
+marked_word (Some word) step = option_map (λ name. Some (word, name)) (pass_named (name_key word) step)
 
 -- what a step says beside the call of a scenario that is read for it: nothing where it is such a call itself
 abbrev pub mark_in : Data → Option (Option (OwnWord × Option (List ℕ)))
-mark_in value = option_map_or (λ step. marked (word_in step) step) (as_table value) (Some None)
+mark_in value = option_map_or (λ step. marked_word (word_in step) step) (as_table value) (Some None)
 
 -- without the key of a name, if there is one
 abbrev pub unnamed : Option (List ℕ) → Members → Members
@@ -32,19 +32,19 @@ unnamed None step = step
 unnamed (Some key) step = without key step
 
 -- with the number at this key as that of a semaphore; another semaphore may not stand there
-abbrev pub moved : List ℕ → Members → Option Members
-moved key step =
+abbrev pub moved_member : List ℕ → Members → Option Members
+moved_member key step =
     if is_some (get_member (codes "sem") step) then None
     else option_map (λ number. with_value (codes "sem") number (without key step)) (get_member key step)
 
-abbrev pub numbered : Option (List ℕ) → Members → Option Members
-numbered None step = Some step
-numbered (Some key) step = moved key step
+abbrev pub numbered_member : Option (List ℕ) → Members → Option Members
+numbered_member None step = Some step
+numbered_member (Some key) step = moved_member key step
 
 -- the table of a scenario's step with the other keys of a word
 abbrev pub table_with : Option OwnWord → Members → Option Members
 table_with None step = Some step
-table_with (Some word) step = option_map (with_value (codes "do") (string (stand_in word))) (numbered (number_key word) (unnamed (name_key word) step))
+table_with (Some word) step = option_map (with_value (codes "do") (string (stand_in word))) (numbered_member (number_key word) (unnamed (name_key word) step))
 
 -- the step of a scenario that is read for a step: itself where it has no word of a caller
 abbrev pub step_as : Data → Option Data
@@ -58,7 +58,7 @@ mark_view mark = (mark.word, option_map string_bytes mark.name)
 
 -- the limit of a stax
 abbrev pub limit_from : Data → Option ℕ
-limit_from (integer (pos n)) = below (2 ^ 16) (Some n)
+limit_from (integer (pos n)) = number_below (2 ^ 16) (Some n)
 limit_from _ = None
 
 -- the limits of the staxes of a board

@@ -4,10 +4,10 @@ ghost use Rattle.std.specs.Prelude.{◌≡◌, IfOk, IfSome, OnOk, Some, codes, 
 ghost use Rattle.std.specs.List.{list_all};
 ghost use Rattle.toml.specs.Data.{string};
 ghost use Rattle.toml.specs.View.{table_view, view};
-ghost use Rattle.evl_base.specs.Limits.{within};
-ghost use Rattle.lab_callers_text.specs.Documents.{mark_in, mark_view, marked, moved, numbered, step_as, table_with, unnamed, word_in};
+ghost use Rattle.evl_base.specs.Limits.{is_within};
+ghost use Rattle.lab_callers_text.specs.Documents.{mark_in, mark_view, marked_word, moved_member, numbered_member, step_as, table_with, unnamed, word_in};
 ghost use Rattle.lab_callers_text.specs.Marks.{act_of, named_act, plain_act};
-ghost use Rattle.lab_callers_text.specs.Names.{is_letter, is_name, name_at, named};
+ghost use Rattle.lab_callers_text.specs.Names.{is_letter, is_name, name_at, pass_named};
 ghost use Rattle.lab_callers_text.specs.Tables.{with_value, without};
 ghost use Rattle.lab_callers_text.specs.StepWords.{name_key, number_key};
 
@@ -52,7 +52,7 @@ fn are_letters(bytes: &[u8]) -> bool
 
 // Whether a name may have so many letters.
 fn is_length(letters: usize) -> bool
-    ensures { result ≡ within 1 32 letters }
+    ensures { result ≡ is_within 1 32 letters }
 {
     1 <= letters && letters <= MOST_LETTERS
 }
@@ -96,7 +96,7 @@ fn take_name(table: &mut Table, key: &str) -> Option<String>
 
 // The name of a word that has one, which is taken away. None where it is missing, or is no name.
 fn take_name_of(table: &mut Table, word: OwnWord) -> Option<Option<String>>
-    ensures name { IfSome result (λ name. named (name_key word) (table_view table.old) ≡ Some (option_map string_bytes name)) }
+    ensures name { IfSome result (λ name. pass_named (name_key word) (table_view table.old) ≡ Some (option_map string_bytes name)) }
     ensures rest { table_view table.new ≡ unnamed (name_key word) (table_view table.old) }
 {
     match word.name_key() {
@@ -110,7 +110,7 @@ fn take_name_of(table: &mut Table, word: OwnWord) -> Option<Option<String>>
 
 // Moves what stands at a key to that of a semaphore, where nothing stands yet.
 fn move_number(alloc: Global, table: &mut Table, key: &str) -> Result<(), MarkFault>
-    ensures { OnOk result (moved key.now (table_view table.old) ≡ Some (table_view table.new)) }
+    ensures { OnOk result (moved_member key.now (table_view table.old) ≡ Some (table_view table.new)) }
 {
     if field(table, "sem").is_some() {
         return Err(MarkFault::Step);
@@ -126,7 +126,7 @@ fn move_number(alloc: Global, table: &mut Table, key: &str) -> Result<(), MarkFa
 
 // The same for the number of a word that has one.
 fn move_number_of(alloc: Global, table: &mut Table, word: OwnWord) -> Result<(), MarkFault>
-    ensures { OnOk result (numbered (number_key word) (table_view table.old) ≡ Some (table_view table.new)) }
+    ensures { OnOk result (numbered_member (number_key word) (table_view table.old) ≡ Some (table_view table.new)) }
 {
     match word.number_key() {
         Some(key) => move_number(alloc, table, key),
@@ -150,7 +150,7 @@ fn put_word(alloc: Global, table: &mut Table, word: &str) -> Result<(), MarkFaul
 // Puts a step with a word as that of a scenario.
 fn mark_table(alloc: Global, table: &mut Table, word: OwnWord) -> Result<Mark, MarkFault>
     ensures table { OnOk result (table_with (Some word) (table_view table.old) ≡ Some (table_view table.new)) }
-    ensures mark { IfOk result (λ mark. marked (Some word) (table_view table.old) ≡ Some (Some (mark_view mark))) }
+    ensures mark { IfOk result (λ mark. marked_word (Some word) (table_view table.old) ≡ Some (Some (mark_view mark))) }
 {
     let Some(name) = take_name_of(table, word) else {
         return Err(MarkFault::Step);
@@ -168,7 +168,7 @@ fn mark_table(alloc: Global, table: &mut Table, word: OwnWord) -> Result<Mark, M
 // Puts a step's table as that of a scenario. None where it is one.
 fn mark_any(alloc: Global, table: &mut Table) -> Result<Option<Mark>, MarkFault>
     ensures table { OnOk result (table_with (word_in (table_view table.old)) (table_view table.old) ≡ Some (table_view table.new)) }
-    ensures mark { IfOk result (λ mark. marked (word_in (table_view table.old)) (table_view table.old) ≡ Some (option_map mark_view mark)) }
+    ensures mark { IfOk result (λ mark. marked_word (word_in (table_view table.old)) (table_view table.old) ≡ Some (option_map mark_view mark)) }
 {
     match word_at(table) {
         Some(word) => match mark_table(alloc, table, word) {

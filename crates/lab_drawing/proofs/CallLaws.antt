@@ -31,8 +31,8 @@ use Rattle.lab_traces.specs.declared.traces.Says.{Says}
 use Rattle.lab_traces.specs.declared.traces.Says.TheVariants.{Board, Entry, Play}
 use Rattle.lab_traces.specs.declared.traces.TraceLine.{TraceLine}
 use Rattle.lab_drawing.specs.Calls.{call_lane, call_shape, ends_wait, keyed_lane, number_told, stage_told, step_told, value_told}
-use Rattle.lab_drawing.specs.Marks.{marked, marked_by}
-use Rattle.lab_drawing.specs.Named.{answered_shape, entry_names, entry_shape, named, stage_lane}
+use Rattle.lab_drawing.specs.Marks.{mark_of, marked_by}
+use Rattle.lab_drawing.specs.Named.{answered_shape, entry_names, entry_shape, lane_named, stage_lane}
 use Rattle.lab_drawing.specs.Texts.{around_part, number_in, up_to}
 use Rattle.lab_drawing.specs.Words.{bar, outcome}
 use Rattle.lab_drawing.specs.declared.lanes.Lane.{Lane}
@@ -114,7 +114,7 @@ lane_in told =
     lane_by (text_at (codes "mutex") told) (text_at (codes "stax") told) (text_at (codes "sem") told) (text_at (codes "flags") told) (text_at (codes "xbuf") told)
     (text_at (codes "timer") told) (text_at (codes "stage") told)
 
-named_in : (made : Call) → CallFits made → named (call_text made) ≡ lane_in (told_in made)
+named_in : (made : Call) → CallFits made → lane_named (call_text made) ≡ lane_in (told_in made)
 named_in made fits = λ i. lane_by (call_value made fits (codes "mutex") refl i) (call_value made fits (codes "stax") refl i) (call_value made fits (codes "sem") refl i)
     (call_value made fits (codes "flags") refl i) (call_value made fits (codes "xbuf") refl i) (call_value made fits (codes "timer") refl i) (call_value made fits (codes "stage") refl i)
 
@@ -233,7 +233,7 @@ call_shaped made answer fits =
 -- ---- the line of a step
 
 pub step_marked : (line : TraceLine) (number : Option ℕ) (step : Step) (answer : Result Reply Refusal) → StepFits step → says_of line.says ≡ entry (step_parts number step answer)
-    → marked line ≡ Some (step_told line.text.now step answer)
+    → mark_of line ≡ Some (step_told line.text.now step answer)
 step_marked line number step answer fits said = by line.says said
   where
     text : List ℕ

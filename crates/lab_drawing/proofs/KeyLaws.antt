@@ -9,7 +9,7 @@ use Rattle.std.proofs.lemmas.Slice.Eq.{bytes_eq-Decides}
 use Rattle.evl_base.specs.Call.{call_text}
 use Rattle.evl_base.specs.declared.call.Call.{Call}
 use Rattle.evl_base.specs.Calls.{Parts, fields_of, name_of, parts, parts_of, told_by, told_in, word_in}
-use Rattle.evl_base.specs.Fields.{Key, Values, keys_text, told, told_as, value_text}
+use Rattle.evl_base.specs.Fields.{Key, Values, keys_text, keyed_values, told_as, value_text}
 use Rattle.evl_base.specs.Fields as fields
 use Rattle.evl_scenario.specs.Widths.{AllFit, CallFits}
 use Rattle.evl_base.specs.declared.call.StepWord.{StepWord}
@@ -162,9 +162,9 @@ up_value (c ∷ value) rest end = by (c == 32) refl (up_value value rest end)
 abbrev pub text_told : Option fields.Told → Option (List ℕ)
 text_told value = option_map (λ v. up_to (codes " ") (value_text v)) value
 
-said_ends : (keys : List Key) (values : Values keys) → IsEnd (keys_text (told keys values))
+said_ends : (keys : List Key) (values : Values keys) → IsEnd (keys_text (keyed_values keys values))
 said_ends [] values = inl refl
-said_ends (key ∷ keys) values = inr (key.name ++ (codes "=" ++ (value_text (told_as key.kind values.0) ++ keys_text (told keys values.1))), refl)
+said_ends (key ∷ keys) values = inr (key.name ++ (codes "=" ++ (value_text (told_as key.kind values.0) ++ keys_text (keyed_values keys values.1))), refl)
 
 -- neither a space nor an equals sign
 abbrev is_named : ℕ → Bool
@@ -182,8 +182,8 @@ names : (step : StepWord) → (list_all is_named (name_of step) && list_all (λ 
 names Pick = refl
 names _ = refl
 
-value_said : (key : List ℕ) (keys : List Key) (values : Values keys) → list_all is_named key ≡ true → list_all (λ k. list_all is_named k.name) keys ≡ true → AllFit (told keys values)
-    → option_map (up_to (codes " ")) (behind_part (looked_for key) (keys_text (told keys values))) ≡ text_told (value_told key (told keys values))
+value_said : (key : List ℕ) (keys : List Key) (values : Values keys) → list_all is_named key ≡ true → list_all (λ k. list_all is_named k.name) keys ≡ true → AllFit (keyed_values keys values)
+    → option_map (up_to (codes " ")) (behind_part (looked_for key) (keys_text (keyed_values keys values))) ≡ text_told (value_told key (keyed_values keys values))
 value_said key [] values h named fits = ap (option_map (up_to (codes " "))) (behind_none 32 (key ++ 61 ∷ []))
 value_said key (first ∷ keys) values h named fits = by (bytes_eq first.name key) refl (λ more. value_said key keys values.1 h more fits.1)
   where
@@ -191,18 +191,18 @@ value_said key (first ∷ keys) values h named fits = by (bytes_eq first.name ke
     value = value_text (told_as first.kind values.0)
 
     rest : List ℕ
-    rest = keys_text (told keys values.1)
+    rest = keys_text (keyed_values keys values.1)
 
-    either : (b : Bool) → IsEnd rest → option_map (up_to (codes " ")) (behind_part (looked_for key) rest) ≡ text_told (value_told key (told keys values.1))
+    either : (b : Bool) → IsEnd rest → option_map (up_to (codes " ")) (behind_part (looked_for key) rest) ≡ text_told (value_told key (keyed_values keys values.1))
         → option_map (up_to (codes " ")) (if b then Some (value ++ rest) else behind_part (looked_for key) rest)
-        ≡ text_told (if b then Some (told_as first.kind values.0) else value_told key (told keys values.1))
+        ≡ text_told (if b then Some (told_as first.kind values.0) else value_told key (keyed_values keys values.1))
     either true end more = ap Some (up_value value rest end)
     either false end more = more
 
     by : (b : Bool) → bytes_eq first.name key ≡ b
-        → (list_all (λ k. list_all is_named k.name) keys ≡ true → option_map (up_to (codes " ")) (behind_part (looked_for key) rest) ≡ text_told (value_told key (told keys values.1)))
+        → (list_all (λ k. list_all is_named k.name) keys ≡ true → option_map (up_to (codes " ")) (behind_part (looked_for key) rest) ≡ text_told (value_told key (keyed_values keys values.1)))
         → option_map (up_to (codes " ")) (behind_part (looked_for key) (32 ∷ (first.name ++ 61 ∷ (value ++ rest))))
-        ≡ text_told (if b then Some (told_as first.kind values.0) else value_told key (told keys values.1))
+        ≡ text_told (if b then Some (told_as first.kind values.0) else value_told key (keyed_values keys values.1))
     by b e behind =
         let (here, more) = and_parts (list_all is_named first.name) (list_all (λ k. list_all is_named k.name) keys) named in
         let mine = lacks_both key h in
@@ -221,8 +221,8 @@ value_behind key text = by (around_part key text)
 parts_value : (key : List ℕ) (p : Parts) → list_all is_named key ≡ true → AllFit (told_by p) → value_of (name_of (word_in p) ++ keys_text (told_by p)) (looked_for key) ≡ text_told (value_told key (told_by p))
 parts_value key (parts step values) h fits =
     let (word, keys) = and_parts (list_all is_named (name_of step)) (list_all (λ k. list_all is_named k.name) (fields_of step)) (names step) in
-    value_behind (looked_for key) (name_of step ++ keys_text (told (fields_of step) values))
-    ∙ ap (option_map (up_to (codes " "))) (past_word key (name_of step) (keys_text (told (fields_of step) values)) (lacks_both (name_of step) word).0)
+    value_behind (looked_for key) (name_of step ++ keys_text (keyed_values (fields_of step) values))
+    ∙ ap (option_map (up_to (codes " "))) (past_word key (name_of step) (keys_text (keyed_values (fields_of step) values)) (lacks_both (name_of step) word).0)
     ∙ value_said key (fields_of step) values h keys fits
 
 -- the value of a key in the text of a call is the one that the call has

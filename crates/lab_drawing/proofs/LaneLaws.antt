@@ -5,7 +5,7 @@ use Rattle.std.specs.Option.{option_map_or}
 use Rattle.std.proofs.lemmas.Bool.{false≢true}
 use Rattle.std.proofs.lemmas.List.{drop_more}
 use Rattle.lab_drawing.proofs.PageLaws.{drop_short}
-use Rattle.lab_drawing.specs.Lanes.{AreLanesOf, AreSorted, is_above, is_lane, lanes_in, place, put, put_named, put_touched, touches}
+use Rattle.lab_drawing.specs.Lanes.{AreLanesOf, AreSorted, is_above, is_lane, lanes_in, place, with_lane, put_named, put_touched, touches}
 use Rattle.evl_base.specs.declared.stage.Stage.TheVariants.{Inband, Oob}
 use Rattle.lab_drawing.specs.declared.lanes.Lane.{Lane}
 use Rattle.lab_drawing.specs.declared.lanes.Lane.TheVariants.{Thread, Mutex, Stax, Core, Sem, Flags, Xbuf, Timer, Clock, Stage}
@@ -37,64 +37,64 @@ or_twice false true c e = cc
 or_twice false false c e = refl
 
 module _ (lane : Lane) where
-  put_below : (a : Lane) (lanes : List Lane) → is_above a lane ≡ true → AllByRecursion (λ other. is_above a other ≡ true) lanes → AllByRecursion (λ other. is_above a other ≡ true) (put lane lanes)
+  put_below : (a : Lane) (lanes : List Lane) → is_above a lane ≡ true → AllByRecursion (λ other. is_above a other ≡ true) lanes → AllByRecursion (λ other. is_above a other ≡ true) (with_lane lane lanes)
   put_below a [] h all = (h, all)
   put_below a (first ∷ rest) h all = by (is_above first lane) (is_above lane first) (put_below a rest h all.1)
     where
-      by : (x y : Bool) → AllByRecursion (λ other. is_above a other ≡ true) (put lane rest)
-          → AllByRecursion (λ other. is_above a other ≡ true) (if x then first ∷ put lane rest else if y then lane ∷ first ∷ rest else first ∷ rest)
+      by : (x y : Bool) → AllByRecursion (λ other. is_above a other ≡ true) (with_lane lane rest)
+          → AllByRecursion (λ other. is_above a other ≡ true) (if x then first ∷ with_lane lane rest else if y then lane ∷ first ∷ rest else first ∷ rest)
       by true y more = (all.0, more)
       by false true more = (h, all)
       by false false more = all
 
-  pub put_sorted : (lanes : List Lane) → AreSorted lanes → AreSorted (put lane lanes)
+  pub put_sorted : (lanes : List Lane) → AreSorted lanes → AreSorted (with_lane lane lanes)
   put_sorted [] s = (tt, tt)
   put_sorted (first ∷ rest) s = by (is_above first lane) (is_above lane first) refl refl (put_sorted rest s.1)
     where
-      by : (x y : Bool) → is_above first lane ≡ x → is_above lane first ≡ y → AreSorted (put lane rest)
-          → AreSorted (if x then first ∷ put lane rest else if y then lane ∷ first ∷ rest else first ∷ rest)
+      by : (x y : Bool) → is_above first lane ≡ x → is_above lane first ≡ y → AreSorted (with_lane lane rest)
+          → AreSorted (if x then first ∷ with_lane lane rest else if y then lane ∷ first ∷ rest else first ∷ rest)
       by true y e f more = (put_below first rest e s.0, more)
       by false true e f more = ((f, all_below lane first rest f s.0), s)
       by false false e f more = s
 
-  pub put_lanes : (l : Lane) (lanes : List Lane) → list_any (is_lane l) (put lane lanes) ≡ (is_lane l lane || list_any (is_lane l) lanes)
+  pub put_lanes : (l : Lane) (lanes : List Lane) → list_any (is_lane l) (with_lane lane lanes) ≡ (is_lane l lane || list_any (is_lane l) lanes)
   put_lanes l [] = refl
   put_lanes l (first ∷ rest) = by (is_above first lane) (is_above lane first) refl refl (put_lanes l rest)
     where
-      by : (x y : Bool) → is_above first lane ≡ x → is_above lane first ≡ y → list_any (is_lane l) (put lane rest) ≡ (is_lane l lane || list_any (is_lane l) rest)
-          → list_any (is_lane l) (if x then first ∷ put lane rest else if y then lane ∷ first ∷ rest else first ∷ rest) ≡ (is_lane l lane || (is_lane l first || list_any (is_lane l) rest))
+      by : (x y : Bool) → is_above first lane ≡ x → is_above lane first ≡ y → list_any (is_lane l) (with_lane lane rest) ≡ (is_lane l lane || list_any (is_lane l) rest)
+          → list_any (is_lane l) (if x then first ∷ with_lane lane rest else if y then lane ∷ first ∷ rest else first ∷ rest) ≡ (is_lane l lane || (is_lane l first || list_any (is_lane l) rest))
       by true y e f more = ap (λ (b : Bool). is_lane l first || b) more ∙ or_swap (is_lane l first) (is_lane l lane) (list_any (is_lane l) rest)
       by false true e f more = refl
       by false false e f more =
           or_twice (is_lane l lane) (is_lane l first) (list_any (is_lane l) rest)
           (same_here (place first).0 (place first).1 (place lane).0 (place lane).1 (place l).0 (place l).1 e f)
 
-  pub put_found : (lanes : List Lane) → option_map_or (λ other. not (is_above lane other)) (slice_get lanes (prefix_len (λ other. is_above other lane) lanes)) false ≡ true → lanes ≡ put lane lanes
+  pub put_found : (lanes : List Lane) → option_map_or (λ other. not (is_above lane other)) (slice_get lanes (prefix_len (λ other. is_above other lane) lanes)) false ≡ true → lanes ≡ with_lane lane lanes
   put_found [] h = absurd (false≢true h)
   put_found (first ∷ rest) h = by (is_above first lane) (is_above lane first) (1 + n) (omega arith) refl (λ k. put_found rest k) h
     where
       n : ℕ
       n = prefix_len (λ other. is_above other lane) rest
 
-      by : (x y : Bool) (m : ℕ) → m ≡ suc n → is_above lane first ≡ y → (option_map_or (λ other. not (is_above lane other)) (slice_get rest n) false ≡ true → rest ≡ put lane rest)
+      by : (x y : Bool) (m : ℕ) → m ≡ suc n → is_above lane first ≡ y → (option_map_or (λ other. not (is_above lane other)) (slice_get rest n) false ≡ true → rest ≡ with_lane lane rest)
           → option_map_or (λ other. not (is_above lane other)) (slice_get (first ∷ rest) (cond x m 0)) false ≡ true
-          → first ∷ rest ≡ (if x then first ∷ put lane rest else if y then lane ∷ first ∷ rest else first ∷ rest)
+          → first ∷ rest ≡ (if x then first ∷ with_lane lane rest else if y then lane ∷ first ∷ rest else first ∷ rest)
       by true y m e f more k =
           ap (λ (r : List Lane). first ∷ r) (more (sym (ap (λ (i : ℕ). option_map_or (λ other. not (is_above lane other)) (slice_get (first ∷ rest) i) false) e) ∙ k))
       by false true m e f more k = absurd (false≢true (sym (ap not f) ∙ k))
       by false false m e f more k = refl
 
   pub put_new : (lanes : List Lane) → option_map_or (λ other. not (is_above lane other)) (slice_get lanes (prefix_len (λ other. is_above other lane) lanes)) false ≡ false
-      → insert lanes (prefix_len (λ other. is_above other lane) lanes) lane ≡ put lane lanes
+      → insert lanes (prefix_len (λ other. is_above other lane) lanes) lane ≡ with_lane lane lanes
   put_new [] h = refl
   put_new (first ∷ rest) h = by (is_above first lane) (is_above lane first) (1 + n) (omega arith) refl (λ k. put_new rest k) h
     where
       n : ℕ
       n = prefix_len (λ other. is_above other lane) rest
 
-      by : (x y : Bool) (m : ℕ) → m ≡ suc n → is_above lane first ≡ y → (option_map_or (λ other. not (is_above lane other)) (slice_get rest n) false ≡ false → insert rest n lane ≡ put lane rest)
+      by : (x y : Bool) (m : ℕ) → m ≡ suc n → is_above lane first ≡ y → (option_map_or (λ other. not (is_above lane other)) (slice_get rest n) false ≡ false → insert rest n lane ≡ with_lane lane rest)
           → option_map_or (λ other. not (is_above lane other)) (slice_get (first ∷ rest) (cond x m 0)) false ≡ false
-          → insert (first ∷ rest) (cond x m 0) lane ≡ (if x then first ∷ put lane rest else if y then lane ∷ first ∷ rest else first ∷ rest)
+          → insert (first ∷ rest) (cond x m 0) lane ≡ (if x then first ∷ with_lane lane rest else if y then lane ∷ first ∷ rest else first ∷ rest)
       by true y m e f more k =
           ap (λ (i : ℕ). insert (first ∷ rest) i lane) e
           ∙ ap (λ (r : List Lane). first ∷ r) (more (sym (ap (λ (i : ℕ). option_map_or (λ other. not (is_above lane other)) (slice_get (first ∷ rest) i) false) e) ∙ k))
@@ -110,11 +110,11 @@ module _ (lane : Lane) where
       ∙ ap (λ (xs : List Lane). option_map_or (λ l. not (is_above lane l)) (slice_get xs (prefix_len (λ l. is_above l lane) lanes)) false) o) ∙ t
 
   pub put_stays : (lanes seen other : List Lane) (at : ℕ) (r : Bool) → seen ≡ lanes → other ≡ lanes → at ≡ prefix_len (λ l. is_above l lane) seen
-      → r ≡ option_map_or (λ l. not (is_above lane l)) (slice_get other at) false → r ≡ true → lanes ≡ put lane lanes
+      → r ≡ option_map_or (λ l. not (is_above lane l)) (slice_get other at) false → r ≡ true → lanes ≡ with_lane lane lanes
   put_stays lanes seen other at r s o a e t = put_found lanes (found_at lanes seen other at r true s o a e t)
 
   pub put_inserts : (lanes seen other new : List Lane) (at : ℕ) (r : Bool) → seen ≡ lanes → other ≡ lanes → at ≡ prefix_len (λ l. is_above l lane) seen
-      → r ≡ option_map_or (λ l. not (is_above lane l)) (slice_get other at) false → r ≡ false → new ≡ insert lanes at lane → new ≡ put lane lanes
+      → r ≡ option_map_or (λ l. not (is_above lane l)) (slice_get other at) false → r ≡ false → new ≡ insert lanes at lane → new ≡ with_lane lane lanes
   put_inserts lanes seen other new at r s o a e t n =
       n ∙ ap (λ (i : ℕ). insert lanes i lane) (a ∙ ap (prefix_len (λ l. is_above l lane)) s) ∙ put_new lanes (found_at lanes seen other at r false s o a e t)
 
@@ -127,17 +127,17 @@ put_named_sorted (Some lane) lanes s = put_sorted lane lanes s
 pub touched_sorted : (marks : List Mark) (i : ℕ) (d : Mark) (lanes new : List Lane) → new ≡ put_touched (get_or marks i d) lanes → AreSorted lanes → AreSorted new
 touched_sorted marks i d lanes new e s =
     let mark = get_or marks i d in
-    subst AreSorted (sym e) (put_named_sorted mark.names (put mark.lane lanes) (put_sorted mark.lane lanes s))
+    subst AreSorted (sym e) (put_named_sorted mark.names (with_lane mark.lane lanes) (put_sorted mark.lane lanes s))
 
 named_lanes : (l lane : Lane) (names : Option Lane) (lanes : List Lane)
-    → list_any (is_lane l) (put_named names (put lane lanes)) ≡ ((is_lane l lane || option_map_or (is_lane l) names false) || list_any (is_lane l) lanes)
+    → list_any (is_lane l) (put_named names (with_lane lane lanes)) ≡ ((is_lane l lane || option_map_or (is_lane l) names false) || list_any (is_lane l) lanes)
 named_lanes l lane None lanes = put_lanes lane l lanes ∙ none (is_lane l lane) (list_any (is_lane l) lanes)
   where
     none : (a b : Bool) → (a || b) ≡ ((a || false) || b)
     none true b = refl
     none false b = refl
 named_lanes l lane (Some other) lanes =
-    put_lanes other l (put lane lanes) ∙ ap (λ (b : Bool). is_lane l other || b) (put_lanes lane l lanes) ∙ both (is_lane l other) (is_lane l lane) (list_any (is_lane l) lanes)
+    put_lanes other l (with_lane lane lanes) ∙ ap (λ (b : Bool). is_lane l other || b) (put_lanes lane l lanes) ∙ both (is_lane l other) (is_lane l lane) (list_any (is_lane l) lanes)
   where
     both : (a b c : Bool) → (a || (b || c)) ≡ ((b || a) || c)
     both true true c = refl
@@ -274,7 +274,7 @@ same_lanes (x ∷ xs) (y ∷ ys) s t h =
 
 lanes_sorted : (marks : List Mark) → AreSorted (lanes_in marks)
 lanes_sorted [] = tt
-lanes_sorted (mark ∷ rest) = put_named_sorted mark.names (put mark.lane (lanes_in rest)) (put_sorted mark.lane (lanes_in rest) (lanes_sorted rest))
+lanes_sorted (mark ∷ rest) = put_named_sorted mark.names (with_lane mark.lane (lanes_in rest)) (put_sorted mark.lane (lanes_in rest) (lanes_sorted rest))
 
 lanes_touched : (l : Lane) (marks : List Mark) → list_any (is_lane l) (lanes_in marks) ≡ list_any (touches l) marks
 lanes_touched l [] = refl

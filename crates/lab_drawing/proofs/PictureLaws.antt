@@ -6,7 +6,7 @@ use Rattle.std.proofs.lemmas.List.Sums.{count_by_more_no, count_by_more_yes, cou
 use Rattle.std.specs.Fmt.{is_char_start, take_chars}
 use Rattle.std.specs.Str.{trim_start}
 use Rattle.lab_drawing.specs.Drawings.{shape_text}
-use Rattle.lab_drawing.specs.Frames.{Layout, across, below, capped, down, layout_of, longest, most_shown, tie_text}
+use Rattle.lab_drawing.specs.Frames.{Layout, across, below_lane, capped, down, layout_of, longest, most_shown, tie_text}
 use Rattle.lab_drawing.specs.Heads.{head_text, place_text}
 use Rattle.lab_drawing.specs.Lanes.{lanes_in}
 use Rattle.lab_drawing.specs.Marks.{is_entry, line_of}
@@ -199,7 +199,7 @@ pub joined3 : (a b c t0 t1 t2 t3 : List ℕ) → t1 ≡ t0 ++ a → t2 ≡ t1 ++
 joined3 a b c t0 t1 t2 t3 e f g =
     g ∙ ap (λ (x : List ℕ). x ++ c) (f ∙ ap (λ (x : List ℕ). x ++ b) e) ∙ append_assoc (t0 ++ a) b c ∙ append_assoc t0 a (b ++ c)
 
-pub body_made : (sheet : Layout) (column : ℕ) (mark : Mark) (n : ℕ) (led leads tied ties drawn ink t0 t1 t2 t3 t4 : List ℕ) → n ≡ below sheet column mark.lane → leads ≡ led
+pub body_made : (sheet : Layout) (column : ℕ) (mark : Mark) (n : ℕ) (led leads tied ties drawn ink t0 t1 t2 t3 t4 : List ℕ) → n ≡ below_lane sheet column mark.lane → leads ≡ led
     → led ≡ lead_text n → ties ≡ tied → tied ≡ tie_text sheet column mark → drawn ≡ shape_text mark.shape → ink ≡ label_ink mark.shape → t1 ≡ t0 ++ leads → t2 ≡ t1 ++ ties
     → t3 ≡ t2 ++ drawn → t4 ≡ t3 ++ label_text sheet.shown n ink mark.line.now → t4 ≡ t0 ++ body_text sheet column mark
 body_made sheet column mark n led leads tied ties drawn ink t0 t1 t2 t3 t4 b l m t u d i e f g h =

@@ -10,7 +10,7 @@ use Rattle.lab_drawing.specs.Lanes.{lane_text}
 use Rattle.lab_drawing.specs.Shown.{Word, WordFits, core, free_stax, held_stax, lane_of, line_showing, mutex, stage_words, word_stands, word_text}
 use Rattle.lab_drawing.specs.Standings.{others, stand_after}
 use Rattle.lab_drawing.specs.Texts.{around_part, number_in, past_front}
-use Rattle.lab_drawing.specs.Words.{bar, held_at, lane_named, number_behind, shown, standing_by}
+use Rattle.lab_drawing.specs.Words.{bar, held_at, lane_named, number_behind, word_shown, standing_by}
 use Rattle.lab_drawing.specs.declared.lanes.Lane.{Lane}
 use Rattle.lab_drawing.specs.declared.lanes.Lane.TheVariants.{Mutex, Stax}
 use Rattle.lab_drawing.specs.declared.moments.Condition.{Condition}
@@ -82,7 +82,7 @@ named (held_stax number at count) fits = stax_named number fits.0
 named (mutex number owner claimed) fits = mutex_named number fits.0
 named (core holder) fits = (refl, refl)
 
-shown_at : (front name how : List ℕ) (lane : Lane) → Lacks 124 front → Lacks 58 name → lane_named name ≡ Some lane → shown (front ++ (bar ++ (name ++ (codes ": " ++ how)))) ≡ Some (lane, how)
+shown_at : (front name how : List ℕ) (lane : Lane) → Lacks 124 front → Lacks 58 name → lane_named name ≡ Some lane → word_shown (front ++ (bar ++ (name ++ (codes ": " ++ how)))) ≡ Some (lane, how)
 shown_at front name how lane f n is = rw (around_bar front (name ++ (codes ": " ++ how)) f, around_first 58 (32 ∷ []) name how n, is) refl
 
 -- ---- how it stands
@@ -119,7 +119,7 @@ stands (core (Some holder)) fits = rw (number_after (codes "taken by T") holder 
 
 -- the word that a line shows stands as it is shown, and the others as before
 pub word_shown : (front : List ℕ) (word : Word) (before : List Standing) → Lacks 124 front → WordFits word
-    → stand_after (shown (line_showing front word)) before ≡ others (lane_of word) before ++ option_to_list (word_stands word)
+    → stand_after (word_shown (line_showing front word)) before ≡ others (lane_of word) before ++ option_to_list (word_stands word)
 word_shown front word before h fits =
     let lane = named word fits in
     ap (λ (told : Option (Lane × List ℕ)). stand_after told before) (shown_at front (lane_text (lane_of word)) (word_text word) (lane_of word) h lane.1 lane.0)

@@ -1,7 +1,7 @@
 -- Worked rows, computed from the definitions.
 use Rattle.std.proofs.Common.{◌≡◌, codes, Some, None, refl}
 use Rattle.evl_base.specs.declared.stage.Stage.TheVariants.{Oob}
-use Rattle.lab_drawing.specs.Named.{entry_names, entry_shape, named}
+use Rattle.lab_drawing.specs.Named.{entry_names, entry_shape, lane_named}
 use Rattle.lab_drawing.specs.Standings.{before_done, moved_by}
 use Rattle.lab_drawing.specs.Texts.{around_part, number_in, past_front}
 use Rattle.lab_drawing.specs.declared.lanes.Lane.TheVariants.{Flags, Mutex, Stage}
@@ -9,15 +9,15 @@ use Rattle.lab_drawing.specs.declared.marks.Shape.TheVariants.{Answered, Ended, 
 
 -- ---- what a call names
 
-flags_named : named (codes "post_flags flags=3 bits=7") ≡ Some (Flags 3)
+flags_named : lane_named (codes "post_flags flags=3 bits=7") ≡ Some (Flags 3)
 unfolding around_part past_front number_in
 flags_named = refl
 
-stage_named : named (codes "request line=5 stage=oob callback=0 tag=7") ≡ Some (Stage Oob)
+stage_named : lane_named (codes "request line=5 stage=oob callback=0 tag=7") ≡ Some (Stage Oob)
 unfolding around_part past_front number_in
 stage_named = refl
 
-nothing_named : named (codes "tick delta=5") ≡ None
+nothing_named : lane_named (codes "tick delta=5") ≡ None
 unfolding around_part past_front number_in
 nothing_named = refl
 

@@ -126,8 +126,8 @@ abbrev pub down : Layout → ℕ → Lane → ℕ
 down sheet column lane = capped (band_top sheet column + (room sheet.shows 32 + 24) + lane_height sheet * unwrap_or (place_on sheet lane) 0)
 
 -- how far below a lane the lines begin
-abbrev pub below : Layout → ℕ → Lane → ℕ
-below sheet column lane = capped (band_top sheet column + band_depth sheet) - down sheet column lane
+abbrev pub below_lane : Layout → ℕ → Lane → ℕ
+below_lane sheet column lane = capped (band_top sheet column + band_depth sheet) - down sheet column lane
 
 -- a line so far down, up to here
 abbrev pub line_text : ℕ → ℕ → List ℕ → List ℕ

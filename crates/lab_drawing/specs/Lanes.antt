@@ -60,20 +60,20 @@ pub record AreLanesOf (marks : List Mark) (lanes : List Lane) : Type 0 where
   pub touched : (lane : Lane) → list_any (is_lane lane) lanes ≡ list_any (touches lane) marks
 
 -- a lane among sorted ones, where it isn't there yet
-abbrev pub put : Lane → List Lane → List Lane
-put lane [] = lane ∷ []
-put lane (first ∷ rest) =
-    if is_above first lane then first ∷ put lane rest
+abbrev pub with_lane : Lane → List Lane → List Lane
+with_lane lane [] = lane ∷ []
+with_lane lane (first ∷ rest) =
+    if is_above first lane then first ∷ with_lane lane rest
     else if is_above lane first then lane ∷ first ∷ rest
     else first ∷ rest
 
 abbrev pub put_named : Option Lane → List Lane → List Lane
 put_named None lanes = lanes
-put_named (Some lane) lanes = put lane lanes
+put_named (Some lane) lanes = with_lane lane lanes
 
 -- the lanes that a mark touches, among sorted ones
 abbrev pub put_touched : Mark → List Lane → List Lane
-put_touched mark lanes = put_named mark.names (put mark.lane lanes)
+put_touched mark lanes = put_named mark.names (with_lane mark.lane lanes)
 
 -- the one list of lanes that `AreLanesOf` marks (`lanes_are`)
 abbrev pub lanes_in : List Mark → List Lane

@@ -56,9 +56,9 @@ marked_by (Entry line) text =
     Some (record { line = text; lane = Thread line.thread; names = entry_names line.call.now line.answer.now; shape = entry_shape line.call.now line.answer.now })
 marked_by (Play p) text = Some (record { line = text; lane = play_lane p; names = None; shape = play_shape p })
 
-abbrev pub marked : TraceLine → Option Told
-marked line = marked_by line.says line.text.now
+abbrev pub mark_of : TraceLine → Option Told
+mark_of line = marked_by line.says line.text.now
 
 -- of the lines of a trace, in order
 abbrev pub all_marked : List TraceLine → List Told
-all_marked lines = filter_map marked lines
+all_marked lines = filter_map mark_of lines

@@ -5,7 +5,7 @@ use Rattle.std.specs.Option.{option_map_or, option_or}
 use Rattle.evl_base.specs.declared.stage.Stage.TheVariants.{Inband, Oob}
 use Rattle.lab_traces.specs.Entries.{names_refusal}
 use Rattle.lab_drawing.specs.Texts.{around_part, number_in, up_to}
-use Rattle.lab_drawing.specs.Words.{first_lane, outcome, shown}
+use Rattle.lab_drawing.specs.Words.{first_lane, outcome, word_shown}
 use Rattle.lab_drawing.specs.declared.lanes.Lane.{Lane}
 use Rattle.lab_drawing.specs.declared.lanes.Lane.TheVariants.{Mutex, Stax, Sem, Flags, Xbuf, Timer, Stage}
 use Rattle.lab_drawing.specs.declared.marks.Shape.{Shape}
@@ -36,12 +36,12 @@ abbrev pub stage_at : List ℕ → Option Lane
 stage_at call = option_and_then stage_lane (value_of call (codes " stage="))
 
 -- the lane of the element or the timer that a call names, or else of the stage
-abbrev pub named : List ℕ → Option Lane
-named call = option_or (first_lane (number_at call) lane_keys) (stage_at call)
+abbrev pub lane_named : List ℕ → Option Lane
+lane_named call = option_or (first_lane (number_at call) lane_keys) (stage_at call)
 
 -- the lane of what is shown behind the answer, or else of what the call names
 abbrev pub entry_names : List ℕ → List ℕ → Option Lane
-entry_names call answer = option_or (option_map (λ told. told.0) (shown answer)) (named call)
+entry_names call answer = option_or (option_map (λ told. told.0) (word_shown answer)) (lane_named call)
 
 -- whether the answer is the name of the pass that the call gets
 abbrev pub is_pass : List ℕ → List ℕ → Bool

@@ -4,7 +4,7 @@ use Rattle.std.specs.Fmt.{take_chars}
 use Rattle.std.specs.List.{fold}
 use Rattle.std.specs.Str.{trim_start}
 use Rattle.lab_drawing.specs.Drawings.{shape_text}
-use Rattle.lab_drawing.specs.Frames.{Layout, across, below, down, frame_text, layout_of, shows_waits, tie_text}
+use Rattle.lab_drawing.specs.Frames.{Layout, across, below_lane, down, frame_text, layout_of, shows_waits, tie_text}
 use Rattle.lab_drawing.specs.Heads.{head_text, place_text}
 use Rattle.lab_drawing.specs.Lanes.{is_lane}
 use Rattle.lab_drawing.specs.Marks.{is_entry}
@@ -50,8 +50,8 @@ lead_text pixels = codes "<path d=\"M0 0V" ++ (decimal pixels ++ codes "\" strok
 -- the drawing of a mark, behind its title: the line to its label, the tie, the shape, and the label
 abbrev pub body_text : Layout → ℕ → Mark → List ℕ
 body_text sheet column mark =
-    lead_text (below sheet column mark.lane)
-    ++ (tie_text sheet column mark ++ (shape_text mark.shape ++ label_text sheet.shown (below sheet column mark.lane) (label_ink mark.shape) mark.line.now))
+    lead_text (below_lane sheet column mark.lane)
+    ++ (tie_text sheet column mark ++ (shape_text mark.shape ++ label_text sheet.shown (below_lane sheet column mark.lane) (label_ink mark.shape) mark.line.now))
 
 -- a mark in its column
 abbrev pub mark_text : Layout → ℕ → Mark → List ℕ

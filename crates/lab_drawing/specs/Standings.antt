@@ -5,7 +5,7 @@ use Rattle.lab_traces.specs.Parts.{before_end}
 use Rattle.lab_drawing.specs.Lanes.{is_lane}
 use Rattle.lab_drawing.specs.Marks.{is_entry, line_of}
 use Rattle.lab_drawing.specs.Texts.{around_part, number_in}
-use Rattle.lab_drawing.specs.Words.{shown, standing_by}
+use Rattle.lab_drawing.specs.Words.{word_shown, standing_by}
 use Rattle.lab_drawing.specs.declared.lanes.Lane.{Lane}
 use Rattle.lab_drawing.specs.declared.marks.Mark.{Mark}
 use Rattle.lab_drawing.specs.declared.moments.Moment.{Moment}
@@ -49,7 +49,7 @@ stand_after (Some told) before = stand_with told.0 told.1 before
 
 -- the moment after a line, behind the one before it
 abbrev pub told_after : Told → List ℕ → Told
-told_after before line = record { date = date_after line before.date; standings = stand_after (shown line) before.standings }
+told_after before line = record { date = date_after line before.date; standings = stand_after (word_shown line) before.standings }
 
 -- before the first line
 abbrev pub at_first : Told

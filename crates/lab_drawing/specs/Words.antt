@@ -35,8 +35,8 @@ abbrev pub lane_named : List ℕ → Option Lane
 lane_named name = if bytes_eq name (codes "core") then Some Core else first_lane (λ word. number_behind word name) lane_words
 
 -- what is shown behind the bar: a lane, and in words how it stands
-abbrev pub shown : List ℕ → Option (Lane × List ℕ)
-shown line =
+abbrev pub word_shown : List ℕ → Option (Lane × List ℕ)
+word_shown line =
     option_and_then (λ (front, behind).
     option_and_then (λ (name, how).
     option_map (λ lane. (lane, how)) (lane_named name)) (around_part (codes ": ") behind)) (around_part bar line)

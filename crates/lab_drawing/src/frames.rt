@@ -228,7 +228,7 @@ impl Sheet {
 
     /// How far the lines below a band are below a lane.
     pub fn below(&self, column: usize, lane: Lane) -> usize
-        ensures { result ≡ frames.below (layout self.now) column lane }
+        ensures { result ≡ frames.below_lane (layout self.now) column lane }
     {
         let foot = self.band_top(column).saturating_add(self.depth());
         foot.saturating_sub(self.down(column, lane))

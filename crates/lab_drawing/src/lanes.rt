@@ -3,7 +3,7 @@ ghost use Rattle.std.specs.Prelude.{◌≡◌, ◌≤◌, false, not, length, po
 ghost use Rattle.std.specs.List.{prefix_len};
 ghost use Rattle.std.specs.Option.{option_map_or};
 ghost use Rattle.lab_drawing.specs.Lanes as lanes;
-ghost use Rattle.lab_drawing.specs.Lanes.{is_above, is_lane, put};
+ghost use Rattle.lab_drawing.specs.Lanes.{is_above, is_lane, with_lane};
 
 use evl_base::Stage;
 use std::alloc::AllocError;
@@ -109,7 +109,7 @@ fn stands_at(lanes: &[Lane], lane: Lane, at: usize) -> bool
 
 /// Puts a lane into a sorted list, where it isn't there yet. `AllocError` where the list couldn't grow.
 pub fn add_lane(lanes: &mut Vec<Lane>, lane: Lane) -> Result<(), AllocError>
-    ensures { OnOk result (lanes.new.items ≡ put lane lanes.old.items) }
+    ensures { OnOk result (lanes.new.items ≡ with_lane lane lanes.old.items) }
 {
     let at = index_for(lanes.as_slice(), lane);
     if stands_at(lanes.as_slice(), lane, at) {

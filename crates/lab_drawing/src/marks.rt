@@ -10,7 +10,7 @@ ghost use Rattle.lab_traces.specs.Says.{says_of};
 ghost use Rattle.lab_traces.specs.declared.traces.TraceLine.{TraceLine};
 ghost use Rattle.lab_drawing.specs.Calls.{step_told};
 ghost use Rattle.lab_drawing.specs.Marks as marks;
-ghost use Rattle.lab_drawing.specs.Marks.{all_marked, is_called, marked, play_lane, play_shape, told_of};
+ghost use Rattle.lab_drawing.specs.Marks.{all_marked, is_called, mark_of, play_lane, play_shape, told_of};
 ghost use Rattle.lab_drawing.specs.Named as named;
 
 use crate::lanes::Lane;
@@ -81,7 +81,7 @@ fn stage_at(call: &str) -> Option<Lane>
 
 // The lane of the element, the timer or the stage that a call names.
 fn named(call: &str) -> Option<Lane>
-    ensures { result ≡ named.named call.now }
+    ensures { result ≡ named.lane_named call.now }
 {
     if let Some(number) = number_at(call, " mutex=") {
         return Some(Lane::Mutex(number));
@@ -181,7 +181,7 @@ fn play_place(play: Play) -> (Lane, Shape)
 
 // The mark of a line, where it is that of an entry or a play.
 fn mark_of<'a>(line: &TraceLine<'a>) -> Option<Mark<'a>>
-    ensures { option_map told_of result ≡ marked line.now }
+    ensures { option_map told_of result ≡ mark_of line.now }
 {
     match line.says {
         Says::Board(_) => None,
@@ -209,7 +209,7 @@ pub fn marks_of<'a>(alloc: Global, lines: &[TraceLine<'a>]) -> Result<Vec<Mark<'
     ensures marks { IfOk result (λ marks. map told_of marks.items ≡ all_marked lines.now) }
 
     // The line of a step and of what its call answered is marked by the call and the answer.
-    ensures called { (line : TraceLine) (number : Option ℕ) (step : Step) (answer : Result Reply Refusal) → StepFits step → says_of line.says ≡ entry (step_parts number step answer) → marked line ≡ Some (step_told line.text.now step answer) }
+    ensures called { (line : TraceLine) (number : Option ℕ) (step : Step) (answer : Result Reply Refusal) → StepFits step → says_of line.says ≡ entry (step_parts number step answer) → mark_of line ≡ Some (step_told line.text.now step answer) }
 {
     let mut marks = Vec::new(alloc);
     for line in lines {

@@ -81,7 +81,7 @@ fn stand_with(
 
 // How the words stand after a line: the one that it shows as it tells, and the others as before.
 fn stand_after(alloc: Global, before: &[Standing], line: &str) -> Result<Vec<Standing>, AllocError>
-    ensures { IfOk result (λ all. all.items ≡ stands.stand_after (words.shown line.now) before.now) }
+    ensures { IfOk result (λ all. all.items ≡ stands.stand_after (words.word_shown line.now) before.now) }
 {
     match shown(line) {
         Some((lane, how)) => stand_with(alloc, lane, how, before),

@@ -42,7 +42,7 @@ fn lane_named(name: &str) -> Option<Lane>
 
 /// What is shown in a line or behind an answer: a lane, and in words how it stands.
 pub fn shown(line: &str) -> Option<(Lane, &str)>
-    ensures { option_map (λ told. (told.0, told.1.now)) result ≡ words.shown line.now }
+    ensures { option_map (λ told. (told.0, told.1.now)) result ≡ words.word_shown line.now }
 {
     let (_, behind) = around(BAR, line)?;
     let (name, how) = around(": ", behind)?;

@@ -1,6 +1,6 @@
 -- What one more piece tells, and how far it may count.
 use Rattle.std.proofs.Common.{◌≡◌, ◌∙◌, ℕ, ◌+◌, ◌<◌, ◌≤◌, Bool, true, false, cond, List, ◌∷◌, ◌++◌, Option, Some, None, drop, get_or, length, sym, ap, add-one, drop-cons, arith}
-use Rattle.lab_faults.specs.Keys.{CountsUpTo, bare_between, begins_heading, begun_steps, behind, behind_head, behind_in, behind_key, behind_other, braced, brackets_of, closed, entries, entry, first_kind, headed, headings_in, in_braces, is_equals, keys_to_come, opened}
+use Rattle.lab_faults.specs.Keys.{CountsUpTo, bare_between, begins_heading, begun_steps, behind, behind_head, behind_in, behind_key, behind_other, braced, brackets_of, bracket_closed, entries, entry, first_kind, headed, headings_in, in_braces, is_equals, keys_to_come, bracket_opened}
 use Rattle.lab_faults.specs.declared.items.Entry.{Entry}
 use Rattle.lab_faults.specs.declared.items.Heading.{Heading}
 use Rattle.lab_faults.specs.declared.items.Item.{Item}
@@ -68,23 +68,23 @@ module _ (text : List ℕ) (s : Standing) (n : ℕ) (h : CountsUpTo s n) where
       let more = headed_steps (bare_between text range) brackets s.steps in record { steps = omega (arith, h.steps, more); depth = omega (arith, h.depth); brackets = omega (arith, h.brackets) }
   head_counts brackets range _ k = one_more s n h
 
-  brace_counts : (section : Section) → CountsUpTo (in_braces text (opened s) section) (n + 1)
+  brace_counts : (section : Section) → CountsUpTo (in_braces text (bracket_opened s) section) (n + 1)
   brace_counts Opening =
       let more = braced_steps (bare_between text s.top) s.steps in record { steps = omega (arith, h.steps, more); depth = omega (arith, h.depth); brackets = omega (arith, h.brackets) }
   brace_counts _ = record { steps = omega (arith, h.steps); depth = omega (arith, h.depth); brackets = omega (arith, h.brackets) }
 
-  open_counts : CountsUpTo (opened s) (n + 1)
+  open_counts : CountsUpTo (bracket_opened s) (n + 1)
   open_counts = record { steps = omega (arith, h.steps); depth = omega (arith, h.depth); brackets = omega (arith, h.brackets) }
 
   head_begins : CountsUpTo (record s { heading = Some 1 }) (n + 1)
   head_begins = record { steps = omega (arith, h.steps); depth = omega (arith, h.depth); brackets = omega arith }
 
-  close_counts : CountsUpTo (closed s) (n + 1)
+  close_counts : CountsUpTo (bracket_closed s) (n + 1)
   close_counts = record { steps = omega (arith, h.steps); depth = omega (arith, h.depth); brackets = omega (arith, h.brackets) }
 
   other_counts : (range : ℕ × ℕ) (next kind : Kind) → CountsUpTo (behind_other text s range next kind) (n + 1)
   other_counts range next Word = either (is_equals next) (behind_key s range) s (n + 1) (let more = one_more s n h in record { steps = more.steps; depth = more.depth; brackets = more.brackets }) (one_more s n h)
-  other_counts range next Bracket = either (begins_heading s) _ (opened s) (n + 1) head_begins open_counts
+  other_counts range next Bracket = either (begins_heading s) _ (bracket_opened s) (n + 1) head_begins open_counts
   other_counts range next Brace = brace_counts s.section
   other_counts range next EndBracket = close_counts
   other_counts range next EndBrace = close_counts

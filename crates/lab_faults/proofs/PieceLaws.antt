@@ -4,7 +4,7 @@ use Rattle.std.specs.List.{prefix_len}
 use Rattle.std.specs.Option.{unwrap_or, option_map}
 use Rattle.std.proofs.lemmas.Bool.{false≢true}
 use Rattle.std.proofs.lemmas.List.{append-nil}
-use Rattle.lab_faults.specs.Pieces.{begun_word, closes, closing, ended, escapes, is_in_line, is_plain, is_quote, mark, marked, pieces_from, quoted_from, to_come, word, word_from}
+use Rattle.lab_faults.specs.Pieces.{begun_word, closes, closing, token_ended, escapes, is_in_line, is_plain, is_quote, mark, token_marked, pieces_from, quoted_from, to_come, word, word_from}
 use Rattle.lab_faults.specs.declared.tokens.Reading.TheVariants.{Quoted, Comment}
 use Rattle.lab_faults.specs.declared.tokens.Token.{Token}
 
@@ -41,7 +41,7 @@ word_on (Some from) at byte rest e =
     further from at byte (prefix_len is_plain rest) _ rest (yes (is_plain byte) (1 + prefix_len is_plain rest) 0 e ∙ one)
 
 -- where a text ends
-pub word_ends : (begun : Option ℕ) (to : ℕ) → begun_word begun to [] ≡ ended begun to
+pub word_ends : (begun : Option ℕ) (to : ℕ) → begun_word begun to [] ≡ token_ended begun to
 unfolding pieces_from
 word_ends None to = refl
 word_ends (Some from) to = let same : to + 0 ≡ to = omega arith in ap (λ (end : ℕ). word from end ∷ []) same
@@ -63,7 +63,7 @@ unfolding pieces_from
 sign_on at byte rest e q s = no (is_plain byte) _ _ e ∙ no (is_quote byte) _ _ q ∙ yes (byte == 35) _ _ s
 
 pub mark_on : (at byte : ℕ) (rest : List ℕ) → is_plain byte ≡ false → is_quote byte ≡ false → (byte == 35) ≡ false
-    → pieces_from at 0 (byte ∷ rest) ≡ marked at (mark byte) ++ pieces_from (at + 1) 0 rest
+    → pieces_from at 0 (byte ∷ rest) ≡ token_marked at (mark byte) ++ pieces_from (at + 1) 0 rest
 unfolding pieces_from
 mark_on at byte rest e q s = no (is_plain byte) _ _ e ∙ no (is_quote byte) _ _ q ∙ no (byte == 35) _ _ s
 

@@ -2,7 +2,7 @@
 use Rattle.std.proofs.Common.{◌≡◌, ◌∙◌, ℕ, ◌+◌, ◌<◌, ◌≤◌, true, false, List, [], ◌∷◌, ◌++◌, codes, length, map, refl, sym, ap, arith, length-append}
 use Rattle.std.proofs.lemmas.List.{append-nil, length-map}
 use Rattle.lab_faults.specs.Steps.{call_faults, first_byte, is_step, item_at, or_unread, step_faults, step_told, unread_text}
-use Rattle.lab_faults.specs.Told.{Adds, Told, told}
+use Rattle.lab_faults.specs.Told.{Adds, Told, fault_told as told}
 use Rattle.lab_faults.specs.declared.found.Finding.{Finding}
 use Rattle.lab_faults.specs.declared.found.Found.{Found}
 use Rattle.lab_faults.specs.declared.items.Item.{Item}

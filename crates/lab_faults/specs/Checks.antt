@@ -7,7 +7,7 @@ use Rattle.lab_faults.specs.Boards.{board_faults}
 use Rattle.lab_faults.specs.Faults.{found_lines}
 use Rattle.lab_faults.specs.Keys.{text_headings, text_keys}
 use Rattle.lab_faults.specs.Steps.{all_step_faults}
-use Rattle.lab_faults.specs.Told.{Told, told, told_at}
+use Rattle.lab_faults.specs.Told.{Told, fault_told as told, told_at}
 use Rattle.lab_faults.specs.declared.found.Found.{Found}
 
 -- ---- of the text

@@ -52,12 +52,12 @@ begins_heading s = not s.is_value && s.depth == 0
 abbrev pub behind_key : Standing → ℕ × ℕ → Standing
 behind_key s key = record s { top = (if s.depth == 0 then key else s.top); key_depth = s.depth; is_value = true }
 
-abbrev pub opened : Standing → Standing
-opened s = record s { depth = s.depth + 1 }
+abbrev pub bracket_opened : Standing → Standing
+bracket_opened s = record s { depth = s.depth + 1 }
 
 -- what closes brackets that were open at the last key ends its value
-abbrev pub closed : Standing → Standing
-closed s = record s { depth = s.depth - 1; is_value = s.is_value && nat_lt s.key_depth s.depth }
+abbrev pub bracket_closed : Standing → Standing
+bracket_closed s = record s { depth = s.depth - 1; is_value = s.is_value && nat_lt s.key_depth s.depth }
 
 abbrev pub behind_line : Standing → Standing
 behind_line s = record s { is_value = s.is_value && not (s.depth == 0) }
@@ -81,10 +81,10 @@ module _ (text : List ℕ) where
   -- outside headings
   abbrev pub behind_other : Standing → ℕ × ℕ → Kind → Kind → Standing
   behind_other s range next Word = if is_equals next then behind_key s range else s
-  behind_other s range next Bracket = if begins_heading s then record s { heading = Some 1 } else opened s
-  behind_other s range next Brace = in_braces (opened s) s.section
-  behind_other s range next EndBracket = closed s
-  behind_other s range next EndBrace = closed s
+  behind_other s range next Bracket = if begins_heading s then record s { heading = Some 1 } else bracket_opened s
+  behind_other s range next Brace = in_braces (bracket_opened s) s.section
+  behind_other s range next EndBracket = bracket_closed s
+  behind_other s range next EndBrace = bracket_closed s
   behind_other s range next EndLine = behind_line s
   behind_other s range next _ = s
 

@@ -65,9 +65,9 @@ abbrev pub quoted_from : ℕ → ℕ → Option ℕ → (ℕ → List Token) →
 quoted_from from at (Some more) behind = word_from from at more behind
 quoted_from from at None behind = []
 
-abbrev pub marked : ℕ → Option Kind → List Token
-marked at (Some kind) = record { kind = kind; from = at; to = at + 1 } ∷ []
-marked at None = []
+abbrev pub token_marked : ℕ → Option Kind → List Token
+token_marked at (Some kind) = record { kind = kind; from = at; to = at + 1 } ∷ []
+token_marked at None = []
 
 -- the pieces of what stands at a place, behind so many bytes, which are of a piece that began before
 unfoldable pub pieces_from : ℕ → ℕ → List ℕ → List Token
@@ -77,7 +77,7 @@ pieces_from at zero (byte ∷ rest) =
     if is_plain byte then word_from at (at + 1) (prefix_len is_plain rest) (λ passed. pieces_from (at + 1) passed rest)
     else if is_quote byte then quoted_from at (at + 1) (closing byte false rest) (λ passed. pieces_from (at + 1) passed rest)
     else if byte == 35 then pieces_from (at + 1) (prefix_len is_in_line rest) rest
-    else marked at (mark byte) ++ pieces_from (at + 1) 0 rest
+    else token_marked at (mark byte) ++ pieces_from (at + 1) 0 rest
 
 abbrev pub pieces : List ℕ → List Token
 pieces text = pieces_from 0 0 text
@@ -85,9 +85,9 @@ pieces text = pieces_from 0 0 text
 -- ---- a part of a text
 
 -- a word that may have begun, where it ends
-abbrev pub ended : Option ℕ → ℕ → List Token
-ended None to = []
-ended (Some from) to = word from to ∷ []
+abbrev pub token_ended : Option ℕ → ℕ → List Token
+token_ended None to = []
+token_ended (Some from) to = word from to ∷ []
 
 -- a word that may have begun, and what stands behind it
 abbrev pub begun_word : Option ℕ → ℕ → List ℕ → List Token

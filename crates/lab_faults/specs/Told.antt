@@ -9,14 +9,14 @@ use Rattle.evl_scenario.specs.declared.faults.Fault.{Fault}
 -- ---- its place
 
 -- the place behind these lines, of which the first goes on at a column
-abbrev pub behind : ℕ → ℕ → List (List ℕ) → Place
-behind line column [] = record { line = line; column = column }
-behind line column (last ∷ []) = record { line = line; column = column + length last }
-behind line column (passed ∷ next ∷ rest) = behind (line + 1) 1 (next ∷ rest)
+abbrev pub place_behind : ℕ → ℕ → List (List ℕ) → Place
+place_behind line column [] = record { line = line; column = column }
+place_behind line column (last ∷ []) = record { line = line; column = column + length last }
+place_behind line column (passed ∷ next ∷ rest) = place_behind (line + 1) 1 (next ∷ rest)
 
 -- the place of a byte of a text
 unfoldable pub place_at : List ℕ → ℕ → Place
-place_at text at = behind 1 1 (slice_split (λ c. c == 10) (take at text))
+place_at text at = place_behind 1 1 (slice_split (λ c. c == 10) (take at text))
 
 -- ---- the fault
 

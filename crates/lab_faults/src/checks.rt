@@ -3,7 +3,7 @@ ghost use Rattle.std.specs.Prelude.{◌≡◌, ◌≢◌, ◌∷◌, true, false
 ghost use Rattle.evl_scenario.specs.Scenarios.{scenario_of};
 ghost use Rattle.lab_faults.specs.Checks.{Finds, FindsText, IsRefusedFor, IsTextFault, Tells, faults_in_all, faults_in_steps, not_toml_text, plain_text, plain_told};
 ghost use Rattle.lab_faults.specs.Faults.{are_of_steps, first_fault, is_of_step, refusal_in};
-ghost use Rattle.lab_faults.specs.Told.{told};
+ghost use Rattle.lab_faults.specs.Told.{fault_told};
 
 use crate::boards::check_board;
 use crate::found::{Finding, Found, Place};
@@ -21,7 +21,7 @@ fn not_toml(alloc: Global, why: &str) -> Result<String, AllocError>
 
 // Where a text is no TOML document, and why.
 fn refused_for(alloc: Global, text: &[u8]) -> Result<(usize, String), AllocError>
-    ensures { IfOk result (λ told. IsRefusedFor text.now (string_bytes told.1)) }
+    ensures { IfOk result (λ fault_told. IsRefusedFor text.now (string_bytes fault_told.1)) }
 {
     match toml::table_from_slice(alloc, text) {
         Ok(_) => Ok((0, format!(in alloc; "the text can't be read")?)),
@@ -38,7 +38,7 @@ fn refused_for(alloc: Global, text: &[u8]) -> Result<(usize, String), AllocError
 
 // Where a text can't be read, and why.
 fn syntax(alloc: Global, text: &[u8]) -> Result<(usize, String), AllocError>
-    ensures { IfOk result (λ told. IsTextFault text.now told.0 (string_bytes told.1)) }
+    ensures { IfOk result (λ fault_told. IsTextFault text.now fault_told.0 (string_bytes fault_told.1)) }
 {
     if text.len() > 1_048_576 {
         let words = format!(in alloc; "the text has more than 1048576 bytes")?;
@@ -62,7 +62,7 @@ fn plainly(alloc: Global, fault: Fault) -> Result<String, AllocError>
 
 // The fault of a text that can't be read.
 fn found_in_text(alloc: Global, text: &[u8]) -> Result<Vec<Found>, AllocError>
-    ensures { IfOk result (λ found. FindsText text.now (map told found.items)) }
+    ensures { IfOk result (λ found. FindsText text.now (map fault_told found.items)) }
 {
     let mut finding = Finding {
         text,
@@ -76,7 +76,7 @@ fn found_in_text(alloc: Global, text: &[u8]) -> Result<Vec<Found>, AllocError>
 
 // The faults of the board, of what stands beside it, and of the steps.
 fn found_in_board(alloc: Global, text: &[u8]) -> Result<Vec<Found>, AllocError>
-    ensures { IfOk result (λ found. map told found.items ≡ faults_in_all text.now) }
+    ensures { IfOk result (λ found. map fault_told found.items ≡ faults_in_all text.now) }
 {
     let mut finding = Finding {
         text,
@@ -91,7 +91,7 @@ fn found_in_board(alloc: Global, text: &[u8]) -> Result<Vec<Found>, AllocError>
 
 // The faults of the steps: the board of a text that is refused for a step is without fault.
 fn found_in_steps(alloc: Global, text: &[u8]) -> Result<Vec<Found>, AllocError>
-    ensures told { IfOk result (λ found. map told found.items ≡ faults_in_steps text.now) }
+    ensures fault_told { IfOk result (λ found. map fault_told found.items ≡ faults_in_steps text.now) }
     ensures steps { IfOk result (λ found. are_of_steps found.items ≡ true) }
 {
     let mut finding = Finding {
@@ -106,7 +106,7 @@ fn found_in_steps(alloc: Global, text: &[u8]) -> Result<Vec<Found>, AllocError>
 
 // All faults that are found in a text that was refused for this one.
 fn all_found(alloc: Global, text: &[u8], fault: Fault) -> Result<Vec<Found>, AllocError>
-    ensures told { IfOk result (λ found. Finds text.now fault (map told found.items)) }
+    ensures fault_told { IfOk result (λ found. Finds text.now fault (map fault_told found.items)) }
     ensures steps { IfOk result (λ found. is_of_step fault ≡ true → are_of_steps found.items ≡ true) }
 {
     match fault {
@@ -129,7 +129,7 @@ fn begins_with(found: &[Found], fault: Fault) -> bool
 
 // A fault in front of others.
 fn in_front(fault: Fault, words: String, others: Vec<Found>) -> Result<Vec<Found>, AllocError>
-    ensures told { IfOk result (λ found. string_bytes words ≡ plain_text fault → map told found.items ≡ plain_told fault ∷ map told others.items) }
+    ensures fault_told { IfOk result (λ found. string_bytes words ≡ plain_text fault → map fault_told found.items ≡ plain_told fault ∷ map fault_told others.items) }
     ensures first { IfOk result (λ found. first_fault found.items ≡ Some fault) }
     ensures steps { IfOk result (λ found. is_of_step fault ≡ true → are_of_steps others.items ≡ true → are_of_steps found.items ≡ true) }
 {
@@ -147,7 +147,7 @@ fn in_front(fault: Fault, words: String, others: Vec<Found>) -> Result<Vec<Found
 
 // The faults of a text that was refused for this one, which is the first of them.
 fn explain(alloc: Global, text: &[u8], fault: Fault) -> Result<Vec<Found>, AllocError>
-    ensures told { IfOk result (λ found. Tells text.now fault (map told found.items)) }
+    ensures fault_told { IfOk result (λ found. Tells text.now fault (map fault_told found.items)) }
     ensures first { IfOk result (λ found. first_fault found.items ≡ Some fault) }
     ensures steps { IfOk result (λ found. is_of_step fault ≡ true → are_of_steps found.items ≡ true) }
 {
@@ -164,7 +164,7 @@ fn explain(alloc: Global, text: &[u8], fault: Fault) -> Result<Vec<Found>, Alloc
 /// be played, and the first is the one that it is refused for: of the text, of the board, or of the first step that
 /// can't be read; in that last case none is of the text or the board. `AllocError` where memory couldn't grow.
 pub fn check(alloc: Global, text: &[u8]) -> Result<Vec<Found>, AllocError>
-    ensures told { IfOk result (λ found. (fault : Fault) → scenario_of None text.now ≡ Err fault → Tells text.now fault (map told found.items)) }
+    ensures fault_told { IfOk result (λ found. (fault : Fault) → scenario_of None text.now ≡ Err fault → Tells text.now fault (map fault_told found.items)) }
     ensures first { IfOk result (λ found. first_fault found.items ≡ refusal_in (scenario_of None text.now)) }
     ensures steps { IfOk result (λ found. (fault : Fault) → scenario_of None text.now ≡ Err fault → is_of_step fault ≡ true → are_of_steps found.items ≡ true) }
 {

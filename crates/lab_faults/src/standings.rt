@@ -175,7 +175,7 @@ fn behind_key(standing: Standing, key: (usize, usize)) -> Standing
 // Behind what opens.
 fn opened(standing: Standing) -> Standing
     requires { standing.depth < 9223372036854775808 }
-    ensures { result ≡ keys.opened standing }
+    ensures { result ≡ keys.bracket_opened standing }
 {
     Standing {
         depth: standing.depth + 1,
@@ -185,7 +185,7 @@ fn opened(standing: Standing) -> Standing
 
 // Behind what closes.
 fn closed(standing: Standing) -> Standing
-    ensures { result ≡ keys.closed standing }
+    ensures { result ≡ keys.bracket_closed standing }
 {
     Standing {
         depth: standing.depth.saturating_sub(1),
@@ -207,7 +207,7 @@ fn behind_line(standing: Standing) -> Standing
 // Behind a bracket outside headings.
 fn behind_bracket(standing: Standing) -> Standing
     requires { standing.depth < 9223372036854775808 }
-    ensures { result ≡ (if keys.begins_heading standing then record standing { heading = Some 1 } else keys.opened standing) }
+    ensures { result ≡ (if keys.begins_heading standing then record standing { heading = Some 1 } else keys.bracket_opened standing) }
 {
     if !standing.is_value && standing.depth == 0 {
         return Standing {

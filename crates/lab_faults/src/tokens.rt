@@ -1,7 +1,7 @@
 //! The pieces that a TOML text is made of, as far as places in it need them.
 ghost use Rattle.std.specs.Prelude.{◌≡◌, ℕ, ◌+◌, ◌<◌, false, List, [], ◌∷◌, ◌++◌, IfOk, OnOk};
 ghost use Rattle.lab_faults.specs.Pieces as pieces;
-ghost use Rattle.lab_faults.specs.Pieces.{begun_word, marked, pieces_from, to_come};
+ghost use Rattle.lab_faults.specs.Pieces.{begun_word, token_marked, pieces_from, to_come};
 
 use std::alloc::{AllocError, Global};
 
@@ -77,7 +77,7 @@ fn is_plain(byte: u8) -> bool
 
 // Ends the word that is being read, where there is one.
 fn end_word(tokens: &mut Vec<Token>, begun: Option<usize>, to: usize) -> Result<(), AllocError>
-    ensures { OnOk result (tokens.new.items ≡ tokens.old.items ++ pieces.ended begun to) }
+    ensures { OnOk result (tokens.new.items ≡ tokens.old.items ++ pieces.token_ended begun to) }
 {
     if let Some(from) = begun {
         tokens.push(Token {
@@ -92,7 +92,7 @@ fn end_word(tokens: &mut Vec<Token>, begun: Option<usize>, to: usize) -> Result<
 // Notes a byte that stands alone, where it is one.
 fn note_mark(tokens: &mut Vec<Token>, at: usize, byte: u8) -> Result<(), AllocError>
     requires { at < 9223372036854775808 }
-    ensures { OnOk result (tokens.new.items ≡ tokens.old.items ++ marked at (pieces.mark byte)) }
+    ensures { OnOk result (tokens.new.items ≡ tokens.old.items ++ token_marked at (pieces.mark byte)) }
 {
     if let Some(kind) = mark(byte) {
         tokens.push(Token {

@@ -5,7 +5,7 @@ use Rattle.std.proofs.lemmas.List.{append_assoc, append-nil, length-append}
 use Rattle.evl_base.specs.declared.board.Board.{Board}
 use Rattle.evl_base.specs.declared.entry.Entry.{Entry}
 use Rattle.evl_base.specs.declared.play.Play.{Play}
-use Rattle.evl_kernel.specs.histories.Histories.{History, IsLegal, Run, opened}
+use Rattle.evl_kernel.specs.histories.Histories.{History, IsLegal, Run, opened_kernel}
 use Rattle.evl_kernel.specs.state.States.{State}
 use Rattle.evl_scenario.specs.Lines.{board_line_of, board_line_text}
 use Rattle.evl_scenario.specs.Traces.{entry_lines, history_trace, lines_behind}
@@ -51,7 +51,7 @@ trace_grows board limit old new entry own legal counted entries plays =
     let number : 0 + length old.entries + 1 ≡ length new.entries =
     omega (arith, ap (λ (es : List Entry). length es) entries, length-append old.entries (entry ∷ [])) in
     (λ i. first ++ lines_behind 0 (entries i) (plays i))
-    ∙ ap (λ (ls : List ℕ). first ++ ls) (lines_grow 0 (opened old) old.state old.entries old.plays entry own legal counted)
+    ∙ ap (λ (ls : List ℕ). first ++ ls) (lines_grow 0 (opened_kernel old) old.state old.entries old.plays entry own legal counted)
     ∙ sym (append_assoc first (lines_behind 0 old.entries old.plays) (entry_lines (0 + length old.entries + 1) entry own))
     ∙ ap (λ (n : ℕ). (first ++ lines_behind 0 old.entries old.plays) ++ entry_lines n entry own) number
 

@@ -2,7 +2,7 @@
 use Rattle.std.proofs.Common.{arith, ◌≡◌, ◌≤◌, ◌↔◌, ◌∙◌, ◌&&◌, ℕ, zero, suc, Bool, true, false, nat_le, List, [], ◌∷◌, length, Result, Ok, Err, refl, sym, ap, subst}
 use Rattle.std.proofs.lemmas.Bool.{leb-true}
 use Rattle.evl_base.specs.Board.{board_fits}
-use Rattle.evl_base.specs.Limits.{within}
+use Rattle.evl_base.specs.Limits.{is_within as within}
 use Rattle.evl_base.specs.declared.board.Board.{Board}
 use Rattle.evl_base.specs.declared.entry.Entry.{Entry}
 use Rattle.evl_base.specs.declared.refusal.Refusal.{Refusal}

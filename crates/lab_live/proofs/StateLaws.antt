@@ -8,7 +8,7 @@ use Rattle.evl_clock.specs.Limits.{timer_count}
 use Rattle.evl_kernel.specs.histories.Histories.{History}
 use Rattle.evl_scenario.specs.Lines.{line_feed}
 use Rattle.lab_live.specs.Sessions.{Driven}
-use Rattle.lab_live.specs.States.{below, is_none, mutex_line, pending_end, pending_next, pending_so_far, pending_text, stage_line, state_text, thread_line, timer_line}
+use Rattle.lab_live.specs.States.{numbers_below, is_none, mutex_line, pending_end, pending_next, pending_so_far, pending_text, stage_line, state_text, thread_line, timer_line}
 
 -- what is told behind what was told behind a text
 pub behind : (before mid after xs ys : List ℕ) → mid ≡ before ++ xs → after ≡ mid ++ ys → after ≡ before ++ (xs ++ ys)
@@ -23,30 +23,30 @@ behind_four text first second third fourth all a b c d e one two three four five
 
 -- ---- lines of all numbers below one
 
-pub lines_none : (line : ℕ → List ℕ) (text : List ℕ) → text ≡ text ++ flat_map line (below 0)
-unfolding below
+pub lines_none : (line : ℕ → List ℕ) (text : List ℕ) → text ≡ text ++ flat_map line (numbers_below 0)
+unfolding numbers_below
 lines_none line text = sym (append-nil text)
 
-lines_next : (line : ℕ → List ℕ) (n : ℕ) → flat_map line (below (n + 1)) ≡ flat_map line (below n) ++ line n
-unfolding below
+lines_next : (line : ℕ → List ℕ) (n : ℕ) → flat_map line (numbers_below (n + 1)) ≡ flat_map line (numbers_below n) ++ line n
+unfolding numbers_below
 lines_next line n =
-    ap (λ (k : ℕ). flat_map line (below k)) (add-one n) ∙ flat_map-append line (below n) (n ∷ []) ∙ ap (λ (l : List ℕ). flat_map line (below n) ++ l) (append-nil (line n))
+    ap (λ (k : ℕ). flat_map line (numbers_below k)) (add-one n) ∙ flat_map-append line (numbers_below n) (n ∷ []) ∙ ap (λ (l : List ℕ). flat_map line (numbers_below n) ++ l) (append-nil (line n))
 
-pub lines_more : (line : ℕ → List ℕ) (n : ℕ) (first now next : List ℕ) → now ≡ first ++ flat_map line (below n) → next ≡ now ++ line n
-    → next ≡ first ++ flat_map line (below (n + 1))
+pub lines_more : (line : ℕ → List ℕ) (n : ℕ) (first now next : List ℕ) → now ≡ first ++ flat_map line (numbers_below n) → next ≡ now ++ line n
+    → next ≡ first ++ flat_map line (numbers_below (n + 1))
 lines_more line n first now next so more =
-    more ∙ ap (λ (text : List ℕ). text ++ line n) so ∙ append_assoc first (flat_map line (below n)) (line n) ∙ ap (λ (text : List ℕ). first ++ text) (sym (lines_next line n))
+    more ∙ ap (λ (text : List ℕ). text ++ line n) so ∙ append_assoc first (flat_map line (numbers_below n)) (line n) ∙ ap (λ (text : List ℕ). first ++ text) (sym (lines_next line n))
 
 -- ---- lines that are pending
 
 -- of the lines below one
-pub pending_none : (passes : ℕ → Bool) → filter passes (below 0) ≡ []
-unfolding below
+pub pending_none : (passes : ℕ → Bool) → filter passes (numbers_below 0) ≡ []
+unfolding numbers_below
 pending_none passes = refl
 
-kept_more : (passes : ℕ → Bool) (line : ℕ) → filter passes (below (line + 1)) ≡ filter passes (below line) ++ filter passes (line ∷ [])
-unfolding below
-kept_more passes line = ap (λ (k : ℕ). filter passes (below k)) (add-one line) ∙ filter-append passes (below line) (line ∷ [])
+kept_more : (passes : ℕ → Bool) (line : ℕ) → filter passes (numbers_below (line + 1)) ≡ filter passes (numbers_below line) ++ filter passes (line ∷ [])
+unfolding numbers_below
+kept_more passes line = ap (λ (k : ℕ). filter passes (numbers_below k)) (add-one line) ∙ filter-append passes (numbers_below line) (line ∷ [])
 
 one_kept : (passes : ℕ → Bool) (line : ℕ) → passes line ≡ true → filter passes (line ∷ []) ≡ line ∷ []
 one_kept passes line is = ap (λ (b : Bool). cond b (line ∷ []) []) is
@@ -55,12 +55,12 @@ none_kept : (passes : ℕ → Bool) (line : ℕ) → passes line ≡ false → f
 none_kept passes line not = ap (λ (b : Bool). cond b (line ∷ []) []) not
 
 -- one that passes, and one that doesn't
-pub pending_more : (passes : ℕ → Bool) (line : ℕ) → passes line ≡ true → filter passes (below (line + 1)) ≡ filter passes (below line) ++ line ∷ []
-pending_more passes line is = kept_more passes line ∙ ap (λ (ls : List ℕ). filter passes (below line) ++ ls) (one_kept passes line is)
+pub pending_more : (passes : ℕ → Bool) (line : ℕ) → passes line ≡ true → filter passes (numbers_below (line + 1)) ≡ filter passes (numbers_below line) ++ line ∷ []
+pending_more passes line is = kept_more passes line ∙ ap (λ (ls : List ℕ). filter passes (numbers_below line) ++ ls) (one_kept passes line is)
 
-pub pending_same : (passes : ℕ → Bool) (line : ℕ) → passes line ≡ false → filter passes (below (line + 1)) ≡ filter passes (below line)
+pub pending_same : (passes : ℕ → Bool) (line : ℕ) → passes line ≡ false → filter passes (numbers_below (line + 1)) ≡ filter passes (numbers_below line)
 pending_same passes line not =
-    kept_more passes line ∙ ap (λ (ls : List ℕ). filter passes (below line) ++ ls) (none_kept passes line not) ∙ append-nil (filter passes (below line))
+    kept_more passes line ∙ ap (λ (ls : List ℕ). filter passes (numbers_below line) ++ ls) (none_kept passes line not) ∙ append-nil (filter passes (numbers_below line))
 
 -- what is told with one line more
 pub so_far_more : (lines : List ℕ) (line : ℕ) → pending_so_far (lines ++ line ∷ []) ≡ pending_so_far lines ++ pending_next (is_none lines) line
@@ -84,10 +84,10 @@ pending_all (first ∷ others) = append_assoc (codes ", pending ") (join_by deci
 
 -- a line that is pending was told
 pub told_more : (passes : ℕ → Bool) (line : ℕ) (quiet : Bool) (first now next : List ℕ) → passes line ≡ true
-    → now ≡ first ++ pending_so_far (filter passes (below line)) → quiet ≡ is_none (filter passes (below line))
-    → next ≡ now ++ pending_next quiet line → next ≡ first ++ pending_so_far (filter passes (below (line + 1)))
+    → now ≡ first ++ pending_so_far (filter passes (numbers_below line)) → quiet ≡ is_none (filter passes (numbers_below line))
+    → next ≡ now ++ pending_next quiet line → next ≡ first ++ pending_so_far (filter passes (numbers_below (line + 1)))
 told_more passes line quiet first now next is so none more =
-    let lines = filter passes (below line) in
+    let lines = filter passes (numbers_below line) in
     more ∙ (λ i. so i ++ pending_next (none i) line) ∙ append_assoc first (pending_so_far lines) (pending_next (is_none lines) line)
     ∙ ap (λ (t : List ℕ). first ++ t) (sym (so_far_more lines line))
     ∙ ap (λ (ls : List ℕ). first ++ pending_so_far ls) (sym (pending_more passes line is))
@@ -95,10 +95,10 @@ told_more passes line quiet first now next is so none more =
 -- all of a machine, by its kernel's history
 pub state_told : (driven : Driven) (h : History) (threads mutexes : ℕ) (before after : List ℕ) → h ≡ driven.history → threads ≡ driven.board.threads
     → mutexes ≡ length driven.board.mutexes.items
-    → after ≡ before ++ (flat_map (thread_line h) (below threads) ++ (flat_map (mutex_line h.state) (below mutexes)
-    ++ (stage_line h.state Oob ++ (stage_line h.state Inband ++ flat_map (timer_line h.state) (below timer_count)))))
+    → after ≡ before ++ (flat_map (thread_line h) (numbers_below threads) ++ (flat_map (mutex_line h.state) (numbers_below mutexes)
+    ++ (stage_line h.state Oob ++ (stage_line h.state Inband ++ flat_map (timer_line h.state) (numbers_below timer_count)))))
     → after ≡ before ++ state_text driven
 unfolding state_text
 state_told driven h threads mutexes before after own t m told =
-    told ∙ (λ i. before ++ (flat_map (thread_line (own i)) (below (t i)) ++ (flat_map (mutex_line (own i).state) (below (m i))
-    ++ (stage_line (own i).state Oob ++ (stage_line (own i).state Inband ++ flat_map (timer_line (own i).state) (below timer_count))))))
+    told ∙ (λ i. before ++ (flat_map (thread_line (own i)) (numbers_below (t i)) ++ (flat_map (mutex_line (own i).state) (numbers_below (m i))
+    ++ (stage_line (own i).state Oob ++ (stage_line (own i).state Inband ++ flat_map (timer_line (own i).state) (numbers_below timer_count))))))

@@ -26,9 +26,9 @@ use Rattle.evl_scenario.specs.Lines.{line_feed}
 use Rattle.lab_live.specs.Sessions.{Driven}
 
 -- the numbers below n, in order
-unfoldable pub below : ℕ → List ℕ
-below zero = []
-below (suc n) = below n ++ n ∷ []
+unfoldable pub numbers_below : ℕ → List ℕ
+numbers_below zero = []
+numbers_below (suc n) = numbers_below n ++ n ∷ []
 
 -- ---- a thread
 
@@ -82,7 +82,7 @@ mutex_line s mutex = owner_text mutex (owner_at (record_at s mutex)) (waiter_cou
 
 -- the lines that are pending on a stage, in rising order
 abbrev pub pending_on : State → Stage → List ℕ
-pending_on s stage = filter (is_pending s.lines stage) (below line_count)
+pending_on s stage = filter (is_pending s.lines stage) (numbers_below line_count)
 
 -- lines by their numbers, with a space between, or that there are none
 abbrev pub pending_text : List ℕ → List ℕ
@@ -112,11 +112,11 @@ timer_line s timer = option_map_or (λ t. timer_text timer t.state) (timer_at s.
 -- a line for each thread, for each mutex that has an owner, for each stage, and for each timer that there is
 unfoldable pub state_text : Driven → List ℕ
 state_text driven =
-    flat_map (thread_line driven.history) (below driven.board.threads)
-    ++ (flat_map (mutex_line driven.history.state) (below (length driven.board.mutexes.items))
+    flat_map (thread_line driven.history) (numbers_below driven.board.threads)
+    ++ (flat_map (mutex_line driven.history.state) (numbers_below (length driven.board.mutexes.items))
     ++ (stage_line driven.history.state Oob
     ++ (stage_line driven.history.state Inband
-    ++ flat_map (timer_line driven.history.state) (below timer_count))))
+    ++ flat_map (timer_line driven.history.state) (numbers_below timer_count))))
 
 -- ---- for private clauses
 

@@ -2,7 +2,7 @@
 ghost use Rattle.std.specs.Prelude.{◌≡◌, ◌++◌, IfOk, OnOk, Some, flat_map, option_map, string_bytes};
 ghost use Rattle.evl_clock.specs.Limits.{timer_count};
 ghost use Rattle.lab_live.specs.States as states;
-ghost use Rattle.lab_live.specs.States.{begun_text, below, last_begun, mutex_line, owner_text, pending_end, pending_next, pending_on, pending_so_far, pending_text, stage_line, stalled_text, standing_text, state_text, thread_line, timer_line, timer_text, wait_text};
+ghost use Rattle.lab_live.specs.States.{begun_text, numbers_below, last_begun, mutex_line, owner_text, pending_end, pending_next, pending_on, pending_so_far, pending_text, stage_line, stalled_text, standing_text, state_text, thread_line, timer_line, timer_text, wait_text};
 
 use crate::session::Session;
 use evl_base::{Entry, LINES, LineNo, MutexId, Refusal, Reply, Stage, ThreadId, TimerId};
@@ -245,7 +245,7 @@ fn write_threads<C>(
     kernel: &KernelOf<C, Global>,
     count: u16,
 ) -> Result<(), AllocError>
-    ensures { OnOk result (string_bytes told.new ≡ string_bytes told.old ++ flat_map (thread_line kernel.now.history) (below count)) }
+    ensures { OnOk result (string_bytes told.new ≡ string_bytes told.old ++ flat_map (thread_line kernel.now.history) (numbers_below count)) }
 {
     for thread in 0..count {
         write_thread(told, kernel, ThreadId(thread))?;
@@ -259,7 +259,7 @@ fn write_mutexes<C>(
     kernel: &KernelOf<C, Global>,
     count: u16,
 ) -> Result<(), AllocError>
-    ensures { OnOk result (string_bytes told.new ≡ string_bytes told.old ++ flat_map (mutex_line kernel.now.history.state) (below count)) }
+    ensures { OnOk result (string_bytes told.new ≡ string_bytes told.old ++ flat_map (mutex_line kernel.now.history.state) (numbers_below count)) }
 {
     for mutex in 0..count {
         write_mutex(told, kernel, MutexId(mutex))?;
@@ -269,7 +269,7 @@ fn write_mutexes<C>(
 
 // Writes the timers that there are.
 fn write_timers<C>(told: &mut String, kernel: &KernelOf<C, Global>) -> Result<(), AllocError>
-    ensures { OnOk result (string_bytes told.new ≡ string_bytes told.old ++ flat_map (timer_line kernel.now.history.state) (below timer_count)) }
+    ensures { OnOk result (string_bytes told.new ≡ string_bytes told.old ++ flat_map (timer_line kernel.now.history.state) (numbers_below timer_count)) }
 {
     for timer in 0..TIMERS {
         write_timer(told, kernel, TimerId(timer))?;

@@ -17,8 +17,8 @@ abbrev pub Shown : Type 0
 Shown = ℕ × List Standing
 
 -- what a moment shows
-abbrev pub shown : Moment → Shown
-shown m = (m.date, m.standings.items)
+abbrev pub moment_shown : Moment → Shown
+moment_shown m = (m.date, m.standings.items)
 
 -- what a state of the kernel shows of these lanes
 abbrev pub shown_at : List Lane → State → Shown

@@ -1,10 +1,10 @@
 //! The moments of a scenario.
 ghost use Rattle.std.specs.Prelude.{◌≡◌, None, IfOk, map};
-ghost use Rattle.evl_plans.specs.Told.{told};
+ghost use Rattle.evl_plans.specs.Told.{handler_of};
 ghost use Rattle.evl_scenario.specs.Scenarios.{scenario_of};
 ghost use Rattle.evl_shell.specs.Moments.{moment};
 ghost use Rattle.evl_shell.specs.Runs.{turn};
-ghost use Rattle.lab_moments.specs.Moments.{script_shown, shown, shown_at, shown_from, shown_of};
+ghost use Rattle.lab_moments.specs.Moments.{script_shown, moment_shown, shown_at, shown_from, shown_of};
 
 use crate::moments::moment_of;
 use evl_base::Refusal;
@@ -23,7 +23,7 @@ fn made(
 ) -> Result<Moment, AllocError>
     ensures limit { kernel.new.limit ≡ kernel.old.limit }
     ensures turned { IfOk result (λ m. moment kernel.new ≡ (turn kernel.old.limit (moment kernel.old) step).after) }
-    ensures shown { IfOk result (λ m. shown m ≡ shown_at lanes.now kernel.new.history.state) }
+    ensures moment_shown { IfOk result (λ m. moment_shown m ≡ shown_at lanes.now kernel.new.history.state) }
 {
     let Step { who, call } = step;
     let answer = kernel.apply(who, call);
@@ -41,7 +41,7 @@ fn make_steps(
     steps: Vec<Step>,
     lanes: &[Lane],
 ) -> Result<Vec<Moment>, AllocError>
-    ensures { IfOk result (λ all. map shown all.items ≡ shown_from lanes.now kernel.old.limit (moment kernel.old) steps.items) }
+    ensures { IfOk result (λ all. map moment_shown all.items ≡ shown_from lanes.now kernel.old.limit (moment kernel.old) steps.items) }
 {
     let mut moments = Vec::new(alloc);
     for step in steps {
@@ -58,7 +58,7 @@ fn play(
     bank: Vec<Planned>,
     lanes: &[Lane],
 ) -> Result<Vec<Moment>, AllocError>
-    ensures { IfOk result (λ all. map shown all.items ≡ script_shown lanes.now (map told bank.items) scenario) }
+    ensures { IfOk result (λ all. map moment_shown all.items ≡ script_shown lanes.now (map handler_of bank.items) scenario) }
 {
     let (board, limit, steps) = scenario.into_parts();
     match PlannedKernel::new(alloc, board, bank, limit) {
@@ -81,7 +81,7 @@ pub fn moments_of(
     text: &[u8],
     lanes: &[Lane],
 ) -> Result<Vec<Moment>, AllocError>
-    ensures { IfOk result (λ all. map shown all.items ≡ shown_of lanes.now (map told bank.now) (scenario_of None text.now)) }
+    ensures { IfOk result (λ all. map moment_shown all.items ≡ shown_of lanes.now (map handler_of bank.now) (scenario_of None text.now)) }
 {
     let own = copied_bank(alloc, bank)?;
     match read_scenario(alloc, text, None) {

@@ -4,7 +4,7 @@ use Rattle.std.specs.Prelude.{All, Contains, Option, Some, None, option_map, fil
 use Rattle.std.specs.List.{cons_option}
 use Rattle.std.proofs.lemmas.List.Elements.{All-nil, All-cons, All-head, All-tail, All-push, All-append, All-weaker, All-contains, Contains-append_left, Contains-append_right}
 use Rattle.std.proofs.lemmas.Option.{same_Some, option_and_then_some}
-use Rattle.lab_orders.specs.Machines.{Machine, Run, ran, IsRun, below, led, longer_by, longer, runs}
+use Rattle.lab_orders.specs.Machines.{Machine, Run, ran, IsRun, numbers_below, led_along, longer_by, longer, runs}
 use Rattle.lab_orders.proofs.Leads.{led_more}
 
 pub all_flat : {X Y : Type 0} (P : X → Type 0) (Q : Y → Type 0) (f : X → List Y) → ((x : X) → P x → All Q (f x)) → (xs : List X) → All P xs → All Q (flat_map f xs)
@@ -26,10 +26,10 @@ in_mapped h (z ∷ xs) x y (zero, lt, e) made =
     subst (λ o. Contains (cons_option o (filter_map h xs)) y) (sym (ap h e ∙ made)) (0, omega arith, refl)
 in_mapped h (z ∷ xs) x y (suc k, lt, e) made = behind (h z) (filter_map h xs) y (in_mapped h xs x y (k, omega arith, e) made)
 
-pub all_below : (n : ℕ) → All (λ c. c < n) (below n)
+pub all_below : (n : ℕ) → All (λ c. c < n) (numbers_below n)
 all_below zero = All-nil (λ c. c < 0)
 all_below (suc n) =
-    All-push (λ c. c < suc n) (below n) n (All-weaker (λ c. c < n) (λ c. c < suc n) (λ c h. omega arith) (below n) (all_below n)) (omega arith)
+    All-push (λ c. c < suc n) (numbers_below n) n (All-weaker (λ c. c < n) (λ c. c < suc n) (λ c h. omega arith) (numbers_below n) (all_below n)) (omega arith)
 
 pub below_or_at : (n c : ℕ) → c < suc n → (c < n) ⊎ (c ≡ n)
 below_or_at zero zero h = inr refl
@@ -38,12 +38,12 @@ below_or_at (suc n) zero h = inl (omega arith)
 below_or_at (suc n) (suc c) h =
     elim (below_or_at n c (omega arith)) as (λ v. (suc c < suc n) ⊎ (suc c ≡ suc n)) [ inl lt ↦ inl (omega arith) | inr e ↦ inr (ap suc e) ]
 
-in_below : (n c : ℕ) → c < n → Contains (below n) c
+in_below : (n c : ℕ) → c < n → Contains (numbers_below n) c
 in_below zero c h = absurd (omega arith)
 in_below (suc n) c h =
-    elim (below_or_at n c h) as (λ v. Contains (below n ++ n ∷ []) c) [
-      | inl lt ↦ Contains-append_left (below n) (n ∷ []) c (in_below n c lt)
-      | inr e ↦ Contains-append_right (below n) (n ∷ []) c (0, omega arith, sym e)
+    elim (below_or_at n c h) as (λ v. Contains (numbers_below n ++ n ∷ []) c) [
+      | inl lt ↦ Contains-append_left (numbers_below n) (n ∷ []) c (in_below n c lt)
+      | inr e ↦ Contains-append_right (numbers_below n) (n ∷ []) c (0, omega arith, sym e)
     ]
 
 module _ {S : Type 0} (m : Machine S) (s : S) where
@@ -70,7 +70,7 @@ module _ {S : Type 0} (m : Machine S) (s : S) where
   all_are_runs zero =
       All-cons (IsOf 0) (ran [] s) [] (record { by_callers = All-nil (λ d. d < m.callers); leads = refl }, refl) (All-nil (IsOf 0))
   all_are_runs (suc k) =
-      all_flat (IsOf k) (IsOf (suc k)) (longer m) (λ r is. all_longer k r is (below m.callers) (all_below m.callers)) (runs m s k) (all_are_runs k)
+      all_flat (IsOf k) (IsOf (suc k)) (longer m) (λ r is. all_longer k r is (numbers_below m.callers) (all_below m.callers)) (runs m s k) (all_are_runs k)
 
   -- one step more of a run that is there
   there_more : (k : ℕ) (r : Run S) (c : ℕ) (u : S) → Contains (runs m s k) r → c < m.callers → m.go r.at c ≡ Some u
@@ -78,19 +78,19 @@ module _ {S : Type 0} (m : Machine S) (s : S) where
   unfolding runs
   there_more k r c u there lt e =
       in_flat (longer m) (runs m s k) r (ran (r.order ++ c ∷ []) u) there
-      (in_mapped (longer_by m r) (below m.callers) c (ran (r.order ++ c ∷ []) u) (in_below m.callers c lt)
+      (in_mapped (longer_by m r) (numbers_below m.callers) c (ran (r.order ++ c ∷ []) u) (in_below m.callers c lt)
       (ap (option_map (ran (r.order ++ c ∷ []))) e))
 
   same_run : (one other : List ℕ) (t u : S) → one ≡ other → t ≡ u → ran one t ≡ ran other u
   same_run one other t u e f = cc
 
-  there_on : (rest : List ℕ) (k : ℕ) (r : Run S) (t : S) → Contains (runs m s k) r → All (λ c. c < m.callers) rest → led m r.at rest ≡ Some t
+  there_on : (rest : List ℕ) (k : ℕ) (r : Run S) (t : S) → Contains (runs m s k) r → All (λ c. c < m.callers) rest → led_along m r.at rest ≡ Some t
       → Contains (runs m s (k + length rest)) (ran (r.order ++ rest) t)
   there_on [] k r t there lt e =
       subst (λ n. Contains (runs m s n) (ran (r.order ++ []) t)) (sym (add-zero k))
       (subst (λ q. Contains (runs m s k) q) (sym (same_run (r.order ++ []) r.order t r.at (append-nil r.order) (sym (same_Some r.at t e)))) there)
   there_on (c ∷ rest) k r t there lt e =
-      option_and_then_some (λ u. led m u rest) (m.go r.at c) t e
+      option_and_then_some (λ u. led_along m u rest) (m.go r.at c) t e
       (λ u goes leads.
       let more = there_on rest (suc k) (ran (r.order ++ c ∷ []) u) t
       (there_more k r c u there (All-head (λ d. d < m.callers) c rest lt) goes) (All-tail (λ d. d < m.callers) c rest lt) leads in

@@ -7,7 +7,7 @@ use Rattle.std.proofs.lemmas.List.Sums.{sum_by_push, sum_by-cons}
 use Rattle.std.proofs.lemmas.List.Folds.{list_all-append}
 use Rattle.std.proofs.lemmas.List.Elements.{All-nil, All-cons, All-head, All-tail, All-same, All-push, All-pop, All-weaker, All-get_or}
 use Rattle.std.proofs.lemmas.List.Quantifiers.{all_pairs_push}
-use Rattle.lab_orders.specs.Machines.{Machine, below, led, is_over, runs, orders}
+use Rattle.lab_orders.specs.Machines.{Machine, numbers_below as below, led_along, is_over, runs, orders}
 use Rattle.lab_orders.specs.Weights.{total, weight, ahead_by, ahead, at_end}
 use Rattle.lab_orders.specs.Fronts.{AreFit, AreLong, AreShortest, IsLed, AreLed, AreOver, AddsSteps, LeadsOn, IsFront}
 use Rattle.lab_orders.specs.declared.nodes.Node.{Node}
@@ -75,7 +75,7 @@ module _ {M S : Type 0} (m : Machine S) (state : M → S) (fits : M → Type 0) 
     led_there = λ s one all.
         subst (AreLed m state s) (sym made)
         (All-push (λ (n : Node M). IsLed m state s n) old node all
-        (ap (led m s) order ∙ led_more m s (state before.at) (state node.at) before.order.items c one (leads ∙ ap (λ x. Some (state x)) (sym same))));
+        (ap (led_along m s) order ∙ led_more m s (state before.at) (state node.at) before.order.items c one (leads ∙ ap (λ x. Some (state x)) (sym same))));
     longer = λ long.
         subst (AreLong (length before.order.items + 1)) (sym made)
         (All-push (λ (n : Node M). length n.order.items ≡ length before.order.items + 1) old node long
@@ -217,7 +217,7 @@ module _ {M S : Type 0} (m : Machine S) (state : M → S) (fits : M → Type 0) 
         omega (arith, alone, times, total_runs_zero m f (state node.at));
     counted = λ f. sym (total_orders_zero m f (state node.at));
     led_there =
-        All-cons (λ (n : Node M). IsLed m state (state node.at) n) node [] (ap (led m (state node.at)) none) (All-nil (λ (n : Node M). IsLed m state (state node.at) n));
+        All-cons (λ (n : Node M). IsLed m state (state node.at) n) node [] (ap (led_along m (state node.at)) none) (All-nil (λ (n : Node M). IsLed m state (state node.at) n));
     led_ends = All-nil (λ (n : Node M). IsLed m state (state node.at) n);
     over = All-nil (λ (n : Node M). is_over m (state n.at) ≡ true);
     long = All-cons (IsLong 0) node [] (ap length none) (All-nil (IsLong 0));

@@ -6,7 +6,7 @@ use Rattle.std.proofs.lemmas.List.{append_cancel_left}
 use Rattle.std.proofs.lemmas.List.Elements.{All-nil, All-cons, All-head, All-tail, All-append}
 use Rattle.std.proofs.lemmas.List.Kept.{AllPairs-cons}
 use Rattle.std.proofs.lemmas.List.Quantifiers.{all_pairs_push}
-use Rattle.lab_orders.specs.Machines.{Machine, Run, ran, below, longer_by, longer, runs}
+use Rattle.lab_orders.specs.Machines.{Machine, Run, ran, numbers_below, longer_by, longer, runs}
 use Rattle.lab_orders.proofs.EveryRun.{all_flat, all_below}
 
 -- pairs of a list
@@ -47,9 +47,9 @@ push_same (x ∷ xs) (y ∷ ys) a b e =
 push_last : (xs : List ℕ) (a b : ℕ) → xs ++ a ∷ [] ≡ xs ++ b ∷ [] → a ≡ b
 push_last xs a b e = let last : ◌≡◌ {A = List ℕ} (a ∷ []) (b ∷ []) = append_cancel_left xs (a ∷ []) (b ∷ []) e in cc
 
-increasing : (n : ℕ) → AllPairs (λ c d. c < d) (below n)
+increasing : (n : ℕ) → AllPairs (λ c d. c < d) (numbers_below n)
 increasing zero = pairs_none (λ c d. c < d)
-increasing (suc n) = all_pairs_push (λ c d. c < d) (below n) n (increasing n) (λ k d h. all_below n k d h)
+increasing (suc n) = all_pairs_push (λ c d. c < d) (numbers_below n) n (increasing n) (λ k d h. all_below n k d h)
 
 module _ {S : Type 0} (m : Machine S) where
   abbrev AreApart : Run S → Run S → Type 0
@@ -88,11 +88,11 @@ module _ {S : Type 0} (m : Machine S) where
 
   stay_apart : (r q : Run S) → AreApart r q → All (λ a. All (AreApart a) (longer m q)) (longer m r)
   stay_apart r q apart = λ k d h i e lt same.
-      let one = all_behind (λ c. c < m.callers) r (below m.callers) (all_below m.callers) k d h in
-      let other = all_behind (λ c. c < m.callers) q (below m.callers) (all_below m.callers) i e lt in
+      let one = all_behind (λ c. c < m.callers) r (numbers_below m.callers) (all_below m.callers) k d h in
+      let other = all_behind (λ c. c < m.callers) q (numbers_below m.callers) (all_below m.callers) i e lt in
       apart (push_same r.order q.order one.0 other.0 (sym one.2 ∙ (same ∙ other.2)))
 
   pub runs_are_apart : (s : S) (k : ℕ) → AllPairs AreApart (runs m s k)
   unfolding runs
   runs_are_apart s zero = AllPairs-cons AreApart (ran [] s) [] (All-nil (AreApart (ran [] s))) (pairs_none AreApart)
-  runs_are_apart s (suc k) = pairs_flat AreApart AreApart (longer m) stay_apart (λ r. all_apart r (below m.callers) (increasing m.callers)) (runs m s k) (runs_are_apart s k)
+  runs_are_apart s (suc k) = pairs_flat AreApart AreApart (longer m) stay_apart (λ r. all_apart r (numbers_below m.callers) (increasing m.callers)) (runs m s k) (runs_are_apart s k)

@@ -5,7 +5,7 @@ use Rattle.std.specs.Option.{option_map_or}
 use Rattle.std.proofs.Math.Nat.{mul-le-mul_left}
 use Rattle.std.proofs.lemmas.List.Sums.{get_or-le-sum_by, sum_by-append, sum_by-cons, sum_by_push}
 use Rattle.std.proofs.lemmas.Option.{slice_get_within, get_or_from_slice_get}
-use Rattle.lab_orders.specs.Machines.{Machine, below, runs}
+use Rattle.lab_orders.specs.Machines.{Machine, numbers_below, runs}
 use Rattle.lab_orders.specs.Weights.{ahead, ahead_by, weight}
 use Rattle.lab_orders.specs.Fronts.{IsFront}
 use Rattle.lab_orders.specs.declared.nodes.Node.{Node}
@@ -19,25 +19,25 @@ count_within {M} state nodes i node e =
     omega (arith, get_or-le-sum_by f nodes i node (slice_get_within nodes i node e), ap f (get_or_from_slice_get nodes i node node e))
 
 -- a number below n is among these
-pub sum_below : (g : ℕ → ℕ) (c n : ℕ) → c < n → sum_by g (below c) + g c ≤ sum_by g (below n)
+pub sum_below : (g : ℕ → ℕ) (c n : ℕ) → c < n → sum_by g (numbers_below c) + g c ≤ sum_by g (numbers_below n)
 sum_below g c zero h = absurd (omega (arith, h))
-sum_below g c (suc n) h = elim (below_or_at n c h) as (λ v. sum_by g (below c) + g c ≤ sum_by g (below (suc n))) [
-  | inl less ↦ omega (arith, sum_by_push g (below n) n, sum_below g c n less)
-  | inr e ↦ omega (arith, sum_by_push g (below n) n, ap (λ k. sum_by g (below k) + g k) e)
+sum_below g c (suc n) h = elim (below_or_at n c h) as (λ v. sum_by g (numbers_below c) + g c ≤ sum_by g (numbers_below (suc n))) [
+  | inl less ↦ omega (arith, sum_by_push g (numbers_below n) n, sum_below g c n less)
+  | inr e ↦ omega (arith, sum_by_push g (numbers_below n) n, ap (λ k. sum_by g (numbers_below k) + g k) e)
 ]
 
 module _ {S : Type 0} (m : Machine S) (f : S → ℕ) where
-  among_callers : (s : S) (c : ℕ) → c < m.callers → ahead_by m f s (below c) + ahead_by m f s (c ∷ []) ≤ ahead m f s
+  among_callers : (s : S) (c : ℕ) → c < m.callers → ahead_by m f s (numbers_below c) + ahead_by m f s (c ∷ []) ≤ ahead m f s
   among_callers s c h =
       let g : ℕ → ℕ = λ e. option_map_or f (m.go s e) 0 in
       let single : ahead_by m f s (c ∷ []) ≡ g c = zero-add (g c) in
       omega (arith, single, sum_below g c m.callers h)
 
   -- the step of one caller, behind those of the callers before it
-  pub too_many_by : (limit w u k : ℕ) (s : S) (c : ℕ) → c < m.callers → w ≡ u + k * ahead_by m f s (below c) → limit ≤ w + k * ahead_by m f s (c ∷ [])
+  pub too_many_by : (limit w u k : ℕ) (s : S) (c : ℕ) → c < m.callers → w ≡ u + k * ahead_by m f s (numbers_below c) → limit ≤ w + k * ahead_by m f s (c ∷ [])
       → limit ≤ u + k * ahead m f s
   too_many_by limit w u k s c h before more =
-      joined (ahead_by m f s (below c)) (ahead_by m f s (c ∷ [])) (ahead m f s) (among_callers s c h) before more
+      joined (ahead_by m f s (numbers_below c)) (ahead_by m f s (c ∷ [])) (ahead m f s) (among_callers s c h) before more
     where
       joined : (a b all : ℕ) → a + b ≤ all → w ≡ u + k * a → limit ≤ w + k * b → limit ≤ u + k * all
       joined a b all le before more =

@@ -4,7 +4,7 @@ use Rattle.std.specs.Prelude.{Option, Some, None, option_map, filter, filter_map
 use Rattle.std.specs.List.{cons_option}
 use Rattle.std.specs.Option.{option_map_or}
 use Rattle.std.proofs.lemmas.List.Sums.{sum_by-cons, sum_by-append}
-use Rattle.lab_orders.specs.Machines.{Machine, Run, ran, below, is_over, longer_by, longer, runs, orders}
+use Rattle.lab_orders.specs.Machines.{Machine, Run, ran, numbers_below, is_over, longer_by, longer, runs, orders}
 use Rattle.lab_orders.specs.Weights.{total, ahead_by, ahead, at_end}
 
 module _ {S : Type 0} (m : Machine S) (f : S → ℕ) where
@@ -26,7 +26,7 @@ module _ {S : Type 0} (m : Machine S) (f : S → ℕ) where
   total_ahead [] = refl
   total_ahead (r ∷ rs) =
       sum_by-append (λ (q : Run S). f q.at) (longer m r) (flat_map (longer m) rs)
-      ∙ (ap (λ n. n + total f (flat_map (longer m) rs)) (total_longer_by r (below m.callers))
+      ∙ (ap (λ n. n + total f (flat_map (longer m) rs)) (total_longer_by r (numbers_below m.callers))
       ∙ (ap (λ n. ahead m f r.at + n) (total_ahead rs)
       ∙ sym (sum_by-cons (λ (q : Run S). ahead m f q.at) r rs)))
 

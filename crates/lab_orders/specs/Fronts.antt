@@ -1,6 +1,6 @@
 -- How far a world was gone through.
 use Rattle.std.specs.Prelude.{ℕ, ◌≡◌, ◌+◌, ◌*◌, ◌<◌, ◌≤◌, true, List, [], length, All, AllPairs, Some, min, slice_index_or, sum_by}
-use Rattle.lab_orders.specs.Machines.{Machine, led, is_over, runs, orders}
+use Rattle.lab_orders.specs.Machines.{Machine, led_along, is_over, runs, orders}
 use Rattle.lab_orders.specs.Weights.{total, weight, ahead_by, ahead, at_end}
 use Rattle.lab_orders.specs.declared.nodes.Node.{Node}
 
@@ -10,7 +10,7 @@ AreFit fits nodes = All (λ node. fits node.at × (0 < node.count)) nodes
 
 -- a node's order leads to its moment
 abbrev pub IsLed : {M S : Type 0} → Machine S → (M → S) → S → Node M → Type 0
-IsLed m state s node = led m s node.order.items ≡ Some (state node.at)
+IsLed m state s node = led_along m s node.order.items ≡ Some (state node.at)
 
 abbrev pub AreLed : {M S : Type 0} → Machine S → (M → S) → S → List (Node M) → Type 0
 AreLed m state s nodes = All (λ node. IsLed m state s node) nodes

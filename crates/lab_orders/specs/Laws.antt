@@ -1,6 +1,6 @@
 -- What the orders of a machine are.
 use Rattle.std.specs.Prelude.{ℕ, ◌≡◌, ◌≢◌, ◌↔◌, ◌+◌, ◌≤◌, ◌<◌, ◌==◌, List, [], ◌∷◌, length, AllPairs, Contains, Some, IsSome, count_by}
-use Rattle.lab_orders.specs.Machines.{Machine, Run, IsRun, led, runs, orders}
+use Rattle.lab_orders.specs.Machines.{Machine, Run, IsRun, led_along, runs, orders}
 
 -- The runs of so many steps are just those: each run is there, and no other.
 abbrev pub RunsAreAllRuns : Type 0 → Type 0
@@ -25,11 +25,11 @@ CountsSteps {S} m place = (s t : S) (c d : ℕ) → m.go s c ≡ Some t → plac
 abbrev pub OrdersAreMerges : Type 0 → Type 0
 OrdersAreMerges S =
     (m : Machine S) (place : S → ℕ → ℕ) → CountsSteps m place
-    → (s t : S) (order : List ℕ) → led m s order ≡ Some t → (c : ℕ) → place t c ≡ place s c + count_by (λ e. e == c) order
+    → (s t : S) (order : List ℕ) → led_along m s order ≡ Some t → (c : ℕ) → place t c ≡ place s c + count_by (λ e. e == c) order
 
 -- And where each caller has so many steps, and nobody ever waits, each merge of them is a run.
 abbrev pub MergesAreOrders : Type 0 → Type 0
 MergesAreOrders S =
     (m : Machine S) (place : S → ℕ → ℕ) (ends : ℕ → ℕ) → CountsSteps m place
     → ((s : S) (c : ℕ) → place s c < ends c → IsSome (m.go s c))
-    → (s : S) (order : List ℕ) → ((c : ℕ) → place s c + count_by (λ e. e == c) order ≤ ends c) → IsSome (led m s order)
+    → (s : S) (order : List ℕ) → ((c : ℕ) → place s c + count_by (λ e. e == c) order ≤ ends c) → IsSome (led_along m s order)

@@ -8,18 +8,18 @@ pub record Machine (S : Type 0) : Type 0 where
   pub go : S → ℕ → Option S
 
 -- the numbers below n, in order
-abbrev pub below : ℕ → List ℕ
-below zero = []
-below (suc n) = below n ++ n ∷ []
+abbrev pub numbers_below : ℕ → List ℕ
+numbers_below zero = []
+numbers_below (suc n) = numbers_below n ++ n ∷ []
 
 -- where steps of these callers lead, if each of them can be made
-abbrev pub led : {S : Type 0} → Machine S → S → List ℕ → Option S
-led m s [] = Some s
-led m s (c ∷ order) = option_and_then (λ t. led m t order) (m.go s c)
+abbrev pub led_along : {S : Type 0} → Machine S → S → List ℕ → Option S
+led_along m s [] = Some s
+led_along m s (c ∷ order) = option_and_then (λ t. led_along m t order) (m.go s c)
 
 -- nobody can make a step
 abbrev pub is_over : {S : Type 0} → Machine S → S → Bool
-is_over m s = list_all (λ c. is_none (m.go s c)) (below m.callers)
+is_over m s = list_all (λ c. is_none (m.go s c)) (numbers_below m.callers)
 
 -- who made the steps, in their order, and where they led
 pub record Run (S : Type 0) : Type 0 where
@@ -32,14 +32,14 @@ ran order s = record { order = order; at = s }
 -- a run from here
 pub record IsRun {S : Type 0} (m : Machine S) (s : S) (r : Run S) : Type 0 where
   pub by_callers : All (λ c. c < m.callers) r.order
-  pub leads : led m s r.order ≡ Some r.at
+  pub leads : led_along m s r.order ≡ Some r.at
 
 -- a run with one step more
 abbrev pub longer_by : {S : Type 0} → Machine S → Run S → ℕ → Option (Run S)
 longer_by m r c = option_map (ran (r.order ++ c ∷ [])) (m.go r.at c)
 
 abbrev pub longer : {S : Type 0} → Machine S → Run S → List (Run S)
-longer m r = filter_map (longer_by m r) (below m.callers)
+longer m r = filter_map (longer_by m r) (numbers_below m.callers)
 
 -- all runs of so many steps, by who makes the first, then the second, and so on
 unfoldable pub runs : {S : Type 0} → Machine S → S → ℕ → List (Run S)

@@ -1,7 +1,7 @@
 -- Numbers of states, summed over runs and over nodes.
 use Rattle.std.specs.Prelude.{ℕ, ◌*◌, ◌^◌, List, cond, sum_by}
 use Rattle.std.specs.Option.{option_map_or}
-use Rattle.lab_orders.specs.Machines.{Machine, Run, below, is_over}
+use Rattle.lab_orders.specs.Machines.{Machine, Run, numbers_below, is_over}
 use Rattle.lab_orders.specs.declared.nodes.Node.{Node}
 
 -- over runs: where f is 1 at the states of some kind and 0 elsewhere, this is how many of the runs lead to such a state
@@ -17,7 +17,7 @@ abbrev pub ahead_by : {S : Type 0} → Machine S → (S → ℕ) → S → List 
 ahead_by m f s callers = sum_by (λ c. option_map_or f (m.go s c) 0) callers
 
 abbrev pub ahead : {S : Type 0} → Machine S → (S → ℕ) → S → ℕ
-ahead m f s = ahead_by m f s (below m.callers)
+ahead m f s = ahead_by m f s (numbers_below m.callers)
 
 -- more orders than this less one no count tells
 abbrev pub count_limit : ℕ

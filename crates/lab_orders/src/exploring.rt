@@ -1,7 +1,7 @@
 //! All orders of a world.
 ghost use Rattle.std.specs.Prelude.{ℕ, [], ◌∷◌, ◌++◌, if◌then◌else◌, ◌≡◌, ◌+◌, ◌<◌, ◌≤◌, ◌⊎◌, ◌||◌, true, false, min, not, is_some, length, vec_len, OnOk, IfOk, IfErr, ◌*◌};
 ghost use Rattle.lab_orders.specs.Fronts.{AddsSteps, AreFit, AreLed, AreOver, AreShortest, IsFront, IsGone, LeadsOn};
-ghost use Rattle.lab_orders.specs.Machines.{below, is_over, orders, runs};
+ghost use Rattle.lab_orders.specs.Machines.{numbers_below, is_over, orders, runs};
 ghost use Rattle.lab_orders.specs.Weights.{ahead, ahead_by, count_limit, total, weight};
 
 use crate::levels::{Level, OrdersError, add_orders, first_level};
@@ -78,7 +78,7 @@ fn add_nexts<W: World>(
     requires nodes { AreFit (W.fits world.now) next.old.nodes.items }
     ensures uncounted { IfErr result (λ error. error ≡ OrdersError.Count → count_limit ≤ weight (W.state world.now) (λ s. 1) next.old.nodes.items + node.now.count * ahead (W.machine world.now) (λ s. 1) (W.state world.now node.now.at)) }
     ensures goes { IfOk result (λ goes. goes ≡ not (is_over (W.machine world.now) (W.state world.now node.now.at))) }
-    ensures adds { IfOk result (λ goes. AddsSteps (W.machine world.now) (W.state world.now) (W.fits world.now) node.now (below (W.machine world.now).callers) next.old.nodes.items next.new.nodes.items) }
+    ensures adds { IfOk result (λ goes. AddsSteps (W.machine world.now) (W.state world.now) (W.fits world.now) node.now (numbers_below (W.machine world.now).callers) next.old.nodes.items next.new.nodes.items) }
 {
     let mut goes_on = false;
     let callers = world.callers();

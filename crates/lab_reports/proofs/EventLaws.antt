@@ -3,7 +3,7 @@ use Rattle.std.proofs.Common.{◌≡◌, ℕ, ◌<◌, ◌+◌, List, ◌++◌, 
 use Rattle.std.proofs.lemmas.List.{drop_more}
 use Rattle.lab_drawing.specs.declared.marks.Mark.{Mark}
 use Rattle.lab_reports.specs.Quotes.{json_text}
-use Rattle.lab_reports.specs.Events.{event_text, events_from, names_text, noted, track, wait_text}
+use Rattle.lab_reports.specs.Events.{event_text, events_from, names_text, event_noted, track, wait_text}
 
 pub two_more : (old a b one new : List ℕ) → one ≡ old ++ a → new ≡ one ++ b → new ≡ old ++ (a ++ b)
 two_more old a b one new e f = f ∙ ap (λ (x : List ℕ). x ++ b) e ∙ append_assoc old a b
@@ -16,7 +16,7 @@ quoted_more old line shown new e same = e ∙ ap (λ (x : List ℕ). old ++ json
 
 -- the events of one mark more
 pub events_more : (marks : List Mark) (i : ℕ) (d : Mark) (named noted_now : List ℕ) (old one two new all : List ℕ) → i < length marks
-    → one ≡ old ++ names_text named (get_or marks i d).lane → noted_now ≡ noted named (track (get_or marks i d).lane)
+    → one ≡ old ++ names_text named (get_or marks i d).lane → noted_now ≡ event_noted named (track (get_or marks i d).lane)
     → two ≡ one ++ event_text (i + 1) (get_or marks i d) → new ≡ two ++ wait_text (i + 1) (get_or marks i d) (get_or marks i d).shape
     → old ++ events_from named (i + 1) (drop i marks) ≡ all
     → new ++ events_from noted_now (i + 1 + 1) (drop (i + 1) marks) ≡ all

@@ -3,7 +3,7 @@ use Rattle.std.proofs.Common.{◌≡◌, ℕ, Bool, true, List, ◌∷◌, ◌++
 use Rattle.lab_traces.specs.Entries.{EntryParts, names_refusal}
 use Rattle.lab_traces.specs.Lines.{Said, entry}
 use Rattle.lab_reports.specs.Calls.{Pair, call_pairs, call_word}
-use Rattle.lab_reports.specs.Json.{answer_json, call_json, end_json, entry_groups, entry_json, first_plays, head_json, left_json, lines_json, listed, number_json, pair_json, play_json, truth_json}
+use Rattle.lab_reports.specs.Json.{answer_json, call_json, end_json, entry_groups, entry_json, first_plays, head_json, left_json, lines_json, json_list, number_json, pair_json, play_json, truth_json}
 use Rattle.lab_reports.specs.Quotes.{json_text}
 
 -- a text and what follows it
@@ -14,16 +14,16 @@ then old a one tail new e f = f ∙ ap (λ (x : List ℕ). x ++ tail) e ∙ appe
 
 pub call_told : (call word : List ℕ) (pairs : List Pair) (old one two three four new : List ℕ)
     → one ≡ old ++ codes "\"call\": " → two ≡ one ++ json_text word → three ≡ two ++ codes ", \"keys\": {"
-    → four ≡ three ++ listed true (map pair_json pairs) → new ≡ four ++ codes "}"
+    → four ≡ three ++ json_list true (map pair_json pairs) → new ≡ four ++ codes "}"
     → word ≡ call_word call → pairs ≡ call_pairs call → new ≡ old ++ call_json call
 call_told call word pairs old one two three four new e f g h i w p =
-    let keys = listed true (map pair_json pairs) in
+    let keys = json_list true (map pair_json pairs) in
     then old (codes "\"call\": ") one (json_text word ++ (codes ", \"keys\": {" ++ (keys ++ codes "}"))) new e
     (then one (json_text word) two (codes ", \"keys\": {" ++ (keys ++ codes "}")) new f
     (then two (codes ", \"keys\": {") three (keys ++ codes "}") new g
     (then three keys four (codes "}") new h i)))
     ∙ ap (λ (x : List ℕ). old ++ (codes "\"call\": " ++ (json_text x ++ (codes ", \"keys\": {" ++ (keys ++ codes "}"))))) w
-    ∙ ap (λ (x : List Pair). old ++ (codes "\"call\": " ++ (json_text (call_word call) ++ (codes ", \"keys\": {" ++ (listed true (map pair_json x) ++ codes "}"))))) p
+    ∙ ap (λ (x : List Pair). old ++ (codes "\"call\": " ++ (json_text (call_word call) ++ (codes ", \"keys\": {" ++ (json_list true (map pair_json x) ++ codes "}"))))) p
 
 pub answer_told : (answer : List ℕ) (refused : Bool) (old one two new : List ℕ)
     → one ≡ old ++ codes ", \"answer\": " → two ≡ one ++ json_text answer → new ≡ two ++ (codes ", \"refused\": " ++ truth_json refused)
@@ -64,7 +64,7 @@ begun_from file begun parts rest = by begun
     line = head_json file (Some parts)
 
     plays : List ℕ
-    plays = listed true (map play_json (first_plays rest))
+    plays = json_list true (map play_json (first_plays rest))
 
     more : List ℕ
     more = lines_json file (entry_groups rest)

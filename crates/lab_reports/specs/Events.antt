@@ -75,8 +75,8 @@ wait_text row mark _ = []
 abbrev pub is_named : List ℕ → ℕ → Bool
 is_named named t = list_any (λ other. other == t) named
 
-abbrev pub noted : List ℕ → ℕ → List ℕ
-noted named t = if is_named named t then named else named ++ (t ∷ [])
+abbrev pub event_noted : List ℕ → ℕ → List ℕ
+event_noted named t = if is_named named t then named else named ++ (t ∷ [])
 
 abbrev pub names_text : List ℕ → Lane → List ℕ
 names_text named lane = if is_named named (track lane) then [] else name_text lane ++ order_text lane
@@ -85,7 +85,7 @@ names_text named lane = if is_named named (track lane) then [] else name_text la
 abbrev pub events_from : List ℕ → ℕ → List Mark → List ℕ
 events_from named row [] = []
 events_from named row (mark ∷ rest) =
-    names_text named mark.lane ++ (event_text row mark ++ (wait_text row mark mark.shape ++ events_from (noted named (track mark.lane)) (row + 1) rest))
+    names_text named mark.lane ++ (event_text row mark ++ (wait_text row mark mark.shape ++ events_from (event_noted named (track mark.lane)) (row + 1) rest))
 
 -- the events of all marks, from row 1
 abbrev pub events_text : List Mark → List ℕ

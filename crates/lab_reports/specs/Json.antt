@@ -47,9 +47,9 @@ abbrev pub comma : Bool → List ℕ
 comma is_first = if is_first then [] else codes ", "
 
 -- texts one behind the other, with a comma and a space between
-abbrev pub listed : Bool → List (List ℕ) → List ℕ
-listed is_first [] = []
-listed is_first (text ∷ texts) = comma is_first ++ (text ++ listed false texts)
+abbrev pub json_list : Bool → List (List ℕ) → List ℕ
+json_list is_first [] = []
+json_list is_first (text ∷ texts) = comma is_first ++ (text ++ json_list false texts)
 
 abbrev pub is_number : List ℕ → Bool
 is_number value = not (length value == 0) && list_all is_ascii_digit value
@@ -81,7 +81,7 @@ pair_json pair = json_text pair.0 ++ (codes ": " ++ value_json pair.0 pair.1)
 abbrev pub call_json : List ℕ → List ℕ
 call_json call =
     codes "\"call\": " ++ (json_text (call_word call)
-    ++ (codes ", \"keys\": {" ++ (listed true (map pair_json (call_pairs call)) ++ codes "}")))
+    ++ (codes ", \"keys\": {" ++ (json_list true (map pair_json (call_pairs call)) ++ codes "}")))
 
 abbrev pub number_json : Option ℕ → List ℕ
 number_json None = codes "null"
@@ -119,7 +119,7 @@ head_json file parts = codes "{\"file\": " ++ (json_text file ++ (entry_json par
 
 -- a group's line
 abbrev pub group_json : List ℕ → Group → List ℕ
-group_json file group = head_json file group.entry ++ (listed true (map play_json group.plays) ++ codes "]}\n")
+group_json file group = head_json file group.entry ++ (json_list true (map play_json group.plays) ++ codes "]}\n")
 
 -- the lines of these groups, one behind the other
 abbrev pub lines_json : List ℕ → List Group → List ℕ
@@ -145,4 +145,4 @@ next_json file (Some is_first) p = comma is_first ++ play_json p
 abbrev pub left_json : List ℕ → Option Bool → List Said → List ℕ
 left_json file None said = trace_json file said
 left_json file (Some is_first) said =
-    listed is_first (map play_json (first_plays said)) ++ (codes "]}\n" ++ lines_json file (entry_groups said))
+    json_list is_first (map play_json (first_plays said)) ++ (codes "]}\n" ++ lines_json file (entry_groups said))

@@ -2,7 +2,7 @@
 ghost use Rattle.std.specs.Prelude.{◌≡◌, ◌≤◌, ◌++◌, [], IfOk, OnOk, string_bytes};
 ghost use Rattle.std.specs.Str.{trim_start};
 ghost use Rattle.lab_reports.specs.Events as events;
-ghost use Rattle.lab_reports.specs.Events.{event_text, events_from, events_text, name_text, names_text, noted, order_text, track, track_place, wait_event, wait_text};
+ghost use Rattle.lab_reports.specs.Events.{event_text, events_from, events_text, name_text, names_text, event_noted, order_text, track, track_place, wait_event, wait_text};
 
 use crate::quotes::put_text;
 use evl_base::Stage;
@@ -142,7 +142,7 @@ fn put_order(json: &mut String, lane: Lane) -> Result<(), AllocError>
 // Writes what names the track of a lane, where it has no name yet.
 fn put_names(json: &mut String, named: &mut Vec<u32>, lane: Lane) -> Result<(), AllocError>
     ensures text { OnOk result (string_bytes json.new ≡ string_bytes json.old ++ names_text named.old.items lane) }
-    ensures noted { OnOk result (named.new.items ≡ noted named.old.items (track lane)) }
+    ensures event_noted { OnOk result (named.new.items ≡ event_noted named.old.items (track lane)) }
 {
     let track = track_of(lane);
     if named.contains(&track) {

@@ -4,7 +4,7 @@ ghost use Rattle.evl_base.specs.declared.play.Play.TheVariants as play;
 ghost use Rattle.lab_traces.specs.Lines.{Said};
 ghost use Rattle.lab_traces.specs.Says.{parts_of, says_of};
 ghost use Rattle.lab_reports.specs.Json as told;
-ghost use Rattle.lab_reports.specs.Json.{call_json, head_json, left_json, listed, pair_json, play_json, trace_json, value_json};
+ghost use Rattle.lab_reports.specs.Json.{call_json, head_json, left_json, json_list, pair_json, play_json, trace_json, value_json};
 
 use crate::calls::call_parts;
 use crate::quotes::put_text;
@@ -71,7 +71,7 @@ fn put_pair(alloc: Global, json: &mut String, key: &str, value: &str) -> Result<
 
 // Writes keys with their values.
 fn put_pairs(alloc: Global, json: &mut String, pairs: &[(&str, &str)]) -> Result<(), AllocError>
-    ensures { OnOk result (string_bytes json.new ≡ string_bytes json.old ++ listed true (map pair_json (map (λ p. (p.0.now, p.1.now)) pairs.now))) }
+    ensures { OnOk result (string_bytes json.new ≡ string_bytes json.old ++ json_list true (map pair_json (map (λ p. (p.0.now, p.1.now)) pairs.now))) }
 {
     for (i, (key, value)) in pairs.iter().enumerate() {
         put_comma(json, i == 0)?;

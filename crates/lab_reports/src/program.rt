@@ -2,7 +2,7 @@
 ghost use Rattle.std.specs.Prelude.{◌≡◌, ◌≤◌, ◌∷◌, [], length, map, IfOk};
 ghost use Rattle.evl_bank.specs.Bank.{program_bank};
 ghost use Rattle.evl_plans.specs.Plans.{of_rows};
-ghost use Rattle.evl_plans.specs.Told.{told};
+ghost use Rattle.evl_plans.specs.Told.{handler_of};
 
 use arrayvec::ArrayVec;
 use evl_base::{FlagId, LineNo, SemId, TimerId};
@@ -12,7 +12,7 @@ use std::alloc::{AllocError, Global};
 
 // A callback that handles each event and asks for nothing.
 fn quiet() -> Planned
-    ensures { told result ≡ of_rows 1 [] }
+    ensures { handler_of result ≡ of_rows 1 [] }
 {
     Planned::of_rows(1, ArrayVec::new())
 }
@@ -21,7 +21,7 @@ fn quiet() -> Planned
 fn asking(accepts: u64, every: u64, action: Action) -> Planned
     requires accepts { 1 ≤ accepts }
     requires every { 1 ≤ every }
-    ensures { told result ≡ of_rows accepts ((every, action) ∷ []) }
+    ensures { handler_of result ≡ of_rows accepts ((every, action) ∷ []) }
 {
     let mut rows = ArrayVec::new();
     rows.push((every, action));
@@ -30,7 +30,7 @@ fn asking(accepts: u64, every: u64, action: Action) -> Planned
 
 /// The program's eight callbacks. `AllocError` where the list couldn't grow.
 pub fn program_plans(alloc: Global) -> Result<Vec<Planned>, AllocError>
-    ensures bank { IfOk result (λ plans. map told plans.items ≡ program_bank) }
+    ensures bank { IfOk result (λ plans. map handler_of plans.items ≡ program_bank) }
     ensures few { IfOk result (λ plans. length plans.items ≤ 64) }
 {
     Ok(vec![in alloc;

@@ -10,7 +10,7 @@ use Rattle.evl_kernel.specs.calls.Elements.{Touch}
 use Rattle.evl_kernel.specs.histories.Histories.{History}
 use Rattle.evl_kernel.specs.state.KernelViews.{AddsEntry}
 use Rattle.evl_kernel.specs.state.Limits.{play_limit}
-use Rattle.evl_kernel.specs.histories.Replays.{Outcome, outcome_of, stepped}
+use Rattle.evl_kernel.specs.histories.Replays.{Outcome, outcome_of, step_outcome}
 use Rattle.evl_kernel.specs.calls.Serving.{what_call_does}
 use Rattle.evl_kernel.specs.state.States.{State}
 use Rattle.evl_kernel.proofs.settling.Walking.{step_is_stepped}
@@ -23,13 +23,13 @@ few_boxes _ = omega arith
 
 -- a call that made an entry was the kernel's step
 entered : (old new : History) (who : ℕ) (call : Call) (reply : Result Reply Refusal) (added : AddsEntry old who call reply new)
-    → stepped old.state who call ≡ record { reply = reply; plays = added.0; touches = (stepped old.state who call).touches; after = new.state }
+    → step_outcome old.state who call ≡ record { reply = reply; plays = added.0; touches = (step_outcome old.state who call).touches; after = new.state }
 entered old new who call reply added = step_is_stepped old.state who call reply added.0 new.state added.1.extends.step.1 added.1.few
 
-pub entered_reply : (old new : History) (who : ℕ) (call : Call) (reply : Result Reply Refusal) → AddsEntry old who call reply new → reply ≡ (stepped old.state who call).reply
+pub entered_reply : (old new : History) (who : ℕ) (call : Call) (reply : Result Reply Refusal) → AddsEntry old who call reply new → reply ≡ (step_outcome old.state who call).reply
 entered_reply old new who call reply added = sym (ap (λ (o : Outcome). o.reply) (entered old new who call reply added))
 
-pub entered_state : (old new : History) (who : ℕ) (call : Call) (reply : Result Reply Refusal) → AddsEntry old who call reply new → new.state ≡ (stepped old.state who call).after
+pub entered_state : (old new : History) (who : ℕ) (call : Call) (reply : Result Reply Refusal) → AddsEntry old who call reply new → new.state ≡ (step_outcome old.state who call).after
 entered_state old new who call reply added = sym (ap (λ (o : Outcome). o.after) (entered old new who call reply added))
 
 pub entered_bank : (old new : History) (who : ℕ) (call : Call) (reply : Result Reply Refusal) → AddsEntry old who call reply new → new.bank ≡ old.bank
@@ -40,5 +40,5 @@ refused_effect most s own (Err refusal) e is = refl
 refused_effect most s own (Ok (given, changed)) e is = cc
 
 -- a refusal leaves the records
-pub refused : (s : State) (who : ℕ) (call : Call) (e : Refusal) → (stepped s who call).reply ≡ Err e → (stepped s who call).after ≡ s
+pub refused : (s : State) (who : ℕ) (call : Call) (e : Refusal) → (step_outcome s who call).reply ≡ Err e → (step_outcome s who call).after ≡ s
 refused s who call e is = refused_effect play_limit s (what_call_does s who call).touches (what_call_does s who call).effect e is

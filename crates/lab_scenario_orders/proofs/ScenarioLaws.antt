@@ -4,7 +4,7 @@ use Rattle.std.specs.Prelude.{Option, Some, None, slice_set}
 use Rattle.std.specs.Option.{option_map_or}
 use Rattle.evl_scenario.specs.Writings.{opening_text, scenario_text, table_text, tables_text}
 use Rattle.evl_scenario.specs.declared.steps.Step.{Step}
-use Rattle.lab_scenario_orders.specs.Scenarios.{before, order_scenario, steps_along}
+use Rattle.lab_scenario_orders.specs.Scenarios.{steps_before, order_scenario, steps_along}
 use Rattle.lab_scenario_orders.specs.declared.callers.Callers.{Callers}
 
 -- where the list has no such place, nothing is set
@@ -19,7 +19,7 @@ tables_append [] ys = refl
 tables_append (x ∷ xs) ys = ap (λ (text : List ℕ). table_text x ++ text) (tables_append xs ys) ∙ sym (append_assoc (table_text x) (tables_text xs) (tables_text ys))
 
 -- a step and the others
-pub tables_before : (step : Option Step) (steps : List Step) → tables_text (before step steps) ≡ option_map_or table_text step [] ++ tables_text steps
+pub tables_before : (step : Option Step) (steps : List Step) → tables_text (steps_before step steps) ≡ option_map_or table_text step [] ++ tables_text steps
 tables_before None steps = refl
 tables_before (Some step) steps = refl
 

@@ -5,7 +5,7 @@ use Rattle.std.specs.Cmp.Lexicographic.{pointwise, same_text}
 use Rattle.std.proofs.lemmas.Bool.{and_parts}
 use Rattle.evl_base.specs.declared.refusal.Refusal.{Refusal}
 use Rattle.evl_base.specs.declared.reply.Reply.{Reply}
-use Rattle.lab_scenario_orders.specs.Callers.{answered}
+use Rattle.lab_scenario_orders.specs.Callers.{answer_line}
 
 -- lists of texts that are the same one by one
 pub same_texts : {Z : Type 0} (xs ys : List (String Z)) → pointwise string_eq xs ys ≡ true → map string_bytes xs ≡ map string_bytes ys
@@ -35,9 +35,9 @@ index_is (x ∷ xs) (suc i) r lt is = index_is xs i r (omega arith) is
 
 -- one text of a list was replaced by itself with an answer behind it
 pub answers_set : {Z : Type 0} (answers all : List (String Z)) (i : ℕ) (told r : String Z) (reply : Result Reply Refusal) → i < length answers
-    → map string_bytes all ≡ map string_bytes answers → r ≡ get_or answers i r → string_bytes told ≡ answered (string_bytes r) reply
-    → map string_bytes (slice_set all i told) ≡ slice_set (map string_bytes answers) i (answered (slice_index_or (map string_bytes answers) i []) reply)
+    → map string_bytes all ≡ map string_bytes answers → r ≡ get_or answers i r → string_bytes told ≡ answer_line (string_bytes r) reply
+    → map string_bytes (slice_set all i told) ≡ slice_set (map string_bytes answers) i (answer_line (slice_index_or (map string_bytes answers) i []) reply)
 answers_set answers all i told r reply lt same is said =
-    let now : string_bytes told ≡ answered (slice_index_or (map string_bytes answers) i []) reply =
-    said ∙ ap (λ (text : List ℕ). answered text reply) (sym (mapped_at string_bytes answers i r [] lt is)) in
+    let now : string_bytes told ≡ answer_line (slice_index_or (map string_bytes answers) i []) reply =
+    said ∙ ap (λ (text : List ℕ). answer_line text reply) (sym (mapped_at string_bytes answers i r [] lt is)) in
     mapped_set string_bytes all i told ∙ (λ k. slice_set (same k) i (now k))

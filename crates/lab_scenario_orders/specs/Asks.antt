@@ -14,11 +14,11 @@ use Rattle.lab_scenario_orders.specs.declared.asks.Never.{Never}
 use Rattle.lab_scenario_orders.specs.declared.callers.Caller.{Caller}
 
 -- what stands behind the first text in the second, if that begins with it
-abbrev pub behind : List ℕ → List ℕ → Option (List ℕ)
-behind front text = if pointwise (λ a b. a == b) (take (length front) text) front then Some (drop (length front) text) else None
+abbrev pub text_behind : List ℕ → List ℕ → Option (List ℕ)
+text_behind front text = if pointwise (λ a b. a == b) (take (length front) text) front then Some (drop (length front) text) else None
 
 abbrev pub begins : List ℕ → List ℕ → Bool
-begins front text = is_some (behind front text)
+begins front text = is_some (text_behind front text)
 
 -- something holds of what stands behind some line feed of a text
 abbrev pub later_line : (List ℕ → Bool) → List ℕ → Bool
@@ -35,7 +35,7 @@ is_end text = begins (codes " -> ") text || begins (codes "\n") text
 
 -- an arrow and this answer, whole, stand here
 abbrev pub stands_here : List ℕ → List ℕ → Bool
-stands_here answer text = option_map_or is_end (option_and_then (behind answer) (behind (codes " -> ") text)) false
+stands_here answer text = option_map_or is_end (option_and_then (text_behind answer) (text_behind (codes " -> ") text)) false
 
 -- and somewhere in the rest of the line
 abbrev pub is_answered : List ℕ → List ℕ → Bool
@@ -44,7 +44,7 @@ is_answered answer (b ∷ bs) = if b == 10 then false else (stands_here answer (
 
 -- the line is this caller's, and has this answer
 abbrev pub is_line_of : Never → List ℕ → Bool
-is_line_of never text = option_map_or (λ rest. begins (codes " -> ") rest && is_answered (string_bytes never.answer) rest) (behind (string_bytes never.who) text) false
+is_line_of never text = option_map_or (λ rest. begins (codes " -> ") rest && is_answered (string_bytes never.answer) rest) (text_behind (string_bytes never.who) text) false
 
 abbrev pub is_stuck_line : List ℕ → Bool
 is_stuck_line text = begins (codes "stuck: ") text

@@ -12,7 +12,7 @@ use Rattle.evl_sched.specs.Picks.{picked}
 use Rattle.evl_sched.specs.Threads.{is_attached, stage_of}
 use Rattle.evl_kernel.specs.state.States.{State, Handler}
 use Rattle.evl_kernel.specs.state.Openings.{opening}
-use Rattle.evl_kernel.specs.histories.Replays.{Outcome, stepped}
+use Rattle.evl_kernel.specs.histories.Replays.{Outcome, step_outcome}
 use Rattle.evl_kernel.specs.calls.ThreadCalls.{rank_of}
 use Rattle.evl_kernel.specs.waiting.Waits.{is_waiting, has_ended}
 use Rattle.evl_scenario.specs.Scenarios.{Script, scenario_of}
@@ -33,17 +33,17 @@ pub record Seen : Type 0 where
 -- the records after these steps
 abbrev pub set_up : State → List Step → State
 set_up s [] = s
-set_up s (step ∷ steps) = set_up (stepped s step.who.0 step.call).after steps
+set_up s (step ∷ steps) = set_up (step_outcome s step.who.0 step.call).after steps
 
 -- the records before the first caller's step
-abbrev pub begun : Callers → List Handler → State
-begun c bank = set_up (opening c.board bank) c.setup.items
+abbrev pub state_begun : Callers → List Handler → State
+state_begun c bank = set_up (opening c.board bank) c.setup.items
 
-abbrev pub first : Callers → List Handler → Seen
-first c bank = record {
+abbrev pub first_seen : Callers → List Handler → Seen
+first_seen c bank = record {
   made = map (λ caller. 0) c.callers.items;
   answers = map (λ caller. []) c.callers.items;
-  state = begun c bank;
+  state = state_begun c bank;
 }
 
 -- the place of the next step of a caller that has made so many, and the step
@@ -72,20 +72,20 @@ abbrev pub is_held : Bool → State → ℕ → Bool
 is_held as_picked s who = goes_on s who || (as_picked && not (has_turn s who))
 
 -- what was answered so far, with one answer more
-abbrev pub answered : List ℕ → Result Reply Refusal → List ℕ
-answered told reply = (told ++ codes " -> ") ++ outcome_text reply
+abbrev pub answer_line : List ℕ → Result Reply Refusal → List ℕ
+answer_line told reply = (told ++ codes " -> ") ++ outcome_text reply
 
 -- after a step of this caller with this outcome
 abbrev pub after : Seen → ℕ → Outcome → Seen
 after seen n o = record {
   made = slice_set seen.made n (slice_index seen.made n + 1);
-  answers = slice_set seen.answers n (answered (slice_index_or seen.answers n []) o.reply);
+  answers = slice_set seen.answers n (answer_line (slice_index_or seen.answers n []) o.reply);
   state = o.after;
 }
 
 -- A caller that has no step more makes none, and none does one that is held.
 abbrev pub step_of : Bool → Seen → ℕ → Step → Option Seen
-step_of as_picked seen n step = if is_held as_picked seen.state step.who.0 then None else Some (after seen n (stepped seen.state step.who.0 step.call))
+step_of as_picked seen n step = if is_held as_picked seen.state step.who.0 then None else Some (after seen n (step_outcome seen.state step.who.0 step.call))
 
 abbrev pub go : Callers → Seen → ℕ → Option Seen
 go c seen n = option_and_then (step_of c.as_picked seen n) (next_step c n (slice_index seen.made n))

@@ -1,6 +1,6 @@
 -- The orders that are told for outcomes.
 use Rattle.std.specs.Prelude.{ℕ, ◌≡◌, true, List, All, Some, string_bytes}
-use Rattle.lab_orders.specs.Machines.{is_over, led}
+use Rattle.lab_orders.specs.Machines.{is_over, led_along}
 use Rattle.lab_orders.specs.declared.tallies.Tally.{Tally}
 use Rattle.lab_scenario_orders.specs.Callers.{Seen, machine}
 use Rattle.lab_scenario_orders.specs.Told.{told_text}
@@ -9,7 +9,7 @@ use Rattle.lab_scenario_orders.specs.declared.callers.Callers.{Callers}
 -- this order leads from here to where nobody can make a step, and just this is told there
 pub record LeadsTo (c : Callers) (s : Seen) (told order : List ℕ) : Type 0 where
   pub end : Seen
-  pub leads : led (machine c) s order ≡ Some end
+  pub leads : led_along (machine c) s order ≡ Some end
   pub over : is_over (machine c) end ≡ true
   pub tells : told ≡ told_text c end
 

@@ -4,14 +4,14 @@ use Rattle.std.specs.Option.{option_map_or}
 use Rattle.evl_base.specs.declared.refusal.Refusal.{Refusal}
 use Rattle.evl_base.specs.declared.reply.Reply.{Reply}
 use Rattle.evl_kernel.specs.state.States.{State, Handler}
-use Rattle.evl_kernel.specs.histories.Replays.{stepped}
-use Rattle.lab_scenario_orders.specs.Callers.{Seen, begun}
+use Rattle.evl_kernel.specs.histories.Replays.{step_outcome}
+use Rattle.lab_scenario_orders.specs.Callers.{Seen, state_begun}
 use Rattle.lab_scenario_orders.specs.declared.callers.Callers.{Callers}
 use Rattle.lab_scenario_orders.specs.declared.moments.Moment.{Moment}
 
 -- the records after the step at this place
 abbrev pub made_at : Callers → State → ℕ → State
-made_at c s place = option_map_or (λ step. (stepped s step.who.0 step.call).after) (slice_get c.steps.items place) s
+made_at c s place = option_map_or (λ step. (step_outcome s step.who.0 step.call).after) (slice_get c.steps.items place) s
 
 -- and after the steps at these places
 abbrev pub trailed : Callers → State → List ℕ → State
@@ -32,7 +32,7 @@ seen_from c s moment = record {
 }
 
 abbrev pub seen_at : Callers → List Handler → Moment → Seen
-seen_at c bank moment = seen_from c (begun c bank) moment
+seen_at c bank moment = seen_from c (state_begun c bank) moment
 
 -- each caller has its place there
 pub record IsMoment (c : Callers) (moment : Moment) : Type 0 where

@@ -6,7 +6,7 @@ use Rattle.lab_orders.specs.Machines.{orders, runs}
 use Rattle.lab_orders.specs.Tallies.{AreDistinct, told_weight}
 use Rattle.lab_orders.specs.Weights.{total}
 use Rattle.lab_orders.specs.declared.tallies.Tally.{Tally}
-use Rattle.lab_scenario_orders.specs.Callers.{first, machine}
+use Rattle.lab_scenario_orders.specs.Callers.{first_seen, machine}
 use Rattle.lab_scenario_orders.specs.Firsts.{LeadThere}
 use Rattle.lab_scenario_orders.specs.Moments.{seen_at}
 use Rattle.lab_scenario_orders.specs.Told.{told_text}
@@ -29,19 +29,19 @@ pub record AreRisen (k : ℕ) (outcomes : List Tally) : Type 0 where
 -- The outcomes of all orders of callers over a bank.
 pub record AreOutcomes (c : Callers) (bank : List Handler) (most : ℕ) (found : Outcomes) : Type 0 where
   -- whatever is counted of what is told: the outcomes, each as often as its count says, give what all orders give
-  pub counted : (f : List ℕ → ℕ) → told_weight f found.all.items ≡ total (λ seen. f (told_text c seen)) (orders (machine c) (first c bank) found.steps)
+  pub counted : (f : List ℕ → ℕ) → told_weight f found.all.items ≡ total (λ seen. f (told_text c seen)) (orders (machine c) (first_seen c bank) found.steps)
   -- no two are told alike
   pub distinct : AreDistinct found.all.items
   -- the order of each leads there from the first moment on, and nobody can make a step more; the shortest stand first
-  pub lead : LeadThere c (first c bank) found.all.items
+  pub lead : LeadThere c (first_seen c bank) found.all.items
   pub rise : AreRising found.all.items
   -- there are so many orders
-  pub count : found.count ≡ length (orders (machine c) (first c bank) found.steps)
+  pub count : found.count ≡ length (orders (machine c) (first_seen c bank) found.steps)
   -- no number of steps that leads to more than `most` moments was gone on from, and so many moments were gone through
   pub asked : found.steps ≤ length c.steps.items + 1
-  pub gone : IsGone (machine c) (seen_at c bank) (first c bank) most found.steps found.moments
+  pub gone : IsGone (machine c) (seen_at c bank) (first_seen c bank) most found.steps found.moments
   -- Where nothing was cut off, no run has as many steps; else there is one, and more than `most` runs have, or it went
   -- further than all steps together.
-  pub whole : found.whole ≡ true → runs (machine c) (first c bank) found.steps ≡ []
-  pub cut : found.whole ≡ false → (length c.steps.items < found.steps) ⊎ (most < length (runs (machine c) (first c bank) found.steps))
-  pub more : found.whole ≡ false → 0 < length (runs (machine c) (first c bank) found.steps)
+  pub whole : found.whole ≡ true → runs (machine c) (first_seen c bank) found.steps ≡ []
+  pub cut : found.whole ≡ false → (length c.steps.items < found.steps) ⊎ (most < length (runs (machine c) (first_seen c bank) found.steps))
+  pub more : found.whole ≡ false → 0 < length (runs (machine c) (first_seen c bank) found.steps)

@@ -51,18 +51,18 @@ is_mixed [] = false
 is_mixed (line ∷ rest) = (is_step line && list_any is_setup rest) || is_mixed rest
 
 -- a text of these lines
-abbrev pub joined : List (List ℕ) → List ℕ
-joined all = flat_map (λ line. line ++ line_feed) all
+abbrev pub joined_lines : List (List ℕ) → List ℕ
+joined_lines all = flat_map (λ line. line ++ line_feed) all
 
 -- the scenario in a text, how many of its steps are set up, and the tables `[ask]`
 abbrev pub scenario_part : List ℕ → List ℕ
-scenario_part text = joined (scenario_lines false (lines text))
+scenario_part text = joined_lines (scenario_lines false (lines text))
 
 abbrev pub setup_count : List ℕ → ℕ
 setup_count text = count_by is_setup (lines text)
 
 abbrev pub ask_part : List ℕ → List ℕ
-ask_part text = joined (asked_lines false (lines text))
+ask_part text = joined_lines (asked_lines false (lines text))
 
 pub record IsSplit (text : List ℕ) (split : Split) : Type 0 where
   pub scenario : string_bytes split.scenario ≡ scenario_part text

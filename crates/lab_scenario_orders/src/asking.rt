@@ -2,7 +2,7 @@
 ghost use Rattle.std.specs.Prelude.{◌≡◌, All, IfOk, None, false, position, string_bytes};
 ghost use Rattle.lab_orders.specs.Machines.{orders};
 ghost use Rattle.lab_scenario_orders.specs.Asks.{is_against};
-ghost use Rattle.lab_scenario_orders.specs.Callers.{first, machine};
+ghost use Rattle.lab_scenario_orders.specs.Callers.{first_seen, machine};
 ghost use Rattle.lab_scenario_orders.specs.Outcomes.{AreOutcomes};
 ghost use Rattle.lab_scenario_orders.specs.Told.{told_text};
 

@@ -3,8 +3,8 @@ ghost use Rattle.std.specs.Prelude.{◌≡◌, IfOk, OnOk, option_map};
 ghost use Rattle.evl_kernel.specs.state.Callbacks.{AnswersByPlan};
 ghost use Rattle.evl_kernel.specs.state.KernelViews.{makes_entry};
 ghost use Rattle.evl_kernel.specs.state.Openings.{opening};
-ghost use Rattle.evl_kernel.specs.histories.Replays.{stepped};
-ghost use Rattle.lab_scenario_orders.specs.Callers.{begun, goes_on, has_turn, is_held, is_turn, set_up};
+ghost use Rattle.evl_kernel.specs.histories.Replays.{step_outcome};
+ghost use Rattle.lab_scenario_orders.specs.Callers.{state_begun, goes_on, has_turn, is_held, is_turn, set_up};
 ghost use Rattle.lab_scenario_orders.specs.Moments.{made_at, trailed};
 
 use crate::banks::BankMaker;
@@ -107,8 +107,8 @@ pub(crate) fn make_step<C: Handler>(
 ) -> Result<StepAnswer, AllocError>
     requires { AnswersByPlan C.declared C.plan kernel.old.callbacks }
     ensures by_plan { AnswersByPlan C.declared C.plan kernel.new.callbacks }
-    ensures reply { IfOk result (λ answer. answer.0 ≡ (stepped kernel.old.history.state step.now.who.0 step.now.call).reply) }
-    ensures state { OnOk result (kernel.new.history.state ≡ (stepped kernel.old.history.state step.now.who.0 step.now.call).after) }
+    ensures reply { IfOk result (λ answer. answer.0 ≡ (step_outcome kernel.old.history.state step.now.who.0 step.now.call).reply) }
+    ensures state { OnOk result (kernel.new.history.state ≡ (step_outcome kernel.old.history.state step.now.who.0 step.now.call).after) }
     ensures bank { OnOk result (kernel.new.history.bank ≡ kernel.old.history.bank) }
 {
     let same = match copied_call(alloc, &step.call) {
@@ -258,7 +258,7 @@ pub(crate) fn led<B: BankMaker>(
     places: &[usize],
 ) -> Result<KernelOf<B::Made, Global>, AllocError>
     ensures by_plan { IfOk result (λ kernel. AnswersByPlan B.Made.declared B.Made.plan kernel.callbacks) }
-    ensures state { IfOk result (λ kernel. kernel.history.state ≡ trailed callers.now (begun callers.now (B.bank bank.now)) places.now) }
+    ensures state { IfOk result (λ kernel. kernel.history.state ≡ trailed callers.now (state_begun callers.now (B.bank bank.now)) places.now) }
     ensures bank { IfOk result (λ kernel. kernel.history.bank ≡ B.bank bank.now) }
 {
     match opened(alloc, callers, bank) {

@@ -1,6 +1,6 @@
 //! Moments that are one state of callers and kernel.
 ghost use Rattle.std.specs.Prelude.{◌≡◌, true};
-ghost use Rattle.lab_scenario_orders.specs.Callers.{begun};
+ghost use Rattle.lab_scenario_orders.specs.Callers.{state_begun};
 ghost use Rattle.lab_scenario_orders.specs.Moments.{seen_at, trailed};
 
 use crate::banks::BankMaker;
@@ -19,7 +19,7 @@ fn is_led_alike<B: BankMaker>(
     places: &[usize],
 ) -> bool
     requires bank { kernel.now.history.bank ≡ B.bank bank.now }
-    ensures { result ≡ true → kernel.now.history.state ≡ trailed callers.now (begun callers.now (B.bank bank.now)) places.now }
+    ensures { result ≡ true → kernel.now.history.state ≡ trailed callers.now (state_begun callers.now (B.bank bank.now)) places.now }
 {
     match led(alloc, callers, bank, places) {
         Ok(other) => {
@@ -39,7 +39,7 @@ fn are_led_alike<B: BankMaker>(
     one: &[usize],
     other: &[usize],
 ) -> bool
-    ensures { result ≡ true → trailed callers.now (begun callers.now (B.bank bank.now)) one.now ≡ trailed callers.now (begun callers.now (B.bank bank.now)) other.now }
+    ensures { result ≡ true → trailed callers.now (state_begun callers.now (B.bank bank.now)) one.now ≡ trailed callers.now (state_begun callers.now (B.bank bank.now)) other.now }
 {
     match led(alloc, callers, bank, one) {
         Ok(kernel) => {
@@ -59,7 +59,7 @@ fn do_trails_meet<B: BankMaker>(
     one: &[usize],
     other: &[usize],
 ) -> bool
-    ensures { result ≡ true → trailed callers.now (begun callers.now (B.bank bank.now)) one.now ≡ trailed callers.now (begun callers.now (B.bank bank.now)) other.now }
+    ensures { result ≡ true → trailed callers.now (state_begun callers.now (B.bank bank.now)) one.now ≡ trailed callers.now (state_begun callers.now (B.bank bank.now)) other.now }
 {
     if are_same_numbers(one, other) {
         return true;

@@ -1,6 +1,6 @@
 //! What is kept of callers at one moment.
 ghost use Rattle.std.specs.Prelude.{◌≡◌, ◌+◌, [], ◌<◌, true, IfOk, OnOk, length, map, slice_index_or, slice_set, string_bytes};
-ghost use Rattle.lab_scenario_orders.specs.Callers.{answered};
+ghost use Rattle.lab_scenario_orders.specs.Callers.{answer_line};
 ghost use Rattle.lab_scenario_orders.specs.Moments.{trail_after};
 
 use crate::callers::{Caller, Callers};
@@ -81,7 +81,7 @@ fn made_with(
 
 // Writes an answer behind what was answered so far.
 fn tell(told: &mut String, answer: &StepAnswer) -> Result<(), AllocError>
-    ensures { OnOk result (string_bytes told.new ≡ answered (string_bytes told.old) answer.now.0) }
+    ensures { OnOk result (string_bytes told.new ≡ answer_line (string_bytes told.old) answer.now.0) }
 {
     told.push_str(" -> ")?;
     told.write(answer)?;
@@ -90,7 +90,7 @@ fn tell(told: &mut String, answer: &StepAnswer) -> Result<(), AllocError>
 
 // The same text, and an answer behind it.
 fn told_with(alloc: Global, text: &str, answer: &StepAnswer) -> Result<String, AllocError>
-    ensures { IfOk result (λ told. string_bytes told ≡ answered text.now answer.now.0) }
+    ensures { IfOk result (λ told. string_bytes told ≡ answer_line text.now answer.now.0) }
 {
     let mut told = String::from_str(alloc, text)?;
     tell(&mut told, answer)?;
@@ -116,7 +116,7 @@ fn answers_with(
     answer: &StepAnswer,
 ) -> Result<Vec<String>, AllocError>
     requires { caller < length answers.now }
-    ensures { IfOk result (λ all. map string_bytes all.items ≡ slice_set (map string_bytes answers.now) caller (answered (slice_index_or (map string_bytes answers.now) caller []) answer.now.0)) }
+    ensures { IfOk result (λ all. map string_bytes all.items ≡ slice_set (map string_bytes answers.now) caller (answer_line (slice_index_or (map string_bytes answers.now) caller []) answer.now.0)) }
 {
     let told = told_with(alloc, answers[caller].as_str(), answer)?;
     let mut all = copied_texts(alloc, answers)?;
@@ -155,7 +155,7 @@ pub(crate) fn moment_after(
     requires made { caller < length before.now.made.items }
     requires answers { caller < length before.now.answers.items }
     ensures made { IfOk result (λ moment. moment.made.items ≡ slice_set before.now.made.items caller (count + 1)) }
-    ensures answers { IfOk result (λ moment. map string_bytes moment.answers.items ≡ slice_set (map string_bytes before.now.answers.items) caller (answered (slice_index_or (map string_bytes before.now.answers.items) caller []) answer.now.0)) }
+    ensures answers { IfOk result (λ moment. map string_bytes moment.answers.items ≡ slice_set (map string_bytes before.now.answers.items) caller (answer_line (slice_index_or (map string_bytes before.now.answers.items) caller []) answer.now.0)) }
     ensures trail { IfOk result (λ moment. moment.trail.items ≡ trail_after before.now.trail.items place answer.now.0) }
 {
     let made = made_with(alloc, before.made.as_slice(), caller, count)?;

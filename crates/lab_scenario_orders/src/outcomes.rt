@@ -5,7 +5,7 @@ ghost use Rattle.lab_orders.specs.Machines.{orders, runs};
 ghost use Rattle.lab_orders.specs.Tallies.{AreDistinct, told_weight};
 ghost use Rattle.lab_orders.specs.Weights.{total, weight};
 ghost use Rattle.lab_scenario_orders.specs.Asks.{is_stuck_line, some_line};
-ghost use Rattle.lab_scenario_orders.specs.Callers.{Seen, begun, first, machine};
+ghost use Rattle.lab_scenario_orders.specs.Callers.{Seen, state_begun, first_seen, machine};
 ghost use Rattle.lab_scenario_orders.specs.Firsts.{LeadThere, LeadsTo};
 ghost use Rattle.lab_scenario_orders.specs.Moments.{seen_at, trailed};
 ghost use Rattle.lab_scenario_orders.specs.Outcomes.{AreOutcomes, AreRisen, AreRising};
@@ -47,7 +47,7 @@ fn tally_at<B: BankMaker>(
     bank: &B,
     end: Node<Moment>,
 ) -> Result<Tally, AllocError>
-    requires state { kernel.now.history.state ≡ trailed callers.now (begun callers.now (B.bank bank.now)) end.at.trail.items }
+    requires state { kernel.now.history.state ≡ trailed callers.now (state_begun callers.now (B.bank bank.now)) end.at.trail.items }
     ensures told { IfOk result (λ tally. string_bytes tally.told ≡ told_text callers.now (seen_at callers.now (B.bank bank.now) end.at)) }
     ensures count { IfOk result (λ tally. tally.count ≡ end.count) }
     ensures order { IfOk result (λ tally. tally.order.items ≡ end.order.items) }
@@ -127,12 +127,12 @@ fn outcomes_at<B: BankMaker>(
     bank: &B,
     ends: Vec<Node<Moment>>,
 ) -> Result<Vec<Tally>, OrdersError>
-    requires led { AreLed (machine callers.now) (seen_at callers.now (B.bank bank.now)) (first callers.now (B.bank bank.now)) ends.items }
+    requires led { AreLed (machine callers.now) (seen_at callers.now (B.bank bank.now)) (first_seen callers.now (B.bank bank.now)) ends.items }
     requires over { AreOver (machine callers.now) (seen_at callers.now (B.bank bank.now)) ends.items }
     requires shortest { (k : ℕ) × AreShortest k ends.items }
     ensures sums { IfOk result (λ all. (f : List ℕ → ℕ) → told_weight f all.items ≡ weight (seen_at callers.now (B.bank bank.now)) (λ seen. f (told_text callers.now seen)) ends.items) }
     ensures distinct { IfOk result (λ all. AreDistinct all.items) }
-    ensures lead { IfOk result (λ all. LeadThere callers.now (first callers.now (B.bank bank.now)) all.items) }
+    ensures lead { IfOk result (λ all. LeadThere callers.now (first_seen callers.now (B.bank bank.now)) all.items) }
     ensures rise { IfOk result (λ all. AreRising all.items) }
 {
     let mut all = Vec::new(alloc);
@@ -154,14 +154,14 @@ fn ends_of<B: BankMaker>(
 ) -> Result<Explored<Moment>, OrdersError>
     ensures counted { IfOk result (λ found. (f : Seen → ℕ) → weight (seen_at callers.now (B.bank bank.now)) f found.ends.items
         ≡ total f (orders (machine callers.now) (first callers.now (B.bank bank.now)) found.steps)) }
-    ensures whole { IfOk result (λ found. found.whole ≡ true → runs (machine callers.now) (first callers.now (B.bank bank.now)) found.steps ≡ []) }
+    ensures whole { IfOk result (λ found. found.whole ≡ true → runs (machine callers.now) (first_seen callers.now (B.bank bank.now)) found.steps ≡ []) }
     ensures cut { IfOk result (λ found. found.whole ≡ false → (length callers.now.steps.items < found.steps)
         ⊎ (most < length (runs (machine callers.now) (first callers.now (B.bank bank.now)) found.steps))) }
-    ensures led { IfOk result (λ found. AreLed (machine callers.now) (seen_at callers.now (B.bank bank.now)) (first callers.now (B.bank bank.now)) found.ends.items) }
+    ensures led { IfOk result (λ found. AreLed (machine callers.now) (seen_at callers.now (B.bank bank.now)) (first_seen callers.now (B.bank bank.now)) found.ends.items) }
     ensures over { IfOk result (λ found. AreOver (machine callers.now) (seen_at callers.now (B.bank bank.now)) found.ends.items) }
     ensures asked { IfOk result (λ found. found.steps ≤ length callers.now.steps.items + 1) }
-    ensures gone { IfOk result (λ found. IsGone (machine callers.now) (seen_at callers.now (B.bank bank.now)) (first callers.now (B.bank bank.now)) most found.steps found.moments) }
-    ensures more { IfOk result (λ found. found.whole ≡ false → 0 < length (runs (machine callers.now) (first callers.now (B.bank bank.now)) found.steps)) }
+    ensures gone { IfOk result (λ found. IsGone (machine callers.now) (seen_at callers.now (B.bank bank.now)) (first_seen callers.now (B.bank bank.now)) most found.steps found.moments) }
+    ensures more { IfOk result (λ found. found.whole ≡ false → 0 < length (runs (machine callers.now) (first_seen callers.now (B.bank bank.now)) found.steps)) }
     ensures shortest { IfOk result (λ found. AreShortest found.steps found.ends.items) }
 {
     let start = match first_moment(alloc, callers) {

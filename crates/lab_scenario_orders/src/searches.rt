@@ -1,6 +1,6 @@
 //! Texts searched line by line.
 ghost use Rattle.std.specs.Prelude.{◌≡◌, option_map};
-ghost use Rattle.lab_scenario_orders.specs.Asks.{begins, behind, is_answered, is_end, later_line, some_line, stands_here};
+ghost use Rattle.lab_scenario_orders.specs.Asks.{begins, text_behind, is_answered, is_end, later_line, some_line, stands_here};
 
 /// What is asked of a text that begins with a line.
 pub(crate) trait Question {
@@ -37,7 +37,7 @@ pub(crate) fn some_line<Q: Question>(question: &Q, text: &[u8]) -> bool
 
 /// What stands behind the first text in the second, if that begins with it.
 pub(crate) fn behind<'a>(front: &[u8], text: &'a [u8]) -> Option<&'a [u8]>
-    ensures { option_map (λ rest. rest.now) result ≡ behind front.now text.now }
+    ensures { option_map (λ rest. rest.now) result ≡ text_behind front.now text.now }
 {
     text.strip_prefix(front)
 }

@@ -1,7 +1,7 @@
 //! The text of callers, split: the scenario in it, how many of its steps are set up before, and what is asked.
 ghost use Rattle.std.specs.Prelude.{◌≡◌, ◌++◌, IfOk, OnOk, count_by, false, map, string_bytes};
 ghost use Rattle.evl_scenario.specs.Lines.{line_feed};
-ghost use Rattle.lab_scenario_orders.specs.Splits.{IsSplit, as_step, asked_lines, bare, is_asked, is_head, is_mixed, is_setup, joined, scenario_lines};
+ghost use Rattle.lab_scenario_orders.specs.Splits.{IsSplit, as_step, asked_lines, bare, is_asked, is_head, is_mixed, is_setup, joined_lines, scenario_lines};
 
 use crate::searches::begins;
 use crate::text_lines::{lines_of, put_line};
@@ -50,7 +50,7 @@ fn is_asked(was: bool, line: &str) -> bool
 
 // The lines of tables `[ask]`.
 fn ask_in(alloc: Global, lines: &[&str]) -> Result<String, AllocError>
-    ensures { IfOk result (λ text. string_bytes text ≡ joined (asked_lines false (map (λ line. line.now) lines.now))) }
+    ensures { IfOk result (λ text. string_bytes text ≡ joined_lines (asked_lines false (map (λ line. line.now) lines.now))) }
 {
     let mut text = String::new(alloc);
     let mut was = false;
@@ -76,7 +76,7 @@ fn put_step(text: &mut String, line: &str) -> Result<(), AllocError>
 
 // The other lines, in which each step that is set up is a step.
 fn scenario_in(alloc: Global, lines: &[&str]) -> Result<String, AllocError>
-    ensures { IfOk result (λ text. string_bytes text ≡ joined (scenario_lines false (map (λ line. line.now) lines.now))) }
+    ensures { IfOk result (λ text. string_bytes text ≡ joined_lines (scenario_lines false (map (λ line. line.now) lines.now))) }
 {
     let mut text = String::new(alloc);
     let mut was = false;

@@ -1,9 +1,9 @@
 //! The callers of a scenario as a world.
 ghost use Rattle.std.specs.Prelude.{◌≡◌, ◌<◌, Some, IfOk, IfSome, length, option_map, slice_get, slice_index};
 ghost use Rattle.evl_kernel.specs.state.Callbacks.{AnswersByPlan};
-ghost use Rattle.evl_kernel.specs.histories.Replays.{stepped};
+ghost use Rattle.evl_kernel.specs.histories.Replays.{step_outcome};
 ghost use Rattle.evl_kernel.specs.state.States.{State};
-ghost use Rattle.lab_scenario_orders.specs.Callers.{after, begun, go, step_of};
+ghost use Rattle.lab_scenario_orders.specs.Callers.{after, state_begun, go, step_of};
 ghost use Rattle.lab_scenario_orders.specs.Moments.{IsMoment, seen_at, seen_from, trailed};
 
 use crate::banks::BankMaker;
@@ -69,7 +69,7 @@ fn step_kernel<B: BankMaker>(
     step: &Step,
 ) -> Result<Option<Moment>, AllocError>
     requires by_plan { AnswersByPlan B.Made.declared B.Made.plan kernel.old.callbacks }
-    requires state { kernel.old.history.state ≡ trailed callers.now (begun callers.now (B.bank bank.now)) moment.now.trail.items }
+    requires state { kernel.old.history.state ≡ trailed callers.now (state_begun callers.now (B.bank bank.now)) moment.now.trail.items }
     requires caller { caller < length callers.now.callers.items }
     requires fits { IsMoment callers.now moment.now }
     requires step { slice_get callers.now.steps.items place ≡ Some step.now }

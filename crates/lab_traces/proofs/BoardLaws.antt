@@ -2,7 +2,7 @@
 use Rattle.std.proofs.Common.{arith, ◌≡◌, ℕ, ◌<◌, ◌^◌, List, ◌∷◌, ◌++◌, codes, decimal, Some, option_and_then, refl, sym, ap, ◌∙◌, append_assoc}
 use Rattle.std.proofs.lemmas.Option.{same_Some}
 use Rattle.evl_scenario.specs.declared.lines.BoardLine.{BoardLine}
-use Rattle.evl_scenario.specs.Values.{below, past_front}
+use Rattle.evl_scenario.specs.Values.{number_below, past_front}
 use Rattle.lab_traces.specs.Lines.{BoardFits, board_read, board_text, limit_read}
 use Rattle.lab_traces.specs.Plays.{counted_read}
 use Rattle.lab_traces.proofs.NumberLaws.{below-at, below-whole, small-at, small-whole}
@@ -76,7 +76,7 @@ join a b c d e f g threads sems flags xbufs mutexes groups limit h1 h2 h3 h4 h5 
 pub board-whole : (t : List ℕ) (line : BoardLine) → board_read t ≡ Some line → t ≡ board_text line
 board-whole t line h =
     let (first, one, h1) = and_then_some _ (counted_read (codes "board threads=") t) line h in
-    let (threads, fits, h2) = and_then_some _ (below (2 ^ 16) (Some first.0)) line h1 in
+    let (threads, fits, h2) = and_then_some _ (number_below (2 ^ 16) (Some first.0)) line h1 in
     let (second, two, h3) = and_then_some _ (counted_read (codes "sems=") first.1) line h2 in
     let (third, three, h4) = and_then_some _ (counted_read (codes "flags=") second.1) line h3 in
     let (fourth, four, h5) = and_then_some _ (counted_read (codes "xbufs=") third.1) line h4 in

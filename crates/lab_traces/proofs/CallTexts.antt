@@ -10,7 +10,7 @@ use Rattle.std.specs.Str.Parse.{AllDigits}
 use Rattle.hex.specs.Hex.{IsBytes, encode_lower, encode_with, lower_digits}
 use Rattle.evl_base.specs.Call.{call_text}
 use Rattle.evl_base.specs.Calls.{Parts, parts, fields_of, name_of, parts_of, told_by, word_in}
-use Rattle.evl_base.specs.Fields.{Told, a_byte, a_half, a_word, a_number, a_stage, a_policy, a_take, a_way, a_bytes, a_until, a_truth, Key, Values, keys_text, told_as, told, truth_text, until_text, value_text}
+use Rattle.evl_base.specs.Fields.{Told, a_byte, a_half, a_word, a_number, a_stage, a_policy, a_take, a_way, a_bytes, a_until, a_truth, Key, Values, keys_text, told_as, keyed_values, truth_text, until_text, value_text}
 use Rattle.evl_base.specs.Policy.{policy_text}
 use Rattle.evl_base.specs.Stage.{stage_text}
 use Rattle.evl_base.specs.Take.{take_text}
@@ -168,7 +168,7 @@ said_bytes (c ∷ rest) h = let (here, more) = and_parts (is_inner c) (list_all 
 inner_said : {text : List ℕ} → IsInner text → IsSaid text
 inner_said {text} h = record { all = said_bytes text h.all }
 
-all_said : (keys : List Key) (values : Values keys) → list_all (λ key. list_all is_inner key.name) keys ≡ true → AllFit (told keys values) → IsSaid (keys_text (told keys values))
+all_said : (keys : List Key) (values : Values keys) → list_all (λ key. list_all is_inner key.name) keys ≡ true → AllFit (keyed_values keys values) → IsSaid (keys_text (keyed_values keys values))
 all_said [] values names fits = literal_said [] refl
 all_said (key ∷ keys) values names fits =
     let (here, more) = and_parts (list_all is_inner key.name) (list_all (λ k. list_all is_inner k.name) keys) names in

@@ -3,7 +3,7 @@ use Rattle.std.proofs.Common.{arith, ◌≡◌, ℕ, ◌<◌, ◌^◌, Bool, tru
 use Rattle.std.proofs.lemmas.Slice.Eq.{bytes_eq-Decides}
 use Rattle.std.specs.Str.{bytes_eq}
 use Rattle.evl_scenario.specs.Lines.{number_text}
-use Rattle.evl_scenario.specs.Values.{around_space, below, past_front, text_number}
+use Rattle.evl_scenario.specs.Values.{around_space, number_below, past_front, text_number}
 use Rattle.lab_traces.specs.Parts.{around, before_end, Lacks}
 use Rattle.lab_traces.specs.Entries.{EntryParts, PartsFit, NumberFits, entry_text, entry_read, numbered_read, called_read, number_read, thread_read, around_arrow}
 use Rattle.lab_traces.proofs.NumberLaws.{decimal-lacks, decimal-no_dash, number-at, number-whole, small-at, small-whole}
@@ -55,7 +55,7 @@ number_whole t n h = number_cases t n _ refl h
 
 thread_whole : (t : List ℕ) (n : ℕ) → thread_read t ≡ Some n → t ≡ 84 ∷ decimal n
 thread_whole t n h =
-    let (digits, front, read) = and_then_some (λ (ds : List ℕ). below (2 ^ 16) (text_number ds)) (past_front (codes "T") t) n h in
+    let (digits, front, read) = and_then_some (λ (ds : List ℕ). number_below (2 ^ 16) (text_number ds)) (past_front (codes "T") t) n h in
     past-whole (codes "T") t digits front ∙ ap (λ (x : List ℕ). 84 ∷ x) (small-whole (2 ^ 16) n digits read)
 
 arrow_join : (t f b before behind call answer : List ℕ) → t ≡ f ++ 62 ∷ b → f ≡ before ++ codes " -" → b ≡ codes " " ++ behind

@@ -8,7 +8,7 @@ use Rattle.std.specs.Char.{digit_value}
 use Rattle.std.specs.List.{list_all}
 use Rattle.std.specs.Str.{bytes_eq}
 use Rattle.std.specs.Str.Parse.{AllDigits}
-use Rattle.evl_scenario.specs.Values.{text_number, below}
+use Rattle.evl_scenario.specs.Values.{text_number, number_below}
 use Rattle.lab_traces.specs.Parts.{Lacks}
 use Rattle.evl_scenario.proofs.Numbers.{number_of_text-at, number_of_text-decimal}
 
@@ -33,21 +33,21 @@ number-at n small = number_of_text-at n (decimal n) small refl
 pub number-whole : (t : List ℕ) (n : ℕ) → text_number t ≡ Some n → t ≡ decimal n
 number-whole t n h = (number_of_text-decimal t n h).0
 
-pub below-at : (bound n : ℕ) → n < bound → below bound (Some n) ≡ Some n
+pub below-at : (bound n : ℕ) → n < bound → number_below bound (Some n) ≡ Some n
 below-at bound n h = rw (lt-ltb n bound h) refl
 
 below_cases : (n m : ℕ) (v : Bool) → (if v then Some n else None) ≡ Some m → n ≡ m
 below_cases n m true h = cc
 below_cases n m false h = absurd (cc)
 
-pub below-whole : (bound m : ℕ) (o : Option ℕ) → below bound o ≡ Some m → o ≡ Some m
+pub below-whole : (bound m : ℕ) (o : Option ℕ) → number_below bound o ≡ Some m → o ≡ Some m
 below-whole bound m None h = absurd (cc)
 below-whole bound m (Some n) h = ap Some (below_cases n m (nat_lt n bound) h)
 
-pub small-at : (bound n : ℕ) → n < bound → bound ≤ 2 ^ 64 → below bound (text_number (decimal n)) ≡ Some n
+pub small-at : (bound n : ℕ) → n < bound → bound ≤ 2 ^ 64 → number_below bound (text_number (decimal n)) ≡ Some n
 small-at bound n h wide = let fits : n < 2 ^ 64 = omega arith in rw (number-at n fits) (below-at bound n h)
 
-pub small-whole : (bound n : ℕ) (t : List ℕ) → below bound (text_number t) ≡ Some n → t ≡ decimal n
+pub small-whole : (bound n : ℕ) (t : List ℕ) → number_below bound (text_number t) ≡ Some n → t ≡ decimal n
 small-whole bound n t h = number-whole t n (below-whole bound n (text_number t) h)
 
 -- the digits of a number aren't a dash

@@ -7,7 +7,7 @@ use Rattle.evl_base.specs.declared.refusal.Refusal.{Refusal}
 use Rattle.evl_base.specs.declared.reply.Reply.{Reply}
 use Rattle.evl_scenario.specs.declared.steps.Step.{Step}
 use Rattle.evl_scenario.specs.Lines.{number_text}
-use Rattle.evl_scenario.specs.Values.{around_space, below, past_front, text_number}
+use Rattle.evl_scenario.specs.Values.{around_space, number_below, past_front, text_number}
 use Rattle.lab_traces.specs.Parts.{around, before_end, Lacks}
 
 -- the number of an entry, or none where the history was full; the thread that called; the texts of its call and its answer
@@ -41,7 +41,7 @@ number_read text = if bytes_eq text (codes "-") then Some None else option_map S
 
 -- the thread behind a T
 abbrev pub thread_read : List ℕ → Option ℕ
-thread_read text = option_and_then (λ digits. below (2 ^ 16) (text_number digits)) (past_front (codes "T") text)
+thread_read text = option_and_then (λ digits. number_below (2 ^ 16) (text_number digits)) (past_front (codes "T") text)
 
 -- a call and its answer, around an arrow
 abbrev pub around_arrow : List ℕ → Option (List ℕ × List ℕ)

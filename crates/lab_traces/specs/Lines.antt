@@ -5,7 +5,7 @@ use Rattle.evl_base.specs.Play.{play_text}
 use Rattle.evl_base.specs.declared.play.Play.{Play}
 use Rattle.evl_scenario.specs.declared.lines.BoardLine.{BoardLine}
 use Rattle.evl_scenario.specs.Lines.{element_counts_text, owner_counts_text}
-use Rattle.evl_scenario.specs.Values.{below, past_front, text_number}
+use Rattle.evl_scenario.specs.Values.{number_below, past_front, text_number}
 use Rattle.lab_traces.specs.Entries.{EntryParts, PartsFit, entry_read, entry_text}
 use Rattle.lab_traces.specs.Plays.{PlayFits, counted_read, play_read}
 
@@ -47,7 +47,7 @@ SaidFits (play p) = PlayFits p
 abbrev pub limit_read : ℕ → ℕ × ℕ × ℕ → ℕ × ℕ → List ℕ → Option BoardLine
 limit_read threads elements owners text =
     option_map (λ limit. record { threads = threads; elements = record { sems = elements.0; flags = elements.1; xbufs = elements.2 }; owners = record { mutexes = owners.0; groups = owners.1 }; limit = limit })
-    (option_and_then (λ digits. below (2 ^ 32) (text_number digits)) (past_front (codes "limit=") text))
+    (option_and_then (λ digits. number_below (2 ^ 32) (text_number digits)) (past_front (codes "limit=") text))
 
 abbrev pub owners_read : ℕ → ℕ × ℕ × ℕ → List ℕ → Option BoardLine
 owners_read threads elements text =
@@ -63,7 +63,7 @@ elements_read threads text =
 -- the board and the limit that a line tells
 abbrev pub board_read : List ℕ → Option BoardLine
 board_read text =
-    option_and_then (λ (threads, rest). option_and_then (λ fits. elements_read fits rest) (below (2 ^ 16) (Some threads))) (counted_read (codes "board threads=") text)
+    option_and_then (λ (threads, rest). option_and_then (λ fits. elements_read fits rest) (number_below (2 ^ 16) (Some threads))) (counted_read (codes "board threads=") text)
 
 abbrev pub unspaced_read : List ℕ → Option Said
 unspaced_read text = if starts_with nat_eq text (codes "board ") then option_map board (board_read text) else option_map entry (entry_read text)

@@ -3,7 +3,7 @@ use Rattle.std.specs.Prelude.{ℕ, ◌<◌, ◌^◌, Bool, true, false, List, co
 use Rattle.std.specs.Str.{bytes_eq}
 use Rattle.evl_base.specs.declared.play.Play.{Play}
 use Rattle.evl_base.specs.declared.play.Play.TheVariants.{Clock, Timer, Deadline, Line}
-use Rattle.evl_scenario.specs.Values.{around_space, below, past_front, stage_of, text_number}
+use Rattle.evl_scenario.specs.Values.{around_space, number_below, past_front, stage_of, text_number}
 
 -- numbers that fit their fields
 abbrev pub PlayFits : Play → Type 0
@@ -13,7 +13,7 @@ PlayFits (Deadline thread) = thread.0 < 2 ^ 16
 PlayFits (Line line stage count handled) = (line.0 < 2 ^ 16) × (count < 2 ^ 64)
 
 abbrev pub small_read : List ℕ → Option ℕ
-small_read text = below (2 ^ 16) (text_number text)
+small_read text = number_below (2 ^ 16) (text_number text)
 
 -- whether the callback handled its fire
 abbrev pub handled_read : List ℕ → Option Bool

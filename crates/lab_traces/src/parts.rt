@@ -1,6 +1,6 @@
 //! The parts of a line's text, and the numbers in it.
 ghost use Rattle.std.specs.Prelude.{◌≡◌, ◌^◌, IfSome, option_map};
-ghost use Rattle.evl_scenario.specs.Values.{around_space, below, past_front, text_number};
+ghost use Rattle.evl_scenario.specs.Values.{around_space, number_below, past_front, text_number};
 ghost use Rattle.lab_traces.specs.Parts.{around, before_end, Lacks};
 
 use evl_scenario::number_of_text;
@@ -58,7 +58,7 @@ pub fn before<'a>(end: &str, text: &'a str) -> Option<&'a str>
 
 /// The number that a text writes in decimal digits without leading zeros, of a thread, a line or a timer.
 pub fn small_number(text: &str) -> Option<u16>
-    ensures { result ≡ below (2 ^ 16) (text_number text.now) }
+    ensures { result ≡ number_below (2 ^ 16) (text_number text.now) }
 {
     u16::try_from(number_of_text(text)?).ok()
 }

@@ -10,10 +10,10 @@ use Rattle.evl_base.specs.declared.reply.Reply.{Reply}
 use Rattle.evl_kernel.specs.histories.Histories.{History}
 use Rattle.evl_kernel.specs.state.KernelViews.{AddsEntry, IsOpened, KernelView, entry_of, makes_entry}
 use Rattle.evl_kernel.specs.state.Openings.{can_open, opening}
-use Rattle.evl_kernel.specs.histories.Replays.{Outcome, stepped}
+use Rattle.evl_kernel.specs.histories.Replays.{Outcome, step_outcome}
 use Rattle.evl_kernel.specs.state.States.{Handler, State}
 use Rattle.evl_kernel.proofs.settling.Walking.{step_is_stepped}
-use Rattle.evl_plans.specs.Told.{told}
+use Rattle.evl_plans.specs.Told.{handler_of as told}
 use Rattle.evl_plans.specs.declared.planned.Planned.{Planned}
 use Rattle.evl_scenario.specs.Scenarios.{Script}
 use Rattle.evl_scenario.specs.declared.faults.Fault.{Fault}
@@ -45,8 +45,8 @@ enters : {C : Type 0} (old new : KernelView C) (step : Step) (reply : Result Rep
 enters old new step reply below added bound =
     let plays = added.0 in
     let by = added.1 in
-    let o : Outcome = record { reply = reply; plays = plays; touches = (stepped old.history.state step.who.0 step.call).touches; after = new.history.state } in
-    let out : stepped old.history.state step.who.0 step.call ≡ o =
+    let o : Outcome = record { reply = reply; plays = plays; touches = (step_outcome old.history.state step.who.0 step.call).touches; after = new.history.state } in
+    let out : step_outcome old.history.state step.who.0 step.call ≡ o =
     step_is_stepped old.history.state step.who.0 step.call reply plays new.history.state by.extends.step.1 by.few in
     let is = turn-entered old.limit (moment old) step o below out in
     let count : length new.history.entries ≡ length old.history.entries + 1 =

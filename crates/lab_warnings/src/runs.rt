@@ -48,7 +48,7 @@ fn play(
     scenario: Scenario,
     bank: Vec<Planned>,
 ) -> Result<(), AllocError>
-    ensures { OnOk result (string_bytes told.new ≡ string_bytes told.old ++ script_lines name.now (map plans.told bank.items) scenario) }
+    ensures { OnOk result (string_bytes told.new ≡ string_bytes told.old ++ script_lines name.now (map plans.handler_of bank.items) scenario) }
 {
     let (board, limit, steps) = scenario.into_parts();
     let threads = board.threads;
@@ -81,7 +81,7 @@ fn run(
     text: &[u8],
     bank: Vec<Planned>,
 ) -> Result<(), AllocError>
-    ensures { OnOk result (string_bytes told.new ≡ string_bytes told.old ++ warnings_of name.now (map plans.told bank.items) (scenario_of None text.now)) }
+    ensures { OnOk result (string_bytes told.new ≡ string_bytes told.old ++ warnings_of name.now (map plans.handler_of bank.items) (scenario_of None text.now)) }
 {
     match read_scenario(alloc, text, None) {
         Ok(scenario) => {
@@ -106,8 +106,8 @@ pub fn warnings(
     bank: &[Planned],
     told: &mut String,
 ) -> Result<bool, AllocError>
-    ensures told { OnOk result (string_bytes told.new ≡ string_bytes told.old ++ warnings_of name.now (map plans.told bank.now) (scenario_of None text.now)) }
-    ensures answers { IfOk result (λ warns. warns ≡ not (length (warnings_of name.now (map plans.told bank.now) (scenario_of None text.now)) == 0)) }
+    ensures told { OnOk result (string_bytes told.new ≡ string_bytes told.old ++ warnings_of name.now (map plans.handler_of bank.now) (scenario_of None text.now)) }
+    ensures answers { IfOk result (λ warns. warns ≡ not (length (warnings_of name.now (map plans.handler_of bank.now) (scenario_of None text.now)) == 0)) }
     ensures failed { IfErr result (λ e. string_bytes told.new ≡ string_bytes told.old) }
 {
     let own = copied_bank(alloc, bank)?;

@@ -1,12 +1,10 @@
 //! Callers on two host threads of one machine.
-ghost use Rattle.std.specs.Prelude.{◌≡◌, [], ◌∷◌, true};
 
 use crate::acts::{Act, Ask, Told};
 use crate::boards::{ATTACH, ATTACHED, FIRST, LINE, ONCE_FREE, PEEK, SEM, WIDE};
 use crate::closing::End;
 use crate::thread_rows::{ThreadRow, is_row_over, is_thread_row};
 use crate::threads::{Task, Turn};
-use arrayvec::ArrayVec;
 use evl_base::{ActionKinds, Policy, Stage};
 use evl_pipeline::{Action, Answer, Callback, Fire, Plan};
 
@@ -118,29 +116,6 @@ fn racing_callers_7(rt: HostRuntime) {
     assert!(rt; is_thread_row(&rt, rt.alloc(), 100, &MOVED));
 }
 
-// Handled, and one action asked for.
-fn asks(action: Action) -> Answer
-    ensures handled { result.handled ≡ true }
-    ensures actions { result.actions.items ≡ action ∷ [] }
-{
-    let mut actions = ArrayVec::new();
-    actions.push(action);
-    Answer {
-        handled: true,
-        actions,
-    }
-}
-
-// A plan of one row, at every fire.
-fn plan(action: Action) -> Plan
-    ensures accepts { result.accepts ≡ 1 }
-    ensures rows { result.rows.items ≡ (1, action) ∷ [] }
-{
-    let mut rows = ArrayVec::new();
-    rows.push((1, action));
-    Plan { accepts: 1, rows }
-}
-
 // The bank's one callback stands on a line, on which events arrive from two host threads: whichever has the kernel
 // calls the stored closure.
 const BOTH_ARRIVE: ThreadRow<'_> = ThreadRow {
@@ -154,10 +129,14 @@ const BOTH_ARRIVE: ThreadRow<'_> = ThreadRow {
 #[test]
 fn any_thread_calls_the_stored_closure(rt: HostRuntime) {
     let alloc = rt.alloc();
-    let Ok(run) = Box::new(alloc, |_: Fire| asks(Action::PostSem(SEM))) else {
+    let Ok(run) = Box::new(alloc, |_: Fire| Answer::one(Action::PostSem(SEM))) else {
         panic!(rt; "box")
     };
-    let posts = Callback::new(ActionKinds::POST_SEM, &plan(Action::PostSem(SEM)), run);
+    let posts = Callback::new(
+        ActionKinds::POST_SEM,
+        &Plan::one(1, 1, Action::PostSem(SEM)),
+        run,
+    );
     let Ok(bank) = Vec::from_array(alloc, [posts]) else {
         panic!(rt; "bank")
     };

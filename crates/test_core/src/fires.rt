@@ -3,7 +3,7 @@ ghost use Rattle.std.specs.Prelude.{◌≡◌, []};
 ghost use Rattle.evl_kernel.specs.state.Callbacks.{AnswersByPlan};
 ghost use Rattle.evl_pipeline.specs.Plans.{answer_of};
 
-use crate::handlers::{does, quiet, quiet_plan};
+use crate::handlers::does;
 use crate::rows::{PipelineRow, Row, on_a_kernel, on_a_pipeline};
 use bitflags::Flags;
 use evl_base::{ActionKinds, Call, LineNo, Stage};
@@ -57,7 +57,7 @@ impl<'a> Handler for Keeper<'a> {
             calls: before.calls.saturating_add(1),
             last: Some(fire),
         });
-        quiet()
+        Answer::quiet()
     }
 
     fn kinds(&self) -> ActionKinds {
@@ -72,7 +72,7 @@ impl<'a> Handler for Keeper<'a> {
 fn keeping<'a>(given: &'a Cell<Given>) -> Keeper<'a> {
     Keeper {
         given,
-        plan: Snapshot::of(&quiet_plan(1)),
+        plan: Snapshot::of(&Plan::quiet(1)),
     }
 }
 
@@ -192,11 +192,11 @@ fn a_play_calls_once(rt: HostRuntime) {
     };
     let Ok(run) = Box::new(alloc, move |_: Fire| {
         counted.fetch_add(1, Ordering::SeqCst);
-        quiet()
+        Answer::quiet()
     }) else {
         panic!(rt; "box");
     };
-    let callback = Callback::new(ActionKinds::from_bits_retain(0), &quiet_plan(1), run);
+    let callback = Callback::new(ActionKinds::from_bits_retain(0), &Plan::quiet(1), run);
     let row = Counted {
         callback,
         calls: &calls,

@@ -1,5 +1,5 @@
 //! Plans, answers, handlers and boards for tests, and calls of thread 0.
-ghost use Rattle.std.specs.Prelude.{◌≡◌, [], ◌∷◌, true};
+ghost use Rattle.std.specs.Prelude.{◌≡◌, []};
 ghost use Rattle.evl_kernel.specs.state.Callbacks.{AnswersByPlan};
 ghost use Rattle.evl_pipeline.specs.Plans.{answer_of};
 
@@ -7,7 +7,7 @@ use arrayvec::ArrayVec;
 use bitflags::Flags;
 use evl_base::{ActionKinds, Board, Call, Policy, Refusal, Reply, SemId, Stage, ThreadId};
 use evl_kernel::KernelOf;
-use evl_pipeline::{Action, Answer, Fire, Handler, Plan};
+use evl_pipeline::{Answer, Fire, Handler, Plan};
 use std::alloc::{AllocError, Allocator};
 use std::snapshot::Snapshot;
 
@@ -21,51 +21,6 @@ pub(crate) const ATTACH: Call = Call::Attach {
     stage: Stage::Oob,
 };
 
-/// Handled, and nothing asked for.
-pub(crate) fn quiet() -> Answer
-    ensures handled { result.handled ≡ true }
-    ensures actions { result.actions.items ≡ [] }
-{
-    Answer {
-        handled: true,
-        actions: ArrayVec::new(),
-    }
-}
-
-/// Handled, and one action asked for.
-pub(crate) fn asks(action: Action) -> Answer
-    ensures handled { result.handled ≡ true }
-    ensures actions { result.actions.items ≡ action ∷ [] }
-{
-    let mut actions = ArrayVec::new();
-    actions.push(action);
-    Answer {
-        handled: true,
-        actions,
-    }
-}
-
-/// A plan without rows.
-pub(crate) fn quiet_plan(accepts: u64) -> Plan
-    ensures accepts { result.accepts ≡ accepts }
-    ensures rows { result.rows.items ≡ [] }
-{
-    Plan {
-        accepts,
-        rows: ArrayVec::new(),
-    }
-}
-
-/// A plan of one row, at every fire.
-pub(crate) fn plan(action: Action) -> Plan
-    ensures accepts { result.accepts ≡ 1 }
-    ensures rows { result.rows.items ≡ (1, action) ∷ [] }
-{
-    let mut rows = ArrayVec::new();
-    rows.push((1, action));
-    Plan { accepts: 1, rows }
-}
-
 /// A handler of one's own, with no closure in it: it handles each event and asks for nothing.
 #[derive(Drop)]
 pub(crate) struct QuietHandler {
@@ -77,7 +32,7 @@ pub(crate) struct QuietHandler {
 impl QuietHandler {
     pub(crate) fn new() -> QuietHandler {
         QuietHandler {
-            plan: Snapshot::of(&quiet_plan(1)),
+            plan: Snapshot::of(&Plan::quiet(1)),
         }
     }
 }
@@ -92,7 +47,7 @@ impl Handler for QuietHandler {
     fn fire(&self, fire: Fire) -> Answer {
         let _ = fire;
         let _ = &self.plan;
-        quiet()
+        Answer::quiet()
     }
 
     fn kinds(&self) -> ActionKinds {

@@ -2,12 +2,12 @@
 ghost use Rattle.evl_kernel.specs.state.Callbacks.{AnswersByPlan};
 
 use crate::handlers::{
-    SEM, apply, asks, board_of, does, entries, makes_room, plan, plays, quiet_bank, reserve,
+    SEM, apply, board_of, does, entries, makes_room, plays, quiet_bank, reserve,
 };
 use crate::rows::{Row, on_a_kernel, on_a_quiet_kernel};
 use evl_base::{ActionKinds, Call, LineNo, Refusal, Reply, Stage};
 use evl_kernel::KernelOf;
-use evl_pipeline::{Action, Callback, Fire, Handler};
+use evl_pipeline::{Action, Answer, Callback, Fire, Handler, Plan};
 use std::alloc::Allocator;
 
 const LINE: LineNo = LineNo(8);
@@ -101,10 +101,14 @@ pub(crate) fn plays_a_stalled_line<C: Handler, A: Allocator>(kernel: &mut Kernel
 #[test]
 fn a_kernel_calls_its_closures(rt: HostRuntime) {
     let alloc = rt.alloc();
-    let Ok(run) = Box::new(alloc, |_: Fire| asks(Action::PostSem(SEM))) else {
+    let Ok(run) = Box::new(alloc, |_: Fire| Answer::one(Action::PostSem(SEM))) else {
         panic!(rt; "box");
     };
-    let posts = Callback::new(ActionKinds::POST_SEM, &plan(Action::PostSem(SEM)), run);
+    let posts = Callback::new(
+        ActionKinds::POST_SEM,
+        &Plan::one(1, 1, Action::PostSem(SEM)),
+        run,
+    );
     let Ok(bank) = Vec::from_array(alloc, [posts]) else {
         panic!(rt; "bank");
     };

@@ -2,7 +2,7 @@
 ghost use Rattle.std.specs.Prelude.{◌≡◌, [], ◌∷◌, true};
 ghost use Rattle.evl_kernel.specs.state.Callbacks.{AnswersByPlan};
 
-use crate::handlers::{CALLER, asks, bare_board, does, plan, plays, quiet, quiet_plan};
+use crate::handlers::{CALLER, bare_board, does, plays};
 use crate::rows::{Row, on_a_board};
 use arrayvec::ArrayVec;
 use bitflags::Flags;
@@ -194,20 +194,24 @@ fn one_call_makes_the_most_plays(rt: HostRuntime) {
     let Ok(posting) = Box::new(alloc, |_: Fire| asks_four(CLOCK, FIRST, SECOND, THIRD)) else {
         panic!(rt; "box");
     };
-    let Ok(handing) = Box::new(alloc, |_: Fire| asks(Action::Propagate)) else {
+    let Ok(handing) = Box::new(alloc, |_: Fire| Answer::one(Action::Propagate)) else {
         panic!(rt; "box");
     };
     let four = plan_of_four(CLOCK, FIRST, SECOND, THIRD);
     let posts = Callback::new(ActionKinds::POST_OOB, &four, posting);
-    let hands = Callback::new(ActionKinds::PROPAGATE, &plan(Action::Propagate), handing);
+    let hands = Callback::new(
+        ActionKinds::PROPAGATE,
+        &Plan::one(1, 1, Action::Propagate),
+        handing,
+    );
     let Ok(mut bank) = Vec::from_array(alloc, [posts, hands]) else {
         panic!(rt; "bank");
     };
     for _ in 2..CALLBACKS {
-        let Ok(run) = Box::new(alloc, |_: Fire| quiet()) else {
+        let Ok(run) = Box::new(alloc, |_: Fire| Answer::quiet()) else {
             panic!(rt; "box");
         };
-        let callback = Callback::new(ActionKinds::from_bits_retain(0), &quiet_plan(1), run);
+        let callback = Callback::new(ActionKinds::from_bits_retain(0), &Plan::quiet(1), run);
         assert!(rt; bank.push(callback).is_ok());
     }
     assert!(rt; on_a_board(alloc, alloc, widest_board(), bank, 1000, Row::MostPlays) == Ok(true));

@@ -1,9 +1,9 @@
 //! Clocks over stored closures.
-use crate::handlers::{TAG, is_deadline, is_first_fire, is_made, quiet, quiet_plan};
+use crate::handlers::{TAG, is_deadline, is_first_fire, is_made};
 use bitflags::Flags;
 use evl_base::{ActionKinds, Refusal, ThreadId, TimerId};
 use evl_clock::{ClockOf, TimerState};
-use evl_pipeline::{Callback, Fire, Handler};
+use evl_pipeline::{Answer, Callback, Fire, Handler, Plan};
 use linked_list_allocator::LocalHeap;
 use std::alloc::{Allocator, Global};
 use std::sync::Arc;
@@ -41,12 +41,12 @@ fn periodic_timer(rt: HostRuntime) {
     };
     let counting = move |_: Fire| {
         counted.fetch_add(1, Ordering::SeqCst);
-        quiet()
+        Answer::quiet()
     };
     let Ok(run) = Box::new(rt.alloc(), counting) else {
         panic!(rt; "box")
     };
-    let callback = Callback::new(ActionKinds::STOP_TIMER, &quiet_plan(), run);
+    let callback = Callback::new(ActionKinds::STOP_TIMER, &Plan::quiet(1), run);
     assert!(rt; is_late_on_new(rt.alloc(), callback));
     assert!(rt; calls.load(Ordering::SeqCst) == 1);
 }
@@ -71,10 +71,10 @@ fn is_stopped_on_new<C: Handler>(alloc: Global, callback: C) -> bool {
 
 #[test]
 fn a_stopped_timer_is_idle(rt: HostRuntime) {
-    let Ok(run) = Box::new(rt.alloc(), |_: Fire| quiet()) else {
+    let Ok(run) = Box::new(rt.alloc(), |_: Fire| Answer::quiet()) else {
         panic!(rt; "box")
     };
-    let callback = Callback::new(ActionKinds::from_bits_retain(0), &quiet_plan(), run);
+    let callback = Callback::new(ActionKinds::from_bits_retain(0), &Plan::quiet(1), run);
     assert!(rt; is_stopped_on_new(rt.alloc(), callback));
 }
 
@@ -186,10 +186,10 @@ fn sixty_five_timers(rt: HostRuntime) {
     assert!(rt; comes_to(rt.alloc(), 64, none, Err(Refusal::NoMemory)));
     let mut callbacks = Vec::new(rt.alloc());
     for _ in 0..65 {
-        let Ok(run) = Box::new(rt.alloc(), |_: Fire| quiet()) else {
+        let Ok(run) = Box::new(rt.alloc(), |_: Fire| Answer::quiet()) else {
             panic!(rt; "box")
         };
-        let callback = Callback::new(ActionKinds::POST_SEM, &quiet_plan(), run);
+        let callback = Callback::new(ActionKinds::POST_SEM, &Plan::quiet(1), run);
         assert!(rt; callbacks.push(callback).is_ok());
     }
     assert!(rt; comes_to(rt.alloc(), 65536, callbacks, Ok(true)));

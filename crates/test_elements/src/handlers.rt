@@ -1,35 +1,11 @@
 //! Plans and answers for tests, and what fell due.
-ghost use Rattle.std.specs.Prelude.{◌≡◌, [], true};
 
-use arrayvec::ArrayVec;
 use evl_base::{Refusal, Stage, ThreadId, TimerId};
 use evl_clock::Due;
-use evl_pipeline::{Answer, Handler, Plan};
+use evl_pipeline::Handler;
 
 /// The tag of the timers.
 pub(crate) const TAG: u32 = 7;
-
-/// Handled, and nothing asked for.
-pub(crate) fn quiet() -> Answer
-    ensures handled { result.handled ≡ true }
-    ensures actions { result.actions.items ≡ [] }
-{
-    Answer {
-        handled: true,
-        actions: ArrayVec::new(),
-    }
-}
-
-/// A plan that handles each fire, and asks for nothing.
-pub(crate) fn quiet_plan() -> Plan
-    ensures accepts { result.accepts ≡ 1 }
-    ensures rows { result.rows.items ≡ [] }
-{
-    Plan {
-        accepts: 1,
-        rows: ArrayVec::new(),
-    }
-}
 
 /// Whether timer 0 fired for the first time at this date, and missed so many periods.
 pub(crate) fn is_first_fire(due: Option<Due>, moment: u64, periods: u64) -> bool {

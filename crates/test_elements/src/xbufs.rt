@@ -1,6 +1,6 @@
 //! Threads that wait, are served in turn, or stop waiting.
 ghost use Rattle.std.specs.Prelude.{◌≡◌};
-ghost use Rattle.evl_xbuf.specs.Xbufs.{opened};
+ghost use Rattle.evl_xbuf.specs.Xbufs.{opened_xbuf};
 
 use evl_base::{Refusal, Stage, ThreadId, Way};
 use evl_xbuf::{Service, Services, XbufOf};
@@ -31,7 +31,7 @@ fn are_shares(served: &Services) -> bool {
 
 // Whether three readers wait, and two of them share a write.
 fn is_shared<A: Allocator>(xbuf: &mut XbufOf<A>) -> bool
-    requires { xbuf.old ≡ opened 8 4 }
+    requires { xbuf.old ≡ opened_xbuf 8 4 }
 {
     let Ok(None) = xbuf.begin_read(TWO, Stage::Oob, Way::In, 2) else {
         return false;
@@ -73,7 +73,7 @@ fn is_read<A: Allocator>(xbuf: &mut XbufOf<A>, wanted: &[u8]) -> bool {
 
 // Whether a writer that waits no more lets the next one in.
 fn lets_in<A: Allocator>(xbuf: &mut XbufOf<A>) -> bool
-    requires { xbuf.old ≡ opened 1 4 }
+    requires { xbuf.old ≡ opened_xbuf 1 4 }
 {
     let Ok(_) = xbuf.try_write(Stage::Oob, Way::Out, b"a") else {
         return false;

@@ -1,6 +1,5 @@
 //! Traces that are written from the histories of kernels: the program, playing the scenario of such a history, writes
 //! just its trace.
-ghost use Rattle.std.specs.Prelude.{◌≡◌, [], ◌∷◌, true};
 ghost use Rattle.evl_kernel.specs.state.Callbacks.{AnswersByPlan};
 
 use crate::endings::ends;
@@ -35,51 +34,6 @@ fn board() -> Board {
         groups: ArrayVec::new(),
         staxes,
     }
-}
-
-// Handled, and nothing asked for.
-fn quiet() -> Answer
-    ensures handled { result.handled ≡ true }
-    ensures actions { result.actions.items ≡ [] }
-{
-    Answer {
-        handled: true,
-        actions: ArrayVec::new(),
-    }
-}
-
-// Handled, and one action asked for.
-fn asks(action: Action) -> Answer
-    ensures handled { result.handled ≡ true }
-    ensures actions { result.actions.items ≡ action ∷ [] }
-{
-    let mut actions = ArrayVec::new();
-    actions.push(action);
-    Answer {
-        handled: true,
-        actions,
-    }
-}
-
-// The plan that handles each event and asks for nothing.
-fn quiet_plan() -> Plan
-    ensures accepts { result.accepts ≡ 1 }
-    ensures rows { result.rows.items ≡ [] }
-{
-    Plan {
-        accepts: 1,
-        rows: ArrayVec::new(),
-    }
-}
-
-// The plan that handles each event and asks for one action.
-fn plan(action: Action) -> Plan
-    ensures accepts { result.accepts ≡ 1 }
-    ensures rows { result.rows.items ≡ (1, action) ∷ [] }
-{
-    let mut rows = ArrayVec::new();
-    rows.push((1, action));
-    Plan { accepts: 1, rows }
 }
 
 // A thread makes a call, whatever it answers.
@@ -129,10 +83,10 @@ fn make_calls<C: Handler, A: Allocator>(kernel: &mut KernelOf<C, A>)
 fn history_is_traced_as_it_is_run(rt: HostRuntime) {
     let alloc = rt.alloc();
     let none = ActionKinds::from_bits_retain(0);
-    let Ok(run) = Box::new(alloc, |_: Fire| quiet()) else {
+    let Ok(run) = Box::new(alloc, |_: Fire| Answer::quiet()) else {
         panic!(rt; "box")
     };
-    let Ok(bank) = Vec::from_array(alloc, [Callback::new(none, &quiet_plan(), run)]) else {
+    let Ok(bank) = Vec::from_array(alloc, [Callback::new(none, &Plan::quiet(1), run)]) else {
         panic!(rt; "bank")
     };
     assert!(rt; is_row_traced(&rt, bank, Row::Calls, CALLS));
@@ -222,14 +176,14 @@ fn is_row_traced<F: Files + AllocGlobal, C: Handler>(
 fn plays_are_traced_as_they_are_run(rt: HostRuntime) {
     let alloc = rt.alloc();
     let none = ActionKinds::from_bits_retain(0);
-    let Ok(zero) = Box::new(alloc, |_: Fire| quiet()) else {
+    let Ok(zero) = Box::new(alloc, |_: Fire| Answer::quiet()) else {
         panic!(rt; "box")
     };
-    let Ok(one) = Box::new(alloc, |_: Fire| asks(POST)) else {
+    let Ok(one) = Box::new(alloc, |_: Fire| Answer::one(POST)) else {
         panic!(rt; "box")
     };
-    let quiet = Callback::new(none, &quiet_plan(), zero);
-    let posts = Callback::new(ActionKinds::POST_SEM, &plan(POST), one);
+    let quiet = Callback::new(none, &Plan::quiet(1), zero);
+    let posts = Callback::new(ActionKinds::POST_SEM, &Plan::one(1, 1, POST), one);
     let Ok(bank) = Vec::from_array(alloc, [quiet, posts]) else {
         panic!(rt; "bank")
     };

@@ -5,7 +5,7 @@ use Rattle.evl_base.specs.declared.board.Board.{Board}
 use Rattle.evl_base.specs.declared.entry.Entry.{Entry}
 use Rattle.evl_base.specs.declared.play.Play.{Play}
 use Rattle.evl_kernel.specs.state.States.{State}
-use Rattle.evl_kernel.specs.histories.Histories.{History, Run, IsLegal, opened}
+use Rattle.evl_kernel.specs.histories.Histories.{History, Run, IsLegal, opened_kernel}
 use Rattle.evl_core.specs.declared.views.Account.{Account}
 use Rattle.evl_core.specs.accounts.Accounts.{HasNoStranger, IsAccount, saw, threads_of, GoesOn, BeginsWith, calls_by, MadeBy, Fits}
 
@@ -37,7 +37,7 @@ goes_on_more h mid new xs ys f g = record {
 -- a legal history that goes on is legal
 pub goes_on_legal : (old new : History) (xs : List Entry) → IsLegal old → GoesOn old xs new → IsLegal new
 goes_on_legal old new xs legal g =
-    rw (g.board, g.bank, g.entries_are, g.plays_are) (run_runs (opened old) old.entries old.plays old.state xs g.plays new.state legal g.run)
+    rw (g.board, g.bank, g.entries_are, g.plays_are) (run_runs (opened_kernel old) old.entries old.plays old.state xs g.plays new.state legal g.run)
 
 pub starts_whole : (h : History) → BeginsWith h h
 starts_whole h = ([], goes_on_none h)

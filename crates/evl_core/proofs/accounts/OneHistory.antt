@@ -7,7 +7,7 @@ use Rattle.evl_base.specs.declared.entry.Entry.{Entry}
 use Rattle.evl_base.specs.declared.play.Play.{Play}
 use Rattle.evl_kernel.specs.state.States.{State}
 use Rattle.evl_kernel.specs.state.Openings.{opening}
-use Rattle.evl_kernel.specs.histories.Histories.{History, Run, IsLegal, opened}
+use Rattle.evl_kernel.specs.histories.Histories.{History, Run, IsLegal, opened_kernel}
 use Rattle.evl_kernel.specs.state.KernelViews.{KernelView}
 use Rattle.evl_kernel.proofs.histories.Determined.{run_one_way}
 use Rattle.evl_words.specs.Hands.{place}
@@ -32,9 +32,9 @@ run_splits old (x ∷ xs) ys plays new (own, rest, next, split, step, run) =
 -- a legal history with the entries of another, and more, goes on from it
 goes_on : (old new : History) (ws : List Entry) → IsLegal old → IsLegal new → new.board ≡ old.board → new.bank ≡ old.bank → new.entries ≡ old.entries ++ ws → GoesOn old ws new
 goes_on old new ws legal longer board bank more =
-    let run : Run (opened old) (old.entries ++ ws) new.plays new.state = subst (λ (z : State × List Entry). Run z.0 z.1 new.plays new.state) (λ i. (opening (board i) (bank i), more i)) longer in
-    let t = run_splits (opened old) old.entries ws new.plays new.state run in
-    let same = run_one_way (opened old) old.entries old.entries t.0 old.plays t.2 old.state refl t.4 legal in record {
+    let run : Run (opened_kernel old) (old.entries ++ ws) new.plays new.state = subst (λ (z : State × List Entry). Run z.0 z.1 new.plays new.state) (λ i. (opening (board i) (bank i), more i)) longer in
+    let t = run_splits (opened_kernel old) old.entries ws new.plays new.state run in
+    let same = run_one_way (opened_kernel old) old.entries old.entries t.0 old.plays t.2 old.state refl t.4 legal in record {
       plays = t.1;
       board = board;
       bank = bank;

@@ -17,7 +17,7 @@ use Rattle.evl_core.specs.declared.views.CorePart.{CorePart}
 use Rattle.evl_core.specs.declared.views.LockCall.{LockCall}
 use Rattle.evl_core.specs.declared.views.LockCall.TheVariants.{Take, Give}
 use Rattle.evl_core.specs.declared.views.LockReply.{LockReply}
-use Rattle.evl_core.specs.lock.Lock.{IsLockWorld, LockEntry, LockKept, LockState, LockStep, LockTie, LockView, busy, counted, has_it, idle, is_lost, lock_answer, lock_author, lock_change, lock_machine, lock_may, lock_of, lock_word}
+use Rattle.evl_core.specs.lock.Lock.{IsLockWorld, LockEntry, LockKept, LockState, LockStep, LockTie, LockView, busy, count_replies, has_it, idle, is_lost, lock_answer, lock_author, lock_change, lock_machine, lock_may, lock_of, lock_word}
 use Rattle.evl_core.proofs.lock.LockSteps.{counted-append}
 
 -- the kernel lies in the slot, or this thread has it
@@ -32,7 +32,7 @@ ours_step k (busy j) Take reply t ours may answered after = absurd (true≢false
 ours_step k (busy j) Give reply t ours may answered after = (ap is_lost answered, subst (IsOurs k) (sym after) tt)
 
 -- the steps of one thread alone, from there on, lose no take
-ours_run : (k : ℕ) (s t : LockState) (es : List LockEntry) → AllBy lock_author k es → IsOurs k s → Run LockStep s es t → counted is_lost es ≡ 0
+ours_run : (k : ℕ) (s t : LockState) (es : List LockEntry) → AllBy lock_author k es → IsOurs k s → Run LockStep s es t → count_replies is_lost es ≡ 0
 ours_run k s t [] own ours run = refl
 ours_run k s t (e ∷ es) own ours (u, one, rest) =
     let step = ours_step k s e.call e.reply u ours (subst (λ i. lock_may s i e.call) own.0 one.may) (one.answered ∙ ap (λ i. lock_answer s i e.call) own.0) (one.after ∙ ap (λ i. lock_change s i e.call) own.0) in
@@ -156,15 +156,15 @@ module _ (k : ℕ) (log log' : List LockEntry) (views : List LockView) (u : Lock
       (λ (same : m ≡ k). (before.0, before.1, before.2, λ j v less ne there. before.3 j v (below j m less (λ q. ne (q ∙ same))) ne there))
       (λ (ne : m ≢ k). one_saw m before.0 before.1 before.2 before.3 ne (get_elem? views m) refl)
 
-  mine_is : (seen rest : List LockEntry) (whole mine : List LockEntry) → seen ++ rest ≡ whole → entries_of lock_author k whole ≡ mine → AllBy lock_author k rest → counted is_lost rest ≡ 0 → counted is_lost mine ≡ counted is_lost (entries_of lock_author k seen)
+  mine_is : (seen rest : List LockEntry) (whole mine : List LockEntry) → seen ++ rest ≡ whole → entries_of lock_author k whole ≡ mine → AllBy lock_author k rest → count_replies is_lost rest ≡ 0 → count_replies is_lost mine ≡ count_replies is_lost (entries_of lock_author k seen)
   mine_is seen rest whole mine is fit own zeroes =
       let parts : mine ≡ entries_of lock_author k seen ++ rest = sym fit ∙ ap (entries_of lock_author k) (sym is) ∙ entries_of-append lock_author k seen rest ∙ ap (λ l. entries_of lock_author k seen ++ l) (own_all k rest own) in
-      let count = ap (counted is_lost) parts in
+      let count = ap (count_replies is_lost) parts in
       let sum = counted-append is_lost (entries_of lock_author k seen) rest in
       omega (arith, count, sum, zeroes)
 
   -- no take more is lost
-  pub none_lost : IsOurs k s → (v : LockView) → get_elem? views k ≡ some v → counted is_lost u.mine ≡ counted is_lost v.mine
+  pub none_lost : IsOurs k s → (v : LockView) → get_elem? views k ≡ some v → count_replies is_lost u.mine ≡ count_replies is_lost v.mine
   none_lost mine v at =
       let saw = others_saw (length views) in
       let all : (j : ℕ) (w : LockView) → j ≢ k → get_elem? views j ≡ some w → IsPrefix w.seen saw.0 = λ j w ne there. saw.3 j w (at_below views j w there) ne there in

@@ -13,7 +13,7 @@ use Rattle.evl_core.specs.declared.views.CorePart.{CorePart}
 use Rattle.evl_core.specs.declared.views.LockCall.TheVariants.{Take, Give}
 use Rattle.evl_core.specs.declared.views.LockReply.{LockReply}
 use Rattle.evl_core.specs.declared.views.LockReply.TheVariants.{Got, Lost, Done}
-use Rattle.evl_core.specs.lock.Lock.{IsLockWorld, KnowsLock, LockEntry, LockKept, LockState, LosesTo, LockStep, LockTie, LockView, LockWorld, busy, counted, give_entry, has_it, idle, is_got, is_lost, lock_author, lock_change, lock_answer, lock_entry, lock_machine, lock_of, lock_view, lock_word, new_lock}
+use Rattle.evl_core.specs.lock.Lock.{IsLockWorld, KnowsLock, LockEntry, LockKept, LockState, LosesTo, LockStep, LockTie, LockView, LockWorld, busy, count_replies, give_entry, has_it, idle, is_got, is_lost, lock_author, lock_change, lock_answer, lock_entry, lock_machine, lock_of, lock_view, lock_word, new_lock}
 use Rattle.evl_core.specs.rule.CoreRule.{after_give, after_loss, after_take, newcomer_part}
 
 idle_is : (s : LockState) → 0 ≡ lock_word s → s ≡ idle
@@ -31,11 +31,11 @@ holder_has (busy j) k e = (j, refl, e)
 same_number : (j k : ℕ) → eqb j k ≡ true → (i : ℕ) → i ≢ k → eqb j i ≡ false
 same_number j k same i ne = ne_eqb j i (λ e. true≢false (sym same ∙ ne_eqb j k (λ q. ne (sym e ∙ q))))
 
-pub counted-append : (f : LockReply → ℕ) (xs ys : List LockEntry) → counted f (xs ++ ys) ≡ counted f xs + counted f ys
+pub counted-append : (f : LockReply → ℕ) (xs ys : List LockEntry) → count_replies f (xs ++ ys) ≡ count_replies f xs + count_replies f ys
 counted-append f [] ys = omega arith
 counted-append f (x ∷ xs) ys = omega (arith, counted-append f xs ys)
 
-pub one_more : (f : LockReply → ℕ) (xs : List LockEntry) (e : LockEntry) → counted f (xs ++ e ∷ []) ≡ counted f xs + f e.reply
+pub one_more : (f : LockReply → ℕ) (xs : List LockEntry) (e : LockEntry) → count_replies f (xs ++ e ∷ []) ≡ count_replies f xs + f e.reply
 one_more f xs e = omega (arith, counted-append f xs (e ∷ []))
 
 module _ (w : LockWorld) (h : IsLockWorld w) (k : ℕ) (v : LockView) (at : get_elem? w.views k ≡ some v) where
@@ -119,8 +119,8 @@ module _ {B : Type 0} where
         lock_set log log n n cores k d kept
         (record {
           has = ap (λ (v : LockView). v.held) lock ∙ old.has ∙ sym (ap is_some taken);
-          found = ap length found ∙ old.found ∙ sym (ap (λ (v : LockView). counted is_got v.mine) lock);
-          lost = lost ∙ old.lost ∙ sym (ap (λ (v : LockView). counted is_lost v.mine) lock);
+          found = ap length found ∙ old.found ∙ sym (ap (λ (v : LockView). count_replies is_got v.mine) lock);
+          lost = lost ∙ old.lost ∙ sym (ap (λ (v : LockView). count_replies is_lost v.mine) lock);
         })
         (subst (λ (vs : List LockView). IsLockWorld (record { word = n; log = log; views = vs })) (sym (ap (set (map lock_of cores) k) lock ∙ set_again (map lock_of cores) k c.lock at_lock)) kept.world)
 

@@ -8,13 +8,13 @@ use Rattle.evl_base.specs.declared.mutex_kind.MutexKind.TheVariants.{Normal, Rec
 use Rattle.evl_base.specs.declared.entry.Entry.{Entry}
 use Rattle.evl_pipeline.proofs.PortLaws.{at-none}
 use Rattle.evl_mutex.specs.Queues.{is_nobody}
-use Rattle.evl_mutex.specs.Mutexes.{Mutex, ceiling_of, has_ceiling, opened as opened_mutex}
+use Rattle.evl_mutex.specs.Mutexes.{Mutex, ceiling_of, has_ceiling, opened_mutex as opened_mutex}
 use Rattle.evl_words.proofs.Sequences.{at_replicate}
 use Rattle.evl_kernel.specs.declared.waits.Wait.{Wait}
 use Rattle.evl_kernel.specs.state.States.{State}
 use Rattle.evl_kernel.specs.state.KernelViews.{KernelView}
 use Rattle.evl_kernel.specs.state.Openings.{opening}
-use Rattle.evl_kernel.specs.histories.Histories.{History, IsLegal, Run, opened}
+use Rattle.evl_kernel.specs.histories.Histories.{History, IsLegal, Run, opened_kernel}
 use Rattle.evl_kernel.specs.histories.MutexRests.{got_it}
 use Rattle.evl_kernel.specs.calls.MutexEffects.{record_at, has_got}
 use Rattle.evl_core.specs.declared.views.CorePart.{CorePart}
@@ -59,7 +59,7 @@ opens_tied h legal none_yet i m at = (
     state : h.state ≡ opening h.board h.bank
     state = by h.entries none_yet legal
       where
-        by : (es : List Entry) → es ≡ [] → Run (opened h) es h.plays h.state → h.state ≡ opened h
+        by : (es : List Entry) → es ≡ [] → Run (opened_kernel h) es h.plays h.state → h.state ≡ opened_kernel h
         by [] e run = run.1
         by (x ∷ xs) e run = absurd (cc)
 

@@ -7,10 +7,10 @@ use native.Mathlib.Decide.{ℕ_discrete}
 use Rattle.evl_base.specs.declared.reply.Reply.{Reply}
 use Rattle.evl_base.specs.Limits.{thread_limit}
 use Rattle.evl_mutex.specs.Mutexes as record_of
-use Rattle.evl_mutex.specs.Mutexes.{Mutex, has_ceiling, is_open_to, released, raised, handed_to}
+use Rattle.evl_mutex.specs.Mutexes.{Mutex, has_ceiling, is_open_to, released_mutex, raised_mutex, handed_to}
 use Rattle.evl_mutex.specs.declared.waiter.Waiter.{Waiter}
 use Rattle.evl_words.specs.Mutex as word
-use Rattle.evl_words.specs.Mutex.{unowned, seized, owned, offered, claimed}
+use Rattle.evl_words.specs.Mutex.{unowned, seized, owned, offered, claimed_word}
 use Rattle.evl_words.specs.MutexBits.{mutex_word, number_in, offers_to}
 use Rattle.evl_words.specs.MutexWorld.{NamesBelow}
 use Rattle.evl_words.proofs.MutexWords.{offers_to-word}
@@ -43,39 +43,39 @@ module _ (ceilings : ℕ → Bool) where
 
   -- a claim of a mutex that somebody has
   module _ (i : ℕ) (s : State) (x : word.Mutex) (k : ℕ) (small : NamesBelow thread_limit x) (here : k < thread_limit) (there : x ≢ unowned) (tied : AreTied ceilings s i (mutex_word x)) where
-    pub tied_refused : AreTied ceilings s i (mutex_word (claimed x k))
+    pub tied_refused : AreTied ceilings s i (mutex_word (claimed_word x k))
     tied_refused m at = ((tied m at).0, claim_refused x k small here there m (has_got s i) (tied m at).1)
 
-    pub tied_claimed : (o : ℕ) (new : State) → number_in (mutex_word x) ≡ o + 1 → ClaimLeaves s k i o new → AreTied ceilings new i (mutex_word (claimed x k))
+    pub tied_claimed : (o : ℕ) (new : State) → number_in (mutex_word x) ≡ o + 1 → ClaimLeaves s k i o new → AreTied ceilings new i (mutex_word (claimed_word x k))
     tied_claimed o new named leaves m at =
         let waiter : Waiter = record { thread = k; rank = rank_of s k } in
         let before = tied leaves.was leaves.changes.there in
-        let is : record_of.claimed leaves.was waiter o ≡ m = same_Some _ _ (sym leaves.changes.now ∙ at) in
+        let is : record_of.claimed_mutex leaves.was waiter o ≡ m = same_Some _ _ (sym leaves.changes.now ∙ at) in
         let now = claim_accepted x k small here there leaves.was (has_got s i) waiter o named before.1 in
-        subst (λ (q : Mutex). (has_ceiling q ≡ ceilings i) × IsTied q (has_got new i) (mutex_word (claimed x k))) is
+        subst (λ (q : Mutex). (has_ceiling q ≡ ceilings i) × IsTied q (has_got new i) (mutex_word (claimed_word x k))) is
         (before.0, record { owner = now.owner; offer = λ t. now.offer t ∙ sym (leaves.got i t) })
 
   -- a mutex that nobody had, raised
   pub tied_raised : (i : ℕ) (s new : State) (k : ℕ) → k < thread_limit → AreTied ceilings s i 0 → RaiseLeaves s i k new → AreTied ceilings new i (k + 1)
   tied_raised i s new k small tied leaves m at =
       let before = tied leaves.was leaves.changes.there in
-      let is : raised leaves.was k ≡ m = same_Some _ _ (sym leaves.changes.now ∙ at) in
+      let is : raised_mutex leaves.was k ≡ m = same_Some _ _ (sym leaves.changes.now ∙ at) in
       let now = raise_tied leaves.was (has_got s i) k small leaves.ceiling before.1 in
       subst (λ (q : Mutex). (has_ceiling q ≡ ceilings i) × IsTied q (has_got new i) (k + 1)) is
       (before.0, record { owner = now.owner; offer = λ t. now.offer t ∙ sym (leaves.got i t) })
 
   -- a mutex that its owner handed on, as the kernel told
   pub tied_released : (i : ℕ) (s new : State) (reply : Reply) (k : ℕ) (marked : Bool) → k < thread_limit → AreTied ceilings s i (mutex_word (owned k marked)) → (leaves : ReleaseLeaves s i reply new)
-      → ((next : ℕ) → (released leaves.was).next ≡ Some next → next < thread_limit) → AreTied ceilings new i (word_given (released leaves.was).next (released leaves.was).more)
+      → ((next : ℕ) → (released_mutex leaves.was).next ≡ Some next → next < thread_limit) → AreTied ceilings new i (word_given (released_mutex leaves.was).next (released_mutex leaves.was).more)
   tied_released i s new reply k marked small tied leaves low m at =
       let before = tied leaves.was leaves.changes.there in
-      let is : (released leaves.was).after ≡ m = same_Some _ _ (sym leaves.changes.now ∙ at) in
+      let is : (released_mutex leaves.was).after ≡ m = same_Some _ _ (sym leaves.changes.now ∙ at) in
       let now = release_tied leaves.was low in
       let nobody : (t : ℕ) → has_got s i t ≡ false = λ t. sym (before.1.offer t) ∙ offers_to-word (owned k marked) t small in
-      subst (λ (q : Mutex). (has_ceiling q ≡ ceilings i) × IsTied q (has_got new i) (word_given (released leaves.was).next (released leaves.was).more)) is
-      (same_kind leaves.was ∙ before.0, record { owner = now.owner; offer = λ t. now.offer t ∙ sym (leaves.got t ∙ ap (λ b. option_map_or (λ next. next == t) (released leaves.was).next false || b) (nobody t) ∙ given (released leaves.was).next t) })
+      subst (λ (q : Mutex). (has_ceiling q ≡ ceilings i) × IsTied q (has_got new i) (word_given (released_mutex leaves.was).next (released_mutex leaves.was).more)) is
+      (same_kind leaves.was ∙ before.0, record { owner = now.owner; offer = λ t. now.offer t ∙ sym (leaves.got t ∙ ap (λ b. option_map_or (λ next. next == t) (released_mutex leaves.was).next false || b) (nobody t) ∙ given (released_mutex leaves.was).next t) })
     where
-      same_kind : (q : Mutex) → has_ceiling (released q).after ≡ has_ceiling q
+      same_kind : (q : Mutex) → has_ceiling (released_mutex q).after ≡ has_ceiling q
       same_kind q = by q.waiters
         where
           by : (ws : List Waiter) → has_ceiling (handed_to q ws).after ≡ has_ceiling q

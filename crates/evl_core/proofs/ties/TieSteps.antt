@@ -8,11 +8,11 @@ use native.Mathlib.Decide.{ℕ_discrete}
 use prog.Atomic.{either}
 use Rattle.evl_base.specs.Limits.{thread_limit}
 use Rattle.evl_mutex.specs.declared.waiter.Waiter.{Waiter}
-use Rattle.evl_mutex.specs.Queues.{enqueued, is_nobody}
+use Rattle.evl_mutex.specs.Queues.{enqueued_by_rank, is_nobody}
 use Rattle.evl_mutex.specs.Mutexes as record_of
-use Rattle.evl_mutex.specs.Mutexes.{Mutex, has_ceiling, is_open_to, handed_to, released, raised, left_with, drop_waiter}
+use Rattle.evl_mutex.specs.Mutexes.{Mutex, has_ceiling, is_open_to, handed_to, released_mutex, raised_mutex as raised, left_with, drop_waiter}
 use Rattle.evl_words.specs.Mutex as word
-use Rattle.evl_words.specs.Mutex.{unowned, seized, owned, offered, is_offered, is_marked, claimed}
+use Rattle.evl_words.specs.Mutex.{unowned, seized, owned, offered, is_offered, is_marked, claimed_word}
 use Rattle.evl_words.specs.MutexBits.{mutex_word, offer_word, number_in, offers_to}
 use Rattle.evl_words.specs.MutexWorld.{NamesBelow}
 use Rattle.evl_words.proofs.MutexWords.{number_in-owned, offers_to-word}
@@ -107,13 +107,13 @@ not_seized m h tie = tie.peopled refl refl
 
 -- A claim: the word is marked, whether or not the kernel accepts the wait
 module _ (x : word.Mutex) (k : ℕ) (small : NamesBelow thread_limit x) (here : k < thread_limit) (there : x ≢ unowned) where
-  marked_is : is_claimed (mutex_word (claimed x k)) ≡ true
-  marked_is = claimed-word (claimed x k) (names-claimed thread_limit x k here small) ∙ marked-claimed x k
+  marked_is : is_claimed (mutex_word (claimed_word x k)) ≡ true
+  marked_is = claimed-word (claimed_word x k) (names-claimed thread_limit x k here small) ∙ marked-claimed x k
 
-  offers_same : (t : ℕ) → offers_to (mutex_word (claimed x k)) t ≡ offers_to (mutex_word x) t
-  offers_same t = offers_to-word (claimed x k) t (names-claimed thread_limit x k here small) ∙ offered-claimed x k t ∙ sym (offers_to-word x t small)
+  offers_same : (t : ℕ) → offers_to (mutex_word (claimed_word x k)) t ≡ offers_to (mutex_word x) t
+  offers_same t = offers_to-word (claimed_word x k) t (names-claimed thread_limit x k here small) ∙ offered-claimed x k t ∙ sym (offers_to-word x t small)
 
-  owner_refused : (m : Mutex) → OwnerTie m (mutex_word x) → OwnerTie m (mutex_word (claimed x k))
+  owner_refused : (m : Mutex) → OwnerTie m (mutex_word x) → OwnerTie m (mutex_word (claimed_word x k))
   owner_refused m tie = record {
     named = λ o e. number-claimed x k small there ∙ tie.named o e;
     marked = λ e. marked_is;
@@ -122,19 +122,19 @@ module _ (x : word.Mutex) (k : ℕ) (small : NamesBelow thread_limit x) (here : 
     peopled = λ e z. peopled_word x small there tie.peopled (sym (number-claimed x k small there) ∙ z);
   }
 
-  pub claim_refused : (m : Mutex) (got : ℕ → Bool) → IsTied m got (mutex_word x) → IsTied m got (mutex_word (claimed x k))
+  pub claim_refused : (m : Mutex) (got : ℕ → Bool) → IsTied m got (mutex_word x) → IsTied m got (mutex_word (claimed_word x k))
   claim_refused m got tie = record { owner = owner_refused m tie.owner; offer = λ t. offers_same t ∙ tie.offer t }
 
-  somebody : (w : Waiter) (ws : List Waiter) → is_nobody (enqueued w ws) ≡ false
+  somebody : (w : Waiter) (ws : List Waiter) → is_nobody (enqueued_by_rank w ws) ≡ false
   somebody w [] = refl
   somebody w (v ∷ vs) = by (Rattle.std.specs.Prelude.nat_lt v.rank w.rank)
     where
-      by : (b : Bool) → is_nobody (if b then w ∷ v ∷ vs else v ∷ enqueued w vs) ≡ false
+      by : (b : Bool) → is_nobody (if b then w ∷ v ∷ vs else v ∷ enqueued_by_rank w vs) ≡ false
       by true = refl
       by false = refl
 
   -- accepted for the owner that the word names
-  pub claim_accepted : (m : Mutex) (got : ℕ → Bool) (w : Waiter) (o : ℕ) → number_in (mutex_word x) ≡ o + 1 → IsTied m got (mutex_word x) → IsTied (record_of.claimed m w o) got (mutex_word (claimed x k))
+  pub claim_accepted : (m : Mutex) (got : ℕ → Bool) (w : Waiter) (o : ℕ) → number_in (mutex_word x) ≡ o + 1 → IsTied m got (mutex_word x) → IsTied (record_of.claimed_mutex m w o) got (mutex_word (claimed_word x k))
   claim_accepted m got w o named tie = record {
     owner = record {
       named = λ p e. let same : o ≡ p = cc in number-claimed x k small there ∙ named ∙ ap (λ q. q + 1) same;
@@ -184,7 +184,7 @@ abbrev pub got_given : Option ℕ → ℕ → Bool
 got_given None t = false
 got_given (Some next) t = next == t
 
-pub release_tied : (m : Mutex) → ((next : ℕ) → (released m).next ≡ Some next → next < thread_limit) → IsTied (released m).after (got_given (released m).next) (word_given (released m).next (released m).more)
+pub release_tied : (m : Mutex) → ((next : ℕ) → (released_mutex m).next ≡ Some next → next < thread_limit) → IsTied (released_mutex m).after (got_given (released_mutex m).next) (word_given (released_mutex m).next (released_mutex m).more)
 release_tied m low = by m.waiters low
   where
     by : (ws : List Waiter) → ((next : ℕ) → (handed_to m ws).next ≡ Some next → next < thread_limit) → IsTied (handed_to m ws).after (got_given (handed_to m ws).next) (word_given (handed_to m ws).next (handed_to m ws).more)

@@ -13,14 +13,14 @@ use Rattle.evl_base.specs.declared.refusal.Refusal.{Refusal}
 use Rattle.evl_base.specs.declared.reply.Reply.{Reply}
 use Rattle.evl_base.specs.declared.reply.Reply.TheVariants.{Handed}
 use Rattle.evl_base.specs.Limits.{thread_limit}
-use Rattle.evl_mutex.specs.Mutexes.{Mutex, Handing, released}
+use Rattle.evl_mutex.specs.Mutexes.{Mutex, Handing, released_mutex}
 use Rattle.evl_words.specs.Mutex as word
-use Rattle.evl_words.specs.Mutex.{unowned, owned, offered, claimed}
+use Rattle.evl_words.specs.Mutex.{unowned, owned, offered, claimed_word}
 use Rattle.evl_words.specs.MutexBits.{mutex_word, offer_word, number_in}
 use Rattle.evl_words.specs.MutexWorld.{NamesBelow}
 use Rattle.evl_kernel.specs.state.States.{State}
 use Rattle.evl_kernel.specs.calls.Families.{task_of}
-use Rattle.evl_kernel.specs.calls.Mutexes.{handed_told, named}
+use Rattle.evl_kernel.specs.calls.Mutexes.{handed_told, thread_named}
 use Rattle.evl_kernel.specs.histories.Histories.{History, IsLegal, Step, Follows}
 use Rattle.evl_kernel.specs.calls.Serving.{answer}
 use Rattle.evl_kernel.specs.calls.Effects.{Effect}
@@ -89,11 +89,11 @@ module _ (ceilings : ℕ → Bool) where
     -- a claim that the kernel accepted, of a word that named its owner
     pub claim_stays : (id : MutexId) (owner : ThreadId) (until : Option ℕ) (reply : Reply) → Step before.state k (Claim id owner until) (Ok reply) plays after
         → (x : word.Mutex) → NamesBelow thread_limit x → k < thread_limit → x ≢ unowned → number_in (mutex_word x) ≡ owner.0 + 1 → AreTied ceilings before.state id.0 (mutex_word x)
-        → AreTied ceilings after id.0 (mutex_word (claimed x k)) × OthersStay id.0 before.state after
+        → AreTied ceilings after id.0 (mutex_word (claimed_word x k)) × OthersStay id.0 before.state after
     claim_stays id owner until reply step x small here there name tied =
         let s = after_settling (Claim id owner until) reply step in
         let c = (mutex_calls before legal fits k).claim id owner until reply s.0 s.1 in (
-          s.2 id.0 (mutex_word (claimed x k)) (tied_claimed ceilings id.0 before.state x k small here there tied owner.0 s.0 name c),
+          s.2 id.0 (mutex_word (claimed_word x k)) (tied_claimed ceilings id.0 before.state x k small here there tied owner.0 s.0 name c),
           λ j word ne t. s.2 j word (beside id.0 c.was _ s.0 c.changes (λ j t ne. c.got j t) j word ne t),
         )
 
@@ -113,7 +113,7 @@ module _ (ceilings : ℕ → Bool) where
     release_stays id next more step marked here low tied =
         let s = after_settling (Release id) (Handed next more) step in
         let c = (mutex_calls before legal fits k).release id (Handed next more) s.0 s.1 in
-        let h = released c.was in
+        let h = released_mutex c.was in
         let next_is : option_map (λ n. n.0) next ≡ h.next = same_next next more h c.told in
         let more_is : more ≡ h.more = same_more next more h c.told in
         let below : (n : ℕ) → h.next ≡ Some n → n < thread_limit = λ n e. from_told next h.next next_is n e low in (
@@ -122,7 +122,7 @@ module _ (ceilings : ℕ → Bool) where
           λ j word ne t. s.2 j word (beside id.0 c.was _ s.0 c.changes c.elsewhere j word ne t),
         )
       where
-        parts : (o : Option ℕ) → option_map (λ (n : ThreadId). n.0) (option_map named o) ≡ o
+        parts : (o : Option ℕ) → option_map (λ (n : ThreadId). n.0) (option_map thread_named o) ≡ o
         parts None = refl
         parts (Some n) = refl
 

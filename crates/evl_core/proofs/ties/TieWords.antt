@@ -2,7 +2,7 @@
 use Rattle.std.proofs.Common.{◌≡◌, ◌≢◌, ℕ, ◌+◌, ◌/◌, ◌%◌, ◌<◌, eqb, Bool, true, false, refl, sym, ap, ◌∙◌, arith}
 use Rattle.evl_base.specs.Limits.{thread_limit}
 use Rattle.evl_words.specs.Mutex as word
-use Rattle.evl_words.specs.Mutex.{unowned, seized, owned, offered, is_offered, is_marked, claimed}
+use Rattle.evl_words.specs.Mutex.{unowned, seized, owned, offered, is_offered, is_marked, claimed_word}
 use Rattle.evl_words.specs.MutexBits.{mutex_word, offer_word, number_in, offers_to}
 use Rattle.evl_words.specs.MutexWorld.{NamesBelow}
 use Rattle.evl_words.proofs.MutexWords.{number_in-owned}
@@ -35,25 +35,25 @@ pub number_small : (k : ℕ) → k < thread_limit → number_in (k + 1) ≡ k + 
 number_small k small = omega arith
 
 -- a claim leaves the number and the offer, and sets the mark
-pub number-claimed : (m : word.Mutex) (k : ℕ) → NamesBelow thread_limit m → m ≢ unowned → number_in (mutex_word (claimed m k)) ≡ number_in (mutex_word m)
+pub number-claimed : (m : word.Mutex) (k : ℕ) → NamesBelow thread_limit m → m ≢ unowned → number_in (mutex_word (claimed_word m k)) ≡ number_in (mutex_word m)
 number-claimed unowned k small ne = absurd (ne refl)
 number-claimed (seized h) k small ne = refl
 number-claimed (owned h marked) k small ne = number_in-owned h true small ∙ sym (number_in-owned h marked small)
 number-claimed (offered h marked) k small ne = number_in-offer h true small ∙ sym (number_in-offer h marked small)
 
-pub marked-claimed : (m : word.Mutex) (k : ℕ) → is_marked (claimed m k) ≡ true
+pub marked-claimed : (m : word.Mutex) (k : ℕ) → is_marked (claimed_word m k) ≡ true
 marked-claimed unowned k = refl
 marked-claimed (seized h) k = refl
 marked-claimed (owned h marked) k = refl
 marked-claimed (offered h marked) k = refl
 
-pub offered-claimed : (m : word.Mutex) (k t : ℕ) → is_offered (claimed m k) t ≡ is_offered m t
+pub offered-claimed : (m : word.Mutex) (k t : ℕ) → is_offered (claimed_word m k) t ≡ is_offered m t
 offered-claimed unowned k t = refl
 offered-claimed (seized h) k t = refl
 offered-claimed (owned h marked) k t = refl
 offered-claimed (offered h marked) k t = refl
 
-pub names-claimed : (n : ℕ) (m : word.Mutex) (k : ℕ) → k < n → NamesBelow n m → NamesBelow n (claimed m k)
+pub names-claimed : (n : ℕ) (m : word.Mutex) (k : ℕ) → k < n → NamesBelow n m → NamesBelow n (claimed_word m k)
 names-claimed n unowned k here below = here
 names-claimed n (seized h) k here below = below
 names-claimed n (owned h marked) k here below = below

@@ -90,9 +90,9 @@ is_lost Got = 0
 is_lost Lost = 1
 is_lost Done = 0
 
-abbrev pub counted : (LockReply → ℕ) → List LockEntry → ℕ
-counted f [] = 0
-counted f (e ∷ es) = f e.reply + counted f es
+abbrev pub count_replies : (LockReply → ℕ) → List LockEntry → ℕ
+count_replies f [] = 0
+count_replies f (e ∷ es) = f e.reply + count_replies f es
 
 -- the view of a thread that has made no step on the lock, and that of one after a step on a lock with this history
 abbrev pub new_lock : LockView
@@ -114,8 +114,8 @@ lock_of c = c.lock
 -- what a thread knows of the lock: whether it has the kernel, how often it got it, and how often it found it taken
 pub record KnowsLock {B : Type 0} (c : CorePart B) : Type 0 where
   pub has : c.lock.held ≡ is_some c.taken
-  pub found : length c.found ≡ counted is_got c.lock.mine
-  pub lost : c.lost ≡ counted is_lost c.lock.mine
+  pub found : length c.found ≡ count_replies is_got c.lock.mine
+  pub lost : c.lost ≡ count_replies is_lost c.lock.mine
 
 -- The lock has this history, which all threads fit and whose last state its word shows
 pub record LockKept {B : Type 0} (log : List LockEntry) (word : ℕ) (cores : List (CorePart B)) : Type 0 where

@@ -15,7 +15,7 @@ use Rattle.evl_base.specs.declared.reply.Reply.TheVariants.{Begun, Handed}
 use Rattle.evl_sched.specs.declared.seat.Seat.{Seat}
 use Rattle.evl_sched.specs.Threads.{is_attached}
 use Rattle.evl_mutex.specs.declared.waiter.Waiter.{Waiter}
-use Rattle.evl_mutex.specs.Mutexes.{Mutex, handed_to, is_open_to, is_owned_by, released}
+use Rattle.evl_mutex.specs.Mutexes.{Mutex, handed_to, is_open_to, is_owned_by, released_mutex}
 use Rattle.evl_mutex.specs.Queues.{stands_in}
 use Rattle.evl_kernel.specs.declared.waits.Wait.{Wait}
 use Rattle.evl_kernel.specs.declared.waits.Wanted.TheVariants as wanted
@@ -64,7 +64,7 @@ claim_begins s s' t m owner until reply plays step =
 record IsHandedBy (s : State) (n : ℕ) (reply : Reply) : Type 0 where
   mutex : Mutex
   there : slice_get s.elements.mutexes n ≡ Some mutex
-  told : reply ≡ handed_told (released mutex)
+  told : reply ≡ handed_told (released_mutex mutex)
 
 handed_by : (s s' : State) (t : ℕ) (m : MutexId) (reply : Reply) (plays : List Play) → Step s t (Release m) (Ok reply) plays s' → IsHandedBy s m.0 reply
 handed_by s s' t m reply plays step =
@@ -74,12 +74,12 @@ handed_by s s' t m reply plays step =
     P : Reply → Type 0
     P = IsHandedBy s m.0
 
-    by : (x : Mutex) → slice_get s.elements.mutexes m.0 ≡ Some x → (b : Bool) → Says {X = Mutex} P (if b then Ok (handed_told (released x), (released x).after) else Err NotOwner)
+    by : (x : Mutex) → slice_get s.elements.mutexes m.0 ≡ Some x → (b : Bool) → Says {X = Mutex} P (if b then Ok (handed_told (released_mutex x), (released_mutex x).after) else Err NotOwner)
     by x there true = record { mutex = x; there = there; told = refl }
     by x there false = tt
 
 -- who is handed a mutex, waited for it
-waited : (m : Mutex) (next : ThreadId) (more : Bool) → Handed (Some next) more ≡ handed_told (released m) → stands_in next.0 m.waiters ≡ true
+waited : (m : Mutex) (next : ThreadId) (more : Bool) → Handed (Some next) more ≡ handed_told (released_mutex m) → stands_in next.0 m.waiters ≡ true
 waited m next more told = by m.waiters told
   where
     by : (ws : List Waiter) → Handed (Some next) more ≡ handed_told (handed_to m ws) → stands_in next.0 ws ≡ true

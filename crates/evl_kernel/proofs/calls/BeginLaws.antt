@@ -13,7 +13,7 @@ use Rattle.evl_kernel.specs.declared.waits.Wanted.{Wanted}
 use Rattle.evl_kernel.specs.declared.waits.Wanted.TheVariants as wanted
 use Rattle.evl_kernel.specs.state.States.{State}
 use Rattle.evl_kernel.specs.calls.Elements.{elements}
-use Rattle.evl_kernel.specs.waiting.Beginnings.{allowed_if, awaited, begin_refusal, form_refusal, is_named, is_open, is_there, may_name, range_refusal, ring_refusal, size_refusal, stage_wanted, waiter_refusal, would_ring}
+use Rattle.evl_kernel.specs.waiting.Beginnings.{allowed_if, awaited_by, begin_refusal, form_refusal, is_named, is_open, is_there, may_name, range_refusal, ring_refusal, size_refusal, stage_wanted, waiter_refusal, would_ring}
 use Rattle.evl_kernel.proofs.calls.QueueLaws.{IsFree}
 
 pub passes : (a b : Option Refusal) → refused_first a b ≡ None → (a ≡ None) × (b ≡ None)
@@ -62,7 +62,7 @@ named_by s thread wants none =
 past_waiter : (s : State) (thread : ℕ) (wants : Wanted) → begin_refusal s thread wants ≡ None
     → (waiter_refusal s thread wants ≡ None) × (refused_first (size_refusal (elements s) wants) (ring_refusal s thread wants) ≡ None)
 past_waiter s thread wants none =
-    let rest = (passes (if is_there (elements s) (awaited wants) && is_named s wants then None else Some Unknown)
+    let rest = (passes (if is_there (elements s) (awaited_by wants) && is_named s wants then None else Some Unknown)
     (refused_first (range_refusal wants) (refused_first (waiter_refusal s thread wants) (refused_first (size_refusal (elements s) wants) (ring_refusal s thread wants)))) none).1 in
     let of_thread = (passes (range_refusal wants) (refused_first (waiter_refusal s thread wants) (refused_first (size_refusal (elements s) wants) (ring_refusal s thread wants))) rest).1 in
     passes (waiter_refusal s thread wants) (refused_first (size_refusal (elements s) wants) (ring_refusal s thread wants)) of_thread

@@ -10,12 +10,12 @@ use Rattle.evl_clock.specs.Timers.{is_timer_allowed}
 use Rattle.evl_clock.specs.Clocks as clocks
 use Rattle.evl_clock.specs.ClockSteps.{fired}
 use Rattle.evl_clock.specs.Dues.{next_due, is_due}
-use Rattle.evl_kernel.specs.state.States.{State, Banked, with_clock, moved, come_home}
+use Rattle.evl_kernel.specs.state.States.{State, Banked, with_clock, with_banked, come_home}
 use Rattle.evl_kernel.specs.calls.Effects.{Effect, unless}
 use Rattle.evl_kernel.specs.calls.TimerCalls as timer_call
 use Rattle.evl_kernel.specs.calls.ThreadCalls as thread_call
 use Rattle.evl_kernel.specs.calls.Families.{ClockStep, tick, read_date, new_timer, start_timer, stop_timer, drop_timer, overruns, clock_effect}
-use Rattle.evl_kernel.specs.settling.Settling.{answered, deadline_left, timer_given, timer_played, no_timer, item_played}
+use Rattle.evl_kernel.specs.settling.Settling.{after_answer, deadline_left, timer_given, timer_played, no_timer, item_played}
 use Rattle.evl_kernel.proofs.calls.LeavesLaws.{Leaves, leaves-refused, leaves-known}
 use Rattle.evl_kernel.proofs.settling.DueLaws.{timer_found}
 
@@ -25,7 +25,7 @@ pub record KeptByClock (P : State → Type 0) : Type 0 where
   pub charged : (s : State) (before delta now : ℕ) → P s → P (thread_call.paid_between s before delta now)
   pub advanced : (s : State) (delta : ℕ) → P s → P (with_clock s (clocks.advanced s.clock delta))
   pub made : (s : State) (n number tag : ℕ) (b : Banked) → P s → slice_get s.bank number ≡ Some b → b.home ≡ true → is_timer_allowed b.handler.kinds ≡ true → clocks.free_place s.clock ≡ Some n
-      → P (moved (with_clock s (clocks.with_new_timer s.clock n number tag)) false number b)
+      → P (with_banked (with_clock s (clocks.with_new_timer s.clock n number tag)) false number b)
   pub started : (s : State) (n date interval : ℕ) → P s → P (with_clock s (clocks.start s.clock n date interval))
   pub stopped : (s : State) (n : ℕ) → P s → P (with_clock s (clocks.stop s.clock n))
   pub dropped : (s : State) (n : ℕ) (t : Timer ℕ) → P s → clocks.timer_at s.clock n ≡ Some t → P (come_home (with_clock s (clocks.dropped s.clock n)) t.callback)
@@ -38,7 +38,7 @@ module _ (P : State → Type 0) (k : KeptByClock P) where
       by true = k.posted s h
       by false = h
 
-  started : (s : State) (n date interval : ℕ) → P s → P (timer_call.started s n date interval)
+  started : (s : State) (n date interval : ℕ) → P s → P (timer_call.start_timer s n date interval)
   started s n date interval h = by (nat_le date s.clock.now)
     where
       after : State
@@ -58,7 +58,7 @@ module _ (P : State → Type 0) (k : KeptByClock P) where
   unrefused false false e h = h refl refl
 
   placed : (s : State) (number tag : ℕ) (b : Banked) → P s → slice_get s.bank number ≡ Some b → b.home ≡ true → is_timer_allowed b.handler.kinds ≡ true
-      → (o : Option ℕ) → clocks.free_place s.clock ≡ o → Leaves P (timer_call.placed s number tag b o)
+      → (o : Option ℕ) → clocks.free_place s.clock ≡ o → Leaves P (timer_call.place_timer s number tag b o)
   placed s number tag b h here home allowed None is = tt
   placed s number tag b h here home allowed (Some n) is = k.made s n number tag b h here home allowed is
 
@@ -67,7 +67,7 @@ module _ (P : State → Type 0) (k : KeptByClock P) where
 
   pub leaves-clock : (s : State) (step : ClockStep) → P s → Leaves P (clock_effect s step)
   leaves-clock s (tick delta) h = leaves-refused P (clocks.advance_refusal s.clock delta) _ (λ passed.
-      alarmed (timer_call.later (timer_call.paid s delta) delta) (k.advanced (timer_call.paid s delta) delta (k.charged s s.clock.now delta (clocks.advanced s.clock delta).now h)))
+      alarmed (timer_call.at_date (timer_call.paid s delta) delta) (k.advanced (timer_call.paid s delta) delta (k.charged s s.clock.now delta (clocks.advanced s.clock delta).now h)))
   leaves-clock s read_date h = h
   leaves-clock s (new_timer number tag) h = leaves-known P (slice_get s.bank number) _ (λ b here.
       unrefused (not (is_timer_allowed b.handler.kinds)) (not b.home) _ (λ allowed home. placed s number tag b h here (is_true b.home home) (is_true (is_timer_allowed b.handler.kinds) allowed) (clocks.free_place s.clock) refl))
@@ -79,7 +79,7 @@ module _ (P : State → Type 0) (k : KeptByClock P) where
   -- a due item
   pub leaves-item : ((s : State) (n : ℕ) (t : Timer ℕ) → P s → clocks.timer_at s.clock n ≡ Some t → P (with_clock s (fired s.clock n t)))
       → ((s : State) (thread : ℕ) → P s → P (deadline_left s thread).1)
-      → ((s : State) (line : ℕ) (answer : Answer) → P s → P (answered s line answer))
+      → ((s : State) (line : ℕ) (answer : Answer) → P s → P (after_answer s line answer))
       → (s : State) (found : Item) → P s → next_due s.clock ≡ Some found → P (item_played s found).1
   leaves-item fires gone answers s (item.Deadline thread) h due = gone s thread.0 h
   leaves-item fires gone answers s (item.Timer id) h due =

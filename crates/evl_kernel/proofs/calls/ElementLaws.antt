@@ -15,14 +15,14 @@ use Rattle.evl_pipeline.specs.declared.action.Action.{Action}
 use Rattle.evl_pipeline.specs.declared.action.Action.TheVariants.{PostSem, PostFlags, Propagate, PostOob, StopTimer}
 use Rattle.evl_pipeline.specs.declared.answer.Answer.{Answer}
 use Rattle.evl_pipeline.specs.Lines as lines
-use Rattle.evl_kernel.specs.settling.Paths.{Along, walked}
-use Rattle.evl_kernel.specs.state.States.{Elements, State, Banked, with_lines, with_clock, moved, come_home}
+use Rattle.evl_kernel.specs.settling.Paths.{Along, walk_path}
+use Rattle.evl_kernel.specs.state.States.{Elements, State, Banked, with_lines, with_clock, with_banked, come_home}
 use Rattle.evl_kernel.specs.calls.Effects.{Answered, Effect, Made, Runs, leaving, unless, known, refused_by, if_done, reply_in, lifted}
 use Rattle.evl_kernel.specs.calls.FlagGroups as group
 use Rattle.evl_kernel.specs.calls.Mutexes as mutex
 use Rattle.evl_kernel.specs.calls.Elements.{ElementStep, on_sem, on_flags, Touch, Told, elements, with_elements, element, wakes, serves, stepping_to, touch, touched, no_touch_if, told_unless, part, its_sem, its_flags, its_xbuf, on_mutex, its_mutex}
-use Rattle.evl_kernel.specs.waiting.Waits.{wait_at, with_wait, is_past, suspended, begun, woken, all_woken}
-use Rattle.evl_kernel.specs.waiting.Beginnings.{awaited, begin_refusal, begin_step, beginning}
+use Rattle.evl_kernel.specs.waiting.Waits.{wait_at, with_wait, is_past, suspended, wait_begun, woken, all_woken}
+use Rattle.evl_kernel.specs.waiting.Beginnings.{awaited_by, begin_refusal, begin_step, beginning}
 use Rattle.evl_kernel.specs.waiting.Endings as ending
 use Rattle.evl_kernel.specs.waiting.Endings.{drop_step, finish, goes_inband, inband_if}
 use Rattle.evl_kernel.specs.declared.waits.Awaited.{Awaited}
@@ -41,10 +41,10 @@ use Rattle.evl_clock.specs.declared.due.Item.TheVariants as item
 use Rattle.evl_sched.specs.Threads.{stage_of}
 use Rattle.evl_kernel.specs.calls.Families.{LineStep, request, free, arrive, post, stall, unstall, line_effect, ClockStep, tick, read_date, new_timer, start_timer, stop_timer, drop_timer, overruns, clock_effect, ThreadStep, attach, detach, set_policy, set_stage, pick, tell_rank, thread_effect, Task, on_lines, on_clock, on_threads, on_element, on_staged, begins, ends, performing, task_of, raises}
 use Rattle.evl_kernel.specs.calls.Serving.{serving, general_refusal, what_call_does, answer}
-use Rattle.evl_kernel.specs.settling.Settling.{Settling, Move, deadline_left, next_play, next_move, moving, acting, acted, all_acting, all_acted, responding, given, timer_given, timer_there, item_played, item_touches, line_left, play_touches, played, line_played, clock_played, is_clock, after_call, nothing}
-use Rattle.evl_kernel.specs.histories.Histories.{Run, Follows, opened}
+use Rattle.evl_kernel.specs.settling.Settling.{Settling, Move, deadline_left, next_play, next_move, moving, acting, after_action, all_acting, all_acted, responding, answer_given, timer_given, timer_there, item_played, item_touches, line_left, play_touches, line_played, line_played, clock_played, is_clock, after_call, nothing}
+use Rattle.evl_kernel.specs.histories.Histories.{Run, Follows, opened_kernel}
 use Rattle.evl_kernel.specs.state.Openings.{opening}
-use Rattle.evl_kernel.specs.histories.Replays.{plays_in, touches_in, settled, outcome_of, replayed, outcomes, touches_of, led_to, touches}
+use Rattle.evl_kernel.specs.histories.Replays.{plays_in, touches_in, settled_moves, outcome_of, replayed, outcomes, touches_of, led_to, touches}
 use Rattle.evl_kernel.proofs.settling.DueLaws.{one_played, moves_item, moves_line}
 use Rattle.evl_kernel.specs.histories.Parts.{HistoriesAreReplayed, ElementsRunByThemselves, CallsAreAnsweredByElements, PartGrows, PartsGrow}
 use Rattle.evl_kernel.specs.calls.ThreadCalls.{detach_refusal}
@@ -83,11 +83,11 @@ beside-known : {A : Type 0} (s : State) (o : Option A) (f : A → Effect) → ((
 beside-known s None f h = refl
 beside-known s (Some x) f h = h x
 
-beside-returned : (s : State) (o : Option (lines.Installed ℕ)) → elements (line_call.returned s o) ≡ elements s
+beside-returned : (s : State) (o : Option (lines.Installed ℕ)) → elements (line_call.with_callback_back s o) ≡ elements s
 beside-returned s None = refl
 beside-returned s (Some at) = by (slice_get s.bank at.callback)
   where
-    by : (o : Option Banked) → elements (option_map_or (moved s true at.callback) o s) ≡ elements s
+    by : (o : Option Banked) → elements (option_map_or (with_banked s true at.callback) o s) ≡ elements s
     by None = refl
     by (Some b) = refl
 
@@ -96,7 +96,7 @@ woken_same : (s : State) (served : List (ℕ × Reply)) → elements (all_woken 
 woken_same s [] = refl
 woken_same s ((thread, outcome) ∷ others) = woken_same (woken s thread outcome) others
 
-begun_same : (s : State) (thread : ℕ) (on : Awaited) (until : Option ℕ) (served : Option Reply) → elements (begun s thread on until served) ≡ elements s
+begun_same : (s : State) (thread : ℕ) (on : Awaited) (until : Option ℕ) (served : Option Reply) → elements (wait_begun s thread on until served) ≡ elements s
 begun_same s thread on until None = by (is_past s.clock.now until)
   where
     by : (b : Bool) → elements (timer_call.posted_if b (suspended s thread on until)) ≡ elements s
@@ -123,7 +123,7 @@ beginning_tells : (s : State) (thread : ℕ) (wants : Wanted) (until : Option �
 beginning_tells s thread wants until =
     let step = begin_step s thread wants in
     let served = serves (elements s) step in
-    told_unless_tells s (begin_refusal s thread wants) _ (stepping_tells (λ x. begun x thread (awaited wants) until served) (λ x. begun_same x thread (awaited wants) until served) s (Some thread) step)
+    told_unless_tells s (begin_refusal s thread wants) _ (stepping_tells (λ x. wait_begun x thread (awaited_by wants) until served) (λ x. begun_same x thread (awaited_by wants) until served) s (Some thread) step)
 
 finish_beside : (s : State) (thread : ℕ) (keep : Bool) → Beside s (finish s thread keep)
 finish_beside s thread keep = by (ending.outcome_of (wait_at s thread))
@@ -166,7 +166,7 @@ beside-alarmed s = by (is_due s.clock)
     by true = refl
     by false = refl
 
-beside-started : (s : State) (n date interval : ℕ) → elements (timer_call.started s n date interval) ≡ elements s
+beside-started : (s : State) (n date interval : ℕ) → elements (timer_call.start_timer s n date interval) ≡ elements s
 beside-started s n date interval = by (nat_le date s.clock.now)
   where
     after : State
@@ -179,16 +179,16 @@ beside-started s n date interval = by (nat_le date s.clock.now)
 beside-home : (s : State) (number : ℕ) → elements (come_home s number) ≡ elements s
 beside-home s number = by (slice_get s.bank number)
   where
-    by : (o : Option Banked) → elements (option_map_or (moved s true number) o s) ≡ elements s
+    by : (o : Option Banked) → elements (option_map_or (with_banked s true number) o s) ≡ elements s
     by None = refl
     by (Some b) = refl
 
-beside-placed : (s : State) (number tag : ℕ) (b : Banked) (place : Option ℕ) → Beside s (timer_call.placed s number tag b place)
+beside-placed : (s : State) (number tag : ℕ) (b : Banked) (place : Option ℕ) → Beside s (timer_call.place_timer s number tag b place)
 beside-placed s number tag b None = refl
 beside-placed s number tag b (Some n) = refl
 
 clock_beside : (s : State) (step : ClockStep) → Beside s (clock_effect s step)
-clock_beside s (tick delta) = beside-refused s (clocks.advance_refusal s.clock delta) _ (beside-alarmed (timer_call.later (timer_call.paid s delta) delta))
+clock_beside s (tick delta) = beside-refused s (clocks.advance_refusal s.clock delta) _ (beside-alarmed (timer_call.at_date (timer_call.paid s delta) delta))
 clock_beside s read_date = refl
 clock_beside s (new_timer number tag) = beside-known s (slice_get s.bank number) _ (λ b.
     beside-both s (not (is_timer_allowed b.handler.kinds)) (not b.home) _ (beside-placed s number tag b (clocks.free_place s.clock)))
@@ -218,7 +218,7 @@ task_tells s caller (ends keep) = finish_beside s caller keep
 answering_tells : (s : State) (caller : ℕ) (asked : Call) → Tells s (what_call_does s caller asked).touches (if_done s (answer s caller asked))
 answering_tells s caller asked = told_unless_tells s (general_refusal s caller asked) (serving s caller asked) (task_tells s caller (task_of asked))
 
-acting_tells : (s : State) (line : ℕ) (action : Action) → Tells s (acting s line action).0 (acted s line action)
+acting_tells : (s : State) (line : ℕ) (action : Action) → Tells s (acting s line action).0 (after_action s line action)
 acting_tells s line (PostSem sem) = touched_tells s None (on_sem sem.0 put)
 acting_tells s line (PostFlags flags bits) = touched_tells s None (on_flags flags.0 (group.post bits))
 acting_tells s line Propagate = beside-refused s (lines.post_refusal line) _ refl
@@ -228,8 +228,8 @@ acting_tells s line (StopTimer timer) = beside-refused s (clocks.timer_refusal s
 all_tell : (s : State) (line : ℕ) (actions : List Action) → Tells s (all_acting s line actions).0 (all_acted s line actions)
 all_tell s line [] = refl
 all_tell s line (action ∷ actions) =
-    tells_append s (acted s line action) (all_acted (acted s line action) line actions) (acting s line action).0 (all_acting (acted s line action) line actions).0
-    (acting_tells s line action) (all_tell (acted s line action) line actions)
+    tells_append s (after_action s line action) (all_acted (after_action s line action) line actions) (acting s line action).0 (all_acting (after_action s line action) line actions).0
+    (acting_tells s line action) (all_tell (after_action s line action) line actions)
 
 responding_tells : (s : State) (line : ℕ) (answer : Answer) → Tells s (responding s line answer).0 (responding s line answer).1
 responding_tells s line answer = by answer.handled
@@ -239,9 +239,9 @@ responding_tells s line answer = by answer.handled
     by false = refl
 
 line_tells : (s : State) (stage : Stage) (line : ℕ) (at : lines.Installed ℕ) → Tells s (line_left s stage line at).0 (line_left s stage line at).1
-line_tells s stage line at = responding_tells (with_lines s (lines.played s.lines stage line at (given s at).handled)) line (given s at)
+line_tells s stage line at = responding_tells (with_lines s (lines.played s.lines stage line at (answer_given s at).handled)) line (answer_given s at)
 
-played_tells : (s : State) (stage : Stage) (line : ℕ) → Tells s (play_touches s stage line) (played s stage line).1
+played_tells : (s : State) (stage : Stage) (line : ℕ) → Tells s (play_touches s stage line) (line_played s stage line).1
 played_tells s stage line = by (is_clock stage line)
   where
     at : lines.Installed ℕ
@@ -280,7 +280,7 @@ record Walks (at : Settling) (plays : List Play) (last : Settling) (path : List 
   ends : path.1 ≡ last
   tells : Tells at.state (touches_in path.0) last.state
 
-walks : (at : Settling) (plays : List Play) (last : Settling) → Along next_play at plays last → Walks at plays last (walked next_move (length plays) at)
+walks : (at : Settling) (plays : List Play) (last : Settling) → Along next_play at plays last → Walks at plays last (walk_path next_move (length plays) at)
 walks at [] last same = record { plays_are = refl; ends = sym same; tells = ap (λ (x : Settling). elements x.state) same }
 walks at (one ∷ plays) last (mid, next, path) =
     let first = moves at mid one next in
@@ -288,7 +288,7 @@ walks at (one ∷ plays) last (mid, next, path) =
     rw first.is record {
       plays_are = ap (λ (ps : List Play). one ∷ ps) rest.plays_are;
       ends = rest.ends;
-      tells = tells_append at.state mid.state last.state first.touches (touches_in (walked next_move (length plays) mid).0) first.tells rest.tells;
+      tells = tells_append at.state mid.state last.state first.touches (touches_in (walk_path next_move (length plays) mid).0) first.tells rest.tells;
     }
 
 -- a step of the kernel, by so many plays
@@ -312,8 +312,8 @@ replays old own (Ok (said, changed)) reply plays new tells (is, settles) =
       reply_is = sym is;
       plays_are = walk.plays_are;
       after_is = ap (λ (x : Settling). x.state) walk.ends ∙ sym settles.left;
-      tells = subst (λ (x : State). Tells old (own ++ touches_in (settled (length plays) changed).0) x) (sym settles.left)
-          (tells_append old changed settles.last.state own (touches_in (settled (length plays) changed).0) tells walk.tells);
+      tells = subst (λ (x : State). Tells old (own ++ touches_in (settled_moves (length plays) changed).0) x) (sym settles.left)
+          (tells_append old changed settles.last.state own (touches_in (settled_moves (length plays) changed).0) tells walk.tells);
     }
 
 record EntryReplays (old : State) (e : Entry) (plays : List Play) (new : State) : Type 0 where
@@ -337,7 +337,7 @@ run_tells old (e ∷ entries) plays new (own, rest, mid, split, (counted, step),
     (subst (λ (x : State). Tells mid (touches_of x entries) new) (sym first.after_is) others)
 
 pub elements_run : ElementsRunByThemselves
-elements_run h legal = run_tells (opened h) h.entries h.plays h.state legal
+elements_run h legal = run_tells (opened_kernel h) h.entries h.plays h.state legal
 
 -- a refusal before all else comes with no step, and each other call's step was answered as the call was
 pub calls_answered : CallsAreAnsweredByElements
@@ -356,9 +356,9 @@ calls_answered old caller asked reply plays new step = by (general_refusal old c
         (refl, same (λ e. all_woken (then_ (with_elements old e)) (wakes (elements old) s)) (element (elements old) s) ∙ said (stepping_to then_ old s) p) (All-nil (λ t. (t.by ≡ Some caller) × (t.answer ≡ reply)))
 
     begins_right : (wants : Wanted) (until : Option ℕ) (o : Option Refusal)
-        → Follows old (refused_by o (stepping_to (λ x. begun x caller (awaited wants) until (serves (elements old) (begin_step old caller wants))) old (begin_step old caller wants))) reply plays new
+        → Follows old (refused_by o (stepping_to (λ x. wait_begun x caller (awaited_by wants) until (serves (elements old) (begin_step old caller wants))) old (begin_step old caller wants))) reply plays new
         → All (λ t. (t.by ≡ Some caller) × (t.answer ≡ reply)) (no_touch_if o (touch old (Some caller) (begin_step old caller wants) ∷ []))
-    begins_right wants until None p = one (λ x. begun x caller (awaited wants) until (serves (elements old) (begin_step old caller wants))) (begin_step old caller wants) p
+    begins_right wants until None p = one (λ x. wait_begun x caller (awaited_by wants) until (serves (elements old) (begin_step old caller wants))) (begin_step old caller wants) p
     begins_right wants until (Some refusal) p = All-nil (λ t. (t.by ≡ Some caller) × (t.answer ≡ reply))
 
     raises_right : (n : ℕ) (o : Option Refusal) → Follows old (refused_by o (touched old (Some caller) (on_mutex n (mutex.raise caller))).effect) reply plays new
@@ -398,7 +398,7 @@ run_replays old (e ∷ entries) plays new (own, rest, mid, split, (counted, step
     }
 
 pub histories_replayed : HistoriesAreReplayed
-histories_replayed h legal = let all = run_replays (opened h) h.entries h.plays h.state legal in (all.replies_are, all.plays_are, all.ends)
+histories_replayed h legal = let all = run_replays (opened_kernel h) h.entries h.plays h.state legal in (all.replies_are, all.plays_are, all.ends)
 
 touches_append : (s : State) (entries more : List Entry) → touches_of s (entries ++ more) ≡ touches_of s entries ++ touches_of (led_to s entries) more
 touches_append s [] more = refl
@@ -409,10 +409,10 @@ touches_append s (e ∷ entries) more =
 -- whichever element is looked at
 pub part_grows : {P : Type 0} (own : Touch → Option (Made P)) → PartGrows own
 part_grows own old new more legal on =
-    let led = (run_replays (opened old) old.entries old.plays old.state legal).ends in
-    let same : touches new ≡ touches_of (opened old) (old.entries ++ more) = (λ i. touches_of (opening (on.board i) (on.bank i)) (on.entries i)) in
+    let led = (run_replays (opened_kernel old) old.entries old.plays old.state legal).ends in
+    let same : touches new ≡ touches_of (opened_kernel old) (old.entries ++ more) = (λ i. touches_of (opening (on.board i) (on.bank i)) (on.entries i)) in
     let all : touches new ≡ touches old ++ touches_of old.state more =
-    same ∙ (touches_append (opened old) old.entries more ∙ ap (λ (x : State). touches old ++ touches_of x more) led) in
+    same ∙ (touches_append (opened_kernel old) old.entries more ∙ ap (λ (x : State). touches old ++ touches_of x more) led) in
     ap (part own) all ∙ filter_map-append own (touches old) (touches_of old.state more)
 
 pub grow : PartsGrow

@@ -6,24 +6,24 @@ use Rattle.evl_base.specs.declared.refusal.Refusal.TheVariants.{Unknown, Again, 
 use Rattle.evl_base.specs.declared.reply.Reply.{Reply}
 use Rattle.evl_base.specs.declared.reply.Reply.TheVariants.{Begun, Bits, Done}
 use Rattle.evl_base.specs.declared.way.Way.{Way}
-use Rattle.evl_sync.specs.Steps.{stepped, unless}
+use Rattle.evl_sync.specs.Steps.{step_by, unless}
 use Rattle.evl_sync.specs.FlagGroups as flags
-use Rattle.evl_sync.specs.FlagGroups.{FlagGroup, is_empty_mask, taken}
+use Rattle.evl_sync.specs.FlagGroups.{FlagGroup, is_empty_mask, bits_taken}
 use Rattle.evl_sync.specs.Semaphores as sem
 use Rattle.evl_sync.specs.Semaphores.{Semaphore}
 use Rattle.evl_sync.specs.declared.waiter.Waiter.{Waiter}
 use Rattle.evl_kernel.specs.state.States.{State, Elements}
-use Rattle.evl_kernel.specs.calls.Effects.{Answered, done, known, lifted, replied}
+use Rattle.evl_kernel.specs.calls.Effects.{Answered, done, known, lifted, reply_by}
 use Rattle.evl_kernel.specs.calls.Semaphores as semaphore
 use Rattle.evl_kernel.specs.calls.Semaphores.{SemStep, semaphore as sem_machine}
 use Rattle.evl_kernel.specs.calls.FlagGroups as group
 use Rattle.evl_kernel.specs.calls.FlagGroups.{FlagStep, flag_group}
 use Rattle.evl_xbuf.specs.Streams as streams
 use Rattle.evl_xbuf.specs.Streams.{Stream, Service}
-use Rattle.evl_xbuf.specs.Xbufs.{Xbuf, beside, reading_stage, same_stage, stream, unless_refused, writing_stage}
+use Rattle.evl_xbuf.specs.Xbufs.{Xbuf, with_other_way, reading_stage, same_stage, stream, unless_refused, writing_stage}
 use Rattle.evl_kernel.specs.calls.CrossBuffers as through
 use Rattle.evl_kernel.specs.calls.CrossBuffers.{XbufStep, bytes_told, cross_buffer}
-use Rattle.evl_mutex.specs.Mutexes.{Mutex, has_ceiling, is_open_to, raised, released}
+use Rattle.evl_mutex.specs.Mutexes.{Mutex, has_ceiling, is_open_to, raised_mutex as raised, released_mutex}
 use Rattle.evl_kernel.specs.calls.Mutexes as recorded
 use Rattle.evl_kernel.specs.calls.Mutexes.{MutexStep, handed_told, mutex as mutex_machine}
 use Rattle.evl_kernel.specs.calls.Elements.{ElementStep, on_sem, on_flags, on_xbuf, on_mutex, at_nth, element, elements, with_elements, stepping_to, wakes}
@@ -95,7 +95,7 @@ module _ {X P : Type 0} (machine : X → P → Answered X) (with_kind : List X �
 
 -- what a call on that element refused is refused, and nothing changes
 module _ {X P A B : Type 0} (machine : X → P → Answered X) (with_kind : List X → ElementsView) (xs : List X) (n : ℕ) (step : P) (q p : X) (here : slice_get xs n ≡ Some q) (f : A → B) (said : B → Reply) where
-  pub nth-same : (result : Result A Refusal) → replied said (stepped f result p) ≡ machine q step → IfErr result (λ r. p ≡ q)
+  pub nth-same : (result : Result A Refusal) → reply_by said (step_by f result p) ≡ machine q step → IfErr result (λ r. p ≡ q)
       → IfErr result (λ r. (at_nth machine (λ ys. (with_kind ys).elements) xs n step ≡ Err r) × (with_kind (slice_set xs n p) ≡ with_kind xs))
   nth-same (Ok answer) is same = tt
   nth-same (Err refusal) is same = (nth-refused machine (λ ys. (with_kind ys).elements) xs n step q refusal here (sym is), ap with_kind (ap (slice_set xs n) same ∙ set_same xs n q here))
@@ -124,31 +124,31 @@ Enters refusal = IsAnswer (Err refusal)
 pub sem_enters : (q : Semaphore) (step : SemStep) (refusal : Refusal) → sem_machine q step ≡ Err refusal → Enters refusal
 sem_enters q semaphore.get refusal = by (q.count == 0)
   where
-    by : (b : Bool) → replied (λ (u : Unit {0}). Done) (if b then Err Again else Ok (tt, record q { count = q.count - 1 })) ≡ Err refusal → Enters refusal
+    by : (b : Bool) → reply_by (λ (u : Unit {0}). Done) (if b then Err Again else Ok (tt, record q { count = q.count - 1 })) ≡ Err refusal → Enters refusal
     by true e = subst Enters (err_is e) (refl, tt)
     by false e = absurd (ok_err e)
 sem_enters q semaphore.put refusal = by q.waiters
   where
-    raised : (b : Bool) → replied (λ (u : Option ℕ). Done) (if b then Ok (None, record q { count = q.count + 1 }) else Err Range) ≡ Err refusal → Enters refusal
+    raised : (b : Bool) → reply_by (λ (u : Option ℕ). Done) (if b then Ok (None, record q { count = q.count + 1 }) else Err Range) ≡ Err refusal → Enters refusal
     raised true e = absurd (ok_err e)
     raised false e = subst Enters (err_is e) (refl, tt)
 
-    by : (ws : List Waiter) → replied (λ (u : Option ℕ). Done) (sem.put_before q ws) ≡ Err refusal → Enters refusal
+    by : (ws : List Waiter) → reply_by (λ (u : Option ℕ). Done) (sem.put_before q ws) ≡ Err refusal → Enters refusal
     by [] e = raised (nat_lt q.count 2147483647) e
     by (w ∷ ws) e = absurd (ok_err e)
 sem_enters q _ refusal = λ e. absurd (ok_err e)
 
 pub flags_enter : (f : FlagGroup) (step : FlagStep) (refusal : Refusal) → flag_group f step ≡ Err refusal → Enters refusal
-flags_enter f (group.take kind) refusal = by (is_empty_mask kind) (taken kind f.bits)
+flags_enter f (group.take kind) refusal = by (is_empty_mask kind) (bits_taken kind f.bits)
   where
     by : (empty : Bool) (got : Option ℕ)
-        → replied (λ (g : ℕ). Bits g) (unless (if empty then Some Invalid else None) (option_map_or (λ (g : ℕ). Ok (g, flags.without_bits f g)) got (Err Again))) ≡ Err refusal → Enters refusal
+        → reply_by (λ (g : ℕ). Bits g) (unless (if empty then Some Invalid else None) (option_map_or (λ (g : ℕ). Ok (g, flags.without_bits f g)) got (Err Again))) ≡ Err refusal → Enters refusal
     by true got e = subst Enters (err_is e) (refl, tt)
     by false None e = subst Enters (err_is e) (refl, tt)
     by false (Some g) e = absurd (ok_err e)
 flags_enter f (group.post bits) refusal = by (bits == 0)
   where
-    by : (none : Bool) → replied (λ (served : List (ℕ × ℕ)). Done) (unless (if none then Some Invalid else None) (Ok (flags.walked (flags.post bits f)))) ≡ Err refusal → Enters refusal
+    by : (none : Bool) → reply_by (λ (served : List (ℕ × ℕ)). Done) (unless (if none then Some Invalid else None) (Ok (flags.walk_waiters (flags.post bits f)))) ≡ Err refusal → Enters refusal
     by true e = subst Enters (err_is e) (refl, tt)
     by false e = absurd (ok_err e)
 flags_enter f _ refusal = λ e. absurd (ok_err e)
@@ -156,7 +156,7 @@ flags_enter f _ refusal = λ e. absurd (ok_err e)
 module _ (x : Xbuf) (way : Way) {A : Type 0} (f : A → Reply) (refusal : Refusal) where
   -- from the other stage, or as its way refuses
   way_enters : (right : Bool) (r : Result (A × Stream) Refusal) → ((e : Refusal) → r ≡ Err e → Enters e)
-      → replied f (unless (if right then None else Some WrongStage) (unless_refused x way r)) ≡ Err refusal → Enters refusal
+      → reply_by f (unless (if right then None else Some WrongStage) (unless_refused x way r)) ≡ Err refusal → Enters refusal
   way_enters false r each e = subst Enters (err_is e) (refl, tt)
   way_enters true (Ok step) each e = absurd (ok_err e)
   way_enters true (Err own) each e = subst Enters (err_is e) (each own refl)
@@ -178,22 +178,22 @@ pub xbufs_enter : (x : Xbuf) (step : XbufStep) (refusal : Refusal) → cross_buf
 xbufs_enter x (through.write stage way bytes) refusal =
     let s = stream x way in
     way_enters x way (λ served. Done) refusal (same_stage (writing_stage way) stage) (streams.try_write bytes s)
-    (λ e. writes_enter (nat_lt s.size (length bytes)) (streams.can_write s bytes) (streams.served (streams.written s bytes)) e)
+    (λ e. writes_enter (nat_lt s.size (length bytes)) (streams.can_write s bytes) (streams.services_made (streams.bytes_written s bytes)) e)
 xbufs_enter x (through.read stage way len) refusal = by (nat_lt 256 len)
   where
-    by : (wide : Bool) → replied (λ (got : List ℕ × List Service). bytes_told got.0) (unless (if wide then Some Range else None)
+    by : (wide : Bool) → reply_by (λ (got : List ℕ × List Service). bytes_told got.0) (unless (if wide then Some Range else None)
         (unless (if same_stage (reading_stage way) stage then None else Some WrongStage) (unless_refused x way (streams.try_read len (stream x way))))) ≡ Err refusal → Enters refusal
     by true = λ e. subst Enters (err_is e) (refl, tt)
     by false = way_enters x way (λ got. bytes_told got.0) refusal (same_stage (reading_stage way) stage) (streams.try_read len (stream x way))
-        (λ e. reads_enter (streams.can_read (stream x way) len) (streams.with_bytes (streams.given (stream x way) len) (streams.served (streams.read (stream x way) len))) e)
+        (λ e. reads_enter (streams.can_read (stream x way) len) (streams.with_bytes (streams.bytes_given (stream x way) len) (streams.services_made (streams.bytes_read (stream x way) len))) e)
 xbufs_enter x (through.begin_write thread way bytes) refusal =
     let s = stream x way in
     way_enters x way (λ served. Begun) refusal (same_stage (writing_stage way) (writing_stage way)) (streams.begin_write thread bytes s)
     (λ e. begins_enter (nat_lt s.size (length bytes)) _ e)
 xbufs_enter x (through.begin_read thread way len) refusal = by (nat_lt 256 len)
   where
-    by : (wide : Bool) → replied (λ (got : Option (List ℕ × List Service)). Begun) (unless (if wide then Some Range else None)
-        (unless (if same_stage (reading_stage way) (reading_stage way) then None else Some WrongStage) (Ok (beside x way (streams.begin_read thread len (stream x way)))))) ≡ Err refusal → Enters refusal
+    by : (wide : Bool) → reply_by (λ (got : Option (List ℕ × List Service)). Begun) (unless (if wide then Some Range else None)
+        (unless (if same_stage (reading_stage way) (reading_stage way) then None else Some WrongStage) (Ok (with_other_way x way (streams.begin_read thread len (stream x way)))))) ≡ Err refusal → Enters refusal
     by true = λ e. subst Enters (err_is e) (refl, tt)
     by false = way_enters x way (λ got. Begun) refusal (same_stage (reading_stage way) (reading_stage way)) (Ok (streams.begin_read thread len (stream x way))) (λ e is. absurd (ok_err is))
 xbufs_enter x _ refusal = λ e. absurd (ok_err e)
@@ -202,7 +202,7 @@ pub mutex_enters : (m : Mutex) (step : MutexStep) (refusal : Refusal) → mutex_
 mutex_enters m (recorded.claim w owner) refusal = λ e. absurd (ok_err e)
 mutex_enters m (recorded.release thread) refusal = by (is_open_to thread m)
   where
-    by : (b : Bool) → if◌then◌else◌ {A = Answered Mutex} b (Ok (handed_told (released m), (released m).after)) (Err NotOwner) ≡ Err refusal → Enters refusal
+    by : (b : Bool) → if◌then◌else◌ {A = Answered Mutex} b (Ok (handed_told (released_mutex m), (released_mutex m).after)) (Err NotOwner) ≡ Err refusal → Enters refusal
     by true e = absurd (ok_err e)
     by false e = subst Enters (err_is e) (refl, tt)
 mutex_enters m (recorded.raise thread) refusal = by (has_ceiling m) (is_some m.owner)

@@ -9,12 +9,12 @@ use Rattle.evl_base.specs.declared.reply.Reply.{Reply}
 use Rattle.evl_base.specs.declared.reply.Reply.TheVariants.{Bits, Done}
 use Rattle.evl_base.specs.declared.take.Take.{Take}
 use Rattle.evl_sync.specs.Steps.{unless}
-use Rattle.evl_sync.specs.Queues.{AreRanked, enqueued, stands_in}
+use Rattle.evl_sync.specs.Queues.{AreRanked, enqueued_by, stands_in}
 use Rattle.evl_sync.specs.FlagGroups as flags
-use Rattle.evl_sync.specs.FlagGroups.{FlagGroup, IsSoundGroup, Walk, is_empty_mask, left_of, passed, taken, walk_of}
+use Rattle.evl_sync.specs.FlagGroups.{FlagGroup, IsSoundGroup, Walk, is_empty_mask, left_of, waiter_passed, bits_taken, walk_of}
 use Rattle.evl_sync.specs.declared.flag_waiter.FlagWaiter.{FlagWaiter}
 use Rattle.evl_sync.proofs.GroupLaws.{sound-begun, sound-dropped, sound-walked, sound_taken}
-use Rattle.evl_kernel.specs.calls.Effects.{replied}
+use Rattle.evl_kernel.specs.calls.Effects.{reply_by}
 use Rattle.evl_kernel.specs.calls.FlagGroups as group
 use Rattle.evl_kernel.specs.calls.FlagGroups.{all_served, flag_group as machine, flag_serves, flag_wakes}
 use Rattle.evl_kernel.specs.waiting.Standing.{in_flags, is_served}
@@ -28,7 +28,7 @@ of w = w.thread
 pub walk_goes : (ws : List FlagWaiter) (bits : ℕ) → AreRanked of (λ (w : FlagWaiter). w.rank) ws
     → OneGoes (λ t. stands_in of t ws) (λ t. stands_in of t (walk_of ws bits).waiting) (all_served (walk_of ws bits).served)
 walk_goes [] bits ranked = record { left = λ t is. absurd (false≢true is); same = λ t is. refl }
-walk_goes (w ∷ ws) bits ranked = by (taken w.kind bits) (walk_of ws (left_of bits (taken w.kind bits))) (walk_goes ws (left_of bits (taken w.kind bits)) ranked.2)
+walk_goes (w ∷ ws) bits ranked = by (bits_taken w.kind bits) (walk_of ws (left_of bits (bits_taken w.kind bits))) (walk_goes ws (left_of bits (bits_taken w.kind bits)) ranked.2)
   where
     -- who stands behind isn't the first
     apart : (t : ℕ) → stands_in of t ws ≡ true → (w.thread == t) ≡ false
@@ -46,7 +46,7 @@ walk_goes (w ∷ ws) bits ranked = by (taken w.kind bits) (walk_of ws (left_of b
         test false is = rest.same t is ∙ away
 
     by : (got : Option ℕ) (walk : Walk) → OneGoes (λ t. stands_in of t ws) (λ t. stands_in of t walk.waiting) (all_served walk.served)
-        → OneGoes (λ t. stands_in of t (w ∷ ws)) (λ t. stands_in of t (passed w got walk).waiting) (all_served (passed w got walk).served)
+        → OneGoes (λ t. stands_in of t (w ∷ ws)) (λ t. stands_in of t (waiter_passed w got walk).waiting) (all_served (waiter_passed w got walk).served)
     by None walk rest = record {
       left = λ t is. (
         or_right (w.thread == t) (stands_in of t ws) (rest.left t is).0,
@@ -74,14 +74,14 @@ pub record Left (f g : FlagGroup) (served : List (ℕ × Reply)) : Type 0 where
   pub sound : IsSoundGroup g
   pub goes : OneGoes (in_flags f) (in_flags g) served
 
-less_bits : (f : FlagGroup) (kind : Take) (got : ℕ) → Some got ≡ taken kind f.bits → IsSoundGroup f → Left f (flags.without_bits f got) []
+less_bits : (f : FlagGroup) (kind : Take) (got : ℕ) → Some got ≡ bits_taken kind f.bits → IsSoundGroup f → Left f (flags.without_bits f got) []
 less_bits f kind got is h = record { sound = sound_taken kind f.bits got f.waiters is h; goes = same_queue in_flags f (flags.without_bits f got) (λ t. refl) }
 
 pub take_left : (f g : FlagGroup) (reply : Reply) (kind : Take) → IsSoundGroup f → machine f (group.take kind) ≡ Ok (reply, g) → Left f g []
-take_left f g reply kind h = by (is_empty_mask kind) (taken kind f.bits) refl
+take_left f g reply kind h = by (is_empty_mask kind) (bits_taken kind f.bits) refl
   where
-    by : (empty : Bool) (got : Option ℕ) → taken kind f.bits ≡ got
-        → replied (λ (n : ℕ). Bits n) (unless (if empty then Some Invalid else None) (option_map_or (λ (n : ℕ). Ok (n, flags.without_bits f n)) got (Err Again))) ≡ Ok (reply, g) → Left f g []
+    by : (empty : Bool) (got : Option ℕ) → bits_taken kind f.bits ≡ got
+        → reply_by (λ (n : ℕ). Bits n) (unless (if empty then Some Invalid else None) (option_map_or (λ (n : ℕ). Ok (n, flags.without_bits f n)) got (Err Again))) ≡ Ok (reply, g) → Left f g []
     by true got is e = absurd (err_ok e)
     by false None is e = absurd (err_ok e)
     by false (Some n) is e = subst (λ (x : FlagGroup). Left f x []) (ap (λ (x : Reply × FlagGroup). x.1) (ok_is e)) (less_bits f kind n (sym is) h)
@@ -89,7 +89,7 @@ take_left f g reply kind h = by (is_empty_mask kind) (taken kind f.bits) refl
 pub post_left : (f g : FlagGroup) (reply : Reply) (bits : ℕ) → IsSoundGroup f → machine f (group.post bits) ≡ Ok (reply, g) → Left f g (flag_wakes f (group.post bits))
 post_left f g reply bits h = by (bits == 0)
   where
-    by : (none : Bool) → replied (λ (served : List (ℕ × ℕ)). Done) (unless (if none then Some Invalid else None) (Ok (flags.walked (flags.post bits f)))) ≡ Ok (reply, g)
+    by : (none : Bool) → reply_by (λ (served : List (ℕ × ℕ)). Done) (unless (if none then Some Invalid else None) (Ok (flags.walk_waiters (flags.post bits f)))) ≡ Ok (reply, g)
         → Left f g (flag_wakes f (group.post bits))
     by true e = absurd (err_ok e)
     by false e =
@@ -105,17 +105,17 @@ pub record Begun (f g : FlagGroup) (thread : ℕ) (served : Option Reply) : Type
 pub begun : (f g : FlagGroup) (reply : Reply) (w : FlagWaiter) → IsSoundGroup f → in_flags f w.thread ≡ false → w.thread < thread_limit → machine f (group.begin w) ≡ Ok (reply, g)
     → Begun f g w.thread (flag_serves f (group.begin w))
 begun f g reply w h away within is =
-    subst (λ (x : FlagGroup). Begun f x w.thread (flag_serves f (group.begin w))) (ap (λ (x : Reply × FlagGroup). x.1) (ok_is is)) (by (taken w.kind f.bits) refl)
+    subst (λ (x : FlagGroup). Begun f x w.thread (flag_serves f (group.begin w))) (ap (λ (x : Reply × FlagGroup). x.1) (ok_is is)) (by (bits_taken w.kind f.bits) refl)
   where
     some_none : {A : Type 0} {x : A} → Some x ≡ None → ⊥
     some_none e = cc
 
-    by : (got : Option ℕ) → taken w.kind f.bits ≡ got
+    by : (got : Option ℕ) → bits_taken w.kind f.bits ≡ got
         → Begun f (option_map_or (flags.without_bits f) got (flags.with_waiter w f)) w.thread (option_map (λ (n : ℕ). Bits n) got)
     by None none = record {
       sound = sound-begun w f.bits f.waiters away within none h;
       at_once = λ outcome s. absurd (none-some _ s);
-      waits = λ s. enqueued_comes of (λ (v : FlagWaiter). v.rank) f.waiters w (enqueued (λ (v : FlagWaiter). v.rank) w f.waiters) refl;
+      waits = λ s. enqueued_comes of (λ (v : FlagWaiter). v.rank) f.waiters w (enqueued_by (λ (v : FlagWaiter). v.rank) w f.waiters) refl;
     }
     by (Some n) some = record {
       sound = (less_bits f w.kind n (sym some) h).sound;

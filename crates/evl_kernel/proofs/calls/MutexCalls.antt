@@ -8,15 +8,15 @@ use Rattle.evl_base.specs.declared.numbers.ThreadId.{ThreadId}
 use Rattle.evl_base.specs.declared.refusal.Refusal.{Refusal}
 use Rattle.evl_base.specs.declared.refusal.Refusal.TheVariants.{Unknown, NotOwner}
 use Rattle.evl_base.specs.declared.reply.Reply.TheVariants.{Begun, Handed}
-use Rattle.evl_mutex.specs.Mutexes.{Mutex, is_open_to, is_waited_for_by, released, claimed as with_waiter}
+use Rattle.evl_mutex.specs.Mutexes.{Mutex, is_open_to, is_waited_for_by, released_mutex, claimed_mutex as with_waiter}
 use Rattle.evl_mutex.specs.declared.waiter.Waiter.{Waiter}
-use Rattle.evl_mutex.specs.Owners.{Owners, IsClaim, IsRelease, changed_at, claim_answer, claim_answer_at, claim_refusal, claim_refusal_at, claimed, is_thread, is_waiting, rank_of, with_mutex, would_ring}
+use Rattle.evl_mutex.specs.Owners.{Owners, IsClaim, IsRelease, changed_at, claim_answer, claim_answer_at, claim_refusal, claim_refusal_at, claimed_by, is_thread, is_waiting, rank_of, with_mutex, would_ring}
 use Rattle.evl_mutex.specs.Views.{numbers_of}
 use Rattle.evl_kernel.specs.state.States.{Elements}
 use Rattle.evl_kernel.specs.calls.Effects.{Answered}
 use Rattle.evl_kernel.specs.calls.Semaphores.{one_served}
 use Rattle.evl_kernel.specs.calls.Mutexes as recorded
-use Rattle.evl_kernel.specs.calls.Mutexes.{mutex as machine, named}
+use Rattle.evl_kernel.specs.calls.Mutexes.{mutex as machine, thread_named}
 use Rattle.evl_kernel.specs.calls.Elements.{ElementStep, element, on_mutex, wakes}
 use Rattle.evl_kernel.specs.state.ElementsViews.{ElementsView, owners_of}
 use Rattle.evl_kernel.specs.waiting.Standing.{in_mutex, stands_at}
@@ -43,15 +43,15 @@ module _ (v : ElementsView) (after : Owners) (n owner : ℕ) where
   with_kind mutexes = record v.elements { mutexes = mutexes }
 
   handed : (result : Result (Option ThreadId × Bool) Refusal) (m : Mutex) → slice_get v.elements.mutexes n ≡ Some m → is_open_to owner m ≡ true
-      → numbers_of result ≡ Ok ((released m).next, (released m).more) → after ≡ with_mutex (owners_of v) n (released m).after → Released result
+      → numbers_of result ≡ Ok ((released_mutex m).next, (released_mutex m).more) → after ≡ with_mutex (owners_of v) n (released_mutex m).after → Released result
   handed (Err refusal) m here is_open e left = absurd cc
   handed (Ok answer) m here is_open e left =
-      let next : option_map (λ next. next.0) answer.0 ≡ (released m).next = ap (λ (r : Result (Option ℕ × Bool) Refusal). next_in r) e in
-      let more : answer.1 ≡ (released m).more = ap (λ (r : Result (Option ℕ × Bool) Refusal). more_in r) e in
-      let is : answer.0 ≡ option_map named (released m).next = sym (named-number answer.0) ∙ ap (option_map named) next in
+      let next : option_map (λ next. next.0) answer.0 ≡ (released_mutex m).next = ap (λ (r : Result (Option ℕ × Bool) Refusal). next_in r) e in
+      let more : answer.1 ≡ (released_mutex m).more = ap (λ (r : Result (Option ℕ × Bool) Refusal). more_in r) e in
+      let is : answer.0 ≡ option_map thread_named (released_mutex m).next = sym (named-number answer.0) ∙ ap (option_map thread_named) next in
       record {
-        done = nth-done machine with_kind v.elements.mutexes n (recorded.release owner) m (released m).after (Handed answer.0 answer.1) here
-            (rw is_open (λ i. Ok (Handed (sym is i) (sym more i), (released m).after)))
+        done = nth-done machine with_kind v.elements.mutexes n (recorded.release owner) m (released_mutex m).after (Handed answer.0 answer.1) here
+            (rw is_open (λ i. Ok (Handed (sym is i) (sym more i), (released_mutex m).after)))
             ∙ ap (λ (x : Owners). Ok (Handed answer.0 answer.1, with_kind x.mutexes)) (sym left);
         served = rw here (ap one_served (sym next));
         refused = tt;
@@ -137,8 +137,8 @@ module _ (v : ElementsView) (after : Owners) (n waiter owner : ℕ) where
       → element v.elements (on_mutex n (recorded.claim w owner)) ≡ Ok (Begun, record v.elements { mutexes = after.mutexes })
   claimed-step answer is is_open ok = at (slice_get v.elements.mutexes n) refl is_open
     where
-      left : after ≡ claimed (owners_of v) n waiter owner
-      left = is.after_is ∙ ap (λ (b : Bool). if b then claimed (owners_of v) n waiter owner else owners_of v) ok
+      left : after ≡ claimed_by (owners_of v) n waiter owner
+      left = is.after_is ∙ ap (λ (b : Bool). if b then claimed_by (owners_of v) n waiter owner else owners_of v) ok
 
       at : (found : Option Mutex) → slice_get v.elements.mutexes n ≡ found → option_map_or (is_open_to owner) found false ≡ true
           → element v.elements (on_mutex n (recorded.claim w owner)) ≡ Ok (Begun, record v.elements { mutexes = after.mutexes })

@@ -14,7 +14,7 @@ use Rattle.evl_base.specs.declared.reply.Reply.{Reply}
 use Rattle.evl_base.specs.declared.reply.Reply.TheVariants.{Done}
 use Rattle.evl_mutex.specs.declared.waiter.Waiter.{Waiter}
 use Rattle.evl_mutex.specs.Mutexes as recorded
-use Rattle.evl_mutex.specs.Mutexes.{Mutex as MutexRecorded, claimed, handed_to, has_ceiling, is_open_to, raised, released}
+use Rattle.evl_mutex.specs.Mutexes.{Mutex as MutexRecorded, claimed_mutex, handed_to, has_ceiling, is_open_to, raised_mutex, released_mutex}
 use Rattle.evl_mutex.specs.Queues.{stands_in}
 use Rattle.evl_kernel.specs.declared.waits.Awaited.{Awaited}
 use Rattle.evl_kernel.specs.declared.waits.Awaited.TheVariants.{Mutex}
@@ -25,7 +25,7 @@ use Rattle.evl_kernel.specs.calls.Effects.{Answered, Effect, done, leaving, lift
 use Rattle.evl_kernel.specs.calls.Mutexes as mutex_step
 use Rattle.evl_kernel.specs.calls.Mutexes.{handed_told, mutex as mutex_machine, mutex_wakes}
 use Rattle.evl_kernel.specs.calls.Elements.{ElementStep, on_mutex, element, elements, with_elements, wakes, touched}
-use Rattle.evl_kernel.specs.waiting.Waits.{wait_of, wait_at, with_wait, going_on, ended_by, is_past, suspended, begun, woken, all_woken}
+use Rattle.evl_kernel.specs.waiting.Waits.{wait_of, wait_at, with_wait, going_on, ended_by, is_past, suspended, wait_begun, woken, all_woken}
 use Rattle.evl_kernel.specs.waiting.Beginnings.{begin_refusal}
 use Rattle.evl_kernel.specs.waiting.Endings.{goes_inband, inband_if, outcome_of}
 use Rattle.evl_kernel.specs.calls.OwnerCalls.{raiser_refusal}
@@ -77,7 +77,7 @@ module _ (s : State) (n : ℕ) (q p : MutexRecorded) (here : slice_get (elements
   changed_else j ne = ap (λ (x : Elements). slice_get x.mutexes j) (sym is) ∙ set_there (elements s).mutexes n j p (ne_eqb n j (λ e. ne (sym e)))
 
 abbrev released_if : Bool → MutexRecorded → Answered MutexRecorded
-released_if b q = if b then Ok (handed_told (released q), (released q).after) else Err NotOwner
+released_if b q = if b then Ok (handed_told (released_mutex q), (released_mutex q).after) else Err NotOwner
 
 module _ (count : ℕ) (s : State) (h : IsProper count s) (caller : ℕ) where
   claim_leaves : (id : MutexId) (owner : ThreadId) (until : Option ℕ) → Leaves (ClaimLeaves s caller id.0 owner.0) (answer s caller (Claim id owner until))
@@ -95,14 +95,14 @@ module _ (count : ℕ) (s : State) (h : IsProper count s) (caller : ℕ) where
       on : Awaited
       on = Mutex id
 
-      blocks : (q : MutexRecorded) (after : Elements) → slice_get (elements s).mutexes id.0 ≡ Some q → record (elements s) { mutexes = slice_set (elements s).mutexes id.0 (claimed q w owner.0) } ≡ after → wait_at s caller ≡ None
-          → P (begun (with_elements s after) caller on until None)
+      blocks : (q : MutexRecorded) (after : Elements) → slice_get (elements s).mutexes id.0 ≡ Some q → record (elements s) { mutexes = slice_set (elements s).mutexes id.0 (claimed_mutex q w owner.0) } ≡ after → wait_at s caller ≡ None
+          → P (wait_begun (with_elements s after) caller on until None)
       blocks q after here is idle = by (is_past s.clock.now until)
         where
           there : P (suspended (with_elements s after) caller on until)
           there = record {
             was = q;
-            changes = record { there = here; now = changed_now s id.0 q (claimed q w owner.0) here after is; others = changed_else s id.0 q (claimed q w owner.0) here after is };
+            changes = record { there = here; now = changed_now s id.0 q (claimed_mutex q w owner.0) here after is; others = changed_else s id.0 q (claimed_mutex q w owner.0) here after is };
             got = λ j t. got_set j s caller (Some (going_on on)) (ap (got_it j) idle) (and_false (is_for j on)) t;
           }
 
@@ -113,12 +113,12 @@ module _ (count : ℕ) (s : State) (h : IsProper count s) (caller : ℕ) where
       nobody : (q : MutexRecorded) → slice_get (elements s).mutexes id.0 ≡ Some q → wakes (elements s) step ≡ []
       nobody q here = ap (λ (o : Option MutexRecorded). option_map_or (λ (m : MutexRecorded). mutex_wakes m (mutex_step.claim w owner.0)) o []) here
 
-      left : wait_at s caller ≡ None → (a : Answered Elements) → element (elements s) step ≡ a → Leaves P (lifted (λ e. all_woken (begun (with_elements s e) caller on until None) (wakes (elements s) step)) a)
+      left : wait_at s caller ≡ None → (a : Answered Elements) → element (elements s) step ≡ a → Leaves P (lifted (λ e. all_woken (wait_begun (with_elements s e) caller on until None) (wakes (elements s) step)) a)
       left idle (Err refusal) is = tt
       left idle (Ok (reply, after)) is =
           let made = nth-made mutex_machine (λ ms. record (elements s) { mutexes = ms }) (elements s).mutexes id.0 (mutex_step.claim w owner.0) reply after is in
-          let now : claimed made.before w owner.0 ≡ made.left = ap (λ (x : Reply × MutexRecorded). x.1) (ok_is made.made) in
-          subst (λ (ws : List (ℕ × Reply)). P (all_woken (begun (with_elements s after) caller on until None) ws)) (sym (nobody made.before made.here))
+          let now : claimed_mutex made.before w owner.0 ≡ made.left = ap (λ (x : Reply × MutexRecorded). x.1) (ok_is made.made) in
+          subst (λ (ws : List (ℕ × Reply)). P (all_woken (wait_begun (with_elements s after) caller on until None) ws)) (sym (nobody made.before made.here))
           (blocks made.before after made.here (ap (λ (p : MutexRecorded). record (elements s) { mutexes = slice_set (elements s).mutexes id.0 p }) now ∙ made.after_is) idle)
 
   raise_leaves : (id : MutexId) → Leaves (RaiseLeaves s id.0 caller) (answer s caller (Raise id))
@@ -130,10 +130,10 @@ module _ (count : ℕ) (s : State) (h : IsProper count s) (caller : ℕ) where
       step : ElementStep
       step = on_mutex id.0 (mutex_step.raise caller)
 
-      raises : (q p : MutexRecorded) (reply : Reply) → mutex_machine q (mutex_step.raise caller) ≡ Ok (reply, p) → (has_ceiling q ≡ true) × (raised q caller ≡ p)
+      raises : (q p : MutexRecorded) (reply : Reply) → mutex_machine q (mutex_step.raise caller) ≡ Ok (reply, p) → (has_ceiling q ≡ true) × (raised_mutex q caller ≡ p)
       raises q p reply is = by (has_ceiling q) refl (is_some q.owner) is
         where
-          by : (b : Bool) → has_ceiling q ≡ b → (c : Bool) → (if b then (if c then Err Busy else done (raised q caller)) else Err Invalid) ≡ Ok (reply, p) → (has_ceiling q ≡ true) × (raised q caller ≡ p)
+          by : (b : Bool) → has_ceiling q ≡ b → (c : Bool) → (if b then (if c then Err Busy else done (raised_mutex q caller)) else Err Invalid) ≡ Ok (reply, p) → (has_ceiling q ≡ true) × (raised_mutex q caller ≡ p)
           by true e true is = absurd (cc)
           by true e false is = (e, ap (λ (x : Reply × MutexRecorded). x.1) (ok_is is))
           by false e c is = absurd (cc)
@@ -151,7 +151,7 @@ module _ (count : ℕ) (s : State) (h : IsProper count s) (caller : ℕ) where
           (record {
             was = made.before;
             ceiling = r.0;
-            changes = record { there = made.here; now = changed_now s id.0 made.before (raised made.before caller) made.here after at; others = changed_else s id.0 made.before (raised made.before caller) made.here after at };
+            changes = record { there = made.here; now = changed_now s id.0 made.before (raised_mutex made.before caller) made.here after at; others = changed_else s id.0 made.before (raised_mutex made.before caller) made.here after at };
             got = λ j t. refl;
           })
 
@@ -187,10 +187,10 @@ module _ (count : ℕ) (s : State) (h : IsProper count s) (caller : ℕ) where
       step : ElementStep
       step = on_mutex id.0 (mutex_step.release caller)
 
-      releases : (q p : MutexRecorded) (reply : Reply) → mutex_machine q (mutex_step.release caller) ≡ Ok (reply, p) → (reply ≡ handed_told (released q)) × ((released q).after ≡ p)
+      releases : (q p : MutexRecorded) (reply : Reply) → mutex_machine q (mutex_step.release caller) ≡ Ok (reply, p) → (reply ≡ handed_told (released_mutex q)) × ((released_mutex q).after ≡ p)
       releases q p reply is = by (is_open_to caller q) is
         where
-          by : (b : Bool) → released_if b q ≡ Ok (reply, p) → (reply ≡ handed_told (released q)) × ((released q).after ≡ p)
+          by : (b : Bool) → released_if b q ≡ Ok (reply, p) → (reply ≡ handed_told (released_mutex q)) × ((released_mutex q).after ≡ p)
           by true is = (sym (ap (λ (x : Reply × MutexRecorded). x.0) (ok_is is)), ap (λ (x : Reply × MutexRecorded). x.1) (ok_is is))
           by false is = absurd (cc)
 
@@ -198,7 +198,7 @@ module _ (count : ℕ) (s : State) (h : IsProper count s) (caller : ℕ) where
       served q here = ap (λ (o : Option MutexRecorded). option_map_or (λ (m : MutexRecorded). mutex_wakes m (mutex_step.release caller)) o []) here
 
       -- who is next waits for it
-      next_waits : (q : MutexRecorded) → slice_get (elements s).mutexes id.0 ≡ Some q → (next : ℕ) → (released q).next ≡ Some next → wait_at s next ≡ Some (going_on (Mutex id))
+      next_waits : (q : MutexRecorded) → slice_get (elements s).mutexes id.0 ≡ Some q → (next : ℕ) → (released_mutex q).next ≡ Some next → wait_at s next ≡ Some (going_on (Mutex id))
       next_waits q here next is = h.proper.stands (Mutex id) next (was_at_it in_mutex (elements s).mutexes id.0 q q here next ∙ by q.waiters is)
         where
           some_is : {x y : ℕ} → Some x ≡ Some y → x ≡ y
@@ -216,7 +216,7 @@ module _ (count : ℕ) (s : State) (h : IsProper count s) (caller : ℕ) where
       ended : Option Wait
       ended = Some (ended_by Done (going_on (Mutex id)))
 
-      got_now : (q : MutexRecorded) (after : Elements) → slice_get (elements s).mutexes id.0 ≡ Some q → (next : ℕ) → (released q).next ≡ Some next
+      got_now : (q : MutexRecorded) (after : Elements) → slice_get (elements s).mutexes id.0 ≡ Some q → (next : ℕ) → (released_mutex q).next ≡ Some next
           → (j t : ℕ) → has_got (woken (with_elements s after) next Done) j t ≡ (((id.0 == j) && (next == t)) || has_got s j t)
       got_now q after here next is j t = by (t == next) refl
         where
@@ -238,19 +238,19 @@ module _ (count : ℕ) (s : State) (h : IsProper count s) (caller : ℕ) where
               (ap (got_it j) at_next ∙ or_false (id.0 == j) ∙ ap (λ b. ((id.0 == j) && b) || false) (sym (eq-eqb next next refl)) ∙ ap (λ b. ((id.0 == j) && (next == next)) || b) (sym old_next))
           by false e = ap (got_it j) (wait_there s next (option_map (ended_by Done) (wait_at s next)) t e) ∙ ap (λ b. b || got_it j (wait_at s t)) (sym (ap (λ b. (id.0 == j) && b) (ne_eqb next t (λ x. false≢true (sym e ∙ eq-eqb t next (sym x)))) ∙ and_false (id.0 == j)))
 
-      all_told : (q : MutexRecorded) (after : Elements) (reply : Reply) → slice_get (elements s).mutexes id.0 ≡ Some q → reply ≡ handed_told (released q) → record (elements s) { mutexes = slice_set (elements s).mutexes id.0 (released q).after } ≡ after
-          → (o : Option ℕ) → (released q).next ≡ o → P reply (all_woken (with_elements s after) (Rattle.evl_kernel.specs.calls.Semaphores.one_served o))
+      all_told : (q : MutexRecorded) (after : Elements) (reply : Reply) → slice_get (elements s).mutexes id.0 ≡ Some q → reply ≡ handed_told (released_mutex q) → record (elements s) { mutexes = slice_set (elements s).mutexes id.0 (released_mutex q).after } ≡ after
+          → (o : Option ℕ) → (released_mutex q).next ≡ o → P reply (all_woken (with_elements s after) (Rattle.evl_kernel.specs.calls.Semaphores.one_served o))
       all_told q after reply here told is None none = record {
         was = q;
         told = told;
-        changes = record { there = here; now = changed_now s id.0 q (released q).after here after is; others = changed_else s id.0 q (released q).after here after is };
+        changes = record { there = here; now = changed_now s id.0 q (released_mutex q).after here after is; others = changed_else s id.0 q (released_mutex q).after here after is };
         got = λ t. ap (λ (o : Option ℕ). option_map_or (λ next. next == t) o false || has_got s n t) (sym none);
         elsewhere = λ j t ne. refl;
       }
       all_told q after reply here told is (Some next) some = record {
         was = q;
         told = told;
-        changes = record { there = here; now = changed_now s id.0 q (released q).after here after is; others = changed_else s id.0 q (released q).after here after is };
+        changes = record { there = here; now = changed_now s id.0 q (released_mutex q).after here after is; others = changed_else s id.0 q (released_mutex q).after here after is };
         got = λ t. got_now q after here next some n t ∙ ap (λ b. (b && (next == t)) || has_got s n t) (eq-eqb id.0 id.0 refl) ∙ ap (λ (o : Option ℕ). option_map_or (λ next. next == t) o false || has_got s n t) (sym some);
         elsewhere = λ j t ne. got_now q after here next some j t ∙ ap (λ b. (b && (next == t)) || has_got s j t) (ne_eqb id.0 j (λ e. ne (sym e)));
       }
@@ -261,7 +261,7 @@ module _ (count : ℕ) (s : State) (h : IsProper count s) (caller : ℕ) where
           let made = nth-made mutex_machine (λ ms. record (elements s) { mutexes = ms }) (elements s).mutexes id.0 (mutex_step.release caller) reply after is in
           let r = releases made.before made.left reply made.made in
           subst (λ (ws : List (ℕ × Reply)). P reply (all_woken (with_elements s after) ws)) (sym (served made.before made.here))
-          (all_told made.before after reply made.here r.0 (ap (λ (p : MutexRecorded). record (elements s) { mutexes = slice_set (elements s).mutexes id.0 p }) r.1 ∙ made.after_is) (released made.before).next refl)
+          (all_told made.before after reply made.here r.0 (ap (λ (p : MutexRecorded). record (elements s) { mutexes = slice_set (elements s).mutexes id.0 p }) r.1 ∙ made.after_is) (released_mutex made.before).next refl)
 
 pub mutex_calls : MutexCallsChange
 mutex_calls h legal fits caller =
@@ -281,7 +281,7 @@ seated_below (x ∷ xs) zero is = omega arith
 seated_below (x ∷ xs) (suc t) is = let less = seated_below xs t is in omega (arith, less)
 
 abbrev raised_if : ℕ → Bool → Bool → MutexRecorded → Answered MutexRecorded
-raised_if caller b c q = if b then (if c then Err Busy else done (raised q caller)) else Err Invalid
+raised_if caller b c q = if b then (if c then Err Busy else done (raised_mutex q caller)) else Err Invalid
 
 follows_ok : (old : State) (e : Effect) (r : Result Reply Refusal) (plays : List Play) (new : State) (said : Reply) (x : State) → e ≡ Ok (said, x) → Follows old e r plays new → (reply : Reply) × (r ≡ Ok reply)
 follows_ok old (Ok (given, y)) r plays new said x is follows = (given, follows.0)
@@ -300,15 +300,15 @@ pub mutex_calls_pass : MutexCallsAreAccepted
 mutex_calls_pass s caller there idle = record {
   release = λ id m r plays new here unclaimed step.
       let general = passed_general s caller (Release id) refl there idle in
-      let made : mutex_machine m (mutex_step.release caller) ≡ Ok (handed_told (released m), (released m).after) = ap (λ b. released_if b m) unclaimed in
-      let at = nth-done mutex_machine (λ ms. record (elements s) { mutexes = ms }) (elements s).mutexes id.0 (mutex_step.release caller) m (released m).after (handed_told (released m)) here made in
+      let made : mutex_machine m (mutex_step.release caller) ≡ Ok (handed_told (released_mutex m), (released_mutex m).after) = ap (λ b. released_if b m) unclaimed in
+      let at = nth-done mutex_machine (λ ms. record (elements s) { mutexes = ms }) (elements s).mutexes id.0 (mutex_step.release caller) m (released_mutex m).after (handed_told (released_mutex m)) here made in
       let effect = touched s (Some caller) (on_mutex id.0 (mutex_step.release caller)) in
-      follows_ok s (answer s caller (Release id)) r plays new (handed_told (released m)) _
+      follows_ok s (answer s caller (Release id)) r plays new (handed_told (released_mutex m)) _
       (ap (λ (o : Option Refusal). refused_by o effect.effect) general ∙ ap (λ (a : Answered Elements). lifted (λ e. all_woken (with_elements s e) (wakes (elements s) (on_mutex id.0 (mutex_step.release caller)))) a) at) step;
   raise = λ id m r plays new here ceiling free attached step.
       let general = passed_general s caller (Raise id) refl there idle in
-      let made : mutex_machine m (mutex_step.raise caller) ≡ Ok (Done, raised m caller) = ap (λ b. raised_if caller b (is_some m.owner) m) ceiling ∙ ap (λ (o : Option ℕ). raised_if caller true (is_some o) m) free in
-      let at = nth-done mutex_machine (λ ms. record (elements s) { mutexes = ms }) (elements s).mutexes id.0 (mutex_step.raise caller) m (raised m caller) Done here made in
+      let made : mutex_machine m (mutex_step.raise caller) ≡ Ok (Done, raised_mutex m caller) = ap (λ b. raised_if caller b (is_some m.owner) m) ceiling ∙ ap (λ (o : Option ℕ). raised_if caller true (is_some o) m) free in
+      let at = nth-done mutex_machine (λ ms. record (elements s) { mutexes = ms }) (elements s).mutexes id.0 (mutex_step.raise caller) m (raised_mutex m caller) Done here made in
       let may : raiser_refusal s caller id.0 ≡ None = ap (λ (o : Option MutexRecorded). refused_first (if is_some o then None else Some Unknown) (stranger_refusal s.sched caller)) here ∙ known_thread attached in
       let effect = touched s (Some caller) (on_mutex id.0 (mutex_step.raise caller)) in
       follows_ok s (answer s caller (Raise id)) r plays new Done _

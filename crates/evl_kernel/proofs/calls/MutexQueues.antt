@@ -32,7 +32,7 @@ unfolding waits_back
 back_is ms owner thread = refl
 
 -- a waiter comes
-pub claim_comes : (m : Mutex) (w : Waiter) (owner : ℕ) → OneComes (in_mutex m) (in_mutex (recorded.claimed m w owner)) w.thread
+pub claim_comes : (m : Mutex) (w : Waiter) (owner : ℕ) → OneComes (in_mutex m) (in_mutex (recorded.claimed_mutex m w owner)) w.thread
 claim_comes m w owner = record {
   there = stands-enqueued w m.waiters w.thread ∙ ap (λ (b : Bool). b || stands_in w.thread m.waiters) (eq-eqb w.thread w.thread refl);
   same = λ t ne. stands-enqueued w m.waiters t ∙ ap (λ (b : Bool). b || stands_in t m.waiters) (eqb-swap_false t w.thread ne);
@@ -67,7 +67,7 @@ head_goes w ws away = record { left = left; same = same }
     same : (t : ℕ) → ((w.thread == t) || false) ≡ false → stands_in t ws ≡ ((w.thread == t) || stands_in t ws)
     same t is = sym (ap (λ (b : Bool). b || stands_in t ws) (no_or (w.thread == t) is))
 
-handed_goes : (m : Mutex) → AreApart m.waiters → OneGoes (in_mutex m) (in_mutex (recorded.released m).after) (one_served (recorded.released m).next)
+handed_goes : (m : Mutex) → AreApart m.waiters → OneGoes (in_mutex m) (in_mutex (recorded.released_mutex m).after) (one_served (recorded.released_mutex m).next)
 handed_goes m apart = by m.waiters refl
   where
     by : (ws : List Waiter) → m.waiters ≡ ws → OneGoes (in_mutex m) (in_mutex (recorded.handed_to m ws).after) (one_served (recorded.handed_to m ws).next)
@@ -88,9 +88,9 @@ module _ (o : Owners) (n : ℕ) (m : Mutex) (at : slice_get o.mutexes n ≡ Some
   pub release_left : (thread : ℕ) (p : Mutex) (reply : Reply) → machine m (step.release thread) ≡ Ok (reply, p) → Left p (mutex_wakes m (step.release thread))
   release_left thread p reply = by (is_open_to thread m)
     where
-      by : (b : Bool) → if◌then◌else◌ {A = Answered Mutex} b (Ok (handed_told (recorded.released m), (recorded.released m).after)) (Err NotOwner) ≡ Ok (reply, p) → Left p (one_served (recorded.released m).next)
+      by : (b : Bool) → if◌then◌else◌ {A = Answered Mutex} b (Ok (handed_told (recorded.released_mutex m), (recorded.released_mutex m).after)) (Err NotOwner) ≡ Ok (reply, p) → Left p (one_served (recorded.released_mutex m).next)
       by true made =
-          subst (λ (x : Mutex). Left x (one_served (recorded.released m).next)) (ap (λ (x : Reply × Mutex). x.1) (ok_is made))
+          subst (λ (x : Mutex). Left x (one_served (recorded.released_mutex m).next)) (ap (λ (x : Reply × Mutex). x.1) (ok_is made))
           (record { sound = sound-released o n m at is; goes = handed_goes m here.apart })
       by false made = absurd (err_ok made)
 
@@ -101,16 +101,16 @@ module _ (o : Owners) (n : ℕ) (m : Mutex) (at : slice_get o.mutexes n ≡ Some
       idle free true f = refl
       idle free false f = absurd (false≢true (sym free ∙ here.owned f))
 
-      by : (b c : Bool) → has_ceiling m ≡ b → is_some m.owner ≡ c → if◌then◌else◌ {A = Answered Mutex} b (if◌then◌else◌ {A = Answered Mutex} c (Err Busy) (done (recorded.raised m thread))) (Err Invalid) ≡ Ok (reply, p) → Left p []
+      by : (b c : Bool) → has_ceiling m ≡ b → is_some m.owner ≡ c → if◌then◌else◌ {A = Answered Mutex} b (if◌then◌else◌ {A = Answered Mutex} c (Err Busy) (done (recorded.raised_mutex m thread))) (Err Invalid) ≡ Ok (reply, p) → Left p []
       by true true ceiling free made = absurd (err_ok made)
       by true false ceiling free made =
           subst (λ (x : Mutex). Left x []) (ap (λ (x : Reply × Mutex). x.1) (ok_is made))
-          (record { sound = sound-idle o n m at is (Some thread) (idle free (is_nobody m.waiters) refl) (λ some. ceiling); goes = same_queue in_mutex m (recorded.raised m thread) (λ t. refl) })
+          (record { sound = sound-idle o n m at is (Some thread) (idle free (is_nobody m.waiters) refl) (λ some. ceiling); goes = same_queue in_mutex m (recorded.raised_mutex m thread) (λ t. refl) })
       by false c ceiling free made = absurd (err_ok made)
 
   -- a thread that stands nowhere begins to wait, where that closes no ring
   pub claim_sound : (w : Waiter) (owner : ℕ) → ((k : ℕ) → stands_at in_mutex o.mutexes k w.thread ≡ false) → is_open_to owner m ≡ true → w.thread < length o.base → owner ≢ w.thread
-      → reaches (length o.base) (waits_for o.mutexes) owner w.thread ≡ false → IsSound (with_mutex o n (recorded.claimed m w owner))
+      → reaches (length o.base) (waits_for o.mutexes) owner w.thread ≡ false → IsSound (with_mutex o n (recorded.claimed_mutex m w owner))
   claim_sound w owner away free below differs none =
       sound-claimed o n m at is w owner (waits_nowhere w.thread o.mutexes away) free below differs
       (λ h. false≢true (sym none ∙ reaches-complete (waits_for o.mutexes) is.no_ring (length o.base) (low_wait o is) owner w.thread h))

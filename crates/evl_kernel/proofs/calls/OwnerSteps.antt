@@ -5,7 +5,7 @@ use Rattle.std.proofs.lemmas.Bool.{false≢true, and_parts, eqb-true, or_cases, 
 use Rattle.evl_base.specs.declared.refusal.Refusal.TheVariants.{Busy, Invalid, NotOwner}
 use Rattle.evl_base.specs.declared.reply.Reply.{Reply}
 use Rattle.evl_mutex.specs.declared.waiter.Waiter.{Waiter}
-use Rattle.evl_mutex.specs.Queues.{dropped, enqueued, is_nobody, stands_in}
+use Rattle.evl_mutex.specs.Queues.{dropped_from, enqueued_by_rank, is_nobody, stands_in}
 use Rattle.evl_mutex.specs.Mutexes as mutex
 use Rattle.evl_mutex.specs.Mutexes.{Mutex, has_ceiling, is_open_to, is_owned_by, is_waited_for_by}
 use Rattle.evl_mutex.proofs.QueueLaws.{stands-dropped, stands-enqueued}
@@ -47,18 +47,18 @@ module _ (A : ℕ → Type 0) where
     waits : (t : ℕ) → stands_in t m.waiters ≡ true → A t
     waits t is = h t (or_right (is_owned_by t m) (stands_in t m.waiters) is)
 
-    after_claim : (w : Waiter) (owner : ℕ) → A w.thread → A owner → OfRecorded (mutex.claimed m w owner)
-    after_claim w owner mine its t is = by (or_cases (owner == t) (stands_in t (enqueued w m.waiters)) is)
+    after_claim : (w : Waiter) (owner : ℕ) → A w.thread → A owner → OfRecorded (mutex.claimed_mutex m w owner)
+    after_claim w owner mine its t is = by (or_cases (owner == t) (stands_in t (enqueued_by_rank w m.waiters)) is)
       where
         waiting : ((w.thread == t) ≡ true) ⊎ (stands_in t m.waiters ≡ true) → A t
         waiting (inl same) = subst A (eqb-true w.thread t same) mine
         waiting (inr stood) = waits t stood
 
-        by : ((owner == t) ≡ true) ⊎ (stands_in t (enqueued w m.waiters) ≡ true) → A t
+        by : ((owner == t) ≡ true) ⊎ (stands_in t (enqueued_by_rank w m.waiters) ≡ true) → A t
         by (inl same) = subst A (eqb-true owner t same) its
         by (inr stands) = waiting (or_cases (w.thread == t) (stands_in t m.waiters) (sym (stands-enqueued w m.waiters t) ∙ stands))
 
-    after_release : OfRecorded (mutex.released m).after
+    after_release : OfRecorded (mutex.released_mutex m).after
     after_release = by m.waiters refl
       where
         by : (ws : List Waiter) → m.waiters ≡ ws → OfRecorded (mutex.handed_to m ws).after
@@ -69,7 +69,7 @@ module _ (A : ℕ → Type 0) where
             stood true e = e
             stood false e = or_right (w.thread == t) (stands_in t ws) e
 
-    after_raise : (thread : ℕ) → A thread → OfRecorded (mutex.raised m thread)
+    after_raise : (thread : ℕ) → A thread → OfRecorded (mutex.raised_mutex m thread)
     after_raise thread its t is = by (or_cases (thread == t) (stands_in t m.waiters) is)
       where
         by : ((thread == t) ≡ true) ⊎ (stands_in t m.waiters ≡ true) → A t
@@ -77,34 +77,34 @@ module _ (A : ℕ → Type 0) where
         by (inr stood) = waits t stood
 
     after_drop : (thread : ℕ) → OfRecorded (mutex.drop_waiter thread m)
-    after_drop thread t is = by (is_nobody (dropped thread m.waiters) && not (has_ceiling m)) is
+    after_drop thread t is = by (is_nobody (dropped_from thread m.waiters) && not (has_ceiling m)) is
       where
-        stood : stands_in t (dropped thread m.waiters) ≡ true → A t
+        stood : stands_in t (dropped_from thread m.waiters) ≡ true → A t
         stood e = waits t ((and_parts (not (t == thread)) (stands_in t m.waiters) (sym (stands-dropped thread m.waiters t) ∙ e)).1)
 
-        owned : (is_owned_by t m ≡ true) ⊎ (stands_in t (dropped thread m.waiters) ≡ true) → A t
+        owned : (is_owned_by t m ≡ true) ⊎ (stands_in t (dropped_from thread m.waiters) ≡ true) → A t
         owned (inl e) = h t (or_left (is_owned_by t m) (is_waited_for_by t m) e)
         owned (inr e) = stood e
 
-        by : (b : Bool) → (option_map_or (λ (o : ℕ). o == t) (if b then None else m.owner) false || stands_in t (dropped thread m.waiters)) ≡ true → A t
+        by : (b : Bool) → (option_map_or (λ (o : ℕ). o == t) (if b then None else m.owner) false || stands_in t (dropped_from thread m.waiters)) ≡ true → A t
         by true e = stood e
-        by false e = owned (or_cases (is_owned_by t m) (stands_in t (dropped thread m.waiters)) e)
+        by false e = owned (or_cases (is_owned_by t m) (stands_in t (dropped_from thread m.waiters)) e)
 
   left_is : (x p : Mutex) (said reply : Reply) → ◌≡◌ {A = Answered Mutex} (Ok (said, x)) (Ok (reply, p)) → OfRecorded x → OfRecorded p
   left_is x p said reply made h = subst OfRecorded (ap (λ (y : Reply × Mutex). y.1) (ok_is made)) h
 
   after_step : (m p : Mutex) (reply : Reply) (made : MutexStep) → machine m made ≡ Ok (reply, p) → OfNamed made → OfRecorded m → OfRecorded p
-  after_step m p reply (step.claim w owner) is named h = left_is (mutex.claimed m w owner) p _ reply is (after_claim m h w owner named.0 named.1)
+  after_step m p reply (step.claim w owner) is named h = left_is (mutex.claimed_mutex m w owner) p _ reply is (after_claim m h w owner named.0 named.1)
   after_step m p reply (step.release thread) is named h = by (is_open_to thread m) is
     where
-      by : (b : Bool) → if◌then◌else◌ {A = Answered Mutex} b (Ok (handed_told (mutex.released m), (mutex.released m).after)) (Err NotOwner) ≡ Ok (reply, p) → OfRecorded p
-      by true e = left_is (mutex.released m).after p _ reply e (after_release m h)
+      by : (b : Bool) → if◌then◌else◌ {A = Answered Mutex} b (Ok (handed_told (mutex.released_mutex m), (mutex.released_mutex m).after)) (Err NotOwner) ≡ Ok (reply, p) → OfRecorded p
+      by true e = left_is (mutex.released_mutex m).after p _ reply e (after_release m h)
       by false e = absurd (err_ok e)
   after_step m p reply (step.raise thread) is named h = by (has_ceiling m) (is_some m.owner) is
     where
-      by : (b c : Bool) → if◌then◌else◌ {A = Answered Mutex} b (if◌then◌else◌ {A = Answered Mutex} c (Err Busy) (done (mutex.raised m thread))) (Err Invalid) ≡ Ok (reply, p) → OfRecorded p
+      by : (b c : Bool) → if◌then◌else◌ {A = Answered Mutex} b (if◌then◌else◌ {A = Answered Mutex} c (Err Busy) (done (mutex.raised_mutex m thread))) (Err Invalid) ≡ Ok (reply, p) → OfRecorded p
       by true true e = absurd (err_ok e)
-      by true false e = left_is (mutex.raised m thread) p _ reply e (after_raise m h thread named)
+      by true false e = left_is (mutex.raised_mutex m thread) p _ reply e (after_raise m h thread named)
       by false c e = absurd (err_ok e)
   after_step m p reply (step.drop thread) is named h = left_is (mutex.drop_waiter thread m) p _ reply is (after_drop m h thread)
 

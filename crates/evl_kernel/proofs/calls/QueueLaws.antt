@@ -41,7 +41,7 @@ use Rattle.evl_xbuf.specs.Xbufs.{Xbuf}
 use Rattle.evl_kernel.specs.calls.CrossBuffers as through
 use Rattle.evl_kernel.specs.calls.CrossBuffers.{XbufStep, cross_buffer, xbuf_serves, xbuf_wakes}
 use Rattle.evl_kernel.specs.calls.Elements.{ElementStep, on_sem, on_flags, on_xbuf, on_mutex, element, serves, wakes}
-use Rattle.evl_kernel.specs.waiting.Beginnings.{awaited, is_open, step_of_waiter, waits_back}
+use Rattle.evl_kernel.specs.waiting.Beginnings.{awaited_by, is_open, step_of_waiter, waits_back}
 use Rattle.evl_kernel.specs.waiting.Endings.{drop_step}
 use Rattle.evl_kernel.specs.waiting.Standing.{AreSound, in_flags, in_mutex, in_readers, in_sem, in_writers, owners_in, stands_for}
 use Rattle.evl_kernel.proofs.calls.ElementSteps.{nth-done, nth-made, nth-unknown, ok_is}
@@ -252,20 +252,20 @@ module _ (e : Elements) (h : AreSound e) (after : Elements) (reply : Reply) (thr
       let step = recorded.claim w owner.0 in
       let made = nth-made mutex_machine (λ ms. record e { mutexes = ms }) e.mutexes id.0 step reply after is in
       let unclaimed_here : is_open_to owner.0 made.before ≡ true = sym (ap (λ (o : Option MutexRecorded). option_map_or (is_open_to owner.0) o false) made.here) ∙ unclaimed in
-      let claimed_is : mutex.claimed made.before w owner.0 ≡ made.left = ap (λ (x : Reply × MutexRecorded). x.1) (ok_is made.made) in
+      let claimed_is : mutex.claimed_mutex made.before w owner.0 ≡ made.left = ap (λ (x : Reply × MutexRecorded). x.1) (ok_is made.made) in
       let nobody : wakes e (on_mutex id.0 step) ≡ [] = ap (λ (o : Option MutexRecorded). option_map_or (λ (m : MutexRecorded). mutex_wakes m step) o []) made.here in
       subst (λ (z : Elements). Begins e thread (Mutex id) None (wakes e (on_mutex id.0 step)) z) (ap (λ (p : MutexRecorded). record e { mutexes = slice_set e.mutexes id.0 p }) claimed_is ∙ made.after_is)
       (record {
-        sound = mutexes_sound e id.0 made.before (mutex.claimed made.before w owner.0) made.here h
+        sound = mutexes_sound e id.0 made.before (mutex.claimed_mutex made.before w owner.0) made.here h
             (mutexes.claim_sound (owners_in e) id.0 made.before made.here h.mutexes w owner.0 (λ k. away (Mutex (record { 0 = k }))) unclaimed_here (omega (arith, within, length-replicate {A = ℕ} thread_limit 0)) differs
             (ap (λ (n : ℕ). reaches n (waits_for e.mutexes) owner.0 thread) (length-replicate {A = ℕ} thread_limit 0) ∙ (sym (mutexes.back_is e.mutexes owner.0 thread) ∙ none)));
         at_once = λ outcome served. absurd (none-some _ served);
-        waits = λ none. mutex_comes e id.0 made.before (mutex.claimed made.before w owner.0) made.here thread (mutexes.claim_comes made.before w owner.0);
+        waits = λ none. mutex_comes e id.0 made.before (mutex.claimed_mutex made.before w owner.0) made.here thread (mutexes.claim_comes made.before w owner.0);
         quiet = λ none. nobody;
       })
 
   pub begin_goes : (wants : Wanted) → ((on : Awaited) → stands_for e on thread ≡ false) → IsFree e thread wants → element e (step_of_waiter thread rank wants) ≡ Ok (reply, after)
-      → Begins e thread (awaited wants) (serves e (step_of_waiter thread rank wants)) (wakes e (step_of_waiter thread rank wants)) after
+      → Begins e thread (awaited_by wants) (serves e (step_of_waiter thread rank wants)) (wakes e (step_of_waiter thread rank wants)) after
   begin_goes (wanted.Sem id) away free is = of_sem id (away (Sem id)) is
   begin_goes (wanted.Flags id kind) away free is = of_flags id kind (away (Flags id)) is
   begin_goes (wanted.Write id way bytes) away free is = of_write id way bytes (away (Writing id way)) is

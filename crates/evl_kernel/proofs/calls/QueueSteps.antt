@@ -6,7 +6,7 @@ use Rattle.std.proofs.lemmas.Bool.Decides.{nat_tests}
 use Rattle.std.proofs.lemmas.Option.{same_Some}
 use Rattle.evl_base.proofs.Plain.{eqb-swap_false}
 use Rattle.evl_base.specs.declared.reply.Reply.{Reply}
-use Rattle.evl_sync.specs.Queues.{dropped, enqueued, stands_in}
+use Rattle.evl_sync.specs.Queues.{dropped_by, enqueued_by, stands_in}
 use Rattle.evl_sync.specs.Semaphores.{Semaphore, IsSoundSemaphore}
 use Rattle.evl_sync.specs.FlagGroups.{FlagGroup, IsSoundGroup}
 use Rattle.evl_sync.proofs.QueueLaws.{stands-enqueued}
@@ -248,7 +248,7 @@ same_queue has q p same = record { left = λ t is. absurd (false≢true is); sam
 
 -- a waiter comes to a queue, or leaves it
 module _ {A : Type 0} (thread rank : A → ℕ) (ws : List A) where
-  pub enqueued_comes : (w : A) (xs : List A) → xs ≡ enqueued rank w ws → OneComes (λ t. stands_in thread t ws) (λ t. stands_in thread t xs) (thread w)
+  pub enqueued_comes : (w : A) (xs : List A) → xs ≡ enqueued_by rank w ws → OneComes (λ t. stands_in thread t ws) (λ t. stands_in thread t xs) (thread w)
   enqueued_comes w xs is = record {
     there = stood (thread w) ∙ ap (λ (b : Bool). b || stands_in thread (thread w) ws) (eq-eqb (thread w) (thread w) refl);
     same = λ t ne. stood t ∙ ap (λ (b : Bool). b || stands_in thread t ws) (eqb-swap_false t (thread w) ne);
@@ -258,25 +258,25 @@ module _ {A : Type 0} (thread rank : A → ℕ) (ws : List A) where
       stood t = ap (stands_in thread t) is ∙ stands-enqueued thread rank w ws t
 
 module _ {A : Type 0} (thread : A → ℕ) where
-  pub dropped_gone : (t : ℕ) (ws : List A) → stands_in thread t (dropped thread t ws) ≡ false
+  pub dropped_gone : (t : ℕ) (ws : List A) → stands_in thread t (dropped_by thread t ws) ≡ false
   dropped_gone t [] = refl
   dropped_gone t (w ∷ ws) = by (thread w == t) refl (dropped_gone t ws)
     where
-      by : (b : Bool) → (thread w == t) ≡ b → stands_in thread t (dropped thread t ws) ≡ false → stands_in thread t (cond (not b) (w ∷ dropped thread t ws) (dropped thread t ws)) ≡ false
+      by : (b : Bool) → (thread w == t) ≡ b → stands_in thread t (dropped_by thread t ws) ≡ false → stands_in thread t (cond (not b) (w ∷ dropped_by thread t ws) (dropped_by thread t ws)) ≡ false
       by true is rest = rest
-      by false is rest = ap (λ (c : Bool). c || stands_in thread t (dropped thread t ws)) is ∙ rest
+      by false is rest = ap (λ (c : Bool). c || stands_in thread t (dropped_by thread t ws)) is ∙ rest
 
-  pub dropped_stays : (gone t : ℕ) → (t == gone) ≡ false → (ws : List A) → stands_in thread t (dropped thread gone ws) ≡ stands_in thread t ws
+  pub dropped_stays : (gone t : ℕ) → (t == gone) ≡ false → (ws : List A) → stands_in thread t (dropped_by thread gone ws) ≡ stands_in thread t ws
   dropped_stays gone t ne [] = refl
   dropped_stays gone t ne (w ∷ ws) = by (thread w == gone) refl (dropped_stays gone t ne ws)
     where
       differs : (u m v : ℕ) → (u == m) ≡ true → (v == m) ≡ false → (u == v) ≡ false
       differs u m v e f = grind (arith, nat_tests)
 
-      by : (b : Bool) → (thread w == gone) ≡ b → stands_in thread t (dropped thread gone ws) ≡ stands_in thread t ws
-          → stands_in thread t (cond (not b) (w ∷ dropped thread gone ws) (dropped thread gone ws)) ≡ ((thread w == t) || stands_in thread t ws)
+      by : (b : Bool) → (thread w == gone) ≡ b → stands_in thread t (dropped_by thread gone ws) ≡ stands_in thread t ws
+          → stands_in thread t (cond (not b) (w ∷ dropped_by thread gone ws) (dropped_by thread gone ws)) ≡ ((thread w == t) || stands_in thread t ws)
       by true is rest = rest ∙ sym (ap (λ (c : Bool). c || stands_in thread t ws) (differs (thread w) gone t is ne))
       by false is rest = ap (λ (c : Bool). (thread w == t) || c) rest
 
-  pub dropped_drops : (gone : ℕ) (ws : List A) → OneDrops (λ t. stands_in thread t ws) (λ t. stands_in thread t (dropped thread gone ws)) gone
+  pub dropped_drops : (gone : ℕ) (ws : List A) → OneDrops (λ t. stands_in thread t ws) (λ t. stands_in thread t (dropped_by thread gone ws)) gone
   dropped_drops gone ws = record { gone = dropped_gone gone ws; same = λ t ne. dropped_stays gone t ne ws }

@@ -7,11 +7,11 @@ use Rattle.evl_base.specs.declared.refusal.Refusal.TheVariants.{Again, Range}
 use Rattle.evl_base.specs.declared.reply.Reply.{Reply}
 use Rattle.evl_base.specs.declared.reply.Reply.TheVariants.{Done}
 use Rattle.evl_sync.specs.declared.waiter.Waiter.{Waiter}
-use Rattle.evl_sync.specs.Queues.{IsKept, dropped, enqueued, is_nobody, stands_in}
+use Rattle.evl_sync.specs.Queues.{IsKept, dropped_by, enqueued_by, is_nobody, stands_in}
 use Rattle.evl_sync.specs.Semaphores as sem
 use Rattle.evl_sync.specs.Semaphores.{Semaphore, IsSoundSemaphore}
 use Rattle.evl_sync.proofs.QueueLaws.{kept-dropped, kept-enqueued, kept-rest}
-use Rattle.evl_kernel.specs.calls.Effects.{replied}
+use Rattle.evl_kernel.specs.calls.Effects.{reply_by}
 use Rattle.evl_kernel.specs.calls.Semaphores as semaphore
 use Rattle.evl_kernel.specs.calls.Semaphores.{sem_wakes, sem_serves, semaphore as machine}
 use Rattle.evl_kernel.specs.waiting.Standing.{in_sem}
@@ -32,7 +32,7 @@ less_count q h = record {
 pub get_left : (q p : Semaphore) (reply : Reply) → IsSoundSemaphore q → machine q semaphore.get ≡ Ok (reply, p) → Left q p []
 get_left q p reply h = by (q.count == 0)
   where
-    by : (b : Bool) → replied (λ (u : Unit {0}). Done) (if b then Err Again else Ok (tt, record q { count = q.count - 1 })) ≡ Ok (reply, p) → Left q p []
+    by : (b : Bool) → reply_by (λ (u : Unit {0}). Done) (if b then Err Again else Ok (tt, record q { count = q.count - 1 })) ≡ Ok (reply, p) → Left q p []
     by true is = absurd (err_ok is)
     by false is = subst (λ (x : Semaphore). Left q x []) (ap (λ (x : Reply × Semaphore). x.1) (ok_is is)) (less_count q h)
 
@@ -66,7 +66,7 @@ put_left q p reply h = by q.waiters refl
     below a b e = grind (arith, nat_tests)
 
     raised : q.waiters ≡ [] → (b : Bool) → nat_lt q.count 2147483647 ≡ b
-        → replied (λ (u : Option ℕ). Done) (if b then Ok (None, record q { count = q.count + 1 }) else Err Range) ≡ Ok (reply, p) → Left q p []
+        → reply_by (λ (u : Option ℕ). Done) (if b then Ok (None, record q { count = q.count + 1 }) else Err Range) ≡ Ok (reply, p) → Left q p []
     raised none true less is =
         subst (λ (x : Semaphore). Left q x []) (ap (λ (x : Reply × Semaphore). x.1) (ok_is is))
         (record {
@@ -78,7 +78,7 @@ put_left q p reply h = by q.waiters refl
         })
     raised none false less is = absurd (err_ok is)
 
-    by : (ws : List Waiter) → q.waiters ≡ ws → replied (λ (u : Option ℕ). Done) (sem.put_before q ws) ≡ Ok (reply, p) → Left q p (semaphore.head_served ws)
+    by : (ws : List Waiter) → q.waiters ≡ ws → reply_by (λ (u : Option ℕ). Done) (sem.put_before q ws) ≡ Ok (reply, p) → Left q p (semaphore.head_served ws)
     by [] are is = raised are (nat_lt q.count 2147483647) refl is
     by (w ∷ ws) are is =
         let kept = subst (IsKept (λ (x : Waiter). x.thread) (λ x. x.rank)) are h.queue in
@@ -113,7 +113,7 @@ begun q p reply w h away within is =
     none_some e = cc
 
     got : Bool → Bool × Semaphore
-    got b = if b then (false, record q { waiters = enqueued (λ v. v.rank) w q.waiters }) else (true, record q { count = q.count - 1 })
+    got b = if b then (false, record q { waiters = enqueued_by (λ v. v.rank) w q.waiters }) else (true, record q { count = q.count - 1 })
 
     by : (b : Bool) → (q.count == 0) ≡ b → Begun q (got b).1 w.thread (if (got b).0 then Some Done else None)
     by true none = record {
@@ -122,7 +122,7 @@ begun q p reply w h away within is =
         queue = kept-enqueued (λ (v : Waiter). v.thread) (λ v. v.rank) w q.waiters away within h.queue;
       };
       at_once = λ outcome s. absurd (none_some s);
-      waits = λ s. enqueued_comes (λ (v : Waiter). v.thread) (λ v. v.rank) q.waiters w (enqueued (λ v. v.rank) w q.waiters) refl;
+      waits = λ s. enqueued_comes (λ (v : Waiter). v.thread) (λ v. v.rank) q.waiters w (enqueued_by (λ v. v.rank) w q.waiters) refl;
     }
     by false some = record {
       sound = (less_count q h).sound;
@@ -137,7 +137,7 @@ drop_sound thread q h = record {
   queue = kept-dropped (λ (w : Waiter). w.thread) (λ w. w.rank) thread q.waiters h.queue;
 }
   where
-    nobody_left : (thread : ℕ) (ws : List Waiter) → is_nobody (dropped (λ (w : Waiter). w.thread) thread ws) ≡ false → is_nobody ws ≡ false
+    nobody_left : (thread : ℕ) (ws : List Waiter) → is_nobody (dropped_by (λ (w : Waiter). w.thread) thread ws) ≡ false → is_nobody ws ≡ false
     nobody_left thread [] e = e
     nobody_left thread (w ∷ ws) e = refl
 

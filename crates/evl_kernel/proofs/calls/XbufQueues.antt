@@ -12,20 +12,20 @@ use Rattle.evl_base.specs.declared.stage.Stage.{Stage}
 use Rattle.evl_base.specs.declared.way.Way.{Way}
 use Rattle.evl_base.specs.declared.way.Way.TheVariants.{In, Out}
 use Rattle.evl_sync.specs.Steps.{unless}
-use Rattle.evl_sync.specs.Queues.{dropped, stands_in}
+use Rattle.evl_sync.specs.Queues.{dropped_by, stands_in}
 use Rattle.evl_xbuf.specs.declared.waiters.Reader.{Reader}
 use Rattle.evl_xbuf.specs.declared.waiters.Writer.{Writer}
 use Rattle.evl_xbuf.specs.Arrivals.{readers_in, writers_in}
 use Rattle.evl_xbuf.specs.Streams as streams
-use Rattle.evl_xbuf.specs.Streams.{IsKeptStream, IsSoundStream, Service, Stream, Wrote, Got, can_read, can_write, given, out_of_range, read, served, too_big, with_bytes, with_reader, with_writer, without, written}
+use Rattle.evl_xbuf.specs.Streams.{IsKeptStream, IsSoundStream, Service, Stream, Wrote, Got, can_read, can_write, bytes_given, out_of_range, bytes_read, services_made as served, too_big, with_bytes, with_reader, with_writer, without, bytes_written}
 use Rattle.evl_xbuf.specs.Xbufs as xbufs
 use Rattle.evl_xbuf.specs.Xbufs.{IsSoundXbuf, Xbuf, reading_stage, stage_refusal, stream, unless_refused, with_stream, writing_stage}
 use Rattle.evl_xbuf.proofs.StreamLaws.{kept-without}
 use Rattle.evl_xbuf.proofs.SoundLaws.{kept-can_write, kept-read, sound-dropped, sound-read, sound-with_reader, sound-with_writer, sound-written}
 use Rattle.evl_xbuf.proofs.LeavingLaws.{is_among, served_go}
-use Rattle.evl_kernel.specs.calls.Effects.{replied}
+use Rattle.evl_kernel.specs.calls.Effects.{reply_by}
 use Rattle.evl_kernel.specs.calls.CrossBuffers as through
-use Rattle.evl_kernel.specs.calls.CrossBuffers.{answered, at_once, bytes_told, cross_buffer as machine, done_at_once, read_at_once, served_beside, served_in, service_told, xbuf_serves, xbuf_wakes}
+use Rattle.evl_kernel.specs.calls.CrossBuffers.{answer_in, at_once, bytes_told, cross_buffer as machine, done_at_once, read_at_once, served_beside, served_in, service_told, xbuf_serves, xbuf_wakes}
 use Rattle.evl_kernel.specs.waiting.Standing.{in_readers, in_writers, is_served}
 use Rattle.evl_kernel.proofs.calls.ElementSteps.{err_ok, ok_is}
 use Rattle.evl_kernel.proofs.calls.QueueSteps.{dropped_gone, dropped_stays}
@@ -186,14 +186,14 @@ module _ (x : Xbuf) where
 
   -- a write and a read that are done
   written_left : IsSoundXbuf x → (way : Way) (bytes : List ℕ) → can_write (stream x way) bytes ≡ true
-      → Left x (with_stream x way (served (written (stream x way) bytes)).1) (map service_told (served (written (stream x way) bytes)).0)
+      → Left x (with_stream x way (served (bytes_written (stream x way) bytes)).1) (map service_told (served (bytes_written (stream x way) bytes)).0)
   written_left h way bytes can =
-      flows h way (written (stream x way) bytes) (kept-can_write (stream x way) bytes (sound_way h way) can) (sound-written (stream x way) bytes (sound_way h way) can)
+      flows h way (bytes_written (stream x way) bytes) (kept-can_write (stream x way) bytes (sound_way h way) can) (sound-written (stream x way) bytes (sound_way h way) can)
       (λ t is. is) (λ t is. is) (λ t. refl) (λ t. refl)
 
-  read_left : IsSoundXbuf x → (way : Way) (len : ℕ) → Left x (with_stream x way (served (read (stream x way) len)).1) (map service_told (served (read (stream x way) len)).0)
+  read_left : IsSoundXbuf x → (way : Way) (len : ℕ) → Left x (with_stream x way (served (bytes_read (stream x way) len)).1) (map service_told (served (bytes_read (stream x way) len)).0)
   read_left h way len =
-      flows h way (read (stream x way) len) (kept-read (stream x way) len (sound_way h way).kept) (sound-read (stream x way) len (sound_way h way))
+      flows h way (bytes_read (stream x way) len) (kept-read (stream x way) len (sound_way h way).kept) (sound-read (stream x way) len (sound_way h way))
       (λ t is. is) (λ t is. is) (λ t. refl) (λ t. refl)
 
 -- the steps that calls ask for
@@ -202,29 +202,29 @@ module _ (x y : Xbuf) (said : Reply) (h : IsSoundXbuf x) where
   write_left stage way bytes = by (stage_refusal (writing_stage way) stage) (too_big (stream x way) bytes) (can_write (stream x way) bytes) refl
     where
       asked : Option Refusal → Option Refusal → Bool → Result (List Service × Xbuf) Refusal
-      asked a b c = unless a (unless_refused x way (unless b (if c then Ok (served (written (stream x way) bytes)) else Err Again)))
+      asked a b c = unless a (unless_refused x way (unless b (if c then Ok (served (bytes_written (stream x way) bytes)) else Err Again)))
 
-      by : (a b : Option Refusal) (c : Bool) → can_write (stream x way) bytes ≡ c → replied (λ (u : List Service). reply.Done) (asked a b c) ≡ Ok (said, y)
-          → Left x y (map service_told (served_in (answered (asked a b c))))
+      by : (a b : Option Refusal) (c : Bool) → can_write (stream x way) bytes ≡ c → reply_by (λ (u : List Service). reply.Done) (asked a b c) ≡ Ok (said, y)
+          → Left x y (map service_told (served_in (answer_in (asked a b c))))
       by (Some e) b c can is = absurd (err_ok is)
       by None (Some e) c can is = absurd (err_ok is)
       by None None false can is = absurd (err_ok is)
       by None None true can is =
-          subst (λ (z : Xbuf). Left x z (map service_told (served (written (stream x way) bytes)).0)) (ap (λ (p : Reply × Xbuf). p.1) (ok_is is)) (written_left x h way bytes can)
+          subst (λ (z : Xbuf). Left x z (map service_told (served (bytes_written (stream x way) bytes)).0)) (ap (λ (p : Reply × Xbuf). p.1) (ok_is is)) (written_left x h way bytes can)
 
   pub read_left_of : (stage : Stage) (way : Way) (len : ℕ) → machine x (through.read stage way len) ≡ Ok (said, y) → Left x y (xbuf_wakes x (through.read stage way len))
   read_left_of stage way len = by (out_of_range len) (stage_refusal (reading_stage way) stage) (can_read (stream x way) len)
     where
       asked : Option Refusal → Option Refusal → Bool → Result ((List ℕ × List Service) × Xbuf) Refusal
-      asked a b c = unless a (unless b (unless_refused x way (if c then Ok (with_bytes (given (stream x way) len) (served (read (stream x way) len))) else Err Again)))
+      asked a b c = unless a (unless b (unless_refused x way (if c then Ok (with_bytes (bytes_given (stream x way) len) (served (bytes_read (stream x way) len))) else Err Again)))
 
-      by : (a b : Option Refusal) (c : Bool) → replied (λ (got : List ℕ × List Service). bytes_told got.0) (asked a b c) ≡ Ok (said, y)
-          → Left x y (map service_told (served_beside (answered (asked a b c))))
+      by : (a b : Option Refusal) (c : Bool) → reply_by (λ (got : List ℕ × List Service). bytes_told got.0) (asked a b c) ≡ Ok (said, y)
+          → Left x y (map service_told (served_beside (answer_in (asked a b c))))
       by (Some e) b c is = absurd (err_ok is)
       by None (Some e) c is = absurd (err_ok is)
       by None None false is = absurd (err_ok is)
       by None None true is =
-          subst (λ (z : Xbuf). Left x z (map service_told (served (read (stream x way) len)).0)) (ap (λ (p : Reply × Xbuf). p.1) (ok_is is)) (read_left x h way len)
+          subst (λ (z : Xbuf). Left x z (map service_told (served (bytes_read (stream x way) len)).0)) (ap (λ (p : Reply × Xbuf). p.1) (ok_is is)) (read_left x h way len)
 
 -- a wait that begins: it is served, or it goes on
 pub record Begun (x y : Xbuf) (queue : Queue) (thread : ℕ) (told : Option Reply) (woken : List (ℕ × Reply)) : Type 0 where
@@ -314,14 +314,14 @@ module _ (x y : Xbuf) (said : Reply) (h : IsSoundXbuf x) (thread : ℕ) (within 
     where
       asked : Option Refusal → Option Refusal → Bool → Result (Option (List Service) × Xbuf) Refusal
       asked a b c =
-          unless a (unless_refused x way (unless b (Ok (if c then streams.at_once (served (written (stream x way) bytes)) else (None, with_writer (stream x way) thread bytes)))))
+          unless a (unless_refused x way (unless b (Ok (if c then streams.at_once (served (bytes_written (stream x way) bytes)) else (None, with_writer (stream x way) thread bytes)))))
 
-      by : (a b : Option Refusal) → too_big (stream x way) bytes ≡ b → (c : Bool) → can_write (stream x way) bytes ≡ c → replied (λ (u : Option (List Service)). reply.Begun) (asked a b c) ≡ Ok (said, y)
-          → Begun x y (writing way) thread (done_at_once (at_once (answered (asked a b c)))) (map service_told (served_in (at_once (answered (asked a b c)))))
+      by : (a b : Option Refusal) → too_big (stream x way) bytes ≡ b → (c : Bool) → can_write (stream x way) bytes ≡ c → reply_by (λ (u : Option (List Service)). reply.Begun) (asked a b c) ≡ Ok (said, y)
+          → Begun x y (writing way) thread (done_at_once (at_once (answer_in (asked a b c)))) (map service_told (served_in (at_once (answer_in (asked a b c)))))
       by (Some e) b short c can is = absurd (err_ok is)
       by None (Some e) short c can is = absurd (err_ok is)
       by None None short true can is =
-          subst (λ (z : Xbuf). Begun x z (writing way) thread (Some reply.Done) (map service_told (served (written (stream x way) bytes)).0)) (ap (λ (p : Reply × Xbuf). p.1) (ok_is is))
+          subst (λ (z : Xbuf). Begun x z (writing way) thread (Some reply.Done) (map service_told (served (bytes_written (stream x way) bytes)).0)) (ap (λ (p : Reply × Xbuf). p.1) (ok_is is))
           (at_once_as x _ (writing way) thread reply.Done _ (written_left x h way bytes can))
       by None None short false can is =
           subst (λ (z : Xbuf). Begun x z (writing way) thread None []) (ap (λ (p : Reply × Xbuf). p.1) (ok_is is))
@@ -333,15 +333,15 @@ module _ (x y : Xbuf) (said : Reply) (h : IsSoundXbuf x) (thread : ℕ) (within 
     where
       asked : Option Refusal → Option Refusal → Bool → Result (Option (List ℕ × List Service) × Xbuf) Refusal
       asked a b c =
-          unless a (unless b (Ok (xbufs.beside x way (if c then streams.at_once (with_bytes (given (stream x way) len) (served (read (stream x way) len))) else (None, with_reader (stream x way) thread len)))))
+          unless a (unless b (Ok (xbufs.with_other_way x way (if c then streams.at_once (with_bytes (bytes_given (stream x way) len) (served (bytes_read (stream x way) len))) else (None, with_reader (stream x way) thread len)))))
 
-      by : (a b : Option Refusal) (c : Bool) → can_read (stream x way) len ≡ c → replied (λ (u : Option (List ℕ × List Service)). reply.Begun) (asked a b c) ≡ Ok (said, y)
-          → Begun x y (reading way) thread (read_at_once (at_once (answered (asked a b c)))) (map service_told (served_beside (at_once (answered (asked a b c)))))
+      by : (a b : Option Refusal) (c : Bool) → can_read (stream x way) len ≡ c → reply_by (λ (u : Option (List ℕ × List Service)). reply.Begun) (asked a b c) ≡ Ok (said, y)
+          → Begun x y (reading way) thread (read_at_once (at_once (answer_in (asked a b c)))) (map service_told (served_beside (at_once (answer_in (asked a b c)))))
       by (Some e) b c can is = absurd (err_ok is)
       by None (Some e) c can is = absurd (err_ok is)
       by None None true can is =
-          subst (λ (z : Xbuf). Begun x z (reading way) thread (Some (bytes_told (given (stream x way) len))) (map service_told (served (read (stream x way) len)).0)) (ap (λ (p : Reply × Xbuf). p.1) (ok_is is))
-          (at_once_as x _ (reading way) thread (bytes_told (given (stream x way) len)) _ (read_left x h way len))
+          subst (λ (z : Xbuf). Begun x z (reading way) thread (Some (bytes_told (bytes_given (stream x way) len))) (map service_told (served (bytes_read (stream x way) len)).0)) (ap (λ (p : Reply × Xbuf). p.1) (ok_is is))
+          (at_once_as x _ (reading way) thread (bytes_told (bytes_given (stream x way) len)) _ (read_left x h way len))
       by None None false can is =
           subst (λ (z : Xbuf). Begun x z (reading way) thread None []) (ap (λ (p : Reply × Xbuf). p.1) (ok_is is))
           (waits_as x _ (reading way) thread (sound_with x h way _ (sound-with_reader (stream x way) thread len (sound_way x h way) away within can)) (reader_came x thread way len))
@@ -372,11 +372,11 @@ drop_left x h thread way = record {
     kept : IsKeptStream changed
     kept = kept-without (stream x way) thread (sound_way x h way).kept
 
-    stays : {A : Type 0} (of : A → ℕ) (ws : List A) (t : ℕ) → stands_in of t (dropped of thread ws) ≡ true → stands_in of t ws ≡ true
+    stays : {A : Type 0} (of : A → ℕ) (ws : List A) (t : ℕ) → stands_in of t (dropped_by of thread ws) ≡ true → stands_in of t ws ≡ true
     stays of ws t is = by (t == thread) refl
       where
         by : (b : Bool) → (t == thread) ≡ b → stands_in of t ws ≡ true
-        by true same = absurd (false≢true (sym (dropped_gone of thread ws) ∙ (ap (λ (m : ℕ). stands_in of m (dropped of thread ws)) (sym (eqb-true t thread same)) ∙ is)))
+        by true same = absurd (false≢true (sym (dropped_gone of thread ws) ∙ (ap (λ (m : ℕ). stands_in of m (dropped_by of thread ws)) (sym (eqb-true t thread same)) ∙ is)))
         by false ne = sym (dropped_stays of thread t ne ws) ∙ is
 
     old_reads : (t : ℕ) → reads t changed ≡ true → reads t (stream x way) ≡ true

@@ -18,7 +18,7 @@ use Rattle.evl_kernel.specs.calls.Serving.{answer}
 use Rattle.evl_kernel.specs.state.Callbacks.{Whereabouts}
 use Rattle.evl_kernel.specs.settling.Fires.{FollowsByCalls, AddsByCalls}
 use Rattle.evl_kernel.specs.settling.Settled.{Appends, Performs}
-use Rattle.evl_kernel.specs.histories.Histories.{History, opened, Run, Follows, Step, EntryStep, IsLegal, Extends}
+use Rattle.evl_kernel.specs.histories.Histories.{History, opened_kernel, Run, Follows, Step, EntryStep, IsLegal, Extends}
 
 -- two lists behind the same one
 append_cancel : {A : Type 0} (xs ys zs : List A) → xs ++ ys ≡ xs ++ zs → ys ≡ zs
@@ -38,7 +38,7 @@ run_more old (first ∷ entries) plays mid entry own new (its, rest, next, split
 
 pub legal_more : (old new : History) (entry : Entry) (own : List Play) → IsLegal old → Extends old new entry own → IsLegal new
 legal_more old new entry own legal more =
-    rw (more.board, more.bank, more.entries, more.plays_too) (run_more (opened old) old.entries old.plays old.state entry own new.state legal more.step)
+    rw (more.board, more.bank, more.entries, more.plays_too) (run_more (opened_kernel old) old.entries old.plays old.state entry own new.state legal more.step)
 
 -- what was answered and then settled is a step
 pub answered_step : (old : State) (caller : ℕ) (asked : Call) (reply : Reply) (mid new : State) (plays : List Play)

@@ -10,7 +10,7 @@ use Rattle.evl_base.specs.declared.reply.Reply.{Reply}
 use Rattle.evl_base.specs.declared.reply.Reply.TheVariants.{Done, TimedOut, Begun, Count, Bits, Number, Bytes, Chosen, Handed}
 use Rattle.evl_pipeline.specs.Lines as lines
 use Rattle.evl_mutex.specs.Mutexes.{IsSoundMutex, ceiling_of}
-use Rattle.evl_mutex.specs.Queues.{dropped}
+use Rattle.evl_mutex.specs.Queues.{dropped_from as dropped}
 use Rattle.evl_mutex.proofs.SoundLaws.{all-at}
 use Rattle.evl_sched.specs.Threads.{stage_of}
 use Rattle.evl_kernel.specs.declared.waits.Awaited.{Awaited}
@@ -18,18 +18,18 @@ use Rattle.evl_kernel.specs.declared.waits.Awaited.TheVariants.{Sem, Flags, Writ
 use Rattle.evl_kernel.specs.declared.waits.Wait.{Wait}
 use Rattle.evl_kernel.specs.declared.waits.Wanted.{Wanted}
 use Rattle.evl_kernel.specs.declared.waits.Wanted.TheVariants as wanted
-use Rattle.evl_kernel.specs.state.States.{State, Elements, Banked, with_lines, with_clock, moved, come_home}
+use Rattle.evl_kernel.specs.state.States.{State, Elements, Banked, with_lines, with_clock, with_banked, come_home}
 use Rattle.evl_kernel.specs.calls.Effects.{Answered, Effect, done, lifted, leaving}
 use Rattle.evl_kernel.specs.calls.Elements.{ElementStep, element, elements, with_elements, touched, wakes, serves}
 use Rattle.evl_kernel.specs.calls.LineCalls as line_call
 use Rattle.evl_kernel.specs.calls.ThreadCalls.{rank_of}
-use Rattle.evl_kernel.specs.waiting.Waits.{wait_of, wait_at, with_wait, going_on, ended_by, is_past, suspended, begun, all_woken}
-use Rattle.evl_kernel.specs.waiting.Beginnings.{awaited, begin_refusal, begin_step, beginning, step_of_waiter}
+use Rattle.evl_kernel.specs.waiting.Waits.{wait_of, wait_at, with_wait, going_on, ended_by, is_past, suspended, wait_begun, all_woken}
+use Rattle.evl_kernel.specs.waiting.Beginnings.{awaited_by, begin_refusal, begin_step, beginning, step_of_waiter}
 use Rattle.evl_kernel.specs.waiting.Endings.{finish, goes_inband, got_mutex, has_got_mutex, inband_if, outcome_of}
 use Rattle.evl_kernel.specs.calls.TimerCalls.{posted_if}
 use Rattle.evl_kernel.specs.calls.Families.{LineStep, request, free, arrive, post, stall, unstall, line_effect, Task, on_lines, on_clock, on_threads, on_element, on_staged, begins, ends, performing, task_of, raises}
 use Rattle.evl_kernel.specs.calls.Serving.{general_refusal, answer, ends_a_wait}
-use Rattle.evl_kernel.specs.settling.Settling.{acted, deadline_left, given, nothing}
+use Rattle.evl_kernel.specs.settling.Settling.{after_action as acted, deadline_left, answer_given as given, nothing}
 use Rattle.evl_kernel.specs.histories.Histories.{Follows, Step}
 use Rattle.evl_kernel.specs.histories.MutexRests.{is_for, is_done, got_it, OnlyLeft, SettlingOnlyDrops, OthersOnlyDrop, is_of_mutexes, left_by, wants_mutex, touches_mutex}
 use Rattle.evl_kernel.proofs.calls.QueueLaws.{Begins, begin_goes}
@@ -113,7 +113,7 @@ module _ (n : ℕ) (base : State) where
   since_home : (s : State) (number : ℕ) → Since n base s → Since n base (come_home s number)
   since_home s number h = by (slice_get s.bank number)
     where
-      by : (o : Option Banked) → Since n base (option_map_or (moved s true number) o s)
+      by : (o : Option Banked) → Since n base (option_map_or (with_banked s true number) o s)
       by None = h
       by (Some b) = h
 
@@ -128,14 +128,14 @@ module _ (n : ℕ) (base : State) where
     dropped = λ s k t h there. since_home (with_clock s _) t.callback h;
   }
 
-  since_returned : (s : State) (o : Option (lines.Installed ℕ)) → Since n base s → Since n base (line_call.returned s o)
+  since_returned : (s : State) (o : Option (lines.Installed ℕ)) → Since n base s → Since n base (line_call.with_callback_back s o)
   since_returned s None h = h
   since_returned s (Some at) h = since_home s at.callback h
 
   since_line : (s : State) (step : LineStep) → Since n base s → Leaves (Since n base) (line_effect s step)
   since_line s (request line stage number tag) h = leaves-known (Since n base) (slice_get s.bank number) _ (λ b here.
       leaves-refused (Since n base) (lines.request_refusal s.lines line stage b.handler.kinds) _ (λ passed. leaves-unless (Since n base) (not b.home) Busy
-      (done (moved (with_lines s (lines.requested s.lines line stage number tag)) false number b)) h))
+      (done (with_banked (with_lines s (lines.requested s.lines line stage number tag)) false number b)) h))
   since_line s (free line stage) h = leaves-refused (Since n base) (lines.free_refusal s.lines line stage) _ (λ passed.
       since_returned (with_lines s (lines.freed s.lines line stage)) (lines.installed_at s.lines stage line) h)
   since_line s (arrive line) h = leaves-refused (Since n base) (lines.post_refusal line) _ (λ passed. h)
@@ -143,7 +143,7 @@ module _ (n : ℕ) (base : State) where
   since_line s (stall stage) h = h
   since_line s (unstall stage) h = h
 
-else_wanted : (n : ℕ) (wants : Wanted) → wants_mutex wants ≡ false → is_for n (awaited wants) ≡ false
+else_wanted : (n : ℕ) (wants : Wanted) → wants_mutex wants ≡ false → is_for n (awaited_by wants) ≡ false
 else_wanted n (wanted.Sem id) e = refl
 else_wanted n (wanted.Flags id kind) e = refl
 else_wanted n (wanted.Write id way bytes) e = refl
@@ -166,7 +166,7 @@ module _ (n count : ℕ) (few : count ≤ thread_limit) (s : State) (h : IsPrope
       step = begin_step s caller wants
 
       on : Awaited
-      on = awaited wants
+      on = awaited_by wants
 
       elsewhere : is_for n on ≡ false
       elsewhere = else_wanted n wants other
@@ -175,7 +175,7 @@ module _ (n count : ℕ) (few : count ≤ thread_limit) (s : State) (h : IsPrope
       idle_got = ap (got_it n) passed.idle
 
       ended_here : (after : Elements) → after.mutexes ≡ (elements s).mutexes → (served : List (ℕ × Reply)) → Begins (elements s) caller on (serves (elements s) step) served after
-          → (o : Option Reply) → serves (elements s) step ≡ o → Since n s (all_woken (begun (with_elements s after) caller on until o) served)
+          → (o : Option Reply) → serves (elements s) step ≡ o → Since n s (all_woken (wait_begun (with_elements s after) caller on until o) served)
       ended_here after same served it (Some outcome) told =
           let v : Option Wait = Some (ended_by outcome (going_on on)) in
           let x : State = with_wait (with_elements s after) caller v in
@@ -190,7 +190,7 @@ module _ (n count : ℕ) (few : count ≤ thread_limit) (s : State) (h : IsPrope
               by true same = subst (λ (k : ℕ). IsElse n (wait_of (slice_set s.waits caller v) k)) (sym (eqb-true t caller same))
                   (⊎_elim (λ (e : slice_index_or (slice_set s.waits caller v) caller None ≡ v). subst (IsElse n) (sym e) its) (λ (e : slice_index_or (slice_set s.waits caller v) caller None ≡ None). subst (IsElse n) (sym e) refl) (index_set s.waits caller v))
               by false ne = subst (IsElse n) (sym (wait_there s caller v t ne)) was
-      ended_here after same served it None told = subst (λ (ws : List (ℕ × Reply)). Since n s (all_woken (begun (with_elements s after) caller on until None) ws)) (sym (it.quiet told)) (by (is_past s.clock.now until))
+      ended_here after same served it None told = subst (λ (ws : List (ℕ × Reply)). Since n s (all_woken (wait_begun (with_elements s after) caller on until None) ws)) (sym (it.quiet told)) (by (is_past s.clock.now until))
         where
           v : Option Wait
           v = Some (going_on on)
@@ -203,7 +203,7 @@ module _ (n count : ℕ) (few : count ≤ thread_limit) (s : State) (h : IsPrope
           by false = waits_now
 
       left : begin_refusal s caller wants ≡ None → (a : Answered Elements) → element (elements s) step ≡ a
-          → Leaves (Since n s) (lifted (λ e. all_woken (begun (with_elements s e) caller on until (serves (elements s) step)) (wakes (elements s) step)) a)
+          → Leaves (Since n s) (lifted (λ e. all_woken (wait_begun (with_elements s e) caller on until (serves (elements s) step)) (wakes (elements s) step)) a)
       left none (Err refusal) is = tt
       left none (Ok (reply, after)) is =
           let it = begin_goes (elements s) h.proper.sound after reply caller (rank_of s caller) (omega (arith, passed.there, h.threads_are, few)) wants

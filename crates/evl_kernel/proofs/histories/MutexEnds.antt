@@ -10,7 +10,7 @@ use Rattle.evl_base.specs.declared.refusal.Refusal.{Refusal}
 use Rattle.evl_base.specs.declared.reply.Reply.{Reply}
 use Rattle.evl_base.specs.declared.reply.Reply.TheVariants.{Done, TimedOut, Begun, Count, Bits, Number, Bytes, Chosen, Handed}
 use Rattle.evl_pipeline.proofs.PortLaws.{at-none}
-use Rattle.evl_mutex.specs.Mutexes.{Mutex as MutexRecorded, released}
+use Rattle.evl_mutex.specs.Mutexes.{Mutex as MutexRecorded, released_mutex}
 use Rattle.evl_kernel.specs.declared.waits.Awaited.{Awaited}
 use Rattle.evl_kernel.specs.declared.waits.Awaited.TheVariants.{Sem, Flags, Writing, Reading, Mutex}
 use Rattle.evl_kernel.specs.declared.waits.Wait.{Wait}
@@ -22,15 +22,15 @@ use Rattle.evl_kernel.specs.calls.Mutexes as mutex_step
 use Rattle.evl_kernel.specs.calls.Mutexes.{mutex_wakes}
 use Rattle.evl_kernel.specs.calls.Semaphores.{one_served}
 use Rattle.evl_kernel.specs.calls.Elements.{ElementStep, on_sem, on_flags, on_xbuf, on_mutex, element, elements, with_elements, touched, wakes, serves}
-use Rattle.evl_kernel.specs.waiting.Waits.{is_timeout, wait_of, wait_at, with_wait, going_on, ended_by, is_past, suspended, begun, woken, all_woken}
-use Rattle.evl_kernel.specs.waiting.Beginnings.{awaited, begin_refusal, begin_step, beginning}
+use Rattle.evl_kernel.specs.waiting.Waits.{is_timeout, wait_of, wait_at, with_wait, going_on, ended_by, is_past, suspended, wait_begun as begun, woken, all_woken}
+use Rattle.evl_kernel.specs.waiting.Beginnings.{awaited_by, begin_refusal, begin_step, beginning}
 use Rattle.evl_kernel.specs.waiting.Endings.{drop_step, finish, goes_inband, inband_if, is_of_mutex, leaving_queue, outcome_of}
 use Rattle.evl_kernel.specs.calls.TimerCalls.{posted_if}
 use Rattle.evl_kernel.specs.calls.ThreadCalls.{rank_of}
 use Rattle.evl_kernel.specs.state.Openings.{opening}
 use Rattle.evl_kernel.specs.calls.Serving.{ends_a_wait}
 use Rattle.evl_kernel.specs.settling.Settling.{deadline_left}
-use Rattle.evl_kernel.specs.histories.Histories.{History, IsLegal, opened}
+use Rattle.evl_kernel.specs.histories.Histories.{History, IsLegal, opened_kernel}
 use Rattle.evl_kernel.specs.waiting.Standing.{is_served}
 use Rattle.evl_kernel.specs.histories.MutexRests.{is_for, is_done, got_it, is_of_mutexes, wants_mutex}
 use Rattle.evl_kernel.specs.histories.MutexEnds.{ends_rightly, MutexWaitsEndRightly}
@@ -131,7 +131,7 @@ module _ (count : ℕ) (few : count ≤ thread_limit) where
         by_step (on_sem n step) asked = beside (on_sem n step) asked refl
         by_step (on_flags n step) asked = beside (on_flags n step) asked refl
         by_step (on_xbuf n step) asked = beside (on_xbuf n step) asked refl
-        by_step (on_mutex n (mutex_step.release thread)) asked = on_mutexes n (mutex_step.release thread) (λ m. ((released m).next, refl))
+        by_step (on_mutex n (mutex_step.release thread)) asked = on_mutexes n (mutex_step.release thread) (λ m. ((released_mutex m).next, refl))
         by_step (on_mutex n (mutex_step.raise thread)) asked = on_mutexes n (mutex_step.raise thread) (λ m. (None, refl))
         by_step (on_mutex n (mutex_step.claim w owner)) asked = absurd (false≢true asked)
         by_step (on_mutex n (mutex_step.drop t)) asked = absurd (false≢true asked)
@@ -181,7 +181,7 @@ module _ (count : ℕ) (few : count ≤ thread_limit) where
         step = begin_step s caller wants
 
         on : Awaited
-        on = awaited wants
+        on = awaited_by wants
 
         waits : (after : Elements) → AllRightly (begun (with_elements s after) caller on until None)
         waits after = by (is_past s.clock.now until)
@@ -225,10 +225,10 @@ module _ (count : ℕ) (few : count ≤ thread_limit) where
                 (λ t served n. else_there elsewhere t n (else_at n count few s h after same t ((its.at_once outcome told).left t served)))
 
             kind : (w : Wanted) → wants ≡ w → AllRightly (all_woken (with_wait (with_elements s after) caller v) (wakes (elements s) step))
-            kind (wanted.Sem id) e = other_so (ap wants_mutex e) (λ n. ap (λ (x : Wanted). is_for n (awaited x)) e)
-            kind (wanted.Flags id k) e = other_so (ap wants_mutex e) (λ n. ap (λ (x : Wanted). is_for n (awaited x)) e)
-            kind (wanted.Write id way bytes) e = other_so (ap wants_mutex e) (λ n. ap (λ (x : Wanted). is_for n (awaited x)) e)
-            kind (wanted.Read id way len) e = other_so (ap wants_mutex e) (λ n. ap (λ (x : Wanted). is_for n (awaited x)) e)
+            kind (wanted.Sem id) e = other_so (ap wants_mutex e) (λ n. ap (λ (x : Wanted). is_for n (awaited_by x)) e)
+            kind (wanted.Flags id k) e = other_so (ap wants_mutex e) (λ n. ap (λ (x : Wanted). is_for n (awaited_by x)) e)
+            kind (wanted.Write id way bytes) e = other_so (ap wants_mutex e) (λ n. ap (λ (x : Wanted). is_for n (awaited_by x)) e)
+            kind (wanted.Read id way len) e = other_so (ap wants_mutex e) (λ n. ap (λ (x : Wanted). is_for n (awaited_by x)) e)
             kind (wanted.Mutex id owner) e = absurd (let none : serves (elements s) (begin_step s caller (wanted.Mutex id owner)) ≡ Some outcome = ap (λ (x : Wanted). serves (elements s) (begin_step s caller x)) (sym e) ∙ told in cc)
 
         left : begin_refusal s caller wants ≡ None → (a : Answered Elements) → element (elements s) step ≡ a → Leaves AllRightly (lifted (λ e. all_woken (begun (with_elements s e) caller on until (serves (elements s) step)) (wakes (elements s) step)) a)
@@ -276,7 +276,7 @@ opened_rightly board bank t = ap ends_rightly (at-none {A = Wait} board.threads 
 all_rightly : (h : History) → IsLegal h → board_fits h.board ≡ true → AllRightly h.state
 all_rightly h legal fits =
     let few = threads_few h.board fits in
-    (run_holds (Fair h.board.threads few) (fair_by_each h.board.threads few) (fair_by_own h.board.threads few) (opened h) h.entries h.plays h.state (proper_opening h.board h.bank fits, opened_rightly h.board h.bank) legal).1
+    (run_holds (Fair h.board.threads few) (fair_by_each h.board.threads few) (fair_by_own h.board.threads few) (opened_kernel h) h.entries h.plays h.state (proper_opening h.board h.bank fits, opened_rightly h.board h.bank) legal).1
 
 pub waits_end_rightly : MutexWaitsEndRightly
 waits_end_rightly h legal fits t id on over = by (wait_at h.state t) on over (all_rightly h legal fits t)

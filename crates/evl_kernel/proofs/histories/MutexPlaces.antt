@@ -5,7 +5,7 @@ use Rattle.std.proofs.lemmas.List.{length-map, length-set}
 use Rattle.std.proofs.lemmas.Option.{slice_get_past}
 use Rattle.evl_base.specs.declared.numbers.ThreadId.{ThreadId}
 use Rattle.evl_base.specs.declared.reply.Reply.{Reply}
-use Rattle.evl_mutex.specs.Mutexes.{Mutex as MutexRecorded, opened as opened_mutex}
+use Rattle.evl_mutex.specs.Mutexes.{Mutex as MutexRecorded, opened_mutex as opened_mutex}
 use Rattle.evl_mutex.specs.Owners.{owner_at}
 use Rattle.evl_kernel.specs.state.States.{Elements}
 use Rattle.evl_kernel.specs.calls.Effects.{Answered, Made, Runs, if_done}
@@ -14,7 +14,7 @@ use Rattle.evl_kernel.specs.calls.FlagGroups.{flag_group}
 use Rattle.evl_kernel.specs.calls.CrossBuffers.{cross_buffer}
 use Rattle.evl_kernel.specs.calls.Mutexes.{mutex as mutex_machine}
 use Rattle.evl_kernel.specs.calls.Elements.{ElementStep, on_sem, on_flags, on_xbuf, on_mutex, element, elements}
-use Rattle.evl_kernel.specs.histories.Histories.{History, IsLegal, opened}
+use Rattle.evl_kernel.specs.histories.Histories.{History, IsLegal, opened_kernel}
 use Rattle.evl_kernel.specs.histories.Replays.{touches}
 use Rattle.evl_kernel.specs.calls.MutexEffects.{record_at}
 use Rattle.evl_kernel.proofs.calls.ElementSteps.{nth-made}
@@ -46,7 +46,7 @@ count_along e (one ∷ others) after run = count_along (if_done e (element e one
 -- of a mutex that the board doesn't have the readers tell nobody
 module _ (h : History) (legal : IsLegal h) (n : ℕ) (out : length h.board.mutexes.items ≤ n) where
   count_is : length h.state.elements.mutexes ≡ length h.board.mutexes.items
-  count_is = count_along (elements (opened h)) (touches h) (elements h.state) (elements_run h legal) ∙ length-map h.board.mutexes.items opened_mutex
+  count_is = count_along (elements (opened_kernel h)) (touches h) (elements h.state) (elements_run h legal) ∙ length-map h.board.mutexes.items opened_mutex
 
   no_mutex : record_at h.state n ≡ None
   no_mutex = slice_get_past h.state.elements.mutexes n (omega (arith, out, count_is))

@@ -8,7 +8,7 @@ use Rattle.evl_base.specs.declared.reply.Reply.{Reply}
 use Rattle.evl_base.specs.declared.reply.Reply.TheVariants.{TimedOut}
 use Rattle.evl_mutex.specs.Mutexes.{Mutex as MutexRecorded, has_ceiling, ceiling_of, drop_waiter}
 use Rattle.evl_mutex.specs.declared.waiter.Waiter.{Waiter}
-use Rattle.evl_mutex.specs.Queues.{dropped, is_nobody}
+use Rattle.evl_mutex.specs.Queues.{dropped_from, is_nobody}
 use Rattle.evl_kernel.specs.declared.waits.Awaited.{Awaited}
 use Rattle.evl_kernel.specs.declared.waits.Awaited.TheVariants.{Sem, Flags, Writing, Reading, Mutex}
 use Rattle.evl_kernel.specs.declared.waits.Wait.{Wait}
@@ -107,7 +107,7 @@ none_if : (b : Bool) (x : Option ℕ) (o : ℕ) → (if b then None else x) ≡ 
 none_if true x o e = absurd (cc)
 none_if false x o e = e
 
-nobody_dropped : (thread : ℕ) (ws : List Waiter) → is_nobody (dropped thread ws) ≡ false → is_nobody ws ≡ false
+nobody_dropped : (thread : ℕ) (ws : List Waiter) → is_nobody (dropped_from thread ws) ≡ false → is_nobody ws ≡ false
 nobody_dropped thread [] e = e
 nobody_dropped thread (w ∷ ws) e = refl
 
@@ -122,7 +122,7 @@ held_if false c x e = refl
 held_if true c x e = absurd (false≢true (sym e))
 
 went_dropped : (thread : ℕ) (m : MutexRecorded) → Went m (drop_waiter thread m)
-went_dropped thread m = record { gone = thread ∷ []; left = refl; kind = refl; owner = λ o e. none_if (is_nobody (dropped thread m.waiters) && not (has_ceiling m)) m.owner o e; waited = nobody_dropped thread m.waiters; held = held_if (is_nobody (dropped thread m.waiters)) (has_ceiling m) m.owner; stays = kept_if (is_nobody (dropped thread m.waiters)) (has_ceiling m) m.owner }
+went_dropped thread m = record { gone = thread ∷ []; left = refl; kind = refl; owner = λ o e. none_if (is_nobody (dropped_from thread m.waiters) && not (has_ceiling m)) m.owner o e; waited = nobody_dropped thread m.waiters; held = held_if (is_nobody (dropped_from thread m.waiters)) (has_ceiling m) m.owner; stays = kept_if (is_nobody (dropped_from thread m.waiters)) (has_ceiling m) m.owner }
 
 -- since a state, of mutex n
 abbrev pub RecordsSince : ℕ → State → State → Type 0

@@ -15,28 +15,28 @@ use Rattle.evl_base.specs.declared.play.Play.TheVariants as play
 use Rattle.evl_pipeline.specs.declared.action.Action.{Action}
 use Rattle.evl_pipeline.specs.declared.action.Action.TheVariants.{PostSem, PostFlags, Propagate, PostOob, StopTimer}
 use Rattle.evl_pipeline.specs.declared.answer.Answer.{Answer}
-use Rattle.evl_pipeline.specs.Counts.{counted, one_more}
+use Rattle.evl_pipeline.specs.Counts.{count_raised, one_more}
 use Rattle.evl_pipeline.specs.NumberSet.{least}
 use Rattle.evl_pipeline.specs.Plans.{answer_of, is_allowed}
 use Rattle.evl_pipeline.specs.Lines as lines
 use Rattle.evl_pipeline.specs.Limits.{line_count}
 use Rattle.evl_clock.specs.declared.due.Item.{Item}
 use Rattle.evl_clock.specs.declared.due.Item.TheVariants as item
-use Rattle.evl_clock.specs.Timers.{is_timer_allowed, missed}
+use Rattle.evl_clock.specs.Timers.{is_timer_allowed, missed_periods}
 use Rattle.evl_clock.specs.Clocks as clocks
 use Rattle.evl_clock.specs.ClockSteps.{fired}
 use Rattle.evl_clock.specs.Dues.{next_due, is_due}
 use Rattle.evl_sched.specs.Threads as threads
 use Rattle.evl_sched.specs.Picks.{picked}
 use Rattle.evl_sched.specs.Calls.{attach_refusal, set_policy_refusal, stranger_refusal}
-use Rattle.evl_kernel.specs.state.States.{Elements, State, Banked, with_lines, with_clock, with_sched, moved, come_home, plan_at}
+use Rattle.evl_kernel.specs.state.States.{Elements, State, Banked, with_lines, with_clock, with_sched, with_banked, come_home, plan_at}
 use Rattle.evl_kernel.specs.calls.Effects.{Answered, Effect, leaving, lifted, done, tells, unless, known, refused_by, if_done}
 use Rattle.evl_kernel.specs.calls.Semaphores.{put}
 use Rattle.evl_kernel.specs.calls.FlagGroups as group
 use Rattle.evl_kernel.specs.calls.Mutexes as mutex
 use Rattle.evl_kernel.specs.calls.Elements.{ElementStep, on_sem, on_flags, elements, with_elements, element, wakes, serves, stepping_to, touched, on_mutex}
-use Rattle.evl_kernel.specs.waiting.Waits.{wait_at, with_wait, is_past, suspended, begun, woken, all_woken}
-use Rattle.evl_kernel.specs.waiting.Beginnings.{awaited, begin_refusal, begin_step, beginning}
+use Rattle.evl_kernel.specs.waiting.Waits.{wait_at, with_wait, is_past, suspended, wait_begun, woken, all_woken}
+use Rattle.evl_kernel.specs.waiting.Beginnings.{awaited_by, begin_refusal, begin_step, beginning}
 use Rattle.evl_kernel.specs.waiting.Endings.{drop_step, finish, goes_inband, inband_if, outcome_of}
 use Rattle.evl_kernel.specs.declared.waits.Awaited.{Awaited}
 use Rattle.evl_kernel.specs.declared.waits.Wanted.{Wanted}
@@ -47,7 +47,7 @@ use Rattle.evl_kernel.specs.calls.ThreadCalls as thread_call
 use Rattle.evl_sched.specs.Threads.{stage_of}
 use Rattle.evl_kernel.specs.calls.Families.{LineStep, request, free, arrive, post, stall, unstall, line_effect, ClockStep, tick, read_date, new_timer, start_timer, stop_timer, drop_timer, overruns, clock_effect, ThreadStep, attach, detach, set_policy, set_stage, pick, tell_rank, thread_effect, Task, on_lines, on_clock, on_threads, on_element, on_staged, begins, ends, performing, task_of, raises}
 use Rattle.evl_kernel.specs.calls.Serving.{general_refusal, answer}
-use Rattle.evl_kernel.specs.settling.Settling.{acted, all_acted, answered, deadline_left, timer_given, timer_there, item_played, clock_goes_on, played, line_played, clock_played, nothing}
+use Rattle.evl_kernel.specs.settling.Settling.{after_action, all_acted, after_answer, deadline_left, timer_given, timer_there, item_played, clock_goes_on, line_played, line_played, clock_played, nothing}
 use Rattle.evl_kernel.proofs.state.RenamedLaws.{lookup-map}
 use Rattle.evl_kernel.specs.calls.ThreadCalls.{detach_refusal}
 use Rattle.evl_kernel.specs.calls.OwnerCalls.{raiser_refusal}
@@ -140,18 +140,18 @@ out-touched s by step = out-stepping (λ x. x) (λ x. sym (outside_twice x)) s s
 outside-posted : (s : State) (stage : Stage) (line : ℕ) → outside (with_lines s (lines.posted s.lines stage line)) ≡ outside (with_lines (outside s) (lines.posted (outside s).lines stage line))
 outside-posted s Oob line = by (lines.has_callback s.lines Oob line)
   where
-    by : (b : Bool) → outside (with_lines s (if b then lines.with_side s.lines Oob (lines.logged s.lines.oob line) else record s.lines { spurious = counted s.lines.spurious line }))
-        ≡ outside (with_lines (outside s) (if b then lines.with_side (outside s).lines Oob (lines.logged s.lines.oob line) else record (outside s).lines { spurious = counted s.lines.spurious line }))
+    by : (b : Bool) → outside (with_lines s (if b then lines.with_side s.lines Oob (lines.logged s.lines.oob line) else record s.lines { spurious = count_raised s.lines.spurious line }))
+        ≡ outside (with_lines (outside s) (if b then lines.with_side (outside s).lines Oob (lines.logged s.lines.oob line) else record (outside s).lines { spurious = count_raised s.lines.spurious line }))
     by true = sym (outside_twice (with_lines s (lines.with_side s.lines Oob (lines.logged s.lines.oob line))))
-    by false = sym (outside_twice (with_lines s (record s.lines { spurious = counted s.lines.spurious line })))
+    by false = sym (outside_twice (with_lines s (record s.lines { spurious = count_raised s.lines.spurious line })))
 outside-posted s Inband line = by (lines.has_callback s.lines Inband line) ∙ ap posted_there (sym (stands-bare s.lines.inband.installed line))
   where
     posted_there : Bool → State
-    posted_there b = outside (with_lines (outside s) (if b then lines.with_side (outside s).lines Inband (lines.logged (outside s).lines.inband line) else record (outside s).lines { spurious = counted s.lines.spurious line }))
+    posted_there b = outside (with_lines (outside s) (if b then lines.with_side (outside s).lines Inband (lines.logged (outside s).lines.inband line) else record (outside s).lines { spurious = count_raised s.lines.spurious line }))
 
-    by : (b : Bool) → outside (with_lines s (if b then lines.with_side s.lines Inband (lines.logged s.lines.inband line) else record s.lines { spurious = counted s.lines.spurious line })) ≡ posted_there b
+    by : (b : Bool) → outside (with_lines s (if b then lines.with_side s.lines Inband (lines.logged s.lines.inband line) else record s.lines { spurious = count_raised s.lines.spurious line })) ≡ posted_there b
     by true = sym (outside_twice s)
-    by false = sym (outside_twice (with_lines s (record s.lines { spurious = counted s.lines.spurious line })))
+    by false = sym (outside_twice (with_lines s (record s.lines { spurious = count_raised s.lines.spurious line })))
 
 out-post : (s : State) (stage : Stage) (line : ℕ) → out (line_call.post s stage line) ≡ out (line_call.post (outside s) stage line)
 out-post s stage line = out-refused (lines.post_refusal line) _ _
@@ -182,14 +182,14 @@ request_refusal-outside s line Inband kinds =
     (stands-bare s.lines.inband.installed line)
 
 outside-requested : (s : State) (line : ℕ) (stage : Stage) (number tag : ℕ) (b : Banked)
-    → outside (moved (with_lines s (lines.requested s.lines line stage number tag)) false number b) ≡ outside (moved (with_lines (outside s) (lines.requested (outside s).lines line stage number tag)) false number b)
-outside-requested s line Oob number tag b = sym (outside_twice (moved (with_lines s (lines.requested s.lines line Oob number tag)) false number b))
-outside-requested s line Inband number tag b = ap (standing (moved s false number b)) (bare-set_twice s.lines.inband.installed line (Some (record { callback = number; tag = tag; count = 0 })))
+    → outside (with_banked (with_lines s (lines.requested s.lines line stage number tag)) false number b) ≡ outside (with_banked (with_lines (outside s) (lines.requested (outside s).lines line stage number tag)) false number b)
+outside-requested s line Oob number tag b = sym (outside_twice (with_banked (with_lines s (lines.requested s.lines line Oob number tag)) false number b))
+outside-requested s line Inband number tag b = ap (standing (with_banked s false number b)) (bare-set_twice s.lines.inband.installed line (Some (record { callback = number; tag = tag; count = 0 })))
 
 out-request : (s : State) (line : ℕ) (stage : Stage) (number tag : ℕ) → out (line_call.request s line stage number tag) ≡ out (line_call.request (outside s) line stage number tag)
 out-request s line stage number tag = out-known (slice_get s.bank number) _ _ (λ b.
-    let old = moved (with_lines s (lines.requested s.lines line stage number tag)) false number b in
-    let new = moved (with_lines (outside s) (lines.requested (outside s).lines line stage number tag)) false number b in
+    let old = with_banked (with_lines s (lines.requested s.lines line stage number tag)) false number b in
+    let new = with_banked (with_lines (outside s) (lines.requested (outside s).lines line stage number tag)) false number b in
     out-refused (lines.request_refusal s.lines line stage b.handler.kinds) _ _ (out-unless (not b.home) Busy _ _ (out-done old new (outside-requested s line stage number tag b)))
     ∙ ap (λ (o : Option Refusal). out (refused_by o (unless ((not b.home, Busy) ∷ []) (done new)))) (sym (request_refusal-outside s line stage b.handler.kinds)))
 
@@ -204,31 +204,31 @@ outside-freed : (s : State) (line : ℕ) (stage : Stage) → outside (with_lines
 outside-freed s line Oob = sym (outside_twice (with_lines s (lines.freed s.lines line Oob)))
 outside-freed s line Inband = ap (standing s) (bare-set_twice s.lines.inband.installed line None)
 
-outside-returned : (s : State) (o : Option (lines.Installed ℕ)) → outside (line_call.returned s o) ≡ line_call.returned (outside s) o
+outside-returned : (s : State) (o : Option (lines.Installed ℕ)) → outside (line_call.with_callback_back s o) ≡ line_call.with_callback_back (outside s) o
 outside-returned s None = refl
 outside-returned s (Some at) = by (slice_get s.bank at.callback)
   where
-    by : (b : Option Banked) → outside (option_map_or (moved s true at.callback) b s) ≡ option_map_or (moved (outside s) true at.callback) b (outside s)
+    by : (b : Option Banked) → outside (option_map_or (with_banked s true at.callback) b s) ≡ option_map_or (with_banked (outside s) true at.callback) b (outside s)
     by None = refl
     by (Some b) = refl
 
-returned-uncounted : (s : State) (o : Option (lines.Installed ℕ)) → line_call.returned s (option_map uncounted o) ≡ line_call.returned s o
+returned-uncounted : (s : State) (o : Option (lines.Installed ℕ)) → line_call.with_callback_back s (option_map uncounted o) ≡ line_call.with_callback_back s o
 returned-uncounted s None = refl
 returned-uncounted s (Some at) = refl
 
-returned-outside : (s t : State) (stage : Stage) (line : ℕ) → line_call.returned t (lines.installed_at (outside s).lines stage line) ≡ line_call.returned t (lines.installed_at s.lines stage line)
+returned-outside : (s t : State) (stage : Stage) (line : ℕ) → line_call.with_callback_back t (lines.installed_at (outside s).lines stage line) ≡ line_call.with_callback_back t (lines.installed_at s.lines stage line)
 returned-outside s t Oob line = refl
-returned-outside s t Inband line = ap (line_call.returned t) (lookup-map uncounted s.lines.inband.installed line) ∙ returned-uncounted t (lines.installed_at s.lines Inband line)
+returned-outside s t Inband line = ap (line_call.with_callback_back t) (lookup-map uncounted s.lines.inband.installed line) ∙ returned-uncounted t (lines.installed_at s.lines Inband line)
 
-out-free : (s : State) (line : ℕ) (stage : Stage) → out (line_call.free s line stage) ≡ out (line_call.free (outside s) line stage)
+out-free : (s : State) (line : ℕ) (stage : Stage) → out (line_call.free_line s line stage) ≡ out (line_call.free_line (outside s) line stage)
 out-free s line stage =
     let old = with_lines s (lines.freed s.lines line stage) in
     let new = with_lines (outside s) (lines.freed (outside s).lines line stage) in
-    let left = line_call.returned old (lines.installed_at s.lines stage line) in
-    let leaves = line_call.returned new (lines.installed_at (outside s).lines stage line) in
+    let left = line_call.with_callback_back old (lines.installed_at s.lines stage line) in
+    let leaves = line_call.with_callback_back new (lines.installed_at (outside s).lines stage line) in
     let same : outside left ≡ outside leaves =
     outside-returned old (lines.installed_at s.lines stage line)
-    ∙ (ap (λ (x : State). line_call.returned x (lines.installed_at s.lines stage line)) (outside-freed s line stage)
+    ∙ (ap (λ (x : State). line_call.with_callback_back x (lines.installed_at s.lines stage line)) (outside-freed s line stage)
     ∙ (sym (outside-returned new (lines.installed_at s.lines stage line)) ∙ ap outside (sym (returned-outside s new stage line)))) in
     out-refused (lines.free_refusal s.lines line stage) _ _ (out-done left leaves same)
     ∙ ap (λ (o : Option Refusal). out (refused_by o (done leaves))) (sym (free_refusal-outside s line stage))
@@ -252,7 +252,7 @@ outside-posted_if false s = sym (outside_twice s)
 outside-home : (s : State) (number : ℕ) → outside (come_home s number) ≡ come_home (outside s) number
 outside-home s number = by (slice_get s.bank number)
   where
-    by : (b : Option Banked) → outside (option_map_or (moved s true number) b s) ≡ option_map_or (moved (outside s) true number) b (outside s)
+    by : (b : Option Banked) → outside (option_map_or (with_banked s true number) b s) ≡ option_map_or (with_banked (outside s) true number) b (outside s)
     by None = refl
     by (Some b) = refl
 
@@ -264,9 +264,9 @@ out-both true c e f h = refl
 out-both false true e f h = refl
 out-both false false e f h = h
 
-out-placed : (s : State) (number tag : ℕ) (b : Banked) (place : Option ℕ) → out (timer_call.placed s number tag b place) ≡ out (timer_call.placed (outside s) number tag b place)
+out-placed : (s : State) (number tag : ℕ) (b : Banked) (place : Option ℕ) → out (timer_call.place_timer s number tag b place) ≡ out (timer_call.place_timer (outside s) number tag b place)
 out-placed s number tag b None = refl
-out-placed s number tag b (Some n) = out-tells n (moved (with_clock s (clocks.with_new_timer s.clock n number tag)) false number b)
+out-placed s number tag b (Some n) = out-tells n (with_banked (with_clock s (clocks.with_new_timer s.clock n number tag)) false number b)
 
 out-stop : (s : State) (n : ℕ) → out (timer_call.stop_timer s n) ≡ out (timer_call.stop_timer (outside s) n)
 out-stop s n = out-refused (clocks.timer_refusal s.clock n) _ _ (out-beside (with_clock s (clocks.stop s.clock n)))
@@ -274,7 +274,7 @@ out-stop s n = out-refused (clocks.timer_refusal s.clock n) _ _ (out-beside (wit
 -- a step on the clock
 out-clock : (s : State) (step : ClockStep) → out (clock_effect s step) ≡ out (clock_effect (outside s) step)
 out-clock s (tick delta) =
-    let then_ = timer_call.later (timer_call.paid s delta) delta in
+    let then_ = timer_call.at_date (timer_call.paid s delta) delta in
     out-refused (clocks.advance_refusal s.clock delta) _ _ (out-done (timer_call.alarmed then_) (timer_call.alarmed (outside then_)) (outside-posted_if (is_due then_.clock) then_))
 out-clock s read_date = out-tells s.clock.now s
 out-clock s (new_timer number tag) = out-known (slice_get s.bank number) _ _ (λ b.
@@ -295,19 +295,19 @@ out-threads s caller (attach policy stage) = out-refused (attach_refusal s.sched
 out-threads s caller detach = out-refused (detach_refusal s caller) _ _ (out-beside (with_sched s (threads.detached s.sched caller)))
 out-threads s caller (set_policy policy) = out-refused (set_policy_refusal s.sched caller policy) _ _ (out-beside (with_sched s (threads.policy_set s.sched caller policy)))
 out-threads s caller (set_stage stage) = out-refused (stranger_refusal s.sched caller) _ _ (out-beside (with_sched s (threads.stage_set s.sched caller stage)))
-out-threads s caller pick = ap (λ (x : State). Ok (reply.Chosen (option_map mutex.named (picked (thread_call.rank_of s) s.sched)), x)) (sym (outside_twice s))
+out-threads s caller pick = ap (λ (x : State). Ok (reply.Chosen (option_map mutex.thread_named (picked (thread_call.rank_of s) s.sched)), x)) (sym (outside_twice s))
 out-threads s caller (tell_rank thread) = out-refused (stranger_refusal s.sched thread) _ _ (out-tells (thread_call.rank_of s thread) s)
 
 -- a wait that begins
-outside-begun : (s : State) (thread : ℕ) (on : Awaited) (until : Option ℕ) (served : Option Reply) → outside (begun s thread on until served) ≡ outside (begun (outside s) thread on until served)
+outside-begun : (s : State) (thread : ℕ) (on : Awaited) (until : Option ℕ) (served : Option Reply) → outside (wait_begun s thread on until served) ≡ outside (wait_begun (outside s) thread on until served)
 outside-begun s thread on until None = outside-posted_if (is_past s.clock.now until) (suspended s thread on until)
-outside-begun s thread on until (Some outcome) = sym (outside_twice (begun s thread on until (Some outcome)))
+outside-begun s thread on until (Some outcome) = sym (outside_twice (wait_begun s thread on until (Some outcome)))
 
 out-beginning : (s : State) (thread : ℕ) (wants : Wanted) (until : Option ℕ) → out (beginning s thread wants until).effect ≡ out (beginning (outside s) thread wants until).effect
 out-beginning s thread wants until =
     let step = begin_step s thread wants in
     let served = serves (elements s) step in
-    out-refused (begin_refusal s thread wants) _ _ (out-stepping (λ x. begun x thread (awaited wants) until served) (λ x. outside-begun x thread (awaited wants) until served) s step)
+    out-refused (begin_refusal s thread wants) _ _ (out-stepping (λ x. wait_begun x thread (awaited_by wants) until served) (λ x. outside-begun x thread (awaited_by wants) until served) s step)
 
 -- and one that is finished
 out-finish : (s : State) (thread : ℕ) (keep : Bool) → out (finish s thread keep) ≡ out (finish (outside s) thread keep)
@@ -347,7 +347,7 @@ outside-if_done s e f h =
     if_done-out s e ∙ (ap (if_done (outside s)) h ∙ (ap (λ (x : State). if_done x (out f)) (sym (outside_twice s)) ∙ sym (if_done-out (outside s) f)))
 
 -- the actions of an answer
-outside-acted : (s : State) (line : ℕ) (action : Action) → outside (acted s line action) ≡ outside (acted (outside s) line action)
+outside-acted : (s : State) (line : ℕ) (action : Action) → outside (after_action s line action) ≡ outside (after_action (outside s) line action)
 outside-acted s line (PostSem sem) = outside-if_done s _ _ (out-touched s None (on_sem sem.0 put))
 outside-acted s line (PostFlags flags bits) = outside-if_done s _ _ (out-touched s None (on_flags flags.0 (group.post bits)))
 outside-acted s line Propagate = outside-if_done s _ _ (out-post s Inband line)
@@ -357,11 +357,11 @@ outside-acted s line (StopTimer timer) = outside-if_done s _ _ (out-stop s timer
 outside-all_acted : (s : State) (line : ℕ) (actions : List Action) → outside (all_acted s line actions) ≡ outside (all_acted (outside s) line actions)
 outside-all_acted s line [] = sym (outside_twice s)
 outside-all_acted s line (action ∷ actions) =
-    outside-all_acted (acted s line action) line actions
+    outside-all_acted (after_action s line action) line actions
     ∙ (ap (λ (x : State). outside (all_acted x line actions)) (outside-acted s line action)
-    ∙ sym (outside-all_acted (acted (outside s) line action) line actions))
+    ∙ sym (outside-all_acted (after_action (outside s) line action) line actions))
 
-outside-answered : (s : State) (line : ℕ) (answer : Answer) → outside (answered s line answer) ≡ outside (answered (outside s) line answer)
+outside-answered : (s : State) (line : ℕ) (answer : Answer) → outside (after_answer s line answer) ≡ outside (after_answer (outside s) line answer)
 outside-answered s line answer = by answer.handled
   where
     by : (b : Bool) → outside (if b then all_acted s line answer.actions.items else s) ≡ outside (if b then all_acted (outside s) line answer.actions.items else outside s)
@@ -372,7 +372,7 @@ outside-answered s line answer = by answer.handled
 abbrev pub out_play : Play × State → Play × State
 out_play p = (p.0, outside p.1)
 
-pub out-played : (s : State) (line : ℕ) → out_play (played (outside s) Oob line) ≡ out_play (played s Oob line)
+pub out-played : (s : State) (line : ℕ) → out_play (line_played (outside s) Oob line) ≡ out_play (line_played s Oob line)
 out-played s line = by (line == 0)
   where
     at : lines.Installed ℕ
@@ -404,7 +404,7 @@ out-item s (item.Deadline thread) = ap (λ (x : State). (play.Deadline thread, x
 out-item s (item.Timer id) =
     let t = timer_there s id.0 in
     let given = timer_given s t in
-    ap (λ (x : State). (play.Timer (record { 0 = id.0 }) (one_more t.count) (missed s.clock.now t.state) given.handled, x))
+    ap (λ (x : State). (play.Timer (record { 0 = id.0 }) (one_more t.count) (missed_periods s.clock.now t.state) given.handled, x))
     (sym (outside-answered (with_clock s (fired s.clock id.0 t)) 0 given))
 
 -- the records outside while the kernel settles, and whether the clock's play goes on
@@ -419,7 +419,7 @@ item_outside x = if x.1 then next_due x.0.clock else None
 
 abbrev pub line_outside : State → Option (Play × Outer)
 line_outside s =
-    if is_some (least s.lines.oob.pending) && not s.lines.oob.stalled then option_map (λ line. onward (out_play (played s Oob line))) (least s.lines.oob.pending) else None
+    if is_some (least s.lines.oob.pending) && not s.lines.oob.stalled then option_map (λ line. onward (out_play (line_played s Oob line))) (least s.lines.oob.pending) else None
 
 abbrev pub item_or_line : Outer → Option Item → Option (Play × Outer)
 item_or_line x (Some found) = Some (onward (out_play (item_played x.0 found)))
@@ -438,7 +438,7 @@ unfolding next_outside
 next_outside-item s b found is = ap (item_or_line (outside s, b)) is ∙ ap (λ (x : Play × State). Some (onward x)) (out-item s found)
 
 pub next_outside-plays : (s : State) (b : Bool) (line : ℕ) → item_outside (s, b) ≡ None → (is_some (least s.lines.oob.pending) && not s.lines.oob.stalled) ≡ true → least s.lines.oob.pending ≡ Some line
-    → next_outside (outside s, b) ≡ Some (onward (out_play (played s Oob line)))
+    → next_outside (outside s, b) ≡ Some (onward (out_play (line_played s Oob line)))
 unfolding next_outside
 next_outside-plays s b line none playable low = ap (item_or_line (outside s, b)) none ∙ rw (playable, low) (ap (λ (x : Play × State). Some (onward x)) (out-played s line))
 
@@ -448,7 +448,7 @@ bare-recounted [] line at count there = refl
 bare-recounted (x ∷ xs) zero at count there = ap (λ (o : Option (lines.Installed ℕ)). option_map uncounted o ∷ bare xs) (sym there)
 bare-recounted (x ∷ xs) (suc line) at count there = ap (λ (l : Table). option_map uncounted x ∷ l) (bare-recounted xs line at count there)
 
-answered-silent : (s : State) (line : ℕ) (answer : Answer) → answer.actions.items ≡ [] → answered s line answer ≡ s
+answered-silent : (s : State) (line : ℕ) (answer : Answer) → answer.actions.items ≡ [] → after_answer s line answer ≡ s
 answered-silent s line answer none = ap (λ (actions : List Action). if answer.handled then all_acted s line actions else s) none ∙ by answer.handled
   where
     by : (b : Bool) → (if b then s else s) ≡ s
@@ -456,7 +456,7 @@ answered-silent s line answer none = ap (λ (actions : List Action). if answer.h
     by false = refl
 
 pub outside-silent_play : (s : State) (line : ℕ) (at : lines.Installed ℕ) → lines.installed_at s.lines Inband line ≡ Some at → (plan_at s at.callback).rows.items ≡ []
-    → outside (played s Inband line).1 ≡ outside s
+    → outside (line_played s Inband line).1 ≡ outside s
 outside-silent_play s line at there silent =
     let given = answer_of (plan_at s at.callback) (one_more at.count) in
     ap (λ (o : Option (lines.Installed ℕ)). outside (line_played s Inband line (unwrap_or o nothing)).1) there

@@ -15,7 +15,7 @@ use Rattle.evl_kernel.specs.calls.Mutexes.{mutex}
 use Rattle.evl_mutex.specs.Mutexes.{Mutex}
 use Rattle.evl_kernel.specs.calls.Elements.{ElementStep, on_sem, on_flags, on_xbuf, on_mutex, Touch, elements, element, at_nth, part, its_sem, its_flags, its_xbuf, its_mutex}
 use Rattle.evl_kernel.specs.state.States.{Elements}
-use Rattle.evl_kernel.specs.histories.Histories.{opened}
+use Rattle.evl_kernel.specs.histories.Histories.{opened_kernel}
 use Rattle.evl_kernel.specs.histories.Replays.{touches}
 use Rattle.evl_kernel.specs.histories.Parts.{CrossBuffersRunByThemselves, FlagGroupsRunByThemselves, MutexesRunByThemselves, RunsByItself, SemaphoresRunByThemselves}
 use Rattle.evl_kernel.proofs.state.SetLaws.{set_here, set_there}
@@ -46,7 +46,7 @@ module _ {X P : Type 0} (machine : X → P → Answered X) (its : Elements → O
           (rest.0, rest.1, (is ∙ (said ∙ answer), rest.2))
 
   pub by_itself : ((e : Elements) (x : X) (touch : Touch) → its e ≡ Some x → Owns e x touch (own touch)) → RunsByItself machine its own
-  by_itself owns h legal x has = part_runs owns (elements (opened h)) (elements h.state) x (touches h) has (elements_run h legal)
+  by_itself owns h legal x has = part_runs owns (elements (opened_kernel h)) (elements h.state) x (touches h) has (elements_run h legal)
 
 -- a step of the n-th of a kind: it is that one's, and no other of the kind sees anything
 module _ {X P : Type 0} (machine : X → P → Answered X) (kind : Elements → List X) (with_kind : List X → Elements) (same : (xs : List X) → kind (with_kind xs) ≡ xs) (e : Elements) (n : ℕ) (x : X) (has : slice_get (kind e) n ≡ Some x) where

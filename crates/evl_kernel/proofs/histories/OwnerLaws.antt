@@ -24,7 +24,7 @@ use Rattle.evl_mutex.proofs.RankLaws.{effective-is}
 use Rattle.evl_mutex.proofs.SoundLaws.{all-at}
 use Rattle.evl_sched.specs.declared.seat.Seat.{Seat}
 use Rattle.evl_sched.specs.Calls.{attach_refusal, set_policy_refusal, stranger_refusal}
-use Rattle.evl_sched.specs.Charges.{charged, refilled}
+use Rattle.evl_sched.specs.Charges.{charged, refilled_groups}
 use Rattle.evl_sched.specs.Groups.{is_new_second}
 use Rattle.evl_sched.specs.Threads as threads
 use Rattle.evl_sched.specs.Threads.{Sched, stage_set}
@@ -39,8 +39,8 @@ use Rattle.evl_kernel.specs.state.States.{Elements, Handler, State, with_sched}
 use Rattle.evl_kernel.specs.calls.Effects.{Answered, Effect, if_done, leaving, lifted}
 use Rattle.evl_kernel.specs.calls.Mutexes as mutex_step
 use Rattle.evl_kernel.specs.calls.Elements.{ElementStep, on_sem, on_flags, on_xbuf, on_mutex, element, elements, serves, stepping_to, touched, wakes, with_elements}
-use Rattle.evl_kernel.specs.waiting.Waits.{all_woken, begun, is_past, suspended, wait_at, with_wait, woken}
-use Rattle.evl_kernel.specs.waiting.Beginnings.{awaited, begin_refusal, begin_step, beginning, may_name, step_of_waiter}
+use Rattle.evl_kernel.specs.waiting.Waits.{all_woken, wait_begun as begun, is_past, suspended, wait_at, with_wait, woken}
+use Rattle.evl_kernel.specs.waiting.Beginnings.{awaited_by, begin_refusal, begin_step, beginning, may_name, step_of_waiter}
 use Rattle.evl_kernel.specs.waiting.Endings.{drop_step, finish, goes_inband, inband_if, outcome_of}
 use Rattle.evl_kernel.specs.settling.Settling.{deadline_left}
 use Rattle.evl_kernel.specs.calls.ThreadCalls as thread_call
@@ -49,7 +49,7 @@ use Rattle.evl_kernel.specs.calls.TimerCalls.{posted_if}
 use Rattle.evl_kernel.specs.calls.Families.{ThreadStep, attach, detach, set_policy, set_stage, pick, tell_rank, thread_effect}
 use Rattle.evl_kernel.specs.calls.Serving.{ends_a_wait}
 use Rattle.evl_kernel.specs.state.Openings.{opening}
-use Rattle.evl_kernel.specs.histories.Histories.{History, IsLegal, opened}
+use Rattle.evl_kernel.specs.histories.Histories.{History, IsLegal, opened_kernel}
 use Rattle.evl_kernel.specs.waiting.Standing.{in_mutex, owners_in, stands_for}
 use Rattle.evl_kernel.specs.histories.OwnerInvariant.{OwnersStayProper, is_recorded}
 use Rattle.evl_kernel.proofs.calls.LeavesLaws.{Leaves, leaves-if_done, leaves-refused}
@@ -152,7 +152,7 @@ seated_paid s before delta now h = by (is_new_second before now)
     paid : AreSeated (with_sched s (charged rank s.sched delta))
     paid = same_seated s (charged rank s.sched delta) (policies-charged rank s.sched delta) h
 
-    by : (b : Bool) → AreSeated (with_sched s (if b then refilled (charged rank s.sched delta) else charged rank s.sched delta))
+    by : (b : Bool) → AreSeated (with_sched s (if b then refilled_groups (charged rank s.sched delta) else charged rank s.sched delta))
     by true = paid
     by false = paid
 
@@ -239,7 +239,7 @@ seated_beginning : (s : State) (caller : ℕ) (wants : Wanted) (until : Option �
 seated_beginning s caller wants until h = leaves-refused AreSeated (begin_refusal s caller wants) _ (λ none.
     let step = begin_step s caller wants in
     let passed = waiter_passes s caller wants none in
-    seated_stepping (λ x. begun x caller (awaited wants) until (serves (elements s) step)) s step (λ e. seated_begun (with_elements s e) caller (awaited wants) until (serves (elements s) step))
+    seated_stepping (λ x. begun x caller (awaited_by wants) until (serves (elements s) step)) s step (λ e. seated_begun (with_elements s e) caller (awaited_by wants) until (serves (elements s) step))
     (claim_named s caller (thread_call.rank_of s caller) wants (attached_of s.sched caller (known_waiter s caller wants passed)) (named_by s caller wants passed)) h)
 
 -- the waits are proper, too: so who leaves waits for nothing
@@ -275,12 +275,12 @@ module _ (n : ℕ) (few : n ≤ thread_limit) where
 
 -- nobody is recorded in a new kernel
 seated_opening : (board : Board) (bank : List Handler) → AreSeated (opening board bank)
-seated_opening board bank n m here = sound_of mutex.opened (OfRecorded (HasSeat (opening board bank).sched.seats)) (λ kind t is. absurd (false≢true is)) board.mutexes.items n m here
+seated_opening board bank n m here = sound_of mutex.opened_mutex (OfRecorded (HasSeat (opening board bank).sched.seats)) (λ kind t is. absurd (false≢true is)) board.mutexes.items n m here
 
 stays_at : (h : History) → IsLegal h → board_fits h.board ≡ true → Stays h.board.threads h.state
 stays_at h legal fits =
     let few = threads_few h.board fits in
-    run_holds (Stays h.board.threads) (stays_each h.board.threads few) (stays_own h.board.threads few) (opened h) h.entries h.plays h.state
+    run_holds (Stays h.board.threads) (stays_each h.board.threads few) (stays_own h.board.threads few) (opened_kernel h) h.entries h.plays h.state
     (proper_opening h.board h.bank fits, seated_opening h.board h.bank) legal
 
 -- the computed rank is the effective one

@@ -12,14 +12,14 @@ use Rattle.evl_base.specs.declared.board.Board.{Board}
 use Rattle.evl_pipeline.specs.declared.action.Action.{Action}
 use Rattle.evl_pipeline.specs.declared.action.Action.TheVariants.{PostSem, PostFlags, Propagate, PostOob, StopTimer}
 use Rattle.evl_pipeline.specs.declared.answer.Answer.{Answer}
-use Rattle.evl_pipeline.specs.Counts.{counted, one_more}
+use Rattle.evl_pipeline.specs.Counts.{count_raised, one_more}
 use Rattle.evl_pipeline.specs.Plans.{answer_of}
 use Rattle.evl_pipeline.specs.Lines as lines
 use Rattle.evl_pipeline.proofs.PortLaws.{at-none, none_there}
 use Rattle.evl_pipeline.proofs.LineLaws.{sound-opening, sound-set_stalled, sound-spurious, sound-logged, sound-cleared, sound-filled, sound-played, sound-emptied, clock-only, request-not_clock}
 use Rattle.evl_pipeline.specs.Limits.{line_count}
 use Rattle.evl_sched.specs.Threads.{Sched}
-use Rattle.evl_kernel.specs.state.States.{State, Handler, Banked, with_lines, with_clock, with_sched, moved, come_home, plan_at, no_plan}
+use Rattle.evl_kernel.specs.state.States.{State, Handler, Banked, with_lines, with_clock, with_sched, with_banked, come_home, plan_at, no_plan}
 use Rattle.evl_kernel.specs.calls.Effects.{done}
 use Rattle.evl_kernel.specs.calls.Semaphores.{put}
 use Rattle.evl_kernel.specs.calls.FlagGroups as group
@@ -27,8 +27,8 @@ use Rattle.evl_kernel.specs.calls.Elements.{on_sem, on_flags}
 use Rattle.evl_kernel.specs.calls.LineCalls as line_call
 use Rattle.evl_sched.specs.Threads.{stage_of}
 use Rattle.evl_kernel.specs.calls.Families.{LineStep, request, free, arrive, post, stall, unstall, line_effect, Task, on_lines, on_clock, on_threads, on_element, on_staged, begins, ends, performing, task_of, raises}
-use Rattle.evl_kernel.specs.calls.Serving.{served, general_refusal, answer}
-use Rattle.evl_kernel.specs.settling.Settling.{acted, all_acted, answered, item_played, played, line_played, clock_played, nothing}
+use Rattle.evl_kernel.specs.calls.Serving.{serve_call, general_refusal, answer}
+use Rattle.evl_kernel.specs.settling.Settling.{after_action, all_acted, after_answer, item_played, line_played, line_played, clock_played, nothing}
 use Rattle.evl_kernel.specs.state.Openings.{opening}
 use Rattle.evl_clock.specs.declared.due.Item.{Item}
 use Rattle.evl_clock.specs.Dues.{next_due}
@@ -60,7 +60,7 @@ pub sound-posted : (p : lines.Pipeline ℕ) (stage : Stage) (line : ℕ) → lin
 sound-posted p stage line h below = by (lines.has_callback p stage line) refl
   where
     by : (b : Bool) → lines.has_callback p stage line ≡ b
-        → lines.IsSoundPipeline (if b then lines.with_side p stage (lines.logged (lines.side p stage) line) else record p { spurious = counted p.spurious line })
+        → lines.IsSoundPipeline (if b then lines.with_side p stage (lines.logged (lines.side p stage) line) else record p { spurious = count_raised p.spurious line })
     by true there = sound-logged p stage line h below there
     by false there = sound-spurious p line h
 
@@ -94,7 +94,7 @@ module _ (start : State) where
     sound = sound;
   }
 
-  silent-moved : (s : State) (number : ℕ) (home : Bool) (b : Banked) → IsSilent start s → slice_get s.bank number ≡ Some b → IsSilent start (moved s home number b)
+  silent-moved : (s : State) (number : ℕ) (home : Bool) (b : Banked) → IsSilent start s → slice_get s.bank number ≡ Some b → IsSilent start (with_banked s home number b)
   silent-moved s number home b h here = record { plans = λ other. plan-moved s.bank number home b other here ∙ h.plans other; silent = h.silent; sound = h.sound }
 
   silent-requested : (s : State) (line : ℕ) (stage : Stage) (number tag : ℕ) → IsSilent start s → (stage ≡ Inband → (plan_at start number).rows.items ≡ []) → line ≢ 0
@@ -112,11 +112,11 @@ module _ (start : State) where
   silent-home : (s : State) (number : ℕ) → IsSilent start s → IsSilent start (come_home s number)
   silent-home s number h = by (slice_get s.bank number) refl
     where
-      by : (o : Option Banked) → slice_get s.bank number ≡ o → IsSilent start (option_map_or (moved s true number) o s)
+      by : (o : Option Banked) → slice_get s.bank number ≡ o → IsSilent start (option_map_or (with_banked s true number) o s)
       by None here = h
       by (Some b) here = silent-moved s number true b h here
 
-  silent-returned : (s : State) (o : Option (lines.Installed ℕ)) → IsSilent start s → IsSilent start (line_call.returned s o)
+  silent-returned : (s : State) (o : Option (lines.Installed ℕ)) → IsSilent start s → IsSilent start (line_call.with_callback_back s o)
   silent-returned s None h = h
   silent-returned s (Some at) h = silent-home s at.callback h
 
@@ -155,7 +155,7 @@ module _ (start : State) where
   silent-line : (s : State) (step : LineStep) → IsSilent start s → AsksNoActions start (on_lines step) → Leaves (IsSilent start) (line_effect s step)
   silent-line s (request line stage number tag) h none = leaves-known (IsSilent start) (slice_get s.bank number) _ (λ b here.
       leaves-refused (IsSilent start) (lines.request_refusal s.lines line stage b.handler.kinds) _ (λ passed. leaves-unless (IsSilent start) (not b.home) Busy
-      (done (moved (with_lines s (lines.requested s.lines line stage number tag)) false number b))
+      (done (with_banked (with_lines s (lines.requested s.lines line stage number tag)) false number b))
       (silent-moved (with_lines s (lines.requested s.lines line stage number tag)) number false b
       (silent-requested s line stage number tag h (λ is. none line number tag (ap (λ (v : Stage). on_lines (request line v number tag)) is)) (request-not_clock s.lines line stage b.handler.kinds passed)) here)))
   silent-line s (free line stage) h none = leaves-refused (IsSilent start) (lines.free_refusal s.lines line stage) _ (λ passed.
@@ -179,9 +179,9 @@ module _ (start : State) where
   silent-task s caller (ends keep) h none = leaves-finish (IsSilent start) kept_waiting s caller keep (λ x hx. silent-sched x _ hx) h
 
   pub silent-answer : (s : State) (caller : ℕ) (asked : Call) → IsSilent start s → AsksNoActions start (task_of asked) → Leaves (IsSilent start) (answer s caller asked)
-  silent-answer s caller asked h none = leaves-refused (IsSilent start) (general_refusal s caller asked) (served s caller asked) (λ passed. silent-task s caller (task_of asked) h none)
+  silent-answer s caller asked h none = leaves-refused (IsSilent start) (general_refusal s caller asked) (serve_call s caller asked) (λ passed. silent-task s caller (task_of asked) h none)
 
-  silent-acted : (s : State) (line : ℕ) (action : Action) → IsSilent start s → IsSilent start (acted s line action)
+  silent-acted : (s : State) (line : ℕ) (action : Action) → IsSilent start s → IsSilent start (after_action s line action)
   silent-acted s line (PostSem sem) h = leaves-if_done (IsSilent start) s _ h (leaves-touched (IsSilent start) kept_waiting s None (on_sem sem.0 put) h)
   silent-acted s line (PostFlags flags bits) h = leaves-if_done (IsSilent start) s _ h (leaves-touched (IsSilent start) kept_waiting s None (on_flags flags.0 (group.post bits)) h)
   silent-acted s line Propagate h = leaves-if_done (IsSilent start) s _ h (silent-post s Inband line h)
@@ -190,9 +190,9 @@ module _ (start : State) where
 
   silent-all_acted : (s : State) (line : ℕ) (actions : List Action) → IsSilent start s → IsSilent start (all_acted s line actions)
   silent-all_acted s line [] h = h
-  silent-all_acted s line (action ∷ actions) h = silent-all_acted (acted s line action) line actions (silent-acted s line action h)
+  silent-all_acted s line (action ∷ actions) h = silent-all_acted (after_action s line action) line actions (silent-acted s line action h)
 
-  silent-answered : (s : State) (line : ℕ) (answer : Answer) → IsSilent start s → IsSilent start (answered s line answer)
+  silent-answered : (s : State) (line : ℕ) (answer : Answer) → IsSilent start s → IsSilent start (after_answer s line answer)
   silent-answered s line answer h = by answer.handled
     where
       by : (b : Bool) → IsSilent start (if b then all_acted s line answer.actions.items else s)
@@ -219,7 +219,7 @@ module _ (start : State) where
       by (Some at) e = (at, refl)
 
   -- a play
-  pub silent-played : (s : State) (stage : Stage) (line : ℕ) → IsSilent start s → lines.is_pending s.lines stage line ≡ true → IsSilent start (played s stage line).1
+  pub silent-played : (s : State) (stage : Stage) (line : ℕ) → IsSilent start s → lines.is_pending s.lines stage line ≡ true → IsSilent start (line_played s stage line).1
   silent-played s Inband line h pends =
       let found = inband_there s line h pends in
       subst (λ (o : Option (lines.Installed ℕ)). IsSilent start (line_played s Inband line (unwrap_or o nothing)).1) (sym found.1) (silent-line_played s Inband line found.0 h found.1)

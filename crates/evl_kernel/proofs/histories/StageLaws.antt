@@ -14,7 +14,7 @@ use Rattle.evl_sched.specs.Threads.{Sched, seat_at, stage_of, with_seat}
 use Rattle.evl_sched.proofs.StageLaws.{stage-attached, stage-charged, stage-detached, stage-policy_set, stage-stage_set}
 use Rattle.evl_sched.specs.Picks.{picked}
 use Rattle.evl_sched.specs.Groups.{is_new_second}
-use Rattle.evl_sched.specs.Charges.{slice_charged, policy_charged, thread_charged, charged, refilled, refilled_at}
+use Rattle.evl_sched.specs.Charges.{slice_charged, policy_charged, thread_charged, charged, refilled_groups, refilled_at}
 use Rattle.evl_sched.specs.Calls.{attach_refusal, set_policy_refusal, stranger_refusal}
 use Rattle.evl_kernel.specs.state.States.{State}
 use Rattle.evl_kernel.specs.calls.ThreadCalls as thread_call
@@ -22,7 +22,7 @@ use Rattle.evl_kernel.specs.calls.Serving.{answer}
 use Rattle.evl_base.specs.declared.board.Board.{Board}
 use Rattle.evl_kernel.specs.state.States.{Handler}
 use Rattle.evl_kernel.specs.state.Openings.{opening}
-use Rattle.evl_kernel.specs.histories.Histories.{History, IsLegal, opened}
+use Rattle.evl_kernel.specs.histories.Histories.{History, IsLegal, opened_kernel}
 use Rattle.std.specs.Prelude.{Result, Ok, Err}
 use Rattle.std.proofs.lemmas.Bool.{ne_eqb}
 use Rattle.evl_base.specs.declared.refusal.Refusal.{Refusal}
@@ -69,7 +69,7 @@ module _ (thread : ℕ) where
   stage-paid : (stage : Stage) (rank : ℕ → ℕ) (q : Sched) (before delta now : ℕ) → stage_of q thread ≡ stage → stage_of (refilled_at before now (charged rank q delta)) thread ≡ stage
   stage-paid stage rank q before delta now h = by (is_new_second before now)
     where
-      by : (b : Bool) → stage_of (if b then refilled (charged rank q delta) else charged rank q delta) thread ≡ stage
+      by : (b : Bool) → stage_of (if b then refilled_groups (charged rank q delta) else charged rank q delta) thread ≡ stage
       by true = stage-charged rank q delta thread ∙ h
       by false = stage-charged rank q delta thread ∙ h
 
@@ -168,7 +168,7 @@ module _ (n : ℕ) where
   seats-paid : (rank : ℕ → ℕ) (q : Sched) (before delta now : ℕ) → Seats q → Seats (refilled_at before now (charged rank q delta))
   seats-paid rank q before delta now h = by (is_new_second before now)
     where
-      by : (b : Bool) → Seats (if b then refilled (charged rank q delta) else charged rank q delta)
+      by : (b : Bool) → Seats (if b then refilled_groups (charged rank q delta) else charged rank q delta)
       by true = seats-charged rank q delta h
       by false = seats-charged rank q delta h
 
@@ -199,7 +199,7 @@ seats-opening board bank = length-replicate board.threads None
 pub seats_are : (h : History) → IsLegal h → length h.state.sched.seats ≡ h.board.threads
 seats_are h legal =
     let Q = Seats h.board.threads in let pays = seats-paid h.board.threads in let queues : (q : Sched) (ready : List ℕ) → Q q → Q (record q { ready = ready }) = λ q ready h. h in
-    run_holds (λ s. Q s.sched) (kept_by_each Q pays queues) (λ s caller asked. kept_by_own Q pays queues s caller asked (seats-threads h.board.threads s caller) (λ q. seats-switched h.board.threads q caller Inband)) (opened h) h.entries h.plays h.state (seats-opening h.board h.bank) legal
+    run_holds (λ s. Q s.sched) (kept_by_each Q pays queues) (λ s caller asked. kept_by_own Q pays queues s caller asked (seats-threads h.board.threads s caller) (λ q. seats-switched h.board.threads q caller Inband)) (opened_kernel h) h.entries h.plays h.state (seats-opening h.board h.bank) legal
 
 -- nobody sits past the last seat
 pub past_seats : (seats : List (Option Seat)) (thread : ℕ) → length seats ≤ thread → slice_index_or seats thread None ≡ None

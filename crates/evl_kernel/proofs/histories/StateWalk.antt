@@ -9,7 +9,7 @@ use Rattle.evl_base.specs.declared.reply.Reply.{Reply}
 use Rattle.evl_pipeline.specs.Lines as lines
 use Rattle.evl_clock.specs.Clocks.{Clock}
 use Rattle.evl_kernel.specs.declared.waits.Wanted.{Wanted}
-use Rattle.evl_kernel.specs.state.States.{State, Banked, with_lines, with_clock, moved}
+use Rattle.evl_kernel.specs.state.States.{State, Banked, with_lines, with_clock, with_banked}
 use Rattle.evl_kernel.specs.calls.Effects.{Effect, done}
 use Rattle.evl_kernel.specs.calls.Mutexes as mutex
 use Rattle.evl_kernel.specs.calls.Elements.{ElementStep, on_sem, on_flags, on_xbuf, on_mutex, touched}
@@ -33,7 +33,7 @@ use Rattle.evl_kernel.proofs.settling.PlayWalk.{KeptByPlays, holds-home, kept_by
 -- each kind of change keeps this
 pub record KeptByEach (P : State → Type 0) : Type 0 where
   pub lined : (s : State) (q : lines.Pipeline ℕ) → P s → P (with_lines s q)
-  pub banked : (s : State) (number : ℕ) (home : Bool) (b : Banked) → P s → P (moved s home number b)
+  pub banked : (s : State) (number : ℕ) (home : Bool) (b : Banked) → P s → P (with_banked s home number b)
   pub clocked : (s : State) (c : Clock ℕ) → c.deadlines ≡ s.clock.deadlines → P s → P (with_clock s c)
   pub paid : (s : State) (before delta now : ℕ) → P s → P (thread_call.paid_between s before delta now)
   pub asked : (s : State) (by : Option ℕ) (step : ElementStep) → IsAsked step → MayRaise s step → P s → Leaves P (touched s by step).effect
@@ -63,14 +63,14 @@ module _ (P : State → Type 0) (k : KeptByEach P) where
     expired = λ s thread date is h. k.expired s thread h;
   }
 
-  holds-returned : (s : State) (o : Option (lines.Installed ℕ)) → P s → P (line_call.returned s o)
+  holds-returned : (s : State) (o : Option (lines.Installed ℕ)) → P s → P (line_call.with_callback_back s o)
   holds-returned s None h = h
   holds-returned s (Some at) h = holds-home P by_plays s at.callback h
 
   holds-line : (s : State) (step : LineStep) → P s → Leaves P (line_effect s step)
   holds-line s (request line stage number tag) h = leaves-known P (slice_get s.bank number) _ (λ b here.
       leaves-refused P (lines.request_refusal s.lines line stage b.handler.kinds) _ (λ passed. leaves-unless P (not b.home) Busy
-      (done (moved (with_lines s (lines.requested s.lines line stage number tag)) false number b)) (k.banked (with_lines s _) number false b (k.lined s _ h))))
+      (done (with_banked (with_lines s (lines.requested s.lines line stage number tag)) false number b)) (k.banked (with_lines s _) number false b (k.lined s _ h))))
   holds-line s (free line stage) h = leaves-refused P (lines.free_refusal s.lines line stage) _ (λ passed.
       holds-returned (with_lines s (lines.freed s.lines line stage)) (lines.installed_at s.lines stage line) (k.lined s _ h))
   holds-line s (arrive line) h = leaves-refused P (lines.post_refusal line) _ (λ passed. k.lined s _ h)

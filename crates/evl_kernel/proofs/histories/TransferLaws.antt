@@ -15,9 +15,9 @@ use Rattle.evl_xbuf.specs.Flows.{flow, of_begin_read, of_begin_write, of_read, o
 use Rattle.evl_xbuf.specs.Streams as streams
 use Rattle.evl_xbuf.specs.Streams.{Service, Stream}
 use Rattle.evl_xbuf.specs.Xbufs as xbufs
-use Rattle.evl_xbuf.specs.Xbufs.{Xbuf, beside, reading_stage, same_stage, stream, unless_refused, with_stream, writing_stage}
+use Rattle.evl_xbuf.specs.Xbufs.{Xbuf, with_other_way, reading_stage, same_stage, stream, unless_refused, with_stream, writing_stage}
 use Rattle.evl_xbuf.proofs.FlowLaws.{run-goes}
-use Rattle.evl_kernel.specs.calls.Effects.{Made, Runs, if_done, replied}
+use Rattle.evl_kernel.specs.calls.Effects.{Made, Runs, if_done, reply_by}
 use Rattle.evl_kernel.specs.calls.CrossBuffers as through
 use Rattle.evl_kernel.specs.calls.CrossBuffers.{XbufStep, bytes_told, cross_buffer}
 use Rattle.evl_kernel.specs.calls.Elements.{part, its_xbuf}
@@ -51,18 +51,18 @@ module _ (x : Xbuf) where
   with_other Out In e s = refl
   with_other Out Out e s = absurd (false≢true (sym e))
 
-  own_way : {A : Type 0} (f : A → Reply) (w : Way) (r : Result (A × Stream) Refusal) → stream (if_done x (replied f (unless_refused x w r))) w ≡ left_by r (stream x w)
+  own_way : {A : Type 0} (f : A → Reply) (w : Way) (r : Result (A × Stream) Refusal) → stream (if_done x (reply_by f (unless_refused x w r))) w ≡ left_by r (stream x w)
   own_way f w (Ok (answer, after)) = with_way w after
   own_way f w (Err refusal) = refl
 
-  other_way : {A : Type 0} (f : A → Reply) (way w : Way) → same_way way w ≡ false → (r : Result (A × Stream) Refusal) → stream (if_done x (replied f (unless_refused x w r))) way ≡ stream x way
+  other_way : {A : Type 0} (f : A → Reply) (way w : Way) → same_way way w ≡ false → (r : Result (A × Stream) Refusal) → stream (if_done x (reply_by f (unless_refused x w r))) way ≡ stream x way
   other_way f way w apart (Ok (answer, after)) = with_other way w apart after
   other_way f way w apart (Err refusal) = refl
 
   -- a call that is on this way where it is reached, and else changes nothing of it
   module _ {A : Type 0} (f : A → Reply) (way w : Way) (call : flows.Call) (r : Result (A × Stream) Refusal) (is : (flow call (stream x w)).after ≡ left_by r (stream x w)) where
-    on_way : (same : Bool) → same_way way w ≡ same → after_of (if_reached same call) (stream x way) ≡ stream (if_done x (replied f (unless_refused x w r))) way
-    on_way true same = subst (λ (v : Way). (flow call (stream x v)).after ≡ stream (if_done x (replied f (unless_refused x w r))) v) (sym (way_is way w same)) (is ∙ sym (own_way f w r))
+    on_way : (same : Bool) → same_way way w ≡ same → after_of (if_reached same call) (stream x way) ≡ stream (if_done x (reply_by f (unless_refused x w r))) way
+    on_way true same = subst (λ (v : Way). (flow call (stream x v)).after ≡ stream (if_done x (reply_by f (unless_refused x w r))) v) (sym (way_is way w same)) (is ∙ sym (own_way f w r))
     on_way false apart = sym (other_way f way w apart r)
 
 write_after : (s : Stream) (bytes : List ℕ) (r : Result (List Service × Stream) Refusal) → (of_write s bytes r).after ≡ left_by r s
@@ -90,7 +90,7 @@ reached : (x : Xbuf) (way : Way) (step : XbufStep) → after_of (call_on way ste
 reached x way (through.write stage w bytes) = by (same_way way w) refl (same_stage (writing_stage w) stage)
   where
     by : (same : Bool) → same_way way w ≡ same → (right : Bool) → after_of (if_reached (same && right) (flows.Write bytes)) (stream x way)
-        ≡ stream (if_done x (replied (λ (u : List Service). Done) (unless (if right then None else Some WrongStage) (unless_refused x w (streams.try_write bytes (stream x w)))))) way
+        ≡ stream (if_done x (reply_by (λ (u : List Service). Done) (unless (if right then None else Some WrongStage) (unless_refused x w (streams.try_write bytes (stream x w)))))) way
     by true is true = on_way x (λ (u : List Service). Done) way w (flows.Write bytes) (streams.try_write bytes (stream x w)) (write_after (stream x w) bytes (streams.try_write bytes (stream x w))) true is
     by false is true = on_way x (λ (u : List Service). Done) way w (flows.Write bytes) (streams.try_write bytes (stream x w)) (write_after (stream x w) bytes (streams.try_write bytes (stream x w))) false is
     by true is false = refl
@@ -98,7 +98,7 @@ reached x way (through.write stage w bytes) = by (same_way way w) refl (same_sta
 reached x way (through.read stage w len) = by (same_way way w) refl (nat_lt 256 len) (same_stage (reading_stage w) stage)
   where
     by : (same : Bool) → same_way way w ≡ same → (wide right : Bool) → after_of (if_reached (same && not wide && right) (flows.Read len)) (stream x way)
-        ≡ stream (if_done x (replied (λ (got : List ℕ × List Service). bytes_told got.0) (unless (if wide then Some Range else None) (unless (if right then None else Some WrongStage) (unless_refused x w (streams.try_read len (stream x w))))))) way
+        ≡ stream (if_done x (reply_by (λ (got : List ℕ × List Service). bytes_told got.0) (unless (if wide then Some Range else None) (unless (if right then None else Some WrongStage) (unless_refused x w (streams.try_read len (stream x w))))))) way
     by true is false true = on_way x (λ (got : List ℕ × List Service). bytes_told got.0) way w (flows.Read len) (streams.try_read len (stream x w)) (read_after (stream x w) (streams.try_read len (stream x w))) true is
     by false is false true = on_way x (λ (got : List ℕ × List Service). bytes_told got.0) way w (flows.Read len) (streams.try_read len (stream x w)) (read_after (stream x w) (streams.try_read len (stream x w))) false is
     by true is false false = refl
@@ -109,14 +109,14 @@ reached x way (through.room w) = refl
 reached x way (through.begin_write thread w bytes) = by (same_way way w) refl (same_stage (writing_stage w) (writing_stage w)) (own_stage w).0
   where
     by : (same : Bool) → same_way way w ≡ same → (right : Bool) → right ≡ true → after_of (if_reached same (flows.BeginWrite thread bytes)) (stream x way)
-        ≡ stream (if_done x (replied (λ (u : Option (List Service)). Begun) (unless (if right then None else Some WrongStage) (unless_refused x w (streams.begin_write thread bytes (stream x w)))))) way
+        ≡ stream (if_done x (reply_by (λ (u : Option (List Service)). Begun) (unless (if right then None else Some WrongStage) (unless_refused x w (streams.begin_write thread bytes (stream x w)))))) way
     by same is true right =
         on_way x (λ (u : Option (List Service)). Begun) way w (flows.BeginWrite thread bytes) (streams.begin_write thread bytes (stream x w)) (begin_write_after (stream x w) bytes (streams.begin_write thread bytes (stream x w))) same is
     by same is false right = absurd (false≢true right)
 reached x way (through.begin_read thread w len) = by (same_way way w) refl (nat_lt 256 len) (same_stage (reading_stage w) (reading_stage w)) (own_stage w).1
   where
     by : (same : Bool) → same_way way w ≡ same → (wide right : Bool) → right ≡ true → after_of (if_reached (same && not wide) (flows.BeginRead thread len)) (stream x way)
-        ≡ stream (if_done x (replied (λ (got : Option (List ℕ × List Service)). Begun) (unless (if wide then Some Range else None) (unless (if right then None else Some WrongStage) (Ok (beside x w (streams.begin_read thread len (stream x w)))))))) way
+        ≡ stream (if_done x (reply_by (λ (got : Option (List ℕ × List Service)). Begun) (unless (if wide then Some Range else None) (unless (if right then None else Some WrongStage) (Ok (with_other_way x w (streams.begin_read thread len (stream x w)))))))) way
     by true is false true right = on_way x (λ (got : Option (List ℕ × List Service)). Begun) way w (flows.BeginRead thread len) (Ok (streams.begin_read thread len (stream x w))) (begin_read_after (stream x w) (streams.begin_read thread len (stream x w))) true is
     by false is false true right = on_way x (λ (got : Option (List ℕ × List Service)). Begun) way w (flows.BeginRead thread len) (Ok (streams.begin_read thread len (stream x w))) (begin_read_after (stream x w) (streams.begin_read thread len (stream x w))) false is
     by true is true true right = refl
@@ -135,7 +135,7 @@ leads way x y (made ∷ others) (said, rest) = by (call_on way made.step) (reach
     by (Some call) is ends = ap (λ (s : Stream). (run (calls_on way others) s).after) is ∙ ends
 
 -- nothing is there at the beginning
-nothing_there : (sizes : List (ℕ × ℕ)) (n : ℕ) (x : Xbuf) → slice_get (map (λ (s : ℕ × ℕ). xbufs.opened s.0 s.1) sizes) n ≡ Some x → (way : Way) → (stream x way).there ≡ []
+nothing_there : (sizes : List (ℕ × ℕ)) (n : ℕ) (x : Xbuf) → slice_get (map (λ (s : ℕ × ℕ). xbufs.opened_xbuf s.0 s.1) sizes) n ≡ Some x → (way : Way) → (stream x way).there ≡ []
 nothing_there [] n x is way = absurd (none-some _ is)
 nothing_there (s ∷ sizes) zero x is In = ap (λ (z : Xbuf). z.inbound.there) (sym (same_Some _ _ is))
 nothing_there (s ∷ sizes) zero x is Out = ap (λ (z : Xbuf). z.outbound.there) (sym (same_Some _ _ is))

@@ -16,14 +16,14 @@ use Rattle.evl_kernel.specs.declared.waits.Wanted.{Wanted}
 use Rattle.evl_kernel.specs.state.States.{State, Elements}
 use Rattle.evl_kernel.specs.calls.Effects.{Answered, Effect, lifted, leaving, if_done}
 use Rattle.evl_kernel.specs.calls.Elements.{ElementStep, element, elements, with_elements, wakes, serves, stepping_to, touched}
-use Rattle.evl_kernel.specs.waiting.Waits.{wait_of, wait_at, with_wait, going_on, ended_by, is_past, suspended, begun, woken, all_woken}
-use Rattle.evl_kernel.specs.waiting.Beginnings.{awaited, begin_refusal, begin_step, beginning}
+use Rattle.evl_kernel.specs.waiting.Waits.{wait_of, wait_at, with_wait, going_on, ended_by, is_past, suspended, wait_begun as begun, woken, all_woken}
+use Rattle.evl_kernel.specs.waiting.Beginnings.{awaited_by, begin_refusal, begin_step, beginning}
 use Rattle.evl_kernel.specs.waiting.Endings.{drop_step, finish, goes_inband, inband_if, outcome_of}
 use Rattle.evl_kernel.specs.calls.TimerCalls.{posted_if}
 use Rattle.evl_kernel.specs.calls.Families.{Task, on_lines, on_clock, on_threads, on_element, on_staged, raises, begins, ends, performing, task_of}
 use Rattle.evl_kernel.specs.calls.Serving.{answer, ends_a_wait, general_refusal}
 use Rattle.evl_kernel.specs.settling.Settling.{deadline_left}
-use Rattle.evl_kernel.specs.histories.Histories.{Follows, Run, Step, opened}
+use Rattle.evl_kernel.specs.histories.Histories.{Follows, Run, Step, opened_kernel as opened}
 use Rattle.evl_kernel.specs.histories.WaitOwners.{awaited_along, awaited_at, awaited_after, WaitsAreOfTheirCalls, WaitsGoBy, WaitsAreTheThreadsOwn}
 use Rattle.evl_kernel.proofs.calls.LeavesLaws.{Leaves, leaves-if_done, leaves-refused}
 use Rattle.evl_kernel.proofs.state.OpeningLaws.{threads_few}
@@ -106,10 +106,10 @@ module _ (t : ℕ) (X : Option Awaited) where
   }
 
   -- a wait that begins, where what is left has it at once
-  waits_beginning : (s : State) (caller : ℕ) (wants : Wanted) (until : Option ℕ) → ((e : Elements) (served : Option Reply) → Waits (begun (with_elements s e) caller (awaited wants) until served)) → Leaves Waits (beginning s caller wants until).effect
+  waits_beginning : (s : State) (caller : ℕ) (wants : Wanted) (until : Option ℕ) → ((e : Elements) (served : Option Reply) → Waits (begun (with_elements s e) caller (awaited_by wants) until served)) → Leaves Waits (beginning s caller wants until).effect
   waits_beginning s caller wants until kept =
       let step = begin_step s caller wants in
-      leaves-refused Waits (begin_refusal s caller wants) _ (λ none. waits_stepping (λ x. begun x caller (awaited wants) until (serves (elements s) step)) s step (λ e. kept e (serves (elements s) step)))
+      leaves-refused Waits (begin_refusal s caller wants) _ (λ none. waits_stepping (λ x. begun x caller (awaited_by wants) until (serves (elements s) step)) s step (λ e. kept e (serves (elements s) step)))
 
   waits_begun : (s : State) (caller : ℕ) (on : Awaited) (until : Option ℕ) (served : Option Reply) → ((v : Wait) → v.on ≡ on → on_of (wait_of (slice_set s.waits caller (Some v)) t) ≡ X) → Waits (begun s caller on until served)
   waits_begun s caller on until (Some outcome) set = set (ended_by outcome (going_on on)) refl
@@ -134,7 +134,7 @@ module _ (t : ℕ) (X : Option Awaited) where
   waits_by_another : (s : State) (caller : ℕ) (asked : Call) → (t == caller) ≡ false → KeptByOwn Waits s caller asked
   waits_by_another s caller asked ne = record {
     threads = λ step is passed h. leaves-threads Waits (λ x q hx. hx) s caller step h;
-    begun = λ wants until is passed h. waits_beginning s caller wants until (λ e served. waits_begun (with_elements s e) caller (awaited wants) until served (λ v on. ap on_of (wait_there s caller (Some v) t ne) ∙ h));
+    begun = λ wants until is passed h. waits_beginning s caller wants until (λ e served. waits_begun (with_elements s e) caller (awaited_by wants) until served (λ v on. ap on_of (wait_there s caller (Some v) t ne) ∙ h));
     ended = λ keep is h. waits_finish s caller keep (ap on_of (wait_there s caller None t ne) ∙ h);
   }
 
@@ -166,21 +166,21 @@ waits_step count old proper caller asked reply plays new step = record { others 
         by (Err why) left (same, none, stays) = absurd (cc)
         by (Ok (given, changed)) left follows = follows_holds (Waits caller X) (waits_by_each caller X) changed (Ok (given, changed)) (Ok said) plays new left left follows
 
-    begins_so : (wants : Wanted) (until : Option ℕ) → task_of asked ≡ begins wants until → Leaves (Waits caller (Some (awaited wants))) (answer old caller asked)
+    begins_so : (wants : Wanted) (until : Option ℕ) → task_of asked ≡ begins wants until → Leaves (Waits caller (Some (awaited_by wants))) (answer old caller asked)
     begins_so wants until is = leaves-refused P (general_refusal old caller asked) _ (λ passed. subst (λ (k : Task). Leaves P (performing old caller k).effect) (sym is)
         (let there = (passed_all old caller asked (ap ends_a_wait is) passed).there in
         let within : caller < length old.waits = omega (arith, there, proper.threads_are, proper.places) in
-        waits_beginning caller (Some (awaited wants)) old caller wants until (λ e served. waits_begun caller (Some (awaited wants)) (with_elements old e) caller (awaited wants) until served (λ v on. ap on_of (index_here old.waits caller (Some v) None within) ∙ ap (λ (a : Awaited). Some a) on))))
+        waits_beginning caller (Some (awaited_by wants)) old caller wants until (λ e served. waits_begun caller (Some (awaited_by wants)) (with_elements old e) caller (awaited_by wants) until served (λ v on. ap on_of (index_here old.waits caller (Some v) None within) ∙ ap (λ (a : Awaited). Some a) on))))
       where
         P : State → Type 0
-        P = Waits caller (Some (awaited wants))
+        P = Waits caller (Some (awaited_by wants))
 
     ends_so : (keep : Bool) → task_of asked ≡ ends keep → Leaves (Waits caller None) (answer old caller asked)
     ends_so keep is = leaves-refused (Waits caller None) (general_refusal old caller asked) _ (λ passed. subst (λ (k : Task). Leaves (Waits caller None) (performing old caller k).effect) (sym is)
         (waits_finish caller None old caller keep (⊎_elim (λ (e : slice_index_or (slice_set old.waits caller None) caller None ≡ None). ap on_of e) (λ (e : slice_index_or (slice_set old.waits caller None) caller None ≡ None). ap on_of e) (index_set old.waits caller None))))
 
     own : (task : Task) → task_of asked ≡ task → (r : Result Reply Refusal) → Step old caller asked r plays new → awaited_at new caller ≡ awaited_after task r (awaited_at old caller)
-    own (begins wants until) is (Ok said) step = becomes (Some (awaited wants)) said (begins_so wants until is) step
+    own (begins wants until) is (Ok said) step = becomes (Some (awaited_by wants)) said (begins_so wants until is) step
     own (begins wants until) is (Err why) step = refused why (answer old caller asked) step
     own (ends keep) is (Ok said) step = becomes None said (ends_so keep is) step
     own (ends keep) is (Err why) step = refused why (answer old caller asked) step

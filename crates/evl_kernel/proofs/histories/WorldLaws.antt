@@ -25,8 +25,8 @@ use Rattle.evl_kernel.specs.state.States.{State, with_lines, plan_at}
 use Rattle.evl_kernel.specs.calls.Effects.{Effect, done, refused_by}
 use Rattle.evl_kernel.specs.calls.Families.{LineStep, request, free, arrive, post, stall, unstall, line_effect, Task, on_lines, on_clock, on_threads, on_element, on_staged, begins, ends, performing, task_of, raises}
 use Rattle.evl_kernel.specs.calls.Serving.{general_refusal, answer}
-use Rattle.evl_kernel.specs.settling.Settling.{Settling, item_next, next_play, going_on, is_of_clock, item_played, played, line_played, clock_played, after_call, nothing}
-use Rattle.evl_kernel.specs.histories.Histories.{History, Run, Follows, IsLegal, opened}
+use Rattle.evl_kernel.specs.settling.Settling.{Settling, item_next, next_play, going_on, is_of_clock, item_played, line_played, line_played, clock_played, after_call, nothing}
+use Rattle.evl_kernel.specs.histories.Histories.{History, Run, Follows, IsLegal, opened_kernel}
 use Rattle.evl_kernel.specs.state.Openings.{opening}
 use Rattle.evl_kernel.specs.histories.Worlds.{is_inband_step, is_inband_task, is_inband_stall, is_inband_play, outside_inband, played_outside, RequestsNoActions}
 use Rattle.evl_kernel.specs.histories.Laws.{TwoWorlds, call_of}
@@ -95,7 +95,7 @@ item_shows at found is = inl (beside found, next_outside-item at.state at.in_clo
     beside (item.Timer id) = refl
     beside (item.Deadline thread) = refl
 
-played_shows : (start : State) (at : Settling) (stage : Stage) (line : ℕ) → IsSilent start at.state → IsProper at → item_next at ≡ None → Chosen at.state.lines stage line → Shows at (going_on at stage (played at.state stage line))
+played_shows : (start : State) (at : Settling) (stage : Stage) (line : ℕ) → IsSilent start at.state → IsProper at → item_next at ≡ None → Chosen at.state.lines stage line → Shows at (going_on at stage (line_played at.state stage line))
 played_shows start at Oob line h proper none low = inl (beside (line == 0), next_outside-plays at.state at.in_clock line none low.0 low.1)
   where
     beside : (b : Bool) → is_inband_play (if b then clock_played at.state else line_played at.state Oob line (unwrap_or (lines.installed_at at.state.lines Oob line) nothing)).0 ≡ false
@@ -124,7 +124,7 @@ next_shows start at mid one h next = one_played (λ (x : Play × Settling). Show
       played_shows start at stage line h.silent h.proper none low,
       record {
         silent = silent-played start at.state stage line h.silent (chosen_pends at.state.lines stage line low);
-        proper = proper_on at stage (played at.state stage line);
+        proper = proper_on at stage (line_played at.state stage line);
       },
     )) next
 
@@ -275,14 +275,14 @@ run_outside_one_way old (c ∷ calls) replies given plays more (reply, others, o
     let all = run_outside_one_way mid calls others givens rest left run walk_on in
     (split ∙ ((λ i. one.1 i ++ all.0 i) ∙ sym divide), said ∙ ((λ i. one.0 i ∷ all.1 i) ∙ sym says))
 
-shown_outside : (h : History) → All (RequestsNoActions (opened h)) h.entries → IsLegal h
-    → RunOutside (outside (opened h)) (map call_of (outside_inband h.entries)) (map reply_of (outside_inband h.entries)) (played_outside h.plays)
-shown_outside h none legal = run_outside (opened h) (opened h) h.entries h.plays h.state (silent-opening h.board h.bank) (opening_quiet h.board h.bank) none legal
+shown_outside : (h : History) → All (RequestsNoActions (opened_kernel h)) h.entries → IsLegal h
+    → RunOutside (outside (opened_kernel h)) (map call_of (outside_inband h.entries)) (map reply_of (outside_inband h.entries)) (played_outside h.plays)
+shown_outside h none legal = run_outside (opened_kernel h) (opened_kernel h) h.entries h.plays h.state (silent-opening h.board h.bank) (opening_quiet h.board h.bank) none legal
 
 pub worlds_agree : TwoWorlds
 worlds_agree h other p q board_is bank_is same none none_too =
     let shown = shown_outside h none p in
-    let from : outside (opened other) ≡ outside (opened h) = (λ i. outside (opening (board_is i) (bank_is i))) in
+    let from : outside (opened_kernel other) ≡ outside (opened_kernel h) = (λ i. outside (opening (board_is i) (bank_is i))) in
     let more_shown = subst (λ (s : State). RunOutside s (map call_of (outside_inband other.entries)) (map reply_of (outside_inband other.entries)) (played_outside other.plays)) from (shown_outside other none_too q) in
-    run_outside_one_way (outside (opened h)) (map call_of (outside_inband h.entries)) (map reply_of (outside_inband h.entries)) (map reply_of (outside_inband other.entries)) (played_outside h.plays) (played_outside other.plays) shown
-    (subst (λ (calls : List (ℕ × Call)). RunOutside (outside (opened h)) calls (map reply_of (outside_inband other.entries)) (played_outside other.plays)) (sym same) more_shown)
+    run_outside_one_way (outside (opened_kernel h)) (map call_of (outside_inband h.entries)) (map reply_of (outside_inband h.entries)) (map reply_of (outside_inband other.entries)) (played_outside h.plays) (played_outside other.plays) shown
+    (subst (λ (calls : List (ℕ × Call)). RunOutside (outside (opened_kernel h)) calls (map reply_of (outside_inband other.entries)) (played_outside other.plays)) (sym same) more_shown)

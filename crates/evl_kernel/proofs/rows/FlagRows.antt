@@ -19,14 +19,14 @@ use Rattle.evl_clock.specs.Dues.{next_due}
 use Rattle.evl_sched.specs.Threads as threads
 use Rattle.evl_kernel.specs.state.States.{State, Handler}
 use Rattle.evl_kernel.specs.state.Openings.{opening}
-use Rattle.evl_kernel.specs.histories.Replays.{stepped}
+use Rattle.evl_kernel.specs.histories.Replays.{step_outcome}
 use Rattle.evl_kernel.specs.settling.Settling.{next_move}
 use Rattle.evl_kernel.specs.calls.ThreadCalls.{rank_by}
 
 -- the answers and plays of calls, each by its thread
 abbrev replies : State → List (ℕ × Call) → List (Result Reply Refusal × List Play)
 replies s [] = []
-replies s ((caller, asked) ∷ calls) = let one = stepped s caller asked in (one.reply, one.plays) ∷ replies one.after calls
+replies s ((caller, asked) ∷ calls) = let one = step_outcome s caller asked in (one.reply, one.plays) ∷ replies one.after calls
 
 -- callback 0 posts bit 1 of flag group 0
 abbrev bank : List Handler

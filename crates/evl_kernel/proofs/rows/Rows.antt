@@ -26,9 +26,9 @@ use Rattle.evl_kernel.specs.state.States.{State, Handler}
 use Rattle.evl_kernel.specs.state.Openings.{opening}
 use Rattle.evl_kernel.specs.settling.Settling.{next_move, all_acting, responding}
 use Rattle.evl_kernel.specs.calls.ThreadCalls.{rank_by}
-use Rattle.evl_kernel.specs.histories.Replays.{stepped, touches_of}
+use Rattle.evl_kernel.specs.histories.Replays.{step_outcome, touches_of}
 use Rattle.evl_kernel.specs.calls.Effects.{Made, Runs}
-use Rattle.evl_sync.specs.Semaphores.{opened}
+use Rattle.evl_sync.specs.Semaphores.{opened_semaphore}
 use Rattle.evl_kernel.specs.calls.Semaphores.{SemStep, get, peek, put, semaphore}
 use Rattle.evl_kernel.specs.calls.Elements.{its_sem, part}
 use Rattle.evl_kernel.specs.calls.Serving.{what_call_does}
@@ -36,11 +36,11 @@ use Rattle.evl_kernel.specs.calls.Serving.{what_call_does}
 -- the answers and plays of calls, one after another, and where they lead
 abbrev replies : State → List Call → List (Result Reply Refusal × List Play)
 replies s [] = []
-replies s (asked ∷ calls) = let one = stepped s 0 asked in (one.reply, one.plays) ∷ replies one.after calls
+replies s (asked ∷ calls) = let one = step_outcome s 0 asked in (one.reply, one.plays) ∷ replies one.after calls
 
 abbrev led : State → List Call → State
 led s [] = s
-led s (asked ∷ calls) = led (stepped s 0 asked).after calls
+led s (asked ∷ calls) = led (step_outcome s 0 asked).after calls
 
 abbrev handler : ℕ → ℕ → List (ℕ × Action) → Handler
 handler kinds accepts rows = record { kinds = kinds; plan = record { accepts = accepts; rows = record { items = rows } } }
@@ -92,7 +92,7 @@ semaphore_path_1 : replies (start (2147483647 ∷ [])) (Put (record { 0 = 0 }) �
 unfolding next_move lines.opening clocks.opening next_due threads.opening rank_by
 semaphore_path_1 = refl
 
-semaphore_path_2 : (stepped (start (1 ∷ [])) 1 (TryGet (record { 0 = 0 }))).reply ∷ (stepped (start (1 ∷ [])) 0 (TryGet (record { 0 = 1 }))).reply ∷ [] ≡ Err Unknown ∷ Err Unknown ∷ []
+semaphore_path_2 : (step_outcome (start (1 ∷ [])) 1 (TryGet (record { 0 = 0 }))).reply ∷ (step_outcome (start (1 ∷ [])) 0 (TryGet (record { 0 = 1 }))).reply ∷ [] ≡ Err Unknown ∷ Err Unknown ∷ []
 unfolding next_move lines.opening clocks.opening next_due threads.opening rank_by
 semaphore_path_2 = refl
 
@@ -194,7 +194,7 @@ unknown_numbers = refl
 
 -- there is no such thread: that goes before all else
 abbrev replies_to_stranger : State → List Call → List (Result Reply Refusal)
-replies_to_stranger s calls = map (λ asked. (stepped s 1 asked).reply) calls
+replies_to_stranger s calls = map (λ asked. (step_outcome s 1 asked).reply) calls
 
 stranger_is_unknown : replies_to_stranger (start (0 ∷ [])) (
     Request (record { 0 = 0 }) Oob 0 0 ∷ Free (record { 0 = 0 }) Oob ∷ Arrive (record { 0 = 0 }) ∷ Post Oob (record { 0 = 0 })
@@ -297,10 +297,10 @@ reply_is_before_settling = refl
 abbrev asked : SemStep → Result Reply Refusal → Made SemStep
 asked step answer = record { by = Some 0; step = step; answer = answer }
 
-semaphore_by_itself : Runs semaphore (opened 0) (asked get (Err Again) ∷ asked put (Ok Done) ∷ asked get (Ok Done) ∷ asked peek (Ok (Count (pos 0))) ∷ asked put (Ok Done) ∷ asked peek (Ok (Count (pos 1))) ∷ []) (opened 1)
+semaphore_by_itself : Runs semaphore (opened_semaphore 0) (asked get (Err Again) ∷ asked put (Ok Done) ∷ asked get (Ok Done) ∷ asked peek (Ok (Count (pos 0))) ∷ asked put (Ok Done) ∷ asked peek (Ok (Count (pos 1))) ∷ []) (opened_semaphore 1)
 semaphore_by_itself = (refl, (refl, (refl, (refl, (refl, (refl, refl))))))
 
-semaphore_at_its_greatest : Runs semaphore (opened 2147483647) (asked put (Err Range) ∷ asked peek (Ok (Count (pos 2147483647))) ∷ []) (opened 2147483647)
+semaphore_at_its_greatest : Runs semaphore (opened_semaphore 2147483647) (asked put (Err Range) ∷ asked peek (Ok (Count (pos 2147483647))) ∷ []) (opened_semaphore 2147483647)
 semaphore_at_its_greatest = (refl, (refl, refl))
 
 -- which steps are its own: those of its number, by a caller of the board, and of an answer that was handled

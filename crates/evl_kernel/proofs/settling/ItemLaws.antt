@@ -17,7 +17,7 @@ use Rattle.evl_pipeline.specs.Plans.{PostsNoOob, answer_of}
 use Rattle.evl_clock.specs.declared.due.Item.{Item}
 use Rattle.evl_clock.specs.declared.due.Item.TheVariants as item
 use Rattle.evl_clock.specs.declared.timer.Timer.{Timer}
-use Rattle.evl_clock.specs.Timers.{is_timer_allowed, missed}
+use Rattle.evl_clock.specs.Timers.{is_timer_allowed, missed_periods}
 use Rattle.evl_clock.specs.Clocks.{Clock, timer_at, with_deadline}
 use Rattle.evl_clock.specs.ClockSteps as steps
 use Rattle.evl_clock.specs.ClockSteps.{Fires, fired}
@@ -30,7 +30,7 @@ use Rattle.evl_kernel.specs.declared.waits.Wait.{Wait}
 use Rattle.evl_kernel.specs.calls.Elements.{Told, touched}
 use Rattle.evl_kernel.specs.waiting.Waits.{wait_at, woken}
 use Rattle.evl_kernel.specs.waiting.Endings.{drop_step}
-use Rattle.evl_kernel.specs.settling.Settling.{Left, left, deadline_left, answered, timer_given, item_played, due_played, going_on, is_of_clock, item_next, item_before, line_next, next_of, line_goes, next_play, one_inband}
+use Rattle.evl_kernel.specs.settling.Settling.{Left, left_after, deadline_left, after_answer, timer_given, item_played, due_played, going_on, is_of_clock, item_next, item_before, line_next, next_of, line_goes, next_play, one_inband}
 use Rattle.evl_kernel.specs.settling.Fires.{Called}
 use Rattle.evl_kernel.specs.settling.Settled.{settling, stage_of, waiting}
 use Rattle.evl_kernel.specs.state.Callbacks.{AnswersByPlan}
@@ -55,8 +55,8 @@ module _ {C : Type 0} (declared : C → ℕ) (plan : C → Plan) where
   -- what a play makes where this is the answer
   abbrev with_answer : RecordsView C → ℕ → Timer (Numbered C) → Answer → Play × State
   with_answer r n at answer = (
-    play.Timer (record { 0 = n }) (one_more at.count) (missed r.clock.now at.state) answer.handled,
-    answered (with_clock (state_of r) (fired (renamed_clock number_of r.clock) n (named_timer number_of at))) 0 answer,
+    play.Timer (record { 0 = n }) (one_more at.count) (missed_periods r.clock.now at.state) answer.handled,
+    after_answer (with_clock (state_of r) (fired (renamed_clock number_of r.clock) n (named_timer number_of at))) 0 answer,
   )
 
   timer_step : (r : RecordsView C) (n : ℕ) (at : Timer (Numbered C)) → next_due r.clock ≡ Some (timer n) → timer_at r.clock n ≡ Some at
@@ -68,7 +68,7 @@ module _ {C : Type 0} (declared : C → ℕ) (plan : C → Plan) where
 
   pub timer_next : (gives : C → Fire → Answer → Type 0) (r t : RecordsView C) (id : TimerId) (fire : Fire) (misses : ℕ) (answer : Answer) (d : Clock (Numbered C))
       → AnswersByPlan declared plan (whereabouts r) → next_due r.clock ≡ Some (timer id.0) → Falls gives r.clock id.0 fire misses answer d
-      → state_of t ≡ answered (state_of (record r { clock = d })) fire.line.0 answer
+      → state_of t ≡ after_answer (state_of (record r { clock = d })) fire.line.0 answer
       → due_played (state_of r) ≡ Some (play.Timer id fire.count misses answer.handled, state_of t)
   timer_next gives r t id fire misses answer d answers next f after =
       let at = f.at in
@@ -76,8 +76,8 @@ module _ {C : Type 0} (declared : C → ℕ) (plan : C → Plan) where
       let told_plan = (timed_told r id.0 at answers f.stands).0 in
       let is_answer : answer_of (plan_at (state_of r) at.callback.number) (one_more at.count) ≡ answer = ap (λ (x : Plan). answer_of x (one_more at.count)) told_plan ∙ sym fell.answered in
       let clock_is : renamed_clock number_of d ≡ fired (renamed_clock number_of r.clock) id.0 (named_timer number_of at) = ap (renamed_clock number_of) f.after ∙ fired-renamed number_of r.clock id.0 at in
-      let state_is : state_of t ≡ answered (with_clock (state_of r) (fired (renamed_clock number_of r.clock) id.0 (named_timer number_of at))) 0 answer =
-      after ∙ ((λ i. answered (with_clock (state_of r) (clock_is i)) (fell.fire_is i).line.0 answer)) in
+      let state_is : state_of t ≡ after_answer (with_clock (state_of r) (fired (renamed_clock number_of r.clock) id.0 (named_timer number_of at))) 0 answer =
+      after ∙ ((λ i. after_answer (with_clock (state_of r) (clock_is i)) (fell.fire_is i).line.0 answer)) in
       let said : Some (with_answer r id.0 at answer) ≡ Some (play.Timer id fire.count misses answer.handled, state_of t) =
       sym (λ i. Some (play.Timer id (fell.fire_is i).count (fell.misses_is i) answer.handled, state_is i)) in
       timer_step r id.0 at next f.stands ∙ (ap (λ (a : Answer). Some (with_answer r id.0 at a)) is_answer ∙ said)
@@ -101,7 +101,7 @@ module _ {C : Type 0} (declared : C → ℕ) (plan : C → Plan) where
 
   pub timer_nearer : (r t : RecordsView C) (fire : Fire) (answer : Answer) (d : Clock (Numbered C)) → AnswersByPlan declared plan (whereabouts r) → AreTimersAllowed (state_of r)
       → due_count d + 1 ≡ due_count r.clock → (steps.AreAllowed (λ (n : Numbered C). declared n.callback) r.clock → PostsNoOob answer.actions.items)
-      → state_of t ≡ answered (state_of (record r { clock = d })) fire.line.0 answer → waiting (state_of t) < waiting (state_of r)
+      → state_of t ≡ after_answer (state_of (record r { clock = d })) fire.line.0 answer → waiting (state_of t) < waiting (state_of r)
   timer_nearer r t fire answer d answers allowed fewer bounded after =
       let mid = state_of (record r { clock = d }) in
       omega (
@@ -117,7 +117,7 @@ module _ {C : Type 0} (declared : C → ℕ) (plan : C → Plan) where
 
 -- a deadline that was taken away is taken away once more as its thread's wait ends
 pub woken_once : (s : State) (thread : ℕ) → deadline_left (with_clock s (with_deadline s.clock thread None)) thread ≡ deadline_left s thread
-woken_once s thread = ap (λ (dates : List (Option ℕ)). left (ended dates) (told (ended dates) (wait_at s thread))) (set_twice s.clock.deadlines thread None None)
+woken_once s thread = ap (λ (dates : List (Option ℕ)). left_after (ended dates) (told (ended dates) (wait_at s thread))) (set_twice s.clock.deadlines thread None None)
   where
     ended : List (Option ℕ) → State
     ended dates = with_clock (woken s thread TimedOut) (record s.clock { deadlines = dates })

@@ -18,7 +18,7 @@ use Rattle.evl_base.specs.declared.stage.Stage.TheVariants.{Inband, Oob}
 use Rattle.evl_pipeline.specs.declared.action.Action.{Action}
 use Rattle.evl_pipeline.specs.declared.action.Action.TheVariants.{PostSem, PostFlags, Propagate, PostOob, StopTimer}
 use Rattle.evl_pipeline.specs.declared.answer.Answer.{Answer}
-use Rattle.evl_pipeline.specs.Counts.{counted}
+use Rattle.evl_pipeline.specs.Counts.{count_raised}
 use Rattle.evl_pipeline.specs.NumberSet.{contains, remove}
 use Rattle.evl_pipeline.specs.Lines as lines
 use Rattle.evl_pipeline.proofs.NumberSetLaws.{contains-insert, contains-remove}
@@ -31,11 +31,11 @@ use Rattle.evl_clock.specs.Timers.{is_timer_allowed}
 use Rattle.evl_clock.specs.Clocks as clocks
 use Rattle.evl_clock.specs.Clocks.{Clock, timer_at, with_timer}
 use Rattle.evl_clock.specs.Dues.{all_due, due_from, due_of, due_count, earliest, is_due, next_due, timer, deadline, timer_date}
-use Rattle.evl_clock.specs.Searching.{least_in, sooner}
+use Rattle.evl_clock.specs.Searching.{least_in, sooner_item}
 use Rattle.evl_clock.proofs.LeastLaws.{earliest-least}
 use Rattle.evl_clock.proofs.DueLaws.{no_more_due, fewer-stop, fewer-dropped, fewer-cleared}
 use Rattle.evl_kernel.specs.settling.Paths.{Along}
-use Rattle.evl_kernel.specs.state.States.{State, Handler, Banked, with_lines, with_clock, moved, come_home}
+use Rattle.evl_kernel.specs.state.States.{State, Handler, Banked, with_lines, with_clock, with_banked, come_home}
 use Rattle.evl_kernel.specs.calls.Effects.{Effect, done, unless}
 use Rattle.evl_kernel.specs.calls.FlagGroups as group
 use Rattle.evl_kernel.specs.calls.Elements.{on_sem, on_flags}
@@ -45,10 +45,10 @@ use Rattle.evl_kernel.specs.calls.LineCalls as line_call
 use Rattle.evl_kernel.specs.calls.TimerCalls as timer_call
 use Rattle.evl_sched.specs.Threads.{stage_of}
 use Rattle.evl_kernel.specs.calls.Families.{LineStep, request, free, arrive, post, stall, unstall, line_effect, ClockStep, tick, read_date, new_timer, start_timer, stop_timer, drop_timer, overruns, clock_effect, Task, on_lines, on_clock, on_threads, on_element, on_staged, begins, ends, performing, task_of, raises}
-use Rattle.evl_kernel.specs.calls.Serving.{served, general_refusal, answer}
-use Rattle.evl_kernel.specs.settling.Settling.{Settling, item_next, next_play, going_on, is_of_clock, item_played, played, line_played, clock_played, acted, all_acted, answered, given, after_call, nothing}
+use Rattle.evl_kernel.specs.calls.Serving.{serve_call, general_refusal, answer}
+use Rattle.evl_kernel.specs.settling.Settling.{Settling, item_next, next_play, going_on, is_of_clock, item_played, line_played, line_played, clock_played, after_action, all_acted, after_answer, answer_given, after_call, nothing}
 use Rattle.evl_kernel.specs.state.Openings.{opening}
-use Rattle.evl_kernel.specs.histories.Histories.{Run, Follows, opened}
+use Rattle.evl_kernel.specs.histories.Histories.{Run, Follows, opened_kernel}
 use Rattle.evl_kernel.specs.histories.Laws.{DueMeansPending}
 use Rattle.evl_kernel.proofs.calls.LeavesLaws.{Leaves, leaves-refused, leaves-unless, leaves-known, leaves-if_done}
 use Rattle.evl_kernel.proofs.calls.ThreadSteps.{leaves-threads}
@@ -60,7 +60,7 @@ module _ where
   least_some : (d : ℕ × Item) (ds : List (ℕ × Item)) → option_map (λ e. e.1) (least_in (d ∷ ds)) ≡ None → ⊥
   least_some d ds = by (least_in ds)
     where
-      by : (o : Option (ℕ × Item)) → option_map (λ e. e.1) (sooner (Some d) o) ≡ None → ⊥
+      by : (o : Option (ℕ × Item)) → option_map (λ e. e.1) (sooner_item (Some d) o) ≡ None → ⊥
       by None e = some-none _ e
       by (Some b) e = by_date (nat_le d.0 b.0) e
         where
@@ -144,12 +144,12 @@ IsHeld s = 1 ≤ due_count s.clock → Pends s.lines
 pends-posted : (p : lines.Pipeline ℕ) (stage : Stage) (line : ℕ) → Pends p → Pends (lines.posted p stage line)
 pends-posted p Inband line h = by (lines.has_callback p Inband line)
   where
-    by : (b : Bool) → Pends (if b then lines.with_side p Inband (lines.logged p.inband line) else record p { spurious = counted p.spurious line })
+    by : (b : Bool) → Pends (if b then lines.with_side p Inband (lines.logged p.inband line) else record p { spurious = count_raised p.spurious line })
     by true = h
     by false = h
 pends-posted p Oob line h = by (lines.has_callback p Oob line)
   where
-    by : (b : Bool) → Pends (if b then lines.with_side p Oob (lines.logged p.oob line) else record p { spurious = counted p.spurious line })
+    by : (b : Bool) → Pends (if b then lines.with_side p Oob (lines.logged p.oob line) else record p { spurious = count_raised p.spurious line })
     by true = contains-insert p.oob.pending line 0 ∙ or_right (line == 0) (contains p.oob.pending 0) h
     by false = h
 
@@ -202,7 +202,7 @@ free_other p line stage none = by (line == 0) refl
 held-home : (s : State) (number : ℕ) → IsHeld s → IsHeld (come_home s number)
 held-home s number h = by (slice_get s.bank number)
   where
-    by : (o : Option Banked) → IsHeld (option_map_or (moved s true number) o s)
+    by : (o : Option Banked) → IsHeld (option_map_or (with_banked s true number) o s)
     by None = h
     by (Some b) = h
 
@@ -226,14 +226,14 @@ held-timed s thread (Some date) h = by (nat_le date s.clock.now) refl
 held-post : (s : State) (stage : Stage) (line : ℕ) → IsHeld s → Leaves IsHeld (line_call.post s stage line)
 held-post s stage line h = leaves-refused IsHeld (lines.post_refusal line) _ (λ passed due. pends-posted s.lines stage line (h due))
 
-held-returned : (s : State) (o : Option (lines.Installed ℕ)) → IsHeld s → IsHeld (line_call.returned s o)
+held-returned : (s : State) (o : Option (lines.Installed ℕ)) → IsHeld s → IsHeld (line_call.with_callback_back s o)
 held-returned s None h = h
 held-returned s (Some at) h = held-home s at.callback h
 
 held-line : (s : State) (step : LineStep) → IsHeld s → Leaves IsHeld (line_effect s step)
 held-line s (request line stage number tag) h = leaves-known IsHeld (slice_get s.bank number) _ (λ b here.
     leaves-refused IsHeld (lines.request_refusal s.lines line stage b.handler.kinds) _ (λ passed. leaves-unless IsHeld (not b.home) Busy
-    (done (moved (with_lines s (lines.requested s.lines line stage number tag)) false number b)) (λ due. pends-requested s.lines line stage number tag (h due))))
+    (done (with_banked (with_lines s (lines.requested s.lines line stage number tag)) false number b)) (λ due. pends-requested s.lines line stage number tag (h due))))
 held-line s (free line stage) h = leaves-refused IsHeld (lines.free_refusal s.lines line stage) _ (λ passed.
     held-returned (with_lines s (lines.freed s.lines line stage)) (lines.installed_at s.lines stage line) (λ due. pends-freed s.lines line stage (free_other s.lines line stage passed) (h due)))
 held-line s (arrive line) h = leaves-refused IsHeld (lines.post_refusal line) _ (λ passed due. pends-arrived s.lines line (h due))
@@ -248,7 +248,7 @@ held-alarmed s = by (is_due s.clock) refl
     by true is due = posted-pends s.lines
     by false is due = absurd (omega (arith, due, not_due_zero s.clock is))
 
-held-started : (s : State) (n date interval : ℕ) → IsHeld s → IsHeld (timer_call.started s n date interval)
+held-started : (s : State) (n date interval : ℕ) → IsHeld s → IsHeld (timer_call.start_timer s n date interval)
 held-started s n date interval h = by (nat_le date s.clock.now) refl
   where
     by : (b : Bool) → nat_le date s.clock.now ≡ b → IsHeld (timer_call.posted_if b (with_clock s (clocks.start s.clock n date interval)))
@@ -258,7 +258,7 @@ held-started s n date interval h = by (nat_le date s.clock.now) refl
 held-stop : (s : State) (n : ℕ) → IsHeld s → Leaves IsHeld (timer_call.stop_timer s n)
 held-stop s n h = leaves-refused IsHeld (clocks.timer_refusal s.clock n) _ (λ passed due. h (omega (arith, due, fewer-stop s.clock n)))
 
-held-placed : (s : State) (number tag : ℕ) (b : Banked) (place : Option ℕ) → IsHeld s → Leaves IsHeld (timer_call.placed s number tag b place)
+held-placed : (s : State) (number tag : ℕ) (b : Banked) (place : Option ℕ) → IsHeld s → Leaves IsHeld (timer_call.place_timer s number tag b place)
 held-placed s number tag b None h = tt
 held-placed s number tag b (Some n) h = λ due. h (omega (arith, due, made_idle s.clock n number tag))
 
@@ -268,7 +268,7 @@ held-both false true e h = tt
 held-both false false e h = h
 
 held-clock : (s : State) (step : ClockStep) → IsHeld s → Leaves IsHeld (clock_effect s step)
-held-clock s (tick delta) h = leaves-refused IsHeld (clocks.advance_refusal s.clock delta) _ (λ passed. held-alarmed (timer_call.later (timer_call.paid s delta) delta))
+held-clock s (tick delta) h = leaves-refused IsHeld (clocks.advance_refusal s.clock delta) _ (λ passed. held-alarmed (timer_call.at_date (timer_call.paid s delta) delta))
 held-clock s read_date h = h
 held-clock s (new_timer number tag) h = leaves-known IsHeld (slice_get s.bank number) _ (λ b here.
     held-both (not (is_timer_allowed b.handler.kinds)) (not b.home) _ (held-placed s number tag b (clocks.free_place s.clock) h))
@@ -289,9 +289,9 @@ held-task s caller (begins wants until) h = leaves-beginning IsHeld held_waiting
 held-task s caller (ends keep) h = leaves-finish IsHeld held_waiting s caller keep (λ x hx. hx) h
 
 held-answer : (s : State) (caller : ℕ) (asked : Call) → IsHeld s → Leaves IsHeld (answer s caller asked)
-held-answer s caller asked h = leaves-refused IsHeld (general_refusal s caller asked) (served s caller asked) (λ passed. held-task s caller (task_of asked) h)
+held-answer s caller asked h = leaves-refused IsHeld (general_refusal s caller asked) (serve_call s caller asked) (λ passed. held-task s caller (task_of asked) h)
 
-held-acted : (s : State) (line : ℕ) (action : Action) → IsHeld s → IsHeld (acted s line action)
+held-acted : (s : State) (line : ℕ) (action : Action) → IsHeld s → IsHeld (after_action s line action)
 held-acted s line (PostSem sem) h = leaves-if_done IsHeld s _ h (leaves-touched IsHeld held_waiting s None (on_sem sem.0 put) h)
 held-acted s line (PostFlags flags bits) h = leaves-if_done IsHeld s _ h (leaves-touched IsHeld held_waiting s None (on_flags flags.0 (group.post bits)) h)
 held-acted s line Propagate h = leaves-if_done IsHeld s _ h (held-post s Inband line h)
@@ -300,9 +300,9 @@ held-acted s line (StopTimer timer) h = leaves-if_done IsHeld s _ h (held-stop s
 
 held-all_acted : (s : State) (line : ℕ) (actions : List Action) → IsHeld s → IsHeld (all_acted s line actions)
 held-all_acted s line [] h = h
-held-all_acted s line (action ∷ actions) h = held-all_acted (acted s line action) line actions (held-acted s line action h)
+held-all_acted s line (action ∷ actions) h = held-all_acted (after_action s line action) line actions (held-acted s line action h)
 
-held-answered : (s : State) (line : ℕ) (answer : Answer) → IsHeld s → IsHeld (answered s line answer)
+held-answered : (s : State) (line : ℕ) (answer : Answer) → IsHeld s → IsHeld (after_answer s line answer)
 held-answered s line answer h = by answer.handled
   where
     by : (b : Bool) → IsHeld (if b then all_acted s line answer.actions.items else s)
@@ -328,11 +328,11 @@ held_over : (at : Settling) (stage : Stage) (p : Play × State) → is_of_clock 
 held_over at stage p of_clock over due =
     absurd (omega (arith, due, not_due_zero p.1.clock (ap (λ (b : Bool). b && is_due p.1.clock) (sym of_clock) ∙ over)))
 
-held_line : (at : Settling) (stage : Stage) (line : ℕ) → IsHeld at.state → HeldIn (going_on at stage (played at.state stage line)).1
+held_line : (at : Settling) (stage : Stage) (line : ℕ) → IsHeld at.state → HeldIn (going_on at stage (line_played at.state stage line)).1
 held_line at Inband line h over =
     let s = at.state in
     let here = unwrap_or (lines.installed_at s.lines Inband line) nothing in
-    held-answered (with_lines s (lines.played s.lines Inband line here (given s here).handled)) line (given s here) h
+    held-answered (with_lines s (lines.played s.lines Inband line here (answer_given s here).handled)) line (answer_given s here) h
 held_line at Oob line h over = by (line == 0) refl over
   where
     s : State
@@ -343,8 +343,8 @@ held_line at Oob line h over = by (line == 0) refl over
 
     by : (b : Bool) → (line == 0) ≡ b → HeldIn (going_on at Oob (if b then clock_played s else line_played s Oob line here)).1
     by true is over = held_over at Oob (clock_played s) refl over
-    by false is over = held-answered (with_lines s (lines.played s.lines Oob line here (given s here).handled)) line (given s here)
-        (λ due. pends-played s.lines Oob line here (given s here).handled is (h due))
+    by false is over = held-answered (with_lines s (lines.played s.lines Oob line here (answer_given s here).handled)) line (answer_given s here)
+        (λ due. pends-played s.lines Oob line here (answer_given s here).handled is (h due))
 
 held_item : (at : Settling) (found : Item) → HeldIn (going_on at Oob (item_played at.state found)).1
 held_item at (item.Timer id) = held_over at Oob (item_played at.state (item.Timer id)) refl
@@ -378,4 +378,4 @@ unfolding clocks.opening due_count
 nothing_at_first board bank due = absurd (omega (arith, due, ap (λ (items : List (ℕ × Item)). length items) (nothing_dated deadline 0 0 (min board.threads thread_limit))))
 
 pub due_pends : DueMeansPending
-due_pends h legal due = run_held (opened h) h.entries h.plays h.state (nothing_at_first h.board h.bank) legal (due_one h.state.clock due)
+due_pends h legal due = run_held (opened_kernel h) h.entries h.plays h.state (nothing_at_first h.board h.bank) legal (due_one h.state.clock due)

@@ -35,7 +35,7 @@ use Rattle.evl_kernel.specs.calls.FlagGroups as group
 use Rattle.evl_kernel.specs.calls.Elements.{ElementStep, on_sem, on_flags, touched}
 use Rattle.evl_kernel.specs.calls.LineCalls as line_call
 use Rattle.evl_kernel.specs.calls.TimerCalls as timer_call
-use Rattle.evl_kernel.specs.settling.Settling.{acted, all_acted, answered, deadline_left, given, one_inband, going_on, is_clock, line_goes}
+use Rattle.evl_kernel.specs.settling.Settling.{after_action, all_acted, after_answer, deadline_left, answer_given, one_inband, going_on, is_clock, line_goes}
 use Rattle.evl_kernel.specs.settling.Fires.{Called}
 use Rattle.evl_kernel.specs.settling.Settled.{settling, left_after}
 use Rattle.evl_kernel.specs.state.Callbacks.{AnswersByPlan, handlers_in}
@@ -96,7 +96,7 @@ module _ where
       by (Some refusal) = refl
 
 -- an action adds at most one pending out-of-band line
-acted-one : (s : State) (line : ℕ) (action : Action) → oob_pending (acted s line action) ≤ oob_pending s + 1
+acted-one : (s : State) (line : ℕ) (action : Action) → oob_pending (after_action s line action) ≤ oob_pending s + 1
 acted-one s line (PostSem sem) = omega (arith, done-touched s None (on_sem sem.0 put))
 acted-one s line (PostFlags flags bits) = omega (arith, done-touched s None (on_flags flags.0 (group.post bits)))
 acted-one s line Propagate = done-post s Inband line 1 (omega (arith, posted-inband s.lines line))
@@ -104,7 +104,7 @@ acted-one s line (PostOob other) = done-post s Oob other.0 1 (posted-oob s.lines
 acted-one s line (StopTimer timer) = omega (arith, done-stop s timer.0)
 
 -- and none where it posts no out-of-band line
-acted-none : (s : State) (line : ℕ) (action : Action) → (kind_of action == 8) ≡ false → oob_pending (acted s line action) ≤ oob_pending s
+acted-none : (s : State) (line : ℕ) (action : Action) → (kind_of action == 8) ≡ false → oob_pending (after_action s line action) ≤ oob_pending s
 acted-none s line (PostSem sem) other_kind = omega (arith, done-touched s None (on_sem sem.0 put))
 acted-none s line (PostFlags flags bits) other_kind = omega (arith, done-touched s None (on_flags flags.0 (group.post bits)))
 acted-none s line Propagate other_kind = omega (arith, done-post s Inband line 0 (omega (arith, posted-inband s.lines line)))
@@ -113,22 +113,22 @@ acted-none s line (StopTimer timer) other_kind = omega (arith, done-stop s timer
 
 pub all_acted-many : (s : State) (line : ℕ) (actions : List Action) → oob_pending (all_acted s line actions) ≤ oob_pending s + length actions
 all_acted-many s line [] = omega arith
-all_acted-many s line (action ∷ actions) = omega (arith, all_acted-many (acted s line action) line actions, acted-one s line action)
+all_acted-many s line (action ∷ actions) = omega (arith, all_acted-many (after_action s line action) line actions, acted-one s line action)
 
 pub all_acted-none : (s : State) (line : ℕ) (actions : List Action) → PostsNoOob actions → oob_pending (all_acted s line actions) ≤ oob_pending s
 all_acted-none s line [] none = omega arith
 all_acted-none s line (action ∷ actions) none =
     let posts_other = λ (a : Action). (kind_of a == 8) ≡ false in
-    omega (arith, all_acted-none (acted s line action) line actions (All-tail posts_other action actions none), acted-none s line action (All-head posts_other action actions none))
+    omega (arith, all_acted-none (after_action s line action) line actions (All-tail posts_other action actions none), acted-none s line action (All-head posts_other action actions none))
 
-pub answered-many : (s : State) (line : ℕ) (answer : Answer) → oob_pending (answered s line answer) ≤ oob_pending s + length answer.actions.items
+pub answered-many : (s : State) (line : ℕ) (answer : Answer) → oob_pending (after_answer s line answer) ≤ oob_pending s + length answer.actions.items
 answered-many s line answer = by answer.handled
   where
     by : (b : Bool) → oob_pending (if b then all_acted s line answer.actions.items else s) ≤ oob_pending s + length answer.actions.items
     by true = all_acted-many s line answer.actions.items
     by false = omega arith
 
-pub answered-none : (s : State) (line : ℕ) (answer : Answer) → PostsNoOob answer.actions.items → oob_pending (answered s line answer) ≤ oob_pending s
+pub answered-none : (s : State) (line : ℕ) (answer : Answer) → PostsNoOob answer.actions.items → oob_pending (after_answer s line answer) ≤ oob_pending s
 answered-none s line answer none = by answer.handled
   where
     by : (b : Bool) → oob_pending (if b then all_acted s line answer.actions.items else s) ≤ oob_pending s
@@ -152,7 +152,7 @@ pub deadline-due : (s : State) (thread : ℕ) → due_in (deadline_left s thread
 deadline-due s thread = kept-left (λ x. due_in x ≤ due_count (clocks.with_deadline s.clock thread None)) (kept_due (due_count (clocks.with_deadline s.clock thread None))) s thread (omega arith)
 
 -- no action makes anything due
-pub acted-due : (s : State) (line : ℕ) (action : Action) → due_in (acted s line action) ≤ due_in s
+pub acted-due : (s : State) (line : ℕ) (action : Action) → due_in (after_action s line action) ≤ due_in s
 acted-due s line (PostSem sem) =
     leaves-if_done (λ x. due_in x ≤ due_in s) s _ (omega arith) (leaves-touched (λ x. due_in x ≤ due_in s) (kept_due (due_in s)) s None (on_sem sem.0 put) (omega arith))
 acted-due s line (PostFlags flags bits) =
@@ -175,9 +175,9 @@ acted-due s line (StopTimer timer) = by (clocks.timer_refusal s.clock timer.0)
 
 pub all_acted-due : (s : State) (line : ℕ) (actions : List Action) → due_in (all_acted s line actions) ≤ due_in s
 all_acted-due s line [] = omega arith
-all_acted-due s line (action ∷ actions) = omega (arith, all_acted-due (acted s line action) line actions, acted-due s line action)
+all_acted-due s line (action ∷ actions) = omega (arith, all_acted-due (after_action s line action) line actions, acted-due s line action)
 
-pub answered-due : (s : State) (line : ℕ) (answer : Answer) → due_in (answered s line answer) ≤ due_in s
+pub answered-due : (s : State) (line : ℕ) (answer : Answer) → due_in (after_answer s line answer) ≤ due_in s
 answered-due s line answer = by answer.handled
   where
     by : (b : Bool) → due_in (if b then all_acted s line answer.actions.items else s) ≤ due_in s
@@ -251,7 +251,7 @@ module _ {C : Type 0} (declared : C → ℕ) (plan : C → Plan) where
   abbrev with_answer : RecordsView C → Stage → ℕ → lines.Installed (Numbered C) → Answer → Play × State
   with_answer r stage line at answer = (
     play.Line (record { 0 = line }) stage (one_more at.count) answer.handled,
-    answered (with_lines (state_of r) (lines.played (renamed number_of r.lines) stage line (named number_of at) answer.handled)) line answer,
+    after_answer (with_lines (state_of r) (lines.played (renamed number_of r.lines) stage line (named number_of at) answer.handled)) line answer,
   )
 
   line_step : (r : RecordsView C) (inband : ℕ) (stage : Stage) (line : ℕ) (at : lines.Installed (Numbered C))
@@ -263,7 +263,7 @@ module _ {C : Type 0} (declared : C → ℕ) (plan : C → Plan) where
   pub line_next : (gives : C → Fire → Answer → Type 0) (r t : RecordsView C) (inband now : ℕ) (fire : Fire) (answer : Answer) (q : lines.Pipeline (Numbered C))
       → AnswersByPlan declared plan (whereabouts r)
       → (p : lines.PlaysLine (λ (n : Numbered C). declared n.callback) (λ (n : Numbered C). plan n.callback) (λ (n : Numbered C). gives n.callback) r.lines (is_anyone_eligible r.sched.sched) (nat_lt inband inband_limit) now fire answer q)
-      → state_of t ≡ answered (state_of (record r { lines = q })) fire.line.0 answer
+      → state_of t ≡ after_answer (state_of (record r { lines = q })) fire.line.0 answer
       → line_goes (settling r inband false) ≡ Some (play.Line fire.line fire.stage fire.count answer.handled, settling t (inband + one_inband fire.stage) false)
   line_next gives r t inband now fire answer q answers p after =
       let at = p.at in
@@ -273,8 +273,8 @@ module _ {C : Type 0} (declared : C → ℕ) (plan : C → Plan) where
       let is_answer : answer_of (plan_at (state_of r) at.callback.number) (one_more at.count) ≡ answer = ap (λ (x : Plan). answer_of x (one_more at.count)) told_plan ∙ sym p.answered in
       let lines_are : renamed number_of q ≡ lines.played (renamed number_of r.lines) stage line (named number_of at) answer.handled =
       ap (renamed number_of) p.after ∙ played-renamed number_of r.lines stage line at answer.handled in
-      let state_is : state_of t ≡ answered (with_lines (state_of r) (lines.played (renamed number_of r.lines) stage line (named number_of at) answer.handled)) line answer =
-      after ∙ ((λ i. answered (with_lines (state_of r) (lines_are i)) (p.fire_is i).line.0 answer)) in
+      let state_is : state_of t ≡ after_answer (with_lines (state_of r) (lines.played (renamed number_of r.lines) stage line (named number_of at) answer.handled)) line answer =
+      after ∙ ((λ i. after_answer (with_lines (state_of r) (lines_are i)) (p.fire_is i).line.0 answer)) in
       let said : Some (going_on (settling r inband false) stage (with_answer r stage line at answer)) ≡ Some (play.Line fire.line fire.stage fire.count answer.handled, settling t (inband + one_inband fire.stage) false) =
       sym (λ i. Some (play.Line (p.fire_is i).line (p.fire_is i).stage (p.fire_is i).count answer.handled, record { state = state_is i; inband = inband + one_inband (p.fire_is i).stage; in_clock = false })) in
       line_step r inband stage line at p.chosen p.not_clock p.stands
@@ -292,7 +292,7 @@ module _ {C : Type 0} (declared : C → ℕ) (plan : C → Plan) where
         record {
           callback = p.at.callback.callback;
           stands = inr (inl (record { stage = p.stage; line = p.line; at = p.at; there = p.stands; number_is = refl; callback_is = refl }));
-          gave = subst (λ (f : Fire). gives p.at.callback.callback f (given (state_of r) (named number_of p.at))) fire_is
+          gave = subst (λ (f : Fire). gives p.at.callback.callback f (answer_given (state_of r) (named number_of p.at))) fire_is
               (subst (λ (a : Answer). gives p.at.callback.callback fire a) answer_is p.called);
         },
       )
@@ -300,7 +300,7 @@ module _ {C : Type 0} (declared : C → ℕ) (plan : C → Plan) where
       fire_is : fire ≡ lines.fire_of (named number_of p.at) p.stage p.line (date (state_of r))
       fire_is = p.fire_is ∙ ap (λ (m : ℕ). lines.fire_of (named number_of p.at) p.stage p.line m) at_date
 
-      answer_is : answer ≡ given (state_of r) (named number_of p.at)
+      answer_is : answer ≡ answer_given (state_of r) (named number_of p.at)
       answer_is = p.answered ∙ ap (λ (x : Plan). answer_of x (one_more p.at.count)) (sym (out_told r p.stage p.line p.at answers p.stands).0)
 
   pub clock_next : (r : RecordsView C) (inband : ℕ) (q : lines.Pipeline (Numbered C))
@@ -334,14 +334,14 @@ module _ {C : Type 0} (declared : C → ℕ) (plan : C → Plan) where
       → AnswersByPlan declared plan (whereabouts r) → AreAllowed (state_of r)
       → (p : lines.PlaysLine (λ (n : Numbered C). declared n.callback) (λ (n : Numbered C). plan n.callback) (λ (n : Numbered C). gives n.callback) r.lines (is_anyone_eligible r.sched.sched) (nat_lt inband inband_limit) now fire answer q)
       → (length answer.actions.items ≤ action_limit) × (fire.stage ≡ Oob → lines.AreAllowed (λ (n : Numbered C). declared n.callback) r.lines → PostsNoOob answer.actions.items)
-      → state_of t ≡ answered (state_of (record r { lines = q })) fire.line.0 answer
+      → state_of t ≡ after_answer (state_of (record r { lines = q })) fire.line.0 answer
       → left_after (state_of t) (inband + one_inband fire.stage) < left_after (state_of r) inband
   line_nearer gives r t inband now fire answer q answers allowed p bounded after = by p.stage (ap (λ (f : Fire). f.stage) p.fire_is) p.chosen p.after
     where
       mid : State
       mid = state_of (record r { lines = q })
 
-      pending_is : length t.lines.oob.pending ≡ oob_pending (answered mid fire.line.0 answer)
+      pending_is : length t.lines.oob.pending ≡ oob_pending (after_answer mid fire.line.0 answer)
       pending_is = ap oob_pending after
 
       due_less : due_in (state_of t) ≤ due_in (state_of r)

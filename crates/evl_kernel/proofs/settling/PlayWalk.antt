@@ -16,9 +16,9 @@ use Rattle.evl_clock.specs.declared.due.Item.TheVariants as item
 use Rattle.evl_clock.specs.declared.timer.Timer.{Timer}
 use Rattle.evl_clock.specs.ClockSteps.{fired}
 use Rattle.evl_clock.proofs.DueLaws.{next-deadline}
-use Rattle.evl_mutex.specs.Queues.{dropped}
+use Rattle.evl_mutex.specs.Queues.{dropped_from as dropped}
 use Rattle.evl_kernel.specs.settling.Paths.{Along}
-use Rattle.evl_kernel.specs.state.States.{State, Banked, with_lines, with_clock, moved, come_home}
+use Rattle.evl_kernel.specs.state.States.{State, Banked, with_lines, with_clock, with_banked, come_home}
 use Rattle.evl_kernel.specs.calls.Semaphores.{put}
 use Rattle.evl_kernel.specs.calls.FlagGroups as group
 use Rattle.evl_kernel.specs.calls.Elements.{ElementStep, on_sem, on_flags, touched}
@@ -26,7 +26,7 @@ use Rattle.evl_kernel.specs.calls.LineCalls as line_call
 use Rattle.evl_kernel.specs.calls.ThreadCalls as thread_call
 use Rattle.evl_kernel.specs.calls.Families.{free, post}
 use Rattle.evl_kernel.specs.calls.Serving.{answer}
-use Rattle.evl_kernel.specs.settling.Settling.{Settling, Settles, next_play, acted, all_acted, answered, deadline_left, given, item_played, played, line_played, clock_played, is_clock, after_call, nothing, timer_played, timer_given, no_timer}
+use Rattle.evl_kernel.specs.settling.Settling.{Settling, Settles, next_play, after_action as acted, all_acted, after_answer, deadline_left, answer_given, item_played, line_played, line_played, clock_played, is_clock, after_call, nothing, timer_played, timer_given, no_timer}
 use Rattle.evl_kernel.specs.histories.MutexRests.{is_of_mutexes}
 use Rattle.evl_kernel.proofs.settling.DueLaws.{one_played, item_due, timer_found}
 use Rattle.evl_kernel.proofs.calls.QueueLaws.{IsAsked, asks_put, asks_post}
@@ -36,7 +36,7 @@ use Rattle.evl_kernel.proofs.calls.ClockSteps.{KeptByClock, leaves-stop}
 -- each kind of change keeps this; what ends by a deadline had one
 pub record KeptByPlays (P : State → Type 0) : Type 0 where
   pub lined : (s : State) (q : lines.Pipeline ℕ) → P s → P (with_lines s q)
-  pub banked : (s : State) (number : ℕ) (home : Bool) (b : Banked) → P s → P (moved s home number b)
+  pub banked : (s : State) (number : ℕ) (home : Bool) (b : Banked) → P s → P (with_banked s home number b)
   pub clocked : (s : State) (c : Clock ℕ) → c.deadlines ≡ s.clock.deadlines → P s → P (with_clock s c)
   pub paid : (s : State) (before delta now : ℕ) → P s → P (thread_call.paid_between s before delta now)
   pub acted : (s : State) (step : ElementStep) → IsAsked step → is_of_mutexes step ≡ false → P s → Leaves P (touched s None step).effect
@@ -46,7 +46,7 @@ module _ (P : State → Type 0) (k : KeptByPlays P) where
   pub holds-home : (s : State) (number : ℕ) → P s → P (come_home s number)
   holds-home s number h = by (slice_get s.bank number)
     where
-      by : (o : Option Banked) → P (option_map_or (moved s true number) o s)
+      by : (o : Option Banked) → P (option_map_or (with_banked s true number) o s)
       by None = h
       by (Some b) = k.banked s number true b h
 
@@ -75,7 +75,7 @@ module _ (P : State → Type 0) (k : KeptByPlays P) where
   holds-all_acted s line [] h = h
   holds-all_acted s line (action ∷ actions) h = holds-all_acted (acted s line action) line actions (holds-acted s line action h)
 
-  holds-answered : (s : State) (line : ℕ) (answer : Answer) → P s → P (answered s line answer)
+  holds-answered : (s : State) (line : ℕ) (answer : Answer) → P s → P (after_answer s line answer)
   holds-answered s line answer h = by answer.handled
     where
       by : (b : Bool) → P (if b then all_acted s line answer.actions.items else s)
@@ -89,7 +89,7 @@ module _ (P : State → Type 0) (k : KeptByPlays P) where
       subst (λ (o : Option (Timer ℕ)). P (timer_played s id.0 (unwrap_or o no_timer)).1) (sym found.1)
       (holds-answered (with_clock s (fired s.clock id.0 found.0)) 0 (timer_given s found.0) (k.clocked s (fired s.clock id.0 found.0) refl h))
 
-  holds-played : (s : State) (stage : Stage) (line : ℕ) → P s → P (played s stage line).1
+  holds-played : (s : State) (stage : Stage) (line : ℕ) → P s → P (line_played s stage line).1
   holds-played s stage line h = by (is_clock stage line)
     where
       at : lines.Installed ℕ
@@ -97,7 +97,7 @@ module _ (P : State → Type 0) (k : KeptByPlays P) where
 
       by : (b : Bool) → P (if b then clock_played s else line_played s stage line at).1
       by true = k.lined s _ h
-      by false = holds-answered (with_lines s (lines.played s.lines stage line at (given s at).handled)) line (given s at) (k.lined s _ h)
+      by false = holds-answered (with_lines s (lines.played s.lines stage line at (answer_given s at).handled)) line (answer_given s at) (k.lined s _ h)
 
   next_holds : (at mid : Settling) (one : Play) → P at.state → next_play at ≡ Some (one, mid) → P mid.state
   next_holds at mid one h next = one_played (λ (x : Play × Settling). P x.1.state) at mid one

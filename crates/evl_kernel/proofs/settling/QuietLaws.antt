@@ -16,7 +16,7 @@ use Rattle.evl_kernel.specs.state.States.{State, Handler}
 use Rattle.evl_kernel.specs.calls.Effects.{Effect}
 use Rattle.evl_kernel.specs.calls.Serving.{answer}
 use Rattle.evl_kernel.specs.settling.Settling.{Settling, next_play}
-use Rattle.evl_kernel.specs.histories.Histories.{Run, Follows, opened}
+use Rattle.evl_kernel.specs.histories.Histories.{Run, Follows, opened_kernel}
 use Rattle.evl_kernel.specs.state.Openings.{opening}
 use Rattle.evl_kernel.proofs.settling.DueLaws.{none_played}
 use Rattle.evl_kernel.specs.histories.Laws.{OobPendsOnlyWhileStalled}
@@ -58,4 +58,4 @@ pending_stalled (m ∷ ms) false line quiet there = absurd (false≢true (sym qu
 
 pub stalled_while_pending : OobPendsOnlyWhileStalled
 stalled_while_pending h legal line there =
-    pending_stalled h.state.lines.oob.pending h.state.lines.oob.stalled line (run_quiet (opened h) h.entries h.plays h.state (opening_quiet h.board h.bank) legal) there
+    pending_stalled h.state.lines.oob.pending h.state.lines.oob.stalled line (run_quiet (opened_kernel h) h.entries h.plays h.state (opening_quiet h.board h.bank) legal) there

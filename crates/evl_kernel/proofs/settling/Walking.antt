@@ -5,19 +5,19 @@ use Rattle.evl_base.specs.declared.reply.Reply.{Reply}
 use Rattle.evl_base.specs.declared.play.Play.{Play}
 use Rattle.evl_base.specs.declared.refusal.Refusal.{Refusal}
 use Rattle.evl_kernel.specs.state.Limits.{play_limit}
-use Rattle.evl_kernel.specs.settling.Paths.{Along, walked}
+use Rattle.evl_kernel.specs.settling.Paths.{Along, walk_path}
 use Rattle.evl_kernel.specs.state.States.{State}
 use Rattle.evl_kernel.specs.calls.Effects.{Effect}
 use Rattle.evl_kernel.specs.calls.Elements.{Touch}
 use Rattle.evl_kernel.specs.calls.Serving.{answer, what_call_does}
 use Rattle.evl_kernel.specs.settling.Settling.{Settling, Move, next_play, next_move, moving, item_touches, play_touches, after_call}
 use Rattle.evl_kernel.specs.histories.Histories.{Follows, Step}
-use Rattle.evl_kernel.specs.histories.Replays.{outcome_of, stepped, settled, plays_in, touches_in}
+use Rattle.evl_kernel.specs.histories.Replays.{outcome_of, step_outcome, settled_moves, plays_in, touches_in}
 use Rattle.evl_kernel.proofs.settling.DueLaws.{one_played, none_played, moves_item, moves_line, moves_none}
 
 -- a walk that isn't longer than the steps that it may take
 pub walked_along : {S P : Type 0} (next : S → Option (P × S)) (n : ℕ) (at : S) (outs : List P) (last : S)
-    → Along next at outs last → next last ≡ None → length outs ≤ n → walked next n at ≡ (outs, last)
+    → Along next at outs last → next last ≡ None → length outs ≤ n → walk_path next n at ≡ (outs, last)
 walked_along next zero at [] last p over few = rw p refl
 walked_along {S} next (suc n) at [] last p over few =
     let none : next at ≡ None = subst (λ (s : S). next s ≡ None) p over in rw (none, p) refl
@@ -62,12 +62,12 @@ outcome_is old own (Ok (given, changed)) reply plays new p few =
     let found = moves_along (after_call changed) plays by.last by.played in
     let over = no_move by.last by.ended in
     let walk = walked_along next_move play_limit (after_call changed) found.path by.last found.along over (subst (λ (n : ℕ). n ≤ play_limit) (sym found.as_many) few) in
-    let plays_are : plays_in (settled play_limit changed).0 ≡ plays = ap (λ (x : List Move × Settling). plays_in x.0) walk ∙ found.plays_are in
-    let after_is : (settled play_limit changed).1.state ≡ new = ap (λ (x : List Move × Settling). x.1.state) walk ∙ sym by.left in
-    (λ i. record { reply = sym p.0 i; plays = plays_are i; touches = own ++ touches_in (settled play_limit changed).0; after = after_is i })
+    let plays_are : plays_in (settled_moves play_limit changed).0 ≡ plays = ap (λ (x : List Move × Settling). plays_in x.0) walk ∙ found.plays_are in
+    let after_is : (settled_moves play_limit changed).1.state ≡ new = ap (λ (x : List Move × Settling). x.1.state) walk ∙ sym by.left in
+    (λ i. record { reply = sym p.0 i; plays = plays_are i; touches = own ++ touches_in (settled_moves play_limit changed).0; after = after_is i })
 
 -- a step of the kernel is computed
 pub step_is_stepped : (old : State) (caller : ℕ) (asked : Call) (reply : Result Reply Refusal) (plays : List Play) (new : State)
     → Step old caller asked reply plays new → length plays ≤ play_limit
-    → stepped old caller asked ≡ record { reply = reply; plays = plays; touches = (stepped old caller asked).touches; after = new }
+    → step_outcome old caller asked ≡ record { reply = reply; plays = plays; touches = (step_outcome old caller asked).touches; after = new }
 step_is_stepped old caller asked reply plays new step few = outcome_is old (what_call_does old caller asked).touches (answer old caller asked) reply plays new step few

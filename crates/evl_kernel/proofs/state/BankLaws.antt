@@ -86,7 +86,7 @@ module _ {C : Type 0} where
 
   pub freed_state : (r : RecordsView C) (line : ℕ) (stage : Stage) (at : Installed (Numbered C)) (place : BankPlace C)
       → free_refusal r.lines line stage ≡ None → installed_at r.lines stage line ≡ Some at → slice_get r.bank at.callback.number ≡ Some place
-      → line_call.free (state_of r) line stage ≡ Ok (Done, state_of (after_free r line stage at place))
+      → line_call.free_line (state_of r) line stage ≡ Ok (Done, state_of (after_free r line stage at place))
   freed_state r line stage at place none here there =
       rw (
         free_refusal-renamed number_of r.lines line stage,
@@ -272,7 +272,7 @@ module _ {C : Type 0} where
   at_place r line stage numbered out = ap (λ (n : Numbered C). slice_get r.bank n.number) out.is ∙ out.there
 
   pub back_state : (r : RecordsView C) (line : ℕ) (stage : Stage) (numbered : Numbered C) (out : WasOut r stage line numbered) → free_refusal r.lines line stage ≡ None
-      → line_call.free (state_of r) line stage ≡ Ok (Done, state_of (back r line stage numbered out.place))
+      → line_call.free_line (state_of r) line stage ≡ Ok (Done, state_of (back r line stage numbered out.place))
   back_state r line stage numbered out none =
       freed_state r line stage out.at out.place none out.here (at_place r line stage numbered out) ∙ ap (λ (s : RecordsView C). Ok (Done, state_of s)) (back_is r line stage numbered out)
 

@@ -7,7 +7,7 @@ use Rattle.std.proofs.lemmas.Bool.Decides.{nat_tests}
 use Rattle.evl_base.specs.declared.stage.Stage.{Stage}
 use Rattle.evl_base.specs.declared.stage.Stage.TheVariants.{Inband, Oob}
 use Rattle.evl_base.specs.declared.refusal.Refusal.TheVariants.{Busy, Unknown, Invalid}
-use Rattle.evl_pipeline.specs.Counts.{counted}
+use Rattle.evl_pipeline.specs.Counts.{count_raised}
 use Rattle.evl_pipeline.specs.Limits.{line_count}
 use Rattle.evl_pipeline.specs.Plans.{is_allowed}
 use Rattle.evl_pipeline.specs.Lines as lines
@@ -98,7 +98,7 @@ in-same n p Inband s is = ap (λ (xs : Table). stood n p.oob.installed + stood n
 pub in-posted : (n : ℕ) (p : lines.Pipeline ℕ) (stage : Stage) (line : ℕ) → in_tables n (lines.posted p stage line) ≡ in_tables n p
 in-posted n p stage line = by (lines.has_callback p stage line)
   where
-    by : (b : Bool) → in_tables n (if b then lines.with_side p stage (lines.logged (lines.side p stage) line) else record p { spurious = counted p.spurious line }) ≡ in_tables n p
+    by : (b : Bool) → in_tables n (if b then lines.with_side p stage (lines.logged (lines.side p stage) line) else record p { spurious = count_raised p.spurious line }) ≡ in_tables n p
     by true = in-same n p stage (lines.logged (lines.side p stage) line) refl
     by false = refl
 

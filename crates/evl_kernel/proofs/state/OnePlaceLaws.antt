@@ -12,7 +12,7 @@ use Rattle.evl_clock.specs.Clocks.{timer_at}
 use Rattle.evl_kernel.specs.state.States.{State, Banked}
 use Rattle.evl_kernel.specs.declared.bank.BankPlace.{BankPlace}
 use Rattle.evl_kernel.specs.declared.bank.Numbered.{Numbered}
-use Rattle.evl_kernel.specs.histories.Histories.{History, IsLegal, opened}
+use Rattle.evl_kernel.specs.histories.Histories.{History, IsLegal, opened_kernel}
 use Rattle.evl_kernel.specs.state.Callbacks.{handler_of, handlers_in}
 use Rattle.evl_kernel.specs.state.Records.{RecordsView, state_of, whereabouts, banked, number_of}
 use Rattle.evl_kernel.specs.state.Renamed.{named, named_timer}
@@ -142,7 +142,7 @@ within_bank (x ∷ xs) (suc n) below = within_bank xs n (omega (arith, below))
 
 pub in_one_place : CallbacksAreInOnePlace
 in_one_place h legal number below =
-    let placed = run_placed (length h.bank) (opened h) h.entries h.plays h.state (placed-opening h.board h.bank) legal in
+    let placed = run_placed (length h.bank) (opened_kernel h) h.entries h.plays h.state (placed-opening h.board h.bank) legal in
     in_one h.state number (placed.once number ∙ within_bank h.state.bank number (omega (arith, below, placed.size_is)))
 
 -- the callbacks themselves

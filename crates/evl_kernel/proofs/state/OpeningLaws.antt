@@ -4,7 +4,7 @@ use Rattle.std.specs.Option.{option_map, option_map_or}
 use Rattle.std.specs.List.{list_all}
 use Rattle.std.proofs.lemmas.Bool.Decides.{nat_tests}
 use Rattle.evl_base.specs.Board.{board_fits}
-use Rattle.evl_base.specs.Limits.{within, count_fits, kind_fits, percent_fits, sizes_fit, stax_fits}
+use Rattle.evl_base.specs.Limits.{is_within, count_fits, kind_fits, percent_fits, sizes_fit, stax_fits}
 use Rattle.std.proofs.lemmas.Bool.{false≢true, and_parts}
 use Rattle.std.proofs.lemmas.List.{length-replicate}
 use Rattle.std.proofs.Math.Nat.{min-le_right}
@@ -148,20 +148,20 @@ nobody_of opened has none [] n t = refl
 nobody_of opened has none (c ∷ counts) zero t = none c t
 nobody_of opened has none (c ∷ counts) (suc n) t = nobody_of opened has none counts n t
 
-nobody_writes : (way : Way) (sizes : ℕ × ℕ) (t : ℕ) → in_writers way (xbufs.opened sizes.0 sizes.1) t ≡ false
+nobody_writes : (way : Way) (sizes : ℕ × ℕ) (t : ℕ) → in_writers way (xbufs.opened_xbuf sizes.0 sizes.1) t ≡ false
 nobody_writes In sizes t = refl
 nobody_writes Out sizes t = refl
 
-nobody_reads : (way : Way) (sizes : ℕ × ℕ) (t : ℕ) → in_readers way (xbufs.opened sizes.0 sizes.1) t ≡ false
+nobody_reads : (way : Way) (sizes : ℕ × ℕ) (t : ℕ) → in_readers way (xbufs.opened_xbuf sizes.0 sizes.1) t ≡ false
 nobody_reads In sizes t = refl
 nobody_reads Out sizes t = refl
 
 pub nobody_stands : (board : Board) (on : Awaited) (t : ℕ) → stands_for (all_opened board) on t ≡ false
-nobody_stands board (Sem id) t = nobody_of semaphores.opened in_sem (λ c t. refl) board.sems.items id.0 t
-nobody_stands board (Flags id) t = nobody_of flags.opened in_flags (λ c t. refl) board.flags.items id.0 t
-nobody_stands board (Writing id way) t = nobody_of (λ (sizes : ℕ × ℕ). xbufs.opened sizes.0 sizes.1) (in_writers way) (λ sizes t. nobody_writes way sizes t) board.xbufs.items id.0 t
-nobody_stands board (Reading id way) t = nobody_of (λ (sizes : ℕ × ℕ). xbufs.opened sizes.0 sizes.1) (in_readers way) (λ sizes t. nobody_reads way sizes t) board.xbufs.items id.0 t
-nobody_stands board (Mutex id) t = nobody_of mutexes.opened in_mutex (λ c t. refl) board.mutexes.items id.0 t
+nobody_stands board (Sem id) t = nobody_of semaphores.opened_semaphore in_sem (λ c t. refl) board.sems.items id.0 t
+nobody_stands board (Flags id) t = nobody_of flags.opened_group in_flags (λ c t. refl) board.flags.items id.0 t
+nobody_stands board (Writing id way) t = nobody_of (λ (sizes : ℕ × ℕ). xbufs.opened_xbuf sizes.0 sizes.1) (in_writers way) (λ sizes t. nobody_writes way sizes t) board.xbufs.items id.0 t
+nobody_stands board (Reading id way) t = nobody_of (λ (sizes : ℕ × ℕ). xbufs.opened_xbuf sizes.0 sizes.1) (in_readers way) (λ sizes t. nobody_reads way sizes t) board.xbufs.items id.0 t
+nobody_stands board (Mutex id) t = nobody_of mutexes.opened_mutex in_mutex (λ c t. refl) board.mutexes.items id.0 t
 
 -- and each is sound
 pub sound_of : {C X : Type 0} (opened : C → X) (P : X → Type 0) → ((c : C) → P (opened c)) → (counts : List C) (n : ℕ) (x : X) → slice_get (map opened counts) n ≡ Some x → P x
@@ -177,25 +177,25 @@ first_of_six false b c d e f h = absurd (false≢true h)
 pub threads_few : (board : Board) → board_fits board ≡ true → board.threads ≤ thread_limit
 threads_few b fits =
     at_most ((and_parts (nat_le 1 b.threads) (nat_le b.threads thread_limit)
-    (first_of_six (within 1 thread_limit b.threads) (list_all count_fits b.sems.items) (list_all sizes_fit b.xbufs.items) (list_all kind_fits b.mutexes.items) (list_all percent_fits b.groups.items) (list_all stax_fits b.staxes.items) fits)).1)
+    (first_of_six (is_within 1 thread_limit b.threads) (list_all count_fits b.sems.items) (list_all sizes_fit b.xbufs.items) (list_all kind_fits b.mutexes.items) (list_all percent_fits b.groups.items) (list_all stax_fits b.staxes.items) fits)).1)
   where
     at_most : nat_le b.threads thread_limit ≡ true → b.threads ≤ thread_limit
     at_most e = grind (arith, nat_tests)
 
 -- cross-buffers, whose rings are within their limits
-sound_xbufs : (sizes : List (ℕ × ℕ)) → list_all sizes_fit sizes ≡ true → (n : ℕ) (x : Xbuf) → slice_get (map (λ (s : ℕ × ℕ). xbufs.opened s.0 s.1) sizes) n ≡ Some x → IsSoundXbuf x
+sound_xbufs : (sizes : List (ℕ × ℕ)) → list_all sizes_fit sizes ≡ true → (n : ℕ) (x : Xbuf) → slice_get (map (λ (s : ℕ × ℕ). xbufs.opened_xbuf s.0 s.1) sizes) n ≡ Some x → IsSoundXbuf x
 sound_xbufs [] fits n x is = absurd (none-some _ is)
 sound_xbufs (s ∷ sizes) fits zero x is =
     let both = (and_parts (sizes_fit s) (list_all sizes_fit sizes) fits).0 in
     subst IsSoundXbuf (same_Some _ _ is) (record {
-      inbound = sound-empty s.0 (ring ((and_parts (within 1 256 s.0) (within 1 256 s.1) both).0));
-      outbound = sound-empty s.1 (ring ((and_parts (within 1 256 s.0) (within 1 256 s.1) both).1));
+      inbound = sound-empty s.0 (ring ((and_parts (is_within 1 256 s.0) (is_within 1 256 s.1) both).0));
+      outbound = sound-empty s.1 (ring ((and_parts (is_within 1 256 s.0) (is_within 1 256 s.1) both).1));
     })
   where
     at_most : (n : ℕ) → nat_le n 256 ≡ true → n ≤ 256
     at_most n e = grind (arith, nat_tests)
 
-    ring : {n : ℕ} → within 1 256 n ≡ true → n ≤ 256
+    ring : {n : ℕ} → is_within 1 256 n ≡ true → n ≤ 256
     ring {n} e = at_most n ((and_parts (nat_le 1 n) (nat_le n 256) e).1)
 sound_xbufs (s ∷ sizes) fits (suc n) x is = sound_xbufs sizes ((and_parts (sizes_fit s) (list_all sizes_fit sizes) fits).1) n x is
 
@@ -207,13 +207,13 @@ third_of_six false b c d e f h = absurd (false≢true h)
 
 pub opened_sound : (board : Board) → board_fits board ≡ true → AreSound (all_opened board)
 opened_sound board fits = record {
-  sems = sound_of semaphores.opened IsSoundSemaphore (λ c. record {
+  sems = sound_of semaphores.opened_semaphore IsSoundSemaphore (λ c. record {
     count = record { rests = λ some. absurd (false≢true (sym some)); few = omega arith };
     queue = record { ranked = tt; few = λ t e. absurd (false≢true e) };
   }) board.sems.items;
-  flags = sound_of flags.opened IsSoundGroup (λ c. record { rests = tt; queue = record { ranked = tt; few = λ t e. absurd (false≢true e) } }) board.flags.items;
+  flags = sound_of flags.opened_group IsSoundGroup (λ c. record { rests = tt; queue = record { ranked = tt; few = λ t e. absurd (false≢true e) } }) board.flags.items;
   xbufs = sound_xbufs board.xbufs.items
-      (third_of_six (within 1 thread_limit board.threads) (list_all count_fits board.sems.items) (list_all sizes_fit board.xbufs.items) (list_all kind_fits board.mutexes.items) (list_all percent_fits board.groups.items)
+      (third_of_six (is_within 1 thread_limit board.threads) (list_all count_fits board.sems.items) (list_all sizes_fit board.xbufs.items) (list_all kind_fits board.mutexes.items) (list_all percent_fits board.groups.items)
       (list_all stax_fits board.staxes.items) fits);
   mutexes = sound-fresh thread_limit board.mutexes.items;
 }

@@ -16,7 +16,7 @@ use Rattle.evl_base.specs.declared.refusal.Refusal.TheVariants.{Busy}
 use Rattle.evl_pipeline.specs.declared.action.Action.{Action}
 use Rattle.evl_pipeline.specs.declared.action.Action.TheVariants.{PostSem, PostFlags, Propagate, PostOob, StopTimer}
 use Rattle.evl_pipeline.specs.declared.answer.Answer.{Answer}
-use Rattle.evl_pipeline.specs.Counts.{counted, one_more}
+use Rattle.evl_pipeline.specs.Counts.{count_raised as counted, one_more}
 use Rattle.evl_pipeline.specs.Limits.{line_count}
 use Rattle.evl_pipeline.specs.Lines as lines
 use Rattle.evl_pipeline.proofs.PortLaws.{within}
@@ -30,7 +30,7 @@ use Rattle.evl_clock.specs.Clocks.{Clock, IsSoundClock, timer_at, free_place, wi
 use Rattle.evl_clock.specs.Dues.{next_due}
 use Rattle.evl_sched.specs.Threads.{Sched}
 use Rattle.evl_sched.specs.Picks.{is_anyone_eligible}
-use Rattle.evl_kernel.specs.state.States.{State, with_sched, Handler, Banked, with_lines, with_clock, moved, come_home}
+use Rattle.evl_kernel.specs.state.States.{State, with_sched, Handler, Banked, with_lines, with_clock, with_banked, come_home}
 use Rattle.evl_kernel.specs.calls.Effects.{Effect, done}
 use Rattle.evl_kernel.specs.settling.Paths.{Along}
 use Rattle.evl_kernel.specs.calls.Semaphores.{put}
@@ -40,7 +40,7 @@ use Rattle.evl_kernel.specs.calls.LineCalls as line_call
 use Rattle.evl_sched.specs.Threads.{stage_of}
 use Rattle.evl_kernel.specs.calls.Families.{LineStep, request, free, arrive, post, stall, unstall, line_effect, Task, on_lines, on_clock, on_threads, on_element, on_staged, begins, ends, performing, task_of, raises}
 use Rattle.evl_kernel.specs.calls.Serving.{general_refusal, answer}
-use Rattle.evl_kernel.specs.settling.Settling.{Settling, next_play, item_played, acted, all_acted, answered, given, played, line_played, clock_played, after_call, nothing}
+use Rattle.evl_kernel.specs.settling.Settling.{Settling, next_play, item_played, after_action, all_acted, after_answer, answer_given, line_played, line_played, clock_played, after_call, nothing}
 use Rattle.evl_kernel.specs.state.Openings.{opening, at_home}
 use Rattle.evl_kernel.specs.histories.Histories.{Run, Follows}
 use Rattle.evl_kernel.specs.state.Records.{banked}
@@ -78,7 +78,7 @@ module _ (size : ℕ) where
   leaves-passed false refusal e h = h refl
 
   placed-requested : (s : State) (line : ℕ) (stage : Stage) (number tag : ℕ) (b : Banked) → IsPlaced s → slice_get s.bank number ≡ Some b → b.home ≡ true
-      → lines.request_refusal s.lines line stage b.handler.kinds ≡ None → IsPlaced (moved (with_lines s (lines.requested s.lines line stage number tag)) false number b)
+      → lines.request_refusal s.lines line stage b.handler.kinds ≡ None → IsPlaced (with_banked (with_lines s (lines.requested s.lines line stage number tag)) false number b)
   placed-requested s line stage number tag b h here home passed = record {
     once = λ n.
         let vacant = request_free s.lines line stage b.handler.kinds passed in
@@ -92,7 +92,7 @@ module _ (size : ℕ) where
   }
     where
       new : State
-      new = moved (with_lines s (lines.requested s.lines line stage number tag)) false number b
+      new = with_banked (with_lines s (lines.requested s.lines line stage number tag)) false number b
 
       count : (n : ℕ) (same : Bool)
           → one_home (slice_get new.bank n) + cond same 1 0 ≡ one_home (slice_get s.bank n) + cond same 0 0
@@ -103,10 +103,10 @@ module _ (size : ℕ) where
       count n false bank banked table all = omega (arith, bank, banked, table, all)
 
   placed-freed : (s : State) (line : ℕ) (stage : Stage) → IsPlaced s → lines.free_refusal s.lines line stage ≡ None
-      → IsPlaced (line_call.returned (with_lines s (lines.freed s.lines line stage)) (lines.installed_at s.lines stage line))
+      → IsPlaced (line_call.with_callback_back (with_lines s (lines.freed s.lines line stage)) (lines.installed_at s.lines stage line))
   placed-freed s line stage h passed =
       let found = free_found s.lines line stage passed in
-      subst (λ (o : Option (lines.Installed ℕ)). IsPlaced (line_call.returned mid o)) (sym found.2) (by found.0 found.1 found.2 (slice_get s.bank found.1.callback) refl)
+      subst (λ (o : Option (lines.Installed ℕ)). IsPlaced (line_call.with_callback_back mid o)) (sym found.2) (by found.0 found.1 found.2 (slice_get s.bank found.1.callback) refl)
     where
       mid : State
       mid = with_lines s (lines.freed s.lines line stage)
@@ -133,7 +133,7 @@ module _ (size : ℕ) where
           cases (Some b) all less = (omega arith, omega (arith, all, less))
 
       by : line < line_count → (at : lines.Installed ℕ) → lines.installed_at s.lines stage line ≡ Some at → (o : Option Banked) → slice_get s.bank at.callback ≡ o
-          → IsPlaced (option_map_or (moved mid true at.callback) o mid)
+          → IsPlaced (option_map_or (with_banked mid true at.callback) o mid)
       by below at there None bank = absurd (omega (arith, (away at None below there bank).0))
       by below at there (Some b) bank = record {
         once = λ n.
@@ -146,7 +146,7 @@ module _ (size : ℕ) where
       }
         where
           new : State
-          new = moved mid true at.callback b
+          new = with_banked mid true at.callback b
 
           count : (n : ℕ) (same : Bool)
               → one_home (slice_get new.bank n) + cond same 0 0 ≡ one_home (slice_get s.bank n) + cond same 1 0
@@ -161,7 +161,7 @@ module _ (size : ℕ) where
   placed-clock s c h same sound = record { once = λ n. omega (arith, h.once n, same n); size_is = h.size_is; sound = h.sound; clock_sound = sound }
 
   placed-made : (s : State) (i number tag : ℕ) (b : Banked) → IsPlaced s → slice_get s.bank number ≡ Some b → b.home ≡ true → free_place s.clock ≡ Some i
-      → IsPlaced (moved (with_clock s (with_new_timer s.clock i number tag)) false number b)
+      → IsPlaced (with_banked (with_clock s (with_new_timer s.clock i number tag)) false number b)
   placed-made s i number tag b h here home place_is = record {
     once = λ n.
         let vacant = free_there s.clock i place_is in
@@ -175,7 +175,7 @@ module _ (size : ℕ) where
   }
     where
       new : State
-      new = moved (with_clock s (with_new_timer s.clock i number tag)) false number b
+      new = with_banked (with_clock s (with_new_timer s.clock i number tag)) false number b
 
       count : (n : ℕ) (same : Bool)
           → one_home (slice_get new.bank n) + cond same 1 0 ≡ one_home (slice_get s.bank n) + cond same 0 0
@@ -209,7 +209,7 @@ module _ (size : ℕ) where
           cases None all less = absurd (omega (arith, all, less))
           cases (Some b) all less = (omega arith, omega (arith, all, less))
 
-      by : (o : Option Banked) → slice_get s.bank t.callback ≡ o → IsPlaced (option_map_or (moved mid true t.callback) o mid)
+      by : (o : Option Banked) → slice_get s.bank t.callback ≡ o → IsPlaced (option_map_or (with_banked mid true t.callback) o mid)
       by None bank = absurd (omega (arith, (away None bank).0))
       by (Some b) bank = record {
         once = λ n.
@@ -222,7 +222,7 @@ module _ (size : ℕ) where
       }
         where
           new : State
-          new = moved mid true t.callback b
+          new = with_banked mid true t.callback b
 
           count : (n : ℕ) (same : Bool)
               → one_home (slice_get new.bank n) + cond same 0 0 ≡ one_home (slice_get s.bank n) + cond same 1 0
@@ -260,7 +260,7 @@ module _ (size : ℕ) where
   placed-line : (s : State) (step : LineStep) → IsPlaced s → Leaves IsPlaced (line_effect s step)
   placed-line s (request line stage number tag) h = leaves-known IsPlaced (slice_get s.bank number) _ (λ b here.
       leaves-refused IsPlaced (lines.request_refusal s.lines line stage b.handler.kinds) _ (λ passed. leaves-passed (not b.home) Busy
-      (done (moved (with_lines s (lines.requested s.lines line stage number tag)) false number b))
+      (done (with_banked (with_lines s (lines.requested s.lines line stage number tag)) false number b))
       (λ home. placed-requested s line stage number tag b h here (home_is b.home home) passed)))
   placed-line s (free line stage) h = leaves-refused IsPlaced (lines.free_refusal s.lines line stage) _ (λ passed. placed-freed s line stage h passed)
   placed-line s (arrive line) h = leaves-refused IsPlaced (lines.post_refusal line) _ (λ passed.
@@ -282,7 +282,7 @@ module _ (size : ℕ) where
   placed-answer : (s : State) (caller : ℕ) (asked : Call) → IsPlaced s → Leaves IsPlaced (answer s caller asked)
   placed-answer s caller asked h = leaves-refused IsPlaced (general_refusal s caller asked) _ (λ passed. placed-task s caller (task_of asked) h)
 
-  placed-acted : (s : State) (line : ℕ) (action : Action) → IsPlaced s → IsPlaced (acted s line action)
+  placed-acted : (s : State) (line : ℕ) (action : Action) → IsPlaced s → IsPlaced (after_action s line action)
   placed-acted s line (PostSem sem) h = leaves-if_done IsPlaced s _ h (leaves-touched IsPlaced kept_waiting s None (on_sem sem.0 put) h)
   placed-acted s line (PostFlags flags bits) h = leaves-if_done IsPlaced s _ h (leaves-touched IsPlaced kept_waiting s None (on_flags flags.0 (group.post bits)) h)
   placed-acted s line Propagate h = leaves-if_done IsPlaced s _ h (placed-post s Inband line h)
@@ -291,9 +291,9 @@ module _ (size : ℕ) where
 
   placed-all_acted : (s : State) (line : ℕ) (actions : List Action) → IsPlaced s → IsPlaced (all_acted s line actions)
   placed-all_acted s line [] h = h
-  placed-all_acted s line (action ∷ actions) h = placed-all_acted (acted s line action) line actions (placed-acted s line action h)
+  placed-all_acted s line (action ∷ actions) h = placed-all_acted (after_action s line action) line actions (placed-acted s line action h)
 
-  placed-answered : (s : State) (line : ℕ) (answer : Answer) → IsPlaced s → IsPlaced (answered s line answer)
+  placed-answered : (s : State) (line : ℕ) (answer : Answer) → IsPlaced s → IsPlaced (after_answer s line answer)
   placed-answered s line answer h = by answer.handled
     where
       by : (b : Bool) → IsPlaced (if b then all_acted s line answer.actions.items else s)
@@ -303,17 +303,17 @@ module _ (size : ℕ) where
   -- a play
   placed-line_played : (s : State) (stage : Stage) (line : ℕ) (at : lines.Installed ℕ) → IsPlaced s → lines.installed_at s.lines stage line ≡ Some at → IsPlaced (line_played s stage line at).1
   placed-line_played s stage line at h there =
-      placed-answered (with_lines s (lines.played s.lines stage line at (given s at).handled)) line (given s at)
-      (placed-lines s (lines.played s.lines stage line at (given s at).handled) h table (sound-played s.lines stage line at (given s at).handled h.sound there))
+      placed-answered (with_lines s (lines.played s.lines stage line at (answer_given s at).handled)) line (answer_given s at)
+      (placed-lines s (lines.played s.lines stage line at (answer_given s at).handled) h table (sound-played s.lines stage line at (answer_given s at).handled h.sound there))
     where
       below : (v : Stage) → lines.installed_at s.lines v line ≡ Some at → line < line_count
       below Oob here = omega (arith, within s.lines.oob.installed line at here, (h.sound.sides Oob).lines)
       below Inband here = omega (arith, within s.lines.inband.installed line at here, (h.sound.sides Inband).lines)
 
-      table : (n : ℕ) → in_tables n (lines.played s.lines stage line at (given s at).handled) ≡ in_tables n s.lines
-      table n = omega (arith, in-set n s.lines stage (lines.played_on (lines.side s.lines stage) line at (given s at).handled) line (Some at) (Some (record at { count = one_more at.count })) h.sound refl there (below stage there))
+      table : (n : ℕ) → in_tables n (lines.played s.lines stage line at (answer_given s at).handled) ≡ in_tables n s.lines
+      table n = omega (arith, in-set n s.lines stage (lines.played_on (lines.side s.lines stage) line at (answer_given s at).handled) line (Some at) (Some (record at { count = one_more at.count })) h.sound refl there (below stage there))
 
-  placed-played : (s : State) (stage : Stage) (line : ℕ) → IsPlaced s → lines.is_pending s.lines stage line ≡ true → IsPlaced (played s stage line).1
+  placed-played : (s : State) (stage : Stage) (line : ℕ) → IsPlaced s → lines.is_pending s.lines stage line ≡ true → IsPlaced (line_played s stage line).1
   placed-played s Inband line h pends = by (lines.installed_at s.lines Inband line) refl (h.sound.stands Inband line pends)
     where
       by : (o : Option (lines.Installed ℕ)) → lines.installed_at s.lines Inband line ≡ o → is_some o ≡ true → IsPlaced (line_played s Inband line (unwrap_or o nothing)).1

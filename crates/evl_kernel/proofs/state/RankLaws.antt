@@ -52,8 +52,8 @@ module _ {n : ℕ} (o : Owners) (q p : Ranked) (h : RanksAreKept n o q) where
   pub ranks-blocked : (thread : ℕ) → p ≡ calls.block q thread → RanksAreKept n o p
   ranks-blocked thread is = subst (RanksAreKept n o) (sym is) (ranks-same o q (calls.block q thread) (record { many = refl; same = λ t. refl }) refl h)
 
-  pub ranks-readied : (thread : ℕ) → p ≡ calls.ready q thread → RanksAreKept n o p
-  ranks-readied thread is = subst (RanksAreKept n o) (sym is) (ranks-same o q (calls.ready q thread) (record { many = refl; same = λ t. refl }) refl h)
+  pub ranks-readied : (thread : ℕ) → p ≡ calls.made_ready q thread → RanksAreKept n o p
+  ranks-readied thread is = subst (RanksAreKept n o) (sym is) (ranks-same o q (calls.made_ready q thread) (record { many = refl; same = λ t. refl }) refl h)
 
   pub ranks-refilled : p ≡ calls.refill q → RanksAreKept n o p
   ranks-refilled is = subst (RanksAreKept n o) (sym is) (ranks-same o q (calls.refill q) (record { many = refl; same = λ t. refl }) refl h)

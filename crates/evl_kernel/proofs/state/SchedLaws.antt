@@ -18,9 +18,9 @@ use Rattle.evl_sched.specs.Picks.{picked}
 use Rattle.evl_base.specs.declared.refusal.Refusal.{Refusal}
 use Rattle.evl_base.specs.declared.refusal.Refusal.TheVariants.{Busy, Invalid, Range, Unknown}
 use Rattle.evl_base.specs.declared.reply.Reply.TheVariants.{Number, Chosen}
-use Rattle.evl_sched.specs.Charges.{charged, refilled}
+use Rattle.evl_sched.specs.Charges.{charged, refilled_groups}
 use Rattle.evl_kernel.specs.state.States.{with_sched}
-use Rattle.evl_kernel.specs.calls.Mutexes.{named}
+use Rattle.evl_kernel.specs.calls.Mutexes.{thread_named}
 use Rattle.evl_kernel.specs.calls.ThreadCalls.{paid_between, pick, tell_rank, rank_of as effective_of}
 use Rattle.evl_kernel.proofs.state.RankLaws.{attached_of}
 use Rattle.evl_kernel.specs.state.KernelViews.{IsAnswer}
@@ -32,7 +32,7 @@ unfolding fresh
 sched-fresh threads percents = refl
 
 -- a thread by its number
-pub named-number : (o : Option ThreadId) → option_map named (option_map (λ (t : ThreadId). t.0) o) ≡ o
+pub named-number : (o : Option ThreadId) → option_map thread_named (option_map (λ (t : ThreadId). t.0) o) ≡ o
 named-number None = refl
 named-number (Some thread) = refl
 
@@ -62,13 +62,13 @@ module _ {C : Type 0} (r : RecordsView C) (q : Ranked) (before delta now : ℕ) 
   paid_anew is other =
       let left = charged (effective_of (state_of r)) r.sched.sched delta in
       let anew = differ (before / 1000000000) (now / 1000000000) other in
-      ap (with_sched (state_of r)) (ap (λ (x : Ranked). x.sched) is ∙ (ap refilled by_rank ∙ sym (ap (λ (b : Bool). if b then refilled left else left) anew)))
+      ap (with_sched (state_of r)) (ap (λ (x : Ranked). x.sched) is ∙ (ap refilled_groups by_rank ∙ sym (ap (λ (b : Bool). if b then refilled_groups left else left) anew)))
 
   pub paid_within : q ≡ calls.charge r.sched delta → before / 1000000000 ≡ now / 1000000000 → state_of (record r { sched = q }) ≡ paid_between (state_of r) before delta now
   paid_within is one =
       let left = charged (effective_of (state_of r)) r.sched.sched delta in
       let same = agree (before / 1000000000) (now / 1000000000) one in
-      ap (with_sched (state_of r)) (ap (λ (x : Ranked). x.sched) is ∙ (by_rank ∙ sym (ap (λ (b : Bool). if b then refilled left else left) same)))
+      ap (with_sched (state_of r)) (ap (λ (x : Ranked). x.sched) is ∙ (by_rank ∙ sym (ap (λ (b : Bool). if b then refilled_groups left else left) same)))
 
 -- a refusal of a thread that isn't attached is one that the kernel answers
 pub stranger_answers : (q : Sched) (thread : ℕ) (e : Refusal) → stranger_refusal q thread ≡ Some e → IsAnswer (Err e)
@@ -114,4 +114,4 @@ module _ {C : Type 0} (r : RecordsView C) (h : IsSound r) where
 
   pub told_pick : (o : Option ThreadId) → option_map (λ (t : ThreadId). t.0) o ≡ picked (rank_of r.sched) r.sched.sched → pick (state_of r) ≡ Ok (Chosen o, state_of r)
   told_pick o is =
-      ap (λ (x : Option ThreadId). Ok (Chosen x, state_of r)) (ap (option_map named) (sym (is ∙ picked-alike (rank_of r.sched) (effective_of (state_of r)) r.sched.sched (given_as r h))) ∙ named-number o)
+      ap (λ (x : Option ThreadId). Ok (Chosen x, state_of r)) (ap (option_map thread_named) (sym (is ∙ picked-alike (rank_of r.sched) (effective_of (state_of r)) r.sched.sched (given_as r h))) ∙ named-number o)

@@ -20,15 +20,15 @@ use Rattle.evl_kernel.specs.declared.waits.Wait.{Wait}
 use Rattle.evl_kernel.specs.state.States.{Elements, State, Handler, with_clock}
 use Rattle.evl_kernel.specs.calls.Effects.{Answered, lifted, leaving, if_done}
 use Rattle.evl_kernel.specs.calls.Elements.{ElementStep, elements, with_elements, element, wakes, serves, stepping_to, touched}
-use Rattle.evl_kernel.specs.waiting.Waits.{wait_of, wait_at, with_wait, going_on, ended_by, is_past, suspended, begun, woken, all_woken}
-use Rattle.evl_kernel.specs.waiting.Beginnings.{awaited, begin_refusal, begin_step, beginning}
+use Rattle.evl_kernel.specs.waiting.Waits.{wait_of, wait_at, with_wait, going_on, ended_by, is_past, suspended, wait_begun as begun, woken, all_woken}
+use Rattle.evl_kernel.specs.waiting.Beginnings.{awaited_by, begin_refusal, begin_step, beginning}
 use Rattle.evl_kernel.specs.waiting.Endings.{drop_step, finish, goes_inband, inband_if, outcome_of}
 use Rattle.evl_kernel.specs.calls.TimerCalls.{posted_if}
 use Rattle.evl_kernel.specs.calls.Families.{begins, task_of}
 use Rattle.evl_kernel.specs.calls.Serving.{answer, ends_a_wait, general_refusal}
 use Rattle.evl_kernel.specs.settling.Settling.{deadline_left}
 use Rattle.evl_kernel.specs.state.Openings.{opening}
-use Rattle.evl_kernel.specs.histories.Histories.{History, IsLegal, opened}
+use Rattle.evl_kernel.specs.histories.Histories.{History, IsLegal, opened_kernel}
 use Rattle.evl_kernel.specs.histories.WaitInvariant.{DeadlinesStand, is_blocked, until_of}
 use Rattle.evl_kernel.proofs.calls.LeavesLaws.{Leaves, leaves-if_done, leaves-refused}
 use Rattle.evl_kernel.proofs.state.OpeningLaws.{threads_few}
@@ -51,7 +51,7 @@ unfolding clocks.opening
 opened_so board bank = length-replicate {A = Option ℕ} (min board.threads thread_limit) None
 
 dates_at : (of : History) → IsLegal of → HasDates of.board.threads of.state
-dates_at of legal = run_holds (HasDates of.board.threads) each own (opened of) of.entries of.plays of.state (opened_so of.board of.bank) legal
+dates_at of legal = run_holds (HasDates of.board.threads) each own (opened_kernel of) of.entries of.plays of.state (opened_so of.board of.bank) legal
   where
     waiting : KeptByWakes (HasDates of.board.threads)
     waiting = record {
@@ -163,11 +163,11 @@ module _ (thread : ℕ) (Q : Option ℕ → Type 0) where
   }
 
   -- a wait begins, where what is left holds at once
-  dated_beginning : (s : State) (caller : ℕ) (wants : Wanted) (until : Option ℕ) → ((e : Elements) (served : Option Reply) → Dated (begun (with_elements s e) caller (awaited wants) until served))
+  dated_beginning : (s : State) (caller : ℕ) (wants : Wanted) (until : Option ℕ) → ((e : Elements) (served : Option Reply) → Dated (begun (with_elements s e) caller (awaited_by wants) until served))
       → Leaves Dated (beginning s caller wants until).effect
   dated_beginning s caller wants until kept =
       let step = begin_step s caller wants in
-      leaves-refused Dated (begin_refusal s caller wants) _ (λ none. dated_stepping (λ x. begun x caller (awaited wants) until (serves (elements s) step)) s step (λ e. kept e (serves (elements s) step)))
+      leaves-refused Dated (begin_refusal s caller wants) _ (λ none. dated_stepping (λ x. begun x caller (awaited_by wants) until (serves (elements s) step)) s step (λ e. kept e (serves (elements s) step)))
 
   -- of another thread
   begun_by_another : (s : State) (caller : ℕ) (on : Awaited) (until : Option ℕ) (served : Option Reply) → (thread == caller) ≡ false → Dated s → Dated (begun s caller on until served)
@@ -204,7 +204,7 @@ module _ (thread : ℕ) (Q : Option ℕ → Type 0) where
 
   -- another thread's call
   kept_by_another : (s : State) (caller : ℕ) (asked : Call) → (thread == caller) ≡ false → KeptByOwn Dated s caller asked
-  kept_by_another s caller asked ne = kept_by_own s caller asked (λ wants until is passed h. dated_beginning s caller wants until (λ e served. begun_by_another (with_elements s e) caller (awaited wants) until served ne h))
+  kept_by_another s caller asked ne = kept_by_own s caller asked (λ wants until is passed h. dated_beginning s caller wants until (λ e served. begun_by_another (with_elements s e) caller (awaited_by wants) until served ne h))
 
 pub deadlines_are : DeadlinesStand
 deadlines_are h legal fits caller asked reply plays new step thread is = record { kept = kept; begun = begun_ }
@@ -235,7 +235,7 @@ deadlines_are h legal fits caller asked reply plays new step thread is = record 
         Q date = date ≡ until_of (task_of asked)
 
         begins_so : (wants : Wanted) (until : Option ℕ) → task_of asked ≡ begins wants until → general_refusal old caller asked ≡ None → Dated caller Q old → Leaves (Dated caller Q) (beginning old caller wants until).effect
-        begins_so wants until its passed hx = dated_beginning caller Q old caller wants until (λ e served. begun_by_itself caller Q (with_elements old e) (awaited wants) until served within (ap until_of (sym its)))
+        begins_so wants until its passed hx = dated_beginning caller Q old caller wants until (λ e served. begun_by_itself caller Q (with_elements old e) (awaited_by wants) until served within (ap until_of (sym its)))
           where
             within : caller < length old.clock.deadlines
             within = omega (arith, (passed_all old caller asked (ap ends_a_wait its) passed).there, (proper_at h legal fits).threads_are, dates_at h legal ∙ min-eq_left (threads_few h.board fits))

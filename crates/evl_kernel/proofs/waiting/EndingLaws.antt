@@ -18,7 +18,7 @@ use Rattle.evl_pipeline.specs.declared.action.Action.{Action}
 use Rattle.evl_pipeline.specs.declared.action.Action.TheVariants.{PostSem, PostFlags, Propagate, PostOob, StopTimer}
 use Rattle.evl_pipeline.specs.declared.answer.Answer.{Answer}
 use Rattle.evl_pipeline.specs.declared.plan.Plan.{Plan}
-use Rattle.evl_pipeline.specs.Plans.{IsSound, allowed, is_allowed}
+use Rattle.evl_pipeline.specs.Plans.{IsSound, allowed_kinds as allowed, is_allowed}
 use Rattle.evl_pipeline.specs.Lines as lines
 use Rattle.evl_pipeline.proofs.NumberSetLaws.{length-remove_least, length-rises}
 use Rattle.evl_pipeline.proofs.PortLaws.{at-none, none_there}
@@ -40,7 +40,7 @@ use Rattle.evl_kernel.specs.state.Limits.{inband_limit, play_limit}
 use Rattle.evl_kernel.specs.settling.Paths.{Along}
 use Rattle.evl_sched.specs.Threads.{Sched}
 use Rattle.evl_sched.specs.Picks.{is_anyone_eligible}
-use Rattle.evl_kernel.specs.state.States.{State, Handler, Banked, with_lines, with_clock, with_sched, moved, come_home, plan_at, no_plan}
+use Rattle.evl_kernel.specs.state.States.{State, Handler, Banked, with_lines, with_clock, with_sched, with_banked, come_home, plan_at, no_plan}
 use Rattle.evl_kernel.specs.calls.Effects.{Effect, done}
 use Rattle.evl_kernel.specs.calls.Semaphores.{put}
 use Rattle.evl_kernel.specs.calls.FlagGroups as group
@@ -48,8 +48,8 @@ use Rattle.evl_kernel.specs.calls.Elements.{on_sem, on_flags}
 use Rattle.evl_kernel.specs.calls.LineCalls as line_call
 use Rattle.evl_sched.specs.Threads.{stage_of}
 use Rattle.evl_kernel.specs.calls.Families.{LineStep, request, free, arrive, post, stall, unstall, line_effect, Task, on_lines, on_clock, on_threads, on_element, on_staged, begins, ends, performing, task_of, raises}
-use Rattle.evl_kernel.specs.calls.Serving.{served, general_refusal, answer}
-use Rattle.evl_kernel.specs.settling.Settling.{Settling, next_play, one_inband, acted, all_acted, answered, given, timer_given, timer_played, no_timer, item_played, played, line_played, clock_played, after_call, nothing}
+use Rattle.evl_kernel.specs.calls.Serving.{serve_call, general_refusal, answer}
+use Rattle.evl_kernel.specs.settling.Settling.{Settling, next_play, one_inband, after_action, all_acted, after_answer, answer_given as given, timer_given, timer_played, no_timer, item_played, line_played, line_played, clock_played, after_call, nothing}
 use Rattle.evl_kernel.specs.state.Openings.{opening, at_home}
 use Rattle.evl_kernel.specs.state.Records.{kinds_at, AreAllowed, AreTimersAllowed}
 use Rattle.evl_kernel.specs.histories.Histories.{Step, Run, Follows}
@@ -122,12 +122,12 @@ ready_waiting = record {
   queued = λ s ready h. ready-sched s _ h;
 }
 
-ready-moved : (s : State) (number : ℕ) (home : Bool) (b : Banked) → IsReady s → slice_get s.bank number ≡ Some b → IsReady (moved s home number b)
+ready-moved : (s : State) (number : ℕ) (home : Bool) (b : Banked) → IsReady s → slice_get s.bank number ≡ Some b → IsReady (with_banked s home number b)
 ready-moved s number home b h here =
     let kinds = λ (n : ℕ). told-moved (λ (x : Handler). x.kinds) 0 s.bank number home b n here in
     let plans = λ (n : ℕ). told-moved (λ (x : Handler). x.plan) no_plan s.bank number home b n here in
     record {
-      sane = λ n. subst (λ (k : ℕ). IsSound k (plan_at (moved s home number b) n)) (sym (kinds n)) (subst (λ (p : Plan). IsSound (kinds_at s n) p) (sym (plans n)) (h.sane n));
+      sane = λ n. subst (λ (k : ℕ). IsSound k (plan_at (with_banked s home number b) n)) (sym (kinds n)) (subst (λ (p : Plan). IsSound (kinds_at s n) p) (sym (plans n)) (h.sane n));
       allowed = λ stage line at there. ap (is_allowed stage) (kinds at.callback) ∙ h.allowed stage line at there;
       sound = h.sound;
       timers_allowed = λ n at there. ap is_timer_allowed (kinds at.callback) ∙ h.timers_allowed n at there;
@@ -151,7 +151,7 @@ ready-requested s line stage number tag h allows other = record {
 ready-home : (s : State) (number : ℕ) → IsReady s → IsReady (come_home s number)
 ready-home s number h = by (slice_get s.bank number) refl
   where
-    by : (o : Option Banked) → slice_get s.bank number ≡ o → IsReady (option_map_or (moved s true number) o s)
+    by : (o : Option Banked) → slice_get s.bank number ≡ o → IsReady (option_map_or (with_banked s true number) o s)
     by None here = h
     by (Some b) here = ready-moved s number true b h here
 
@@ -181,7 +181,7 @@ kept_ready = record {
   dropped = λ s n t h there. ready-home (with_clock s (dropped s.clock n)) t.callback (ready-clock s (dropped s.clock n) h (old-dropped s.clock n) (sound-with_timer s.clock n None h.clock_sound));
 }
 
-ready-returned : (s : State) (o : Option (lines.Installed ℕ)) → IsReady s → IsReady (line_call.returned s o)
+ready-returned : (s : State) (o : Option (lines.Installed ℕ)) → IsReady s → IsReady (line_call.with_callback_back s o)
 ready-returned s None h = h
 ready-returned s (Some at) h = ready-home s at.callback h
 
@@ -192,7 +192,7 @@ ready-post s stage line h = leaves-refused IsReady (lines.post_refusal line) _ (
 ready-line : (s : State) (step : LineStep) → IsReady s → Leaves IsReady (line_effect s step)
 ready-line s (request line stage number tag) h = leaves-known IsReady (slice_get s.bank number) _ (λ b here.
     leaves-refused IsReady (lines.request_refusal s.lines line stage b.handler.kinds) _ (λ passed. leaves-unless IsReady (not b.home) Busy
-    (done (moved (with_lines s (lines.requested s.lines line stage number tag)) false number b))
+    (done (with_banked (with_lines s (lines.requested s.lines line stage number tag)) false number b))
     (ready-moved (with_lines s (lines.requested s.lines line stage number tag)) number false b
     (ready-requested s line stage number tag h
     (ap (λ (o : Option Banked). is_allowed stage (option_map_or (λ (x : Banked). x.handler.kinds) o 0)) here ∙ request-allowed s.lines line stage b.handler.kinds passed)
@@ -217,9 +217,9 @@ ready-task s caller (begins wants until) h = leaves-beginning IsReady ready_wait
 ready-task s caller (ends keep) h = leaves-finish IsReady ready_waiting s caller keep (λ x hx. ready-sched x _ hx) h
 
 ready-answer : (s : State) (caller : ℕ) (asked : Call) → IsReady s → Leaves IsReady (answer s caller asked)
-ready-answer s caller asked h = leaves-refused IsReady (general_refusal s caller asked) (served s caller asked) (λ passed. ready-task s caller (task_of asked) h)
+ready-answer s caller asked h = leaves-refused IsReady (general_refusal s caller asked) (serve_call s caller asked) (λ passed. ready-task s caller (task_of asked) h)
 
-ready-acted : (s : State) (line : ℕ) (action : Action) → IsReady s → IsReady (acted s line action)
+ready-acted : (s : State) (line : ℕ) (action : Action) → IsReady s → IsReady (after_action s line action)
 ready-acted s line (PostSem sem) h = leaves-if_done IsReady s _ h (leaves-touched IsReady ready_waiting s None (on_sem sem.0 put) h)
 ready-acted s line (PostFlags flags bits) h = leaves-if_done IsReady s _ h (leaves-touched IsReady ready_waiting s None (on_flags flags.0 (group.post bits)) h)
 ready-acted s line Propagate h = leaves-if_done IsReady s _ h (ready-post s Inband line h)
@@ -228,9 +228,9 @@ ready-acted s line (StopTimer timer) h = leaves-if_done IsReady s _ h (leaves-st
 
 ready-all_acted : (s : State) (line : ℕ) (actions : List Action) → IsReady s → IsReady (all_acted s line actions)
 ready-all_acted s line [] h = h
-ready-all_acted s line (action ∷ actions) h = ready-all_acted (acted s line action) line actions (ready-acted s line action h)
+ready-all_acted s line (action ∷ actions) h = ready-all_acted (after_action s line action) line actions (ready-acted s line action h)
 
-ready-answered : (s : State) (line : ℕ) (answer : Answer) → IsReady s → IsReady (answered s line answer)
+ready-answered : (s : State) (line : ℕ) (answer : Answer) → IsReady s → IsReady (after_answer s line answer)
 ready-answered s line answer h = by answer.handled
   where
     by : (b : Bool) → IsReady (if b then all_acted s line answer.actions.items else s)
@@ -257,11 +257,11 @@ line_nearer s inband stage line at h within next there = by stage refl
     after : State
     after = with_lines s (lines.played s.lines stage line at (given s at).handled)
 
-    kept : IsReady (answered after line (given s at))
+    kept : IsReady (after_answer after line (given s at))
     kept = ready-answered after line (given s at)
         (ready-lines s (lines.played s.lines stage line at (given s at).handled) h (old-played s.lines stage line at (given s at).handled there) (sound-played s.lines stage line at (given s at).handled h.sound there))
 
-    by : (v : Stage) → stage ≡ v → Nearer s inband stage (answered after line (given s at))
+    by : (v : Stage) → stage ≡ v → Nearer s inband stage (after_answer after line (given s at))
     by Oob is =
         let none = answered-none after line (given s at) (posts-no_oob (kinds_at s at.callback) (plan_at s at.callback) _ (h.sane at.callback)
         (ap (λ (v : Stage). is_allowed v (kinds_at s at.callback)) (sym is) ∙ h.allowed stage line at there)) in
@@ -289,7 +289,7 @@ clock_nearer s inband line h within zero_is next =
     }
 
 played_nearer : (s : State) (inband : ℕ) (stage : Stage) (line : ℕ) → IsReady s → inband ≤ inband_limit → lines.next_line s.lines (is_anyone_eligible s.sched) (nat_lt inband inband_limit) ≡ Some (stage, line)
-    → Nearer s inband stage (played s stage line).1
+    → Nearer s inband stage (line_played s stage line).1
 played_nearer s inband Inband line h within next = by (lines.installed_at s.lines Inband line) refl (h.sound.stands Inband line (chosen_pends s.lines Inband line (chosen s.lines (is_anyone_eligible s.sched) (nat_lt inband inband_limit) Inband line next)))
   where
     by : (o : Option (lines.Installed ℕ)) → lines.installed_at s.lines Inband line ≡ o → is_some o ≡ true → Nearer s inband Inband (line_played s Inband line (unwrap_or o nothing)).1
@@ -434,7 +434,7 @@ has_step old (Ok (said, changed)) left =
       reply = Ok said;
       plays = end.plays;
       new = end.last.state;
-      step = (refl, record { last = end.last; played = end.path; ended = end.over; left = refl });
+      step = (refl, record { last = end.last; line_played = end.path; ended = end.over; left = refl });
       few_plays = end.few_plays;
     }
 

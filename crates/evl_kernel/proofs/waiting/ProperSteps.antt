@@ -26,8 +26,8 @@ use Rattle.evl_kernel.specs.declared.waits.Wanted.{Wanted}
 use Rattle.evl_kernel.specs.state.States.{State, Elements, Handler, with_sched}
 use Rattle.evl_kernel.specs.calls.Effects.{Answered, leaving, lifted}
 use Rattle.evl_kernel.specs.calls.Elements.{ElementStep, element, elements, serves, wakes, with_elements}
-use Rattle.evl_kernel.specs.waiting.Waits.{wait_of, wait_at, with_wait, going_on, ended_by, is_past, suspended, begun, all_woken}
-use Rattle.evl_kernel.specs.waiting.Beginnings.{awaited, begin_refusal, begin_step, beginning}
+use Rattle.evl_kernel.specs.waiting.Waits.{wait_of, wait_at, with_wait, going_on, ended_by, is_past, suspended, wait_begun as begun, all_woken}
+use Rattle.evl_kernel.specs.waiting.Beginnings.{awaited_by, begin_refusal, begin_step, beginning}
 use Rattle.evl_kernel.specs.waiting.Endings.{finish, goes_inband, inband_if, outcome_of}
 use Rattle.evl_kernel.specs.calls.ThreadCalls as thread_call
 use Rattle.evl_kernel.specs.calls.ThreadCalls.{rank_of, detach_refusal}
@@ -35,7 +35,7 @@ use Rattle.evl_kernel.specs.calls.TimerCalls.{posted_if}
 use Rattle.evl_kernel.specs.calls.Families.{ThreadStep, attach, detach, set_policy, set_stage, pick, tell_rank, thread_effect, task_of}
 use Rattle.evl_kernel.specs.calls.Serving.{ends_a_wait, general_refusal}
 use Rattle.evl_kernel.specs.state.Openings.{all_opened, opening}
-use Rattle.evl_kernel.specs.histories.Histories.{History, IsLegal, opened}
+use Rattle.evl_kernel.specs.histories.Histories.{History, IsLegal, opened_kernel}
 use Rattle.evl_kernel.specs.histories.WaitInvariant.{WaitsAreProper, WaitsStayProper, is_blocked}
 use Rattle.evl_kernel.specs.state.Records.{WaitsAreKept}
 use Rattle.evl_kernel.specs.waiting.Standing.{is_served, stands_for}
@@ -267,12 +267,12 @@ module _ (n : ℕ) (few : n ≤ thread_limit) where
       step = begin_step s caller wants
 
       left : begin_refusal s caller wants ≡ None → (a : Answered Elements) → element (elements s) step ≡ a
-          → Leaves (IsProper n) (lifted (λ e. all_woken (begun (with_elements s e) caller (awaited wants) until (serves (elements s) step)) (wakes (elements s) step)) a)
+          → Leaves (IsProper n) (lifted (λ e. all_woken (begun (with_elements s e) caller (awaited_by wants) until (serves (elements s) step)) (wakes (elements s) step)) a)
       left none (Err refusal) is = tt
       left none (Ok (reply, after)) is =
           let begins = begin_goes (elements s) h.proper.sound after reply caller (rank_of s caller) (omega (arith, passed.there, h.threads_are, few)) wants
           (λ on. idle_away n (elements s) s.waits (kept_of n s few h) caller passed.idle on) (free_to_begin s caller wants none) is in
-          proper_begun s caller passed h until (awaited wants) (serves (elements s) step) (wakes (elements s) step) after begins (serves (elements s) step) refl
+          proper_begun s caller passed h until (awaited_by wants) (serves (elements s) step) (wakes (elements s) step) after begins (serves (elements s) step) refl
 
   pub kept_by_each : KeptByEach (IsProper n)
   kept_by_each = record {
@@ -342,7 +342,7 @@ proper_opening board bank fits = record {
 pub proper_at : (h : History) → IsLegal h → board_fits h.board ≡ true → IsProper h.board.threads h.state
 proper_at h legal fits =
     let few = threads_few h.board fits in
-    run_holds (IsProper h.board.threads) (kept_by_each h.board.threads few) (kept_by_own h.board.threads few) (opened h) h.entries h.plays h.state (proper_opening h.board h.bank fits) legal
+    run_holds (IsProper h.board.threads) (kept_by_each h.board.threads few) (kept_by_own h.board.threads few) (opened_kernel h) h.entries h.plays h.state (proper_opening h.board h.bank fits) legal
 
 pub waits_stay : WaitsStayProper
 waits_stay h legal fits = (proper_at h legal fits).proper

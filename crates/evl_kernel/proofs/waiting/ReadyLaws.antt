@@ -10,7 +10,7 @@ use Rattle.evl_base.specs.declared.policy.Policy.TheVariants.{Fifo, Rr, Quota, W
 use Rattle.evl_base.specs.declared.stage.Stage.{Stage}
 use Rattle.evl_base.specs.declared.stage.Stage.TheVariants.{Inband}
 use Rattle.evl_sched.specs.declared.seat.Seat.{Seat}
-use Rattle.evl_sched.specs.Charges.{charged, policy_charged, refilled, refilled_at, slice_charged, thread_charged}
+use Rattle.evl_sched.specs.Charges.{charged, policy_charged, refilled_groups, refilled_at, slice_charged, thread_charged}
 use Rattle.evl_sched.specs.Groups.{is_new_second}
 use Rattle.evl_sched.specs.Picks.{eligible, may_run, picked}
 use Rattle.evl_sched.specs.Threads.{Sched, attached, detached, is_on, is_oob, is_ready, new_policy, new_seat, policy_set, readied, seat_at, stage_of, stage_set, switched, unready, with_seat, without}
@@ -202,13 +202,13 @@ ready-charged rank q delta t oob = by (picked rank q) refl
 pub ready-paid : (rank : ℕ → ℕ) (q : Sched) (before delta now t : ℕ) → ((n : ℕ) → is_ready q n ≡ true → is_oob (stage_of q n) ≡ true) → is_ready (refilled_at before now (charged rank q delta)) t ≡ is_ready q t
 ready-paid rank q before delta now t oob = by (is_new_second before now)
   where
-    by : (b : Bool) → is_ready (if b then refilled (charged rank q delta) else charged rank q delta) t ≡ is_ready q t
+    by : (b : Bool) → is_ready (if b then refilled_groups (charged rank q delta) else charged rank q delta) t ≡ is_ready q t
     by true = ready-charged rank q delta t oob
     by false = ready-charged rank q delta t oob
 
 pub stage-paid : (rank : ℕ → ℕ) (q : Sched) (before delta now t : ℕ) → stage_of (refilled_at before now (charged rank q delta)) t ≡ stage_of q t
 stage-paid rank q before delta now t = by (is_new_second before now)
   where
-    by : (b : Bool) → stage_of (if b then refilled (charged rank q delta) else charged rank q delta) t ≡ stage_of q t
+    by : (b : Bool) → stage_of (if b then refilled_groups (charged rank q delta) else charged rank q delta) t ≡ stage_of q t
     by true = stage-charged rank q delta t
     by false = stage-charged rank q delta t

@@ -3,7 +3,7 @@ use Rattle.std.proofs.Common.{◌≡◌, ℕ, zero, suc, ◌⊎◌, inl, inr, Bo
 use Rattle.std.proofs.lemmas.Option.{none-some, same_Some}
 use Rattle.evl_base.specs.declared.stage.Stage.{Stage}
 use Rattle.evl_base.specs.declared.stage.Stage.TheVariants.{Inband, Oob}
-use Rattle.evl_pipeline.specs.Counts.{counted}
+use Rattle.evl_pipeline.specs.Counts.{count_raised}
 use Rattle.evl_pipeline.specs.Lines.{Pipeline, Side, Installed, side, with_side, installed_at, has_callback, callback_on, logged, cleared, posted, arrived, stalled, unstalled, requested, freed, played}
 
 -- what a table has after an entry was set: that entry, or what it had
@@ -40,7 +40,7 @@ module _ {X : Type 0} where
   pub old-posted : (p : Pipeline X) (stage : Stage) (line : ℕ) → OnlyOld p (posted p stage line)
   old-posted p stage line = by (has_callback p stage line)
     where
-      by : (b : Bool) → OnlyOld p (if b then with_side p stage (logged (side p stage) line) else record p { spurious = counted p.spurious line })
+      by : (b : Bool) → OnlyOld p (if b then with_side p stage (logged (side p stage) line) else record p { spurious = count_raised p.spurious line })
       by true other_stage other at h = old-with p stage (logged (side p stage) line) (on-side p stage) other_stage other at h
       by false Oob other at h = (at, h, refl)
       by false Inband other at h = (at, h, refl)

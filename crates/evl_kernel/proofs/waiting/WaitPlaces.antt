@@ -6,7 +6,7 @@ use Rattle.evl_base.specs.declared.call.Call.{Call}
 use Rattle.evl_kernel.specs.declared.waits.Wait.{Wait}
 use Rattle.evl_kernel.specs.state.States.{State}
 use Rattle.evl_kernel.specs.waiting.Waits.{wait_of, is_waiting, has_ended, has_timed_out, is_timeout}
-use Rattle.evl_kernel.specs.histories.Histories.{History, IsLegal, opened}
+use Rattle.evl_kernel.specs.histories.Histories.{History, IsLegal, opened_kernel}
 use Rattle.evl_kernel.proofs.calls.ThreadSteps.{leaves-threads}
 use Rattle.evl_kernel.proofs.waiting.WaitSteps.{KeptByWakes, kept-deadline, leaves-touched, leaves-beginning, leaves-finish, timed-by}
 use Rattle.evl_kernel.proofs.histories.StateWalk.{KeptByEach, KeptByOwn, run_holds}
@@ -42,7 +42,7 @@ module _ (n : ℕ) where
 
 pub places_are : (h : History) → IsLegal h → length h.state.waits ≡ h.board.threads
 places_are h legal =
-    run_holds (HasPlaces h.board.threads) (kept_by_each h.board.threads) (kept_by_own h.board.threads) (opened h) h.entries h.plays h.state (length-replicate h.board.threads None) legal
+    run_holds (HasPlaces h.board.threads) (kept_by_each h.board.threads) (kept_by_own h.board.threads) (opened_kernel h) h.entries h.plays h.state (length-replicate h.board.threads None) legal
 
 -- nobody waits past the last place
 past_places : (waits : List (Option Wait)) (thread : ℕ) → length waits ≤ thread → wait_of waits thread ≡ None

@@ -36,12 +36,12 @@ use Rattle.evl_sync.specs.Semaphores.{Semaphore}
 use Rattle.evl_sync.specs.FlagGroups.{FlagGroup}
 use Rattle.evl_xbuf.specs.Xbufs.{Xbuf, same_stage}
 use Rattle.evl_kernel.specs.calls.Elements.{ElementStep, element, elements, serves, stepping, stepping_to, wakes, with_elements}
-use Rattle.evl_kernel.specs.waiting.Beginnings.{awaited, begin_refusal, begin_step, beginning, form_refusal, is_named, is_there, may_name, range_refusal, ring_refusal, would_ring, size_refusal, stage_wanted, step_of_waiter, waiter_refusal}
+use Rattle.evl_kernel.specs.waiting.Beginnings.{awaited_by, begin_refusal, begin_step, beginning, form_refusal, is_named, is_there, may_name, range_refusal, ring_refusal, would_ring, size_refusal, stage_wanted, step_of_waiter, waiter_refusal}
 use Rattle.evl_kernel.specs.waiting.Endings.{drop_step, outcome_of, leaving_queue, left_by, served_by_leaving}
 use Rattle.evl_kernel.specs.settling.Settling.{deadline_left}
 use Rattle.evl_kernel.specs.calls.ThreadCalls.{rank_of}
 use Rattle.evl_kernel.specs.waiting.Standing.{is_served, stands_for}
-use Rattle.evl_kernel.specs.waiting.Waits.{wait_at, wait_of, going_on, begun, woken, all_woken, is_past, blocked}
+use Rattle.evl_kernel.specs.waiting.Waits.{wait_at, wait_of, going_on, wait_begun, woken, all_woken, is_past, blocked_on}
 use Rattle.evl_kernel.specs.state.Records.{RanksAreKept, RecordsView, IsSound, KeepsCallbacks, WaitsAreKept, state_of}
 use Rattle.evl_kernel.proofs.calls.ElementSteps.{ok_err, stepping-done, stepping-refused}
 use Rattle.evl_kernel.proofs.calls.QueueSteps.{Comes}
@@ -253,20 +253,20 @@ module _ {C : Type 0} (r : RecordsView C) (h : IsSound r) (thread rank : ℕ) (w
   pub begin_few : thread < thread_limit
   begin_few = omega (arith, there, h.waits.few)
 
-  begins : Begins r.elements.elements thread (awaited wants) (serves r.elements.elements (step_of_waiter thread rank wants)) (wakes r.elements.elements (step_of_waiter thread rank wants)) after.elements
+  begins : Begins r.elements.elements thread (awaited_by wants) (serves r.elements.elements (step_of_waiter thread rank wants)) (wakes r.elements.elements (step_of_waiter thread rank wants)) after.elements
   begins = begin_goes r.elements.elements h.waits.sound after.elements Begun thread rank begin_few wants begin_away (free_to_begin (state_of r) thread wants may) made
 
   pub sound_served : (outcome : Reply) → serves r.elements.elements (step_of_waiter thread rank wants) ≡ Some outcome → (w : Option Wait) (waits : List (Option Wait)) → waits ≡ slice_set r.waits thread w
       → owners_of after ≡ owners_of r.elements → IsSound (record r { elements = after; waits = waits })
   sound_served outcome served w waits is owners =
-      sound_with r h after r.sched waits (ranks_as r h after owners) (kept_served r.threads r.elements.elements r.waits h.waits thread (awaited wants) _ _ after.elements begins none outcome served w waits is)
+      sound_with r h after r.sched waits (ranks_as r h after owners) (kept_served r.threads r.elements.elements r.waits h.waits thread (awaited_by wants) _ _ after.elements begins none outcome served w waits is)
 
   pub sound_ranked : serves r.elements.elements (step_of_waiter thread rank wants) ≡ None → (q : Ranked) → RanksAreKept r.threads (owners_of after) q
-      → (waits : List (Option Wait)) → waits ≡ slice_set r.waits thread (Some (going_on (awaited wants))) → IsSound (record r { elements = after; sched = q; waits = waits })
+      → (waits : List (Option Wait)) → waits ≡ slice_set r.waits thread (Some (going_on (awaited_by wants))) → IsSound (record r { elements = after; sched = q; waits = waits })
   sound_ranked nothing q ranked waits is =
-      sound_with r h after q waits ranked (kept_waiting r.threads r.elements.elements r.waits h.waits thread (awaited wants) _ _ after.elements begins none nothing there waits is)
+      sound_with r h after q waits ranked (kept_waiting r.threads r.elements.elements r.waits h.waits thread (awaited_by wants) _ _ after.elements begins none nothing there waits is)
 
-  pub sound_waiting : serves r.elements.elements (step_of_waiter thread rank wants) ≡ None → (waits : List (Option Wait)) → waits ≡ slice_set r.waits thread (Some (going_on (awaited wants)))
+  pub sound_waiting : serves r.elements.elements (step_of_waiter thread rank wants) ≡ None → (waits : List (Option Wait)) → waits ≡ slice_set r.waits thread (Some (going_on (awaited_by wants)))
       → owners_of after ≡ owners_of r.elements → IsSound (record r { elements = after; waits = waits })
   sound_waiting nothing waits is owners = sound_ranked nothing r.sched (ranks_as r h after owners) waits is
 
@@ -278,25 +278,25 @@ module _ {C : Type 0} (r : RecordsView C) (h : IsSound r) (thread rank : ℕ) (w
 
   module _ (its : rank ≡ rank_of (state_of r) thread) where
     pub begin_is : (outcome : Option Reply) → serves r.elements.elements (step_of_waiter thread rank wants) ≡ outcome → (others : List (ℕ × Reply)) → wakes r.elements.elements (step_of_waiter thread rank wants) ≡ others
-        → (beginning (state_of r) thread wants until).effect ≡ Ok (Begun, all_woken (begun (with_elements (state_of r) after.elements) thread (awaited wants) until outcome) others)
+        → (beginning (state_of r) thread wants until).effect ≡ Ok (Begun, all_woken (wait_begun (with_elements (state_of r) after.elements) thread (awaited_by wants) until outcome) others)
     begin_is outcome served others ends =
         let s = state_of r in
         let step = begin_step s thread wants in
         let same : step_of_waiter thread rank wants ≡ step = ap (λ (m : ℕ). step_of_waiter thread m wants) its in
-        let f = λ (x : State). begun x thread (awaited wants) until (serves (elements s) step) in
+        let f = λ (x : State). wait_begun x thread (awaited_by wants) until (serves (elements s) step) in
         let made_so : element (elements s) step ≡ Ok (Begun, after.elements) = ap (element r.elements.elements) (sym same) ∙ made in
         let told : serves (elements s) step ≡ outcome = ap (serves r.elements.elements) (sym same) ∙ served in
         let woken_so : wakes (elements s) step ≡ others = ap (wakes r.elements.elements) (sym same) ∙ ends in
         ap (λ (o : Option Refusal). refused_by o (stepping_to f s step)) may
         ∙ (stepping-done f s step Begun after.elements made_so
-        ∙ (λ i. Ok (Begun, all_woken (begun (with_elements s after.elements) thread (awaited wants) until (told i)) (woken_so i))))
+        ∙ (λ i. Ok (Begun, all_woken (wait_begun (with_elements s after.elements) thread (awaited_by wants) until (told i)) (woken_so i))))
 
 -- a beginning that nothing refuses is of an element that is there
 abbrev begin_rest : State → ℕ → Wanted → Option Refusal
 begin_rest s thread wants = refused_first (range_refusal wants) (refused_first (waiter_refusal s thread wants) (refused_first (size_refusal (elements s) wants) (ring_refusal s thread wants)))
 
 -- a beginning that none of these refuses
-pub may_begin_all : (s : State) (thread : ℕ) (wants : Wanted) → is_there (elements s) (awaited wants) ≡ true → is_named s wants ≡ true → range_refusal wants ≡ None → waiter_refusal s thread wants ≡ None
+pub may_begin_all : (s : State) (thread : ℕ) (wants : Wanted) → is_there (elements s) (awaited_by wants) ≡ true → is_named s wants ≡ true → range_refusal wants ≡ None → waiter_refusal s thread wants ≡ None
     → size_refusal (elements s) wants ≡ None → would_ring s thread wants ≡ false → begin_refusal s thread wants ≡ None
 may_begin_all s thread wants has names range may size ring = rw (has, names, range, may, size, ring) refl
 
@@ -359,13 +359,13 @@ expired_by s left woke after thread served leaves serves ends wakes =
     ∙ (ap (all_woken (woken left_is thread TimedOut)) (sym serves) ∙ expired_as s thread))
 
 -- a claim that closes a ring
-pub claim_rings : (s : State) (thread : ℕ) (wants : Wanted) (until : Option ℕ) → is_there (elements s) (awaited wants) ≡ true → is_named s wants ≡ true → range_refusal wants ≡ None
+pub claim_rings : (s : State) (thread : ℕ) (wants : Wanted) (until : Option ℕ) → is_there (elements s) (awaited_by wants) ≡ true → is_named s wants ≡ true → range_refusal wants ≡ None
     → waiter_refusal s thread wants ≡ None → size_refusal (elements s) wants ≡ None → would_ring s thread wants ≡ true → (beginning s thread wants until).effect ≡ Err Deadlock
 claim_rings s thread wants until has names range may size ring = rw (has, names, range, may, size, ring) refl
 
 -- the elements and the ranks change, the wait begins, and its thread is blocked
 pub blocked_as : (s : State) (e : Elements) (thread : ℕ) (on : Awaited) (until : Option ℕ) (q : Sched) (waits : List (Option Wait)) (t : State) → q ≡ s.sched → waits ≡ slice_set s.waits thread (Some (going_on on))
     → t ≡ posted_if (is_past s.clock.now until) (with_sched (with_clock (record s { elements = e; sched = q; waits = waits }) (with_deadline s.clock thread until)) (unready q thread))
-    → t ≡ blocked (with_elements s e) thread on until
+    → t ≡ blocked_on (with_elements s e) thread on until
 blocked_as s e thread on until q waits t same set is =
     is ∙ (λ i. posted_if (is_past s.clock.now until) (with_sched (with_clock (record s { elements = e; sched = same i; waits = set i }) (with_deadline s.clock thread until)) (unready (same i) thread)))

@@ -16,8 +16,8 @@ use Rattle.evl_kernel.specs.state.States.{Elements, State, with_clock, with_sche
 use Rattle.evl_kernel.specs.calls.Effects.{Answered, lifted, leaving, if_done}
 use Rattle.evl_kernel.specs.calls.Elements.{ElementStep, elements, with_elements, element, wakes, serves, stepping_to, touched, on_mutex}
 use Rattle.evl_kernel.specs.calls.Mutexes as mutex
-use Rattle.evl_kernel.specs.waiting.Waits.{wait_at, with_wait, going_on, ended_by, is_past, blocked, begun, woken, all_woken}
-use Rattle.evl_kernel.specs.waiting.Beginnings.{awaited, begin_refusal, begin_step, beginning}
+use Rattle.evl_kernel.specs.waiting.Waits.{wait_at, with_wait, going_on, ended_by, is_past, blocked_on, wait_begun, woken, all_woken}
+use Rattle.evl_kernel.specs.waiting.Beginnings.{awaited_by, begin_refusal, begin_step, beginning}
 use Rattle.evl_kernel.specs.waiting.Endings.{drop_step, finish, goes_inband, inband_if, outcome_of}
 use Rattle.evl_kernel.specs.settling.Settling.{deadline_left}
 use Rattle.evl_kernel.specs.calls.TimerCalls.{posted_clock, posted_if}
@@ -99,12 +99,12 @@ module _ (P : State → Type 0) (k : KeptByWakes P) where
 
   -- a wait that begins, where it stays true with its deadline, and the event of line 0 that this may post
   module _ (timed : (s : State) (thread : ℕ) (until : Option ℕ) → P s → P (posted_if (is_past s.clock.now until) (with_clock s (with_deadline s.clock thread until)))) where
-    pub kept-blocked : (s : State) (thread : ℕ) (on : Awaited) (until : Option ℕ) → P s → P (blocked s thread on until)
+    pub kept-blocked : (s : State) (thread : ℕ) (on : Awaited) (until : Option ℕ) → P s → P (blocked_on s thread on until)
     kept-blocked s thread on until h =
         let waiting = with_wait s thread (Some (going_on on)) in
         timed (with_sched waiting (unready s.sched thread)) thread until (k.queued waiting (unready s.sched thread).ready (k.waiting s thread (Some (going_on on)) h))
 
-    pub kept-begun : (s : State) (thread : ℕ) (on : Awaited) (until : Option ℕ) (served : Option Reply) → P s → P (begun s thread on until served)
+    pub kept-begun : (s : State) (thread : ℕ) (on : Awaited) (until : Option ℕ) (served : Option Reply) → P s → P (wait_begun s thread on until served)
     kept-begun s thread on until None h = kept-blocked s thread on until h
     kept-begun s thread on until (Some outcome) h = k.waiting s thread (Some (ended_by outcome (going_on on))) h
 
@@ -112,4 +112,4 @@ module _ (P : State → Type 0) (k : KeptByWakes P) where
     leaves-beginning s thread wants until h =
         let step = begin_step s thread wants in
         leaves-refused P (begin_refusal s thread wants) _ (λ passed.
-        leaves-stepping (λ x. begun x thread (awaited wants) until (serves (elements s) step)) (λ x hx. kept-begun x thread (awaited wants) until (serves (elements s) step) hx) s step h)
+        leaves-stepping (λ x. wait_begun x thread (awaited_by wants) until (serves (elements s) step)) (λ x hx. kept-begun x thread (awaited_by wants) until (serves (elements s) step) hx) s step h)

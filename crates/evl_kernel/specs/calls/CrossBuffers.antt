@@ -9,7 +9,7 @@ use Rattle.evl_xbuf.specs.Streams as streams
 use Rattle.evl_xbuf.specs.Streams.{Service, Wrote, Got}
 use Rattle.evl_xbuf.specs.Xbufs as xbufs
 use Rattle.evl_xbuf.specs.Xbufs.{Xbuf, reading_stage, stream, writing_stage}
-use Rattle.evl_kernel.specs.calls.Effects.{Answered, replied}
+use Rattle.evl_kernel.specs.calls.Effects.{Answered, reply_by}
 
 pub data XbufStep : Type 0 where
   -- writes these bytes, all of them, from a stage
@@ -29,11 +29,11 @@ abbrev pub bytes_told : List ℕ → Reply
 bytes_told bytes = reply.Bytes (record { items = bytes })
 
 abbrev pub cross_buffer : Xbuf → XbufStep → Answered Xbuf
-cross_buffer x (write stage way bytes) = replied (λ served. reply.Done) (xbufs.try_write stage way bytes x)
-cross_buffer x (read stage way len) = replied (λ got. bytes_told got.0) (xbufs.try_read stage way len x)
+cross_buffer x (write stage way bytes) = reply_by (λ served. reply.Done) (xbufs.try_write stage way bytes x)
+cross_buffer x (read stage way len) = reply_by (λ got. bytes_told got.0) (xbufs.try_read stage way len x)
 cross_buffer x (room way) = Ok (reply.Number (streams.room (stream x way)), x)
-cross_buffer x (begin_write thread way bytes) = replied (λ served. reply.Begun) (xbufs.begin_write thread (writing_stage way) way bytes x)
-cross_buffer x (begin_read thread way len) = replied (λ got. reply.Begun) (xbufs.begin_read thread (reading_stage way) way len x)
+cross_buffer x (begin_write thread way bytes) = reply_by (λ served. reply.Begun) (xbufs.begin_write thread (writing_stage way) way bytes x)
+cross_buffer x (begin_read thread way len) = reply_by (λ got. reply.Begun) (xbufs.begin_read thread (reading_stage way) way len x)
 cross_buffer x (drop thread way) = Ok (reply.Done, (xbufs.drop_waiter thread way x).1)
 
 -- a thread whose wait a service ends, and with what
@@ -42,9 +42,9 @@ service_told (Wrote thread) = (thread, reply.Done)
 service_told (Got thread bytes) = (thread, bytes_told bytes)
 
 -- what a call answered, if it wasn't refused
-abbrev pub answered : {A : Type 0} → Result (A × Xbuf) Refusal → Option A
-answered (Ok (answer, after)) = Some answer
-answered (Err refusal) = None
+abbrev pub answer_in : {A : Type 0} → Result (A × Xbuf) Refusal → Option A
+answer_in (Ok (answer, after)) = Some answer
+answer_in (Err refusal) = None
 
 abbrev pub served_in : Option (List Service) → List Service
 served_in None = []
@@ -61,11 +61,11 @@ at_once (Some answer) = answer
 
 -- whom a step serves, in order
 abbrev pub services_of : Xbuf → XbufStep → List Service
-services_of x (write stage way bytes) = served_in (answered (xbufs.try_write stage way bytes x))
-services_of x (read stage way len) = served_beside (answered (xbufs.try_read stage way len x))
+services_of x (write stage way bytes) = served_in (answer_in (xbufs.try_write stage way bytes x))
+services_of x (read stage way len) = served_beside (answer_in (xbufs.try_read stage way len x))
 services_of x (room way) = []
-services_of x (begin_write thread way bytes) = served_in (at_once (answered (xbufs.begin_write thread (writing_stage way) way bytes x)))
-services_of x (begin_read thread way len) = served_beside (at_once (answered (xbufs.begin_read thread (reading_stage way) way len x)))
+services_of x (begin_write thread way bytes) = served_in (at_once (answer_in (xbufs.begin_write thread (writing_stage way) way bytes x)))
+services_of x (begin_read thread way len) = served_beside (at_once (answer_in (xbufs.begin_read thread (reading_stage way) way len x)))
 services_of x (drop thread way) = (xbufs.drop_waiter thread way x).0
 
 -- whose waits a step ends, and with what
@@ -82,6 +82,6 @@ read_at_once (Some (bytes, services)) = Some (bytes_told bytes)
 
 -- what a wait that begins is served with at once, if it is
 abbrev pub xbuf_serves : Xbuf → XbufStep → Option Reply
-xbuf_serves x (begin_write thread way bytes) = done_at_once (at_once (answered (xbufs.begin_write thread (writing_stage way) way bytes x)))
-xbuf_serves x (begin_read thread way len) = read_at_once (at_once (answered (xbufs.begin_read thread (reading_stage way) way len x)))
+xbuf_serves x (begin_write thread way bytes) = done_at_once (at_once (answer_in (xbufs.begin_write thread (writing_stage way) way bytes x)))
+xbuf_serves x (begin_read thread way len) = read_at_once (at_once (answer_in (xbufs.begin_read thread (reading_stage way) way len x)))
 xbuf_serves x _ = None

@@ -49,9 +49,9 @@ module _ {X : Type 0} where
   reply_in (Err refusal) = Err refusal
 
 -- what a part of the kernel answered in its own words, as a reply
-abbrev pub replied : {A X : Type 0} → (A → Reply) → Result (A × X) Refusal → Answered X
-replied f (Ok (answer, after)) = Ok (f answer, after)
-replied f (Err refusal) = Err refusal
+abbrev pub reply_by : {A X : Type 0} → (A → Reply) → Result (A × X) Refusal → Answered X
+reply_by f (Ok (answer, after)) = Ok (f answer, after)
+reply_by f (Err refusal) = Err refusal
 
 -- a reply, and this is left; or a refusal
 abbrev pub leaving : {X : Type 0} → X → Result Reply Refusal → Answered X

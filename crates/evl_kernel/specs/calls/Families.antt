@@ -33,7 +33,7 @@ pub data LineStep : Type 0 where
 
 abbrev pub line_effect : State → LineStep → Effect
 line_effect s (request line stage number tag) = line_call.request s line stage number tag
-line_effect s (free line stage) = line_call.free s line stage
+line_effect s (free line stage) = line_call.free_line s line stage
 line_effect s (arrive line) = line_call.arrive s line
 line_effect s (post stage line) = line_call.post s stage line
 line_effect s (stall stage) = line_call.stall s stage

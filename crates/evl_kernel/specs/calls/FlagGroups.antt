@@ -6,8 +6,8 @@ use Rattle.evl_base.specs.declared.take.Take.{Take}
 use Rattle.evl_sync.specs.declared.flag_waiter.FlagWaiter.{FlagWaiter}
 use Rattle.evl_sync.specs.Steps.{unless}
 use Rattle.evl_sync.specs.FlagGroups as flags
-use Rattle.evl_sync.specs.FlagGroups.{FlagGroup, post_refusal, walked}
-use Rattle.evl_kernel.specs.calls.Effects.{Answered, replied}
+use Rattle.evl_sync.specs.FlagGroups.{FlagGroup, post_refusal, walk_waiters}
+use Rattle.evl_kernel.specs.calls.Effects.{Answered, reply_by}
 
 pub data FlagStep : Type 0 where
   -- takes bits of a kind, whoever waits
@@ -22,8 +22,8 @@ pub data FlagStep : Type 0 where
   drop : ℕ → FlagStep
 
 abbrev pub flag_group : FlagGroup → FlagStep → Answered FlagGroup
-flag_group f (take kind) = replied (λ got. reply.Bits got) (flags.try_take kind f)
-flag_group f (post bits) = replied (λ served. reply.Done) (unless (post_refusal bits) (Ok (walked (flags.post bits f))))
+flag_group f (take kind) = reply_by (λ got. reply.Bits got) (flags.try_take kind f)
+flag_group f (post bits) = reply_by (λ served. reply.Done) (unless (post_refusal bits) (Ok (walk_waiters (flags.post bits f))))
 flag_group f peek = Ok (reply.Bits f.bits, f)
 flag_group f (begin w) = Ok (reply.Begun, (flags.begin_take w f).1)
 flag_group f (drop thread) = Ok (reply.Done, flags.drop_waiter thread f)

@@ -8,7 +8,7 @@ use Rattle.evl_base.specs.declared.numbers.ThreadId.{ThreadId}
 use Rattle.evl_base.specs.declared.play.Play.{Play}
 use Rattle.evl_base.specs.declared.refusal.Refusal.{Refusal}
 use Rattle.evl_base.specs.declared.reply.Reply.{Reply}
-use Rattle.evl_mutex.specs.Mutexes.{Mutex as MutexRecorded, claimed, has_ceiling, is_open_to, raised, released}
+use Rattle.evl_mutex.specs.Mutexes.{Mutex as MutexRecorded, claimed_mutex, has_ceiling, is_open_to, raised_mutex, released_mutex}
 use Rattle.evl_kernel.specs.state.States.{State}
 use Rattle.evl_kernel.specs.calls.Mutexes.{handed_told}
 use Rattle.evl_kernel.specs.waiting.Waits.{wait_at}
@@ -37,21 +37,21 @@ GotTheSame old new = (j t : ℕ) → has_got new j t ≡ has_got old j t
 -- an accepted claim: the caller waits for the mutex by its rank, and names who owns it
 pub record ClaimLeaves (old : State) (caller n owner : ℕ) (new : State) : Type 0 where
   pub was : MutexRecorded
-  pub changes : Changes n old was (claimed was (record { thread = caller; rank = rank_of old caller }) owner) new
+  pub changes : Changes n old was (claimed_mutex was (record { thread = caller; rank = rank_of old caller }) owner) new
   pub got : GotTheSame old new
 
 -- an accepted release: the first waiter, if there is one, gets the mutex
 pub record ReleaseLeaves (old : State) (n : ℕ) (reply : Reply) (new : State) : Type 0 where
   pub was : MutexRecorded
-  pub told : reply ≡ handed_told (released was)
-  pub changes : Changes n old was (released was).after new
-  pub got : (t : ℕ) → has_got new n t ≡ (option_map_or (λ next. next == t) (released was).next false || has_got old n t)
+  pub told : reply ≡ handed_told (released_mutex was)
+  pub changes : Changes n old was (released_mutex was).after new
+  pub got : (t : ℕ) → has_got new n t ≡ (option_map_or (λ next. next == t) (released_mutex was).next false || has_got old n t)
   pub elsewhere : (j t : ℕ) → j ≢ n → has_got new j t ≡ has_got old j t
 
 pub record RaiseLeaves (old : State) (n thread : ℕ) (new : State) : Type 0 where
   pub was : MutexRecorded
   pub ceiling : has_ceiling was ≡ true
-  pub changes : Changes n old was (raised was thread) new
+  pub changes : Changes n old was (raised_mutex was thread) new
   pub got : GotTheSame old new
 
 -- the end of a wait: of the mutexes all stays, and its thread has got none any more

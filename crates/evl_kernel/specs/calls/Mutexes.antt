@@ -20,20 +20,20 @@ pub data MutexStep : Type 0 where
   -- a waiter leaves, as its deadline fell due
   drop : ℕ → MutexStep
 
-abbrev pub named : ℕ → ThreadId
-named thread = record { 0 = thread }
+abbrev pub thread_named : ℕ → ThreadId
+thread_named thread = record { 0 = thread }
 
 -- the next owner, and whether more wait
 abbrev pub handed_told : Handing → Reply
-handed_told h = reply.Handed (option_map named h.next) h.more
+handed_told h = reply.Handed (option_map thread_named h.next) h.more
 
 abbrev pub mutex : Mutex → MutexStep → Answered Mutex
-mutex m (claim w owner) = Ok (reply.Begun, recorded.claimed m w owner)
-mutex m (release thread) = if is_open_to thread m then Ok (handed_told (recorded.released m), (recorded.released m).after) else Err NotOwner
-mutex m (raise thread) = if has_ceiling m then (if is_some m.owner then Err Busy else done (recorded.raised m thread)) else Err Invalid
+mutex m (claim w owner) = Ok (reply.Begun, recorded.claimed_mutex m w owner)
+mutex m (release thread) = if is_open_to thread m then Ok (handed_told (recorded.released_mutex m), (recorded.released_mutex m).after) else Err NotOwner
+mutex m (raise thread) = if has_ceiling m then (if is_some m.owner then Err Busy else done (recorded.raised_mutex m thread)) else Err Invalid
 mutex m (drop thread) = done (recorded.drop_waiter thread m)
 
 -- whose wait a step ends, and with what
 abbrev pub mutex_wakes : Mutex → MutexStep → List (ℕ × Reply)
-mutex_wakes m (release thread) = one_served (recorded.released m).next
+mutex_wakes m (release thread) = one_served (recorded.released_mutex m).next
 mutex_wakes m _ = []

@@ -6,7 +6,7 @@ use Rattle.evl_sync.specs.declared.waiter.Waiter.{Waiter}
 use Rattle.evl_sync.specs.Queues.{first_of}
 use Rattle.evl_sync.specs.Semaphores as sem
 use Rattle.evl_sync.specs.Semaphores.{Semaphore}
-use Rattle.evl_kernel.specs.calls.Effects.{Answered, replied}
+use Rattle.evl_kernel.specs.calls.Effects.{Answered, reply_by}
 
 pub data SemStep : Type 0 where
   -- lowers the count
@@ -21,8 +21,8 @@ pub data SemStep : Type 0 where
   drop : ℕ → SemStep
 
 abbrev pub semaphore : Semaphore → SemStep → Answered Semaphore
-semaphore q get = replied (λ u. reply.Done) (sem.try_get q)
-semaphore q put = replied (λ u. reply.Done) (sem.put q)
+semaphore q get = reply_by (λ u. reply.Done) (sem.try_get q)
+semaphore q put = reply_by (λ u. reply.Done) (sem.put_count q)
 semaphore q peek = Ok (reply.Count (sem.peek q), q)
 semaphore q (begin w) = Ok (reply.Begun, (sem.begin_get w q).1)
 semaphore q (drop thread) = Ok (reply.Done, sem.drop_waiter thread q)

@@ -31,8 +31,8 @@ abbrev pub what_call_does : State → ℕ → Call → Told
 what_call_does s caller asked = told_unless (general_refusal s caller asked) (serving s caller asked)
 
 -- the effects alone
-abbrev pub served : State → ℕ → Call → Effect
-served s caller asked = (serving s caller asked).effect
+abbrev pub serve_call : State → ℕ → Call → Effect
+serve_call s caller asked = (serving s caller asked).effect
 
 abbrev pub answer : State → ℕ → Call → Effect
 answer s caller asked = (what_call_does s caller asked).effect

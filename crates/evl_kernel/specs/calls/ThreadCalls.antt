@@ -16,7 +16,7 @@ use Rattle.evl_mutex.specs.Ranks.{effective}
 use Rattle.evl_base.specs.Limits.{thread_limit}
 use Rattle.evl_kernel.specs.state.States.{State, with_sched}
 use Rattle.evl_kernel.specs.calls.Effects.{Effect, done, tells, refused_by}
-use Rattle.evl_kernel.specs.calls.Mutexes.{named}
+use Rattle.evl_kernel.specs.calls.Mutexes.{thread_named}
 
 -- the ranks that recorded owners give: each thread's own, its ceilings, and those of the threads that wait for it
 unfoldable pub rank_by : (ℕ → ℕ) → List Mutex → ℕ → ℕ
@@ -50,7 +50,7 @@ abbrev pub set_stage : State → ℕ → Stage → Effect
 set_stage s thread stage = refused_by (stranger_refusal s.sched thread) (done (with_sched s (threads.stage_set s.sched thread stage)))
 
 abbrev pub pick : State → Effect
-pick s = Ok (reply.Chosen (option_map named (picked (rank_of s) s.sched)), s)
+pick s = Ok (reply.Chosen (option_map thread_named (picked (rank_of s) s.sched)), s)
 
 abbrev pub tell_rank : State → ℕ → Effect
 tell_rank s thread = refused_by (stranger_refusal s.sched thread) (tells (rank_of s thread) s)

@@ -6,7 +6,7 @@ use Rattle.evl_pipeline.specs.Lines as lines
 use Rattle.evl_clock.specs.Timers.{is_timer_allowed}
 use Rattle.evl_clock.specs.Clocks as clocks
 use Rattle.evl_clock.specs.Dues.{is_due}
-use Rattle.evl_kernel.specs.state.States.{State, Banked, with_lines, with_clock, moved, come_home}
+use Rattle.evl_kernel.specs.state.States.{State, Banked, with_lines, with_clock, with_banked, come_home}
 use Rattle.evl_kernel.specs.calls.Effects.{Effect, done, tells, unless, known, refused_by}
 use Rattle.evl_kernel.specs.calls.ThreadCalls.{paid_between}
 
@@ -22,34 +22,34 @@ abbrev pub alarmed : State → State
 alarmed s = posted_if (is_due s.clock) s
 
 -- the date moves
-abbrev pub later : State → ℕ → State
-later s delta = with_clock s (clocks.advanced s.clock delta)
+abbrev pub at_date : State → ℕ → State
+at_date s delta = with_clock s (clocks.advanced s.clock delta)
 
 -- who is picked before the date moves is charged, and a new second refills the quota groups
 abbrev pub paid : State → ℕ → State
 paid s delta = paid_between s s.clock.now delta (clocks.advanced s.clock delta).now
 
 abbrev pub tick : State → ℕ → Effect
-tick s delta = refused_by (clocks.advance_refusal s.clock delta) (done (alarmed (later (paid s delta) delta)))
+tick s delta = refused_by (clocks.advance_refusal s.clock delta) (done (alarmed (at_date (paid s delta) delta)))
 
 abbrev pub now : State → Effect
 now s = tells s.clock.now s
 
 -- the callback leaves its bank place for the timer of the least free number
-abbrev pub placed : State → ℕ → ℕ → Banked → Option ℕ → Effect
-placed s number tag b None = Err Limit
-placed s number tag b (Some n) = tells n (moved (with_clock s (clocks.with_new_timer s.clock n number tag)) false number b)
+abbrev pub place_timer : State → ℕ → ℕ → Banked → Option ℕ → Effect
+place_timer s number tag b None = Err Limit
+place_timer s number tag b (Some n) = tells n (with_banked (with_clock s (clocks.with_new_timer s.clock n number tag)) false number b)
 
 abbrev pub new_timer : State → ℕ → ℕ → Effect
 new_timer s number tag = known (slice_get s.bank number) (λ b.
-    unless ((not (is_timer_allowed b.handler.kinds), Invalid) ∷ (not b.home, Busy) ∷ []) (placed s number tag b (clocks.free_place s.clock)))
+    unless ((not (is_timer_allowed b.handler.kinds), Invalid) ∷ (not b.home, Busy) ∷ []) (place_timer s number tag b (clocks.free_place s.clock)))
 
 -- a timer runs; a date that is not after now posts line 0 at once
-abbrev pub started : State → ℕ → ℕ → ℕ → State
-started s n date interval = posted_if (nat_le date s.clock.now) (with_clock s (clocks.start s.clock n date interval))
+abbrev pub start_timer : State → ℕ → ℕ → ℕ → State
+start_timer s n date interval = posted_if (nat_le date s.clock.now) (with_clock s (clocks.start s.clock n date interval))
 
 abbrev pub start_timer : State → ℕ → ℕ → ℕ → Effect
-start_timer s n date interval = refused_by (clocks.timer_refusal s.clock n) (done (started s n date interval))
+start_timer s n date interval = refused_by (clocks.timer_refusal s.clock n) (done (start_timer s n date interval))
 
 -- line 0 stays pending
 abbrev pub stop_timer : State → ℕ → Effect

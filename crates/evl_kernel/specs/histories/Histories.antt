@@ -40,11 +40,11 @@ pub record History : Type 0 where
   pub state : State
 
 -- the records at its beginning
-abbrev pub opened : History → State
-opened h = opening h.board h.bank
+abbrev pub opened_kernel : History → State
+opened_kernel h = opening h.board h.bank
 
 abbrev pub IsLegal : History → Type 0
-IsLegal h = Run (opened h) h.entries h.plays h.state
+IsLegal h = Run (opened_kernel h) h.entries h.plays h.state
 
 -- new is old with one entry and its plays behind
 pub record Extends (old new : History) (entry : Entry) (plays : List Play) : Type 0 where

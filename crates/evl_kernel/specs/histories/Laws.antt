@@ -11,8 +11,8 @@ use Rattle.evl_sched.specs.Threads.{stage_of}
 use Rattle.evl_kernel.specs.state.Limits.{play_limit}
 use Rattle.evl_kernel.specs.state.States.{State}
 use Rattle.evl_kernel.specs.calls.Families.{moves_caller, task_of}
-use Rattle.evl_kernel.specs.histories.Histories.{Step, Run, History, IsLegal, opened}
-use Rattle.evl_kernel.specs.histories.Replays.{stepped}
+use Rattle.evl_kernel.specs.histories.Histories.{Step, Run, History, IsLegal, opened_kernel}
+use Rattle.evl_kernel.specs.histories.Replays.{step_outcome}
 use Rattle.evl_kernel.specs.histories.Worlds.{outside_inband, played_outside, RequestsNoActions}
 use Rattle.evl_base.specs.declared.refusal.Refusal.{Refusal}
 use Rattle.evl_base.specs.declared.reply.Reply.{Reply}
@@ -33,7 +33,7 @@ abbrev pub StepIsComputed : Type 0
 StepIsComputed =
     (old : State) (caller : ℕ) (asked : Call) (reply : Result Reply Refusal) (plays : List Play) (new : State)
     → Step old caller asked reply plays new → length plays ≤ play_limit
-    → stepped old caller asked ≡ record { reply = reply; plays = plays; touches = (stepped old caller asked).touches; after = new }
+    → step_outcome old caller asked ≡ record { reply = reply; plays = plays; touches = (step_outcome old caller asked).touches; after = new }
 
 -- a line is pending out-of-band only while the out-of-band stage is stalled
 abbrev pub OobPendsOnlyWhileStalled : Type 0
@@ -50,7 +50,7 @@ abbrev pub TwoWorlds : Type 0
 TwoWorlds =
     (h other : History) → IsLegal h → IsLegal other → other.board ≡ h.board → other.bank ≡ h.bank
     → map call_of (outside_inband h.entries) ≡ map call_of (outside_inband other.entries)
-    → All (RequestsNoActions (opened h)) h.entries → All (RequestsNoActions (opened other)) other.entries
+    → All (RequestsNoActions (opened_kernel h)) h.entries → All (RequestsNoActions (opened_kernel other)) other.entries
     → (played_outside h.plays ≡ played_outside other.plays) × (map (λ e. e.reply) (outside_inband h.entries) ≡ map (λ e. e.reply) (outside_inband other.entries))
 
 -- from every state of a legal history over sound handlers every call has a step of few plays, which is the one that
@@ -58,8 +58,8 @@ TwoWorlds =
 abbrev pub EveryCallSteps : Type 0
 EveryCallSteps =
     (h : History) → All (λ handler. IsSound handler.kinds handler.plan) h.bank → IsLegal h → (caller : ℕ) (asked : Call)
-    → Step h.state caller asked (stepped h.state caller asked).reply (stepped h.state caller asked).plays (stepped h.state caller asked).after
-    × (length (stepped h.state caller asked).plays ≤ play_limit)
+    → Step h.state caller asked (step_outcome h.state caller asked).reply (step_outcome h.state caller asked).plays (step_outcome h.state caller asked).after
+    × (length (step_outcome h.state caller asked).plays ≤ play_limit)
 
 -- no call of another thread, and no play, changes the stage of a thread
 abbrev pub StagesAreTheThreadsOwn : Type 0

@@ -13,25 +13,25 @@ use Rattle.evl_kernel.specs.calls.CrossBuffers.{cross_buffer}
 use Rattle.evl_kernel.specs.calls.Mutexes.{mutex}
 use Rattle.evl_kernel.specs.calls.Elements.{Touch, elements, element, part, its_sem, its_flags, its_xbuf, its_mutex}
 use Rattle.evl_kernel.specs.calls.Serving.{what_call_does}
-use Rattle.evl_kernel.specs.histories.Histories.{Step, History, opened, IsLegal}
+use Rattle.evl_kernel.specs.histories.Histories.{Step, History, opened_kernel, IsLegal}
 use Rattle.evl_kernel.specs.histories.Replays.{outcomes, touches_of, led_to, touches}
 
 -- a legal history is what its entries replay to
 abbrev pub HistoriesAreReplayed : Type 0
 HistoriesAreReplayed =
     (h : History) → IsLegal h
-    → (map (λ o. o.reply) (outcomes (opened h) h.entries) ≡ map (λ e. e.reply) h.entries)
-    × (flat_map (λ o. o.plays) (outcomes (opened h) h.entries) ≡ h.plays)
-    × (led_to (opened h) h.entries ≡ h.state)
+    → (map (λ o. o.reply) (outcomes (opened_kernel h) h.entries) ≡ map (λ e. e.reply) h.entries)
+    × (flat_map (λ o. o.plays) (outcomes (opened_kernel h) h.entries) ≡ h.plays)
+    × (led_to (opened_kernel h) h.entries ≡ h.state)
 
 -- nothing but their own steps changes the elements, and each step was answered by the elements as they stood
 abbrev pub ElementsRunByThemselves : Type 0
-ElementsRunByThemselves = (h : History) → IsLegal h → Runs element (elements (opened h)) (touches h) (elements h.state)
+ElementsRunByThemselves = (h : History) → IsLegal h → Runs element (elements (opened_kernel h)) (touches h) (elements h.state)
 
 -- the part of one element is a run of its machine, from its opening record to the one at the end
 abbrev pub RunsByItself : {X P : Type 0} → (X → P → Answered X) → (Elements → Option X) → (Touch → Option (Made P)) → Type 0
 RunsByItself {X} machine its own =
-    (h : History) → IsLegal h → (x : X) → its (elements (opened h)) ≡ Some x
+    (h : History) → IsLegal h → (x : X) → its (elements (opened_kernel h)) ≡ Some x
     → (y : X) × (its (elements h.state) ≡ Some y) × Runs machine x (part own (touches h)) y
 
 abbrev pub SemaphoresRunByThemselves : Type 0

@@ -7,12 +7,12 @@ use Rattle.evl_base.specs.declared.reply.Reply.{Reply}
 use Rattle.evl_base.specs.declared.play.Play.{Play}
 use Rattle.evl_base.specs.declared.entry.Entry.{Entry}
 use Rattle.evl_kernel.specs.state.Limits.{play_limit}
-use Rattle.evl_kernel.specs.settling.Paths.{walked}
+use Rattle.evl_kernel.specs.settling.Paths.{walk_path}
 use Rattle.evl_kernel.specs.state.States.{State}
 use Rattle.evl_kernel.specs.calls.Effects.{Effect}
 use Rattle.evl_kernel.specs.calls.Elements.{Touch, Told}
 use Rattle.evl_kernel.specs.calls.Serving.{what_call_does}
-use Rattle.evl_kernel.specs.histories.Histories.{History, opened}
+use Rattle.evl_kernel.specs.histories.Histories.{History, opened_kernel}
 use Rattle.evl_kernel.specs.settling.Settling.{Settling, Move, next_move, after_call}
 
 -- what a call answers, plays and leaves, and the steps of elements that it and its plays made
@@ -29,21 +29,21 @@ abbrev pub touches_in : List Move → List Touch
 touches_in moves = flat_map (λ move. move.touches) moves
 
 -- what is played until nothing is playable, at most so many plays
-abbrev pub settled : ℕ → State → List Move × Settling
-settled most s = walked next_move most (after_call s)
+abbrev pub settled_moves : ℕ → State → List Move × Settling
+settled_moves most s = walk_path next_move most (after_call s)
 
 abbrev pub outcome_of : ℕ → State → List Touch → Effect → Outcome
 outcome_of most s own (Err refusal) = record { reply = Err refusal; plays = []; touches = own; after = s }
 outcome_of most s own (Ok (given, changed)) =
-    let path = settled most changed in
+    let path = settled_moves most changed in
     record { reply = Ok given; plays = plays_in path.0; touches = own ++ touches_in path.0; after = path.1.state }
 
 abbrev pub outcome : ℕ → State → Told → Outcome
 outcome most s told = outcome_of most s told.touches told.effect
 
 -- as far as one call may play
-abbrev pub stepped : State → ℕ → Call → Outcome
-stepped s caller asked = outcome play_limit s (what_call_does s caller asked)
+abbrev pub step_outcome : State → ℕ → Call → Outcome
+step_outcome s caller asked = outcome play_limit s (what_call_does s caller asked)
 
 -- an entry counts its plays
 abbrev pub replayed : State → Entry → Outcome
@@ -64,4 +64,4 @@ led_to s [] = s
 led_to s (e ∷ entries) = led_to (replayed s e).after entries
 
 abbrev pub touches : History → List Touch
-touches h = touches_of (opened h) h.entries
+touches h = touches_of (opened_kernel h) h.entries

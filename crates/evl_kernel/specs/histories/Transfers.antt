@@ -10,7 +10,7 @@ use Rattle.evl_kernel.specs.calls.CrossBuffers as through
 use Rattle.evl_kernel.specs.calls.CrossBuffers.{XbufStep}
 use Rattle.evl_kernel.specs.calls.Effects.{Made}
 use Rattle.evl_kernel.specs.calls.Elements.{elements, part, its_xbuf}
-use Rattle.evl_kernel.specs.histories.Histories.{History, IsLegal, opened}
+use Rattle.evl_kernel.specs.histories.Histories.{History, IsLegal, opened_kernel}
 use Rattle.evl_kernel.specs.histories.Replays.{touches}
 
 abbrev pub same_way : Way → Way → Bool
@@ -44,5 +44,5 @@ pub record GoesThrough (f : Flow) (end : Stream) : Type 0 where
 -- accepted from all
 abbrev pub ReadsFollowWritesThere : Type 0
 ReadsFollowWritesThere =
-    (h : History) → IsLegal h → (n : ℕ) (x : Xbuf) → slice_get (elements (opened h)).xbufs n ≡ Some x → (way : Way)
+    (h : History) → IsLegal h → (n : ℕ) (x : Xbuf) → slice_get (elements (opened_kernel h)).xbufs n ≡ Some x → (way : Way)
     → (y : Xbuf) × (slice_get (elements h.state).xbufs n ≡ Some y) × GoesThrough (run (calls_on way (part (its_xbuf n) (touches h))) (stream x way)) (stream y way)

@@ -9,7 +9,7 @@ use Rattle.evl_base.specs.declared.reply.Reply.{Reply}
 use Rattle.evl_kernel.specs.declared.waits.Awaited.{Awaited}
 use Rattle.evl_kernel.specs.state.States.{State}
 use Rattle.evl_kernel.specs.waiting.Waits.{wait_at}
-use Rattle.evl_kernel.specs.waiting.Beginnings.{awaited}
+use Rattle.evl_kernel.specs.waiting.Beginnings.{awaited_by}
 use Rattle.evl_kernel.specs.calls.Families.{Task, begins, ends, task_of}
 use Rattle.evl_kernel.specs.histories.Histories.{History, IsLegal, Step}
 
@@ -19,7 +19,7 @@ awaited_at s t = option_map (λ w. w.on) (wait_at s t)
 
 -- and once this call was answered: what was begun is awaited, what was finished isn't any more
 abbrev pub awaited_after : Task → Result Reply Refusal → Option Awaited → Option Awaited
-awaited_after (begins wants until) (Ok reply) before = Some (awaited wants)
+awaited_after (begins wants until) (Ok reply) before = Some (awaited_by wants)
 awaited_after (ends keep) (Ok reply) before = None
 awaited_after _ _ before = before
 

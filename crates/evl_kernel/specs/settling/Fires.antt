@@ -12,7 +12,7 @@ use Rattle.evl_clock.specs.Clocks.{timer_at}
 use Rattle.evl_kernel.specs.state.States.{State, date}
 use Rattle.evl_kernel.specs.calls.Effects.{Effect}
 use Rattle.evl_kernel.specs.calls.Serving.{answer}
-use Rattle.evl_kernel.specs.settling.Settling.{Settling, next_play, given, timer_given, after_call}
+use Rattle.evl_kernel.specs.settling.Settling.{Settling, next_play, answer_given, timer_given, after_call}
 use Rattle.evl_kernel.specs.histories.Histories.{History}
 use Rattle.evl_kernel.specs.state.Callbacks.{Whereabouts, Stands}
 
@@ -27,7 +27,7 @@ module _ {C : Type 0} (gives : C → Fire → Answer → Type 0) (w : Whereabout
   -- that is one higher, and the date.
   abbrev pub Called : State → Play → Type 0
   Called s (Line line stage count handled) =
-      (at : Installed ℕ) × (installed_at s.lines stage line.0 ≡ Some at) × Gave at.callback (fire_of at stage line.0 (date s)) (given s at)
+      (at : Installed ℕ) × (installed_at s.lines stage line.0 ≡ Some at) × Gave at.callback (fire_of at stage line.0 (date s)) (answer_given s at)
   -- a play of a timer calls its callback: with line 0 and the out-of-band stage, the tag of its making, a count that is one
   -- higher, and the date
   Called s (Timer id count missed handled) =

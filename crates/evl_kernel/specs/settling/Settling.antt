@@ -14,7 +14,7 @@ use Rattle.evl_pipeline.specs.Lines as lines
 use Rattle.evl_clock.specs.declared.due.Item.{Item}
 use Rattle.evl_clock.specs.declared.due.Item.TheVariants as item
 use Rattle.evl_clock.specs.declared.timer.Timer.{Timer}
-use Rattle.evl_clock.specs.Timers.{made, missed}
+use Rattle.evl_clock.specs.Timers.{made, missed_periods}
 use Rattle.evl_clock.specs.Clocks.{timer_at}
 use Rattle.evl_clock.specs.Dues.{next_due, is_due}
 use Rattle.evl_clock.specs.ClockSteps.{fired}
@@ -47,13 +47,13 @@ acting s line Propagate = left s (untouched (line_call.post s Inband line))
 acting s line (PostOob other) = left s (untouched (line_call.post s Oob other.0))
 acting s line (StopTimer timer) = left s (untouched (timer_call.stop_timer s timer.0))
 
-abbrev pub acted : State → ℕ → Action → State
-acted s line action = (acting s line action).1
+abbrev pub after_action : State → ℕ → Action → State
+after_action s line action = (acting s line action).1
 
 -- in order
 abbrev pub all_acting : State → ℕ → List Action → Left
 all_acting s line [] = ([], s)
-all_acting s line (action ∷ actions) = ((acting s line action).0 ++ (all_acting (acted s line action) line actions).0, (all_acting (acted s line action) line actions).1)
+all_acting s line (action ∷ actions) = ((acting s line action).0 ++ (all_acting (after_action s line action) line actions).0, (all_acting (after_action s line action) line actions).1)
 
 abbrev pub all_acted : State → ℕ → List Action → State
 all_acted s line actions = (all_acting s line actions).1
@@ -72,18 +72,18 @@ after_call s = record { state = s; inband = 0; in_clock = false }
 abbrev pub responding : State → ℕ → Answer → Left
 responding s line answer = (if answer.handled then (all_acting s line answer.actions.items).0 else [], if answer.handled then all_acted s line answer.actions.items else s)
 
-abbrev pub answered : State → ℕ → Answer → State
-answered s line answer = (responding s line answer).1
+abbrev pub after_answer : State → ℕ → Answer → State
+after_answer s line answer = (responding s line answer).1
 
 -- a callback is called once: it answers its plan
-abbrev pub given : State → lines.Installed ℕ → Answer
-given s at = answer_of (plan_at s at.callback) (one_more at.count)
+abbrev pub answer_given : State → lines.Installed ℕ → Answer
+answer_given s at = answer_of (plan_at s at.callback) (one_more at.count)
 
 abbrev pub line_left : State → Stage → ℕ → lines.Installed ℕ → Left
-line_left s stage line at = responding (with_lines s (lines.played s.lines stage line at (given s at).handled)) line (given s at)
+line_left s stage line at = responding (with_lines s (lines.played s.lines stage line at (answer_given s at).handled)) line (answer_given s at)
 
 abbrev pub line_played : State → Stage → ℕ → lines.Installed ℕ → Play × State
-line_played s stage line at = (play.Line (record { 0 = line }) stage (one_more at.count) (given s at).handled, (line_left s stage line at).1)
+line_played s stage line at = (play.Line (record { 0 = line }) stage (one_more at.count) (answer_given s at).handled, (line_left s stage line at).1)
 
 abbrev pub clock_played : State → Play × State
 clock_played s = (play.Clock, with_lines s (lines.with_side s.lines Oob (lines.cleared s.lines.oob 0)))
@@ -97,7 +97,7 @@ abbrev pub timer_left : State → ℕ → Timer ℕ → Left
 timer_left s n t = responding (with_clock s (fired s.clock n t)) 0 (timer_given s t)
 
 abbrev pub timer_played : State → ℕ → Timer ℕ → Play × State
-timer_played s n t = (play.Timer (record { 0 = n }) (one_more t.count) (missed s.clock.now t.state) (timer_given s t).handled, (timer_left s n t).1)
+timer_played s n t = (play.Timer (record { 0 = n }) (one_more t.count) (missed_periods s.clock.now t.state) (timer_given s t).handled, (timer_left s n t).1)
 
 -- in the place of a timer where there is none
 abbrev pub no_timer : Timer ℕ

@@ -9,8 +9,8 @@ use Rattle.evl_base.specs.declared.entry.Entry.{Entry}
 use Rattle.evl_kernel.specs.state.Limits.{play_limit}
 use Rattle.evl_kernel.specs.state.States.{State}
 use Rattle.evl_kernel.specs.calls.Effects.{Effect}
-use Rattle.evl_kernel.specs.calls.Serving.{served, answer}
-use Rattle.evl_kernel.specs.histories.Histories.{History, Extends, opened}
+use Rattle.evl_kernel.specs.calls.Serving.{serve_call, answer}
+use Rattle.evl_kernel.specs.histories.Histories.{History, Extends, opened_kernel}
 use Rattle.evl_base.specs.declared.board.Board.{Board}
 use Rattle.evl_pipeline.specs.declared.plan.Plan.{Plan}
 use Rattle.evl_pipeline.specs.Lines as lines
@@ -70,7 +70,7 @@ Has old effect (Err refusal) new = (effect ≡ Err refusal) × (new ≡ old)
 
 -- apart from the refusals that all calls have
 abbrev pub Served : State → ℕ → Call → Result Reply Refusal → State → Type 0
-Served old caller asked result new = Has old (served old caller asked) result new
+Served old caller asked result new = Has old (serve_call old caller asked) result new
 
 abbrev pub Answers : State → ℕ → Call → Result Reply Refusal → State → Type 0
 Answers old caller asked result new = Has old (answer old caller asked) result new
@@ -79,7 +79,7 @@ Answers old caller asked result new = Has old (answer old caller asked) result n
 pub record IsOpened {C : Type 0} (declared : C → ℕ) (plan : C → Plan) (board : Board) (bank : List C) (limit : ℕ) (k : KernelView C) : Type 0 where
   pub board_is : k.history.board ≡ board
   pub bank_is : k.history.bank ≡ map (λ callback. record { kinds = declared callback; plan = plan callback }) bank
-  pub state : k.history.state ≡ opened k.history
+  pub state : k.history.state ≡ opened_kernel k.history
   pub entries : k.history.entries ≡ []
   pub plays : k.history.plays ≡ []
   pub limit_is : k.limit ≡ limit

@@ -1,6 +1,6 @@
 -- The records of a new kernel.
 use Rattle.std.specs.Prelude.{ℕ, Bool, true, ◌&&◌, nat_le, List, map, replicate, None}
-use Rattle.evl_base.specs.Limits.{within}
+use Rattle.evl_base.specs.Limits.{is_within}
 use Rattle.evl_base.specs.Board.{board_fits}
 use Rattle.evl_base.specs.declared.board.Board.{Board}
 use Rattle.evl_pipeline.specs.Lines as lines
@@ -18,7 +18,7 @@ at_home h = record { handler = h; home = true }
 
 -- the elements of a board
 abbrev pub all_opened : Board → Elements
-all_opened board = record { sems = map semaphores.opened board.sems.items; flags = map flags.opened board.flags.items; xbufs = map (λ sizes. xbufs.opened sizes.0 sizes.1) board.xbufs.items; mutexes = map mutexes.opened board.mutexes.items }
+all_opened board = record { sems = map semaphores.opened_semaphore board.sems.items; flags = map flags.opened_group board.flags.items; xbufs = map (λ sizes. xbufs.opened_xbuf sizes.0 sizes.1) board.xbufs.items; mutexes = map mutexes.opened_mutex board.mutexes.items }
 
 -- every callback is in its bank place, no line has anything, there are no timers, no thread is attached, and nobody waits
 abbrev pub opening : Board → List Handler → State
@@ -34,4 +34,4 @@ opening board bank = record {
 
 -- the board, the bank and the limit of the history are within their limits
 abbrev pub can_open : Board → ℕ → ℕ → Bool
-can_open board callbacks limit = board_fits board && nat_le callbacks callback_limit && within 1 history_limit limit
+can_open board callbacks limit = board_fits board && nat_le callbacks callback_limit && is_within 1 history_limit limit

@@ -59,12 +59,12 @@ abbrev pub with_waits : State → List (Option Wait) → State
 with_waits s waits = record s { waits = waits }
 
 -- the callback of this number is in its bank place, or out of it
-abbrev pub moved : State → Bool → ℕ → Banked → State
-moved s home number b = record s { bank = slice_set s.bank number (record b { home = home }) }
+abbrev pub with_banked : State → Bool → ℕ → Banked → State
+with_banked s home number b = record s { bank = slice_set s.bank number (record b { home = home }) }
 
 -- the callback of this number is back in its bank place
 abbrev pub come_home : State → ℕ → State
-come_home s number = option_map_or (moved s true number) (slice_get s.bank number) s
+come_home s number = option_map_or (with_banked s true number) (slice_get s.bank number) s
 
 abbrev pub handlers : State → List Handler
 handlers s = map (λ b. b.handler) s.bank

@@ -24,7 +24,7 @@ use Rattle.evl_kernel.specs.calls.CrossBuffers as through
 use Rattle.evl_kernel.specs.calls.Mutexes as mutex
 use Rattle.evl_kernel.specs.calls.Elements.{ElementStep, on_sem, on_flags, on_xbuf, on_mutex, Told, elements, serves, stepping_to, touch, told_unless}
 use Rattle.evl_kernel.specs.calls.ThreadCalls.{rank_of}
-use Rattle.evl_kernel.specs.waiting.Waits.{begun}
+use Rattle.evl_kernel.specs.waiting.Waits.{wait_begun}
 
 -- there is such an element
 abbrev pub is_there : Elements → Awaited → Bool
@@ -35,12 +35,12 @@ is_there e (Reading id way) = is_some (slice_get e.xbufs id.0)
 is_there e (Mutex id) = is_some (slice_get e.mutexes id.0)
 
 -- for what the thread waits, where it isn't served at once
-abbrev pub awaited : Wanted → Awaited
-awaited (wanted.Sem id) = Sem id
-awaited (wanted.Flags id kind) = Flags id
-awaited (wanted.Write id way bytes) = Writing id way
-awaited (wanted.Read id way len) = Reading id way
-awaited (wanted.Mutex id owner) = Mutex id
+abbrev pub awaited_by : Wanted → Awaited
+awaited_by (wanted.Sem id) = Sem id
+awaited_by (wanted.Flags id kind) = Flags id
+awaited_by (wanted.Write id way bytes) = Writing id way
+awaited_by (wanted.Read id way len) = Reading id way
+awaited_by (wanted.Mutex id owner) = Mutex id
 
 abbrev pub allowed_if : Bool → Option Refusal
 allowed_if allowed = if allowed then None else Some Invalid
@@ -112,7 +112,7 @@ waiter_refusal s thread wanted =
 -- the ring is too small; there would be a ring of waits.
 abbrev pub begin_refusal : State → ℕ → Wanted → Option Refusal
 begin_refusal s thread wanted =
-    refused_first (if is_there (elements s) (awaited wanted) && is_named s wanted then None else Some Unknown)
+    refused_first (if is_there (elements s) (awaited_by wanted) && is_named s wanted then None else Some Unknown)
     (refused_first (range_refusal wanted) (refused_first (waiter_refusal s thread wanted) (refused_first (size_refusal (elements s) wanted) (ring_refusal s thread wanted))))
 
 -- the step of the element with which a wait of a thread of this rank begins
@@ -132,4 +132,4 @@ abbrev pub beginning : State → ℕ → Wanted → Option ℕ → Told
 beginning s thread wanted until =
     let step = begin_step s thread wanted in
     told_unless (begin_refusal s thread wanted)
-    (record { touches = touch s (Some thread) step ∷ []; effect = stepping_to (λ x. begun x thread (awaited wanted) until (serves (elements s) step)) s step })
+    (record { touches = touch s (Some thread) step ∷ []; effect = stepping_to (λ x. wait_begun x thread (awaited_by wanted) until (serves (elements s) step)) s step })

@@ -52,13 +52,13 @@ abbrev pub is_past : ℕ → Option ℕ → Bool
 is_past now until = option_map_or (λ date. nat_le date now) until false
 
 -- a deadline that isn't after now posts line 0 at once
-abbrev pub blocked : State → ℕ → Awaited → Option ℕ → State
-blocked s thread on until = posted_if (is_past s.clock.now until) (suspended s thread on until)
+abbrev pub blocked_on : State → ℕ → Awaited → Option ℕ → State
+blocked_on s thread on until = posted_if (is_past s.clock.now until) (suspended s thread on until)
 
 -- What a wait begins with: where it is served at once the thread isn't blocked, and it has no deadline.
-abbrev pub begun : State → ℕ → Awaited → Option ℕ → Option Reply → State
-begun s thread on until None = blocked s thread on until
-begun s thread on until (Some outcome) = with_wait s thread (Some (ended_by outcome (going_on on)))
+abbrev pub wait_begun : State → ℕ → Awaited → Option ℕ → Option Reply → State
+wait_begun s thread on until None = blocked_on s thread on until
+wait_begun s thread on until (Some outcome) = with_wait s thread (Some (ended_by outcome (going_on on)))
 
 -- A wait that went on has ended: its deadline is gone, and its thread goes to the end of the ready list, where it is
 -- out-of-band.

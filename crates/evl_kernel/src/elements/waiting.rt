@@ -2,7 +2,7 @@
 ghost use Rattle.std.specs.Prelude.{◌≡◌, ◌<◌, ◌≤◌, [], None, Some, Ok, false, true, map, if◌then◌else◌};
 ghost use Rattle.std.specs.Option.{option_map};
 ghost use Rattle.evl_base.specs.Limits.{thread_limit};
-ghost use Rattle.evl_kernel.specs.waiting.Beginnings.{awaited, form_refusal, is_ranked, is_there, size_refusal, step_of_waiter};
+ghost use Rattle.evl_kernel.specs.waiting.Beginnings.{awaited_by, form_refusal, is_ranked, is_there, size_refusal, step_of_waiter};
 ghost use Rattle.evl_kernel.specs.calls.CrossBuffers as through;
 ghost use Rattle.evl_kernel.specs.calls.CrossBuffers.{done_at_once, read_at_once, service_told, served_beside, served_in};
 ghost use Rattle.evl_kernel.specs.calls.Effects.{if_done};
@@ -40,9 +40,9 @@ impl<A: Allocator> Elements<A> {
     /// once; then this is with what.
     pub(crate) fn begin(&mut self, thread: ThreadId, rank: u16, wanted: &Wanted) -> Option<Reply>
         requires ranked { is_ranked wanted.now ≡ true }
-        requires there { is_there self.old.elements (awaited wanted.now) ≡ true }
+        requires there { is_there self.old.elements (awaited_by wanted.now) ≡ true }
         requires allowed { form_refusal wanted.now ≡ None }
-        requires away { stands_for self.old.elements (awaited wanted.now) thread.0 ≡ false }
+        requires away { stands_for self.old.elements (awaited_by wanted.now) thread.0 ≡ false }
         requires few { thread.0 < thread_limit }
         ensures step { element self.old.elements (step_of_waiter thread.0 rank wanted.now) ≡ Ok (Reply.Begun, self.new.elements) }
         ensures owners { owners_of self.new ≡ owners_of self.old }

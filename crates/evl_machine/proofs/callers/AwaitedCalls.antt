@@ -16,7 +16,7 @@ use Rattle.evl_kernel.proofs.histories.WaitOwners.{waits_along}
 use Rattle.evl_machine.specs.declared.unfinished.Unfinished.{Unfinished}
 use Rattle.evl_machine.specs.declared.unfinished.Unfinished.TheVariants.{Mutex as of_mutex, Element}
 use Rattle.evl_core.specs.accounts.Accounts.{calls_by}
-use Rattle.evl_machine.specs.callers.Unfinished.{unfinished, unfinished_from, wait_after, wait_step}
+use Rattle.evl_machine.specs.callers.Unfinished.{unfinished_wait, unfinished_from, wait_after, wait_step}
 
 -- what a caller keeps of what its thread waits for
 abbrev pub kept_of : Awaited → Unfinished
@@ -58,17 +58,17 @@ kept_along t (e ∷ es) before = by (e.caller.0 == t) (λ before. kept_along t e
 
 module _ (h : History) (legal : IsLegal h) (fits : board_fits h.board ≡ true) (t : ℕ) where
   -- what a caller keeps is what its thread waits for
-  pub unfinished_is : unfinished (calls_by t h.entries) ≡ kept (awaited_at h.state t)
+  pub unfinished_is : unfinished_wait (calls_by t h.entries) ≡ kept (awaited_at h.state t)
   unfinished_is = sym (ap kept (waits_along h legal fits t) ∙ kept_along t h.entries None)
 
-  pub none_awaited : unfinished (calls_by t h.entries) ≡ None → awaited_at h.state t ≡ None
+  pub none_awaited : unfinished_wait (calls_by t h.entries) ≡ None → awaited_at h.state t ≡ None
   none_awaited e = by (awaited_at h.state t) refl
     where
       by : (o : Option Awaited) → awaited_at h.state t ≡ o → awaited_at h.state t ≡ None
       by None is = is
       by (Some a) is = absurd (let f = sym (ap kept is) ∙ sym unfinished_is ∙ e in cc)
 
-  pub mutex_awaited : (id : MutexId) → unfinished (calls_by t h.entries) ≡ Some (of_mutex id) → awaited_at h.state t ≡ Some (Mutex id)
+  pub mutex_awaited : (id : MutexId) → unfinished_wait (calls_by t h.entries) ≡ Some (of_mutex id) → awaited_at h.state t ≡ Some (Mutex id)
   mutex_awaited id e = by (awaited_at h.state t) refl
     where
       of : (a : Awaited) → Some (kept_of a) ≡ Some (of_mutex id) → Some a ≡ Some (Mutex id)

@@ -15,7 +15,7 @@ use Rattle.evl_base.specs.declared.stage.Stage.TheVariants.{Inband}
 use Rattle.evl_sched.specs.declared.seat.Seat.{Seat}
 use Rattle.evl_sched.specs.Threads as threads
 use Rattle.evl_sched.specs.Threads.{stage_of}
-use Rattle.evl_kernel.specs.histories.Histories.{History, IsLegal, Run, opened}
+use Rattle.evl_kernel.specs.histories.Histories.{History, IsLegal, Run, opened_kernel}
 use Rattle.evl_kernel.specs.state.KernelViews.{KernelView}
 use Rattle.evl_kernel.specs.state.Openings.{opening}
 use Rattle.evl_kernel.specs.state.States.{State, Handler}
@@ -37,7 +37,7 @@ use Rattle.evl_core.specs.declared.views.ThreadView.{ThreadView}
 use Rattle.evl_core.specs.words.Homes.{AreHomes, Home, gate_home, mutex_home, stax_home, word_home, word_homes}
 use Rattle.evl_machine.specs.stax_locks.StaxSeats.{AreGatesOf, holds_stax}
 use Rattle.evl_machine.specs.callers.Actors.{ActorState, SeatedActor, Suits, acting}
-use Rattle.evl_machine.specs.callers.Unfinished.{unfinished}
+use Rattle.evl_machine.specs.callers.Unfinished.{unfinished_wait}
 use Rattle.evl_machine.specs.callers.Handles.{CallerState, MachineState, caller_of, new_mutex, new_stax, newcomer_of, newcomers_of}
 use Rattle.evl_core.specs.accounts.Seats.{account_of}
 
@@ -90,9 +90,9 @@ opening_inband board bank t = ap (λ (o : Option Seat). option_map_or (λ (seat 
 -- a thread that has made no call knows its stage and wait
 pub new_suits : (h : History) (a : ActorState) → IsLegal h → h.entries ≡ [] → a.stage ≡ Inband → a.wait ≡ None → Suits a h
 new_suits h a legal none_yet stage wait =
-    let run = subst (λ (es : List Entry). Run (opened h) es h.plays h.state) none_yet legal in record {
+    let run = subst (λ (es : List Entry). Run (opened_kernel h) es h.plays h.state) none_yet legal in record {
       stage = stage ∙ sym (ap (λ (s : State). stage_of s.sched a.thread.0) run.1 ∙ opening_inband h.board h.bank a.thread.0);
-      wait = wait ∙ sym (ap (λ es. unfinished (calls_by a.thread.0 es)) none_yet);
+      wait = wait ∙ sym (ap (λ es. unfinished_wait (calls_by a.thread.0 es)) none_yet);
     }
 
 map_twice : {A B C : Type 0} (f : B → C) (g : A → B) (xs : List A) → map f (map g xs) ≡ map (λ x. f (g x)) xs

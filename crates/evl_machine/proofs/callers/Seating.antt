@@ -7,7 +7,7 @@ use Rattle.evl_base.specs.declared.board.Board.{Board}
 use Rattle.evl_base.specs.declared.numbers.ThreadId.{ThreadId}
 use Rattle.evl_base.specs.declared.entry.Entry.{Entry}
 use Rattle.evl_pipeline.specs.declared.plan.Plan.{Plan}
-use Rattle.evl_kernel.specs.histories.Histories.{History, Run, IsLegal, opened}
+use Rattle.evl_kernel.specs.histories.Histories.{History, Run, IsLegal, opened_kernel}
 use Rattle.evl_kernel.specs.state.KernelViews.{KernelView, IsOpened}
 use Rattle.evl_kernel.proofs.state.OpeningLaws.{threads_few}
 use Rattle.evl_words.specs.Hands.{place, hand_from, rest_of, first_of as first_place}

@@ -21,7 +21,7 @@ use Rattle.evl_core.specs.declared.views.Account.{Account}
 use Rattle.evl_core.specs.accounts.Accounts.{BeginsWith, Fits, IsAccount, calls_by}
 use Rattle.evl_machine.specs.callers.Actors.{ActorState, AreHeldAt, AwaitsOneOf, ClaimsOneOf, IsActor, SeatedActor, Suits, acting, call_refusal, stage_in}
 use Rattle.evl_machine.specs.stax_locks.StaxSeats.{holds_stax, is_held}
-use Rattle.evl_machine.specs.callers.Unfinished.{unfinished, unfinished_from, wait_after, wait_step}
+use Rattle.evl_machine.specs.callers.Unfinished.{unfinished_wait, unfinished_from, wait_after, wait_step}
 use Rattle.evl_core.specs.accounts.KernelCalls.{Applied}
 use Rattle.evl_core.proofs.accounts.Accounts.{calls_by-append, calls_by-own}
 
@@ -52,7 +52,7 @@ pub suits_found : (a : ActorState) (x : Account) (h : History) → a.thread.0 �
 suits_found a x h own is f s =
     let same : calls_by a.thread.0 h.entries ≡ calls_by a.thread.0 x.seen.entries = ap (λ t. calls_by t h.entries) own ∙ (f.mine ∙ (sym is.mine ∙ ap (λ t. calls_by t x.seen.entries) (sym own))) in record {
       stage = s.stage ∙ sym (stage_stays a.thread.0 x.seen h f.seen same);
-      wait = s.wait ∙ ap unfinished (sym same);
+      wait = s.wait ∙ ap unfinished_wait (sym same);
     }
 
 pub fits_stage : (x : Account) (h : History) → IsAccount x → Fits h x → stage_in h x.thread ≡ stage_in x.seen x.thread
@@ -69,12 +69,12 @@ refused_wait w c (Err refusal) is = refl
 
 module _ {C : Type 0} where
   -- the wait once a call was answered
-  pub wait_applied : (k k' : KernelView C) (t : ℕ) (c : Call) (r : Result Reply Refusal) → Applied k t c r k' → (b : Bool) → makes_entry r ≡ b → unfinished (calls_by t k'.history.entries) ≡ wait_after (unfinished (calls_by t k.history.entries)) (wait_step c) r
+  pub wait_applied : (k k' : KernelView C) (t : ℕ) (c : Call) (r : Result Reply Refusal) → Applied k t c r k' → (b : Bool) → makes_entry r ≡ b → unfinished_wait (calls_by t k'.history.entries) ≡ wait_after (unfinished_wait (calls_by t k.history.entries)) (wait_step c) r
   wait_applied k k' t c r done true is =
       let e = done.entered is in
       let entry = entry_of t c r e.0 in
-      ap (λ es. unfinished (calls_by t es)) e.1.extends.entries ∙ (ap unfinished (calls_by-append t k.history.entries (entry ∷ [])) ∙ (ap (λ es. unfinished (calls_by t k.history.entries ++ es)) (calls_by-own t (entry ∷ []) (refl, tt)) ∙ unfinished-append None (calls_by t k.history.entries) (entry ∷ [])))
-  wait_applied k k' t c r done false is = ap (λ (h : History). unfinished (calls_by t h.entries)) (done.refused is) ∙ sym (refused_wait (unfinished (calls_by t k.history.entries)) c r is)
+      ap (λ es. unfinished_wait (calls_by t es)) e.1.extends.entries ∙ (ap unfinished_wait (calls_by-append t k.history.entries (entry ∷ [])) ∙ (ap (λ es. unfinished_wait (calls_by t k.history.entries ++ es)) (calls_by-own t (entry ∷ []) (refl, tt)) ∙ unfinished-append None (calls_by t k.history.entries) (entry ∷ [])))
+  wait_applied k k' t c r done false is = ap (λ (h : History). unfinished_wait (calls_by t h.entries)) (done.refused is) ∙ sym (refused_wait (unfinished_wait (calls_by t k.history.entries)) c r is)
 
   -- a call that isn't about its caller's stage leaves it
   pub stage_applied : (k k' : KernelView C) (t : ℕ) (c : Call) (r : Result Reply Refusal) → Applied k t c r k' → moves_caller (task_of c) ≡ false → (b : Bool) → makes_entry r ≡ b → stage_in k'.history t ≡ stage_in k.history t

@@ -31,7 +31,7 @@ use Rattle.evl_core.specs.words.MutexTokens.{IsAtTable, KeepsPlaces, TellsTheSam
 use Rattle.evl_core.specs.words.MutexSeats.{holds_mutex}
 use Rattle.evl_core.specs.words.Noted.{HasTaken, IsSettled, ceilings_in}
 use Rattle.evl_machine.specs.stax_locks.StaxSeats.{holds_stax}
-use Rattle.evl_machine.specs.callers.Unfinished.{unfinished}
+use Rattle.evl_machine.specs.callers.Unfinished.{unfinished_wait}
 use Rattle.evl_machine.specs.calls.Visits.{FindsTaken, Visited, actor_of}
 use Rattle.evl_core.proofs.accounts.Accounts.{goes_on_more, made_by-append}
 use Rattle.evl_machine.proofs.callers.Calling.{TakenOut, fits_one, given_account, gives_caller, held_applied, is_held, lost_caller, mine_after, takes_hold}
@@ -103,7 +103,7 @@ module _ {C : Type 0} where
   pub same_actor : (m : MachineState C) (a : Account) (x : ActorState) → a.thread ≡ x.thread.0 → IsAccount a → Suits x a.seen → actor_of (caller_of m a x.staxes x.mutexes) ≡ x
   same_actor m a x own is suits =
       let stage : stage_in a.seen a.thread ≡ x.stage = ap (stage_in a.seen) own ∙ sym suits.stage in
-      let wait : unfinished a.mine ≡ x.wait = ap unfinished (sym is.mine ∙ ap (λ t. calls_by t a.seen.entries) own) ∙ sym suits.wait in
+      let wait : unfinished_wait a.mine ≡ x.wait = ap unfinished_wait (sym is.mine ∙ ap (λ t. calls_by t a.seen.entries) own) ∙ sym suits.wait in
       λ i. record { thread = record { 0 = own i }; stage = stage i; wait = wait i; staxes = x.staxes; mutexes = x.mutexes }
 
   module _ (first : KernelView C) (a : Account) (x : ActorState) (me : KernelMe C) (k : KernelView C) (opens : Opens first a x.thread me k) where

@@ -12,7 +12,7 @@ use Rattle.evl_core.specs.accounts.Seats.{account_of}
 use Rattle.evl_core.specs.rule.Known.{seen}
 use Rattle.evl_core.specs.words.MutexSeats.{holds_mutex}
 use Rattle.evl_machine.specs.stax_locks.StaxSeats.{holds_stax}
-use Rattle.evl_machine.specs.callers.Unfinished.{unfinished}
+use Rattle.evl_machine.specs.callers.Unfinished.{unfinished_wait}
 use Rattle.evl_machine.specs.calls.Visits.{actor_of}
 use Rattle.evl_machine.proofs.callers.Visits.{same_actor}
 use Rattle.evl_machine.proofs.calls.WaitingLaws.{lost_mine}
@@ -35,4 +35,4 @@ module _ {C : Type 0} where
   -- it still doesn't refuse the call
   pub away_free : (old c : CallerState C) (call : Call) → IsTurnedAway old c → own_refusal old call ≡ None → own_refusal c call ≡ None
   away_free old c call (same, lost, before) free =
-      (λ i. call_refusal (unfinished (lost_mine old.machine.first old.account lost c.account before i)) (holds_stax (same i).staxes) (holds_mutex (same i).mutexes) call) ∙ free
+      (λ i. call_refusal (unfinished_wait (lost_mine old.machine.first old.account lost c.account before i)) (holds_stax (same i).staxes) (holds_mutex (same i).mutexes) call) ∙ free

@@ -23,7 +23,7 @@ use Rattle.evl_machine.specs.callers.InHand.{Opens}
 use Rattle.evl_core.specs.rule.Known.{KernelMe, first_of, seen}
 use Rattle.evl_core.specs.words.MutexSeats.{holds_mutex}
 use Rattle.evl_machine.specs.stax_locks.StaxSeats.{holds_stax}
-use Rattle.evl_machine.specs.callers.Unfinished.{unfinished, unfinished_from, wait_after, wait_step}
+use Rattle.evl_machine.specs.callers.Unfinished.{unfinished_wait, unfinished_from, wait_after, wait_step}
 use Rattle.evl_machine.specs.calls.Waitings.{Look, Looked, Looks, LooksBy, WaitsOut, begins_wait, finish_of}
 use Rattle.evl_core.specs.worlds.Events.{FailsToTake, Gives, LosesTakes, Takes}
 use Rattle.evl_machine.proofs.callers.Calling.{took}
@@ -106,7 +106,7 @@ module _ {C : Type 0} where
 
   -- a caller that has looked waits for what it waited for
   pub still_waits : (old over : CallerState C) → wait_of_caller old ≡ Some Element → Looked old over → wait_of_caller over ≡ Some Element
-  still_waits old over waits looked = ap unfinished (mine_stays old.machine.first old.account looked.1.0 over.account looked.1.1) ∙ waits
+  still_waits old over waits looked = ap unfinished_wait (mine_stays old.machine.first old.account looked.1.0 over.account looked.1.1) ∙ waits
 
   -- a caller that has looked finishes its wait
   pub waits_out : (limit : ℕ) (old over : CallerState C) (r : Result Reply Refusal) (new : CallerState C) → wait_of_caller old ≡ Some Element → Looked old over → KernelCall limit over (finish_of over) r new → r ≢ Err Again → WaitsOut limit old r new
@@ -126,5 +126,5 @@ module _ {C : Type 0} where
       by None (last, away, (same, answered, acted)) =
           let e : Enters last.account begin (Ok reply) new.account = answered.entered refl in
           let entry = entry_of last.account.thread begin (Ok reply) e.plays in
-          ap unfinished e.mine ∙ (after_one None last.account.mine entry ∙ ap (λ (s : WaitStep). wait_after (unfinished last.account.mine) s (Ok reply)) begins)
+          ap unfinished_wait e.mine ∙ (after_one None last.account.mine entry ∙ ap (λ (s : WaitStep). wait_after (unfinished_wait last.account.mine) s (Ok reply)) begins)
       by (Some refusal) (other, same) = absurd (cc)

@@ -18,7 +18,7 @@ use Rattle.evl_machine.specs.callers.Actors.{ActorState, AreHeldAt, IsSameActor,
 use Rattle.evl_core.specs.accounts.KernelCalls.{Applied, FindsNoRoom, IsRoomier, Reserves}
 use Rattle.evl_core.specs.words.Homes.{mutex_home}
 use Rattle.evl_core.specs.rule.Known.{ComesFrom}
-use Rattle.evl_machine.specs.callers.Unfinished.{unfinished}
+use Rattle.evl_machine.specs.callers.Unfinished.{unfinished_wait}
 use Rattle.evl_machine.specs.callers.Handles.{MachineState}
 use Rattle.evl_machine.specs.mutex_locks.Locking.{EntersNone, EntersOne, GoesAlong, LocksRaised}
 use Rattle.evl_core.specs.words.MutexSeats.{TriesMutex}
@@ -62,7 +62,7 @@ module _ {C : Type 0} where
       homes = seats.homes;
       numbers = seats.numbers;
       held = subst (λ (z : ActorState). AreHeldAt z.stage z.staxes) (sym is) held;
-      suits = record { stage = was.stage ∙ ap (λ (h : History). stage_in h x.thread.0) (sym same.history); wait = was.wait ∙ ap (λ (h : History). unfinished (calls_by x.thread.0 h.entries)) (sym same.history) };
+      suits = record { stage = was.stage ∙ ap (λ (h : History). stage_in h x.thread.0) (sym same.history); wait = was.wait ∙ ap (λ (h : History). unfinished_wait (calls_by x.thread.0 h.entries)) (sym same.history) };
       added = [];
       longer = subst (λ (h : History). GoesOn k.history [] h) (sym same.history) (goes_on_none k.history);
       own = tt;

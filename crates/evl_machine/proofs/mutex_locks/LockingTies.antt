@@ -18,7 +18,7 @@ use Rattle.evl_base.specs.declared.reply.Reply.{Reply}
 use Rattle.evl_base.specs.declared.reply.Reply.TheVariants.{Handed}
 use Rattle.evl_base.specs.declared.stage.Stage.TheVariants.{Oob}
 use Rattle.evl_base.specs.Limits.{thread_limit}
-use Rattle.evl_mutex.specs.Mutexes.{Mutex, opened as opened_mutex}
+use Rattle.evl_mutex.specs.Mutexes.{Mutex, opened_mutex as opened_mutex}
 use Rattle.evl_kernel.specs.declared.waits.Awaited.{Awaited}
 use Rattle.evl_kernel.specs.declared.waits.Awaited.TheVariants.{Sem, Flags, Writing, Reading, Mutex as OnMutex}
 use Rattle.evl_kernel.specs.declared.waits.Wait.{Wait}
@@ -39,7 +39,7 @@ use Rattle.evl_kernel.proofs.waiting.ProperSteps.{proper_at}
 use Rattle.evl_words.specs.declared.mutex.Claim.TheVariants.{Won, Queued, Seizing}
 use Rattle.evl_words.specs.declared.mutex.MutexPass.{MutexPass}
 use Rattle.evl_words.specs.Mutex as word
-use Rattle.evl_words.specs.Mutex.{owned, offered, claimed}
+use Rattle.evl_words.specs.Mutex.{owned, offered, claimed_word}
 use Rattle.evl_words.specs.MutexBits.{mutex_word, offer_word, offers_to}
 use Rattle.evl_words.specs.MutexWorld.{MutexKind as Kind, MutexView, accepts, awaits, claims, forgets, frees, offers, owns, settles, step_word, tries}
 use Rattle.evl_words.proofs.MutexWords.{accept-word, mark-word}
@@ -326,16 +326,16 @@ module _ {C : Type 0} where
         let s = shown (number_of a.me.0) (part_of a.me.0 id.0) (part_of new id.0) claims n.found n.does in
         let who = queued_found n.found s owner n.found_so in
         let tied : AreTied ceilings k.history.state id.0 (mutex_word s.mutex) = subst (λ w. AreTied ceilings k.history.state id.0 w) s.word (stood new id.0 claims (FoundClaimed (Queued owner)) n) in
-        let left : step_word n.found (number_of a.me.0) (part_of a.me.0 id.0) claims ≡ mutex_word (claimed s.mutex thread) = ap (λ w. bit_or w 2147483648) s.word ∙ mark-word s.mutex thread s.below in
+        let left : step_word n.found (number_of a.me.0) (part_of a.me.0 id.0) claims ≡ mutex_word (claimed_word s.mutex thread) = ap (λ w. bit_or w 2147483648) s.word ∙ mark-word s.mutex thread s.below in
         let both = by s who tied r entered.1.1.extends.step.1 in
         settled_by new k'.history.state id.0 claims (FoundClaimed (Queued owner)) n (subst (λ w. AreTied ceilings k'.history.state id.0 w) (sym left) both.0) both.1
       where
         by : (s : Shown n.found) → (s.mutex ≢ word.unowned) × (Rattle.evl_words.specs.MutexBits.number_in (mutex_word s.mutex) ≡ owner.0 + 1) → AreTied ceilings k.history.state id.0 (mutex_word s.mutex)
-            → (x : Result Reply Refusal) → Step k.history.state thread (Claim id owner until) x entered.1.0 k'.history.state → AreTied ceilings k'.history.state id.0 (mutex_word (claimed s.mutex thread)) × OthersStay ceilings id.0 k.history.state k'.history.state
+            → (x : Result Reply Refusal) → Step k.history.state thread (Claim id owner until) x entered.1.0 k'.history.state → AreTied ceilings k'.history.state id.0 (mutex_word (claimed_word s.mutex thread)) × OthersStay ceilings id.0 k.history.state k'.history.state
         by s who tied (Ok reply) step = claim_stays ceilings k.history just.legal just.fits thread entered.1.0 k'.history.state id owner until reply step s.mutex s.below near who.0 who.1 tied
         by s who tied (Err why) step =
             let stay = refused_stays ceilings k.history.state k'.history.state thread (Claim id owner until) why entered.1.0 step in
-            (stay id.0 (mutex_word (claimed s.mutex thread)) (tied_refused ceilings id.0 k.history.state s.mutex thread s.below near who.0 tied), λ j w ne t. stay j w t)
+            (stay id.0 (mutex_word (claimed_word s.mutex thread)) (tied_refused ceilings id.0 k.history.state s.mutex thread s.below near who.0 tied), λ j w ne t. stay j w t)
 
     -- nobody else has won a mutex and not settled it
     pub never_seizing : (new : CoreHand C) (id : MutexId) → id.0 < mutex_count (first_of a.me.0) → Notes id.0 claims (FoundClaimed Seizing) a.me.0 new → ⊥

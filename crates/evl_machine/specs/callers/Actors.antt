@@ -17,7 +17,7 @@ use Rattle.evl_machine.specs.declared.unfinished.Unfinished.TheVariants.{Mutex}
 use Rattle.evl_core.specs.accounts.Accounts.{calls_by}
 use Rattle.evl_core.specs.rule.Known.{KernelMe, first_of}
 use Rattle.evl_core.specs.words.MutexTokens.{IsAtTable, seats_at}
-use Rattle.evl_machine.specs.callers.Unfinished.{unfinished}
+use Rattle.evl_machine.specs.callers.Unfinished.{unfinished_wait}
 
 -- the stage of a thread at the end of a history
 abbrev pub stage_in : History → ℕ → Stage
@@ -73,7 +73,7 @@ pub record IsSameActor (old new : ActorState) : Type 0 where
 -- what it keeps of its thread is what a history says
 pub record Suits (a : ActorState) (h : History) : Type 0 where
   pub stage : a.stage ≡ stage_in h a.thread.0
-  pub wait : a.wait ≡ unfinished (calls_by a.thread.0 h.entries)
+  pub wait : a.wait ≡ unfinished_wait (calls_by a.thread.0 h.entries)
 
 abbrev pub waits_for_mutex : Option Unfinished → Bool
 waits_for_mutex (Some (Mutex mutex)) = true

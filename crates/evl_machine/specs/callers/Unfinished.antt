@@ -31,5 +31,5 @@ abbrev pub unfinished_from : Option Unfinished → List Entry → Option Unfinis
 unfinished_from wait [] = wait
 unfinished_from wait (e ∷ es) = unfinished_from (wait_after wait (wait_step e.call) e.reply) es
 
-abbrev pub unfinished : List Entry → Option Unfinished
-unfinished calls = unfinished_from None calls
+abbrev pub unfinished_wait : List Entry → Option Unfinished
+unfinished_wait calls = unfinished_from None calls

@@ -17,7 +17,7 @@ use Rattle.evl_core.specs.worlds.QuietCore.{IsQuiet}
 use Rattle.evl_core.specs.rule.Known.{ComesFrom}
 use Rattle.evl_base.specs.declared.stage.Stage.{Stage}
 use Rattle.evl_machine.specs.declared.unfinished.Unfinished.{Unfinished}
-use Rattle.evl_machine.specs.callers.Unfinished.{unfinished}
+use Rattle.evl_machine.specs.callers.Unfinished.{unfinished_wait}
 use Rattle.evl_machine.specs.callers.Actors.{AreHeldAt, call_refusal, stage_in}
 use Rattle.evl_machine.specs.stax_locks.StaxSeats.{holds_stax}
 use Rattle.evl_core.specs.words.MutexSeats.{holds_mutex, is_owner}
@@ -85,7 +85,7 @@ module _ {C : Type 0} where
   stage_of_caller c = stage_in c.account.seen c.account.thread
 
   abbrev pub wait_of_caller : CallerState C → Option Unfinished
-  wait_of_caller c = unfinished c.account.mine
+  wait_of_caller c = unfinished_wait c.account.mine
 
   -- what a caller's call is refused by what the caller has itself, before any step
   abbrev pub own_refusal : CallerState C → Call → Option Refusal

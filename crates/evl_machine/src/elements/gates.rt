@@ -1,7 +1,7 @@
 //! The gates of a machine, and their making.
 ghost use Rattle.std.specs.Prelude.{◌≡◌, ◌≤◌, ℕ, IfOk, Some, length, map, slice_get, true};
 ghost use Rattle.std.specs.List.{list_all, range_with_len};
-ghost use Rattle.evl_base.specs.Limits.{thread_limit, stax_fits, within};
+ghost use Rattle.evl_base.specs.Limits.{thread_limit, stax_fits, is_within};
 ghost use Rattle.evl_words.specs.GateCalls.{new_seat};
 ghost use Rattle.evl_machine.specs.stax_locks.StaxSeats.{AreFresh, AreGatesOf};
 
@@ -36,7 +36,7 @@ impl<A: Allocator + Clone> Gates<A> {
     ) -> Result<(Gates<A>, Vec<StaxSeats<A>, A>), AllocError>
         requires few { length limits.now ≤ 32 }
         requires limits { list_all stax_fits limits.now ≡ true }
-        requires threads { within 1 thread_limit threads ≡ true }
+        requires threads { is_within 1 thread_limit threads ≡ true }
         ensures gates { IfOk result (λ made. AreGatesOf limits.now threads made.0) }
         ensures seats { IfOk result (λ made. made.1.items ≡ map (λ k. map (λ g. new_seat g k) made.0) (range_with_len 0 threads)) }
     {
@@ -55,7 +55,7 @@ fn made_gates<A: Allocator + Clone>(
 ) -> Result<(Vec<StaxGate<A>, A>, Vec<Vec<StaxSeat, A>, A>), AllocError>
     requires few { length limits.now ≤ 32 }
     requires limits { list_all stax_fits limits.now ≡ true }
-    requires threads { within 1 thread_limit threads ≡ true }
+    requires threads { is_within 1 thread_limit threads ≡ true }
     ensures gates { IfOk result (λ made. AreGatesOf limits.now threads made.0.items) }
     ensures seats { IfOk result (λ made. map (λ list. list.items) made.1.items ≡ map (λ k. map (λ g. new_seat g k) made.0.items) (range_with_len 0 threads)) }
 {

@@ -1,7 +1,7 @@
 //! The elements of a machine that stand beside the kernel, and what each thread has at them.
 ghost use Rattle.std.specs.Prelude.{◌≡◌, ◌≤◌, IfOk, length, map, true};
 ghost use Rattle.std.specs.List.{list_all, range_with_len};
-ghost use Rattle.evl_base.specs.Limits.{thread_limit, stax_fits, within};
+ghost use Rattle.evl_base.specs.Limits.{thread_limit, stax_fits, is_within};
 ghost use Rattle.evl_words.specs.GateCalls.{new_seat};
 ghost use Rattle.evl_core.specs.words.MutexPlaces.{new_places};
 ghost use Rattle.evl_machine.specs.stax_locks.StaxSeats.{AreGatesOf};
@@ -30,7 +30,7 @@ impl<A: Allocator + Clone> Elements<A> {
     ) -> Result<Elements<A>, AllocError>
         requires few { (length limits.now ≤ 32) × (length kinds.now ≤ 32) }
         requires limits { list_all stax_fits limits.now ≡ true }
-        requires threads { within 1 thread_limit threads ≡ true }
+        requires threads { is_within 1 thread_limit threads ≡ true }
         ensures gates { IfOk result (λ e. AreGatesOf limits.now threads e.gates) }
         ensures kinds { IfOk result (λ e. e.kinds.items ≡ kinds.now) }
         ensures staxes { IfOk result (λ e. e.staxes.items ≡ map (λ k. map (λ g. new_seat g k) e.gates) (range_with_len 0 threads)) }

@@ -1,7 +1,7 @@
 //! A gate's word: the number of holders in bits 0 to 15, their stage in bit 30, and the claim mark in bit 31.
 ghost use Rattle.std.specs.Prelude.{◌≡◌};
 ghost use Rattle.evl_words.specs.Gate.{entry_refusal};
-ghost use Rattle.evl_words.specs.GateWord.{count_in, stage_in, mark_in, packed};
+ghost use Rattle.evl_words.specs.GateWord.{count_in, stage_in, mark_in, packed_gate};
 
 use evl_base::{Refusal, Stage};
 
@@ -40,7 +40,7 @@ impl GateWord {
 
     /// The word that tells it.
     pub fn pack(self) -> u64
-        ensures { result ≡ packed self.holders self.stage self.claimed }
+        ensures { result ≡ packed_gate self.holders self.stage self.claimed }
     {
         let mut word = u64::from(self.holders);
         if self.stage == Stage::Oob {

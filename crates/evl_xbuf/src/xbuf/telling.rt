@@ -3,7 +3,7 @@ ghost use Rattle.std.specs.Prelude.{◌≡◌, ◌<◌, false, [], None, Some, I
 ghost use Rattle.std.specs.Option.{option_map};
 ghost use Rattle.evl_base.specs.Limits.{thread_limit};
 ghost use Rattle.evl_sync.specs.Queues.{stands_in};
-ghost use Rattle.evl_sync.specs.Steps.{stepped};
+ghost use Rattle.evl_sync.specs.Steps.{step_by};
 ghost use Rattle.evl_xbuf.specs.Xbufs.{begin_read, begin_write, drop_waiter, reading_stage, same_stage, stream, try_read, try_write, writing_stage};
 
 use super::XbufOf;
@@ -25,7 +25,7 @@ impl<A: Allocator> XbufOf<A> {
         told: &mut Services,
     ) -> Result<(), Refusal>
         requires nobody { told.old ≡ [] }
-        ensures step { stepped (λ _. told.new) result self.new ≡ try_write stage way bytes.now self.old }
+        ensures step { step_by (λ _. told.new) result self.new ≡ try_write stage way bytes.now self.old }
         ensures refused { IfErr result (λ e. self.new ≡ self.old) }
     {
         if !writes(stage, way) {
@@ -48,7 +48,7 @@ impl<A: Allocator> XbufOf<A> {
         told: &mut Services,
     ) -> Result<(), Refusal>
         requires nobody { told.old ≡ [] }
-        ensures step { stepped (λ _. (got.new.items, told.new)) result self.new ≡ try_read stage way len self.old }
+        ensures step { step_by (λ _. (got.new.items, told.new)) result self.new ≡ try_read stage way len self.old }
         ensures refused { IfErr result (λ e. self.new ≡ self.old) }
         ensures kept { IfErr result (λ e. got.new ≡ got.old) }
     {
@@ -77,7 +77,7 @@ impl<A: Allocator> XbufOf<A> {
         requires nobody { told.old ≡ [] }
         requires away { stands_in (λ w. w.thread) thread.0 (stream self.old way).writers ≡ false }
         requires few { thread.0 < thread_limit }
-        ensures step { stepped (λ done. if done then Some told.new else None) result self.new ≡ begin_write thread.0 stage way bytes.now self.old }
+        ensures step { step_by (λ done. if done then Some told.new else None) result self.new ≡ begin_write thread.0 stage way bytes.now self.old }
         ensures refused { IfErr result (λ e. self.new ≡ self.old) }
     {
         if !writes(stage, way) {
@@ -102,7 +102,7 @@ impl<A: Allocator> XbufOf<A> {
         requires nobody { told.old ≡ [] }
         requires away { stands_in (λ r. r.thread) thread.0 (stream self.old way).readers ≡ false }
         requires few { thread.0 < thread_limit }
-        ensures step { stepped (λ got. option_map (λ bytes. (bytes.items, told.new)) got) result self.new ≡ begin_read thread.0 stage way len self.old }
+        ensures step { step_by (λ got. option_map (λ bytes. (bytes.items, told.new)) got) result self.new ≡ begin_read thread.0 stage way len self.old }
         ensures refused { IfErr result (λ e. self.new ≡ self.old) }
     {
         if len > MAX_TRANSFER {

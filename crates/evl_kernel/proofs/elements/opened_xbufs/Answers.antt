@@ -9,5 +9,5 @@ opened_xbuf-requires g c = record { fit = all_here sizes_fit c.args.sizes.now c.
 
 pub loop-pair-preserved : goal.loop-pair-preserved
 loop-pair-preserved g c =
-    one_made (λ (pair : ℕ × ℕ). cross_buffers.opened pair.0 pair.1) c.args.sizes.now c.loop-pair.pair-index (0, 0) c.loop-pair.xbufs.items c.push.new.self.items c.in-Ok.xbuf
+    one_made (λ (pair : ℕ × ℕ). cross_buffers.opened_xbuf pair.0 pair.1) c.args.sizes.now c.loop-pair.pair-index (0, 0) c.loop-pair.xbufs.items c.push.new.self.items c.in-Ok.xbuf
     c.loop-pair-test.true c.loop-pair.invariant c.in-Ok.ensures.xbuf c.in-Ok-push.ensures.items

@@ -1,6 +1,6 @@
 use Rattle.std.proofs.Common.{◌≡◌, ◌++◌, drop, map}
-use Rattle.evl_plans.specs.Told.{told}
+use Rattle.evl_plans.specs.Told.{handler_of}
 use Rattle.evl_plans.proofs.copies.copied_bank.Given as goal
 
 abbrev pub invariant-loop-planned : goal.invariant-loop-planned
-invariant-loop-planned l = map told l.copied.items ++ map told (drop l.planned-index l.bank) ≡ map told l.bank
+invariant-loop-planned l = map handler_of l.copied.items ++ map handler_of (drop l.planned-index l.bank) ≡ map handler_of l.bank

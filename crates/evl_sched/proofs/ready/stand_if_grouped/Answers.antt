@@ -1,7 +1,7 @@
 use Rattle.std.proofs.Common.{◌≡◌, List, Option, false, refl, sym, ap, ◌∙◌}
 use Rattle.std.proofs.lemmas.Bool.{false≢true}
 use Rattle.evl_sched.specs.declared.seat.Seat.{Seat}
-use Rattle.evl_sched.specs.Wanted.{names_group, wanted}
+use Rattle.evl_sched.specs.Wanted.{names_group, wanted_rank}
 use Rattle.evl_sched.proofs.GroupLaws.{stands_still}
 use Rattle.evl_sched.proofs.ready.stand_if_grouped.Goals as goal
 
@@ -12,7 +12,7 @@ returns-else-names_group g c =
     record {
       ready = refl;
       ranks = stands_still c.args.order.now.places
-          (wanted (record { sched = record { seats = c.args.seats.now.items; ready = c.args.order.now.ready; groups = c.args.groups.now.items }; given = c.args.given.now.items }))
+          (wanted_rank (record { sched = record { seats = c.args.seats.now.items; ready = c.args.order.now.ready; groups = c.args.groups.now.items }; given = c.args.given.now.items }))
           c.args.thread (c.requires.stands none);
       many = refl;
       member = λ some. absurd (false≢true (sym none ∙ some));

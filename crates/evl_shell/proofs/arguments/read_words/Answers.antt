@@ -2,14 +2,14 @@ use Rattle.std.proofs.Common.{◌∙◌, ap, codes, option_and_then}
 use Rattle.std.specs.Str.Parse.{ParsesUnsigned, ExplainsUnsignedError, HasUnsignedDigitsIfOk}
 use Rattle.clap.specs.Words.{found_of, first_of, one_of}
 use Rattle.clap.proofs.WalkLemmas.{first_value-rows, one_text-rows}
-use Rattle.evl_shell.specs.Arguments.{named, number_of}
+use Rattle.evl_shell.specs.Arguments.{file_named, number_of}
 use Rattle.evl_shell.proofs.ArgumentLemmas.{reads_number}
 use Rattle.evl_shell.proofs.arguments.read_words.Goals as goal
 
 pub returns-clause-file : goal.returns-clause-file
 returns-clause-file c =
     c.file_named.ensures
-    ∙ ap named (c.get_str.ensures ∙ first_value-rows (found_of c.in_ok-matches.matches) (codes "FILE") ∙ ap (first_of (codes "FILE")) c.in_ok-matches.ensures.rows)
+    ∙ ap file_named (c.get_str.ensures ∙ first_value-rows (found_of c.in_ok-matches.matches) (codes "FILE") ∙ ap (first_of (codes "FILE")) c.in_ok-matches.ensures.rows)
 
 pub returns-clause-limit : goal.returns-clause-limit
 returns-clause-limit c =

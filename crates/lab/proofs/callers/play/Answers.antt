@@ -1,5 +1,5 @@
 use Rattle.std.proofs.Common.{◌≡◌, codes, inl, inr, map, refl}
-use Rattle.evl_plans.specs.Told.{told as told_by}
+use Rattle.evl_plans.specs.Told.{handler_of as told_by}
 use Rattle.lab.specs.Callers.{PlaysOver, TellsPlayed, played_told}
 use Rattle.lab.specs.Endings.{line_about}
 use Rattle.lab.specs.Outputs.{Output}

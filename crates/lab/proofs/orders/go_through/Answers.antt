@@ -1,6 +1,6 @@
 use Rattle.std.proofs.Common.{◌∙◌, ℕ, Option, ap, codes, inl, inr, map, option_map, refl}
 use Rattle.std.specs.Prelude.{unwrap_or}
-use Rattle.evl_plans.specs.Told.{told as told_by}
+use Rattle.evl_plans.specs.Told.{handler_of as told_by}
 use Rattle.lab.specs.Endings.{line_about}
 use Rattle.lab.specs.Orders.{TellsOutcomes, asked_status, asked_text, report_of}
 use Rattle.lab.specs.Outputs.{Output}

@@ -1,7 +1,7 @@
 use Rattle.std.proofs.Common.{List, ap, codes, map, option_map, refl, subst, sym}
 use Rattle.std.specs.Prelude.{unwrap_or}
 use Rattle.evl_kernel.specs.state.States.{Handler}
-use Rattle.evl_plans.specs.Told.{told}
+use Rattle.evl_plans.specs.Told.{handler_of}
 use Rattle.evl_plans.specs.declared.planned.Planned.{Planned}
 use Rattle.lab.specs.Banks.{IsBank}
 use Rattle.lab.specs.Orders.{TellsRead}
@@ -15,5 +15,5 @@ returns-in-Ok-Some g c =
     let is_bank = rw c.in-Ok-Some.field-0-is at c.in-Ok-Some.ensures.bank in
     let quiet = rw c.in-Ok-Some.field-0-is at c.in-Ok-Some.ensures.quiet in
     over_bank _ (λ (bank : List Handler). TellsRead bank c.args.asked.now.most name) plans _ _ _ _ (g.E.Write.contents c.args.err.now) (g.E.Write.contents c.read_plans.new.err) _
-    (map told c.as_slice.result.now) c.tell_file.result (subst (λ (l : List Planned). IsBank plans (map told l)) (sym c.as_slice.ensures.value) is_bank) (ap g.E.Write.contents (quiet refl))
+    (map handler_of c.as_slice.result.now) c.tell_file.result (subst (λ (l : List Planned). IsBank plans (map handler_of l)) (sym c.as_slice.ensures.value) is_bank) (ap g.E.Write.contents (quiet refl))
     c.tell_file.ensures

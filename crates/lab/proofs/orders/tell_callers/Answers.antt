@@ -1,6 +1,6 @@
 use Rattle.std.proofs.Common.{List, ℕ, codes, inl, inr, map, option_map}
 use Rattle.std.specs.Prelude.{unwrap_or}
-use Rattle.evl_plans.specs.Told.{told as told_by}
+use Rattle.evl_plans.specs.Told.{handler_of as told_by}
 use Rattle.lab.specs.Orders.{AsksOf, TellsAsked, TellsOutcomes, ask_fault_line}
 use Rattle.lab.proofs.OutputLemmas.{told_of, written_as}
 use Rattle.lab.proofs.orders.tell_callers.Goals as goal

@@ -1,6 +1,6 @@
 use Rattle.std.proofs.Common.{List, ℕ, Some, None, codes, map, option_map, refl, subst, sym}
 use Rattle.std.specs.Prelude.{unwrap_or}
-use Rattle.evl_plans.specs.Told.{told as told_by}
+use Rattle.evl_plans.specs.Told.{handler_of as told_by}
 use Rattle.lab.specs.Endings.{line_about}
 use Rattle.lab.specs.Orders.{TellsRead}
 use Rattle.lab.specs.Texts.{IsAllOf}

@@ -1,6 +1,6 @@
 use Rattle.std.proofs.Common.{codes, inl, inr, map, option_map}
 use Rattle.std.specs.Prelude.{unwrap_or}
-use Rattle.evl_plans.specs.Told.{told as told_by}
+use Rattle.evl_plans.specs.Told.{handler_of as told_by}
 use Rattle.lab.specs.Endings.{line_about}
 use Rattle.lab.specs.Orders.{AreCallersIn, TellsAsked, TellsText, text_fault_words}
 use Rattle.lab.proofs.OutputLemmas.{told_of, written_as}

@@ -1,7 +1,7 @@
 use Rattle.std.proofs.Common.{ℕ, List, Some, None, refl, subst, codes, [], map}
 use Rattle.std.proofs.KnownBytes.{Appends-nil}
 use Rattle.evl_shell.specs.Runs.{trace_of}
-use Rattle.evl_plans.specs.Told.{told as told_by}
+use Rattle.evl_plans.specs.Told.{handler_of as told_by}
 use Rattle.lab.specs.Plays.{TellsPlayed}
 use Rattle.lab.proofs.PlayLemmas.{each_file, ill_told, told_as}
 use Rattle.lab.proofs.plays.play_file.Goals as goal

@@ -1,6 +1,6 @@
 use Rattle.std.proofs.Common.{◌≡◌, ◌++◌, drop, flat_map, map}
 use Rattle.lab_faults.specs.Boards.{heading_faults}
-use Rattle.lab_faults.specs.Told.{told}
+use Rattle.lab_faults.specs.Told.{fault_told as told}
 use Rattle.lab_faults.proofs.boards.check_headings.Given as goal
 
 abbrev pub invariant-loop-heading : goal.invariant-loop-heading

@@ -1,6 +1,6 @@
 use Rattle.std.proofs.Common.{◌≡◌, ◌++◌, drop, flat_map, map}
 use Rattle.lab_faults.specs.Boards.{item_faults}
-use Rattle.lab_faults.specs.Told.{told}
+use Rattle.lab_faults.specs.Told.{fault_told as told}
 use Rattle.lab_faults.proofs.boards.check_items.Given as goal
 
 abbrev pub invariant-loop-item : goal.invariant-loop-item

@@ -1,7 +1,7 @@
 use Rattle.std.proofs.Common.{◌≡◌, ◌++◌, length, map, true}
 use Rattle.lab_faults.specs.Faults.{are_of_steps}
 use Rattle.lab_faults.specs.Steps.{all_step_faults}
-use Rattle.lab_faults.specs.Told.{told}
+use Rattle.lab_faults.specs.Told.{fault_told as told}
 use Rattle.lab_faults.proofs.runs.check_steps.Given as goal
 
 abbrev pub decreases-loop-rest : goal.decreases-loop-rest

@@ -1,7 +1,7 @@
 use Rattle.std.proofs.Common.{◌≡◌, ◌++◌, drop, map, true, flat_map}
 use Rattle.lab_faults.specs.Faults.{are_of_steps}
 use Rattle.lab_faults.specs.Steps.{missing_faults}
-use Rattle.lab_faults.specs.Told.{told}
+use Rattle.lab_faults.specs.Told.{fault_told as told}
 use Rattle.lab_faults.proofs.steps.note_all_missing.Given as goal
 
 abbrev pub invariant-loop-key : goal.invariant-loop-key

@@ -1,7 +1,7 @@
 use Rattle.std.proofs.Common.{◌≡◌, ◌++◌, drop, flat_map, map, true}
 use Rattle.lab_faults.specs.Faults.{are_of_steps}
 use Rattle.lab_faults.specs.Steps.{unknown_faults}
-use Rattle.lab_faults.specs.Told.{told}
+use Rattle.lab_faults.specs.Told.{fault_told as told}
 use Rattle.lab_faults.proofs.steps.note_all_unknown.Given as goal
 
 abbrev pub invariant-loop-item : goal.invariant-loop-item

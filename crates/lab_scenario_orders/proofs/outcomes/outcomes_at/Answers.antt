@@ -1,4 +1,4 @@
-use Rattle.lab_scenario_orders.specs.Callers.{Seen, first}
+use Rattle.lab_scenario_orders.specs.Callers.{Seen, first_seen}
 use Rattle.lab_scenario_orders.specs.Moments.{seen_at}
 use Rattle.lab_scenario_orders.specs.Told.{told_text}
 use Rattle.lab_scenario_orders.proofs.FirstLaws.{end_leads, led_on, over_on, weight_on}
@@ -9,7 +9,7 @@ pub loop-end-preserved : goal.loop-end-preserved
 loop-end-preserved g c =
     let callers = c.args.callers.now in
     let bank = g.B.BankMaker.bank c.args.bank.now in
-    let start = first callers bank in
+    let start = first_seen callers bank in
     let state = seen_at callers bank in
     let rest = c.loop-end.end-iterator.rest.items in
     let others = c.next.new.self.rest.items in

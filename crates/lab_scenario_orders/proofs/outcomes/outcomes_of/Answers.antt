@@ -2,7 +2,7 @@ use Rattle.std.proofs.Common.{◌∙◌, List, ap, sym}
 use Rattle.std.specs.Prelude.{sum_by}
 use Rattle.lab_orders.proofs.Totals.{total_of_ones}
 use Rattle.lab_orders.specs.Machines.{orders}
-use Rattle.lab_scenario_orders.specs.Callers.{first, machine}
+use Rattle.lab_scenario_orders.specs.Callers.{first_seen, machine}
 use Rattle.lab_scenario_orders.specs.Moments.{seen_at}
 use Rattle.lab_scenario_orders.specs.Told.{told_text}
 use Rattle.lab_scenario_orders.specs.declared.moments.Moment.{Moment}
@@ -26,7 +26,7 @@ returns-in-Ok-outcomes_at g c =
           (c.in-Ok-count_of.ensures ∙ ap (λ (ends : List (Node Moment)). sum_by (λ end. end.count) ends) c.as_slice.ensures.value)
           ∙ (sym (weight_of_ones (seen_at callers bank) found.ends.items)
           ∙ (ends.counted (λ seen. 1)
-          ∙ total_of_ones (orders (machine callers) (first callers bank) found.steps)));
+          ∙ total_of_ones (orders (machine callers) (first_seen callers bank) found.steps)));
       asked = ends.asked;
       gone = ends.gone;
       whole = ends.whole;

@@ -1,8 +1,8 @@
 use Rattle.std.proofs.Common.{◌≡◌, ◌++◌, drop, false, map}
 use Rattle.std.specs.Prelude.{string_bytes}
-use Rattle.lab_scenario_orders.specs.Splits.{scenario_lines, joined}
+use Rattle.lab_scenario_orders.specs.Splits.{scenario_lines, joined_lines}
 use Rattle.lab_scenario_orders.proofs.splits.scenario_in.Given as goal
 
 abbrev pub invariant-loop-line : goal.invariant-loop-line
 invariant-loop-line l =
-    string_bytes l.text ++ joined (scenario_lines l.was (map (λ line. line.now) (drop l.line-index l.lines))) ≡ joined (scenario_lines false (map (λ line. line.now) l.lines))
+    string_bytes l.text ++ joined_lines (scenario_lines l.was (map (λ line. line.now) (drop l.line-index l.lines))) ≡ joined_lines (scenario_lines false (map (λ line. line.now) l.lines))

@@ -1,7 +1,7 @@
 use Rattle.std.proofs.Common.{Some, sym, ◌∙◌, ap}
-use Rattle.evl_kernel.specs.histories.Replays.{stepped}
+use Rattle.evl_kernel.specs.histories.Replays.{step_outcome}
 use Rattle.evl_kernel.specs.state.States.{State}
-use Rattle.lab_scenario_orders.specs.Callers.{Seen, after, begun, is_held}
+use Rattle.lab_scenario_orders.specs.Callers.{Seen, after, state_begun, is_held}
 use Rattle.lab_scenario_orders.specs.Moments.{seen_at}
 use Rattle.lab_scenario_orders.proofs.TrailLaws.{blocked, makes}
 use Rattle.lab_scenario_orders.proofs.worlds.step_kernel.Goals as goal
@@ -21,5 +21,5 @@ returns-in-Ok-clause-next g c =
     let seen = seen_at callers bank c.args.moment.now in
     let step = c.args.step.now in
     let still = ap (λ (s : State). is_held callers.as_picked s step.who.0) (sym c.requires.state) ∙ (sym c.is_held.ensures ∙ c.if-is_held.false) in
-    ap (λ (s : Seen). Some s) (c.in-Ok.ensures.next (begun callers bank) c.requires.state ∙ ap (λ (s : State). after seen c.args.caller (stepped s step.who.0 step.call)) c.requires.state)
+    ap (λ (s : Seen). Some s) (c.in-Ok.ensures.next (state_begun callers bank) c.requires.state ∙ ap (λ (s : State). after seen c.args.caller (step_outcome s step.who.0 step.call)) c.requires.state)
     ∙ sym (makes callers.as_picked seen c.args.caller step still)

@@ -1,5 +1,5 @@
 use Rattle.std.proofs.Common.{◌≡◌, ◌+◌, ◌-◌, ◌<◌, length, take, vec_capacity, vec_len, ap, ◌∙◌, arith}
-use Rattle.evl_clock.specs.Agenda.{entered}
+use Rattle.evl_clock.specs.Agenda.{with_date}
 use Rattle.evl_clock.specs.Dues.{next_due}
 use Rattle.evl_clock.proofs.KeptLaws.{kept-put, others-few, others-fired, others-ordered}
 use Rattle.evl_clock.proofs.TimerLaws.{put_fired}
@@ -29,4 +29,4 @@ invariant_of-self-2 g c =
     let whole : vec_len c.self.inside.agenda ≡ length xs = omega (arith, c.self.inside.agenda.ok.0) in
     let others = others-fired _ xs room n ys c.self.invariant (ap next_due c.self.view_is ∙ c.requires.next) (c.pop.ensures.rest ∙ ap (λ m. take (m - 1) xs) whole) in
     kept-put _ xs ys c.enter.new.agenda.items room (vec_capacity c.enter.new.agenda) n c.fire-fired.new.self c.take_timer.new.timers.items c.self.invariant taken.1 others
-    (c.enter.ensures.entered ∙ ap (λ o. entered n o ys) c.date.ensures.date) (c.enter.ensures.room ∙ c.pop.ensures.capacity) taken.2
+    (c.enter.ensures.entered ∙ ap (λ o. with_date n o ys) c.date.ensures.date) (c.enter.ensures.room ∙ c.pop.ensures.capacity) taken.2

@@ -4,7 +4,7 @@ use mathlib.Core.Option.{none}
 use prog.Atomic.{either}
 use Rattle.atomic_table.specs.Table.{step}
 use Rattle.evl_words.specs.Gate.{entry_refusal}
-use Rattle.evl_words.specs.GateWord.{count_in, stage_in, packed, word_refusal, entered_word}
+use Rattle.evl_words.specs.GateWord.{count_in, stage_in, packed_gate, word_refusal, entered_word}
 use Rattle.evl_words.specs.GateWorld.{exchanges}
 use Rattle.evl_words.specs.GateRule.{Finds, Shows, view_in, entered}
 use Rattle.evl_words.specs.GateCalls.{SeatState, GateState}
@@ -29,7 +29,7 @@ compare_exchange-found-requires g c =
     let free : (view_in s.seat.me.0).held.stage ≡ None = ap (λ (z : SeatState). z.view.held.stage) c.seat.view_is ∙ c.requires.free in
     let limit : (view_in s.seat.me.0).held.limit ≡ c.args.self.now.limit = ap (λ (z : SeatState). z.view.held.limit) c.seat.view_is ∙ c.requires.mine.limit in
     let fits : word_refusal (view_in s.seat.me.0).held.limit c.args.word g.W.Wanting.stage ≡ None = (λ i. word_refusal (limit i) c.args.word (sym c.requires.wanted i)) ∙ c.requires.fits in
-    let new : c.pack.result ≡ entered_word c.args.word g.W.Wanting.stage = c.pack.ensures ∙ (λ i. packed (c.of-old.ensures.0 i + 1) (c.requires.wanted i) (c.of-old.ensures.2 i)) in
+    let new : c.pack.result ≡ entered_word c.args.word g.W.Wanting.stage = c.pack.ensures ∙ (λ i. packed_gate (c.of-old.ensures.0 i + 1) (c.requires.wanted i) (c.of-old.ensures.2 i)) in
     let one : t.table_id.words ≡ 1 = c.self.invariant.0 in (
       ap (λ (z : SeatState). z.table) c.seat.view_is ∙ c.requires.mine.table ∙ sym (ap (λ (z : GateState). z.table) c.self.view_is),
       omega arith,
