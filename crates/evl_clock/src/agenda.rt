@@ -60,7 +60,7 @@ fn place_of(entries: &[Entry], entry: Entry) -> usize
 
 /// What falls due first.
 pub fn first(entries: &[Entry]) -> Option<Entry>
-    ensures first_entry { result ≡ first_entry entries.now }
+    ensures first { result ≡ first_entry entries.now }
 {
     match entries.last() {
         Some(entry) => Some(*entry),
@@ -72,7 +72,7 @@ pub fn first(entries: &[Entry]) -> Option<Entry>
 pub fn enter<A: Allocator>(agenda: &mut Vec<Entry, A>, place: u16, date: Option<u64>)
     requires ordered { IsOrdered agenda.old.items }
     requires room { length agenda.old.items < vec_capacity agenda.old }
-    ensures with_date { agenda.new.items ≡ with_date place date agenda.old.items }
+    ensures entered { agenda.new.items ≡ with_date place date agenda.old.items }
     ensures room { vec_capacity agenda.new ≡ vec_capacity agenda.old }
 {
     let Some(date) = date else {
@@ -87,7 +87,7 @@ pub fn enter<A: Allocator>(agenda: &mut Vec<Entry, A>, place: u16, date: Option<
 pub fn leave<A: Allocator>(agenda: &mut Vec<Entry, A>, place: u16, date: Option<u64>)
     requires ordered { IsOrdered agenda.old.items }
     requires stands { IfSome date (λ d. place_of (entry place d) agenda.old.items < length agenda.old.items) }
-    ensures without_date { agenda.new.items ≡ without_date place date agenda.old.items }
+    ensures left { agenda.new.items ≡ without_date place date agenda.old.items }
     ensures room { vec_capacity agenda.new ≡ vec_capacity agenda.old }
 {
     let Some(date) = date else {

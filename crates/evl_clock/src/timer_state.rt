@@ -32,7 +32,7 @@ impl TimerState {
 
     /// How many whole periods a fire at the date `now` misses.
     pub fn missed(&self, now: u64) -> u64
-        ensures missed_periods { result ≡ missed_periods now self.now }
+        ensures missed { result ≡ missed_periods now self.now }
     {
         match *self {
             TimerState::Running { date, interval } => missed_of(now, date, interval),
@@ -55,7 +55,7 @@ impl TimerState {
 
 // How many whole periods lie between a date and the date now.
 fn missed_of(now: u64, date: u64, interval: u64) -> u64
-    ensures missed_periods { result ≡ missed_of now date interval }
+    ensures missed { result ≡ missed_of now date interval }
 {
     if interval == 0 {
         return 0;

@@ -395,7 +395,7 @@ fn opened<A: Allocator + Clone>(
     kinds: &[MutexKind],
     room: usize,
 ) -> Result<Vec<MutexRecord<A>, A>, AllocError>
-    ensures opened_mutex { IfOk result (λ ms. mutexes_of ms.items ≡ map opened_mutex kinds.now) }
+    ensures opened { IfOk result (λ ms. mutexes_of ms.items ≡ map opened_mutex kinds.now) }
     ensures room { IfOk result (λ ms. HaveRoom room ms.items) }
 {
     let mut mutexes = Vec::with_capacity(alloc.clone()?, kinds.len())?;

@@ -159,7 +159,7 @@ fn port_of<A: Allocator>(ports: &ByLine<Option<Port>, A>, line: u16) -> Option<P
 // Counts one more unhandled answer of a line, if the answer is one.
 fn count_unless<A: Allocator>(counts: &mut ByLine<u64, A>, line: u16, handled: bool)
     requires { line < line_count }
-    ensures count_raised { counts.new.items ≡ (if handled then counts.old.items else count_raised counts.old.items line) }
+    ensures counted { counts.new.items ≡ (if handled then counts.old.items else count_raised counts.old.items line) }
 {
     if !handled {
         let count = counts.get(line);

@@ -413,7 +413,7 @@ fn drain_group<A: Allocator>(groups: &mut Vec<Group, A>, group: u16, delta: u64)
 
 // Each group has its whole budget again; tells whether one of them had none before.
 fn refill_all<A: Allocator>(groups: &mut Vec<Group, A>) -> bool
-    ensures refilled_budgets { groups.new.items ≡ refilled_budgets groups.old.items }
+    ensures refilled { groups.new.items ≡ refilled_budgets groups.old.items }
     ensures same { result ≡ false → (other : Option ℕ) → has_budget groups.new.items other ≡ has_budget groups.old.items other }
 {
     let mut is_back = false;
@@ -470,7 +470,7 @@ fn no_ranks<A: Allocator>(alloc: A, threads: usize) -> Result<Vec<Option<u16>, A
 
 // A group of each part, with its whole budget.
 fn opened<A: Allocator>(alloc: A, percents: &[u8]) -> Result<Vec<Group, A>, AllocError>
-    ensures opened_group { IfOk result (λ gs. gs.items ≡ map opened_group percents.now) }
+    ensures opened { IfOk result (λ gs. gs.items ≡ map opened_group percents.now) }
 {
     let mut groups = Vec::with_capacity(alloc, percents.len())?;
     for percent in percents {

@@ -73,7 +73,7 @@ impl ArrivalQueue {
     /// didn't.
     pub fn remove(&mut self, thread: ThreadId) -> bool
         ensures there { result ≡ stands_in (λ t. t) thread.0 self.old }
-        ensures dropped_by { self.new ≡ dropped_by (λ t. t) thread.0 self.old }
+        ensures dropped { self.new ≡ dropped_by (λ t. t) thread.0 self.old }
     {
         let there = stands_in(self.threads.as_slice(), thread.0);
         self.threads = without(self.threads.as_slice(), thread.0);
@@ -99,7 +99,7 @@ fn stands_in(threads: &[u16], thread: u16) -> bool
 // All but this thread.
 fn without(threads: &[u16], thread: u16) -> ArrayVec<u16, MAX_THREADS>
     requires few { length threads.now ≤ thread_limit }
-    ensures dropped_by { result.items ≡ dropped_by (λ t. t) thread threads.now }
+    ensures dropped { result.items ≡ dropped_by (λ t. t) thread threads.now }
 {
     let mut kept = ArrayVec::new();
     for number in threads {

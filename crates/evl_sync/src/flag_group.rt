@@ -35,7 +35,7 @@ impl Model for FlagGroup {
 impl FlagGroup {
     /// A flag group with these bits, for which nobody waits. (Xenomai 4: EVL event flag group)
     pub fn new(bits: u32) -> FlagGroup
-        ensures opened_group { result ≡ opened_group bits }
+        ensures opened { result ≡ opened_group bits }
     {
         FlagGroup {
             bits,

@@ -18,7 +18,7 @@ pub fn is_empty_mask(kind: Take) -> bool
 /// Which of the bits the kind takes, or none where it isn't satisfied by them: `Any` takes all bits and `Of` those of
 /// its mask, where there are any; `Exact` takes its whole mask, where all of it is there.
 pub fn taken(kind: Take, bits: u32) -> Option<u32>
-    ensures bits_taken { result ≡ bits_taken kind bits }
+    ensures taken { result ≡ bits_taken kind bits }
 {
     match kind {
         Take::Any => some_bits(bits),

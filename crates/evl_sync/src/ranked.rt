@@ -28,7 +28,7 @@ pub(crate) trait Ranked: Copy + Default {
 pub(crate) fn leave<W: Ranked>(waiters: &mut ArrayVec<W, MAX_THREADS>, thread: u16) -> bool
     requires once { AreRanked W.thread_of W.rank_of waiters.old.items }
     ensures there { result ≡ stands_in W.thread_of thread waiters.old.items }
-    ensures dropped_by { waiters.new.items ≡ dropped_by W.thread_of thread waiters.old.items }
+    ensures dropped { waiters.new.items ≡ dropped_by W.thread_of thread waiters.old.items }
 {
     match place_of(waiters.as_slice(), thread) {
         Some(place) => {

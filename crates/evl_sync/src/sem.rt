@@ -36,7 +36,7 @@ impl Sem {
     /// A semaphore with this count, or with 2,147,483,647 where it is greater, for which nobody waits.
     /// (Xenomai 4: EVL semaphore; this profile)
     pub fn new(count: u32) -> Sem
-        ensures opened_semaphore { result ≡ opened_semaphore count }
+        ensures opened { result ≡ opened_semaphore count }
     {
         Sem {
             count: count.min(MAX_COUNT),

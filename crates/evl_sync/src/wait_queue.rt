@@ -95,7 +95,7 @@ impl WaitQueue {
     /// didn't.
     pub fn remove(&mut self, thread: ThreadId) -> bool
         ensures there { result ≡ stands_in (λ w. w.thread) thread.0 self.old }
-        ensures dropped_by { self.new ≡ dropped_by (λ w. w.thread) thread.0 self.old }
+        ensures dropped { self.new ≡ dropped_by (λ w. w.thread) thread.0 self.old }
     {
         leave(&mut self.waiters, thread.0)
     }

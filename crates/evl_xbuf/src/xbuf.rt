@@ -45,7 +45,7 @@ impl<A: Allocator + Clone> XbufOf<A> {
     pub fn new(alloc: A, inbound: u16, outbound: u16) -> Result<XbufOf<A>, Refusal>
         requires inbound { inbound ≤ 256 }
         requires outbound { outbound ≤ 256 }
-        ensures opened_xbuf { IfOk result (λ x. x ≡ opened_xbuf inbound outbound) }
+        ensures opened { IfOk result (λ x. x ≡ opened_xbuf inbound outbound) }
         ensures refusal { IfErr result (λ e. e ≡ Refusal.NoMemory) }
     {
         XbufOf::with_room(alloc, inbound, outbound).map_err(|_| Refusal::NoMemory)
@@ -54,7 +54,7 @@ impl<A: Allocator + Clone> XbufOf<A> {
     fn with_room(alloc: A, inbound: u16, outbound: u16) -> Result<XbufOf<A>, AllocError>
         requires inbound { inbound ≤ 256 }
         requires outbound { outbound ≤ 256 }
-        ensures opened_xbuf { IfOk result (λ x. x ≡ opened_xbuf inbound outbound) }
+        ensures opened { IfOk result (λ x. x ≡ opened_xbuf inbound outbound) }
     {
         let inbound = Stream::new(alloc.clone()?, inbound)?;
         let outbound = Stream::new(alloc, outbound)?;

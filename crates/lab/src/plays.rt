@@ -123,7 +123,7 @@ fn play_file<R: Files + AllocGlobal, I: Read, O: Write, E: Write>(
     err: &mut E,
 ) -> io::Result<bool>
     requires { length plans.now ≤ 64 }
-    ensures handler_of { IfOk result (PlaysEach (IsPlayed playing.entry.telling (map handler_of plans.now) playing.entry.limit) (name.now ∷ []) (I.remaining input.old) (O.contents out.old) (O.contents out.new) (E.contents err.old) (E.contents err.new)) }
+    ensures told { IfOk result (PlaysEach (IsPlayed playing.entry.telling (map handler_of plans.now) playing.entry.limit) (name.now ∷ []) (I.remaining input.old) (O.contents out.old) (O.contents out.new) (E.contents err.old) (E.contents err.new)) }
     ensures input { is_input name.now ≡ false → input.new ≡ input.old }
 {
     match read_text(rt, Some(name), input) {

@@ -91,7 +91,7 @@ fn found_in_board(alloc: Global, text: &[u8]) -> Result<Vec<Found>, AllocError>
 
 // The faults of the steps: the board of a text that is refused for a step is without fault.
 fn found_in_steps(alloc: Global, text: &[u8]) -> Result<Vec<Found>, AllocError>
-    ensures fault_told { IfOk result (λ found. map fault_told found.items ≡ faults_in_steps text.now) }
+    ensures told { IfOk result (λ found. map fault_told found.items ≡ faults_in_steps text.now) }
     ensures steps { IfOk result (λ found. are_of_steps found.items ≡ true) }
 {
     let mut finding = Finding {
@@ -106,7 +106,7 @@ fn found_in_steps(alloc: Global, text: &[u8]) -> Result<Vec<Found>, AllocError>
 
 // All faults that are found in a text that was refused for this one.
 fn all_found(alloc: Global, text: &[u8], fault: Fault) -> Result<Vec<Found>, AllocError>
-    ensures fault_told { IfOk result (λ found. Finds text.now fault (map fault_told found.items)) }
+    ensures told { IfOk result (λ found. Finds text.now fault (map fault_told found.items)) }
     ensures steps { IfOk result (λ found. is_of_step fault ≡ true → are_of_steps found.items ≡ true) }
 {
     match fault {
@@ -129,7 +129,7 @@ fn begins_with(found: &[Found], fault: Fault) -> bool
 
 // A fault in front of others.
 fn in_front(fault: Fault, words: String, others: Vec<Found>) -> Result<Vec<Found>, AllocError>
-    ensures fault_told { IfOk result (λ found. string_bytes words ≡ plain_text fault → map fault_told found.items ≡ plain_told fault ∷ map fault_told others.items) }
+    ensures told { IfOk result (λ found. string_bytes words ≡ plain_text fault → map fault_told found.items ≡ plain_told fault ∷ map fault_told others.items) }
     ensures first { IfOk result (λ found. first_fault found.items ≡ Some fault) }
     ensures steps { IfOk result (λ found. is_of_step fault ≡ true → are_of_steps others.items ≡ true → are_of_steps found.items ≡ true) }
 {
@@ -147,7 +147,7 @@ fn in_front(fault: Fault, words: String, others: Vec<Found>) -> Result<Vec<Found
 
 // The faults of a text that was refused for this one, which is the first of them.
 fn explain(alloc: Global, text: &[u8], fault: Fault) -> Result<Vec<Found>, AllocError>
-    ensures fault_told { IfOk result (λ found. Tells text.now fault (map fault_told found.items)) }
+    ensures told { IfOk result (λ found. Tells text.now fault (map fault_told found.items)) }
     ensures first { IfOk result (λ found. first_fault found.items ≡ Some fault) }
     ensures steps { IfOk result (λ found. is_of_step fault ≡ true → are_of_steps found.items ≡ true) }
 {
@@ -164,7 +164,7 @@ fn explain(alloc: Global, text: &[u8], fault: Fault) -> Result<Vec<Found>, Alloc
 /// be played, and the first is the one that it is refused for: of the text, of the board, or of the first step that
 /// can't be read; in that last case none is of the text or the board. `AllocError` where memory couldn't grow.
 pub fn check(alloc: Global, text: &[u8]) -> Result<Vec<Found>, AllocError>
-    ensures fault_told { IfOk result (λ found. (fault : Fault) → scenario_of None text.now ≡ Err fault → Tells text.now fault (map fault_told found.items)) }
+    ensures told { IfOk result (λ found. (fault : Fault) → scenario_of None text.now ≡ Err fault → Tells text.now fault (map fault_told found.items)) }
     ensures first { IfOk result (λ found. first_fault found.items ≡ refusal_in (scenario_of None text.now)) }
     ensures steps { IfOk result (λ found. (fault : Fault) → scenario_of None text.now ≡ Err fault → is_of_step fault ≡ true → are_of_steps found.items ≡ true) }
 {

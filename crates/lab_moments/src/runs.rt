@@ -23,7 +23,7 @@ fn made(
 ) -> Result<Moment, AllocError>
     ensures limit { kernel.new.limit ≡ kernel.old.limit }
     ensures turned { IfOk result (λ m. moment kernel.new ≡ (turn kernel.old.limit (moment kernel.old) step).after) }
-    ensures moment_shown { IfOk result (λ m. moment_shown m ≡ shown_at lanes.now kernel.new.history.state) }
+    ensures shown { IfOk result (λ m. moment_shown m ≡ shown_at lanes.now kernel.new.history.state) }
 {
     let Step { who, call } = step;
     let answer = kernel.apply(who, call);

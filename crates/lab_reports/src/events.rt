@@ -142,7 +142,7 @@ fn put_order(json: &mut String, lane: Lane) -> Result<(), AllocError>
 // Writes what names the track of a lane, where it has no name yet.
 fn put_names(json: &mut String, named: &mut Vec<u32>, lane: Lane) -> Result<(), AllocError>
     ensures text { OnOk result (string_bytes json.new ≡ string_bytes json.old ++ names_text named.old.items lane) }
-    ensures event_noted { OnOk result (named.new.items ≡ event_noted named.old.items (track lane)) }
+    ensures noted { OnOk result (named.new.items ≡ event_noted named.old.items (track lane)) }
 {
     let track = track_of(lane);
     if named.contains(&track) {

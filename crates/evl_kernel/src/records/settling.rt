@@ -22,7 +22,7 @@ impl<C: Drop, A: Allocator> Records<C, A> {
     // Carries out one action of a callback on a line: what its call does, and nothing where that would be refused.
     #[inline(never)]
     fn act(&mut self, line: LineNo, action: Action, lists: &mut ServedLists)
-        ensures after_action { state_of self.new ≡ after_action (state_of self.old) line.0 action }
+        ensures acted { state_of self.new ≡ after_action (state_of self.old) line.0 action }
         ensures stands { KeepsCallbacks self.old self.new }
     {
         match action {
@@ -39,7 +39,7 @@ impl<C: Drop, A: Allocator> Records<C, A> {
     // Carries out the actions of an answer, in order.
     #[inline(always)]
     fn carry_out(&mut self, line: LineNo, actions: &[Action], lists: &mut ServedLists)
-        ensures after_action { state_of self.new ≡ all_acted (state_of self.old) line.0 actions.now }
+        ensures acted { state_of self.new ≡ all_acted (state_of self.old) line.0 actions.now }
         ensures stands { KeepsCallbacks self.old self.new }
     {
         for action in actions {
@@ -50,7 +50,7 @@ impl<C: Drop, A: Allocator> Records<C, A> {
     // Carries out what a callback on a line answered; nothing where it didn't handle its fire.
     #[inline(always)]
     fn respond(&mut self, line: LineNo, answer: &Answer, lists: &mut ServedLists)
-        ensures after_answer { state_of self.new ≡ after_answer (state_of self.old) line.0 answer.now }
+        ensures answered { state_of self.new ≡ after_answer (state_of self.old) line.0 answer.now }
         ensures stands { KeepsCallbacks self.old self.new }
     {
         self.carry_out(line, answer.carried_out(), lists);
