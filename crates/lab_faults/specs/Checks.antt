@@ -7,7 +7,7 @@ use Rattle.lab_faults.specs.Boards.{board_faults}
 use Rattle.lab_faults.specs.Faults.{found_lines}
 use Rattle.lab_faults.specs.Keys.{text_headings, text_keys}
 use Rattle.lab_faults.specs.Steps.{all_step_faults}
-use Rattle.lab_faults.specs.Told.{Told, fault_told as told, told_at}
+use Rattle.lab_faults.specs.Told.{Told, fault_told, told_at}
 use Rattle.lab_faults.specs.declared.found.Found.{Found}
 
 -- ---- of the text
@@ -75,5 +75,5 @@ pub record Tells (text : List ℕ) (fault : Fault) (faults : List Told) : Type 0
 -- its lines were added
 pub record TellsLines (name text : List ℕ) (fault : Fault) (old new : List ℕ) : Type 0 where
   pub found : List Found
-  pub tells : Tells text fault (map told found)
+  pub tells : Tells text fault (map fault_told found)
   pub lines : new ≡ old ++ found_lines name found

@@ -26,8 +26,8 @@ pub record Told : Type 0 where
   pub place : Place
   pub words : List ℕ
 
-abbrev pub told : Found → Told
-told found = record { fault = found.fault; place = found.place; words = string_bytes found.words }
+abbrev pub fault_told : Found → Told
+fault_told found = record { fault = found.fault; place = found.place; words = string_bytes found.words }
 
 abbrev pub told_at : List ℕ → Fault → ℕ → List ℕ → Told
 told_at text fault at words = record { fault = fault; place = place_at text at; words = words }
@@ -35,4 +35,4 @@ told_at text fault at words = record { fault = fault; place = place_at text at; 
 -- these were found behind those before, in the same text
 pub record Adds (old new : Finding) (faults : List Told) : Type 0 where
   pub text : new.text ≡ old.text
-  pub told : map told new.found.items ≡ map told old.found.items ++ faults
+  pub told : map fault_told new.found.items ≡ map fault_told old.found.items ++ faults

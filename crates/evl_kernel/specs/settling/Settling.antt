@@ -36,16 +36,16 @@ use Rattle.evl_kernel.specs.calls.TimerCalls as timer_call
 abbrev pub Left : Type 0
 Left = List Touch × State
 
-abbrev pub left : State → Told → Left
-left s told = (told.touches, if_done s told.effect)
+abbrev pub left_after : State → Told → Left
+left_after s told = (told.touches, if_done s told.effect)
 
 -- an action does what its call does
 abbrev pub acting : State → ℕ → Action → Left
-acting s line (PostSem sem) = left s (touched s None (on_sem sem.0 put))
-acting s line (PostFlags flags bits) = left s (touched s None (on_flags flags.0 (group.post bits)))
-acting s line Propagate = left s (untouched (line_call.post s Inband line))
-acting s line (PostOob other) = left s (untouched (line_call.post s Oob other.0))
-acting s line (StopTimer timer) = left s (untouched (timer_call.stop_timer s timer.0))
+acting s line (PostSem sem) = left_after s (touched s None (on_sem sem.0 put))
+acting s line (PostFlags flags bits) = left_after s (touched s None (on_flags flags.0 (group.post bits)))
+acting s line Propagate = left_after s (untouched (line_call.post s Inband line))
+acting s line (PostOob other) = left_after s (untouched (line_call.post s Oob other.0))
+acting s line (StopTimer timer) = left_after s (untouched (timer_call.stop_timer s timer.0))
 
 abbrev pub after_action : State → ℕ → Action → State
 after_action s line action = (acting s line action).1
@@ -108,7 +108,7 @@ timer_there s n = unwrap_or (timer_at s.clock n) no_timer
 
 -- a deadline that falls due ends its thread's wait, and is gone itself
 abbrev pub deadline_left : State → ℕ → Left
-deadline_left s thread = left (woken s thread TimedOut) (expiring s thread)
+deadline_left s thread = left_after (woken s thread TimedOut) (expiring s thread)
 
 -- a due item is played: a timer fires, or a deadline ends a wait
 abbrev pub item_played : State → Item → Play × State
@@ -128,8 +128,8 @@ is_clock Inband line = false
 abbrev pub nothing : lines.Installed ℕ
 nothing = record { callback = callback_limit; tag = 0; count = 0 }
 
-abbrev pub played : State → Stage → ℕ → Play × State
-played s stage line =
+abbrev pub line_played : State → Stage → ℕ → Play × State
+line_played s stage line =
     if is_clock stage line then clock_played s
     else line_played s stage line (unwrap_or (lines.installed_at s.lines stage line) nothing)
 
@@ -166,11 +166,11 @@ moving touches (one, next) = (record { play = one; touches = touches }, next)
 
 abbrev pub move_of : Settling → Option (Stage × ℕ) → Option (Move × Settling)
 move_of at None = None
-move_of at (Some (stage, line)) = Some (moving (play_touches at.state stage line) (going_on at stage (played at.state stage line)))
+move_of at (Some (stage, line)) = Some (moving (play_touches at.state stage line) (going_on at stage (line_played at.state stage line)))
 
 abbrev pub next_of : Settling → Option (Stage × ℕ) → Option (Play × Settling)
 next_of at None = None
-next_of at (Some (stage, line)) = Some (going_on at stage (played at.state stage line))
+next_of at (Some (stage, line)) = Some (going_on at stage (line_played at.state stage line))
 
 -- the lowest playable line, an out-of-band one before an in-band one, which an eligible thread holds back
 abbrev pub line_next : Settling → Option (Stage × ℕ)

@@ -1,10 +1,10 @@
 use Rattle.std.proofs.Common.{◌≡◌, ◌++◌, drop, flat_map, map}
 use Rattle.lab_faults.specs.Boards.{heading_faults}
-use Rattle.lab_faults.specs.Told.{fault_told as told}
+use Rattle.lab_faults.specs.Told.{fault_told}
 use Rattle.lab_faults.proofs.boards.check_headings.Given as goal
 
 abbrev pub invariant-loop-heading : goal.invariant-loop-heading
 invariant-loop-heading l = record {
   text : l.finding.text ≡ l.initial.finding.text;
-  told : map told l.finding.found.items ++ flat_map (heading_faults l.initial.finding.text.now) (drop l.heading-index l.headings) ≡ map told l.initial.finding.found.items ++ flat_map (heading_faults l.initial.finding.text.now) l.headings;
+  told : map fault_told l.finding.found.items ++ flat_map (heading_faults l.initial.finding.text.now) (drop l.heading-index l.headings) ≡ map fault_told l.initial.finding.found.items ++ flat_map (heading_faults l.initial.finding.text.now) l.headings;
 }

@@ -1,7 +1,7 @@
 use Rattle.std.proofs.Common.{◌≡◌, ◌++◌, length, map, true}
 use Rattle.lab_faults.specs.Faults.{are_of_steps}
 use Rattle.lab_faults.specs.Steps.{all_step_faults}
-use Rattle.lab_faults.specs.Told.{fault_told as told}
+use Rattle.lab_faults.specs.Told.{fault_told}
 use Rattle.lab_faults.proofs.runs.check_steps.Given as goal
 
 abbrev pub decreases-loop-rest : goal.decreases-loop-rest
@@ -10,6 +10,6 @@ decreases-loop-rest l = length l.rest
 abbrev pub invariant-loop-rest : goal.invariant-loop-rest
 invariant-loop-rest l = record {
   text : l.finding.text ≡ l.initial.finding.text;
-  told : map told l.finding.found.items ++ all_step_faults l.initial.finding.text.now l.rest ≡ map told l.initial.finding.found.items ++ all_step_faults l.initial.finding.text.now l.items;
+  told : map fault_told l.finding.found.items ++ all_step_faults l.initial.finding.text.now l.rest ≡ map fault_told l.initial.finding.found.items ++ all_step_faults l.initial.finding.text.now l.items;
   steps : are_of_steps l.initial.finding.found.items ≡ true → are_of_steps l.finding.found.items ≡ true;
 }
