@@ -10,7 +10,7 @@ use Rattle.lab_faults.specs.declared.items.Item.{Item}
 -- as many more as were told
 longer : (old new : List Found) (faults : List Told) → map fault_told new ≡ map fault_told old ++ faults → length new ≡ length old + length faults
 longer old new faults e =
-    sym (length-map new told) ∙ ap length e ∙ length-append (map fault_told old) faults ∙ ap (λ (n : ℕ). n + length faults) (length-map old told)
+    sym (length-map new fault_told) ∙ ap length e ∙ length-append (map fault_told old) faults ∙ ap (λ (n : ℕ). n + length faults) (length-map old fault_told)
 
 some_by : (old new : Finding) (text : List ℕ) (number at : ℕ) (faults : List Told) → Adds old new faults
     → length old.found.items < length new.found.items → Adds old new (or_unread text number at faults)
