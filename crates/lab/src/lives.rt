@@ -43,7 +43,7 @@ fn take_byte(
 ) -> Result<(), AllocError>
     requires { Lacks 10 waiting.old.items }
     ensures waits { OnOk result (Lacks 10 waiting.new.items) }
-    ensures heard { OnOk result ((answers : List ℕ) × Hears (byte ∷ []) waiting.old.items waiting.new.items session.old session.new answers × (string_bytes handler_of.new ≡ string_bytes handler_of.old ++ answers)) }
+    ensures heard { OnOk result ((answers : List ℕ) × Hears (byte ∷ []) waiting.old.items waiting.new.items session.old session.new answers × (string_bytes told.new ≡ string_bytes told.old ++ answers)) }
 {
     if byte == b'\n' {
         answer_line(alloc, session, waiting.as_slice(), told)?;
@@ -64,7 +64,7 @@ fn take_bytes(
 ) -> Result<(), AllocError>
     requires { Lacks 10 waiting.old.items }
     ensures waits { OnOk result (Lacks 10 waiting.new.items) }
-    ensures heard { OnOk result ((answers : List ℕ) × Hears bytes.now waiting.old.items waiting.new.items session.old session.new answers × (string_bytes handler_of.new ≡ string_bytes handler_of.old ++ answers)) }
+    ensures heard { OnOk result ((answers : List ℕ) × Hears bytes.now waiting.old.items waiting.new.items session.old session.new answers × (string_bytes told.new ≡ string_bytes told.old ++ answers)) }
 {
     for byte in bytes {
         take_byte(alloc, session, *byte, waiting, told)?;

@@ -21,7 +21,7 @@ fn not_toml(alloc: Global, why: &str) -> Result<String, AllocError>
 
 // Where a text is no TOML document, and why.
 fn refused_for(alloc: Global, text: &[u8]) -> Result<(usize, String), AllocError>
-    ensures { IfOk result (λ fault_told. IsRefusedFor text.now (string_bytes fault_told.1)) }
+    ensures { IfOk result (λ told. IsRefusedFor text.now (string_bytes told.1)) }
 {
     match toml::table_from_slice(alloc, text) {
         Ok(_) => Ok((0, format!(in alloc; "the text can't be read")?)),
@@ -38,7 +38,7 @@ fn refused_for(alloc: Global, text: &[u8]) -> Result<(usize, String), AllocError
 
 // Where a text can't be read, and why.
 fn syntax(alloc: Global, text: &[u8]) -> Result<(usize, String), AllocError>
-    ensures { IfOk result (λ fault_told. IsTextFault text.now fault_told.0 (string_bytes fault_told.1)) }
+    ensures { IfOk result (λ told. IsTextFault text.now told.0 (string_bytes told.1)) }
 {
     if text.len() > 1_048_576 {
         let words = format!(in alloc; "the text has more than 1048576 bytes")?;
