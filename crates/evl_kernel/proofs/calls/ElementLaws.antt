@@ -41,7 +41,7 @@ use Rattle.evl_clock.specs.declared.due.Item.TheVariants as item
 use Rattle.evl_sched.specs.Threads.{stage_of}
 use Rattle.evl_kernel.specs.calls.Families.{LineStep, request, free, arrive, post, stall, unstall, line_effect, ClockStep, tick, read_date, new_timer, start_timer, stop_timer, drop_timer, overruns, clock_effect, ThreadStep, attach, detach, set_policy, set_stage, pick, tell_rank, thread_effect, Task, on_lines, on_clock, on_threads, on_element, on_staged, begins, ends, performing, task_of, raises}
 use Rattle.evl_kernel.specs.calls.Serving.{serving, general_refusal, what_call_does, answer}
-use Rattle.evl_kernel.specs.settling.Settling.{Settling, Move, deadline_left, next_play, next_move, moving, acting, after_action, all_acting, all_acted, responding, answer_given, timer_given, timer_there, item_played, item_touches, line_left, play_touches, line_played, line_played, clock_played, is_clock, after_call, nothing}
+use Rattle.evl_kernel.specs.settling.Settling.{Settling, Move, deadline_left, next_play, next_move, moving, acting, after_action, all_acting, all_acted, responding, answer_given, timer_given, timer_there, item_played, item_touches, line_left, play_touches, pending_played, line_played, clock_played, is_clock, after_call, nothing}
 use Rattle.evl_kernel.specs.histories.Histories.{Run, Follows, opened_kernel}
 use Rattle.evl_kernel.specs.state.Openings.{opening}
 use Rattle.evl_kernel.specs.histories.Replays.{plays_in, touches_in, settled_moves, outcome_of, replayed, outcomes, touches_of, led_to, touches}
@@ -241,7 +241,7 @@ responding_tells s line answer = by answer.handled
 line_tells : (s : State) (stage : Stage) (line : ℕ) (at : lines.Installed ℕ) → Tells s (line_left s stage line at).0 (line_left s stage line at).1
 line_tells s stage line at = responding_tells (with_lines s (lines.played s.lines stage line at (answer_given s at).handled)) line (answer_given s at)
 
-played_tells : (s : State) (stage : Stage) (line : ℕ) → Tells s (play_touches s stage line) (line_played s stage line).1
+played_tells : (s : State) (stage : Stage) (line : ℕ) → Tells s (play_touches s stage line) (pending_played s stage line).1
 played_tells s stage line = by (is_clock stage line)
   where
     at : lines.Installed ℕ

@@ -47,7 +47,7 @@ use Rattle.evl_kernel.specs.calls.ThreadCalls as thread_call
 use Rattle.evl_sched.specs.Threads.{stage_of}
 use Rattle.evl_kernel.specs.calls.Families.{LineStep, request, free, arrive, post, stall, unstall, line_effect, ClockStep, tick, read_date, new_timer, start_timer, stop_timer, drop_timer, overruns, clock_effect, ThreadStep, attach, detach, set_policy, set_stage, pick, tell_rank, thread_effect, Task, on_lines, on_clock, on_threads, on_element, on_staged, begins, ends, performing, task_of, raises}
 use Rattle.evl_kernel.specs.calls.Serving.{general_refusal, answer}
-use Rattle.evl_kernel.specs.settling.Settling.{after_action, all_acted, after_answer, deadline_left, timer_given, timer_there, item_played, clock_goes_on, line_played, line_played, clock_played, nothing}
+use Rattle.evl_kernel.specs.settling.Settling.{after_action, all_acted, after_answer, deadline_left, timer_given, timer_there, item_played, clock_goes_on, pending_played, line_played, clock_played, nothing}
 use Rattle.evl_kernel.proofs.state.RenamedLaws.{lookup-map}
 use Rattle.evl_kernel.specs.calls.ThreadCalls.{detach_refusal}
 use Rattle.evl_kernel.specs.calls.OwnerCalls.{raiser_refusal}
@@ -372,7 +372,7 @@ outside-answered s line answer = by answer.handled
 abbrev pub out_play : Play × State → Play × State
 out_play p = (p.0, outside p.1)
 
-pub out-played : (s : State) (line : ℕ) → out_play (line_played (outside s) Oob line) ≡ out_play (line_played s Oob line)
+pub out-played : (s : State) (line : ℕ) → out_play (pending_played (outside s) Oob line) ≡ out_play (pending_played s Oob line)
 out-played s line = by (line == 0)
   where
     at : lines.Installed ℕ
@@ -419,7 +419,7 @@ item_outside x = if x.1 then next_due x.0.clock else None
 
 abbrev pub line_outside : State → Option (Play × Outer)
 line_outside s =
-    if is_some (least s.lines.oob.pending) && not s.lines.oob.stalled then option_map (λ line. onward (out_play (line_played s Oob line))) (least s.lines.oob.pending) else None
+    if is_some (least s.lines.oob.pending) && not s.lines.oob.stalled then option_map (λ line. onward (out_play (pending_played s Oob line))) (least s.lines.oob.pending) else None
 
 abbrev pub item_or_line : Outer → Option Item → Option (Play × Outer)
 item_or_line x (Some found) = Some (onward (out_play (item_played x.0 found)))
@@ -438,7 +438,7 @@ unfolding next_outside
 next_outside-item s b found is = ap (item_or_line (outside s, b)) is ∙ ap (λ (x : Play × State). Some (onward x)) (out-item s found)
 
 pub next_outside-plays : (s : State) (b : Bool) (line : ℕ) → item_outside (s, b) ≡ None → (is_some (least s.lines.oob.pending) && not s.lines.oob.stalled) ≡ true → least s.lines.oob.pending ≡ Some line
-    → next_outside (outside s, b) ≡ Some (onward (out_play (line_played s Oob line)))
+    → next_outside (outside s, b) ≡ Some (onward (out_play (pending_played s Oob line)))
 unfolding next_outside
 next_outside-plays s b line none playable low = ap (item_or_line (outside s, b)) none ∙ rw (playable, low) (ap (λ (x : Play × State). Some (onward x)) (out-played s line))
 
@@ -456,7 +456,7 @@ answered-silent s line answer none = ap (λ (actions : List Action). if answer.h
     by false = refl
 
 pub outside-silent_play : (s : State) (line : ℕ) (at : lines.Installed ℕ) → lines.installed_at s.lines Inband line ≡ Some at → (plan_at s at.callback).rows.items ≡ []
-    → outside (line_played s Inband line).1 ≡ outside s
+    → outside (pending_played s Inband line).1 ≡ outside s
 outside-silent_play s line at there silent =
     let given = answer_of (plan_at s at.callback) (one_more at.count) in
     ap (λ (o : Option (lines.Installed ℕ)). outside (line_played s Inband line (unwrap_or o nothing)).1) there

@@ -28,7 +28,7 @@ use Rattle.evl_kernel.specs.calls.LineCalls as line_call
 use Rattle.evl_sched.specs.Threads.{stage_of}
 use Rattle.evl_kernel.specs.calls.Families.{LineStep, request, free, arrive, post, stall, unstall, line_effect, Task, on_lines, on_clock, on_threads, on_element, on_staged, begins, ends, performing, task_of, raises}
 use Rattle.evl_kernel.specs.calls.Serving.{serve_call, general_refusal, answer}
-use Rattle.evl_kernel.specs.settling.Settling.{after_action, all_acted, after_answer, item_played, line_played, line_played, clock_played, nothing}
+use Rattle.evl_kernel.specs.settling.Settling.{after_action, all_acted, after_answer, item_played, pending_played, line_played, clock_played, nothing}
 use Rattle.evl_kernel.specs.state.Openings.{opening}
 use Rattle.evl_clock.specs.declared.due.Item.{Item}
 use Rattle.evl_clock.specs.Dues.{next_due}
@@ -219,7 +219,7 @@ module _ (start : State) where
       by (Some at) e = (at, refl)
 
   -- a play
-  pub silent-played : (s : State) (stage : Stage) (line : ℕ) → IsSilent start s → lines.is_pending s.lines stage line ≡ true → IsSilent start (line_played s stage line).1
+  pub silent-played : (s : State) (stage : Stage) (line : ℕ) → IsSilent start s → lines.is_pending s.lines stage line ≡ true → IsSilent start (pending_played s stage line).1
   silent-played s Inband line h pends =
       let found = inband_there s line h pends in
       subst (λ (o : Option (lines.Installed ℕ)). IsSilent start (line_played s Inband line (unwrap_or o nothing)).1) (sym found.1) (silent-line_played s Inband line found.0 h found.1)

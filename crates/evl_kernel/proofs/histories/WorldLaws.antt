@@ -25,7 +25,7 @@ use Rattle.evl_kernel.specs.state.States.{State, with_lines, plan_at}
 use Rattle.evl_kernel.specs.calls.Effects.{Effect, done, refused_by}
 use Rattle.evl_kernel.specs.calls.Families.{LineStep, request, free, arrive, post, stall, unstall, line_effect, Task, on_lines, on_clock, on_threads, on_element, on_staged, begins, ends, performing, task_of, raises}
 use Rattle.evl_kernel.specs.calls.Serving.{general_refusal, answer}
-use Rattle.evl_kernel.specs.settling.Settling.{Settling, item_next, next_play, going_on, is_of_clock, item_played, line_played, line_played, clock_played, after_call, nothing}
+use Rattle.evl_kernel.specs.settling.Settling.{Settling, item_next, next_play, going_on, is_of_clock, item_played, pending_played, line_played, clock_played, after_call, nothing}
 use Rattle.evl_kernel.specs.histories.Histories.{History, Run, Follows, IsLegal, opened_kernel}
 use Rattle.evl_kernel.specs.state.Openings.{opening}
 use Rattle.evl_kernel.specs.histories.Worlds.{is_inband_step, is_inband_task, is_inband_stall, is_inband_play, outside_inband, played_outside, RequestsNoActions}
@@ -95,7 +95,7 @@ item_shows at found is = inl (beside found, next_outside-item at.state at.in_clo
     beside (item.Timer id) = refl
     beside (item.Deadline thread) = refl
 
-played_shows : (start : State) (at : Settling) (stage : Stage) (line : ℕ) → IsSilent start at.state → IsProper at → item_next at ≡ None → Chosen at.state.lines stage line → Shows at (going_on at stage (line_played at.state stage line))
+played_shows : (start : State) (at : Settling) (stage : Stage) (line : ℕ) → IsSilent start at.state → IsProper at → item_next at ≡ None → Chosen at.state.lines stage line → Shows at (going_on at stage (pending_played at.state stage line))
 played_shows start at Oob line h proper none low = inl (beside (line == 0), next_outside-plays at.state at.in_clock line none low.0 low.1)
   where
     beside : (b : Bool) → is_inband_play (if b then clock_played at.state else line_played at.state Oob line (unwrap_or (lines.installed_at at.state.lines Oob line) nothing)).0 ≡ false
@@ -124,7 +124,7 @@ next_shows start at mid one h next = one_played (λ (x : Play × Settling). Show
       played_shows start at stage line h.silent h.proper none low,
       record {
         silent = silent-played start at.state stage line h.silent (chosen_pends at.state.lines stage line low);
-        proper = proper_on at stage (line_played at.state stage line);
+        proper = proper_on at stage (pending_played at.state stage line);
       },
     )) next
 

@@ -12,7 +12,7 @@ use Rattle.evl_clock.specs.declared.timer.Timer.{Timer}
 use Rattle.evl_clock.specs.Clocks.{Clock, timer_at}
 use Rattle.evl_clock.specs.Dues.{next_due}
 use Rattle.evl_clock.proofs.DueLaws.{not-empty}
-use Rattle.evl_kernel.specs.settling.Settling.{Settling, item_played, item_touches, item_next, item_before, item_moves, line_next, move_of, moving, next_move, next_of, next_play, going_on, play_touches, line_played}
+use Rattle.evl_kernel.specs.settling.Settling.{Settling, item_played, item_touches, item_next, item_before, item_moves, line_next, move_of, moving, next_move, next_of, next_play, going_on, play_touches, pending_played}
 
 -- what is looked for in the clock is what is due
 pub item_due : (at : Settling) (found : Item) → item_next at ≡ Some found → next_due at.state.clock ≡ Some found
@@ -33,7 +33,7 @@ timer_found {C} c id due = by (timer_at c id.0) refl
 -- a play is that of a due item, or of a line
 pub one_played : (P : Play × Settling → Type 0) (at mid : Settling) (one : Play)
     → ((found : Item) → item_next at ≡ Some found → P (going_on at Oob (item_played at.state found)))
-    → ((stage : Stage) (line : ℕ) → item_next at ≡ None → line_next at ≡ Some (stage, line) → P (going_on at stage (line_played at.state stage line)))
+    → ((stage : Stage) (line : ℕ) → item_next at ≡ None → line_next at ≡ Some (stage, line) → P (going_on at stage (pending_played at.state stage line)))
     → next_play at ≡ Some (one, mid) → P (one, mid)
 unfolding next_play
 one_played P at mid one items each next = by (item_next at) refl next
@@ -65,7 +65,7 @@ unfolding next_move
 moves_item at found is = ap (item_moves at) is
 
 pub moves_line : (at : Settling) (stage : Stage) (line : ℕ) → item_next at ≡ None → line_next at ≡ Some (stage, line)
-    → next_move at ≡ Some (moving (play_touches at.state stage line) (going_on at stage (line_played at.state stage line)))
+    → next_move at ≡ Some (moving (play_touches at.state stage line) (going_on at stage (pending_played at.state stage line)))
 unfolding next_move
 moves_line at stage line none is = ap (item_moves at) none ∙ ap (move_of at) is
 

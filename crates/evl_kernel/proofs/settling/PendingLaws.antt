@@ -46,7 +46,7 @@ use Rattle.evl_kernel.specs.calls.TimerCalls as timer_call
 use Rattle.evl_sched.specs.Threads.{stage_of}
 use Rattle.evl_kernel.specs.calls.Families.{LineStep, request, free, arrive, post, stall, unstall, line_effect, ClockStep, tick, read_date, new_timer, start_timer, stop_timer, drop_timer, overruns, clock_effect, Task, on_lines, on_clock, on_threads, on_element, on_staged, begins, ends, performing, task_of, raises}
 use Rattle.evl_kernel.specs.calls.Serving.{serve_call, general_refusal, answer}
-use Rattle.evl_kernel.specs.settling.Settling.{Settling, item_next, next_play, going_on, is_of_clock, item_played, line_played, line_played, clock_played, after_action, all_acted, after_answer, answer_given, after_call, nothing}
+use Rattle.evl_kernel.specs.settling.Settling.{Settling, item_next, next_play, going_on, is_of_clock, item_played, pending_played, line_played, clock_played, after_action, all_acted, after_answer, answer_given, after_call, nothing}
 use Rattle.evl_kernel.specs.state.Openings.{opening}
 use Rattle.evl_kernel.specs.histories.Histories.{Run, Follows, opened_kernel}
 use Rattle.evl_kernel.specs.histories.Laws.{DueMeansPending}
@@ -328,7 +328,7 @@ held_over : (at : Settling) (stage : Stage) (p : Play × State) → is_of_clock 
 held_over at stage p of_clock over due =
     absurd (omega (arith, due, not_due_zero p.1.clock (ap (λ (b : Bool). b && is_due p.1.clock) (sym of_clock) ∙ over)))
 
-held_line : (at : Settling) (stage : Stage) (line : ℕ) → IsHeld at.state → HeldIn (going_on at stage (line_played at.state stage line)).1
+held_line : (at : Settling) (stage : Stage) (line : ℕ) → IsHeld at.state → HeldIn (going_on at stage (pending_played at.state stage line)).1
 held_line at Inband line h over =
     let s = at.state in
     let here = unwrap_or (lines.installed_at s.lines Inband line) nothing in

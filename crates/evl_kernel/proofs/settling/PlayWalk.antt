@@ -26,7 +26,7 @@ use Rattle.evl_kernel.specs.calls.LineCalls as line_call
 use Rattle.evl_kernel.specs.calls.ThreadCalls as thread_call
 use Rattle.evl_kernel.specs.calls.Families.{free, post}
 use Rattle.evl_kernel.specs.calls.Serving.{answer}
-use Rattle.evl_kernel.specs.settling.Settling.{Settling, Settles, next_play, after_action as acted, all_acted, after_answer, deadline_left, answer_given, item_played, line_played, line_played, clock_played, is_clock, after_call, nothing, timer_played, timer_given, no_timer}
+use Rattle.evl_kernel.specs.settling.Settling.{Settling, Settles, next_play, after_action as acted, all_acted, after_answer, deadline_left, answer_given, item_played, pending_played, line_played, clock_played, is_clock, after_call, nothing, timer_played, timer_given, no_timer}
 use Rattle.evl_kernel.specs.histories.MutexRests.{is_of_mutexes}
 use Rattle.evl_kernel.proofs.settling.DueLaws.{one_played, item_due, timer_found}
 use Rattle.evl_kernel.proofs.calls.QueueLaws.{IsAsked, asks_put, asks_post}
@@ -89,7 +89,7 @@ module _ (P : State → Type 0) (k : KeptByPlays P) where
       subst (λ (o : Option (Timer ℕ)). P (timer_played s id.0 (unwrap_or o no_timer)).1) (sym found.1)
       (holds-answered (with_clock s (fired s.clock id.0 found.0)) 0 (timer_given s found.0) (k.clocked s (fired s.clock id.0 found.0) refl h))
 
-  holds-played : (s : State) (stage : Stage) (line : ℕ) → P s → P (line_played s stage line).1
+  holds-played : (s : State) (stage : Stage) (line : ℕ) → P s → P (pending_played s stage line).1
   holds-played s stage line h = by (is_clock stage line)
     where
       at : lines.Installed ℕ

@@ -40,7 +40,7 @@ use Rattle.evl_kernel.specs.calls.LineCalls as line_call
 use Rattle.evl_sched.specs.Threads.{stage_of}
 use Rattle.evl_kernel.specs.calls.Families.{LineStep, request, free, arrive, post, stall, unstall, line_effect, Task, on_lines, on_clock, on_threads, on_element, on_staged, begins, ends, performing, task_of, raises}
 use Rattle.evl_kernel.specs.calls.Serving.{general_refusal, answer}
-use Rattle.evl_kernel.specs.settling.Settling.{Settling, next_play, item_played, after_action, all_acted, after_answer, answer_given, line_played, line_played, clock_played, after_call, nothing}
+use Rattle.evl_kernel.specs.settling.Settling.{Settling, next_play, item_played, after_action, all_acted, after_answer, answer_given, pending_played, line_played, clock_played, after_call, nothing}
 use Rattle.evl_kernel.specs.state.Openings.{opening, at_home}
 use Rattle.evl_kernel.specs.histories.Histories.{Run, Follows}
 use Rattle.evl_kernel.specs.state.Records.{banked}
@@ -313,7 +313,7 @@ module _ (size : ℕ) where
       table : (n : ℕ) → in_tables n (lines.played s.lines stage line at (answer_given s at).handled) ≡ in_tables n s.lines
       table n = omega (arith, in-set n s.lines stage (lines.played_on (lines.side s.lines stage) line at (answer_given s at).handled) line (Some at) (Some (record at { count = one_more at.count })) h.sound refl there (below stage there))
 
-  placed-played : (s : State) (stage : Stage) (line : ℕ) → IsPlaced s → lines.is_pending s.lines stage line ≡ true → IsPlaced (line_played s stage line).1
+  placed-played : (s : State) (stage : Stage) (line : ℕ) → IsPlaced s → lines.is_pending s.lines stage line ≡ true → IsPlaced (pending_played s stage line).1
   placed-played s Inband line h pends = by (lines.installed_at s.lines Inband line) refl (h.sound.stands Inband line pends)
     where
       by : (o : Option (lines.Installed ℕ)) → lines.installed_at s.lines Inband line ≡ o → is_some o ≡ true → IsPlaced (line_played s Inband line (unwrap_or o nothing)).1

@@ -49,7 +49,7 @@ use Rattle.evl_kernel.specs.calls.LineCalls as line_call
 use Rattle.evl_sched.specs.Threads.{stage_of}
 use Rattle.evl_kernel.specs.calls.Families.{LineStep, request, free, arrive, post, stall, unstall, line_effect, Task, on_lines, on_clock, on_threads, on_element, on_staged, begins, ends, performing, task_of, raises}
 use Rattle.evl_kernel.specs.calls.Serving.{serve_call, general_refusal, answer}
-use Rattle.evl_kernel.specs.settling.Settling.{Settling, next_play, one_inband, after_action, all_acted, after_answer, answer_given as given, timer_given, timer_played, no_timer, item_played, line_played, line_played, clock_played, after_call, nothing}
+use Rattle.evl_kernel.specs.settling.Settling.{Settling, next_play, one_inband, after_action, all_acted, after_answer, answer_given as given, timer_given, timer_played, no_timer, item_played, pending_played, line_played, clock_played, after_call, nothing}
 use Rattle.evl_kernel.specs.state.Openings.{opening, at_home}
 use Rattle.evl_kernel.specs.state.Records.{kinds_at, AreAllowed, AreTimersAllowed}
 use Rattle.evl_kernel.specs.histories.Histories.{Step, Run, Follows}
@@ -289,7 +289,7 @@ clock_nearer s inband line h within zero_is next =
     }
 
 played_nearer : (s : State) (inband : ℕ) (stage : Stage) (line : ℕ) → IsReady s → inband ≤ inband_limit → lines.next_line s.lines (is_anyone_eligible s.sched) (nat_lt inband inband_limit) ≡ Some (stage, line)
-    → Nearer s inband stage (line_played s stage line).1
+    → Nearer s inband stage (pending_played s stage line).1
 played_nearer s inband Inband line h within next = by (lines.installed_at s.lines Inband line) refl (h.sound.stands Inband line (chosen_pends s.lines Inband line (chosen s.lines (is_anyone_eligible s.sched) (nat_lt inband inband_limit) Inband line next)))
   where
     by : (o : Option (lines.Installed ℕ)) → lines.installed_at s.lines Inband line ≡ o → is_some o ≡ true → Nearer s inband Inband (line_played s Inband line (unwrap_or o nothing)).1
@@ -434,7 +434,7 @@ has_step old (Ok (said, changed)) left =
       reply = Ok said;
       plays = end.plays;
       new = end.last.state;
-      step = (refl, record { last = end.last; line_played = end.path; ended = end.over; left = refl });
+      step = (refl, record { last = end.last; played = end.path; ended = end.over; left = refl });
       few_plays = end.few_plays;
     }
 

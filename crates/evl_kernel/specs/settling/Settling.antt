@@ -128,8 +128,8 @@ is_clock Inband line = false
 abbrev pub nothing : lines.Installed ℕ
 nothing = record { callback = callback_limit; tag = 0; count = 0 }
 
-abbrev pub line_played : State → Stage → ℕ → Play × State
-line_played s stage line =
+abbrev pub pending_played : State → Stage → ℕ → Play × State
+pending_played s stage line =
     if is_clock stage line then clock_played s
     else line_played s stage line (unwrap_or (lines.installed_at s.lines stage line) nothing)
 
@@ -166,11 +166,11 @@ moving touches (one, next) = (record { play = one; touches = touches }, next)
 
 abbrev pub move_of : Settling → Option (Stage × ℕ) → Option (Move × Settling)
 move_of at None = None
-move_of at (Some (stage, line)) = Some (moving (play_touches at.state stage line) (going_on at stage (line_played at.state stage line)))
+move_of at (Some (stage, line)) = Some (moving (play_touches at.state stage line) (going_on at stage (pending_played at.state stage line)))
 
 abbrev pub next_of : Settling → Option (Stage × ℕ) → Option (Play × Settling)
 next_of at None = None
-next_of at (Some (stage, line)) = Some (going_on at stage (line_played at.state stage line))
+next_of at (Some (stage, line)) = Some (going_on at stage (pending_played at.state stage line))
 
 -- the lowest playable line, an out-of-band one before an in-band one, which an eligible thread holds back
 abbrev pub line_next : Settling → Option (Stage × ℕ)
