@@ -79,13 +79,13 @@ refused_form refusal = record {
   plays = 0;
 }
 
-abbrev pub answer_form : Result Reply Refusal → AnswerForm
-answer_form (Ok reply) = reply_form reply
-answer_form (Err refusal) = refused_form refusal
+abbrev pub outcome_form : Result Reply Refusal → AnswerForm
+outcome_form (Ok reply) = reply_form reply
+outcome_form (Err refusal) = refused_form refusal
 
 -- what an answer tells, with the index of its first play and how many plays it made
 abbrev pub answer_form : Result Reply Refusal → ℕ → ℕ → AnswerForm
-answer_form answer first_play plays = record (answer_form answer) { first_play = first_play; plays = plays }
+answer_form answer first_play plays = record (outcome_form answer) { first_play = first_play; plays = plays }
 
 -- what is told where nothing was called, for this status
 abbrev pub not_called : ℕ → AnswerForm

@@ -115,7 +115,7 @@ fn count_of(reply: &Reply) -> i64
 
 // What an answer tells, apart from its plays.
 fn told(answer: &Result<Reply, Refusal>) -> AnswerForm
-    ensures { result ≡ answers.answer_form answer.now }
+    ensures { result ≡ answers.outcome_form answer.now }
 {
     match answer {
         Ok(reply) => reply_form(reply),

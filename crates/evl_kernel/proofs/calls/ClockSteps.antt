@@ -38,7 +38,7 @@ module _ (P : State → Type 0) (k : KeptByClock P) where
       by true = k.posted s h
       by false = h
 
-  started : (s : State) (n date interval : ℕ) → P s → P (timer_call.start_timer s n date interval)
+  started : (s : State) (n date interval : ℕ) → P s → P (timer_call.with_running s n date interval)
   started s n date interval h = by (nat_le date s.clock.now)
     where
       after : State

@@ -166,7 +166,7 @@ beside-alarmed s = by (is_due s.clock)
     by true = refl
     by false = refl
 
-beside-started : (s : State) (n date interval : ℕ) → elements (timer_call.start_timer s n date interval) ≡ elements s
+beside-started : (s : State) (n date interval : ℕ) → elements (timer_call.with_running s n date interval) ≡ elements s
 beside-started s n date interval = by (nat_le date s.clock.now)
   where
     after : State

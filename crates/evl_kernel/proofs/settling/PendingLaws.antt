@@ -248,7 +248,7 @@ held-alarmed s = by (is_due s.clock) refl
     by true is due = posted-pends s.lines
     by false is due = absurd (omega (arith, due, not_due_zero s.clock is))
 
-held-started : (s : State) (n date interval : ℕ) → IsHeld s → IsHeld (timer_call.start_timer s n date interval)
+held-started : (s : State) (n date interval : ℕ) → IsHeld s → IsHeld (timer_call.with_running s n date interval)
 held-started s n date interval h = by (nat_le date s.clock.now) refl
   where
     by : (b : Bool) → nat_le date s.clock.now ≡ b → IsHeld (timer_call.posted_if b (with_clock s (clocks.start s.clock n date interval)))

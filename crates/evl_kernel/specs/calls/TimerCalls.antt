@@ -45,11 +45,11 @@ new_timer s number tag = known (slice_get s.bank number) (λ b.
     unless ((not (is_timer_allowed b.handler.kinds), Invalid) ∷ (not b.home, Busy) ∷ []) (place_timer s number tag b (clocks.free_place s.clock)))
 
 -- a timer runs; a date that is not after now posts line 0 at once
-abbrev pub start_timer : State → ℕ → ℕ → ℕ → State
-start_timer s n date interval = posted_if (nat_le date s.clock.now) (with_clock s (clocks.start s.clock n date interval))
+abbrev pub with_running : State → ℕ → ℕ → ℕ → State
+with_running s n date interval = posted_if (nat_le date s.clock.now) (with_clock s (clocks.start s.clock n date interval))
 
 abbrev pub start_timer : State → ℕ → ℕ → ℕ → Effect
-start_timer s n date interval = refused_by (clocks.timer_refusal s.clock n) (done (start_timer s n date interval))
+start_timer s n date interval = refused_by (clocks.timer_refusal s.clock n) (done (with_running s n date interval))
 
 -- line 0 stays pending
 abbrev pub stop_timer : State → ℕ → Effect
