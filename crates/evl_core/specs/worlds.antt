@@ -6,3 +6,4 @@ pub mod TiedCore
 pub mod Events
 pub mod Tokens
 pub mod LostTakes
+pub mod Laws

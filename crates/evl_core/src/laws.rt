@@ -1,33 +1,22 @@
 //! Laws of the core. Each is the contract of a function without a body.
-ghost use Rattle.std.specs.Prelude.{◌≡◌, ◌≢◌, ℕ, [], ◌∷◌, List, Option, None, slice_index, slice_set, true};
-ghost use Rattle.evl_base.specs.Board.{board_fits};
-ghost use mathlib.Core.Option.{some};
-ghost use lib.ListN.{get_elem?};
-ghost use Rattle.evl_words.specs.MutexWorld.{MutexView};
-ghost use Rattle.evl_core.specs.declared.views.ThreadView.{ThreadView};
+ghost use Rattle.std.specs.Prelude.{◌≡◌, Option, slice_index};
 ghost use Rattle.atomic_table.specs.Table.{State};
-ghost use Rattle.evl_kernel.specs.histories.Histories.{IsLegal};
 ghost use Rattle.evl_kernel.specs.state.KernelViews.{KernelView};
-ghost use Rattle.evl_words.specs.Machine.{Run};
-ghost use Rattle.evl_words.specs.Events.{Event};
-ghost use Rattle.evl_words.specs.Dealings.{DealingEvent};
-ghost use Rattle.evl_core.specs.worlds.CoreWorld.{CoreWorld, CoreDealing, CoreKind, CoreHappens, CoreDealingStep, IsCoreWorld, StandsDealt, opened_core};
-ghost use Rattle.evl_core.specs.worlds.OneWorld.{IsOneWorld, LiesSo, OneDealing, OneDealingStep, OneKind, OneWorld, StandsInOne, opened_one};
+ghost use Rattle.evl_core.specs.worlds.Laws.{CoreEventsKeepOrder, CoreWorldStands, FreeCoreTurnsNoTokenAway, OneWorldStands, TakesAreLostToAnother};
+ghost use Rattle.evl_core.specs.worlds.OneWorld.{LiesSo, OneDealing, StandsInOne};
 ghost use Rattle.evl_core.specs.rule.Known.{ComesFrom, CoreHand, KeptKnown, ceilings_of, mutex_count, past_of, room_of};
 ghost use Rattle.evl_core.specs.worlds.QuietCore.{LiesQuiet};
 ghost use Rattle.evl_core.specs.worlds.TiedCore.{LiesTied};
 ghost use Rattle.evl_core.specs.worlds.Tokens.{HasOneHistory};
-ghost use Rattle.evl_core.specs.worlds.LostTakes.{AllAreDealt};
-ghost use Rattle.evl_words.specs.Hands.{place};
 
 /// What holds of the core's word and slot, and of what its threads know, holds after any list of their atomic steps.
 pub fn core_events_keep_order<C>()
-    ensures { (first : KernelView C) (w t : CoreWorld (KernelView C) (KernelView C)) (events : List (Event (CoreKind (KernelView C)))) → IsCoreWorld past_of room_of ComesFrom first w → Run (CoreHappens past_of room_of ComesFrom) w events t → IsCoreWorld past_of room_of ComesFrom first t }
+    ensures { CoreEventsKeepOrder C }
 {}
 
 /// From the opening on it holds after any list of atomic steps, among which hands of threads are split and joined.
 pub fn core_world_stands<C>()
-    ensures { (first k : KernelView C) → IsLegal k.history → k.history.entries ≡ [] → ComesFrom first k → (events : List (DealingEvent (CoreKind (KernelView C)))) (t : CoreDealing (KernelView C) (KernelView C)) → Run (CoreDealingStep past_of room_of ComesFrom) (opened_core past_of room_of ComesFrom first k) events t → StandsDealt past_of room_of ComesFrom first t }
+    ensures { CoreWorldStands C }
 {}
 
 /// From the opening of the one table on, its core's word and slot, each mutex's word, and what its threads know keep
@@ -35,7 +24,7 @@ pub fn core_world_stands<C>()
 /// kernel alone claims, settles, offers, frees, accepts and forgets a mutex, and tries one with a ceiling, which no
 /// exchange unlocks.
 pub fn one_world_stands<C>()
-    ensures { (first k : KernelView C) → board_fits k.history.board ≡ true → IsLegal k.history → k.history.entries ≡ [] → ComesFrom first k → (events : List (DealingEvent (OneKind (KernelView C)))) (t : OneDealing (KernelView C) (KernelView C)) → Run (OneDealingStep past_of room_of ComesFrom (ceilings_of first) (mutex_count first)) (opened_one past_of room_of ComesFrom (ceilings_of first) (mutex_count first) first k) events t → StandsInOne past_of room_of ComesFrom (ceilings_of first) (mutex_count first) first t }
+    ensures { OneWorldStands C }
 {}
 
 /// What the running rule of a machine's table keeps is what holds of the one world, no less and no more: the table lies
@@ -50,14 +39,14 @@ pub fn rule_is_one_world<C>()
 /// and in words and histories as they may, that thread has lost as many takes in the one as in the other, unless another
 /// thread had the kernel in the first: no step, whatever it does, counts a lost take while the core is free.
 pub fn takes_are_lost_to_another<C>()
-    ensures { (first : KernelView C) → (w t : OneWorld (KernelView C) (KernelView C)) → IsOneWorld past_of room_of ComesFrom (ceilings_of first) (mutex_count first) first w → IsOneWorld past_of room_of ComesFrom (ceilings_of first) (mutex_count first) first t → (k : ℕ) (u v : ThreadView (KernelView C) MutexView) → get_elem? w.views k ≡ some u → ((j : ℕ) (x : ThreadView (KernelView C) MutexView) → j ≢ k → get_elem? w.views j ≡ some x → x.core.taken ≡ None) → t.views ≡ slice_set w.views k v → v.core.lost ≡ u.core.lost }
+    ensures { TakesAreLostToAnother C }
 {}
 
 /// So no step of a token at a free core counts a lost take. Of two states that the running rule of a machine's table
 /// keeps, both with a free core, of which the second has another thread's view at one token, which acts for this thread
 /// alone, that thread has lost as many takes in the one as in the other, where each thread of the board is some token's.
 pub fn free_core_turns_no_token_away<C>()
-    ensures { (first : KernelView C) → (s t : State (Option (KernelView C)) (CoreHand C)) → KeptKnown first s → KeptKnown first t → slice_index s.words 0 ≡ 0 → slice_index t.words 0 ≡ 0 → AllAreDealt first s → (id k : ℕ) (u v : ThreadView (KernelView C) MutexView) → get_elem? s.views id ≡ some (place k u ∷ []) → t.views ≡ slice_set s.views id (place k v ∷ []) → v.core.lost ≡ u.core.lost }
+    ensures { FreeCoreTurnsNoTokenAway C }
 {}
 
 /// Whenever the core of a running machine is free, the kernel lies in the slot with a legal history, and a line is

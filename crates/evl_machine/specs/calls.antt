@@ -4,3 +4,4 @@ pub mod Makings
 pub mod Closings
 pub mod Visits
 pub mod Waitings
+pub mod Laws

@@ -1,5 +1,5 @@
 -- What a caller does that waits for an element: it begins the wait, looks at the kernel until the wait is over, and finishes it.
-use Rattle.std.specs.Prelude.{◌≡◌, ◌≢◌, ◌⊎◌, ℕ, List, [], ◌∷◌, Bool, true, false, Result, Ok, Err, MatchBool}
+use Rattle.std.specs.Prelude.{◌≡◌, ◌≢◌, ◌⊎◌, ℕ, List, [], ◌∷◌, Bool, true, false, Option, Result, Ok, Err, MatchBool, MatchOption}
 use Rattle.evl_base.specs.declared.call.Call.{Call}
 use Rattle.evl_base.specs.declared.call.Call.TheVariants.{Finish}
 use Rattle.evl_base.specs.declared.refusal.Refusal.{Refusal}
@@ -13,7 +13,7 @@ use Rattle.evl_machine.specs.callers.Actors.{keeps_stage, stage_in}
 use Rattle.evl_kernel.specs.state.KernelViews.{KernelView}
 use Rattle.evl_core.specs.worlds.Events.{FailsToTake, Gives, Takes}
 use Rattle.evl_machine.specs.callers.Handles.{CallerState}
-use Rattle.evl_machine.specs.calls.Calls.{Called, CalledAtLast}
+use Rattle.evl_machine.specs.calls.Calls.{Answered, Called, CalledAtLast}
 use Rattle.evl_core.specs.words.MutexSeats.{holds_mutex}
 use Rattle.evl_machine.specs.stax_locks.StaxSeats.{holds_stax}
 
@@ -43,6 +43,10 @@ module _ {C : Type 0} where
 
   abbrev pub Looks : KernelView C → Account → Account → Type 0
   Looks first a a' = (looks : List Account) × LooksBy first a looks a'
+
+  -- a wait was looked at and goes on, or it was finished with this answer
+  abbrev pub LooksOrFinishes : KernelView C → Bool → Account → Option (Result Reply Refusal) → Account → Type 0
+  LooksOrFinishes first keeps a r a' = MatchOption r (Looks first a a') (λ answer. Answered first.limit a (Finish keeps) answer a')
 
   -- of the caller only its account changes, and that by looks
   abbrev pub Looked : CallerState C → CallerState C → Type 0
