@@ -58,14 +58,14 @@ module _ where
   posted-inband : (p : lines.Pipeline ℕ) (line : ℕ) → oob_line (lines.posted p Inband line) ≤ oob_line p
   posted-inband p line = by (lines.has_callback p Inband line)
     where
-      by : (b : Bool) → oob_line (if b then lines.with_side p Inband (lines.logged p.inband line) else record p { spurious = Rattle.evl_pipeline.specs.Counts.counted p.spurious line }) ≤ oob_line p
+      by : (b : Bool) → oob_line (if b then lines.with_side p Inband (lines.logged p.inband line) else record p { spurious = Rattle.evl_pipeline.specs.Counts.count_raised p.spurious line }) ≤ oob_line p
       by true = omega arith
       by false = omega arith
 
   posted-oob : (p : lines.Pipeline ℕ) (line : ℕ) → oob_line (lines.posted p Oob line) ≤ oob_line p + 1
   posted-oob p line = by (lines.has_callback p Oob line)
     where
-      by : (b : Bool) → oob_line (if b then lines.with_side p Oob (lines.logged p.oob line) else record p { spurious = Rattle.evl_pipeline.specs.Counts.counted p.spurious line }) ≤ oob_line p + 1
+      by : (b : Bool) → oob_line (if b then lines.with_side p Oob (lines.logged p.oob line) else record p { spurious = Rattle.evl_pipeline.specs.Counts.count_raised p.spurious line }) ≤ oob_line p + 1
       by true = length-insert p.oob.pending line
       by false = omega arith
 

@@ -138,7 +138,7 @@ module _ {C : Type 0} where
 
   -- every other call leaves the ties
   pub other_call_stays : (ceilings : ℕ → Bool) (k k' : KernelView C) (t : ℕ) (c : Call) (r : Result Reply Refusal) (wait : Option Unfinished) (stax mutex : Bool) → IsLegal k.history → board_fits k.history.board ≡ true
-      → wait ≡ Rattle.evl_machine.specs.callers.Unfinished.unfinished (Rattle.evl_core.specs.accounts.Accounts.calls_by t k.history.entries) → call_refusal wait stax mutex c ≡ None → Applied k t c r k' → TiesStay ceilings k.history.state k'.history.state
+      → wait ≡ Rattle.evl_machine.specs.callers.Unfinished.unfinished_wait (Rattle.evl_core.specs.accounts.Accounts.calls_by t k.history.entries) → call_refusal wait stax mutex c ≡ None → Applied k t c r k' → TiesStay ceilings k.history.state k'.history.state
   other_call_stays ceilings k k' t c r wait stax mutex legal fits is free done = by (makes_entry r) refl
     where
       by : (b : Bool) → makes_entry r ≡ b → TiesStay ceilings k.history.state k'.history.state
