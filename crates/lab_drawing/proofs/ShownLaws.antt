@@ -118,9 +118,9 @@ stands (core None) fits = refl
 stands (core (Some holder)) fits = rw (number_after (codes "taken by T") holder fits) refl
 
 -- the word that a line shows stands as it is shown, and the others as before
-pub word_shown : (front : List ℕ) (word : Word) (before : List Standing) → Lacks 124 front → WordFits word
+pub word_is_shown : (front : List ℕ) (word : Word) (before : List Standing) → Lacks 124 front → WordFits word
     → stand_after (word_shown (line_showing front word)) before ≡ others (lane_of word) before ++ option_to_list (word_stands word)
-word_shown front word before h fits =
+word_is_shown front word before h fits =
     let lane = named word fits in
     ap (λ (told : Option (Lane × List ℕ)). stand_after told before) (shown_at front (lane_text (lane_of word)) (word_text word) (lane_of word) h lane.1 lane.0)
     ∙ ap (λ (o : Option Standing). others (lane_of word) before ++ option_to_list o) (stands word fits)

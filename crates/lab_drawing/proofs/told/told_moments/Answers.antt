@@ -1,6 +1,6 @@
 use Rattle.std.proofs.Common.{arith}
 use Rattle.std.proofs.lemmas.Grind.{common_steps}
-use Rattle.lab_drawing.proofs.ShownLaws.{word_shown}
+use Rattle.lab_drawing.proofs.ShownLaws.{word_is_shown}
 use Rattle.lab_drawing.proofs.StandingLaws.{told_step}
 use Rattle.lab_drawing.proofs.TickLaws.{tick_dates}
 use Rattle.lab_drawing.proofs.told.told_moments.Goals as goal
@@ -12,10 +12,10 @@ loop-mark-preserved c = record {
 }
 
 pub returns-clause-shown : goal.returns-clause-shown
-returns-clause-shown c front word before = word_shown front word before.standings
+returns-clause-shown c front word before = word_is_shown front word before.standings
 
 pub returns-in_err-add_moment-clause-shown : goal.returns-in_err-add_moment-clause-shown
-returns-in_err-add_moment-clause-shown c front word before = word_shown front word before.standings
+returns-in_err-add_moment-clause-shown c front word before = word_is_shown front word before.standings
 
 pub returns-clause-ticks : goal.returns-clause-ticks
 returns-clause-ticks c = tick_dates
