@@ -1,5 +1,5 @@
 """The calls of a kernel, one method each. Written by tools/python_calls, from the library's list of calls and
-docs/SCENARIOS.md."""
+docs/use/SCENARIOS.md."""
 
 from typing import NoReturn
 
