@@ -54,9 +54,9 @@ def story_of(title, body):
 
 
 def lessons_of(top):
-    """The lessons with their text of docs/LESSONS.md, the exercises, the orders and the callers' texts."""
+    """The lessons with their text of docs/use/LESSONS.md, the exercises, the orders and the callers' texts."""
     folder, lessons = os.path.join(folder_of(top, 'scenarios'), 'lessons'), []
-    for section in re.split(r'^## ', read(top, 'docs/LESSONS.md'), flags=re.M)[1:]:
+    for section in re.split(r'^## ', read(top, 'docs/use/LESSONS.md'), flags=re.M)[1:]:
         title, _, body = section.partition('\n')
         named = re.match(r'\s*`(\w+)`', body)
         file = named and os.path.join(folder, named[1] + '.toml')
@@ -65,7 +65,7 @@ def lessons_of(top):
             lessons.append({'group': 'Lessons', 'title': f'{len(lessons) + 1}. {title.strip()}', 'text': read(file),
                             'story': story})
     if not lessons:
-        sys.exit('page: docs/LESSONS.md names no lesson')
+        sys.exit('page: docs/use/LESSONS.md names no lesson')
     for it in json.loads(read(HERE, 'exercises.json')):
         it |= {key: '\n'.join(it[key]) + '\n' for key in ('text', 'solution', 'ask') if key in it}
         it['question'] = ' '.join(it['question'])

@@ -1,4 +1,4 @@
-// node pictures.mjs PAGE FOLDER: takes the pictures of docs/PAGE.md anew, in Chromium.
+// node pictures.mjs PAGE FOLDER: takes the pictures of docs/use/PAGE.md anew, in Chromium.
 import { pathToFileURL } from 'node:url';
 import { Chromium, sleep } from './browsers.mjs';
 import { Page } from './ways.mjs';

@@ -88,7 +88,7 @@ static void try_nulls(void) {
   require(played.length == traces[0].length, "another length", "nulls");
 }
 
-/* The program's callbacks (docs/SCENARIOS.md, "The bank"). */
+/* The program's callbacks (docs/use/SCENARIOS.md, "The bank"). */
 static const evlsim_plan bank[] = {
     {1, 0, 0, {{0, 0, 0, 0}, {0, 0, 0, 0}, {0, 0, 0, 0}, {0, 0, 0, 0}}},
     {1, EVLSIM_ACTION_BIT(EVLSIM_POST_SEM), 1, {{1, EVLSIM_POST_SEM, 0, 0}, {0, 0, 0, 0}, {0, 0, 0, 0}, {0, 0, 0, 0}}},

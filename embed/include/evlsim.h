@@ -1,5 +1,5 @@
 /*
- * The out-of-band core of a dual-kernel machine, simulated, for C99 to C23 and C++17 to C++23 (docs/EMBEDDING.md). This
+ * The out-of-band core of a dual-kernel machine, simulated, for C99 to C23 and C++17 to C++23 (docs/use/EMBEDDING.md). This
  * is the one header to include; for C++ evlsim.hpp adds classes.
  *
  *   evlsim_kernel kernel;

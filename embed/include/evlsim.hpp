@@ -1,5 +1,5 @@
 /*
- * The out-of-band core, simulated, for C++17 to C++23, over evlsim.h (docs/EMBEDDING.md).
+ * The out-of-band core, simulated, for C++17 to C++23, over evlsim.h (docs/use/EMBEDDING.md).
  *
  *   const std::uint32_t sems[] = {0};
  *   evlsim_board board{};

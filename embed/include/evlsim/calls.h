@@ -1,6 +1,6 @@
 /*
  * Part of evlsim.h: the 36 calls of a kernel, one function each. What each call does and answers, and its refusals, is
- * the table "Steps" of docs/SCENARIOS.md.
+ * the table "Steps" of docs/use/SCENARIOS.md.
  */
 #ifndef EVLSIM_CALLS_H
 #define EVLSIM_CALLS_H
@@ -19,7 +19,7 @@ typedef enum evlsim_way {
   EVLSIM_OUT /* written out-of-band, read in-band */
 } evlsim_way;
 
-/* The calls, in the order of docs/SCENARIOS.md. */
+/* The calls, in the order of docs/use/SCENARIOS.md. */
 enum evlsim_call_kind {
   EVLSIM_CALL_REQUEST, EVLSIM_CALL_FREE, EVLSIM_CALL_ARRIVE, EVLSIM_CALL_POST, EVLSIM_CALL_STALL, EVLSIM_CALL_UNSTALL,
   EVLSIM_CALL_TICK, EVLSIM_CALL_NOW, EVLSIM_CALL_NEW_TIMER, EVLSIM_CALL_START_TIMER, EVLSIM_CALL_STOP_TIMER,

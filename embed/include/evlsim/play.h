@@ -1,5 +1,5 @@
 /*
- * Part of evlsim.h: plays a scenario's text (docs/SCENARIOS.md), as the program evl does.
+ * Part of evlsim.h: plays a scenario's text (docs/use/SCENARIOS.md), as the program evl does.
  */
 #ifndef EVLSIM_PLAY_H
 #define EVLSIM_PLAY_H

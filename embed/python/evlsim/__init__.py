@@ -1,5 +1,5 @@
 """The out-of-band core of a dual-kernel machine, simulated: plays scenarios and has kernels, in the process, by the
-library libevlsim.so.0 (docs/EMBEDDING.md).
+library libevlsim.so.0 (docs/use/EMBEDDING.md).
 
 >>> import evlsim
 >>> print(evlsim.play('[board]\\nthreads = 1\\nsems = [0]\\n[[step]]\\ndo = "put"\\nwho = 0\\nsem = 0\\n'), end="")

@@ -1,5 +1,5 @@
 """The calls of a kernel, one method each. Written by tools/python_calls, from the library's list of calls and
-docs/SCENARIOS.md."""
+docs/use/SCENARIOS.md."""
 
 from typing import NoReturn
 
@@ -23,11 +23,11 @@ class Words(Calls):
         tag: int = 0,
         **wrong: NoReturn,
     ) -> Answer:
-        """Puts a callback of the bank on a line of a stage; its count begins anew.
+        """Installs a callback of the bank on a line of a stage; its count starts again.
 
-        Answers done. Refusals: Unknown: no such line or callback; Invalid: line 0, or a callback that isn't allowed
-        on this stage (see *Allowed* in the table of the bank below); Busy: a callback stands there already, or this
-        callback already stands on another line or stage, or in a timer.
+        Answers done. Refusals: Unknown: no such line or callback; Invalid: line 0, or a callback that is not
+        allowed on this stage; Busy: the line and stage have a callback already, or this callback is on another line
+        or stage, or in a timer.
         """
         if wrong or line is MISSING or stage is MISSING or callback is MISSING:
             no_key("request", wrong, line=line, stage=stage, callback=callback)
@@ -39,8 +39,8 @@ class Words(Calls):
         return self._make("request", who, call)
 
     def free(self, who: int, *, line: int = MISSING, stage: Stage = MISSING, **wrong: NoReturn) -> Answer:
-        """Takes the callback off a line; it is in its place of the bank again, and a pending event of that line and
-        stage is dropped.
+        """Takes the callback off a line, back to its place in the bank, and drops a pending event of that line and
+        stage.
 
         Answers done. Refusals: Unknown: no such line; Invalid: line 0, on both stages; Unknown: no callback there.
         """
@@ -52,8 +52,8 @@ class Words(Calls):
         return self._make("free", who, call)
 
     def arrive(self, who: int, *, line: int = MISSING, **wrong: NoReturn) -> Answer:
-        """An interrupt arrives on a line: its event is pending out-of-band where a callback stands there, else in-band
-        where one stands there; else it is spurious and nothing is pending (the trace doesn't show that).
+        """An interrupt arrives on a line: its event is pending out-of-band if a callback is installed there, else in-
+        band if one is installed there; else it is spurious and nothing is pending (the trace does not show that).
 
         Answers done. Refusals: Unknown: no such line.
         """
@@ -62,7 +62,7 @@ class Words(Calls):
         return self._bare(2, "arrive", "line", who, line)
 
     def post(self, who: int, *, stage: Stage = MISSING, line: int = MISSING, **wrong: NoReturn) -> Answer:
-        """Makes an event pending on a line of this stage where a callback stands there; else it is spurious.
+        """Makes an event pending on a line of this stage if a callback is installed there; else it is spurious.
 
         Answers done. Refusals: Unknown: no such line.
         """
@@ -74,7 +74,7 @@ class Words(Calls):
         return self._make("post", who, call)
 
     def stall(self, who: int, *, stage: Stage = MISSING, **wrong: NoReturn) -> Answer:
-        """Sets the stall bit of a stage: its events stay pending. It is one bit: a second stall changes nothing.
+        """Sets the stall bit of a stage: its events stay pending. It is one bit, so a second stall changes nothing.
 
         Answers done.
         """
@@ -96,7 +96,7 @@ class Words(Calls):
         return self._make("unstall", who, call)
 
     def tick(self, who: int, *, delta: int = MISSING, **wrong: NoReturn) -> Answer:
-        """Moves the date on by delta nanoseconds; it begins at 0. Line 0 is pending then if something is due.
+        """Moves the date on by delta nanoseconds; it begins at 0. Line 0 is then pending if something is due.
 
         Answers done. Refusals: Range: the date would pass 18,446,744,073,709,551,615.
         """
@@ -107,7 +107,7 @@ class Words(Calls):
         return self._make("tick", who, call)
 
     def now(self, who: int, **wrong: NoReturn) -> Answer:
-        """Tells the date.
+        """Gives the date.
 
         Answers number N.
         """
@@ -117,11 +117,11 @@ class Words(Calls):
         return self._make("now", who, call)
 
     def new_timer(self, who: int, *, callback: int = MISSING, tag: int = 0, **wrong: NoReturn) -> Answer:
-        """Makes a timer with a callback of the bank; it has the least free number, from 0 on, and its first fire is
-        counted 1.
+        """Makes a timer with a callback of the bank; it gets the least free number, from 0 on, and its first fire
+        counts 1.
 
-        Answers number N. Refusals: Unknown: no such callback; Invalid: it isn't allowed in a timer; Busy: it stands
-        on a line or in a timer; Limit: there are 64 timers.
+        Answers number N. Refusals: Unknown: no such callback; Invalid: it is not allowed in a timer; Busy: it is on
+        a line or in a timer; Limit: there are 64 timers.
         """
         if wrong or callback is MISSING:
             no_key("new_timer", wrong, callback=callback)
@@ -133,8 +133,8 @@ class Words(Calls):
     def start_timer(
         self, who: int, *, timer: int = MISSING, date: int = MISSING, interval: int = MISSING, **wrong: NoReturn
     ) -> Answer:
-        """Sets the date at which the timer fires next, and its interval; its overruns are 0 again. Where the date
-        isn't after now, line 0 is pending at once.
+        """Sets the date at which the timer fires next, and its interval; its overruns are 0 again. If the date is not
+        after now, line 0 is pending at once.
 
         Answers done. Refusals: Unknown: no such timer.
         """
@@ -147,7 +147,7 @@ class Words(Calls):
         return self._make("start_timer", who, call)
 
     def stop_timer(self, who: int, *, timer: int = MISSING, **wrong: NoReturn) -> Answer:
-        """The timer fires no more until it is started again.
+        """Stops the timer until it is started again.
 
         Answers done. Refusals: Unknown: no such timer.
         """
@@ -156,7 +156,7 @@ class Words(Calls):
         return self._bare(10, "stop_timer", "timer", who, timer)
 
     def drop_timer(self, who: int, *, timer: int = MISSING, **wrong: NoReturn) -> Answer:
-        """Takes the timer away; its callback is in its place of the bank again.
+        """Takes the timer away; its callback is back in its place of the bank.
 
         Answers done. Refusals: Unknown: no such timer.
         """
@@ -165,7 +165,7 @@ class Words(Calls):
         return self._bare(11, "drop_timer", "timer", who, timer)
 
     def overruns(self, who: int, *, timer: int = MISSING, **wrong: NoReturn) -> Answer:
-        """Tells how many periods the timer missed since it was started.
+        """Gives how many periods the timer missed since it was started.
 
         Answers number N. Refusals: Unknown: no such timer.
         """
@@ -176,8 +176,8 @@ class Words(Calls):
     def attach(self, who: int, *, policy: str = MISSING, stage: Stage = MISSING, **wrong: NoReturn) -> Answer:
         """Makes the caller a thread of the core, with this policy, on this stage.
 
-        Answers done. Refusals: Unknown: a quota group that there isn't; Range: a number of the policy; Busy: the
-        caller is attached already.
+        Answers done. Refusals: Unknown: no such quota group; Range: a number of the policy; Busy: the caller is
+        attached already.
         """
         if wrong or policy is MISSING or stage is MISSING:
             no_key("attach", wrong, policy=policy, stage=stage)
@@ -189,7 +189,7 @@ class Words(Calls):
     def detach(self, who: int, **wrong: NoReturn) -> Answer:
         """Takes the caller out of the core.
 
-        Answers done. Refusals: Invalid: the caller isn't attached; Busy: it is recorded as the owner of a mutex.
+        Answers done. Refusals: Invalid: the caller is not attached; Busy: it is recorded as the owner of a mutex.
         """
         if wrong:
             no_key("detach", wrong)
@@ -197,10 +197,10 @@ class Words(Calls):
         return self._make("detach", who, call)
 
     def set_policy(self, who: int, *, policy: str = MISSING, **wrong: NoReturn) -> Answer:
-        """Sets the caller's policy; a ready caller goes behind all other ready threads.
+        """Sets the caller's policy; a ready caller goes to the end of the ready list.
 
-        Answers done. Refusals: Unknown: a quota group that there isn't; Range: a number of the policy; Invalid: the
-        caller isn't attached.
+        Answers done. Refusals: Unknown: no such quota group; Range: a number of the policy; Invalid: the caller is
+        not attached.
         """
         if wrong or policy is MISSING:
             no_key("set_policy", wrong, policy=policy)
@@ -209,9 +209,9 @@ class Words(Calls):
         return self._make("set_policy", who, call)
 
     def set_stage(self, who: int, *, stage: Stage = MISSING, **wrong: NoReturn) -> Answer:
-        """Moves the caller to this stage; where it is there already, nothing changes.
+        """Moves the caller to this stage; if it is there already, nothing changes.
 
-        Answers done. Refusals: Invalid: the caller isn't attached.
+        Answers done. Refusals: Invalid: the caller is not attached.
         """
         if wrong or stage is MISSING:
             no_key("set_stage", wrong, stage=stage)
@@ -220,7 +220,7 @@ class Words(Calls):
         return self._make("set_stage", who, call)
 
     def pick(self, who: int, **wrong: NoReturn) -> Answer:
-        """Tells which thread is picked.
+        """Gives the thread that is picked.
 
         Answers thread N, or thread none.
         """
@@ -230,9 +230,9 @@ class Words(Calls):
         return self._make("pick", who, call)
 
     def rank_of(self, who: int, *, thread: int = MISSING, **wrong: NoReturn) -> Answer:
-        """Tells a thread's effective rank: its policy's, or a greater one that it has by mutexes.
+        """Gives a thread's effective rank: its policy's, or a greater one that it has by mutexes.
 
-        Answers number N. Refusals: Unknown: no such thread; Invalid: it isn't attached.
+        Answers number N. Refusals: Unknown: no such thread; Invalid: it is not attached.
         """
         if wrong:
             no_key("rank_of", wrong, thread=thread)
@@ -248,7 +248,7 @@ class Words(Calls):
         return self._bare(19, "try_get", "sem", who, sem)
 
     def put(self, who: int, *, sem: int = MISSING, **wrong: NoReturn) -> Answer:
-        """Gives one to the first thread that waits for the semaphore, or raises its count where nobody does.
+        """Serves the first thread that waits for the semaphore, or raises its count if nobody waits.
 
         Answers done. Refusals: Unknown: no such semaphore; Range: its count is at the maximum, 2,147,483,647.
         """
@@ -257,7 +257,7 @@ class Words(Calls):
         return self._bare(20, "put", "sem", who, sem)
 
     def peek(self, who: int, *, sem: int = MISSING, **wrong: NoReturn) -> Answer:
-        """Tells the count, or minus the number of threads that wait where there are any.
+        """Gives the count, or minus the number of waiting threads if there are any.
 
         Answers count N. Refusals: Unknown: no such semaphore.
         """
@@ -266,10 +266,10 @@ class Words(Calls):
         return self._bare(21, "peek", "sem", who, sem)
 
     def begin_get(self, who: int, *, sem: int = MISSING, until: Until = None, **wrong: NoReturn) -> Answer:
-        """Begins a wait for a semaphore: where its count is above 0 the caller is served at once; else it is blocked
+        """Begins a wait for a semaphore: if its count is above 0 the caller is served at once; else it is blocked
         until a put serves it or the date until comes.
 
-        Answers begun. Refusals: Unknown: no such semaphore; Invalid: the caller isn't attached; WrongStage: it is
+        Answers begun. Refusals: Unknown: no such semaphore; Invalid: the caller is not attached; WrongStage: it is
         in-band.
         """
         if wrong:
@@ -283,8 +283,8 @@ class Words(Calls):
         return self._make("begin_get", who, call)
 
     def try_take(self, who: int, *, flags: int = MISSING, kind: str = MISSING, **wrong: NoReturn) -> Answer:
-        """Takes bits from a flag group, whoever waits: all that are there (any), those of a mask that are there (of
-        MASK), or a whole mask (exact MASK).
+        """Takes bits from a flag group, even if others wait: all that are there (any), those of a mask that are there
+        (of MASK), or a whole mask (exact MASK).
 
         Answers bits N. Refusals: Unknown: no such flag group; Invalid: the mask is 0; Again: nothing to take.
         """
@@ -296,8 +296,8 @@ class Words(Calls):
         return self._make("try_take", who, call)
 
     def post_flags(self, who: int, *, flags: int = MISSING, bits: int = MISSING, **wrong: NoReturn) -> Answer:
-        """Adds bits to a flag group and goes once through those who wait for it, by rank and then by arrival: each
-        takes what it wants from what is left, or goes on waiting.
+        """Adds bits to a flag group and goes once through its waiters, by rank and then by arrival: each takes what it
+        wants from what is left, or keeps waiting.
 
         Answers done. Refusals: Unknown: no such flag group; Invalid: bits is 0.
         """
@@ -309,7 +309,7 @@ class Words(Calls):
         return self._make("post_flags", who, call)
 
     def peek_flags(self, who: int, *, flags: int = MISSING, **wrong: NoReturn) -> Answer:
-        """Tells the bits.
+        """Gives the bits.
 
         Answers bits N. Refusals: Unknown: no such flag group.
         """
@@ -320,10 +320,10 @@ class Words(Calls):
     def begin_take(
         self, who: int, *, flags: int = MISSING, kind: str = MISSING, until: Until = None, **wrong: NoReturn
     ) -> Answer:
-        """Begins a wait for bits: where they are there the caller is served at once, past all who wait; else it is
+        """Begins a wait for bits: if they are there the caller is served at once, before all waiters; else it is
         blocked until a post serves it or the date until comes.
 
-        Answers begun. Refusals: Unknown: no such flag group; Invalid: the caller isn't attached, or the mask is 0;
+        Answers begun. Refusals: Unknown: no such flag group; Invalid: the caller is not attached, or the mask is 0;
         WrongStage: it is in-band.
         """
         if wrong or flags is MISSING or kind is MISSING:
@@ -338,11 +338,11 @@ class Words(Calls):
     def write(
         self, who: int, *, xbuf: int = MISSING, way: Way = MISSING, bytes: Bytes = MISSING, **wrong: NoReturn
     ) -> Answer:
-        """Writes bytes into a way of a cross-buffer, all of them; those who wait to read there get them. A write of no
-        bytes is done whoever waits, on the right stage.
+        """Writes bytes into a way of a cross-buffer, all of them; waiting readers get them. A write of no bytes is
+        always done on the right stage.
 
         Answers done. Refusals: Unknown: no such cross-buffer; WrongStage: way in is written in-band, way out out-
-        of-band; TooBig: longer than the ring; Again: they don't fit, or somebody waits to write there.
+        of-band; TooBig: longer than the ring; Again: they do not fit, or a writer waits there.
         """
         if wrong or xbuf is MISSING or way is MISSING or bytes is MISSING:
             no_key("write", wrong, xbuf=xbuf, way=way, bytes=bytes)
@@ -354,8 +354,8 @@ class Words(Calls):
     def read(
         self, who: int, *, xbuf: int = MISSING, way: Way = MISSING, len: int = MISSING, **wrong: NoReturn
     ) -> Answer:
-        """Reads the next bytes, len of them or as many as are there; those who wait to write and fit then do. A read
-        of 0 bytes is done also where nothing is there, on the right stage.
+        """Reads the next bytes, at most len; waiting writers whose bytes then fit are served. A read of 0 bytes is
+        always done on the right stage.
 
         Answers bytes HEX (bytes - for none). Refusals: Unknown: no such cross-buffer; Range: len is above 256;
         WrongStage: way in is read out-of-band, way out in-band; Again: nothing is there.
@@ -369,7 +369,7 @@ class Words(Calls):
         return self._make("read", who, call)
 
     def room(self, who: int, *, xbuf: int = MISSING, way: Way = MISSING, **wrong: NoReturn) -> Answer:
-        """Tells how many bytes of a way's ring are free.
+        """Gives how many bytes of a way's ring are free.
 
         Answers number N. Refusals: Unknown: no such cross-buffer.
         """
@@ -390,10 +390,10 @@ class Words(Calls):
         until: Until = None,
         **wrong: NoReturn,
     ) -> Answer:
-        """Begins a wait to write: done at once where write would be; else the caller is blocked until its bytes are
-        written, or the date until comes.
+        """Begins a wait to write: served at once if write would be done; else the caller is blocked until its bytes
+        are written or the date until comes.
 
-        Answers begun. Refusals: Unknown: no such cross-buffer; Invalid: the caller isn't attached; WrongStage;
+        Answers begun. Refusals: Unknown: no such cross-buffer; Invalid: the caller is not attached; WrongStage;
         TooBig.
         """
         if wrong or xbuf is MISSING or way is MISSING or bytes is MISSING:
@@ -415,10 +415,10 @@ class Words(Calls):
         until: Until = None,
         **wrong: NoReturn,
     ) -> Answer:
-        """Begins a wait to read: done at once where read would be; else the caller is blocked until something is
-        there, or the date until comes.
+        """Begins a wait to read: served at once if read would be done; else the caller is blocked until something is
+        there or the date until comes.
 
-        Answers begun. Refusals: Unknown: no such cross-buffer; Range: len is above 256; Invalid: the caller isn't
+        Answers begun. Refusals: Unknown: no such cross-buffer; Range: len is above 256; Invalid: the caller is not
         attached; WrongStage.
         """
         if wrong or xbuf is MISSING or way is MISSING or len is MISSING:
@@ -437,9 +437,9 @@ class Words(Calls):
         """Begins a wait for a mutex that thread owner has: that thread is recorded as its owner, and the caller is
         blocked until a release hands it the mutex or the date until comes.
 
-        Answers begun. Refusals: Unknown: no such mutex, or no thread owner; Invalid: the caller or the owner isn't
+        Answers begun. Refusals: Unknown: no such mutex, or no thread owner; Invalid: the caller or the owner is not
         attached, the owner is the caller, or another owner is recorded; WrongStage: the caller is in-band;
-        Deadlock: the owner waits for the caller, by itself or along a chain.
+        Deadlock: the owner waits for the caller, directly or along a chain.
         """
         if wrong or mutex is MISSING or owner is MISSING:
             no_key("claim", wrong, mutex=mutex, owner=owner)
@@ -451,10 +451,10 @@ class Words(Calls):
         return self._make("claim", who, call)
 
     def release(self, who: int, *, mutex: int = MISSING, **wrong: NoReturn) -> Answer:
-        """Hands a mutex on to the first thread that waits for it, and ends its wait.
+        """Hands a mutex to the first thread that waits for it, and ends its wait.
 
-        Answers next N more, next N or next none (see *Mutexes*). Refusals: Unknown: no such mutex; NotOwner:
-        another thread is recorded as its owner.
+        Answers next N more, next N or next none (see WAITS). Refusals: Unknown: no such mutex; NotOwner: another
+        thread is recorded as its owner.
         """
         if wrong:
             no_key("release", wrong, mutex=mutex)
@@ -463,15 +463,15 @@ class Words(Calls):
     def raise_(self, who: int, *, mutex: int = MISSING, **wrong: NoReturn) -> Answer:
         """Records the caller as the owner of a mutex with a ceiling.
 
-        Answers done. Refusals: Unknown: no such mutex; Invalid: it has no ceiling, or the caller isn't attached;
-        Busy: an owner is recorded, also where that is the caller.
+        Answers done. Refusals: Unknown: no such mutex; Invalid: it has no ceiling, or the caller is not attached;
+        Busy: an owner is recorded, even if it is the caller.
         """
         if wrong:
             no_key("raise", wrong, mutex=mutex)
         return self._bare(34, "raise", "mutex", who, mutex)
 
     def finish(self, who: int, *, keep: bool = False, **wrong: NoReturn) -> Answer:
-        """Tells what ended the caller's wait; a weak caller that is out-of-band goes in-band then, unless keep is true
+        """Gives what ended the caller's wait; a weak caller that is out-of-band then goes in-band, unless keep is true
         or it got a mutex.
 
         Answers done, bits N after a wait for bits, bytes HEX after one to read, or timed out. Refusals: Invalid: it

@@ -224,7 +224,7 @@ def _read_line(line: str) -> Optional[Tuple[int, int, str, Dict[str, Any], str]]
 def put_form(
     call: lib.CallForm, word: str, key: str, forms: Dict[str, Tuple[str, ...]], text: Any, wanted: str
 ) -> None:
-    """A policy or a take, as docs/SCENARIOS.md writes it, into a call."""
+    """A policy or a take, as docs/use/SCENARIOS.md writes it, into a call."""
     message = f"{word}: {key} is {text!r}: {wanted} is wanted"
     if not isinstance(text, str):
         raise wrong_type(BadStep, message)

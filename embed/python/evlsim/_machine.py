@@ -13,7 +13,7 @@ from ._kernel import AWAITED, STAGES, WAYS, Awaited, Entry, Stage, Way, read_tra
 class Kernel(Words):
     """A kernel with the program's callbacks, or with those of a `bank`. It is freed with the object, or by `close`.
 
-    threads, sems, flags, xbufs, mutexes and groups are a board, as docs/SCENARIOS.md has it; `limit` is how many
+    threads, sems, flags, xbufs, mutexes and groups are a board, as docs/use/SCENARIOS.md has it; `limit` is how many
     entries the history may have. There is a method for each step word: the caller's number, and then the word's keys by
     name (`raise_` for `raise`). An answer is false where the kernel refused the call; a kernel that is `strict` raises
     CallRefused then.
