@@ -34,7 +34,7 @@ pub fn ask_all<B: BankMaker>(
 
     // Where no outcome is, no order ends so.
     ensures none { IfOk result (λ asked. asked.against ≡ None
-        → All (λ run. is_against ask.now (told_text callers.now run.at) ≡ false) (orders (machine callers.now) (first callers.now (B.bank bank.now)) asked.outcomes.steps)) }
+        → All (λ run. is_against ask.now (told_text callers.now run.at) ≡ false) (orders (machine callers.now) (first_seen callers.now (B.bank bank.now)) asked.outcomes.steps)) }
 {
     let outcomes = match outcomes_of(alloc, callers, bank, most) {
         Ok(outcomes) => outcomes,

@@ -153,10 +153,10 @@ fn ends_of<B: BankMaker>(
     most: usize,
 ) -> Result<Explored<Moment>, OrdersError>
     ensures counted { IfOk result (λ found. (f : Seen → ℕ) → weight (seen_at callers.now (B.bank bank.now)) f found.ends.items
-        ≡ total f (orders (machine callers.now) (first callers.now (B.bank bank.now)) found.steps)) }
+        ≡ total f (orders (machine callers.now) (first_seen callers.now (B.bank bank.now)) found.steps)) }
     ensures whole { IfOk result (λ found. found.whole ≡ true → runs (machine callers.now) (first_seen callers.now (B.bank bank.now)) found.steps ≡ []) }
     ensures cut { IfOk result (λ found. found.whole ≡ false → (length callers.now.steps.items < found.steps)
-        ⊎ (most < length (runs (machine callers.now) (first callers.now (B.bank bank.now)) found.steps))) }
+        ⊎ (most < length (runs (machine callers.now) (first_seen callers.now (B.bank bank.now)) found.steps))) }
     ensures led { IfOk result (λ found. AreLed (machine callers.now) (seen_at callers.now (B.bank bank.now)) (first_seen callers.now (B.bank bank.now)) found.ends.items) }
     ensures over { IfOk result (λ found. AreOver (machine callers.now) (seen_at callers.now (B.bank bank.now)) found.ends.items) }
     ensures asked { IfOk result (λ found. found.steps ≤ length callers.now.steps.items + 1) }

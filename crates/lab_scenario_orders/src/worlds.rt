@@ -42,7 +42,7 @@ fn after_step<C: Handler>(
     requires fits { IsMoment callers.now moment.now }
     requires step { slice_get callers.now.steps.items place ≡ Some step.now }
     ensures next { IfOk result (λ next. (s : State) → kernel.old.history.state ≡ trailed callers.now s moment.now.trail.items
-        → seen_from callers.now s next ≡ after (seen_from callers.now s moment.now) caller (stepped kernel.old.history.state step.now.who.0 step.now.call)) }
+        → seen_from callers.now s next ≡ after (seen_from callers.now s moment.now) caller (step_outcome kernel.old.history.state step.now.who.0 step.now.call)) }
     ensures fits { IfOk result (IsMoment callers.now) }
 {
     let count = moment.made[caller];
