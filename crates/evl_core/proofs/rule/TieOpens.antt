@@ -8,7 +8,7 @@ use Rattle.evl_base.specs.declared.mutex_kind.MutexKind.TheVariants.{Normal, Rec
 use Rattle.evl_base.specs.declared.entry.Entry.{Entry}
 use Rattle.evl_pipeline.proofs.PortLaws.{at-none}
 use Rattle.evl_mutex.specs.Queues.{is_nobody}
-use Rattle.evl_mutex.specs.Mutexes.{Mutex, ceiling_of, has_ceiling, opened_mutex as opened_mutex}
+use Rattle.evl_mutex.specs.Mutexes.{Mutex, ceiling_of, has_ceiling, opened_mutex}
 use Rattle.evl_words.proofs.Sequences.{at_replicate}
 use Rattle.evl_kernel.specs.declared.waits.Wait.{Wait}
 use Rattle.evl_kernel.specs.state.States.{State}

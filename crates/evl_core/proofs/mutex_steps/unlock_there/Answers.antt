@@ -27,8 +27,8 @@ compare_exchange-requires g c =
       unlocks_known s.key.value s.table_id.slots c.args.seat.now.id k v c.args.seat.now.me t.its.one i within (ap (ceilings_of s.key.value) e ∙ c.requires.plain) (λ n. either (eqb n (c.from-number.result + 1)) 0 n) (step s.table_id.slots (1 + i) (c.from-number.result + 1) 0 none) refl (subst (λ n. (mutex_of n v).held.role ≡ Owner) (sym e) (owner_is _ _ _ t.its c.args.pass c.requires.once)) (λ n. ap (λ x. either (eqb n (x + 1)) 0 n) number),
     )
 
-pub returns-then-compare_exchange-number-clause-word : goal.returns-then-compare_exchange-number-clause-word
-returns-then-compare_exchange-number-clause-word g c = unlock_made _ _ _ _ _ _ _ _ c.requires.table c.compare_exchange.ensures.0 c.args.core.now.shared.table_id.slots c.from-word.result (c.from-number.result + 1) 0 c.compare_exchange.result (c.from-word.ensures ∙ ap (λ m. m.0) c.mutex-mutex.ensures) c.args.pass c.number.result c.spend.new.self c.compare_exchange.ensures.2 (subst (λ (m : MutexId). IsSomeAnd (slice_get c.args.places.now m.0) (λ p. p.number ≡ c.number.result)) c.mutex-mutex.ensures c.number.ensures.number) (c.if-compare_exchange-number.true ∙ ap (λ n. n + 1) c.from-number.ensures) c.requires.once c.spend.ensures.spent
+pub returns-then-compare_exchange-number : goal.returns-then-compare_exchange-number
+returns-then-compare_exchange-number g c = record { word = unlock_made _ _ _ _ _ _ _ _ c.requires.table c.compare_exchange.ensures.0 c.args.core.now.shared.table_id.slots c.from-word.result (c.from-number.result + 1) 0 c.compare_exchange.result (c.from-word.ensures ∙ ap (λ m. m.0) c.mutex-mutex.ensures) c.args.pass c.number.result c.spend.new.self c.compare_exchange.ensures.2 (subst (λ (m : MutexId). IsSomeAnd (slice_get c.args.places.now m.0) (λ p. p.number ≡ c.number.result)) c.mutex-mutex.ensures c.number.ensures.number) (c.if-compare_exchange-number.true ∙ ap (λ n. n + 1) c.from-number.ensures) c.requires.once c.spend.ensures.spent }
 
-pub returns-else-compare_exchange-number-clause-word : goal.returns-else-compare_exchange-number-clause-word
-returns-else-compare_exchange-number-clause-word g c = back_made _ _ _ _ _ _ _ _ c.requires.table c.compare_exchange.ensures.0 c.args.core.now.shared.table_id.slots c.from-word.result (c.from-number.result + 1) 0 c.compare_exchange.result (c.from-word.ensures ∙ ap (λ m. m.0) c.mutex-mutex.ensures) c.args.pass c.number.result c.compare_exchange.ensures.2 (subst (λ (m : MutexId). IsSomeAnd (slice_get c.args.places.now m.0) (λ p. p.number ≡ c.number.result)) c.mutex-mutex.ensures c.number.ensures.number) (λ same. c.if-compare_exchange-number.false (same ∙ ap (λ n. n + 1) (sym c.from-number.ensures))) c.requires.once
+pub returns-else-compare_exchange-number : goal.returns-else-compare_exchange-number
+returns-else-compare_exchange-number g c = record { word = back_made _ _ _ _ _ _ _ _ c.requires.table c.compare_exchange.ensures.0 c.args.core.now.shared.table_id.slots c.from-word.result (c.from-number.result + 1) 0 c.compare_exchange.result (c.from-word.ensures ∙ ap (λ m. m.0) c.mutex-mutex.ensures) c.args.pass c.number.result c.compare_exchange.ensures.2 (subst (λ (m : MutexId). IsSomeAnd (slice_get c.args.places.now m.0) (λ p. p.number ≡ c.number.result)) c.mutex-mutex.ensures c.number.ensures.number) (λ same. c.if-compare_exchange-number.false (same ∙ ap (λ n. n + 1) (sym c.from-number.ensures))) c.requires.once }
