@@ -1,7 +1,7 @@
 //! What lies in the slot: the kernel in a box, so that only a pointer moves where the kernel goes out or in.
 ghost use Rattle.std.specs.Prelude.{◌≡◌, IfOk};
 ghost use Rattle.evl_kernel.specs.state.Callbacks.{AnswersByPlan};
-ghost use Rattle.evl_core.specs.accounts.KernelCalls.{Applied, Reserves};
+ghost use Rattle.evl_core.specs.accounts.KernelCalls.{Applied, Reserves, ReservesFor};
 
 use evl_base::{Call, Refusal, Reply, ThreadId};
 use evl_kernel::KernelOf;
@@ -69,6 +69,13 @@ impl<C: Handler, A: Allocator> KernelBox<C, A> {
         ensures { Reserves self.old result self.new }
     {
         self.kernel.reserve(1)
+    }
+
+    /// Makes room for so many calls.
+    pub fn reserve_for(&mut self, calls: usize) -> Result<(), Refusal>
+        ensures { ReservesFor calls self.old result self.new }
+    {
+        self.kernel.reserve(calls)
     }
 
     /// One call of the kernel.

@@ -1,5 +1,5 @@
 -- What a call of the kernel does while a thread has it, and what making room for one does.
-use Rattle.std.specs.Prelude.{◌≡◌, ◌≢◌, ◌+◌, ◌≤◌, ℕ, List, true, false, length, Result, Err, IfOk, IfErr}
+use Rattle.std.specs.Prelude.{◌≡◌, ◌≢◌, ◌⊎◌, ◌↔◌, ◌+◌, ◌<◌, ◌≤◌, ℕ, List, true, false, length, Result, Err, IfOk, IfErr, OnOk}
 use Rattle.evl_base.specs.declared.call.Call.{Call}
 use Rattle.evl_base.specs.declared.play.Play.{Play}
 use Rattle.evl_base.specs.declared.refusal.Refusal.{Refusal}
@@ -40,3 +40,11 @@ module _ {C : Type 0} where
     pub same : IsRoomier k k'
     pub made : IfOk r (λ _. (1 ≤ k'.room) × (length k.history.entries ≢ k.limit))
     pub refused : IfErr r (FindsNoRoom k)
+
+  -- room for so many calls was made, or it was refused: as the history has fewer places left, or for want of memory
+  pub record ReservesFor (calls : ℕ) (k : KernelView C) (r : Result (Unit {0}) Refusal) (k' : KernelView C) : Type 0 where
+    pub same : IsRoomier k k'
+    pub made : OnOk r (calls ≤ k'.room)
+    pub full : (r ≡ Err HistoryFull) ↔ (k.limit < length k.history.entries + calls)
+    pub refused : IfErr r (λ refusal. (refusal ≡ HistoryFull) ⊎ (refusal ≡ NoMemory))
+    pub memory : r ≡ Err NoMemory → k.room < calls
