@@ -26,6 +26,7 @@ use Rattle.evl_core.specs.accounts.KernelCalls.{Applied, FindsNoRoom, IsRoomier,
 use Rattle.evl_machine.specs.mutex_locks.Locking.{Begins, EndsWait, EntersNone, EntersOne, Finishes, GivesTo, HaveSeats, RaisesIf, Releases}
 use Rattle.evl_core.specs.words.MutexSeats.{AcceptsSo, Claims, ForgetsSo, HasOnce, HasSeat, HasWon, Settles, holds_mutex}
 use Rattle.evl_machine.specs.stax_locks.StaxSeats.{holds_stax}
+use Rattle.evl_core.proofs.words.SeatLists.{set_there}
 use Rattle.evl_machine.proofs.mutex_locks.LockingLaws.{enters_made, no_room, seated_at}
 
 -- who claimed a mutex and won it, may settle

@@ -18,7 +18,7 @@ use Rattle.evl_base.specs.declared.reply.Reply.{Reply}
 use Rattle.evl_base.specs.declared.reply.Reply.TheVariants.{Handed}
 use Rattle.evl_base.specs.declared.stage.Stage.TheVariants.{Oob}
 use Rattle.evl_base.specs.Limits.{thread_limit}
-use Rattle.evl_mutex.specs.Mutexes.{Mutex, opened_mutex as opened_mutex}
+use Rattle.evl_mutex.specs.Mutexes.{Mutex, opened_mutex}
 use Rattle.evl_kernel.specs.declared.waits.Awaited.{Awaited}
 use Rattle.evl_kernel.specs.declared.waits.Awaited.TheVariants.{Sem, Flags, Writing, Reading, Mutex as OnMutex}
 use Rattle.evl_kernel.specs.declared.waits.Wait.{Wait}
