@@ -6,6 +6,7 @@ ghost use Rattle.evl_kernel.specs.state.KernelViews.{IsOpened};
 ghost use Rattle.evl_kernel.specs.state.Openings.{can_open};
 ghost use Rattle.evl_machine.specs.callers.Handles.{Belongs, newcomers_of, returned, turned_away};
 ghost use Rattle.evl_core.specs.words.Homes.{AreHomes};
+ghost use Rattle.evl_core.specs.accounts.KernelCalls.{ReservesFor};
 ghost use Rattle.evl_core.specs.worlds.Events.{FailsToTake, Gives, Takes};
 ghost use Rattle.evl_machine.specs.calls.Calls.{CalledHeld, HoldsAtItsStage, TookKernel};
 ghost use Rattle.evl_machine.specs.calls.Closings.{Closes, KeepsOpen};
@@ -120,6 +121,15 @@ impl<'a> Held<'a> {
         ensures called { CalledHeld self.old.of call result self.new.of }
     {
         self.of.apply(call)
+    }
+
+    /// Makes room for so many calls of the kernel, of whichever caller: under this take the next `calls` of `apply`
+    /// answer neither `NoMemory` nor `HistoryFull`.
+    pub fn reserve(&mut self, calls: usize) -> Result<(), Refusal>
+        ensures same { self.new.of.caller ≡ self.old.of.caller }
+        ensures reserved { ReservesFor calls self.old.of.kernel result self.new.of.kernel }
+    {
+        self.of.reserve(calls)
     }
 
     /// The kernel, to be read.

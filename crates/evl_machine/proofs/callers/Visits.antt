@@ -19,7 +19,7 @@ use Rattle.evl_core.specs.accounts.Accounts.{Fits, IsAccount, MadeBy, calls_by, 
 use Rattle.evl_machine.specs.callers.Actors.{ActorState, AreHeldAt, AwaitsOneOf, IsActor, IsSameActor, SeatedActor, Suits, acting, call_refusal, stage_in}
 use Rattle.evl_machine.specs.callers.Callers.{HasInHand, IsResting, caller_by, machine_by}
 use Rattle.evl_machine.specs.calls.Calls.{AreOwnedAsRecorded, TookKernel}
-use Rattle.evl_core.specs.accounts.KernelCalls.{Applied}
+use Rattle.evl_core.specs.accounts.KernelCalls.{Applied, IsRoomier}
 use Rattle.evl_core.specs.accounts.Seats.{IsCaller, IsHeld, Continues, account_of, resting, CoreMe}
 use Rattle.evl_core.specs.worlds.Events.{FailsToTake, Gives, Takes}
 use Rattle.evl_machine.specs.callers.Handles.{CallerState, HeldState, MachineState, caller_of, machine_of, returned, shown, turned_away}
@@ -36,6 +36,7 @@ use Rattle.evl_machine.specs.calls.Visits.{FindsTaken, Visited, actor_of}
 use Rattle.evl_core.proofs.accounts.Accounts.{goes_on_more, made_by-append}
 use Rattle.evl_machine.proofs.callers.Calling.{TakenOut, fits_one, given_account, gives_caller, held_applied, is_held, lost_caller, mine_after, takes_hold}
 use Rattle.evl_core.proofs.accounts.Knowing.{comes_on}
+use Rattle.evl_machine.proofs.mutex_locks.LockingLaws.{comes_roomier}
 use Rattle.evl_machine.proofs.mutex_locks.LockingTies.{other_call_stays, still_settled}
 use Rattle.evl_core.proofs.worlds.QuietCore.{ends_quiet}
 use Rattle.evl_machine.proofs.mutex_locks.SeatsAt.{acting_kept, at_own_table, still_at_table}
@@ -262,6 +263,17 @@ held_call {C} m a a' k k' c r has seat same free done suits = (
   subst (λ (z : KernelMe C). IsSettled z.0 k'.history.state) (sym seat.1)
       (still_settled a.me.0 k.history.state k'.history.state (other_call_stays (ceilings_in a.me.0) k k' a.thread.0 c r a.wait (holds_stax a.staxes) (holds_mutex (acting a).mutexes) has.1.continues.legal has.5 has.3.wait free done) has.4),
   ap board_fits done.comes.board ∙ has.5,
+)
+
+-- and once room was made in it
+pub held_roomier : {C : Type 0} (m : MachineState C) (a : SeatedActor C) (k k' : KernelView C) → HasInHand m a k → IsRoomier k k' → HasInHand m a k'
+held_roomier {C} m a k k' has same = (
+  has.0,
+  record { holds = has.1.holds; own = has.1.own; continues = subst (Continues (account_of (seen a.me))) (sym same.history) has.1.continues },
+  comes_on (first_of a.me.0) k k' has.2 (comes_roomier k k' same),
+  subst (Suits (acting a)) (sym same.history) has.3,
+  subst (λ (h : History). IsSettled a.me.0 h.state) (sym same.history) has.4,
+  ap (λ (h : History). board_fits h.board) same.history ∙ has.5,
 )
 
 -- and before any call of it
