@@ -3,6 +3,7 @@ pub mod Callers
 pub mod Checks
 pub mod Draws
 pub mod Endings
+pub mod Grammar
 pub mod Helps
 pub mod Lives
 pub mod Orders

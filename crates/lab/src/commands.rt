@@ -1,9 +1,18 @@
 //! The command lines of the program.
+ghost use Rattle.std.specs.Prelude.{◌≡◌, true, map, pos, codes, IfOk, IfErr};
+ghost use Rattle.clap.specs.Words.{app_of, kind_of, subcommand_of, subcommand_rows_of, takes};
+ghost use Rattle.clap.specs.declared.builder.value_parser.ValueParser.TheVariants.{Signed};
+ghost use Rattle.clap.specs.declared.error.kind.ErrorKind.TheVariants.{OutOfMemory};
+ghost use Rattle.lab.specs.Grammar.{IsPart, IsWord, bank_rule, callers_part, check_part, draw_part, file_rule, grammar, help_part, limit_rule, live_part, mark_rule, number_rule, one_rule, orders_part, play_part, several_rule, text_rule};
+
+use clap::builder::ValueParser;
 use clap::{Arg, ArgAction, ArgMatches, Command, Error, value_parser};
 use std::alloc::{AllocError, Global};
 
 // The file of a bank.
-fn bank_word<'a>(alloc: Global) -> Arg<'a> {
+fn bank_word<'a>(alloc: Global) -> Arg<'a>
+    ensures { IsWord bank_rule result }
+{
     Arg::new(alloc, "bank")
         .long("bank")
         .value_name("BANK")
@@ -12,7 +21,9 @@ fn bank_word<'a>(alloc: Global) -> Arg<'a> {
 }
 
 // The files of `check`.
-fn checked_files<'a>(alloc: Global) -> Arg<'a> {
+fn checked_files<'a>(alloc: Global) -> Arg<'a>
+    ensures { IsWord (record (several_rule (codes "FILE")) { required = true }) result }
+{
     Arg::new(alloc, "FILE")
         .required(true)
         .action(ArgAction::Append)
@@ -21,11 +32,15 @@ fn checked_files<'a>(alloc: Global) -> Arg<'a> {
 }
 
 // The words of `check`.
-fn check_command<'a>(alloc: Global) -> Result<Command<'a>, AllocError> {
-    Command::new(alloc, "check")
-        .about("Tells every fault of scenarios, with its place, or else the warnings of a dry run")
-        .arg(bank_word(alloc))?
-        .arg(checked_files(alloc))
+fn check_command<'a>(alloc: Global) -> Result<Command<'a>, AllocError>
+    ensures { IfOk result (IsPart check_part) }
+{
+    let command = Command::new(alloc, "check").about(
+        "Tells every fault of scenarios, with its place, or else the warnings of a dry run",
+    );
+    let over_bank = command.arg(bank_word(alloc))?;
+    let with_files = over_bank.arg(checked_files(alloc))?;
+    Ok(with_files)
 }
 
 // A form of a picture, which goes with no other.
@@ -34,7 +49,9 @@ fn form_word<'a>(
     name: &'a str,
     others: (&'a str, &'a str, &'a str),
     help: &'a str,
-) -> Result<Arg<'a>, AllocError> {
+) -> Result<Arg<'a>, AllocError>
+    ensures { IfOk result (IsWord (mark_rule name.entry.now)) }
+{
     Arg::new(alloc, name)
         .long(name)
         .action(ArgAction::SetTrue)
@@ -45,47 +62,68 @@ fn form_word<'a>(
 }
 
 // The form that is drawn where none is named.
-fn svg_word<'a>(alloc: Global) -> Result<Arg<'a>, AllocError> {
+fn svg_word<'a>(alloc: Global) -> Result<Arg<'a>, AllocError>
+    ensures { IfOk result (IsWord (mark_rule (codes "svg"))) }
+{
     let help = "As SVG, which is the form where none is named";
     form_word(alloc, "svg", ("perfetto", "csv", "lanes"), help)
 }
 
 // The form for viewers of timelines.
-fn perfetto_word<'a>(alloc: Global) -> Result<Arg<'a>, AllocError> {
+fn perfetto_word<'a>(alloc: Global) -> Result<Arg<'a>, AllocError>
+    ensures { IfOk result (IsWord (mark_rule (codes "perfetto"))) }
+{
     let help = "As trace events in JSON, for a viewer of timelines";
     form_word(alloc, "perfetto", ("svg", "csv", "lanes"), help)
 }
 
 // The form for tables.
-fn csv_word<'a>(alloc: Global) -> Result<Arg<'a>, AllocError> {
+fn csv_word<'a>(alloc: Global) -> Result<Arg<'a>, AllocError>
+    ensures { IfOk result (IsWord (mark_rule (codes "csv"))) }
+{
     let help = "As comma-separated values";
     form_word(alloc, "csv", ("svg", "perfetto", "lanes"), help)
 }
 
 // The form for a terminal.
-fn lanes_word<'a>(alloc: Global) -> Result<Arg<'a>, AllocError> {
+fn lanes_word<'a>(alloc: Global) -> Result<Arg<'a>, AllocError>
+    ensures { IfOk result (IsWord (mark_rule (codes "lanes"))) }
+{
     let help = "As rows of characters";
     form_word(alloc, "lanes", ("svg", "perfetto", "csv"), help)
 }
 
+// A number from 1 to a million.
+fn to_a_million<'a>() -> ValueParser<'a>
+    ensures { result ≡ Signed (pos 1) (pos 1000000) }
+{
+    value_parser!(u32).range(1..=1_000_000)
+}
+
 // The page of a long picture.
-fn page_word<'a>(alloc: Global) -> Arg<'a> {
+fn page_word<'a>(alloc: Global) -> Arg<'a>
+    ensures { IsWord (number_rule (codes "page") (pos 1000000)) result }
+{
     Arg::new(alloc, "page")
         .long("page")
         .value_name("N")
-        .value_parser(value_parser!(u32).range(1..=1_000_000))
+        .value_parser(to_a_million())
         .help("Which page of an SVG of more than 2000 marks, from 1")
 }
 
 // The text that is drawn.
-fn drawn_file<'a>(alloc: Global) -> Arg<'a> {
+fn drawn_file<'a>(alloc: Global) -> Arg<'a>
+    ensures { IsWord file_rule result }
+{
     Arg::new(alloc, "FILE").action(ArgAction::Set).help(
         "A trace or a scenario; without it, or with -, standard input",
     )
 }
 
 // The words of `draw`.
-fn draw_command<'a>(alloc: Global) -> Result<Command<'a>, AllocError> {
+fn draw_command<'a>(alloc: Global) -> Result<Command<'a>, AllocError>
+    ensures { IfOk result (IsPart draw_part) }
+{
     let command = Command::new(alloc, "draw").about(
         "Draws a trace: a mark for each call and each play",
     );
@@ -93,25 +131,26 @@ fn draw_command<'a>(alloc: Global) -> Result<Command<'a>, AllocError> {
     let with_two = with_one.arg(perfetto_word(alloc)?)?;
     let with_three = with_two.arg(csv_word(alloc)?)?;
     let with_four = with_three.arg(lanes_word(alloc)?)?;
-    with_four.arg(page_word(alloc))?.arg(drawn_file(alloc))
+    let with_page = with_four.arg(page_word(alloc))?;
+    let with_file = with_page.arg(drawn_file(alloc))?;
+    Ok(with_file)
 }
 
 // The limit of the history.
-fn limit_word<'a>(alloc: Global) -> Arg<'a> {
+fn limit_word<'a>(alloc: Global) -> Arg<'a>
+    ensures { IsWord limit_rule result }
+{
     Arg::new(alloc, "limit")
         .long("limit")
         .value_name("N")
-        .value_parser(value_parser!(u32).range(1..=1_000_000))
+        .value_parser(to_a_million())
         .help("How many entries the history may have, in place of the scenario's own limit")
 }
 
-// The words of the bank and of the limit.
-fn with_bank<'a>(alloc: Global, command: Command<'a>) -> Result<Command<'a>, AllocError> {
-    command.arg(bank_word(alloc))?.arg(limit_word(alloc))
-}
-
 // What is told as JSON.
-fn json_word<'a>(alloc: Global) -> Result<Arg<'a>, AllocError> {
+fn json_word<'a>(alloc: Global) -> Result<Arg<'a>, AllocError>
+    ensures { IfOk result (IsWord (mark_rule (codes "json"))) }
+{
     Arg::new(alloc, "json")
         .long("json")
         .action(ArgAction::SetTrue)
@@ -120,7 +159,9 @@ fn json_word<'a>(alloc: Global) -> Result<Arg<'a>, AllocError> {
 }
 
 // The folder of traces that were made before.
-fn against_word<'a>(alloc: Global) -> Arg<'a> {
+fn against_word<'a>(alloc: Global) -> Arg<'a>
+    ensures { IsWord (text_rule (codes "against")) result }
+{
     Arg::new(alloc, "against")
         .long("against")
         .value_name("FOLDER")
@@ -129,7 +170,9 @@ fn against_word<'a>(alloc: Global) -> Arg<'a> {
 }
 
 // The files of `play`.
-fn played_files<'a>(alloc: Global) -> Arg<'a> {
+fn played_files<'a>(alloc: Global) -> Arg<'a>
+    ensures { IsWord (several_rule (codes "FILE")) result }
+{
     Arg::new(alloc, "FILE")
         .action(ArgAction::Append)
         .num_args(1..)
@@ -137,88 +180,128 @@ fn played_files<'a>(alloc: Global) -> Arg<'a> {
 }
 
 // The words of `play`.
-fn play_command<'a>(alloc: Global) -> Result<Command<'a>, AllocError> {
+fn play_command<'a>(alloc: Global) -> Result<Command<'a>, AllocError>
+    ensures { IfOk result (IsPart play_part) }
+{
     let command = Command::new(alloc, "play").about("Plays scenarios and prints their traces");
-    let over_bank = with_bank(alloc, command)?;
-    let as_json = over_bank.arg(json_word(alloc)?)?;
-    as_json.arg(against_word(alloc))?.arg(played_files(alloc))
+    let over_bank = command.arg(bank_word(alloc))?;
+    let with_limit = over_bank.arg(limit_word(alloc))?;
+    let as_json = with_limit.arg(json_word(alloc)?)?;
+    let against = as_json.arg(against_word(alloc))?;
+    let with_files = against.arg(played_files(alloc))?;
+    Ok(with_files)
 }
 
 // The scenario that comes first.
-fn first_file<'a>(alloc: Global) -> Arg<'a> {
+fn first_file<'a>(alloc: Global) -> Arg<'a>
+    ensures { IsWord file_rule result }
+{
     Arg::new(alloc, "FILE")
         .action(ArgAction::Set)
         .help("The scenario whose board and steps come first")
 }
 
 // The words of `live`.
-fn live_command<'a>(alloc: Global) -> Result<Command<'a>, AllocError> {
+fn live_command<'a>(alloc: Global) -> Result<Command<'a>, AllocError>
+    ensures { IfOk result (IsPart live_part) }
+{
     let command = Command::new(alloc, "live").about(
         "Answers each line of standard input, a call as a trace has it; ? helps",
     );
-    let over_bank = with_bank(alloc, command)?;
-    over_bank.arg(first_file(alloc))
+    let over_bank = command.arg(bank_word(alloc))?;
+    let with_limit = over_bank.arg(limit_word(alloc))?;
+    let with_file = with_limit.arg(first_file(alloc))?;
+    Ok(with_file)
 }
 
 // The text of callers.
-fn callers_file<'a>(alloc: Global) -> Arg<'a> {
+fn callers_file<'a>(alloc: Global) -> Arg<'a>
+    ensures { IsWord file_rule result }
+{
     Arg::new(alloc, "FILE").action(ArgAction::Set).help(
         "A scenario, in which [[setup]] stands for a step that comes first; without it, or with -, standard input",
     )
 }
 
+// A number from 1 to a hundred millions.
+fn to_a_hundred_millions<'a>() -> ValueParser<'a>
+    ensures { result ≡ Signed (pos 1) (pos 100000000) }
+{
+    value_parser!(u32).range(1..=100_000_000)
+}
+
 // How far the orders are gone through.
-fn most_word<'a>(alloc: Global) -> Arg<'a> {
+fn most_word<'a>(alloc: Global) -> Arg<'a>
+    ensures { IsWord (number_rule (codes "most") (pos 100000000)) result }
+{
     Arg::new(alloc, "most")
         .long("most")
         .value_name("N")
-        .value_parser(value_parser!(u32).range(1..=100_000_000))
+        .value_parser(to_a_hundred_millions())
         .help(
             "Go no further than where a number of steps leads to more than N moments; 100000 without it",
         )
 }
 
 // The words of `orders`.
-fn orders_command<'a>(alloc: Global) -> Result<Command<'a>, AllocError> {
-    Command::new(alloc, "orders")
-        .about("Goes through every order in which the callers of a scenario may come")
-        .arg(bank_word(alloc))?
-        .arg(most_word(alloc))?
-        .arg(callers_file(alloc))
+fn orders_command<'a>(alloc: Global) -> Result<Command<'a>, AllocError>
+    ensures { IfOk result (IsPart orders_part) }
+{
+    let command = Command::new(alloc, "orders").about(
+        "Goes through every order in which the callers of a scenario may come",
+    );
+    let over_bank = command.arg(bank_word(alloc))?;
+    let with_most = over_bank.arg(most_word(alloc))?;
+    let with_file = with_most.arg(callers_file(alloc))?;
+    Ok(with_file)
 }
 
 // The text of callers that is played.
-fn steps_file<'a>(alloc: Global) -> Arg<'a> {
+fn steps_file<'a>(alloc: Global) -> Arg<'a>
+    ensures { IsWord file_rule result }
+{
     Arg::new(alloc, "FILE").action(ArgAction::Set).help(
         "A scenario with staxes, and with steps of callers; without it, or with -, standard input",
     )
 }
 
 // The words of `callers`.
-fn steps_command<'a>(alloc: Global) -> Result<Command<'a>, AllocError> {
+fn steps_command<'a>(alloc: Global) -> Result<Command<'a>, AllocError>
+    ensures { IfOk result (IsPart callers_part) }
+{
     let command = Command::new(alloc, "callers").about(
         "Plays callers of both stages, and shows the words of staxes and mutexes",
     );
-    let over_bank = with_bank(alloc, command)?;
-    over_bank.arg(steps_file(alloc))
+    let over_bank = command.arg(bank_word(alloc))?;
+    let with_limit = over_bank.arg(limit_word(alloc))?;
+    let with_file = with_limit.arg(steps_file(alloc))?;
+    Ok(with_file)
 }
 
 // The word of a call.
-fn call_word<'a>(alloc: Global) -> Arg<'a> {
+fn call_word<'a>(alloc: Global) -> Arg<'a>
+    ensures { IsWord (one_rule (codes "WORD")) result }
+{
     Arg::new(alloc, "WORD")
         .action(ArgAction::Set)
         .help("A call's word; without it, all calls")
 }
 
 // The words of `help`.
-fn help_command<'a>(alloc: Global) -> Result<Command<'a>, AllocError> {
-    Command::new(alloc, "help")
-        .about("Tells a form of each call, or of one what its keys take")
-        .arg(call_word(alloc))
+fn help_command<'a>(alloc: Global) -> Result<Command<'a>, AllocError>
+    ensures { IfOk result (IsPart help_part) }
+{
+    let command = Command::new(alloc, "help").about(
+        "Tells a form of each call, or of one what its keys take",
+    );
+    let with_word = command.arg(call_word(alloc))?;
+    Ok(with_word)
 }
 
 // The command line that the program takes.
-fn command_line<'a>(alloc: Global) -> Result<Command<'a>, AllocError> {
+fn command_line<'a>(alloc: Global) -> Result<Command<'a>, AllocError>
+    ensures { IfOk result (λ command. app_of command ≡ grammar) }
+{
     let program = Command::new(alloc, "lab")
         .about("Checks, plays, drives and draws scenarios of calls on an out-of-band core")
         .disable_help_subcommand(true)
@@ -229,10 +312,17 @@ fn command_line<'a>(alloc: Global) -> Result<Command<'a>, AllocError> {
     let lives = plays.subcommand(live_command(alloc)?)?;
     let orders = lives.subcommand(orders_command(alloc)?)?;
     let steps = orders.subcommand(steps_command(alloc)?)?;
-    steps.subcommand(help_command(alloc)?)
+    let all = steps.subcommand(help_command(alloc)?)?;
+    Ok(all)
 }
 
 /// Reads the words, of which the first is the program's name.
-pub fn read_words<'a>(alloc: Global, words: &'a [&'a str]) -> Result<ArgMatches<'a>, Error> {
-    command_line(alloc)?.try_get_matches_from(words)
+pub fn read_words<'a>(alloc: Global, words: &'a [&'a str]) -> Result<ArgMatches<'a>, Error>
+    ensures part { IfOk result (λ matches. subcommand_rows_of matches ≡ subcommand_of grammar (map (λ s. s.now) words.now)) }
+    ensures taken { IfErr result (λ e. takes grammar (map (λ s. s.now) words.now) ≡ true → kind_of e ≡ OutOfMemory) }
+{
+    match command_line(alloc)?.try_get_matches_from(words) {
+        Ok(matches) => Ok(matches),
+        Err(error) => Err(error),
+    }
 }

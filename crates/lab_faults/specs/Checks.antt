@@ -1,6 +1,8 @@
--- What is told of a text that can't be played. Left open is where the reader of TOML stopped, and why.
-use Rattle.std.specs.Prelude.{◌≡◌, ◌≢◌, ◌<◌, ◌≤◌, ◌⊎◌, ℕ, List, [], ◌∷◌, ◌++◌, codes, decimal, length, map, Option, None, Some, is_some, true}
+-- What is told of a text that can't be played. Where it is no TOML, the place is the one that TOML's reader tells.
+use Rattle.std.specs.Prelude.{◌≡◌, ◌≢◌, ◌<◌, ◌≤◌, ◌⊎◌, ℕ, List, [], ◌∷◌, ◌++◌, codes, decimal, length, map, Option, None, Some, is_some, true, IsUtf8}
+use Rattle.toml.specs.Errors.{IsMemory, IsWithin, span_start}
 use Rattle.toml.specs.Parse.{parse_document}
+use Rattle.toml.specs.declared.de.error.Error.{Error}
 use Rattle.evl_scenario.specs.declared.faults.Fault.{Fault}
 use Rattle.evl_scenario.specs.declared.faults.Fault.TheVariants.{Text, Board, Step, Memory, Write}
 use Rattle.lab_faults.specs.Boards.{board_faults}
@@ -15,14 +17,27 @@ use Rattle.lab_faults.specs.declared.found.Found.{Found}
 abbrev pub not_toml_text : List ℕ → List ℕ
 not_toml_text why = codes "no TOML in UTF-8: " ++ why
 
--- a text of few bytes: for some reason it is no document
-abbrev pub IsRefusedFor : List ℕ → List ℕ → Type 0
-IsRefusedFor text words = ((is_some (parse_document text) ≡ true) × (words ≡ codes "the text can't be read")) ⊎ ((why : List ℕ) × (words ≡ not_toml_text why))
+-- the reader of TOML stopped at a place in a text that is no document
+pub record StopsAt (text : List ℕ) (stop : Error) (at : ℕ) : Type 0 where
+  pub no_document : IsUtf8 text → parse_document text ≡ None
+  pub read : ¬ IsMemory stop
+  pub within : IsWithin text stop
+  pub there : at ≡ span_start stop
+
+-- some reason is told
+abbrev pub TellsWhy : List ℕ → Type 0
+TellsWhy words = (why : List ℕ) × (why ≢ []) × (words ≡ not_toml_text why)
+
+-- a text of few bytes: it is a document that can't be read, or is none from where the reader stopped
+abbrev pub IsRefusedFor : List ℕ → ℕ → List ℕ → Type 0
+IsRefusedFor text at words =
+    ((is_some (parse_document text) ≡ true) × (at ≡ 0) × (words ≡ codes "the text can't be read"))
+    ⊎ ((stop : Error) × StopsAt text stop at × TellsWhy words)
 
 -- any text: it is too long, or that
 pub record IsTextFault (text : List ℕ) (at : ℕ) (words : List ℕ) : Type 0 where
   pub long : 1048576 < length text → (at ≡ 1048576) × (words ≡ codes "the text has more than 1048576 bytes")
-  pub short : length text ≤ 1048576 → IsRefusedFor text words
+  pub short : length text ≤ 1048576 → IsRefusedFor text at words
 
 -- ---- by what it is refused for
 

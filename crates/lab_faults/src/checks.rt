@@ -1,7 +1,8 @@
 //! The faults of a text: told exactly where it can't be played.
-ghost use Rattle.std.specs.Prelude.{◌≡◌, ◌≢◌, ◌∷◌, true, false, map, string_bytes, Err, None, Some, IfOk};
+ghost use Rattle.std.specs.Prelude.{◌≡◌, ◌≢◌, [], ◌∷◌, true, false, map, string_bytes, Err, None, Some, IfOk};
+ghost use Rattle.toml.specs.Errors.{IsMemory, span_start};
 ghost use Rattle.evl_scenario.specs.Scenarios.{scenario_of};
-ghost use Rattle.lab_faults.specs.Checks.{Finds, FindsText, IsRefusedFor, IsTextFault, Tells, faults_in_all, faults_in_steps, not_toml_text, plain_text, plain_told};
+ghost use Rattle.lab_faults.specs.Checks.{Finds, FindsText, IsRefusedFor, IsTextFault, Tells, TellsWhy, faults_in_all, faults_in_steps, not_toml_text, plain_text, plain_told};
 ghost use Rattle.lab_faults.specs.Faults.{are_of_steps, first_fault, is_of_step, refusal_in};
 ghost use Rattle.lab_faults.specs.Told.{fault_told};
 
@@ -11,6 +12,7 @@ use crate::keys::items_of;
 use crate::runs::check_steps;
 use evl_scenario::{Fault, read_scenario};
 use std::alloc::{AllocError, Global};
+use toml::de::Error;
 
 // What is said of a text that is no TOML.
 fn not_toml(alloc: Global, why: &str) -> Result<String, AllocError>
@@ -19,19 +21,43 @@ fn not_toml(alloc: Global, why: &str) -> Result<String, AllocError>
     format!(in alloc; "no TOML in UTF-8: {why}")
 }
 
+// Why the reader of TOML stopped.
+fn reason(stop: &Error) -> &str
+    ensures { result.now ≢ [] }
+{
+    let why = stop.message();
+    if why.is_empty() {
+        "it can't be read"
+    } else {
+        why
+    }
+}
+
+// Where the reader of TOML stopped, and why.
+fn stop_told(alloc: Global, stop: &Error) -> Result<(usize, String), AllocError>
+    ensures read { IfOk result (λ fault_told. ¬ IsMemory stop.now) }
+    ensures there { IfOk result (λ fault_told. fault_told.0 ≡ span_start stop.now) }
+    ensures why { IfOk result (λ fault_told. TellsWhy (string_bytes fault_told.1)) }
+{
+    let Some(span) = stop.span() else {
+        return Err(AllocError);
+    };
+    let words = not_toml(alloc, reason(stop))?;
+    Ok((span.start, words))
+}
+
 // Where a text is no TOML document, and why.
 fn refused_for(alloc: Global, text: &[u8]) -> Result<(usize, String), AllocError>
-    ensures { IfOk result (λ told. IsRefusedFor text.now (string_bytes told.1)) }
+    ensures { IfOk result (λ fault_told. IsRefusedFor text.now fault_told.0 (string_bytes fault_told.1)) }
 {
     match toml::table_from_slice(alloc, text) {
-        Ok(_) => Ok((0, format!(in alloc; "the text can't be read")?)),
-        Err(error) => {
-            let at = match error.span() {
-                Some(span) => span.start,
-                None => 0,
-            };
-            let words = not_toml(alloc, error.message())?;
-            Ok((at, words))
+        Ok(_) => {
+            let words = format!(in alloc; "the text can't be read")?;
+            Ok((0, words))
+        }
+        Err(stop) => {
+            let told = stop_told(alloc, &stop)?;
+            Ok(told)
         }
     }
 }
