@@ -7,8 +7,8 @@
  *   evlsim::kernel kernel(board);
  *   assert(kernel.call(0, evlsim_call_try_get(0)).refused_as(EVLSIM_REFUSAL_AGAIN));
  *
- * A kernel is given to one call at a time, of the thread that made it. What is refused is thrown; what a kernel refuses
- * is an answer.
+ * A kernel is given to one call at a time, of the thread that made it. A refused text, board, plan or number is thrown;
+ * a call that the kernel refuses is an answer.
  */
 #ifndef EVLSIM_HPP
 #define EVLSIM_HPP
@@ -47,13 +47,13 @@ struct refused : std::runtime_error {
 /* The callbacks that a scenario names by their numbers. */
 using bank = std::vector<evlsim_plan>;
 
-/* Throws what a status says, if it isn't EVLSIM_OK. */
+/* Throws a status that is not EVLSIM_OK. */
 inline void require_ok(evlsim_status status, std::uint32_t step = 0) {
   if (status == EVLSIM_NO_MEMORY) throw std::bad_alloc();
   if (status != EVLSIM_OK) throw refused(status, step);
 }
 
-/* The trace of a scenario's text from a byte on, as evlsim_play writes it, or as evlsim_play_over where there is a bank.
+/* The trace of a scenario's text from a byte on, as evlsim_play writes it, or evlsim_play_over if there is a bank.
    Throws refused and std::bad_alloc. */
 inline std::string play(std::string_view text, std::uint32_t limit = 0, std::size_t start = 0,
                         const std::optional<bank> &plans = std::nullopt) {
@@ -89,7 +89,7 @@ struct answer : evlsim_answer {
   bool has(evlsim_kind what) const { return evlsim_has(*this, what); }
 };
 
-/* A kernel, which is closed with the object. It can be moved, and isn't copied. */
+/* A kernel, which is closed with the object. It can be moved, not copied. */
 class kernel {
  public:
   /* Throws refused if the board, the limit or a plan is, and std::bad_alloc. */

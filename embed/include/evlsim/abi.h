@@ -1,5 +1,5 @@
 /*
- * Part of evlsim.h: what crosses between C and the library, as crates/evl_c has it: numbers, structs and exports.
+ * Part of evlsim.h: the numbers, structs and exports between C and the library (crates/evl_c).
  */
 #ifndef EVLSIM_ABI_H
 #define EVLSIM_ABI_H
@@ -14,7 +14,7 @@ extern "C" {
 #define EVLSIM_TO(type, value) ((type)(value))
 #endif
 
-/* Inlined also where a compiler would rather not, so that what is known of a call costs nothing. */
+/* Always inlined, so that what is known of a call at compile time costs nothing. */
 #if defined(__GNUC__)
 #define EVLSIM_INLINE static inline __attribute__((always_inline))
 #define EVLSIM_CHECKED __attribute__((warn_unused_result))
@@ -23,7 +23,7 @@ extern "C" {
 #define EVLSIM_CHECKED
 #endif
 
-/* How a function ended. The number is for a switch alone: evlsim_ok and evlsim_status_is compare. */
+/* How a function ended. Use the number in a switch only; evlsim_ok and evlsim_status_is compare. */
 typedef struct evlsim_status {
   uint32_t number; /* an evlsim_status_number */
 } evlsim_status;
@@ -41,17 +41,17 @@ enum evlsim_status_number {
   EVLSIM_STATUS_WRONG_ABI
 };
 static const evlsim_status EVLSIM_OK = {EVLSIM_STATUS_OK};
-static const evlsim_status EVLSIM_BAD_TEXT = {EVLSIM_STATUS_BAD_TEXT};   /* no UTF-8, no TOML, or above 1 MiB */
+static const evlsim_status EVLSIM_BAD_TEXT = {EVLSIM_STATUS_BAD_TEXT};   /* not UTF-8, not TOML, or above 1 MiB */
 static const evlsim_status EVLSIM_BAD_BOARD = {EVLSIM_STATUS_BAD_BOARD}; /* the board, the limit, a key beside them */
-static const evlsim_status EVLSIM_BAD_STEP = {EVLSIM_STATUS_BAD_STEP};   /* a step can't be read */
+static const evlsim_status EVLSIM_BAD_STEP = {EVLSIM_STATUS_BAD_STEP};   /* a step cannot be read */
 static const evlsim_status EVLSIM_NO_MEMORY = {EVLSIM_STATUS_NO_MEMORY}; /* malloc or realloc returned null */
 static const evlsim_status EVLSIM_BAD_PLAN = {EVLSIM_STATUS_BAD_PLAN};   /* a number of a plan, or above 64 plans */
-static const evlsim_status EVLSIM_NULL = {EVLSIM_STATUS_NULL};           /* a null pointer, or no kernel is there */
+static const evlsim_status EVLSIM_NULL = {EVLSIM_STATUS_NULL};           /* a null pointer, or no kernel */
 static const evlsim_status EVLSIM_BAD_NUMBER = {EVLSIM_STATUS_BAD_NUMBER}; /* a number is out of its range */
 static const evlsim_status EVLSIM_TOO_LONG = {EVLSIM_STATUS_TOO_LONG};   /* a scenario above 1,048,576 bytes */
-static const evlsim_status EVLSIM_WRONG_ABI = {EVLSIM_STATUS_WRONG_ABI}; /* header and library don't fit */
+static const evlsim_status EVLSIM_WRONG_ABI = {EVLSIM_STATUS_WRONG_ABI}; /* header and library differ */
 
-/* The kind of an answer. The number is for a switch alone: evlsim_is_done, evlsim_has and so on compare. */
+/* The kind of an answer. Use the number in a switch only; evlsim_is_done, evlsim_has and so on compare. */
 typedef struct evlsim_kind {
   uint8_t number; /* an evlsim_kind_number */
 } evlsim_kind;
@@ -83,7 +83,7 @@ static const evlsim_kind EVLSIM_NOT_CALLED = {EVLSIM_KIND_NOT_CALLED}; /* evlsim
 
 /* Why a kernel refused a call. The first two make no entry in the history. Compared by evlsim_refused_as. */
 typedef struct evlsim_refusal {
-  uint16_t number; /* an evlsim_refusal_number, 0 where the call wasn't refused */
+  uint16_t number; /* an evlsim_refusal_number, 0 if the call was not refused */
 } evlsim_refusal;
 
 enum evlsim_refusal_number {
@@ -118,8 +118,8 @@ static const evlsim_refusal EVLSIM_REFUSAL_WRONG_STAGE = {EVLSIM_REFUSAL_NUMBER_
 
 /* What a callback may ask for. */
 #define EVLSIM_POST_SEM 0u   /* raises the count of the semaphore `element` */
-#define EVLSIM_POST_FLAGS 1u /* ors `bits` into the flag group `element` */
-#define EVLSIM_PROPAGATE 2u  /* hands the event of this line on to the in-band stage */
+#define EVLSIM_POST_FLAGS 1u /* adds `bits` to the flag group `element` */
+#define EVLSIM_PROPAGATE 2u  /* posts the event's own line in-band */
 #define EVLSIM_POST_OOB 3u   /* posts the line `element` out-of-band */
 #define EVLSIM_STOP_TIMER 4u /* stops the timer `element` */
 
@@ -131,29 +131,29 @@ static const evlsim_refusal EVLSIM_REFUSAL_WRONG_STAGE = {EVLSIM_REFUSAL_NUMBER_
 typedef struct evlsim_row {
   uint64_t every;   /* 1 or more */
   uint8_t action;   /* EVLSIM_POST_SEM to EVLSIM_STOP_TIMER */
-  uint16_t element; /* a semaphore, flag group, line or timer; on one that isn't there nothing is done */
+  uint16_t element; /* a semaphore, flag group, line or timer; nothing is done if there is none */
   uint32_t bits;    /* for EVLSIM_POST_FLAGS alone */
 } evlsim_row;
 
 /*
  * What a callback answers: it handles the events whose counts `accepts` divides, and asks for the actions of its rows,
- * in their order. A callback with EVLSIM_POST_OOB can't be requested out-of-band, nor one with EVLSIM_PROPAGATE
- * in-band.
+ * in their order. A callback with EVLSIM_POST_OOB cannot be requested out-of-band, nor one with
+ * EVLSIM_PROPAGATE in-band.
  */
 typedef struct evlsim_plan {
   uint64_t accepts; /* 1 or more */
   uint8_t kinds;    /* the actions that it declares: those of its rows, at least */
   uint8_t count;    /* how many rows there are, 0 to 4 */
-  evlsim_row rows[4]; /* those after `count` aren't looked at */
+  evlsim_row rows[4]; /* those after `count` are ignored */
 } evlsim_plan;
 
-/* What a play told. */
+/* What came of a play. */
 typedef struct evlsim_played {
-  size_t length; /* how many bytes the whole trace has; 0 where there is none */
-  uint32_t step; /* the first step that can't be read, from 1; 0 where it isn't a step */
+  size_t length; /* how many bytes the whole trace has; 0 if there is none */
+  uint32_t step; /* the first step that cannot be read, from 1; 0 if no step is at fault */
 } evlsim_played;
 
-/* A kernel, or none. What is in it is the library's. */
+/* A kernel, or none. Its fields belong to the library. */
 typedef struct evlsim_kernel {
   bool is_open;
   void *at;
@@ -175,7 +175,7 @@ typedef struct evlsim_mutex {
   uint8_t ceiling; /* 1 to 99, for EVLSIM_CEILING alone */
 } evlsim_mutex;
 
-/* The elements of a kernel, numbered from 0. A list may be null where its count is 0. */
+/* The elements of a kernel, numbered from 0. A list may be null if its count is 0. */
 typedef struct evlsim_board {
   uint16_t threads;      /* 1 to 256 */
   const uint32_t *sems;  /* opening counts, each up to 2,147,483,647 */
@@ -191,8 +191,8 @@ typedef struct evlsim_board {
 } evlsim_board;
 
 /*
- * A call, as the functions evlsim_call_.. make it. All of its numbers are in their ranges, also those that its kind
- * doesn't use. A take's `choice` above 2 is taken as 2, and a finish's above 1 as 1.
+ * A call, as the functions evlsim_call_.. make it. All its numbers must be in range, also those that its kind does not
+ * use. A take's `choice` above 2 is taken as 2, and a finish's above 1 as 1.
  */
 typedef struct evlsim_call {
   uint8_t kind;     /* EVLSIM_CALL_REQUEST to EVLSIM_CALL_FINISH */
@@ -217,7 +217,7 @@ typedef struct evlsim_answer {
   int32_t thread; /* -1: none */
   int64_t count;
   uint64_t number;
-  size_t first_play; /* evlsim_event_at tells of the plays of the call, from this one on */
+  size_t first_play; /* the first of the call's plays, for evlsim_event_at */
   size_t plays;      /* how many there are */
 } evlsim_answer;
 
@@ -237,7 +237,7 @@ typedef struct evlsim_event {
   uint64_t missed;
 } evlsim_event;
 
-/* Questions. What is waited for is an evlsim_awaited. */
+/* Questions; `on` is an evlsim_awaited. */
 enum evlsim_question_kind {
   EVLSIM_SEE_NOW, EVLSIM_SEE_PICKED, EVLSIM_SEE_RANK, EVLSIM_SEE_READY, EVLSIM_SEE_WAITS, EVLSIM_SEE_FINISHED,
   EVLSIM_SEE_TIMED_OUT, EVLSIM_SEE_STAGE, EVLSIM_SEE_COUNT, EVLSIM_SEE_BITS, EVLSIM_SEE_STORED, EVLSIM_SEE_OWNER,
@@ -251,7 +251,7 @@ typedef struct evlsim_question {
 } evlsim_question;
 
 typedef struct evlsim_reading {
-  bool there; /* whether it is so, or there is such a thing */
+  bool there; /* whether it is so, or exists */
   uint64_t number;
   int64_t count;
 } evlsim_reading;
@@ -261,13 +261,13 @@ uint32_t evlsim_c_play(const uint8_t *text, size_t text_length, uint32_t limit, 
                        size_t out_length, evlsim_played *played);
 uint32_t evlsim_c_play_over(const evlsim_plan *plans, size_t plan_count, const uint8_t *text, size_t text_length,
                             uint32_t limit, size_t start, uint8_t *out, size_t out_length, evlsim_played *played);
-/* Reads *kernel: a kernel that is there is freed first. */
+/* Reads *kernel: an open kernel is freed first. */
 uint32_t evlsim_c_open(const evlsim_board *board, const evlsim_plan *plans, size_t plan_count, uint32_t limit,
                        evlsim_kernel *kernel);
 void evlsim_c_close(evlsim_kernel *kernel);
 uint32_t evlsim_c_apply(evlsim_kernel *kernel, uint16_t caller, const evlsim_call *call, const uint8_t *bytes,
                         size_t length, uint8_t *out, size_t out_length, evlsim_answer *answer);
-/* A call of EVLSIM_BARE_KINDS; if it can't be made, *answer says so as evlsim_do does. */
+/* A call of EVLSIM_BARE_KINDS; if it cannot be made, *answer says so as evlsim_do does. */
 uint32_t evlsim_c_apply_bare(evlsim_kernel *kernel, uint16_t caller, uint8_t kind, uint16_t element,
                              evlsim_answer *answer);
 uint32_t evlsim_c_event(evlsim_kernel *kernel, size_t index, evlsim_event *event);

@@ -1,6 +1,6 @@
 /*
- * Part of evlsim.h: the 36 calls of a kernel, one function each. What each call does and answers, and its refusals, is
- * the table "Steps" of docs/use/SCENARIOS.md.
+ * Part of evlsim.h: the 36 calls of a kernel, one function each. The table "Steps" of docs/use/SCENARIOS.md says what
+ * each does, answers and is refused for.
  */
 #ifndef EVLSIM_CALLS_H
 #define EVLSIM_CALLS_H
@@ -45,7 +45,7 @@ static inline evlsim_call evlsim_call_staged(unsigned kind, evlsim_stage stage, 
   return call;
 }
 
-/* A wait with a deadline: evlsim_until(evlsim_call_begin_get(0), 100). Without it a wait has none. */
+/* A wait with a deadline: evlsim_until(evlsim_call_begin_get(0), 100). Without this a wait has none. */
 static inline evlsim_call evlsim_until(evlsim_call call, uint64_t date) {
   call.timed = 1;
   call.date = date;
@@ -172,7 +172,7 @@ static inline evlsim_call evlsim_call_begin_take(uint16_t flags, evlsim_take cho
   return evlsim_call_taking(EVLSIM_CALL_BEGIN_TAKE, flags, choice, mask);
 }
 
-/* Cross-buffers. The bytes of a write are handed to evlsim_do_bytes, and those of a read come from it. */
+/* Cross-buffers. Hand the bytes of a write to evlsim_do_bytes; those of a read come from it. */
 static inline evlsim_call evlsim_call_through(unsigned kind, uint16_t xbuf, evlsim_way way, uint16_t length) {
   evlsim_call call = evlsim_call_of(kind, xbuf);
   call.way = EVLSIM_TO(uint8_t, way == EVLSIM_IN ? 0u : way == EVLSIM_OUT ? 1u : 2u);

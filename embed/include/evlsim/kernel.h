@@ -29,16 +29,16 @@ static const evlsim_plan evlsim_program_bank[EVLSIM_PROGRAM_BANK] = {
 
 /*
  * Makes a kernel of this board over the callbacks of these plans, with an empty history that may have `limit` entries,
- * 1 to 1,000,000. What was in *kernel isn't read: a kernel that was there is to be closed before.
+ * 1 to 1,000,000. *kernel is not read: close an earlier kernel before.
  *
- * EVLSIM_OK        the kernel is there, and is to be closed.
- * EVLSIM_BAD_PLAN  a plan has a number that it may not have, or there are more than 64. It comes before a bad board.
+ * EVLSIM_OK        there is a kernel; close it when done.
+ * EVLSIM_BAD_PLAN  a number of a plan is not allowed, or there are more than 64. It comes before a bad board.
  * EVLSIM_BAD_BOARD a number of the board, one of its counts, or the limit is out of its range.
  * EVLSIM_NO_MEMORY malloc returned null.
- * EVLSIM_NULL      kernel or board is null, or plans or a list with a count that isn't 0.
- * EVLSIM_WRONG_ABI header and library don't fit.
+ * EVLSIM_NULL      kernel or board is null, or plans or a list with a count that is not 0.
+ * EVLSIM_WRONG_ABI header and library differ.
  *
- * But for EVLSIM_OK no kernel is there: *kernel is EVLSIM_NO_KERNEL, on which each function says EVLSIM_NULL.
+ * Unless the status is EVLSIM_OK, *kernel is EVLSIM_NO_KERNEL, for which each function answers EVLSIM_NULL.
  */
 EVLSIM_CHECKED static inline evlsim_status evlsim_open(evlsim_kernel *kernel, const evlsim_board *board,
                                                        const evlsim_plan *plans, size_t plan_count, uint32_t limit) {
@@ -66,7 +66,7 @@ EVLSIM_CHECKED static inline evlsim_status evlsim_open(evlsim_kernel *kernel, co
   return evlsim_status_of(evlsim_c_open(&whole, plans == NULL ? &no_plan : plans, plan_count, limit, kernel));
 }
 
-/* Frees the kernel, if one is there; none is there then. */
+/* Frees the kernel, if there is one; *kernel is EVLSIM_NO_KERNEL then. */
 static inline void evlsim_close(evlsim_kernel *kernel) {
   if (kernel != NULL) evlsim_c_close(kernel);
 }
@@ -74,14 +74,14 @@ static inline void evlsim_close(evlsim_kernel *kernel) {
 /*
  * Makes a call of thread `who`, as a scenario's step does: the kernel answers it, settles, and enters it into its
  * history. `bytes` go with `write` and `begin_write`, at most 256; the bytes that `read` and `finish` bring go into
- * `out`, as many as there is room for (256 always do). Both may be null where their length is 0.
+ * `out`, as many as there is room for (256 always do). Both may be null if their length is 0.
  *
- * EVLSIM_OK         the call was made, and *answer tells how: a refusal is an answer too.
+ * EVLSIM_OK         the call was made, and *answer has its answer; a refusal is one too.
  * EVLSIM_NO_MEMORY  malloc returned null for the bytes.
  * EVLSIM_BAD_NUMBER a number of *call is out of its range, or there are more than 256 bytes.
- * EVLSIM_NULL       no kernel is there, or kernel, call or answer is null, or bytes or out with a length that isn't 0.
+ * EVLSIM_NULL       no kernel, or kernel, call or answer is null, or bytes or out with a length that is not 0.
  *
- * But for EVLSIM_OK nothing is called, and *answer and out are as before.
+ * Unless the status is EVLSIM_OK, nothing is called, and *answer and out are as before.
  */
 static inline evlsim_status evlsim_apply(evlsim_kernel *kernel, uint16_t who, const evlsim_call *call,
                                          const uint8_t *bytes, size_t length, uint8_t *out, size_t out_length,
@@ -95,14 +95,14 @@ static inline evlsim_status evlsim_apply(evlsim_kernel *kernel, uint16_t who, co
                                          out == NULL ? &none : out, out_length, answer));
 }
 
-/* What evlsim_do answers where nothing was called. */
+/* What evlsim_do answers if nothing was called. */
 static inline evlsim_answer evlsim_not_called(evlsim_status status) {
   evlsim_answer answer = {{0}, {EVLSIM_KIND_NOT_CALLED}, false, -1, 0, 0, 0, 0};
   answer.number = status.number;
   return answer;
 }
 
-/* The same as evlsim_apply with the answer as the result; where nothing was called its kind is EVLSIM_NOT_CALLED. */
+/* The same as evlsim_apply with the answer as the result; if nothing was called its kind is EVLSIM_NOT_CALLED. */
 EVLSIM_INLINE evlsim_answer evlsim_do_bytes(evlsim_kernel *kernel, uint16_t who, evlsim_call call, const uint8_t *bytes,
                                             size_t length, uint8_t *out, size_t out_length) {
   evlsim_answer answer;
@@ -111,7 +111,7 @@ EVLSIM_INLINE evlsim_answer evlsim_do_bytes(evlsim_kernel *kernel, uint16_t who,
   return answer;
 }
 
-/* The same of a call without bytes. */
+/* The same for a call without bytes. */
 EVLSIM_INLINE evlsim_answer evlsim_do(evlsim_kernel *kernel, uint16_t who, evlsim_call call) {
   evlsim_answer answer;
   if (!evlsim_is_bare(call)) return evlsim_do_bytes(kernel, who, call, NULL, 0, NULL, 0);
@@ -120,7 +120,7 @@ EVLSIM_INLINE evlsim_answer evlsim_do(evlsim_kernel *kernel, uint16_t who, evlsi
   return answer;
 }
 
-/* What an answer is. Of one that wasn't called only evlsim_was_called is false, and evlsim_why says why. */
+/* What an answer is. If nothing was called, all of these are false, evlsim_was_called too, and evlsim_why says why. */
 EVLSIM_INLINE bool evlsim_has(evlsim_answer answer, evlsim_kind kind) { return answer.kind.number == kind.number; }
 EVLSIM_INLINE bool evlsim_is_done(evlsim_answer answer) { return evlsim_has(answer, EVLSIM_DONE); }
 EVLSIM_INLINE bool evlsim_is_begun(evlsim_answer answer) { return evlsim_has(answer, EVLSIM_BEGUN); }
@@ -135,20 +135,20 @@ EVLSIM_INLINE evlsim_status evlsim_why(evlsim_answer answer) {
 }
 
 /*
- * Tells of a play, by its index in all that the kernel played: those of a call are answer.plays from answer.first_play
- * on. EVLSIM_BAD_NUMBER: there is no such play; EVLSIM_NULL. But for EVLSIM_OK *event is as before.
+ * Gives a play by its index among all that the kernel played: a call has answer.plays of them, from answer.first_play
+ * on. EVLSIM_BAD_NUMBER: there is no such play; EVLSIM_NULL. Unless the status is EVLSIM_OK, *event is as before.
  */
 static inline evlsim_status evlsim_event_at(evlsim_kernel *kernel, size_t index, evlsim_event *event) {
   return kernel == NULL || event == NULL ? EVLSIM_NULL : evlsim_status_of(evlsim_c_event(kernel, index, event));
 }
 
 /*
- * Writes the trace of all calls so far, or the scenario that they are, from the byte `start` on, into `out`, as many
- * bytes as there is room for (evlsim_written), and the whole text's length into *length: as evlsim_play does; `out` may
- * be null where out_length is 0. The program evl plays the scenario again if the kernel has the program's callbacks.
- * Both have no line for a call that made no entry.
+ * Copies the trace of all calls so far, or the scenario that they are, from the byte `start` on, into `out`, as many
+ * bytes as fit (evlsim_written), and puts the whole text's length into *length, as evlsim_play does; `out` may be null
+ * if out_length is 0. The program evl plays the scenario again if the kernel has the program's callbacks. Neither has a
+ * line for a call that made no entry.
  *
- * EVLSIM_NO_MEMORY, EVLSIM_NULL; EVLSIM_TOO_LONG of a scenario. But for EVLSIM_OK out and *length are as before.
+ * EVLSIM_NO_MEMORY, EVLSIM_NULL; EVLSIM_TOO_LONG of a scenario. Unless EVLSIM_OK, out and *length are as before.
  */
 static inline evlsim_status evlsim_trace(evlsim_kernel *kernel, size_t start, uint8_t *out, size_t out_length,
                                          size_t *length) {
@@ -168,7 +168,7 @@ static inline evlsim_status evlsim_scenario(evlsim_kernel *kernel, size_t start,
  * Writes the word of the calls of a kind (enum evlsim_call_kind), and after it the keys that a step with this word has,
  * with blanks between ("claim mutex owner until"), as evlsim_trace writes a trace.
  *
- * EVLSIM_BAD_NUMBER: no call has this kind; EVLSIM_NULL. But for EVLSIM_OK out and *length are as before.
+ * EVLSIM_BAD_NUMBER: no call has this kind; EVLSIM_NULL. Unless EVLSIM_OK, out and *length are as before.
  */
 static inline evlsim_status evlsim_call_text(uint8_t kind, size_t start, uint8_t *out, size_t out_length,
                                              size_t *length) {
@@ -177,7 +177,7 @@ static inline evlsim_status evlsim_call_text(uint8_t kind, size_t start, uint8_t
   return evlsim_status_of(evlsim_c_call_text(kind, start, out == NULL ? &none : out, out_length, length));
 }
 
-/* The same of the name that a trace has for a refusal: "NotOwner". */
+/* The same for the name of a refusal in a trace: "NotOwner". */
 static inline evlsim_status evlsim_refusal_text(evlsim_refusal refusal, size_t start, uint8_t *out, size_t out_length,
                                                 size_t *length) {
   uint8_t none = 0;
@@ -186,7 +186,7 @@ static inline evlsim_status evlsim_refusal_text(evlsim_refusal refusal, size_t s
       evlsim_c_refusal_text(refusal.number, start, out == NULL ? &none : out, out_length, length));
 }
 
-/* What a queue is of, for evlsim_see_waiter. */
+/* Whose queue, for evlsim_see_waiter. */
 typedef enum evlsim_awaited {
   EVLSIM_ON_SEM,
   EVLSIM_ON_FLAGS,
@@ -196,9 +196,8 @@ typedef enum evlsim_awaited {
 } evlsim_awaited;
 
 /*
- * Questions, which change nothing. Where there is no kernel, or no such thing, the number is -1, the count INT64_MIN,
- * the truth false and the date 0; but nobody waits (0) for a mutex that isn't there, and a thread that isn't there is
- * in-band.
+ * Questions, which change nothing. Without a kernel, or of an object that does not exist, the number is -1, the count
+ * INT64_MIN, the truth false and the date 0; but nobody (0) waits for a missing mutex, and a missing thread is in-band.
  */
 static inline evlsim_reading evlsim_ask(evlsim_kernel *kernel, enum evlsim_question_kind kind, uint16_t element,
                                         evlsim_stage stage, evlsim_way way, evlsim_awaited on, size_t place) {

@@ -12,24 +12,24 @@ extern "C" {
 #endif
 
 /*
- * Plays a scenario's text and writes its trace, from its byte `start` on, into `out`: as many bytes as the trace has
- * there, and as there is room for, which evlsim_written tells. What lies after them in `out` stays; no 0 is added.
+ * Plays a scenario's text and copies its trace, from the byte `start` on, into `out`, as many bytes as there are and as
+ * fit (evlsim_written). The rest of `out` stays; no 0 is added.
  *
- * limit: how many entries the history may have, 1 to 1,000,000, in place of the text's own; 0: the text's own.
- * text:  may be null where text_length is 0; the empty text has no board, and is EVLSIM_BAD_BOARD.
- * out:   may be null where out_length is 0: so the length is learned.
+ * limit: how many entries the history may have, 1 to 1,000,000, in place of the text's own; 0 keeps the text's own.
+ * text:  may be null if text_length is 0; the empty text has no board and is EVLSIM_BAD_BOARD.
+ * out:   may be null if out_length is 0, to get the length alone.
  *
- * EVLSIM_OK        the trace was written, and played->length is the whole trace's length. Where that is more than
- *                  start + out_length, a further call has the rest, with `start` moved on by out_length: the same text
- *                  always has the same trace, and each call plays the whole scenario again. A start after the end writes
- *                  nothing.
+ * EVLSIM_OK        the trace was written, and played->length is the whole trace's length. If that is more than
+ *                  start + out_length, a further call with `start` moved on by out_length gets the rest: the same text
+ *                  always has the same trace, and each call plays the whole scenario again. A start after the end
+ *                  writes nothing.
  * EVLSIM_BAD_TEXT, EVLSIM_BAD_BOARD, EVLSIM_BAD_STEP
- *                  the text is refused, and has no trace. A limit above 1,000,000 is EVLSIM_BAD_BOARD.
- * EVLSIM_NO_MEMORY the play was given up. It takes memory for the whole trace.
- * EVLSIM_NULL      played is null, or text or out with a length that isn't 0. *played isn't written then.
- * EVLSIM_WRONG_ABI header and library don't fit. *played isn't written then.
+ *                  the text is refused and has no trace. A limit above 1,000,000 is EVLSIM_BAD_BOARD.
+ * EVLSIM_NO_MEMORY the play was given up. It needs memory for the whole trace.
+ * EVLSIM_NULL      played is null, or text or out with a length that is not 0. *played is not written.
+ * EVLSIM_WRONG_ABI header and library differ. *played is not written.
  *
- * But for EVLSIM_OK `out` is as before.
+ * Unless the status is EVLSIM_OK, `out` is as before.
  */
 EVLSIM_CHECKED static inline evlsim_status evlsim_play(const uint8_t *text, size_t text_length, uint32_t limit,
                                                        size_t start, uint8_t *out, size_t out_length,
@@ -42,14 +42,14 @@ EVLSIM_CHECKED static inline evlsim_status evlsim_play(const uint8_t *text, size
 }
 
 /*
- * The same over the callbacks of these plans, in place of the program's: callback 0 of a scenario is the first of them.
+ * The same over the callbacks of these plans in place of the program's: callback 0 of a scenario is the first of them.
  *
- * plans: may be null where plan_count is 0: a bank of no callbacks.
+ * plans: may be null if plan_count is 0: a bank of no callbacks.
  *
  * EVLSIM_BAD_PLAN  there are more than 64 plans, or in one of them `accepts` or an `every` is 0, `count` is above 4, an
  *                  action is above EVLSIM_STOP_TIMER, or `kinds` lacks the action of a row. It comes before all answers
  *                  about the text; `out` is as before, and played->length and played->step are 0.
- * EVLSIM_NULL      also where plans is null with a count that isn't 0.
+ * EVLSIM_NULL      also if plans is null with a count that is not 0.
  */
 EVLSIM_CHECKED static inline evlsim_status evlsim_play_over(const evlsim_plan *plans, size_t plan_count,
                                                             const uint8_t *text, size_t text_length, uint32_t limit,
@@ -66,7 +66,7 @@ EVLSIM_CHECKED static inline evlsim_status evlsim_play_over(const evlsim_plan *p
                                              text_length, limit, start, out == NULL ? &none : out, out_length, played));
 }
 
-/* How many bytes of a text with this length lie in a buffer after a call that wrote it from `start` on. */
+/* How many bytes of a text of this length are in a buffer after a call that copied it from `start` on. */
 static inline size_t evlsim_written(size_t length, size_t start, size_t out_length) {
   size_t left = start < length ? length - start : 0;
   return left < out_length ? left : out_length;
