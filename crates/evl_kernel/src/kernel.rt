@@ -206,21 +206,33 @@ impl<C: Handler, A: Allocator> KernelOf<C, A> {
         }
         make_room(&mut self.history, &mut self.plays, &mut self.spares, 1)?;
         let before = self.plays.len();
-        let reply = self.records.perform(
+        match self.records.perform(
             caller,
             &call,
             &mut self.plays,
             &mut self.spares,
             &mut self.lists,
-        );
-        let kept = copied_reply(&reply, &mut self.spares);
-        self.history.push_reserved(Entry {
-            caller,
-            call,
-            reply: kept,
-            plays: self.plays.len() - before,
-        });
-        reply
+        ) {
+            Err(refusal) => {
+                self.history.push_reserved(Entry {
+                    caller,
+                    call,
+                    reply: Err(refusal),
+                    plays: self.plays.len() - before,
+                });
+                Err(refusal)
+            }
+            Ok(reply) => {
+                let (given, entered) = doubled(reply, &mut self.spares);
+                self.history.push_reserved(Entry {
+                    caller,
+                    call,
+                    reply: Ok(entered),
+                    plays: self.plays.len() - before,
+                });
+                Ok(given)
+            }
+        }
     }
 }
 
@@ -376,18 +388,29 @@ fn make_room<A: Allocator>(
     spares.keep(n * MAX_BOXES)
 }
 
-// The same answer once more, for the entry: its bytes, if it has any, lie in a box that was kept.
+// A reply twice, for the caller and for the entry: its bytes, if it has any, once more in a box that was kept. No
+// reference to the reply is passed on, so it stays in registers.
 #[inline(always)]
-fn copied_reply<A: Allocator>(
-    reply: &Result<Reply, Refusal>,
-    spares: &mut Spares<A>,
-) -> Result<Reply, Refusal>
+fn doubled<A: Allocator>(reply: Reply, spares: &mut Spares<A>) -> (Reply, Reply)
     requires { 1 ≤ spares.old }
-    ensures same { result ≡ reply.now }
+    ensures given { result.0 ≡ reply }
+    ensures entered { result.1 ≡ reply }
     ensures spent { spares.old ≤ spares.new + 1 }
 {
     match reply {
-        Ok(given) => Ok(given.copied(spares)),
-        Err(refusal) => Err(*refusal),
+        Reply::Done => (Reply::Done, Reply::Done),
+        Reply::Begun => (Reply::Begun, Reply::Begun),
+        Reply::Count(count) => (Reply::Count(count), Reply::Count(count)),
+        Reply::Bits(bits) => (Reply::Bits(bits), Reply::Bits(bits)),
+        Reply::Number(number) => (Reply::Number(number), Reply::Number(number)),
+        Reply::Bytes(bytes) => {
+            let copy = spares.take(bytes.as_slice());
+            (Reply::Bytes(bytes), Reply::Bytes(copy))
+        }
+        Reply::Chosen(thread) => (Reply::Chosen(thread), Reply::Chosen(thread)),
+        Reply::Handed { next, more } => {
+            (Reply::Handed { next, more }, Reply::Handed { next, more })
+        }
+        Reply::TimedOut => (Reply::TimedOut, Reply::TimedOut),
     }
 }

@@ -93,6 +93,7 @@ impl WaitPlace {
     /// What ended the wait, which is finished then; where it carries bytes, a box of `spares` takes the place of
     /// theirs. The first that applies: `Invalid` (there is no wait), `Again` (it goes on). A refused call changes
     /// nothing.
+    #[inline(always)]
     pub(crate) fn finish<A: Allocator>(&mut self, spares: &mut Spares<A>) -> Result<Reply, Refusal>
         requires boxes { 1 ≤ spares.old }
         ensures outcome { result ≡ outcome_of self.old }

@@ -48,6 +48,7 @@ pub(crate) enum Wanted {
 
 impl Wanted {
     /// For what the thread waits, where it isn't served at once.
+    #[inline(always)]
     pub(crate) fn awaited(&self) -> Awaited
         ensures on { result ≡ awaited_by self.now }
     {
@@ -61,6 +62,7 @@ impl Wanted {
     }
 
     /// Whether one transfer carries what is wanted.
+    #[inline(always)]
     pub(crate) fn is_in_range(&self) -> bool
         ensures range { range_refusal self.now ≡ in_range_if result }
     {
@@ -71,6 +73,7 @@ impl Wanted {
     }
 
     /// Whether this may be wanted: a mask has bits.
+    #[inline(always)]
     pub(crate) fn is_allowed(&self) -> bool
         ensures allowed { form_refusal self.now ≡ allowed_if result }
     {
@@ -130,6 +133,7 @@ pub(crate) fn has_got_mutex<A: Allocator>(waits: &Vec<WaitPlace, A>, thread: Thr
 }
 
 /// A thread's wait begins; where it was served at once, with what.
+#[inline(always)]
 pub(crate) fn begin<A: Allocator>(
     waits: &mut Vec<WaitPlace, A>,
     thread: ThreadId,
@@ -146,6 +150,7 @@ pub(crate) fn begin<A: Allocator>(
 }
 
 /// A thread's wait has ended, and this ended it; nothing changes where there is no wait.
+#[inline(always)]
 pub(crate) fn end<A: Allocator>(
     waits: &mut Vec<WaitPlace, A>,
     thread: ThreadId,
@@ -162,6 +167,7 @@ pub(crate) fn end<A: Allocator>(
 
 /// What ended a thread's wait, which is finished then; bytes come in a box of `spares`. The first that applies:
 /// `Invalid` (there is no wait), `Again` (it goes on). A refused call changes nothing.
+#[inline(always)]
 pub(crate) fn take_outcome<A: Allocator>(
     waits: &mut Vec<WaitPlace, A>,
     thread: ThreadId,

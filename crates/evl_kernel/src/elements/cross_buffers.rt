@@ -14,6 +14,7 @@ impl<A: Allocator> Elements<A> {
     /// Writes all of the bytes from a stage, and tells whom that served, into a list where nobody stands yet. The first
     /// that applies: `Unknown` (no such cross-buffer), `WrongStage` (the other stage writes this way), `TooBig` (more
     /// bytes than the ring has), `Again` (a writer waits, or they don't fit).
+    #[inline(always)]
     pub(crate) fn write(
         &mut self,
         stage: Stage,
@@ -39,6 +40,7 @@ impl<A: Allocator> Elements<A> {
     /// that served, into a list where nobody stands yet. The first that applies: `Unknown` (no such cross-buffer),
     /// `Range` (more than one transfer carries), `WrongStage` (the other stage reads this way), `Again` (nothing is
     /// there).
+    #[inline(always)]
     pub(crate) fn read(
         &mut self,
         stage: Stage,

@@ -12,6 +12,7 @@ use std::alloc::Allocator;
 
 impl<A: Allocator> Elements<A> {
     /// Lowers a count. `Unknown` where there is no such semaphore, `Again` where its count is 0.
+    #[inline(always)]
     pub(crate) fn try_get(&mut self, sem: SemId) -> Result<(), Refusal>
         ensures step { IfOk result (λ u. element self.old.elements (on_sem sem.0 semaphore.get) ≡ Ok (Reply.Done, self.new.elements)) }
         ensures owners { owners_of self.new ≡ owners_of self.old }
@@ -26,6 +27,7 @@ impl<A: Allocator> Elements<A> {
 
     /// Lets the first waiter wait no more, and says who that was, or else raises a count. `Unknown` where there is no
     /// such semaphore, `Range` where nobody waits and its count is the greatest.
+    #[inline(always)]
     pub(crate) fn put(&mut self, sem: SemId) -> Result<Option<ThreadId>, Refusal>
         ensures step { IfOk result (λ served. element self.old.elements (on_sem sem.0 semaphore.put) ≡ Ok (Reply.Done, self.new.elements)) }
         ensures owners { owners_of self.new ≡ owners_of self.old }
@@ -40,6 +42,7 @@ impl<A: Allocator> Elements<A> {
     }
 
     /// Tells a count, or minus the number of waiters. `Unknown` where there is no such semaphore.
+    #[inline(always)]
     pub(crate) fn peek(&self, sem: SemId) -> Result<Reply, Refusal>
         ensures step { IfOk result (λ reply. element self.now.elements (on_sem sem.0 semaphore.peek) ≡ Ok (reply, self.now.elements)) }
         ensures refused { IfErr result (λ e. element self.now.elements (on_sem sem.0 semaphore.peek) ≡ Err e) }

@@ -23,6 +23,7 @@ use std::alloc::Allocator;
 
 impl<A: Allocator> Elements<A> {
     /// Whether there is such an element.
+    #[inline(always)]
     pub(crate) fn has(&self, on: Awaited) -> bool
         ensures there { result ≡ is_there self.now.elements on }
     {
@@ -38,6 +39,7 @@ impl<A: Allocator> Elements<A> {
 
     /// A thread that waits for nothing begins to wait with its rank for a semaphore or a flag group, or is served at
     /// once; then this is with what.
+    #[inline(always)]
     pub(crate) fn begin(&mut self, thread: ThreadId, rank: u16, wanted: &Wanted) -> Option<Reply>
         requires ranked { is_ranked wanted.now ≡ true }
         requires there { is_there self.old.elements (awaited_by wanted.now) ≡ true }
@@ -55,6 +57,7 @@ impl<A: Allocator> Elements<A> {
         }
     }
 
+    #[inline(always)]
     fn begin_get(&mut self, thread: ThreadId, rank: u16, sem: SemId) -> Option<Reply>
         requires there { is_there self.old.elements (Awaited.Sem sem) ≡ true }
         requires away { stands_for self.old.elements (Awaited.Sem sem) thread.0 ≡ false }
@@ -69,6 +72,7 @@ impl<A: Allocator> Elements<A> {
         None
     }
 
+    #[inline(always)]
     fn begin_take(
         &mut self,
         thread: ThreadId,
@@ -91,6 +95,7 @@ impl<A: Allocator> Elements<A> {
     }
 
     /// Whether the ring is large enough for what is wanted.
+    #[inline(always)]
     pub(crate) fn holds(&self, wanted: &Wanted) -> bool
         ensures size { size_refusal self.now.elements wanted.now ≡ (if result then None else Some Refusal.TooBig) }
     {

@@ -20,6 +20,7 @@ use std::alloc::Allocator;
 impl<C, A: Allocator> Records<C, A> {
     /// Whether an owner may be named: it is attached, it isn't the thread itself, and no other owner of the mutex is
     /// recorded.
+    #[inline(always)]
     pub(super) fn may_name(&self, thread: ThreadId, wanted: &Wanted) -> bool
         ensures may { result ≡ may_name (state_of self.now) thread.0 wanted.now }
     {

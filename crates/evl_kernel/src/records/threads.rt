@@ -84,6 +84,7 @@ impl<C, A: Allocator> Records<C, A> {
     }
 
     /// Moves a thread to a stage. The first that applies: `Unknown` (no such thread), `Invalid` (it isn't attached).
+    #[inline(always)]
     pub(super) fn set_stage(&mut self, thread: ThreadId, stage: Stage) -> Result<Reply, Refusal>
         ensures answer { IsAnswer result }
         ensures served { Has (state_of self.old) (thread_call.set_stage (state_of self.old) thread.0 stage) result (state_of self.new) }
@@ -94,6 +95,7 @@ impl<C, A: Allocator> Records<C, A> {
     }
 
     /// Tells which thread is picked.
+    #[inline(always)]
     pub(super) fn pick(&self) -> Result<Reply, Refusal>
         ensures answer { IsAnswer result }
         ensures served { Has (state_of self.now) (thread_call.pick (state_of self.now)) result (state_of self.now) }
@@ -103,6 +105,7 @@ impl<C, A: Allocator> Records<C, A> {
 
     /// Tells the effective rank of a thread. The first that applies: `Unknown` (no such thread), `Invalid` (it isn't
     /// attached).
+    #[inline(always)]
     pub(super) fn rank_of(&self, thread: ThreadId) -> Result<Reply, Refusal>
         ensures answer { IsAnswer result }
         ensures served { Has (state_of self.now) (thread_call.tell_rank (state_of self.now) thread.0) result (state_of self.now) }

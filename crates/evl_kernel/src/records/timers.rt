@@ -26,6 +26,7 @@ fn is_timer_allowed(kinds: ActionKinds) -> bool
 
 impl<C, A: Allocator> Records<C, A> {
     /// The date, in nanoseconds.
+    #[inline(always)]
     pub(super) fn now(&self) -> Result<Reply, Refusal>
         ensures answer { IsAnswer result }
         ensures served { Has (state_of self.now) (timer_call.now (state_of self.now)) result (state_of self.now) }
@@ -35,6 +36,7 @@ impl<C, A: Allocator> Records<C, A> {
 
     /// Charges the thread that is picked, moves the date by so many nanoseconds, and posts line 0 where something is
     /// due then. `Range` where the date would be past 2^64 - 1.
+    #[inline(always)]
     pub(super) fn tick(&mut self, delta: u64) -> Result<Reply, Refusal>
         ensures answer { IsAnswer result }
         ensures served { Has (state_of self.old) (timer_call.tick (state_of self.old) delta) result (state_of self.new) }
@@ -49,6 +51,7 @@ impl<C, A: Allocator> Records<C, A> {
     }
 
     /// How many periods a timer missed since its start. `Unknown` where there is no such timer.
+    #[inline(always)]
     pub(super) fn overruns(&self, timer: TimerId) -> Result<Reply, Refusal>
         ensures answer { IsAnswer result }
         ensures served { Has (state_of self.now) (timer_call.overruns (state_of self.now) timer.0) result (state_of self.now) }
@@ -60,6 +63,7 @@ impl<C, A: Allocator> Records<C, A> {
     }
 
     /// An event of line 0 where something is due.
+    #[inline(always)]
     pub(super) fn alarm(&mut self, due: bool)
         ensures posted { state_of self.new ≡ timer_call.posted_if due (state_of self.old) }
         ensures stands { KeepsCallbacks self.old self.new }
@@ -70,6 +74,7 @@ impl<C, A: Allocator> Records<C, A> {
     }
 
     // An event of line 0, the clock's.
+    #[inline(always)]
     fn post_clock(&mut self)
         ensures posted { state_of self.new ≡ timer_call.posted_clock (state_of self.old) }
         ensures stands { KeepsCallbacks self.old self.new }

@@ -31,6 +31,7 @@ impl<C, A: Allocator> Records<C, A> {
     /// one. The first that applies: `Unknown` (no such element, or no such owner), `Range` (more bytes than one
     /// transfer carries), `Invalid` (the thread isn't attached, a mask has no bits, or the owner can't be named),
     /// `WrongStage`, `TooBig` (more bytes than the ring has), `Deadlock` (the thread would wait for itself).
+    #[inline(always)]
     pub(super) fn begin_wait(
         &mut self,
         thread: ThreadId,
@@ -70,6 +71,7 @@ impl<C, A: Allocator> Records<C, A> {
     }
 
     // A wait for a semaphore or a flag group begins, with the thread's rank.
+    #[inline(always)]
     fn begin_ranked(&mut self, thread: ThreadId, rank: u16, wanted: &Wanted, until: Option<u64>)
         requires ranked { is_ranked wanted.now ≡ true }
         requires idle { wait_at (state_of self.old) thread.0 ≡ None }
@@ -148,6 +150,7 @@ impl<C, A: Allocator> Records<C, A> {
     }
 
     // Whether a thread of the board is named, where an owner is named.
+    #[inline(always)]
     fn is_named(&self, wanted: &Wanted) -> bool
         ensures named { result ≡ is_named (state_of self.now) wanted.now }
     {
@@ -159,6 +162,7 @@ impl<C, A: Allocator> Records<C, A> {
 
     // The rank of a thread that may begin this wait. The first that applies: `Unknown` (no such thread), `Invalid` (it
     // isn't attached, a mask has no bits, or the owner can't be named), `WrongStage` (it is on the other stage).
+    #[inline(always)]
     fn may_begin(&self, thread: ThreadId, wanted: &Wanted) -> Result<u16, Refusal>
         ensures ok { IfOk result (λ rank. (waiter_refusal (state_of self.now) thread.0 wanted.now ≡ None) × (rank ≡ rank_of (state_of self.now) thread.0)) }
         ensures refused { IfErr result (λ e. waiter_refusal (state_of self.now) thread.0 wanted.now ≡ Some e) }
@@ -182,6 +186,7 @@ impl<C, A: Allocator> Records<C, A> {
     }
 
     /// A thread is blocked, until a date where there is one; a date that isn't after now posts line 0 at once.
+    #[inline(always)]
     pub(super) fn suspend(&mut self, thread: ThreadId, until: Option<u64>)
         ensures suspended { state_of self.new ≡ posted_if (is_past (state_of self.old).clock.now until)
             (with_sched (with_clock (state_of self.old) (with_deadline (state_of self.old).clock thread.0 until)) (unready (state_of self.old).sched thread.0)) }
@@ -246,6 +251,7 @@ impl<C, A: Allocator> Records<C, A> {
     /// Answers what ended the thread's wait, which is finished then, bytes in a box of `spares`; a weak thread goes
     /// in-band, unless it keeps its stage or got a mutex. The first that applies: `Invalid` (there is no wait), `Again`
     /// (it goes on).
+    #[inline(always)]
     pub(super) fn finish(
         &mut self,
         thread: ThreadId,
@@ -271,6 +277,7 @@ impl<C, A: Allocator> Records<C, A> {
     }
 
     // Whether a thread goes in-band at the end of its wait.
+    #[inline(always)]
     fn goes_inband(&self, thread: ThreadId, keep: bool) -> bool
         ensures goes { result ≡ goes_inband (state_of self.now) thread.0 keep }
     {

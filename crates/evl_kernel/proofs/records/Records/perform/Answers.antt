@@ -1,26 +1,26 @@
-use Rattle.std.proofs.Common.{sym, ◌∙◌}
+use Rattle.std.proofs.Common.{Ok, refl}
 use Rattle.evl_kernel.specs.state.Records.{state_of, whereabouts}
 use Rattle.evl_kernel.proofs.state.CallbackLaws.{answers-kept, keeps-both}
-use Rattle.evl_kernel.proofs.histories.HistoryLaws.{performed_err, performed_ok}
+use Rattle.evl_kernel.proofs.histories.HistoryLaws.{performed_ok, performed_refused}
 use Rattle.evl_kernel.proofs.settling.SettlingLaws.{appends_before}
 use Rattle.evl_kernel.proofs.records.Records.perform.Goals as goal
 
 pub settle-requires-clause-by_plan : goal.settle-requires-clause-by_plan
 settle-requires-clause-by_plan g c =
-    answers-kept g.C.Handler.declared g.C.Handler.plan c.args.self.now c.answer-reply.new.self c.answer-reply.ensures.stands c.requires.by_plan
+    answers-kept g.C.Handler.declared g.C.Handler.plan c.args.self.now c.answer.new.self c.answer.ensures.stands c.requires.by_plan
 
-pub returns-then-is_ok-clause-performed : goal.returns-then-is_ok-clause-performed
-returns-then-is_ok-clause-performed g c =
-    let old = c.args.self.now in let mid = c.answer-reply.new.self in
+pub returns-in-Ok-clause-performed : goal.returns-in-Ok-clause-performed
+returns-in-Ok-clause-performed g c =
+    let old = c.args.self.now in let mid = c.answer.new.self in
     performed_ok g.C.Handler.gives (whereabouts old) c.args.plays.now.items c.settle.new.plays.items (state_of old) (state_of mid) (state_of c.settle.new.self) c.args.caller.0 c.args.call.now
-    c.answer-reply.result (sym c.is_ok.ensures.value ∙ c.if-is_ok.true) c.answer-reply.ensures.answered
-    (appends_before g.C.Handler.gives (whereabouts mid) (whereabouts old) c.answer-reply.ensures.stands.brings c.args.plays.now.items c.settle.new.plays.items (state_of mid) (state_of c.settle.new.self) c.settle.ensures.settled)
+    (Ok c.in-Ok.reply) refl c.in-Ok.ensures.answered
+    (appends_before g.C.Handler.gives (whereabouts mid) (whereabouts old) c.answer.ensures.stands.brings c.args.plays.now.items c.settle.new.plays.items (state_of mid) (state_of c.settle.new.self) c.settle.ensures.settled)
 
-pub returns-then-is_ok-clause-stands : goal.returns-then-is_ok-clause-stands
-returns-then-is_ok-clause-stands g c = keeps-both c.args.self.now c.answer-reply.new.self c.settle.new.self c.answer-reply.ensures.stands c.settle.ensures.stands
+pub returns-in-Ok-clause-stands : goal.returns-in-Ok-clause-stands
+returns-in-Ok-clause-stands g c = keeps-both c.args.self.now c.answer.new.self c.settle.new.self c.answer.ensures.stands c.settle.ensures.stands
 
-pub returns-else-is_ok-clause-performed : goal.returns-else-is_ok-clause-performed
-returns-else-is_ok-clause-performed g c =
+pub returns-in-Err-clause-performed : goal.returns-in-Err-clause-performed
+returns-in-Err-clause-performed g c =
     let old = c.args.self.now in
-    performed_err g.C.Handler.gives (whereabouts old) c.args.plays.now.items (state_of old) (state_of c.answer-reply.new.self) c.args.caller.0 c.args.call.now
-    c.answer-reply.result (sym c.is_ok.ensures.value ∙ c.if-is_ok.false) c.answer-reply.ensures.answered
+    performed_refused g.C.Handler.gives (whereabouts old) c.args.plays.now.items (state_of old) (state_of c.answer.new.self) c.args.caller.0 c.args.call.now
+    c.in-Err.refusal c.in-Err.ensures.answered
