@@ -25,7 +25,7 @@ function show_said(trouble = '') {
 /** @param {string} line */
 export async function say(line) {
   at = past.push(line);
-  if (!now.machine) return show_said('There is no machine to drive: the text is no scenario that plays.');
+  if (!now.machine) return show_said('There is no machine to drive: the text is not a scenario that can be played.');
   const mine = now.turn, { answer } = await said(now.machine, [...lines.map(it => it.line), line]);
   if (mine !== now.turn) return;
   lines.push({ line, answer });

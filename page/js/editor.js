@@ -57,7 +57,7 @@ function fix_of(it) {
   return at < 0 ? null : { from: at, to: at + near[1].length, word: near[2] };
 }
 export function show_faults() {
-  const well = { play: 'no fault, no warning', orders: 'no fault', callers: 'it plays' }[now.kind] || '';
+  const well = { play: 'no fault, no warning', orders: 'no fault', callers: 'no fault' }[now.kind] || '';
   const items = now.told.slice(0, MOST_FAULTS).map((it, i) => {
     const fix = fix_of(it), place = `${it.fault ? 'fault' : 'warning'} ${it.where}`.trim();
     const button = fix ? ` <button class="fix" data-fix="${i}">write ${escaped(fix.word)}</button>` : '';
@@ -130,7 +130,7 @@ export function find(back) {
   const from = back ? box.selectionStart - 1 : box.selectionEnd, whole = text.split(word).length - 1;
   let at = back ? (from < 0 ? -1 : text.lastIndexOf(word, from)) : text.indexOf(word, from);
   if (at < 0) at = back ? text.lastIndexOf(word) : text.indexOf(word);
-  $('found').textContent = at < 0 ? 'not there' : `${text.slice(0, at).split(word).length} of ${whole}`;
+  $('found').textContent = at < 0 ? 'not found' : `${text.slice(0, at).split(word).length} of ${whole}`;
   if (at < 0) return;
   box.setSelectionRange(at, at + word.length);
   const line = text.slice(0, at).split('\n').length - 1;

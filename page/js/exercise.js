@@ -14,7 +14,7 @@ export function lines_there(got, wanted) {
   for (const [i, line] of wanted.entries()) {
     while (at < got.length && got[at] !== line.trim()) at++;
     if (at++ >= got.length)
-      return ['bad', `Not there yet: ${i} of ${wanted.length} wanted lines are in the trace, in order.`];
+      return ['bad', `Not yet: the trace has ${i} of the ${wanted.length} lines, in order.`];
   }
   return ['good', `Right: all ${wanted.length} wanted lines are in the trace, in order.`];
 }
@@ -22,9 +22,9 @@ export function lines_there(got, wanted) {
 export function same_trace(got, wanted) {
   const at = got.findIndex((line, i) => line !== wanted[i]);
   if (at < 0 && got.length === wanted.length) return ['good', 'Right: the trace is that of the solution.'];
-  if (at < 0) return ['bad', `So far it is right; ${wanted.length - got.length} more lines are wanted in the trace.`];
-  if (at >= wanted.length) return ['bad', `The first ${wanted.length - 1} lines are right; what follows is too much.`];
-  return ['bad', `Not yet: line ${at} of the trace is another one than the solution's: ${got[at]}`];
+  if (at < 0) return ['bad', `Right so far; ${wanted.length - got.length} more lines are missing in the trace.`];
+  if (at >= wanted.length) return ['bad', `The first ${wanted.length - 1} lines are right; the trace has more.`];
+  return ['bad', `Not yet: line ${at} of the trace differs from the solution's: ${got[at]}`];
 }
 /** @param {any} it @param {string} text @param {string} bank */
 async function judged(it, text, bank) {
@@ -92,7 +92,7 @@ export function make_hole() {
   const box = $('make-text'), from = box.selectionStart, to = box.selectionEnd;
   const part = box.value.slice(from, to);
   $('make-said').className = '';
-  $('make-said').textContent = from === to ? 'First select in the text what is to be a hole.' : '';
+  $('make-said').textContent = from === to ? 'First select the part of the text that becomes a hole.' : '';
   if (from === to) return;
   box.setRangeText(part.includes('\n') ? HOLE_LINE + '\n' : HOLE, from, to, 'select');
   box.blur();

@@ -23,7 +23,7 @@ export function keep_texts() {
   const well = Object.entries(own).map(([id, text]) =>
     kept.set(`${id} ${now.lesson.key}`, $(id).value === text ? null : $(id).value)).every(Boolean);
   const changed = $('text').value !== own.text || $('bank').value !== own.bank;
-  $('kept').textContent = !well ? 'not kept: this browser keeps nothing for this page'
+  $('kept').textContent = !well ? 'not kept: this browser stores nothing for this page'
     : changed ? 'kept in this browser' : '';
   $('back-to').disabled = !changed;
 }

@@ -11,10 +11,10 @@ let shown = null;
 /** What the program does not report of a question that may be wrong. @param {any} it */
 function doubts(it) {
   const found = [], answers = new Map(), blanks = /->\s{2,}|\s{2,}->/.test(it.asks);
-  if (blanks) found.push('An answer in "never" has two blanks at its arrow, so it never fits.');
+  if (blanks) found.push('An answer in "never" has two spaces at its arrow, so it never matches.');
   for (const [, who, answer] of it.asks.matchAll(/"(T\d+) -> (\w+)[^"]*"/g))
     if (!it.outcomes.some(o => o.answers.some(line => line.startsWith(who + ' '))))
-      found.push(`${who} has no step, so "${who} -> ${answer}" can never come.`);
+      found.push(`${who} has no step, so "${who} -> ${answer}" never happens.`);
   for (const line of it.outcomes.flatMap(o => o.answers)) {
     const [who, ...all] = line.split(' -> ');
     all.forEach((answer, i) => {
@@ -36,17 +36,17 @@ export function verdict_of(it) {
   const doubt = it.asks ? doubts(it)[0] : '';
   if (it.status === -2) return ['unknown', `Not answered: ${why}. Fewer callers or fewer steps have fewer orders.`];
   if (it.against.length) return ['bad', `No: outcome ${it.against.join(', ')} is against what is asked.`];
-  if (it.cut) return ['unknown', `Not answered: cut off; nothing is known of longer orders (${it.orders} ended).`];
-  if (it.status) return ['bad', `Not gone through: ${why}`];
+  if (it.cut) return ['unknown', `Not answered: cut off; nothing is known about longer orders (${it.orders} ended).`];
+  if (it.status) return ['bad', `The orders were not explored: ${why}`];
   if (!it.asks) return ['none', `Nothing is asked. There are ${it.orders} orders.`];
   const well = `holds in all ${it.orders} orders`;
-  return doubt ? ['unknown', `What is asked ${well}, but see whether it is what you mean: ${doubt}`]
+  return doubt ? ['unknown', `What is asked ${well}, but check that it is what you mean: ${doubt}`]
     : ['good', `Yes: what is asked ${well}.`];
 }
 /** @param {number} mine @param {import('./asks.js').Text} text */
 export async function go_orders(mine, text) {
   const my = ++turn, at = performance.now(), verdict = $('verdict');
-  stop_orders('an edit came');
+  stop_orders('the text was edited');
   $('orders-stop').disabled = false;
   verdict.className = 'busy';
   const tick = () => {
@@ -82,7 +82,7 @@ function show_orders(it) {
   $('verdict').textContent = says;
   $('asked').innerHTML = it.asks
     ? `<b>Asked</b> ${it.asks.split('\n').slice(1).map(line => `<code>${escaped(line)}</code>`).join(' ')}`
-    : 'Ask by a table <code>[ask]</code>, as <code>always_ends = true</code>.';
+    : 'To ask, add a table <code>[ask]</code>, as <code>always_ends = true</code>.';
   $('doubts').innerHTML = doubts(it).map(doubt => `<li>${escaped(doubt)}</li>`).join('');
   const heads = ['outcome', 'orders', 'ends', 'answers of each caller', 'first order'];
   const rows = it.outcomes.slice(0, MOST_OUTCOMES).map((o, i) => outcome_row(o, i, it, sum));

@@ -28,7 +28,7 @@ function show_kind(was) {
   if (now.kind === 'orders' && was !== 'orders' && tab_now() === 'walk') open_tab('orders');
   if (now.kind === 'orders') return;
   if (tab_now() === 'orders') open_tab('walk');
-  stop_orders('an edit came');
+  stop_orders('the text was edited');
   $('verdict').textContent = '';
 }
 /** Checks, plays and draws the text. */
@@ -45,7 +45,7 @@ async function play() {
   now.told = told;
   if (now.kind === 'orders') await play_orders(mine);
   else if (now.kind === 'bank' || now.kind === 'empty')
-    show_none(now.kind === 'empty' ? 'The text is empty.' : 'These are handlers: they belong into the second text.');
+    show_none(now.kind === 'empty' ? 'The text is empty.' : 'These are handlers: they belong in their own tab.');
   else {
     const answer = await play_text(mine, now.shown);
     if (mine !== now.turn) return;
@@ -63,7 +63,7 @@ async function play_orders(mine) {
   show_faults();
   paint();
   $('viewed').hidden = true;
-  show_none('An outcome is shown here once all orders are gone through.');
+  show_none('An outcome is shown here after all orders have been explored.');
   const answer = await go_orders(mine, text_now());
   if (mine !== now.turn || !answer) return;
   if (!now.told.length) now.told = answer.told;
@@ -391,4 +391,4 @@ async function start() {
   offer_calls(await calls());
   document.body.dataset.ready = 'yes';
 }
-start().catch(error => { $('status').textContent = `The page could not begin: ${error.message || error}`; });
+start().catch(error => { $('status').textContent = `The page could not start: ${error.message || error}`; });

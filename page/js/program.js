@@ -29,7 +29,7 @@ export async function part_of(name) {
   const here = $(name);
   if (here) return through(raw_of(here.textContent.trim()), stream('DecompressionStream', 'gzip'));
   const answer = await fetch(name);
-  if (!answer.ok) throw new Error(`${name} is not there (${answer.status})`);
+  if (!answer.ok) throw new Error(`${name} was not found (${answer.status})`);
   return new Uint8Array(await answer.arrayBuffer());
 }
 /** @param {string} name */

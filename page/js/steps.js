@@ -146,7 +146,7 @@ export async function play_text(mine, step = 0) {
     show_picture(svg.out, title);
   } else {
     const why = answer.err.trim().replace(/^lab: /, '').replace('scenario.toml: ', '') || 'there is nothing to play';
-    show_stale(it.text.includes(HOLE) ? `The text has a hole (${HOLE}). Fill it, and it plays.`
+    show_stale(it.text.includes(HOLE) ? `The text has a hole (${HOLE}). The text is played when it is filled.`
       : `It does not play: ${why}. What is to be mended is named below the text.`);
   }
   const page = svg.err.match(/page 1 of \d+/), bare = it.bank.trim() && it.kind !== 'callers';

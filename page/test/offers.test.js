@@ -34,8 +34,8 @@ test('lines of the console', () => {
 test('an exercise is judged by its lines or by its trace', () => {
   assert.equal(lines_there(['a', 'b', 'c'], ['a', 'c'])[0], 'good');
   assert.deepEqual(lines_there(['a', 'b'], ['b', 'a']),
-    ['bad', 'Not there yet: 1 of 2 wanted lines are in the trace, in order.']);
+    ['bad', 'Not yet: the trace has 1 of the 2 lines, in order.']);
   assert.equal(same_trace(['a', 'b'], ['a', 'b'])[0], 'good');
-  assert.match(same_trace(['a'], ['a', 'b'])[1], /1 more lines are wanted/);
-  assert.match(same_trace(['a', 'x'], ['a', 'b'])[1], /line 1 of the trace is another one/);
+  assert.match(same_trace(['a'], ['a', 'b'])[1], /1 more lines are missing/);
+  assert.match(same_trace(['a', 'x'], ['a', 'b'])[1], /line 1 of the trace differs/);
 });
