@@ -1,9 +1,9 @@
 //! `lab orders`: every order in which the callers of a scenario may come.
-ghost use Rattle.std.specs.Prelude.{◌≡◌, codes, map, option_map, unwrap_or, IfOk, OnOk, IsSomeAnd};
+ghost use Rattle.std.specs.Prelude.{◌≡◌, map, option_map, IfOk, OnOk, IsSomeAnd};
 ghost use Rattle.std.specs.Io.KnownBytes.{Appends};
 ghost use Rattle.evl_plans.specs.Told.{handler_of};
 ghost use Rattle.lab.specs.Endings.{line_about};
-ghost use Rattle.lab.specs.Orders.{IsSetTo, TellsAsked, TellsOrders, TellsOutcomes, TellsRead, TellsText, ask_fault_line, asked_status, asked_text, ends_words, holds_text, is_asked, none_status, none_text, picked_words, report_of, unanswered_text, text_fault_words};
+ghost use Rattle.lab.specs.Orders.{IsSetTo, TellsAsked, TellsOrders, TellsOutcomes, TellsRead, TellsText, ask_fault_line, asked_status, asked_text, ends_words, holds_text, is_asked, none_status, none_text, picked_words, report_of, text_fault_words, text_name, unanswered_text};
 ghost use Rattle.lab.specs.Outputs.{Writes, WritesOfText};
 
 use crate::banks::read_plans;
@@ -186,7 +186,7 @@ fn go_through<O: Write, E: Write>(
     out: &mut O,
     err: &mut E,
 ) -> io::Result<u8>
-    ensures { IfOk result (Writes (TellsOutcomes (map handler_of plans.now) asked.now.most (unwrap_or (option_map (λ file. file.now) asked.now.file) (codes "-")) callers.now ask.now) (O.contents out.old) (O.contents out.new) (E.contents err.old) (E.contents err.new)) }
+    ensures { IfOk result (Writes (TellsOutcomes (map handler_of plans.now) asked.now.most (text_name asked.now) callers.now ask.now) (O.contents out.old) (O.contents out.new) (E.contents err.old) (E.contents err.new)) }
 {
     let bank = Copies { plans };
     match ask_all(alloc, callers, &bank, ask, asked.most) {
@@ -221,7 +221,7 @@ fn tell_callers<O: Write, E: Write>(
     out: &mut O,
     err: &mut E,
 ) -> io::Result<u8>
-    ensures { IfOk result (Writes (TellsAsked (map handler_of plans.now) asked.now.most (unwrap_or (option_map (λ file. file.now) asked.now.file) (codes "-")) callers text.now) (O.contents out.old) (O.contents out.new) (E.contents err.old) (E.contents err.new)) }
+    ensures { IfOk result (Writes (TellsAsked (map handler_of plans.now) asked.now.most (text_name asked.now) callers text.now) (O.contents out.old) (O.contents out.new) (E.contents err.old) (E.contents err.new)) }
 {
     match read_ask(alloc, &callers, text) {
         Ok(ask) => {
@@ -244,7 +244,7 @@ fn tell_text<O: Write, E: Write>(
     out: &mut O,
     err: &mut E,
 ) -> io::Result<u8>
-    ensures { IfOk result (Writes (TellsText (map handler_of plans.now) asked.now.most (unwrap_or (option_map (λ file. file.now) asked.now.file) (codes "-")) text.now) (O.contents out.old) (O.contents out.new) (E.contents err.old) (E.contents err.new)) }
+    ensures { IfOk result (Writes (TellsText (map handler_of plans.now) asked.now.most (text_name asked.now) text.now) (O.contents out.old) (O.contents out.new) (E.contents err.old) (E.contents err.new)) }
 {
     match read_callers(alloc, text) {
         Ok(callers) => tell_callers(alloc, asked, callers, plans, text, out, err),
@@ -264,7 +264,7 @@ fn tell_file<R: Files + AllocGlobal, I: Read, O: Write, E: Write>(
     out: &mut O,
     err: &mut E,
 ) -> io::Result<u8>
-    ensures { IfOk result (WritesOfText (TellsRead (map handler_of plans.now) asked.now.most (unwrap_or (option_map (λ file. file.now) asked.now.file) (codes "-"))) (option_map (λ file. file.now) asked.now.file) (I.remaining input.old) (O.contents out.old) (O.contents out.new) (E.contents err.old) (E.contents err.new)) }
+    ensures { IfOk result (WritesOfText (TellsRead (map handler_of plans.now) asked.now.most (text_name asked.now)) (option_map (λ file. file.now) asked.now.file) (I.remaining input.old) (O.contents out.old) (O.contents out.new) (E.contents err.old) (E.contents err.new)) }
 {
     match read_text(rt, asked.file, input) {
         Ok(text) => tell_text(rt.alloc(), asked, plans, text.as_slice(), out, err),
