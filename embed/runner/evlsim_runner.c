@@ -25,8 +25,17 @@
 #include <sys/mman.h>
 #include <sys/wait.h>
 #include <time.h>
-#include <ucontext.h>
 #include <unistd.h>
+
+/* Valgrind is told of the stacks, where its header is there. */
+#if defined(__has_include)
+#if __has_include(<valgrind/valgrind.h>)
+#include <valgrind/valgrind.h>
+#endif
+#endif
+#ifndef VALGRIND_STACK_REGISTER
+#define VALGRIND_STACK_REGISTER(from, to) ((void)0)
+#endif
 
 /* What the headers of evlsim/compat lead the system's names to. */
 ssize_t evlsim_read(int fd, void *bytes, size_t count);

@@ -117,8 +117,9 @@ evlsim_kernel *evlsim_running(void);
 int evlsim_self(void);
 
 /*
- * Before each run the program's variables are as they were before the first. One that is to keep its value from run to
- * run, as a count of runs, is declared with EVLSIM_KEPT and a value: static long runs EVLSIM_KEPT = 0;
+ * Before each run, and when evlsim_test or evlsim_explore returns, the program's variables are as they were when it was
+ * called. One that is to keep its value, as a count of runs, is declared with EVLSIM_KEPT and a value: static long runs
+ * EVLSIM_KEPT = 0; Where each run has a process of its own it doesn't.
  */
 #define EVLSIM_KEPT __attribute__((section("evlsim_kept")))
 

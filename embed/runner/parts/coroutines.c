@@ -7,6 +7,27 @@ extern void __sanitizer_start_switch_fiber(void **save, const void *bottom, size
 extern void __sanitizer_finish_switch_fiber(void *save, const void **bottom, size_t *size) __attribute__((weak));
 extern void __asan_init(void) __attribute__((weak));
 
+/*
+ * Keeps what a function has to keep, on the stack that it leaves, notes where that is, and goes on with the other stack.
+ * swapcontext does the same with two system calls more, and AddressSanitizer warns of it.
+ */
+#if !defined(__x86_64__)
+#error "the runner is for x86-64, as the library is"
+#endif
+void evlsim_change_stacks(void **from, void *to);
+__asm__(
+    ".text\n"
+    ".globl evlsim_change_stacks\n"
+    ".hidden evlsim_change_stacks\n"
+    ".type evlsim_change_stacks, @function\n"
+    "evlsim_change_stacks:\n"
+    "  pushq %rbp\n  pushq %rbx\n  pushq %r12\n  pushq %r13\n  pushq %r14\n  pushq %r15\n"
+    "  movq %rsp, (%rdi)\n"
+    "  movq %rsi, %rsp\n"
+    "  popq %r15\n  popq %r14\n  popq %r13\n  popq %r12\n  popq %rbx\n  popq %rbp\n"
+    "  ret\n"
+    ".size evlsim_change_stacks, . - evlsim_change_stacks\n");
+
 static bool has_sanitizer(void) { return __asan_init != NULL; }
 
 static void *pages(size_t size, int sharing) {
@@ -25,6 +46,7 @@ static void make_stack(struct task *task) {
   char *at = pages(STACK_BYTES + page, MAP_PRIVATE);
   mprotect(at, page, PROT_NONE);
   task->stack = at + page;
+  VALGRIND_STACK_REGISTER(task->stack, task->stack + STACK_BYTES);
 }
 
 /* The task behind whose stack this address lies, or -1. */
@@ -45,14 +67,15 @@ static bool is_on_stack(const struct task *task, const char *address) {
 static void change_to(struct task *from, struct task *to) {
   void **fake = from == NULL ? &outside_fake : &from->fake_stack;
   if (__sanitizer_start_switch_fiber != NULL) __sanitizer_start_switch_fiber(fake, to->stack, STACK_BYTES);
-  swapcontext(from == NULL ? &outside : &from->at, &to->at);
+  evlsim_change_stacks(from == NULL ? &outside : &from->at, to->at);
   if (__sanitizer_finish_switch_fiber != NULL) __sanitizer_finish_switch_fiber(*fake, NULL, NULL);
 }
 
 /* Ends the run, as `run->ending` says; the tasks stay where they are, and are never gone on with. */
 __attribute__((noreturn)) static void leave(void) {
   if (__sanitizer_start_switch_fiber != NULL) __sanitizer_start_switch_fiber(NULL, outside_stack, outside_bytes);
-  setcontext(&outside);
+  void *here;
+  evlsim_change_stacks(&here, outside);
   abort();
 }
 
@@ -69,11 +92,12 @@ static void enter(void) {
   finish_task(task->run(task->argument));
 }
 
+/* A stack whose first step enters the task: behind the six registers stands where to go on, and no way back. */
 static void prepare(struct task *task) {
   make_stack(task);
-  getcontext(&task->at);
-  task->at.uc_stack.ss_sp = task->stack;
-  task->at.uc_stack.ss_size = STACK_BYTES;
-  task->at.uc_link = NULL;
-  makecontext(&task->at, enter, 0);
+  void **top = (void **)(void *)(task->stack + STACK_BYTES);
+  void (*first)(void) = enter;
+  memset(top - 8, 0, 8 * sizeof *top);
+  memcpy(top - 2, &first, sizeof first);
+  task->at = top - 8;
 }

@@ -132,7 +132,9 @@ static bool read_choices(const char *text) {
   return *text == 0;
 }
 
+/* The variables are again as before: what is to outlast a run is EVLSIM_KEPT, or an outcome. */
 static int end_exploring(evlsim_explored *explored) {
+  restore_variables();
   kept->explored.outcomes = kept->outcomes;
   if (explored != NULL) *explored = kept->explored;
   drop_variables();

@@ -114,7 +114,7 @@ static void print_place(const void *place) {
   snprintf(command, sizeof command, "addr2line -s -e '%s' 0x%lx 2>/dev/null", executable, (unsigned long)at);
   FILE *answer = popen(command, "r");
   if (answer == NULL) return;
-  if (fgets(line, sizeof line, answer) != NULL && line[0] != '?') fprintf(stderr, ", before %.*s", (int)strcspn(line, "\n"), line);
+  if (fgets(line, sizeof line, answer) != NULL && line[0] != '?') fprintf(stderr, ", before %.*s", (int)strcspn(line, " \n"), line);
   pclose(answer);
 }
 

@@ -66,11 +66,8 @@ static void begin_run(void) {
 /* Runs the body with the choices that are kept; how it ended. */
 static enum ending run_here(void) {
   begin_run();
-  getcontext(&outside);
-  if (run->ending == GOES_ON) {
-    run->now = BODY;
-    change_to(NULL, &tasks[BODY]);
-  }
+  run->now = BODY;
+  change_to(NULL, &tasks[BODY]);
   run->is_on = false;
   kept->explored.runs++;
   kept->explored.steps += run->step;

@@ -42,7 +42,7 @@ enum awaited {
 
 /* A thread as a coroutine; its number is its thread's on the board. */
 struct task {
-  ucontext_t at;
+  void *at; /* where its stack stands while another task runs */
   char *stack;
   void *fake_stack;
   void *(*run)(void *);
@@ -222,7 +222,7 @@ struct kept {
 static struct run *run;
 static struct kept *kept;
 static struct task *tasks;
-static ucontext_t outside;
+static void *outside; /* where the stack of whoever began the run stands */
 static const void *outside_stack;
 static size_t outside_bytes;
 static void *outside_fake;
