@@ -174,7 +174,9 @@ DECODES static evlsim_explored explore(int which, uint32_t arrivals) {
   limits.arrivals = arrivals, limits.goes_on = limits.quiet = true, limits.whole = which == 0;
   (void)evlsim_explore_as(random_driver, "random_driver", &limits, &told);
   counts[which] = told.outcomes;
-  for (uint32_t each = 0; each < told.outcomes; each++) outcomes[which][each] = strdup(evlsim_outcome(each, NULL, NULL));
+  for (uint32_t each = 0; each < told.outcomes; each++) {
+    outcomes[which][each] = strdup(evlsim_outcome(each, NULL, NULL));
+  }
   qsort(outcomes[which], told.outcomes, sizeof *outcomes[which], compare);
   return told;
 }
@@ -200,8 +202,8 @@ DECODES int main(int count, char **words) {
     if (!is_same(seed)) differ++;
     free_outcomes();
   }
-  printf("%u drivers, %llu outcomes; %llu lists of all moments, %llu without those left out; %llu drivers differ\n", drivers,
-         (unsigned long long)all, (unsigned long long)lists[0], (unsigned long long)lists[1],
+  printf("%u drivers, %llu outcomes; %llu lists of all moments, %llu without those left out; %llu drivers differ\n",
+         drivers, (unsigned long long)all, (unsigned long long)lists[0], (unsigned long long)lists[1],
          (unsigned long long)differ);
   return differ == 0 ? EXIT_SUCCESS : EXIT_FAILURE;
 }

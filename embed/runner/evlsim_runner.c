@@ -1,6 +1,6 @@
 /*
- * The runner: a driver's own code over a simulated kernel (evlsim/runner.h, docs/DRIVERS.md). It is compiled as one file,
- * beside the driver and without its sanitizers:
+ * The runner: a driver's own code over a simulated kernel (evlsim/runner.h, docs/DRIVERS.md). It is compiled as one
+ * file, beside the driver and without -fsanitize=thread:
  *
  *   cc -c -I INCLUDE -I INCLUDE/evlsim/compat evlsim_runner.c
  *

@@ -6,14 +6,14 @@
  *   static void body(void) {
  *     driver_init();                                    // evl_new_sem, request_irq, pthread_create ..
  *     evlsim_may_arrive(5, 2, byte_comes, NULL);        // line 5, up to two times, at any moment
- *     evlsim_rest();                                    // until all others wait, and nothing more comes
+ *     evlsim_rest();                                    // until all others wait; nothing comes then
  *     evlsim_require(driver_received == device_sent);
  *   }
  *   int main(void) { return evlsim_explore(body, NULL); }
  *
- * Each thread is a coroutine. Whoever the kernel picks goes on; in-band threads do while it picks nobody. The body is an
- * in-band thread, T1; T0 is the machine, which makes the calls of handlers and of the clock. The date moves to the next
- * due one when all threads wait. The same body with the same choices has always the same run.
+ * Each thread is a coroutine. Whoever the kernel picks goes on; in-band threads do while it picks nobody. The body is
+ * an in-band thread, T1; T0 is the machine, which makes the calls of handlers and of the clock. The date moves to the
+ * next due one when all threads wait. The same body with the same choices has always the same run.
  */
 #ifndef EVLSIM_RUNNER_H
 #define EVLSIM_RUNNER_H
@@ -35,7 +35,7 @@ typedef struct evlsim_limits {
   uint32_t arrivals; /* how many events of sources a run may have: 2 */
   uint64_t runs;     /* how many runs are made at most: 1,000,000 */
   uint32_t history;  /* how many entries the kernel's history may have: 10,000 */
-  uint32_t steps;    /* how many loads, stores and calls a run may have before it is said to go on for ever: 1,000,000 */
+  uint32_t steps;    /* how many loads, stores and calls a run has before it is said to go on for ever: 1,000,000 */
   uint64_t until;    /* the date behind which the clock isn't moved any more: none */
   bool goes_on;      /* a run that fails is an outcome, and ends nothing */
   bool whole;        /* each moment is tried, also those that can't make a difference */
@@ -61,8 +61,8 @@ typedef struct evlsim_explored {
  * runs it again and again, each time with another list of events, fewest first. `limits` may be null.
  * evlsim_replay runs it with one list, as a failure names it: "line 5 @ 31, clock @ 40".
  *
- * With EVLSIM_REPLAY=".." in the environment, evlsim_explore replays that. EVLSIM_FOLDER is where the scenario and the
- * picture of a failure go, else the current one; EVLSIM_LAB is the program lab, else the one on the path.
+ * With EVLSIM_REPLAY=".." in the environment, evlsim_explore replays that. EVLSIM_FOLDER is where the scenario and
+ * the picture of a failure go, else the current one; EVLSIM_LAB is the program lab, else the one on the path.
  */
 #define evlsim_test(body) evlsim_test_as(body, #body)
 #define evlsim_explore(body, limits) evlsim_explore_as(body, #body, limits, NULL)
@@ -71,7 +71,7 @@ int evlsim_test_as(void (*body)(void), const char *name);
 int evlsim_explore_as(void (*body)(void), const char *name, const evlsim_limits *limits, evlsim_explored *explored);
 int evlsim_replay_as(void (*body)(void), const char *name, const char *choices);
 
-/* The outcomes of the last exploration, each with how many lists led there and the first of them. Null past the last. */
+/* The outcomes of the last exploration, each with how many lists led there and the first of them; null past the end. */
 const char *evlsim_outcome(uint32_t place, uint64_t *lists, const char **choices);
 
 /* What follows is for the body and the driver's test, while it runs. */

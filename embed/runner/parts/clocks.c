@@ -180,7 +180,8 @@ int evl_set_timer(int efd, const struct itimerspec *value, struct itimerspec *be
   uint64_t date, interval;
   int number = timer_of(efd);
   if (number < 0) return -EBADF;
-  if (value == NULL || !read_date(&value->it_value, &date) || !read_date(&value->it_interval, &interval)) return -EINVAL;
+  if (value == NULL || !read_date(&value->it_value, &date)) return -EINVAL;
+  if (!read_date(&value->it_interval, &interval)) return -EINVAL;
   if (before != NULL) (void)evl_get_timer(efd, before);
   return set_timer(number, date, interval);
 }

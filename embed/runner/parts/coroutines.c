@@ -8,8 +8,8 @@ extern void __sanitizer_finish_switch_fiber(void *save, const void **bottom, siz
 extern void __asan_init(void) __attribute__((weak));
 
 /*
- * Keeps what a function has to keep, on the stack that it leaves, notes where that is, and goes on with the other stack.
- * swapcontext does the same with two system calls more, and AddressSanitizer warns of it.
+ * Keeps what a function has to keep, on the stack that it leaves, notes where that is, and goes on with the other
+ * stack. swapcontext does the same with two system calls more, and AddressSanitizer warns of it.
  */
 #if !defined(__x86_64__)
 #error "the runner is for x86-64, as the library is"

@@ -101,9 +101,10 @@ static void explore_all(void) {
 static void print_explored(void) {
   const evlsim_explored *it = &kept->explored;
   if (kept->limits.quiet) return;
-  fprintf(stderr, "%s: %s %llu lists of up to %u events, %llu runs, %llu moments left out, %u outcomes%s%s\n", kept->name,
-          it->failed ? "failed in" : "passed in", (unsigned long long)it->lists, (unsigned)kept->limits.arrivals,
-          (unsigned long long)it->runs, (unsigned long long)it->left_out, (unsigned)kept->outcomes,
+  fprintf(stderr, "%s: %s %llu lists of up to %u events, %llu runs, %llu moments left out, %u outcomes%s%s\n",
+          kept->name, it->failed ? "failed in" : "passed in", (unsigned long long)it->lists,
+          (unsigned)kept->limits.arrivals, (unsigned long long)it->runs, (unsigned long long)it->left_out,
+          (unsigned)kept->outcomes,
           it->is_cut ? "; CUT OFF, not all were tried" : "",
           it->sees_accesses ? "" : "; moments at calls alone, without -fsanitize=thread");
 }

@@ -2,9 +2,9 @@
  * Part of evlsim_runner.c: what was touched, so that events are tried only where they may make a difference.
  *
  * Noted is what runs because of an event while a task stands between two of its steps: handlers, and threads that go
- * before that task. A step of a task that touches nothing of this, or only reads what is only read there, gives the same
- * before such an event and behind it. So the event is tried behind such a step alone; what is noted grows from run to
- * run, and when it has grown the exploration begins again. Calls always count, and so does what lies on the heap.
+ * before that task. A step of a task that touches nothing of this, or only reads what is only read there, gives the
+ * same before such an event and behind it. So the event is tried behind such a step alone; what is noted grows from run
+ * to run, and when it has grown the exploration begins again. Calls always count, and so does what lies on the heap.
  */
 
 /* The executable's own variables, which are at one place in each run. */

@@ -8,8 +8,8 @@ int evl_create_mutex(struct evl_mutex *mutex, int clockfd, unsigned ceiling, int
   expect_run("evl_create_mutex");
   if (ceiling > 99) return -EINVAL;
   bool is_recursive = (flags & EVL_MUTEX_RECURSIVE) != 0;
-  evlsim_mutex kind = {EVLSIM_TO(uint8_t, ceiling != 0 ? EVLSIM_CEILING : is_recursive ? EVLSIM_RECURSIVE : EVLSIM_NORMAL),
-                       (uint8_t)ceiling};
+  unsigned number_of_kind = ceiling != 0 ? EVLSIM_CEILING : is_recursive ? EVLSIM_RECURSIVE : EVLSIM_NORMAL;
+  evlsim_mutex kind = {(uint8_t)number_of_kind, (uint8_t)ceiling};
   unsigned place = run->made.mutexes;
   bool is_same = place < run->opened.mutexes && run->opened.mutex[place].kind == kind.kind &&
                  run->opened.mutex[place].ceiling == kind.ceiling;

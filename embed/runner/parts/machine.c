@@ -92,6 +92,7 @@ static evlsim_answer do_bytes(int who, evlsim_call call, const void *bytes, size
     fail("the history is full: %u entries", (unsigned)kept->limits.history);
   }
   if (evlsim_refused_as(answer, EVLSIM_REFUSAL_NO_MEMORY)) fail("no memory");
+  run->entries++;
   for (size_t each = 0; each < answer.plays; each++) {
     evlsim_event event;
     if (evlsim_ok(evlsim_event_at(&run->kernel, answer.first_play + each, &event))) note_play(&event);

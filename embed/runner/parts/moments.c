@@ -80,7 +80,8 @@ static bool is_chosen(uint32_t step) {
 /* A moment of the code that runs, before an access (with a size) or a call. */
 static void at_moment(const char *address, size_t size, bool is_write, const void *place) {
   while (is_chosen(++run->step)) {
-    kept->place_of[run->choices_made] = place;
+    struct place noted = {place, run->now, run->entries};
+    kept->place[run->choices_made] = noted;
     unsigned source = source_of(&kept->choices[run->choices_made++]);
     if (!run->sources_open || (ready_sources() >> source & 1) == 0) {
       fail("the chosen event can't come there: a body that isn't the same in each run?");

@@ -1,6 +1,6 @@
 /*
- * Part of evlsim_runner.c: what is told of a run that fails: why, the trace so far, its events as a list that replays it,
- * and files with its scenario and its picture.
+ * Part of evlsim_runner.c: what is told of a run that fails: why, the trace so far, its events as a list that replays
+ * it, and files with its scenario and its picture.
  */
 
 static const char *awaited_name(const struct task *task, char *text, size_t size) {
@@ -114,16 +114,19 @@ static void print_place(const void *place) {
   snprintf(command, sizeof command, "addr2line -s -e '%s' 0x%lx 2>/dev/null", executable, (unsigned long)at);
   FILE *answer = popen(command, "r");
   if (answer == NULL) return;
-  if (fgets(line, sizeof line, answer) != NULL && line[0] != '?') fprintf(stderr, ", before %.*s", (int)strcspn(line, " \n"), line);
+  bool is_known = fgets(line, sizeof line, answer) != NULL && line[0] != '?';
+  if (is_known) fprintf(stderr, ", before %.*s", (int)strcspn(line, " \n"), line);
   pclose(answer);
 }
 
 static void print_events(void) {
   char name[32];
   for (unsigned each = 0; each < run->choices_made; each++) {
-    fprintf(stderr, "  %s came at step %u", source_name(&run->source[kept->choices[each].source], name, sizeof name),
-            (unsigned)kept->choices[each].step);
-    print_place(kept->place_of[each]);
+    const struct place *place = &kept->place[each];
+    const struct source *source = &run->source[kept->choices[each].source];
+    fprintf(stderr, "  %s behind entry %u, in T%d %s", source_name(source, name, sizeof name), place->entries,
+            place->task, tasks[place->task].name);
+    print_place(place->code);
     fputc('\n', stderr);
   }
 }
@@ -205,7 +208,8 @@ static void report_failure(void) {
   fprintf(stderr, "trace:\n");
   print_trace();
   if (kept->choice_count > 0) {
-    fprintf(stderr, "as a test of its own:\n  int main(void) { return evlsim_replay(%s, \"%s\"); }\n", kept->name, choices);
+    fprintf(stderr, "as a test of its own:\n  int main(void) { return evlsim_replay(%s, \"%s\"); }\n", kept->name,
+            choices);
   }
   write_files();
   fflush(stderr);

@@ -1,5 +1,6 @@
 /*
- * Part of evlsim_runner.c: one run, here or in a process of its own, and what ends it from outside: signals, sanitizers.
+ * Part of evlsim_runner.c: one run, here or in a process of its own, and what ends it from outside: signals and
+ * sanitizers.
  */
 
 extern void __sanitizer_set_death_callback(void (*callback)(void)) __attribute__((weak));

@@ -122,6 +122,12 @@ struct choice {
   uint32_t step;
   uint32_t source;
 };
+/* Where a chosen event came. */
+struct place {
+  const void *code;
+  int task;
+  unsigned entries;
+};
 struct node {
   uint32_t parent;
   uint32_t step;
@@ -175,6 +181,7 @@ struct run {
   unsigned sources;
   struct source source[SOURCES];
   uint32_t step;
+  unsigned entries;
   unsigned choices_made;
   char why[512];
   char said[OUTCOME_BYTES];
@@ -211,7 +218,7 @@ struct kept {
   uint32_t nodes;
   uint32_t touches;
   uint32_t outcomes;
-  const void *place_of[CHOICES]; /* where in the code each chosen event came */
+  struct place place[CHOICES];
   char why[512];
   struct touched touched[TOUCHED];
   struct outcome outcome[OUTCOMES];

@@ -1,5 +1,5 @@
 /*
- * Dovetail's interrupt requests, as a driver has them. A line is a number from 1 to 4095; with IRQF_OOB its handler runs
+ * Dovetail's interrupt requests, as a driver has them. A line is a number from 1 on; with IRQF_OOB its handler runs
  * out-of-band, else in-band.
  */
 #ifndef EVLSIM_COMPAT_INTERRUPT_H
