@@ -34,7 +34,6 @@ static void note_outcome(enum ending ending) {
 static void conclude(enum ending ending) {
   note_outcome(ending);
   if (ending != FAILED) return;
-  memcpy(kept->why, run->why, sizeof kept->why);
   if (kept->limits.goes_on) return;
   kept->explored.failed = true;
   if (!kept->limits.quiet) report_failure();

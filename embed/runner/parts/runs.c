@@ -94,6 +94,7 @@ static void finish_run(enum ending ending, void (*conclude)(enum ending)) {
 /* A run in a process of its own; all that is kept is shared with it. */
 static void run_apart(void (*conclude)(enum ending)) {
   fflush(NULL);
+  kept->ending = FAILED;
   pid_t child = fork();
   int status = 0;
   if (child == 0) {
@@ -101,9 +102,7 @@ static void run_apart(void (*conclude)(enum ending)) {
     fflush(NULL);
     _exit(0);
   }
-  kept->ending = FAILED;
   if (child < 0 || waitpid(child, &status, 0) != child || status != 0) {
-    snprintf(kept->why, sizeof kept->why, "crashed");
     kept->ending = FAILED;
     kept->explored.failed = true;
   }

@@ -219,7 +219,6 @@ struct kept {
   uint32_t touches;
   uint32_t outcomes;
   struct place place[CHOICES];
-  char why[512];
   struct touched touched[TOUCHED];
   struct outcome outcome[OUTCOMES];
   struct candidate candidate[CANDIDATES];
