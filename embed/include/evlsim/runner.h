@@ -1,7 +1,7 @@
 /*
  * Runs a driver's own C or C++ code over a simulated kernel, and tries the moments at which its interrupts may come
- * (docs/use/DRIVERS.md). The driver is written for libevl and the kernel's own calls: it is compiled against the headers of
- * evlsim/compat, and embed/runner/evlsim_runner.c is compiled beside it.
+ * (docs/use/DRIVERS.md). The driver is written for libevl and the kernel's own calls: it is compiled against the
+ * headers of evlsim/compat, and embed/runner/evlsim_runner.c is compiled beside it.
  *
  *   static void body(void) {
  *     driver_init();                                    // evl_new_sem, request_irq, pthread_create ..
