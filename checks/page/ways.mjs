@@ -153,7 +153,7 @@ async function edits(page) {
   assert.notEqual(await page.at(), 'text');
   await page.put(own.replace('do = "unstall"', 'do = "unstal"').replace('who = 0', 'who = "T0"'));
   assert.match(await page.see('faults'), /did you mean "unstall"/);
-  assert.match(await page.see('stale'), /^It does not play: bad step 1/);
+  assert.match(await page.see('stale'), /^It cannot be played: bad step 1/);
   assert.match(await page.see('at'), /of 9$/);
   await page.shot('faults');
   turn = await page.turn();
