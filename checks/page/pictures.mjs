@@ -11,7 +11,7 @@ const take = async name => {
 };
 try {
   await page.open();
-  await page.lesson('4. A handler that wakes', 'story');
+  await page.lesson('4. A callback that wakes', 'story');
   await browser.click('#story .at[data-step="6"]');
   await take('lesson');
   await page.lesson('2. A stalled out-of-band');

@@ -112,7 +112,7 @@ async function tables(page) {
     await browser.click(`#lines [data-step="${step}"]`);
     await browser.until(`document.getElementById('state').textContent.includes('After step ${step};')`);
   };
-  await page.lesson('4. A handler that wakes');
+  await page.lesson('4. A callback that wakes');
   await at(5);
   assert.match(await row(5, 'T1'), /^T1 oob fifo 50 f50 blocked .*begin_get sem=0/);
   await at(6);
@@ -153,7 +153,7 @@ async function edits(page) {
   assert.notEqual(await page.at(), 'text');
   await page.put(own.replace('do = "unstall"', 'do = "unstal"').replace('who = 0', 'who = "T0"'));
   assert.match(await page.see('faults'), /did you mean "unstall"/);
-  assert.match(await page.see('stale'), /^It does not play: bad step 1/);
+  assert.match(await page.see('stale'), /^It cannot be played: bad step 1/);
   assert.match(await page.see('at'), /of 9$/);
   await page.shot('faults');
   turn = await page.turn();
@@ -302,7 +302,7 @@ async function exercises(page) {
 async function shares(page) {
   const { browser } = page, put = (id, text) => browser.evaluate(
     `document.getElementById('make-${id}').value = ${JSON.stringify(text)}`);
-  await page.lesson('3. A handler that hands on');
+  await page.lesson('3. A callback that hands on');
   await browser.click('#make-button');
   await put('title', 'Whose half is first?');
   await put('question', 'Which stage plays its half first? Fill the hole.');
@@ -330,7 +330,7 @@ async function shares(page) {
   await browser.until(`document.getElementById('name').textContent === 'From a file'`);
   await page.open(page.url + '#text=bad');
   assert.match(await page.see('status'), /The link could not be read/);
-  await page.lesson('4. A handler that wakes');
+  await page.lesson('4. A callback that wakes');
   await browser.click('#link');
   await browser.until(`location.hash.startsWith('#text=')`);
   const text = await page.value('text'), href = await browser.evaluate('location.href');

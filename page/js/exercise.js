@@ -16,7 +16,7 @@ export function lines_there(got, wanted) {
     if (at++ >= got.length)
       return ['bad', `Not yet: the trace has ${i} of the ${wanted.length} lines, in order.`];
   }
-  return ['good', `Right: all ${wanted.length} wanted lines are in the trace, in order.`];
+  return ['good', `Right: the trace has all ${wanted.length} lines, in order.`];
 }
 /** Whether a trace is that of the solution. @param {string[]} got @param {string[]} wanted */
 export function same_trace(got, wanted) {
@@ -34,7 +34,7 @@ async function judged(it, text, bank) {
   const asking = { kind: 'orders', text: with_ask(text, it.ask || ''), bank };
   if (it.check === 'ask') return verdict_of(await gone_through(asking, it.ask));
   const mine = await played({ kind: kind_of(text), text, bank });
-  if (mine.status) return ['bad', 'It does not play: ' + mine.err.trim().replace('scenario.toml: ', '')];
+  if (mine.status) return ['bad', 'It cannot be played: ' + mine.err.trim().replace('scenario.toml: ', '')];
   if (it.check === 'lines') return lines_there(bare_lines(mine.out), it.lines);
   const own = it.bank_solution || it.bank || '';
   const right = await played({ kind: kind_of(it.solution), text: it.solution, bank: own });

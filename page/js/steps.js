@@ -29,7 +29,7 @@ function show_trace(entries) {
 function show_stale(why) {
   $('stale').hidden = !now.entries.length || now.played !== now.lesson?.key;
   if ($('stale').hidden) show_none(why);
-  else $('stale').textContent = why + ' Below is what played last.';
+  else $('stale').textContent = why + ' Below is what was played last.';
 }
 /** No trace, and why. @param {string} why */
 export function show_none(why) {
@@ -147,7 +147,7 @@ export async function play_text(mine, step = 0) {
   } else {
     const why = answer.err.trim().replace(/^lab: /, '').replace('scenario.toml: ', '') || 'there is nothing to play';
     show_stale(it.text.includes(HOLE) ? `The text has a hole (${HOLE}). The text is played when it is filled.`
-      : `It does not play: ${why}. What is to be mended is named below the text.`);
+      : `It cannot be played: ${why}. The faults are listed below the text.`);
   }
   const page = svg.err.match(/page 1 of \d+/), bare = it.bank.trim() && it.kind !== 'callers';
   $('note').textContent = [bare && 'no strips over handlers of your own', page && page[0]].filter(Boolean).join(', ');

@@ -1,7 +1,7 @@
 //! Plans as C gives them.
 ghost use Rattle.std.specs.Prelude.{◌≡◌, ◌≤◌, length, map, true, IfOk};
 ghost use Rattle.std.specs.List.{list_all};
-ghost use Rattle.evl_plans.specs.Told.{handler_of};
+ghost use Rattle.evl_plans.specs.Told as callbacks;
 ghost use Rattle.evl_c.specs.Forms.{action_of, are_plans, handler_of, has_action, has_rows, is_plan, is_sound_row, period_of, used_rows};
 
 use arrayvec::ArrayVec;
@@ -137,7 +137,7 @@ pub fn are_plans(forms: &[PlanForm]) -> bool
 // The callback that a form stands for.
 fn read_plan(form: &PlanForm) -> Planned
     requires { is_plan form.now ≡ true }
-    ensures { handler_of result ≡ handler_of form.now }
+    ensures { callbacks.handler_of result ≡ handler_of form.now }
 {
     Planned::new(
         ActionKinds::from_bits_retain(form.kinds),
@@ -151,7 +151,7 @@ fn read_plan(form: &PlanForm) -> Planned
 /// The callbacks that forms stand for, at most 64. `AllocError` where the list couldn't grow.
 pub fn read_plans(alloc: Global, forms: &[PlanForm]) -> Result<Vec<Planned>, AllocError>
     requires { are_plans forms.now ≡ true }
-    ensures plans { IfOk result (λ plans. map handler_of plans.items ≡ map handler_of forms.now) }
+    ensures plans { IfOk result (λ plans. map callbacks.handler_of plans.items ≡ map handler_of forms.now) }
     ensures few { IfOk result (λ plans. length plans.items ≤ 64) }
 {
     let mut plans = Vec::new(alloc);

@@ -7,13 +7,22 @@ use crate::slots::Slot;
 use std::alloc::Global;
 use std::mem;
 
-/// A kernel, or none (embed/include/evlsim/abi.h: `evlsim_kernel`).
+/// A kernel, or none (embed/include/evlsim/abi.h: `evlsim_kernel`). It may be let go, or overwritten, only where it has
+/// none.
 #[repr(C)]
-#[derive(Drop)]
 pub struct KernelHandle {
     is_open: bool,
     slot: Slot,
     ghost sound: { is_some slot.held ≡ is_open },
+}
+
+impl Drop for KernelHandle {
+    fn drop(self)
+        requires none { self.slot.held ≡ None }
+    {
+        let KernelHandle { is_open: _, slot } = self;
+        drop(slot);
+    }
 }
 
 impl KernelHandle {
@@ -27,12 +36,20 @@ impl KernelHandle {
         }
     }
 
+    // Whether a kernel is there, and its box.
+    fn into_parts(self) -> (bool, Slot)
+        ensures { result ≡ (self.is_open, self.slot) }
+    {
+        let KernelHandle { is_open, slot } = self;
+        (is_open, slot)
+    }
+
     /// Takes the kernel out, if there is one.
     pub fn take(&mut self, alloc: Global) -> Option<Box<Held>>
         ensures taken { option_map box_value result ≡ self.old.slot.held }
         ensures none { self.new.slot.held ≡ None }
     {
-        let KernelHandle { is_open, slot } = mem::replace(self, KernelHandle::none(alloc));
+        let (is_open, slot) = mem::replace(self, KernelHandle::none(alloc)).into_parts();
         if is_open {
             Some(slot.into_parts().into_box())
         } else {
@@ -40,8 +57,16 @@ impl KernelHandle {
         }
     }
 
-    /// Puts a kernel in the place of what was there, which isn't freed.
+    /// Frees the kernel, if there is one.
+    pub fn free(&mut self, alloc: Global)
+        ensures { self.new.slot.held ≡ None }
+    {
+        drop(self.take(alloc));
+    }
+
+    /// Puts a kernel where none is.
     pub fn put(&mut self, held: Box<Held>)
+        requires none { self.old.slot.held ≡ None }
         ensures { self.new.slot.held ≡ Some held.value }
     {
         *self = KernelHandle {

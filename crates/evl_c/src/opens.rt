@@ -15,6 +15,7 @@ use std::alloc::Global;
 
 // Puts a kernel into a handle. 4: no memory.
 fn put_new(alloc: Global, kernel: &mut KernelHandle, new: Held) -> u32
+    requires none { kernel_held kernel.old ≡ None }
     ensures put { result ≡ 0 → kernel_held kernel.new ≡ Some new }
     ensures statuses { is_among of_open result ≡ true }
     ensures refused { result ≢ 0 → (result ≡ 4) × (kernel_held kernel.new ≡ kernel_held kernel.old) }
@@ -37,6 +38,7 @@ fn open_over(
     kernel: &mut KernelHandle,
 ) -> u32
     requires plans { are_plans plans.now ≡ true }
+    requires none { kernel_held kernel.old ≡ None }
     ensures opened { result ≡ 0 → IsSomeAnd (kernel_held kernel.new) (λ k. IsFresh (board_of board.now) (map handler_of plans.now) limit k) }
     ensures fits { result ≡ 0 → can_be_opened board.now (length plans.now) limit ≡ true }
     ensures board { result ≡ 2 → can_be_opened board.now (length plans.now) limit ≡ false }
@@ -77,7 +79,7 @@ pub extern "C" fn evlsim_c_open(
     ensures statuses { is_among of_open result ≡ true }
     ensures refused { result ≢ 0 → kernel_held kernel.new ≡ None }
 {
-    drop(kernel.take(alloc));
+    kernel.free(alloc);
     if !are_plans(plans) {
         return 5;
     }
@@ -89,5 +91,5 @@ pub extern "C" fn evlsim_c_open(
 pub extern "C" fn evlsim_c_close(alloc: Global, kernel: &mut KernelHandle)
     ensures { kernel_held kernel.new ≡ None }
 {
-    drop(kernel.take(alloc));
+    kernel.free(alloc);
 }

@@ -195,7 +195,7 @@ typedef struct evlsim_board {
  * use. A take's `choice` above 2 is taken as 2, and a finish's above 1 as 1.
  */
 typedef struct evlsim_call {
-  uint8_t kind;     /* EVLSIM_CALL_REQUEST to EVLSIM_CALL_FINISH */
+  uint8_t kind;     /* an evlsim_call_kind of calls.h */
   uint8_t stage;    /* EVLSIM_INBAND or EVLSIM_OOB */
   uint8_t way;      /* EVLSIM_IN or EVLSIM_OUT */
   uint8_t choice;   /* a policy's or a take's kind, or whether `finish` keeps the stage: up to 3 */

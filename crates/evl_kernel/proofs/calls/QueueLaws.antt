@@ -156,18 +156,7 @@ module _ (e : Elements) (h : AreSound e) (after : Elements) (reply : Reply) wher
   asked_goes (on_xbuf n (through.read stage way len)) asked is = of_xbuf_step n (through.read stage way len) (λ x y here made. queues.read_left_of x y reply (h.xbufs n x here) stage way len made) is
   asked_goes (on_mutex n (recorded.release thread)) asked is = of_mutex_step n (recorded.release thread) (λ m p here made. mutexes.release_left (owners_in e) n m here h.mutexes thread p reply made) is
   asked_goes (on_mutex n (recorded.raise thread)) asked is = of_mutex_step n (recorded.raise thread) (λ m p here made. mutexes.raise_left (owners_in e) n m here h.mutexes thread p reply made) is
-  asked_goes (on_sem n semaphore.peek) asked is = absurd (false≢true asked)
-  asked_goes (on_sem n (semaphore.begin w)) asked is = absurd (false≢true asked)
-  asked_goes (on_sem n (semaphore.drop t)) asked is = absurd (false≢true asked)
-  asked_goes (on_flags n group.peek) asked is = absurd (false≢true asked)
-  asked_goes (on_flags n (group.begin w)) asked is = absurd (false≢true asked)
-  asked_goes (on_flags n (group.drop t)) asked is = absurd (false≢true asked)
-  asked_goes (on_xbuf n (through.room way)) asked is = absurd (false≢true asked)
-  asked_goes (on_xbuf n (through.begin_write t way bytes)) asked is = absurd (false≢true asked)
-  asked_goes (on_xbuf n (through.begin_read t way len)) asked is = absurd (false≢true asked)
-  asked_goes (on_xbuf n (through.drop t way)) asked is = absurd (false≢true asked)
-  asked_goes (on_mutex n (recorded.claim w owner)) asked is = absurd (false≢true asked)
-  asked_goes (on_mutex n (recorded.drop t)) asked is = absurd (false≢true asked)
+  asked_goes _ asked is = absurd (false≢true asked)
 
 -- a thread that waits for a mutex names another one, which is the recorded owner or may be, and waits for itself by that
 -- along no owners
