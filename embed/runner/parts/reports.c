@@ -144,7 +144,7 @@ static void print_trace(void) {
 /* A file of this run, in EVLSIM_FOLDER or here. */
 static void file_name(char *name, size_t size, const char *ending) {
   const char *folder = getenv("EVLSIM_FOLDER");
-  snprintf(name, size, "%s/%s%s", folder == NULL ? "." : folder, kept->name, ending);
+  snprintf(name, size, "%s%s%s%s", folder == NULL ? "" : folder, folder == NULL ? "" : "/", kept->name, ending);
 }
 
 static bool write_scenario(const char *name) {
@@ -193,8 +193,8 @@ static void write_files(void) {
   if (draw(scenario, bank_name, has_bank, picture)) {
     fprintf(stderr, "picture: %s\n", picture);
   } else {
-    fprintf(stderr, "picture: none, there is no program lab on the path (lab draw %s >%s.svg draws it)\n", scenario,
-            kept->name);
+    fprintf(stderr, "picture: none, there is no program lab on the path (lab draw %s >%s draws it)\n", scenario,
+            picture);
   }
 }
 

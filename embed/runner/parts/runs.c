@@ -38,6 +38,14 @@ static void on_death(void) {
   report_failure();
 }
 
+static void on_exit_call(void) {
+  if (run == NULL || !run->is_on) return;
+  run->is_on = false;
+  snprintf(run->why, sizeof run->why, "T%d %s calls exit", run->now, tasks[run->now].name);
+  report_failure();
+  _exit(EXIT_FAILURE);
+}
+
 static void catch_crashes(void) {
   static const int signals[] = {SIGSEGV, SIGBUS, SIGFPE, SIGILL, SIGABRT};
   static stack_t other;
@@ -49,6 +57,7 @@ static void catch_crashes(void) {
   other.ss_sp = pages(STACK_BYTES, MAP_PRIVATE);
   other.ss_size = STACK_BYTES;
   sigaltstack(&other, NULL);
+  atexit(on_exit_call);
   for (size_t each = has_sanitizer() ? 4 : 0; each < 5; each++) sigaction(signals[each], &action, NULL);
 }
 
@@ -140,6 +149,9 @@ static void begin(void (*body)(void), const char *name, const evlsim_limits *lim
     run = pages(sizeof *run, MAP_PRIVATE);
     tasks = pages(TASKS * sizeof *tasks, MAP_PRIVATE);
     catch_crashes();
+    /* Each run takes a kernel's memory and gives it back: the system needn't have it in between. */
+    mallopt(M_TRIM_THRESHOLD, 1 << 26);
+    mallopt(M_MMAP_THRESHOLD, 1 << 26);
   }
   for (int each = 0; each < TASKS; each++) make_stack(&tasks[each]);
   kept->name = name;

@@ -13,7 +13,7 @@ enum {
   STAXES = 16,
   SOURCES = 16,
   CHOICES = 64,
-  QUEUE = 1 << 10,
+  QUEUE = 1 << 12,
   CANDIDATES = 1 << 20,
   NODES = 1 << 24,
   TOUCHED = 1 << 16,
@@ -75,6 +75,12 @@ struct handler {
   uint16_t element;
   irq_handler_t handle;
   void *device;
+};
+
+/* Handlers that are to be called, by their places, one after another. */
+struct due {
+  unsigned first, last;
+  uint8_t place[QUEUE];
 };
 
 struct timer {
@@ -173,10 +179,8 @@ struct run {
   int sleepers; /* the semaphore that nobody puts, or -1 */
   int work_line;
   struct evl_work *first_work;
-  struct handler oob_due[QUEUE];
-  unsigned oob_first, oob_last;
-  struct handler inband_due[QUEUE];
-  unsigned inband_first, inband_last;
+  struct due oob_due;
+  struct due inband_due;
   bool sources_open;
   unsigned sources;
   struct source source[SOURCES];
