@@ -119,15 +119,12 @@ static int caller(void) { return in_handler() ? IDLE : run->now; }
 static void call_handler(const struct handler *handler) {
   char here;
   const char *before = run->below;
+  int error = errno;
   run->below = &here;
-  if (!handler->is_used) {
-    run->below = before;
-  } else if (handler->is_timer) {
-    fire_timer(handler->element);
-  } else if (handler->handle != NULL) {
-    (void)handler->handle(handler->element, handler->device);
-  }
+  if (handler->is_used && handler->is_timer) fire_timer(handler->element);
+  if (handler->is_used && handler->handle != NULL) (void)handler->handle(handler->element, handler->device);
   run->below = before;
+  errno = error;
 }
 
 /* Calls the handlers of the out-of-band lines and timers that were played, one after another. */

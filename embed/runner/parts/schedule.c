@@ -50,7 +50,9 @@ static void change_task(int next) {
   if (next == run->now) return;
   run->now = next;
   if (!tasks[next].is_oob && next != IDLE) run->inband = next;
+  from->error = errno;
   change_to(from, &tasks[next]);
+  errno = from->error;
 }
 
 static void yield_if_due(void) {

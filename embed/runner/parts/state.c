@@ -48,10 +48,12 @@ struct task {
   void *(*run)(void *);
   void *value;
   void *argument;
+  void (*simple)(void *);
   const void *wanted; /* the lock that it waits for */
   uint64_t date;      /* till when it waits: NEVER without a deadline */
   uint64_t slice;
   enum awaited awaits;
+  int error;  /* its own errno while another task runs */
   int target; /* the element or the task that it waits for */
   unsigned needs;
   unsigned held; /* how many mutexes and staxes it has */

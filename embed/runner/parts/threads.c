@@ -238,23 +238,16 @@ int evlsim_pthread_mutex_lock(pthread_mutex_t *mutex) {
 }
 
 static void *run_simply(void *it) {
-  void **both = it;
-  void (*start)(void *);
-  memcpy(&start, &both[0], sizeof start);
-  void *argument = both[1];
-  free(both);
-  start(argument);
+  tasks[run->now].simple(it);
   return NULL;
 }
 
 int evlsim_thread(void (*start)(void *it), void *it, const char *name) {
   expect_run("evlsim_thread");
   at_call();
-  void **both = malloc(2 * sizeof *both);
-  if (both == NULL) fail("no memory");
-  memcpy(&both[0], &start, sizeof start);
-  both[1] = it;
-  return make_task(run_simply, both, name);
+  int number = make_task(run_simply, it, name);
+  tasks[number].simple = start;
+  return number;
 }
 
 void evlsim_join(int thread) { (void)evlsim_pthread_join((pthread_t)thread, NULL); }
