@@ -138,7 +138,9 @@ static void take_limits(const evlsim_limits *limits) {
   if (it->history == 0) it->history = 10000;
   if (it->steps == 0) it->steps = 1000000;
   if (it->until == 0) it->until = NEVER - 1;
-  if (has_sanitizer()) it->forks = true;
+  /* Their own data would lie among the program's variables. */
+  bool is_static = is_variable((const char *)(const void *)stdout);
+  if (has_sanitizer() || is_static) it->forks = true;
 }
 
 static void begin(void (*body)(void), const char *name, const evlsim_limits *limits) {

@@ -85,9 +85,18 @@ static uint64_t next_due(void) {
   return due;
 }
 
+/* What the picked thread has left of its slice, as the kernel will charge it. */
+static void charge(uint64_t delta) {
+  int64_t picked = run->is_open ? evlsim_see_picked(&run->kernel) : -1;
+  if (picked < 0 || picked >= (int64_t)run->made.tasks || tasks[picked].policy != 1) return;
+  struct task *task = &tasks[picked];
+  task->left = delta >= task->left ? task->slice : task->left - delta;
+}
+
 /* Moves the date. */
 static void move_date(uint64_t date) {
   evlsim_call tick = evlsim_call_tick(date - run->date);
+  charge(date - run->date);
   run->date = date;
   (void)do_call(IDLE, tick);
 }

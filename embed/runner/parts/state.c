@@ -52,6 +52,7 @@ struct task {
   const void *wanted; /* the lock that it waits for */
   uint64_t date;      /* till when it waits: NEVER without a deadline */
   uint64_t slice;
+  uint64_t left; /* of the slice */
   enum awaited awaits;
   int error;  /* its own errno while another task runs */
   int target; /* the element or the task that it waits for */
