@@ -137,7 +137,7 @@ static int make_timer(void) {
   if (!evlsim_has(answer, EVLSIM_NUMBER)) return error_of(answer);
   struct handler made = {true, true, true, (uint8_t)callback, (uint16_t)answer.number, NULL, NULL};
   *handler = made;
-  struct timer timer = {true, false, -1, NEVER, 0, 0, NULL};
+  struct timer timer = {true, -1, NEVER, 0, 0, NULL};
   run->timers[answer.number] = timer;
   go_on();
   return (int)answer.number;

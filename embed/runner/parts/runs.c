@@ -119,7 +119,13 @@ static void run_apart(void (*conclude)(enum ending)) {
 
 /* Runs until the board has all that the run makes. */
 static void run_whole(void (*conclude)(enum ending)) {
+  unsigned again = 0;
   do {
+    if (again++ == 1000) {
+      fprintf(stderr, "%s FAILED: its elements aren't the same each time\n", kept->name);
+      kept->explored.failed = true;
+      return;
+    }
     if (kept->limits.forks) {
       run_apart(conclude);
     } else {
@@ -160,5 +166,6 @@ static void begin(void (*body)(void), const char *name, const evlsim_limits *lim
   kept->body = body;
   kept->explored.sees_accesses = has_hooks;
   take_limits(limits);
+  (void)bank();
   keep_variables();
 }

@@ -88,7 +88,6 @@ struct due {
 
 struct timer {
   bool is_made;
-  bool is_core;
   int group; /* the flag group of whoever reads it */
   uint64_t date;
   uint64_t interval;
