@@ -16,6 +16,7 @@
 #include <linux/interrupt.h>
 #include <linux/irq_pipeline.h>
 #include <linux/irqstage.h>
+#include <malloc.h>
 #include <pthread.h>
 #include <signal.h>
 #include <stdarg.h>

@@ -58,13 +58,19 @@ void evlsim_pass(uint64_t nanoseconds) {
   }
 }
 
+/* For how long a thread can compute before something is due, or its slice ends. */
+static uint64_t undisturbed(const struct task *task) {
+  uint64_t due = next_due(), left = due == NEVER ? NEVER : due - run->date;
+  bool has_slice = task->is_oob && task->policy == 1;
+  return has_slice && task->left < left ? task->left : left;
+}
+
 /* A thread computes: the date moves while it is picked, from one due date to the next. */
 void evlsim_compute(uint64_t nanoseconds) {
   expect_run("evlsim_compute");
   while (nanoseconds > 0) {
     at_call();
-    uint64_t left = next_due() == NEVER ? nanoseconds : next_due() - run->date;
-    uint64_t step = left < nanoseconds ? left : nanoseconds;
+    uint64_t left = undisturbed(&tasks[run->now]), step = left < nanoseconds ? left : nanoseconds;
     nanoseconds -= step;
     move_date(run->date + step);
     go_on();
@@ -131,7 +137,7 @@ static int make_timer(void) {
   if (!evlsim_has(answer, EVLSIM_NUMBER)) return error_of(answer);
   struct handler made = {true, true, true, (uint8_t)callback, (uint16_t)answer.number, NULL, NULL};
   *handler = made;
-  struct timer timer = {true, false, -1, NEVER, 0, 0, NULL};
+  struct timer timer = {true, -1, NEVER, 0, 0, NULL};
   run->timers[answer.number] = timer;
   go_on();
   return (int)answer.number;

@@ -33,6 +33,13 @@ static bool read_date(const struct timespec *it, uint64_t *date) {
   return true;
 }
 
+/* The deadline of a wait: a date of 0 is none, as libevl has it. */
+static bool read_deadline(const struct timespec *it, uint64_t *date) {
+  if (!read_date(it, date)) return false;
+  if (*date == 0) *date = NEVER;
+  return true;
+}
+
 static void write_date(uint64_t date, struct timespec *it) {
   it->tv_sec = (time_t)(date / 1000000000u);
   it->tv_nsec = (long)(date % 1000000000u);

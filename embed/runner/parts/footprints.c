@@ -10,6 +10,11 @@
 /* The executable's own variables, which are at one place in each run. */
 extern char __data_start[] __attribute__((weak));
 extern char _end[] __attribute__((weak));
+extern char __executable_start[] __attribute__((weak));
+/* What nobody writes: code and constants. */
+static bool is_constant(const char *address) {
+  return __executable_start != NULL && address >= __executable_start && address < __data_start;
+}
 static bool is_variable(const char *address) { return address >= __data_start && address < _end; }
 
 /* Whether an address is a local of the code that runs, which nobody else has unless it is handed on. */
@@ -69,6 +74,7 @@ static bool meets_noted(const char *address, size_t size, bool is_write) {
 /* Whether an event before this access may give something else than behind it. */
 static bool is_relevant(const char *address, size_t size, bool is_write) {
   if (kept->limits.whole) return true;
+  if (is_constant(address)) return false;
   if (!is_variable(address) && !is_on_a_stack(address)) return true;
   return meets_noted(address, size, is_write);
 }

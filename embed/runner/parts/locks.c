@@ -91,7 +91,7 @@ int evl_lock_mutex(struct evl_mutex *mutex) { return lock_mutex(mutex, NEVER); }
 
 int evl_timedlock_mutex(struct evl_mutex *mutex, const struct timespec *date) {
   uint64_t until;
-  return read_date(date, &until) ? lock_mutex(mutex, until) : -EINVAL;
+  return read_deadline(date, &until) ? lock_mutex(mutex, until) : -EINVAL;
 }
 
 int evl_trylock_mutex(struct evl_mutex *mutex) {

@@ -66,6 +66,18 @@ static void note_fire(const evlsim_event *event) {
   }
 }
 
+static void add_due(struct due *due, uint8_t place) {
+  if (due->last - due->first == QUEUE) fail("more than %d plays wait for their handlers", QUEUE);
+  due->place[due->last++ % QUEUE] = place;
+}
+
+/* The next handler; one that was freed meanwhile isn't called. */
+static bool take_due(struct due *due, struct handler *handler) {
+  if (due->first == due->last) return false;
+  *handler = run->handlers[due->place[due->first++ % QUEUE]];
+  return true;
+}
+
 /* The handler of what was played: those of in-band lines wait till the in-band stage goes on. */
 static void note_play(const evlsim_event *event) {
   bool is_timer = event->kind == EVLSIM_PLAY_TIMER;
@@ -75,11 +87,7 @@ static void note_play(const evlsim_event *event) {
   for (unsigned each = 0; each < HANDLERS; each++) {
     struct handler *it = &run->handlers[each];
     if (!it->is_used || it->is_timer != is_timer || it->element != event->element || it->is_oob != is_oob) continue;
-    if (is_oob) {
-      run->oob_due[run->oob_last++ % QUEUE] = *it;
-    } else {
-      run->inband_due[run->inband_last++ % QUEUE] = *it;
-    }
+    add_due(is_oob ? &run->oob_due : &run->inband_due, (uint8_t)each);
   }
 }
 
@@ -111,20 +119,19 @@ static int caller(void) { return in_handler() ? IDLE : run->now; }
 static void call_handler(const struct handler *handler) {
   char here;
   const char *before = run->below;
+  int error = errno;
   run->below = &here;
-  if (handler->is_timer) {
-    fire_timer(handler->element);
-  } else if (handler->handle != NULL) {
-    (void)handler->handle(handler->element, handler->device);
-  }
+  if (handler->is_used && handler->is_timer) fire_timer(handler->element);
+  if (handler->is_used && handler->handle != NULL) (void)handler->handle(handler->element, handler->device);
   run->below = before;
+  errno = error;
 }
 
 /* Calls the handlers of the out-of-band lines and timers that were played, one after another. */
 static void run_oob_handlers(void) {
   if (run->in_oob_handler) return;
-  while (run->oob_first != run->oob_last) {
-    struct handler due = run->oob_due[run->oob_first++ % QUEUE];
+  struct handler due;
+  while (take_due(&run->oob_due, &due)) {
     run->in_oob_handler = true;
     call_handler(&due);
     run->in_oob_handler = false;
@@ -134,8 +141,8 @@ static void run_oob_handlers(void) {
 /* Calls those of in-band lines, on top of the task that has the in-band stage. */
 static void run_inband_handlers(void) {
   if (run->in_oob_handler || run->interrupted >= 0 || tasks[run->now].is_oob) return;
-  while (run->inband_first != run->inband_last) {
-    struct handler due = run->inband_due[run->inband_first++ % QUEUE];
+  struct handler due;
+  while (take_due(&run->inband_due, &due)) {
     struct task *task = &tasks[run->now];
     run->interrupted = run->now;
     task->in_handler = true;

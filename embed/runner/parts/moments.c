@@ -23,11 +23,13 @@ static uint32_t ready_sources(void) {
 static void call_device(const struct source *source) {
   char here;
   const char *before = run->below;
+  int error = errno;
   run->below = &here;
   run->in_oob_handler = true;
   source->device(source->it);
   run->in_oob_handler = false;
   run->below = before;
+  errno = error;
 }
 
 /* An event of a source: an interrupt, the clock's next date, or another in-band thread's turn. */

@@ -131,31 +131,28 @@ static void print_events(void) {
   }
 }
 
-static void print_trace(void) {
+/* Writes the trace or the scenario of this run. */
+typedef evlsim_status text_of(evlsim_kernel *kernel, size_t start, uint8_t *out, size_t out_length, size_t *length);
+static void put_text(text_of *text, FILE *file) {
   char part[4096];
   size_t length = 0;
   if (!run->is_open) return;
   for (size_t start = 0; start == 0 || start < length; start += sizeof part) {
-    if (!evlsim_ok(evlsim_trace(&run->kernel, start, (uint8_t *)part, sizeof part, &length))) return;
-    fwrite(part, 1, evlsim_written(length, start, sizeof part), stderr);
+    if (!evlsim_ok(text(&run->kernel, start, (uint8_t *)part, sizeof part, &length))) return;
+    fwrite(part, 1, evlsim_written(length, start, sizeof part), file);
   }
 }
 
 /* A file of this run, in EVLSIM_FOLDER or here. */
 static void file_name(char *name, size_t size, const char *ending) {
   const char *folder = getenv("EVLSIM_FOLDER");
-  snprintf(name, size, "%s/%s%s", folder == NULL ? "." : folder, kept->name, ending);
+  snprintf(name, size, "%s%s%s%s", folder == NULL ? "" : folder, folder == NULL ? "" : "/", kept->name, ending);
 }
 
-static bool write_scenario(const char *name) {
-  char part[4096];
-  size_t length = 0;
+static bool write_text(text_of *text, const char *name) {
   FILE *file = run->is_open ? fopen(name, "w") : NULL;
   if (file == NULL) return false;
-  for (size_t start = 0; start == 0 || start < length; start += sizeof part) {
-    if (!evlsim_ok(evlsim_scenario(&run->kernel, start, (uint8_t *)part, sizeof part, &length))) break;
-    fwrite(part, 1, evlsim_written(length, start, sizeof part), file);
-  }
+  put_text(text, file);
   return fclose(file) == 0;
 }
 
@@ -171,30 +168,29 @@ static bool write_bank(const char *name) {
   return fclose(file) == 0;
 }
 
-/* Draws the scenario by the program lab, where it is there. */
-static bool draw(const char *scenario, const char *bank_name, bool has_bank, const char *picture) {
+/* Draws the trace by the program lab, where it is there. */
+static bool draw(const char *trace, const char *picture) {
   char command[2048];
   const char *lab = getenv("EVLSIM_LAB");
-  snprintf(command, sizeof command, "'%s' draw %s%s%s '%s' >'%s' 2>/dev/null", lab == NULL ? "lab" : lab,
-           has_bank ? "--bank '" : "", has_bank ? bank_name : "", has_bank ? "'" : "", scenario, picture);
+  snprintf(command, sizeof command, "'%s' draw '%s' >'%s' 2>/dev/null", lab == NULL ? "lab" : lab, trace, picture);
   if (system(command) == 0) return true;
   unlink(picture);
   return false;
 }
 
 static void write_files(void) {
-  char scenario[512], bank_name[512], picture[512];
+  char scenario[512], bank_name[512], trace[512], picture[512];
   file_name(scenario, sizeof scenario, ".toml");
   file_name(bank_name, sizeof bank_name, ".bank.toml");
+  file_name(trace, sizeof trace, ".trace");
   file_name(picture, sizeof picture, ".svg");
-  if (!write_scenario(scenario)) return;
+  if (!write_text(evlsim_scenario, scenario) || !write_text(evlsim_trace, trace)) return;
   bool has_bank = write_bank(bank_name);
   fprintf(stderr, "scenario: %s%s%s\n", scenario, has_bank ? ", with the bank " : "", has_bank ? bank_name : "");
-  if (draw(scenario, bank_name, has_bank, picture)) {
+  if (draw(trace, picture)) {
     fprintf(stderr, "picture: %s\n", picture);
   } else {
-    fprintf(stderr, "picture: none, there is no program lab on the path (lab draw %s >%s.svg draws it)\n", scenario,
-            kept->name);
+    fprintf(stderr, "picture: none, there is no program lab on the path (lab draw %s >%s draws it)\n", trace, picture);
   }
 }
 
@@ -206,7 +202,7 @@ static void report_failure(void) {
   if (run->choices_made > 0) fprintf(stderr, "events:\n");
   print_events();
   fprintf(stderr, "trace:\n");
-  print_trace();
+  put_text(evlsim_trace, stderr);
   if (kept->choice_count > 0) {
     fprintf(stderr, "as a test of its own:\n  int main(void) { return evlsim_replay(%s, \"%s\"); }\n", kept->name,
             choices);

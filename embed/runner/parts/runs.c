@@ -38,6 +38,14 @@ static void on_death(void) {
   report_failure();
 }
 
+static void on_exit_call(void) {
+  if (run == NULL || !run->is_on) return;
+  run->is_on = false;
+  snprintf(run->why, sizeof run->why, "T%d %s calls exit", run->now, tasks[run->now].name);
+  report_failure();
+  _exit(EXIT_FAILURE);
+}
+
 static void catch_crashes(void) {
   static const int signals[] = {SIGSEGV, SIGBUS, SIGFPE, SIGILL, SIGABRT};
   static stack_t other;
@@ -49,6 +57,7 @@ static void catch_crashes(void) {
   other.ss_sp = pages(STACK_BYTES, MAP_PRIVATE);
   other.ss_size = STACK_BYTES;
   sigaltstack(&other, NULL);
+  atexit(on_exit_call);
   for (size_t each = has_sanitizer() ? 4 : 0; each < 5; each++) sigaction(signals[each], &action, NULL);
 }
 
@@ -110,7 +119,13 @@ static void run_apart(void (*conclude)(enum ending)) {
 
 /* Runs until the board has all that the run makes. */
 static void run_whole(void (*conclude)(enum ending)) {
+  unsigned again = 0;
   do {
+    if (again++ == 1000) {
+      fprintf(stderr, "%s FAILED: its elements aren't the same each time\n", kept->name);
+      kept->explored.failed = true;
+      return;
+    }
     if (kept->limits.forks) {
       run_apart(conclude);
     } else {
@@ -129,7 +144,9 @@ static void take_limits(const evlsim_limits *limits) {
   if (it->history == 0) it->history = 10000;
   if (it->steps == 0) it->steps = 1000000;
   if (it->until == 0) it->until = NEVER - 1;
-  if (has_sanitizer()) it->forks = true;
+  /* Their own data would lie among the program's variables. */
+  bool is_static = is_variable((const char *)(const void *)stdout);
+  if (has_sanitizer() || is_static) it->forks = true;
 }
 
 static void begin(void (*body)(void), const char *name, const evlsim_limits *limits) {
@@ -140,11 +157,15 @@ static void begin(void (*body)(void), const char *name, const evlsim_limits *lim
     run = pages(sizeof *run, MAP_PRIVATE);
     tasks = pages(TASKS * sizeof *tasks, MAP_PRIVATE);
     catch_crashes();
+    /* Each run takes a kernel's memory and gives it back: the system needn't have it in between. */
+    mallopt(M_TRIM_THRESHOLD, 1 << 26);
+    mallopt(M_MMAP_THRESHOLD, 1 << 26);
   }
   for (int each = 0; each < TASKS; each++) make_stack(&tasks[each]);
   kept->name = name;
   kept->body = body;
   kept->explored.sees_accesses = has_hooks;
   take_limits(limits);
+  (void)bank();
   keep_variables();
 }

@@ -50,7 +50,9 @@ static void change_task(int next) {
   if (next == run->now) return;
   run->now = next;
   if (!tasks[next].is_oob && next != IDLE) run->inband = next;
+  from->error = errno;
   change_to(from, &tasks[next]);
+  errno = from->error;
 }
 
 static void yield_if_due(void) {
@@ -83,9 +85,18 @@ static uint64_t next_due(void) {
   return due;
 }
 
+/* What the picked thread has left of its slice, as the kernel will charge it. */
+static void charge(uint64_t delta) {
+  int64_t picked = run->is_open ? evlsim_see_picked(&run->kernel) : -1;
+  if (picked < 0 || picked >= (int64_t)run->made.tasks || tasks[picked].policy != 1) return;
+  struct task *task = &tasks[picked];
+  task->left = delta >= task->left ? task->slice : task->left - delta;
+}
+
 /* Moves the date. */
 static void move_date(uint64_t date) {
   evlsim_call tick = evlsim_call_tick(date - run->date);
+  charge(date - run->date);
   run->date = date;
   (void)do_call(IDLE, tick);
 }

@@ -13,7 +13,7 @@ enum {
   STAXES = 16,
   SOURCES = 16,
   CHOICES = 64,
-  QUEUE = 1 << 10,
+  QUEUE = 1 << 12,
   CANDIDATES = 1 << 20,
   NODES = 1 << 24,
   TOUCHED = 1 << 16,
@@ -48,10 +48,13 @@ struct task {
   void *(*run)(void *);
   void *value;
   void *argument;
+  void (*simple)(void *);
   const void *wanted; /* the lock that it waits for */
   uint64_t date;      /* till when it waits: NEVER without a deadline */
   uint64_t slice;
+  uint64_t left; /* of the slice */
   enum awaited awaits;
+  int error;  /* its own errno while another task runs */
   int target; /* the element or the task that it waits for */
   unsigned needs;
   unsigned held; /* how many mutexes and staxes it has */
@@ -77,9 +80,14 @@ struct handler {
   void *device;
 };
 
+/* Handlers that are to be called, by their places, one after another. */
+struct due {
+  unsigned first, last;
+  uint8_t place[QUEUE];
+};
+
 struct timer {
   bool is_made;
-  bool is_core;
   int group; /* the flag group of whoever reads it */
   uint64_t date;
   uint64_t interval;
@@ -173,10 +181,8 @@ struct run {
   int sleepers; /* the semaphore that nobody puts, or -1 */
   int work_line;
   struct evl_work *first_work;
-  struct handler oob_due[QUEUE];
-  unsigned oob_first, oob_last;
-  struct handler inband_due[QUEUE];
-  unsigned inband_first, inband_last;
+  struct due oob_due;
+  struct due inband_due;
   bool sources_open;
   unsigned sources;
   struct source source[SOURCES];

@@ -37,6 +37,7 @@ int evl_attach_thread(int flags, const char *format, ...) {
   at_call();
   evlsim_answer answer = do_call(run->now, evlsim_call_attach(policy_of(task), EVLSIM_OOB));
   if (evlsim_is_done(answer)) task->is_attached = task->is_oob = true;
+  task->left = task->slice;
   go_on();
   return evlsim_is_done(answer) ? fd_of(FD_THREAD, run->now) : error_of(answer);
 }
@@ -112,7 +113,7 @@ static bool read_policy(const struct evl_sched_attrs *from, struct task *to) {
   if (from->sched_priority < 0 || from->sched_priority > 99) return false;
   to->prio = (uint8_t)from->sched_priority;
   if (to->policy == 1 && !read_date(&from->sched_rr_quantum, &slice)) return false;
-  to->slice = slice;
+  to->slice = to->left = slice;
   if (to->policy == 2) to->group = (uint16_t)from->sched_quota_group;
   return true;
 }
@@ -128,7 +129,7 @@ int evl_set_schedattr(int efd, const struct evl_sched_attrs *attrs) {
   evlsim_answer answer = do_call(number, evlsim_call_set_policy(policy_of(&wanted)));
   if (evlsim_is_done(answer)) {
     task->policy = wanted.policy, task->prio = wanted.prio;
-    task->slice = wanted.slice, task->group = wanted.group;
+    task->slice = task->left = wanted.slice, task->group = wanted.group;
   }
   go_on();
   return evlsim_refused_as(answer, EVLSIM_REFUSAL_RANGE) ? -EINVAL : error_of(answer);
@@ -150,6 +151,7 @@ int evl_get_schedattr(int efd, struct evl_sched_attrs *attrs) {
 int evl_yield(void) {
   expect_run("evl_yield");
   if (in_handler() || !tasks[run->now].is_attached) return -EPERM;
+  tasks[run->now].left = tasks[run->now].slice;
   return error_of(call_core(evlsim_call_set_policy(policy_of(&tasks[run->now]))));
 }
 
@@ -238,23 +240,16 @@ int evlsim_pthread_mutex_lock(pthread_mutex_t *mutex) {
 }
 
 static void *run_simply(void *it) {
-  void **both = it;
-  void (*start)(void *);
-  memcpy(&start, &both[0], sizeof start);
-  void *argument = both[1];
-  free(both);
-  start(argument);
+  tasks[run->now].simple(it);
   return NULL;
 }
 
 int evlsim_thread(void (*start)(void *it), void *it, const char *name) {
   expect_run("evlsim_thread");
   at_call();
-  void **both = malloc(2 * sizeof *both);
-  if (both == NULL) fail("no memory");
-  memcpy(&both[0], &start, sizeof start);
-  both[1] = it;
-  return make_task(run_simply, both, name);
+  int number = make_task(run_simply, it, name);
+  tasks[number].simple = start;
+  return number;
 }
 
 void evlsim_join(int thread) { (void)evlsim_pthread_join((pthread_t)thread, NULL); }

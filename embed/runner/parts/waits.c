@@ -91,7 +91,7 @@ int evl_get_sem(struct evl_sem *sem) { return get_sem(sem, NEVER); }
 
 int evl_timedget_sem(struct evl_sem *sem, const struct timespec *date) {
   uint64_t until;
-  return read_date(date, &until) ? get_sem(sem, until) : -EINVAL;
+  return read_deadline(date, &until) ? get_sem(sem, until) : -EINVAL;
 }
 
 int evl_tryget_sem(struct evl_sem *sem) {
@@ -160,7 +160,7 @@ int evl_wait_some_flags(struct evl_flags *group, int bits, int *taken) {
 }
 int evl_timedwait_some_flags(struct evl_flags *group, int bits, const struct timespec *date, int *taken) {
   uint64_t until;
-  return read_date(date, &until) ? take_flags(group, EVLSIM_TAKE_OF, bits, until, taken) : -EINVAL;
+  return read_deadline(date, &until) ? take_flags(group, EVLSIM_TAKE_OF, bits, until, taken) : -EINVAL;
 }
 int evl_trywait_some_flags(struct evl_flags *group, int bits, int *taken) {
   return try_flags(group, EVLSIM_TAKE_OF, bits, taken);
@@ -170,7 +170,7 @@ int evl_wait_exact_flags(struct evl_flags *group, int bits) {
 }
 int evl_timedwait_exact_flags(struct evl_flags *group, int bits, const struct timespec *date) {
   uint64_t until;
-  return read_date(date, &until) ? take_flags(group, EVLSIM_TAKE_EXACT, bits, until, NULL) : -EINVAL;
+  return read_deadline(date, &until) ? take_flags(group, EVLSIM_TAKE_EXACT, bits, until, NULL) : -EINVAL;
 }
 int evl_trywait_exact_flags(struct evl_flags *group, int bits) {
   return try_flags(group, EVLSIM_TAKE_EXACT, bits, NULL);
@@ -178,7 +178,7 @@ int evl_trywait_exact_flags(struct evl_flags *group, int bits) {
 int evl_wait_flags(struct evl_flags *group, int *taken) { return take_flags(group, EVLSIM_TAKE_ANY, 0, NEVER, taken); }
 int evl_timedwait_flags(struct evl_flags *group, const struct timespec *date, int *taken) {
   uint64_t until;
-  return read_date(date, &until) ? take_flags(group, EVLSIM_TAKE_ANY, 0, until, taken) : -EINVAL;
+  return read_deadline(date, &until) ? take_flags(group, EVLSIM_TAKE_ANY, 0, until, taken) : -EINVAL;
 }
 int evl_trywait_flags(struct evl_flags *group, int *taken) { return try_flags(group, EVLSIM_TAKE_ANY, 0, taken); }
 
