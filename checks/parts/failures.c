@@ -1,0 +1,149 @@
+/* Runs that fail, each in its own way: failures KIND. checks/drivers looks how each is told. */
+#include <assert.h>
+#include <evl/evl.h>
+#include <evl/stax.h>
+#include <evlsim/runner.h>
+#include <linux/interrupt.h>
+#include <linux/irqstage.h>
+#include <pthread.h>
+#include <stdint.h>
+#include <stdio.h>
+#include <stdlib.h>
+#include <string.h>
+#include <unistd.h>
+
+static struct evl_sem one, two;
+static struct evl_mutex first, second;
+static struct evl_stax stax;
+static volatile int never;
+
+static void begin(void) {
+  evl_new_sem(&one, "one");
+  evl_new_sem(&two, "two");
+  evl_new_mutex(&first, "first");
+  evl_new_mutex(&second, "second");
+  evl_init_stax(&stax);
+  evl_put_sem(&one);
+}
+
+static void *wait_for_first(void *it) {
+  evl_attach_self("other");
+  evl_lock_mutex(&second);
+  evl_get_sem(&one);
+  evl_lock_mutex(&first);
+  return it;
+}
+
+static void stuck(void) {
+  pthread_t thread;
+  begin();
+  pthread_create(&thread, NULL, wait_for_first, NULL);
+  evl_attach_self("main");
+  evl_lock_mutex(&first);
+  evl_usleep(5);
+  evl_get_sem(&two);
+}
+
+static void ring(void) {
+  pthread_t thread;
+  begin();
+  pthread_create(&thread, NULL, wait_for_first, NULL);
+  evl_attach_self("main");
+  evl_lock_mutex(&first);
+  evl_usleep(5);
+  evlsim_fail("the ring is answered %d", evl_lock_mutex(&second));
+}
+
+static void asserted(void) {
+  begin();
+  assert(never == 1);
+}
+
+static void bad_address(void) {
+  begin();
+  *(volatile int *)(uintptr_t)(unsigned)never = 3;
+}
+
+static int deeper(int depth) {
+  volatile char bytes[4096];
+  bytes[depth & 4095] = (char)depth;
+  return never == 1 ? bytes[7] : deeper(depth + 1) + bytes[7];
+}
+
+static void full_stack(void) {
+  begin();
+  never = deeper(1);
+}
+
+static void for_ever(void) {
+  begin();
+  while (never == 0) {
+  }
+}
+
+static void calls_exit(void) {
+  begin();
+  exit(EXIT_SUCCESS);
+}
+
+static irqreturn_t on_line(int irq, void *device) {
+  (void)irq, (void)device;
+  evl_get_sem(&two);
+  return IRQ_HANDLED;
+}
+
+static void handler_waits(void) {
+  begin();
+  request_irq(5, on_line, IRQF_OOB, "line", NULL);
+  evlsim_arrive(5);
+}
+
+static void stalled(void) {
+  begin();
+  evl_attach_self("main");
+  oob_irq_disable();
+  evl_usleep(5);
+}
+
+static void *hold_stax(void *it) {
+  evl_lock_stax(&stax);
+  for (;;) evlsim_pass(1000);
+  return it;
+}
+
+static void *end_with_mutex(void *it) {
+  evl_attach_self("owner");
+  evl_lock_mutex(&first);
+  return it;
+}
+
+static void mutex_kept(void) {
+  pthread_t thread;
+  begin();
+  pthread_create(&thread, NULL, end_with_mutex, NULL);
+  pthread_join(thread, NULL);
+}
+
+static void last_date(void) {
+  pthread_t thread;
+  begin();
+  pthread_create(&thread, NULL, hold_stax, NULL);
+  evlsim_settle();
+  evl_attach_self("main");
+  evl_lock_stax(&stax);
+}
+
+static const struct {
+  const char *kind;
+  void (*body)(void);
+} kinds[] = {{"stuck", stuck},         {"ring", ring},         {"asserted", asserted},
+             {"address", bad_address}, {"stack", full_stack},  {"for_ever", for_ever},
+             {"exit", calls_exit},     {"handler", handler_waits}, {"stalled", stalled},
+             {"mutex", mutex_kept},    {"history", last_date}};
+
+int main(int count, char **words) {
+  for (size_t each = 0; count == 2 && each < sizeof kinds / sizeof *kinds; each++) {
+    if (strcmp(words[1], kinds[each].kind) == 0) return evlsim_test_as(kinds[each].body, words[1]);
+  }
+  return 2;
+}

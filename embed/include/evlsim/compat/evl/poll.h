@@ -1,0 +1,2 @@
+/* Not in this profile. */
+#error "<evl/poll.h>: the profile has no polling: let one thread wait for one element (docs/use/DRIVERS.md)"

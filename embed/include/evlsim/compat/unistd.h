@@ -1,0 +1,21 @@
+/*
+ * <unistd.h> of the system, with what waits or reads led to the runner: read and write of a cross-buffer, close of an
+ * element, and sleeps, which take simulated time. Any other file descriptor goes on to the system.
+ */
+#pragma GCC system_header
+#ifndef EVLSIM_COMPAT_UNISTD_H
+#define EVLSIM_COMPAT_UNISTD_H
+#ifndef EVLSIM_RUNNER
+#pragma redefine_extname read evlsim_read
+#pragma redefine_extname write evlsim_write
+#pragma redefine_extname close evlsim_close_fd
+#pragma redefine_extname usleep evlsim_usleep
+#pragma redefine_extname sleep evlsim_sleep
+#include <features.h>
+#if defined(__USE_FORTIFY_LEVEL) && __USE_FORTIFY_LEVEL > 0
+#undef __USE_FORTIFY_LEVEL
+#define __USE_FORTIFY_LEVEL 0
+#endif
+#endif
+#include_next <unistd.h>
+#endif

@@ -1,0 +1,339 @@
+"""A driver's own code in Python over a kernel: its threads are generators, and each moment at which an interrupt may
+come between two of their steps is tried (docs/use/DRIVERS.md).
+
+>>> def body(bench):
+...     sem, seen = bench.sem(0), []
+...     def waiter(thread):
+...         yield thread.attach("fifo 10")
+...         while True:
+...             yield thread.get(sem)
+...             seen.append(1)
+...     bench.thread(waiter)
+...     bench.request(5, lambda: bench.put(sem))
+...     bench.may_arrive(5, times=2)
+...     yield bench.rest()
+...     bench.say(f"{len(seen)} seen")
+>>> found = explore(body)
+>>> found.failed, sorted(found.outcomes)
+(False, ['0 seen', '1 seen', '2 seen'])
+"""
+
+from collections import Counter, deque
+from typing import Any, Callable, Deque, Dict, Generator, Iterator, List, NamedTuple, Optional, Tuple
+
+from ._answers import Answer, Line
+from ._kernel import PROGRAM_BANK, Plan
+from ._machine import Kernel
+
+__all__ = ["Bench", "Explored", "Thread", "explore"]
+
+Request = Tuple[str, str, Dict[str, Any]]
+Steps = Generator[Optional[Request], Any, None]
+Choices = Tuple[Tuple[int, str], ...]
+MACHINE, BODY = 0, 1
+
+
+class Explored(NamedTuple):
+    """What came of an exploration: of a run that failed why, its events as a list, and its texts."""
+
+    failed: bool
+    why: str
+    choices: str
+    trace: str
+    scenario: str
+    lists: int
+    outcomes: Dict[str, int]
+
+
+class _Stuck(Exception):
+    """All threads wait, and nothing is due."""
+
+
+def _no_steps() -> Steps:
+    yield None
+
+
+class Thread:
+    """A thread of a run. Its calls are yielded: answer = yield thread.get(sem)."""
+
+    def __init__(self, number: int) -> None:
+        self.number = number
+        self.steps: Steps = _no_steps()
+        self.pending: Optional[Request] = None
+        self.value: Any = None
+        self.has_ended = self.is_attached = self.is_oob = self.waits = self.rests = False
+        self.date: Optional[int] = None
+
+    def attach(self, policy: str, stage: str = "oob") -> Request:
+        return ("call", "attach", {"policy": policy, "stage": stage})
+
+    def detach(self) -> Request:
+        return ("call", "detach", {})
+
+    def switch(self, stage: str) -> Request:
+        return ("call", "set_stage", {"stage": stage})
+
+    def put(self, sem: int) -> Request:
+        return ("call", "put", {"sem": sem})
+
+    def try_get(self, sem: int) -> Request:
+        return ("call", "try_get", {"sem": sem})
+
+    def get(self, sem: int, until: Optional[int] = None) -> Request:
+        return ("wait", "begin_get", {"sem": sem, "until": until})
+
+    def post(self, flags: int, bits: int) -> Request:
+        return ("call", "post_flags", {"flags": flags, "bits": bits})
+
+    def take(self, flags: int, kind: str = "any", until: Optional[int] = None) -> Request:
+        return ("wait", "begin_take", {"flags": flags, "kind": kind, "until": until})
+
+    def sleep(self, until: int) -> Request:
+        """Sleeps until a date, in-band."""
+        return ("sleep", "", {"until": until})
+
+
+class Bench:
+    """A run, for its body. Elements, threads and handlers are made before the body's first yield."""
+
+    def __init__(self, chosen: Choices) -> None:
+        self._chosen: Deque[Tuple[int, str]] = deque(chosen)
+        self._sems: List[int] = []
+        self._flags: List[int] = []
+        self._threads: List[Thread] = []
+        self._handlers: Dict[Tuple[int, str], Callable[[], Any]] = {}
+        self._inband: Deque[Callable[[], Any]] = deque()
+        self._sources: Dict[str, Tuple[int, Optional[Callable[[], Any]]]] = {}
+        self._kernel: Optional[Kernel] = None
+        self._step = 0
+        self.date = 0
+        self.offered: List[Tuple[int, str]] = []
+        self.said: List[str] = []
+
+    def _make(self, where: List[int], value: int) -> int:
+        if self._kernel is not None:
+            raise RuntimeError("elements, threads and handlers are made before the body's first yield")
+        where.append(value)
+        return len(where) - 1
+
+    def sem(self, count: int = 0) -> int:
+        """A semaphore's number."""
+        return self._make(self._sems, count)
+
+    def flags(self, bits: int = 0) -> int:
+        """A flag group's number."""
+        return self._make(self._flags, bits)
+
+    def thread(self, run: Callable[[Thread], Steps]) -> Thread:
+        """A thread, in-band until it attaches itself."""
+        self._make([], 0)
+        made = Thread(len(self._threads) + BODY + 1)
+        made.steps = run(made)
+        self._threads.append(made)
+        return made
+
+    def request(self, line: int, handler: Callable[[], Any], stage: str = "oob") -> None:
+        """A handler on a line."""
+        self._make([], 0)
+        self._handlers[line, stage] = handler
+
+    def may_arrive(self, line: int, times: int = 1, device: Optional[Callable[[], Any]] = None) -> None:
+        """A source: line may arrive so often from here on, at any moment, once `device` has been called."""
+        self._sources[f"line {line}"] = (times, device)
+
+    def rest(self) -> Request:
+        """Waits until all others wait; behind it no source has an event."""
+        return ("rest", "", {})
+
+    def say(self, text: str) -> None:
+        """Adds to what the outcome of this run is."""
+        self.said.append(text)
+
+    @property
+    def kernel(self) -> Kernel:
+        """The kernel of the run, for its see_ methods."""
+        if self._kernel is None:
+            raise RuntimeError("the kernel is there behind the body's first yield")
+        return self._kernel
+
+    def put(self, sem: int) -> Answer:
+        """Puts a semaphore, as the machine: for handlers."""
+        return self._call(MACHINE, "put", {"sem": sem})
+
+    def post(self, flags: int, bits: int) -> Answer:
+        """Posts bits, as the machine: for handlers."""
+        return self._call(MACHINE, "post_flags", {"flags": flags, "bits": bits})
+
+    def _open(self) -> None:
+        bank = [*PROGRAM_BANK, *([Plan(1)] * max(0, len(self._handlers) - 2))]
+        self._kernel = Kernel(
+            threads=len(self._threads) + BODY,
+            sems=self._sems,
+            flags=self._flags,
+            limit=10000,
+            bank=bank if len(bank) > len(PROGRAM_BANK) else None,
+        )
+        for place, (line, stage) in enumerate(self._handlers):
+            callback = (0, len(PROGRAM_BANK) - 1)[place] if place < 2 else len(PROGRAM_BANK) + place - 2
+            self._call(MACHINE, "request", {"line": line, "stage": stage, "callback": callback})
+
+    def _call(self, who: int, word: str, keys: Dict[str, Any]) -> Answer:
+        answer = self.kernel.call(word, who, **{key: value for key, value in keys.items() if value is not None})
+        for play in answer.plays:
+            if isinstance(play, Line) and (play.line, play.stage) in self._handlers:
+                handler = self._handlers[play.line, play.stage]
+                if play.stage == "oob":
+                    handler()
+                else:
+                    self._inband.append(handler)
+        return answer
+
+    def _can_run(self, thread: Thread) -> bool:
+        if thread.has_ended or thread.rests:
+            return False
+        if thread.waits:
+            return self.kernel.see_finished(thread.number)
+        return thread.date is None or self.date >= thread.date
+
+    def _next(self) -> Optional[Thread]:
+        picked = self.kernel.see_picked()
+        for thread in self._threads:
+            if thread.number == picked and self._can_run(thread):
+                return thread
+        while self._inband:
+            self._inband.popleft()()
+            if self.kernel.see_picked() is not None:
+                return self._next()
+        return next((it for it in self._threads if not it.is_oob and self._can_run(it)), None)
+
+    def _moment(self) -> bool:
+        """A moment, before a step: whether an event came."""
+        self._step += 1
+        if self._chosen and self._chosen[0][0] == self._step:
+            self._bring(self._chosen.popleft()[1])
+            return True
+        if not self._chosen:
+            self.offered += [(self._step, name) for name, (left, _) in self._sources.items() if left > 0]
+        return False
+
+    def _bring(self, name: str) -> None:
+        left, device = self._sources[name]
+        self._sources[name] = (left - 1, device)
+        if device is not None:
+            device()
+        self._call(MACHINE, "arrive", {"line": int(name.split()[1])})
+
+    def _make_step(self, thread: Thread, request: Request) -> None:
+        how, word, keys = request
+        thread.pending = None
+        if how == "rest":
+            thread.rests = True
+        elif how == "sleep":
+            thread.date = keys["until"]
+        elif how == "finish":
+            thread.waits, thread.date = False, None
+            thread.value = self._call(thread.number, "finish", {})
+            thread.is_oob = self.kernel.see_stage(thread.number) == "oob"
+        else:
+            thread.value = self._call(thread.number, word, keys)
+            if how == "wait" and thread.value.kind == "begun":
+                thread.waits, thread.date, thread.pending = True, keys["until"], ("finish", "", {})
+            if thread.value and word in ("attach", "set_stage", "detach"):
+                thread.is_attached = word != "detach"
+                thread.is_oob = thread.is_attached and keys.get("stage") == "oob"
+
+    def _go_on(self, thread: Thread) -> None:
+        thread.date = None
+        try:
+            request = thread.steps.send(thread.value)
+            thread.value = None
+            thread.pending = request if request is not None else ("nothing", "", {})
+        except StopIteration:
+            if thread.is_attached:
+                self._call(thread.number, "detach", {})
+            thread.has_ended, thread.is_oob = True, False
+
+    def _step_of(self, thread: Thread) -> None:
+        """A thread's next step: its request, or on to its next yield."""
+        if thread.pending is None:
+            self._go_on(thread)
+        elif not self._moment():
+            if thread.pending[0] == "nothing":
+                thread.pending = None
+            else:
+                self._make_step(thread, thread.pending)
+
+    def _idle(self) -> None:
+        """All wait: an event comes, or the body has rested, or the date moves."""
+        if self._moment():
+            return
+        resting = [thread for thread in self._threads if thread.rests]
+        for thread in resting:
+            thread.rests = False
+        if resting:
+            self._sources.clear()
+            return
+        due = [it.date for it in self._threads if it.date is not None and it.date > self.date and not it.has_ended]
+        if not due:
+            waiting = ", ".join(f"T{it.number}" for it in self._threads if not it.has_ended)
+            raise _Stuck(f"stuck: {waiting} wait for good")
+        delta, self.date = min(due) - self.date, min(due)
+        self._call(MACHINE, "tick", {"delta": delta})
+
+    def run(self, body: Callable[["Bench"], Steps]) -> None:
+        """Runs the body to its end."""
+        first = Thread(BODY)
+        first.steps = body(self)
+        self._go_on(first)
+        self._threads.insert(0, first)
+        self._open()
+        while not first.has_ended:
+            thread = self._next()
+            if thread is None:
+                self._idle()
+            else:
+                self._step_of(thread)
+
+
+def _text(choices: Choices) -> str:
+    return ", ".join(f"{name} @ {step}" for step, name in choices)
+
+
+def _read(choices: str) -> Choices:
+    parts = [part.split(" @ ") for part in choices.split(", ") if part]
+    return tuple((int(step), name) for name, step in parts)
+
+
+def _lists(arrivals: int, limit: int) -> Iterator[Tuple[Choices, List[Choices]]]:
+    """The lists of events, fewest first; whoever runs one adds those that it leads to."""
+    queue: Deque[Choices] = deque([()])
+    for _ in range(limit):
+        if not queue:
+            return
+        chosen = queue.popleft()
+        more: List[Choices] = []
+        yield chosen, more
+        if len(chosen) < arrivals:
+            queue.extend(more)
+
+
+def explore(
+    body: Callable[[Bench], Steps], arrivals: int = 2, runs: int = 100000, choices: Optional[str] = None
+) -> Explored:
+    """Runs the body with each list of up to so many events, fewest first, up to the first run that raises or is stuck;
+    with `choices`, as a failure names it, with that list alone."""
+    outcomes: Counter[str] = Counter()
+    count = 0
+    first = _read(choices) if choices is not None else None
+    for chosen, more in _lists(arrivals if first is None else 0, runs):
+        chosen = chosen if first is None else first
+        bench, count = Bench(chosen), count + 1
+        try:
+            bench.run(body)
+        except Exception as why:  # pylint: disable=broad-except
+            texts = (bench.kernel.trace(), bench.kernel.scenario()) if bench._kernel is not None else ("", "")
+            return Explored(True, f"{type(why).__name__}: {why}", _text(chosen), *texts, count, dict(outcomes))
+        outcomes["; ".join(bench.said)] += 1
+        more += [(*chosen, choice) for choice in bench.offered]
+        bench.kernel.close()
+    return Explored(False, "", "", "", "", count, dict(outcomes))

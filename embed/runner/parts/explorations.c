@@ -1,0 +1,176 @@
+/*
+ * Part of evlsim_runner.c: explorations. A list of events is a node: its parent's list and one event more, at a later
+ * moment. Nodes are run in the order in which they were found, so those of fewer events first.
+ */
+
+static uint64_t digest_of(const char *text) {
+  uint64_t digest = UINT64_C(0xcbf29ce484222325);
+  for (; *text != 0; text++) digest = (digest ^ (uint8_t)*text) * UINT64_C(0x100000001b3);
+  return digest;
+}
+
+/* Counts the outcome of a run. */
+static void note_outcome(enum ending ending) {
+  char text[OUTCOME_BYTES];
+  memcpy(text, run->said, sizeof text);
+  size_t length = strlen(text);
+  if (ending == FAILED) {
+    snprintf(text + length, sizeof text - length, "FAILED: %.*s", (int)(sizeof text - length - 9), run->why);
+  }
+  uint64_t digest = digest_of(text);
+  for (uint32_t each = 0; each < kept->outcomes; each++) {
+    if (kept->outcome[each].digest != digest || strcmp(kept->outcome[each].text, text) != 0) continue;
+    kept->outcome[each].lists++;
+    return;
+  }
+  if (kept->outcomes == OUTCOMES) return;
+  struct outcome *outcome = &kept->outcome[kept->outcomes++];
+  outcome->digest = digest;
+  outcome->lists = 1;
+  memcpy(outcome->text, text, sizeof text);
+  write_choices(outcome->choices, sizeof outcome->choices);
+}
+
+static void conclude(enum ending ending) {
+  note_outcome(ending);
+  if (ending != FAILED) return;
+  if (kept->limits.goes_on) return;
+  kept->explored.failed = true;
+  if (!kept->limits.quiet) report_failure();
+}
+
+/* The list of a node. */
+static void take_choices(uint32_t at) {
+  kept->choice_count = kept->node[at].depth;
+  for (unsigned each = kept->choice_count; each > 0; each--) {
+    struct choice choice = {kept->node[at].step, kept->node[at].source};
+    kept->choices[each - 1] = choice;
+    at = kept->node[at].parent;
+  }
+}
+
+/* Adds the nodes that a run led to: one event more, at each of its moments. */
+static bool add_nodes(uint32_t parent) {
+  unsigned depth = kept->node[parent].depth + 1u;
+  for (uint32_t each = 0; depth <= kept->limits.arrivals && each < kept->candidates * SOURCES; each++) {
+    const struct candidate *candidate = &kept->candidate[each / SOURCES];
+    unsigned source = each % SOURCES;
+    if ((candidate->sources >> source & 1) == 0) continue;
+    if (kept->nodes == NODES) return false;
+    struct node node = {parent, candidate->step, (uint16_t)source, (uint16_t)depth};
+    kept->node[kept->nodes++] = node;
+  }
+  return true;
+}
+
+/* Begins with the list that has no events. */
+static void begin_round(void) {
+  struct node root = {0, 0, 0, 0};
+  kept->node[0] = root;
+  kept->nodes = 1;
+  kept->outcomes = 0;
+  kept->has_grown = false;
+  kept->explored.lists = 0;
+  kept->explored.left_out = 0;
+  kept->explored.rounds++;
+}
+
+/* Whether the nodes of one depth are done, and more is noted than when they began. */
+static bool has_to_begin_again(uint32_t done) {
+  bool is_level = done == kept->nodes || kept->node[done].depth != kept->node[done - 1].depth;
+  return is_level && kept->has_grown && !kept->limits.whole;
+}
+
+static void explore_all(void) {
+  begin_round();
+  for (uint32_t at = 0; at < kept->nodes && !kept->explored.failed;) {
+    if (kept->explored.runs >= kept->limits.runs) {
+      kept->explored.is_cut = true;
+      return;
+    }
+    take_choices(at);
+    kept->explored.lists++;
+    run_whole(conclude);
+    if (!add_nodes(at)) kept->explored.is_cut = true;
+    at++;
+    if (has_to_begin_again(at)) begin_round(), at = 0;
+  }
+}
+
+static void print_explored(void) {
+  const evlsim_explored *it = &kept->explored;
+  if (kept->limits.quiet) return;
+  fprintf(stderr, "%s: %s %llu lists of up to %u events, %llu runs, %llu moments left out, %u outcomes%s%s\n",
+          kept->name, it->failed ? "failed in" : "passed in", (unsigned long long)it->lists,
+          (unsigned)kept->limits.arrivals, (unsigned long long)it->runs, (unsigned long long)it->left_out,
+          (unsigned)kept->outcomes,
+          it->is_cut ? "; CUT OFF, not all were tried" : "",
+          it->sees_accesses ? "" : "; moments at calls alone, without -fsanitize=thread");
+}
+
+/* The lists of events as they are written: "line 5 @ 31, clock @ 40". */
+static bool read_choices(const char *text) {
+  kept->choice_count = 0;
+  while (*text != 0 && kept->choice_count < CHOICES) {
+    unsigned line = 0, step = 0;
+    int length = 0;
+    uint32_t source = UINT32_MAX;
+    if (sscanf(text, "line %u @ %u%n", &line, &step, &length) == 2 && length > 0) {
+      source = line;
+    } else if (sscanf(text, "clock @ %u%n", &step, &length) == 1 && length > 0) {
+      source = 1u << 16;
+    } else if (sscanf(text, "turn @ %u%n", &step, &length) == 1 && length > 0) {
+      source = 2u << 16;
+    } else {
+      return false;
+    }
+    struct choice choice = {step, source | IS_NAMED};
+    kept->choices[kept->choice_count++] = choice;
+    text += length;
+    text += strspn(text, ", ");
+  }
+  return *text == 0;
+}
+
+/* The variables are again as before: what is to outlast a run is EVLSIM_KEPT, or an outcome. */
+static int end_exploring(evlsim_explored *explored) {
+  restore_variables();
+  kept->explored.outcomes = kept->outcomes;
+  if (explored != NULL) *explored = kept->explored;
+  drop_variables();
+  return kept->explored.failed ? EXIT_FAILURE : EXIT_SUCCESS;
+}
+
+int evlsim_test_as(void (*body)(void), const char *name) {
+  begin(body, name, NULL);
+  run_whole(conclude);
+  return end_exploring(NULL);
+}
+
+int evlsim_replay_as(void (*body)(void), const char *name, const char *choices) {
+  begin(body, name, NULL);
+  if (!read_choices(choices)) {
+    fprintf(stderr, "evlsim: no list of events: %s\n", choices);
+    return EXIT_FAILURE;
+  }
+  run_whole(conclude);
+  if (!kept->explored.failed) fprintf(stderr, "%s passed with %s\n", name, choices);
+  return end_exploring(NULL);
+}
+
+int evlsim_explore_as(void (*body)(void), const char *name, const evlsim_limits *limits, evlsim_explored *explored) {
+  const char *replayed = getenv("EVLSIM_REPLAY");
+  if (replayed != NULL) return evlsim_replay_as(body, name, replayed);
+  begin(body, name, limits);
+  kept->offers = true;
+  explore_all();
+  print_explored();
+  return end_exploring(explored);
+}
+
+const char *evlsim_outcome(uint32_t place, uint64_t *lists, const char **choices) {
+  if (kept == NULL || place >= kept->outcomes) return NULL;
+  if (lists != NULL) *lists = kept->outcome[place].lists;
+  if (choices != NULL) *choices = kept->outcome[place].choices;
+  return kept->outcome[place].text;
+}

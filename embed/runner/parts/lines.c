@@ -1,0 +1,99 @@
+/*
+ * Part of evlsim_runner.c: interrupt lines with the driver's handlers, stalls, and in-band work.
+ */
+
+static int request(unsigned irq, bool is_oob, int callback, irq_handler_t handle, void *device) {
+  struct handler *handler = new_handler();
+  if (irq == 0 || irq > UINT16_MAX || handler == NULL || callback < 0) return -EINVAL;
+  at_call();
+  evlsim_call call = evlsim_call_request((uint16_t)irq, is_oob ? EVLSIM_OOB : EVLSIM_INBAND, (uint8_t)callback, 0);
+  evlsim_answer answer = do_call(caller(), call);
+  if (evlsim_is_done(answer)) {
+    struct handler made = {true, false, is_oob, (uint8_t)callback, (uint16_t)irq, handle, device};
+    *handler = made;
+  }
+  go_on();
+  return error_of(answer);
+}
+
+int request_irq(unsigned irq, irq_handler_t handler, unsigned long flags, const char *name, void *device) {
+  (void)name;
+  expect_run("request_irq");
+  return request(irq, (flags & IRQF_OOB) != 0, take_callback(), handler, device);
+}
+
+int evlsim_request(unsigned line, bool is_oob, uint8_t callback) {
+  expect_run("evlsim_request");
+  return request(line, is_oob, callback, NULL, NULL);
+}
+
+const void *free_irq(unsigned irq, void *device) {
+  expect_run("free_irq");
+  at_call();
+  for (int each = 0; each < HANDLERS; each++) {
+    struct handler *it = &run->handlers[each];
+    if (!it->is_used || it->is_timer || it->element != irq || it->device != device) continue;
+    it->is_used = false;
+    (void)do_call(caller(), evlsim_call_free((uint16_t)irq, it->is_oob ? EVLSIM_OOB : EVLSIM_INBAND));
+  }
+  go_on();
+  return device;
+}
+
+void irq_post_inband(unsigned irq) {
+  expect_run("irq_post_inband");
+  (void)call_core(evlsim_call_post(EVLSIM_INBAND, (uint16_t)irq));
+}
+
+void evlsim_arrive(unsigned line) {
+  expect_run("evlsim_arrive");
+  (void)call_core(evlsim_call_arrive((uint16_t)line));
+}
+
+void evlsim_stall_stage(bool is_oob) {
+  expect_run("a stall");
+  run->is_stalled[is_oob] = true;
+  (void)call_core(evlsim_call_stall(is_oob ? EVLSIM_OOB : EVLSIM_INBAND));
+}
+
+void evlsim_unstall_stage(bool is_oob) {
+  expect_run("an unstall");
+  run->is_stalled[is_oob] = false;
+  (void)call_core(evlsim_call_unstall(is_oob ? EVLSIM_OOB : EVLSIM_INBAND));
+}
+
+bool evlsim_is_stalled(bool is_oob) { return run->is_stalled[is_oob]; }
+
+/* In-band work: a line of the in-band stage, behind all that a driver would request, does what is pending. */
+static irqreturn_t do_works(int irq, void *device) {
+  (void)irq, (void)device;
+  while (run->first_work != NULL) {
+    struct evl_work *work = run->first_work;
+    run->first_work = work->next;
+    work->is_pending = false;
+    (void)work->handler(work);
+  }
+  return IRQ_HANDLED;
+}
+
+void evl_init_work(struct evl_work *work, int (*handler)(struct evl_work *work)) {
+  expect_run("evl_init_work");
+  work->handler = handler;
+  work->is_pending = false;
+  work->next = NULL;
+  if (run->work_line != 0) return;
+  run->work_line = 1023;
+  if (request((unsigned)run->work_line, false, take_callback(), do_works, NULL) != 0) fail("line 1023 isn't free");
+}
+
+bool evl_call_inband(struct evl_work *work) {
+  expect_run("evl_call_inband");
+  if (work->is_pending) return false;
+  work->is_pending = true;
+  work->next = NULL;
+  struct evl_work **last = &run->first_work;
+  while (*last != NULL) last = &(*last)->next;
+  *last = work;
+  (void)call_core(evlsim_call_post(EVLSIM_INBAND, (uint16_t)run->work_line));
+  return true;
+}

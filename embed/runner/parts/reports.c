@@ -1,0 +1,212 @@
+/*
+ * Part of evlsim_runner.c: what is told of a run that fails: why, the trace so far, its events as a list that replays
+ * it, and files with its scenario and its picture.
+ */
+
+static const char *awaited_name(const struct task *task, char *text, size_t size) {
+  switch (task->awaits) {
+    case NOTHING: snprintf(text, size, "it could go on, but isn't picked"); break;
+    case THE_CORE: snprintf(text, size, "an element of the core"); break;
+    case AN_END: snprintf(text, size, "the end of T%d %s", task->target, tasks[task->target].name); break;
+    case A_DATE: snprintf(text, size, "the date %llu", (unsigned long long)task->date); break;
+    case BYTES: snprintf(text, size, "bytes of xbuf %d", task->target); break;
+    case ROOM: snprintf(text, size, "room for %u bytes in xbuf %d", task->needs, task->target); break;
+    case A_GATE: snprintf(text, size, "stax %d", task->target); break;
+    case A_LOCK: snprintf(text, size, "an in-band mutex"); break;
+    case REST: snprintf(text, size, "rest"); break;
+  }
+  return text;
+}
+
+/* Whether a thread stands in the queue of an element. */
+static bool is_in_queue(int number, evlsim_awaited on, unsigned element, evlsim_way way) {
+  for (size_t place = 0; place < TASKS; place++) {
+    int64_t waiter = evlsim_see_waiter(&run->kernel, on, (uint16_t)element, way, place);
+    if (waiter == number) return true;
+    if (waiter < 0) return false;
+  }
+  return false;
+}
+
+/* The element in whose queue a thread stands, as text. */
+static const char *element_name(int number, char *text, size_t size) {
+  static const struct {
+    evlsim_awaited on;
+    evlsim_way way;
+    const char *name;
+  } queues[] = {{EVLSIM_ON_SEM, EVLSIM_IN, "sem"},         {EVLSIM_ON_FLAGS, EVLSIM_IN, "flags"},
+                {EVLSIM_ON_MUTEX, EVLSIM_IN, "mutex"},     {EVLSIM_ON_READING, EVLSIM_IN, "bytes of xbuf"},
+                {EVLSIM_ON_WRITING, EVLSIM_OUT, "room in xbuf"}};
+  snprintf(text, size, "an element of the core");
+  for (size_t each = 0; each < 5 * ELEMENTS; each++) {
+    size_t queue = each / ELEMENTS;
+    unsigned element = (unsigned)(each % ELEMENTS);
+    if (!is_in_queue(number, queues[queue].on, element, queues[queue].way)) continue;
+    snprintf(text, size, "%s %u", queues[queue].name, element);
+    if (queues[queue].on == EVLSIM_ON_MUTEX) {
+      size_t length = strlen(text);
+      snprintf(text + length, size - length, ", which T%d has", run->words[element].owner);
+    }
+    break;
+  }
+  return text;
+}
+
+/* Adds a line that says for what a task waits. */
+static void add_wait(unsigned number) {
+  char text[128];
+  const struct task *task = &tasks[number];
+  size_t length = strlen(run->why);
+  const char *name = task->awaits == THE_CORE ? element_name((int)number, text, sizeof text)
+                                              : awaited_name(task, text, sizeof text);
+  snprintf(run->why + length, sizeof run->why - length, "\n  T%u%s%s waits for %s", number, task->name[0] ? " " : "",
+           task->name, name);
+}
+
+/* All tasks wait, and nothing is due. */
+static void fail_stuck(void) {
+  bool is_late = next_due() != NEVER;
+  snprintf(run->why, sizeof run->why, "%s", is_late ? "the last date is reached" : "stuck: all threads wait for good");
+  if (run->is_stalled[1]) {
+    snprintf(run->why + strlen(run->why), sizeof run->why - strlen(run->why), "\n  the out-of-band stage is stalled");
+  }
+  for (unsigned each = BODY; each < run->made.tasks; each++) {
+    if (!tasks[each].has_ended) add_wait(each);
+  }
+  end_run(FAILED);
+}
+
+static const char *source_name(const struct source *source, char *text, size_t size) {
+  if (source->kind == A_LINE) {
+    snprintf(text, size, "line %u", source->line);
+  } else {
+    snprintf(text, size, "%s", source->kind == THE_CLOCK ? "clock" : "turn");
+  }
+  return text;
+}
+
+/* The events of a run, as a list that replays it. */
+static void write_choices(char *text, size_t size) {
+  text[0] = 0;
+  for (unsigned each = 0; each < kept->choice_count; each++) {
+    size_t length = strlen(text);
+    char name[32];
+    snprintf(text + length, size - length, "%s%s @ %u", each == 0 ? "" : ", ",
+             source_name(&run->source[kept->choices[each].source], name, sizeof name),
+             (unsigned)kept->choices[each].step);
+  }
+}
+
+static bool is_position_independent(void) {
+  extern char __executable_start[] __attribute__((weak));
+  return (uintptr_t)__executable_start > 0x10000000u;
+}
+
+/* Where in the driver an event came, by the program addr2line where it is there. */
+static void print_place(const void *place) {
+  extern char __executable_start[] __attribute__((weak));
+  char command[512], executable[256], line[256] = "";
+  ssize_t length = readlink("/proc/self/exe", executable, sizeof executable - 1);
+  if (place == NULL || length <= 0 || __executable_start == NULL) return;
+  executable[length] = 0;
+  uintptr_t at = (uintptr_t)place - 1;
+  if (is_position_independent()) at -= (uintptr_t)__executable_start;
+  snprintf(command, sizeof command, "addr2line -s -e '%s' 0x%lx 2>/dev/null", executable, (unsigned long)at);
+  FILE *answer = popen(command, "r");
+  if (answer == NULL) return;
+  bool is_known = fgets(line, sizeof line, answer) != NULL && line[0] != '?';
+  if (is_known) fprintf(stderr, ", before %.*s", (int)strcspn(line, " \n"), line);
+  pclose(answer);
+}
+
+static void print_events(void) {
+  char name[32];
+  for (unsigned each = 0; each < run->choices_made; each++) {
+    const struct place *place = &kept->place[each];
+    const struct source *source = &run->source[kept->choices[each].source];
+    fprintf(stderr, "  %s behind entry %u, in T%d %s", source_name(source, name, sizeof name), place->entries,
+            place->task, tasks[place->task].name);
+    print_place(place->code);
+    fputc('\n', stderr);
+  }
+}
+
+/* Writes the trace or the scenario of this run. */
+typedef evlsim_status text_of(evlsim_kernel *kernel, size_t start, uint8_t *out, size_t out_length, size_t *length);
+static void put_text(text_of *text, FILE *file) {
+  char part[4096];
+  size_t length = 0;
+  if (!run->is_open) return;
+  for (size_t start = 0; start == 0 || start < length; start += sizeof part) {
+    if (!evlsim_ok(text(&run->kernel, start, (uint8_t *)part, sizeof part, &length))) return;
+    fwrite(part, 1, evlsim_written(length, start, sizeof part), file);
+  }
+}
+
+/* A file of this run, in EVLSIM_FOLDER or here. */
+static void file_name(char *name, size_t size, const char *ending) {
+  const char *folder = getenv("EVLSIM_FOLDER");
+  snprintf(name, size, "%s%s%s%s", folder == NULL ? "" : folder, folder == NULL ? "" : "/", kept->name, ending);
+}
+
+static bool write_text(text_of *text, const char *name) {
+  FILE *file = run->is_open ? fopen(name, "w") : NULL;
+  if (file == NULL) return false;
+  put_text(text, file);
+  return fclose(file) == 0;
+}
+
+/* The bank of this run, where it has more callbacks than the program. */
+static bool write_bank(const char *name) {
+  FILE *file = run->opened.callbacks > PROGRAM_BANK ? fopen(name, "w") : NULL;
+  if (file == NULL) return false;
+  fputs("[[callback]]\n[[callback]]\ndo = [{ post_sem = 0 }]\n[[callback]]\ndo = [{ every = 2, post_sem = 0 }]\n"
+        "[[callback]]\ndo = [{ propagate = true }]\n[[callback]]\ndo = [{ post_oob = 4 }]\n"
+        "[[callback]]\ndo = [{ post_flags = 0, bits = 1 }]\n[[callback]]\naccepts = 2\ndo = [{ stop_timer = 0 }]\n",
+        file);
+  for (unsigned each = PROGRAM_BANK - 1; each < run->opened.callbacks; each++) fputs("[[callback]]\n", file);
+  return fclose(file) == 0;
+}
+
+/* Draws the trace by the program lab, where it is there. */
+static bool draw(const char *trace, const char *picture) {
+  char command[2048];
+  const char *lab = getenv("EVLSIM_LAB");
+  snprintf(command, sizeof command, "'%s' draw '%s' >'%s' 2>/dev/null", lab == NULL ? "lab" : lab, trace, picture);
+  if (system(command) == 0) return true;
+  unlink(picture);
+  return false;
+}
+
+static void write_files(void) {
+  char scenario[512], bank_name[512], trace[512], picture[512];
+  file_name(scenario, sizeof scenario, ".toml");
+  file_name(bank_name, sizeof bank_name, ".bank.toml");
+  file_name(trace, sizeof trace, ".trace");
+  file_name(picture, sizeof picture, ".svg");
+  if (!write_text(evlsim_scenario, scenario) || !write_text(evlsim_trace, trace)) return;
+  bool has_bank = write_bank(bank_name);
+  fprintf(stderr, "scenario: %s%s%s\n", scenario, has_bank ? ", with the bank " : "", has_bank ? bank_name : "");
+  if (draw(trace, picture)) {
+    fprintf(stderr, "picture: %s\n", picture);
+  } else {
+    fprintf(stderr, "picture: none, there is no program lab on the path (lab draw %s >%s draws it)\n", trace, picture);
+  }
+}
+
+/* All that there is to say of a run that failed. */
+static void report_failure(void) {
+  char choices[256];
+  write_choices(choices, sizeof choices);
+  fprintf(stderr, "%s FAILED: %s\n", kept->name, run->why);
+  if (run->choices_made > 0) fprintf(stderr, "events:\n");
+  print_events();
+  fprintf(stderr, "trace:\n");
+  put_text(evlsim_trace, stderr);
+  if (kept->choice_count > 0) {
+    fprintf(stderr, "as a test of its own:\n  int main(void) { return evlsim_replay(%s, \"%s\"); }\n", kept->name,
+            choices);
+  }
+  write_files();
+  fflush(stderr);
+}

@@ -1,0 +1,171 @@
+/*
+ * Part of evlsim_runner.c: one run, here or in a process of its own, and what ends it from outside: signals and
+ * sanitizers.
+ */
+
+extern void __sanitizer_set_death_callback(void (*callback)(void)) __attribute__((weak));
+
+static void *run_body(void *nothing) {
+  kept->body();
+  return nothing;
+}
+
+/* What is told where the driver's own code crashes: asserts, bad addresses, a stack that is full. */
+static void on_signal(int number, siginfo_t *how, void *context) {
+  (void)context;
+  if (run == NULL || !run->is_on) {
+    signal(number, SIG_DFL);
+    raise(number);
+    return;
+  }
+  int full = number == SIGSEGV ? guarded_by(how->si_addr) : -1;
+  run->is_on = false;
+  if (full >= 0) {
+    snprintf(run->why, sizeof run->why, "the stack of T%d %s is full (%d bytes)", full, tasks[full].name, STACK_BYTES);
+  } else {
+    snprintf(run->why, sizeof run->why, "T%d %s ended by signal %d, %s", run->now, tasks[run->now].name, number,
+             strsignal(number));
+  }
+  report_failure();
+  signal(number, SIG_DFL);
+  raise(number);
+}
+
+static void on_death(void) {
+  if (run == NULL || !run->is_on) return;
+  run->is_on = false;
+  snprintf(run->why, sizeof run->why, "T%d %s ended by a sanitizer, as above", run->now, tasks[run->now].name);
+  report_failure();
+}
+
+static void on_exit_call(void) {
+  if (run == NULL || !run->is_on) return;
+  run->is_on = false;
+  snprintf(run->why, sizeof run->why, "T%d %s calls exit", run->now, tasks[run->now].name);
+  report_failure();
+  _exit(EXIT_FAILURE);
+}
+
+static void catch_crashes(void) {
+  static const int signals[] = {SIGSEGV, SIGBUS, SIGFPE, SIGILL, SIGABRT};
+  static stack_t other;
+  struct sigaction action;
+  memset(&action, 0, sizeof action);
+  action.sa_sigaction = on_signal;
+  action.sa_flags = SA_SIGINFO | SA_ONSTACK | SA_NODEFER;
+  if (__sanitizer_set_death_callback != NULL) __sanitizer_set_death_callback(on_death);
+  other.ss_sp = pages(STACK_BYTES, MAP_PRIVATE);
+  other.ss_size = STACK_BYTES;
+  sigaltstack(&other, NULL);
+  atexit(on_exit_call);
+  for (size_t each = has_sanitizer() ? 4 : 0; each < 5; each++) sigaction(signals[each], &action, NULL);
+}
+
+/* Makes a run that is new. */
+static void begin_run(void) {
+  memset(run, 0, sizeof *run);
+  run->interrupted = -1;
+  run->sleepers = -1;
+  run->inband = BODY;
+  kept->candidates = 0;
+  run->is_on = true;
+  (void)make_task(be_idle, NULL, "idle");
+  (void)make_task(run_body, NULL, "body");
+}
+
+/* Runs the body with the choices that are kept; how it ended. */
+static enum ending run_here(void) {
+  begin_run();
+  run->now = BODY;
+  change_to(NULL, &tasks[BODY]);
+  run->is_on = false;
+  kept->explored.runs++;
+  kept->explored.steps += run->step;
+  return run->ending;
+}
+
+static void end_kernel(void) {
+  if (run->is_open) evlsim_close(&run->kernel);
+  run->is_open = false;
+}
+
+/* What is done with a run when it has ended, by whoever has its memory. */
+static void finish_run(enum ending ending, void (*conclude)(enum ending)) {
+  if (ending == ENDED && run->choices_made < kept->choice_count) {
+    snprintf(run->why, sizeof run->why, "a chosen event didn't come: a body that isn't the same in each run?");
+    ending = FAILED;
+  }
+  kept->ending = ending;
+  if (ending != BEGINS_AGAIN) conclude(ending);
+  end_kernel();
+}
+
+/* A run in a process of its own; all that is kept is shared with it. */
+static void run_apart(void (*conclude)(enum ending)) {
+  fflush(NULL);
+  kept->ending = FAILED;
+  pid_t child = fork();
+  int status = 0;
+  if (child == 0) {
+    finish_run(run_here(), conclude);
+    fflush(NULL);
+    _exit(0);
+  }
+  if (child < 0 || waitpid(child, &status, 0) != child || status != 0) {
+    kept->ending = FAILED;
+    kept->explored.failed = true;
+  }
+}
+
+/* Runs until the board has all that the run makes. */
+static void run_whole(void (*conclude)(enum ending)) {
+  unsigned again = 0;
+  do {
+    if (again++ == 1000) {
+      fprintf(stderr, "%s FAILED: its elements aren't the same each time\n", kept->name);
+      kept->explored.failed = true;
+      return;
+    }
+    if (kept->limits.forks) {
+      run_apart(conclude);
+    } else {
+      restore_variables();
+      finish_run(run_here(), conclude);
+    }
+  } while (kept->ending == BEGINS_AGAIN);
+}
+
+static void take_limits(const evlsim_limits *limits) {
+  if (limits != NULL) kept->limits = *limits;
+  evlsim_limits *it = &kept->limits;
+  if (it->arrivals == 0) it->arrivals = 2;
+  if (it->arrivals > CHOICES) it->arrivals = CHOICES;
+  if (it->runs == 0) it->runs = 1000000;
+  if (it->history == 0) it->history = 10000;
+  if (it->steps == 0) it->steps = 1000000;
+  if (it->until == 0) it->until = NEVER - 1;
+  /* Their own data would lie among the program's variables. */
+  bool is_static = is_variable((const char *)(const void *)stdout);
+  if (has_sanitizer() || is_static) it->forks = true;
+}
+
+static void begin(void (*body)(void), const char *name, const evlsim_limits *limits) {
+  if (kept != NULL) munmap(kept, sizeof *kept);
+  bool is_first = run == NULL;
+  kept = pages(sizeof *kept, MAP_SHARED);
+  if (is_first) {
+    run = pages(sizeof *run, MAP_PRIVATE);
+    tasks = pages(TASKS * sizeof *tasks, MAP_PRIVATE);
+    catch_crashes();
+    /* Each run takes a kernel's memory and gives it back: the system needn't have it in between. */
+    mallopt(M_TRIM_THRESHOLD, 1 << 26);
+    mallopt(M_MMAP_THRESHOLD, 1 << 26);
+  }
+  for (int each = 0; each < TASKS; each++) make_stack(&tasks[each]);
+  kept->name = name;
+  kept->body = body;
+  kept->explored.sees_accesses = has_hooks;
+  take_limits(limits);
+  (void)bank();
+  keep_variables();
+}

@@ -1,0 +1,241 @@
+/*
+ * Part of evlsim_runner.c: what a run has, and what is kept from run to run.
+ */
+
+enum {
+  TASKS = 64,
+  STACK_BYTES = 1 << 18,
+  HANDLERS = 64,
+  ELEMENTS = 64,
+  XBUFS = 16,
+  MUTEXES = 32,
+  GROUPS = 16,
+  STAXES = 16,
+  SOURCES = 16,
+  CHOICES = 64,
+  QUEUE = 1 << 12,
+  CANDIDATES = 1 << 20,
+  NODES = 1 << 24,
+  TOUCHED = 1 << 16,
+  OUTCOMES = 1 << 12,
+  OUTCOME_BYTES = 512,
+  PROGRAM_BANK = 8,
+  IDLE = 0,
+  BODY = 1
+};
+#define NEVER UINT64_MAX
+#define FIRST_FD 0x4000
+#define IS_NAMED (1u << 31) /* a choice whose source is told by what it is */
+
+/* Why a task can't go on. */
+enum awaited {
+  NOTHING,
+  THE_CORE,
+  AN_END,
+  A_DATE,
+  BYTES,
+  ROOM,
+  A_GATE,
+  A_LOCK,
+  REST
+};
+
+/* A thread as a coroutine; its number is its thread's on the board. */
+struct task {
+  void *at; /* where its stack stands while another task runs */
+  char *stack;
+  void *fake_stack;
+  void *(*run)(void *);
+  void *value;
+  void *argument;
+  void (*simple)(void *);
+  const void *wanted; /* the lock that it waits for */
+  uint64_t date;      /* till when it waits: NEVER without a deadline */
+  uint64_t slice;
+  uint64_t left; /* of the slice */
+  enum awaited awaits;
+  int error;  /* its own errno while another task runs */
+  int target; /* the element or the task that it waits for */
+  unsigned needs;
+  unsigned held; /* how many mutexes and staxes it has */
+  uint32_t staxes;
+  uint16_t group;
+  uint8_t policy;
+  uint8_t prio;
+  bool has_ended;
+  bool is_attached;
+  bool is_oob;
+  bool in_handler;
+  char name[24];
+};
+
+/* A callback on a line or in a timer, with the driver's handler, if it has one. */
+struct handler {
+  bool is_used;
+  bool is_timer;
+  bool is_oob;
+  uint8_t callback;
+  uint16_t element;
+  irq_handler_t handle;
+  void *device;
+};
+
+/* Handlers that are to be called, by their places, one after another. */
+struct due {
+  unsigned first, last;
+  uint8_t place[QUEUE];
+};
+
+struct timer {
+  bool is_made;
+  int group; /* the flag group of whoever reads it */
+  uint64_t date;
+  uint64_t interval;
+  uint64_t ticks;
+  struct evl_timer *core;
+};
+
+struct word {
+  int owner; /* -1: nobody */
+  bool is_claimed;
+  bool is_recursive;
+  bool has_ceiling;
+  unsigned depth;
+  uint8_t ceiling;
+};
+
+struct gate {
+  bool is_oob;
+  int sem; /* where out-of-band threads wait */
+  unsigned count;
+  unsigned waiting;
+};
+
+/* What a source is. */
+enum source_kind { A_LINE, THE_CLOCK, A_TURN };
+struct source {
+  enum source_kind kind;
+  uint16_t line;
+  unsigned left;
+  void (*device)(void *);
+  void *it;
+};
+
+/* A moment at which a source's event may come, and which sources could have one. */
+struct candidate {
+  uint32_t step;
+  uint32_t sources;
+};
+struct choice {
+  uint32_t step;
+  uint32_t source;
+};
+/* Where a chosen event came. */
+struct place {
+  const void *code;
+  int task;
+  unsigned entries;
+};
+struct node {
+  uint32_t parent;
+  uint32_t step;
+  uint16_t source;
+  uint16_t depth;
+};
+
+/* How a run ended. */
+enum ending { GOES_ON, ENDED, FAILED, BEGINS_AGAIN };
+
+/* The elements that a run is opened with, as earlier runs made them. */
+struct elements {
+  unsigned tasks, sems, groups_of_flags, xbufs, mutexes, groups, callbacks;
+  uint32_t sem[ELEMENTS];
+  uint32_t flags[ELEMENTS];
+  evlsim_rings rings[XBUFS];
+  evlsim_mutex mutex[MUTEXES];
+  uint8_t group[GROUPS];
+};
+
+/* A run: all of it is new for each. */
+struct run {
+  evlsim_kernel kernel;
+  bool is_open;
+  bool is_on;
+  bool in_oob_handler;
+  bool is_stalled[2];
+  enum ending ending;
+  int now;           /* the task that runs */
+  int inband;        /* the task that has the in-band stage */
+  int interrupted;   /* the in-band task on which a handler runs, or -1 */
+  unsigned paused;   /* how many tasks are interrupted by an event that was chosen */
+  const char *below; /* the locals of a handler lie below this place of its task's stack */
+  uint64_t date;
+  struct elements made;
+  struct elements opened;
+  struct handler handlers[HANDLERS];
+  struct timer timers[ELEMENTS];
+  struct word words[MUTEXES];
+  struct gate gates[STAXES];
+  unsigned gates_made;
+  bool blocks[XBUFS]; /* whether a cross-buffer's calls wait */
+  int sleepers; /* the semaphore that nobody puts, or -1 */
+  int work_line;
+  struct evl_work *first_work;
+  struct due oob_due;
+  struct due inband_due;
+  bool sources_open;
+  unsigned sources;
+  struct source source[SOURCES];
+  uint32_t step;
+  unsigned entries;
+  unsigned choices_made;
+  char why[512];
+  char said[OUTCOME_BYTES];
+  size_t said_length;
+};
+
+struct outcome {
+  uint64_t digest;
+  uint64_t lists;
+  char text[OUTCOME_BYTES];
+  char choices[256];
+};
+
+/* What handlers, and threads that go before an interrupted one, were seen to touch: by 8 bytes, a bit for each byte. */
+struct touched {
+  uint64_t place;
+  uint8_t read;
+  uint8_t written;
+};
+
+/* What is kept from run to run, also where each run has a process of its own. */
+struct kept {
+  struct elements known;
+  const char *name;
+  void (*body)(void);
+  evlsim_limits limits;
+  evlsim_explored explored;
+  struct choice choices[CHOICES];
+  unsigned choice_count;
+  bool offers; /* whether candidates are noted */
+  bool has_grown;
+  enum ending ending;
+  uint32_t candidates;
+  uint32_t nodes;
+  uint32_t touches;
+  uint32_t outcomes;
+  struct place place[CHOICES];
+  struct touched touched[TOUCHED];
+  struct outcome outcome[OUTCOMES];
+  struct candidate candidate[CANDIDATES];
+  struct node node[NODES];
+};
+
+static struct run *run;
+static struct kept *kept;
+static struct task *tasks;
+static void *outside; /* where the stack of whoever began the run stands */
+static const void *outside_stack;
+static size_t outside_bytes;
+static void *outside_fake;
+static bool has_hooks; /* whether the driver is compiled with -fsanitize=thread */
