@@ -11,7 +11,7 @@
 extern "C" {
 #endif
 
-/* The callbacks of the program (docs/use/SCENARIOS.md, "The bank"). */
+/* The callbacks of the program (docs/use/SCENARIOS.md, "The callbacks of the bank"). */
 #define EVLSIM_PROGRAM_BANK 8u
 #define EVLSIM_NO_ROWS {{0, 0, 0, 0}, {0, 0, 0, 0}, {0, 0, 0, 0}, {0, 0, 0, 0}}
 #define EVLSIM_ONE_ROW(every, action, element, bits) \
