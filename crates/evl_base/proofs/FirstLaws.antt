@@ -1,11 +1,8 @@
 -- The first of the best: found one by one, it is the first that may go before each.
 use Rattle.std.proofs.Common.{◌≡◌, ◌⊎◌, inl, inr, Bool, true, false, cond, ◌&&◌, List, [], ◌∷◌, ◌++◌, Option, Some, None, if◌then◌else◌, refl, sym, ap, ◌∙◌, subst}
 use Rattle.std.specs.List.{list_all, find}
+use Rattle.std.proofs.Math.Bool.{and-true}
 use Rattle.evl_base.specs.Firsts.{best, better}
-
-and_true : (b : Bool) → (b && true) ≡ b
-and_true true = refl
-and_true false = refl
 
 module _ {A : Type 0} where
   either_by : (p : Bool) (a b d : A) → (if p then Some a else Some b) ≡ Some d → (Some a ≡ Some d) ⊎ (Some b ≡ Some d)
@@ -90,7 +87,7 @@ module _ {A : Type 0} (before : A → A → Bool) where
     all_best d (x ∷ xs) m e =
         elim (best before xs) as (λ o. best before xs ≡ o → better before (Some x) o ≡ Some m → (before d x && list_all (before d) xs) ≡ before d m) [
           | None ↦ λ is f. let same : x ≡ m = cc in
-              ap (λ l. before d x && list_all (before d) l) (none_is xs is) ∙ and_true (before d x) ∙ ap (before d) same
+              ap (λ l. before d x && list_all (before d) l) (none_is xs is) ∙ and-true (before d x) ∙ ap (before d) same
           | Some k ↦ λ is f. ap (λ b. before d x && b) (all_best d xs k is) ∙ all_step d x k m (before x k) refl f
         ] refl e
 

@@ -3,7 +3,7 @@ use Rattle.std.proofs.Common.{◌≡◌, ◌≢◌, ℕ, suc, zero, ◌+◌, ◌
 use Rattle.std.specs.List.{AllByRecursion}
 use Rattle.std.proofs.lemmas.Bool.{eq-eqb, eqb-false, eqb-true, lt-ltb, ltb-false, ltb-true, ne_eqb}
 use Rattle.std.proofs.lemmas.List.{get_or-set_same, length-set, set-get_or, set-set}
-use Rattle.std.proofs.lemmas.Option.{same_Some}
+use Rattle.std.proofs.lemmas.Option.{same_Some, none-some}
 use Rattle.evl_pipeline.proofs.PortLaws.{within}
 use Rattle.evl_clock.specs.declared.agenda.Entry.{Entry}
 use Rattle.evl_clock.specs.Agenda.{IsOrdered, agenda_from, with_date, entry, first_entry as first, is_before, without_date, place_of, with_entry}
@@ -145,9 +145,6 @@ all-mapped P Q (x ∷ xs) f h = (f x h.0, all-mapped P Q xs f h.1)
 at_place : (P : Entry → Type 0) (n m t : ℕ) → n ≡ m → P (entry n t) → P (entry m t)
 at_place P n m t e h = subst (λ k. P (entry k t)) e h
 
-nothing_there : (t : ℕ) → None ≡ Some t → ⊥
-nothing_there t e = cc
-
 -- what holds of each date with its place holds of each entry, and the other way round
 pub all-from : (P : Entry → Type 0) (n : ℕ) (dates : List (Option ℕ)) → ((k t : ℕ) → slice_index_or dates k None ≡ Some t → P (entry (n + k) t)) → AllByRecursion P (agenda_from n dates)
 all-from P n [] h = tt
@@ -157,8 +154,8 @@ all-from P n (Some date ∷ dates) h =
     (all-from P (n + 1) dates (λ k t e. at_place P (n + suc k) (n + 1 + k) t (omega arith) (h (suc k) t e)))
 
 pub from-all : (P : Entry → Type 0) (n : ℕ) (dates : List (Option ℕ)) → AllByRecursion P (agenda_from n dates) → (k t : ℕ) → slice_index_or dates k None ≡ Some t → P (entry (n + k) t)
-from-all P n [] h k t e = absurd (nothing_there t e)
-from-all P n (None ∷ dates) h zero t e = absurd (nothing_there t e)
+from-all P n [] h k t e = absurd (none-some t e)
+from-all P n (None ∷ dates) h zero t e = absurd (none-some t e)
 from-all P n (None ∷ dates) h (suc k) t e = at_place P (n + 1 + k) (n + suc k) t (omega arith) (from-all P (n + 1) dates h k t e)
 from-all P n (Some date ∷ dates) h zero t e =
     at_place P n (n + 0) t (omega arith) (subst (λ d. P (entry n d)) (same_Some date t e) (from-placed P (entry n date) (agenda_from (n + 1) dates) h).0)
@@ -192,7 +189,7 @@ pub from-written : (n : ℕ) (dates : List (Option ℕ)) (k t : ℕ) → slice_i
     → agenda_from n (slice_set dates k (Some t)) ≡ with_entry (entry (n + k) t) (agenda_from n dates)
 from-written n [] k t e inside = absurd (omega arith)
 from-written n (None ∷ dates) zero t e inside = moved n (n + 0) t (agenda_from (n + 1) dates) (omega arith)
-from-written n (Some date ∷ dates) zero t e inside = absurd (nothing_there date (sym e))
+from-written n (Some date ∷ dates) zero t e inside = absurd (none-some date (sym e))
 from-written n (None ∷ dates) (suc k) t e inside =
     from-written (n + 1) dates k t e (omega arith) ∙ moved (n + 1 + k) (n + suc k) t (agenda_from (n + 1) dates) (omega arith)
 from-written n (Some date ∷ dates) (suc k) t e inside =
@@ -318,7 +315,7 @@ length-from n (Some date ∷ dates) = omega (arith, length-from (n + 1) dates, l
 pub from-none : (n : ℕ) (dates : List (Option ℕ)) → ((k : ℕ) → slice_index_or dates k None ≡ None) → agenda_from n dates ≡ []
 from-none n [] h = refl
 from-none n (None ∷ dates) h = from-none (n + 1) dates (λ k. h (suc k))
-from-none n (Some date ∷ dates) h = absurd (nothing_there date (sym (h 0)))
+from-none n (Some date ∷ dates) h = absurd (none-some date (sym (h 0)))
 
 -- the agenda without one place, and with a date of that place again
 

@@ -4,6 +4,7 @@ use Rattle.std.specs.List.{AllByRecursion}
 use Rattle.std.proofs.lemmas.Bool.Decides.{nat_tests}
 use Rattle.std.proofs.lemmas.List.{get_or_append_left, get_or_default, get_or-append_right, length-map, length-replicate, length-set, set-append_left, set-append_right, set-set}
 use Rattle.std.proofs.lemmas.List.Quantifiers.{position-Some}
+use Rattle.std.proofs.lemmas.Option.{same_Some}
 use Rattle.evl_pipeline.proofs.PortLaws.{at-map, at-none, map-set, within}
 use Rattle.evl_clock.specs.declared.agenda.Entry.{Entry}
 use Rattle.evl_clock.specs.declared.due.Item.{Item}
@@ -30,9 +31,6 @@ same_timer p n false e is = absurd (cc)
 same_deadline : (p n : ℕ) (q : Bool) → nat_lt p timer_count ≡ q → (if q then timer p else deadline (p - timer_count)) ≡ deadline n → p ≡ timer_count + n
 same_deadline p n true e is = absurd (cc)
 same_deadline p n false e is = let past : timer_count ≤ p = grind (arith, nat_tests) in omega (arith, past, ap slot is)
-
-some_same : (a b : Item) → Some a ≡ Some b → a ≡ b
-some_same a b e = cc
 
 none_some : (o : Option Item) (a : Item) → o ≡ None → o ≡ Some a → ⊥
 none_some o a e f = cc
@@ -136,7 +134,7 @@ module _ {C : Type 0} where
       by true later = let is : c.now < at.date = grind (arith, nat_tests) in absurd (none_some (next_due c) one (is-none c (all-later c xs room at h f is)) e)
       by false due =
           let is : at.date ≤ c.now = grind (arith, nat_tests) in
-          record { at = at; stands = f; item_is = some_same (item_at at.place) one (sym (is-next c (item_at at.place) (next-first c xs room at h f is)) ∙ e) }
+          record { at = at; stands = f; item_is = same_Some (item_at at.place) one (sym (is-next c (item_at at.place) (next-first c xs room at h f is)) ∙ e) }
 
   -- what is kept of all places but one
   abbrev pub Others : Clock C → ℕ → List Entry → Type 0

@@ -3,6 +3,7 @@ use Rattle.std.proofs.Common.{◌≡◌, ◌≢◌, ℕ, zero, suc, max, ◌<◌
 use Rattle.std.specs.Option.{option_and, option_map_or}
 use Rattle.std.proofs.lemmas.Bool.{false≢true, eqb-true}
 use Rattle.std.proofs.lemmas.List.{length-set, get_or-set_same, get_or-set_other}
+use Rattle.evl_base.proofs.Plain.{eqb-same as same}
 use Rattle.evl_base.specs.declared.mutex_kind.MutexKind.{MutexKind}
 use Rattle.evl_mutex.specs.declared.waiter.Waiter.{Waiter}
 use Rattle.evl_mutex.specs.declared.mutex_record.MutexRecord.{MutexRecord}
@@ -15,7 +16,6 @@ use Rattle.evl_mutex.specs.Owners.{Owners, IsSound, rank_of}
 use Rattle.evl_mutex.specs.Lending.{IsNearlyRight, IsOrderly, IsRight, rank_at}
 use Rattle.evl_mutex.specs.Views.{ahead_in, mutex_of, mutexes_of, AreNoted, AreStored, OwnersAreThere, looked_up, looked_up_at, noted_behind, unnoted}
 use Rattle.evl_mutex.proofs.ListLaws.{map-set}
-use Rattle.evl_mutex.proofs.ChainLaws.{same}
 use Rattle.evl_mutex.proofs.MutexLaws.{waits-first, first_of, drop-owner, waits-moved, stands-queues}
 use Rattle.evl_mutex.proofs.NotedLaws.{behind-at, inherited-alike, not_noted}
 use Rattle.evl_mutex.proofs.SoundLaws.{all-set, all-at, here, stood}

@@ -1,6 +1,7 @@
 -- A walk to a thread ends behind the one that is linked to it.
 use Rattle.std.proofs.Common.{◌≡◌, ◌≢◌, ℕ, suc, zero, ◌<◌, ◌≤◌, ◌==◌, Bool, true, false, ◌||◌, List, [], ◌∷◌, length, Option, Some, None, is_some, refl, sym, ap, ◌∙◌, subst, arith}
 use Rattle.std.proofs.lemmas.Bool.{false≢true, eqb-true, ne_eqb}
+use Rattle.std.proofs.Math.Bool.{or-true}
 use Rattle.evl_base.proofs.Plain.{eqb-same}
 use Rattle.evl_bitmap.specs.NumberSet.{NumberSet, contains}
 use Rattle.evl_sched.specs.declared.place.Place.{Place}
@@ -13,10 +14,6 @@ abbrev rest : List ℕ → List ℕ
 rest [] = []
 rest (t ∷ ts) = ts
 
-or_true : (b : Bool) → (b || true) ≡ true
-or_true true = refl
-or_true false = refl
-
 module _ (links : List (Option ℕ)) (before n : ℕ) (linked : next_in links (cell_of before) ≡ Some n) where
   first_behind : (ts : List ℕ) → IsChain links (cell_of before) ts → is_in ts n ≡ true
   first_behind [] e = let no : Some n ≡ None = sym linked ∙ e in cc
@@ -27,7 +24,7 @@ module _ (links : List (Option ℕ)) (before n : ℕ) (linked : next_in links (c
 
   in-rest : (ts : List ℕ) → is_in (rest ts) n ≡ true → is_in ts n ≡ true
   in-rest [] e = e
-  in-rest (t ∷ ts) e = ap (λ b. (t == n) || b) e ∙ or_true (t == n)
+  in-rest (t ∷ ts) e = ap (λ b. (t == n) || b) e ∙ or-true (t == n)
 
   -- it isn't the first of a chain in which the other stands
   follows : (c : ℕ) (ts : List ℕ) → IsChain links c ts → is_in ts before ≡ true → is_in (rest ts) n ≡ true

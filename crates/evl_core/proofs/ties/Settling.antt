@@ -1,5 +1,6 @@
 -- A thread that gives the kernel back owes the ties: where it made no step on a word, and where it left one.
 use Rattle.std.proofs.Common.{◌≡◌, ℕ, Bool, Option, Some, None, sym, ap, ◌∙◌, subst}
+use Rattle.std.proofs.lemmas.Option.{same_Some}
 use Rattle.evl_kernel.specs.state.States.{State}
 use Rattle.evl_kernel.specs.histories.Histories.{History}
 use Rattle.evl_words.specs.MutexWorld.{MutexKind, step_word}
@@ -11,9 +12,6 @@ use Rattle.evl_core.specs.words.Noted.{Found, HasTaken, IsSettled, Notes, ceilin
 use Rattle.evl_core.specs.rule.Ties.{AreTied, StandsNoted}
 use Rattle.evl_core.proofs.rule.TieRule.{noted}
 use Rattle.evl_core.proofs.ties.TieVisits.{OthersStay, TiesStay, settled_none, settled_noted}
-
-same_history : (x y : History) → Some x ≡ Some y → x ≡ y
-same_history x y e = cc
 
 -- the ties stay where the records do
 pub stay_same : (ceilings : ℕ → Bool) (s t : State) → t ≡ s → TiesStay ceilings s t
@@ -27,7 +25,7 @@ module _ {C : Type 0} (h : History) where
   -- no step on a word was made
   pub settled_fresh : (hand : CoreHand C) (after : State) → taken_in hand ≡ Some h → note_in hand ≡ None → TiesStay (ceilings_in hand) h.state after → IsSettled hand after
   settled_fresh hand after taken fresh stay g is i word stands =
-      let same : h ≡ g = same_history h g (sym taken ∙ is) in
+      let same : h ≡ g = same_Some h g (sym taken ∙ is) in
       settled_none (ceilings_in hand) h.state after stay i word (subst (λ (z : History × Option Noted). StandsNoted (ceilings_in hand) z.0.state i z.1 word) (λ j. (sym same j, fresh j)) stands)
 
   -- what stood of the mutex at the first step on its word
@@ -40,6 +38,6 @@ module _ {C : Type 0} (h : History) where
   settled_noting old new after i kind so taken n mine others =
       subst (λ (f : ℕ → Bool). (g : History) → taken_in new ≡ Some g → (j word : ℕ) → StandsNoted f g.state j (note_in new) word → AreTied f after j word) (ap (λ f. ceilings_of f) (sym n.first))
       (λ g is j word stands.
-      let same : h ≡ g = same_history h g (sym (n.taken ∙ taken) ∙ is) in
+      let same : h ≡ g = same_Some h g (sym (n.taken ∙ taken) ∙ is) in
       settled_noted (ceilings_in old) h.state after i (step_word n.found (number_of old) (part_of old i) kind) mine others j word
       (subst (λ (z : History × Option Noted). StandsNoted (ceilings_in old) z.0.state j z.1 word) (λ k. (sym same k, n.note k)) stands))

@@ -1,6 +1,6 @@
 -- What is known where nothing refuses that a wait begins.
 use Rattle.std.proofs.Common.{◌≡◌, ◌≢◌, ℕ, ◌==◌, Bool, true, false, not, ◌&&◌, Option, Some, None, if◌then◌else◌, refl, ◌∙◌}
-use Rattle.std.proofs.lemmas.Bool.{false≢true, eqb-false}
+use Rattle.std.proofs.lemmas.Bool.{false≢true, eqb-false, not-true}
 use Rattle.evl_base.proofs.Plain.{some-none}
 use Rattle.evl_base.specs.declared.numbers.MutexId.{MutexId}
 use Rattle.evl_base.specs.declared.numbers.ThreadId.{ThreadId}
@@ -33,16 +33,12 @@ no_ring : (b : Bool) → (if b then Some Deadlock else None) ≡ None → b ≡ 
 no_ring true e = absurd (some-none _ e)
 no_ring false e = refl
 
-not_true : (b : Bool) → not b ≡ true → b ≡ false
-not_true true e = absurd (false≢true e)
-not_true false e = refl
-
 -- a claim
 named_free : (s : State) (thread : ℕ) (id : MutexId) (owner : ThreadId) → may_name s thread (wanted.Mutex id owner) ≡ true → would_ring s thread (wanted.Mutex id owner) ≡ false
     → IsFree (elements s) thread (wanted.Mutex id owner)
 named_free s thread id owner may ring =
     let all = three (is_attached s.sched owner.0) (not (owner.0 == thread)) (is_open (elements s) id.0 owner.0) may in
-    (all.2, eqb-false owner.0 thread (not_true (owner.0 == thread) all.1), ring)
+    (all.2, eqb-false owner.0 thread (not-true (owner.0 == thread) all.1), ring)
 
 pub free_as : (s : State) (thread : ℕ) (wants : Wanted) → may_name s thread wants ≡ true → would_ring s thread wants ≡ false → IsFree (elements s) thread wants
 free_as s thread (wanted.Sem id) may ring = tt

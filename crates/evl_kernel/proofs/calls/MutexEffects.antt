@@ -3,6 +3,7 @@ use Rattle.std.proofs.Common.{◌≡◌, ◌≢◌, ◌≤◌, ◌<◌, ◌⊎�
 use Rattle.std.specs.Option.{option_map_or}
 use Rattle.std.proofs.lemmas.Bool.{false≢true, eqb-true}
 use Rattle.std.proofs.lemmas.Bool.Decides.{nat_tests}
+use Rattle.std.proofs.Math.Bool.{and-false}
 use Rattle.evl_base.specs.declared.call.Call.{Call}
 use Rattle.evl_base.specs.declared.play.Play.{Play}
 use Rattle.evl_base.specs.declared.call.Call.TheVariants.{Claim, Release, Raise, Finish}
@@ -48,7 +49,7 @@ use Rattle.evl_kernel.proofs.waiting.ProperLaws.{IsProper}
 use Rattle.evl_kernel.proofs.waiting.ProperSteps.{passed_all, proper_at}
 use Rattle.evl_kernel.proofs.waiting.WaitLaws.{index_set, wait_there}
 use Rattle.evl_kernel.proofs.waiting.WaitRecords.{index_here}
-use Rattle.evl_kernel.proofs.histories.MutexRests.{and_false, got_set}
+use Rattle.evl_kernel.proofs.histories.MutexRests.{got_set}
 
 -- what an effect leaves
 leaves_of : (P : State → Type 0) (e : Effect) (reply : Reply) (new : State) → Leaves P e → e ≡ Ok (reply, new) → P new
@@ -103,7 +104,7 @@ module _ (count : ℕ) (s : State) (h : IsProper count s) (caller : ℕ) where
           there = record {
             was = q;
             changes = record { there = here; now = changed_now s id.0 q (claimed_mutex q w owner.0) here after is; others = changed_else s id.0 q (claimed_mutex q w owner.0) here after is };
-            got = λ j t. got_set j s caller (Some (going_on on)) (ap (got_it j) idle) (and_false (is_for j on)) t;
+            got = λ j t. got_set j s caller (Some (going_on on)) (ap (got_it j) idle) (and-false (is_for j on)) t;
           }
 
           by : (b : Bool) → P (posted_if b (suspended (with_elements s after) caller on until))
@@ -227,7 +228,7 @@ module _ (count : ℕ) (s : State) (h : IsProper count s) (caller : ℕ) where
           at_next = index_here s.waits next (option_map (ended_by Done) (wait_at s next)) None (within s.waits next (going_on (Mutex id)) waits) ∙ ap (option_map (ended_by Done)) waits
 
           old_next : has_got s j next ≡ false
-          old_next = ap (got_it j) waits ∙ and_false (id.0 == j)
+          old_next = ap (got_it j) waits ∙ and-false (id.0 == j)
 
           or_false : (b : Bool) → (b && true) ≡ ((b && true) || false)
           or_false true = refl
@@ -236,7 +237,7 @@ module _ (count : ℕ) (s : State) (h : IsProper count s) (caller : ℕ) where
           by : (b : Bool) → (t == next) ≡ b → got_it j (wait_of (slice_set s.waits next (option_map (ended_by Done) (wait_at s next))) t) ≡ (((id.0 == j) && (next == t)) || got_it j (wait_at s t))
           by true e = subst (λ (k : ℕ). got_it j (wait_of (slice_set s.waits next (option_map (ended_by Done) (wait_at s next))) k) ≡ (((id.0 == j) && (next == k)) || got_it j (wait_at s k))) (sym (eqb-true t next e))
               (ap (got_it j) at_next ∙ or_false (id.0 == j) ∙ ap (λ b. ((id.0 == j) && b) || false) (sym (eq-eqb next next refl)) ∙ ap (λ b. ((id.0 == j) && (next == next)) || b) (sym old_next))
-          by false e = ap (got_it j) (wait_there s next (option_map (ended_by Done) (wait_at s next)) t e) ∙ ap (λ b. b || got_it j (wait_at s t)) (sym (ap (λ b. (id.0 == j) && b) (ne_eqb next t (λ x. false≢true (sym e ∙ eq-eqb t next (sym x)))) ∙ and_false (id.0 == j)))
+          by false e = ap (got_it j) (wait_there s next (option_map (ended_by Done) (wait_at s next)) t e) ∙ ap (λ b. b || got_it j (wait_at s t)) (sym (ap (λ b. (id.0 == j) && b) (ne_eqb next t (λ x. false≢true (sym e ∙ eq-eqb t next (sym x)))) ∙ and-false (id.0 == j)))
 
       all_told : (q : MutexRecorded) (after : Elements) (reply : Reply) → slice_get (elements s).mutexes id.0 ≡ Some q → reply ≡ handed_told (released_mutex q) → record (elements s) { mutexes = slice_set (elements s).mutexes id.0 (released_mutex q).after } ≡ after
           → (o : Option ℕ) → (released_mutex q).next ≡ o → P reply (all_woken (with_elements s after) (Rattle.evl_kernel.specs.calls.Semaphores.one_served o))

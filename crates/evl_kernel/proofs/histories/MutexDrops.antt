@@ -2,6 +2,7 @@
 use Rattle.std.proofs.Common.{◌≡◌, ◌≤◌, ◌⊎◌, inl, inr, ⊎_elim, ℕ, ◌==◌, ◌&&◌, Bool, true, false, not, List, ◌++◌, Option, Some, None, is_some, Result, Ok, Err, slice_get, slice_set, slice_index_or, refl, sym, ap, ◌∙◌, subst, arith}
 use Rattle.std.specs.Option.{option_map_or}
 use Rattle.std.proofs.lemmas.Bool.{false≢true, eqb-true}
+use Rattle.std.proofs.Math.Bool.{and-false}
 use Rattle.evl_base.specs.Limits.{thread_limit}
 use Rattle.evl_base.specs.declared.call.Call.{Call}
 use Rattle.evl_base.specs.declared.refusal.Refusal.{Refusal}
@@ -44,7 +45,7 @@ use Rattle.evl_kernel.proofs.calls.ThreadSteps.{leaves-threads}
 use Rattle.evl_kernel.proofs.waiting.WaitRecords.{idle_away}
 use Rattle.evl_kernel.proofs.waiting.ProperSteps.{Passed, kept_by_each, kept_by_own, passed_all, proper_at}
 use Rattle.evl_kernel.proofs.waiting.WaitLaws.{index_set, wait_there}
-use Rattle.evl_kernel.proofs.histories.MutexRests.{and_false, IsElse, else_at, else_got, got_set, left-both, mutexes_stay, Since, since_after, since_all_woken, since_expired, since_same, since_touched, went_same, with_mutexes}
+use Rattle.evl_kernel.proofs.histories.MutexRests.{IsElse, else_at, else_got, got_set, left-both, mutexes_stay, Since, since_after, since_all_woken, since_expired, since_same, since_touched, went_same, with_mutexes}
 use Rattle.evl_kernel.proofs.settling.PlayWalk.{KeptByPlays, settles_holds}
 
 -- Proper waits, and of mutex n nothing but this since a state
@@ -196,7 +197,7 @@ module _ (n count : ℕ) (few : count ≤ thread_limit) (s : State) (h : IsPrope
           v = Some (going_on on)
 
           waits_now : Since n s (suspended (with_elements s after) caller on until)
-          waits_now = ((with_mutexes n s after same).0, got_set n s caller (Some (going_on on)) idle_got (and_false (is_for n on)))
+          waits_now = ((with_mutexes n s after same).0, got_set n s caller (Some (going_on on)) idle_got (and-false (is_for n on)))
 
           by : (b : Bool) → Since n s (posted_if b (suspended (with_elements s after) caller on until))
           by true = waits_now
@@ -216,7 +217,7 @@ module _ (n count : ℕ) (few : count ≤ thread_limit) (s : State) (h : IsPrope
   got_none (Some w) e = by w.on w.outcome e
     where
       by : (on : Awaited) (o : Option Reply) → option_map_or (got_mutex on) o false ≡ false → (is_for n on && option_map_or is_done o false) ≡ false
-      by on None e = and_false (is_for n on)
+      by on None e = and-false (is_for n on)
       by (Sem id) (Some r) e = refl
       by (Flags id) (Some r) e = refl
       by (Writing id way) (Some r) e = refl
@@ -225,14 +226,14 @@ module _ (n count : ℕ) (few : count ≤ thread_limit) (s : State) (h : IsPrope
         where
           done_not : (r : Reply) → got_mutex (Mutex id) r ≡ false → ((id.0 == n) && is_done r) ≡ false
           done_not Done e = absurd (false≢true (sym e))
-          done_not Begun e = and_false (id.0 == n)
-          done_not (Count c) e = and_false (id.0 == n)
-          done_not (Bits b) e = and_false (id.0 == n)
-          done_not (Number k) e = and_false (id.0 == n)
-          done_not (Bytes b) e = and_false (id.0 == n)
-          done_not (Chosen t) e = and_false (id.0 == n)
-          done_not (Handed next more) e = and_false (id.0 == n)
-          done_not TimedOut e = and_false (id.0 == n)
+          done_not Begun e = and-false (id.0 == n)
+          done_not (Count c) e = and-false (id.0 == n)
+          done_not (Bits b) e = and-false (id.0 == n)
+          done_not (Number k) e = and-false (id.0 == n)
+          done_not (Bytes b) e = and-false (id.0 == n)
+          done_not (Chosen t) e = and-false (id.0 == n)
+          done_not (Handed next more) e = and-false (id.0 == n)
+          done_not TimedOut e = and-false (id.0 == n)
 
   since_finish : (keep : Bool) → has_got_mutex (wait_at s caller) ≡ false → Leaves (Since n s) (finish s caller keep)
   since_finish keep other = by (outcome_of (wait_at s caller))

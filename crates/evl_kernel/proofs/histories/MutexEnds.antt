@@ -2,6 +2,7 @@
 use Rattle.std.proofs.Common.{◌≡◌, ◌≤◌, ◌⊎◌, ⊎_elim, ℕ, ◌==◌, eq-eqb, ◌&&◌, ◌||◌, Bool, true, false, not, List, [], ◌∷◌, Option, Some, None, is_some, option_map, Result, Ok, Err, slice_get, slice_set, slice_index_or, if◌then◌else◌, refl, sym, ap, ◌∙◌, subst, arith}
 use Rattle.std.specs.Option.{option_map_or}
 use Rattle.std.proofs.lemmas.Bool.{false≢true, eq-eqb, eqb-true, or_right}
+use Rattle.std.proofs.Math.Bool.{or-true}
 use Rattle.evl_base.specs.Limits.{thread_limit}
 use Rattle.evl_base.specs.Board.{board_fits}
 use Rattle.evl_base.specs.declared.board.Board.{Board}
@@ -47,10 +48,6 @@ use Rattle.evl_kernel.proofs.waiting.WaitRecords.{idle_away}
 use Rattle.evl_kernel.proofs.histories.MutexRests.{IsElse, else_at, else_woken, mutexes_stay}
 use Rattle.evl_kernel.proofs.histories.MutexDrops.{other_step}
 
-or_true : (b : Bool) → (b || true) ≡ true
-or_true true = refl
-or_true false = refl
-
 abbrev AllRightly : State → Type 0
 AllRightly s = (t : ℕ) → ends_rightly (wait_at s t) ≡ true
 
@@ -68,11 +65,11 @@ else_rightly (Some w) other outcome = by w.on (λ n. other n)
 
 done_rightly : (o : Option Wait) → ends_rightly (option_map (ended_by Done) o) ≡ true
 done_rightly None = refl
-done_rightly (Some w) = or_true (not (is_of_mutex w.on))
+done_rightly (Some w) = or-true (not (is_of_mutex w.on))
 
 timed_rightly : (o : Option Wait) → ends_rightly (option_map (ended_by TimedOut) o) ≡ true
 timed_rightly None = refl
-timed_rightly (Some w) = or_true (not (is_of_mutex w.on))
+timed_rightly (Some w) = or-true (not (is_of_mutex w.on))
 
 rightly_set : (s : State) (thread : ℕ) (v : Option Wait) → AllRightly s → ends_rightly v ≡ true → (t : ℕ) → ends_rightly (wait_of (slice_set s.waits thread v) t) ≡ true
 rightly_set s thread v all new t = by (t == thread) refl
@@ -187,7 +184,7 @@ module _ (count : ℕ) (few : count ≤ thread_limit) where
         waits after = by (is_past s.clock.now until)
           where
             there : AllRightly (suspended (with_elements s after) caller on until)
-            there = rightly_set s caller (Some (going_on on)) all (or_true (not (is_of_mutex on)))
+            there = rightly_set s caller (Some (going_on on)) all (or-true (not (is_of_mutex on)))
 
             by : (b : Bool) → AllRightly (posted_if b (suspended (with_elements s after) caller on until))
             by true = there

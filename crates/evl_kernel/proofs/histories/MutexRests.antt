@@ -3,6 +3,7 @@ use Rattle.std.proofs.Common.{◌≡◌, ◌≤◌, ◌⊎◌, ⊎_elim, ℕ, �
 use Rattle.std.specs.Option.{option_map_or}
 use Rattle.std.proofs.lemmas.Bool.{false≢true, eq-eqb, eqb-true, or_right}
 use Rattle.std.proofs.lemmas.Option.{same_Some}
+use Rattle.std.proofs.Math.Bool.{and-false}
 use Rattle.evl_base.specs.Limits.{thread_limit}
 use Rattle.evl_base.specs.declared.reply.Reply.{Reply}
 use Rattle.evl_base.specs.declared.reply.Reply.TheVariants.{TimedOut}
@@ -34,10 +35,6 @@ use Rattle.evl_kernel.proofs.state.SetLaws.{set_here, set_there}
 use Rattle.evl_kernel.proofs.waiting.ProperLaws.{IsProper}
 use Rattle.evl_kernel.proofs.waiting.WaitLaws.{index_set, wait_there}
 
-pub and_false : (b : Bool) → (b && false) ≡ false
-and_false true = refl
-and_false false = refl
-
 -- A wait that isn't for mutex n
 abbrev pub IsElse : ℕ → Option Wait → Type 0
 IsElse n wait = option_map_or (λ (w : Wait). is_for n w.on) wait false ≡ false
@@ -53,10 +50,10 @@ module _ (n : ℕ) where
 
   timed_got : (o : Option Wait) → got_it n (option_map (ended_by TimedOut) o) ≡ false
   timed_got None = refl
-  timed_got (Some w) = and_false (is_for n w.on)
+  timed_got (Some w) = and-false (is_for n w.on)
 
   going_got : (w : Wait) → w.outcome ≡ None → got_it n (Some w) ≡ false
-  going_got w e = ap (λ (o : Option Reply). is_for n w.on && option_map_or is_done o false) e ∙ and_false (is_for n w.on)
+  going_got w e = ap (λ (o : Option Reply). is_for n w.on && option_map_or is_done o false) e ∙ and-false (is_for n w.on)
 
   -- one thread's wait is set, where neither the old one nor the new one got the mutex
   pub got_set : (s : State) (thread : ℕ) (v : Option Wait) → got_it n (wait_at s thread) ≡ false → got_it n v ≡ false → (t : ℕ) → got_it n (wait_of (slice_set s.waits thread v) t) ≡ got_it n (wait_at s t)

@@ -3,6 +3,7 @@ use Rattle.std.proofs.Common.{◌≡◌, ◌≢◌, ◌<◌, ◌==◌, ◌||◌,
 use Rattle.std.specs.Option.{option_map_or}
 use Rattle.std.proofs.lemmas.Bool.{false≢true, eqb-false, eqb-true, lt-ltb}
 use Rattle.std.proofs.lemmas.List.{get_or-set_other}
+use Rattle.std.proofs.Math.Bool.{or-true, or-false}
 use Rattle.evl_base.proofs.Plain.{eqb-swap}
 use Rattle.evl_base.specs.Limits.{thread_limit}
 use Rattle.evl_bitmap.specs.NumberSet.{NumberSet, contains, insert, remove}
@@ -24,21 +25,13 @@ use Rattle.evl_kernel.specs.state.ElementsViews.{ElementsView, owners_of}
 use Rattle.evl_kernel.specs.state.Records.{AreGiven, AreTold, RanksAreKept}
 use Rattle.evl_kernel.proofs.calls.HandLaws.{attached-low}
 
-or_true : (a : Bool) → (a || true) ≡ true
-or_true true = refl
-or_true false = refl
-
-or_false : (a : Bool) → (a || false) ≡ a
-or_false true = refl
-or_false false = refl
-
 -- a thread of a board is noted where it is added
 pub noted-inserted : (set : NumberSet) (thread t : ℕ) → is_noted (insert set thread) t ≡ (is_noted set t || (t == thread))
 noted-inserted set thread t = ap (λ b. b || not (nat_lt t thread_limit)) (contains-insert set thread t) ∙ turned (thread == t) (contains set t) (not (nat_lt t thread_limit)) (t == thread) (eqb-swap thread t)
   where
     turned : (a b c d : Bool) → a ≡ d → ((a || b) || c) ≡ ((b || c) || d)
-    turned true b c d e = sym (ap (λ x. (b || c) || x) (sym e) ∙ or_true (b || c))
-    turned false b c d e = sym (ap (λ x. (b || c) || x) (sym e) ∙ or_false (b || c))
+    turned true b c d e = sym (ap (λ x. (b || c) || x) (sym e) ∙ or-true (b || c))
+    turned false b c d e = sym (ap (λ x. (b || c) || x) (sym e) ∙ or-false (b || c))
 
 -- where one that was noted is given its rank, it need be noted no more
 pub given-more : (set : NumberSet) (o : Owners) (r p : Ranked) (n : ℕ) → AreGivenBut (is_noted set) r o → p.sched ≡ r.sched
@@ -90,7 +83,7 @@ given-told o p r thread was noting now one given noted t free attached = given t
         by false is = absurd (eqb-false t thread is e)
 
     other : t ≢ thread
-    other e = absurd (false≢true (sym free ∙ noted.more t (one t ∙ ap (λ b. was t || b) (there e) ∙ or_true (was t))))
+    other e = absurd (false≢true (sym free ∙ noted.more t (one t ∙ ap (λ b. was t || b) (there e) ∙ or-true (was t))))
 
 -- the calls that change one thread's seat
 module _ {n : ℕ} (o : Owners) (q p : Ranked) (thread : ℕ) (kept : RanksAreKept n o q) where

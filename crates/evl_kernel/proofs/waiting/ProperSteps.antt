@@ -5,6 +5,7 @@ use Rattle.std.proofs.lemmas.Bool.{false≢true, and_parts, eqb-true}
 use Rattle.std.proofs.lemmas.Bool.Decides.{nat_tests}
 use Rattle.std.proofs.lemmas.List.{length-set, length-replicate}
 use Rattle.std.proofs.lemmas.Option.{none-some, same_Some}
+use Rattle.std.proofs.Math.Bool.{and-true, and-false}
 use Rattle.evl_base.proofs.Plain.{eqb-swap_false, some-none}
 use Rattle.evl_base.specs.Limits.{thread_limit}
 use Rattle.evl_base.specs.Board.{board_fits}
@@ -50,18 +51,10 @@ use Rattle.evl_kernel.proofs.waiting.WaitLaws.{ProperBeside, proper_all, proper_
 use Rattle.evl_kernel.proofs.waiting.WaitRecords.{away_after, away_of, idle_away, index_here, index_there}
 use Rattle.evl_kernel.proofs.waiting.ProperLaws.{IsProper, is_woken, kept_of, proper_asked, proper_expired}
 
-and_true : (b : Bool) → (b && true) ≡ b
-and_true true = refl
-and_true false = refl
-
-and_false : (b : Bool) → (b && false) ≡ false
-and_false true = refl
-and_false false = refl
-
 -- A thread whose wait doesn't go on is ready as its stage says, has no deadline, and stands nowhere.
 module _ (n : ℕ) (few : n ≤ thread_limit) (s : State) (h : IsProper n s) (thread : ℕ) (over : over_if (wait_at s thread)) where
   pub ready_as : is_ready s.sched thread ≡ is_oob (stage_of s.sched thread)
-  ready_as = h.proper.ready thread ∙ (ap (λ (c : Bool). is_oob (stage_of s.sched thread) && not c) over ∙ and_true (is_oob (stage_of s.sched thread)))
+  ready_as = h.proper.ready thread ∙ (ap (λ (c : Bool). is_oob (stage_of s.sched thread) && not c) over ∙ and-true (is_oob (stage_of s.sched thread)))
 
   no_date : (date : ℕ) → deadline_at s.clock thread ≡ Some date → ⊥
   no_date date is = false≢true (sym over ∙ h.proper.dated thread date is)
@@ -235,7 +228,7 @@ module _ (n : ℕ) (few : n ≤ thread_limit) where
           ready_ : (t : ℕ) (b : Bool) → (t == caller) ≡ b → is_ready (unready s.sched caller) t ≡ (is_oob (stage_of s.sched t) && not (block (wait_of (slice_set s.waits caller (Some (going_on on))) t)))
           ready_ t true same =
               subst (λ (m : ℕ). is_ready (unready s.sched caller) m ≡ (is_oob (stage_of s.sched m) && not (block (wait_of (slice_set s.waits caller (Some (going_on on))) m)))) (sym (eqb-true t caller same))
-              (unready-itself s.sched caller ∙ sym (ap (λ (o : Option Wait). is_oob (stage_of s.sched caller) && not (block o)) mine ∙ and_false (is_oob (stage_of s.sched caller))))
+              (unready-itself s.sched caller ∙ sym (ap (λ (o : Option Wait). is_oob (stage_of s.sched caller) && not (block o)) mine ∙ and-false (is_oob (stage_of s.sched caller))))
           ready_ t false ne =
               unready-other s.sched caller t ne ∙ (h.proper.ready t ∙ ap (λ (o : Option Wait). is_oob (stage_of s.sched t) && not (block o)) (sym (theirs t ne)))
 

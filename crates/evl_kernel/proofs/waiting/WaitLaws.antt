@@ -3,6 +3,7 @@ use Rattle.std.proofs.Common.{◌≡◌, ℕ, zero, suc, ◌==◌, ◌⊎◌, in
 use Rattle.std.specs.Option.{option_map, option_map_or}
 use Rattle.std.proofs.lemmas.Bool.{false≢true, eqb-true, or_from}
 use Rattle.std.proofs.lemmas.Option.{none-some}
+use Rattle.std.proofs.Math.Bool.{and-true}
 use Rattle.evl_base.proofs.Plain.{eqb-swap_false}
 use Rattle.evl_base.specs.declared.reply.Reply.{Reply}
 use Rattle.evl_clock.specs.Clocks.{deadline_at}
@@ -56,10 +57,6 @@ proper_all s h = record {
   dated = λ t date. h.dated t date refl;
 }
 
-and_true : (b : Bool) → (b && true) ≡ b
-and_true true = refl
-and_true false = refl
-
 -- Whatever becomes of a thread that stands nowhere, where its wait doesn't go on, it is ready as its stage says, and it has
 -- no deadline.
 module _ (s : State) (thread : ℕ) (others : ℕ → Bool) (h : ProperBeside s (λ t. (thread == t) || others t)) (away : (on : Awaited) → stands_for (elements s) on thread ≡ false)
@@ -100,7 +97,7 @@ module _ (s : State) (thread : ℕ) (others : ℕ → Bool) (h : ProperBeside s 
       is_ready_ : (t : ℕ) → others t ≡ false → (b : Bool) → (t == thread) ≡ b → is_ready sched t ≡ (is_oob (stage_of sched t) && not (is_blocked freed t))
       is_ready_ t other true is =
           subst (λ (m : ℕ). is_ready sched m ≡ (is_oob (stage_of sched m) && not (is_blocked freed m))) (sym (eqb-true t thread is))
-          (anew.itself ∙ sym (ap (λ (c : Bool). is_oob (stage_of sched thread) && not c) over ∙ and_true (is_oob (stage_of sched thread))))
+          (anew.itself ∙ sym (ap (λ (c : Bool). is_oob (stage_of sched thread) && not c) over ∙ and-true (is_oob (stage_of sched thread))))
       is_ready_ t other false ne =
           anew.others t ne ∙ (h.ready t (apart t ne other) ∙ ((λ i. is_oob (sym (anew.stages t ne) i) && not (sym (blocked_there t ne) i))))
 
