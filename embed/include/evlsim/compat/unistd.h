@@ -11,11 +11,14 @@
 #pragma redefine_extname close evlsim_close_fd
 #pragma redefine_extname usleep evlsim_usleep
 #pragma redefine_extname sleep evlsim_sleep
+/* The system's checked forms of these calls would go past the runner. */
 #include <features.h>
-#if defined(__USE_FORTIFY_LEVEL) && __USE_FORTIFY_LEVEL > 0
+#pragma push_macro("__USE_FORTIFY_LEVEL")
 #undef __USE_FORTIFY_LEVEL
 #define __USE_FORTIFY_LEVEL 0
-#endif
-#endif
 #include_next <unistd.h>
+#pragma pop_macro("__USE_FORTIFY_LEVEL")
+#else
+#include_next <unistd.h>
+#endif
 #endif
