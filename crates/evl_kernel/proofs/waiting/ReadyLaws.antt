@@ -5,7 +5,7 @@ use Rattle.std.specs.List.{find, list_all, list_any}
 use Rattle.std.specs.Option.{option_map, option_map_or}
 use Rattle.std.proofs.lemmas.Bool.Decides.{nat_tests}
 use Rattle.std.proofs.lemmas.Bool.{eqb-true}
-use Rattle.evl_base.proofs.Plain.{eqb-same}
+use Rattle.evl_base.proofs.Plain.{eqb-same as itself}
 use Rattle.evl_base.specs.declared.policy.Policy.{Policy}
 use Rattle.evl_base.specs.declared.policy.Policy.TheVariants.{Fifo, Rr, Quota, Weak}
 use Rattle.evl_base.specs.declared.stage.Stage.{Stage}
@@ -56,13 +56,13 @@ unready-other q n t ne = in-without q.ready n t ne
 
 -- What a change of one thread's seat leaves: it is ready as its stage says, and all others as they were.
 pub record ReadyAnew (old new : Sched) (n : ℕ) : Type 0 where
-  pub eqb-same : is_ready new n ≡ is_oob (stage_of new n)
+  pub itself : is_ready new n ≡ is_oob (stage_of new n)
   pub others : (t : ℕ) → (t == n) ≡ false → is_ready new t ≡ is_ready old t
   pub stages : (t : ℕ) → (t == n) ≡ false → stage_of new t ≡ stage_of old t
 
 pub anew-attached : (q : Sched) (n : ℕ) (policy : Policy) (stage : Stage) → ReadyAnew q (attached q n policy stage) n
 anew-attached q n policy stage = record {
-  eqb-same = ready-as (with_seat q n (Some (new_seat policy stage))) n;
+  itself = ready-as (with_seat q n (Some (new_seat policy stage))) n;
   others = λ t ne. ready-other (with_seat q n (Some (new_seat policy stage))) n t ne;
   stages = λ t ne. stage-attached q n policy stage t ne;
 }
@@ -74,7 +74,7 @@ nobody_sits (x ∷ xs) (suc n) = nobody_sits xs n
 
 pub anew-detached : (q : Sched) (n : ℕ) → ReadyAnew q (detached q n) n
 anew-detached q n = record {
-  eqb-same = out-itself q.ready n ∙ sym (nobody_sits q.seats n);
+  itself = out-itself q.ready n ∙ sym (nobody_sits q.seats n);
   others = λ t ne. in-without q.ready n t ne;
   stages = λ t ne. stage-detached q n t ne;
 }
@@ -82,7 +82,7 @@ anew-detached q n = record {
 -- where it was ready as its stage says already
 pub anew-policy_set : (q : Sched) (n : ℕ) (policy : Policy) → is_ready q n ≡ is_oob (stage_of q n) → ReadyAnew q (policy_set q n policy) n
 anew-policy_set q n policy was = record {
-  eqb-same = here (is_ready q n) refl;
+  itself = here (is_ready q n) refl;
   others = λ t ne. there t ne (is_ready q n);
   stages = λ t ne. stage-policy_set q n policy t;
 }
@@ -100,7 +100,7 @@ anew-policy_set q n policy was = record {
 
 pub anew-stage_set : (q : Sched) (n : ℕ) (stage : Stage) → is_ready q n ≡ is_oob (stage_of q n) → ReadyAnew q (stage_set q n stage) n
 anew-stage_set q n stage was = record {
-  eqb-same = here (seat_at q n);
+  itself = here (seat_at q n);
   others = λ t ne. there t ne (seat_at q n);
   stages = λ t ne. stage-stage_set q n stage t ne;
 }
@@ -156,7 +156,7 @@ in-find p (u ∷ us) n e = by (in-find p us n) (p u) e
     or_true false b h = h
 
     by : (find p us ≡ Some n → is_in us n ≡ true) → (b : Bool) → (if b then Some u else find p us) ≡ Some n → ((u == n) || is_in us n) ≡ true
-    by more true h = ap (λ (m : ℕ). (m == n) || is_in us n) (some_is h) ∙ ap (λ (c : Bool). c || is_in us n) (eqb-same n)
+    by more true h = ap (λ (m : ℕ). (m == n) || is_in us n) (some_is h) ∙ ap (λ (c : Bool). c || is_in us n) (itself n)
     by more false h = or_true (u == n) (is_in us n) (more h)
 
 picked_ready : (rank : ℕ → ℕ) (q : Sched) (n : ℕ) → picked rank q ≡ Some n → is_ready q n ≡ true
