@@ -92,7 +92,8 @@ static void end_kernel(void) {
 /* What is done with a run when it has ended, by whoever has its memory. */
 static void finish_run(enum ending ending, void (*conclude)(enum ending)) {
   if (ending == ENDED && run->choices_made < kept->choice_count) {
-    snprintf(run->why, sizeof run->why, "a chosen event didn't come: a body that isn't the same in each run?");
+    snprintf(run->why, sizeof run->why,
+             "a chosen event didn't come: a list of another build, or a body that isn't the same in each run?");
     ending = FAILED;
   }
   kept->ending = ending;
