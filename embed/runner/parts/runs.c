@@ -5,7 +5,7 @@
 
 extern void __sanitizer_set_death_callback(void (*callback)(void)) __attribute__((weak));
 
-static void *run_body(void *nothing) {
+CALLER static void *run_body(void *nothing) {
   kept->body();
   return nothing;
 }
@@ -97,6 +97,9 @@ static void finish_run(enum ending ending, void (*conclude)(enum ending)) {
     ending = FAILED;
   }
   kept->ending = ending;
+  for (int each = BODY; each < (int)run->made.tasks; each++) {
+    if (tasks[each].has_begun && !tasks[each].is_seen) note_unseen("T", each);
+  }
   if (ending != BEGINS_AGAIN) conclude(ending);
   end_kernel();
 }
