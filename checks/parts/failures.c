@@ -133,17 +133,37 @@ static void last_date(void) {
   evl_lock_stax(&stax);
 }
 
+/* A run of a list whose event doesn't come: it has a moment 500, and no moment 9000. */
+static void listed(void) {
+  static volatile int count;
+  begin();
+  evlsim_may_arrive(5, 1, NULL, NULL);
+  while (count < 500) count++;
+  evlsim_rest();
+}
+
 static const struct {
   const char *kind;
   void (*body)(void);
-} kinds[] = {{"stuck", stuck},         {"ring", ring},         {"asserted", asserted},
-             {"address", bad_address}, {"stack", full_stack},  {"for_ever", for_ever},
-             {"exit", calls_exit},     {"handler", handler_waits}, {"stalled", stalled},
-             {"mutex", mutex_kept},    {"history", last_date}};
+  const char *list;
+} kinds[] = {{"stuck", stuck, ""},
+             {"ring", ring, ""},
+             {"asserted", asserted, ""},
+             {"address", bad_address, ""},
+             {"stack", full_stack, ""},
+             {"for_ever", for_ever, ""},
+             {"exit", calls_exit, ""},
+             {"handler", handler_waits, ""},
+             {"stalled", stalled, ""},
+             {"mutex", mutex_kept, ""},
+             {"history", last_date, ""},
+             {"not_reached", listed, "line 5 @ 9000"},
+             {"turn_not_reached", listed, "turn @ 9000"},
+             {"no_source", listed, "clock @ 500"}};
 
 int main(int count, char **words) {
   for (size_t each = 0; count == 2 && each < sizeof kinds / sizeof *kinds; each++) {
-    if (strcmp(words[1], kinds[each].kind) == 0) return evlsim_test_as(kinds[each].body, words[1]);
+    if (strcmp(words[1], kinds[each].kind) == 0) return evlsim_replay_as(kinds[each].body, words[1], kinds[each].list);
   }
   return 2;
 }

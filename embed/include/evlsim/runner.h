@@ -53,7 +53,7 @@ typedef struct evlsim_explored {
   uint32_t rounds;   /* how often it began again, because a handler was seen to touch more */
   bool failed;
   bool is_cut;       /* limits.runs were made */
-  bool sees_accesses; /* whether the driver's loads and stores were seen, or its calls alone */
+  bool sees_accesses; /* whether all loads and stores were seen, or of some handler or thread its calls alone */
 } evlsim_explored;
 
 /*

@@ -80,7 +80,7 @@ __attribute__((noreturn)) static void leave(void) {
 }
 
 /* Where each task begins. */
-static void enter(void) {
+CALLER static void enter(void) {
   bool is_first = run->now == BODY && outside_stack == NULL;
   if (__sanitizer_finish_switch_fiber != NULL) {
     const void *bottom = NULL;
@@ -89,6 +89,7 @@ static void enter(void) {
     if (is_first) outside_stack = bottom, outside_bytes = size;
   }
   struct task *task = &tasks[run->now];
+  task->has_begun = true;
   finish_task(task->run(task->argument));
 }
 

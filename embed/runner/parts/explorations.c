@@ -100,12 +100,14 @@ static void explore_all(void) {
 static void print_explored(void) {
   const evlsim_explored *it = &kept->explored;
   if (kept->limits.quiet) return;
-  fprintf(stderr, "%s: %s %llu lists of up to %u events, %llu runs, %llu moments left out, %u outcomes%s%s\n",
+  fprintf(stderr, "%s: %s %llu lists of up to %u events, %llu runs, %llu moments left out, %u outcomes%s",
           kept->name, it->failed ? "failed in" : "passed in", (unsigned long long)it->lists,
           (unsigned)kept->limits.arrivals, (unsigned long long)it->runs, (unsigned long long)it->left_out,
-          (unsigned)kept->outcomes,
-          it->is_cut ? "; CUT OFF, not all were tried" : "",
-          it->sees_accesses ? "" : "; moments at calls alone, without -fsanitize=thread");
+          (unsigned)kept->outcomes, it->is_cut ? "; CUT OFF, not all were tried" : "");
+  if (!has_hooks || kept->unseen[0] != 0) {
+    fprintf(stderr, "; moments at calls alone%s%s, without -fsanitize=thread", has_hooks ? " in " : "", kept->unseen);
+  }
+  fputc('\n', stderr);
 }
 
 /* The lists of events as they are written: "line 5 @ 31, clock @ 40". */
@@ -136,6 +138,7 @@ static bool read_choices(const char *text) {
 static int end_exploring(evlsim_explored *explored) {
   restore_variables();
   kept->explored.outcomes = kept->outcomes;
+  if (kept->unseen[0] != 0) kept->explored.sees_accesses = false;
   if (explored != NULL) *explored = kept->explored;
   drop_variables();
   return kept->explored.failed ? EXIT_FAILURE : EXIT_SUCCESS;

@@ -40,7 +40,15 @@ void *evlsim_memmove(void *to, const void *from, size_t size);
 void *evlsim_memset(void *to, int byte, size_t size);
 
 void evlsim_on_init(void) { has_hooks = true; }
-void evlsim_on_entry(void *from) { (void)from; }
+
+/* Each function calls in where it begins: a handler or a thread that doesn't is compiled without the flag. */
+void evlsim_on_entry(void *from) {
+  extern const char __start_evlsim_callers[], __stop_evlsim_callers[];
+  uintptr_t at = (uintptr_t)from;
+  bool is_by_runner = at > (uintptr_t)__start_evlsim_callers && at <= (uintptr_t)__stop_evlsim_callers;
+  if (run == NULL || !run->is_on || !is_by_runner) return;
+  *(in_handler() ? &run->is_seen : &tasks[run->now].is_seen) = true;
+}
 void evlsim_on_exit(void *from) { (void)from; }
 void evlsim_on_read_range(void *at, size_t size) { see_access(at, size, false, PLACE); }
 void evlsim_on_write_range(void *at, size_t size) { see_access(at, size, true, PLACE); }

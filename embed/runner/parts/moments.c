@@ -86,7 +86,7 @@ static void at_moment(const char *address, size_t size, bool is_write, const voi
     kept->place[run->choices_made] = noted;
     unsigned source = source_of(&kept->choices[run->choices_made++]);
     if (!run->sources_open || (ready_sources() >> source & 1) == 0) {
-      fail("the chosen event can't come there: a body that isn't the same in each run?");
+      fail("the chosen event can't come there: a list of another build, or a body that isn't the same in each run?");
     }
     bring(&run->source[source]);
   }

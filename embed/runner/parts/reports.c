@@ -76,11 +76,15 @@ static void fail_stuck(void) {
   end_run(FAILED);
 }
 
-static const char *source_name(const struct source *source, char *text, size_t size) {
-  if (source->kind == A_LINE) {
-    snprintf(text, size, "line %u", source->line);
+/* Of a list that was read, an event that didn't come has no source yet: its name says what it is. */
+static const char *choice_name(const struct choice *choice, char *text, size_t size) {
+  bool is_named = (choice->source & IS_NAMED) != 0;
+  const struct source *source = is_named ? NULL : &run->source[choice->source];
+  uint32_t kind = is_named ? (choice->source & ~IS_NAMED) >> 16 : (uint32_t)source->kind;
+  if (kind == A_LINE) {
+    snprintf(text, size, "line %u", is_named ? (unsigned)(choice->source & 0xffff) : (unsigned)source->line);
   } else {
-    snprintf(text, size, "%s", source->kind == THE_CLOCK ? "clock" : "turn");
+    snprintf(text, size, "%s", kind == THE_CLOCK ? "clock" : "turn");
   }
   return text;
 }
@@ -92,7 +96,7 @@ static void write_choices(char *text, size_t size) {
     size_t length = strlen(text);
     char name[32];
     snprintf(text + length, size - length, "%s%s @ %u", each == 0 ? "" : ", ",
-             source_name(&run->source[kept->choices[each].source], name, sizeof name),
+             choice_name(&kept->choices[each], name, sizeof name),
              (unsigned)kept->choices[each].step);
   }
 }
@@ -123,9 +127,8 @@ static void print_events(void) {
   char name[32];
   for (unsigned each = 0; each < run->choices_made; each++) {
     const struct place *place = &kept->place[each];
-    const struct source *source = &run->source[kept->choices[each].source];
-    fprintf(stderr, "  %s behind entry %u, in T%d %s", source_name(source, name, sizeof name), place->entries,
-            place->task, tasks[place->task].name);
+    fprintf(stderr, "  %s behind entry %u, in T%d %s", choice_name(&kept->choices[each], name, sizeof name),
+            place->entries, place->task, tasks[place->task].name);
     print_place(place->code);
     fputc('\n', stderr);
   }

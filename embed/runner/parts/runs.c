@@ -5,7 +5,7 @@
 
 extern void __sanitizer_set_death_callback(void (*callback)(void)) __attribute__((weak));
 
-static void *run_body(void *nothing) {
+CALLER static void *run_body(void *nothing) {
   kept->body();
   return nothing;
 }
@@ -92,10 +92,14 @@ static void end_kernel(void) {
 /* What is done with a run when it has ended, by whoever has its memory. */
 static void finish_run(enum ending ending, void (*conclude)(enum ending)) {
   if (ending == ENDED && run->choices_made < kept->choice_count) {
-    snprintf(run->why, sizeof run->why, "a chosen event didn't come: a body that isn't the same in each run?");
+    snprintf(run->why, sizeof run->why,
+             "a chosen event didn't come: a list of another build, or a body that isn't the same in each run?");
     ending = FAILED;
   }
   kept->ending = ending;
+  for (int each = BODY; each < (int)run->made.tasks; each++) {
+    if (tasks[each].has_begun && !tasks[each].is_seen) note_unseen("T", each);
+  }
   if (ending != BEGINS_AGAIN) conclude(ending);
   end_kernel();
 }

@@ -25,6 +25,7 @@ enum {
 };
 #define NEVER UINT64_MAX
 #define FIRST_FD 0x4000
+#define CALLER __attribute__((noinline, section("evlsim_callers"))) /* what calls handlers and threads */
 #define IS_NAMED (1u << 31) /* a choice whose source is told by what it is */
 
 /* Why a task can't go on. */
@@ -66,6 +67,8 @@ struct task {
   bool is_attached;
   bool is_oob;
   bool in_handler;
+  bool has_begun;
+  bool is_seen; /* whether its code calls in, as -fsanitize=thread has it */
   char name[24];
 };
 
@@ -162,6 +165,7 @@ struct run {
   bool is_open;
   bool is_on;
   bool in_oob_handler;
+  bool is_seen; /* whether the code of the handler that runs calls in */
   bool is_stalled[2];
   enum ending ending;
   int now;           /* the task that runs */
@@ -220,6 +224,7 @@ struct kept {
   bool offers; /* whether candidates are noted */
   bool has_grown;
   enum ending ending;
+  char unseen[64]; /* whose loads and stores aren't seen, though those of other code are */
   uint32_t candidates;
   uint32_t nodes;
   uint32_t touches;

@@ -239,7 +239,7 @@ int evlsim_pthread_mutex_lock(pthread_mutex_t *mutex) {
   return 0;
 }
 
-static void *run_simply(void *it) {
+CALLER static void *run_simply(void *it) {
   tasks[run->now].simple(it);
   return NULL;
 }
