@@ -148,7 +148,7 @@ static void make_call(evlsim_kernel *kernel) {
   }
 }
 
-/* Leaves of a trace what stands behind the arrows, and the plays. */
+/* Leaves of a trace what is after the arrows, and the plays. */
 static size_t without_calls(char *text, size_t length) {
   size_t kept = 0;
   char *line = memchr(text, '\n', length), *end = text + length;
@@ -269,7 +269,7 @@ static void try_refusals(void) {
   call.kind = EVLSIM_CALL_FINISH + 1;
   require(evlsim_status_is(evlsim_apply(&kernel, 0, &call, NULL, 0, NULL, 0, &answer), EVLSIM_BAD_NUMBER) &&
               answer.kind.number == 3,
-          "a kind behind the last");
+          "a kind after the last");
   call = evlsim_call_stall(9);
   require(evlsim_status_is(evlsim_apply(&kernel, 0, &call, NULL, 0, NULL, 0, &answer), EVLSIM_BAD_NUMBER), "stage 9");
   require(evlsim_has(evlsim_do(&kernel, 0, evlsim_call_now()), EVLSIM_NUMBER) &&
@@ -285,7 +285,7 @@ static void try_refusals(void) {
           "a word");
   require(
       evlsim_status_is(evlsim_call_text(EVLSIM_CALL_FINISH + 1, 0, out, 8, &length), EVLSIM_BAD_NUMBER) && length == 23,
-      "a word behind the last");
+      "a word after the last");
   require(evlsim_status_is(evlsim_call_text(EVLSIM_CALL_NOW, 0, NULL, 8, &length), EVLSIM_NULL),
           "a word and a null buffer");
   require(evlsim_ok(evlsim_call_text(EVLSIM_CALL_NOW, 0, NULL, 0, &length)) && length == 3, "a word without keys");

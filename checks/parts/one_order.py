@@ -27,7 +27,7 @@ class Mutex:
         return word.released == len(self.releases)
 
     def taken(self, word, thread):
-        """The words behind a lock that comes through."""
+        """The words after a lock that comes through."""
         if word.owner is None:
             return [word._replace(owner=thread, depth=1)]
         if word.owner == thread and not word.offered and self.nests:
@@ -38,7 +38,7 @@ class Mutex:
         return [word._replace(mark=True)] if word.owner not in (None, thread) else []
 
     def refused(self, word, call):
-        """The words behind a try or a beginning that is refused."""
+        """The words after a try or a beginning that is refused."""
         if call.answer == BUSY:
             return [word] if word.owner not in (None, call.thread) else []
         if call.answer == DEADLOCK:
@@ -49,7 +49,7 @@ class Mutex:
         return [word._replace(offered=False, depth=1)] if word.owner == thread and word.offered else []
 
     def given(self, word, thread):
-        """The words behind a pass that was spent with the kernel or without it."""
+        """The words after a pass that was spent with the kernel or without it."""
         if word.owner != thread or word.offered:
             return []
         if word.depth > 1:
@@ -62,7 +62,7 @@ class Mutex:
         return [Word(release.next, release.next is not None, release.more, 0, word.released + 1)]
 
     def goes(self, word, call, phase):
-        """The words and phases behind a step of a call; the phase None is its end."""
+        """The words and phases after a step of a call; the phase None is its end."""
         step, answer, thread = call.step, call.answer, call.thread
         done = lambda words: [(it, None) for it in words]
         if step == "finish" or phase == 1:
@@ -140,7 +140,7 @@ class Search:
         self.rows = list(by_thread.values())
 
     def looked(self, places, word):
-        """The places behind all calls that only look and fit here."""
+        """The places after all calls that only look and fit here."""
         again = True
         while again:
             again = False

@@ -9,7 +9,7 @@ machine = subprocess.Popen([LAB, "live"], stdin=subprocess.PIPE, stdout=subproce
 
 
 def ask(line):
-    """The lines that answer a line: a line with # behind it is answered with itself, where they end."""
+    """The lines that answer a line: a line with # after it is answered with itself, where they end."""
     machine.stdin.write(line + "\n#\n")
     return list(iter(lambda: machine.stdout.readline().rstrip("\n"), "#"))
 

@@ -30,13 +30,13 @@ extern "C" {
 #define EVLSIM_PRINTS(place)
 #endif
 
-/* How far to go; 0 in a place is what stands behind it. */
+/* How far to go; 0 means the value that its comment names. */
 typedef struct evlsim_limits {
   uint32_t arrivals; /* how many events of sources a run may have: 2 */
   uint64_t runs;     /* how many runs are made at most: 1,000,000 */
   uint32_t history;  /* how many entries the kernel's history may have: 10,000 */
   uint32_t steps;    /* how many loads, stores and calls a run has before it is said to go on for ever: 1,000,000 */
-  uint64_t until;    /* the date behind which the clock isn't moved any more: none */
+  uint64_t until;    /* the date after which the clock isn't moved any more: none */
   bool goes_on;      /* a run that fails is an outcome, and ends nothing */
   bool whole;        /* each moment is tried, also those that can't make a difference */
   bool forks;        /* each run in a process of its own; with AddressSanitizer it is so always */
@@ -47,7 +47,7 @@ typedef struct evlsim_limits {
 typedef struct evlsim_explored {
   uint64_t runs;     /* how many runs were made, those included that were made again */
   uint64_t lists;    /* how many lists of events were tried */
-  uint64_t left_out; /* how many moments of these lists were left out, since the one behind them gives the same */
+  uint64_t left_out; /* how many moments of these lists were left out, since the one after them gives the same */
   uint64_t steps;    /* loads, stores and calls in all runs */
   uint32_t outcomes; /* how many outcomes there were: evlsim_outcome */
   uint32_t rounds;   /* how often it began again, because a handler was seen to touch more */
@@ -57,7 +57,7 @@ typedef struct evlsim_explored {
 } evlsim_explored;
 
 /*
- * Runs the body once, with no event of a source, and tells how it failed if it did: 0 or 1, for main. evlsim_explore
+ * Runs the body once, with no event of a source, and reports how it failed if it did: 0 or 1, for main. evlsim_explore
  * runs it again and again, each time with another list of events, fewest first. `limits` may be null.
  * evlsim_replay runs it with one list, as a failure names it: "line 5 @ 31, clock @ 40".
  *

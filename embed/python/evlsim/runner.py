@@ -142,7 +142,7 @@ class Bench:
         self._sources[f"line {line}"] = (times, device)
 
     def rest(self) -> Request:
-        """Waits until all others wait; behind it no source has an event."""
+        """Waits until all others wait; after it no source has an event."""
         return ("rest", "", {})
 
     def say(self, text: str) -> None:
@@ -153,7 +153,7 @@ class Bench:
     def kernel(self) -> Kernel:
         """The kernel of the run, for its see_ methods."""
         if self._kernel is None:
-            raise RuntimeError("the kernel is there behind the body's first yield")
+            raise RuntimeError("the kernel is there after the body's first yield")
         return self._kernel
 
     def put(self, sem: int) -> Answer:
@@ -305,7 +305,7 @@ def _read(choices: str) -> Choices:
 
 
 def _lists(arrivals: int, limit: int) -> Iterator[Tuple[Choices, List[Choices]]]:
-    """The lists of events, fewest first; whoever runs one adds those that it leads to."""
+    """The lists of events, fewest first; the caller that runs one adds those that it leads to."""
     queue: Deque[Choices] = deque([()])
     for _ in range(limit):
         if not queue:

@@ -110,7 +110,7 @@ int evlsim_clock_gettime(clockid_t clock, struct timespec *date) {
   return evl_read_clock(EVL_CLOCK_MONOTONIC, date);
 }
 
-/* A callback of the bank that handles each event: the program's two, then those behind its bank. */
+/* A callback of the bank that handles each event: the program's two, then those after its bank. */
 static int take_callback(void) {
   unsigned place = run->made.callbacks++;
   unsigned number = place == 0 ? 0 : place == 1 ? PROGRAM_BANK - 1 : PROGRAM_BANK + place - 2;

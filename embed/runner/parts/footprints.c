@@ -1,9 +1,9 @@
 /*
  * Part of evlsim_runner.c: what was touched, so that events are tried only where they may make a difference.
  *
- * Noted is what runs because of an event while a task stands between two of its steps: handlers, and threads that go
+ * Noted is what runs because of an event while a task is between two of its steps: handlers, and threads that go
  * before that task. A step of a task that touches nothing of this, or only reads what is only read there, gives the
- * same before such an event and behind it. So the event is tried behind such a step alone; what is noted grows from run
+ * same before such an event and after it. So the event is tried after such a step alone; what is noted grows from run
  * to run, and when it has grown the exploration begins again. Calls always count, and so does what lies on the heap.
  */
 
@@ -71,7 +71,7 @@ static bool meets_noted(const char *address, size_t size, bool is_write) {
   return false;
 }
 
-/* Whether an event before this access may give something else than behind it. */
+/* Whether an event before this access may give something else than after it. */
 static bool is_relevant(const char *address, size_t size, bool is_write) {
   if (kept->limits.whole) return true;
   if (is_constant(address)) return false;

@@ -64,7 +64,7 @@ void evlsim_unstall_stage(bool is_oob) {
 
 bool evlsim_is_stalled(bool is_oob) { return run->is_stalled[is_oob]; }
 
-/* In-band work: a line of the in-band stage, behind all that a driver would request, does what is pending. */
+/* In-band work: a line of the in-band stage, after all that a driver would request, does what is pending. */
 static irqreturn_t do_works(int irq, void *device) {
   (void)irq, (void)device;
   while (run->first_work != NULL) {

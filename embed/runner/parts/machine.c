@@ -23,7 +23,7 @@ __attribute__((noreturn, format(printf, 1, 2))) static void fail(const char *for
   va_end(values);
 }
 
-/* The callbacks: the program's, and behind them some that handle each event and do nothing. */
+/* The callbacks: the program's, and after them some that handle each event and do nothing. */
 static const evlsim_plan *bank(void) {
   static evlsim_plan plans[HANDLERS];
   if (plans[0].accepts != 0) return plans;
@@ -91,7 +91,7 @@ static void note_play(const evlsim_event *event) {
   }
 }
 
-/* A call of a thread, with no moment before it, and with nothing done behind it. */
+/* A call of a thread, with no moment before it, and with nothing done after it. */
 static evlsim_answer do_bytes(int who, evlsim_call call, const void *bytes, size_t length, void *out, size_t room) {
   open_kernel();
   evlsim_answer answer = evlsim_do_bytes(&run->kernel, (uint16_t)who, call, bytes, length, out, room);
@@ -163,7 +163,7 @@ static void run_inband_handlers(void) {
   }
 }
 
-/* What follows a call: handlers, and whoever is picked then. */
+/* What follows a call: handlers, and the task that is picked then. */
 static void go_on(void) {
   run_oob_handlers();
   if (run->in_oob_handler) return;

@@ -1,5 +1,5 @@
 /*
- * Part of evlsim_runner.c: what is told of a run that fails: why, the trace so far, its events as a list that replays
+ * Part of evlsim_runner.c: what is reported of a run that fails: why, the trace so far, its events as a list that replays
  * it, and files with its scenario and its picture.
  */
 
@@ -18,7 +18,7 @@ static const char *awaited_name(const struct task *task, char *text, size_t size
   return text;
 }
 
-/* Whether a thread stands in the queue of an element. */
+/* Whether a thread is in the queue of an element. */
 static bool is_in_queue(int number, evlsim_awaited on, unsigned element, evlsim_way way) {
   for (size_t place = 0; place < TASKS; place++) {
     int64_t waiter = evlsim_see_waiter(&run->kernel, on, (uint16_t)element, way, place);
@@ -28,7 +28,7 @@ static bool is_in_queue(int number, evlsim_awaited on, unsigned element, evlsim_
   return false;
 }
 
-/* The element in whose queue a thread stands, as text. */
+/* The element in whose queue a thread is, as text. */
 static const char *element_name(int number, char *text, size_t size) {
   static const struct {
     evlsim_awaited on;
@@ -127,7 +127,7 @@ static void print_events(void) {
   char name[32];
   for (unsigned each = 0; each < run->choices_made; each++) {
     const struct place *place = &kept->place[each];
-    fprintf(stderr, "  %s behind entry %u, in T%d %s", choice_name(&kept->choices[each], name, sizeof name),
+    fprintf(stderr, "  %s after entry %u, in T%d %s", choice_name(&kept->choices[each], name, sizeof name),
             place->entries, place->task, tasks[place->task].name);
     print_place(place->code);
     fputc('\n', stderr);

@@ -67,7 +67,7 @@ static void wait_here(void) {
   run_inband_handlers();
 }
 
-/* The next date at which something is due behind now. */
+/* The next date at which something is due after now. */
 static uint64_t next_due(void) {
   uint64_t due = NEVER;
   for (unsigned each = 1; each < run->made.tasks; each++) {
