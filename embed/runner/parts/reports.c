@@ -1,6 +1,6 @@
 /*
- * Part of evlsim_runner.c: what is reported of a run that fails: why, the trace so far, its events as a list that replays
- * it, and files with its scenario and its picture.
+ * Part of evlsim_runner.c: what is reported of a run that fails: why, the trace so far, its events as a list that
+ * replays it, and files with its scenario and its picture.
  */
 
 static const char *awaited_name(const struct task *task, char *text, size_t size) {
