@@ -82,8 +82,8 @@ void evl_init_work(struct evl_work *work, int (*handler)(struct evl_work *work))
   work->is_pending = false;
   work->next = NULL;
   if (run->work_line != 0) return;
-  run->work_line = 1023;
-  if (request((unsigned)run->work_line, false, take_callback(), do_works, NULL) != 0) fail("line 1023 isn't free");
+  run->work_line = 4095;
+  if (request((unsigned)run->work_line, false, take_callback(), do_works, NULL) != 0) fail("line 4095 isn't free");
 }
 
 bool evl_call_inband(struct evl_work *work) {
