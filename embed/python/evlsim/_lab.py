@@ -27,8 +27,8 @@ _found: List[str] = []
 
 
 def lab() -> str:
-    """Where the program lab is: what EVLSIM_LAB names, or else beside the module, in its prefix, in its checkout if it
-    was built there, or on the path."""
+    """Where the program lab is: what EVLSIM_LAB names, or else beside the module, in its checkout if it was built there,
+    in its prefix, or on the path."""
     if os.environ.get("EVLSIM_LAB"):
         return os.environ["EVLSIM_LAB"]
     if not _found:
@@ -37,15 +37,15 @@ def lab() -> str:
 
 
 def _find() -> str:
-    for place in (os.path.join(HERE, "lab"), os.path.normpath(os.path.join(HERE, "../../../../bin/lab"))):
-        if os.path.isfile(place) and os.access(place, os.X_OK):
-            return place
+    own = os.path.join(HERE, "lab")
+    if os.access(own, os.X_OK):
+        return own
     script = os.path.join(CHECKOUT, "lab")
     if os.path.isfile(script) and any(os.path.exists(os.path.join(CHECKOUT, it)) for it in BUILT):
         return script
-    on_path = shutil.which("lab")
-    if on_path and _is_lab(on_path):
-        return on_path
+    for place in (os.path.normpath(os.path.join(HERE, "../../../../bin/lab")), shutil.which("lab")):
+        if place and os.access(place, os.X_OK) and _is_lab(place):
+            return place
     built = f" ({script} help builds it)" if os.path.isfile(script) else ""
     raise NoLab(f"there is no program lab beside the module or on the path{built}: it checks, draws and goes through orders")
 

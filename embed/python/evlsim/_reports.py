@@ -122,7 +122,7 @@ def orders(
         _lab.refuse(told)
     head, *parts = re.split(r"^(?=# outcome \d+: )", told.out, flags=re.M)
     found = tuple(_outcome(part, plans) for part in parts)
-    verdict = re.sub(rf"^(lab: )?({re.escape(_lab.TEXT)}: )?", "", told.err.strip(), flags=re.M)
+    verdict = "\n".join(re.findall(rf"^(?:lab: )?{re.escape(_lab.TEXT)}: (.*)$", told.err, flags=re.M))
     numbers = {int(it) for it in re.findall(r"outcome (\d+) is against", told.err)}
     against = tuple(it for it in found if it.number in numbers)
     count = re.match(r"# (\d+) order", head)
