@@ -144,10 +144,10 @@ function policies_at(step, entries) {
   return policies;
 }
 
-/** Every order in which the callers may come. @param {Text} it */
-export async function gone_through(it, asks) {
+/** Every order in which the callers may come. @param {Text} it @param {(text: string) => void} heard */
+export async function gone_through(it, asks, heard) {
   long ||= new Runner(short.code);
-  const answer = await long.ask(['orders', FILE, ...over(it)], files_of(it), '', ORDERS_SECONDS);
+  const answer = await long.ask(['orders', FILE, ...over(it)], files_of(it), '', ORDERS_SECONDS, heard);
   const against = [...answer.err.matchAll(/outcome (\d+) is against/g)].map(found => found[1]);
   return { ...read_orders(answer.out), ...answer, asks, against,
     told: answer.status > 1 ? read_faults(answer.err, it.text, steps_of(it.text)) : [] };
