@@ -123,6 +123,19 @@ def test_entries_of_a_trace():
         assert lines == text.partition("\n")[2], name
 
 
+def test_long_history():
+    kernel = evlsim.Kernel(threads=1, sems=[0], limit=30000)
+    for _ in range(30000):
+        kernel.put(0, sem=0)
+    assert kernel.put(0, sem=0).refusal == "HistoryFull" and kernel.trace().count("\n") == 30001
+    try:
+        kernel.scenario()
+    except evlsim.Refused as refused:
+        assert "1,048,576" in str(refused)
+    else:
+        raise AssertionError("a scenario above 1 MiB was written")
+
+
 def test_answers_as_values():
     kernel = evlsim.Kernel(threads=2, sems=[0], mutexes=["ceiling 20"])
     assert not kernel.try_get(0, sem=0) and kernel.try_get(0, sem=0).refusal == "Again"
