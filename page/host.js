@@ -68,13 +68,17 @@ function page_of(words, files, input, writes, memory) {
  * @param {string[]} words
  * @param {Record<string, string | Uint8Array>} files
  * @param {string | Uint8Array} input
+ * @param {(part: Uint8Array) => void} [heard]  is given what it writes to standard error, as it comes
  */
-export function run_program(module, words, files, input) {
+export function run_program(module, words, files, input, heard) {
   /** @type {Uint8Array[][]} */
   const written = [[], []];
   /** @type {WebAssembly.Memory} */
   let memory;
-  const page = page_of(words, files, input, (file, part) => written[file - 1].push(part), () => memory.buffer);
+  const page = page_of(words, files, input, (file, part) => {
+    written[file - 1].push(part);
+    if (file === 2) heard?.(part);
+  }, () => memory.buffer);
   const instance = new WebAssembly.Instance(module, { page });
   memory = /** @type {WebAssembly.Memory} */ (instance.exports.memory);
   const status = /** @type {() => number} */ (instance.exports.page_main)();

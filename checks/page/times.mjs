@@ -31,9 +31,13 @@ async function first(page) {
     return Number(await page.browser.evaluate('document.body.dataset.at'));
   });
 }
+/** An edit that changes the first step too, so that the whole trace and picture are others each time. */
 async function edit(page, text) {
   let count = 0;
-  return least(8, () => page.browser.evaluate(`(${EDIT})(${JSON.stringify(`${text}# ${count++}\n`)})`));
+  return least(8, () => {
+    const first = text.replace('[[step]]', `[[step]]\ndo = "tick"\nwho = 0\ndelta = ${++count}\n[[step]]`);
+    return page.browser.evaluate(`(${EDIT})(${JSON.stringify(`${first}# ${count}\n`)})`);
+  });
 }
 async function against_native(page, lab) {
   const it = { words: ['play', 'big.toml'], files: { 'big.toml': Buffer.from(puts).toString('base64') } };
@@ -66,6 +70,6 @@ export async function times(page, file, lab) {
   const [here, there] = await against_native(page, lab);
   if (there) tell('1 MiB of puts, times the native program', here / there, 4, `(${here.toFixed(0)} ms)`);
   else told.push(`1 MiB of puts ${here.toFixed(0)} ms`);
-  tell('2,000 marks checked, played and drawn', await edit(page, steps(2000, PUT)), 300, 'ms');
+  tell('2,000 marks checked, played and drawn', await edit(page, steps(1999, PUT)), 300, 'ms');
   return told.join('; ');
 }

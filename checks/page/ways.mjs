@@ -196,6 +196,17 @@ async function completes(page) {
   await browser.key('Escape');
   assert.equal(await browser.evaluate(`document.getElementById('offers').hidden`), true);
   await browser.until(`document.getElementById('lines').textContent.includes('begin_get sem=0 until=none')`);
+  await page.put('[board]\nthreads = 2\nstaxes = [1]\n[[step]]\ndo = "try_lock_stax"\nwho = 0\nstax = 0\nas = "a"\n'
+    + '[[step]]\ndo = "unlock_stax"\nwho = 0\n');
+  await browser.evaluate(`(() => { const it = document.getElementById('text'); it.focus();
+    it.setSelectionRange(it.value.length, it.value.length); })()`);
+  await browser.type('pa');
+  assert.match(await page.see('offers'), /^pass = $/);
+  await browser.key('Enter');
+  await browser.key(' ', 'Control');
+  assert.match(await page.see('offers'), /^"a"$/);
+  await browser.key('Enter');
+  await browser.until(`document.getElementById('lines').textContent.includes('unlock_stax pass=a')`);
 }
 async function drives(page) {
   const { browser } = page;
@@ -267,9 +278,49 @@ async function callers(page) {
   assert.equal(await page.see('kind'), 'callers');
   await page.tab('walk');
   await browser.click('#lines [data-step="4"]');
-  await browser.until(`document.getElementById('state').textContent.includes('stax 0')`);
-  assert.match(await page.see('state'), /in-band, 2 holders/);
+  await browser.until(`document.getElementById('state').textContent.includes('After step 4')`);
+  assert.match(await page.see('state'), /stax 0in-band, 2 holders/);
+  const row = name => browser.evaluate(`[...document.querySelectorAll('#state tbody tr')]
+    .find(it => it.firstElementChild.textContent.startsWith('${name}'))?.innerText.replace(/\\s+/g, ' ')`);
+  assert.match(await row('T0'), /^T0 in-band – w?\d* ?.*p0$/);
+  assert.match(await row('T3'), /^T3 oob fifo 10 f10 picked $/);
   await page.shot('callers');
+  await page.lesson('Contended mutex');
+  await browser.click('#lines [data-step="5"]');
+  await browser.until(`document.getElementById('state').textContent.includes('After step 5')`);
+  assert.match(await row('T0'), /^T0 oob fifo 10 f10 picked m0$/);
+  assert.match(await row('T1'), /^T1 oob fifo 10 f10 blocked claim mutex=0 owner=0 $/);
+  assert.match(await row('mutex 0 in the kernel'), /owner T0, 1 waiting/);
+  await page.lesson('Core held');
+  for (const [step, says] of [[3, 'taken by T0'], [9, 'free']]) {
+    await browser.click(`#lines [data-step="${step}"]`);
+    await browser.until(`document.getElementById('state').textContent.includes('After step ${step}')`);
+    assert.match(await row('core'), new RegExp(`^core ${says}`));
+    assert.match(await row('T1'), /^T1 oob fifo 10/);
+  }
+}
+/** A picture of more than 2,000 marks has pages: turned by buttons, and by the step that is gone to. */
+async function pages(page) {
+  const { browser } = page, steps = '[[step]]\ndo = "put"\nwho = 0\nsem = 0\n'.repeat(2500);
+  const until = says => browser.until(`document.getElementById('page').textContent === '${says}'`);
+  await page.put(`limit = 5000\n[board]\nthreads = 1\nsems = [0]\n${steps}`);
+  await page.tab('walk');
+  await until('page 1 of 2');
+  await browser.click('[data-turn="1"]');
+  await until('page 2 of 2');
+  await browser.until(`document.querySelector('#drawing .mark[data-step="2001"]')`);
+  await browser.click('[data-turn="1"]');
+  await until('page 2 of 2');
+  await browser.click('[data-walk="first"]');
+  await browser.click('[data-walk="1"]');
+  await until('page 1 of 2');
+  await browser.until(`document.querySelectorAll('#drawing .here').length`);
+  await browser.click('[data-walk="last"]');
+  await until('page 2 of 2');
+  await browser.until(`document.querySelectorAll('#drawing .here').length`);
+  await page.shot('pages');
+  await page.lesson('1. An interrupt');
+  assert.equal(await browser.evaluate(`document.getElementById('pages').hidden`), true);
 }
 async function handlers(page) {
   const { browser } = page;
@@ -405,6 +456,44 @@ async function keeps(page) {
   assert.equal(await page.value('text'), text);
   await page.browser.click('#back-to');
 }
+/** One's own texts: begun, named, edited, there again after the page is opened anew, from a file, and removed. */
+async function owns(page) {
+  const { browser } = page, mine = () => browser.evaluate(
+    `[...document.querySelectorAll('#mine [data-key]')].map(it => it.textContent)`);
+  const show = async () => {
+    if (!await browser.evaluate('document.body.classList.contains("listed")')) await browser.click('#lessons-button');
+  };
+  await page.lesson('5. A timer');
+  assert.equal(await browser.evaluate(`document.getElementById('name').isContentEditable`), false);
+  await show();
+  const before = await mine();
+  let turn = await page.turn();
+  await browser.click('#new-text');
+  await page.played(turn);
+  assert.match(await page.see('lines'), /put sem=0 -> done/);
+  await browser.evaluate(`document.getElementById('name').focus()`);
+  await browser.evaluate(`document.getElementById('name').textContent = ''`);
+  await browser.type('Two puts');
+  await browser.key('Enter');
+  assert.equal(await browser.evaluate('document.title'), 'Two puts - the lab');
+  assert.deepEqual(await mine(), ['Two puts', ...before]);
+  await page.put((await page.value('text')) + '[[step]]\ndo = "put"\nwho = 1\nsem = 0\n');
+  await page.open();
+  assert.equal(await page.see('name'), 'Two puts');
+  assert.match(await page.see('lines'), /2 T1 put sem=0 -> done/);
+  turn = await page.turn();
+  await browser.evaluate(`(() => { const file = new File(['[board]\\nthreads = 1\\n'], 'bare.toml');
+    const held = new DataTransfer(); held.items.add(file);
+    document.body.dispatchEvent(new DragEvent('drop', { dataTransfer: held, bubbles: true })); })()`);
+  await page.played(turn);
+  assert.deepEqual(await mine(), ['bare.toml', 'Two puts', ...before]);
+  await show();
+  await page.shot('own');
+  await browser.click('#mine [data-drop="0"]');
+  await browser.click('#mine [data-drop="0"]');
+  assert.deepEqual(await mine(), before);
+  await page.lesson('5. A timer');
+}
 
-export const WAYS = { opens, walks, tables, edits, completes, drives, orders, stops, callers, handlers, exercises,
-  shares, keyboard, widths, keeps, compares };
+export const WAYS = { opens, walks, tables, edits, completes, drives, orders, stops, callers, pages, handlers, exercises,
+  shares, owns, keyboard, widths, keeps, compares };

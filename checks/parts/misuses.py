@@ -148,6 +148,24 @@ PLAYS = [
     (lambda: evlsim.play(SMALL, bank=[3]), TypeError, "plan 0"),
     (lambda: evlsim.play(SMALL + '[[step]]\ndo = "push"\nwho = 0\n'), STEP, "step 1"),
 ]
+# none of these reaches the program lab
+LABS = [
+    (lambda: evlsim.check(None), TypeError, "text is None"),
+    (lambda: evlsim.check("\ud800"), evlsim.BadText, "UTF-8"),
+    (lambda: evlsim.check(SMALL, bank=[3]), TypeError, "plan 0 of the bank is 3"),
+    (lambda: evlsim.draw(None), TypeError, "text is None"),
+    (lambda: evlsim.draw(SMALL, "png"), ASK, "form is 'png': one of 'svg', 'lanes'"),
+    (lambda: evlsim.draw(SMALL, "svgs"), ASK, 'did you mean "svg"?'),
+    (lambda: evlsim.draw(SMALL, 3), TypeError, "form is 3"),
+    (lambda: evlsim.draw(SMALL, page=0), ASK, "page is 0"),
+    (lambda: evlsim.draw(SMALL, page="1"), TypeError, "page is '1'"),
+    (lambda: evlsim.orders(5), TypeError, "text is 5"),
+    (lambda: evlsim.orders(SMALL, most=0), ASK, "most is 0"),
+    (lambda: evlsim.orders(SMALL, most=1.5), TypeError, "most is 1.5"),
+    (lambda: evlsim.orders(SMALL, bank="plans"), TypeError, "bank is 'plans': a list"),
+    (lambda: evlsim.callers(pathlib.Path("x")), TypeError, "read_text()"),
+    (lambda: evlsim.callers(SMALL, limit=-1), BAD, "limit is -1"),
+]
 
 
 def try_list(name, misuses):
@@ -218,7 +236,7 @@ def try_threads(puts=50000):
     assert not wrong and [kernel.see_count(sem) for sem in range(3)] == [puts] * 3
 
 
-tried = try_list("call", CALLS) + try_list("board", BOARDS) + try_list("play", PLAYS)
+tried = try_list("call", CALLS) + try_list("board", BOARDS) + try_list("play", PLAYS) + try_list("lab", LABS)
 try_right_ones()
 try_closed()
 try_threads()

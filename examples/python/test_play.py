@@ -109,6 +109,33 @@ def test_all_values():
     assert kernel.now(1).value == 2**64 - 1
 
 
+def test_entries_of_a_trace():
+    trace = evlsim.play(BOARD + PUT + PUT, limit=1)
+    assert [(it.number, it.word, it.answer.refusal) for it in trace.entries] == [
+        (1, "put", None),
+        (None, "put", "HistoryFull"),
+    ]
+    for name in glob.glob(f"{TOP}/scenarios/**/*.trace", recursive=True):
+        text = text_of(name)
+        lines = "".join(
+            f"{it.number or '-'} {it}\n" + "".join(f"  {play}\n" for play in it.plays) for it in evlsim.Trace(text).entries
+        )
+        assert lines == text.partition("\n")[2], name
+
+
+def test_long_history():
+    kernel = evlsim.Kernel(threads=1, sems=[0], limit=30000)
+    for _ in range(30000):
+        kernel.put(0, sem=0)
+    assert kernel.put(0, sem=0).refusal == "HistoryFull" and kernel.trace().count("\n") == 30001
+    try:
+        kernel.scenario()
+    except evlsim.Refused as refused:
+        assert "1,048,576" in str(refused)
+    else:
+        raise AssertionError("a scenario above 1 MiB was written")
+
+
 def test_answers_as_values():
     kernel = evlsim.Kernel(threads=2, sems=[0], mutexes=["ceiling 20"])
     assert not kernel.try_get(0, sem=0) and kernel.try_get(0, sem=0).refusal == "Again"
@@ -130,8 +157,9 @@ def test_history_and_copy():
     kernel.arrive(0, line=5)
     kernel.write(0, xbuf=0, way="in", bytes=b"ab")
     words = [(entry.word, entry.keys, entry.plays) for entry in kernel]
-    assert words[1] == ("arrive", {"line": 5}, ("line 5 oob count 1 handled",))
+    assert words[1] == ("arrive", {"line": 5}, (evlsim.Line(5, "oob", 1, True),))
     assert words[2][1]["bytes"] == b"ab" and len(kernel) == 3
+    assert [str(entry.answer) for entry in kernel] == ["done"] * 3 and all(entry.answer for entry in kernel)
     other = kernel.copy()
     assert other.trace() == kernel.trace() and other.put(0, sem=0) and other.see_count(0) == 2
     assert kernel.see_count(0) == 1 and "T0 arrive line=5 -> done" in repr(kernel)

@@ -2,15 +2,20 @@
 // the page knows the program's words, so this module can be exchanged for one over other forms of its answers.
 import { read_calls, read_faults, read_orders, read_trace, FILE, BANK } from './reads.js';
 import { Runner } from './program.js';
-import { steps_of, without_ask } from './text.js';
+import { first_steps, steps_of, without_ask } from './text.js';
 
 /** @typedef {{ kind: string, text: string, bank: string }} Text */
 export const ORDERS_SECONDS = 60;
 /** @type {Runner} One worker for what is short. */
 let short;
+/** @type {Runner} One for what is asked beside that: faults, and the machine that a text makes. */
+let side;
 /** @type {Runner | null} One for orders, so that an edit is answered while orders are gone through. */
 let long = null;
-export const begin_program = (/** @type {Uint8Array} */ code) => { short = new Runner(code); };
+export function begin_program(/** @type {Uint8Array} */ code) {
+  short = new Runner(code);
+  side = new Runner(code);
+}
 export const stop_orders = (/** @type {string} */ why) => long?.stop(why);
 /** @param {string[]} words @param {string} text */
 export const run = (words, text) => short.ask([...words, FILE], { [FILE]: text });
@@ -23,7 +28,7 @@ const word_of = (/** @type {Text} */ it) => it.kind === 'callers' ? 'callers' : 
 export async function checked(it) {
   if (it.kind !== 'play' && it.kind !== 'orders') return [];
   const orders = it.kind === 'orders', text = orders ? without_ask(it.text) : it.text;
-  const { out, err } = await short.ask(['check', FILE, ...over(it)], files_of({ ...it, text }));
+  const { out, err } = await side.ask(['check', FILE, ...over(it)], files_of({ ...it, text }));
   return read_faults(out + err, it.text, steps_of(it.text)).filter(told => told.fault || !orders);
 }
 /** @param {Text} it */
@@ -32,16 +37,44 @@ export async function played(it) {
   const told = answer.status ? read_faults(answer.err, it.text, steps_of(it.text)) : [];
   return { ...answer, entries: read_trace(answer.out), told };
 }
-/** The picture; over handlers of one's own that of the trace, with no strips. @param {Text} it @param {string} out */
-export function drawn(it, out) {
+/** The page reads pictures whose time goes across; a program that draws no others refuses this word. */
+let across = ['--across'];
+/**
+ * A page of the picture; over handlers of one's own that of the trace, with no strips.
+ * @param {Text} it @param {string} out @returns {Promise<import('./program.js').Answer>}
+ */
+export async function drawn(it, out, page = 1) {
   const plain = it.kind !== 'callers' && !over(it).length;
-  return plain ? run(['draw'], it.text) : short.ask(['draw', 'trace'], { trace: out });
+  const words = ['draw', ...across, ...page > 1 ? ['--page', `${page}`] : []];
+  const answer = await (plain ? run(words, it.text) : short.ask([...words, 'trace'], { trace: out }));
+  if (answer.status !== 3 || !across.length) return answer;
+  across = [];
+  return drawn(it, out, page);
 }
 /** Each step of a scenario as the program writes it, after a head; nothing where it doesn't play. @param {Text} it */
 export async function machine_of(it) {
-  const { out } = await short.ask(['live', FILE, ...over(it)], files_of(it), '#\nscenario\n');
+  const { out } = await side.ask(['live', FILE, ...over(it)], files_of(it), '#\nscenario\n');
   const text = out.slice(out.lastIndexOf('\n#\n') + 3).trimEnd();
   return text ? { ...it, parts: (text + '\n').split(/^(?=\[\[step\]\])/m) } : null;
+}
+/**
+ * How a callers' machine is after a step: the kernel's history up to there, which the program prints where a machine is
+ * closed, made again by a driven kernel. Nothing where the text cannot be cut there.
+ * @param {Text} it @param {number} step @param {any[]} entries
+ */
+export async function callers_at(it, step, entries) {
+  const first = first_steps(it.text, entries, step);
+  if (!first) return null;
+  const { out } = await short.ask(['callers', FILE, ...over(it)], files_of({ ...it, text: first.text }));
+  const [, history] = out.split(/^close -> done\n/m);
+  if (history === undefined) return null;
+  const entries_made = history.split('\n').filter(line => /^\d+ T/.test(line));
+  const calls = entries_made.map(line => line.replace(/^\d+ (.*) -> .*$/, '$1'));
+  const lines = [...calls, '#', 'scenario', ''].join('\n');
+  const made = await short.ask(['live', FILE, ...over(it)], files_of({ ...it, text: first.board }), lines);
+  const text = made.out.slice(made.out.lastIndexOf('\n#\n') + 3).trimEnd();
+  const machine = text && { ...it, parts: (text + '\n').split(/^(?=\[\[step\]\])/m) };
+  return machine ? { ...await state_at(machine, calls.length, entries), policies: policies_at(step, entries) } : null;
 }
 /** What a driven machine answers to each line, after the first steps. @param {any} machine @param {string[]} lines */
 async function driven(machine, steps, limit, lines) {
@@ -111,10 +144,10 @@ function policies_at(step, entries) {
   return policies;
 }
 
-/** Every order in which the callers may come. @param {Text} it */
-export async function gone_through(it, asks) {
+/** Every order in which the callers may come. @param {Text} it @param {(text: string) => void} heard */
+export async function gone_through(it, asks, heard) {
   long ||= new Runner(short.code);
-  const answer = await long.ask(['orders', FILE, ...over(it)], files_of(it), '', ORDERS_SECONDS);
+  const answer = await long.ask(['orders', FILE, ...over(it)], files_of(it), '', ORDERS_SECONDS, heard);
   const against = [...answer.err.matchAll(/outcome (\d+) is against/g)].map(found => found[1]);
   return { ...read_orders(answer.out), ...answer, asks, against,
     told: answer.status > 1 ? read_faults(answer.err, it.text, steps_of(it.text)) : [] };

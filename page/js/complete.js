@@ -2,12 +2,16 @@
 // console. Arrow keys choose, Enter takes, Escape closes; Tab leaves the box, as everywhere.
 import { $, escaped } from './now.js';
 import { put_text } from './kept.js';
+import { CALLERS_WORDS } from './text.js';
 
 /** @type {Map<string, any>} */
 let known_calls = new Map();
 export const offer_calls = (/** @type {Map<string, any>} */ list) => { known_calls = list; };
 
 const BOARD = ['threads', 'sems', 'flags', 'xbufs', 'mutexes', 'groups'], HEADS = ['[board]', '[[step]]'];
+/** @type {Record<string, string[]>} Values that the list of calls has none of. */
+const VALUES = { mutexes: ['"normal"', '"recursive"', '"ceiling 50"'], always_ends: ['true'], as_picked: ['true'],
+  propagate: ['true'] };
 const ORDERS_HEADS = ['[ask]', '[[setup]]', '[[step]]', '[board]'];
 const ASK = ['always_ends', 'never', 'as_picked'], CALLBACK = ['accepts', 'do'];
 const ACTIONS = ['every', 'post_sem', 'post_flags', 'bits', 'post_oob', 'post_inband', 'propagate'];
@@ -17,9 +21,17 @@ const step_of = text => ({ word: text.match(/\bdo\s*=\s*"(\w+)"/)?.[1] || '',
   has: new Set([...text.matchAll(/(\w+)\s*=/g)].map(it => it[1])) });
 /** @param {string} word @param {Set<string>} has @param {string} sign */
 const keys_left = (word, has, sign) => {
-  const call = known_calls.get(word), keys = call ? [...call.keys.keys()] : [];
+  const call = known_calls.get(word), keys = call ? [...call.keys.keys()] : CALLERS_WORDS[word] || [];
   return ['do', 'who', ...keys].filter(key => !has.has(key)).map(key => key + sign);
 };
+/** What a key may be; a pass has a name that a step gave it. @param {string} key @param {string} word */
+function values_of(key, word, name, kind, text) {
+  if (name === 'board' || name === 'ask' || name === 'callback') return VALUES[key];
+  const words = [...known_calls.keys(), ...kind === 'orders' ? [] : Object.keys(CALLERS_WORDS)];
+  if (key === 'do') return words.map(it => `"${it}"`);
+  if (key !== 'pass') return known_calls.get(word)?.keys.get(key)?.values;
+  return [...new Set([...text.matchAll(/\bas\s*=\s*("[\w-]+")/g)].map(it => it[1]))];
+}
 /**
  * What may come at a place of a text: how many characters before it are replaced, and the words.
  * @param {string} text @param {number} at @param {string} kind
@@ -35,17 +47,17 @@ export function offered(text, at, kind) {
     : before.slice(before.lastIndexOf('[[') + 1) + rest.split(/^\s*\[/m)[0];
   const { word, has } = step_of(step), value = line.match(/(\w+)\s*=\s*("[^"]*|\w*)$/);
   if (value) {
-    if (name === 'board' || name === 'ask' || name === 'callback') return null;
-    const of = known_calls.get(word)?.keys.get(value[1]);
-    const values = value[1] === 'do' ? [...known_calls.keys()].map(it => `"${it}"`) : of?.values;
+    const values = values_of(value[1], word, name, kind, text);
     return values ? { size: value[2].length, words: values } : null;
   }
+  const item = name === 'board' && line.match(/^\s*(\w+)\s*=\s*\[.*?(?:\[|,)?\s*("[^"]*|)$/);
+  if (item) return VALUES[item[1]] ? { size: item[2].length, words: VALUES[item[1]] } : null;
   const key = line.match(/(?:^|[{,])\s*(\w*)$/);
   if (!key) return null;
   const sign = ' = ', less = (/** @type {string[]} */ keys) => keys.filter(it => !has.has(it)).map(it => it + sign);
   has.delete(key[1]);
   const words = name === 'callback' ? (inline ? ACTIONS.map(it => it + sign) : less(CALLBACK))
-    : name === 'board' ? less(BOARD) : name === 'ask' ? less(ASK)
+    : name === 'board' ? less(kind === 'callers' ? [...BOARD, 'staxes'] : BOARD) : name === 'ask' ? less(ASK)
     : inline || name === 'step' || name === 'setup' ? keys_left(word, has, sign) : ['limit = ', ...HEADS];
   return { size: key[1].length, words };
 }

@@ -1,13 +1,13 @@
 // What the page holds at a moment: one object that its modules share, and a few words for its elements.
 
 /**
- * The lesson; an outcome of orders that is looked at; the machine that was played last, and of which lesson; the text's
- * kind and steps; what is reported of it; the trace, its number of steps, and the step that is looked at.
- * @type {{ lesson: any, viewed: any, machine: any, played: string, kind: string, steps: any[], told: any[],
- *   entries: any[], count: number, shown: number, turn: number }}
+ * The lesson; an outcome of orders that is looked at; the machine that was played last, or that of callers, and of
+ * which lesson; the text's kind and steps; what is reported of it; the trace, its number of steps, the step looked at.
+ * @type {{ lesson: any, viewed: any, machine: any, callers: any, played: string, kind: string, steps: any[],
+ *   told: any[], entries: any[], count: number, shown: number, turn: number }}
  */
-export const now = { lesson: null, viewed: null, machine: null, played: '', kind: 'play', steps: [], told: [],
-  entries: [], count: 0, shown: 0, turn: 0 };
+export const now = { lesson: null, viewed: null, machine: null, callers: null, played: '', kind: 'play', steps: [],
+  told: [], entries: [], count: 0, shown: 0, turn: 0 };
 
 /** @param {string} id @returns {any} */
 export const $ = id => document.getElementById(id);

@@ -32,7 +32,7 @@ function doubts(it) {
 }
 /** How it ended, and in which words. @param {any} it */
 export function verdict_of(it) {
-  const why = it.err.trim().replace(/^lab: /, '').replace('scenario.toml: ', '');
+  const why = (it.err.trim().split('\n').pop() || '').replace(/^lab: /, '').replace('scenario.toml: ', '');
   const doubt = it.asks ? doubts(it)[0] : '';
   if (it.status === -2) return ['unknown', `Not answered: ${why}. Fewer callers or fewer steps have fewer orders.`];
   if (it.against.length) return ['bad', `No: outcome ${it.against.join(', ')} contradicts what is asked.`];
@@ -49,14 +49,18 @@ export async function go_orders(mine, text) {
   stop_orders('the text was edited');
   $('orders-stop').disabled = false;
   verdict.className = 'busy';
+  let progress = '';
   const tick = () => {
     const seconds = ((performance.now() - at) / 1000).toFixed(0);
-    verdict.textContent = `Going through all orders: ${seconds} s (at most ${ORDERS_SECONDS} s)`;
+    verdict.textContent = `Going through all orders: ${seconds} s (at most ${ORDERS_SECONDS} s) ${progress}`;
+  };
+  const heard = (/** @type {string} */ text) => {
+    progress = text.trim().split('\n').pop()?.replace(/^(lab: )?(scenario\.toml: )?/, '') || progress;
   };
   tick();
   const clock = setInterval(tick, 500);
   $('outcomes').innerHTML = '';
-  const answer = await gone_through(text, ask_of(text.text));
+  const answer = await gone_through(text, ask_of(text.text), heard);
   clearInterval(clock);
   if (my !== turn) return null;
   $('orders-stop').disabled = true;

@@ -6,12 +6,13 @@ import { begin_console, console_key, offer_in_line, say, scenario_of_console, un
 import { find, go_to, indent, offer_in_text, open_side, paint, put_fix, show_faults } from './editor.js';
 import { check_exercise, exercise_lesson, exercise_made, make_exercise } from './exercise.js';
 import { make_hole, read_exercise, save_exercise, show_task, show_wanted } from './exercise.js';
+import { add_mine, mine_of, rename, show_mine } from './mine.js';
 import { copied, handed, keep_texts, kept, link_of, put_text, save_file } from './kept.js';
 import { go_orders, outcome_shown, view_of } from './orders.js';
 import { draw_all, mark_picture, refit, zoom_by } from './picture.js';
 import { json_of, part_of } from './program.js';
 import { FILE } from './reads.js';
-import { play_text, show_none, show_state, walk } from './steps.js';
+import { play_text, show_none, show_state, turn_by, walk } from './steps.js';
 import { kind_of, steps_of, KINDS } from './text.js';
 
 const NARROW = 760, LISTED = 1400, WAIT = 40;
@@ -40,16 +41,17 @@ async function play() {
   now.viewed = null;
   show_kind(was);
   begin_console();
-  const told = await checked(text_now());
-  if (mine !== now.turn) return;
-  now.told = told;
-  if (now.kind === 'orders') await play_orders(mine);
-  else if (now.kind === 'bank' || now.kind === 'empty')
+  const asked = checked(text_now());
+  if (now.kind === 'orders') {
+    now.told = await asked;
+    if (mine === now.turn) await play_orders(mine);
+  } else if (now.kind === 'bank' || now.kind === 'empty') {
+    now.told = await asked;
     show_none(now.kind === 'empty' ? 'The text is empty.' : 'These are handlers: they belong in their own tab.');
-  else {
-    const answer = await play_text(mine, now.shown);
+  } else {
+    const [told, answer] = await Promise.all([asked, play_text(mine, now.shown)]);
     if (mine !== now.turn) return;
-    if (answer.status && !now.told.some(it => it.fault)) now.told = now.told.concat(answer.told);
+    now.told = answer.status && !told.some(it => it.fault) ? told.concat(answer.told) : told;
   }
   if (mine !== now.turn) return;
   show_faults();
@@ -84,6 +86,10 @@ function changed_text() {
 async function open_lesson(it, plain = false) {
   now.lesson = it;
   now.shown = 0;
+  add_mine(it);
+  show_mine(open_mine);
+  $('name').contentEditable = String(Boolean(it.own));
+  $('name').tabIndex = it.own ? 0 : -1;
   for (const button of all('#list button')) {
     const is = button.dataset.key === it.key;
     button.classList.toggle('now', is);
@@ -108,6 +114,16 @@ async function open_lesson(it, plain = false) {
   const tab = tab_now(), orders = kind_of($('text').value) === 'orders';
   open_tab(orders ? 'orders' : tab === 'orders' ? 'walk' : tab);
   return play();
+}
+/** @param {any} it */
+function open_mine(it) {
+  open_lesson(it);
+  $('name').focus();
+}
+function rename_text() {
+  if (rename($('name').textContent)) show_mine(open_mine);
+  $('name').textContent = now.lesson.title;
+  document.title = `${now.lesson.title} - the lab`;
 }
 const tab_now = () => all('#tabs [aria-selected="true"]')[0]?.dataset.pane || 'walk';
 /** @param {string} name */
@@ -172,7 +188,7 @@ function keys(event) {
     tabs[to].click();
     return tabs[to].focus();
   }
-  const typing = /^(TEXTAREA|INPUT|SELECT)$/.test(it.tagName) && it.type !== 'range';
+  const typing = it.isContentEditable || /^(TEXTAREA|INPUT|SELECT)$/.test(it.tagName) && it.type !== 'range';
   const sideways = tab_now() === 'walk' && /Left|Right/.test(event.key);
   const walks = typing ? it.id === 'text' && event.altKey && /Up|Down/.test(event.key)
     : plain && (it.id === 'lines' || it.id === 'slider' || sideways);
@@ -205,9 +221,9 @@ async function lesson_of_link() {
   try {
     const it = await handed();
     if (!it) return null;
-    if (it.kind === 'exercise') return exercise_lesson(it.read);
+    if (it.kind === 'exercise') return { ...exercise_lesson(it.read), own: true };
     const { title = 'From a link', text, bank = '' } = it.read;
-    return { key: 'link ' + it.key, title, text, bank };
+    return { key: 'link ' + it.key, title, text, bank, own: true };
   } catch (error) {
     $('status').textContent = `The link could not be read: ${error instanceof Error ? error.message : error}`;
     return null;
@@ -216,8 +232,9 @@ async function lesson_of_link() {
 /** A text from a file: handlers go to their own tab; another text or an exercise is a lesson. @param {File} file */
 async function take_file(file) {
   const text = (await file.text()).replace(/\r\n/g, '\n'), exercise = read_exercise(text);
-  if (exercise) return open_lesson(exercise, true);
-  if (kind_of(text) !== 'bank') return open_lesson({ key: 'file ' + file.name, title: file.name, text }, true);
+  if (exercise) return open_lesson({ ...exercise, own: true }, true);
+  const own = { key: 'file ' + file.name, title: file.name, text, own: true };
+  if (kind_of(text) !== 'bank') return open_lesson(own, true);
   open_side('bank');
   put_text($('bank'), text);
   changed_text();
@@ -283,6 +300,7 @@ function wire_views() {
   on('drawing', 'click', to_step);
   on('slider', 'input', () => show_state(Number($('slider').value)));
   for (const it of all('[data-walk]')) it.onclick = () => walk(it.dataset.walk);
+  for (const it of all('[data-turn]')) it.onclick = () => turn_by(it.dataset.turn);
   for (const it of all('[data-zoom]')) it.onclick = () => { zoom_by(Number(it.dataset.zoom)); mark_picture(); };
   for (const it of all('[role=tab][data-pane]')) it.onclick = () => open_tab(it.dataset.pane);
   on('key-button', 'click', () => {
@@ -296,7 +314,7 @@ function wire_views() {
   on('viewed-back', 'click', () => open_tab('orders'));
   on('viewed-take', 'click', () => {
     const it = now.viewed;
-    open_lesson({ key: 'file outcome', title: it.title.split(',')[0], text: it.text }, true);
+    open_lesson({ key: 'file outcome', title: it.title.split(',')[0], text: it.text, own: true }, true);
   });
   on('asks', 'submit', event => {
     const line = $('line').value.trim();
@@ -321,6 +339,13 @@ function wire_head() {
     event.target.value = '';
   });
   on('save', 'click', save_text);
+  on('name', 'blur', rename_text);
+  on('name', 'keydown', event => {
+    if (event.key !== 'Enter' && event.key !== 'Escape') return;
+    event.preventDefault();
+    if (event.key === 'Escape') $('name').textContent = now.lesson.title;
+    $('name').blur();
+  });
   on('back-to', 'click', () => {
     put_text($('text'), now.lesson.text);
     put_text($('bank'), now.lesson.bank || '');
@@ -357,6 +382,7 @@ function wire_head() {
 /** @param {any[]} lessons */
 function list_lessons(lessons) {
   let group = '', section = $('list');
+  section.innerHTML = '<section id="mine"></section>';
   for (const it of lessons) {
     if (it.group !== group) {
       group = it.group;
@@ -386,7 +412,7 @@ async function start() {
   window.onhashchange = async () => { const it = await lesson_of_link(); if (it) open_lesson(it); };
   show_list(innerWidth >= LISTED);
   open_tab(innerWidth <= NARROW ? 'left' : 'walk');
-  const last = lessons.find((/** @type {any} */ it) => it.key === kept.get('last'));
+  const last = lessons.find((/** @type {any} */ it) => it.key === kept.get('last')) || mine_of(kept.get('last'));
   await open_lesson(await lesson_of_link() || last || lessons[0]);
   offer_calls(await calls());
   document.body.dataset.ready = 'yes';

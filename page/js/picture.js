@@ -85,6 +85,8 @@ function draw_band(band) {
 const seen = typeof IntersectionObserver === 'undefined' ? null : new IntersectionObserver(found => {
   for (const it of found) if (it.isIntersecting) draw_band(bands[Number(/** @type {any} */ (it.target).dataset.n)]);
 }, { rootMargin: '300px' });
+/** Whether the page that is shown has a step. @param {number} step */
+export const has_step = step => columns.has(step);
 export const draw_all = () => bands.forEach(draw_band);
 /** @param {string} text @param {string} name */
 export function show_picture(text, name) {

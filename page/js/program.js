@@ -53,7 +53,11 @@ export class Runner {
   }
   begun() {
     const worker = new_worker();
-    worker.onmessage = event => this.answered(event.data.id, event.data);
+    worker.onmessage = event => {
+      const { id, heard } = event.data;
+      if (heard === undefined) this.answered(id, event.data);
+      else this.asked.get(id)?.heard(heard);
+    };
     worker.postMessage({ code: this.code });
     return worker;
   }
@@ -74,14 +78,15 @@ export class Runner {
       this.answered(id, { status: -2, out: '', err: why + '\n', ms: performance.now() - it.at, memory: 0 });
   }
   /**
-   * Runs the program over words, files and an input.
-   * @param {string[]} words @param {Record<string, string>} files @returns {Promise<Answer>}
+   * Runs the program over words, files and an input; what it writes to standard error can be heard as it comes.
+   * @param {string[]} words @param {Record<string, string>} files
+   * @param {(text: string) => void} [heard] @returns {Promise<Answer>}
    */
-  ask(words, files = {}, input = '', seconds = 10) {
+  ask(words, files = {}, input = '', seconds = 10, heard) {
     return new Promise(done => {
       const id = ++this.last, timer = setTimeout(() => this.stop(`stopped after ${seconds} s`), seconds * 1000);
-      this.asked.set(id, { done, at: performance.now(), timer });
-      this.worker.postMessage({ id, words: ['lab', ...words], files, input });
+      this.asked.set(id, { done, at: performance.now(), timer, heard });
+      this.worker.postMessage({ id, words: ['lab', ...words], files, input, hears: Boolean(heard) });
     });
   }
 }

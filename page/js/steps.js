@@ -1,11 +1,15 @@
 // The trace and how the machine is after each step, walked step by step.
 import { $, all, now, escaped, text_now } from './now.js';
-import { drawn, machine_of, played, state_at } from './asks.js';
+import { callers_at, drawn, machine_of, played, state_at } from './asks.js';
 import { paint_step, show_line } from './editor.js';
-import { mark_picture, rank_text, show_picture } from './picture.js';
-import { HOLE } from './text.js';
+import { has_step, mark_picture, rank_text, show_picture } from './picture.js';
+import { HOLE, passes_at } from './text.js';
 
-const MOST_LINES = 6000, MOST_THREADS = 12;
+const MOST_LINES = 6000, MOST_THREADS = 12, MARKS = 2000;
+/** The picture that is shown: of which text and trace, and which page of how many. */
+let shown_picture = { it: { kind: '', text: '', bank: '' }, out: '', title: '', page: 1, pages: 1 };
+/** The trace that is shown, as it was written into the page. */
+let shown_lines = '';
 /** @param {any} it @param {number} i */
 function line_of(it, i) {
   const answer = ' <span class="nb">-&gt; <b>$1</b></span><i>$2</i>';
@@ -20,8 +24,9 @@ function show_trace(entries) {
   now.entries = entries;
   now.count = entries.reduce((most, it) => Math.max(most, it.number), 0);
   const rest = entries.length - MOST_LINES;
-  $('lines').innerHTML = entries.slice(0, MOST_LINES).map(line_of).join('')
+  const html = entries.slice(0, MOST_LINES).map(line_of).join('')
     + (rest > 0 ? `<div class="board">and ${rest} more lines, which the program itself prints</div>` : '');
+  if (html !== shown_lines) $('lines').innerHTML = shown_lines = html;
   $('slider').max = now.count;
   $('slider').disabled = !now.count;
 }
@@ -35,14 +40,15 @@ function show_stale(why) {
 export function show_none(why) {
   $('stale').hidden = true;
   show_trace([]);
-  $('lines').innerHTML = `<div class="board">${escaped(why)}</div>`;
-  now.machine = null;
+  $('lines').innerHTML = shown_lines = `<div class="board">${escaped(why)}</div>`;
+  now.machine = now.callers = null;
   show_picture('', '');
   show_state(0);
 }
 /** How a machine is after a step: asked once. @param {any} machine @param {number} step */
 async function known_at(machine, step) {
-  const known = machine.states.get(step) || state_at(machine, step, machine.entries);
+  const ask = machine.kind === 'callers' ? callers_at : state_at;
+  const known = machine.states.get(step) || ask(machine, step, machine.entries);
   machine.states.set(step, known);
   return known;
 }
@@ -62,6 +68,16 @@ function table_of(at) {
   const is_told = (/** @type {any} */ it) => at.threads.length <= MOST_THREADS || it.how || at.ranks.has(it.name);
   const threads = at.threads.filter(is_told).map((/** @type {any} */ it) => thread_row(at, it));
   return { threads, rows: [...at.rows] };
+}
+/** Of callers' texts: the locks as they were last shown, the threads with the passes they hold, and the kernel. */
+function callers_table(at, step) {
+  const locks = locks_at(step);
+  if (!at) return locks;
+  const holders = [...passes_at(now.entries, step)];
+  const { threads, rows } = table_of(at);
+  const held = (/** @type {string} */ who) => holders.filter(it => it[1] === who).map(it => it[0]).join(', ');
+  const of_kernel = rows.map(([of, says]) => [of.replace(/^(mutex \d+)$/, '$1 in the kernel'), says]);
+  return { threads: threads.map(row => [...row, held(row[0])]), rows: [...locks.rows, ...of_kernel] };
 }
 /** Of callers' texts: how each lock was when it was last shown. @param {number} step */
 function locks_at(step) {
@@ -85,7 +101,8 @@ function cell(text, was, head) {
 function show_table(at, before, step) {
   const were = new Map(before.threads.map(it => [it[0], it])), had = new Map(before.rows);
   const when = step ? `After step ${step}; what it changed is marked` : 'At the start';
-  const heads = ['thread', 'stage', 'policy', 'rank', 'is', 'its wait'].map(it => `<th scope="col">${it}</th>`);
+  const names = ['thread', 'stage', 'policy', 'rank', 'is', 'its wait', 'holds'].slice(0, at.threads[0]?.length);
+  const heads = names.map(it => `<th scope="col">${it}</th>`);
   const row_of = it => `<tr>${it.map((text, i) => cell(text, were.get(it[0])?.[i], !i)).join('')}</tr>`;
   const threads = at.threads.map(row_of);
   const rows = at.rows.map(([of, says]) => {
@@ -118,11 +135,13 @@ export async function show_state(step) {
   else $('lines').scrollTop = 0;
   paint_step();
   mark_picture();
+  if (step && shown_picture.pages > 1 && !has_step(step)) turn_page(page_of(step));
   if (now.steps[step - 1] && !now.viewed) show_line(now.steps[step - 1].from);
-  const { machine } = now;
+  const machine = now.machine || now.callers, table = now.callers ? callers_table : table_of;
   if (!machine) return show_table(locks_at(step), locks_at(Math.max(0, step - 1)), step);
-  const at = table_of(await known_at(machine, step)), before = step ? table_of(await known_at(machine, step - 1)) : at;
-  if (machine !== now.machine || now.shown !== step) return;
+  const known = await known_at(machine, step), at = table(known, step);
+  const before = step ? table(await known_at(machine, step - 1), step - 1) : at;
+  if (machine !== (now.machine || now.callers) || now.shown !== step) return;
   show_table(at, before, step);
   document.body.dataset.state = String(step);
 }
@@ -130,6 +149,28 @@ export async function show_state(step) {
 export function walk(by) {
   const to = by === 'first' ? 0 : by === 'last' ? now.count : Math.max(0, Math.min(now.count, now.shown + Number(by)));
   return show_state(to);
+}
+/** The page of the picture that has a step: each has 2,000 lines of the trace. @param {number} step */
+function page_of(step) {
+  const marks = now.entries.filter(it => it.kind === 'entry' || it.kind === 'play');
+  return Math.floor(Math.max(0, marks.findIndex(it => it.number === step)) / MARKS) + 1;
+}
+/** @param {number} to */
+async function turn_page(to) {
+  const mine = now.turn, page = Math.max(1, Math.min(shown_picture.pages, to));
+  if (page === shown_picture.page) return;
+  shown_picture.page = page;
+  const svg = await drawn(shown_picture.it, shown_picture.out, page);
+  if (mine !== now.turn || shown_picture.page !== page) return;
+  show_picture(svg.out, shown_picture.title);
+  show_pages();
+  mark_picture();
+}
+/** @param {string} by */
+export const turn_by = by => turn_page(shown_picture.page + Number(by));
+function show_pages() {
+  $('pages').hidden = shown_picture.pages < 2;
+  $('page').textContent = `page ${shown_picture.page} of ${shown_picture.pages}`;
 }
 /** Plays and draws a scenario: the text's own, or that of an outcome. @param {number} mine */
 export async function play_text(mine, step = 0) {
@@ -139,18 +180,22 @@ export async function play_text(mine, step = 0) {
   if (mine !== now.turn) return answer;
   const title = now.viewed ? now.viewed.title : now.lesson?.title || 'the text';
   if (answer.out) {
-    if (machine) Object.assign(machine, { entries: answer.entries, states: new Map() });
-    Object.assign(now, { machine, played: now.lesson?.key });
+    const more = { entries: answer.entries, states: new Map() };
+    const callers = it.kind === 'callers' ? { ...it, ...more } : null;
+    Object.assign(now, { machine: machine && Object.assign(machine, more), callers, played: now.lesson?.key });
     $('stale').hidden = true;
     show_trace(answer.entries);
+    const pages = Number(svg.err.match(/page 1 of (\d+)/)?.[1] || 1);
+    shown_picture = { it, out: answer.out, title, page: 1, pages };
     show_picture(svg.out, title);
+    show_pages();
   } else {
     const why = answer.err.trim().replace(/^lab: /, '').replace('scenario.toml: ', '') || 'there is nothing to play';
     show_stale(it.text.includes(HOLE) ? `The text has a hole (${HOLE}). The text is played when it is filled.`
       : `It cannot be played: ${why}. The faults are listed below the text.`);
   }
-  const page = svg.err.match(/page 1 of \d+/), bare = it.bank.trim() && it.kind !== 'callers';
-  $('note').textContent = [bare && 'no strips over handlers of your own', page && page[0]].filter(Boolean).join(', ');
+  const bare = it.bank.trim() && it.kind !== 'callers';
+  $('note').textContent = bare ? 'no strips over handlers of your own' : '';
   $('viewed').hidden = !now.viewed;
   $('viewed-title').textContent = now.viewed ? title : '';
   const memory = (Math.max(answer.memory, svg.memory) / 1048576).toFixed(1);

@@ -1,7 +1,12 @@
 // What can be read of a text without the program: its kind, where its steps are, and its table [ask].
 
-const CALLERS_WORDS = ['try_lock_stax', 'unlock_stax', 'try_lock_mutex', 'begin_lock_mutex', 'finish_lock_mutex',
-  'try_unlock_mutex', 'unlock_mutex_fast', 'take', 'give'];
+/**
+ * The words of a machine's callers, each with its keys; the program's list of calls has those of a kernel.
+ * @type {Record<string, string[]>}
+ */
+export const CALLERS_WORDS = { try_lock_stax: ['stax', 'as'], unlock_stax: ['pass'], try_lock_mutex: ['mutex', 'as'],
+  begin_lock_mutex: ['mutex', 'until', 'as'], finish_lock_mutex: ['as'], try_unlock_mutex: ['pass'],
+  unlock_mutex_fast: ['pass'], take: [], give: [] };
 /** @type {Record<string, string>} */
 export const KINDS = { play: 'scenario', orders: 'orders', callers: 'callers', bank: 'handlers', empty: 'empty' };
 
@@ -27,7 +32,7 @@ export function kind_of(text) {
   const scenario = has(/^\[\s*board\s*\]|^\[\[\s*(step|setup)\s*\]\]|^(step|setup|board)\b\s*[=.]/m);
   if (!scenario && has(/^\[\[\s*callback\s*\]\]|^callback\s*=/m)) return 'bank';
   if (has(/^\[\s*ask\s*\]|^ask\s*[=.]|^\[\[\s*setup\s*\]\]|^setup\s*=/m)) return 'orders';
-  const word = new RegExp(`\\bdo\\s*=\\s*["'](${CALLERS_WORDS.join('|')})["']`);
+  const word = new RegExp(`\\bdo\\s*=\\s*["'](${Object.keys(CALLERS_WORDS).join('|')})["']`);
   return has(/^staxes\s*=/m) || has(word) ? 'callers' : 'play';
 }
 
@@ -75,6 +80,51 @@ export function ask_of(text) {
 export function with_ask(text, wanted) {
   const lines = text.split('\n'), asks = asks_in(lines);
   return lines.filter((_, i) => !asks[i]).join('\n').trimEnd() + '\n\n' + wanted + '\n';
+}
+
+/** The value of a key of a trace, as a text writes it. @param {string} key @param {string} value */
+function value_of(key, value) {
+  if (key === 'bytes') return `"${value === '-' ? '' : value}"`;
+  const bare = /^(\d{1,18}|true|false)$/.test(value) && key !== 'as' && key !== 'pass';
+  return bare ? value : `"${value}"`;
+}
+/** Keys as a trace has them, one by one. @param {string} keys */
+export const keys_of = keys => keys.split(/ (?=\w+=)/).filter(Boolean).map(it => it.split('=', 2));
+/** A limit and the table [board] of a text; nothing where it has none. @param {string} text @param {boolean} plain */
+function board_of(text, plain) {
+  const lines = text.split('\n').map(line => bare_of(line).trimEnd());
+  const limit = lines.find(line => /^limit\s*=/.test(line));
+  const from = lines.findIndex(line => /^\[\s*board\s*\]/.test(line));
+  if (from < 0) return '';
+  const rest = lines.slice(from + 1), till = rest.findIndex(line => /^\s*\[\[?\s*\w+\s*\]/.test(line));
+  const own = rest.slice(0, till < 0 ? rest.length : till).filter(line => line && !(plain && /^staxes\s*=/.test(line)));
+  return `${limit ? limit + '\n' : ''}[board]\n${own.join('\n')}\n`;
+}
+/**
+ * The first steps of a callers' text, as it was answered, with the core given back at the end; and its board alone, for
+ * a kernel. Nothing where the board isn't a table.
+ * @param {string} text @param {any[]} entries @param {number} step
+ */
+export function first_steps(text, entries, step) {
+  const made = entries.filter(it => it.kind === 'entry' && it.number <= step), board = board_of(text, true);
+  if (!board) return null;
+  const core = made.map(it => it.lock.match(/core: (?:taken by T(\d+)|free)/)).filter(Boolean).pop();
+  const table = (/** @type {any} */ it) => `[[step]]\ndo = "${it.call}"\nwho = ${it.who.slice(1)}\n`
+    + keys_of(it.keys).map(([key, value]) => `${key} = ${value_of(key, value)}\n`).join('');
+  const gives = core?.[1] ? [{ call: 'give', who: 'T' + core[1], keys: '' }] : [];
+  return { board, text: board_of(text, false) + [...made, ...gives].map(table).join('') };
+}
+/** The passes that callers hold after a step, by caller. @param {any[]} entries @param {number} step */
+export function passes_at(entries, step) {
+  /** @type {Map<string, string>} */
+  const holders = new Map();
+  for (const it of entries) {
+    if (it.kind !== 'entry' || it.number > step) continue;
+    const keys = Object.fromEntries(keys_of(it.keys));
+    if (keys.as && it.answer === keys.as) holders.set(keys.as, it.who);
+    if (keys.pass && it.answer.startsWith('done')) holders.delete(keys.pass);
+  }
+  return holders;
 }
 
 export const HOLE = '____', HOLE_LINE = '# your steps here';

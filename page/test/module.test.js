@@ -20,6 +20,13 @@ test('stored answers are the same by Node', { skip }, () => {
     assert.equal(out + (status ? err : ''), it.told, it.name);
   }
 });
+test('what goes to standard error is heard as it comes', { skip }, () => {
+  const module = new WebAssembly.Module(fs.readFileSync(code)), heard = [];
+  const { err, out } = run_program(module, ['lab', 'play', 'x'], { x: '[board]\nthreads = 1\n' }, '', part => heard.push(part));
+  assert.equal(Buffer.concat(heard).toString(), err);
+  assert.match(err, /^x: done/);
+  assert.match(out, /^board /);
+});
 test('lab.mjs has the status, the output and the errors of the program', { skip }, () => {
   const lab = (words, input) =>
     spawnSync(process.execPath, [path.join(here, 'lab.mjs'), ...words], { input, encoding: 'utf8' });

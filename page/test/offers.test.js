@@ -11,12 +11,26 @@ offer_calls(read_calls(['T0 put sem=0\n  sem: a number is wanted\n',
 const at = (text, kind = 'play') => offered(text.replace('|', ''), text.indexOf('|'), kind);
 
 test('words, keys and values of a step', () => {
-  assert.deepEqual(at('[[step]]\ndo = |'), { size: 0, words: ['"put"', '"stall"'] });
-  assert.deepEqual(at('[[step]]\ndo = "pu|'), { size: 3, words: ['"put"', '"stall"'] });
+  assert.deepEqual(at('[[step]]\ndo = |', 'orders'), { size: 0, words: ['"put"', '"stall"'] });
+  assert.deepEqual(at('[[step]]\ndo = "pu|', 'orders'), { size: 3, words: ['"put"', '"stall"'] });
   assert.deepEqual(at('[[step]]\ndo = "put"\n|')?.words, ['who = ', 'sem = ']);
   assert.deepEqual(at('[[step]]\ndo = "put"\nwho = 0\ns|\n[[step]]\nsem = 0\n')?.words, ['sem = ']);
   assert.deepEqual(at('[[step]]\ndo = "stall"\nstage = |')?.words, ['"inband"', '"oob"']);
   assert.deepEqual(at('step = [\n  { do = "stall", who = 0, s|')?.words, ['stage = ']);
+});
+test('words, keys and passes of callers', () => {
+  assert.ok(at('[[step]]\ndo = "|')?.words.includes('"try_lock_stax"'));
+  assert.deepEqual(at('[[step]]\ndo = "begin_lock_mutex"\nwho = 0\n|', 'callers')?.words, ['mutex = ', 'until = ', 'as = ']);
+  assert.deepEqual(at('step = [\n  { do = "take", as = "a" }, { as = "b" }, { as = "a" },\n  { do = "unlock_stax", pass = "|')
+    ?.words, ['"a"', '"b"']);
+  assert.ok(at('[board]\nthreads = 1\n|', 'callers')?.words.includes('staxes = '));
+});
+test('values of a board and of what is asked', () => {
+  assert.deepEqual(at('[board]\nmutexes = [|')?.words[0], '"normal"');
+  assert.deepEqual(at('[board]\nmutexes = ["normal", "c|'), { size: 2, words: ['"normal"', '"recursive"', '"ceiling 50"'] });
+  assert.equal(at('[board]\nsems = [|'), null);
+  assert.deepEqual(at('[ask]\nalways_ends = |', 'orders')?.words, ['true']);
+  assert.equal(at('[ask]\nnever = |', 'orders'), null);
 });
 test('tables, the board and the handlers', () => {
   assert.deepEqual(at('[|')?.words, ['[board]', '[[step]]']);

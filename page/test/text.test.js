@@ -3,7 +3,8 @@ import assert from 'node:assert/strict';
 import fs from 'node:fs';
 import path from 'node:path';
 import test from 'node:test';
-import { ask_of, bare_of, kind_of, lost_line, steps_of, with_ask, without_ask } from '../js/text.js';
+import { ask_of, bare_of, first_steps, kind_of, lost_line, passes_at, steps_of, with_ask, without_ask } from '../js/text.js';
+import { read_trace } from '../js/reads.js';
 
 const top = path.join(import.meta.dirname || path.dirname(new URL(import.meta.url).pathname), '../..');
 const folder = name => ['examples', '.'].map(above => path.join(top, above, name)).find(it => fs.existsSync(it)) || '';
@@ -40,4 +41,19 @@ test('an exercise keeps what was given', () => {
   assert.equal(lost_line('a = 1\ndo = "____"\n# your steps here\nb = 2', 'a = 1\ndo = "put"\nc = 3\nb = 2'), null);
   assert.equal(lost_line('a = 1\nb = 2', 'a = 1\nb = 3'), 'b = 2');
   assert.equal(lost_line('a = [1] # one', 'a = [1]'), null);
+});
+test('a text of callers is cut after a step, with the core given back', () => {
+  const text = 'limit = 9\nstep = [\n  { do = "take", who = 0 },\n]\n[board]\nthreads = 2 # two\nstaxes = [1]\n\n[other]\nx = 1\n';
+  const entries = read_trace('board threads=2\n1 T0 attach policy=fifo 10 stage=oob -> done\n'
+    + '2 T1 try_lock_stax stax=0 as=7 -> 7 | stax 0: in-band, 1 holder\n3 T0 take -> done | core: taken by T0\n'
+    + '4 T0 write xbuf=0 way=out bytes=0012 -> done\n5 T0 give -> done | core: free\n');
+  const cut = first_steps(text, entries, 4);
+  assert.equal(cut?.board, 'limit = 9\n[board]\nthreads = 2\n');
+  assert.equal(cut?.text, 'limit = 9\n[board]\nthreads = 2\nstaxes = [1]\n'
+    + '[[step]]\ndo = "attach"\nwho = 0\npolicy = "fifo 10"\nstage = "oob"\n'
+    + '[[step]]\ndo = "try_lock_stax"\nwho = 1\nstax = 0\nas = "7"\n[[step]]\ndo = "take"\nwho = 0\n'
+    + '[[step]]\ndo = "write"\nwho = 0\nxbuf = 0\nway = "out"\nbytes = "0012"\n[[step]]\ndo = "give"\nwho = 0\n');
+  assert.ok(!first_steps(text, entries, 5)?.text.endsWith('do = "give"\nwho = 0\n[[step]]\ndo = "give"\nwho = 0\n'));
+  assert.equal(first_steps('board = { threads = 1 }\n', entries, 1), null);
+  assert.deepEqual([...passes_at(entries, 4)], [['7', 'T1']]);
 });

@@ -84,8 +84,8 @@ class Answer(_Answer):
     """What a call answered: its `kind`, its `value`, and the `plays` that came of it. It is true unless it's a refusal.
 
     kind: "done", "begun", "timed out" (no value), "count", "bits", "number" (an int), "bytes" (bytes), "thread" (an int
-    or None), "next" (a Next), or "refused" (the refusal's name). It equals its text, and another Answer with the same
-    kind, value and plays.
+    or None), "next" (a Next), "refused" (the refusal's name), or, of a machine's callers, "pass" (its name). It equals
+    its text, and another Answer with the same kind, value and plays.
 
     >>> Answer("count", 3) == "count 3", bool(Answer("refused", "Again")), Answer("thread", None).text
     (True, False, 'thread none')
@@ -102,8 +102,10 @@ class Answer(_Answer):
     def text(self) -> str:
         """The answer as the trace has it."""
         kind, value = self.kind, self.value
-        if kind == "refused":
+        if kind in ("refused", "pass"):
             return str(value)
+        if kind == "done" and value:
+            return f"done, {value}"
         if kind == "bytes":
             return f"bytes {value.hex() or '-'}"
         if kind == "next":

@@ -1,7 +1,7 @@
 """Kernels, and the plans of their callbacks."""
 
 import ctypes
-from typing import Any, Dict, Iterable, Iterator, List, Literal, NamedTuple, NoReturn, Optional, Sequence, Tuple, Union
+from typing import Any, Dict, Iterable, List, Literal, NoReturn, Optional, Sequence, Tuple, Union
 
 from . import _library as lib
 from ._answers import Answer, Clock, Deadline, Line, Next, Play, Timer
@@ -157,68 +157,6 @@ def read_board(board: Dict[str, Any]) -> Tuple[lib.Board, List[Any]]:
         setattr(form, name, ctypes.addressof(array))
         setattr(form, name + "_count", len(made))
     return form, kept
-
-
-class Entry(NamedTuple):
-    """An entry of a history: its number, who called, the step word with its keys, the answer, what was played."""
-
-    number: int
-    who: int
-    word: str
-    keys: Dict[str, Any]
-    answer: str
-    plays: Tuple[str, ...]
-
-    def __str__(self) -> str:
-        keys = "".join(f" {key}={_key_text(value)}" for key, value in self.keys.items())
-        return f"T{self.who} {self.word}{keys} -> {self.answer}"
-
-
-def _key_text(value: Any) -> str:
-    if isinstance(value, bytes):
-        return value.hex() or "-"
-    return "none" if value is None else str(value).lower() if isinstance(value, bool) else str(value)
-
-
-def _key_value(key: str, text: str) -> Any:
-    """The value of a key, as the trace has it."""
-    if key in ("stage", "way", "policy", "kind"):
-        return text
-    if key == "bytes":
-        return bytes.fromhex("" if text == "-" else text)
-    if key == "keep":
-        return text == "true"
-    return None if text == "none" else int(text)
-
-
-def read_trace(text: str) -> Iterator[Entry]:
-    """The entries that the lines of a trace tell of."""
-    head: Optional[Tuple[int, int, str, Dict[str, Any], str]] = None
-    plays: List[str] = []
-    for line in text.splitlines()[1:]:
-        if line.startswith("  "):
-            plays.append(line[2:])
-            continue
-        if head is not None:
-            yield Entry(*head, tuple(plays))
-        head, plays = _read_line(line), []
-    if head is not None:
-        yield Entry(*head, tuple(plays))
-
-
-def _read_line(line: str) -> Optional[Tuple[int, int, str, Dict[str, Any], str]]:
-    call, _, answer = line.partition(" -> ")
-    number, who, word, *rest = call.split(" ")
-    if number == "-":
-        return None
-    pairs: List[List[str]] = []
-    for part in rest:
-        key, is_key, value = part.partition("=")
-        if is_key:
-            pairs.append([key, value])
-        else:
-            pairs[-1][1] += " " + part
-    return int(number), int(who[1:]), word, {key: _key_value(key, value) for key, value in pairs}, answer
 
 
 def put_form(

@@ -6,8 +6,10 @@ from typing import Any, Dict, Iterator, NoReturn, Optional, Tuple, Type
 from . import _library as lib
 from ._answers import Answer
 from ._calls import Words
-from ._errors import BadQuestion, BadStep, KernelClosed, near, one_of, whole
-from ._kernel import AWAITED, STAGES, WAYS, Awaited, Entry, Stage, Way, read_trace
+from ._errors import BadQuestion, BadStep, KernelClosed, Refused, near, one_of, whole
+from ._kernel import AWAITED, PROGRAM_BANK, STAGES, WAYS, Awaited, Stage, Way
+from ._lab import shown
+from ._traces import Entry, read_trace
 
 
 class Kernel(Words):
@@ -16,7 +18,7 @@ class Kernel(Words):
     threads, sems, flags, xbufs, mutexes and groups are a board, as docs/use/SCENARIOS.md has it; `limit` is how many
     entries the history may have. There is a method for each step word: the caller's number, and then the word's keys by
     name (`raise_` for `raise`). An answer is false where the kernel refused the call; a kernel that is `strict` raises
-    CallRefused then.
+    CallRefused then. A notebook shows its picture (`draw`).
 
     >>> kernel = Kernel(threads=2, sems=[0])
     >>> kernel.try_get(0, sem=0).refusal, bool(kernel.put(1, sem=0)), kernel.see_count(0)
@@ -69,6 +71,19 @@ class Kernel(Words):
 
     def __repr__(self) -> str:
         return "<evlsim.Kernel, closed>" if self.closed else f"<evlsim.Kernel: {self._last(12)}>"
+
+    def _drawn(self) -> str:
+        """What its picture is made from: the scenario, which also shows how the machine stands after each call, or else
+        the trace, over a bank of its own and where the scenario would be too long."""
+        if self._bank == PROGRAM_BANK:
+            try:
+                return self.scenario()
+            except Refused:
+                pass
+        return self.trace()
+
+    def _repr_svg_(self) -> Optional[str]:
+        return None if self.closed else shown(self)
 
     def __reduce__(self) -> NoReturn:
         raise TypeError("a kernel isn't pickled: its scenario() is a text, and copy() makes another one")

@@ -1,4 +1,4 @@
-"""For pytest: a fixture that makes kernels and shows their traces where a test fails, and scenarios as tests.
+"""For pytest: a fixture that makes kernels and shows their traces and pictures where a test fails, and scenarios as tests.
 
     def test_put(evlsim_kernel):
         kernel = evlsim_kernel(threads=2, sems=[0])
@@ -13,7 +13,7 @@ from typing import Any, Callable, Generator, Iterator, List, Optional
 
 import pytest
 
-from . import Kernel, play, version
+from . import Kernel, Refused, draw, play, version
 
 _KERNELS = pytest.StashKey[List[Kernel]]() if hasattr(pytest, "StashKey") else None
 
@@ -28,7 +28,7 @@ def pytest_report_header(config: pytest.Config) -> str:
 
 @pytest.fixture
 def evlsim_kernel(request: pytest.FixtureRequest) -> Iterator[Callable[..., Kernel]]:
-    """Makes kernels, as evlsim.Kernel does. Where the test fails, their traces and scenarios are in its report."""
+    """Makes kernels, as evlsim.Kernel does. A failing test's report has their traces, scenarios and pictures."""
     made: List[Kernel] = []
     if _KERNELS is not None:
         request.node.stash[_KERNELS] = made
@@ -53,6 +53,15 @@ def pytest_runtest_makereport(item: pytest.Item, call: Any) -> Generator[None, A
         if not kernel.closed:
             report.sections.append((f"evlsim kernel {number}: trace", kernel.trace()))
             report.sections.append((f"evlsim kernel {number}: scenario", _scenario(kernel)))
+            report.sections += [(f"evlsim kernel {number}: picture", it) for it in _picture(kernel)]
+
+
+def _picture(kernel: Kernel) -> List[str]:
+    """The picture in characters, where the program lab is there to draw it."""
+    try:
+        return [draw(kernel, "lanes")]
+    except (Refused, RuntimeError, MemoryError):
+        return []
 
 
 def _scenario(kernel: Kernel) -> str:

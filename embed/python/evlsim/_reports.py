@@ -1,0 +1,238 @@
+"""What the program lab tells of a text, as values: its faults, the orders of its callers, a machine's callers."""
+
+import re
+from typing import Any, Dict, Iterable, List, NamedTuple, Optional, Tuple, Union
+
+from . import _lab
+from ._answers import Answer, Play
+from ._errors import BadBoard, BadQuestion, whole
+from ._kernel import Plan
+from ._play import play
+from ._traces import Entry, Trace, keys_text, read_answer, read_call, read_play, read_trace
+
+Text = Union[str, bytes, bytearray]
+CUT_OFF = "\n# cut off"
+FOUND = re.compile(r"(?:(\d+):(\d+): )?(?:step (\d+): )?(at the end: )?(warning: )?(.*)")
+
+
+class Finding(NamedTuple):
+    """A fault of a text, or a warning: the line, the byte in it and the step, each from 1 or None, and what it is."""
+
+    line: Optional[int]
+    byte: Optional[int]
+    step: Optional[int]
+    is_warning: bool
+    message: str
+
+    def __str__(self) -> str:
+        place = "" if self.line is None else f"{self.line}:{self.byte}: "
+        step = "" if self.step is None else f"step {self.step}: "
+        return f"{place}{step}{'warning: ' if self.is_warning else ''}{self.message}"
+
+
+def check(text: Text, bank: Optional[Iterable[Plan]] = None) -> List[Finding]:
+    """Every fault of a scenario, with its place, or, where it has none, the warnings of one run of it.
+
+    >>> for found in check('[board]\\nthreads = 1\\n[[step]]\\ndo = "arrive"\\nwho = 0\\nlien = 5\\n'): print(found)
+    6:1: step 1: arrive has no key "lien"; did you mean "line"? (keys: line)
+    """
+    words, files, _ = _lab.over(bank)
+    told = _lab.run(["check", *words, _lab.TEXT], {**files, _lab.TEXT: _lab.text_bytes(text)})
+    found = []
+    for line in (told.out + told.err).splitlines():
+        name, _, rest = re.sub("^lab: ", "", line).partition(":")
+        if name == _lab.TEXT and rest:
+            found.append(_finding(rest if rest[:1].isdigit() else rest.lstrip()))
+    return found
+
+
+def _finding(text: str) -> Finding:
+    parts = FOUND.fullmatch(text)
+    assert parts is not None
+    line, byte, step, ends, warning, message = parts.groups()
+    numbers = [None if it is None else int(it) for it in (line, byte, step)]
+    return Finding(numbers[0], numbers[1], numbers[2], warning is not None, (ends or "") + message)
+
+
+class Outcome(NamedTuple):
+    """A way in which orders end: how many do, who is stuck, the answers of each caller, how the machine then is, the
+    first such order, and that order as a scenario, over the bank. A notebook shows its picture."""
+
+    number: int
+    orders: int
+    stuck: Tuple[str, ...]
+    answers: Dict[int, Tuple[Answer, ...]]
+    state: Tuple[str, ...]
+    order: Tuple[int, ...]
+    scenario: str
+    bank: Optional[Tuple[Plan, ...]]
+
+    def trace(self) -> Trace:
+        """The trace of the first order that ends so."""
+        return play(self.scenario, bank=self.bank)
+
+    def _drawn(self) -> Any:
+        return self.trace()._drawn()
+
+    def _repr_svg_(self) -> Optional[str]:
+        return _lab.shown(self)
+
+    def __repr__(self) -> str:
+        stuck = f", stuck: {'; '.join(self.stuck)}" if self.stuck else ""
+        return f"<outcome {self.number}: {_count(self.orders, 'order')}{stuck}>"
+
+
+class Orders(NamedTuple):
+    """Every order in which the callers of a text may come: the `total`, each way in which they end, what was
+    asked (as `lab orders` says it, or ""), whether that holds (None where it isn't known, since longer orders were cut
+    off), the outcomes that are against it, and whether longer orders were cut off."""
+
+    total: int
+    outcomes: Tuple[Outcome, ...]
+    verdict: str
+    holds: Optional[bool]
+    against: Tuple[Outcome, ...]
+    is_cut_off: bool
+
+    def __repr__(self) -> str:
+        told = f": {self.verdict}" if self.verdict else ""
+        return f"<{_count(self.total, 'order')}, {_count(len(self.outcomes), 'outcome')}{told}>"
+
+
+def _count(number: int, word: str) -> str:
+    return f"{number} {word}{'' if number == 1 else 's'}"
+
+
+def orders(
+    text: Text, bank: Optional[Iterable[Plan]] = None, most: Optional[int] = None, seconds: Optional[float] = None
+) -> Orders:
+    """Goes through every order in which the callers of a text may come (docs/use/ORDERS.md). `most` is how many moments
+    of one number of steps there may be; after so many `seconds` TimeoutError is raised.
+
+    >>> steps = "".join(f'[[step]]\\ndo = "try_get"\\nwho = {who}\\nsem = 0\\n' for who in (1, 2))
+    >>> found = orders("[board]\\nthreads = 3\\nsems = [1]\\n" + steps)
+    >>> found.total, [it.answers for it in found.outcomes]
+    (2, [{1: (<done>,), 2: (<Again>,)}, {1: (<Again>,), 2: (<done>,)}])
+    """
+    words, files, plans = _lab.over(bank)
+    if most is not None:
+        words += ["--most", str(whole(BadQuestion, "most", most, 1, (1 << 63) - 1))]
+    told = _lab.run(["orders", *words, _lab.TEXT], {**files, _lab.TEXT: _lab.text_bytes(text)}, seconds=seconds)
+    if told.status == 2:
+        _lab.refuse(told)
+    head, *parts = re.split(r"^(?=# outcome \d+: )", told.out, flags=re.M)
+    found = tuple(_outcome(part, plans) for part in parts)
+    verdict = "\n".join(re.findall(rf"^(?:lab: )?{re.escape(_lab.TEXT)}: (.*)$", told.err, flags=re.M))
+    numbers = {int(it) for it in re.findall(r"outcome (\d+) is against", told.err)}
+    against = tuple(it for it in found if it.number in numbers)
+    count = re.match(r"# (\d+) order", head)
+    holds = {0: True, 1: False}.get(told.status)
+    return Orders(int(count[1]) if count else 0, found, verdict, holds, against, CUT_OFF in f"\n{told.out}")
+
+
+def _outcome(part: str, bank: Optional[Tuple[Plan, ...]]) -> Outcome:
+    first, *lines = part.splitlines()
+    head = re.match(r"# outcome (\d+): (\d+) order", first)
+    assert head is not None
+    stuck: List[str] = []
+    state: List[str] = []
+    scenario: List[str] = []
+    answers: Dict[int, Tuple[Answer, ...]] = {}
+    order: Tuple[int, ...] = ()
+    for line in lines:
+        if CUT_OFF[1:] in line:
+            continue
+        if not line.startswith("# "):
+            scenario.append(line)
+        elif line.startswith("# stuck: "):
+            stuck.append(line[9:])
+        elif line.startswith("# order:"):
+            order = tuple(int(it[1:]) for it in line[8:].split())
+        elif re.match(r"# T\d+ -> ", line):
+            who, *told = line[2:].split(" -> ")
+            answers[int(who[1:])] = tuple(read_answer(it) for it in told)
+        else:
+            state.append(line[2:])
+    text = "\n".join(scenario).strip("\n") + "\n"
+    return Outcome(int(head[1]), int(head[2]), tuple(stuck), answers, tuple(state), order, text, bank)
+
+
+class Step(NamedTuple):
+    """A step of a machine's caller: the number, who, the word with its keys, the answer (of the kind "pass" with its
+    name, where it got one), the stax, word or core after it ("" where the step went to none), and what was played."""
+
+    number: Optional[int]
+    who: int
+    word: str
+    keys: Dict[str, Any]
+    answer: Answer
+    state: str
+    plays: Tuple[Play, ...]
+
+    def __str__(self) -> str:
+        state = f" | {self.state}" if self.state else ""
+        return f"T{self.who} {self.word}{keys_text(self.keys)} -> {self.answer}{state}"
+
+
+class Callers(str):
+    """What `lab callers` prints: a str with its `steps`, how the machine was `closed`, and the `history` that its
+    kernel had then. A notebook shows its picture."""
+
+    @property
+    def steps(self) -> Tuple[Step, ...]:
+        """The steps of the callers."""
+        return tuple(_steps(self.partition("\nclose -> ")[0]))
+
+    @property
+    def closed(self) -> str:
+        """What the machine's close answered."""
+        return self.partition("\nclose -> ")[2].partition("\n")[0]
+
+    @property
+    def history(self) -> Tuple[Entry, ...]:
+        """The entries that the kernel's history had when the machine was closed."""
+        return tuple(read_trace(self.partition("\nclose -> ")[2].partition("\n")[2]))
+
+    def _repr_svg_(self) -> Optional[str]:
+        return _lab.shown(str(self))
+
+
+def _steps(text: str) -> List[Step]:
+    made: List[Step] = []
+    for line in text.splitlines():
+        if line.startswith("  "):
+            last = made[-1]
+            plays = last.plays + (read_play(line[2:]),)
+            made[-1] = last._replace(plays=plays, answer=last.answer._replace(plays=plays))
+            continue
+        head = read_call(line)
+        if head is None:
+            continue
+        number, who, word, keys, told = head
+        answer, _, state = told.partition(" | ")
+        made.append(Step(number, who, word, keys, _step_answer(answer, keys), state, ()))
+    return made
+
+
+def _step_answer(text: str, keys: Dict[str, Any]) -> Answer:
+    if text == keys.get("as"):
+        return Answer("pass", text)
+    word, comma, more = text.partition(", ")
+    return Answer("done", more) if comma and word == "done" else read_answer(text)
+
+
+def callers(text: Text, bank: Optional[Iterable[Plan]] = None, limit: int = 0) -> Callers:
+    """Makes the calls of a machine's callers on staxes, mutexes and the core (docs/use/CALLERS_TEXT.md).
+
+    >>> step = '[[step]]\\ndo = "try_lock_stax"\\nwho = 0\\nstax = 0\\nas = "p"\\n'
+    >>> told = callers("[board]\\nthreads = 1\\nstaxes = [1]\\n" + step)
+    >>> print(told.steps[0])
+    T0 try_lock_stax stax=0 as=p -> p | stax 0: in-band, 1 holder
+    """
+    words, files, _ = _lab.over(bank)
+    if whole(BadBoard, "limit", limit, 0, 1000000):
+        words += ["--limit", str(limit)]
+    told = _lab.run(["callers", *words, _lab.TEXT], {**files, _lab.TEXT: _lab.text_bytes(text)})
+    if told.status:
+        _lab.refuse(told)
+    return Callers(told.out)

@@ -1,0 +1,138 @@
+"""Traces, and the entries that their lines tell of."""
+
+import re
+from typing import Any, Dict, Iterator, List, NamedTuple, Optional, Tuple
+
+from ._answers import Answer, Clock, Deadline, Line, Next, Play, Timer
+from ._lab import shown
+
+
+class Entry(NamedTuple):
+    """An entry of a history: its number (None where the history had no room), who called, the step word with its keys,
+    the answer, and what was played."""
+
+    number: Optional[int]
+    who: int
+    word: str
+    keys: Dict[str, Any]
+    answer: Answer
+    plays: Tuple[Play, ...]
+
+    def __str__(self) -> str:
+        return f"T{self.who} {self.word}{keys_text(self.keys)} -> {self.answer}"
+
+
+class Trace(str):
+    """The trace of a played text: a str with its `entries`. A notebook shows its picture."""
+
+    _text: Optional[bytes] = None
+
+    @property
+    def entries(self) -> Tuple[Entry, ...]:
+        """The entries that the lines tell of."""
+        return tuple(read_trace(self))
+
+    def _drawn(self) -> Any:
+        # Of a scenario the picture also shows how the machine stands after each call; of a trace it can't.
+        return str(self) if self._text is None else self._text
+
+    def _repr_svg_(self) -> Optional[str]:
+        return shown(self)
+
+
+def keys_text(keys: Dict[str, Any]) -> str:
+    """The keys of a call, as a trace writes them."""
+    return "".join(f" {key}={_key_text(value)}" for key, value in keys.items())
+
+
+def _key_text(value: Any) -> str:
+    if isinstance(value, bytes):
+        return value.hex() or "-"
+    return "none" if value is None else str(value).lower() if isinstance(value, bool) else str(value)
+
+
+def _key_value(key: str, text: str) -> Any:
+    """The value of a key, as the trace has it."""
+    if key in ("stage", "way", "policy", "kind", "as", "pass"):
+        return text
+    if key == "bytes":
+        return bytes.fromhex("" if text == "-" else text)
+    if key == "keep":
+        return text == "true"
+    return None if text == "none" else int(text)
+
+
+def read_trace(text: str) -> Iterator[Entry]:
+    """The entries that the lines of a trace tell of."""
+    head: Optional[Tuple[Optional[int], int, str, Dict[str, Any], str]] = None
+    plays: List[Play] = []
+    for line in text.splitlines():
+        if line.startswith("  "):
+            plays.append(read_play(line[2:]))
+            continue
+        if head is not None:
+            yield _entry(head, plays)
+        head, plays = read_call(line), []
+    if head is not None:
+        yield _entry(head, plays)
+
+
+def _entry(head: Tuple[Optional[int], int, str, Dict[str, Any], str], plays: List[Play]) -> Entry:
+    number, who, word, keys, answer = head
+    return Entry(number, who, word, keys, read_answer(answer, tuple(plays)), tuple(plays))
+
+
+def read_call(line: str) -> Optional[Tuple[Optional[int], int, str, Dict[str, Any], str]]:
+    """The number, the caller, the word, the keys and the answer of a line; None for a line that tells of no call."""
+    call, arrow, answer = line.partition(" -> ")
+    number, _, rest = call.partition(" ")
+    if not arrow or not rest.startswith("T") or not (number == "-" or number.isdecimal()):
+        return None
+    who, word, *parts = rest.split(" ")
+    pairs: List[List[str]] = []
+    for part in parts:
+        key, is_key, value = part.partition("=")
+        if is_key:
+            pairs.append([key, value])
+        else:
+            pairs[-1][1] += " " + part
+    keys = {key: _key_value(key, value) for key, value in pairs}
+    return None if number == "-" else int(number), int(who[1:]), word, keys, answer
+
+
+def read_answer(text: str, plays: Tuple[Play, ...] = ()) -> Answer:
+    """An answer, as a trace writes it.
+
+    >>> read_answer("next 3 more").value, read_answer("bytes -").value, read_answer("Again").refusal
+    (Next(thread=3, more=True), b'', 'Again')
+    """
+    if text in ("done", "begun", "timed out"):
+        return Answer(text, None, plays)
+    word, _, rest = text.partition(" ")
+    if word in ("count", "bits", "number"):
+        return Answer(word, int(rest), plays)
+    if word == "bytes":
+        return Answer(word, bytes.fromhex("" if rest == "-" else rest), plays)
+    if word == "thread":
+        return Answer(word, None if rest == "none" else int(rest), plays)
+    if word == "next":
+        thread, _, more = rest.partition(" ")
+        return Answer(word, Next(None if thread == "none" else int(thread), more == "more"), plays)
+    return Answer("refused", text, plays)
+
+
+def read_play(text: str) -> Play:
+    """A play, as a trace writes it.
+
+    >>> read_play("timer 0 count 2 missed 1 handled")
+    Timer(timer=0, number=2, missed=1, handled=True)
+    """
+    word, *rest = text.split(" ")
+    if word == "clock":
+        return Clock()
+    if word == "deadline":
+        return Deadline(int(rest[0][1:]))
+    numbers = [int(it) for it in re.findall(r"\b\d+\b", text)]
+    if word == "timer":
+        return Timer(numbers[0], numbers[1], numbers[2], rest[-1] == "handled")
+    return Line(numbers[0], rest[1], numbers[1], rest[-1] == "handled")
