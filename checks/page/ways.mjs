@@ -496,4 +496,4 @@ async function owns(page) {
 }
 
 export const WAYS = { opens, walks, tables, edits, completes, drives, orders, stops, callers, pages, handlers, exercises,
-  shares, owns, keyboard, widths, keeps, compares };
+  owns, shares, keyboard, widths, keeps, compares };
