@@ -1,5 +1,5 @@
-"""What the program lab does, from Python: faults, pictures, orders and a machine's callers, as values. Run as test_play.py
-is; where the program isn't there, nothing is tried."""
+"""What the program lab does, from Python: faults, pictures, orders and a machine's callers, as values. Run as
+test_play.py is; where the program isn't there, nothing is tried."""
 import os
 import warnings
 
@@ -64,7 +64,10 @@ def test_orders():
     assert found.holds is False and not found.is_cut_off and "outcome 1 is against" in found.verdict
     (stuck,) = found.against
     assert stuck.stuck == ("T1 waits for sem 1", "T2 waits for sem 0") and stuck.order == (1, 1, 2, 1, 2, 2)
-    assert [str(it) for it in stuck.answers[1]] == ["begun", "done", "begun"] and stuck.state == ("sem 0: -1", "sem 1: -1")
+    assert [str(it) for it in stuck.answers[1]] == ["begun", "done", "begun"] and stuck.state == (
+        "sem 0: -1",
+        "sem 1: -1",
+    )
     assert [it.who for it in stuck.trace().entries][-6:] == [1, 1, 2, 1, 2, 2]
     assert stuck._repr_svg_() == evlsim.draw(stuck.scenario)
     cut = evlsim.orders(text_of("examples/orders/two_locks.toml"), most=2)

@@ -1,7 +1,8 @@
 """A bench of a serial driver that is written as steps: an interrupt posts a semaphore, a thread takes a byte for each
-count and writes it to a cross-buffer, an in-band reader reads it, and a timer that each byte starts anew watches. Hypothesis
-(Debian: python3-hypothesis) mixes the steps of all: no byte is lost while the out-of-band stage is open. While it is
-stalled two interrupts merge, and the driver, which takes one byte for each, leaves one behind: test_a_bug_is_found."""
+count and writes it to a cross-buffer, an in-band reader reads it, and a timer that each byte starts anew watches.
+Hypothesis (Debian: python3-hypothesis) mixes the steps of all: no interrupt is lost while the out-of-band stage is
+open. While it is stalled two merge, and the driver, which takes one byte for each, leaves one behind
+(test_a_bug_is_found)."""
 import evlsim
 from hypothesis import settings
 from hypothesis import strategies as st

@@ -18,7 +18,7 @@ function marked(line, it) {
   }
   return `<span class="line${kind}">${body}</span>`;
 }
-/** Only lines that differ from what is there are made anew, from the first one to the last; a step moves a class alone. */
+/** Lines are made anew from the first that differs from what is there to the last; a step moves a class alone. */
 export function paint() {
   const box = $('under'), marks = new Map(), old = painted;
   for (const it of now.told) if (it.line !== undefined && !marks.get(it.line)?.fault) marks.set(it.line, it);
