@@ -45,10 +45,13 @@ def test_pictures():
         assert kernel._repr_svg_() == evlsim.draw(kernel.scenario()) == evlsim.draw(kernel)
         assert "sem 0" in evlsim.draw(kernel, "lanes") and evlsim.draw(kernel, "csv").count("\n") >= 2
     assert kernel._repr_svg_() is None
-    own = evlsim.Kernel(threads=1, sems=[0], bank=[evlsim.Plan(2, (1, "post_sem", 0))])
+    bank = [evlsim.Plan(2, (1, "post_sem", 0))]
+    own = evlsim.Kernel(threads=1, sems=[0], bank=bank)
     own.request(0, line=5, stage="oob", callback=0)
     own.arrive(0, line=5)
     assert own._repr_svg_() == evlsim.draw(own.trace())
+    for trace in (evlsim.play(own.scenario(), bank=bank), evlsim.play(text, limit=3)):
+        assert trace._repr_svg_() == evlsim.draw(str(trace)) != evlsim.draw(text)
     many = evlsim.Kernel(threads=1, sems=[0], limit=5000)
     for _ in range(2100):
         many.put(0, sem=0)
