@@ -36,7 +36,7 @@ async function edit(page, text) {
   let count = 0;
   return least(8, () => {
     const first = text.replace('[[step]]', `[[step]]\ndo = "tick"\nwho = 0\ndelta = ${++count}\n[[step]]`);
-    return page.browser.evaluate(`(${EDIT})(${JSON.stringify(`${first}# ${count}\n`)})`);
+    return page.browser.evaluate(`(${EDIT})(${JSON.stringify(first)})`);
   });
 }
 async function against_native(page, lab) {

@@ -495,5 +495,5 @@ async function owns(page) {
   await page.lesson('5. A timer');
 }
 
-export const WAYS = { opens, walks, tables, edits, completes, drives, orders, stops, callers, pages, handlers, exercises,
-  shares, owns, keyboard, widths, keeps, compares };
+export const WAYS = { opens, walks, tables, edits, completes, drives, orders, stops, callers, pages, handlers,
+  exercises, owns, shares, keyboard, widths, keeps, compares };

@@ -1,4 +1,4 @@
-"""What a type checker finds before anything runs: mypy has to report each line that ends with "# wrong", and no other one.
+"""What a type checker finds before anything runs: mypy has to report each line that ends with "# wrong", and no other.
 Looked at by checks/embed; it is not run."""
 from typing import List, Optional, Tuple
 

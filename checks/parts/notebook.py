@@ -1,10 +1,10 @@
-"""Runs examples/notebook.ipynb: each cell of code in turn, and the picture of what it ends with; then the same by Jupyter's
-nbconvert without a screen, where this Python has it, which must show as many pictures. Run by checks/embed.
+"""Runs examples/notebook.ipynb: each cell of code in turn, and the picture of what it ends with; then the same by
+Jupyter's nbconvert without a screen, where this Python has it, which must show as many pictures. Run by checks/embed.
 
     python3 checks/parts/notebook.py [FOLDER]
 
-FOLDER gets notebook.html, to be looked at, where nbconvert is there: each picture as Jupyter shows it, an image of its own
-(nbconvert 6.5 takes the marks out of a picture that it puts into a page)."""
+FOLDER gets notebook.html, to be looked at, where nbconvert is there: each picture as Jupyter shows it, an image of its
+own (nbconvert 6.5 takes the marks out of a picture that it puts into a page)."""
 import ast
 import base64
 import html
@@ -86,7 +86,9 @@ def main():
             sys.stdout = out
     assert shown == PICTURES, f"{shown} pictures"
     if importlib.util.find_spec("nbconvert") is None or importlib.util.find_spec("ipykernel") is None:
-        print(f"examples/notebook.ipynb: {shown} pictures; not run by Jupyter, this Python has no nbconvert or ipykernel")
+        print(
+            f"examples/notebook.ipynb: {shown} pictures; not run by Jupyter, this Python has no nbconvert or ipykernel"
+        )
         return
     with tempfile.TemporaryDirectory(prefix="evlsim-notebook-") as folder:
         assert by_jupyter(folder, sys.argv[1:]) == PICTURES

@@ -1,5 +1,5 @@
-"""What the program lab does, from Python: faults, pictures, orders and a machine's callers, as values. Run as test_play.py
-is; where the program isn't there, nothing is tried."""
+"""What the program lab does, from Python: faults, pictures, orders and a machine's callers, as values. Run as
+test_play.py is; where the program isn't there, nothing is tried."""
 import os
 import warnings
 
@@ -45,10 +45,13 @@ def test_pictures():
         assert kernel._repr_svg_() == evlsim.draw(kernel.scenario()) == evlsim.draw(kernel)
         assert "sem 0" in evlsim.draw(kernel, "lanes") and evlsim.draw(kernel, "csv").count("\n") >= 2
     assert kernel._repr_svg_() is None
-    own = evlsim.Kernel(threads=1, sems=[0], bank=[evlsim.Plan(2, (1, "post_sem", 0))])
+    bank = [evlsim.Plan(2, (1, "post_sem", 0))]
+    own = evlsim.Kernel(threads=1, sems=[0], bank=bank)
     own.request(0, line=5, stage="oob", callback=0)
     own.arrive(0, line=5)
     assert own._repr_svg_() == evlsim.draw(own.trace())
+    for trace in (evlsim.play(own.scenario(), bank=bank), evlsim.play(text, limit=3)):
+        assert trace._repr_svg_() == evlsim.draw(str(trace)) != evlsim.draw(text)
     many = evlsim.Kernel(threads=1, sems=[0], limit=5000)
     for _ in range(2100):
         many.put(0, sem=0)
@@ -64,7 +67,10 @@ def test_orders():
     assert found.holds is False and not found.is_cut_off and "outcome 1 is against" in found.verdict
     (stuck,) = found.against
     assert stuck.stuck == ("T1 waits for sem 1", "T2 waits for sem 0") and stuck.order == (1, 1, 2, 1, 2, 2)
-    assert [str(it) for it in stuck.answers[1]] == ["begun", "done", "begun"] and stuck.state == ("sem 0: -1", "sem 1: -1")
+    assert [str(it) for it in stuck.answers[1]] == ["begun", "done", "begun"] and stuck.state == (
+        "sem 0: -1",
+        "sem 1: -1",
+    )
     assert [it.who for it in stuck.trace().entries][-6:] == [1, 1, 2, 1, 2, 2]
     assert stuck._repr_svg_() == evlsim.draw(stuck.scenario)
     cut = evlsim.orders(text_of("examples/orders/two_locks.toml"), most=2)

@@ -118,7 +118,8 @@ def test_entries_of_a_trace():
     for name in glob.glob(f"{TOP}/scenarios/**/*.trace", recursive=True):
         text = text_of(name)
         lines = "".join(
-            f"{it.number or '-'} {it}\n" + "".join(f"  {play}\n" for play in it.plays) for it in evlsim.Trace(text).entries
+            f"{it.number or '-'} {it}\n" + "".join(f"  {play}\n" for play in it.plays)
+            for it in evlsim.Trace(text).entries
         )
         assert lines == text.partition("\n")[2], name
 

@@ -3,11 +3,11 @@ import { $, now, escaped } from './now.js';
 import { put_text } from './kept.js';
 import { offer, offered } from './complete.js';
 
-const MOST_FAULTS = 40, MANY_LINES = 200;
+const MOST_FAULTS = 40;
 /** @type {string[]} The lines as they were painted. */
 let painted = [];
 /** A line with what is reported of it underlined from its place on. @param {string} line @param {any} it */
-function marked(line, it, i) {
+function marked(line, it) {
   let body = escaped(line) || ' ', kind = '';
   if (it) {
     kind = it.fault ? ' fault' : ' warned';
@@ -16,25 +16,26 @@ function marked(line, it, i) {
     const parts = [line.slice(0, at), line.slice(at, at + size), line.slice(at + size)].map(escaped);
     body = `${parts[0]}<u class="${it.fault ? '' : 'w'}">${parts[1] || ' '}</u>${parts[2]}`;
   }
-  return `<span class="line${kind}" data-n="${i + 1}">${body}</span>`;
+  return `<span class="line${kind}">${body}</span>`;
 }
-/** Only lines that differ from what is there are made anew; a step moves a class alone. */
+/** Lines are made anew from the first that differs from what is there to the last; a step moves a class alone. */
 export function paint() {
-  const box = $('under'), marks = new Map();
+  const box = $('under'), marks = new Map(), old = painted;
   for (const it of now.told) if (it.line !== undefined && !marks.get(it.line)?.fault) marks.set(it.line, it);
-  const fresh = $('text').value.split('\n').map((/** @type {string} */ line, /** @type {number} */ i) =>
-    marked(line, marks.get(i), i));
-  const apart = fresh.filter((/** @type {string} */ it, /** @type {number} */ i) => it !== painted[i]).length;
-  if (apart > MANY_LINES) box.innerHTML = fresh.join('');
-  else {
-    while (box.children.length > fresh.length) box.lastElementChild.remove();
-    for (let i = 0; apart && i < fresh.length; i++) {
-      if (fresh[i] === painted[i]) continue;
-      if (box.children[i]) box.children[i].outerHTML = fresh[i];
-      else box.insertAdjacentHTML('beforeend', fresh[i]);
-    }
+  painted = $('text').value.split('\n').map((/** @type {string} */ line, /** @type {number} */ i) =>
+    marked(line, marks.get(i)));
+  const least = Math.min(old.length, painted.length);
+  let from = 0, same = 0;
+  while (from < least && old[from] === painted[from]) from++;
+  while (same < least - from && old[old.length - 1 - same] === painted[painted.length - 1 - same]) same++;
+  const html = painted.slice(from, painted.length - same).join(''), gone = document.createRange();
+  if (from + same < old.length) {
+    gone.setStartBefore(box.children[from]);
+    gone.setEndAfter(box.children[old.length - same - 1]);
+    gone.deleteContents();
   }
-  painted = fresh;
+  if (from) box.children[from - 1].insertAdjacentHTML('afterend', html);
+  else box.insertAdjacentHTML('afterbegin', html);
   paint_step();
 }
 export function paint_step() {

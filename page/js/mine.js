@@ -1,5 +1,5 @@
-// One's own texts: what was begun here, opened from a file, brought by a link, or taken from an outcome. They stand above
-// the lessons and are kept in this browser, until they are removed.
+// One's own texts: what was begun here, opened from a file, brought by a link, or taken from an outcome. They stand
+// above the lessons and are kept in this browser, until they are removed.
 import { $, escaped, now } from './now.js';
 import { exercise_lesson } from './exercise.js';
 import { kept } from './kept.js';

@@ -22,7 +22,8 @@ test('stored answers are the same by Node', { skip }, () => {
 });
 test('what goes to standard error is heard as it comes', { skip }, () => {
   const module = new WebAssembly.Module(fs.readFileSync(code)), heard = [];
-  const { err, out } = run_program(module, ['lab', 'play', 'x'], { x: '[board]\nthreads = 1\n' }, '', part => heard.push(part));
+  const text = '[board]\nthreads = 1\n';
+  const { err, out } = run_program(module, ['lab', 'play', 'x'], { x: text }, '', part => heard.push(part));
   assert.equal(Buffer.concat(heard).toString(), err);
   assert.match(err, /^x: done/);
   assert.match(out, /^board /);

@@ -20,14 +20,15 @@ test('words, keys and values of a step', () => {
 });
 test('words, keys and passes of callers', () => {
   assert.ok(at('[[step]]\ndo = "|')?.words.includes('"try_lock_stax"'));
-  assert.deepEqual(at('[[step]]\ndo = "begin_lock_mutex"\nwho = 0\n|', 'callers')?.words, ['mutex = ', 'until = ', 'as = ']);
-  assert.deepEqual(at('step = [\n  { do = "take", as = "a" }, { as = "b" }, { as = "a" },\n  { do = "unlock_stax", pass = "|')
-    ?.words, ['"a"', '"b"']);
+  const step = '[[step]]\ndo = "begin_lock_mutex"\nwho = 0\n', passes = '{ as = "a" }, { as = "b" }, { as = "a" }';
+  assert.deepEqual(at(step + '|', 'callers')?.words, ['mutex = ', 'until = ', 'as = ']);
+  assert.deepEqual(at(`step = [\n  ${passes},\n  { do = "unlock_stax", pass = "|`)?.words, ['"a"', '"b"']);
   assert.ok(at('[board]\nthreads = 1\n|', 'callers')?.words.includes('staxes = '));
 });
 test('values of a board and of what is asked', () => {
   assert.deepEqual(at('[board]\nmutexes = [|')?.words[0], '"normal"');
-  assert.deepEqual(at('[board]\nmutexes = ["normal", "c|'), { size: 2, words: ['"normal"', '"recursive"', '"ceiling 50"'] });
+  assert.deepEqual(at('[board]\nmutexes = ["normal", "c|'),
+    { size: 2, words: ['"normal"', '"recursive"', '"ceiling 50"'] });
   assert.equal(at('[board]\nsems = [|'), null);
   assert.deepEqual(at('[ask]\nalways_ends = |', 'orders')?.words, ['true']);
   assert.equal(at('[ask]\nnever = |', 'orders'), null);

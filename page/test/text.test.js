@@ -3,8 +3,9 @@ import assert from 'node:assert/strict';
 import fs from 'node:fs';
 import path from 'node:path';
 import test from 'node:test';
-import { ask_of, bare_of, first_steps, kind_of, lost_line, passes_at, steps_of, with_ask, without_ask } from '../js/text.js';
 import { read_trace } from '../js/reads.js';
+import { ask_of, bare_of, first_steps, kind_of, lost_line } from '../js/text.js';
+import { passes_at, steps_of, with_ask, without_ask } from '../js/text.js';
 
 const top = path.join(import.meta.dirname || path.dirname(new URL(import.meta.url).pathname), '../..');
 const folder = name => ['examples', '.'].map(above => path.join(top, above, name)).find(it => fs.existsSync(it)) || '';
@@ -43,7 +44,8 @@ test('an exercise keeps what was given', () => {
   assert.equal(lost_line('a = [1] # one', 'a = [1]'), null);
 });
 test('a text of callers is cut after a step, with the core given back', () => {
-  const text = 'limit = 9\nstep = [\n  { do = "take", who = 0 },\n]\n[board]\nthreads = 2 # two\nstaxes = [1]\n\n[other]\nx = 1\n';
+  const text = 'limit = 9\nstep = [\n  { do = "take", who = 0 },\n]\n[board]\nthreads = 2 # two\nstaxes = [1]\n\n'
+    + '[other]\nx = 1\n';
   const entries = read_trace('board threads=2\n1 T0 attach policy=fifo 10 stage=oob -> done\n'
     + '2 T1 try_lock_stax stax=0 as=7 -> 7 | stax 0: in-band, 1 holder\n3 T0 take -> done | core: taken by T0\n'
     + '4 T0 write xbuf=0 way=out bytes=0012 -> done\n5 T0 give -> done | core: free\n');

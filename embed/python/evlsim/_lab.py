@@ -27,8 +27,8 @@ _found: List[str] = []
 
 
 def lab() -> str:
-    """Where the program lab is: what EVLSIM_LAB names, or else beside the module, in its checkout if it was built there,
-    in its prefix, or on the path."""
+    """Where the program lab is: what EVLSIM_LAB names, or else beside the module, in its checkout if it was built
+    there, in its prefix, or on the path."""
     if os.environ.get("EVLSIM_LAB"):
         return os.environ["EVLSIM_LAB"]
     if not _found:
@@ -47,7 +47,9 @@ def _find() -> str:
         if place and os.access(place, os.X_OK) and _is_lab(place):
             return place
     built = f" ({script} help builds it)" if os.path.isfile(script) else ""
-    raise NoLab(f"there is no program lab beside the module or on the path{built}: it checks, draws and goes through orders")
+    raise NoLab(
+        f"there is no program lab beside the module or on the path{built}: it checks, draws and goes through orders"
+    )
 
 
 def _is_lab(program: str) -> bool:
@@ -153,11 +155,12 @@ class Picture(str):
 
 
 def draw(what: Any, form: Form = "svg", page: int = 1) -> Picture:
-    """A picture of a scenario or a trace, as a text of either, or of what has one: a played text, a kernel, an outcome,
-    a machine's callers. The form is "svg", "lanes" (characters), "csv" or "perfetto" (docs/use/LAB.md); more than 2,000
-    marks make more than one page. Raises NoLab where the program lab isn't there, BadText where the text is neither.
+    """A picture of a scenario or a trace, as a text of either, or of what has one: a played text, a kernel, an
+    outcome, a machine's callers. The form is "svg", "lanes" (characters), "csv" or "perfetto" (docs/use/LAB.md); more
+    than 2,000 marks make more than one page. Raises NoLab where the program lab isn't there, BadText for other texts.
 
-    >>> print(draw('[board]\\nthreads = 1\\nsems = [0]\\n[[step]]\\ndo = "put"\\nwho = 0\\nsem = 0\\n', "lanes"), end="")
+    >>> put = '[[step]]\\ndo = "put"\\nwho = 0\\nsem = 0\\n'
+    >>> print(draw("[board]\\nthreads = 1\\nsems = [0]\\n" + put, "lanes"), end="")
     T0          o
     sem 0       .
     <BLANKLINE>

@@ -1,4 +1,5 @@
-"""For pytest: a fixture that makes kernels and shows their traces and pictures where a test fails, and scenarios as tests.
+"""For pytest: a fixture that makes kernels and shows their traces and pictures where a test fails, and scenarios as
+tests.
 
     def test_put(evlsim_kernel):
         kernel = evlsim_kernel(threads=2, sems=[0])

@@ -148,7 +148,7 @@ def kernels(
     words: Optional[Iterable[str]] = None,
     most: int = 30,
 ) -> Kernel:
-    """Kernels that have made at most so many calls, over a board, a bank and step words that are given, or else drawn."""
+    """Kernels that have made at most so many calls, over a board, a bank and step words that are given or drawn."""
     chosen = cast(Board, draw(boards())) if board is None else board
     plans = read_bank(bank)[0]
     kernel = Kernel(**chosen, bank=plans)
