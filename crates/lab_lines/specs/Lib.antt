@@ -1,0 +1,5 @@
+pub mod Boards
+pub mod Kinds
+pub mod Lines
+pub mod Texts
+pub mod Writings
