@@ -6,12 +6,13 @@ use Rattle.std.proofs.lemmas.List.Sums.{count_by_more_no, count_by_more_yes, cou
 use Rattle.std.specs.Fmt.{is_char_start, take_chars}
 use Rattle.std.specs.Str.{trim_start}
 use Rattle.lab_drawing.specs.Drawings.{shape_text}
-use Rattle.lab_drawing.specs.Frames.{Layout, across, below_lane, capped, down, layout_of, longest, most_shown, tie_text}
+use Rattle.lab_drawing.specs.Frames.{Layout, capped, layout_of, left_of, longest, most_shown, tie_text, to_line, top_of}
 use Rattle.lab_drawing.specs.Heads.{head_text, place_text}
 use Rattle.lab_drawing.specs.Lanes.{lanes_in}
 use Rattle.lab_drawing.specs.Marks.{is_entry, line_of}
-use Rattle.lab_drawing.specs.Pictures.{band_frame, body_text, column_behind, column_text, columns_text, ellipsis, goes_on, goes_on_behind, label_ink, label_text, lead_text, mark_text, moment_after, picture_text, shown_text, stood_text, svg_text, wait_behind, waits_of}
+use Rattle.lab_drawing.specs.Pictures.{band_frame, body_text, column_behind, column_text, columns_text, ellipsis, goes_on, goes_on_behind, going_text, label_of, lead_text, mark_text, moment_after, picture_text, shown_text, stood_text, wait_behind, waits_of}
 use Rattle.lab_drawing.specs.Titles.{HoldsTitles, escaped, escaped_byte, title_text}
+use Rattle.lab_drawing.specs.declared.frames.Goes.{Goes}
 use Rattle.lab_drawing.specs.declared.frames.Shows.{Shows}
 use Rattle.lab_drawing.specs.declared.lanes.Lane.{Lane}
 use Rattle.lab_drawing.specs.declared.marks.Mark.{Mark}
@@ -19,14 +20,14 @@ use Rattle.lab_drawing.specs.declared.moments.Moment.{Moment}
 use Rattle.lab_drawing.proofs.PageLaws.{drop_short, length_taken, take_short}
 use Rattle.lab_drawing.proofs.TitleLaws.{titles-append, titles-behind}
 
-abbrev laid_out : List Lane → ℕ → ℕ → Shows → Layout
-laid_out lanes shown count shows = record { lanes = lanes; shown = shown; count = count; shows = shows }
+abbrev laid_out : List Lane → ℕ → ℕ → Shows → Goes → Layout
+laid_out lanes shown count shows goes = record { lanes = lanes; shown = shown; count = count; shows = shows; goes = goes }
 
-pub same_layout : (shows : Shows) (marks : List Mark) (lanes : List Lane) (most shown : ℕ) → lanes ≡ lanes_in marks → most ≡ most_shown shows → shown ≡ min most (longest marks)
-    → laid_out lanes shown (length marks) shows ≡ layout_of shows marks
-same_layout shows marks lanes most shown l m s =
-    ap (λ (x : List Lane). laid_out x shown (length marks) shows) l
-    ∙ ap (λ (x : ℕ). laid_out (lanes_in marks) x (length marks) shows) (s ∙ ap (λ (x : ℕ). min x (longest marks)) m)
+pub same_layout : (goes : Goes) (shows : Shows) (marks : List Mark) (lanes : List Lane) (most shown : ℕ) → lanes ≡ lanes_in marks → most ≡ most_shown shows
+    → shown ≡ min most (longest marks) → laid_out lanes shown (length marks) shows goes ≡ layout_of goes shows marks
+same_layout goes shows marks lanes most shown l m s =
+    ap (λ (x : List Lane). laid_out x shown (length marks) shows goes) l
+    ∙ ap (λ (x : ℕ). laid_out (lanes_in marks) x (length marks) shows goes) (s ∙ ap (λ (x : ℕ). min x (longest marks)) m)
 
 -- ---- the first characters of a text
 
@@ -199,26 +200,23 @@ pub joined3 : (a b c t0 t1 t2 t3 : List ℕ) → t1 ≡ t0 ++ a → t2 ≡ t1 ++
 joined3 a b c t0 t1 t2 t3 e f g =
     g ∙ ap (λ (x : List ℕ). x ++ c) (f ∙ ap (λ (x : List ℕ). x ++ b) e) ∙ append_assoc (t0 ++ a) b c ∙ append_assoc t0 a (b ++ c)
 
-pub body_made : (sheet : Layout) (column : ℕ) (mark : Mark) (n : ℕ) (led leads tied ties drawn ink t0 t1 t2 t3 t4 : List ℕ) → n ≡ below_lane sheet column mark.lane → leads ≡ led
-    → led ≡ lead_text n → ties ≡ tied → tied ≡ tie_text sheet column mark → drawn ≡ shape_text mark.shape → ink ≡ label_ink mark.shape → t1 ≡ t0 ++ leads → t2 ≡ t1 ++ ties
-    → t3 ≡ t2 ++ drawn → t4 ≡ t3 ++ label_text sheet.shown n ink mark.line.now → t4 ≡ t0 ++ body_text sheet column mark
-body_made sheet column mark n led leads tied ties drawn ink t0 t1 t2 t3 t4 b l m t u d i e f g h =
-    let line : List ℕ = mark.line.now in
-    let most : ℕ = sheet.shown in
-    let whole : t4 ≡ t1 ++ (ties ++ (drawn ++ label_text most n ink line)) = joined3 ties drawn (label_text most n ink line) t1 t2 t3 t4 f g h in
-    whole ∙ ap (λ (x : List ℕ). x ++ (ties ++ (drawn ++ label_text most n ink line))) e ∙ append_assoc t0 leads (ties ++ (drawn ++ label_text most n ink line))
-    ∙ ap (λ (x : List ℕ). t0 ++ (x ++ (ties ++ (drawn ++ label_text most n ink line)))) (l ∙ m)
-    ∙ ap (λ (x : List ℕ). t0 ++ (lead_text n ++ (x ++ (drawn ++ label_text most n ink line)))) (t ∙ u)
-    ∙ ap (λ (x : List ℕ). t0 ++ (lead_text n ++ (tie_text sheet column mark ++ (x ++ label_text most n ink line)))) d
-    ∙ ap (λ (x : List ℕ). t0 ++ (lead_text n ++ (tie_text sheet column mark ++ (shape_text mark.shape ++ label_text most n x line)))) i
-    ∙ ap (λ (k : ℕ). t0 ++ (lead_text k ++ (tie_text sheet column mark ++ (shape_text mark.shape ++ label_text most k (label_ink mark.shape) line)))) b
+pub body_made : (sheet : Layout) (column : ℕ) (mark : Mark) (n : ℕ) (led leads tied ties drawn t0 t1 t2 t3 t4 : List ℕ) → n ≡ to_line sheet column mark.lane → leads ≡ led
+    → led ≡ lead_text sheet.goes n → ties ≡ tied → tied ≡ tie_text sheet column mark → drawn ≡ shape_text mark.shape → t1 ≡ t0 ++ leads → t2 ≡ t1 ++ ties
+    → t3 ≡ t2 ++ drawn → t4 ≡ t3 ++ label_of sheet n mark → t4 ≡ t0 ++ body_text sheet column mark
+body_made sheet column mark n led leads tied ties drawn t0 t1 t2 t3 t4 b l m t u d e f g h =
+    let whole : t4 ≡ t1 ++ (ties ++ (drawn ++ label_of sheet n mark)) = joined3 ties drawn (label_of sheet n mark) t1 t2 t3 t4 f g h in
+    whole ∙ ap (λ (x : List ℕ). x ++ (ties ++ (drawn ++ label_of sheet n mark))) e ∙ append_assoc t0 leads (ties ++ (drawn ++ label_of sheet n mark))
+    ∙ ap (λ (x : List ℕ). t0 ++ (x ++ (ties ++ (drawn ++ label_of sheet n mark)))) (l ∙ m)
+    ∙ ap (λ (x : List ℕ). t0 ++ (lead_text sheet.goes n ++ (x ++ (drawn ++ label_of sheet n mark)))) (t ∙ u)
+    ∙ ap (λ (x : List ℕ). t0 ++ (lead_text sheet.goes n ++ (tie_text sheet column mark ++ (x ++ label_of sheet n mark)))) d
+    ∙ ap (λ (k : ℕ). t0 ++ (lead_text sheet.goes k ++ (tie_text sheet column mark ++ (shape_text mark.shape ++ label_of sheet k mark)))) b
 
-pub mark_made : (sheet : Layout) (column : ℕ) (mark : Mark) (x y : ℕ) (placed places t0 t1 t2 t3 : List ℕ) → x ≡ across column → y ≡ down sheet column mark.lane → places ≡ placed
-    → placed ≡ place_text x y → t1 ≡ t0 ++ places → t2 ≡ t1 ++ title_text mark.line.now → t3 ≡ t2 ++ body_text sheet column mark → t3 ≡ t0 ++ mark_text sheet column mark
+pub mark_made : (sheet : Layout) (column : ℕ) (mark : Mark) (x y : ℕ) (placed places t0 t1 t2 t3 : List ℕ) → x ≡ left_of sheet column mark.lane → y ≡ top_of sheet column mark.lane
+    → places ≡ placed → placed ≡ place_text x y → t1 ≡ t0 ++ places → t2 ≡ t1 ++ title_text mark.line.now → t3 ≡ t2 ++ body_text sheet column mark → t3 ≡ t0 ++ mark_text sheet column mark
 mark_made sheet column mark x y placed places t0 t1 t2 t3 a d p q e f g =
     joined3 places (title_text mark.line.now) (body_text sheet column mark) t0 t1 t2 t3 e f g
     ∙ ap (λ (z : List ℕ). t0 ++ (z ++ (title_text mark.line.now ++ body_text sheet column mark)))
-    (p ∙ q ∙ ap (λ (n : ℕ). place_text n y) a ∙ ap (λ (n : ℕ). place_text (across column) n) d)
+    (p ∙ q ∙ ap (λ (n : ℕ). place_text n y) a ∙ ap (λ (n : ℕ). place_text (left_of sheet column mark.lane) n) d)
 
 -- what stands behind a mark was made in a text of its own
 pub column_made : (frame stood mark first behind added t0 t1 t2 : List ℕ) → first ≡ frame → behind ≡ first ++ stood → added ≡ behind → t1 ≡ t0 ++ added → t2 ≡ t1 ++ mark
@@ -229,9 +227,9 @@ column_made frame stood mark first behind added t0 t1 t2 f s a e g =
 
 -- ---- the whole
 
-pub picture_made : (shows : Shows) (moments : List Moment) (marks : List Mark) (sheet : Layout) (none head headed drawn whole : List ℕ) → sheet ≡ layout_of shows marks → none ≡ []
-    → headed ≡ none ++ head → head ≡ head_text sheet → drawn ≡ headed ++ columns_text sheet moments [] marks → whole ≡ drawn ++ codes "</svg>\n" → whole ≡ svg_text shows moments marks
-picture_made shows moments marks sheet none head headed drawn whole s n e h d w =
+pub picture_made : (goes : Goes) (shows : Shows) (moments : List Moment) (marks : List Mark) (sheet : Layout) (none head headed drawn whole : List ℕ) → sheet ≡ layout_of goes shows marks → none ≡ []
+    → headed ≡ none ++ head → head ≡ head_text sheet → drawn ≡ headed ++ columns_text sheet moments [] marks → whole ≡ drawn ++ codes "</svg>\n" → whole ≡ going_text goes shows moments marks
+picture_made goes shows moments marks sheet none head headed drawn whole s n e h d w =
     let columns : List ℕ = columns_text sheet moments [] marks in
     let front : headed ≡ head_text sheet = e ∙ ap (λ (x : List ℕ). x ++ head) n ∙ h in
     w ∙ ap (λ (x : List ℕ). x ++ codes "</svg>\n") (d ∙ ap (λ (x : List ℕ). x ++ columns) front) ∙ append_assoc (head_text sheet) columns (codes "</svg>\n")
@@ -247,7 +245,7 @@ columns_titles sheet moments before (mark ∷ rest) =
     let column : ℕ = length before in
     let stood : List ℕ =
     stood_text sheet column (waits_of sheet.lanes before) (moment_after moments (count_by is_entry (before ++ mark ∷ []))) (moment_after moments (count_by is_entry before)) in
-    let place : List ℕ = place_text (across column) (down sheet column mark.lane) in
+    let place : List ℕ = place_text (left_of sheet column mark.lane) (top_of sheet column mark.lane) in
     let others : List ℕ = columns_text sheet moments (before ++ mark ∷ []) rest in (
       band_frame sheet column ++ (stood ++ place),
       body_text sheet column mark ++ others,
@@ -255,8 +253,8 @@ columns_titles sheet moments before (mark ∷ rest) =
       titles-behind (map line_of rest) (body_text sheet column mark) others (columns_titles sheet moments (before ++ mark ∷ []) rest),
     )
 
-pub svg_titles : (shows : Shows) (moments : List Moment) (marks : List Mark) (text : List ℕ) → text ≡ svg_text shows moments marks → HoldsTitles (map line_of marks) text
-svg_titles shows moments marks text e =
+pub svg_titles : (goes : Goes) (shows : Shows) (moments : List Moment) (marks : List Mark) (text : List ℕ) → text ≡ going_text goes shows moments marks → HoldsTitles (map line_of marks) text
+svg_titles goes shows moments marks text e =
     subst (HoldsTitles (map line_of marks)) (sym e)
-    (titles-behind (map line_of marks) (head_text (layout_of shows marks)) _
-    (titles-append (map line_of marks) _ (codes "</svg>\n") (columns_titles (layout_of shows marks) moments [] marks)))
+    (titles-behind (map line_of marks) (head_text (layout_of goes shows marks)) _
+    (titles-append (map line_of marks) _ (codes "</svg>\n") (columns_titles (layout_of goes shows marks) moments [] marks)))

@@ -1,5 +1,7 @@
 -- The drawings of a picture: of how lanes stand, and of marks.
 use Rattle.std.specs.Prelude.{ℕ, List, codes}
+use Rattle.lab_drawing.specs.declared.frames.Goes.{Goes}
+use Rattle.lab_drawing.specs.declared.frames.Goes.TheVariants.{Across, Down}
 use Rattle.lab_drawing.specs.declared.marks.Shape.{Shape}
 use Rattle.lab_drawing.specs.declared.marks.Shape.TheVariants.{Answered, Begun, Ended, Refused, Played, Unhandled}
 use Rattle.lab_drawing.specs.declared.moments.Condition.{Condition}
@@ -18,6 +20,24 @@ strip_text Runs = codes "<path d=\"M-8 10h16M-4 8v4M4 8v4\" stroke=\"#5c4300\"/>
 strip_text Oob = codes "<rect x=\"-8\" y=\"7.5\" width=\"16\" height=\"5\" fill=\"#1f5fa8\"/>"
 strip_text Claimed = codes "<path d=\"M-8 10h16M-4 6.5v7M4 6.5v7\" stroke=\"#5f6b7a\" stroke-width=\"3\"/>"
 strip_text Taken = codes "<path d=\"M-8 8h16M-8 12h16\" stroke=\"#5c4300\"/>"
+
+-- the same in a picture that goes down, left of the place where a mark stands
+abbrev pub strip_down : Condition → List ℕ
+strip_down Inband = codes "<path d=\"M-10.5 -10v20\" stroke=\"#8a6d00\" stroke-width=\"1.5\"/>"
+strip_down Blocked = codes "<path d=\"M-10.5 -9v4m0 3v4m0 3v4\" stroke=\"#b3261e\" stroke-width=\"4\"/>"
+strip_down Ready = codes "<path d=\"M-12.5 -10v20M-8.5 -10v20\" stroke=\"#1f5fa8\"/>"
+strip_down Picked = codes "<rect x=\"-13\" y=\"-10\" width=\"5\" height=\"20\" fill=\"#1f5fa8\"/>"
+strip_down Stalled = codes "<path d=\"M-13 -5l5 -4m-5 8l5 -4m-5 8l5 -4m-5 8l5 -4\" stroke=\"#5c4300\" stroke-width=\"1.5\"/>"
+strip_down Pending = codes "<path d=\"M-10.5 -8v3m0 4v3m0 4v3\" stroke=\"#5c4300\" stroke-width=\"3\"/>"
+strip_down Owned = codes "<rect x=\"-12\" y=\"-10\" width=\"3\" height=\"20\" fill=\"#5f6b7a\"/>"
+strip_down Runs = codes "<path d=\"M-10.5 -10v20M-13 -5h5M-13 5h5\" stroke=\"#5c4300\"/>"
+strip_down Oob = codes "<rect x=\"-13\" y=\"-10\" width=\"5\" height=\"20\" fill=\"#1f5fa8\"/>"
+strip_down Claimed = codes "<path d=\"M-10.5 -10v20M-14 -5h7M-14 5h7\" stroke=\"#5f6b7a\" stroke-width=\"3\"/>"
+strip_down Taken = codes "<path d=\"M-12.5 -10v20M-8.5 -10v20\" stroke=\"#5c4300\"/>"
+
+abbrev pub strip_for : Goes → Condition → List ℕ
+strip_for Across condition = strip_text condition
+strip_for Down condition = strip_down condition
 
 -- the drawing of a shape, around the place where it stands
 abbrev pub shape_text : Shape → List ℕ

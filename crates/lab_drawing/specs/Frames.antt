@@ -1,26 +1,35 @@
 -- How a picture is laid out, in pixels, and what stands above its bands.
-use Rattle.std.specs.Prelude.{ℕ, ◌+◌, ◌-◌, ◌*◌, ◌/◌, ◌%◌, ◌^◌, ◌==◌, min, max, Bool, true, false, List, [], ◌∷◌, ◌++◌, length, flat_map, position, codes, decimal, if◌then◌else◌, Option, Some, None}
+use Rattle.std.specs.Prelude.{ℕ, ◌+◌, ◌-◌, ◌*◌, ◌/◌, ◌%◌, ◌^◌, ◌==◌, min, max, nat_le, Bool, true, false, List, [], ◌∷◌, ◌++◌, length, flat_map, position, codes, decimal, if◌then◌else◌, Option, Some, None}
 use Rattle.std.specs.Int.{div_ceil}
 use Rattle.std.specs.Option.{unwrap_or}
 use Rattle.lab_drawing.specs.Lanes.{is_lane, lane_text, lanes_in}
+use Rattle.lab_drawing.specs.declared.frames.Goes.{Goes}
+use Rattle.lab_drawing.specs.declared.frames.Goes.TheVariants.{Across, Down}
 use Rattle.lab_drawing.specs.declared.frames.Sheet.{Sheet}
 use Rattle.lab_drawing.specs.declared.frames.Shows.{Shows}
 use Rattle.lab_drawing.specs.declared.frames.Shows.TheVariants.{Waits, Words}
+use Rattle.evl_base.specs.declared.stage.Stage.TheVariants.{Inband, Oob}
 use Rattle.lab_drawing.specs.declared.lanes.Lane.{Lane}
 use Rattle.lab_drawing.specs.declared.lanes.Lane.TheVariants.{Thread, Stage}
 use Rattle.lab_drawing.specs.declared.marks.Mark.{Mark}
 use Rattle.lab_drawing.specs.declared.moments.Condition.{Condition}
 use Rattle.lab_drawing.specs.declared.moments.Condition.TheVariants.{Owned, Claimed, Taken, Stalled, Pending}
 
--- its lanes from the top, how many characters are shown of a line, how many marks it has, and what it shows of how lanes stand
+-- its lanes from the first, how many characters are shown of a line, how many marks it has, what it shows of how lanes stand, and which way it goes
 pub record Layout : Type 0 where
   pub lanes : List Lane
   pub shown : ℕ
   pub count : ℕ
   pub shows : Shows
+  pub goes : Goes
 
 abbrev pub layout : Sheet → Layout
-layout sheet = record { lanes = sheet.lanes.items; shown = sheet.shown; count = sheet.count; shows = sheet.shows }
+layout sheet = record { lanes = sheet.lanes.items; shown = sheet.shown; count = sheet.count; shows = sheet.shows; goes = sheet.goes }
+
+-- in a picture that goes across the one, in a picture that goes down the other
+abbrev pub by_way : {A : Type 0} → Goes → A → A → A
+by_way Across one other = one
+by_way Down one other = other
 
 -- ---- lines
 
@@ -34,9 +43,9 @@ abbrev pub longest : List Mark → ℕ
 longest [] = 0
 longest (mark ∷ rest) = max (length mark.line.now) (longest rest)
 
--- the layout of a picture of marks
-abbrev pub layout_of : Shows → List Mark → Layout
-layout_of shows marks = record { lanes = lanes_in marks; shown = min (most_shown shows) (longest marks); count = length marks; shows = shows }
+-- the layout of a picture of marks that goes this way
+abbrev pub layout_of : Goes → Shows → List Mark → Layout
+layout_of goes shows marks = record { lanes = lanes_in marks; shown = min (most_shown shows) (longest marks); count = length marks; shows = shows; goes = goes }
 
 -- ---- places: a number that is too great stays at the greatest
 
@@ -54,15 +63,15 @@ lane_height sheet = 24 + room sheet.shows 6
 
 -- how high the legend is
 abbrev pub legend_height : Layout → ℕ
-legend_height sheet = 44 + room sheet.shows 20
+legend_height sheet = by_way sheet.goes (44 + room sheet.shows 20) (32 + room sheet.shows 28)
 
 -- how high the dates and lanes of a band are
 abbrev pub band_depth : Layout → ℕ
 band_depth sheet = capped (room sheet.shows 32 + 12 + lane_height sheet * length sheet.lanes)
 
--- how high a band is, with the lines below it
+-- how high a band is, with the lines below it; in a picture that goes down with the names of lanes, 60 rows, and the space below them
 abbrev pub band_height : Layout → ℕ
-band_height sheet = capped (band_depth sheet + 20 + 6 * sheet.shown)
+band_height sheet = by_way sheet.goes (capped (band_depth sheet + 20 + 6 * sheet.shown)) (24 + 20 * 60 + 12)
 
 -- where the band of a column begins, from the top
 abbrev pub band_top : Layout → ℕ → ℕ
@@ -76,15 +85,23 @@ date_row sheet column = capped (band_top sheet column + 32)
 abbrev pub across : ℕ → ℕ
 across column = 112 + 16 * (column % 60)
 
+-- where a row stands, from the top
+abbrev pub row_down : Layout → ℕ → ℕ
+row_down sheet row = capped (band_top sheet row + 34 + 20 * (row % 60))
+
+-- where the lines begin, right of the lanes of a picture that goes down
+abbrev pub lines_left : Layout → ℕ
+lines_left sheet = capped (64 + 56 * length sheet.lanes)
+
 -- how wide the picture is: as its widest band, or as its legend
 abbrev pub picture_width : Layout → ℕ
-picture_width sheet = 124 + 16 * max 38 (min 60 sheet.count)
+picture_width sheet = by_way sheet.goes (124 + 16 * max 38 (min 60 sheet.count)) (max 740 (capped (lines_left sheet + 40 + 8 * sheet.shown)))
 
 abbrev pub band_count : Layout → ℕ
 band_count sheet = div_ceil sheet.count 60
 
 abbrev pub picture_height : Layout → ℕ
-picture_height sheet = capped (legend_height sheet + band_height sheet * band_count sheet)
+picture_height sheet = by_way sheet.goes (capped (legend_height sheet + band_height sheet * band_count sheet)) (capped (capped (legend_height sheet + 36 * band_count sheet) + 20 * sheet.count))
 
 -- ---- texts
 
@@ -129,6 +146,21 @@ down sheet column lane = capped (band_top sheet column + (room sheet.shows 32 + 
 abbrev pub below_lane : Layout → ℕ → Lane → ℕ
 below_lane sheet column lane = capped (band_top sheet column + band_depth sheet) - down sheet column lane
 
+-- where a lane stands in a picture that goes down, from the left
+abbrev pub lane_left : Layout → Lane → ℕ
+lane_left sheet lane = capped (80 + 56 * unwrap_or (place_on sheet lane) 0)
+
+-- where a mark stands in a lane: from the left, and from the top
+abbrev pub left_of : Layout → ℕ → Lane → ℕ
+left_of sheet column lane = by_way sheet.goes (across column) (lane_left sheet lane)
+
+abbrev pub top_of : Layout → ℕ → Lane → ℕ
+top_of sheet column lane = by_way sheet.goes (down sheet column lane) (row_down sheet column)
+
+-- how far it is from a mark to its line
+abbrev pub to_line : Layout → ℕ → Lane → ℕ
+to_line sheet column lane = by_way sheet.goes (below_lane sheet column lane) (lines_left sheet - lane_left sheet lane)
+
 -- a line so far down, up to here
 abbrev pub line_text : ℕ → ℕ → List ℕ → List ℕ
 line_text y end ink =
@@ -137,13 +169,35 @@ line_text y end ink =
 abbrev pub lane_name : ℕ → Lane → List ℕ
 lane_name y lane = codes "<text x=\"8\" y=\"" ++ (decimal y ++ (codes "\" font-size=\"11\">" ++ (lane_text lane ++ codes "</text>\n")))
 
--- a lane of a band that ends here: its line, and its name
-abbrev pub lane_line : Layout → ℕ → ℕ → Lane → List ℕ
-lane_line sheet column end lane = line_text (down sheet column lane) end (lane_ink lane) ++ lane_name (capped (down sheet column lane + 3)) lane
+-- a lane that goes down from here to there
+abbrev pub line_down : ℕ → ℕ → ℕ → List ℕ → List ℕ
+line_down x y end ink =
+    codes "<path d=\"M" ++ (decimal x ++ (codes " " ++ (decimal y ++ (codes "V" ++ (decimal end ++ (codes "\" stroke=\"" ++ (ink ++ codes "\"/>")))))))
 
--- where the lanes of the band that begins at a column end, from the left
+-- the name of a lane above it, in the words of a trace
+abbrev pub short_name : Lane → List ℕ
+short_name (Stage Oob) = codes "oob"
+short_name (Stage Inband) = codes "inband"
+short_name lane = lane_text lane
+
+abbrev pub name_above : ℕ → ℕ → Lane → List ℕ
+name_above x y lane = codes "<text x=\"" ++ (decimal x ++ (codes "\" y=\"" ++ (decimal y ++ (codes "\" font-size=\"11\" font-weight=\"bold\">" ++ (short_name lane ++ codes "</text>\n")))))
+
+-- a lane of a band that ends here: its line, and its name
+abbrev pub lane_across : Layout → ℕ → ℕ → Lane → List ℕ
+lane_across sheet column end lane = line_text (down sheet column lane) end (lane_ink lane) ++ lane_name (capped (down sheet column lane + 3)) lane
+
+abbrev pub lane_down : Layout → ℕ → ℕ → Lane → List ℕ
+lane_down sheet row end lane =
+    line_down (lane_left sheet lane) (capped (band_top sheet row + 20)) end (lane_ink lane) ++ name_above (lane_left sheet lane - 13) (capped (band_top sheet row + 14)) lane
+
+abbrev pub lane_line : Layout → ℕ → ℕ → Lane → List ℕ
+lane_line sheet column end lane = by_way sheet.goes (lane_across sheet column end lane) (lane_down sheet column end lane)
+
+-- where the lanes of the band that begins at a column end, from the left or from the top
 abbrev pub lanes_end : Layout → ℕ → ℕ
-lanes_end sheet column = 104 + 16 * min 60 (sheet.count - column)
+lanes_end sheet column =
+    by_way sheet.goes (104 + 16 * min 60 (sheet.count - column)) (capped (capped (band_top sheet column + 24) + 20 * min 60 (sheet.count - column)))
 
 abbrev pub frame_text : Layout → ℕ → List ℕ
 frame_text sheet column = flat_map (lane_line sheet column (lanes_end sheet column)) sheet.lanes
@@ -159,9 +213,27 @@ abbrev pub number_place : Shows → List ℕ
 number_place Words = codes "x=\"-2\" text-anchor=\"end\""
 number_place _ = codes "x=\"-7\""
 
-abbrev pub number_text : Layout → Condition → ℕ → List ℕ
-number_text sheet condition number =
+abbrev pub number_above : Layout → Condition → ℕ → List ℕ
+number_above sheet condition number =
     codes "<text " ++ (number_place sheet.shows ++ (codes " y=\"-7\" font-size=\"7\">" ++ (number_sign condition ++ (decimal number ++ codes "</text>"))))
+
+-- a rank as people write it: a letter for real-time, quota or weak, and the priority
+abbrev pub rank_text : ℕ → List ℕ
+rank_text rank =
+    if nat_le 512 rank then codes "f" ++ decimal (rank - 512)
+    else if nat_le 256 rank then codes "q" ++ decimal (rank - 256)
+    else codes "w" ++ decimal rank
+
+-- what is told of a lane in a picture that goes down: a thread's rank, else a number behind its sign
+abbrev pub told_of_lane : Lane → Condition → ℕ → List ℕ
+told_of_lane (Thread thread) condition number = rank_text number
+told_of_lane _ condition number = number_sign condition ++ decimal number
+
+abbrev pub number_beside : Lane → Condition → ℕ → List ℕ
+number_beside lane condition number = codes "<text x=\"8\" y=\"-3\" font-weight=\"bold\">" ++ (told_of_lane lane condition number ++ codes "</text>")
+
+abbrev pub number_text : Layout → Lane → Condition → ℕ → List ℕ
+number_text sheet lane condition number = by_way sheet.goes (number_above sheet condition number) (number_beside lane condition number)
 
 -- ---- ties
 
@@ -170,10 +242,16 @@ abbrev pub tie_down : ℕ → List ℕ
 tie_down pixels =
     codes "<path d=\"M0 0V" ++ (decimal pixels ++ (codes "\" stroke=\"#1f5fa8\"/><path d=\"M-4 " ++ (decimal pixels ++ codes "l4 -4l4 4l-4 4Z\" fill=\"#ffffff\" stroke=\"#1f5fa8\"/>")))
 
+-- so far to the right
+abbrev pub tie_right : ℕ → List ℕ
+tie_right pixels =
+    codes "<path d=\"M0 0H" ++ (decimal pixels ++ (codes "\" stroke=\"#1f5fa8\"/><path d=\"M" ++ (decimal pixels ++ codes " -4l4 4l-4 4l-4 -4Z\" fill=\"#ffffff\" stroke=\"#1f5fa8\"/>")))
+
 -- from a mark to the lane that its call names
 abbrev pub tie_to : Layout → ℕ → Lane → Option Lane → List ℕ
 tie_to sheet column lane None = []
-tie_to sheet column lane (Some other) = tie_down (down sheet column other - down sheet column lane)
+tie_to sheet column lane (Some other) =
+    by_way sheet.goes (tie_down (down sheet column other - down sheet column lane)) (tie_right (lane_left sheet other - lane_left sheet lane))
 
 abbrev pub tie_text : Layout → ℕ → Mark → List ℕ
 tie_text sheet column mark = tie_to sheet column mark.lane mark.names

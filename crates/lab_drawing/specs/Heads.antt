@@ -1,8 +1,10 @@
 -- What stands above the bands of a picture as SVG: its opening, and its legend.
 use Rattle.std.specs.Prelude.{ℕ, ◌+◌, ◌*◌, Bool, true, false, List, [], ◌∷◌, ◌++◌, length, codes, decimal, if◌then◌else◌}
 use Rattle.std.specs.List.{list_any}
-use Rattle.lab_drawing.specs.Drawings.{shape_text, strip_text}
-use Rattle.lab_drawing.specs.Frames.{Layout, capped, picture_height, picture_width}
+use Rattle.lab_drawing.specs.Drawings.{shape_text, strip_for}
+use Rattle.lab_drawing.specs.Frames.{Layout, by_way, capped, picture_height, picture_width}
+use Rattle.lab_drawing.specs.declared.frames.Goes.{Goes}
+use Rattle.lab_drawing.specs.declared.frames.Goes.TheVariants.{Across, Down}
 use Rattle.lab_drawing.specs.declared.frames.Shows.{Shows}
 use Rattle.lab_drawing.specs.declared.frames.Shows.TheVariants.{Machine, Waits, Words}
 use Rattle.lab_drawing.specs.declared.lanes.Lane.{Lane}
@@ -11,11 +13,29 @@ use Rattle.lab_drawing.specs.declared.marks.Shape.TheVariants.{Answered, Begun, 
 use Rattle.lab_drawing.specs.declared.moments.Condition.{Condition}
 use Rattle.lab_drawing.specs.declared.moments.Condition.TheVariants.{Inband, Blocked, Ready, Picked, Stalled, Pending, Owned, Runs, Oob, Claimed, Taken}
 
-abbrev pub opening_text : ℕ → ℕ → List ℕ
-opening_text width height =
+abbrev pub opening_across : ℕ → ℕ → List ℕ
+opening_across width height =
     codes "<svg xmlns=\"http://www.w3.org/2000/svg\" width=\"" ++ (decimal width ++ (codes "\" height=\"" ++ (decimal height ++ (codes "\" viewBox=\"0 0 "
     ++ (decimal width ++ (codes " " ++ (decimal height
     ++ codes "\" font-family=\"DejaVu Sans Mono, monospace\" font-size=\"9\">\n<rect width=\"100%\" height=\"100%\" fill=\"#ffffff\"/>\n")))))))
+
+-- how a picture that goes down looks on a dark screen, and its background
+abbrev pub dark_text : List ℕ
+dark_text =
+    codes "<style>@media screen and (prefers-color-scheme:dark){[fill=\"#ffffff\"]{fill:#14181d}text,[fill=\"#202020\"]{fill:#e8e8e8}"
+    ++ (codes "[fill=\"#1f5fa8\"]{fill:#7db4f0}[stroke=\"#1f5fa8\"]{stroke:#7db4f0}[fill=\"#b3261e\"]{fill:#ff8a80}[stroke=\"#b3261e\"]{stroke:#ff8a80}"
+    ++ codes "[fill=\"#5c4300\"]{fill:#e6c46a}[stroke=\"#5c4300\"]{stroke:#e6c46a}[stroke=\"#8a6d00\"]{stroke:#e6c46a}[fill=\"#5f6b7a\"]{fill:#a9b4c2}[stroke=\"#5f6b7a\"]{stroke:#a9b4c2}}</style>\n<rect width=\"100%\" height=\"100%\" fill=\"#ffffff\"/>\n")
+
+abbrev pub sized_down : ℕ → ℕ → List ℕ
+sized_down width height =
+    codes "<svg xmlns=\"http://www.w3.org/2000/svg\" width=\"" ++ (decimal width ++ (codes "\" height=\"" ++ (decimal height ++ (codes "\" viewBox=\"0 0 "
+    ++ (decimal width ++ (codes " " ++ (decimal height ++ codes "\" font-family=\"DejaVu Sans Mono, monospace\" font-size=\"10\">\n")))))))
+
+abbrev pub opening_down : ℕ → ℕ → List ℕ
+opening_down width height = sized_down width height ++ dark_text
+
+abbrev pub opening_text : Goes → ℕ → ℕ → List ℕ
+opening_text goes width height = by_way goes (opening_across width height) (opening_down width height)
 
 -- ---- signs: a drawing, and the word that says what it means
 
@@ -32,8 +52,8 @@ abbrev pub shape_sign : ℕ → List ℕ → List ℕ → List ℕ
 shape_sign at drawn word = place_text at 18 ++ (drawn ++ word_text 10 3 word)
 
 -- in the legend of conditions
-abbrev pub condition_sign : ℕ → List ℕ → List ℕ → List ℕ
-condition_sign at drawn word = place_text at 28 ++ (drawn ++ word_text 12 13 word)
+abbrev pub condition_sign : Goes → ℕ → List ℕ → List ℕ → List ℕ
+condition_sign goes at drawn word = by_way goes (place_text at 28 ++ (drawn ++ word_text 12 13 word)) (place_text at 42 ++ (drawn ++ word_text 0 4 word))
 
 -- where the next sign stands, with so much room beside the word
 abbrev pub sign_end : ℕ → ℕ → List ℕ → ℕ
@@ -51,10 +71,14 @@ shape_signs =
     (shape_text Answered, codes "answered") ∷ (shape_text Begun, codes "a wait begins") ∷ (shape_text Ended, codes "a wait ends")
     ∷ (shape_text Refused, codes "refused") ∷ (shape_text Played, codes "played") ∷ (shape_text Unhandled, codes "not handled") ∷ []
 
-abbrev pub condition_signs : List (List ℕ × List ℕ)
-condition_signs =
-    (strip_text Picked, codes "picked") ∷ (strip_text Ready, codes "ready") ∷ (strip_text Blocked, codes "blocked") ∷ (strip_text Inband, codes "in-band")
-    ∷ (strip_text Owned, codes "owned") ∷ (strip_text Stalled, codes "stalled") ∷ (strip_text Pending, codes "events pending") ∷ (strip_text Runs, codes "timer runs") ∷ []
+-- of a mutex whose owner the kernel has recorded
+abbrev pub owned_word : Goes → List ℕ
+owned_word goes = by_way goes (codes "owned") (codes "owner recorded")
+
+abbrev pub condition_signs : Goes → List (List ℕ × List ℕ)
+condition_signs goes =
+    (strip_for goes Picked, codes "picked") ∷ (strip_for goes Ready, codes "ready") ∷ (strip_for goes Blocked, codes "blocked") ∷ (strip_for goes Inband, codes "in-band")
+    ∷ (strip_for goes Owned, owned_word goes) ∷ (strip_for goes Stalled, codes "stalled") ∷ (strip_for goes Pending, codes "events pending") ∷ (strip_for goes Runs, codes "timer runs") ∷ []
 
 -- whether a condition is one of the word of a lane
 abbrev pub is_of_word : Condition → Lane → Bool
@@ -69,19 +93,20 @@ abbrev pub is_of_words : List Lane → Condition → Bool
 is_of_words lanes condition = list_any (is_of_word condition) lanes
 
 -- the signs of those conditions that the word of one of the lanes can have
-abbrev pub signs_of : List Lane → List (Condition × List ℕ) → List (List ℕ × List ℕ)
-signs_of lanes [] = []
-signs_of lanes (one ∷ rest) = if is_of_words lanes one.0 then (strip_text one.0, one.1) ∷ signs_of lanes rest else signs_of lanes rest
+abbrev pub signs_of : Goes → List Lane → List (Condition × List ℕ) → List (List ℕ × List ℕ)
+signs_of goes lanes [] = []
+signs_of goes lanes (one ∷ rest) = if is_of_words lanes one.0 then (strip_for goes one.0, one.1) ∷ signs_of goes lanes rest else signs_of goes lanes rest
 
 abbrev pub word_signs : List (Condition × List ℕ)
 word_signs =
     (Owned, codes "owned") ∷ (Claimed, codes "claimed") ∷ (Inband, codes "held in-band") ∷ (Oob, codes "held out-of-band") ∷ (Taken, codes "taken") ∷ []
 
 -- the second line of a legend, where it is told how lanes stand
-abbrev pub second_legend : Shows → List Lane → List ℕ
-second_legend Waits lanes = []
-second_legend Machine lanes = signs_text condition_sign 36 20 condition_signs
-second_legend Words lanes = signs_text condition_sign 36 20 (signs_of lanes word_signs)
+abbrev pub second_legend : Goes → Shows → List Lane → List ℕ
+second_legend goes Waits lanes = []
+second_legend goes Machine lanes = signs_text (condition_sign goes) 36 20 (condition_signs goes)
+second_legend goes Words lanes = signs_text (condition_sign goes) 36 20 (signs_of goes lanes word_signs)
 
 abbrev pub head_text : Layout → List ℕ
-head_text sheet = opening_text (picture_width sheet) (picture_height sheet) ++ (signs_text shape_sign 32 16 shape_signs ++ second_legend sheet.shows sheet.lanes)
+head_text sheet =
+    opening_text sheet.goes (picture_width sheet) (picture_height sheet) ++ (signs_text shape_sign 32 16 shape_signs ++ second_legend sheet.goes sheet.shows sheet.lanes)

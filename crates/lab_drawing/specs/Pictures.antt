@@ -1,21 +1,23 @@
 -- A picture as SVG, from its opening to its end.
-use Rattle.std.specs.Prelude.{ℕ, zero, suc, ◌-◌, ◌%◌, ◌==◌, nat_le, Bool, true, false, List, [], ◌∷◌, ◌++◌, length, map, flat_map, count_by, slice_get, codes, decimal, if◌then◌else◌, Option, Some, None}
+use Rattle.std.specs.Prelude.{ℕ, zero, suc, ◌+◌, ◌-◌, ◌%◌, ◌==◌, nat_le, Bool, true, false, List, [], ◌∷◌, ◌++◌, length, map, flat_map, count_by, slice_get, codes, decimal, if◌then◌else◌, Option, Some, None}
 use Rattle.std.specs.Fmt.{take_chars}
 use Rattle.std.specs.List.{fold}
 use Rattle.std.specs.Str.{trim_start}
 use Rattle.lab_drawing.specs.Drawings.{shape_text}
-use Rattle.lab_drawing.specs.Frames.{Layout, across, below_lane, down, frame_text, layout_of, shows_waits, tie_text}
+use Rattle.lab_drawing.specs.Frames.{Layout, by_way, capped, frame_text, layout_of, left_of, shows_waits, tie_text, to_line, top_of}
 use Rattle.lab_drawing.specs.Heads.{head_text, place_text}
 use Rattle.lab_drawing.specs.Lanes.{is_lane}
 use Rattle.lab_drawing.specs.Marks.{is_entry}
 use Rattle.lab_drawing.specs.Strips.{moment_text}
 use Rattle.lab_drawing.specs.Titles.{escaped, title_text}
+use Rattle.lab_drawing.specs.declared.frames.Goes.{Goes}
+use Rattle.lab_drawing.specs.declared.frames.Goes.TheVariants.{Across, Down}
 use Rattle.lab_drawing.specs.declared.frames.Shows.{Shows}
 use Rattle.lab_drawing.specs.declared.frames.Shows.TheVariants.{Machine, Waits}
 use Rattle.lab_drawing.specs.declared.lanes.Lane.{Lane}
 use Rattle.lab_drawing.specs.declared.marks.Mark.{Mark}
 use Rattle.lab_drawing.specs.declared.marks.Shape.{Shape}
-use Rattle.lab_drawing.specs.declared.marks.Shape.TheVariants.{Begun, Ended, Refused}
+use Rattle.lab_drawing.specs.declared.marks.Shape.TheVariants.{Begun, Ended, Refused, Played, Unhandled}
 use Rattle.lab_drawing.specs.declared.moments.Moment.{Moment}
 
 -- ---- marks
@@ -36,26 +38,56 @@ abbrev pub label_ink : Shape → List ℕ
 label_ink Refused = codes "#b3261e"
 label_ink _ = codes "#202020"
 
-abbrev pub label_opening : ℕ → List ℕ → List ℕ
-label_opening pixels ink = codes "<text transform=\"translate(-3," ++ (decimal pixels ++ (codes ") rotate(90)\" fill=\"" ++ (ink ++ codes "\">")))
+-- in a picture that goes down: a refusal is bold, and a play is told apart from calls
+abbrev pub label_look : Shape → List ℕ
+label_look Refused = codes "#b3261e\" font-weight=\"bold"
+label_look Played = codes "#5c4300"
+label_look Unhandled = codes "#5c4300"
+label_look _ = codes "#202020"
 
--- what is shown of a line, so far below its mark, and the end of the mark
-abbrev pub label_text : ℕ → ℕ → List ℕ → List ℕ → List ℕ
-label_text most pixels ink line = label_opening pixels ink ++ (shown_text most line ++ codes "</text></g>\n")
+abbrev pub look_for : Goes → Shape → List ℕ
+look_for goes shape = by_way goes (label_ink shape) (label_look shape)
 
--- a dotted line from a mark, so far down
-abbrev pub lead_text : ℕ → List ℕ
-lead_text pixels = codes "<path d=\"M0 0V" ++ (decimal pixels ++ codes "\" stroke=\"#e4e4e4\" stroke-dasharray=\"1 3\"/>")
+-- how far behind the place of lines a label begins: a play is indented
+abbrev pub indent_down : Shape → ℕ
+indent_down Played = 24
+indent_down Unhandled = 24
+indent_down _ = 8
+
+abbrev pub indent : Goes → Shape → ℕ
+indent goes shape = by_way goes 0 (indent_down shape)
+
+abbrev pub opening_below : ℕ → List ℕ → List ℕ
+opening_below pixels look = codes "<text transform=\"translate(-3," ++ (decimal pixels ++ (codes ") rotate(90)\" fill=\"" ++ (look ++ codes "\">")))
+
+abbrev pub opening_beside : ℕ → List ℕ → List ℕ
+opening_beside pixels look = codes "<text x=\"" ++ (decimal pixels ++ (codes "\" y=\"4\" font-size=\"13\" fill=\"" ++ (look ++ codes "\">")))
+
+abbrev pub label_opening : Goes → ℕ → List ℕ → List ℕ
+label_opening goes pixels look = by_way goes (opening_below pixels look) (opening_beside pixels look)
+
+-- what is shown of a line, so far from its mark, and the end of the mark
+abbrev pub label_text : Goes → ℕ → ℕ → List ℕ → List ℕ → List ℕ
+label_text goes most pixels look line = label_opening goes pixels look ++ (shown_text most line ++ codes "</text></g>\n")
+
+-- a dotted line from a mark, so far down or to the right
+abbrev pub lead_text : Goes → ℕ → List ℕ
+lead_text Across pixels = codes "<path d=\"M0 0V" ++ (decimal pixels ++ codes "\" stroke=\"#e4e4e4\" stroke-dasharray=\"1 3\"/>")
+lead_text Down pixels = codes "<path d=\"M0 0H" ++ (decimal pixels ++ codes "\" stroke=\"#b0b0b0\" stroke-dasharray=\"1 3\"/>")
+
+-- the label of a mark, where its lines begin so far from it
+abbrev pub label_of : Layout → ℕ → Mark → List ℕ
+label_of sheet pixels mark = label_text sheet.goes sheet.shown (capped (pixels + indent sheet.goes mark.shape)) (look_for sheet.goes mark.shape) mark.line.now
 
 -- the drawing of a mark, behind its title: the line to its label, the tie, the shape, and the label
 abbrev pub body_text : Layout → ℕ → Mark → List ℕ
 body_text sheet column mark =
-    lead_text (below_lane sheet column mark.lane)
-    ++ (tie_text sheet column mark ++ (shape_text mark.shape ++ label_text sheet.shown (below_lane sheet column mark.lane) (label_ink mark.shape) mark.line.now))
+    lead_text sheet.goes (to_line sheet column mark.lane)
+    ++ (tie_text sheet column mark ++ (shape_text mark.shape ++ label_of sheet (to_line sheet column mark.lane) mark))
 
 -- a mark in its column
 abbrev pub mark_text : Layout → ℕ → Mark → List ℕ
-mark_text sheet column mark = place_text (across column) (down sheet column mark.lane) ++ (title_text mark.line.now ++ body_text sheet column mark)
+mark_text sheet column mark = place_text (left_of sheet column mark.lane) (top_of sheet column mark.lane) ++ (title_text mark.line.now ++ body_text sheet column mark)
 
 -- ---- waits
 
@@ -80,11 +112,18 @@ goes_on marks lane = fold (goes_on_behind lane) false marks
 abbrev pub waits_of : List Lane → List Mark → List (Lane × Bool)
 waits_of lanes marks = map (λ lane. (lane, goes_on marks lane)) lanes
 
-abbrev pub bar_text : ℕ → ℕ → List ℕ
-bar_text x y = codes "<rect x=\"" ++ (decimal x ++ (codes "\" y=\"" ++ (decimal y ++ codes "\" width=\"16\" height=\"6\" fill=\"#c9d9f0\"/>\n")))
+abbrev pub bar_across : ℕ → ℕ → List ℕ
+bar_across x y = codes "<rect x=\"" ++ (decimal x ++ (codes "\" y=\"" ++ (decimal y ++ codes "\" width=\"16\" height=\"6\" fill=\"#c9d9f0\"/>\n")))
+
+abbrev pub bar_down : ℕ → ℕ → List ℕ
+bar_down x y = codes "<rect x=\"" ++ (decimal x ++ (codes "\" y=\"" ++ (decimal y ++ codes "\" width=\"6\" height=\"20\" fill=\"#c9d9f0\"/>\n")))
+
+-- the bar of a wait around the place of a mark
+abbrev pub bar_text : Goes → ℕ → ℕ → List ℕ
+bar_text goes x y = by_way goes (bar_across (x - 8) (y - 3)) (bar_down (x - 3) (y - 10))
 
 abbrev pub wait_text : Layout → ℕ → Lane × Bool → List ℕ
-wait_text sheet column wait = if wait.1 then bar_text (across column - 8) (down sheet column wait.0 - 3) else []
+wait_text sheet column wait = if wait.1 then bar_text sheet.goes (left_of sheet column wait.0) (top_of sheet column wait.0) else []
 
 -- the waits that go on in a column, lane by lane
 abbrev pub waits_text : Layout → ℕ → List (Lane × Bool) → List ℕ
@@ -125,9 +164,15 @@ columns_text sheet moments before (mark ∷ rest) = column_behind sheet moments 
 abbrev pub picture_text : Layout → List Moment → List Mark → List ℕ
 picture_text sheet moments marks = head_text sheet ++ (columns_text sheet moments [] marks ++ codes "</svg>\n")
 
--- the picture of marks, which shows this of how lanes stand, by the moments after their entries
+-- the picture of marks that goes this way, and shows this of how lanes stand, by the moments after their entries
+abbrev pub going_text : Goes → Shows → List Moment → List Mark → List ℕ
+going_text goes shows moments marks = picture_text (layout_of goes shows marks) moments marks
+
 abbrev pub svg_text : Shows → List Moment → List Mark → List ℕ
-svg_text shows moments marks = picture_text (layout_of shows marks) moments marks
+svg_text shows moments marks = going_text Across shows moments marks
+
+abbrev pub down_text : Shows → List Moment → List Mark → List ℕ
+down_text shows moments marks = going_text Down shows moments marks
 
 -- what is shown of how a machine stands, by the moments that are known
 abbrev pub shown_with : List Moment → Shows

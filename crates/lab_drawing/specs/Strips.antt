@@ -1,7 +1,7 @@
 -- The dates above the lanes of a picture, and how each lane stands.
-use Rattle.std.specs.Prelude.{ℕ, ◌%◌, ◌==◌, Bool, true, false, not, ◌&&◌, ◌||◌, List, [], ◌++◌, codes, decimal, find, flat_map, is_some, if◌then◌else◌, Option, Some, None}
-use Rattle.lab_drawing.specs.Drawings.{strip_text}
-use Rattle.lab_drawing.specs.Frames.{Layout, across, date_row, date_text, down, number_text, place_on}
+use Rattle.std.specs.Prelude.{ℕ, ◌+◌, ◌%◌, ◌==◌, Bool, true, false, not, ◌&&◌, ◌||◌, List, [], ◌++◌, codes, decimal, find, flat_map, is_some, if◌then◌else◌, Option, Some, None}
+use Rattle.lab_drawing.specs.Drawings.{strip_for}
+use Rattle.lab_drawing.specs.Frames.{Layout, across, by_way, capped, date_row, date_text, left_of, number_text, place_on, row_down, top_of}
 use Rattle.lab_drawing.specs.Lanes.{is_lane}
 use Rattle.lab_drawing.specs.declared.lanes.Lane.{Lane}
 use Rattle.lab_drawing.specs.declared.moments.Moment.{Moment}
@@ -30,13 +30,14 @@ abbrev pub tells_number : ℕ → Standing → Option Moment → Bool
 tells_number column standing before = column % 60 == 0 || not (had_number standing before)
 
 abbrev pub told_number : Layout → Standing → Bool → Option ℕ → List ℕ
-told_number sheet standing true (Some number) = number_text sheet standing.condition number
+told_number sheet standing true (Some number) = number_text sheet standing.lane standing.condition number
 told_number sheet standing _ _ = []
 
 -- the strip of a lane in a column
 abbrev pub strip_at : Layout → ℕ → Standing → List ℕ
 strip_at sheet column standing =
-    codes "<g transform=\"translate(" ++ (decimal (across column) ++ (codes "," ++ (decimal (down sheet column standing.lane) ++ (codes ")\">" ++ strip_text standing.condition))))
+    codes "<g transform=\"translate(" ++ (decimal (left_of sheet column standing.lane) ++ (codes "," ++ (decimal (top_of sheet column standing.lane)
+    ++ (codes ")\">" ++ strip_for sheet.goes standing.condition))))
 
 -- how a lane stands in a column, behind the moment before
 abbrev pub standing_text : Layout → ℕ → Option Moment → Standing → List ℕ
@@ -47,10 +48,17 @@ abbrev pub was_date : ℕ → Option Moment → Bool
 was_date date None = false
 was_date date (Some moment) = moment.date == date
 
-abbrev pub date_mark : Layout → ℕ → ℕ → List ℕ
-date_mark sheet column date =
+abbrev pub date_above : Layout → ℕ → ℕ → List ℕ
+date_above sheet column date =
     codes "<text transform=\"translate(" ++ (decimal (across column) ++ (codes "," ++ (decimal (date_row sheet column) ++ (codes ") rotate(-40)\" font-size=\"8\">"
     ++ (date_text date ++ (codes "</text><path d=\"M" ++ (decimal (across column) ++ (codes " " ++ (decimal (date_row sheet column) ++ codes "v5\" stroke=\"#808080\"/>\n")))))))))
+
+-- at the left of its row
+abbrev pub date_beside : Layout → ℕ → ℕ → List ℕ
+date_beside sheet row date = codes "<text x=\"56\" y=\"" ++ (decimal (capped (row_down sheet row + 4)) ++ (codes "\" text-anchor=\"end\">" ++ (date_text date ++ codes "</text>\n")))
+
+abbrev pub date_mark : Layout → ℕ → ℕ → List ℕ
+date_mark sheet column date = by_way sheet.goes (date_above sheet column date) (date_beside sheet column date)
 
 -- the date of a column, where it is another than before, or a band begins
 abbrev pub told_date : Layout → ℕ → ℕ → Option Moment → List ℕ

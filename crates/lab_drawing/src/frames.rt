@@ -1,21 +1,22 @@
 //! The sheet that marks are drawn on: bands of lanes, one below the other.
-ghost use Rattle.std.specs.Prelude.{◌≡◌, ◌≤◌, ◌+◌, ◌*◌, ◌++◌, min, is_some, string_bytes, IfOk, OnOk};
+ghost use Rattle.std.specs.Prelude.{◌≡◌, ◌≤◌, ◌+◌, ◌-◌, ◌*◌, ◌++◌, max, min, is_some, string_bytes, unwrap_or, IfOk, OnOk, Some};
 ghost use Rattle.lab_drawing.specs.Frames as frames;
-ghost use Rattle.lab_drawing.specs.Frames.{band_count, band_depth, band_height, band_top, capped, date_row, frame_text, lane_height, lane_ink, lane_line, lane_name, layout, layout_of, legend_height, line_text, longest, most_shown, picture_height, picture_width, place_on};
-ghost use Rattle.lab_drawing.specs.Drawings.{shape_text};
+ghost use Rattle.lab_drawing.specs.Frames.{band_count, band_depth, band_height, band_top, capped, date_row, frame_text, lane_across, lane_down, lane_height, lane_left, lane_line, lanes_end, layout, layout_of, left_of, legend_height, lines_left, longest, most_shown, picture_height, picture_width, place_on, row_down, tie_to, to_line, top_of};
 ghost use Rattle.lab_drawing.specs.Heads.{head_text, second_legend};
 ghost use Rattle.lab_drawing.specs.Lanes.{AreLanesOf, put_touched};
 
+use crate::downwards::{put_line_down, put_name_above, tie_right};
+use crate::drawings::{lane_ink, put_lane_name, put_line, tie_down};
 use crate::heads::{opening, put_conditions, put_shapes, put_words};
 use crate::lanes::{Lane, add_lane, index_of};
-use crate::marks::{Mark, Shape};
+use crate::marks::Mark;
 use std::alloc::{AllocError, Global};
 
 /// How many marks stand side by side in a band.
 pub const COLUMNS: usize = 60;
 
 // The room for the names of lanes, left of the first column.
-const LEFT: usize = 104;
+pub const LEFT: usize = 104;
 
 // How wide a column is, and how high a lane.
 const COLUMN: usize = 16;
@@ -42,6 +43,31 @@ const MOST_TOLD: usize = 100;
 
 const CHARACTER: usize = 6;
 
+// In a picture that goes down: the room for the dates, how wide a lane is and where in it its line is, how high a row,
+// the names of lanes and the space below them, and how wide a character of a line.
+const DATED: usize = 64;
+
+const LANE_DOWN: usize = 56;
+
+const IN_LANE: usize = 16;
+
+const ROW: usize = 20;
+
+const NAMES: usize = 24;
+
+const BELOW: usize = 12;
+
+const LETTER: usize = 8;
+
+/// Which way the lines of a trace go in a picture.
+#[derive(Clone, Copy, PartialEq, Eq, Debug)]
+pub enum Goes {
+    /// A column for each line, with its text below.
+    Across,
+    /// A row for each line, with its text at the right.
+    Down,
+}
+
 /// What a picture shows of how lanes stand.
 #[derive(Clone, Copy, PartialEq, Eq)]
 pub enum Shows {
@@ -53,12 +79,13 @@ pub enum Shows {
     Words,
 }
 
-/// How a picture is laid out: its lanes from the top, the characters that are shown of a line, how many marks it has,
-/// and what it shows of how lanes stand.
+/// How a picture is laid out: its lanes from the first, the characters that are shown of a line, how many marks it has,
+/// what it shows of how lanes stand, and which way it goes.
 #[derive(Drop)]
 pub struct Sheet {
     pub lanes: Vec<Lane>,
     pub shown: usize,
+    pub goes: Goes,
     count: usize,
     shows: Shows,
 }
@@ -116,13 +143,19 @@ fn shown_of(marks: &[Mark<'_>], most: usize) -> usize
 
 impl Sheet {
     /// The sheet for some marks, and what it shows of how lanes stand. `AllocError` where its list couldn't grow.
-    pub fn of(alloc: Global, marks: &[Mark<'_>], shows: Shows) -> Result<Sheet, AllocError>
-        ensures { IfOk result (λ sheet. layout sheet ≡ layout_of shows marks.now) }
+    pub fn of(
+        alloc: Global,
+        marks: &[Mark<'_>],
+        shows: Shows,
+        goes: Goes,
+    ) -> Result<Sheet, AllocError>
+        ensures { IfOk result (λ sheet. layout sheet ≡ layout_of goes shows marks.now) }
     {
         let lanes = lanes_of(alloc, marks)?;
         Ok(Sheet {
             lanes,
             shown: shown_of(marks, most_shown(shows)),
+            goes,
             count: marks.len(),
             shows,
         })
@@ -150,7 +183,10 @@ impl Sheet {
     fn top(&self) -> usize
         ensures { result ≡ legend_height (layout self.now) }
     {
-        self.room(SECOND).saturating_add(TOP)
+        match self.goes {
+            Goes::Across => self.room(SECOND).saturating_add(TOP),
+            Goes::Down => self.room(28).saturating_add(32),
+        }
     }
 
     // How high the dates and lanes of a band are.
@@ -168,7 +204,10 @@ impl Sheet {
     fn height(&self) -> usize
         ensures { result ≡ band_height (layout self.now) }
     {
-        steps(self.depth().saturating_add(BETWEEN), CHARACTER, self.shown)
+        match self.goes {
+            Goes::Across => steps(self.depth().saturating_add(BETWEEN), CHARACTER, self.shown),
+            Goes::Down => NAMES + ROW * COLUMNS + BELOW,
+        }
     }
 
     // Where the band of a column begins.
@@ -216,14 +255,20 @@ impl Sheet {
         steps(LEFT + COLUMN / 2, COLUMN, column % COLUMNS)
     }
 
+    // At which place among the lanes a lane stands; the first one stands for one that isn't there.
+    fn place(&self, lane: Lane) -> usize
+        ensures { result ≡ unwrap_or (place_on (layout self.now) lane) 0 }
+    {
+        index_of(self.lanes.as_slice(), lane).unwrap_or(0)
+    }
+
     /// Where a lane stands in the band of a column, from the top.
     pub fn down(&self, column: usize, lane: Lane) -> usize
         ensures { result ≡ frames.down (layout self.now) column lane }
     {
-        let index = index_of(self.lanes.as_slice(), lane).unwrap_or(0);
         let first = self.room(DATES).saturating_add(LANE);
         let top = self.band_top(column).saturating_add(first);
-        steps(top, self.lane(), index)
+        steps(top, self.lane(), self.place(lane))
     }
 
     /// How far the lines below a band are below a lane.
@@ -232,6 +277,80 @@ impl Sheet {
     {
         let foot = self.band_top(column).saturating_add(self.depth());
         foot.saturating_sub(self.down(column, lane))
+    }
+
+    /// Where a row stands in a picture that goes down, from the top.
+    pub fn row_down(&self, row: usize) -> usize
+        ensures { result ≡ row_down (layout self.now) row }
+    {
+        let first = self.band_top(row).saturating_add(NAMES + ROW / 2);
+        steps(first, ROW, row % COLUMNS)
+    }
+
+    // Where the lines begin in a picture that goes down, from the left.
+    fn lines_left(&self) -> usize
+        ensures { result ≡ lines_left (layout self.now) }
+    {
+        steps(DATED, LANE_DOWN, self.lanes.len())
+    }
+
+    // Where a lane stands in a picture that goes down, from the left.
+    fn lane_left(&self, lane: Lane) -> usize
+        ensures { result ≡ lane_left (layout self.now) lane }
+    {
+        steps(DATED + IN_LANE, LANE_DOWN, self.place(lane))
+    }
+
+    /// Where a mark stands in a lane, from the left.
+    pub fn left_of(&self, column: usize, lane: Lane) -> usize
+        ensures { result ≡ left_of (layout self.now) column lane }
+    {
+        match self.goes {
+            Goes::Across => self.across(column),
+            Goes::Down => self.lane_left(lane),
+        }
+    }
+
+    /// Where a mark stands in a lane, from the top.
+    pub fn top_of(&self, column: usize, lane: Lane) -> usize
+        ensures { result ≡ top_of (layout self.now) column lane }
+    {
+        match self.goes {
+            Goes::Across => self.down(column, lane),
+            Goes::Down => self.row_down(column),
+        }
+    }
+
+    /// How far it is from a mark in a lane to its line.
+    pub fn to_line(&self, column: usize, lane: Lane) -> usize
+        ensures { result ≡ to_line (layout self.now) column lane }
+    {
+        match self.goes {
+            Goes::Across => self.below(column, lane),
+            Goes::Down => self.lines_left().saturating_sub(self.lane_left(lane)),
+        }
+    }
+
+    /// The tie from a mark in a lane to another one.
+    pub fn tie(
+        &self,
+        alloc: Global,
+        column: usize,
+        lane: Lane,
+        other: Lane,
+    ) -> Result<String, AllocError>
+        ensures { IfOk result (λ text. string_bytes text ≡ tie_to (layout self.now) column lane (Some other)) }
+    {
+        match self.goes {
+            Goes::Across => {
+                let from = self.down(column, lane);
+                tie_down(alloc, self.down(column, other).saturating_sub(from))
+            }
+            Goes::Down => {
+                let from = self.lane_left(lane);
+                tie_right(alloc, self.lane_left(other).saturating_sub(from))
+            }
+        }
     }
 
     // How many columns the widest band has.
@@ -245,7 +364,17 @@ impl Sheet {
     fn width(&self) -> usize
         ensures { result ≡ picture_width (layout self.now) }
     {
-        steps(LEFT + BETWEEN, COLUMN, self.columns().max(38))
+        match self.goes {
+            Goes::Across => steps(LEFT + BETWEEN, COLUMN, self.columns().max(38)),
+            Goes::Down => self.width_down(),
+        }
+    }
+
+    // The same of one that goes down.
+    fn width_down(&self) -> usize
+        ensures { result ≡ max 740 (capped (lines_left (layout self.now) + 40 + 8 * self.now.shown)) }
+    {
+        steps(self.lines_left().saturating_add(40), LETTER, self.shown).max(740)
     }
 
     // How many bands there are.
@@ -259,14 +388,20 @@ impl Sheet {
     fn whole_height(&self) -> usize
         ensures { result ≡ picture_height (layout self.now) }
     {
-        steps(self.top(), self.height(), self.bands())
+        match self.goes {
+            Goes::Across => steps(self.top(), self.height(), self.bands()),
+            Goes::Down => {
+                let bands = steps(self.top(), NAMES + BELOW, self.bands());
+                steps(bands, ROW, self.count)
+            }
+        }
     }
 
     /// The beginning of the picture, up to its legend.
     pub fn head(&self, alloc: Global) -> Result<String, AllocError>
         ensures { IfOk result (λ text. string_bytes text ≡ head_text (layout self.now)) }
     {
-        let mut text = opening(alloc, self.width(), self.whole_height())?;
+        let mut text = opening(alloc, self.goes, self.width(), self.whole_height())?;
         put_shapes(&mut text)?;
         self.put_second(&mut text)?;
         Ok(text)
@@ -274,12 +409,12 @@ impl Sheet {
 
     // Appends the second line of the legend, where it is told how lanes stand.
     fn put_second(&self, text: &mut String) -> Result<(), AllocError>
-        ensures { OnOk result (string_bytes text.new ≡ string_bytes text.old ++ second_legend self.now.shows self.now.lanes.items) }
+        ensures { OnOk result (string_bytes text.new ≡ string_bytes text.old ++ second_legend self.now.goes self.now.shows self.now.lanes.items) }
     {
         match self.shows {
             Shows::Waits => Ok(()),
-            Shows::Machine => put_conditions(text),
-            Shows::Words => put_words(text, self.lanes.as_slice()),
+            Shows::Machine => put_conditions(text, self.goes),
+            Shows::Words => put_words(text, self.goes, self.lanes.as_slice()),
         }
     }
 
@@ -288,11 +423,22 @@ impl Sheet {
         ensures { IfOk result (λ text. string_bytes text ≡ frame_text (layout self.now) column) }
     {
         let mut text = String::new(alloc);
-        let end = steps(LEFT, COLUMN, self.count.saturating_sub(column).min(COLUMNS));
+        let end = self.lanes_end(column);
         for lane in &self.lanes {
             self.put_lane(&mut text, column, end, *lane)?;
         }
         Ok(text)
+    }
+
+    // Where the lanes of the band that begins at a column end.
+    fn lanes_end(&self, column: usize) -> usize
+        ensures { result ≡ lanes_end (layout self.now) column }
+    {
+        let count = self.count.saturating_sub(column).min(COLUMNS);
+        match self.goes {
+            Goes::Across => steps(LEFT, COLUMN, count),
+            Goes::Down => steps(self.band_top(column).saturating_add(NAMES), ROW, count),
+        }
     }
 
     // Appends a lane of the band of a column, which ends here.
@@ -305,60 +451,40 @@ impl Sheet {
     ) -> Result<(), AllocError>
         ensures { OnOk result (string_bytes text.new ≡ string_bytes text.old ++ lane_line (layout self.now) column end lane) }
     {
+        match self.goes {
+            Goes::Across => self.put_lane_across(text, column, end, lane),
+            Goes::Down => self.put_lane_down(text, column, end, lane),
+        }
+    }
+
+    // The same in a picture that goes down.
+    fn put_lane_down(
+        &self,
+        text: &mut String,
+        row: usize,
+        end: usize,
+        lane: Lane,
+    ) -> Result<(), AllocError>
+        ensures { OnOk result (string_bytes text.new ≡ string_bytes text.old ++ lane_down (layout self.now) row end lane) }
+    {
+        let x = self.lane_left(lane);
+        let top = self.band_top(row);
+        put_line_down(text, x, top.saturating_add(20), end, lane_ink(lane))?;
+        put_name_above(text, x.saturating_sub(13), top.saturating_add(14), lane)
+    }
+
+    // The same in one that goes across.
+    fn put_lane_across(
+        &self,
+        text: &mut String,
+        column: usize,
+        end: usize,
+        lane: Lane,
+    ) -> Result<(), AllocError>
+        ensures { OnOk result (string_bytes text.new ≡ string_bytes text.old ++ lane_across (layout self.now) column end lane) }
+    {
         let y = self.down(column, lane);
         put_line(text, y, end, lane_ink(lane))?;
         put_lane_name(text, y.saturating_add(3), lane)
-    }
-}
-
-// Appends a line so far down, up to here.
-fn put_line(text: &mut String, y: usize, end: usize, ink: &str) -> Result<(), AllocError>
-    ensures { OnOk result (string_bytes text.new ≡ string_bytes text.old ++ line_text y end ink.now) }
-{
-    write!(text, "<path d=\"M{LEFT} {y}H{end}\" stroke=\"{ink}\"/>")?;
-    Ok(())
-}
-
-// Appends the name of a lane, so far down.
-fn put_lane_name(text: &mut String, y: usize, lane: Lane) -> Result<(), AllocError>
-    ensures { OnOk result (string_bytes text.new ≡ string_bytes text.old ++ lane_name y lane) }
-{
-    write!(
-        text,
-        "<text x=\"8\" y=\"{y}\" font-size=\"11\">{lane}</text>\n"
-    )?;
-    Ok(())
-}
-
-// The colour of the line of a lane.
-fn lane_ink(lane: Lane) -> &'static str
-    ensures { result.now ≡ lane_ink lane }
-{
-    match lane {
-        Lane::Thread(_) => "#b8c4d6",
-        Lane::Stage(_) => "#d8c48c",
-        _ => "#dcdcdc",
-    }
-}
-
-/// The drawing of a shape, around the place where it stands.
-pub fn shape_text(shape: Shape) -> &'static str
-    ensures { result.now ≡ shape_text shape }
-{
-    match shape {
-        Shape::Answered => "<circle r=\"5\" fill=\"#1f5fa8\"/>",
-        Shape::Begun => {
-            "<circle r=\"4.5\" fill=\"#ffffff\" stroke=\"#1f5fa8\" stroke-width=\"2\"/>"
-        }
-        Shape::Ended => "<path d=\"M-5 -6L6 0L-5 6Z\" fill=\"#1f5fa8\"/>",
-        Shape::Refused => {
-            "<path d=\"M-5 -5L5 5M5 -5L-5 5\" fill=\"none\" stroke=\"#b3261e\" stroke-width=\"3\"/>"
-        }
-        Shape::Played => {
-            "<rect x=\"-5\" y=\"-9\" width=\"10\" height=\"18\" fill=\"#f0b400\" stroke=\"#5c4300\"/>"
-        }
-        Shape::Unhandled => {
-            "<rect x=\"-5\" y=\"-9\" width=\"10\" height=\"18\" fill=\"#ffffff\" stroke=\"#5c4300\" stroke-dasharray=\"3 2\"/>"
-        }
     }
 }

@@ -2,21 +2,66 @@
 ghost use Rattle.std.specs.Prelude.{◌≡◌, ◌++◌, string_bytes, IfOk, OnOk, if◌then◌else◌, []};
 ghost use Rattle.lab_drawing.specs.Drawings as drawings;
 ghost use Rattle.lab_drawing.specs.Heads as heads;
-ghost use Rattle.lab_drawing.specs.Heads.{condition_sign, condition_signs, opening_text, place_text, shape_sign, shape_signs, signs_of, signs_text, word_signs, word_text};
+ghost use Rattle.lab_drawing.specs.Heads.{condition_sign, condition_signs, dark_text, opening_text, owned_word, place_text, shape_sign, shape_signs, signs_of, signs_text, word_signs, word_text};
 
-use crate::frames::{shape_text, steps};
+use crate::drawings::shape_text;
+use crate::frames::{Goes, steps};
 use crate::lanes::Lane;
 use crate::marks::Shape;
 use crate::moments::Condition;
-use crate::strips::strip_text;
+use crate::strips::strip_for;
 use std::alloc::{AllocError, Global};
 
 // How wide a character is.
 const CHARACTER: usize = 6;
 
 /// The opening of a picture of this size. `AllocError` where the text couldn't grow.
-pub fn opening(alloc: Global, width: usize, height: usize) -> Result<String, AllocError>
-    ensures { IfOk result (λ text. string_bytes text ≡ opening_text width height) }
+pub fn opening(alloc: Global, goes: Goes, width: usize, height: usize) -> Result<String, AllocError>
+    ensures { IfOk result (λ text. string_bytes text ≡ opening_text goes width height) }
+{
+    match goes {
+        Goes::Across => opening_across(alloc, width, height),
+        Goes::Down => opening_down(alloc, width, height),
+    }
+}
+
+// Its size, in a picture that goes down.
+fn sized_down(alloc: Global, width: usize, height: usize) -> Result<String, AllocError>
+    ensures { IfOk result (λ text. string_bytes text ≡ heads.sized_down width height) }
+{
+    format!(in alloc;
+        "<svg xmlns=\"http://www.w3.org/2000/svg\" width=\"{width}\" height=\"{height}\" viewBox=\"0 0 {width} {height}\" font-family=\"DejaVu Sans Mono, monospace\" font-size=\"10\">\n"
+    )
+}
+
+// Appends how it looks on a dark screen, and its background.
+fn put_dark(text: &mut String) -> Result<(), AllocError>
+    ensures { OnOk result (string_bytes text.new ≡ string_bytes text.old ++ dark_text) }
+{
+    text.push_str(
+        "<style>@media screen and (prefers-color-scheme:dark){[fill=\"#ffffff\"]{fill:#14181d}text,[fill=\"#202020\"]{fill:#e8e8e8}",
+    )?;
+    text.push_str(
+        "[fill=\"#1f5fa8\"]{fill:#7db4f0}[stroke=\"#1f5fa8\"]{stroke:#7db4f0}[fill=\"#b3261e\"]{fill:#ff8a80}[stroke=\"#b3261e\"]{stroke:#ff8a80}",
+    )?;
+    text.push_str(
+        "[fill=\"#5c4300\"]{fill:#e6c46a}[stroke=\"#5c4300\"]{stroke:#e6c46a}[stroke=\"#8a6d00\"]{stroke:#e6c46a}[fill=\"#5f6b7a\"]{fill:#a9b4c2}[stroke=\"#5f6b7a\"]{stroke:#a9b4c2}}</style>\n<rect width=\"100%\" height=\"100%\" fill=\"#ffffff\"/>\n",
+    )?;
+    Ok(())
+}
+
+// That of one that goes down.
+fn opening_down(alloc: Global, width: usize, height: usize) -> Result<String, AllocError>
+    ensures { IfOk result (λ text. string_bytes text ≡ heads.opening_down width height) }
+{
+    let mut text = sized_down(alloc, width, height)?;
+    put_dark(&mut text)?;
+    Ok(text)
+}
+
+// That of one that goes across.
+fn opening_across(alloc: Global, width: usize, height: usize) -> Result<String, AllocError>
+    ensures { IfOk result (λ text. string_bytes text ≡ heads.opening_across width height) }
 {
     format!(in alloc;
         "<svg xmlns=\"http://www.w3.org/2000/svg\" width=\"{width}\" height=\"{height}\" viewBox=\"0 0 {width} {height}\" font-family=\"DejaVu Sans Mono, monospace\" font-size=\"9\">\n<rect width=\"100%\" height=\"100%\" fill=\"#ffffff\"/>\n"
@@ -70,34 +115,77 @@ pub fn put_shapes(text: &mut String) -> Result<(), AllocError>
     Ok(())
 }
 
+// Appends a sign that stands here: its drawing, and its word, so far from there.
+fn put_sign(
+    text: &mut String,
+    x: usize,
+    y: usize,
+    drawn: &str,
+    right: usize,
+    down: usize,
+    word: &str,
+) -> Result<(), AllocError>
+    ensures { OnOk result (string_bytes text.new ≡ string_bytes text.old ++ (place_text x y ++ (drawn.now ++ word_text right down word.now))) }
+{
+    put_place(text, x, y)?;
+    text.push_str(drawn)?;
+    put_sign_word(text, right, down, word)?;
+    Ok(())
+}
+
+// Appends the sign of a condition in the legend of a picture that goes this way.
+fn put_condition_sign(
+    text: &mut String,
+    goes: Goes,
+    at: usize,
+    drawn: &str,
+    word: &str,
+) -> Result<(), AllocError>
+    ensures { OnOk result (string_bytes text.new ≡ string_bytes text.old ++ condition_sign goes at drawn.now word.now) }
+{
+    match goes {
+        Goes::Across => put_sign(text, at, 28, drawn, 12, 13, word),
+        Goes::Down => put_sign(text, at, 42, drawn, 0, 4, word),
+    }
+}
+
 // Appends the sign of a condition, so far from the left, and says where the next one stands.
 fn put_condition(
     text: &mut String,
+    goes: Goes,
     at: usize,
     condition: Condition,
     word: &str,
 ) -> Result<usize, AllocError>
-    ensures text { OnOk result (string_bytes text.new ≡ string_bytes text.old ++ condition_sign at (drawings.strip_text condition) word.now) }
+    ensures text { OnOk result (string_bytes text.new ≡ string_bytes text.old ++ condition_sign goes at (drawings.strip_for goes condition) word.now) }
     ensures next { IfOk result (λ next. next ≡ heads.sign_end 36 at word.now) }
 {
-    put_place(text, at, 28)?;
-    text.push_str(strip_text(condition))?;
-    put_sign_word(text, 12, 13, word)?;
+    put_condition_sign(text, goes, at, strip_for(goes, condition), word)?;
     Ok(sign_end(36, at, word))
 }
 
-/// Appends the legend of the conditions. `AllocError` where the text couldn't grow.
-pub fn put_conditions(text: &mut String) -> Result<(), AllocError>
-    ensures { OnOk result (string_bytes text.new ≡ string_bytes text.old ++ signs_text condition_sign 36 20 condition_signs) }
+// What is said of a mutex whose owner the kernel has recorded.
+fn owned_word(goes: Goes) -> &'static str
+    ensures { result.now ≡ owned_word goes }
 {
-    let ready = put_condition(text, 20, Condition::Picked, "picked")?;
-    let blocked = put_condition(text, ready, Condition::Ready, "ready")?;
-    let inband = put_condition(text, blocked, Condition::Blocked, "blocked")?;
-    let owned = put_condition(text, inband, Condition::Inband, "in-band")?;
-    let stalled = put_condition(text, owned, Condition::Owned, "owned")?;
-    let pending = put_condition(text, stalled, Condition::Stalled, "stalled")?;
-    let runs = put_condition(text, pending, Condition::Pending, "events pending")?;
-    put_condition(text, runs, Condition::Runs, "timer runs")?;
+    match goes {
+        Goes::Across => "owned",
+        Goes::Down => "owner recorded",
+    }
+}
+
+/// Appends the legend of the conditions. `AllocError` where the text couldn't grow.
+pub fn put_conditions(text: &mut String, goes: Goes) -> Result<(), AllocError>
+    ensures { OnOk result (string_bytes text.new ≡ string_bytes text.old ++ signs_text (condition_sign goes) 36 20 (condition_signs goes)) }
+{
+    let ready = put_condition(text, goes, 20, Condition::Picked, "picked")?;
+    let blocked = put_condition(text, goes, ready, Condition::Ready, "ready")?;
+    let inband = put_condition(text, goes, blocked, Condition::Blocked, "blocked")?;
+    let owned = put_condition(text, goes, inband, Condition::Inband, "in-band")?;
+    let stalled = put_condition(text, goes, owned, Condition::Owned, owned_word(goes))?;
+    let pending = put_condition(text, goes, stalled, Condition::Stalled, "stalled")?;
+    let runs = put_condition(text, goes, pending, Condition::Pending, "events pending")?;
+    put_condition(text, goes, runs, Condition::Runs, "timer runs")?;
     Ok(())
 }
 
@@ -123,29 +211,30 @@ fn is_of_words(lanes: &[Lane], condition: Condition) -> bool
 // Appends the sign of a condition, where the word of one of the lanes can have it, and says where the next one stands.
 fn put_word(
     text: &mut String,
+    goes: Goes,
     at: usize,
     lanes: &[Lane],
     condition: Condition,
     word: &str,
 ) -> Result<usize, AllocError>
-    ensures text { OnOk result (string_bytes text.new ≡ string_bytes text.old ++ (if heads.is_of_words lanes.now condition then condition_sign at (drawings.strip_text condition) word.now else [])) }
+    ensures text { OnOk result (string_bytes text.new ≡ string_bytes text.old ++ (if heads.is_of_words lanes.now condition then condition_sign goes at (drawings.strip_for goes condition) word.now else [])) }
     ensures next { IfOk result (λ next. next ≡ (if heads.is_of_words lanes.now condition then heads.sign_end 36 at word.now else at)) }
 {
     if is_of_words(lanes, condition) {
-        put_condition(text, at, condition, word)
+        put_condition(text, goes, at, condition, word)
     } else {
         Ok(at)
     }
 }
 
 /// Appends the legend of how words stand, of those that have a lane. `AllocError` where the text couldn't grow.
-pub fn put_words(text: &mut String, lanes: &[Lane]) -> Result<(), AllocError>
-    ensures { OnOk result (string_bytes text.new ≡ string_bytes text.old ++ signs_text condition_sign 36 20 (signs_of lanes.now word_signs)) }
+pub fn put_words(text: &mut String, goes: Goes, lanes: &[Lane]) -> Result<(), AllocError>
+    ensures { OnOk result (string_bytes text.new ≡ string_bytes text.old ++ signs_text (condition_sign goes) 36 20 (signs_of goes lanes.now word_signs)) }
 {
-    let claimed = put_word(text, 20, lanes, Condition::Owned, "owned")?;
-    let inband = put_word(text, claimed, lanes, Condition::Claimed, "claimed")?;
-    let oob = put_word(text, inband, lanes, Condition::Inband, "held in-band")?;
-    let taken = put_word(text, oob, lanes, Condition::Oob, "held out-of-band")?;
-    put_word(text, taken, lanes, Condition::Taken, "taken")?;
+    let claimed = put_word(text, goes, 20, lanes, Condition::Owned, "owned")?;
+    let inband = put_word(text, goes, claimed, lanes, Condition::Claimed, "claimed")?;
+    let oob = put_word(text, goes, inband, lanes, Condition::Inband, "held in-band")?;
+    let taken = put_word(text, goes, oob, lanes, Condition::Oob, "held out-of-band")?;
+    put_word(text, goes, taken, lanes, Condition::Taken, "taken")?;
     Ok(())
 }

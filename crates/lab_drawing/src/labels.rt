@@ -6,6 +6,7 @@ ghost use Rattle.lab_drawing.specs.Pictures.{ellipsis, label_text, shown_text};
 ghost use Rattle.lab_drawing.specs.Titles.{escaped};
 
 use crate::escapes::{put_escaped, put_text};
+use crate::frames::Goes;
 use crate::marks::Shape;
 use std::alloc::{AllocError, Global};
 
@@ -77,8 +78,49 @@ fn put_shown(buffer: &mut Vec<u8>, line: &str, most: usize) -> Result<(), AllocE
     Ok(())
 }
 
-/// The colour of the label of a mark.
-pub fn label_ink(shape: Shape) -> &'static str
+/// How the label of a mark looks in a picture that goes this way.
+pub fn look_for(goes: Goes, shape: Shape) -> &'static str
+    ensures { result.now ≡ pictures.look_for goes shape }
+{
+    match goes {
+        Goes::Across => label_ink(shape),
+        Goes::Down => label_look(shape),
+    }
+}
+
+/// How far behind the place of lines a label begins: a play is indented in a picture that goes down.
+pub fn indent(goes: Goes, shape: Shape) -> usize
+    ensures { result ≡ pictures.indent goes shape }
+{
+    match goes {
+        Goes::Across => 0,
+        Goes::Down => indent_down(shape),
+    }
+}
+
+// The same in a picture that goes down.
+fn indent_down(shape: Shape) -> usize
+    ensures { result ≡ pictures.indent_down shape }
+{
+    match shape {
+        Shape::Played | Shape::Unhandled => 24,
+        _ => 8,
+    }
+}
+
+// How a label looks in a picture that goes down: a refusal is bold, and a play is told apart from calls.
+fn label_look(shape: Shape) -> &'static str
+    ensures { result.now ≡ pictures.label_look shape }
+{
+    match shape {
+        Shape::Refused => "#b3261e\" font-weight=\"bold",
+        Shape::Played | Shape::Unhandled => "#5c4300",
+        _ => "#202020",
+    }
+}
+
+// The colour of the label of a mark.
+fn label_ink(shape: Shape) -> &'static str
     ensures { result.now ≡ pictures.label_ink shape }
 {
     match shape {
@@ -88,24 +130,42 @@ pub fn label_ink(shape: Shape) -> &'static str
 }
 
 // The opening of a label so far below its mark.
-fn opening(alloc: Global, pixels: usize, ink: &str) -> Result<String, AllocError>
-    ensures { IfOk result (λ text. string_bytes text ≡ pictures.label_opening pixels ink.now) }
+fn opening_below(alloc: Global, pixels: usize, look: &str) -> Result<String, AllocError>
+    ensures { IfOk result (λ text. string_bytes text ≡ pictures.opening_below pixels look.now) }
 {
-    format!(in alloc; "<text transform=\"translate(-3,{pixels}) rotate(90)\" fill=\"{ink}\">")
+    format!(in alloc; "<text transform=\"translate(-3,{pixels}) rotate(90)\" fill=\"{look}\">")
 }
 
-/// Appends the label of a mark: what is shown of its line, so far below it, and the end of the mark.
+// The opening of a label so far to the right of its mark.
+fn opening_beside(alloc: Global, pixels: usize, look: &str) -> Result<String, AllocError>
+    ensures { IfOk result (λ text. string_bytes text ≡ pictures.opening_beside pixels look.now) }
+{
+    format!(in alloc; "<text x=\"{pixels}\" y=\"4\" font-size=\"13\" fill=\"{look}\">")
+}
+
+// The opening of a label so far from its mark.
+fn opening(alloc: Global, goes: Goes, pixels: usize, look: &str) -> Result<String, AllocError>
+    ensures { IfOk result (λ text. string_bytes text ≡ pictures.label_opening goes pixels look.now) }
+{
+    match goes {
+        Goes::Across => opening_below(alloc, pixels, look),
+        Goes::Down => opening_beside(alloc, pixels, look),
+    }
+}
+
+/// Appends the label of a mark: what is shown of its line, so far from it, and the end of the mark.
 pub fn put_label(
     alloc: Global,
     buffer: &mut Vec<u8>,
+    goes: Goes,
     most: usize,
     pixels: usize,
-    ink: &str,
+    look: &str,
     line: &str,
 ) -> Result<(), AllocError>
-    ensures { OnOk result (buffer.new.items ≡ buffer.old.items ++ label_text most pixels ink.now line.now) }
+    ensures { OnOk result (buffer.new.items ≡ buffer.old.items ++ label_text goes most pixels look.now line.now) }
 {
-    let opened = opening(alloc, pixels, ink)?;
+    let opened = opening(alloc, goes, pixels, look)?;
     put_text(buffer, opened.as_str())?;
     put_shown(buffer, line, most)?;
     buffer.extend_from_slice(b"</text></g>\n")

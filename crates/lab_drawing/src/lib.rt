@@ -2,6 +2,8 @@
 //! What names no source is this profile's own.
 #![tactic(auto)]
 
+mod downwards;
+mod drawings;
 mod escapes;
 mod frames;
 mod heads;
@@ -19,12 +21,12 @@ mod told;
 mod waits;
 mod words;
 
-pub use frames::lanes_of;
+pub use frames::{Goes, lanes_of};
 pub use lanes::Lane;
 pub use marks::{Mark, Shape, marks_of};
 pub use moments::{Condition, Moment, Standing};
 pub use pages::{PAGE, page, page_count, page_moments};
 pub use rows::write_rows;
-pub use svg::{write_svg, write_told};
+pub use svg::{write_down, write_svg, write_told, write_told_down};
 pub use tables::write_table;
 pub use told::told_moments;

@@ -2,11 +2,12 @@
 ghost use Rattle.std.specs.Prelude.{◌≡◌, ◌<◌, ◌++◌, IfOk, OnOk, option_map, string_bytes};
 ghost use Rattle.lab_drawing.specs.Drawings as drawings;
 ghost use Rattle.lab_drawing.specs.Frames as frames;
-ghost use Rattle.lab_drawing.specs.Frames.{date_text, layout, number_sign, number_text};
+ghost use Rattle.lab_drawing.specs.Frames.{date_text, layout, number_above, number_sign, number_text};
 ghost use Rattle.lab_drawing.specs.Strips as strips;
-ghost use Rattle.lab_drawing.specs.Strips.{date_mark, is_number, moment_text, standing_text, strip_at, tells_number, told_date, told_number, told_standing};
+ghost use Rattle.lab_drawing.specs.Strips.{date_above, date_beside, date_mark, is_number, moment_text, standing_text, strip_at, tells_number, told_date, told_number, told_standing};
 
-use crate::frames::{COLUMNS, Sheet};
+use crate::downwards::{put_number_beside, strip_down};
+use crate::frames::{COLUMNS, Goes, Sheet};
 use crate::moments::{Condition, Moment, Standing};
 use std::alloc::{AllocError, Global};
 
@@ -42,8 +43,18 @@ pub fn strip_text(condition: Condition) -> &'static str
     }
 }
 
-// What stands before the number above a lane: T is that of a thread, + that of pending events.
-fn number_sign(condition: Condition) -> &'static str
+/// The strip of a condition in a picture that goes this way.
+pub fn strip_for(goes: Goes, condition: Condition) -> &'static str
+    ensures { result.now ≡ drawings.strip_for goes condition }
+{
+    match goes {
+        Goes::Across => strip_text(condition),
+        Goes::Down => strip_down(condition),
+    }
+}
+
+/// What stands before the number above a lane: T is that of a thread, + that of pending events.
+pub fn number_sign(condition: Condition) -> &'static str
     ensures { result.now ≡ number_sign condition }
 {
     match condition {
@@ -53,14 +64,29 @@ fn number_sign(condition: Condition) -> &'static str
     }
 }
 
-// Appends the number that stands above a lane.
+// Appends the number of a lane.
 fn put_number(
     text: &mut String,
     sheet: &Sheet,
     standing: Standing,
     number: u16,
 ) -> Result<(), AllocError>
-    ensures { OnOk result (string_bytes text.new ≡ string_bytes text.old ++ number_text (layout sheet.now) standing.condition number) }
+    ensures { OnOk result (string_bytes text.new ≡ string_bytes text.old ++ number_text (layout sheet.now) standing.lane standing.condition number) }
+{
+    match sheet.goes {
+        Goes::Across => put_number_above(text, sheet, standing, number),
+        Goes::Down => put_number_beside(text, standing.lane, standing.condition, number),
+    }
+}
+
+// Appends the number that stands above a lane.
+fn put_number_above(
+    text: &mut String,
+    sheet: &Sheet,
+    standing: Standing,
+    number: u16,
+) -> Result<(), AllocError>
+    ensures { OnOk result (string_bytes text.new ≡ string_bytes text.old ++ number_above (layout sheet.now) standing.condition number) }
 {
     let place = sheet.number_place();
     let sign = number_sign(standing.condition);
@@ -127,9 +153,9 @@ fn put_strip(
 ) -> Result<(), AllocError>
     ensures { OnOk result (string_bytes text.new ≡ string_bytes text.old ++ strip_at (layout sheet.now) column standing) }
 {
-    let x = sheet.across(column);
-    let y = sheet.down(column, standing.lane);
-    let strip = strip_text(standing.condition);
+    let x = sheet.left_of(column, standing.lane);
+    let y = sheet.top_of(column, standing.lane);
+    let strip = strip_for(sheet.goes, standing.condition);
     write!(text, "<g transform=\"translate({x},{y})\">{strip}")?;
     Ok(())
 }
@@ -201,6 +227,42 @@ fn put_date(
     date: u64,
 ) -> Result<(), AllocError>
     ensures { OnOk result (string_bytes text.new ≡ string_bytes text.old ++ date_mark (layout sheet.now) column date) }
+{
+    match sheet.goes {
+        Goes::Across => put_date_above(alloc, text, sheet, column, date),
+        Goes::Down => put_date_beside(alloc, text, sheet, column, date),
+    }
+}
+
+// Appends the date of a row at its left.
+fn put_date_beside(
+    alloc: Global,
+    text: &mut String,
+    sheet: &Sheet,
+    row: usize,
+    date: u64,
+) -> Result<(), AllocError>
+    ensures { OnOk result (string_bytes text.new ≡ string_bytes text.old ++ date_beside (layout sheet.now) row date) }
+{
+    let told = date_text(alloc, date)?;
+    let y = sheet.row_down(row).saturating_add(4);
+    let shown = told.as_str();
+    write!(
+        text,
+        "<text x=\"56\" y=\"{y}\" text-anchor=\"end\">{shown}</text>\n"
+    )?;
+    Ok(())
+}
+
+// Appends the date of a column above its lanes.
+fn put_date_above(
+    alloc: Global,
+    text: &mut String,
+    sheet: &Sheet,
+    column: usize,
+    date: u64,
+) -> Result<(), AllocError>
+    ensures { OnOk result (string_bytes text.new ≡ string_bytes text.old ++ date_above (layout sheet.now) column date) }
 {
     let told = date_text(alloc, date)?;
     let x = sheet.across(column);

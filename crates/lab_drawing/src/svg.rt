@@ -1,16 +1,17 @@
 //! A picture as SVG.
 ghost use Rattle.std.specs.Prelude.{◌≡◌, ◌+◌, ◌++◌, ◌%◌, ◌==◌, [], map, option_map, string_bytes, IfOk, OnOk, if◌then◌else◌};
-ghost use Rattle.lab_drawing.specs.Frames.{capped, layout, tie_down, tie_text};
+ghost use Rattle.lab_drawing.specs.Frames.{capped, layout, tie_text};
 ghost use Rattle.lab_drawing.specs.Heads.{place_text};
 ghost use Rattle.lab_drawing.specs.Marks.{is_entry, line_of};
 ghost use Rattle.lab_drawing.specs.Pictures as pictures;
-ghost use Rattle.lab_drawing.specs.Pictures.{band_frame, body_text, column_text, columns_text, lead_text, mark_text, stood_text, svg_text};
+ghost use Rattle.lab_drawing.specs.Pictures.{band_frame, body_text, column_text, columns_text, down_text, going_text, label_of, lead_text, mark_text, stood_text, svg_text};
 ghost use Rattle.lab_drawing.specs.Titles.{HoldsTitles};
 ghost use Rattle.lab_drawing.specs.declared.frames.Shows.TheVariants.{Words};
 
+use crate::drawings::shape_text;
 use crate::escapes::{put_text, put_title};
-use crate::frames::{COLUMNS, Sheet, Shows, shape_text};
-use crate::labels::{label_ink, put_label};
+use crate::frames::{COLUMNS, Goes, Sheet, Shows};
+use crate::labels::{indent, look_for, put_label};
 use crate::lanes::Lane;
 use crate::marks::Mark;
 use crate::moments::Moment;
@@ -19,33 +20,47 @@ use crate::strips::put_moment;
 use crate::waits::{no_waits, note, put_waits};
 use std::alloc::{AllocError, Global};
 
-// A tie to a lane so far down.
-fn tie_to(alloc: Global, down: usize) -> Result<String, AllocError>
-    ensures { IfOk result (λ text. string_bytes text ≡ tie_down down) }
-{
-    format!(in alloc;
-        "<path d=\"M0 0V{down}\" stroke=\"#1f5fa8\"/><path d=\"M-4 {down}l4 -4l4 4l-4 4Z\" fill=\"#ffffff\" stroke=\"#1f5fa8\"/>"
-    )
-}
-
 // The tie of a mark to the lane of what its call names.
 fn tie(alloc: Global, sheet: &Sheet, column: usize, mark: &Mark<'_>) -> Result<String, AllocError>
     ensures { IfOk result (λ text. string_bytes text ≡ tie_text (layout sheet.now) column mark.now) }
 {
     match mark.names {
         None => Ok(String::new(alloc)),
-        Some(lane) => {
-            let from = sheet.down(column, mark.lane);
-            tie_to(alloc, sheet.down(column, lane).saturating_sub(from))
+        Some(lane) => sheet.tie(alloc, column, mark.lane, lane),
+    }
+}
+
+// A dotted line from a mark, so far down or to the right.
+fn lead(alloc: Global, goes: Goes, pixels: usize) -> Result<String, AllocError>
+    ensures { IfOk result (λ text. string_bytes text ≡ lead_text goes pixels) }
+{
+    match goes {
+        Goes::Across => {
+            format!(in alloc;
+                "<path d=\"M0 0V{pixels}\" stroke=\"#e4e4e4\" stroke-dasharray=\"1 3\"/>"
+            )
+        }
+        Goes::Down => {
+            format!(in alloc;
+                "<path d=\"M0 0H{pixels}\" stroke=\"#b0b0b0\" stroke-dasharray=\"1 3\"/>"
+            )
         }
     }
 }
 
-// A dotted line from a mark, so far down.
-fn lead(alloc: Global, pixels: usize) -> Result<String, AllocError>
-    ensures { IfOk result (λ text. string_bytes text ≡ lead_text pixels) }
+// Appends the label of a mark, where its lines begin so far from it.
+fn put_label_of(
+    alloc: Global,
+    sheet: &Sheet,
+    pixels: usize,
+    mark: &Mark<'_>,
+    text: &mut Vec<u8>,
+) -> Result<(), AllocError>
+    ensures { OnOk result (text.new.items ≡ text.old.items ++ label_of (layout sheet.now) pixels mark.now) }
 {
-    format!(in alloc; "<path d=\"M0 0V{pixels}\" stroke=\"#e4e4e4\" stroke-dasharray=\"1 3\"/>")
+    let from = pixels.saturating_add(indent(sheet.goes, mark.shape));
+    let look = look_for(sheet.goes, mark.shape);
+    put_label(alloc, text, sheet.goes, sheet.shown, from, look, mark.line)
 }
 
 // The beginning of a mark that stands here.
@@ -65,20 +80,13 @@ fn put_body(
 ) -> Result<(), AllocError>
     ensures { OnOk result (text.new.items ≡ text.old.items ++ body_text (layout sheet.now) column mark.now) }
 {
-    let below = sheet.below(column, mark.lane);
-    let led = lead(alloc, below)?;
+    let far = sheet.to_line(column, mark.lane);
+    let led = lead(alloc, sheet.goes, far)?;
     let tied = tie(alloc, sheet, column, mark)?;
     put_text(text, led.as_str())?;
     put_text(text, tied.as_str())?;
     put_text(text, shape_text(mark.shape))?;
-    put_label(
-        alloc,
-        text,
-        sheet.shown,
-        below,
-        label_ink(mark.shape),
-        mark.line,
-    )?;
+    put_label_of(alloc, sheet, far, mark, text)?;
     Ok(())
 }
 
@@ -92,8 +100,8 @@ fn put_mark(
 ) -> Result<(), AllocError>
     ensures { OnOk result (text.new.items ≡ text.old.items ++ mark_text (layout sheet.now) column mark.now) }
 {
-    let x = sheet.across(column);
-    let y = sheet.down(column, mark.lane);
+    let x = sheet.left_of(column, mark.lane);
+    let y = sheet.top_of(column, mark.lane);
     let placed = place(alloc, x, y)?;
     put_text(text, placed.as_str())?;
     put_title(text, mark.line)?;
@@ -203,17 +211,18 @@ fn put_columns(
     Ok(())
 }
 
-// The picture of some marks, which shows this of how lanes stand.
+// The picture of some marks that goes this way, and shows this of how lanes stand.
 fn picture(
     alloc: Global,
     marks: &[Mark<'_>],
     moments: &[Moment],
     shows: Shows,
+    goes: Goes,
 ) -> Result<Vec<u8>, AllocError>
-    ensures text { IfOk result (λ text. text.items ≡ svg_text shows moments.now marks.now) }
+    ensures text { IfOk result (λ text. text.items ≡ going_text goes shows moments.now marks.now) }
     ensures titles { IfOk result (λ text. HoldsTitles (map line_of marks.now) text.items) }
 {
-    let sheet = Sheet::of(alloc, marks, shows)?;
+    let sheet = Sheet::of(alloc, marks, shows, goes)?;
     let head = sheet.head(alloc)?;
     let mut text = Vec::new(alloc);
     put_text(&mut text, head.as_str())?;
@@ -244,7 +253,7 @@ pub fn write_svg(
     ensures text { IfOk result (λ text. text.items ≡ svg_text (pictures.shown_with moments.now) moments.now marks.now) }
     ensures titles { IfOk result (λ text. HoldsTitles (map line_of marks.now) text.items) }
 {
-    picture(alloc, marks, moments, shown_with(moments))
+    picture(alloc, marks, moments, shown_with(moments), Goes::Across)
 }
 
 /// The same of the marks of callers' lines: dates, strips of how the words stood after each entry, and the waits.
@@ -257,5 +266,29 @@ pub fn write_told(
     ensures text { IfOk result (λ text. text.items ≡ svg_text Words moments.now marks.now) }
     ensures titles { IfOk result (λ text. HoldsTitles (map line_of marks.now) text.items) }
 {
-    picture(alloc, marks, moments, Shows::Words)
+    picture(alloc, marks, moments, Shows::Words, Goes::Across)
+}
+
+/// The same picture as that of `write_svg`, but going down: a row for each line, its text at the right.
+pub fn write_down(
+    alloc: Global,
+    marks: &[Mark<'_>],
+    moments: &[Moment],
+) -> Result<Vec<u8>, AllocError>
+    ensures text { IfOk result (λ text. text.items ≡ down_text (pictures.shown_with moments.now) moments.now marks.now) }
+    ensures titles { IfOk result (λ text. HoldsTitles (map line_of marks.now) text.items) }
+{
+    picture(alloc, marks, moments, shown_with(moments), Goes::Down)
+}
+
+/// The same picture as that of `write_told`, but going down.
+pub fn write_told_down(
+    alloc: Global,
+    marks: &[Mark<'_>],
+    moments: &[Moment],
+) -> Result<Vec<u8>, AllocError>
+    ensures text { IfOk result (λ text. text.items ≡ down_text Words moments.now marks.now) }
+    ensures titles { IfOk result (λ text. HoldsTitles (map line_of marks.now) text.items) }
+{
+    picture(alloc, marks, moments, Shows::Words, Goes::Down)
 }

@@ -2,9 +2,9 @@
 ghost use Rattle.std.specs.Prelude.{◌≡◌, ◌++◌, [], IfOk, OnOk, map, string_bytes};
 ghost use Rattle.lab_drawing.specs.Frames.{layout};
 ghost use Rattle.lab_drawing.specs.Pictures as pictures;
-ghost use Rattle.lab_drawing.specs.Pictures.{bar_text, goes_on_behind, wait_behind, wait_text, waits_of, waits_text};
+ghost use Rattle.lab_drawing.specs.Pictures.{bar_across, bar_down, bar_text, goes_on_behind, wait_behind, wait_text, waits_of, waits_text};
 
-use crate::frames::Sheet;
+use crate::frames::{Goes, Sheet};
 use crate::lanes::{Lane, is_lane};
 use crate::marks::{Mark, Shape};
 use std::alloc::{AllocError, Global};
@@ -52,9 +52,30 @@ pub fn note(waits: &mut [(Lane, bool)], mark: &Mark<'_>)
     }
 }
 
-// Appends the bar of a wait.
-fn put_bar(text: &mut String, x: usize, y: usize) -> Result<(), AllocError>
-    ensures { OnOk result (string_bytes text.new ≡ string_bytes text.old ++ bar_text x y) }
+// Appends the bar of a wait around the place of a mark.
+fn put_bar(text: &mut String, goes: Goes, x: usize, y: usize) -> Result<(), AllocError>
+    ensures { OnOk result (string_bytes text.new ≡ string_bytes text.old ++ bar_text goes x y) }
+{
+    match goes {
+        Goes::Across => put_bar_across(text, x.saturating_sub(8), y.saturating_sub(3)),
+        Goes::Down => put_bar_down(text, x.saturating_sub(3), y.saturating_sub(10)),
+    }
+}
+
+// The same in a picture that goes down.
+fn put_bar_down(text: &mut String, x: usize, y: usize) -> Result<(), AllocError>
+    ensures { OnOk result (string_bytes text.new ≡ string_bytes text.old ++ bar_down x y) }
+{
+    write!(
+        text,
+        "<rect x=\"{x}\" y=\"{y}\" width=\"6\" height=\"20\" fill=\"#c9d9f0\"/>\n"
+    )?;
+    Ok(())
+}
+
+// The same in one that goes across.
+fn put_bar_across(text: &mut String, x: usize, y: usize) -> Result<(), AllocError>
+    ensures { OnOk result (string_bytes text.new ≡ string_bytes text.old ++ bar_across x y) }
 {
     write!(
         text,
@@ -76,9 +97,9 @@ fn put_wait(
     if !goes_on {
         return Ok(());
     }
-    let left = sheet.across(column).saturating_sub(8);
-    let top = sheet.down(column, lane).saturating_sub(3);
-    put_bar(text, left, top)
+    let left = sheet.left_of(column, lane);
+    let top = sheet.top_of(column, lane);
+    put_bar(text, sheet.goes, left, top)
 }
 
 /// Appends the waits that go on in a column, lane by lane. `AllocError` where the text couldn't grow.

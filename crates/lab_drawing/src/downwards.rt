@@ -1,0 +1,144 @@
+//! The parts of a picture that goes down.
+ghost use Rattle.std.specs.Prelude.{◌≡◌, ◌++◌, string_bytes, IfOk, OnOk};
+ghost use Rattle.lab_drawing.specs.Drawings as drawings;
+ghost use Rattle.lab_drawing.specs.Frames as frames;
+ghost use Rattle.lab_drawing.specs.Frames.{line_down, name_above, number_beside, rank_text, short_name, told_of_lane};
+
+use crate::lanes::Lane;
+use crate::moments::Condition;
+use crate::strips::number_sign;
+use evl_base::Stage;
+use std::alloc::{AllocError, Global};
+
+/// A tie to a lane so far to the right.
+pub fn tie_right(alloc: Global, right: usize) -> Result<String, AllocError>
+    ensures { IfOk result (λ text. string_bytes text ≡ frames.tie_right right) }
+{
+    format!(in alloc;
+        "<path d=\"M0 0H{right}\" stroke=\"#1f5fa8\"/><path d=\"M{right} -4l4 4l-4 4l-4 -4Z\" fill=\"#ffffff\" stroke=\"#1f5fa8\"/>"
+    )
+}
+
+/// Appends a lane that goes down from here to there.
+pub fn put_line_down(
+    text: &mut String,
+    x: usize,
+    y: usize,
+    end: usize,
+    ink: &str,
+) -> Result<(), AllocError>
+    ensures { OnOk result (string_bytes text.new ≡ string_bytes text.old ++ line_down x y end ink.now) }
+{
+    write!(text, "<path d=\"M{x} {y}V{end}\" stroke=\"{ink}\"/>")?;
+    Ok(())
+}
+
+// The name of a lane in the words of a trace.
+fn short_name(alloc: Global, lane: Lane) -> Result<String, AllocError>
+    ensures { IfOk result (λ text. string_bytes text ≡ short_name lane) }
+{
+    match lane {
+        Lane::Stage(Stage::Oob) => String::from_str(alloc, "oob"),
+        Lane::Stage(Stage::Inband) => String::from_str(alloc, "inband"),
+        _ => format!(in alloc; "{lane}"),
+    }
+}
+
+/// Appends the name of a lane above it.
+pub fn put_name_above(text: &mut String, x: usize, y: usize, lane: Lane) -> Result<(), AllocError>
+    ensures { OnOk result (string_bytes text.new ≡ string_bytes text.old ++ name_above x y lane) }
+{
+    let named = short_name(*text.allocator(), lane)?;
+    let name = named.as_str();
+    write!(
+        text,
+        "<text x=\"{x}\" y=\"{y}\" font-size=\"11\" font-weight=\"bold\">{name}</text>\n"
+    )?;
+    Ok(())
+}
+
+// A rank as people write it: a letter for real-time, quota or weak, and the priority.
+fn rank_text(alloc: Global, rank: u16) -> Result<String, AllocError>
+    ensures { IfOk result (λ text. string_bytes text ≡ rank_text rank) }
+{
+    if rank >= 512 {
+        let priority = rank - 512;
+        format!(in alloc; "f{priority}")
+    } else if rank >= 256 {
+        let priority = rank - 256;
+        format!(in alloc; "q{priority}")
+    } else {
+        format!(in alloc; "w{rank}")
+    }
+}
+
+// What is told of a lane beside it.
+fn told_of_lane(
+    alloc: Global,
+    lane: Lane,
+    condition: Condition,
+    number: u16,
+) -> Result<String, AllocError>
+    ensures { IfOk result (λ text. string_bytes text ≡ told_of_lane lane condition number) }
+{
+    match lane {
+        Lane::Thread(_) => rank_text(alloc, number),
+        _ => {
+            let sign = number_sign(condition);
+            format!(in alloc; "{sign}{number}")
+        }
+    }
+}
+
+/// Appends what is told of a lane beside its strip.
+pub fn put_number_beside(
+    text: &mut String,
+    lane: Lane,
+    condition: Condition,
+    number: u16,
+) -> Result<(), AllocError>
+    ensures { OnOk result (string_bytes text.new ≡ string_bytes text.old ++ number_beside lane condition number) }
+{
+    let told = told_of_lane(*text.allocator(), lane, condition, number)?;
+    let shown = told.as_str();
+    write!(
+        text,
+        "<text x=\"8\" y=\"-3\" font-weight=\"bold\">{shown}</text>"
+    )?;
+    Ok(())
+}
+
+/// The strip of a condition, left of the place where a mark stands.
+pub fn strip_down(condition: Condition) -> &'static str
+    ensures { result.now ≡ drawings.strip_down condition }
+{
+    match condition {
+        Condition::Inband => {
+            "<path d=\"M-10.5 -10v20\" stroke=\"#8a6d00\" stroke-width=\"1.5\"/>"
+        }
+        Condition::Blocked => {
+            "<path d=\"M-10.5 -9v4m0 3v4m0 3v4\" stroke=\"#b3261e\" stroke-width=\"4\"/>"
+        }
+        Condition::Ready => "<path d=\"M-12.5 -10v20M-8.5 -10v20\" stroke=\"#1f5fa8\"/>",
+        Condition::Picked => {
+            "<rect x=\"-13\" y=\"-10\" width=\"5\" height=\"20\" fill=\"#1f5fa8\"/>"
+        }
+        Condition::Stalled => {
+            "<path d=\"M-13 -5l5 -4m-5 8l5 -4m-5 8l5 -4m-5 8l5 -4\" stroke=\"#5c4300\" stroke-width=\"1.5\"/>"
+        }
+        Condition::Pending => {
+            "<path d=\"M-10.5 -8v3m0 4v3m0 4v3\" stroke=\"#5c4300\" stroke-width=\"3\"/>"
+        }
+        Condition::Owned => {
+            "<rect x=\"-12\" y=\"-10\" width=\"3\" height=\"20\" fill=\"#5f6b7a\"/>"
+        }
+        Condition::Runs => "<path d=\"M-10.5 -10v20M-13 -5h5M-13 5h5\" stroke=\"#5c4300\"/>",
+        Condition::Oob => {
+            "<rect x=\"-13\" y=\"-10\" width=\"5\" height=\"20\" fill=\"#1f5fa8\"/>"
+        }
+        Condition::Claimed => {
+            "<path d=\"M-10.5 -10v20M-14 -5h7M-14 5h7\" stroke=\"#5f6b7a\" stroke-width=\"3\"/>"
+        }
+        Condition::Taken => "<path d=\"M-12.5 -10v20M-8.5 -10v20\" stroke=\"#5c4300\"/>",
+    }
+}

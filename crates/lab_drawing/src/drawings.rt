@@ -1,0 +1,71 @@
+//! The drawings of a picture: lines, ties and shapes.
+ghost use Rattle.std.specs.Prelude.{◌≡◌, ◌++◌, string_bytes, IfOk, OnOk};
+ghost use Rattle.lab_drawing.specs.Drawings.{shape_text};
+ghost use Rattle.lab_drawing.specs.Frames as frames;
+ghost use Rattle.lab_drawing.specs.Frames.{lane_ink, lane_name, line_text};
+
+use crate::frames::LEFT;
+use crate::lanes::Lane;
+use crate::marks::Shape;
+use std::alloc::{AllocError, Global};
+
+/// A tie to a lane so far down.
+pub fn tie_down(alloc: Global, down: usize) -> Result<String, AllocError>
+    ensures { IfOk result (λ text. string_bytes text ≡ frames.tie_down down) }
+{
+    format!(in alloc;
+        "<path d=\"M0 0V{down}\" stroke=\"#1f5fa8\"/><path d=\"M-4 {down}l4 -4l4 4l-4 4Z\" fill=\"#ffffff\" stroke=\"#1f5fa8\"/>"
+    )
+}
+
+/// Appends a line so far down, up to here.
+pub fn put_line(text: &mut String, y: usize, end: usize, ink: &str) -> Result<(), AllocError>
+    ensures { OnOk result (string_bytes text.new ≡ string_bytes text.old ++ line_text y end ink.now) }
+{
+    write!(text, "<path d=\"M{LEFT} {y}H{end}\" stroke=\"{ink}\"/>")?;
+    Ok(())
+}
+
+/// Appends the name of a lane, so far down.
+pub fn put_lane_name(text: &mut String, y: usize, lane: Lane) -> Result<(), AllocError>
+    ensures { OnOk result (string_bytes text.new ≡ string_bytes text.old ++ lane_name y lane) }
+{
+    write!(
+        text,
+        "<text x=\"8\" y=\"{y}\" font-size=\"11\">{lane}</text>\n"
+    )?;
+    Ok(())
+}
+
+/// The colour of the line of a lane.
+pub fn lane_ink(lane: Lane) -> &'static str
+    ensures { result.now ≡ lane_ink lane }
+{
+    match lane {
+        Lane::Thread(_) => "#b8c4d6",
+        Lane::Stage(_) => "#d8c48c",
+        _ => "#dcdcdc",
+    }
+}
+
+/// The drawing of a shape, around the place where it stands.
+pub fn shape_text(shape: Shape) -> &'static str
+    ensures { result.now ≡ shape_text shape }
+{
+    match shape {
+        Shape::Answered => "<circle r=\"5\" fill=\"#1f5fa8\"/>",
+        Shape::Begun => {
+            "<circle r=\"4.5\" fill=\"#ffffff\" stroke=\"#1f5fa8\" stroke-width=\"2\"/>"
+        }
+        Shape::Ended => "<path d=\"M-5 -6L6 0L-5 6Z\" fill=\"#1f5fa8\"/>",
+        Shape::Refused => {
+            "<path d=\"M-5 -5L5 5M5 -5L-5 5\" fill=\"none\" stroke=\"#b3261e\" stroke-width=\"3\"/>"
+        }
+        Shape::Played => {
+            "<rect x=\"-5\" y=\"-9\" width=\"10\" height=\"18\" fill=\"#f0b400\" stroke=\"#5c4300\"/>"
+        }
+        Shape::Unhandled => {
+            "<rect x=\"-5\" y=\"-9\" width=\"10\" height=\"18\" fill=\"#ffffff\" stroke=\"#5c4300\" stroke-dasharray=\"3 2\"/>"
+        }
+    }
+}
