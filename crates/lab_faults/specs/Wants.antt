@@ -123,6 +123,7 @@ meant_text word =
     else if means_begin_get word then Some (codes "; did you mean \"begin_get\"?")
     else if means_put word then Some (codes "; did you mean \"put\"?")
     else if means_arrive word then Some (codes "; did you mean \"arrive\"?")
+    else if bytes_eq word (codes "lock_stax") then Some (codes "; did you mean \"try_lock_stax\"?")
     else if means_tick word then Some (codes "; did you mean \"tick\", or a timer?")
     else None
 

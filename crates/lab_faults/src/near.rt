@@ -86,6 +86,8 @@ fn meant_text(word: &str) -> Option<&'static str>
         Some("; did you mean \"put\"?")
     } else if means_arrive(word) {
         Some("; did you mean \"arrive\"?")
+    } else if word == "lock_stax" {
+        Some("; did you mean \"try_lock_stax\"?")
     } else if means_tick(word) {
         Some("; did you mean \"tick\", or a timer?")
     } else {
