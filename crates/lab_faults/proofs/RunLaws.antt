@@ -28,7 +28,7 @@ cut_first x (y ∷ rest) =
     ∙ cut_by x y rest (prefix_len (is_beside x) rest) (prefix_len (is_beside y) rest) (is_beside x y) (beside_both x y rest) (sym (cut_first y rest))
 
 -- the first run, and those behind it
-runs_cut : (items : List Item) → 0 < length items → runs items ≡ take (run_length items) items ∷ runs (drop (run_length items) items)
+pub runs_cut : (items : List Item) → 0 < length items → runs items ≡ take (run_length items) items ∷ runs (drop (run_length items) items)
 runs_cut [] h = absurd (omega (arith, h))
 runs_cut (x ∷ rest) h =
     let next : suc (prefix_len (is_beside x) rest) ≡ 1 + prefix_len (is_beside x) rest = omega arith in

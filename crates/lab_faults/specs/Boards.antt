@@ -21,6 +21,8 @@ unfoldable pub heading_text : List ℕ → List ℕ
 heading_text name =
     if bytes_eq name (codes "step") then codes "a step is headed [[step]]"
     else if bytes_eq name (codes "board") then codes "the board is headed [board]"
+    else if bytes_eq name (codes "setup") || bytes_eq name (codes "setups") then codes "a step that is set up is headed [[setup]], on a line of its own"
+    else if bytes_eq name (codes "ask") then codes "what is asked is headed [ask], on a line of its own"
     else no_table_text name
 
 -- of a key that stands above the board it is said so, of any other one that a key of the board is near

@@ -10,7 +10,7 @@ use Rattle.evl_scenario.specs.declared.faults.Fault.{Fault}
 use Rattle.evl_scenario.specs.declared.faults.Fault.TheVariants.{Step}
 use Rattle.lab_faults.specs.Faults.{may_lack}
 use Rattle.lab_faults.specs.Told.{Told, told_at}
-use Rattle.lab_faults.specs.Wants.{hint_text, names_text, sample_text, wanted_text}
+use Rattle.lab_faults.specs.Wants.{hint_text, meant_or_near_text, names_text, sample_text, wanted_text}
 use Rattle.lab_faults.specs.declared.items.Item.{Item}
 use Rattle.lab_faults.specs.declared.items.Section.{Section}
 use Rattle.lab_faults.specs.declared.items.Section.TheVariants.{Step as InStep}
@@ -148,7 +148,7 @@ misfit_text number key value = in_step number (codes ": " ++ (key ++ (codes " = 
 
 -- a word that no call has
 unfoldable pub no_call_text : ℕ → List ℕ → List ℕ
-no_call_text number word = in_step number (codes ": there is no call \"" ++ (word ++ (codes "\"" ++ hint_text word step_words)))
+no_call_text number word = in_step number (codes ": there is no call \"" ++ (word ++ (codes "\"" ++ meant_or_near_text word step_words)))
 
 -- no word
 unfoldable pub no_word_text : ℕ → List ℕ

@@ -1,6 +1,7 @@
 -- The words in which values are asked for, and near words.
 use Rattle.std.specs.Prelude.{ℕ, nat_eq, nat_le, nat_lt, Bool, ◌&&◌, ◌||◌, List, [], ◌∷◌, ◌++◌, codes, decimal, filter, find, length, if◌then◌else◌, Option, None, Some}
 use Rattle.std.specs.List.{join_by, list_all}
+use Rattle.std.specs.Option.{unwrap_or}
 use Rattle.std.specs.Str.{bytes_eq, chars}
 use Rattle.evl_base.specs.Fields.{kind_named}
 use Rattle.evl_base.specs.declared.fields.Kind.{Kind}
@@ -93,3 +94,39 @@ hint_for (Some word) = codes "; did you mean \"" ++ (word ++ codes "\"?")
 -- what is said of the nearest word, or nothing
 abbrev pub hint_text : List ℕ → List (List ℕ) → List ℕ
 hint_text text words = hint_for (nearest text words)
+
+-- ---- what a beginner means by a word that no call has
+
+abbrev pub means_claim : List ℕ → Bool
+means_claim word = bytes_eq word (codes "lock") || (bytes_eq word (codes "lock_mutex") || bytes_eq word (codes "acquire"))
+
+abbrev pub means_release : List ℕ → Bool
+means_release word = bytes_eq word (codes "unlock") || bytes_eq word (codes "unlock_mutex")
+
+abbrev pub means_begin_get : List ℕ → Bool
+means_begin_get word = bytes_eq word (codes "wait") || (bytes_eq word (codes "get") || bytes_eq word (codes "down"))
+
+abbrev pub means_put : List ℕ → Bool
+means_put word = bytes_eq word (codes "signal") || (bytes_eq word (codes "up") || bytes_eq word (codes "notify"))
+
+abbrev pub means_arrive : List ℕ → Bool
+means_arrive word = bytes_eq word (codes "irq") || bytes_eq word (codes "interrupt")
+
+abbrev pub means_tick : List ℕ → Bool
+means_tick word = bytes_eq word (codes "sleep") || bytes_eq word (codes "delay")
+
+-- the call that is meant, if one is
+abbrev pub meant_text : List ℕ → Option (List ℕ)
+meant_text word =
+    if means_claim word then Some (codes "; did you mean \"claim\", or \"try_lock_mutex\" of lab callers?")
+    else if means_release word then Some (codes "; did you mean \"release\", or \"try_unlock_mutex\" of lab callers?")
+    else if means_begin_get word then Some (codes "; did you mean \"begin_get\"?")
+    else if means_put word then Some (codes "; did you mean \"put\"?")
+    else if means_arrive word then Some (codes "; did you mean \"arrive\"?")
+    else if bytes_eq word (codes "lock_stax") then Some (codes "; did you mean \"try_lock_stax\"?")
+    else if means_tick word then Some (codes "; did you mean \"tick\", or a timer?")
+    else None
+
+-- what is meant, or else the nearest of these words, or nothing
+unfoldable pub meant_or_near_text : List ℕ → List (List ℕ) → List ℕ
+meant_or_near_text word words = unwrap_or (meant_text word) (hint_text word words)

@@ -49,6 +49,10 @@ fn heading_words(alloc: Global, name: &str) -> Result<String, AllocError>
     match name {
         "step" => format!(in alloc; "a step is headed [[step]]"),
         "board" => format!(in alloc; "the board is headed [board]"),
+        "setup" | "setups" => {
+            format!(in alloc; "a step that is set up is headed [[setup]], on a line of its own")
+        }
+        "ask" => format!(in alloc; "what is asked is headed [ask], on a line of its own"),
         _ => no_table(alloc, name),
     }
 }
@@ -105,9 +109,9 @@ fn check_heading(
     }
 }
 
-// Notes a value that can't stand at its key.
+/// Notes a value of a board that can't stand at its key.
 #[tactic(auto, unfolding(crate::specs::Boards::value_faults))]
-fn check_value(
+pub fn check_value(
     alloc: Global,
     finding: &mut Finding<'_>,
     item: Item,
@@ -180,8 +184,8 @@ fn check_opening_item(
     check_value(alloc, finding, item, fits)
 }
 
-// Notes the faults of a key with its value that stands in no step.
-fn check_item(alloc: Global, finding: &mut Finding<'_>, item: Item) -> Result<(), AllocError>
+/// Notes the faults of a key with its value that stands in no step.
+pub fn check_item(alloc: Global, finding: &mut Finding<'_>, item: Item) -> Result<(), AllocError>
     ensures { OnOk result (Adds finding.old finding.new (item_faults finding.old.text.now item)) }
 {
     match item.section {
@@ -191,7 +195,8 @@ fn check_item(alloc: Global, finding: &mut Finding<'_>, item: Item) -> Result<()
     }
 }
 
-fn is_of_board(section: Section) -> bool
+/// Whether this is the board.
+pub fn is_of_board(section: Section) -> bool
     ensures { result ≡ boards.is_of_board section }
 {
     matches!(section, Section::Board)
@@ -226,9 +231,9 @@ fn first_heading(headings: &[Heading]) -> usize
     }
 }
 
-// Notes that the board doesn't say how many threads there are.
+/// Notes that the board doesn't say how many threads there are.
 #[tactic(auto, unfolding(crate::specs::Boards::threads_faults))]
-fn check_threads(
+pub fn check_threads(
     alloc: Global,
     finding: &mut Finding<'_>,
     headings: &[Heading],
@@ -243,7 +248,8 @@ fn check_threads(
     finding.note(Fault::Board, first_heading(headings), words)
 }
 
-fn check_headings(
+/// Notes the headings that a scenario doesn't have.
+pub fn check_headings(
     alloc: Global,
     finding: &mut Finding<'_>,
     headings: &[Heading],

@@ -2,7 +2,7 @@
 ghost use Rattle.std.specs.Prelude.{◌≡◌, ◌≢◌, [], ◌∷◌, true, false, map, string_bytes, Err, None, Some, IfOk};
 ghost use Rattle.toml.specs.Errors.{IsMemory, span_start};
 ghost use Rattle.evl_scenario.specs.Scenarios.{scenario_of};
-ghost use Rattle.lab_faults.specs.Checks.{Finds, FindsText, IsRefusedFor, IsTextFault, Tells, TellsWhy, faults_in_all, faults_in_steps, not_toml_text, plain_text, plain_told};
+ghost use Rattle.lab_faults.specs.Checks.{Finds, FindsText, IsLed, IsRefusedFor, IsTextFault, Tells, TellsWhy, faults_in_all, faults_in_steps, not_toml_text, plain_text, plain_told};
 ghost use Rattle.lab_faults.specs.Faults.{are_of_steps, first_fault, is_of_step, refusal_in};
 ghost use Rattle.lab_faults.specs.Told.{fault_told};
 
@@ -86,8 +86,8 @@ fn plainly(alloc: Global, fault: Fault) -> Result<String, AllocError>
     }
 }
 
-// The fault of a text that can't be read.
-fn found_in_text(alloc: Global, text: &[u8]) -> Result<Vec<Found>, AllocError>
+/// The fault of a text that can't be read. `AllocError` where memory couldn't grow.
+pub fn found_in_text(alloc: Global, text: &[u8]) -> Result<Vec<Found>, AllocError>
     ensures { IfOk result (λ found. FindsText text.now (map fault_told found.items)) }
 {
     let mut finding = Finding {
@@ -171,6 +171,21 @@ fn in_front(fault: Fault, words: String, others: Vec<Found>) -> Result<Vec<Found
     Ok(found)
 }
 
+/// Faults that were found, and in front of them the one that a text was refused for, unless it is the first. `AllocError`
+/// where memory couldn't grow.
+pub fn led_by(alloc: Global, fault: Fault, found: Vec<Found>) -> Result<Vec<Found>, AllocError>
+    ensures led { IfOk result (λ all. IsLed fault (map fault_told found.items) (map fault_told all.items)) }
+    ensures first { IfOk result (λ all. first_fault all.items ≡ Some fault) }
+    ensures steps { IfOk result (λ all. is_of_step fault ≡ true → are_of_steps found.items ≡ true → are_of_steps all.items ≡ true) }
+{
+    if begins_with(found.as_slice(), fault) {
+        return Ok(found);
+    }
+    let words = plainly(alloc, fault)?;
+    let all = in_front(fault, words, found)?;
+    Ok(all)
+}
+
 // The faults of a text that was refused for this one, which is the first of them.
 fn explain(alloc: Global, text: &[u8], fault: Fault) -> Result<Vec<Found>, AllocError>
     ensures told { IfOk result (λ found. Tells text.now fault (map fault_told found.items)) }
@@ -178,11 +193,7 @@ fn explain(alloc: Global, text: &[u8], fault: Fault) -> Result<Vec<Found>, Alloc
     ensures steps { IfOk result (λ found. is_of_step fault ≡ true → are_of_steps found.items ≡ true) }
 {
     let found = all_found(alloc, text, fault)?;
-    if begins_with(found.as_slice(), fault) {
-        return Ok(found);
-    }
-    let words = plainly(alloc, fault)?;
-    let all = in_front(fault, words, found)?;
+    let all = led_by(alloc, fault, found)?;
     Ok(all)
 }
 

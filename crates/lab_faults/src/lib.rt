@@ -16,7 +16,15 @@ mod steps;
 mod tokens;
 mod wants;
 
-pub use checks::check;
-pub use found::{Found, Place};
-pub use reports::report;
+pub use boards::{check_headings, check_item, check_threads, check_value, is_of_board};
+pub use checks::{check, found_in_text, led_by};
+pub use found::{Finding, Found, Place};
+pub use items::{Heading, Item, Items, Section, bare, slice};
+pub use judges::fits_step;
+pub use keys::items_of;
+pub use near::{meant_or_near, near_text};
+pub use reports::{report, write_found};
+pub use runs::{first_number, number_of, run_length};
+pub use steps::{check_step, fault_of, first_byte, is_among, item_at, listed, named, shown};
+pub use tokens::{Kind, Token, tokens_of};
 pub use wants::{is_optional, keys_of};

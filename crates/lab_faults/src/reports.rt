@@ -9,8 +9,8 @@ use crate::checks::check;
 use crate::found::Found;
 use std::alloc::{AllocError, Global};
 
-// Writes a line for each fault.
-fn write_found(report: &mut String, name: &str, found: &[Found]) -> Result<(), AllocError>
+/// Writes a line for each fault in a file of this name. `AllocError` where memory couldn't grow.
+pub fn write_found(report: &mut String, name: &str, found: &[Found]) -> Result<(), AllocError>
     ensures { OnOk result (string_bytes report.new ≡ string_bytes report.old ++ found_lines name.now found.now) }
 {
     for one in found {

@@ -11,8 +11,8 @@ use crate::items::{Item, Section};
 use crate::steps::check_step;
 use std::alloc::{AllocError, Global};
 
-// The step in which a key stands, from 1; 0 where it stands in none.
-fn number_of(section: Section) -> usize
+/// The step in which a key stands, from 1; 0 where it stands in none.
+pub fn number_of(section: Section) -> usize
     ensures { result ≡ steps.number_of section }
 {
     match section {
@@ -34,8 +34,8 @@ fn in_front(items: &[Item], number: usize) -> usize
     items.len()
 }
 
-// How many items in front stand in one step.
-fn run_length(items: &[Item]) -> usize
+/// How many items in front stand in one step.
+pub fn run_length(items: &[Item]) -> usize
     ensures count { result ≡ steps.run_length items.now }
     ensures within { result ≤ length items.now }
     ensures some { 0 < length items.now → 0 < result }
@@ -46,8 +46,8 @@ fn run_length(items: &[Item]) -> usize
     }
 }
 
-// The step in which the first item stands.
-fn first_number(items: &[Item]) -> usize
+/// The step in which the first item stands.
+pub fn first_number(items: &[Item]) -> usize
     ensures { result ≡ steps.first_number items.now }
 {
     match items {

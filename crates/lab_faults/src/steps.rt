@@ -5,12 +5,12 @@ ghost use Rattle.lab_faults.specs.Faults.{are_of_steps};
 ghost use Rattle.lab_faults.specs.Steps as steps;
 ghost use Rattle.lab_faults.specs.Steps.{call_faults, key_faults, lacking_faults, misfit_faults, misfit_text, missing_faults, missing_text, name_between, no_call_text, no_word_text, own_keys, step_faults, step_told, step_words, text_between, unknown_faults, unknown_text, unread_text, word_faults};
 ghost use Rattle.lab_faults.specs.Told.{Adds};
-ghost use Rattle.lab_faults.specs.Wants.{hint_text, names_text};
+ghost use Rattle.lab_faults.specs.Wants.{meant_or_near_text, names_text};
 
 use crate::found::Finding;
 use crate::items::{Item, bare, slice};
 use crate::judges::{fits_step, is_step};
-use crate::near::near_text;
+use crate::near::{meant_or_near, near_text};
 use crate::wants::{is_optional, keys_of, wanted};
 use evl_base::STEP_WORDS;
 use evl_scenario::Fault;
@@ -41,15 +41,15 @@ pub fn named(text: &[u8], range: (usize, usize)) -> &str
     as_text(bare(slice(text, range)))
 }
 
-// The fault of a step.
-fn fault_of(number: usize) -> Fault
+/// The fault of a step.
+pub fn fault_of(number: usize) -> Fault
     ensures { result ≡ steps.fault_of number }
 {
     Fault::Step(u32::try_from(number).unwrap_or(u32::MAX))
 }
 
-// The item of a step at a key.
-fn item_at(text: &[u8], items: &[Item], key: &str) -> Option<Item>
+/// The first of some items that stands at a key.
+pub fn item_at(text: &[u8], items: &[Item], key: &str) -> Option<Item>
     ensures { result ≡ steps.item_at text.now items.now key.now }
 {
     for item in items {
@@ -60,8 +60,8 @@ fn item_at(text: &[u8], items: &[Item], key: &str) -> Option<Item>
     None
 }
 
-// The names of keys, with a comma between two of them.
-fn listed(alloc: Global, keys: &[&str]) -> Result<String, AllocError>
+/// The names of keys, with a comma between two of them. `AllocError` where memory couldn't grow.
+pub fn listed(alloc: Global, keys: &[&str]) -> Result<String, AllocError>
     ensures { IfOk result (λ names. string_bytes names ≡ names_text (map (λ key. key.now) keys.now)) }
 {
     let mut text = String::new(alloc);
@@ -331,11 +331,11 @@ fn call_words() -> &'static [&'static str]
     &STEP_WORDS
 }
 
-// What is said of the nearest of them.
+// What is said of the one that is meant, or of the nearest.
 fn call_hint(alloc: Global, word: &str) -> Result<String, AllocError>
-    ensures { IfOk result (λ hint. string_bytes hint ≡ hint_text word.now step_words) }
+    ensures { IfOk result (λ hint. string_bytes hint ≡ meant_or_near_text word.now step_words) }
 {
-    near_text(alloc, word, call_words())
+    meant_or_near(alloc, word, call_words())
 }
 
 // What is said of a word that no call has.
@@ -420,8 +420,8 @@ fn note_unread(
     finding.note(fault_of(number), at, words)
 }
 
-// Where a step's first key stands.
-fn first_byte(items: &[Item]) -> usize
+/// Where a step's first key stands.
+pub fn first_byte(items: &[Item]) -> usize
     ensures { result ≡ steps.first_byte items.now }
 {
     match items {

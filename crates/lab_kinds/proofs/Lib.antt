@@ -1,0 +1,4 @@
+mod BankLaws
+mod CallerLaws
+mod FoundLaws
+mod RowLaws

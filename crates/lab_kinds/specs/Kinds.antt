@@ -1,0 +1,55 @@
+-- Of which kind a text is, by its headings and keys.
+use Rattle.std.specs.Prelude.{ℕ, Bool, true, false, ◌&&◌, ◌||◌, List, codes, if◌then◌else◌, is_some}
+use Rattle.std.specs.List.{list_any}
+use Rattle.std.specs.Str.{bytes_eq}
+use Rattle.lab_faults.specs.Keys.{text_headings, text_keys}
+use Rattle.lab_faults.specs.Steps.{name_between}
+use Rattle.lab_faults.specs.declared.items.Heading.{Heading}
+use Rattle.lab_faults.specs.declared.items.Item.{Item}
+use Rattle.lab_faults.specs.declared.items.Section.{Section}
+use Rattle.lab_faults.specs.declared.items.Section.TheVariants.{Opening}
+use Rattle.lab_kinds.specs.Words.{own_keys}
+use Rattle.lab_kinds.specs.declared.kinds.TextKind.{TextKind}
+use Rattle.lab_kinds.specs.declared.kinds.TextKind.TheVariants.{Scenario, Orders, Callers, Bank}
+
+abbrev pub is_opening : Section → Bool
+is_opening Opening = true
+is_opening _ = false
+
+module _ (text : List ℕ) where
+  -- a heading of this name, and a key of this name above all headings
+  abbrev pub is_headed : List ℕ → Heading → Bool
+  is_headed name heading = bytes_eq (name_between text heading.name) name
+
+  abbrev pub is_top : List ℕ → Item → Bool
+  is_top name item = is_opening item.section && bytes_eq (name_between text item.key) name
+
+  -- a table of this name
+  abbrev pub has_table : List ℕ → List Heading → List Item → Bool
+  has_table name headings items = list_any (is_headed name) headings || list_any (is_top name) items
+
+  -- the limits of staxes, or a word of a step that callers alone have
+  abbrev pub is_of_callers : Item → Bool
+  is_of_callers item =
+      let key = name_between text item.key in
+      bytes_eq key (codes "staxes") || (bytes_eq key (codes "do") && is_some (own_keys (name_between text item.value)))
+
+  -- callbacks, also misspelt
+  abbrev pub has_callbacks : List Heading → List Item → Bool
+  has_callbacks headings items = has_table (codes "callback") headings items || has_table (codes "callbacks") headings items
+
+  -- steps that are set up, also misspelt, or what is asked
+  abbrev pub has_orders : List Heading → List Item → Bool
+  has_orders headings items =
+      has_table (codes "setup") headings items || (has_table (codes "setups") headings items || has_table (codes "ask") headings items)
+
+  abbrev pub kind_in : List Heading → List Item → TextKind
+  kind_in headings items =
+      if has_callbacks headings items then Bank
+      else if has_orders headings items then Orders
+      else if list_any is_of_callers items then Callers
+      else Scenario
+
+-- of which kind a text is
+unfoldable pub kind_of : List ℕ → TextKind
+kind_of text = kind_in text (text_headings text) (text_keys text)

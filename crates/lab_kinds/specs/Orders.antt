@@ -1,0 +1,171 @@
+-- The faults of a text for all orders: those of the scenario in it, in its own places, and those of what is asked.
+use Rattle.std.specs.Prelude.{◌≡◌, ℕ, nat_le, nat_lt, Bool, true, false, ◌&&◌, ◌||◌, List, [], ◌∷◌, ◌++◌, codes, count_by, flat_map, length, if◌then◌else◌, Option, None, Some, Err, is_ok, is_some}
+use Rattle.std.specs.List.{list_any}
+use Rattle.std.specs.Option.{option_or}
+use Rattle.std.specs.Str.{bytes_eq, is_utf8}
+use Rattle.std.specs.Str.Lines.{lines}
+use Rattle.toml.specs.Parse.{parse_document}
+use Rattle.evl_scenario.specs.Lines.{line_feed}
+use Rattle.evl_scenario.specs.Scenarios.{scenario_of}
+use Rattle.evl_scenario.specs.declared.faults.Fault.{Fault}
+use Rattle.evl_scenario.specs.declared.faults.Fault.TheVariants.{Board}
+use Rattle.lab_faults.specs.Checks.{FindsText, Tells}
+use Rattle.lab_faults.specs.Keys.{text_headings, text_keys}
+use Rattle.lab_faults.specs.Pieces.{pieces}
+use Rattle.lab_faults.specs.Steps.{is_among, name_between, number_of, text_between}
+use Rattle.lab_faults.specs.Told.{Told, told_at}
+use Rattle.lab_faults.specs.Wants.{hint_text}
+use Rattle.lab_faults.specs.declared.items.Heading.{Heading}
+use Rattle.lab_faults.specs.declared.items.Item.{Item}
+use Rattle.lab_faults.specs.declared.tokens.Token.{Token}
+use Rattle.lab_kinds.specs.Kinds.{is_headed}
+use Rattle.lab_kinds.specs.Tables.{field_faults}
+use Rattle.lab_kinds.specs.Words.{ask_keys, is_word}
+use Rattle.lab_scenario_orders.specs.Asks.{begins}
+use Rattle.lab_scenario_orders.specs.Splits.{as_step, is_asked, is_setup}
+
+-- ---- the parts of a text, each line at its place
+
+-- a line of the scenario, which is empty if it is of what is asked
+abbrev pub scenario_line : Bool → List ℕ → List ℕ
+scenario_line is_asked line = if is_asked then line_feed else as_step line ++ line_feed
+
+abbrev pub scenario_from : Bool → List (List ℕ) → List ℕ
+scenario_from was [] = []
+scenario_from was (line ∷ rest) = scenario_line (is_asked was line) line ++ scenario_from (is_asked was line) rest
+
+-- a line of what is asked, which is empty if it is not
+abbrev pub asked_line : Bool → List ℕ → List ℕ
+asked_line is_asked line = if is_asked then line ++ line_feed else line_feed
+
+abbrev pub asked_from : Bool → List (List ℕ) → List ℕ
+asked_from was [] = []
+asked_from was (line ∷ rest) = asked_line (is_asked was line) line ++ asked_from (is_asked was line) rest
+
+-- the scenario and what is asked of a text, and how many steps are set up
+abbrev pub scenario_within : List ℕ → List ℕ
+scenario_within text = scenario_from false (lines text)
+
+abbrev pub asked_within : List ℕ → List ℕ
+asked_within text = asked_from false (lines text)
+
+abbrev pub setup_count : List ℕ → ℕ
+setup_count text = count_by is_setup (lines text)
+
+-- ---- steps that are set up
+
+abbrev pub mixed_text : List ℕ
+mixed_text = codes "a [[setup]] stands below a [[step]]: steps are set up first"
+
+-- of one, where a step that is not was seen above it
+abbrev pub mixed_fault : List ℕ → Bool → Heading → List Told
+mixed_fault text seen heading = if seen && is_headed text (codes "setup") heading then told_at text Board heading.name.0 mixed_text ∷ [] else []
+
+abbrev pub mixed_faults : List ℕ → Bool → List Heading → List Told
+mixed_faults text seen [] = []
+mixed_faults text seen (heading ∷ rest) = mixed_fault text seen heading ++ mixed_faults text (seen || is_headed text (codes "step") heading) rest
+
+abbrev pub set_up_faults : List ℕ → List Told
+set_up_faults text = mixed_faults text false (text_headings text)
+
+-- ---- what is asked
+
+-- the callers of a scenario of which the first steps are set up, as numbers
+abbrev pub caller_of : List ℕ → ℕ → Item → List (List ℕ)
+caller_of text setup item =
+    if nat_lt setup (number_of item.section) && bytes_eq (name_between text item.key) (codes "who") then name_between text item.value ∷ [] else []
+
+unfoldable pub callers_of : List ℕ → ℕ → List (List ℕ)
+callers_of text setup = flat_map (caller_of text setup) (text_keys text)
+
+-- what a text at `never` begins with: a caller and an arrow
+abbrev pub caller_front : List ℕ → List ℕ
+caller_front who = codes "T" ++ (who ++ codes " -> ")
+
+-- the answer behind that of this caller, and of the first of these
+abbrev pub answer_by : List ℕ → List ℕ → Option (List ℕ)
+answer_by name who = if begins (caller_front who) name then Some (text_between name (length (caller_front who), length name)) else None
+
+abbrev pub answer_of : List ℕ → List (List ℕ) → Option (List ℕ)
+answer_of name [] = None
+answer_of name (who ∷ rest) = option_or (answer_by name who) (answer_of name rest)
+
+-- the answers that have no number, but for refusals
+unfoldable pub plain_answers : List (List ℕ)
+plain_answers = codes "done" ∷ codes "begun" ∷ codes "timed out" ∷ codes "thread none" ∷ codes "next none" ∷ []
+
+-- how answers with a number or bytes begin
+unfoldable pub number_answers : List (List ℕ)
+number_answers =
+    codes "count " ∷ codes "bits " ∷ codes "number " ∷ codes "bytes " ∷ codes "thread " ∷ codes "next " ∷ []
+
+-- the names of refusals
+unfoldable pub refusal_answers : List (List ℕ)
+refusal_answers =
+    codes "HistoryFull" ∷ codes "Unknown" ∷ codes "Invalid" ∷ codes "Again" ∷ codes "Busy" ∷ codes "NotOwner" ∷ codes "Deadlock" ∷ codes "Limit"
+    ∷ codes "Range" ∷ codes "TooBig" ∷ codes "WrongStage" ∷ []
+
+abbrev pub has_front : List ℕ → List ℕ → Bool
+has_front answer front = begins front answer
+
+-- some call is answered so
+abbrev pub is_answer : List ℕ → Bool
+is_answer answer = is_among plain_answers answer || (is_among refusal_answers answer || list_any (has_front answer) number_answers)
+
+unfoldable pub no_caller_text : List ℕ → List ℕ
+no_caller_text name = codes "never: \"" ++ (name ++ codes "\": a thread that has a [[step]] and one answer are wanted, as \"T1 -> timed out\"")
+
+-- a near answer is named
+abbrev pub near_answer_text : List ℕ → List ℕ
+near_answer_text answer = hint_text answer plain_answers ++ hint_text answer refusal_answers
+
+unfoldable pub no_answer_text : List ℕ → List ℕ
+no_answer_text answer = codes "never: no call is answered \"" ++ (answer ++ (codes "\"" ++ near_answer_text answer))
+
+-- of a text with this name and answer
+abbrev pub answer_faults : List ℕ → Token → List ℕ → Option (List ℕ) → List Told
+answer_faults text piece name None = told_at text Board piece.from (no_caller_text name) ∷ []
+answer_faults text piece name (Some answer) = if is_answer answer then [] else told_at text Board piece.from (no_answer_text answer) ∷ []
+
+-- a text in a list
+abbrev pub is_listed : ℕ × ℕ → Token → Bool
+is_listed value piece = is_word piece.kind && (nat_le value.0 piece.from && nat_le piece.to value.1)
+
+module _ (text : List ℕ) (callers : List (List ℕ)) where
+  unfoldable pub never_faults : Token → List Told
+  never_faults piece =
+      let name = name_between text (piece.from, piece.to) in answer_faults text piece name (answer_of name callers)
+
+  abbrev pub listed_faults : ℕ × ℕ → Token → List Told
+  listed_faults value piece = if is_listed value piece then never_faults piece else []
+
+  abbrev pub never_item_faults : List Token → Item → List Told
+  never_item_faults pieces item = if bytes_eq (name_between text item.key) (codes "never") then flat_map (listed_faults item.value) pieces else []
+
+  -- of a key of what is asked
+  unfoldable pub ask_item_faults : List Token → Item → List Told
+  ask_item_faults pieces item = field_faults text Board (codes "[ask]: ") ask_keys item ++ never_item_faults pieces item
+
+  unfoldable pub ask_faults : List Told
+  ask_faults = flat_map (ask_item_faults (pieces text)) (text_keys text)
+
+-- ---- all
+
+-- of a text with this scenario, of which the first steps are set up, and this that is asked
+abbrev pub faults_of : List ℕ → List ℕ → ℕ → List ℕ → List Told
+faults_of text scenario setup asked = set_up_faults text ++ ask_faults asked (callers_of scenario setup)
+
+-- what is asked is no document, or it is
+pub record AskedTells (text scenario : List ℕ) (setup : ℕ) (asked : List ℕ) (faults : List Told) : Type 0 where
+  pub refused : parse_document asked ≡ None → FindsText asked faults
+  pub read : is_some (parse_document asked) ≡ true → faults ≡ faults_of text scenario setup asked
+
+-- the scenario's own faults, or else those
+pub record TextTells (text scenario : List ℕ) (setup : ℕ) (asked : List ℕ) (faults : List Told) : Type 0 where
+  pub refused : (fault : Fault) → scenario_of None scenario ≡ Err fault → Tells scenario fault faults
+  pub read : is_ok (scenario_of None scenario) ≡ true → AskedTells text scenario setup asked faults
+
+-- of bytes that may be no text
+pub record OrdersTell (text : List ℕ) (faults : List Told) : Type 0 where
+  pub refused : is_utf8 text ≡ false → FindsText text faults
+  pub read : is_utf8 text ≡ true → TextTells text (scenario_within text) (setup_count text) (asked_within text) faults

@@ -1,0 +1,329 @@
+//! The faults of what is asked of all orders.
+ghost use Rattle.std.specs.Prelude.{◌≡◌, ◌++◌, flat_map, map, option_map, string_bytes, IfOk, OnOk};
+ghost use Rattle.std.specs.List.{list_any};
+ghost use Rattle.lab_faults.specs.Told.{Adds};
+ghost use Rattle.lab_kinds.specs.Orders as orders;
+ghost use Rattle.lab_kinds.specs.Orders.{answer_of, ask_faults, ask_item_faults, caller_of, callers_of, listed_faults, never_faults, never_item_faults, no_answer_text, no_caller_text};
+
+use crate::parts::begins;
+use crate::tables::check_field;
+use crate::words::{ask_keys, is_word};
+use evl_scenario::Fault;
+use lab_faults::{
+    Finding, Item, Token, is_among, items_of, named, near_text, number_of, shown, tokens_of,
+};
+use std::alloc::{AllocError, Global};
+
+const PLAIN_ANSWERS: [&str; 5] = ["done", "begun", "timed out", "thread none", "next none"];
+
+const NUMBER_ANSWERS: [&str; 6] = ["count ", "bits ", "number ", "bytes ", "thread ", "next "];
+
+const REFUSAL_ANSWERS: [&str; 11] = [
+    "HistoryFull",
+    "Unknown",
+    "Invalid",
+    "Again",
+    "Busy",
+    "NotOwner",
+    "Deadlock",
+    "Limit",
+    "Range",
+    "TooBig",
+    "WrongStage",
+];
+
+// Notes the number of a caller, where a key has one.
+fn note_caller<'a>(
+    callers: &mut Vec<&'a str>,
+    text: &'a [u8],
+    setup: usize,
+    item: Item,
+) -> Result<(), AllocError>
+    ensures { OnOk result (map (λ who. who.now) callers.new.items ≡ map (λ who. who.now) callers.old.items ++ caller_of text.now setup item) }
+{
+    if number_of(item.section) > setup && named(text, item.key) == "who" {
+        callers.push(named(text, item.value))?;
+    }
+    Ok(())
+}
+
+// The callers of a scenario with these keys, of which the first steps are set up.
+fn callers_in<'a>(
+    alloc: Global,
+    text: &'a [u8],
+    setup: usize,
+    items: &[Item],
+) -> Result<Vec<&'a str>, AllocError>
+    ensures { IfOk result (λ callers. map (λ who. who.now) callers.items ≡ flat_map (caller_of text.now setup) items.now) }
+{
+    let mut callers = Vec::new(alloc);
+    for item in items {
+        note_caller(&mut callers, text, setup, *item)?;
+    }
+    Ok(callers)
+}
+
+/// The callers of a scenario of which the first steps are set up, by their numbers. `AllocError` where the list couldn't
+/// grow.
+#[tactic(auto, unfolding(crate::specs::Orders::callers_of))]
+pub fn callers_of<'a>(
+    alloc: Global,
+    text: &'a [u8],
+    setup: usize,
+) -> Result<Vec<&'a str>, AllocError>
+    ensures { IfOk result (λ callers. map (λ who. who.now) callers.items ≡ callers_of text.now setup) }
+{
+    let items = items_of(alloc, text)?;
+    callers_in(alloc, text, setup, items.items.as_slice())
+}
+
+// What a text of a caller begins with.
+fn caller_front(alloc: Global, who: &str) -> Result<String, AllocError>
+    ensures { IfOk result (λ front. string_bytes front ≡ orders.caller_front who.now) }
+{
+    format!(in alloc; "T{who} -> ")
+}
+
+// The answer in a text of this caller.
+fn answer_by<'a>(alloc: Global, name: &'a str, who: &str) -> Result<Option<&'a str>, AllocError>
+    ensures { IfOk result (λ answer. option_map (λ text. text.now) answer ≡ orders.answer_by name.now who.now) }
+{
+    let front = caller_front(alloc, who)?;
+    let front = front.as_str().as_bytes();
+    let bytes = name.as_bytes();
+    if begins(front, bytes) {
+        return Ok(Some(shown(bytes, (front.len(), bytes.len()))));
+    }
+    Ok(None)
+}
+
+// The answer in a text of one of these callers.
+fn answer_of<'a>(
+    alloc: Global,
+    name: &'a str,
+    callers: &[&str],
+) -> Result<Option<&'a str>, AllocError>
+    ensures { IfOk result (λ answer. option_map (λ text. text.now) answer ≡ answer_of name.now (map (λ who. who.now) callers.now)) }
+{
+    for who in callers {
+        if let Some(answer) = answer_by(alloc, name, *who)? {
+            return Ok(Some(answer));
+        }
+    }
+    Ok(None)
+}
+
+#[tactic(auto, unfolding(crate::specs::Orders::plain_answers))]
+fn plain_answers() -> &'static [&'static str]
+    ensures { map (λ answer. answer.now) result.now ≡ orders.plain_answers }
+{
+    &PLAIN_ANSWERS
+}
+
+#[tactic(auto, unfolding(crate::specs::Orders::refusal_answers))]
+fn refusal_answers() -> &'static [&'static str]
+    ensures { map (λ answer. answer.now) result.now ≡ orders.refusal_answers }
+{
+    &REFUSAL_ANSWERS
+}
+
+#[tactic(auto, unfolding(crate::specs::Orders::number_answers))]
+fn number_answers() -> &'static [&'static str]
+    ensures { map (λ front. front.now) result.now ≡ orders.number_answers }
+{
+    &NUMBER_ANSWERS
+}
+
+// Whether an answer begins with one of these.
+fn has_front(answer: &str, fronts: &[&str]) -> bool
+    ensures { result ≡ list_any (orders.has_front answer.now) (map (λ front. front.now) fronts.now) }
+{
+    for front in fronts {
+        if begins(front.as_bytes(), answer.as_bytes()) {
+            return true;
+        }
+    }
+    false
+}
+
+// Whether some call is answered so.
+fn is_answer(answer: &str) -> bool
+    ensures { result ≡ orders.is_answer answer.now }
+{
+    is_among(plain_answers(), answer)
+        || is_among(refusal_answers(), answer)
+        || has_front(answer, number_answers())
+}
+
+// What is said of a text of no caller.
+#[tactic(auto, unfolding(crate::specs::Orders::no_caller_text))]
+fn no_caller_words(alloc: Global, name: &str) -> Result<String, AllocError>
+    ensures { IfOk result (λ words. string_bytes words ≡ no_caller_text name.now) }
+{
+    format!(in alloc;
+        "never: \"{name}\": a thread that has a [[step]] and one answer are wanted, as \"T1 -> timed out\""
+    )
+}
+
+// What is said of a near answer.
+fn near_answer(alloc: Global, answer: &str) -> Result<String, AllocError>
+    ensures { IfOk result (λ hint. string_bytes hint ≡ orders.near_answer_text answer.now) }
+{
+    let mut hint = near_text(alloc, answer, plain_answers())?;
+    let refusal = near_text(alloc, answer, refusal_answers())?;
+    hint.push_str(refusal.as_str())?;
+    Ok(hint)
+}
+
+// What is said of an answer that no call has.
+#[tactic(auto, unfolding(crate::specs::Orders::no_answer_text))]
+fn no_answer_words(alloc: Global, answer: &str) -> Result<String, AllocError>
+    ensures { IfOk result (λ words. string_bytes words ≡ no_answer_text answer.now) }
+{
+    let hint = near_answer(alloc, answer)?;
+    format!(in alloc; "never: no call is answered \"{answer}\"{hint}")
+}
+
+// Notes a text of no caller, or one whose answer no call has.
+fn check_answer(
+    alloc: Global,
+    finding: &mut Finding<'_>,
+    piece: Token,
+    name: &str,
+    answer: Option<&str>,
+) -> Result<(), AllocError>
+    ensures { OnOk result (Adds finding.old finding.new (orders.answer_faults finding.old.text.now piece name.now (option_map (λ text. text.now) answer.entry))) }
+{
+    match answer {
+        None => {
+            let words = no_caller_words(alloc, name)?;
+            finding.note(Fault::Board, piece.from, words)
+        }
+        Some(answer) => {
+            if is_answer(answer) {
+                return Ok(());
+            }
+            let words = no_answer_words(alloc, answer)?;
+            finding.note(Fault::Board, piece.from, words)
+        }
+    }
+}
+
+// Notes a text at `never` that is none of these callers, or whose answer no call has.
+#[tactic(auto, unfolding(crate::specs::Orders::never_faults))]
+fn check_never(
+    alloc: Global,
+    finding: &mut Finding<'_>,
+    callers: &[&str],
+    piece: Token,
+) -> Result<(), AllocError>
+    ensures { OnOk result (Adds finding.old finding.new (never_faults finding.old.text.now (map (λ who. who.now) callers.now) piece)) }
+{
+    let name = named(finding.text, (piece.from, piece.to));
+    let answer = answer_of(alloc, name, callers)?;
+    check_answer(alloc, finding, piece, name, answer)
+}
+
+// Whether a piece is a text in a list.
+fn is_listed(value: (usize, usize), piece: Token) -> bool
+    ensures { result ≡ orders.is_listed value piece }
+{
+    is_word(piece.kind) && value.0 <= piece.from && piece.to <= value.1
+}
+
+fn check_listed(
+    alloc: Global,
+    finding: &mut Finding<'_>,
+    callers: &[&str],
+    value: (usize, usize),
+    piece: Token,
+) -> Result<(), AllocError>
+    ensures { OnOk result (Adds finding.old finding.new (listed_faults finding.old.text.now (map (λ who. who.now) callers.now) value piece)) }
+{
+    if is_listed(value, piece) {
+        return check_never(alloc, finding, callers, piece);
+    }
+    Ok(())
+}
+
+fn check_pieces(
+    alloc: Global,
+    finding: &mut Finding<'_>,
+    callers: &[&str],
+    value: (usize, usize),
+    pieces: &[Token],
+) -> Result<(), AllocError>
+    ensures { OnOk result (Adds finding.old finding.new (flat_map (listed_faults finding.old.text.now (map (λ who. who.now) callers.now) value) pieces.now)) }
+{
+    for piece in pieces {
+        check_listed(alloc, finding, callers, value, *piece)?;
+    }
+    Ok(())
+}
+
+// Notes the texts of a list at `never` that have no caller.
+fn check_nevers(
+    alloc: Global,
+    finding: &mut Finding<'_>,
+    callers: &[&str],
+    pieces: &[Token],
+    item: Item,
+) -> Result<(), AllocError>
+    ensures { OnOk result (Adds finding.old finding.new (never_item_faults finding.old.text.now (map (λ who. who.now) callers.now) pieces.now item)) }
+{
+    if named(finding.text, item.key) == "never" {
+        return check_pieces(alloc, finding, callers, item.value, pieces);
+    }
+    Ok(())
+}
+
+// Notes the faults of a key of what is asked.
+#[tactic(auto, unfolding(crate::specs::Orders::ask_item_faults))]
+fn check_ask_item(
+    alloc: Global,
+    finding: &mut Finding<'_>,
+    callers: &[&str],
+    pieces: &[Token],
+    item: Item,
+) -> Result<(), AllocError>
+    ensures { OnOk result (Adds finding.old finding.new (ask_item_faults finding.old.text.now (map (λ who. who.now) callers.now) pieces.now item)) }
+{
+    check_field(alloc, finding, Fault::Board, "[ask]: ", ask_keys(), item)?;
+    check_nevers(alloc, finding, callers, pieces, item)
+}
+
+fn check_ask_items(
+    alloc: Global,
+    finding: &mut Finding<'_>,
+    callers: &[&str],
+    pieces: &[Token],
+    items: &[Item],
+) -> Result<(), AllocError>
+    ensures { OnOk result (Adds finding.old finding.new (flat_map (ask_item_faults finding.old.text.now (map (λ who. who.now) callers.now) pieces.now) items.now)) }
+{
+    for item in items {
+        check_ask_item(alloc, finding, callers, pieces, *item)?;
+    }
+    Ok(())
+}
+
+/// Notes the faults of what is asked of these callers, which is all that the text has. `AllocError` where memory
+/// couldn't grow.
+#[tactic(auto, unfolding(crate::specs::Orders::ask_faults))]
+pub fn check_ask(
+    alloc: Global,
+    finding: &mut Finding<'_>,
+    callers: &[&str],
+) -> Result<(), AllocError>
+    ensures { OnOk result (Adds finding.old finding.new (ask_faults finding.old.text.now (map (λ who. who.now) callers.now))) }
+{
+    let pieces = tokens_of(alloc, finding.text)?;
+    let items = items_of(alloc, finding.text)?;
+    check_ask_items(
+        alloc,
+        finding,
+        callers,
+        pieces.as_slice(),
+        items.items.as_slice(),
+    )
+}

@@ -1,0 +1,20 @@
+//! The kinds of texts that the lab takes, and the faults of each, with their places, what was wanted, and near words.
+//! What names no source is this profile's own.
+#![tactic(auto)]
+
+mod asks;
+mod banks;
+mod callers;
+mod kinds;
+mod orders;
+mod parts;
+mod reports;
+mod rows;
+mod tables;
+mod words;
+
+pub use banks::check_bank;
+pub use callers::check_callers;
+pub use kinds::{TextKind, kind_of};
+pub use orders::check_orders;
+pub use reports::report_kind;
