@@ -1,4 +1,4 @@
--- What no outcome is told as, no order ends as.
+-- What no outcome is told as, no order ends as; and texts of answers that may never be.
 use Rattle.std.proofs.Common.{◌≡◌, ◌≤◌, ℕ, ◌+◌, ◌*◌, Bool, true, false, not, cond, List, [], ◌∷◌, length, refl, sym, ◌∙◌, ap, arith, All}
 use Rattle.std.specs.Prelude.{None, Some, nat_lt, position, string_bytes}
 use Rattle.std.specs.List.{AllByRecursion, position_or_len}
@@ -9,6 +9,7 @@ use Rattle.lab_orders.specs.Machines.{Run}
 use Rattle.lab_orders.specs.Tallies.{told_weight}
 use Rattle.lab_orders.specs.Weights.{total}
 use Rattle.lab_orders.specs.declared.tallies.Tally.{Tally}
+use Rattle.lab_scenario_orders.specs.Asks.{IsParted}
 
 -- 1 for texts of some kind, and 0 for all others
 abbrev pub counted : (List ℕ → Bool) → List ℕ → ℕ
@@ -53,3 +54,13 @@ pub no_order : {S : Type 0} (told : S → List ℕ) (is : List ℕ → Bool) (ta
 no_order told is tallies rs same none =
     All-from_recursion (λ r. is (told r.at) ≡ false) rs
     (quiet told is rs (sym (same (counted is)) ∙ nothing is tallies (past_all (λ tally. is (string_bytes tally.told)) tallies none)))
+
+-- the same parts, as other values of the code
+pub parted_as : (text written who named answer given : List ℕ) → written ≡ text → named ≡ who → given ≡ answer → IsParted text who answer → IsParted written named given
+parted_as text written who named answer given same_text same_who same_answer parts = record {
+  before = parts.before;
+  behind = parts.behind;
+  arrow = same_text ∙ parts.arrow;
+  named = same_who ∙ parts.named;
+  given = same_answer ∙ parts.given;
+}

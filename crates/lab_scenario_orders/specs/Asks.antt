@@ -2,7 +2,7 @@
 use Rattle.std.specs.Prelude.{ℕ, ◌≡◌, ◌==◌, Bool, true, false, ◌&&◌, ◌||◌, if◌then◌else◌, List, [], ◌∷◌, ◌++◌, codes, map, drop, take, length, string_bytes, Option, Some, None, is_some, option_and_then, All}
 use Rattle.std.specs.Fmt.{decimal}
 use Rattle.std.specs.List.{list_any}
-use Rattle.std.specs.Str.{bytes_eq}
+use Rattle.std.specs.Str.{bytes_eq, trim}
 use Rattle.std.specs.Str.Iter.{HasSubslice}
 use Rattle.std.specs.Cmp.Lexicographic.{pointwise}
 use Rattle.std.specs.Option.{option_map_or}
@@ -53,9 +53,17 @@ is_stuck_line text = begins (codes "stuck: ") text
 abbrev pub is_against : Ask → List ℕ → Bool
 is_against ask told = (ask.always_ends && some_line is_stuck_line told) || list_any (λ never. some_line (is_line_of never) told) ask.never.items
 
--- an answer that a caller may never have, as a text
+-- an answer that a caller may never have, as it stands in the text
 abbrev pub never_text : Never → List ℕ
-never_text never = string_bytes never.who ++ (codes " -> " ++ string_bytes never.answer)
+never_text never = string_bytes never.text
+
+-- a text is a caller and an answer, and an arrow between them, with white space around each or not
+pub record IsParted (text who answer : List ℕ) : Type 0 where
+  pub before : List ℕ
+  pub behind : List ℕ
+  pub arrow : text ≡ before ++ (codes "->" ++ behind)
+  pub named : who ≡ trim before
+  pub given : answer ≡ trim behind
 
 -- how a caller is told
 abbrev pub caller_text : ℕ → List ℕ
@@ -68,7 +76,8 @@ is_caller_text callers who = list_any (λ caller. bytes_eq (caller_text caller.w
 -- one of these callers, and just one answer: no arrow stands in it
 pub record IsAnswerOf (callers : List Caller) (never : Never) : Type 0 where
   pub who : is_caller_text callers (string_bytes never.who) ≡ true
-  pub single : HasSubslice (string_bytes never.answer) (codes " -> ") → ⊥
+  pub single : HasSubslice (string_bytes never.answer) (codes "->") → ⊥
+  pub parted : IsParted (never_text never) (string_bytes never.who) (string_bytes never.answer)
 
 -- what is asked is asked of these callers
 abbrev pub AreOfCallers : List Caller → List Never → Type 0

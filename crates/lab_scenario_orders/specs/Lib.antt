@@ -1,6 +1,8 @@
+pub mod Answers
 pub mod Asks
 pub mod Callers
 pub mod Firsts
+pub mod Leaving
 pub mod Moments
 pub mod Outcomes
 pub mod Reports

@@ -40,11 +40,15 @@ abbrev pub outcomes_text : Callers → ℕ → List Tally → List ℕ
 outcomes_text c n [] = []
 outcomes_text c n (outcome ∷ rest) = outcome_text c n outcome ++ outcomes_text c (n + 1) rest
 
--- how many orders and outcomes there are, and whether longer orders were cut off
+-- how many orders and outcomes there are
+abbrev pub orders_text : Outcomes → List ℕ
+orders_text outcomes = codes "# " ++ (number_text outcomes.count (codes "order") ++ (codes ", " ++ number_text (length outcomes.all.items) (codes "outcome")))
+
+-- and how many moments were gone through, and whether longer orders were cut off
 abbrev pub counts_text : Outcomes → List ℕ
 counts_text outcomes =
-    codes "# " ++ (number_text outcomes.count (codes "order") ++ (codes ", " ++ (number_text (length outcomes.all.items) (codes "outcome") ++ (line_feed
-    ++ (if outcomes.whole then [] else codes "# cut off: there are longer orders\n")))))
+    orders_text outcomes ++ (codes ", " ++ (number_text outcomes.moments (codes "moment") ++ (line_feed
+    ++ (if outcomes.whole then [] else codes "# cut off: there are longer orders\n"))))
 
 abbrev pub report_text : Callers → Outcomes → List ℕ
 report_text c outcomes = counts_text outcomes ++ outcomes_text c 1 outcomes.all.items

@@ -1,9 +1,11 @@
 -- The parts of a text of callers, line by line.
 use Rattle.std.specs.Prelude.{ℕ, ◌≡◌, ◌==◌, Bool, true, false, ◌&&◌, ◌||◌, List, [], ◌∷◌, ◌++◌, codes, count_by, flat_map, if◌then◌else◌, string_bytes}
+use Rattle.std.specs.Option.{option_map_or}
 use Rattle.std.specs.List.{before_first, list_any}
 use Rattle.std.specs.Str.{bytes_eq, trim}
 use Rattle.std.specs.Str.Lines.{lines}
 use Rattle.evl_scenario.specs.Lines.{line_feed}
+use Rattle.evl_scenario.specs.Values.{past_front}
 use Rattle.lab_scenario_orders.specs.Asks.{begins}
 use Rattle.lab_scenario_orders.specs.declared.splits.Split.{Split}
 
@@ -11,18 +13,22 @@ use Rattle.lab_scenario_orders.specs.declared.splits.Split.{Split}
 abbrev pub bare : List ℕ → List ℕ
 bare line = trim (before_first (λ byte. byte == 35) line)
 
--- just this stands on a line
-abbrev pub is_head : List ℕ → List ℕ → Bool
-is_head head line = bytes_eq (bare line) head
+-- this name, and then this end
+abbrev pub ends_head : List ℕ → List ℕ → List ℕ → Bool
+ends_head name end text = option_map_or (λ rest. bytes_eq (trim rest) end) (past_front name text) false
+
+-- just this name stands on a line between these brackets, with white space around it or not
+abbrev pub is_head : List ℕ → List ℕ → List ℕ → List ℕ → Bool
+is_head begin name end line = option_map_or (λ rest. ends_head name end (trim rest)) (past_front begin (bare line)) false
 
 abbrev pub is_setup : List ℕ → Bool
-is_setup line = is_head (codes "[[setup]]") line
+is_setup line = is_head (codes "[[") (codes "setup") (codes "]]") line
 
 abbrev pub is_step : List ℕ → Bool
-is_step line = is_head (codes "[[step]]") line
+is_step line = is_head (codes "[[") (codes "step") (codes "]]") line
 
 abbrev pub is_ask : List ℕ → Bool
-is_ask line = is_head (codes "[ask]") line
+is_ask line = is_head (codes "[") (codes "ask") (codes "]") line
 
 -- a table begins here
 abbrev pub is_table : List ℕ → Bool

@@ -8,7 +8,7 @@ ghost use Rattle.toml.specs.Parse.{parse_document};
 ghost use Rattle.toml.specs.View.{items_view, table_view, view};
 ghost use Rattle.evl_scenario.specs.Tables.{all_given, value_or};
 ghost use Rattle.evl_scenario.specs.Values.{truth_from};
-ghost use Rattle.lab_scenario_orders.specs.Asks.{AreOfCallers, Asks, IsAnswerOf, ask_table, caller_text, is_against, is_caller_text, is_line_of, is_stuck_line, never_in, never_text, some_line};
+ghost use Rattle.lab_scenario_orders.specs.Asks.{AreOfCallers, Asks, IsAnswerOf, IsParted, ask_table, caller_text, is_against, is_caller_text, is_line_of, is_stuck_line, never_in, never_text, some_line};
 ghost use Rattle.lab_scenario_orders.specs.Splits.{ask_part};
 
 use crate::callers::{Caller, Callers};
@@ -22,6 +22,8 @@ use toml::{Table, Value};
 /// An answer that a caller may have in no order.
 #[derive(Drop)]
 pub struct Never {
+    /// The text that says so.
+    pub text: String,
     /// The caller, as it is told: `T1`.
     pub who: String,
     /// Its answer, as it is told: `timed out`.
@@ -51,8 +53,8 @@ pub enum AskFault {
     Memory,
 }
 
-// Whether a thread is told so.
-fn is_named(alloc: Global, who: &str, number: u16) -> Result<bool, AllocError>
+/// Whether a thread is told so.
+pub(crate) fn is_named(alloc: Global, who: &str, number: u16) -> Result<bool, AllocError>
     ensures { IfOk result (λ named. named ≡ bytes_eq (caller_text number) who.now) }
 {
     let name = format!(in alloc; "T{number}")?;
@@ -71,25 +73,41 @@ fn is_name(alloc: Global, callers: &[Caller], who: &str) -> Result<bool, AllocEr
     Ok(false)
 }
 
-// A caller and its answer, as two texts.
-fn never_of(alloc: Global, who: &str, answer: &str) -> Result<Never, AllocError>
-    ensures text { IfOk result (λ never. never_text never ≡ who.now ++ (codes " -> " ++ answer.now)) }
+// A text with its caller and its answer.
+#[tactic(auto, using(crate::proofs::AskLaws::parted_as))]
+fn never_of(alloc: Global, text: &str, who: &str, answer: &str) -> Result<Never, AllocError>
+    requires { IsParted text.now who.now answer.now }
+    ensures text { IfOk result (λ never. never_text never ≡ text.now) }
     ensures who { IfOk result (λ never. string_bytes never.who ≡ who.now) }
     ensures answer { IfOk result (λ never. string_bytes never.answer ≡ answer.now) }
+    ensures parted { IfOk result (λ never. IsParted (never_text never) (string_bytes never.who) (string_bytes never.answer)) }
 {
+    let text = String::from_str(alloc, text)?;
     let who = String::from_str(alloc, who)?;
     let answer = String::from_str(alloc, answer)?;
-    Ok(Never { who, answer })
+    Ok(Never { text, who, answer })
+}
+
+// What stands before the first arrow in a text, and behind it.
+fn around_arrow(text: &str) -> Option<(&str, &str)>
+    ensures { IfSome result (λ parts. text.now ≡ parts.0.now ++ (codes "->" ++ parts.1.now)) }
+{
+    match text.split_once("->") {
+        Some(parts) => Some(parts),
+        None => None,
+    }
 }
 
 // The caller and the answer in a text: just one arrow stands between them.
 fn parts_of(text: &str) -> Option<(&str, &str)>
-    ensures text { IfSome result (λ parts. text.now ≡ parts.0.now ++ (codes " -> " ++ parts.1.now)) }
-    ensures single { IfSome result (λ parts. HasSubslice parts.1.now (codes " -> ") → ⊥) }
+    ensures parted { IfSome result (λ parts. IsParted text.now parts.0.now parts.1.now) }
+    ensures single { IfSome result (λ parts. HasSubslice parts.1.now (codes "->") → ⊥) }
 {
-    match text.split_once(" -> ") {
-        Some((who, answer)) => {
-            if answer.contains(" -> ") {
+    match around_arrow(text) {
+        Some((before, behind)) => {
+            let who = before.trim();
+            let answer = behind.trim();
+            if answer.contains("->") {
                 None
             } else {
                 Some((who, answer))
@@ -116,7 +134,7 @@ fn read_never(
         return Err(AskFault::Never(number));
     };
     match is_name(alloc, callers.callers.as_slice(), who) {
-        Ok(true) => match never_of(alloc, who, answer) {
+        Ok(true) => match never_of(alloc, text, who, answer) {
             Ok(never) => Ok(never),
             Err(_) => Err(AskFault::Memory),
         },

@@ -1,5 +1,5 @@
 //! The callers of a scenario.
-ghost use Rattle.std.specs.Prelude.{◌≡◌, ◌==◌, All, IfOk, OnOk, drop, false, length, map, take};
+ghost use Rattle.std.specs.Prelude.{◌≡◌, ◌==◌, ◌++◌, All, IfOk, OnOk, drop, false, length, map, take, true};
 ghost use Rattle.std.specs.List.{list_any};
 ghost use Rattle.lab_scenario_orders.specs.Shares.{AreCallersOf, places_from, with_thread};
 
@@ -107,7 +107,52 @@ fn parted(all: Vec<Step>, count: usize) -> Result<(Vec<Step>, Vec<Step>), AllocE
     }
 }
 
+// Steps with others behind them.
+fn joined(steps: Vec<Step>, others: Vec<Step>) -> Result<Vec<Step>, AllocError>
+    ensures { IfOk result (λ all. all.items ≡ steps.items ++ others.items) }
+{
+    let mut all = steps;
+    for step in others {
+        all.push(step)?;
+    }
+    Ok(all)
+}
+
 impl Callers {
+    /// The callers that have these steps. `AllocError` where memory couldn't grow.
+    pub(crate) fn of_steps(
+        alloc: Global,
+        board: Board,
+        limit: u32,
+        as_picked: bool,
+        setup: Vec<Step>,
+        steps: Vec<Step>,
+    ) -> Result<Callers, AllocError>
+        ensures board { IfOk result (λ callers. callers.board ≡ board) }
+        ensures limit { IfOk result (λ callers. callers.limit ≡ limit) }
+        ensures as_picked { IfOk result (λ callers. callers.as_picked ≡ as_picked) }
+        ensures setup { IfOk result (λ callers. callers.setup ≡ setup) }
+        ensures steps { IfOk result (λ callers. callers.steps ≡ steps) }
+        ensures callers { IfOk result (λ callers. AreCallersOf callers.steps.items callers.callers.items) }
+    {
+        let callers = match callers_of(alloc, steps.as_slice()) {
+            Ok(callers) => callers,
+            Err(error) => return Err(error),
+        };
+        match u16::try_from(callers.len()) {
+            Ok(count) => Ok(Callers {
+                board,
+                limit,
+                as_picked,
+                setup,
+                steps,
+                callers,
+                count,
+            }),
+            Err(_) => Err(AllocError),
+        }
+    }
+
     /// The callers of a scenario of which so many steps are set up. `AllocError` where memory couldn't grow.
     pub fn new(alloc: Global, scenario: Scenario, count: usize) -> Result<Callers, AllocError>
         ensures board { IfOk result (λ callers. callers.board ≡ scenario.board) }
@@ -122,18 +167,31 @@ impl Callers {
             Ok(parts) => parts,
             Err(error) => return Err(error),
         };
-        let callers = callers_of(alloc, steps.as_slice())?;
-        match u16::try_from(callers.len()) {
-            Ok(count) => Ok(Callers {
-                board,
-                limit,
-                as_picked: false,
-                setup,
-                steps,
-                callers,
-                count,
-            }),
-            Err(_) => Err(AllocError),
+        Callers::of_steps(alloc, board, limit, false, setup, steps)
+    }
+
+    /// The same with steps more, made as threads are picked. `AllocError` where memory couldn't grow.
+    pub(crate) fn with_steps(self, alloc: Global, more: Vec<Step>) -> Result<Callers, AllocError>
+        ensures board { IfOk result (λ set. set.board ≡ self.board) }
+        ensures limit { IfOk result (λ set. set.limit ≡ self.limit) }
+        ensures as_picked { IfOk result (λ set. set.as_picked ≡ true) }
+        ensures setup { IfOk result (λ set. set.setup ≡ self.setup) }
+        ensures steps { IfOk result (λ set. set.steps.items ≡ self.steps.items ++ more.items) }
+        ensures callers { IfOk result (λ set. AreCallersOf set.steps.items set.callers.items) }
+    {
+        let Callers {
+            board,
+            limit,
+            as_picked: _,
+            setup,
+            steps,
+            callers,
+            count: _,
+        } = self;
+        drop(callers);
+        match joined(steps, more) {
+            Ok(all) => Callers::of_steps(alloc, board, limit, true, setup, all),
+            Err(error) => Err(error),
         }
     }
 

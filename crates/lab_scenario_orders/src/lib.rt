@@ -2,10 +2,12 @@
 //! as a world, and the outcomes of their orders.
 #![tactic(auto)]
 
+mod answers;
 mod asking;
 mod asks;
 mod banks;
 mod callers;
+mod departures;
 mod digests;
 mod kernels;
 mod lines;
@@ -23,10 +25,12 @@ mod texts;
 mod told;
 mod worlds;
 
+pub use answers::{first_impossible, near_answer};
 pub use asking::{Asked, ask_all};
 pub use asks::{Ask, AskFault, Never, first_against, is_against, read_ask};
 pub use banks::{BankMaker, NoCallbacks};
 pub use callers::{Caller, Callers};
+pub use departures::leaving;
 pub use moments::Moment;
 pub use outcomes::{Outcomes, is_stuck, outcomes_of};
 pub use reports::write_report;

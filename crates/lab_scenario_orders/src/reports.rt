@@ -1,7 +1,7 @@
 //! What is told of all orders, as text.
 ghost use Rattle.std.specs.Prelude.{[], ◌≡◌, ◌++◌, IfOk, OnOk, codes, flat_map, if◌then◌else◌, map, string_bytes};
 ghost use Rattle.std.specs.Str.Lines.{lines};
-ghost use Rattle.lab_scenario_orders.specs.Reports.{comment, counts_text, head_text, number_text, order_text, outcome_text, outcomes_text, report_text, who_text};
+ghost use Rattle.lab_scenario_orders.specs.Reports.{comment, counts_text, head_text, number_text, order_text, orders_text, outcome_text, outcomes_text, report_text, who_text};
 
 use crate::banks::BankMaker;
 use crate::callers::{Caller, Callers};
@@ -37,7 +37,7 @@ fn put_told(alloc: Global, text: &mut String, told: &str) -> Result<(), AllocErr
     put_comments(text, all.as_slice())
 }
 
-// A number of orders or outcomes, with its word.
+// A number of orders, outcomes or moments, with its word.
 fn put_number(text: &mut String, count: u128, word: &str) -> Result<(), AllocError>
     ensures { OnOk result (string_bytes text.new ≡ string_bytes text.old ++ number_text count word.now) }
 {
@@ -128,13 +128,22 @@ fn put_cut(text: &mut String, is_whole: bool) -> Result<(), AllocError>
 }
 
 // Writes how many orders and outcomes there are.
-fn put_counts(text: &mut String, outcomes: &Outcomes) -> Result<(), AllocError>
-    ensures { OnOk result (string_bytes text.new ≡ string_bytes text.old ++ counts_text outcomes.now) }
+fn put_orders(text: &mut String, outcomes: &Outcomes) -> Result<(), AllocError>
+    ensures { OnOk result (string_bytes text.new ≡ string_bytes text.old ++ orders_text outcomes.now) }
 {
     text.push_str("# ")?;
     put_number(text, outcomes.count, "order")?;
     text.push_str(", ")?;
-    put_number(text, outcomes.all.len() as u128, "outcome")?;
+    put_number(text, outcomes.all.len() as u128, "outcome")
+}
+
+// Writes how many there are, and how many moments were gone through.
+fn put_counts(text: &mut String, outcomes: &Outcomes) -> Result<(), AllocError>
+    ensures { OnOk result (string_bytes text.new ≡ string_bytes text.old ++ counts_text outcomes.now) }
+{
+    put_orders(text, outcomes)?;
+    text.push_str(", ")?;
+    put_number(text, outcomes.moments as u128, "moment")?;
     text.push_str("\n")?;
     put_cut(text, outcomes.whole)
 }

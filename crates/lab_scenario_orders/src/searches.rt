@@ -1,5 +1,6 @@
 //! Texts searched line by line.
 ghost use Rattle.std.specs.Prelude.{◌≡◌, option_map};
+ghost use Rattle.evl_scenario.specs.Values.{past_front};
 ghost use Rattle.lab_scenario_orders.specs.Asks.{begins, text_behind, is_answered, is_end, later_line, some_line, stands_here};
 
 /// What is asked of a text that begins with a line.
@@ -47,6 +48,16 @@ pub(crate) fn begins(front: &[u8], text: &[u8]) -> bool
     ensures { result ≡ begins front.now text.now }
 {
     behind(front, text).is_some()
+}
+
+/// What stands behind this front part of a text, as text.
+pub(crate) fn past<'a>(front: &str, text: &'a str) -> Option<&'a str>
+    ensures { option_map (λ rest. rest.now) result ≡ past_front front.now text.now }
+{
+    match text.strip_prefix(front) {
+        Some(rest) => Some(rest),
+        None => None,
+    }
 }
 
 // Whether an answer ends before this text.

@@ -1,9 +1,9 @@
 //! The text of callers, split: the scenario in it, how many of its steps are set up before, and what is asked.
 ghost use Rattle.std.specs.Prelude.{◌≡◌, ◌++◌, IfOk, OnOk, count_by, false, map, string_bytes};
 ghost use Rattle.evl_scenario.specs.Lines.{line_feed};
-ghost use Rattle.lab_scenario_orders.specs.Splits.{IsSplit, as_step, asked_lines, bare, is_asked, is_head, is_mixed, is_setup, joined_lines, scenario_lines};
+ghost use Rattle.lab_scenario_orders.specs.Splits.{IsSplit, as_step, asked_lines, bare, ends_head, is_ask, is_asked, is_head, is_mixed, is_setup, is_step, joined_lines, scenario_lines};
 
-use crate::searches::begins;
+use crate::searches::{begins, past};
 use crate::text_lines::{lines_of, put_line};
 use std::alloc::{AllocError, Global};
 
@@ -30,11 +30,45 @@ fn bare(line: &str) -> &str
     }
 }
 
-// Whether just this stands on a line.
-fn is_head(line: &str, head: &str) -> bool
-    ensures { result ≡ is_head head.now line.now }
+// Whether a text is this name and this end, with blanks between them or not.
+fn ends_head(text: &str, name: &str, end: &str) -> bool
+    ensures { result ≡ ends_head name.now end.now text.now }
 {
-    bare(line) == head
+    match past(name, text) {
+        Some(rest) => rest.trim() == end,
+        None => false,
+    }
+}
+
+// Whether just this name stands on a line between these brackets, with blanks around it or not.
+fn is_head(line: &str, begin: &str, name: &str, end: &str) -> bool
+    ensures { result ≡ is_head begin.now name.now end.now line.now }
+{
+    match past(begin, bare(line)) {
+        Some(rest) => ends_head(rest.trim(), name, end),
+        None => false,
+    }
+}
+
+// Whether a step begins here that is set up.
+fn is_setup(line: &str) -> bool
+    ensures { result ≡ is_setup line.now }
+{
+    is_head(line, "[[", "setup", "]]")
+}
+
+// Whether another step begins here.
+fn is_step(line: &str) -> bool
+    ensures { result ≡ is_step line.now }
+{
+    is_head(line, "[[", "step", "]]")
+}
+
+// Whether a table `[ask]` begins here.
+fn is_ask(line: &str) -> bool
+    ensures { result ≡ is_ask line.now }
+{
+    is_head(line, "[", "ask", "]")
 }
 
 // Whether a line is in a table `[ask]`, where the one before it was or was not.
@@ -42,7 +76,7 @@ fn is_asked(was: bool, line: &str) -> bool
     ensures { result ≡ is_asked was line.now }
 {
     if begins(b"[", bare(line).as_bytes()) {
-        is_head(line, "[ask]")
+        is_ask(line)
     } else {
         was
     }
@@ -67,7 +101,7 @@ fn ask_in(alloc: Global, lines: &[&str]) -> Result<String, AllocError>
 fn put_step(text: &mut String, line: &str) -> Result<(), AllocError>
     ensures { OnOk result (string_bytes text.new ≡ string_bytes text.old ++ (as_step line.now ++ line_feed)) }
 {
-    if is_head(line, "[[setup]]") {
+    if is_setup(line) {
         put_line(text, "[[step]]")
     } else {
         put_line(text, line)
@@ -95,7 +129,7 @@ fn setups_of(lines: &[&str]) -> usize
 {
     let mut count: usize = 0;
     for line in lines {
-        if is_head(*line, "[[setup]]") {
+        if is_setup(*line) {
             count += 1;
         }
     }
@@ -108,17 +142,17 @@ fn is_mixed(lines: &[&str]) -> bool
 {
     let mut has_steps = false;
     for line in lines {
-        let is_setup = is_head(*line, "[[setup]]");
-        if has_steps && is_setup {
+        if has_steps && is_setup(*line) {
             return true;
         }
-        has_steps = has_steps || is_head(*line, "[[step]]");
+        has_steps = has_steps || is_step(*line);
     }
     false
 }
 
-/// Splits the text of callers. A line is `[[setup]]`, `[[step]]` or `[ask]` where nothing else stands on it but spaces
-/// and a comment; a table `[ask]` goes on until another table begins. `AllocError` where memory couldn't grow.
+/// Splits the text of callers. A line is `[[setup]]`, `[[step]]` or `[ask]` where nothing else stands on it but blanks,
+/// within the brackets too, and a comment; a table `[ask]` goes on until another table begins. `AllocError` where memory
+/// couldn't grow.
 pub fn split_text(alloc: Global, text: &str) -> Result<Split, AllocError>
     ensures { IfOk result (IsSplit text.now) }
 {

@@ -1,6 +1,7 @@
 //! What is asked of all orders.
 use lab_scenario_orders::{
-    Ask, AskFault, NoCallbacks, first_against, is_against, outcomes_of, read_ask, read_callers,
+    Ask, AskFault, Callers, NoCallbacks, first_against, first_impossible, is_against, near_answer,
+    outcomes_of, read_ask, read_callers,
 };
 use std::alloc::Global;
 
@@ -46,9 +47,10 @@ fn first(alloc: Global, asked: &str) -> Result<Option<usize>, AskFault> {
 }
 
 // What is asked, and the first outcome that is against it.
-const FIRST: [(&str, Option<usize>); 4] = [
+const FIRST: [(&str, Option<usize>); 5] = [
     ("", None),
     ("[ask]\nalways_ends = true\n", Some(0)),
+    ("[ ask ]\nnever = [\"T2  ->  done \"]\n", Some(1)),
     ("[ask]\nnever = [\"T1 -> timed out\"]\n", None),
     ("[ask]\nnever = [\n\"T2 -> done\",\n]\n", Some(1)),
 ];
@@ -102,6 +104,66 @@ fn orders_as_threads_are_picked_are_asked_for(rt: HostRuntime) {
     assert!(rt; is_as_picked(rt.alloc(), "[ask]\nas_picked = true\n"));
     assert!(rt; !is_as_picked(rt.alloc(), "[ask]\nas_picked = false\nalways_ends = true\n"));
     assert!(rt; !is_as_picked(rt.alloc(), "[ask]\nalways_ends = true\n"));
+}
+
+// What may be meant by the first answer that no step of its caller can have, or nothing; `None` where each is possible.
+fn meant_of(alloc: Global, callers: &Callers, ask: &Ask) -> Option<&'static str> {
+    match first_impossible(alloc, callers, ask) {
+        Ok(Some(never)) => match near_answer(alloc, callers, never) {
+            Ok(meant) => Some(meant.unwrap_or("")),
+            Err(_) => None,
+        },
+        Ok(None) | Err(_) => None,
+    }
+}
+
+// The same by what is asked.
+fn meant(alloc: Global, asked: &str) -> Option<&'static str> {
+    let Ok(callers) = read_callers(alloc, ONE_LEFT.as_bytes()) else {
+        return None;
+    };
+    match read_ask(alloc, &callers, asked.as_bytes()) {
+        Ok(ask) => meant_of(alloc, &callers, &ask),
+        Err(_) => None,
+    }
+}
+
+// What is asked, and what may be meant by an answer that can't be.
+const MEANT: [(&str, Option<&str>); 10] = [
+    ("[ask]\nnever = [\"T1 -> timedout\"]\n", Some("timed out")),
+    ("[ask]\nnever = [\"T1 -> timed  out\"]\n", Some("timed out")),
+    ("[ask]\nnever = [\"T2 -> Done\"]\n", Some("done")),
+    ("[ask]\nnever = [\"T2 -> invalid\"]\n", Some("Invalid")),
+    ("[ask]\nnever = [\"T1 -> count 1\"]\n", Some("")),
+    ("[ask]\nnever = [\"T1 -> bits 01\"]\n", Some("")),
+    (
+        "[ask]\nnever = [\"T1 -> done\", \"T1 -> next 2 more\"]\n",
+        Some(""),
+    ),
+    (
+        "[ask]\nnever = [\"T1 -> timed out\", \"T2 -> Deadlock\"]\n",
+        None,
+    ),
+    (
+        "[ask]\nnever = [\"T1 -> bits 4\", \"T1 -> bytes 0a\"]\n",
+        None,
+    ),
+    ("[ask]\nnever = []\n", None),
+];
+
+// Whether these may be.
+fn are_meant(alloc: Global, rows: &[(&str, Option<&str>)]) -> bool {
+    for (asked, wanted) in rows {
+        if meant(alloc, asked) != *wanted {
+            return false;
+        }
+    }
+    true
+}
+
+#[test]
+fn answers_that_no_step_can_have_are_told(rt: HostRuntime) {
+    assert!(rt; are_meant(rt.alloc(), &MEANT));
 }
 
 // What is asked, and why it can't be read.

@@ -1,7 +1,7 @@
 //! Orders of scenarios' callers.
 use lab_orders::OrdersError;
 use lab_scenario_orders::{
-    Callers, NoCallbacks, Outcomes, is_stuck, outcomes_of, read_callers, write_report,
+    Callers, NoCallbacks, Outcomes, is_stuck, leaving, outcomes_of, read_callers, write_report,
 };
 use std::alloc::Global;
 
@@ -87,6 +87,17 @@ fn counts_as_picked(alloc: Global, text: &str) -> Result<(u128, usize, u128), Or
     }
 }
 
+// And where each goes in-band that is out-of-band at last.
+fn counts_leaving(alloc: Global, text: &str) -> Result<(u128, usize, u128), OrdersError> {
+    let Ok(callers) = read_callers(alloc, text.as_bytes()) else {
+        return Err(OrdersError::Memory);
+    };
+    match leaving(alloc, callers) {
+        Ok(set) => counts_of(alloc, &set),
+        Err(_) => Err(OrdersError::Memory),
+    }
+}
+
 #[test]
 fn two_orders_of_puts_end_alike(rt: HostRuntime) {
     assert!(rt; counts(rt.alloc(), PUTS) == Ok((6, 1, 0)));
@@ -106,6 +117,13 @@ fn who_is_not_picked_makes_no_step(rt: HostRuntime) {
 #[test]
 fn who_never_goes_stays_picked(rt: HostRuntime) {
     assert!(rt; counts_as_picked(rt.alloc(), TWO_LOCKS) == Ok((1, 1, 1)));
+}
+
+#[test]
+fn who_leaves_is_out_of_the_way(rt: HostRuntime) {
+    assert!(rt; counts_leaving(rt.alloc(), TWO_LOCKS) == Ok((1, 1, 0)));
+    assert!(rt; counts_leaving(rt.alloc(), ARRIVALS) == Ok((16, 2, 2)));
+    assert!(rt; counts_leaving(rt.alloc(), PUTS) == Ok((6, 1, 0)));
 }
 
 #[test]
@@ -153,7 +171,7 @@ fn tells_of_text(alloc: Global, text: &str, wanted: Wanted) -> bool {
     }
 }
 
-const COUNTS: Wanted = Wanted::AtFirst("# 6 orders, 1 outcome\n# outcome 1: 6 orders\n");
+const COUNTS: Wanted = Wanted::AtFirst("# 6 orders, 1 outcome, 9 moments\n# outcome 1: 6 orders\n");
 
 #[test]
 fn a_report_begins_with_counts(rt: HostRuntime) {

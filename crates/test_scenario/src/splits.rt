@@ -36,6 +36,17 @@ fn steps_that_are_set_up_become_steps(rt: HostRuntime) {
     assert!(rt; is_split_so(rt.alloc(), &SET_UP));
 }
 
+const SPACED: Row = Row {
+    text: "[ board ]\n[[ setup ]]\ndo = 1\n[[\tstep ]] # two\ndo = 2\n[ ask ]\na = 1\n",
+    scenario: "[ board ]\n[[step]]\ndo = 1\n[[\tstep ]] # two\ndo = 2\n",
+    ask: "[ ask ]\na = 1\n",
+};
+
+#[test]
+fn blanks_may_stand_within_the_brackets_of_a_head(rt: HostRuntime) {
+    assert!(rt; is_split_so(rt.alloc(), &SPACED));
+}
+
 // Whether a step stands before one that is set up.
 fn is_mixed(alloc: Global, text: &str) -> bool {
     match split_text(alloc, text) {
