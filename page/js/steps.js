@@ -176,7 +176,10 @@ function show_pages() {
 export async function play_text(mine, step = 0) {
   const it = text_now(), answer = await played(it);
   const picture = answer.out ? drawn(it, answer.out) : { out: '', err: '', ms: 0, memory: 0 };
-  const [svg, machine] = await Promise.all([picture, it.kind === 'callers' || answer.status ? null : machine_of(it)]);
+  const made = it.kind === 'callers' || answer.status ? null : machine_of(it);
+  // Both are made in workers, while the trace is put into the page.
+  if (mine === now.turn && answer.out) show_trace(answer.entries);
+  const [svg, machine] = await Promise.all([picture, made]);
   if (mine !== now.turn) return answer;
   const title = now.viewed ? now.viewed.title : now.lesson?.title || 'the text';
   if (answer.out) {
@@ -184,7 +187,6 @@ export async function play_text(mine, step = 0) {
     const callers = it.kind === 'callers' ? { ...it, ...more } : null;
     Object.assign(now, { machine: machine && Object.assign(machine, more), callers, played: now.lesson?.key });
     $('stale').hidden = true;
-    show_trace(answer.entries);
     const pages = Number(svg.err.match(/page 1 of (\d+)/)?.[1] || 1);
     shown_picture = { it, out: answer.out, title, page: 1, pages };
     show_picture(svg.out, title);
