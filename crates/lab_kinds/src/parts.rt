@@ -6,6 +6,7 @@ ghost use Rattle.lab_scenario_orders.specs.Asks.{begins};
 ghost use Rattle.lab_scenario_orders.specs.Splits as splits;
 ghost use Rattle.lab_kinds.specs.Orders.{asked_from, asked_line, scenario_from, scenario_line};
 
+use lab_scenario_orders::{is_asked, is_setup};
 use std::alloc::{AllocError, Global};
 
 /// The lines of a text. `AllocError` where the list couldn't grow.
@@ -20,34 +21,6 @@ pub fn begins(front: &[u8], text: &[u8]) -> bool
     ensures { result ≡ begins front.now text.now }
 {
     text.strip_prefix(front).is_some()
-}
-
-// A line without the comment behind it and the spaces around it.
-fn bare(line: &str) -> &str
-    ensures { result.now ≡ splits.bare line.now }
-{
-    match line.split_once('#') {
-        Some((before, _)) => before.trim(),
-        None => line.trim(),
-    }
-}
-
-// Whether a line is in a table `[ask]`, where the one before it was or was not.
-fn is_asked(was: bool, line: &str) -> bool
-    ensures { result ≡ splits.is_asked was line.now }
-{
-    if begins(b"[", bare(line).as_bytes()) {
-        bare(line) == "[ask]"
-    } else {
-        was
-    }
-}
-
-// Whether a step that is set up begins here.
-fn is_setup(line: &str) -> bool
-    ensures { result ≡ splits.is_setup line.now }
-{
-    bare(line) == "[[setup]]"
 }
 
 // Puts a line of the scenario, which is empty if it is of what is asked.

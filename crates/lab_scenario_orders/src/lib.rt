@@ -36,6 +36,6 @@ pub use outcomes::{Outcomes, is_stuck, outcomes_of};
 pub use reports::write_report;
 pub use scenarios::scenario_of;
 pub use seen::SeenState;
-pub use splits::{Split, split_text};
+pub use splits::{Split, is_asked, is_setup, split_text};
 pub use texts::{TextFault, read_callers};
 pub use worlds::Driven;

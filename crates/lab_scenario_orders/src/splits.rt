@@ -50,8 +50,8 @@ fn is_head(line: &str, begin: &str, name: &str, end: &str) -> bool
     }
 }
 
-// Whether a step begins here that is set up.
-fn is_setup(line: &str) -> bool
+/// Whether a line is the head of a step that is set up.
+pub fn is_setup(line: &str) -> bool
     ensures { result ≡ is_setup line.now }
 {
     is_head(line, "[[", "setup", "]]")
@@ -71,8 +71,8 @@ fn is_ask(line: &str) -> bool
     is_head(line, "[", "ask", "]")
 }
 
-// Whether a line is in a table `[ask]`, where the one before it was or was not.
-fn is_asked(was: bool, line: &str) -> bool
+/// Whether a line is in a table `[ask]`, where the one before it was or was not.
+pub fn is_asked(was: bool, line: &str) -> bool
     ensures { result ≡ is_asked was line.now }
 {
     if begins(b"[", bare(line).as_bytes()) {
