@@ -14,7 +14,7 @@ _lab() {
         play) words="--bank --limit --json --against --help" ;;
         live | callers) words="--bank --limit --help" ;;
         orders) words="--bank --most --help" ;;
-        draw) words="--svg --perfetto --csv --lanes --page --help" files='*.@(toml|trace)' ;;
+        draw) words="--svg --perfetto --csv --lanes --down --across --upto --page --help" files='*.@(toml|trace)' ;;
         *) words=--help ;;
     esac
     case $word in

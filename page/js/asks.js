@@ -35,7 +35,7 @@ export async function played(it) {
 /** The picture; over handlers of one's own that of the trace, with no strips. @param {Text} it @param {string} out */
 export function drawn(it, out) {
   const plain = it.kind !== 'callers' && !over(it).length;
-  return plain ? run(['draw'], it.text) : short.ask(['draw', 'trace'], { trace: out });
+  return plain ? run(['draw', '--across'], it.text) : short.ask(['draw', '--across', 'trace'], { trace: out });
 }
 /** Each step of a scenario as the program writes it, after a head; nothing where it doesn't play. @param {Text} it */
 export async function machine_of(it) {
