@@ -15,7 +15,7 @@ _lab() {
         live | callers) words="--bank --limit --help" ;;
         orders) words="--bank --most --help" ;;
         help) mapfile -t COMPREPLY < <(compgen -W "$("${COMP_WORDS[0]}" help 2>/dev/null | cut -d' ' -f2)" -- "$word"); return ;;
-        draw) words="--svg --perfetto --csv --lanes --page --help" files='*.@(toml|trace)' ;;
+        draw) words="--svg --perfetto --csv --lanes --down --across --upto --page --help" files='*.@(toml|trace)' ;;
         *) words=--help ;;
     esac
     case $word in

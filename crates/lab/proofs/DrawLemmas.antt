@@ -1,5 +1,5 @@
 -- What is drawn of a text, by what each call of the body draws.
-use Rattle.std.proofs.Common.{◌≡◌, ◌∙◌, ◌⊎◌, inl, inr, ℕ, ◌-◌, List, Bool, true, false, codes, Option, Some, None, Result, Ok, Err, IfOk, OnOk, map, refl, sym, ap, ap₂, subst}
+use Rattle.std.proofs.Common.{◌≡◌, ◌∙◌, ◌⊎◌, inl, inr, ℕ, ◌-◌, List, Bool, true, false, codes, Option, Some, None, Result, Ok, Err, IfOk, OnOk, length, map, refl, sym, ap, ap₂, subst}
 use Rattle.std.specs.Prelude.{IsSomeAnd}
 use Rattle.std.specs.List.{All}
 use Rattle.std.specs.Str.{is_utf8}
@@ -11,14 +11,15 @@ use Rattle.lab_traces.specs.Says.{IsLine, IsMisread, read_of, says_some, text_of
 use Rattle.lab_traces.specs.declared.traces.Misread.{Misread}
 use Rattle.lab_traces.specs.declared.traces.Misread.TheVariants as misread
 use Rattle.lab_traces.specs.declared.traces.TraceLine.{TraceLine}
-use Rattle.lab_drawing.specs.Pictures.{shown_with, svg_text}
+use Rattle.lab_drawing.specs.Pictures.{going_text, shown_with}
 use Rattle.lab_drawing.specs.Rows.{rows_text}
 use Rattle.lab_drawing.specs.Tables.{table_text}
+use Rattle.lab_drawing.specs.declared.frames.Goes.{Goes}
 use Rattle.lab_drawing.specs.declared.frames.Shows.TheVariants.{Words}
 use Rattle.lab_drawing.specs.declared.marks.Mark.{Mark}
 use Rattle.lab_drawing.specs.declared.moments.Moment.{Moment}
 use Rattle.lab_reports.specs.Events.{events_text}
-use Rattle.lab.specs.Draws.{AreLinesOf, AreMomentsOf, DrawsIf, DrawsPage, DrawsPlayed, DrawsRead, DrawsText, IsPicture, Origin, callers, events_of, fault_words, moments_at, neither_text, origin_of, page_at, page_text, picture_text, rows_of, scenario, table_of, trace}
+use Rattle.lab.specs.Draws.{AreLinesOf, AreMomentsOf, DrawsIf, DrawsPage, DrawsPlayed, DrawsRead, DrawsText, IsPicture, Origin, callers, events_of, fault_words, goes_for, moments_at, neither_text, origin_of, page_at, page_text, picture_text, rows_of, scenario, table_of, trace}
 use Rattle.lab.specs.Outputs.{Output, Writes, refuses}
 use Rattle.lab.specs.declared.draws.Source.{Source}
 use Rattle.lab.specs.declared.draws.Source.TheVariants as source
@@ -37,44 +38,51 @@ pub rows_is : (marks : List Mark) → rows_text marks ≡ rows_of marks
 unfolding rows_of
 rows_is marks = refl
 
-pub callers_is : (marks : List Mark) (moments : List Moment) → svg_text Words moments marks ≡ picture_text callers marks moments
+pub callers_is : (goes : Goes) (marks : List Mark) (moments : List Moment) → going_text goes Words moments marks ≡ picture_text goes callers marks moments
 unfolding picture_text
-callers_is marks moments = refl
+callers_is goes marks moments = refl
 
-pub trace_is : (marks : List Mark) (moments : List Moment) → svg_text (shown_with moments) moments marks ≡ picture_text trace marks moments
+pub trace_is : (goes : Goes) (marks : List Mark) (moments : List Moment) → going_text goes (shown_with moments) moments marks ≡ picture_text goes trace marks moments
 unfolding picture_text
-trace_is marks moments = refl
+trace_is goes marks moments = refl
 
-pub scenario_is : (text : List ℕ) (marks : List Mark) (moments : List Moment) → svg_text (shown_with moments) moments marks ≡ picture_text (scenario text) marks moments
+pub scenario_is : (goes : Goes) (text : List ℕ) (marks : List Mark) (moments : List Moment)
+    → going_text goes (shown_with moments) moments marks ≡ picture_text goes (scenario text) marks moments
 unfolding picture_text
-scenario_is text marks moments = refl
+scenario_is goes text marks moments = refl
 
 -- ---- a page
 
-same_picture : (origin : Origin) (marks page : List Mark) (number : ℕ) (known behind : List Moment) (text : List ℕ) → AreMomentsOf origin marks known → page ≡ page_at marks number
-    → behind ≡ moments_at marks known number → text ≡ picture_text origin page behind → IsPicture origin marks number text
-same_picture origin marks page number known behind text are page_is behind_is text_is =
-    (known, are, text_is ∙ ap₂ (λ (p : List Mark) (b : List Moment). picture_text origin p b) page_is behind_is)
+same_picture : (goes : Goes) (origin : Origin) (marks page : List Mark) (number : ℕ) (known behind : List Moment) (text : List ℕ) → AreMomentsOf origin marks known → page ≡ page_at marks number
+    → behind ≡ moments_at marks known number → text ≡ picture_text goes origin page behind → IsPicture goes origin marks number text
+same_picture goes origin marks page number known behind text are page_is behind_is text_is =
+    (known, are, text_is ∙ ap₂ (λ (p : List Mark) (b : List Moment). picture_text goes origin p b) page_is behind_is)
 
 -- of callers, and of anything else
-pub told_picture : (s : Source) (marks page : List Mark) (number : ℕ) (known behind : List Moment) (text : List ℕ) → s ≡ source.Callers → AreMomentsOf (origin_of s) marks known
-    → page ≡ page_at marks number → behind ≡ moments_at marks known number → text ≡ svg_text Words behind page → IsPicture (origin_of s) marks number text
-told_picture s marks page number known behind text is are page_is behind_is text_is =
-    same_picture (origin_of s) marks page number known behind text are page_is behind_is
-    (text_is ∙ callers_is page behind ∙ ap (λ (o : Source). picture_text (origin_of o) page behind) (sym is))
+pub told_picture : (goes : Goes) (s : Source) (marks page : List Mark) (number : ℕ) (known behind : List Moment) (text : List ℕ) → s ≡ source.Callers → AreMomentsOf (origin_of s) marks known
+    → page ≡ page_at marks number → behind ≡ moments_at marks known number → text ≡ going_text goes Words behind page → IsPicture goes (origin_of s) marks number text
+told_picture goes s marks page number known behind text is are page_is behind_is text_is =
+    same_picture goes (origin_of s) marks page number known behind text are page_is behind_is
+    (text_is ∙ callers_is goes page behind ∙ ap (λ (o : Source). picture_text goes (origin_of o) page behind) (sym is))
 
-pub svg_picture : (s : Source) (marks page : List Mark) (number : ℕ) (known behind : List Moment) (text : List ℕ) → (s ≡ source.Callers → ⊥) → AreMomentsOf (origin_of s) marks known
-    → page ≡ page_at marks number → behind ≡ moments_at marks known number → text ≡ svg_text (shown_with behind) behind page → IsPicture (origin_of s) marks number text
-svg_picture source.Callers marks page number known behind text isnt are page_is behind_is text_is = absurd (isnt refl)
-svg_picture source.Trace marks page number known behind text isnt are page_is behind_is text_is =
-    same_picture trace marks page number known behind text are page_is behind_is (text_is ∙ trace_is page behind)
-svg_picture (source.Scenario t) marks page number known behind text isnt are page_is behind_is text_is =
-    same_picture (scenario t.now) marks page number known behind text are page_is behind_is (text_is ∙ scenario_is t.now page behind)
+pub known_picture : (goes : Goes) (s : Source) (marks page : List Mark) (number : ℕ) (known behind : List Moment) (text : List ℕ) → (s ≡ source.Callers → ⊥) → AreMomentsOf (origin_of s) marks known
+    → page ≡ page_at marks number → behind ≡ moments_at marks known number → text ≡ going_text goes (shown_with behind) behind page → IsPicture goes (origin_of s) marks number text
+known_picture goes source.Callers marks page number known behind text isnt are page_is behind_is text_is = absurd (isnt refl)
+known_picture goes source.Trace marks page number known behind text isnt are page_is behind_is text_is =
+    same_picture goes trace marks page number known behind text are page_is behind_is (text_is ∙ trace_is goes page behind)
+known_picture goes (source.Scenario t) marks page number known behind text isnt are page_is behind_is text_is =
+    same_picture goes (scenario t.now) marks page number known behind text are page_is behind_is (text_is ∙ scenario_is goes t.now page behind)
 
-pub is_page : (origin : Origin) (marks : List Mark) (number before all : ℕ) (text printed : List ℕ) → before ≡ number - 1 → printed ≡ text → IsPicture origin marks before text
-    → DrawsPage origin marks number all (record { printed = printed; said = page_text number all; status = 0 })
-is_page origin marks number before all text printed is same h =
-    (printed, subst (λ (t : List ℕ). IsPicture origin marks (number - 1) t) (sym same) (subst (λ (n : ℕ). IsPicture origin marks n text) is h), refl)
+pub is_page : (drawing : Drawing) (origin : Origin) (marks : List Mark) (goes : Goes) (before count all : ℕ) (text printed : List ℕ) → goes ≡ goes_for drawing.way count → count ≡ length marks
+    → before ≡ drawing.page - 1 → printed ≡ text → IsPicture goes origin marks before text
+    → DrawsPage drawing origin marks all (record { printed = printed; said = page_text drawing.page all; status = 0 })
+is_page drawing origin marks goes before count all text printed way many is same h = (
+  printed,
+  subst (λ (t : List ℕ). IsPicture (goes_for drawing.way (length marks)) origin marks (drawing.page - 1) t) (sym same)
+      (subst (λ (n : ℕ). IsPicture (goes_for drawing.way (length marks)) origin marks n text) is
+      (subst (λ (g : Goes). IsPicture g origin marks before text) (way ∙ ap (goes_for drawing.way) many) h)),
+  refl,
+)
 
 -- ---- a text
 

@@ -1,5 +1,5 @@
 -- What `lab draw` draws of a text.
-use Rattle.std.specs.Prelude.{◌≡◌, ◌⊎◌, ◌<◌, ◌≤◌, ◌*◌, ◌-◌, max, nat_lt, ℕ, List, [], ◌++◌, map, take, drop, length, count_by, codes, decimal, Bool, true, false, if◌then◌else◌, Option, Some, None, IsSomeAnd, Result, Ok, Err}
+use Rattle.std.specs.Prelude.{◌≡◌, ◌⊎◌, ◌<◌, ◌≤◌, ◌*◌, ◌-◌, max, nat_le, nat_lt, ℕ, List, [], ◌++◌, map, take, drop, length, count_by, codes, decimal, Bool, true, false, if◌then◌else◌, Option, Some, None, IsSomeAnd, Result, Ok, Err}
 use Rattle.std.specs.List.{All}
 use Rattle.std.specs.Str.{is_utf8}
 use Rattle.std.specs.Str.Pattern.{FindsText, SplitsAroundMatch}
@@ -13,10 +13,12 @@ use Rattle.lab_traces.specs.Says.{IsLine, IsMisread, read_of, says_some, text_of
 use Rattle.lab_traces.specs.declared.traces.TraceLine.{TraceLine}
 use Rattle.lab_drawing.specs.Lanes.{AreLanesOf}
 use Rattle.lab_drawing.specs.Marks.{all_marked, is_entry, told_of}
-use Rattle.lab_drawing.specs.Pictures.{shown_with, svg_text}
+use Rattle.lab_drawing.specs.Pictures.{going_text, shown_with}
 use Rattle.lab_drawing.specs.Rows.{rows_text}
 use Rattle.lab_drawing.specs.Standings.{all_told, told_at}
 use Rattle.lab_drawing.specs.Tables.{table_text}
+use Rattle.lab_drawing.specs.declared.frames.Goes.{Goes}
+use Rattle.lab_drawing.specs.declared.frames.Goes.TheVariants as goes
 use Rattle.lab_drawing.specs.declared.frames.Shows.TheVariants.{Words}
 use Rattle.lab_drawing.specs.declared.lanes.Lane.{Lane}
 use Rattle.lab_drawing.specs.declared.marks.Mark.{Mark}
@@ -28,6 +30,8 @@ use Rattle.lab.specs.Texts.{text_in}
 use Rattle.lab.specs.declared.draws.Source.{Source}
 use Rattle.lab.specs.declared.draws.Source.TheVariants as source
 use Rattle.lab.specs.declared.words.Drawing.{Drawing}
+use Rattle.lab.specs.declared.words.Way.{Way}
+use Rattle.lab.specs.declared.words.Way.TheVariants.{Down, Across, Fitting}
 use Rattle.lab.specs.declared.words.Form.{Form}
 use Rattle.lab.specs.declared.words.Form.TheVariants.{Svg, Events, Table, Rows}
 
@@ -60,15 +64,21 @@ page_at marks number = take 2000 (drop (2000 * number) marks)
 abbrev pub moments_at : List Mark → List Moment → ℕ → List Moment
 moments_at marks moments number = drop (count_by is_entry (take (2000 * number) marks)) moments
 
--- the picture of marks with the moments of their entries
-unfoldable pub picture_text : Origin → List Mark → List Moment → List ℕ
-picture_text callers marks moments = svg_text Words moments marks
-picture_text (scenario text) marks moments = svg_text (shown_with moments) moments marks
-picture_text trace marks moments = svg_text (shown_with moments) moments marks
+-- which way a picture of so many marks goes
+abbrev pub goes_for : Way → ℕ → Goes
+goes_for Down count = goes.Down
+goes_for Across count = goes.Across
+goes_for Fitting count = if nat_le count 60 then goes.Down else goes.Across
 
-abbrev pub IsPicture : Origin → List Mark → ℕ → List ℕ → Type 0
-IsPicture origin marks number text =
-    (moments : List Moment) × AreMomentsOf origin marks moments × (text ≡ picture_text origin (page_at marks number) (moments_at marks moments number))
+-- the picture of marks with the moments of their entries, that goes this way
+unfoldable pub picture_text : Goes → Origin → List Mark → List Moment → List ℕ
+picture_text way callers marks moments = going_text way Words moments marks
+picture_text way (scenario text) marks moments = going_text way (shown_with moments) moments marks
+picture_text way trace marks moments = going_text way (shown_with moments) moments marks
+
+abbrev pub IsPicture : Goes → Origin → List Mark → ℕ → List ℕ → Type 0
+IsPicture way origin marks number text =
+    (moments : List Moment) × AreMomentsOf origin marks moments × (text ≡ picture_text way origin (page_at marks number) (moments_at marks moments number))
 
 -- marks take so many pages: one at least
 pub record HasPages (marks : List Mark) (pages : ℕ) : Type 0 where
@@ -84,16 +94,17 @@ abbrev pub page_text : ℕ → ℕ → List ℕ
 page_text number pages =
     if nat_lt 1 pages then codes "lab: page " ++ (decimal number ++ (codes " of " ++ (decimal pages ++ line_feed))) else []
 
--- the page of this number, from 1, of so many
-abbrev pub DrawsPage : Origin → List Mark → ℕ → ℕ → Output → Type 0
-DrawsPage origin marks number pages output =
-    (picture : List ℕ) × IsPicture origin marks (number - 1) picture × (output ≡ record { printed = picture; said = page_text number pages; status = 0 })
+-- the page that is asked for, from 1, of so many
+abbrev pub DrawsPage : Drawing → Origin → List Mark → ℕ → Output → Type 0
+DrawsPage drawing origin marks pages output =
+    (picture : List ℕ) × IsPicture (goes_for drawing.way (length marks)) origin marks (drawing.page - 1) picture
+    × (output ≡ record { printed = picture; said = page_text drawing.page pages; status = 0 })
 
 -- or that there is no such page
-abbrev pub DrawsSvg : Origin → List Mark → ℕ → Output → Type 0
-DrawsSvg origin marks number output =
+abbrev pub DrawsSvg : Drawing → Origin → List Mark → Output → Type 0
+DrawsSvg drawing origin marks output =
     (pages : ℕ) × HasPages marks pages
-    × (((pages < number) × (output ≡ refuses 2 (no_page_text number pages))) ⊎ ((number ≤ pages) × DrawsPage origin marks number pages output))
+    × (((pages < drawing.page) × (output ≡ refuses 2 (no_page_text drawing.page pages))) ⊎ ((drawing.page ≤ pages) × DrawsPage drawing origin marks pages output))
 
 -- ---- in any form
 
@@ -107,14 +118,19 @@ table_of marks = table_text marks
 unfoldable pub rows_of : List Mark → List ℕ
 rows_of marks = rows_text marks
 
-abbrev pub DrawsMarks : Form → Origin → List Mark → ℕ → Output → Type 0
-DrawsMarks Svg origin marks number output = DrawsSvg origin marks number output
-DrawsMarks Events origin marks number output = output ≡ prints (events_of marks)
-DrawsMarks Table origin marks number output = output ≡ prints (table_of marks)
-DrawsMarks Rows origin marks number output = output ≡ prints (rows_of marks)
+abbrev pub DrawsMarks : Form → Drawing → Origin → List Mark → Output → Type 0
+DrawsMarks Svg drawing origin marks output = DrawsSvg drawing origin marks output
+DrawsMarks Events drawing origin marks output = output ≡ prints (events_of marks)
+DrawsMarks Table drawing origin marks output = output ≡ prints (table_of marks)
+DrawsMarks Rows drawing origin marks output = output ≡ prints (rows_of marks)
+
+-- the first marks, so many where a number is asked for
+abbrev pub first_of : Option ℕ → List Mark → List Mark
+first_of None marks = marks
+first_of (Some count) marks = take count marks
 
 abbrev pub DrawsLines : Drawing → Origin → List TraceLine → Output → Type 0
-DrawsLines drawing origin lines output = (marks : List Mark) × (map told_of marks ≡ all_marked lines) × DrawsMarks drawing.form origin marks drawing.page output
+DrawsLines drawing origin lines output = (marks : List Mark) × (map told_of marks ≡ all_marked lines) × DrawsMarks drawing.form drawing origin (first_of drawing.upto marks) output
 
 -- a text is these lines of a trace
 pub record AreLinesOf (text : List ℕ) (lines : List TraceLine) : Type 0 where

@@ -50,7 +50,7 @@ check_part = part (codes "check") (bank_rule ∷ record (several_rule (codes "FI
 unfoldable pub draw_part : Shape
 draw_part =
     part (codes "draw") (mark_rule (codes "svg") ∷ mark_rule (codes "perfetto") ∷ mark_rule (codes "csv") ∷ mark_rule (codes "lanes")
-    ∷ number_rule (codes "page") (pos 1000000) ∷ file_rule ∷ [])
+    ∷ mark_rule (codes "down") ∷ mark_rule (codes "across") ∷ number_rule (codes "upto") (pos 1000000) ∷ number_rule (codes "page") (pos 1000000) ∷ file_rule ∷ [])
 
 unfoldable pub play_part : Shape
 play_part = part (codes "play") (bank_rule ∷ limit_rule ∷ mark_rule (codes "json") ∷ text_rule (codes "against") ∷ several_rule (codes "FILE") ∷ [])

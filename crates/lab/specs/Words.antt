@@ -7,6 +7,8 @@ use Rattle.clap.specs.declared.parser.matches.Found.{Found}
 use Rattle.evl_shell.specs.Arguments.{number_of}
 use Rattle.lab.specs.declared.words.Form.{Form}
 use Rattle.lab.specs.declared.words.Form.TheVariants.{Svg, Events, Table, Rows}
+use Rattle.lab.specs.declared.words.Way.{Way}
+use Rattle.lab.specs.declared.words.Way.TheVariants.{Down, Across, Fitting}
 use Rattle.lab.specs.declared.words.Telling.{Telling}
 use Rattle.lab.specs.declared.words.Telling.TheVariants.{Trace, Json, Against}
 
@@ -25,6 +27,13 @@ form_of found =
     else if is_set found (codes "csv") then Table
     else if is_set found (codes "lanes") then Rows
     else Svg
+
+-- the way that a picture goes, by the word that stands there
+abbrev pub way_of : Found → Way
+way_of found =
+    if is_set found (codes "down") then Down
+    else if is_set found (codes "across") then Across
+    else Fitting
 
 -- this is asked for of scenarios that are played
 abbrev pub AsksFor : Found → Telling → Type 0

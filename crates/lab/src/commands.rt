@@ -93,6 +93,49 @@ fn lanes_word<'a>(alloc: Global) -> Result<Arg<'a>, AllocError>
     form_word(alloc, "lanes", ("svg", "perfetto", "csv"), help)
 }
 
+// Which way a picture goes, which goes with no other.
+fn way_word<'a>(
+    alloc: Global,
+    name: &'a str,
+    other: &'a str,
+    help: &'a str,
+) -> Result<Arg<'a>, AllocError>
+    ensures { IfOk result (IsWord (mark_rule name.entry.now)) }
+{
+    Arg::new(alloc, name)
+        .long(name)
+        .action(ArgAction::SetTrue)
+        .help(help)
+        .conflicts_with(other)
+}
+
+// A row for each line.
+fn down_word<'a>(alloc: Global) -> Result<Arg<'a>, AllocError>
+    ensures { IfOk result (IsWord (mark_rule (codes "down"))) }
+{
+    let help = "An SVG with a row for each line; without it, of at most 60 lines";
+    way_word(alloc, "down", "across", help)
+}
+
+// A column for each line.
+fn across_word<'a>(alloc: Global) -> Result<Arg<'a>, AllocError>
+    ensures { IfOk result (IsWord (mark_rule (codes "across"))) }
+{
+    let help = "An SVG with a column for each line; without it, of more than 60 lines";
+    way_word(alloc, "across", "down", help)
+}
+
+// How many lines are drawn.
+fn upto_word<'a>(alloc: Global) -> Arg<'a>
+    ensures { IsWord (number_rule (codes "upto") (pos 1000000)) result }
+{
+    Arg::new(alloc, "upto")
+        .long("upto")
+        .value_name("N")
+        .value_parser(to_a_million())
+        .help("Only the first N lines, of calls and plays")
+}
+
 // A number from 1 to a million.
 fn to_a_million<'a>() -> ValueParser<'a>
     ensures { result ≡ Signed (pos 1) (pos 1000000) }
@@ -131,7 +174,10 @@ fn draw_command<'a>(alloc: Global) -> Result<Command<'a>, AllocError>
     let with_two = with_one.arg(perfetto_word(alloc)?)?;
     let with_three = with_two.arg(csv_word(alloc)?)?;
     let with_four = with_three.arg(lanes_word(alloc)?)?;
-    let with_page = with_four.arg(page_word(alloc))?;
+    let with_down = with_four.arg(down_word(alloc)?)?;
+    let with_across = with_down.arg(across_word(alloc)?)?;
+    let with_upto = with_across.arg(upto_word(alloc))?;
+    let with_page = with_upto.arg(page_word(alloc))?;
     let with_file = with_page.arg(drawn_file(alloc))?;
     Ok(with_file)
 }

@@ -1,23 +1,25 @@
 //! `lab draw`: the picture of a trace, of a scenario, which is played, or of what `lab callers` tells.
-ghost use Rattle.std.specs.Prelude.{◌≡◌, ◌++◌, None, Ok, Some, codes, decimal, option_map, string_bytes, IfErr, IfOk, OnOk, IsSomeAnd};
+ghost use Rattle.std.specs.Prelude.{◌≡◌, ◌++◌, length, take, None, Ok, Some, codes, decimal, option_map, string_bytes, IfErr, IfOk, OnOk, IsSomeAnd};
 ghost use Rattle.std.specs.Io.KnownBytes.{Appends};
 ghost use Rattle.evl_bank.specs.Bank.{program_bank};
 ghost use Rattle.evl_plans.specs.Traces.{Refuses};
 ghost use Rattle.evl_scenario.specs.Lines.{line_feed};
 ghost use Rattle.evl_shell.specs.Runs as runs;
 ghost use Rattle.lab.specs.Draws as draws;
-ghost use Rattle.lab.specs.Draws.{AreMomentsOf, DrawsLines, DrawsMarks, DrawsPage, DrawsPlayed, DrawsRead, DrawsSvg, DrawsText, DrawsTrace, DrawsWhole, IsPicture, fault_words, neither_text, no_page_text, origin_of, page_text};
+ghost use Rattle.lab.specs.Draws.{AreMomentsOf, DrawsLines, DrawsMarks, DrawsPage, DrawsPlayed, DrawsRead, DrawsSvg, DrawsText, DrawsTrace, DrawsWhole, IsPicture, fault_words, first_of, goes_for, neither_text, no_page_text, origin_of, page_text};
+ghost use Rattle.lab_drawing.specs.Pictures.{going_text, shown_with};
+ghost use Rattle.lab_drawing.specs.declared.frames.Shows.TheVariants.{Words};
 ghost use Rattle.lab.specs.Outputs.{Writes, WritesOfText};
 ghost use Rattle.lab.specs.Texts as texts;
 
 use crate::statuses::AT_FAULT;
 use crate::texts::{read_text, text_in};
-use crate::words::{Drawing, Form};
+use crate::words::{Drawing, Form, Way};
 use evl_plans::trace_plans;
 use evl_scenario::Fault;
 use lab_drawing::{
-    Mark, Moment, lanes_of, marks_of, page, page_count, page_moments, told_moments, write_rows,
-    write_svg, write_table, write_told,
+    Goes, Mark, Moment, lanes_of, marks_of, page, page_count, page_moments, told_moments,
+    write_down, write_rows, write_svg, write_table, write_told, write_told_down,
 };
 use lab_moments::moments_of;
 use lab_reports::{program_plans, write_events};
@@ -65,20 +67,66 @@ fn known_moments(
     }
 }
 
-// The picture of a page of marks, from 0.
+// The most lines of which a picture goes down where no way is asked for.
+const MOST_DOWN: usize = 60;
+
+// Which way a picture of so many marks goes.
+fn goes_for(way: Way, count: usize) -> Goes
+    ensures { result ≡ goes_for way count }
+{
+    match way {
+        Way::Down => Goes::Down,
+        Way::Across => Goes::Across,
+        Way::Fitting if count <= MOST_DOWN => Goes::Down,
+        Way::Fitting => Goes::Across,
+    }
+}
+
+// The picture of callers' marks that goes this way.
+fn told_picture(
+    alloc: Global,
+    marks: &[Mark<'_>],
+    moments: &[Moment],
+    goes: Goes,
+) -> Result<Vec<u8>, AllocError>
+    ensures { IfOk result (λ picture. picture.items ≡ going_text goes Words moments.now marks.now) }
+{
+    match goes {
+        Goes::Across => write_told(alloc, marks, moments),
+        Goes::Down => write_told_down(alloc, marks, moments),
+    }
+}
+
+// The picture of other marks that goes this way.
+fn known_picture(
+    alloc: Global,
+    marks: &[Mark<'_>],
+    moments: &[Moment],
+    goes: Goes,
+) -> Result<Vec<u8>, AllocError>
+    ensures { IfOk result (λ picture. picture.items ≡ going_text goes (shown_with moments.now) moments.now marks.now) }
+{
+    match goes {
+        Goes::Across => write_svg(alloc, marks, moments),
+        Goes::Down => write_down(alloc, marks, moments),
+    }
+}
+
+// The picture of a page of marks, from 0, that goes this way.
 fn picture_of(
     alloc: Global,
     marks: &[Mark<'_>],
     source: Source<'_>,
+    goes: Goes,
     number: usize,
 ) -> Result<Vec<u8>, AllocError>
-    ensures { IfOk result (λ picture. IsPicture (origin_of source.entry) marks.now number picture.items) }
+    ensures { IfOk result (λ picture. IsPicture goes (origin_of source.entry) marks.now number picture.items) }
 {
     let known = known_moments(alloc, marks, source)?;
     let behind = page_moments(marks, known.as_slice(), number);
     match source {
-        Source::Callers => write_told(alloc, page(marks, number), behind),
-        _ => write_svg(alloc, page(marks, number), behind),
+        Source::Callers => told_picture(alloc, page(marks, number), behind, goes),
+        _ => known_picture(alloc, page(marks, number), behind, goes),
     }
 }
 
@@ -118,15 +166,17 @@ fn draw_page<O: Write, E: Write>(
     alloc: Global,
     marks: &[Mark<'_>],
     source: Source<'_>,
-    number: u32,
+    drawing: Drawing,
     all: usize,
     out: &mut O,
     err: &mut E,
 ) -> io::Result<u8>
-    ensures { IfOk result (Writes (DrawsPage (origin_of source.entry) marks.now number all) (O.contents out.old) (O.contents out.new) (E.contents err.old) (E.contents err.new)) }
+    ensures { IfOk result (Writes (DrawsPage drawing (origin_of source.entry) marks.now all) (O.contents out.old) (O.contents out.new) (E.contents err.old) (E.contents err.new)) }
 {
-    tell_page(err, number, all)?;
-    match picture_of(alloc, marks, source, (number as usize).saturating_sub(1)) {
+    tell_page(err, drawing.page, all)?;
+    let goes = goes_for(drawing.way, marks.len());
+    let number = (drawing.page as usize).saturating_sub(1);
+    match picture_of(alloc, marks, source, goes, number) {
         Ok(picture) => put(out, picture.as_slice()),
         Err(error) => Err(error.into()),
     }
@@ -137,17 +187,17 @@ fn draw_svg<O: Write, E: Write>(
     alloc: Global,
     marks: &[Mark<'_>],
     source: Source<'_>,
-    number: u32,
+    drawing: Drawing,
     out: &mut O,
     err: &mut E,
 ) -> io::Result<u8>
-    ensures { IfOk result (Writes (DrawsSvg (origin_of source.entry) marks.now number) (O.contents out.old) (O.contents out.new) (E.contents err.old) (E.contents err.new)) }
+    ensures { IfOk result (Writes (DrawsSvg drawing (origin_of source.entry) marks.now) (O.contents out.old) (O.contents out.new) (E.contents err.old) (E.contents err.new)) }
 {
     let all = page_count(marks);
-    if number as usize > all {
-        tell_no_page(err, number, all)
+    if drawing.page as usize > all {
+        tell_no_page(err, drawing.page, all)
     } else {
-        draw_page(alloc, marks, source, number, all, out, err)
+        draw_page(alloc, marks, source, drawing, all, out, err)
     }
 }
 
@@ -193,13 +243,34 @@ fn draw_marks<O: Write, E: Write>(
     out: &mut O,
     err: &mut E,
 ) -> io::Result<u8>
-    ensures { IfOk result (Writes (DrawsMarks drawing.form (origin_of source.entry) marks.now drawing.page) (O.contents out.old) (O.contents out.new) (E.contents err.old) (E.contents err.new)) }
+    ensures { IfOk result (Writes (DrawsMarks drawing.form drawing (origin_of source.entry) marks.now) (O.contents out.old) (O.contents out.new) (E.contents err.old) (E.contents err.new)) }
 {
     match drawing.form {
-        Form::Svg => draw_svg(alloc, marks, source, drawing.page, out, err),
+        Form::Svg => draw_svg(alloc, marks, source, drawing, out, err),
         Form::Events => draw_events(alloc, marks, out),
         Form::Table => draw_table(alloc, marks, out),
         Form::Rows => draw_rows(alloc, marks, out),
+    }
+}
+
+// The first marks, so many at most.
+fn first_count<'a, 'b>(marks: &'b [Mark<'a>], count: usize) -> &'b [Mark<'a>]
+    ensures { result.now ≡ take count marks.now }
+{
+    if marks.len() <= count {
+        marks
+    } else {
+        &marks[..count]
+    }
+}
+
+// The first marks, so many where a number is asked for.
+fn first_of<'a, 'b>(marks: &'b [Mark<'a>], upto: Option<u32>) -> &'b [Mark<'a>]
+    ensures { result.now ≡ first_of upto marks.now }
+{
+    match upto {
+        None => marks,
+        Some(count) => first_count(marks, count as usize),
     }
 }
 
@@ -215,7 +286,10 @@ fn draw_lines<O: Write, E: Write>(
     ensures { IfOk result (Writes (DrawsLines drawing (origin_of source.entry) lines.now) (O.contents out.old) (O.contents out.new) (E.contents err.old) (E.contents err.new)) }
 {
     match marks_of(alloc, lines) {
-        Ok(marks) => draw_marks(alloc, marks.as_slice(), source, drawing, out, err),
+        Ok(marks) => {
+            let first = first_of(marks.as_slice(), drawing.upto);
+            draw_marks(alloc, first, source, drawing, out, err)
+        }
         Err(error) => Err(error.into()),
     }
 }

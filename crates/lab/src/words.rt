@@ -15,10 +15,22 @@ pub enum Form {
     Rows,
 }
 
+/// Which way a picture as SVG goes.
+#[derive(Clone, Copy, PartialEq, Eq, Debug)]
+pub enum Way {
+    Down,
+    Across,
+    /// Down, if it is short.
+    Fitting,
+}
+
 /// What `draw` asks for.
 #[derive(Clone, Copy, PartialEq, Eq, Debug)]
 pub struct Drawing {
     pub form: Form,
+    pub way: Way,
+    /// How many lines are drawn at most; all where no number stands there.
+    pub upto: Option<u32>,
     /// The page of a picture that is long, from 1.
     pub page: u32,
 }
@@ -84,6 +96,19 @@ fn form_of(matches: &ArgMatches<'_>) -> Form
     }
 }
 
+// The way that is asked for.
+fn way_of(matches: &ArgMatches<'_>) -> Way
+    ensures { result ≡ words.way_of (found_of matches.now) }
+{
+    if is_set(matches, "down") {
+        Way::Down
+    } else if is_set(matches, "across") {
+        Way::Across
+    } else {
+        Way::Fitting
+    }
+}
+
 /// What `orders` is asked for: the file of a bank, how many moments one number of steps may lead to, and the text.
 #[derive(Clone, Copy, Drop)]
 pub struct Asked<'a> {
@@ -104,10 +129,14 @@ impl<'a> Asked<'a> {
 /// What `draw` is asked for.
 pub fn drawing_of(matches: &ArgMatches<'_>) -> Drawing
     ensures form { result.form ≡ words.form_of (found_of matches.now) }
+    ensures way { result.way ≡ words.way_of (found_of matches.now) }
+    ensures upto { result.upto ≡ words.number_at (found_of matches.now) (codes "upto") }
     ensures page { result.page ≡ unwrap_or (words.number_at (found_of matches.now) (codes "page")) 1 }
 {
     Drawing {
         form: form_of(matches),
+        way: way_of(matches),
+        upto: number_at(matches, "upto"),
         page: number_at(matches, "page").unwrap_or(1),
     }
 }

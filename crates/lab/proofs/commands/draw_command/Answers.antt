@@ -18,8 +18,14 @@ returns c =
     let local_with_three = c.in_ok-with_three.ensures.globals ∙ ap₂ ◌||◌ local_with_two c.in_ok-csv_word.ensures.1 in
     let with_four = c.in_ok-with_four.ensures.shape c.in_ok-lanes_word.ensures.1 ∙ ap₂ with_rule with_three c.in_ok-lanes_word.ensures.0 in
     let local_with_four = c.in_ok-with_four.ensures.globals ∙ ap₂ ◌||◌ local_with_three c.in_ok-lanes_word.ensures.1 in
-    let with_page = c.in_ok-with_page.ensures.shape c.page_word.ensures.1 ∙ ap₂ with_rule with_four c.page_word.ensures.0 in
-    let local_with_page = c.in_ok-with_page.ensures.globals ∙ ap₂ ◌||◌ local_with_four c.page_word.ensures.1 in
+    let with_down = c.in_ok-with_down.ensures.shape c.in_ok-down_word.ensures.1 ∙ ap₂ with_rule with_four c.in_ok-down_word.ensures.0 in
+    let local_with_down = c.in_ok-with_down.ensures.globals ∙ ap₂ ◌||◌ local_with_four c.in_ok-down_word.ensures.1 in
+    let with_across = c.in_ok-with_across.ensures.shape c.in_ok-across_word.ensures.1 ∙ ap₂ with_rule with_down c.in_ok-across_word.ensures.0 in
+    let local_with_across = c.in_ok-with_across.ensures.globals ∙ ap₂ ◌||◌ local_with_down c.in_ok-across_word.ensures.1 in
+    let with_upto = c.in_ok-with_upto.ensures.shape c.upto_word.ensures.1 ∙ ap₂ with_rule with_across c.upto_word.ensures.0 in
+    let local_with_upto = c.in_ok-with_upto.ensures.globals ∙ ap₂ ◌||◌ local_with_across c.upto_word.ensures.1 in
+    let with_page = c.in_ok-with_page.ensures.shape c.page_word.ensures.1 ∙ ap₂ with_rule with_upto c.page_word.ensures.0 in
+    let local_with_page = c.in_ok-with_page.ensures.globals ∙ ap₂ ◌||◌ local_with_upto c.page_word.ensures.1 in
     let with_file = c.in_ok-with_file.ensures.shape c.drawn_file.ensures.1 ∙ ap₂ with_rule with_page c.drawn_file.ensures.0 in
     let local_with_file = c.in_ok-with_file.ensures.globals ∙ ap₂ ◌||◌ local_with_page c.drawn_file.ensures.1 in
     λ old new adds. adds.shape local_with_file ∙ ap (λ app. with_subcommand (app_of old) app.top) with_file

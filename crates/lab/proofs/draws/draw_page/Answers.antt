@@ -1,3 +1,4 @@
+use Rattle.std.proofs.Common.{refl}
 use Rattle.lab.specs.Draws.{DrawsPage, origin_of, page_text}
 use Rattle.lab.proofs.DrawLemmas.{is_page}
 use Rattle.lab.proofs.OutputLemmas.{written_out}
@@ -7,5 +8,6 @@ pub returns-in-Ok : goal.returns-in-Ok
 returns-in-Ok g c =
     let origin = origin_of c.args.source in
     let marks = c.args.marks.now in
-    written_out _ (DrawsPage origin marks c.args.number c.args.all) _ _ _ _ c.as_slice.result.now (page_text c.args.number c.args.all) 0 c.put.result
-    (is_page origin marks c.args.number _ c.args.all _ c.as_slice.result.now c.saturating_sub.ensures c.as_slice.ensures.value c.in-Ok.ensures) c.put.ensures.bytes c.in_ok-tell_page.ensures c.put.ensures.status
+    written_out _ (DrawsPage c.args.drawing origin marks c.args.all) _ _ _ _ c.as_slice.result.now (page_text c.args.drawing.page c.args.all) 0 c.put.result
+    (is_page c.args.drawing origin marks c.goes_for-goes.result c.saturating_sub-number.result _ c.args.all _ c.as_slice.result.now c.goes_for-goes.ensures refl c.saturating_sub-number.ensures
+    c.as_slice.ensures.value c.in-Ok.ensures) c.put.ensures.bytes c.in_ok-tell_page.ensures c.put.ensures.status
