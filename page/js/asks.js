@@ -37,19 +37,14 @@ export async function played(it) {
   const told = answer.status ? read_faults(answer.err, it.text, steps_of(it.text)) : [];
   return { ...answer, entries: read_trace(answer.out), told };
 }
-/** The page reads pictures whose time goes across; a program that draws no others refuses this word. */
-let across = ['--across'];
 /**
- * A page of the picture; over handlers of one's own that of the trace, with no strips.
+ * A page of the picture, whose time goes across; over handlers of one's own that of the trace, with no strips.
  * @param {Text} it @param {string} out @returns {Promise<import('./program.js').Answer>}
  */
 export async function drawn(it, out, page = 1) {
   const plain = it.kind !== 'callers' && !over(it).length;
-  const words = ['draw', ...across, ...page > 1 ? ['--page', `${page}`] : []];
-  const answer = await (plain ? run(words, it.text) : short.ask([...words, 'trace'], { trace: out }));
-  if (answer.status !== 3 || !across.length) return answer;
-  across = [];
-  return drawn(it, out, page);
+  const words = ['draw', '--across', ...page > 1 ? ['--page', `${page}`] : []];
+  return plain ? run(words, it.text) : short.ask([...words, 'trace'], { trace: out });
 }
 /** Each step of a scenario as the program writes it, after a head; nothing where it doesn't play. @param {Text} it */
 export async function machine_of(it) {
