@@ -17,7 +17,8 @@ use Rattle.lab_traces.specs.Says.{IsLine, IsMisread, read_of, says_of, says_some
 use Rattle.lab_traces.specs.declared.traces.Misread.TheVariants as misread
 use Rattle.lab_traces.specs.declared.traces.TraceLine.{TraceLine}
 use Rattle.lab_reports.specs.Json.{trace_json}
-use Rattle.lab.specs.Endings.{fault_words, line_about}
+use Rattle.lab_kinds.specs.declared.kinds.TextKind.{TextKind}
+use Rattle.lab.specs.Endings.{kinded_words, line_about, words_by}
 use Rattle.lab.specs.Texts.{IsReadOf, is_input, names_or_input}
 use Rattle.lab.specs.Plays.{IsJsonOf, IsReadFrom, IsTrace, Played, PlaysEach, Tells, TellsPlayed, Told, ends_ill, ends_well}
 use Rattle.lab.specs.declared.words.Telling.{Telling}
@@ -151,18 +152,18 @@ no_json name text m old (inl h) = cc
 no_json name text m old (inr h) = ([], inr (h.0, h.2, refl), Appends-nil old)
 
 -- a fault for which a text is refused
-pub fault_told : (E : Type 0) (telling : Telling) (name : List ℕ) (trace : Result (List ℕ) Fault) (e : Fault) (old quiet spoken : Option (List ℕ)) (r : Result Bool E)
-    → Refuses trace e → IfOk r (λ b. b ≡ true) → OnOk r (IsSomeAnd (fault_words e) (λ words. Appends quiet spoken (line_about name words)))
-    → IfOk r (Tells (TellsPlayed telling name trace) old old quiet spoken)
-fault_told E telling name trace e old quiet spoken (Err error) refuses answers says = tt
-fault_told E telling name trace Text old quiet spoken (Ok b) refuses answers says =
-    rw refuses (record { told = ends_ill name [] (codes "bad text"); is = refl; prints = Appends-nil old; says = says; answers = answers })
-fault_told E telling name trace Board old quiet spoken (Ok b) refuses answers says =
-    rw refuses (record { told = ends_ill name [] (codes "bad board"); is = refl; prints = Appends-nil old; says = says; answers = answers })
-fault_told E telling name trace (Step n) old quiet spoken (Ok b) refuses answers says =
-    rw refuses (record { told = ends_ill name [] (codes "bad step " ++ decimal n); is = refl; prints = Appends-nil old; says = says; answers = answers })
-fault_told E telling name trace Memory old quiet spoken (Ok b) refuses answers says = absurd says
-fault_told E telling name trace Write old quiet spoken (Ok b) refuses answers says = absurd refuses
+pub fault_told : (E : Type 0) (telling : Telling) (name : List ℕ) (kind : TextKind) (trace : Result (List ℕ) Fault) (e : Fault) (old quiet spoken : Option (List ℕ)) (r : Result Bool E)
+    → Refuses trace e → IfOk r (λ b. b ≡ true) → OnOk r (IsSomeAnd (kinded_words kind e) (λ words. Appends quiet spoken (line_about name words)))
+    → IfOk r (Tells (TellsPlayed telling name kind trace) old old quiet spoken)
+fault_told E telling name kind trace e old quiet spoken (Err error) refuses answers says = tt
+fault_told E telling name kind trace Text old quiet spoken (Ok b) refuses answers says =
+    rw refuses (record { told = ends_ill name [] (words_by kind (codes "bad text")); is = refl; prints = Appends-nil old; says = says; answers = answers })
+fault_told E telling name kind trace Board old quiet spoken (Ok b) refuses answers says =
+    rw refuses (record { told = ends_ill name [] (words_by kind (codes "bad board")); is = refl; prints = Appends-nil old; says = says; answers = answers })
+fault_told E telling name kind trace (Step n) old quiet spoken (Ok b) refuses answers says =
+    rw refuses (record { told = ends_ill name [] (words_by kind (codes "bad step " ++ decimal n)); is = refl; prints = Appends-nil old; says = says; answers = answers })
+fault_told E telling name kind trace Memory old quiet spoken (Ok b) refuses answers says = absurd says
+fault_told E telling name kind trace Write old quiet spoken (Ok b) refuses answers says = absurd refuses
 
 -- ---- names
 

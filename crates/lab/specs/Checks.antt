@@ -1,21 +1,39 @@
--- What `lab check` tells of scenarios.
-use Rattle.std.specs.Prelude.{◌≡◌, ◌⊎◌, ℕ, List, [], ◌++◌, map, codes, Bool, true, Option, Some, None, Result, Ok, Err, is_err}
+-- What `lab check` tells of texts, by their kinds.
+use Rattle.std.specs.Prelude.{◌≡◌, ◌⊎◌, ℕ, List, [], ◌++◌, map, codes, Bool, true, false, Option, Some, None}
 use Rattle.std.specs.List.{All, concat, list_any}
 use Rattle.std.specs.Io.KnownBytes.{Appends}
 use Rattle.evl_kernel.specs.state.States.{Handler}
-use Rattle.evl_scenario.specs.Scenarios.{Script, scenario_of}
-use Rattle.evl_scenario.specs.declared.faults.Fault.{Fault}
-use Rattle.lab_faults.specs.Checks.{TellsLines}
+use Rattle.evl_scenario.specs.Scenarios.{scenario_of}
+use Rattle.lab_kinds.specs.Kinds.{kind_of}
+use Rattle.lab_kinds.specs.Reports.{Reports}
+use Rattle.lab_kinds.specs.declared.kinds.TextKind.{TextKind}
+use Rattle.lab_kinds.specs.declared.kinds.TextKind.TheVariants.{Scenario}
 use Rattle.lab_warnings.specs.Warnings.{warnings_of}
 use Rattle.lab.specs.Banks.{IsBank, Refuses}
 use Rattle.lab.specs.Endings.{status_of}
 
--- ---- a scenario
+-- ---- a text
 
--- behind a text stand the faults of a scenario that can't be played, or else the warnings of its dry run over a bank
-abbrev pub TellsText : List Handler → List ℕ → List ℕ → Result Script Fault → List ℕ → List ℕ → Type 0
-TellsText bank name text (Ok script) before after = after ≡ before ++ warnings_of name bank (Ok script)
-TellsText bank name text (Err fault) before after = TellsLines name text fault before after
+-- the warnings of a dry run over a bank: a text that is no scenario has none
+abbrev pub kind_warnings : List Handler → TextKind → List ℕ → List ℕ → List ℕ
+kind_warnings bank Scenario name text = warnings_of name bank (scenario_of None text)
+kind_warnings bank _ name text = []
+
+-- those of a text that may be at fault
+abbrev pub warnings_unless : Bool → List ℕ → List ℕ
+warnings_unless true warned = []
+warnings_unless false warned = warned
+
+-- behind a text stand the faults of a text of a kind, or else its warnings, and whether it is at fault is answered
+pub record TellsText (bank : List Handler) (kind : TextKind) (name text before after : List ℕ) (at_fault : Bool) : Type 0 where
+  pub reported : List ℕ
+  pub reports : Reports kind name text before reported at_fault
+  pub warned : after ≡ reported ++ warnings_unless at_fault (kind_warnings bank kind name text)
+
+pub record PrintsText (bank : List Handler) (name text : List ℕ) (old new : Option (List ℕ)) (at_fault : Bool) : Type 0 where
+  pub printed : List ℕ
+  pub tells : TellsText bank (kind_of text) name text [] printed at_fault
+  pub prints : Appends old new printed
 
 -- a file, what was read of it, what is printed, and whether it is at fault
 pub record Checked : Type 0 where
@@ -27,7 +45,7 @@ pub record Checked : Type 0 where
 -- of a file, by what was read of it
 abbrev pub TellsFile : List Handler → List ℕ → Option (List ℕ) → List ℕ → Bool → Type 0
 TellsFile bank name None printed at_fault = (printed ≡ name ++ codes ": can't be read\n") × (at_fault ≡ true)
-TellsFile bank name (Some text) printed at_fault = TellsText bank name text (scenario_of None text) [] printed × (at_fault ≡ is_err (scenario_of None text))
+TellsFile bank name (Some text) printed at_fault = TellsText bank (kind_of text) name text [] printed at_fault
 
 abbrev pub IsChecked : List Handler → Checked → Type 0
 IsChecked bank c = TellsFile bank c.name c.text c.printed c.at_fault

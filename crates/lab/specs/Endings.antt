@@ -1,8 +1,10 @@
 -- What is said of how a text ended that was played, and the status.
-use Rattle.std.specs.Prelude.{ℕ, List, ◌++◌, codes, decimal, Bool, if◌then◌else◌, Option, Some, None}
+use Rattle.std.specs.Prelude.{ℕ, List, ◌++◌, codes, decimal, Bool, if◌then◌else◌, Option, Some, None, option_map}
 use Rattle.evl_scenario.specs.Lines.{line_feed}
 use Rattle.evl_scenario.specs.declared.faults.Fault.{Fault}
 use Rattle.evl_scenario.specs.declared.faults.Fault.TheVariants.{Text, Board, Step, Memory, Write}
+use Rattle.lab_kinds.specs.declared.kinds.TextKind.{TextKind}
+use Rattle.lab_kinds.specs.declared.kinds.TextKind.TheVariants.{Scenario, Orders, Callers, Bank}
 
 -- a line about the text of this name
 abbrev pub line_about : List ℕ → List ℕ → List ℕ
@@ -15,6 +17,17 @@ fault_words Board = Some (codes "bad board")
 fault_words (Step n) = Some (codes "bad step " ++ decimal n)
 fault_words Memory = None
 fault_words Write = None
+
+-- what a text is that is no scenario, and for which part; of a scenario these words are said
+abbrev pub words_by : TextKind → List ℕ → List ℕ
+words_by Scenario words = words
+words_by Orders words = codes "has [[setup]] or [ask]: a text for lab orders"
+words_by Callers words = codes "has staxes or words of callers: a text for lab callers"
+words_by Bank words = codes "has [[callback]]: a bank, for --bank"
+
+-- the words of what is wrong in a text of a kind that is played as a scenario
+abbrev pub kinded_words : TextKind → Fault → Option (List ℕ)
+kinded_words kind fault = option_map (words_by kind) (fault_words fault)
 
 -- the status of texts that were gone through
 abbrev pub status_of : Bool → ℕ

@@ -7,13 +7,15 @@ use Rattle.evl_kernel.specs.state.States.{Handler}
 use Rattle.evl_scenario.specs.Lines.{line_feed}
 use Rattle.evl_scenario.specs.declared.faults.Fault.{Fault}
 use Rattle.evl_shell.specs.Runs.{trace_of}
+use Rattle.lab_kinds.specs.Kinds.{kind_of}
+use Rattle.lab_kinds.specs.declared.kinds.TextKind.{TextKind}
 use Rattle.lab_traces.specs.Lines.{Said, line_read}
 use Rattle.lab_traces.specs.Says.{IsLine, IsMisread, whole_lines}
 use Rattle.lab_reports.specs.Differences.{IsDifference}
 use Rattle.lab_reports.specs.Json.{trace_json}
 use Rattle.lab_reports.specs.declared.differences.Difference.{Difference}
 use Rattle.lab.specs.Banks.{IsBank, Refuses}
-use Rattle.lab.specs.Endings.{fault_words, line_about, status_of}
+use Rattle.lab.specs.Endings.{kinded_words, line_about, status_of}
 use Rattle.lab.specs.Texts.{IsReadOf, is_input, names_or_input, text_in}
 use Rattle.lab.specs.declared.words.Playing.{Playing}
 use Rattle.lab.specs.declared.words.Telling.{Telling}
@@ -88,15 +90,15 @@ TellsTrace Trace name trace told = told ≡ ends_well name trace
 TellsTrace Json name trace told = (json : List ℕ) × IsJsonOf name (text_in trace) json × (told ≡ ends_well name json)
 TellsTrace (Against folder) name trace told = (stored : Option (List ℕ)) × Compares name folder.now stored (text_in trace) told
 
--- of a text that has a trace, or is refused for a fault
-abbrev pub TellsPlayed : Telling → List ℕ → Result (List ℕ) Fault → Told → Type 0
-TellsPlayed telling name (Ok trace) told = TellsTrace telling name trace told
-TellsPlayed telling name (Err e) told = IsSomeAnd (fault_words e) (λ words. told ≡ ends_ill name [] words)
+-- of a text of a kind that has a trace, or is refused for a fault
+abbrev pub TellsPlayed : Telling → List ℕ → TextKind → Result (List ℕ) Fault → Told → Type 0
+TellsPlayed telling name kind (Ok trace) told = TellsTrace telling name trace told
+TellsPlayed telling name kind (Err e) told = IsSomeAnd (kinded_words kind e) (λ words. told ≡ ends_ill name [] words)
 
 -- of a file, over a bank and under a limit that may be handed in, by what was read of it
 abbrev pub TellsFile : Telling → List Handler → Option ℕ → List ℕ → Option (List ℕ) → Told → Type 0
 TellsFile telling bank limit name None told = told ≡ ends_ill name [] (codes "no file")
-TellsFile telling bank limit name (Some text) told = TellsPlayed telling name (trace_of bank limit text) told
+TellsFile telling bank limit name (Some text) told = TellsPlayed telling name (kind_of text) (trace_of bank limit text) told
 
 -- ---- several
 

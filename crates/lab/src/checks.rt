@@ -1,36 +1,55 @@
-//! `lab check`: the faults of scenarios, and the warnings of a dry run.
-ghost use Rattle.std.specs.Prelude.{◌≡◌, ◌++◌, List, [], ◌∷◌, ℕ, Bool, None, codes, is_err, map, option_map, string_bytes, true, IfOk, OnOk};
+//! `lab check`: the faults of texts by their kinds, and the warnings of a scenario's dry run.
+ghost use Rattle.std.specs.Prelude.{◌≡◌, ◌++◌, [], ◌∷◌, Bool, codes, map, option_map, string_bytes, true, IfOk, OnOk};
 ghost use Rattle.std.specs.Io.KnownBytes.{Appends};
 ghost use Rattle.evl_plans.specs.Told as callbacks;
-ghost use Rattle.evl_scenario.specs.Scenarios.{scenario_of};
-ghost use Rattle.lab.specs.Checks.{ChecksEach, ChecksUnlessRefused, TellsText};
+ghost use Rattle.lab.specs.Checks.{ChecksEach, ChecksUnlessRefused, PrintsText, TellsText, kind_warnings};
 ghost use Rattle.lab.specs.Endings as endings;
 
 use crate::banks::read_plans;
 use crate::statuses::{AT_FAULT, either, status_of};
 use evl_plans::Planned;
-use lab_faults::report;
+use lab_kinds::{TextKind, kind_of, report_kind};
 use lab_warnings::warnings;
 use std::alloc::{AllocError, Global};
 use std::fs;
 use std::io::{self, Write};
 use std::rt::Files;
 
-// Tells the faults of a text, or its warnings where it has none, and whether it has a fault.
+// Tells the warnings of a scenario without fault; a text of another kind has none.
+fn warn(
+    alloc: Global,
+    plans: &[Planned],
+    kind: TextKind,
+    name: &str,
+    text: &[u8],
+    told: &mut String,
+) -> Result<(), AllocError>
+    ensures { OnOk result (string_bytes told.new ≡ string_bytes told.old ++ kind_warnings (map callbacks.handler_of plans.now) kind name.now text.now) }
+{
+    match kind {
+        TextKind::Scenario => {
+            warnings(alloc, name, text, plans, told)?;
+            Ok(())
+        }
+        TextKind::Orders | TextKind::Callers | TextKind::Bank => Ok(()),
+    }
+}
+
+// Tells the faults of a text of a kind, or its warnings where it has none, and whether it has a fault.
 fn tell_faults(
     alloc: Global,
     plans: &[Planned],
+    kind: TextKind,
     name: &str,
     text: &[u8],
     told: &mut String,
 ) -> Result<bool, AllocError>
-    ensures answers { IfOk result (λ is_at_fault. is_at_fault ≡ is_err (scenario_of None text.now)) }
-    ensures told { OnOk result (TellsText (map callbacks.handler_of plans.now) name.now text.now (scenario_of None text.now) (string_bytes told.old) (string_bytes told.new)) }
+    ensures { IfOk result (TellsText (map callbacks.handler_of plans.now) kind name.now text.now (string_bytes told.old) (string_bytes told.new)) }
 {
-    if report(alloc, name, text, told)? {
+    if report_kind(alloc, kind, name, text, told)? {
         return Ok(true);
     }
-    warnings(alloc, name, text, plans, told)?;
+    warn(alloc, plans, kind, name, text, told)?;
     Ok(false)
 }
 
@@ -42,11 +61,11 @@ fn check_text<O: Write>(
     text: &[u8],
     out: &mut O,
 ) -> io::Result<bool>
-    ensures answers { IfOk result (λ is_at_fault. is_at_fault ≡ is_err (scenario_of None text.now)) }
-    ensures told { OnOk result ((printed : List ℕ) × TellsText (map callbacks.handler_of plans.now) name.now text.now (scenario_of None text.now) [] printed × Appends (O.contents out.old) (O.contents out.new) printed) }
+    ensures { IfOk result (PrintsText (map callbacks.handler_of plans.now) name.now text.now (O.contents out.old) (O.contents out.new)) }
 {
+    let kind = kind_of(alloc, text)?;
     let mut told = String::new(alloc);
-    let is_at_fault = tell_faults(alloc, plans, name, text, &mut told)?;
+    let is_at_fault = tell_faults(alloc, plans, kind, name, text, &mut told)?;
     out.write_all(told.as_bytes())?;
     Ok(is_at_fault)
 }

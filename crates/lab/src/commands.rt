@@ -28,7 +28,7 @@ fn checked_files<'a>(alloc: Global) -> Arg<'a>
         .required(true)
         .action(ArgAction::Append)
         .num_args(1..)
-        .help("The scenarios to check")
+        .help("The texts to check: scenarios, banks, and texts for orders or callers")
 }
 
 // The words of `check`.
@@ -36,7 +36,7 @@ fn check_command<'a>(alloc: Global) -> Result<Command<'a>, AllocError>
     ensures { IfOk result (IsPart check_part) }
 {
     let command = Command::new(alloc, "check").about(
-        "Tells every fault of scenarios, with its place, or else the warnings of a dry run",
+        "Tells every fault of texts of each kind, with its place, or else the warnings of a scenario's dry run",
     );
     let over_bank = command.arg(bank_word(alloc))?;
     let with_files = over_bank.arg(checked_files(alloc))?;

@@ -7,15 +7,17 @@ ghost use Rattle.lab_traces.specs.Says.{says_of};
 ghost use Rattle.lab_reports.specs.Json.{trace_json};
 ghost use Rattle.lab.specs.Banks.{IsBank};
 ghost use Rattle.lab.specs.Texts.{is_input, names_or_input};
+ghost use Rattle.lab_kinds.specs.Kinds.{kind_of};
 ghost use Rattle.lab.specs.Plays.{IsJsonOf, IsPlayed, Plays, PlaysEach, PlaysUnlessRefused, Tells, TellsPlayed, TellsTrace};
 
 use crate::banks::read_plans;
 use crate::compares::compare;
-use crate::endings::{tell_done, tell_fault, tell_refused};
+use crate::endings::{tell_done, tell_fault_by, tell_refused};
 use crate::statuses::{AT_FAULT, either, status_of};
 use crate::texts::{read_text, text_in};
 use crate::words::{Playing, Telling};
 use evl_plans::{Planned, trace_plans};
+use lab_kinds::kind_of;
 use lab_reports::write_json;
 use lab_traces::{Misread, TraceLine, read_lines};
 use std::alloc::{AllocError, Global};
@@ -104,11 +106,14 @@ fn play_text<R: Files + AllocGlobal, O: Write, E: Write>(
     err: &mut E,
 ) -> io::Result<bool>
     requires { length plans.now ≤ 64 }
-    ensures { IfOk result (Tells (TellsPlayed playing.entry.telling name.now (trace_of (map handler_of plans.now) playing.entry.limit text.now)) (O.contents out.old) (O.contents out.new) (E.contents err.old) (E.contents err.new)) }
+    ensures { IfOk result (Tells (TellsPlayed playing.entry.telling name.now (kind_of text.now) (trace_of (map handler_of plans.now) playing.entry.limit text.now)) (O.contents out.old) (O.contents out.new) (E.contents err.old) (E.contents err.new)) }
 {
     match trace_plans(rt.alloc(), plans, text, playing.limit) {
         Ok(trace) => tell_trace(rt, playing.telling, name, trace.as_slice(), out, err),
-        Err(fault) => tell_fault(err, name, fault),
+        Err(fault) => {
+            let kind = kind_of(rt.alloc(), text)?;
+            tell_fault_by(err, name, kind, fault)
+        }
     }
 }
 

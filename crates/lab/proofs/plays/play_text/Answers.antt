@@ -1,5 +1,6 @@
 use Rattle.std.proofs.Common.{◌∙◌, ℕ, List, Result, Ok, ap, sym, subst}
 use Rattle.evl_scenario.specs.declared.faults.Fault.{Fault}
+use Rattle.lab_kinds.specs.Kinds.{kind_of}
 use Rattle.lab.specs.Plays.{TellsPlayed}
 use Rattle.lab.proofs.PlayLemmas.{fault_told, told_as}
 use Rattle.lab.proofs.plays.play_text.Goals as goal
@@ -8,8 +9,9 @@ pub returns-in-Ok : goal.returns-in-Ok
 returns-in-Ok g c =
     let traced = c.in-Ok.ensures.traced ∙ ap (λ (t : List ℕ). Ok t) (sym c.as_slice.ensures.value) in
     told_as _ _ _ _ _ _ _ c.tell_trace.result
-    (λ told h. subst (λ (r : Result (List ℕ) Fault). TellsPlayed c.args.playing.telling c.args.name.now r told) (sym traced) h) c.tell_trace.ensures
+    (λ told h. subst (λ (r : Result (List ℕ) Fault). TellsPlayed c.args.playing.telling c.args.name.now (kind_of c.args.text.now) r told) (sym traced) h) c.tell_trace.ensures
 
-pub returns-in-Err : goal.returns-in-Err
-returns-in-Err g c =
-    fault_told _ _ c.args.name.now _ c.in-Err.fault _ _ _ c.tell_fault.result c.in-Err.ensures.refused c.tell_fault.ensures.answer c.tell_fault.ensures.line
+pub returns-in_ok-kind-in-Err : goal.returns-in_ok-kind-in-Err
+returns-in_ok-kind-in-Err g c =
+    rw (← c.in_ok-kind-in-Err.ensures)
+    (fault_told _ _ c.args.name.now _ _ c.in-Err.fault _ _ _ c.tell_fault_by.result c.in-Err.ensures.refused c.tell_fault_by.ensures.answer c.tell_fault_by.ensures.line)
