@@ -1,8 +1,7 @@
 //! What is looked at after a step, by the caller that has the kernel.
-ghost use Rattle.std.specs.Prelude.{◌≡◌, ⊤, IfOk, MatchOption, drop};
+ghost use Rattle.std.specs.Prelude.{◌≡◌, None, IfOk, MatchOption, drop};
 ghost use Rattle.std.specs.Option.{option_map_or};
-ghost use Rattle.lab_callers.specs.Views.{Sees};
-ghost use Rattle.evl_machine.specs.mutex_locks.InWord.{Agrees};
+ghost use Rattle.lab_callers.specs.Views.{Sees, SeesWord};
 ghost use Rattle.evl_sched.specs.Threads.{stage_of};
 
 use evl_base::{MutexId, Play, Stage, StaxId, ThreadId};
@@ -52,7 +51,7 @@ fn word_of<C: Handler, A: Allocator>(
     mutex: Option<MutexId>,
 ) -> Option<InWord>
     ensures same { held.new ≡ held.old }
-    ensures agrees { MatchOption mutex ⊤ (λ m. MatchOption result ⊤ (Agrees held.old.kernel.history.state m.0)) }
+    ensures word { MatchOption mutex (result ≡ None) (λ m. SeesWord held.old m.0 result) }
 {
     match mutex {
         Some(mutex) => held.in_word(mutex),
@@ -77,7 +76,7 @@ pub fn look<C: Handler, A: Allocator>(
     question: Question,
 ) -> Result<View, AllocError>
     ensures same { held.new ≡ held.old }
-    ensures seen { IfOk result (λ view. Sees held.old.kernel question view) }
+    ensures seen { IfOk result (λ view. Sees held.old question view) }
 {
     let word = word_of(held, question.mutex);
     let stage = stage_of(held, question.thread);
