@@ -19,7 +19,7 @@ use Rattle.evl_scenario.specs.declared.steps.Step.{Step}
 use Rattle.lab_traces.specs.Parts.{Lacks}
 use Rattle.lab_traces.specs.Says.{whole_lines}
 use Rattle.lab_live.specs.Answers.{Answers, Does, TellsScenario, comment_text, may_call, script_of, trimmed}
-use Rattle.lab_live.specs.Lines.{step_of_line}
+use Rattle.lab_lines.specs.Lines.{step_of_line}
 use Rattle.lab_live.specs.Sessions.{Driven, TellsEntry, TellsFull}
 use Rattle.lab_live.specs.States.{state_text}
 use Rattle.lab.specs.Endings.{fault_words, line_about}

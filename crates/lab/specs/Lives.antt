@@ -8,7 +8,7 @@ use Rattle.evl_scenario.specs.declared.faults.Fault.{Fault}
 use Rattle.lab_traces.specs.Parts.{Lacks}
 use Rattle.lab_traces.specs.Says.{whole_lines}
 use Rattle.lab_live.specs.Answers.{Does, GoesOn, TellsScenario, comment_text, may_call, script_of, trimmed}
-use Rattle.lab_live.specs.Lines.{step_of_line}
+use Rattle.lab_lines.specs.Lines.{step_of_line}
 use Rattle.lab_live.specs.Sessions.{Driven, Opens}
 use Rattle.lab_live.specs.States.{state_text}
 use Rattle.lab.specs.Banks.{IsBank, Refuses}

@@ -5,7 +5,3 @@ mod GrowthLaws
 mod LineLaws
 mod AnswerLaws
 mod StateLaws
-mod LastLaws
-mod PairLaws
-mod WordLaws
-mod HeardLaws

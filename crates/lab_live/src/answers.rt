@@ -3,14 +3,14 @@ ghost use Rattle.std.specs.Prelude.{◌≡◌, ◌<◌, ◌+◌, ◌++◌, ◌�
 ghost use Rattle.std.specs.Str.{is_utf8};
 ghost use Rattle.lab_live.specs.Answers as answers;
 ghost use Rattle.lab_live.specs.Answers.{Answers, Does, GoesOn, Makes, MayGoOn, TellsScenario, comment_text, may_call, script_of};
-ghost use Rattle.lab_live.specs.Lines.{step_of_line, unread_text};
+ghost use Rattle.lab_lines.specs.Lines.{step_of_line, unread_text};
 ghost use Rattle.lab_live.specs.States.{state_text};
 
 use crate::helps::{write_help, write_help_of};
-use crate::lines::{Heard, Unread, read_step_line};
 use crate::session::Session;
 use crate::states::write_state;
 use evl_scenario::{Step, Unwritten};
+use lab_lines::{Heard, Unread, read_step_line};
 use std::alloc::{AllocError, Global};
 
 // Writes the scenario of all that was asked so far.
@@ -154,8 +154,11 @@ fn answer_other(
         b"" => Ok(()),
         [b'#', ..] => write_comment(told, text),
         b"?" => write_help(told),
+        b"help" => write_help(told),
         b"ps" => write_state(told, session),
         b"scenario" => write_own_scenario(alloc, told, session),
+        b"save" => write_own_scenario(alloc, told, session),
+        b"quit" => told.push_str("Ctrl-D ends\n"),
         [b'?', b' ', word @ ..] => {
             let name = std::str::from_utf8(word).unwrap_or("");
             write_help_of(alloc, told, name)

@@ -4,10 +4,7 @@
 
 mod answers;
 mod helps;
-mod lines;
-mod places;
 mod session;
-mod small;
 mod states;
 
 pub use answers::answer_line;

@@ -1,6 +1,0 @@
-use Rattle.std.proofs.Common.{◌≡◌, drop}
-use Rattle.lab_live.specs.Lines.{pairs_of, with_rest}
-use Rattle.lab_live.proofs.places.pairs_in.Given as goal
-
-abbrev pub invariant-loop-word : goal.invariant-loop-word
-invariant-loop-word l = with_rest l.line l.pairs.items (drop l.word-index l.words) ≡ pairs_of l.line l.words

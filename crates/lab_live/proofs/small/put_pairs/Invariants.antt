@@ -1,6 +1,0 @@
-use Rattle.std.proofs.Common.{◌≡◌, ◌++◌, flat_map, take}
-use Rattle.lab_live.specs.Lines.{pair_line_of}
-use Rattle.lab_live.proofs.small.put_pairs.Given as goal
-
-abbrev pub invariant-loop-pair : goal.invariant-loop-pair
-invariant-loop-pair l = l.text.items ≡ l.initial.text.items ++ flat_map (pair_line_of l.line) (take l.pair-index l.pairs)
