@@ -1,18 +1,19 @@
 -- The faults of a text for all orders: those of the scenario in it, in its own places, and those of what is asked.
-use Rattle.std.specs.Prelude.{◌≡◌, ℕ, nat_le, nat_lt, Bool, true, false, ◌&&◌, ◌||◌, List, [], ◌∷◌, ◌++◌, codes, count_by, flat_map, length, if◌then◌else◌, Option, None, Some, Err, is_ok, is_some}
+use Rattle.std.specs.Prelude.{◌≡◌, ℕ, nat_le, nat_lt, Bool, true, false, ◌&&◌, ◌||◌, List, [], ◌∷◌, ◌++◌, codes, count_by, flat_map, length, if◌then◌else◌, Option, None, Some, Err, is_ok, is_some, option_and_then, option_map}
 use Rattle.std.specs.List.{list_any}
 use Rattle.std.specs.Option.{option_or}
-use Rattle.std.specs.Str.{bytes_eq, is_utf8}
+use Rattle.std.specs.Str.{bytes_eq, is_utf8, trim, trim_start}
 use Rattle.std.specs.Str.Lines.{lines}
 use Rattle.toml.specs.Parse.{parse_document}
 use Rattle.evl_scenario.specs.Lines.{line_feed}
 use Rattle.evl_scenario.specs.Scenarios.{scenario_of}
+use Rattle.evl_scenario.specs.Values.{past_front}
 use Rattle.evl_scenario.specs.declared.faults.Fault.{Fault}
 use Rattle.evl_scenario.specs.declared.faults.Fault.TheVariants.{Board}
 use Rattle.lab_faults.specs.Checks.{FindsText, Tells}
 use Rattle.lab_faults.specs.Keys.{text_headings, text_keys}
 use Rattle.lab_faults.specs.Pieces.{pieces}
-use Rattle.lab_faults.specs.Steps.{is_among, name_between, number_of, text_between}
+use Rattle.lab_faults.specs.Steps.{is_among, name_between, number_of}
 use Rattle.lab_faults.specs.Told.{Told, told_at}
 use Rattle.lab_faults.specs.Wants.{hint_text}
 use Rattle.lab_faults.specs.declared.items.Heading.{Heading}
@@ -78,13 +79,13 @@ caller_of text setup item =
 unfoldable pub callers_of : List ℕ → ℕ → List (List ℕ)
 callers_of text setup = flat_map (caller_of text setup) (text_keys text)
 
--- what a text at `never` begins with: a caller and an arrow
-abbrev pub caller_front : List ℕ → List ℕ
-caller_front who = codes "T" ++ (who ++ codes " -> ")
+-- the answer behind an arrow, without the white space around either
+abbrev pub behind_arrow : List ℕ → Option (List ℕ)
+behind_arrow text = option_map trim (past_front (codes "->") (trim_start text))
 
--- the answer behind that of this caller, and of the first of these
+-- a text at `never` is a caller and then that: the answer in a text of this caller, and of the first of these
 abbrev pub answer_by : List ℕ → List ℕ → Option (List ℕ)
-answer_by name who = if begins (caller_front who) name then Some (text_between name (length (caller_front who), length name)) else None
+answer_by name who = option_and_then behind_arrow (past_front (codes "T" ++ who) (trim_start name))
 
 abbrev pub answer_of : List ℕ → List (List ℕ) → Option (List ℕ)
 answer_of name [] = None

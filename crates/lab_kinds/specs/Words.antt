@@ -50,7 +50,7 @@ own_keys word =
 
 -- the keys of `[ask]`, of a callback, and of its rows
 unfoldable pub ask_keys : List (List ℕ)
-ask_keys = codes "never" ∷ codes "always_ends" ∷ codes "as_picked" ∷ []
+ask_keys = codes "never" ∷ codes "always_ends" ∷ codes "ends_waits" ∷ codes "as_picked" ∷ []
 
 unfoldable pub callback_keys : List (List ℕ)
 callback_keys = codes "accepts" ∷ codes "do" ∷ []
@@ -67,7 +67,7 @@ abbrev pub is_list_key : List ℕ → Bool
 is_list_key key = bytes_eq key (codes "never") || bytes_eq key (codes "do")
 
 abbrev pub is_truth_key : List ℕ → Bool
-is_truth_key key = bytes_eq key (codes "always_ends") || bytes_eq key (codes "as_picked")
+is_truth_key key = bytes_eq key (codes "always_ends") || (bytes_eq key (codes "ends_waits") || bytes_eq key (codes "as_picked"))
 
 abbrev pub is_count_key : List ℕ → Bool
 is_count_key key = bytes_eq key (codes "accepts") || bytes_eq key (codes "every")

@@ -1,5 +1,5 @@
 //! The faults of what is asked of all orders.
-ghost use Rattle.std.specs.Prelude.{◌≡◌, ◌++◌, flat_map, map, option_map, string_bytes, IfOk, OnOk};
+ghost use Rattle.std.specs.Prelude.{◌≡◌, ◌++◌, flat_map, codes, map, option_map, string_bytes, IfOk, OnOk};
 ghost use Rattle.std.specs.List.{list_any};
 ghost use Rattle.lab_faults.specs.Told.{Adds};
 ghost use Rattle.lab_kinds.specs.Orders as orders;
@@ -10,8 +10,9 @@ use crate::tables::check_field;
 use crate::words::{ask_keys, is_word};
 use evl_scenario::Fault;
 use lab_faults::{
-    Finding, Item, Token, is_among, items_of, named, near_text, number_of, shown, tokens_of,
+    Finding, Item, Token, is_among, items_of, named, near_text, number_of, tokens_of,
 };
+use lab_scenario_orders::past;
 use std::alloc::{AllocError, Global};
 
 const PLAIN_ANSWERS: [&str; 5] = ["done", "begun", "timed out", "thread none", "next none"];
@@ -77,24 +78,32 @@ pub fn callers_of<'a>(
     callers_in(alloc, text, setup, items.items.as_slice())
 }
 
-// What a text of a caller begins with.
-fn caller_front(alloc: Global, who: &str) -> Result<String, AllocError>
-    ensures { IfOk result (λ front. string_bytes front ≡ orders.caller_front who.now) }
+// What a caller is called.
+fn caller_name(alloc: Global, who: &str) -> Result<String, AllocError>
+    ensures { IfOk result (λ name. string_bytes name ≡ codes "T" ++ who.now) }
 {
-    format!(in alloc; "T{who} -> ")
+    format!(in alloc; "T{who}")
+}
+
+// The answer behind an arrow.
+fn behind_arrow(text: &str) -> Option<&str>
+    ensures { option_map (λ answer. answer.now) result ≡ orders.behind_arrow text.now }
+{
+    match past("->", text.trim_start()) {
+        Some(answer) => Some(answer.trim()),
+        None => None,
+    }
 }
 
 // The answer in a text of this caller.
 fn answer_by<'a>(alloc: Global, name: &'a str, who: &str) -> Result<Option<&'a str>, AllocError>
     ensures { IfOk result (λ answer. option_map (λ text. text.now) answer ≡ orders.answer_by name.now who.now) }
 {
-    let front = caller_front(alloc, who)?;
-    let front = front.as_str().as_bytes();
-    let bytes = name.as_bytes();
-    if begins(front, bytes) {
-        return Ok(Some(shown(bytes, (front.len(), bytes.len()))));
+    let caller = caller_name(alloc, who)?;
+    match past(caller.as_str(), name.trim_start()) {
+        Some(rest) => Ok(behind_arrow(rest)),
+        None => Ok(None),
     }
-    Ok(None)
 }
 
 // The answer in a text of one of these callers.

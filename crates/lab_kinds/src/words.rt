@@ -21,7 +21,7 @@ const PASS_KEYS: [&str; 2] = ["who", "pass"];
 
 const CORE_KEYS: [&str; 1] = ["who"];
 
-const ASK_KEYS: [&str; 3] = ["never", "always_ends", "as_picked"];
+const ASK_KEYS: [&str; 4] = ["never", "always_ends", "ends_waits", "as_picked"];
 
 const CALLBACK_KEYS: [&str; 2] = ["accepts", "do"];
 
@@ -110,7 +110,7 @@ fn is_list_key(key: &str) -> bool
 fn is_truth_key(key: &str) -> bool
     ensures { result ≡ words.is_truth_key key.now }
 {
-    matches!(key, "always_ends" | "as_picked")
+    matches!(key, "always_ends" | "ends_waits" | "as_picked")
 }
 
 fn is_count_key(key: &str) -> bool

@@ -35,6 +35,7 @@ pub use moments::Moment;
 pub use outcomes::{Outcomes, is_stuck, outcomes_of};
 pub use reports::write_report;
 pub use scenarios::scenario_of;
+pub use searches::past;
 pub use seen::SeenState;
 pub use splits::{Split, is_asked, is_setup, split_text};
 pub use texts::{TextFault, read_callers};

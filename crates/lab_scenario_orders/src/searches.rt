@@ -51,7 +51,7 @@ pub(crate) fn begins(front: &[u8], text: &[u8]) -> bool
 }
 
 /// What stands behind this front part of a text, as text.
-pub(crate) fn past<'a>(front: &str, text: &'a str) -> Option<&'a str>
+pub fn past<'a>(front: &str, text: &'a str) -> Option<&'a str>
     ensures { option_map (λ rest. rest.now) result ≡ past_front front.now text.now }
 {
     match text.strip_prefix(front) {
