@@ -20,8 +20,8 @@ pub struct Split {
     pub ask: String,
 }
 
-// A line without the comment behind it and the spaces around it.
-fn bare(line: &str) -> &str
+/// A line without the comment behind it and the spaces around it.
+pub(crate) fn bare(line: &str) -> &str
     ensures { result.now ≡ bare line.now }
 {
     match line.split_once('#') {
@@ -71,8 +71,8 @@ fn is_ask(line: &str) -> bool
     is_head(line, "[", "ask", "]")
 }
 
-// Whether a line is in a table `[ask]`, where the one before it was or was not.
-fn is_asked(was: bool, line: &str) -> bool
+/// Whether a line is in a table `[ask]`, where the one before it was or was not.
+pub(crate) fn is_asked(was: bool, line: &str) -> bool
     ensures { result ≡ is_asked was line.now }
 {
     if begins(b"[", bare(line).as_bytes()) {
