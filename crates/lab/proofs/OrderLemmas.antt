@@ -3,22 +3,32 @@ use Rattle.std.proofs.Common.{◌≡◌, ◌⊎◌, inr, List, ℕ, Option, Resu
 use Rattle.std.specs.Prelude.{position, string_bytes}
 use Rattle.evl_kernel.specs.state.States.{Handler}
 use Rattle.lab_orders.specs.declared.tallies.Tally.{Tally}
+use Rattle.lab_scenario_orders.specs.Answers.{first_impossible}
 use Rattle.lab_scenario_orders.specs.Asks.{is_against}
 use Rattle.lab_scenario_orders.specs.Reports.{report_text}
 use Rattle.lab_scenario_orders.specs.declared.asks.Ask.{Ask}
 use Rattle.lab_scenario_orders.specs.declared.callers.Callers.{Callers}
 use Rattle.lab_scenario_orders.specs.declared.outcomes.Outcomes.{Outcomes}
 use Rattle.lab.specs.Banks.{IsBank, Refuses}
-use Rattle.lab.specs.Orders.{first_against, report_of}
+use Rattle.lab_scenario_orders.specs.Scenarios.{order_scenario}
+use Rattle.lab.specs.Orders.{first_against, impossible_in, report_of, scenario_of}
 use Rattle.lab.specs.Outputs.{Output, WritesOfText, WritesOverBank}
 
 pub report_is : (c : Callers) (found : Outcomes) → report_text c found ≡ report_of c found
 unfolding report_of
 report_is c found = refl
 
+pub scenario_is : (c : Callers) (outcome : Tally) → order_scenario c outcome.order.items ≡ scenario_of c outcome
+unfolding scenario_of
+scenario_is c outcome = refl
+
 pub against_is : (asks : Ask) (outcomes : List Tally) → position (λ outcome. is_against asks (string_bytes outcome.told)) outcomes ≡ first_against asks outcomes
 unfolding first_against
 against_is asks outcomes = refl
+
+pub impossible_is : (c : Callers) (asks : Ask) → first_impossible c.steps.items asks.never.items ≡ impossible_in c asks
+unfolding impossible_in
+impossible_is c asks = refl
 
 -- over a bank that is read with nothing said
 pub over_bank : (E : Type 0) (Is : List Handler → Option (List ℕ) → Output → Type 0) (plans file known old new quiet between spoken : Option (List ℕ)) (bank : List Handler) (r : Result ℕ E)

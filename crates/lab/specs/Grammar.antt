@@ -59,7 +59,8 @@ unfoldable pub live_part : Shape
 live_part = part (codes "live") (bank_rule ∷ limit_rule ∷ file_rule ∷ [])
 
 unfoldable pub orders_part : Shape
-orders_part = part (codes "orders") (bank_rule ∷ number_rule (codes "most") (pos 100000000) ∷ file_rule ∷ [])
+orders_part =
+    part (codes "orders") (bank_rule ∷ number_rule (codes "most") (pos 100000000) ∷ number_rule (codes "outcome") (pos 1000000) ∷ file_rule ∷ [])
 
 unfoldable pub callers_part : Shape
 callers_part = part (codes "callers") (bank_rule ∷ limit_rule ∷ file_rule ∷ [])

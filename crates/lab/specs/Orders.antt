@@ -1,17 +1,24 @@
 -- What `lab orders` tells of the orders of callers.
-use Rattle.std.specs.Prelude.{◌≡◌, ◌⊎◌, ◌+◌, ◌-◌, ◌^◌, min, ℕ, Bool, ◌||◌, nat_lt, if◌then◌else◌, List, ◌++◌, codes, length, decimal, position, string_bytes, Option, Some, None, IsSomeAnd, option_and_then, option_map, unwrap_or}
+use Rattle.std.specs.Prelude.{◌≡◌, ◌⊎◌, ◌+◌, ◌-◌, ◌^◌, min, ℕ, Bool, ◌||◌, nat_lt, false, MatchBool, if◌then◌else◌, List, ◌++◌, codes, length, decimal, position, slice_get, string_bytes, Option, Some, None, IsSomeAnd, option_and_then, option_map, unwrap_or}
 use Rattle.toml.specs.Parse.{parse_document}
 use Rattle.evl_kernel.specs.state.States.{Handler}
 use Rattle.lab_orders.specs.declared.tallies.Tally.{Tally}
+use Rattle.lab_scenario_orders.specs.Answers.{first_impossible, near_answer}
 use Rattle.lab_scenario_orders.specs.Asks.{AreOfCallers, Asks, ask_table, is_against}
 use Rattle.lab_scenario_orders.specs.Callers.{IsRefused, IsSetUp}
+use Rattle.lab_scenario_orders.specs.KeyLines.{IsPlaced}
+use Rattle.lab_scenario_orders.specs.Leaving.{AreLeaving}
 use Rattle.lab_scenario_orders.specs.Outcomes.{AreOutcomes}
 use Rattle.lab_scenario_orders.specs.Reports.{report_text}
+use Rattle.lab_scenario_orders.specs.Scenarios.{order_scenario}
 use Rattle.lab_scenario_orders.specs.Shares.{AreCallersOf}
 use Rattle.lab_scenario_orders.specs.Splits.{ask_part}
 use Rattle.lab_scenario_orders.specs.declared.asks.Ask.{Ask}
 use Rattle.lab_scenario_orders.specs.declared.asks.AskFault.{AskFault}
 use Rattle.lab_scenario_orders.specs.declared.asks.AskFault.TheVariants as ask
+use Rattle.lab_scenario_orders.specs.declared.asks.AskKey.{AskKey}
+use Rattle.lab_scenario_orders.specs.declared.asks.AskKey.TheVariants as key
+use Rattle.lab_scenario_orders.specs.declared.asks.Never.{Never}
 use Rattle.lab_scenario_orders.specs.declared.callers.Callers.{Callers}
 use Rattle.lab_scenario_orders.specs.declared.outcomes.Outcomes.{Outcomes}
 use Rattle.lab_scenario_orders.specs.declared.texts.TextFault.{TextFault}
@@ -31,13 +38,20 @@ first_against asks outcomes = position (λ outcome. is_against asks (string_byte
 unfoldable pub report_of : Callers → Outcomes → List ℕ
 report_of callers found = report_text callers found
 
+-- the first order that leads to an outcome, as a scenario
+unfoldable pub scenario_of : Callers → Tally → List ℕ
+scenario_of callers outcome = order_scenario callers outcome.order.items
+
 -- ---- what came of what is asked
 
 abbrev pub is_asked : Ask → Bool
-is_asked asks = asks.always_ends || nat_lt 0 (length asks.never.items)
+is_asked asks = (asks.always_ends || asks.ends_waits) || nat_lt 0 (length asks.never.items)
 
 abbrev pub ends_words : Ask → List ℕ
-ends_words asks = if asks.always_ends then codes "always_ends, " else codes ""
+ends_words asks =
+    if asks.always_ends
+    then (if asks.ends_waits then codes "always_ends, ends_waits, " else codes "always_ends, ")
+    else (if asks.ends_waits then codes "ends_waits, " else codes "")
 
 abbrev pub picked_words : Ask → List ℕ
 picked_words asks = if asks.as_picked then codes " as threads are picked" else codes ""
@@ -67,17 +81,31 @@ abbrev pub asked_status : Ask → Outcomes → Option ℕ → ℕ
 asked_status asks found None = none_status asks found
 asked_status asks found (Some place) = 1
 
-abbrev pub outcomes_told : List ℕ → Callers → Ask → Outcomes → Output
-outcomes_told name callers asks found = record {
+-- the report, and what came of what is asked
+abbrev pub report_told : List ℕ → Callers → Ask → Outcomes → Option ℕ → Output
+report_told name callers asks found place = record {
   printed = report_of callers found;
-  said = asked_text name asks found (first_against asks found.all.items);
-  status = asked_status asks found (first_against asks found.all.items);
+  said = asked_text name asks found place;
+  status = asked_status asks found place;
 }
 
+-- or the scenario of the outcome with this number alone, if there is one
+abbrev pub scenario_told : List ℕ → ℕ → Callers → Ask → Outcomes → Option ℕ → Option Tally → Output
+scenario_told name number callers asks found place None = refuses 2 (line_about name (codes "there is no outcome " ++ decimal number))
+scenario_told name number callers asks found place (Some outcome) = record {
+  printed = scenario_of callers outcome;
+  said = asked_text name asks found place;
+  status = asked_status asks found place;
+}
+
+abbrev pub outcomes_told : Option ℕ → List ℕ → Callers → Ask → Outcomes → Option ℕ → Output
+outcomes_told None name callers asks found place = report_told name callers asks found place
+outcomes_told (Some number) name callers asks found place = scenario_told name number callers asks found place (slice_get found.all.items (number - 1))
+
 -- the outcomes of all orders, or that there are more of these than can be counted
-abbrev pub TellsOutcomes : List Handler → ℕ → List ℕ → Callers → Ask → Output → Type 0
-TellsOutcomes bank most name callers asks output =
-    ((found : Outcomes) × AreOutcomes callers bank most found × (output ≡ outcomes_told name callers asks found))
+abbrev pub TellsOutcomes : List Handler → ℕ → Option ℕ → List ℕ → Callers → Ask → Output → Type 0
+TellsOutcomes bank most one name callers asks output =
+    ((found : Outcomes) × AreOutcomes callers bank most found × (output ≡ outcomes_told one name callers asks found (first_against asks found.all.items)))
     ⊎ (output ≡ refuses 2 (line_about name (codes "more orders than can be counted")))
 
 -- ---- what is asked
@@ -87,26 +115,57 @@ pub record AsksOf (text : List ℕ) (callers : Callers) (asks : Ask) : Type 0 wh
   pub asked : IsSomeAnd (option_and_then ask_table (parse_document (ask_part text))) (λ table. Asks table asks)
   pub who : AreOfCallers callers.callers.items asks.never.items
 
--- the same callers, set to what is asked: whether steps are made as threads are picked
-pub record IsSetTo (read : Callers) (asks : Ask) (set : Callers) : Type 0 where
+-- the same callers, of whom no step is made only as threads are picked
+pub record IsUnpicked (read set : Callers) : Type 0 where
   pub board : set.board ≡ read.board
   pub limit : set.limit ≡ read.limit
-  pub as_picked : set.as_picked ≡ asks.as_picked
+  pub as_picked : set.as_picked ≡ false
   pub setup : set.setup ≡ read.setup
   pub steps : set.steps ≡ read.steps
   pub callers : set.callers ≡ read.callers
 
+-- the callers, set to what is asked: where steps are made as threads are picked, callers leave at last
+abbrev pub IsSetTo : Callers → Ask → Callers → Type 0
+IsSetTo read asks set = MatchBool asks.as_picked (AreLeaving read set) (IsUnpicked read set)
+
+-- what is said of a key that can't be asked
+abbrev pub key_words : AskKey → List ℕ
+key_words key.Never = codes "never is a list of texts"
+key_words key.AlwaysEnds = codes "always_ends is true or false"
+key_words key.EndsWaits = codes "ends_waits is true or false"
+key_words key.AsPicked = codes "as_picked is true or false"
+key_words key.Other = codes "[ask] has never, always_ends, ends_waits and as_picked"
+
 abbrev pub ask_fault_line : List ℕ → AskFault → Option (List ℕ)
-ask_fault_line name ask.Table = Some (line_about name (codes "[ask] has never, a list of texts, and always_ends and as_picked"))
+ask_fault_line name ask.Table = Some (line_about name (codes "[ask] isn't one table of TOML"))
+ask_fault_line name (ask.Key key None) = Some (line_about name (key_words key))
+ask_fault_line name (ask.Key key (Some line)) = Some (name ++ (codes ": line " ++ (decimal line ++ (codes ": " ++ (key_words key ++ codes "\n")))))
 ask_fault_line name (ask.Never number) =
-    Some (codes "lab: " ++ (name ++ (codes ": [ask]: text " ++ (decimal number ++ codes " of never isn't a caller and one answer, as \"T1 -> timed out\"\n"))))
+    Some (name ++ (codes ": [ask]: text " ++ (decimal number ++ codes " of never isn't a caller and one answer, as \"T1 -> timed out\"\n")))
 ask_fault_line name ask.Memory = None
 
--- the outcomes of the callers that are set to it; or it can't be read, for some fault
-abbrev pub TellsAsked : List Handler → ℕ → List ℕ → Callers → List ℕ → Output → Type 0
-TellsAsked bank most name callers text output =
-    ((asks : Ask) × AsksOf text callers asks × (set : Callers) × IsSetTo callers asks set × TellsOutcomes bank most name set asks output)
-    ⊎ ((fault : AskFault) × IsSomeAnd (ask_fault_line name fault) (λ line. output ≡ refuses 2 line))
+-- the first answer of `never` that no step of its caller can have
+unfoldable pub impossible_in : Callers → Ask → Option Never
+impossible_in callers asks = first_impossible callers.steps.items asks.never.items
+
+-- such an answer, with what may be meant
+abbrev pub impossible_text : List ℕ → Never → Option (List ℕ) → List ℕ
+impossible_text name never None =
+    name ++ (codes ": [ask]: " ++ (string_bytes never.who ++ (codes " is never answered \"" ++ (string_bytes never.answer ++ codes "\"\n"))))
+impossible_text name never (Some word) =
+    name ++ (codes ": [ask]: " ++ (string_bytes never.who ++ (codes " is never answered \"" ++ (string_bytes never.answer
+    ++ (codes "\"; did you mean \"" ++ (word ++ codes "\"?\n"))))))
+
+-- the outcomes of the callers that are set to what is asked, where each answer of `never` is possible
+abbrev pub TellsPossible : List Handler → ℕ → Option ℕ → List ℕ → Callers → Ask → Option Never → Output → Type 0
+TellsPossible bank most one name callers asks None output = (set : Callers) × IsSetTo callers asks set × TellsOutcomes bank most one name set asks output
+TellsPossible bank most one name callers asks (Some never) output = output ≡ refuses 2 (impossible_text name never (near_answer callers.steps.items never))
+
+-- what is asked; or it can't be read, for some fault
+abbrev pub TellsAsked : List Handler → ℕ → Option ℕ → List ℕ → Callers → List ℕ → Output → Type 0
+TellsAsked bank most one name callers text output =
+    ((asks : Ask) × AsksOf text callers asks × TellsPossible bank most one name callers asks (impossible_in callers asks) output)
+    ⊎ ((fault : AskFault) × IsPlaced text fault × IsSomeAnd (ask_fault_line name fault) (λ line. output ≡ refuses 2 line))
 
 -- ---- the text
 
@@ -120,15 +179,15 @@ text_fault_words (Scenario fault) = fault_words fault
 text_fault_words Mixed = Some (codes "a [[setup]] behind a [[step]]")
 text_fault_words Limit = Some (codes "more steps than the limit")
 
-abbrev pub TellsText : List Handler → ℕ → List ℕ → List ℕ → Output → Type 0
-TellsText bank most name text output =
-    ((callers : Callers) × AreCallersIn text callers × TellsAsked bank most name callers text output)
+abbrev pub TellsText : List Handler → ℕ → Option ℕ → List ℕ → List ℕ → Output → Type 0
+TellsText bank most one name text output =
+    ((callers : Callers) × AreCallersIn text callers × TellsAsked bank most one name callers text output)
     ⊎ ((fault : TextFault) × IsRefused text fault × IsSomeAnd (text_fault_words fault) (λ words. output ≡ refuses 2 (line_about name words)))
 
 -- of a file, by what was read of it
-abbrev pub TellsRead : List Handler → ℕ → List ℕ → Option (List ℕ) → Output → Type 0
-TellsRead bank most name None output = output ≡ refuses 2 (line_about name (codes "no file"))
-TellsRead bank most name (Some text) output = TellsText bank most name text output
+abbrev pub TellsRead : List Handler → ℕ → Option ℕ → List ℕ → Option (List ℕ) → Output → Type 0
+TellsRead bank most one name None output = output ≡ refuses 2 (line_about name (codes "no file"))
+TellsRead bank most one name (Some text) output = TellsText bank most one name text output
 
 -- ---- what the words ask
 
@@ -140,4 +199,4 @@ text_name asked = unwrap_or (option_map (λ file. file.now) asked.file) (codes "
 abbrev pub TellsOrders : Asked → Option (List ℕ) → Option (List ℕ) → Option (List ℕ) → Option (List ℕ) → Option (List ℕ) → ℕ → Type 0
 TellsOrders asked known old new quiet spoken status =
     Refuses (option_map (λ file. file.now) asked.bank) old new status
-    ⊎ WritesOverBank (λ bank. TellsRead bank asked.most (text_name asked)) (option_map (λ file. file.now) asked.bank) (option_map (λ file. file.now) asked.file) known old new quiet spoken status
+    ⊎ WritesOverBank (λ bank. TellsRead bank asked.most asked.outcome (text_name asked)) (option_map (λ file. file.now) asked.bank) (option_map (λ file. file.now) asked.file) known old new quiet spoken status

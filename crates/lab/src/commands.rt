@@ -289,6 +289,17 @@ fn most_word<'a>(alloc: Global) -> Arg<'a>
         )
 }
 
+// The outcome whose scenario is printed.
+fn outcome_word<'a>(alloc: Global) -> Arg<'a>
+    ensures { IsWord (number_rule (codes "outcome") (pos 1000000)) result }
+{
+    Arg::new(alloc, "outcome")
+        .long("outcome")
+        .value_name("N")
+        .value_parser(to_a_million())
+        .help("Prints the scenario of the outcome with this number alone, for lab draw or ./evl")
+}
+
 // The words of `orders`.
 fn orders_command<'a>(alloc: Global) -> Result<Command<'a>, AllocError>
     ensures { IfOk result (IsPart orders_part) }
@@ -298,7 +309,8 @@ fn orders_command<'a>(alloc: Global) -> Result<Command<'a>, AllocError>
     );
     let over_bank = command.arg(bank_word(alloc))?;
     let with_most = over_bank.arg(most_word(alloc))?;
-    let with_file = with_most.arg(callers_file(alloc))?;
+    let with_outcome = with_most.arg(outcome_word(alloc))?;
+    let with_file = with_outcome.arg(callers_file(alloc))?;
     Ok(with_file)
 }
 

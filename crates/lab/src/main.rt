@@ -10,6 +10,7 @@ mod draws;
 mod endings;
 mod helps;
 mod lives;
+mod order_faults;
 mod orders;
 mod parts;
 mod plays;

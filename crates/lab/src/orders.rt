@@ -1,21 +1,22 @@
 //! `lab orders`: every order in which the callers of a scenario may come.
-ghost use Rattle.std.specs.Prelude.{◌≡◌, map, option_map, IfOk, OnOk, IsSomeAnd};
+ghost use Rattle.std.specs.Prelude.{◌≡◌, ◌-◌, ◌++◌, codes, decimal, map, option_map, slice_get, IfOk, OnOk};
 ghost use Rattle.std.specs.Io.KnownBytes.{Appends};
 ghost use Rattle.evl_plans.specs.Told.{handler_of};
 ghost use Rattle.lab.specs.Endings.{line_about};
-ghost use Rattle.lab.specs.Orders.{IsSetTo, TellsAsked, TellsOrders, TellsOutcomes, TellsRead, TellsText, ask_fault_line, asked_status, asked_text, ends_words, holds_text, is_asked, none_status, none_text, picked_words, report_of, text_fault_words, text_name, unanswered_text};
+ghost use Rattle.lab.specs.Orders.{IsSetTo, IsUnpicked, TellsAsked, TellsOrders, TellsOutcomes, TellsPossible, TellsRead, TellsText, asked_status, asked_text, ends_words, holds_text, impossible_in, is_asked, none_status, none_text, outcomes_told, picked_words, report_of, report_told, scenario_of, scenario_told, text_name, unanswered_text};
 ghost use Rattle.lab.specs.Outputs.{Writes, WritesOfText};
 
 use crate::banks::read_plans;
-use crate::endings::{tell_fault, tell_refused};
+use crate::endings::tell_refused;
+use crate::order_faults::{tell_ask_fault, tell_impossible, tell_text_fault};
 use crate::statuses::{AGAINST, AT_FAULT, UNANSWERED, refused};
 use crate::texts::read_text;
 use crate::words::Asked;
 use evl_plans::{Planned, copied_bank};
-use lab_orders::OrdersError;
+use lab_orders::{OrdersError, Tally};
 use lab_scenario_orders::{
-    Ask, AskFault, Asked as Answered, BankMaker, Callers, Outcomes, TextFault, ask_all, read_ask,
-    read_callers, write_report,
+    Ask, Asked as Answered, BankMaker, Callers, Never, Outcomes, ask_all, first_impossible,
+    leaving, read_ask, read_callers, scenario_of, write_report,
 };
 use std::alloc::{AllocError, Global};
 use std::io::{self, Read, Write};
@@ -40,55 +41,28 @@ impl<'a> BankMaker for Copies<'a> {
     }
 }
 
-// Tells why a text of callers is refused.
-fn tell_text_fault<E: Write>(err: &mut E, name: &str, fault: TextFault) -> io::Result<bool>
-    ensures { OnOk result (IsSomeAnd (text_fault_words fault) (λ words. Appends (E.contents err.old) (E.contents err.new) (line_about name.now words))) }
-{
-    match fault {
-        TextFault::Scenario(fault) => tell_fault(err, name, fault),
-        TextFault::Mixed => tell_refused(err, name, "a [[setup]] behind a [[step]]"),
-        TextFault::Limit => tell_refused(err, name, "more steps than the limit"),
-    }
-}
-
-// Tells which text isn't a caller and one answer.
-fn tell_never<E: Write>(err: &mut E, name: &str, number: usize) -> io::Result<bool>
-    ensures { OnOk result (IsSomeAnd (ask_fault_line name.now (AskFault.Never number)) (λ line. Appends (E.contents err.old) (E.contents err.new) line)) }
-{
-    writeln!(
-        err,
-        "lab: {name}: [ask]: text {number} of never isn't a caller and one answer, as \"T1 -> timed out\""
-    )?;
-    Ok(true)
-}
-
-// Tells why it can't be read what is asked.
-fn tell_ask_fault<E: Write>(err: &mut E, name: &str, fault: AskFault) -> io::Result<bool>
-    ensures { OnOk result (IsSomeAnd (ask_fault_line name.now fault) (λ line. Appends (E.contents err.old) (E.contents err.new) line)) }
-{
-    match fault {
-        AskFault::Table => tell_refused(
-            err,
-            name,
-            "[ask] has never, a list of texts, and always_ends and as_picked",
-        ),
-        AskFault::Never(number) => tell_never(err, name, number),
-        AskFault::Memory => Err(AllocError.into()),
-    }
-}
-
 // Whether something is asked.
 fn is_asked(ask: &Ask) -> bool
     ensures { result ≡ is_asked ask.now }
 {
-    ask.always_ends || ask.never.len() > 0
+    ask.always_ends || ask.ends_waits || ask.never.len() > 0
 }
 
 // What is said before the number of answers that may never be.
 fn ends_words(ask: &Ask) -> &'static str
     ensures { result.now ≡ ends_words ask.now }
 {
-    if ask.always_ends { "always_ends, " } else { "" }
+    if ask.always_ends {
+        if ask.ends_waits {
+            "always_ends, ends_waits, "
+        } else {
+            "always_ends, "
+        }
+    } else if ask.ends_waits {
+        "ends_waits, "
+    } else {
+        ""
+    }
 }
 
 // What is said of the orders that were gone through.
@@ -176,6 +150,103 @@ fn print_outcomes<O: Write>(
     }
 }
 
+// Prints the report, tells what came of what is asked, and answers the status.
+fn tell_report<O: Write, E: Write>(
+    alloc: Global,
+    asked: &Asked<'_>,
+    callers: &Callers,
+    ask: &Ask,
+    bank: &Copies<'_>,
+    answered: &Answered,
+    out: &mut O,
+    err: &mut E,
+) -> io::Result<u8>
+    ensures { IfOk result (Writes (λ output. output ≡ report_told (text_name asked.now) callers.now ask.now answered.now.outcomes answered.now.against) (O.contents out.old) (O.contents out.new) (E.contents err.old) (E.contents err.new)) }
+{
+    print_outcomes(alloc, callers, bank, answered, out)?;
+    tell_against(err, asked.name(), ask, answered)
+}
+
+// Prints the scenario of an outcome.
+fn print_scenario<O: Write>(
+    alloc: Global,
+    callers: &Callers,
+    bank: &Copies<'_>,
+    outcome: &Tally,
+    out: &mut O,
+) -> io::Result<()>
+    ensures { OnOk result (Appends (O.contents out.old) (O.contents out.new) (scenario_of callers.now outcome.now)) }
+{
+    match scenario_of(alloc, callers, bank, outcome.order.as_slice()) {
+        Ok(scenario) => out.write_all(scenario.as_bytes()),
+        Err(error) => Err(error.into()),
+    }
+}
+
+// Tells that there is no outcome with this number, and answers the status.
+fn tell_no_outcome<E: Write>(err: &mut E, name: &str, number: u32) -> io::Result<u8>
+    ensures status { IfOk result (λ status. status ≡ 2) }
+    ensures line { OnOk result (Appends (E.contents err.old) (E.contents err.new) (line_about name.now (codes "there is no outcome " ++ decimal number))) }
+{
+    writeln!(err, "{name}: there is no outcome {number}")?;
+    Ok(AT_FAULT)
+}
+
+// Prints the scenario of this outcome alone, tells what came of what is asked, and answers the status.
+fn tell_scenario<O: Write, E: Write>(
+    alloc: Global,
+    asked: &Asked<'_>,
+    number: u32,
+    callers: &Callers,
+    ask: &Ask,
+    bank: &Copies<'_>,
+    answered: &Answered,
+    outcome: Option<&Tally>,
+    out: &mut O,
+    err: &mut E,
+) -> io::Result<u8>
+    ensures { IfOk result (Writes (λ output. output ≡ scenario_told (text_name asked.now) number callers.now ask.now answered.now.outcomes answered.now.against (option_map (λ outcome. outcome.now) outcome.entry)) (O.contents out.old) (O.contents out.new) (E.contents err.old) (E.contents err.new)) }
+{
+    match outcome {
+        Some(found) => {
+            print_scenario(alloc, callers, bank, found, out)?;
+            tell_against(err, asked.name(), ask, answered)
+        }
+        None => tell_no_outcome(err, asked.name(), number),
+    }
+}
+
+// The outcome with this number, from 1.
+fn outcome_at(all: &[Tally], number: u32) -> Option<&Tally>
+    ensures { option_map (λ outcome. outcome.now) result ≡ slice_get all.now (number - 1) }
+{
+    all.get(number.saturating_sub(1) as usize)
+}
+
+// Prints what is asked for of the outcomes, tells what came of what is asked, and answers the status.
+fn tell_answered<O: Write, E: Write>(
+    alloc: Global,
+    asked: &Asked<'_>,
+    callers: &Callers,
+    ask: &Ask,
+    bank: &Copies<'_>,
+    answered: &Answered,
+    out: &mut O,
+    err: &mut E,
+) -> io::Result<u8>
+    ensures { IfOk result (Writes (λ output. output ≡ outcomes_told asked.now.outcome (text_name asked.now) callers.now ask.now answered.now.outcomes answered.now.against) (O.contents out.old) (O.contents out.new) (E.contents err.old) (E.contents err.new)) }
+{
+    match asked.outcome {
+        Some(number) => {
+            let outcome = outcome_at(answered.outcomes.all.as_slice(), number);
+            tell_scenario(
+                alloc, asked, number, callers, ask, bank, answered, outcome, out, err,
+            )
+        }
+        None => tell_report(alloc, asked, callers, ask, bank, answered, out, err),
+    }
+}
+
 // Goes through all orders, and answers the status.
 fn go_through<O: Write, E: Write>(
     alloc: Global,
@@ -186,14 +257,11 @@ fn go_through<O: Write, E: Write>(
     out: &mut O,
     err: &mut E,
 ) -> io::Result<u8>
-    ensures { IfOk result (Writes (TellsOutcomes (map handler_of plans.now) asked.now.most (text_name asked.now) callers.now ask.now) (O.contents out.old) (O.contents out.new) (E.contents err.old) (E.contents err.new)) }
+    ensures { IfOk result (Writes (TellsOutcomes (map handler_of plans.now) asked.now.most asked.now.outcome (text_name asked.now) callers.now ask.now) (O.contents out.old) (O.contents out.new) (E.contents err.old) (E.contents err.new)) }
 {
     let bank = Copies { plans };
     match ask_all(alloc, callers, &bank, ask, asked.most) {
-        Ok(answered) => {
-            print_outcomes(alloc, callers, &bank, &answered, out)?;
-            tell_against(err, asked.name(), ask, &answered)
-        }
+        Ok(answered) => tell_answered(alloc, asked, callers, ask, &bank, &answered, out, err),
         Err(OrdersError::Count) => {
             let told = tell_refused(err, asked.name(), "more orders than can be counted");
             refused(told)
@@ -202,16 +270,81 @@ fn go_through<O: Write, E: Write>(
     }
 }
 
-// The callers, set to what is asked.
-fn set_to(callers: Callers, ask: &Ask) -> Callers
-    ensures { IsSetTo callers ask.now result }
+// The same callers, of whom no step is made only as threads are picked.
+fn unpicked(callers: Callers) -> Callers
+    ensures { IsUnpicked callers result }
 {
     let mut set = callers;
-    set.as_picked = ask.as_picked;
+    set.as_picked = false;
     set
 }
 
-// Goes through all orders of callers, and answers the status.
+// The callers, set to what is asked.
+fn set_to(alloc: Global, callers: Callers, ask: &Ask) -> io::Result<Callers>
+    ensures { IfOk result (IsSetTo callers ask.now) }
+{
+    if !ask.as_picked {
+        return Ok(unpicked(callers));
+    }
+    match leaving(alloc, callers) {
+        Ok(set) => Ok(set),
+        Err(error) => Err(error.into()),
+    }
+}
+
+// The first answer of `never` that no step of its caller can have.
+fn impossible_in<'a>(
+    alloc: Global,
+    callers: &Callers,
+    ask: &'a Ask,
+) -> io::Result<Option<&'a Never>>
+    ensures { IfOk result (λ found. option_map (λ never. never.now) found ≡ impossible_in callers.now ask.now) }
+{
+    match first_impossible(alloc, callers, ask) {
+        Ok(found) => Ok(found),
+        Err(error) => Err(error.into()),
+    }
+}
+
+// Tells such an answer; where there is none, goes through all orders. Answers the status.
+fn tell_found<O: Write, E: Write>(
+    alloc: Global,
+    asked: &Asked<'_>,
+    callers: Callers,
+    ask: &Ask,
+    found: Option<&Never>,
+    plans: &[Planned],
+    out: &mut O,
+    err: &mut E,
+) -> io::Result<u8>
+    ensures { IfOk result (Writes (TellsPossible (map handler_of plans.now) asked.now.most asked.now.outcome (text_name asked.now) callers ask.now (option_map (λ never. never.now) found.entry)) (O.contents out.old) (O.contents out.new) (E.contents err.old) (E.contents err.new)) }
+{
+    match found {
+        None => {
+            let set = set_to(alloc, callers, ask)?;
+            go_through(alloc, asked, &set, ask, plans, out, err)
+        }
+        Some(never) => tell_impossible(alloc, err, asked.name(), &callers, never),
+    }
+}
+
+// Goes through all orders of callers of whom this is asked, and answers the status.
+fn tell_possible<O: Write, E: Write>(
+    alloc: Global,
+    asked: &Asked<'_>,
+    callers: Callers,
+    ask: &Ask,
+    plans: &[Planned],
+    out: &mut O,
+    err: &mut E,
+) -> io::Result<u8>
+    ensures { IfOk result (Writes (TellsPossible (map handler_of plans.now) asked.now.most asked.now.outcome (text_name asked.now) callers ask.now (impossible_in callers ask.now)) (O.contents out.old) (O.contents out.new) (E.contents err.old) (E.contents err.new)) }
+{
+    let found = impossible_in(alloc, &callers, ask)?;
+    tell_found(alloc, asked, callers, ask, found, plans, out, err)
+}
+
+// Tells what is asked of callers, and answers the status.
 fn tell_callers<O: Write, E: Write>(
     alloc: Global,
     asked: &Asked<'_>,
@@ -221,13 +354,10 @@ fn tell_callers<O: Write, E: Write>(
     out: &mut O,
     err: &mut E,
 ) -> io::Result<u8>
-    ensures { IfOk result (Writes (TellsAsked (map handler_of plans.now) asked.now.most (text_name asked.now) callers text.now) (O.contents out.old) (O.contents out.new) (E.contents err.old) (E.contents err.new)) }
+    ensures { IfOk result (Writes (TellsAsked (map handler_of plans.now) asked.now.most asked.now.outcome (text_name asked.now) callers text.now) (O.contents out.old) (O.contents out.new) (E.contents err.old) (E.contents err.new)) }
 {
     match read_ask(alloc, &callers, text) {
-        Ok(ask) => {
-            let set = set_to(callers, &ask);
-            go_through(alloc, asked, &set, &ask, plans, out, err)
-        }
+        Ok(ask) => tell_possible(alloc, asked, callers, &ask, plans, out, err),
         Err(fault) => {
             let told = tell_ask_fault(err, asked.name(), fault);
             refused(told)
@@ -244,7 +374,7 @@ fn tell_text<O: Write, E: Write>(
     out: &mut O,
     err: &mut E,
 ) -> io::Result<u8>
-    ensures { IfOk result (Writes (TellsText (map handler_of plans.now) asked.now.most (text_name asked.now) text.now) (O.contents out.old) (O.contents out.new) (E.contents err.old) (E.contents err.new)) }
+    ensures { IfOk result (Writes (TellsText (map handler_of plans.now) asked.now.most asked.now.outcome (text_name asked.now) text.now) (O.contents out.old) (O.contents out.new) (E.contents err.old) (E.contents err.new)) }
 {
     match read_callers(alloc, text) {
         Ok(callers) => tell_callers(alloc, asked, callers, plans, text, out, err),
@@ -264,7 +394,7 @@ fn tell_file<R: Files + AllocGlobal, I: Read, O: Write, E: Write>(
     out: &mut O,
     err: &mut E,
 ) -> io::Result<u8>
-    ensures { IfOk result (WritesOfText (TellsRead (map handler_of plans.now) asked.now.most (text_name asked.now)) (option_map (λ file. file.now) asked.now.file) (I.remaining input.old) (O.contents out.old) (O.contents out.new) (E.contents err.old) (E.contents err.new)) }
+    ensures { IfOk result (WritesOfText (TellsRead (map handler_of plans.now) asked.now.most asked.now.outcome (text_name asked.now)) (option_map (λ file. file.now) asked.now.file) (I.remaining input.old) (O.contents out.old) (O.contents out.new) (E.contents err.old) (E.contents err.new)) }
 {
     match read_text(rt, asked.file, input) {
         Ok(text) => tell_text(rt.alloc(), asked, plans, text.as_slice(), out, err),

@@ -109,11 +109,13 @@ fn way_of(matches: &ArgMatches<'_>) -> Way
     }
 }
 
-/// What `orders` is asked for: the file of a bank, how many moments one number of steps may lead to, and the text.
+/// What `orders` is asked for: the file of a bank, how many moments one number of steps may lead to, the outcome whose
+/// scenario alone is printed, from 1, and the text.
 #[derive(Clone, Copy, Drop)]
 pub struct Asked<'a> {
     pub bank: Option<&'a str>,
     pub most: usize,
+    pub outcome: Option<u32>,
     pub file: Option<&'a str>,
 }
 
@@ -184,11 +186,13 @@ pub fn driving_of<'a>(matches: &ArgMatches<'a>) -> Driving<'a>
 pub fn asked_of<'a>(matches: &ArgMatches<'a>) -> Asked<'a>
     ensures bank { option_map (λ file. file.now) result.bank ≡ first_value (found_of matches.now) (codes "bank") }
     ensures most { result.most ≡ unwrap_or (words.number_at (found_of matches.now) (codes "most")) 100000 }
+    ensures outcome { result.outcome ≡ words.number_at (found_of matches.now) (codes "outcome") }
     ensures file { option_map (λ file. file.now) result.file ≡ first_value (found_of matches.now) (codes "FILE") }
 {
     Asked {
         bank: matches.get_str("bank"),
         most: number_at(matches, "most").unwrap_or(100_000) as usize,
+        outcome: number_at(matches, "outcome"),
         file: matches.get_str("FILE"),
     }
 }

@@ -1,7 +1,8 @@
 -- What is asked of all orders, by what is told of their ends.
-use Rattle.std.specs.Prelude.{ℕ, ◌≡◌, ◌==◌, Bool, true, false, ◌&&◌, ◌||◌, if◌then◌else◌, List, [], ◌∷◌, ◌++◌, codes, map, drop, take, length, string_bytes, Option, Some, None, is_some, option_and_then, All}
+use Rattle.std.specs.Prelude.{ℕ, ◌≡◌, ◌==◌, Bool, true, false, ◌&&◌, ◌||◌, if◌then◌else◌, List, [], ◌∷◌, ◌++◌, codes, map, drop, take, length, string_bytes, Option, Some, None, is_some, option_and_then, unwrap_or, All}
 use Rattle.std.specs.Fmt.{decimal}
 use Rattle.std.specs.List.{list_any}
+use Rattle.std.specs.Char.{is_ascii_digit}
 use Rattle.std.specs.Str.{bytes_eq, trim}
 use Rattle.std.specs.Str.Iter.{HasSubslice}
 use Rattle.std.specs.Cmp.Lexicographic.{pointwise}
@@ -49,9 +50,25 @@ is_line_of never text = option_map_or (λ rest. begins (codes " -> ") rest && is
 abbrev pub is_stuck_line : List ℕ → Bool
 is_stuck_line text = begins (codes "stuck: ") text
 
--- what is told of an outcome is against what is asked: a caller is stuck, or has an answer that it may never have
+-- behind the digits of a text it says that somebody waits
+abbrev pub waits_behind_number : List ℕ → Bool
+waits_behind_number [] = false
+waits_behind_number (b ∷ bs) = if is_ascii_digit b then waits_behind_number bs else begins (codes " waits") (b ∷ bs)
+
+-- what is told of a thread, be it stuck or not
+abbrev pub past_stuck : List ℕ → List ℕ
+past_stuck text = unwrap_or (text_behind (codes "stuck: ") text) text
+
+-- a thread waits
+abbrev pub is_wait_line : List ℕ → Bool
+is_wait_line text = option_map_or waits_behind_number (text_behind (codes "T") (past_stuck text)) false
+
+-- what is told of an outcome is against what is asked: a caller is stuck, a thread waits, or a caller has an answer that it
+-- may never have
 abbrev pub is_against : Ask → List ℕ → Bool
-is_against ask told = (ask.always_ends && some_line is_stuck_line told) || list_any (λ never. some_line (is_line_of never) told) ask.never.items
+is_against ask told =
+    ((ask.always_ends && some_line is_stuck_line told) || (ask.ends_waits && some_line is_wait_line told))
+    || list_any (λ never. some_line (is_line_of never) told) ask.never.items
 
 -- an answer that a caller may never have, as it stands in the text
 abbrev pub never_text : Never → List ℕ
@@ -89,13 +106,14 @@ never_in None = Some []
 never_in (Some value) = option_and_then (all_given as_str) (as_array value)
 
 abbrev pub ask_keys : List (List ℕ)
-ask_keys = codes "never" ∷ codes "always_ends" ∷ codes "as_picked" ∷ []
+ask_keys = codes "never" ∷ codes "always_ends" ∷ codes "ends_waits" ∷ codes "as_picked" ∷ []
 
 -- a table asks just this
 pub record Asks (ms : Members) (ask : Ask) : Type 0 where
   pub keys : has_only ask_keys ms ≡ true
   pub never : never_in (get_member (codes "never") ms) ≡ Some (map never_text ask.never.items)
   pub ends : value_or truth_from false (get_member (codes "always_ends") ms) ≡ Some ask.always_ends
+  pub waits : value_or truth_from false (get_member (codes "ends_waits") ms) ≡ Some ask.ends_waits
   pub picked : value_or truth_from false (get_member (codes "as_picked") ms) ≡ Some ask.as_picked
 
 -- the table of a document, which is empty where there is none

@@ -2,6 +2,7 @@ pub mod Answers
 pub mod Asks
 pub mod Callers
 pub mod Firsts
+pub mod KeyLines
 pub mod Leaving
 pub mod Moments
 pub mod Outcomes

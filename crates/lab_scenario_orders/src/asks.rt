@@ -1,5 +1,5 @@
 //! What is asked of all orders.
-ghost use Rattle.std.specs.Prelude.{◌≡◌, ◌++◌, IfOk, IfSome, IsSomeAnd, Some, codes, false, map, option_and_then, position, string_bytes, true};
+ghost use Rattle.std.specs.Prelude.{◌≡◌, ◌++◌, IfErr, IfOk, IfSome, IsSomeAnd, Some, codes, false, map, option_and_then, option_map, position, string_bytes, true};
 ghost use Rattle.std.specs.List.{list_any};
 ghost use Rattle.std.specs.Str.{bytes_eq};
 ghost use Rattle.std.specs.Str.Iter.{HasSubslice};
@@ -8,11 +8,13 @@ ghost use Rattle.toml.specs.Parse.{parse_document};
 ghost use Rattle.toml.specs.View.{items_view, table_view, view};
 ghost use Rattle.evl_scenario.specs.Tables.{all_given, value_or};
 ghost use Rattle.evl_scenario.specs.Values.{truth_from};
-ghost use Rattle.lab_scenario_orders.specs.Asks.{AreOfCallers, Asks, IsAnswerOf, IsParted, ask_table, caller_text, is_against, is_caller_text, is_line_of, is_stuck_line, never_in, never_text, some_line};
+ghost use Rattle.lab_scenario_orders.specs.Asks.{AreOfCallers, Asks, IsAnswerOf, IsParted, ask_table, caller_text, is_against, is_caller_text, is_line_of, is_stuck_line, is_wait_line, never_in, never_text, past_stuck, some_line};
+ghost use Rattle.lab_scenario_orders.specs.KeyLines.{IsPlaced, key_name};
 ghost use Rattle.lab_scenario_orders.specs.Splits.{ask_part};
 
 use crate::callers::{Caller, Callers};
-use crate::searches::{Question, begins, behind, is_answered, some_line};
+use crate::key_lines::line_set;
+use crate::searches::{Question, begins, behind, is_answered, some_line, waits_behind_number};
 use crate::splits::split_text;
 use evl_scenario::{field, has_only_keys};
 use lab_orders::Tally;
@@ -37,16 +39,31 @@ pub struct Ask {
     pub never: Vec<Never>,
     /// Whether no order may end with a caller stuck.
     pub always_ends: bool,
+    /// Whether no order may end while a thread waits.
+    pub ends_waits: bool,
     /// Whether only such orders are asked for in which steps are made as threads are picked.
     pub as_picked: bool,
+}
+
+/// A key of `[ask]`.
+#[derive(Clone, Copy, PartialEq, Eq, Debug)]
+pub enum AskKey {
+    Never,
+    AlwaysEnds,
+    EndsWaits,
+    AsPicked,
+    /// Any other: `[ask]` doesn't have it.
+    Other,
 }
 
 /// Why it can't be read what is asked.
 #[derive(Clone, Copy, PartialEq, Eq, Debug)]
 pub enum AskFault {
-    /// The text isn't UTF-8, or `[ask]` is no table with `never`, a list of texts, and `always_ends` and `as_picked`,
-    /// `true` or `false`.
+    /// The text isn't UTF-8, or its tables `[ask]` aren't one table of TOML.
     Table,
+    /// This key has another value than a list of texts, at `never`, or `true` or `false`, at the others; or `[ask]`
+    /// doesn't have it. With its line, from 1, where one is found.
+    Key(AskKey, Option<usize>),
     /// This text of `never`, from 1, isn't a caller and one answer, as `T1 -> timed out`.
     Never(usize),
     /// A growth was refused.
@@ -128,7 +145,7 @@ fn read_never(
     ensures who { IfOk result (IsAnswerOf callers.now.callers.items) }
 {
     let Some(text) = value.as_str() else {
-        return Err(AskFault::Table);
+        return Err(AskFault::Key(AskKey::Never, None));
     };
     let Some((who, answer)) = parts_of(text) else {
         return Err(AskFault::Never(number));
@@ -171,20 +188,20 @@ fn never_at(alloc: Global, callers: &Callers, table: &Table) -> Result<Vec<Never
     match field(table, "never") {
         Some(value) => match value.as_array() {
             Some(values) => read_all(alloc, callers, values.as_slice()),
-            None => Err(AskFault::Table),
+            None => Err(AskFault::Key(AskKey::Never, None)),
         },
         None => Ok(Vec::new(alloc)),
     }
 }
 
 // The truth value at a key.
-fn truth_at(table: &Table, key: &str) -> Result<bool, AskFault>
+fn truth_at(table: &Table, key: &str, fault: AskKey) -> Result<bool, AskFault>
     ensures { IfOk result (λ truth. value_or truth_from false (get_member key.now (table_view table.now)) ≡ Some truth) }
 {
     match field(table, key) {
         Some(value) => match value.as_bool() {
             Some(truth) => Ok(truth),
-            None => Err(AskFault::Table),
+            None => Err(AskFault::Key(fault, None)),
         },
         None => Ok(false),
     }
@@ -195,14 +212,18 @@ fn read_table(alloc: Global, callers: &Callers, table: &Table) -> Result<Ask, As
     ensures asks { IfOk result (Asks (table_view table.now)) }
     ensures who { IfOk result (λ ask. AreOfCallers callers.now.callers.items ask.never.items) }
 {
-    if !has_only_keys(table, &["never", "always_ends", "as_picked"]) {
-        return Err(AskFault::Table);
+    if !has_only_keys(table, &["never", "always_ends", "ends_waits", "as_picked"]) {
+        return Err(AskFault::Key(AskKey::Other, None));
     }
-    let always_ends = match truth_at(table, "always_ends") {
+    let always_ends = match truth_at(table, "always_ends", AskKey::AlwaysEnds) {
         Ok(always_ends) => always_ends,
         Err(fault) => return Err(fault),
     };
-    let as_picked = match truth_at(table, "as_picked") {
+    let ends_waits = match truth_at(table, "ends_waits", AskKey::EndsWaits) {
+        Ok(ends_waits) => ends_waits,
+        Err(fault) => return Err(fault),
+    };
+    let as_picked = match truth_at(table, "as_picked", AskKey::AsPicked) {
         Ok(as_picked) => as_picked,
         Err(fault) => return Err(fault),
     };
@@ -210,6 +231,7 @@ fn read_table(alloc: Global, callers: &Callers, table: &Table) -> Result<Ask, As
         Ok(never) => Ok(Ask {
             never,
             always_ends,
+            ends_waits,
             as_picked,
         }),
         Err(fault) => Err(fault),
@@ -229,6 +251,7 @@ fn read_document(alloc: Global, callers: &Callers, document: &Table) -> Result<A
         None => Ok(Ask {
             never: Vec::new(alloc),
             always_ends: false,
+            ends_waits: false,
             as_picked: false,
         }),
     }
@@ -251,16 +274,50 @@ fn read_text(alloc: Global, callers: &Callers, text: &str) -> Result<Ask, AskFau
     }
 }
 
+// A key's name; `None` of a key that `[ask]` doesn't have.
+fn key_name(key: AskKey) -> Option<&'static str>
+    ensures { option_map (λ name. name.now) result ≡ key_name key }
+{
+    match key {
+        AskKey::Never => Some("never"),
+        AskKey::AlwaysEnds => Some("always_ends"),
+        AskKey::EndsWaits => Some("ends_waits"),
+        AskKey::AsPicked => Some("as_picked"),
+        AskKey::Other => None,
+    }
+}
+
+// A fault with the line of its key in the text.
+fn placed(alloc: Global, text: &str, fault: AskFault) -> AskFault
+    ensures { IsPlaced text.now result }
+{
+    match fault {
+        AskFault::Key(key, _) => match line_set(alloc, text, key_name(key)) {
+            Ok(line) => AskFault::Key(key, line),
+            Err(_) => AskFault::Memory,
+        },
+        AskFault::Never(number) => AskFault::Never(number),
+        AskFault::Table => AskFault::Table,
+        AskFault::Memory => AskFault::Memory,
+    }
+}
+
 /// What the table `[ask]` of a text of callers asks: nothing where there is none.
 pub fn read_ask(alloc: Global, callers: &Callers, bytes: &[u8]) -> Result<Ask, AskFault>
     ensures asks { IfOk result (λ ask. IsSomeAnd (option_and_then ask_table (parse_document (ask_part bytes.now))) (λ table. Asks table ask)) }
     ensures who { IfOk result (λ ask. AreOfCallers callers.now.callers.items ask.never.items) }
+
+    // A fault of a key is told with the first line that sets it.
+    ensures placed { IfErr result (IsPlaced bytes.now) }
 {
     let Ok(text) = str::from_utf8(bytes) else {
         return Err(AskFault::Table);
     };
     match split_text(alloc, text) {
-        Ok(split) => read_text(alloc, callers, split.ask.as_str()),
+        Ok(split) => match read_text(alloc, callers, split.ask.as_str()) {
+            Ok(ask) => Ok(ask),
+            Err(fault) => Err(placed(alloc, text, fault)),
+        },
         Err(_) => Err(AskFault::Memory),
     }
 }
@@ -292,6 +349,40 @@ impl Question for Stuck {
     }
 }
 
+// What is told of a thread, be it stuck or not.
+fn past_stuck(text: &[u8]) -> &[u8]
+    ensures { result.now ≡ past_stuck text.now }
+{
+    match behind(b"stuck: ", text) {
+        Some(rest) => rest,
+        None => text,
+    }
+}
+
+// Whether a thread waits.
+#[derive(Drop)]
+struct Waits;
+
+impl Question for Waits {
+    ghost use Rattle.lab_scenario_orders.specs.Asks.{is_wait_line};
+
+    ghost holds = { λ waits text. is_wait_line text };
+
+    fn asks(&self, text: &[u8]) -> bool {
+        match behind(b"T", past_stuck(text)) {
+            Some(rest) => waits_behind_number(rest),
+            None => false,
+        }
+    }
+}
+
+// Whether a line says that a thread waits.
+fn tells_wait(told: &[u8]) -> bool
+    ensures { result ≡ some_line is_wait_line told.now }
+{
+    some_line(&Waits, told)
+}
+
 /// Whether a line says that a caller is stuck.
 pub(crate) fn tells_stuck(told: &[u8]) -> bool
     ensures { result ≡ some_line is_stuck_line told.now }
@@ -306,13 +397,15 @@ fn has_any(never: &[Never], told: &[u8]) -> bool
     never.iter().any(|one| some_line(one, told))
 }
 
-/// Whether an outcome of which this is told is against what is asked: a caller is stuck where none may be, or has an
-/// answer, from one arrow to the next, that is just one that it may never have.
+/// Whether an outcome of which this is told is against what is asked: a caller is stuck where none may be, or a thread
+/// waits where none may, or a caller has an answer, from one arrow to the next, that is just one that it may never have.
 pub fn is_against(ask: &Ask, told: &str) -> bool
     ensures { result ≡ is_against ask.now told.now }
 {
     let told = told.as_bytes();
-    (ask.always_ends && tells_stuck(told)) || has_any(ask.never.as_slice(), told)
+    (ask.always_ends && tells_stuck(told))
+        || (ask.ends_waits && tells_wait(told))
+        || has_any(ask.never.as_slice(), told)
 }
 
 /// The place of the first outcome that is against what is asked.

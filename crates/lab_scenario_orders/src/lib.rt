@@ -10,6 +10,7 @@ mod callers;
 mod departures;
 mod digests;
 mod kernels;
+mod key_lines;
 mod lines;
 mod merging;
 mod moments;
@@ -27,7 +28,7 @@ mod worlds;
 
 pub use answers::{first_impossible, near_answer};
 pub use asking::{Asked, ask_all};
-pub use asks::{Ask, AskFault, Never, first_against, is_against, read_ask};
+pub use asks::{Ask, AskFault, AskKey, Never, first_against, is_against, read_ask};
 pub use banks::{BankMaker, NoCallbacks};
 pub use callers::{Caller, Callers};
 pub use departures::leaving;

@@ -1,7 +1,7 @@
 //! Texts searched line by line.
 ghost use Rattle.std.specs.Prelude.{◌≡◌, option_map};
 ghost use Rattle.evl_scenario.specs.Values.{past_front};
-ghost use Rattle.lab_scenario_orders.specs.Asks.{begins, text_behind, is_answered, is_end, later_line, some_line, stands_here};
+ghost use Rattle.lab_scenario_orders.specs.Asks.{begins, text_behind, is_answered, is_end, later_line, some_line, stands_here, waits_behind_number};
 
 /// What is asked of a text that begins with a line.
 pub(crate) trait Question {
@@ -58,6 +58,20 @@ pub fn past<'a>(front: &str, text: &'a str) -> Option<&'a str>
         Some(rest) => Some(rest),
         None => None,
     }
+}
+
+/// Whether behind the digits that a text begins with it says that somebody waits.
+pub(crate) fn waits_behind_number(text: &[u8]) -> bool
+    ensures { result ≡ waits_behind_number text.now }
+{
+    let mut rest = text;
+    while let Some((first, next)) = rest.split_first() {
+        if !first.is_ascii_digit() {
+            return begins(b" waits", rest);
+        }
+        rest = next;
+    }
+    false
 }
 
 // Whether an answer ends before this text.

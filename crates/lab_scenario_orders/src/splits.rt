@@ -20,8 +20,8 @@ pub struct Split {
     pub ask: String,
 }
 
-// A line without the comment behind it and the spaces around it.
-fn bare(line: &str) -> &str
+/// A line without the comment behind it and the spaces around it.
+pub(crate) fn bare(line: &str) -> &str
     ensures { result.now ≡ bare line.now }
 {
     match line.split_once('#') {

@@ -1,7 +1,7 @@
 //! What is asked of all orders.
 use lab_scenario_orders::{
-    Ask, AskFault, Callers, NoCallbacks, first_against, first_impossible, is_against, near_answer,
-    outcomes_of, read_ask, read_callers,
+    Ask, AskFault, AskKey, Callers, NoCallbacks, first_against, first_impossible, is_against,
+    near_answer, outcomes_of, read_ask, read_callers,
 };
 use std::alloc::Global;
 
@@ -47,9 +47,11 @@ fn first(alloc: Global, asked: &str) -> Result<Option<usize>, AskFault> {
 }
 
 // What is asked, and the first outcome that is against it.
-const FIRST: [(&str, Option<usize>); 5] = [
+const FIRST: [(&str, Option<usize>); 7] = [
     ("", None),
     ("[ask]\nalways_ends = true\n", Some(0)),
+    ("[ask]\nends_waits = true\n", Some(0)),
+    ("[ask]\nends_waits = false\n", None),
     ("[ ask ]\nnever = [\"T2  ->  done \"]\n", Some(1)),
     ("[ask]\nnever = [\"T1 -> timed out\"]\n", None),
     ("[ask]\nnever = [\n\"T2 -> done\",\n]\n", Some(1)),
@@ -104,6 +106,30 @@ fn orders_as_threads_are_picked_are_asked_for(rt: HostRuntime) {
     assert!(rt; is_as_picked(rt.alloc(), "[ask]\nas_picked = true\n"));
     assert!(rt; !is_as_picked(rt.alloc(), "[ask]\nas_picked = false\nalways_ends = true\n"));
     assert!(rt; !is_as_picked(rt.alloc(), "[ask]\nalways_ends = true\n"));
+}
+
+// Whether just a line that says that a thread waits is meant.
+fn means_waits(ask: &Ask) -> bool {
+    is_against(ask, "T1 waits for sem 0\n")
+        && is_against(ask, "T2 -> begun\nT12 waits\n")
+        && is_against(ask, "T1 -> begun\nstuck: T1 waits for mutex 0\n")
+        && !is_against(
+            ask,
+            "stuck: T1 isn't picked\nT1 -> begun -> done\nmutex 0: owner T1, 2 wait\n",
+        )
+}
+
+// Whether it is by what is asked.
+fn is_of_waits(alloc: Global, asked: &str) -> bool {
+    match read(alloc, asked) {
+        Ok(ask) => means_waits(&ask),
+        Err(_) => false,
+    }
+}
+
+#[test]
+fn waits_at_the_end_are_asked_for(rt: HostRuntime) {
+    assert!(rt; is_of_waits(rt.alloc(), "[ask]\nends_waits = true\n"));
 }
 
 // What may be meant by the first answer that no step of its caller can have, or nothing; `None` where each is possible.
@@ -167,7 +193,7 @@ fn answers_that_no_step_can_have_are_told(rt: HostRuntime) {
 }
 
 // What is asked, and why it can't be read.
-const REFUSED: [(&str, AskFault); 7] = [
+const REFUSED: [(&str, AskFault); 11] = [
     (
         "[ask]\nnever = [\"T1 -> done\", \"T7 -> done\"]\n",
         AskFault::Never(2),
@@ -177,10 +203,35 @@ const REFUSED: [(&str, AskFault); 7] = [
         AskFault::Never(1),
     ),
     ("[ask]\nnever = [\"T1\"]\n", AskFault::Never(1)),
-    ("[ask]\nalways = true\n", AskFault::Table),
-    ("[ask]\nalways_ends = 1\n", AskFault::Table),
-    ("[ask]\nas_picked = \"true\"\n", AskFault::Table),
-    ("[ask]\nas_pickd = true\n", AskFault::Table),
+    (
+        "[ask]\nalways = true\n",
+        AskFault::Key(AskKey::Other, Some(2)),
+    ),
+    (
+        "[ask]\nalways_ends = 1\n",
+        AskFault::Key(AskKey::AlwaysEnds, Some(2)),
+    ),
+    (
+        "[board]\nends_waits = 1\n[ ask ]\n\nends_waits = 0 # so\n",
+        AskFault::Key(AskKey::EndsWaits, Some(5)),
+    ),
+    (
+        "[ask]\nas_picked = \"true\"\n",
+        AskFault::Key(AskKey::AsPicked, Some(2)),
+    ),
+    (
+        "[ask]\nalways_ends = true\n as_pickd = true\n",
+        AskFault::Key(AskKey::Other, Some(3)),
+    ),
+    (
+        "[ask]\nnever = \"T1 -> done\"\n",
+        AskFault::Key(AskKey::Never, Some(2)),
+    ),
+    (
+        "[ask]\nnever = [1]\n",
+        AskFault::Key(AskKey::Never, Some(2)),
+    ),
+    ("[ask]\nnever = [\n", AskFault::Table),
 ];
 
 // Whether each is refused so.

@@ -14,6 +14,8 @@ returns c =
     let local_over_bank = c.in_ok-over_bank.ensures.globals ∙ ap₂ ◌||◌ local c.bank_word.ensures.1 in
     let with_most = c.in_ok-with_most.ensures.shape c.most_word.ensures.1 ∙ ap₂ with_rule over_bank c.most_word.ensures.0 in
     let local_with_most = c.in_ok-with_most.ensures.globals ∙ ap₂ ◌||◌ local_over_bank c.most_word.ensures.1 in
-    let with_file = c.in_ok-with_file.ensures.shape c.callers_file.ensures.1 ∙ ap₂ with_rule with_most c.callers_file.ensures.0 in
-    let local_with_file = c.in_ok-with_file.ensures.globals ∙ ap₂ ◌||◌ local_with_most c.callers_file.ensures.1 in
+    let with_outcome = c.in_ok-with_outcome.ensures.shape c.outcome_word.ensures.1 ∙ ap₂ with_rule with_most c.outcome_word.ensures.0 in
+    let local_with_outcome = c.in_ok-with_outcome.ensures.globals ∙ ap₂ ◌||◌ local_with_most c.outcome_word.ensures.1 in
+    let with_file = c.in_ok-with_file.ensures.shape c.callers_file.ensures.1 ∙ ap₂ with_rule with_outcome c.callers_file.ensures.0 in
+    let local_with_file = c.in_ok-with_file.ensures.globals ∙ ap₂ ◌||◌ local_with_outcome c.callers_file.ensures.1 in
     λ old new adds. adds.shape local_with_file ∙ ap (λ app. with_subcommand (app_of old) app.top) with_file

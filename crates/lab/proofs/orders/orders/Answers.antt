@@ -14,6 +14,6 @@ returns-in-Ok-Some g c =
     let plans = option_map (λ file. file.now) c.args.asked.now.bank in
     let is_bank = rw c.in-Ok-Some.field-0-is at c.in-Ok-Some.ensures.bank in
     let quiet = rw c.in-Ok-Some.field-0-is at c.in-Ok-Some.ensures.quiet in
-    over_bank _ (λ (bank : List Handler). TellsRead bank c.args.asked.now.most name) plans _ _ _ _ (g.E.Write.contents c.args.err.now) (g.E.Write.contents c.read_plans.new.err) _
+    over_bank _ (λ (bank : List Handler). TellsRead bank c.args.asked.now.most c.args.asked.now.outcome name) plans _ _ _ _ (g.E.Write.contents c.args.err.now) (g.E.Write.contents c.read_plans.new.err) _
     (map handler_of c.as_slice.result.now) c.tell_file.result (subst (λ (l : List Planned). IsBank plans (map handler_of l)) (sym c.as_slice.ensures.value) is_bank) (ap g.E.Write.contents (quiet refl))
     c.tell_file.ensures
