@@ -1,5 +1,6 @@
 -- What `lab callers` tells of a text of callers.
-use Rattle.std.specs.Prelude.{◌≡◌, ◌⊎◌, ℕ, List, ◌++◌, codes, decimal, map, string_bytes, Option, Some, None, IsSomeAnd, unwrap_or}
+use Rattle.std.specs.Prelude.{◌≡◌, ◌⊎◌, ℕ, List, ◌++◌, codes, decimal, false, length, map, string_bytes, Option, Some, None, IsSomeAnd, unwrap_or}
+use Rattle.evl_kernel.specs.state.Openings.{can_open}
 use Rattle.evl_kernel.specs.state.States.{Handler}
 use Rattle.evl_scenario.specs.Lines.{line_feed}
 use Rattle.evl_scenario.specs.declared.faults.Fault.{Fault}
@@ -38,10 +39,10 @@ pub record PlaysOver (bank : List Handler) (asked : CallersText) (played : Playe
   pub bank_is : map handler_of plans ≡ bank
   pub is_told : IsTold (λ p. p.kinds.0) (λ p. p.plan) asked plans played
 
--- or no machine has its board
+-- or no machine can have its board, these callbacks and its limit
 abbrev pub TellsPlayed : List Handler → List ℕ → CallersText → Output → Type 0
 TellsPlayed bank name asked output =
-    ((played : Played) × PlaysOver bank asked played × (output ≡ played_told name played)) ⊎ (output ≡ refuses 2 (line_about name (codes "bad board")))
+    ((played : Played) × PlaysOver bank asked played × (output ≡ played_told name played)) ⊎ ((can_open asked.board (length bank) asked.limit ≡ false) × (output ≡ refuses 2 (line_about name (codes "bad board"))))
 
 -- what a text asks for, under a limit that may be handed in; or it is refused for some fault
 abbrev pub TellsText : List Handler → Option ℕ → List ℕ → List ℕ → Output → Type 0

@@ -1,5 +1,5 @@
 //! Texts of callers, played over a machine.
-ghost use Rattle.std.specs.Prelude.{◌≡◌, ◌++◌, ℕ, List, [], All, IfErr, IfOk, MatchResult, OnOk, codes, length, string_bytes};
+ghost use Rattle.std.specs.Prelude.{◌≡◌, ◌⊎◌, ◌↔◌, ◌++◌, false, Err, ℕ, List, [], All, IfErr, IfOk, MatchResult, OnOk, codes, length, string_bytes};
 ghost use Rattle.lab_callers.specs.Faults.{IsWhy, step_fault};
 ghost use Rattle.lab_callers.specs.Crews.{crew_of};
 ghost use Rattle.lab_callers.specs.Holdings.{nothing_held};
@@ -7,6 +7,7 @@ ghost use Rattle.lab_callers.specs.Plays.{ClosesSo, EndsSo, HaveMade, IsStopped,
 ghost use Rattle.lab_callers.specs.Shown.{closed_text, mutex_asked, open_text, shown_text, step_text, thread_asked};
 ghost use Rattle.evl_kernel.specs.state.Callbacks.{AnswersByPlan};
 ghost use Rattle.evl_kernel.specs.state.KernelViews.{IsOpened};
+ghost use Rattle.evl_kernel.specs.state.Openings.{can_open};
 ghost use Rattle.evl_machine.specs.callers.Handles.{newcomers_of};
 ghost use Rattle.evl_scenario.specs.Lines.{board_line_of, board_line_text};
 
@@ -248,6 +249,8 @@ fn made<C: Handler>(
     ensures callers { IfOk result (λ m. m.1.items ≡ newcomers_of m.0 board.threads) }
     ensures belong { IfOk result (λ m. All (λ c. c.machine ≡ m.0) m.1.items) }
     ensures by_plan { IfOk result (λ m. AnswersByPlan C.declared C.plan m.0.first.callbacks) }
+    ensures range { (result ≡ Err Refusal.Range) ↔ (can_open board (length bank.items) limit ≡ false) }
+    ensures refusals { IfErr result (λ e. (e ≡ Refusal.Range) ⊎ (e ≡ Refusal.NoMemory)) }
 {
     match MachineOf::over(alloc, alloc, board, bank, limit) {
         Ok(made) => Ok(made),
@@ -295,6 +298,17 @@ fn refused_closing(alloc: Global, refusal: Refusal) -> Result<String, AllocError
 fn leave<C: Handler>(machine: MachineOf<C, Global>, callers: Vec<CallerOf<C, Global>>) {
     drop(machine);
     drop(callers);
+}
+
+// A machine is made, and there is no memory for what is told of it.
+fn unplayed<C: Handler>(
+    machine: MachineOf<C, Global>,
+    callers: Vec<CallerOf<C, Global>>,
+) -> Result<Played, Refusal>
+    ensures { result ≡ Err Refusal.NoMemory }
+{
+    leave(machine, callers);
+    Err(Refusal::NoMemory)
 }
 
 // What is told of a closed machine's kernel, which goes.
@@ -349,6 +363,7 @@ fn closed<C: Handler>(
     requires { All (λ c. c.machine ≡ machine) callers.items }
     ensures lines { IfOk result (λ told. string_bytes told.lines ≡ report.text) }
     ensures closed { IfOk result (λ told. ClosesSo machine callers.items told.ending (string_bytes told.closing)) }
+    ensures memory { IfErr result (λ e. e ≡ Refusal.NoMemory) }
 {
     let Report { alloc, text, .. } = report;
     match closing(alloc, machine, callers) {
@@ -365,6 +380,7 @@ fn closed<C: Handler>(
 fn stopped(report: Report, number: usize, stop: Stop) -> Result<Played, Refusal>
     ensures lines { IfOk result (λ told. string_bytes told.lines ≡ report.text) }
     ensures ending { IfOk result (λ told. IsStopped number stop told) }
+    ensures memory { IfErr result (λ e. e ≡ Refusal.NoMemory) }
 {
     let Report { alloc, text, .. } = report;
     match stop {
@@ -386,7 +402,8 @@ fn told_over<C: Handler>(
 ) -> Result<Played, Refusal>
     requires callers { All (λ c. c.machine ≡ machine) callers.items }
     requires by_plan { AnswersByPlan C.declared C.plan machine.first.callbacks }
-    ensures { IfOk result (λ told. EndsSo machine (run_of (crew_of machine callers.items) report) steps.items report.text told.ending (string_bytes told.lines) (string_bytes told.closing)) }
+    ensures ends { IfOk result (λ told. EndsSo machine (run_of (crew_of machine callers.items) report) steps.items report.text told.ending (string_bytes told.lines) (string_bytes told.closing)) }
+    ensures memory { IfErr result (λ e. e ≡ Refusal.NoMemory) }
 {
     let mut report = report;
     let (made, callers) = play_over(&mut report, &machine, callers, steps);
@@ -400,25 +417,31 @@ fn told_over<C: Handler>(
 }
 
 /// Makes the steps of a text of callers over a new machine with these callbacks, one after another on one host thread,
-/// and closes the machine. `NoMemory` where a growth was refused, `Range` where the board or the bank is outside its
-/// limits.
+/// and closes the machine. `Range` exactly where the board, the bank or the limit is outside its limits, `NoMemory`
+/// where a growth was refused.
 pub fn play_callers<C: Handler>(
     alloc: Global,
     text: CallersText,
     bank: Vec<C>,
 ) -> Result<Played, Refusal>
-    ensures { IfOk result (λ told. IsTold C.declared C.plan text bank.items told) }
+    ensures told { IfOk result (λ told. IsTold C.declared C.plan text bank.items told) }
+    ensures range { (result ≡ Err Refusal.Range) ↔ (can_open text.board (length bank.items) text.limit ≡ false) }
+    ensures refusals { IfErr result (λ e. (e ≡ Refusal.Range) ⊎ (e ≡ Refusal.NoMemory)) }
 {
     let CallersText {
         board,
         limit,
         steps,
     } = text;
-    let Ok(report) = Report::new(alloc, &board, limit) else {
-        return Err(Refusal::NoMemory);
-    };
+    let report = Report::new(alloc, &board, limit);
     match made(alloc, board, bank, limit) {
-        Ok((machine, callers)) => told_over(report, machine, callers, steps),
-        Err(refusal) => Err(refusal),
+        Ok((machine, callers)) => match report {
+            Ok(report) => told_over(report, machine, callers, steps),
+            Err(_) => unplayed(machine, callers),
+        },
+        Err(refusal) => {
+            drop(report);
+            Err(refusal)
+        }
     }
 }

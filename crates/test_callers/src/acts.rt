@@ -85,6 +85,8 @@ pub enum Act {
     Through(StaxId),
     Switch(Stage),
     WaitFor(Element, Option<u64>),
+    // Makes room for so many calls, while it has the kernel.
+    Reserve(usize),
 }
 
 /// For what a caller waits: a semaphore, bits of a flag group, a byte to read, room for two bytes that it writes, or
@@ -478,5 +480,6 @@ pub fn does<C: Handler, A: Allocator, R: Wait>(
         Act::Through(stax) => goes_through(rt, machine, caller, stax),
         Act::Switch(stage) => switches(rt, machine, caller, stage),
         Act::WaitFor(element, until) => waits_for(rt, machine, caller, passes, element, until),
+        Act::Reserve(_) => Told::Nothing,
     }
 }

@@ -78,6 +78,34 @@ fn held_calls_stop_without_memory(rt: HostRuntime) {
     assert!(rt; is_row(&rt, rt.alloc(), NORMAL, 100, &HELD_SHORT));
 }
 
+// Room that a caller made serves whoever calls next, however short memory is then.
+const RESERVED: [Phase<'_>; 4] = [
+    (Side::Free, &GROWN, Left::Free(4)),
+    (
+        Side::Applied,
+        &[
+            (3, Act::Reserve(2), Told::Done),
+            (3, Act::Reserve(97), FULL),
+        ],
+        Left::Free(4),
+    ),
+    (
+        Side::Short,
+        &[(0, PUT, Told::Done), (1, PUT, Told::Done)],
+        Left::Free(6),
+    ),
+    (
+        Side::AppliedShort,
+        &[(3, Act::Reserve(60), SHORT)],
+        Left::Free(6),
+    ),
+];
+
+#[test]
+fn calls_after_a_reserve(rt: HostRuntime) {
+    assert!(rt; is_row(&rt, rt.alloc(), NORMAL, 100, &RESERVED));
+}
+
 // Who has the core is dropped with it: what needs the core stays refused for good, and all else goes on.
 const CORE_LOST: [Phase<'_>; 3] = [
     (Side::Free, &ATTACHED, Left::Free(2)),

@@ -36,13 +36,24 @@ pub fn answers_held<C: Handler, A: Allocator, R: Wait>(
     }
 }
 
-// What is told of a call by the caller that has the kernel; of no other act.
+// What is told of room that the caller makes.
+fn reserves<C: Handler, A: Allocator>(held: &mut HeldOf<'_, C, A>, calls: usize) -> Told
+    ensures { held.new.caller ≡ held.old.caller }
+{
+    match held.reserve(calls) {
+        Ok(()) => Told::Done,
+        Err(refusal) => Told::Refused(refusal),
+    }
+}
+
+// What is told of a call by the caller that has the kernel, and of room that it makes; of no other act.
 fn applies_one<C: Handler, A: Allocator>(held: &mut HeldOf<'_, C, A>, act: Act) -> Told
     requires { AnswersByPlan C.declared C.plan held.old.caller.machine.first.callbacks }
     ensures { held.new.caller ≡ held.old.caller }
 {
     match act {
         Act::Call(ask) => told_by(held.apply(call_of(ask))),
+        Act::Reserve(calls) => reserves(held, calls),
         _ => Told::Nothing,
     }
 }

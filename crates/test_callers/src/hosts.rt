@@ -116,6 +116,27 @@ fn racing_callers_7(rt: HostRuntime) {
     assert!(rt; is_thread_row(&rt, rt.alloc(), 100, &MOVED));
 }
 
+// Two host threads are in one stax, the first with a mutex, when their callers meet.
+const MEET: ThreadRow<'_> = ThreadRow {
+    before: &[
+        (0, ATTACH, Told::Done),
+        (1, ATTACH, Told::Done),
+        (0, Act::Lock(FIRST), Told::Passed),
+    ],
+    tasks: (
+        Task::Turns(1, Turn::Stays),
+        Task::Turns(1, Turn::StaysBeside),
+    ),
+    told: (1, 1),
+    after: &[],
+    end: End::Unasked,
+};
+
+#[test]
+fn callers_meet(rt: HostRuntime) {
+    assert!(rt; is_thread_row(&rt, rt.alloc(), 100, &MEET));
+}
+
 // The bank's one callback stands on a line, on which events arrive from two host threads: whichever has the kernel
 // calls the stored closure.
 const BOTH_ARRIVE: ThreadRow<'_> = ThreadRow {

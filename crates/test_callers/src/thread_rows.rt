@@ -1,6 +1,7 @@
 //! Rows of two host threads as data: what is done before and after them on one, what each does, and what they leave.
 ghost use Rattle.std.specs.Prelude.{◌≡◌, All};
 ghost use Rattle.evl_kernel.specs.state.Callbacks.{AnswersByPlan};
+ghost use Rattle.evl_core.specs.accounts.OneHistory.{AgreeOnMutexes, AgreeOnStaxes, OneHistory};
 
 use crate::boards::{NORMAL, board_with};
 use crate::closing::{End, closes_with};
@@ -10,7 +11,7 @@ use crate::rows::made;
 use crate::threads::{Hand, Task, both_call};
 use evl_machine::{CallerOf, MachineOf};
 use evl_pipeline::{Callback, Handler};
-use std::alloc::Global;
+use std::alloc::{Allocator, Global};
 use std::sync::Wait;
 use std::thread::Threads;
 
@@ -22,6 +23,21 @@ pub struct ThreadRow<'a> {
     pub told: (u32, u32),
     pub after: &'a [Step],
     pub end: End,
+}
+
+// What both callers know together: of the kernel, of each mutex's word and of each stax's gate.
+fn meet<C: Handler, A: Allocator>(
+    machine: &MachineOf<C, A>,
+    one: &mut CallerOf<C, A>,
+    other: &mut CallerOf<C, A>,
+)
+    requires { (one.old.machine ≡ machine.now) × (other.old.machine ≡ machine.now) }
+    ensures same { (one.new ≡ one.old) × (other.new ≡ other.old) }
+    ensures kernel { OneHistory one.new.account other.new.account }
+    ensures mutexes { AgreeOnMutexes one.new.mutexes other.new.mutexes }
+    ensures staxes { AgreeOnStaxes one.new.staxes other.new.staxes }
+{
+    machine.agree(one, other);
 }
 
 // Whether both callers are told on two host threads what is wanted, and come back.
@@ -51,7 +67,8 @@ fn told_on_threads<C: Handler + Send, R: Threads + Wait + Sync>(
         caller: second,
         passes: Passes::new(alloc),
     };
-    let (first, second, told) = both_call(rt, machine, first, second, row.tasks);
+    let (mut first, mut second, told) = both_call(rt, machine, first, second, row.tasks);
+    meet(machine, &mut first, &mut second);
     let first_back = comes_back(machine, callers, first);
     let second_back = comes_back(machine, callers, second);
     first_back && second_back && told == row.told

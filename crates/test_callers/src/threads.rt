@@ -2,7 +2,7 @@
 ghost use Rattle.std.specs.Prelude.{◌≡◌, ◌≤◌};
 ghost use Rattle.evl_kernel.specs.state.Callbacks.{AnswersByPlan};
 
-use crate::acts::{Act, Ask, CORE_BUSY, Element, Told, call_of, does};
+use crate::acts::{Act, Ask, BUSY, CORE_BUSY, Element, Told, call_of, does};
 use crate::boards::{FIRST, GET, LINE, OTHER, PEEK, PUT, SEM, STAX, WIDE};
 use crate::passes::Passes;
 use evl_base::Reply;
@@ -65,6 +65,8 @@ pub enum Turn {
     Enters,
     Locks,
     Unlocks,
+    Stays,
+    StaysBeside,
     TriesAll,
 }
 
@@ -94,6 +96,15 @@ const LOCKS: [(Act, Told); 2] = [
 // Unlocks a mutex whose pass it has.
 const UNLOCKS: [(Act, Told); 1] = [(Act::UnlockAtLast(FIRST), Told::Done)];
 
+// Enters a stax and stays there.
+const STAYS: [(Act, Told); 1] = [(Act::EnterAtLast(WIDE), Told::Passed)];
+
+// The same, and finds a mutex taken.
+const STAYS_BESIDE: [(Act, Told); 2] = [
+    (Act::EnterAtLast(WIDE), Told::Passed),
+    (Act::Lock(FIRST), BUSY),
+];
+
 // While another caller has the kernel a call of it is refused, and a stax and a mutex are free.
 const TRIES_ALL: [(Act, Told); 5] = [
     (PUT, CORE_BUSY),
@@ -113,6 +124,8 @@ fn acts_of(turn: Turn) -> &'static [(Act, Told)] {
         Turn::Enters => &ENTERS,
         Turn::Locks => &LOCKS,
         Turn::Unlocks => &UNLOCKS,
+        Turn::Stays => &STAYS,
+        Turn::StaysBeside => &STAYS_BESIDE,
         Turn::TriesAll => &TRIES_ALL,
     }
 }

@@ -1,4 +1,5 @@
 use Rattle.std.proofs.Common.{◌≡◌, codes, inl, inr, map, refl}
+use Rattle.std.proofs.lemmas.List.{length-map}
 use Rattle.evl_plans.specs.Told.{handler_of as told_by}
 use Rattle.lab.specs.Callers.{PlaysOver, TellsPlayed, played_told}
 use Rattle.lab.specs.Endings.{line_about}
@@ -10,11 +11,11 @@ pub returns-in-Ok : goal.returns-in-Ok
 returns-in-Ok g c =
     let bank = map told_by c.args.plans.items in
     let played = c.in-Ok.played in
-    let over : PlaysOver bank c.args.asked played = record { plans = c.args.plans.items; bank_is = refl; is_told = c.in-Ok.ensures } in
+    let over : PlaysOver bank c.args.asked played = record { plans = c.args.plans.items; bank_is = refl; is_told = c.in-Ok.ensures.told } in
     written_as _ (TellsPlayed bank c.args.name.now c.args.asked) _ _ _ _ (λ (output : Output). output ≡ played_told c.args.name.now played) c.tell_played.result
     (λ output h. inl (played, over, h)) c.tell_played.ensures
 
 pub returns-in-Err-Range : goal.returns-in-Err-Range
 returns-in-Err-Range g c =
     told _ (TellsPlayed (map told_by c.args.plans.items) c.args.name.now c.args.asked) _ _ _ (line_about c.args.name.now (codes "bad board")) c.tell_refused.result c.refused.result
-    (inr refl) c.tell_refused.ensures.line c.refused.ensures
+    (inr (rw (length-map told_by c.args.plans.items) (c.in-Err-Range.ensures.range.0 refl), refl)) c.tell_refused.ensures.line c.refused.ensures
