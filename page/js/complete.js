@@ -10,10 +10,10 @@ export const offer_calls = (/** @type {Map<string, any>} */ list) => { known_cal
 
 const BOARD = ['threads', 'sems', 'flags', 'xbufs', 'mutexes', 'groups'], HEADS = ['[board]', '[[step]]'];
 /** @type {Record<string, string[]>} Values that the list of calls has none of. */
-const VALUES = { mutexes: ['"normal"', '"recursive"', '"ceiling 50"'], always_ends: ['true'], as_picked: ['true'],
+const VALUES = { mutexes: ['"normal"', '"recursive"', '"ceiling 50"'], always_ends: ['true'], ends_waits: ['true'], as_picked: ['true'],
   propagate: ['true'] };
 const ORDERS_HEADS = ['[ask]', '[[setup]]', '[[step]]', '[board]'];
-const ASK = ['always_ends', 'never', 'as_picked'], CALLBACK = ['accepts', 'do'];
+const ASK = ['always_ends', 'ends_waits', 'never', 'as_picked'], CALLBACK = ['accepts', 'do'];
 const ACTIONS = ['every', 'post_sem', 'post_flags', 'bits', 'post_oob', 'post_inband', 'propagate'];
 
 /** What one step's table or line has: its word, and which keys. @param {string} text */
