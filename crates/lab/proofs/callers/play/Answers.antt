@@ -1,4 +1,4 @@
-use Rattle.std.proofs.Common.{◌≡◌, codes, inl, inr, map, refl}
+use Rattle.std.proofs.Common.{◌≡◌, Err, ap, codes, inl, inr, map, refl}
 use Rattle.std.proofs.lemmas.List.{length-map}
 use Rattle.evl_plans.specs.Told.{handler_of as told_by}
 use Rattle.lab.specs.Callers.{PlaysOver, TellsPlayed, played_told}
@@ -18,4 +18,4 @@ returns-in-Ok g c =
 pub returns-in-Err-Range : goal.returns-in-Err-Range
 returns-in-Err-Range g c =
     told _ (TellsPlayed (map told_by c.args.plans.items) c.args.name.now c.args.asked) _ _ _ (line_about c.args.name.now (codes "bad board")) c.tell_refused.result c.refused.result
-    (inr (rw (length-map told_by c.args.plans.items) (c.in-Err-Range.ensures.range.0 refl), refl)) c.tell_refused.ensures.line c.refused.ensures
+    (inr (rw (length-map c.args.plans.items told_by) (c.in-Err-Range.ensures.range.0 (ap Err c.in-Err-Range.field-0-is)), refl)) c.tell_refused.ensures.line c.refused.ensures
