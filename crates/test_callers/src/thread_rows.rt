@@ -33,9 +33,9 @@ fn meet<C: Handler, A: Allocator>(
 )
     requires { (one.old.machine ≡ machine.now) × (other.old.machine ≡ machine.now) }
     ensures same { (one.new ≡ one.old) × (other.new ≡ other.old) }
-    ensures kernel { OneHistory one.new.account other.new.account }
-    ensures mutexes { AgreeOnMutexes one.new.mutexes other.new.mutexes }
-    ensures staxes { AgreeOnStaxes one.new.staxes other.new.staxes }
+    ensures kernel { OneHistory one.old.account other.old.account }
+    ensures mutexes { AgreeOnMutexes one.old.mutexes other.old.mutexes }
+    ensures staxes { AgreeOnStaxes one.old.staxes other.old.staxes }
 {
     machine.agree(one, other);
 }
