@@ -9,6 +9,8 @@ mod drawings;
 #[cfg(test)]
 mod faults;
 #[cfg(test)]
+mod lines;
+#[cfg(test)]
 mod lives;
 #[cfg(test)]
 mod plays;
