@@ -3,6 +3,7 @@ pub mod Histories
 pub mod Moments
 pub mod Plays
 pub mod Programs
+pub mod Readings
 pub mod Runs
 pub mod Sinks
 pub mod Arguments

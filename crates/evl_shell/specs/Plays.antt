@@ -1,11 +1,11 @@
 -- What the program reads, tells and answers.
-use Rattle.std.specs.Prelude.{◌≡◌, ◌≤◌, ℕ, List, [], ◌++◌, length, take, decimal, codes, Bool, false, Option, IfSome, Result, Ok, Err}
-use Rattle.std.specs.Io.KnownBytes.{Consumes}
+use Rattle.std.specs.Prelude.{◌≡◌, ℕ, List, [], ◌++◌, decimal, codes, Bool, false, Option, Result, Ok, Err}
 use Rattle.evl_kernel.specs.state.States.{Handler}
 use Rattle.evl_scenario.specs.declared.faults.Fault.{Fault}
 use Rattle.evl_scenario.specs.declared.faults.Fault.TheVariants.{Text, Board, Step, Memory, Write}
 use Rattle.evl_shell.specs.declared.plays.Stop.{Stop}
 use Rattle.evl_shell.specs.declared.plays.Stop.TheVariants.{NoFile, Broken}
+use Rattle.evl_shell.specs.Readings.{IsFrontOf, ReadsAtMost}
 use Rattle.evl_shell.specs.Faults.{Writes, WritesPart, WritesLines, is_write_fault}
 use Rattle.evl_scenario.specs.Lines.{line_feed}
 use Rattle.evl_shell.specs.Runs.{trace_of}
@@ -13,11 +13,11 @@ use Rattle.evl_shell.specs.Sinks.{Takes}
 
 -- all of the input where it is known, but for what is past 1,048,577 bytes
 abbrev pub IsInput : Option (List ℕ) → List ℕ → Type 0
-IsInput known text = IfSome known (λ bytes. text ≡ take 1048577 bytes)
+IsInput known text = IsFrontOf 1048577 known text
 
 -- of the input at most 1,048,577 bytes were read
 abbrev pub ReadsFew : Option (List ℕ) → Option (List ℕ) → Type 0
-ReadsFew known left = (front : List ℕ) × (length front ≤ 1048577) × Consumes known left front
+ReadsFew known left = ReadsAtMost 1048577 known left
 
 abbrev pub status_of : Stop → ℕ
 status_of NoFile = 2

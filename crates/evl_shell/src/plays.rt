@@ -8,6 +8,7 @@ ghost use Rattle.evl_shell.specs.Plays as plays;
 ghost use Rattle.evl_shell.specs.Plays.{Ended, IsInput, ReadsFew, stop_line};
 
 use crate::lent::OverLent;
+use crate::readings::{ReadFault, read_at_most};
 use crate::runs::run;
 use crate::sinks::{Sink, SinkFailed, put_all};
 use evl_pipeline::Callback;
@@ -17,9 +18,6 @@ use std::io::{Read, Write};
 
 // One byte more than a scenario may have.
 const MOST_READ: usize = 1_048_577;
-
-// How many bytes are asked for at a time.
-const PART: usize = 4096;
 
 /// Why the program stopped before the end of a trace.
 #[derive(Clone, Copy, PartialEq, Eq, Debug)]
@@ -36,21 +34,11 @@ fn read_input<R: Read>(alloc: Global, input: &mut R) -> Result<Vec<u8>, Stop>
     ensures stop { IfErr result (λ e. (e ≡ Stop.NoFile) ⊎ (e ≡ Stop.Broken Fault.Memory)) }
     ensures few { ReadsFew (R.remaining input.old) (R.remaining input.new) }
 {
-    let mut text = Vec::new(alloc);
-    let mut buffer = [0u8; PART];
-    'reading: while text.len() < MOST_READ {
-        let room = (MOST_READ - text.len()).min(PART);
-        let Ok(count) = input.read(&mut buffer[..room]) else {
-            return Err(Stop::NoFile);
-        };
-        if count == 0 {
-            return Ok(text);
-        }
-        if text.extend_from_slice(&buffer[..count]).is_err() {
-            return Err(Stop::Broken(Fault::Memory));
-        }
+    match read_at_most(alloc, input, MOST_READ) {
+        Ok(text) => Ok(text),
+        Err(ReadFault::Failed) => Err(Stop::NoFile),
+        Err(ReadFault::Memory) => Err(Stop::Broken(Fault::Memory)),
     }
-    Ok(text)
 }
 
 // Puts a text whole, or a front part where the sink fails. Its failure is ignored.
