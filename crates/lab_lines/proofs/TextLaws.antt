@@ -1,5 +1,5 @@
 -- Texts of lines, and what they mean.
-use Rattle.std.proofs.Common.{◌≡◌, ◌∙◌, ◌≢◌, ◌⊎◌, inl, inr, ◌++◌, List, ℕ, Bool, true, false, ◌&&◌, length, map, string_bytes, Option, Some, None, Result, Ok, Err, IfOk, IfErr, OnOk, refl, sym, ap, ap₂, subst}
+use Rattle.std.proofs.Common.{◌≡◌, ◌∙◌, ◌≢◌, ◌⊎◌, inl, inr, ◌++◌, List, ℕ, Bool, true, false, ◌&&◌, length, map, string_bytes, Option, Some, None, Result, Ok, Err, IfOk, IfErr, OnOk, sym, ap, ap₂, subst}
 use Rattle.std.specs.Prelude.{unwrap_or}
 use Rattle.std.specs.Str.{bytes_eq, is_utf8}
 use Rattle.std.specs.Str.Lines.{lines}
@@ -12,7 +12,7 @@ use Rattle.evl_scenario.specs.Scenarios.{Script, scenario_of}
 use Rattle.evl_scenario.specs.Writings.{scenario_text, script_of_history, step_of_entry}
 use Rattle.evl_scenario.specs.declared.steps.Step.{Step}
 use Rattle.evl_scenario.specs.declared.writing.Unwritten.TheVariants as unwritten
-use Rattle.lab_lines.specs.Kinds.{IsOfCallers, IsPlain, IsRead, begin_said, callers_text, is_lines}
+use Rattle.lab_lines.specs.Kinds.{IsOfCallers, IsPlain, IsUnread, begin_said, callers_text, is_lines}
 use Rattle.lab_lines.specs.Texts.{IsRefused, IsRefusedLines, IsUnsaid, IsUnwrittenAs, Means, MeansAs, MeansLines, MeansSaid, gathered_in, scripted}
 use Rattle.lab_lines.specs.Writings.{IsOtherwise, IsUnlinedOf, IsWritten, MeansText, lines_text}
 use Rattle.lab_lines.specs.declared.texts.Gathering.{Gathering}
@@ -85,22 +85,15 @@ pub no_lines : (bytes : List ℕ) → is_utf8 bytes ≡ false → false ≡ is_l
 unfolding is_lines
 no_lines bytes odd = ap (λ (u : Bool). u && begin_said (lines bytes)) (sym odd)
 
-read_so : (text bytes : List ℕ) (meant : Meant) → is_lines text ≡ true → bytes ≡ text → Means bytes meant → IsRead text meant
-read_so text bytes meant is same means = record { is = is; means = subst (λ (l : List ℕ). Means l meant) same means }
+-- a text of lines that was read, and one that wasn't
+pub meant_plain : (text plain : List ℕ) (meant : Meant) → is_lines text ≡ true → Means text meant → plain ≡ string_bytes meant.scenario → IsPlain text plain
+meant_plain text plain meant is means made = inr (meant, record { is = is; means = means }, made)
 
-pub meant_plain : (text bytes plain : List ℕ) (meant : Meant) → is_lines text ≡ true → bytes ≡ text → Means bytes meant → plain ≡ string_bytes meant.scenario → IsPlain text plain
-meant_plain text bytes plain meant is same means made = inr (inl (meant, read_so text bytes meant is same means, made))
+pub meant_callers : (text plain : List ℕ) (meant : Meant) → is_lines text ≡ true → Means text meant → plain ≡ callers_text meant → IsOfCallers text plain
+meant_callers text plain meant is means made = inr (meant, record { is = is; means = means }, made)
 
-pub refused_plain : (text bytes : List ℕ) (e : LinesFault) → is_lines text ≡ true → bytes ≡ text → IsRefused bytes e → IsPlain text text
-refused_plain text bytes e is same why = inr (inr (is, e, subst (λ (l : List ℕ). IsRefused l e) same why, refl))
-
-pub meant_callers : {A E : Type 0} (items : A → List ℕ) (r : Result A E) (text bytes : List ℕ) (meant : Meant) → is_lines text ≡ true → bytes ≡ text → Means bytes meant
-    → IfOk r (λ plain. items plain ≡ callers_text meant) → IfOk r (λ plain. IsOfCallers text (items plain))
-meant_callers items (Ok x) text bytes meant is same means made = inr (inl (meant, read_so text bytes meant is same means, made))
-meant_callers items (Err e) text bytes meant is same means made = tt
-
-pub refused_callers : (text bytes : List ℕ) (e : LinesFault) → is_lines text ≡ true → bytes ≡ text → IsRefused bytes e → IsOfCallers text text
-refused_callers text bytes e is same why = inr (inr (is, e, subst (λ (l : List ℕ). IsRefused l e) same why, refl))
+pub refused_lines : (text : List ℕ) (e : LinesFault) → is_lines text ≡ true → IsRefused text e → IsUnread text e
+refused_lines text e is why = inr (is, why)
 
 -- ---- what is written
 

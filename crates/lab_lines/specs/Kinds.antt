@@ -8,6 +8,7 @@ use Rattle.lab_lines.specs.Lines.{bytes_at, is_digit, is_number, said_words}
 use Rattle.lab_lines.specs.Texts.{IsRefused, Means}
 use Rattle.lab_lines.specs.declared.places.Part.{Part}
 use Rattle.lab_lines.specs.declared.texts.LinesFault.{LinesFault}
+use Rattle.lab_lines.specs.declared.texts.LinesFault.TheVariants as fault
 use Rattle.lab_lines.specs.declared.texts.Meant.{Meant}
 
 -- ---- its first line
@@ -56,12 +57,13 @@ pub record IsRead (text : List ℕ) (meant : Meant) : Type 0 where
   pub is : is_lines text ≡ true
   pub means : Means text meant
 
--- A text of lines that can be read stands for its scenario, any other text for itself.
+-- A text of lines that can be read stands for its scenario, a text that is none of lines for itself.
 abbrev pub IsPlain : List ℕ → List ℕ → Type 0
-IsPlain text plain =
-    ((is_lines text ≡ false) × (plain ≡ text))
-    ⊎ (((meant : Meant) × IsRead text meant × (plain ≡ string_bytes meant.scenario))
-    ⊎ ((is_lines text ≡ true) × (e : LinesFault) × IsRefused text e × (plain ≡ text)))
+IsPlain text plain = ((is_lines text ≡ false) × (plain ≡ text)) ⊎ ((meant : Meant) × IsRead text meant × (plain ≡ string_bytes meant.scenario))
+
+-- A text of lines that can't be read stands for nothing.
+abbrev pub IsUnread : List ℕ → LinesFault → Type 0
+IsUnread text e = (e ≡ fault.Memory) ⊎ ((is_lines text ≡ true) × IsRefused text e)
 
 -- ---- its callers
 
@@ -84,9 +86,6 @@ set_up left (line ∷ rest) = (line_set_up left line ++ line_feed) ++ set_up (le
 abbrev pub callers_text : Meant → List ℕ
 callers_text meant = set_up meant.setup (lines (string_bytes meant.scenario))
 
--- The same for callers: a text of lines that can be read stands for its text of callers, any other for itself.
+-- The same for callers: a text of lines that can be read stands for its text of callers.
 abbrev pub IsOfCallers : List ℕ → List ℕ → Type 0
-IsOfCallers text plain =
-    ((is_lines text ≡ false) × (plain ≡ text))
-    ⊎ (((meant : Meant) × IsRead text meant × (plain ≡ callers_text meant))
-    ⊎ ((is_lines text ≡ true) × (e : LinesFault) × IsRefused text e × (plain ≡ text)))
+IsOfCallers text plain = ((is_lines text ≡ false) × (plain ≡ text)) ⊎ ((meant : Meant) × IsRead text meant × (plain ≡ callers_text meant))

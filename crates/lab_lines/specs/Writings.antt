@@ -46,6 +46,11 @@ pub record IsWritten (scenario : Script) (text : List ℕ) : Type 0 where
   pub is_text : text ≡ lines_text scenario
   pub reads_back : MeansScript text scenario
 
+-- a scenario was written of it with a table for each step, and is read as just this
+pub record IsTables (scenario : Script) (text : List ℕ) : Type 0 where
+  pub is_text : text ≡ scenario_text scenario
+  pub reads_back : scenario_of None text ≡ Ok scenario
+
 -- the lines of a scenario don't read back as it
 abbrev pub ReadsOtherwise : Script → Type 0
 ReadsOtherwise script =

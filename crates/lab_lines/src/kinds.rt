@@ -1,9 +1,9 @@
 //! Which texts are texts of lines, and what stands for one in a program that reads scenarios.
-ghost use Rattle.std.specs.Prelude.{◌≡◌, ◌++◌, IfOk, OnOk, drop, map, string_bytes, true};
+ghost use Rattle.std.specs.Prelude.{◌≡◌, ◌++◌, IfErr, IfOk, OnOk, drop, map, string_bytes, true};
 ghost use Rattle.std.specs.Str.Lines.{lines};
 ghost use Rattle.evl_scenario.specs.Lines.{line_feed};
 ghost use Rattle.lab_lines.specs.Kinds as kinds;
-ghost use Rattle.lab_lines.specs.Kinds.{IsOfCallers, IsPlain, begin_said, callers_text, is_first_of, set_up};
+ghost use Rattle.lab_lines.specs.Kinds.{IsOfCallers, IsPlain, IsUnread, begin_said, callers_text, is_first_of, set_up};
 ghost use Rattle.lab_lines.specs.Lines.{said_words};
 
 use crate::cuts::{behind_first, has_digits, is_number, said_of};
@@ -110,27 +110,28 @@ pub fn is_lines(alloc: Global, bytes: &[u8]) -> Result<bool, AllocError>
     }
 }
 
-// The scenario of a text of lines that can be read, and another one as it is.
-fn plain_lines(alloc: Global, text: Vec<u8>) -> Result<Vec<u8>, AllocError>
-    requires { kinds.is_lines text.items ≡ true }
-    ensures { IfOk result (λ plain. IsPlain text.items plain.items) }
+// The scenario of a text of lines.
+fn plain_lines(alloc: Global, text: &[u8]) -> Result<Vec<u8>, LinesFault>
+    requires { kinds.is_lines text.now ≡ true }
+    ensures plain { IfOk result (λ plain. IsPlain text.now plain.items) }
+    ensures unread { IfErr result (IsUnread text.now) }
 {
-    match read_lines(alloc, text.as_slice()) {
+    match read_lines(alloc, text) {
         Ok(meant) => Ok(meant.scenario.into_bytes()),
-        Err(LinesFault::Memory) => Err(AllocError),
-        Err(_) => Ok(text),
+        Err(fault) => Err(fault),
     }
 }
 
-/// The scenario of a text of lines that can be read, and any other text as it is. `AllocError` where memory couldn't
-/// grow.
-pub fn plain_text(alloc: Global, text: Vec<u8>) -> Result<Vec<u8>, AllocError>
-    ensures { IfOk result (λ plain. IsPlain text.items plain.items) }
+/// The scenario of a text of lines, and any other text as it is. Refused where a text of lines can't be read;
+/// `Memory` where memory couldn't grow.
+pub fn plain_text(alloc: Global, text: Vec<u8>) -> Result<Vec<u8>, LinesFault>
+    ensures plain { IfOk result (λ plain. IsPlain text.items plain.items) }
+    ensures unread { IfErr result (IsUnread text.items) }
 {
-    if is_lines(alloc, text.as_slice())? {
-        plain_lines(alloc, text)
-    } else {
-        Ok(text)
+    match is_lines(alloc, text.as_slice()) {
+        Ok(true) => plain_lines(alloc, text.as_slice()),
+        Ok(false) => Ok(text),
+        Err(_) => Err(LinesFault::Memory),
     }
 }
 
@@ -169,26 +170,30 @@ fn write_callers(alloc: Global, meant: &Meant) -> Result<Vec<u8>, AllocError>
     Ok(text.into_bytes())
 }
 
-// The text of callers of a text of lines that can be read, and another one as it is.
-fn callers_lines(alloc: Global, text: Vec<u8>) -> Result<Vec<u8>, AllocError>
-    requires { kinds.is_lines text.items ≡ true }
-    ensures { IfOk result (λ plain. IsOfCallers text.items plain.items) }
+// The text of callers of a text of lines.
+fn callers_lines(alloc: Global, text: &[u8]) -> Result<Vec<u8>, LinesFault>
+    requires { kinds.is_lines text.now ≡ true }
+    ensures plain { IfOk result (λ plain. IsOfCallers text.now plain.items) }
+    ensures unread { IfErr result (IsUnread text.now) }
 {
-    match read_lines(alloc, text.as_slice()) {
-        Ok(meant) => write_callers(alloc, &meant),
-        Err(LinesFault::Memory) => Err(AllocError),
-        Err(_) => Ok(text),
+    match read_lines(alloc, text) {
+        Ok(meant) => match write_callers(alloc, &meant) {
+            Ok(plain) => Ok(plain),
+            Err(_) => Err(LinesFault::Memory),
+        },
+        Err(fault) => Err(fault),
     }
 }
 
-/// The text of callers of a text of lines that can be read, and any other text as it is. `AllocError` where memory
-/// couldn't grow.
-pub fn callers_text(alloc: Global, text: Vec<u8>) -> Result<Vec<u8>, AllocError>
-    ensures { IfOk result (λ plain. IsOfCallers text.items plain.items) }
+/// The text of callers of a text of lines, and any other text as it is. Refused where a text of lines can't be read;
+/// `Memory` where memory couldn't grow.
+pub fn callers_text(alloc: Global, text: Vec<u8>) -> Result<Vec<u8>, LinesFault>
+    ensures plain { IfOk result (λ plain. IsOfCallers text.items plain.items) }
+    ensures unread { IfErr result (IsUnread text.items) }
 {
-    if is_lines(alloc, text.as_slice())? {
-        callers_lines(alloc, text)
-    } else {
-        Ok(text)
+    match is_lines(alloc, text.as_slice()) {
+        Ok(true) => callers_lines(alloc, text.as_slice()),
+        Ok(false) => Ok(text),
+        Err(_) => Err(LinesFault::Memory),
     }
 }

@@ -4,7 +4,7 @@ ghost use Rattle.std.specs.Str.{bytes_eq};
 ghost use Rattle.evl_scenario.specs.Scenarios.{Script, scenario_of};
 ghost use Rattle.evl_scenario.specs.Writings.{scenario_text, script_of_history, step_of_entry};
 ghost use Rattle.lab_lines.specs.Lines.{words_of};
-ghost use Rattle.lab_lines.specs.Writings.{IsOtherwise, IsUnlined, IsUnlinedOf, IsWritten, MeansText, board_line, given_text, lines_text, step_line};
+ghost use Rattle.lab_lines.specs.Writings.{IsOtherwise, IsTables, IsUnlined, IsUnlinedOf, IsWritten, MeansText, board_line, given_text, lines_text, step_line};
 
 use crate::places::{bytes_at, words_in};
 use crate::texts::{LinesFault, entry_of, lines_of, read_lines};
@@ -204,7 +204,7 @@ pub fn write_lines(alloc: Global, scenario: &[u8]) -> Result<Vec<u8>, Unlined>
 
 // The text of a scenario that was read.
 fn write_whole(alloc: Global, scenario: Scenario) -> Result<Vec<u8>, Unlined>
-    ensures written { IfOk result (λ text. text.items ≡ scenario_text scenario) }
+    ensures written { IfOk result (λ text. IsTables scenario text.items) }
     ensures refused { IfErr result (IsUnlinedOf scenario) }
 {
     let (board, limit, steps) = scenario.into_parts();
@@ -217,9 +217,10 @@ fn write_whole(alloc: Global, scenario: Scenario) -> Result<Vec<u8>, Unlined>
     }
 }
 
-/// The text of a scenario, written out: a table for each step, with all keys.
+/// The text of a scenario, written out: a table for each step, with all keys. Read as a scenario, it means just this
+/// board, this limit and these steps.
 pub fn write_tables(alloc: Global, scenario: &[u8]) -> Result<Vec<u8>, Unlined>
-    ensures written { IfOk result (λ text. (script : Script) × (scenario_of None scenario.now ≡ Ok script) × (text.items ≡ scenario_text script)) }
+    ensures written { IfOk result (λ text. (script : Script) × (scenario_of None scenario.now ≡ Ok script) × IsTables script text.items) }
     ensures refused { IfErr result (IsUnlined (scenario_of None scenario.now)) }
 {
     match read_scenario(alloc, scenario, None) {
