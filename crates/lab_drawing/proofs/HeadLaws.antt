@@ -41,12 +41,12 @@ six_signs sign space a b c d e f s1 s2 s3 s4 s5 s6 t0 t1 t2 t3 t4 t5 t6 e1 b1 e2
     (sign_more sign space c d s3 (s4 ∷ s5 ∷ s6 ∷ []) t2 t3 t6 e3 d1 (sign_more sign space d e s4 (s5 ∷ s6 ∷ []) t3 t4 t6 e4 f1
     (sign_more sign space e f s5 (s6 ∷ []) t4 t5 t6 e5 g1 (last_sign sign space f s6 t5 t6 e6)))))
 
--- two signs before six
-pub eight_signs : (sign : ℕ → List ℕ → List ℕ → List ℕ) (space a b c : ℕ) (s1 s2 : List ℕ × List ℕ) (rest : List (List ℕ × List ℕ)) (t0 t1 t2 last : List ℕ)
-    → t1 ≡ t0 ++ sign a s1.0 s1.1 → b ≡ sign_end space a s1.1 → t2 ≡ t1 ++ sign b s2.0 s2.1 → c ≡ sign_end space b s2.1 → last ≡ t2 ++ signs_text sign space c rest
-    → last ≡ t0 ++ signs_text sign space a (s1 ∷ s2 ∷ rest)
-eight_signs sign space a b c s1 s2 rest t0 t1 t2 last e1 b1 e2 c1 w =
-    sign_more sign space a b s1 (s2 ∷ rest) t0 t1 last e1 b1 (sign_more sign space b c s2 rest t1 t2 last e2 c1 w)
+-- three signs before six
+pub nine_signs : (sign : ℕ → List ℕ → List ℕ → List ℕ) (space a b c d : ℕ) (s1 s2 s3 : List ℕ × List ℕ) (rest : List (List ℕ × List ℕ)) (t0 t1 t2 t3 last : List ℕ)
+    → t1 ≡ t0 ++ sign a s1.0 s1.1 → b ≡ sign_end space a s1.1 → t2 ≡ t1 ++ sign b s2.0 s2.1 → c ≡ sign_end space b s2.1 → t3 ≡ t2 ++ sign c s3.0 s3.1 → d ≡ sign_end space c s3.1
+    → last ≡ t3 ++ signs_text sign space d rest → last ≡ t0 ++ signs_text sign space a (s1 ∷ s2 ∷ s3 ∷ rest)
+nine_signs sign space a b c d s1 s2 s3 rest t0 t1 t2 t3 last e1 b1 e2 c1 e3 d1 w =
+    sign_more sign space a b s1 (s2 ∷ s3 ∷ rest) t0 t1 last e1 b1 (sign_more sign space b c s2 (s3 ∷ rest) t1 t2 last e2 c1 (sign_more sign space c d s3 rest t2 t3 last e3 d1 w))
 
 word_more : (goes : Goes) (lanes : List Lane) (at next : ℕ) (one : Condition × List ℕ) (rest : List (Condition × List ℕ)) (old new last : List ℕ)
     → new ≡ old ++ (if is_of_words lanes one.0 then condition_sign goes at (strip_for goes one.0) one.1 else []) → next ≡ (if is_of_words lanes one.0 then sign_end 36 at one.1 else at)

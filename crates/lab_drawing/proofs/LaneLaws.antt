@@ -8,7 +8,7 @@ use Rattle.lab_drawing.proofs.PageLaws.{drop_short}
 use Rattle.lab_drawing.specs.Lanes.{AreLanesOf, AreSorted, is_above, is_lane, lanes_in, place, with_lane, put_named, put_touched, touches}
 use Rattle.evl_base.specs.declared.stage.Stage.TheVariants.{Inband, Oob}
 use Rattle.lab_drawing.specs.declared.lanes.Lane.{Lane}
-use Rattle.lab_drawing.specs.declared.lanes.Lane.TheVariants.{Thread, Mutex, Stax, Core, Sem, Flags, Xbuf, Timer, Clock, Stage}
+use Rattle.lab_drawing.specs.declared.lanes.Lane.TheVariants.{Thread, Mutex, Stax, Core, Sem, Flags, Xbuf, Timer, Clock, Line, Stage}
 use Rattle.lab_drawing.specs.declared.marks.Mark.{Mark}
 
 before_both : (a b c d e f : ℕ) → (nat_lt a c || (a == c && nat_lt b d)) ≡ true → (nat_lt c e || (c == e && nat_lt d f)) ≡ true → (nat_lt a e || (a == e && nat_lt b f)) ≡ true
@@ -189,7 +189,9 @@ lane_at kind number =
     else if kind == 6 then Xbuf number
     else if kind == 7 then Timer number
     else if kind == 8 then Clock
-    else if kind == 9 then Stage Oob
+    else if kind == 9 then Line Oob number
+    else if kind == 10 then Stage Oob
+    else if kind == 11 then Line Inband number
     else Stage Inband
 
 at_place : (lane : Lane) → lane_at (place lane).0 (place lane).1 ≡ lane
@@ -202,6 +204,8 @@ at_place (Flags number) = refl
 at_place (Xbuf number) = refl
 at_place (Timer number) = refl
 at_place Clock = refl
+at_place (Line Oob number) = refl
+at_place (Line Inband number) = refl
 at_place (Stage Oob) = refl
 at_place (Stage Inband) = refl
 

@@ -10,13 +10,14 @@ use Rattle.lab_drawing.specs.Frames.{Layout, capped, layout_of, left_of, longest
 use Rattle.lab_drawing.specs.Heads.{head_text, place_text}
 use Rattle.lab_drawing.specs.Lanes.{lanes_in}
 use Rattle.lab_drawing.specs.Marks.{is_entry, line_of}
-use Rattle.lab_drawing.specs.Pictures.{band_frame, body_text, column_behind, column_text, columns_text, ellipsis, goes_on, goes_on_behind, going_text, label_of, lead_text, mark_text, moment_after, picture_text, shown_text, stood_text, wait_behind, waits_of}
+use Rattle.lab_drawing.specs.Pictures.{band_frame, body_text, column_behind, column_text, columns_text, ellipsis, end_of, goes_on, goes_on_behind, going_text, label_of, lead_text, mark_text, moment_after, picture_text, shown_text, stood_text, wait_behind, waits_of}
 use Rattle.lab_drawing.specs.Titles.{HoldsTitles, escaped, escaped_byte, title_text}
 use Rattle.lab_drawing.specs.declared.frames.Goes.{Goes}
 use Rattle.lab_drawing.specs.declared.frames.Shows.{Shows}
 use Rattle.lab_drawing.specs.declared.lanes.Lane.{Lane}
 use Rattle.lab_drawing.specs.declared.marks.Mark.{Mark}
 use Rattle.lab_drawing.specs.declared.moments.Moment.{Moment}
+use Rattle.lab_drawing.specs.declared.ties.TieEnd.{TieEnd}
 use Rattle.lab_drawing.proofs.PageLaws.{drop_short, length_taken, take_short}
 use Rattle.lab_drawing.proofs.TitleLaws.{titles-append, titles-behind}
 
@@ -200,23 +201,25 @@ pub joined3 : (a b c t0 t1 t2 t3 : List ℕ) → t1 ≡ t0 ++ a → t2 ≡ t1 ++
 joined3 a b c t0 t1 t2 t3 e f g =
     g ∙ ap (λ (x : List ℕ). x ++ c) (f ∙ ap (λ (x : List ℕ). x ++ b) e) ∙ append_assoc (t0 ++ a) b c ∙ append_assoc t0 a (b ++ c)
 
-pub body_made : (sheet : Layout) (column : ℕ) (mark : Mark) (n : ℕ) (led leads tied ties drawn t0 t1 t2 t3 t4 : List ℕ) → n ≡ to_line sheet column mark.lane → leads ≡ led
-    → led ≡ lead_text sheet.goes n → ties ≡ tied → tied ≡ tie_text sheet column mark → drawn ≡ shape_text mark.shape → t1 ≡ t0 ++ leads → t2 ≡ t1 ++ ties
-    → t3 ≡ t2 ++ drawn → t4 ≡ t3 ++ label_of sheet n mark → t4 ≡ t0 ++ body_text sheet column mark
-body_made sheet column mark n led leads tied ties drawn t0 t1 t2 t3 t4 b l m t u d e f g h =
+pub body_made : (sheet : Layout) (column : ℕ) (end : TieEnd) (mark : Mark) (n : ℕ) (led leads tied ties drawn t0 t1 t2 t3 t4 : List ℕ) → n ≡ to_line sheet column mark.lane → leads ≡ led
+    → led ≡ lead_text sheet.goes n → ties ≡ tied → tied ≡ tie_text sheet column end mark → drawn ≡ shape_text mark.shape → t1 ≡ t0 ++ leads → t2 ≡ t1 ++ ties
+    → t3 ≡ t2 ++ drawn → t4 ≡ t3 ++ label_of sheet n mark → t4 ≡ t0 ++ body_text sheet column end mark
+body_made sheet column end mark n led leads tied ties drawn t0 t1 t2 t3 t4 b l m t u d e f g h =
     let whole : t4 ≡ t1 ++ (ties ++ (drawn ++ label_of sheet n mark)) = joined3 ties drawn (label_of sheet n mark) t1 t2 t3 t4 f g h in
     whole ∙ ap (λ (x : List ℕ). x ++ (ties ++ (drawn ++ label_of sheet n mark))) e ∙ append_assoc t0 leads (ties ++ (drawn ++ label_of sheet n mark))
     ∙ ap (λ (x : List ℕ). t0 ++ (x ++ (ties ++ (drawn ++ label_of sheet n mark)))) (l ∙ m)
     ∙ ap (λ (x : List ℕ). t0 ++ (lead_text sheet.goes n ++ (x ++ (drawn ++ label_of sheet n mark)))) (t ∙ u)
-    ∙ ap (λ (x : List ℕ). t0 ++ (lead_text sheet.goes n ++ (tie_text sheet column mark ++ (x ++ label_of sheet n mark)))) d
-    ∙ ap (λ (k : ℕ). t0 ++ (lead_text sheet.goes k ++ (tie_text sheet column mark ++ (shape_text mark.shape ++ label_of sheet k mark)))) b
+    ∙ ap (λ (x : List ℕ). t0 ++ (lead_text sheet.goes n ++ (tie_text sheet column end mark ++ (x ++ label_of sheet n mark)))) d
+    ∙ ap (λ (k : ℕ). t0 ++ (lead_text sheet.goes k ++ (tie_text sheet column end mark ++ (shape_text mark.shape ++ label_of sheet k mark)))) b
 
-pub mark_made : (sheet : Layout) (column : ℕ) (mark : Mark) (x y : ℕ) (placed places t0 t1 t2 t3 : List ℕ) → x ≡ left_of sheet column mark.lane → y ≡ top_of sheet column mark.lane
-    → places ≡ placed → placed ≡ place_text x y → t1 ≡ t0 ++ places → t2 ≡ t1 ++ title_text mark.line.now → t3 ≡ t2 ++ body_text sheet column mark → t3 ≡ t0 ++ mark_text sheet column mark
-mark_made sheet column mark x y placed places t0 t1 t2 t3 a d p q e f g =
-    joined3 places (title_text mark.line.now) (body_text sheet column mark) t0 t1 t2 t3 e f g
-    ∙ ap (λ (z : List ℕ). t0 ++ (z ++ (title_text mark.line.now ++ body_text sheet column mark)))
-    (p ∙ q ∙ ap (λ (n : ℕ). place_text n y) a ∙ ap (λ (n : ℕ). place_text (left_of sheet column mark.lane) n) d)
+pub mark_made : (sheet : Layout) (column : ℕ) (before : Option Moment) (mark : Mark) (end : TieEnd) (x y : ℕ) (placed places t0 t1 t2 t3 : List ℕ) → end ≡ end_of mark before
+    → x ≡ left_of sheet column mark.lane → y ≡ top_of sheet column mark.lane → places ≡ placed → placed ≡ place_text x y → t1 ≡ t0 ++ places → t2 ≡ t1 ++ title_text mark.line.now
+    → t3 ≡ t2 ++ body_text sheet column end mark → t3 ≡ t0 ++ mark_text sheet column before mark
+mark_made sheet column before mark end x y placed places t0 t1 t2 t3 n a d p q e f g =
+    joined3 places (title_text mark.line.now) (body_text sheet column end mark) t0 t1 t2 t3 e f g
+    ∙ ap (λ (z : List ℕ). t0 ++ (z ++ (title_text mark.line.now ++ body_text sheet column end mark)))
+    (p ∙ q ∙ ap (λ (k : ℕ). place_text k y) a ∙ ap (λ (k : ℕ). place_text (left_of sheet column mark.lane) k) d)
+    ∙ ap (λ (k : TieEnd). t0 ++ (place_text (left_of sheet column mark.lane) (top_of sheet column mark.lane) ++ (title_text mark.line.now ++ body_text sheet column k mark))) n
 
 -- what stands behind a mark was made in a text of its own
 pub column_made : (frame stood mark first behind added t0 t1 t2 : List ℕ) → first ≡ frame → behind ≡ first ++ stood → added ≡ behind → t1 ≡ t0 ++ added → t2 ≡ t1 ++ mark
@@ -245,12 +248,13 @@ columns_titles sheet moments before (mark ∷ rest) =
     let column : ℕ = length before in
     let stood : List ℕ =
     stood_text sheet column (waits_of sheet.lanes before) (moment_after moments (count_by is_entry (before ++ mark ∷ []))) (moment_after moments (count_by is_entry before)) in
+    let end : TieEnd = end_of mark (moment_after moments (count_by is_entry before)) in
     let place : List ℕ = place_text (left_of sheet column mark.lane) (top_of sheet column mark.lane) in
     let others : List ℕ = columns_text sheet moments (before ++ mark ∷ []) rest in (
       band_frame sheet column ++ (stood ++ place),
-      body_text sheet column mark ++ others,
-      regrouped (band_frame sheet column) stood place (title_text mark.line.now) (body_text sheet column mark) others,
-      titles-behind (map line_of rest) (body_text sheet column mark) others (columns_titles sheet moments (before ++ mark ∷ []) rest),
+      body_text sheet column end mark ++ others,
+      regrouped (band_frame sheet column) stood place (title_text mark.line.now) (body_text sheet column end mark) others,
+      titles-behind (map line_of rest) (body_text sheet column end mark) others (columns_titles sheet moments (before ++ mark ∷ []) rest),
     )
 
 pub svg_titles : (goes : Goes) (shows : Shows) (moments : List Moment) (marks : List Mark) (text : List ℕ) → text ≡ going_text goes shows moments marks → HoldsTitles (map line_of marks) text

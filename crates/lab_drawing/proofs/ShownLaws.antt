@@ -88,7 +88,7 @@ shown_at front name how lane f n is = rw (around_bar front (name ++ (codes ": " 
 -- ---- how it stands
 
 held_as : (text : List ℕ) (condition : Condition) (number count : ℕ) (more : List ℕ) → Lacks 44 text → held_at text ≡ Some condition → count < 2 ^ 16
-    → standing_by (Stax number) (text ++ (codes ", " ++ (decimal count ++ 32 ∷ more))) ≡ Some (record { lane = Stax number; condition = condition; number = Some count })
+    → standing_by (Stax number) (text ++ (codes ", " ++ (decimal count ++ 32 ∷ more))) ≡ Some (record { lane = Stax number; condition = condition; number = Some count; policy = None; lender = None })
 held_as text condition number count more h at small =
     rw (around_first 44 (32 ∷ []) text (decimal count ++ 32 ∷ more) h, at, around_first 32 [] (decimal count) more (decimal_lacks 32 count refl), number_back count small) refl
 

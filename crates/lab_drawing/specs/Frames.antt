@@ -2,18 +2,23 @@
 use Rattle.std.specs.Prelude.{ℕ, ◌+◌, ◌-◌, ◌*◌, ◌/◌, ◌%◌, ◌^◌, ◌==◌, min, max, nat_le, Bool, true, false, List, [], ◌∷◌, ◌++◌, length, flat_map, position, codes, decimal, if◌then◌else◌, Option, Some, None}
 use Rattle.std.specs.Int.{div_ceil}
 use Rattle.std.specs.Option.{unwrap_or}
+use Rattle.lab_drawing.specs.Drawings.{end_text}
 use Rattle.lab_drawing.specs.Lanes.{is_lane, lane_text, lanes_in}
 use Rattle.lab_drawing.specs.declared.frames.Goes.{Goes}
 use Rattle.lab_drawing.specs.declared.frames.Goes.TheVariants.{Across, Down}
 use Rattle.lab_drawing.specs.declared.frames.Sheet.{Sheet}
 use Rattle.lab_drawing.specs.declared.frames.Shows.{Shows}
 use Rattle.lab_drawing.specs.declared.frames.Shows.TheVariants.{Waits, Words}
+use Rattle.evl_base.specs.declared.policy.Policy.{Policy}
+use Rattle.evl_base.specs.declared.policy.Policy.TheVariants.{Fifo, Rr, Quota, Weak}
 use Rattle.evl_base.specs.declared.stage.Stage.TheVariants.{Inband, Oob}
 use Rattle.lab_drawing.specs.declared.lanes.Lane.{Lane}
-use Rattle.lab_drawing.specs.declared.lanes.Lane.TheVariants.{Thread, Stage}
+use Rattle.lab_drawing.specs.declared.lanes.Lane.TheVariants.{Thread, Line, Stage}
 use Rattle.lab_drawing.specs.declared.marks.Mark.{Mark}
+use Rattle.lab_drawing.specs.declared.moments.Standing.{Standing}
+use Rattle.lab_drawing.specs.declared.ties.TieEnd.{TieEnd}
 use Rattle.lab_drawing.specs.declared.moments.Condition.{Condition}
-use Rattle.lab_drawing.specs.declared.moments.Condition.TheVariants.{Owned, Claimed, Taken, Stalled, Pending}
+use Rattle.lab_drawing.specs.declared.moments.Condition.TheVariants.{Owned, Handed, Claimed, Taken, Stalled, Pending}
 
 -- its lanes from the first, how many characters are shown of a line, how many marks it has, what it shows of how lanes stand, and which way it goes
 pub record Layout : Type 0 where
@@ -95,7 +100,7 @@ lines_left sheet = capped (64 + 56 * length sheet.lanes)
 
 -- how wide the picture is: as its widest band, or as its legend
 abbrev pub picture_width : Layout → ℕ
-picture_width sheet = by_way sheet.goes (124 + 16 * max 38 (min 60 sheet.count)) (max 740 (capped (lines_left sheet + 40 + 8 * sheet.shown)))
+picture_width sheet = by_way sheet.goes (124 + 16 * max 44 (min 60 sheet.count)) (max 828 (capped (lines_left sheet + 40 + 8 * sheet.shown)))
 
 abbrev pub band_count : Layout → ℕ
 band_count sheet = div_ceil sheet.count 60
@@ -120,6 +125,7 @@ date_text date = decimal (date / (unit_of date).0) ++ (codes " " ++ (unit_of dat
 -- what stands before the number above a lane: T is that of a thread, + that of pending events
 abbrev pub number_sign : Condition → List ℕ
 number_sign Owned = codes "T"
+number_sign Handed = codes "T"
 number_sign Claimed = codes "T"
 number_sign Taken = codes "T"
 number_sign Stalled = codes "+"
@@ -129,6 +135,7 @@ number_sign _ = []
 -- the colour of the line of a lane
 abbrev pub lane_ink : Lane → List ℕ
 lane_ink (Thread number) = codes "#b8c4d6"
+lane_ink (Line stage number) = codes "#d8c48c"
 lane_ink (Stage stage) = codes "#d8c48c"
 lane_ink _ = codes "#dcdcdc"
 
@@ -178,6 +185,7 @@ line_down x y end ink =
 abbrev pub short_name : Lane → List ℕ
 short_name (Stage Oob) = codes "oob"
 short_name (Stage Inband) = codes "inband"
+short_name (Line Inband number) = codes "inb " ++ decimal number
 short_name lane = lane_text lane
 
 abbrev pub name_above : ℕ → ℕ → Lane → List ℕ
@@ -217,41 +225,73 @@ abbrev pub number_above : Layout → Condition → ℕ → List ℕ
 number_above sheet condition number =
     codes "<text " ++ (number_place sheet.shows ++ (codes " y=\"-7\" font-size=\"7\">" ++ (number_sign condition ++ (decimal number ++ codes "</text>"))))
 
--- a rank as people write it: a letter for real-time, quota or weak, and the priority
-abbrev pub rank_text : ℕ → List ℕ
-rank_text rank =
-    if nat_le 512 rank then codes "f" ++ decimal (rank - 512)
-    else if nat_le 256 rank then codes "q" ++ decimal (rank - 256)
-    else codes "w" ++ decimal rank
+-- the priority that a rank is of
+abbrev pub priority_of : ℕ → ℕ
+priority_of rank =
+    if nat_le 512 rank then rank - 512
+    else if nat_le 256 rank then rank - 256
+    else rank
 
--- what is told of a lane in a picture that goes down: a thread's rank, else a number behind its sign
-abbrev pub told_of_lane : Lane → Condition → ℕ → List ℕ
-told_of_lane (Thread thread) condition number = rank_text number
-told_of_lane _ condition number = number_sign condition ++ decimal number
+-- the rank that a policy gives by itself
+abbrev pub own_rank : Policy → ℕ
+own_rank (Fifo prio) = 512 + prio
+own_rank (Rr prio slice) = 512 + prio
+own_rank (Quota group prio) = 256 + prio
+own_rank (Weak prio) = prio
 
-abbrev pub number_beside : Lane → Condition → ℕ → List ℕ
-number_beside lane condition number = codes "<text x=\"8\" y=\"-3\" font-weight=\"bold\">" ++ (told_of_lane lane condition number ++ codes "</text>")
+-- a policy as people write it: its first letter, and the priority
+abbrev pub letter_of : Policy → List ℕ
+letter_of (Fifo prio) = codes "f"
+letter_of (Rr prio slice) = codes "r"
+letter_of (Quota group prio) = codes "q"
+letter_of (Weak prio) = codes "w"
 
-abbrev pub number_text : Layout → Lane → Condition → ℕ → List ℕ
-number_text sheet lane condition number = by_way sheet.goes (number_above sheet condition number) (number_beside lane condition number)
+-- ↑ in UTF-8
+abbrev pub arrow : List ℕ
+arrow = 226 ∷ 134 ∷ 145 ∷ []
+
+-- a thread's own policy
+abbrev pub own_text : Policy → List ℕ
+own_text policy = codes "<text x=\"8\" y=\"-3\" font-weight=\"bold\">" ++ (letter_of policy ++ (decimal (priority_of (own_rank policy)) ++ codes "</text>"))
+
+-- a rank that a thread lends: behind an arrow its priority, and the thread; or else that of a ceiling
+abbrev pub lent_text : ℕ → Option ℕ → List ℕ
+lent_text rank (Some thread) = codes "<text x=\"8\" y=\"7\" font-weight=\"bold\">" ++ (arrow ++ (decimal (priority_of rank) ++ (codes "T" ++ (decimal thread ++ codes "</text>"))))
+lent_text rank None = codes "<text x=\"8\" y=\"7\" font-weight=\"bold\">c" ++ (decimal (priority_of rank) ++ codes "</text>")
+
+-- an effective rank that is another than the policy gives
+abbrev pub raised_text : Policy → ℕ → Option ℕ → List ℕ
+raised_text policy rank lender = if own_rank policy == rank then [] else lent_text rank lender
+
+abbrev pub signed_text : Condition → ℕ → List ℕ
+signed_text condition number = codes "<text x=\"8\" y=\"-3\" font-weight=\"bold\">" ++ (number_sign condition ++ (decimal number ++ codes "</text>"))
+
+-- what is told of a lane in a picture that goes down: a thread's policy with the rank that it has by others, else a number behind its sign
+abbrev pub number_beside : Option Policy → Option ℕ → Condition → ℕ → List ℕ
+number_beside (Some policy) lender condition number = own_text policy ++ raised_text policy number lender
+number_beside None lender condition number = signed_text condition number
+
+abbrev pub number_text : Layout → Standing → ℕ → List ℕ
+number_text sheet standing number =
+    by_way sheet.goes (number_above sheet standing.condition number) (number_beside standing.policy standing.lender standing.condition number)
 
 -- ---- ties
 
--- so far down
-abbrev pub tie_down : ℕ → List ℕ
-tie_down pixels =
-    codes "<path d=\"M0 0V" ++ (decimal pixels ++ (codes "\" stroke=\"#1f5fa8\"/><path d=\"M-4 " ++ (decimal pixels ++ codes "l4 -4l4 4l-4 4Z\" fill=\"#ffffff\" stroke=\"#1f5fa8\"/>")))
+-- so far down, with this at its end
+abbrev pub tie_down : ℕ → TieEnd → List ℕ
+tie_down pixels end =
+    codes "<path d=\"M0 0V" ++ (decimal pixels ++ (codes "\" stroke=\"#1f5fa8\"/><g transform=\"translate(0," ++ (decimal pixels ++ (codes ")\">" ++ (end_text end ++ codes "</g>")))))
 
 -- so far to the right
-abbrev pub tie_right : ℕ → List ℕ
-tie_right pixels =
-    codes "<path d=\"M0 0H" ++ (decimal pixels ++ (codes "\" stroke=\"#1f5fa8\"/><path d=\"M" ++ (decimal pixels ++ codes " -4l4 4l-4 4l-4 -4Z\" fill=\"#ffffff\" stroke=\"#1f5fa8\"/>")))
+abbrev pub tie_right : ℕ → TieEnd → List ℕ
+tie_right pixels end =
+    codes "<path d=\"M0 0H" ++ (decimal pixels ++ (codes "\" stroke=\"#1f5fa8\"/><g transform=\"translate(" ++ (decimal pixels ++ (codes ",0)\">" ++ (end_text end ++ codes "</g>")))))
 
 -- from a mark to the lane that its call names
-abbrev pub tie_to : Layout → ℕ → Lane → Option Lane → List ℕ
-tie_to sheet column lane None = []
-tie_to sheet column lane (Some other) =
-    by_way sheet.goes (tie_down (down sheet column other - down sheet column lane)) (tie_right (lane_left sheet other - lane_left sheet lane))
+abbrev pub tie_to : Layout → ℕ → Lane → TieEnd → Option Lane → List ℕ
+tie_to sheet column lane end None = []
+tie_to sheet column lane end (Some other) =
+    by_way sheet.goes (tie_down (down sheet column other - down sheet column lane) end) (tie_right (lane_left sheet other - lane_left sheet lane) end)
 
-abbrev pub tie_text : Layout → ℕ → Mark → List ℕ
-tie_text sheet column mark = tie_to sheet column mark.lane mark.names
+abbrev pub tie_text : Layout → ℕ → TieEnd → Mark → List ℕ
+tie_text sheet column end mark = tie_to sheet column mark.lane end mark.names

@@ -1,7 +1,7 @@
 -- What stands above the bands of a picture as SVG: its opening, and its legend.
 use Rattle.std.specs.Prelude.{ℕ, ◌+◌, ◌*◌, Bool, true, false, List, [], ◌∷◌, ◌++◌, length, codes, decimal, if◌then◌else◌}
 use Rattle.std.specs.List.{list_any}
-use Rattle.lab_drawing.specs.Drawings.{shape_text, strip_for}
+use Rattle.lab_drawing.specs.Drawings.{end_text, shape_text, strip_for}
 use Rattle.lab_drawing.specs.Frames.{Layout, by_way, capped, picture_height, picture_width}
 use Rattle.lab_drawing.specs.declared.frames.Goes.{Goes}
 use Rattle.lab_drawing.specs.declared.frames.Goes.TheVariants.{Across, Down}
@@ -11,7 +11,8 @@ use Rattle.lab_drawing.specs.declared.lanes.Lane.{Lane}
 use Rattle.lab_drawing.specs.declared.lanes.Lane.TheVariants.{Core, Mutex, Stax}
 use Rattle.lab_drawing.specs.declared.marks.Shape.TheVariants.{Answered, Begun, Ended, Refused, Played, Unhandled}
 use Rattle.lab_drawing.specs.declared.moments.Condition.{Condition}
-use Rattle.lab_drawing.specs.declared.moments.Condition.TheVariants.{Inband, Blocked, Ready, Picked, Stalled, Pending, Owned, Runs, Oob, Claimed, Taken}
+use Rattle.lab_drawing.specs.declared.moments.Condition.TheVariants.{Inband, Blocked, Ready, Picked, Stalled, Pending, Owned, Handed, Runs, Oob, Claimed, Taken}
+use Rattle.lab_drawing.specs.declared.ties.TieEnd.TheVariants.{Arrives, Merges, Lost}
 
 abbrev pub opening_across : ℕ → ℕ → List ℕ
 opening_across width height =
@@ -69,16 +70,13 @@ signs_text sign space at (one ∷ rest) = sign at one.0 one.1 ++ signs_text sign
 abbrev pub shape_signs : List (List ℕ × List ℕ)
 shape_signs =
     (shape_text Answered, codes "answered") ∷ (shape_text Begun, codes "a wait begins") ∷ (shape_text Ended, codes "a wait ends")
-    ∷ (shape_text Refused, codes "refused") ∷ (shape_text Played, codes "played") ∷ (shape_text Unhandled, codes "not handled") ∷ []
-
--- of a mutex whose owner the kernel has recorded
-abbrev pub owned_word : Goes → List ℕ
-owned_word goes = by_way goes (codes "owned") (codes "owner recorded")
+    ∷ (shape_text Refused, codes "refused") ∷ (shape_text Played, codes "played") ∷ (shape_text Unhandled, codes "not handled")
+    ∷ (end_text Arrives, codes "arrives") ∷ (end_text Merges, codes "merges") ∷ (end_text Lost, codes "spurious") ∷ []
 
 abbrev pub condition_signs : Goes → List (List ℕ × List ℕ)
 condition_signs goes =
     (strip_for goes Picked, codes "picked") ∷ (strip_for goes Ready, codes "ready") ∷ (strip_for goes Blocked, codes "blocked") ∷ (strip_for goes Inband, codes "in-band")
-    ∷ (strip_for goes Owned, owned_word goes) ∷ (strip_for goes Stalled, codes "stalled") ∷ (strip_for goes Pending, codes "events pending") ∷ (strip_for goes Runs, codes "timer runs") ∷ []
+    ∷ (strip_for goes Owned, codes "owner recorded") ∷ (strip_for goes Handed, codes "handed on") ∷ (strip_for goes Stalled, codes "stalled") ∷ (strip_for goes Pending, codes "events pending") ∷ (strip_for goes Runs, codes "timer runs") ∷ []
 
 -- whether a condition is one of the word of a lane
 abbrev pub is_of_word : Condition → Lane → Bool

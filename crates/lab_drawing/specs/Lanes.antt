@@ -5,7 +5,7 @@ use Rattle.std.specs.List.{AllByRecursion, list_any}
 use Rattle.std.specs.Option.{option_map_or}
 use Rattle.evl_base.specs.declared.stage.Stage.TheVariants.{Inband, Oob}
 use Rattle.lab_drawing.specs.declared.lanes.Lane.{Lane}
-use Rattle.lab_drawing.specs.declared.lanes.Lane.TheVariants.{Thread, Mutex, Stax, Core, Sem, Flags, Xbuf, Timer, Clock, Stage}
+use Rattle.lab_drawing.specs.declared.lanes.Lane.TheVariants.{Thread, Mutex, Stax, Core, Sem, Flags, Xbuf, Timer, Clock, Line, Stage}
 use Rattle.lab_drawing.specs.declared.marks.Mark.{Mark}
 
 -- the name of a lane
@@ -19,6 +19,8 @@ lane_text (Flags number) = codes "flags " ++ decimal number
 lane_text (Xbuf number) = codes "xbuf " ++ decimal number
 lane_text (Timer number) = codes "timer " ++ decimal number
 lane_text Clock = codes "clock"
+lane_text (Line Oob number) = codes "oob " ++ decimal number
+lane_text (Line Inband number) = codes "inband " ++ decimal number
 lane_text (Stage Oob) = codes "out-of-band"
 lane_text (Stage Inband) = codes "in-band"
 
@@ -33,8 +35,10 @@ place (Flags number) = (5, number)
 place (Xbuf number) = (6, number)
 place (Timer number) = (7, number)
 place Clock = (8, 0)
-place (Stage Oob) = (9, 0)
-place (Stage Inband) = (10, 0)
+place (Line Oob number) = (9, number)
+place (Stage Oob) = (10, 0)
+place (Line Inband number) = (11, number)
+place (Stage Inband) = (12, 0)
 
 abbrev pub is_before : ℕ × ℕ → ℕ × ℕ → Bool
 is_before one other = nat_lt one.0 other.0 || (one.0 == other.0 && nat_lt one.1 other.1)

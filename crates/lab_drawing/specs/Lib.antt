@@ -1,5 +1,6 @@
 pub mod Calls
 pub mod Drawings
+pub mod Events
 pub mod Frames
 pub mod Heads
 pub mod Lanes

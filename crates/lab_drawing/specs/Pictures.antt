@@ -1,5 +1,5 @@
 -- A picture as SVG, from its opening to its end.
-use Rattle.std.specs.Prelude.{ℕ, zero, suc, ◌+◌, ◌-◌, ◌%◌, ◌==◌, nat_le, Bool, true, false, List, [], ◌∷◌, ◌++◌, length, map, flat_map, count_by, slice_get, codes, decimal, if◌then◌else◌, Option, Some, None}
+use Rattle.std.specs.Prelude.{ℕ, zero, suc, ◌+◌, ◌-◌, ◌%◌, ◌==◌, nat_le, Bool, true, false, List, [], ◌∷◌, ◌++◌, length, map, flat_map, count_by, slice_get, codes, decimal, if◌then◌else◌, Option, Some, None, option_and_then, is_some}
 use Rattle.std.specs.Fmt.{take_chars}
 use Rattle.std.specs.List.{fold}
 use Rattle.std.specs.Str.{trim_start}
@@ -8,7 +8,10 @@ use Rattle.lab_drawing.specs.Frames.{Layout, by_way, capped, frame_text, layout_
 use Rattle.lab_drawing.specs.Heads.{head_text, place_text}
 use Rattle.lab_drawing.specs.Lanes.{is_lane}
 use Rattle.lab_drawing.specs.Marks.{is_entry}
-use Rattle.lab_drawing.specs.Strips.{moment_text}
+use Rattle.lab_drawing.specs.Events.{line_at}
+use Rattle.lab_drawing.specs.Named.{value_of}
+use Rattle.lab_drawing.specs.Strips.{moment_text, standing_of}
+use Rattle.lab_drawing.specs.Texts.{number_in}
 use Rattle.lab_drawing.specs.Titles.{escaped, title_text}
 use Rattle.lab_drawing.specs.declared.frames.Goes.{Goes}
 use Rattle.lab_drawing.specs.declared.frames.Goes.TheVariants.{Across, Down}
@@ -17,8 +20,10 @@ use Rattle.lab_drawing.specs.declared.frames.Shows.TheVariants.{Machine, Waits}
 use Rattle.lab_drawing.specs.declared.lanes.Lane.{Lane}
 use Rattle.lab_drawing.specs.declared.marks.Mark.{Mark}
 use Rattle.lab_drawing.specs.declared.marks.Shape.{Shape}
-use Rattle.lab_drawing.specs.declared.marks.Shape.TheVariants.{Begun, Ended, Refused, Played, Unhandled}
+use Rattle.lab_drawing.specs.declared.marks.Shape.TheVariants.{Begun, Ended, Refused, Arrived, Spurious, Played, Unhandled}
 use Rattle.lab_drawing.specs.declared.moments.Moment.{Moment}
+use Rattle.lab_drawing.specs.declared.ties.TieEnd.{TieEnd}
+use Rattle.lab_drawing.specs.declared.ties.TieEnd.TheVariants.{Named, Arrives, Merges, Lost}
 
 -- ---- marks
 
@@ -75,19 +80,57 @@ abbrev pub lead_text : Goes → ℕ → List ℕ
 lead_text Across pixels = codes "<path d=\"M0 0V" ++ (decimal pixels ++ codes "\" stroke=\"#e4e4e4\" stroke-dasharray=\"1 3\"/>")
 lead_text Down pixels = codes "<path d=\"M0 0H" ++ (decimal pixels ++ codes "\" stroke=\"#b0b0b0\" stroke-dasharray=\"1 3\"/>")
 
+-- how often a play's callback was called
+abbrev pub count_told : List ℕ → Option ℕ
+count_told line = option_and_then (number_in 64) (value_of line (codes " count "))
+
+-- what is told beside a mark: of a play its count, of a spurious event the interrupt line
+abbrev pub told_beside : Shape → List ℕ → Option ℕ
+told_beside Played line = count_told line
+told_beside Unhandled line = count_told line
+told_beside Spurious line = line_at line
+told_beside _ line = None
+
+abbrev pub beside_text : Option ℕ → List ℕ
+beside_text None = []
+beside_text (Some number) = codes "<text x=\"8\" y=\"9\" fill=\"#5c4300\">" ++ (decimal number ++ codes "</text>")
+
+-- in a picture that goes down
+abbrev pub beside_mark : Goes → Mark → List ℕ
+beside_mark goes mark = by_way goes [] (beside_text (told_beside mark.shape mark.line.now))
+
 -- the label of a mark, where its lines begin so far from it
 abbrev pub label_of : Layout → ℕ → Mark → List ℕ
-label_of sheet pixels mark = label_text sheet.goes sheet.shown (capped (pixels + indent sheet.goes mark.shape)) (look_for sheet.goes mark.shape) mark.line.now
+label_of sheet pixels mark = beside_mark sheet.goes mark ++ label_text sheet.goes sheet.shown (capped (pixels + indent sheet.goes mark.shape)) (look_for sheet.goes mark.shape) mark.line.now
 
 -- the drawing of a mark, behind its title: the line to its label, the tie, the shape, and the label
-abbrev pub body_text : Layout → ℕ → Mark → List ℕ
-body_text sheet column mark =
+abbrev pub body_text : Layout → ℕ → TieEnd → Mark → List ℕ
+body_text sheet column end mark =
     lead_text sheet.goes (to_line sheet column mark.lane)
-    ++ (tie_text sheet column mark ++ (shape_text mark.shape ++ label_of sheet (to_line sheet column mark.lane) mark))
+    ++ (tie_text sheet column end mark ++ (shape_text mark.shape ++ label_of sheet (to_line sheet column mark.lane) mark))
 
--- a mark in its column
-abbrev pub mark_text : Layout → ℕ → Mark → List ℕ
-mark_text sheet column mark = place_text (left_of sheet column mark.lane) (top_of sheet column mark.lane) ++ (title_text mark.line.now ++ body_text sheet column mark)
+-- a named lane showed something at the moment before
+abbrev pub stood : Option Lane → Option Moment → Bool
+stood (Some lane) (Some moment) = is_some (standing_of lane moment)
+stood _ _ = false
+
+abbrev pub event_end : Bool → TieEnd
+event_end true = Merges
+event_end false = Arrives
+
+-- what stands at the end of a tie: an event that was pending before merges
+abbrev pub end_at : Shape → Bool → TieEnd
+end_at Arrived pending = event_end pending
+end_at Spurious pending = Lost
+end_at _ pending = Named
+
+abbrev pub end_of : Mark → Option Moment → TieEnd
+end_of mark before = end_at mark.shape (stood mark.names before)
+
+-- a mark in its column, behind the moment before
+abbrev pub mark_text : Layout → ℕ → Option Moment → Mark → List ℕ
+mark_text sheet column before mark =
+    place_text (left_of sheet column mark.lane) (top_of sheet column mark.lane) ++ (title_text mark.line.now ++ body_text sheet column (end_of mark before) mark)
 
 -- ---- waits
 
@@ -147,7 +190,7 @@ stood_text sheet column waits (Some moment) before = moment_text sheet column mo
 
 -- the lanes of its band, how they stand, and the mark
 abbrev pub column_text : Layout → ℕ → List (Lane × Bool) → Option Moment → Option Moment → Mark → List ℕ
-column_text sheet column waits moment before mark = band_frame sheet column ++ (stood_text sheet column waits moment before ++ mark_text sheet column mark)
+column_text sheet column waits moment before mark = band_frame sheet column ++ (stood_text sheet column waits moment before ++ mark_text sheet column before mark)
 
 -- the column of a mark behind those before it
 abbrev pub column_behind : Layout → List Moment → List Mark → Mark → List ℕ

@@ -6,13 +6,15 @@ use Rattle.lab_drawing.specs.Lanes.{is_lane, lane_text, lanes_in}
 use Rattle.lab_drawing.specs.declared.lanes.Lane.{Lane}
 use Rattle.lab_drawing.specs.declared.marks.Mark.{Mark}
 use Rattle.lab_drawing.specs.declared.marks.Shape.{Shape}
-use Rattle.lab_drawing.specs.declared.marks.Shape.TheVariants.{Answered, Begun, Ended, Refused, Played, Unhandled}
+use Rattle.lab_drawing.specs.declared.marks.Shape.TheVariants.{Answered, Begun, Ended, Refused, Arrived, Spurious, Played, Unhandled}
 
 abbrev pub character_text : Shape → List ℕ
 character_text Answered = codes "o"
 character_text Begun = codes "("
 character_text Ended = codes ")"
 character_text Refused = codes "x"
+character_text Arrived = codes "!"
+character_text Spurious = codes "?"
 character_text Played = codes "#"
 character_text Unhandled = codes "-"
 
@@ -46,7 +48,7 @@ all_bands lanes marks = bands_text (div_ceil (length marks) 60) lanes marks
 
 -- what the characters mean
 abbrev pub legend_text : List ℕ
-legend_text = codes "o answered  ( a wait begins  ) a wait ends  x refused  # played  - not handled\n" ++ codes ". named by the call above\n"
+legend_text = codes "o answered  ( a wait begins  ) a wait ends  x refused  # played  - not handled\n" ++ codes ". named by the call above  ! an event is pending  ? it is spurious\n"
 
 -- the bands of all marks, each with the lanes of them all, and the legend
 abbrev pub rows_text : List Mark → List ℕ

@@ -58,11 +58,11 @@ stage_condition stage.Oob = Oob
 
 abbrev pub word_stands : Word → Option Standing
 word_stands (free_stax number) = None
-word_stands (held_stax number at count) = Some (record { lane = Stax number; condition = stage_condition at; number = Some count })
-word_stands (mutex number owner true) = Some (record { lane = Mutex number; condition = Claimed; number = owner })
-word_stands (mutex number (Some owner) false) = Some (record { lane = Mutex number; condition = Owned; number = Some owner })
+word_stands (held_stax number at count) = Some (record { lane = Stax number; condition = stage_condition at; number = Some count; policy = None; lender = None })
+word_stands (mutex number owner true) = Some (record { lane = Mutex number; condition = Claimed; number = owner; policy = None; lender = None })
+word_stands (mutex number (Some owner) false) = Some (record { lane = Mutex number; condition = Owned; number = Some owner; policy = None; lender = None })
 word_stands (mutex number None false) = None
-word_stands (core (Some holder)) = Some (record { lane = Core; condition = Taken; number = Some holder })
+word_stands (core (Some holder)) = Some (record { lane = Core; condition = Taken; number = Some holder; policy = None; lender = None })
 word_stands (core None) = None
 
 -- numbers that fit 16 bits

@@ -7,13 +7,15 @@ use Rattle.csv.specs.declared.writer.Writer.{Writer}
 use Rattle.lab_drawing.specs.Lanes.{lane_text}
 use Rattle.lab_drawing.specs.declared.marks.Mark.{Mark}
 use Rattle.lab_drawing.specs.declared.marks.Shape.{Shape}
-use Rattle.lab_drawing.specs.declared.marks.Shape.TheVariants.{Answered, Begun, Ended, Refused, Played, Unhandled}
+use Rattle.lab_drawing.specs.declared.marks.Shape.TheVariants.{Answered, Begun, Ended, Refused, Arrived, Spurious, Played, Unhandled}
 
 abbrev pub shape_word : Shape → List ℕ
 shape_word Answered = codes "answered"
 shape_word Begun = codes "begun"
 shape_word Ended = codes "ended"
 shape_word Refused = codes "refused"
+shape_word Arrived = codes "arrived"
+shape_word Spurious = codes "spurious"
 shape_word Played = codes "played"
 shape_word Unhandled = codes "unhandled"
 

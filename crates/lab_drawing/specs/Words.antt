@@ -74,7 +74,7 @@ stands_by Core how = core_stands how
 stands_by _ how = None
 
 abbrev pub stood : Lane → Condition × Option ℕ → Standing
-stood lane told = record { lane = lane; condition = told.0; number = told.1 }
+stood lane told = record { lane = lane; condition = told.0; number = told.1; policy = None; lender = None }
 
 -- how a lane stands by these words
 abbrev pub standing_by : Lane → List ℕ → Option Standing

@@ -1,22 +1,12 @@
-//! The drawings of a picture: lines, ties and shapes.
-ghost use Rattle.std.specs.Prelude.{◌≡◌, ◌++◌, string_bytes, IfOk, OnOk};
+//! The drawings of a picture: lines and shapes.
+ghost use Rattle.std.specs.Prelude.{◌≡◌, ◌++◌, string_bytes, OnOk};
 ghost use Rattle.lab_drawing.specs.Drawings.{shape_text};
-ghost use Rattle.lab_drawing.specs.Frames as frames;
 ghost use Rattle.lab_drawing.specs.Frames.{lane_ink, lane_name, line_text};
 
 use crate::frames::LEFT;
 use crate::lanes::Lane;
 use crate::marks::Shape;
-use std::alloc::{AllocError, Global};
-
-/// A tie to a lane so far down.
-pub fn tie_down(alloc: Global, down: usize) -> Result<String, AllocError>
-    ensures { IfOk result (λ text. string_bytes text ≡ frames.tie_down down) }
-{
-    format!(in alloc;
-        "<path d=\"M0 0V{down}\" stroke=\"#1f5fa8\"/><path d=\"M-4 {down}l4 -4l4 4l-4 4Z\" fill=\"#ffffff\" stroke=\"#1f5fa8\"/>"
-    )
-}
+use std::alloc::AllocError;
 
 /// Appends a line so far down, up to here.
 pub fn put_line(text: &mut String, y: usize, end: usize, ink: &str) -> Result<(), AllocError>
@@ -43,7 +33,7 @@ pub fn lane_ink(lane: Lane) -> &'static str
 {
     match lane {
         Lane::Thread(_) => "#b8c4d6",
-        Lane::Stage(_) => "#d8c48c",
+        Lane::Line(_, _) | Lane::Stage(_) => "#d8c48c",
         _ => "#dcdcdc",
     }
 }
@@ -53,7 +43,9 @@ pub fn shape_text(shape: Shape) -> &'static str
     ensures { result.now ≡ shape_text shape }
 {
     match shape {
-        Shape::Answered => "<circle r=\"5\" fill=\"#1f5fa8\"/>",
+        Shape::Answered | Shape::Arrived | Shape::Spurious => {
+            "<circle r=\"5\" fill=\"#1f5fa8\"/>"
+        }
         Shape::Begun => {
             "<circle r=\"4.5\" fill=\"#ffffff\" stroke=\"#1f5fa8\" stroke-width=\"2\"/>"
         }

@@ -5,11 +5,12 @@ ghost use Rattle.lab_drawing.specs.Frames.{band_count, band_depth, band_height, 
 ghost use Rattle.lab_drawing.specs.Heads.{head_text, second_legend};
 ghost use Rattle.lab_drawing.specs.Lanes.{AreLanesOf, put_touched};
 
-use crate::downwards::{put_line_down, put_name_above, tie_right};
-use crate::drawings::{lane_ink, put_lane_name, put_line, tie_down};
+use crate::downwards::{put_line_down, put_name_above};
+use crate::drawings::{lane_ink, put_lane_name, put_line};
 use crate::heads::{opening, put_conditions, put_shapes, put_words};
 use crate::lanes::{Lane, add_lane, index_of};
 use crate::marks::Mark;
+use crate::ties::{TieEnd, tie_down, tie_right};
 use std::alloc::{AllocError, Global};
 
 /// How many marks stand side by side in a band.
@@ -331,24 +332,25 @@ impl Sheet {
         }
     }
 
-    /// The tie from a mark in a lane to another one.
+    /// The tie from a mark in a lane to another one, with this at its end.
     pub fn tie(
         &self,
         alloc: Global,
         column: usize,
         lane: Lane,
         other: Lane,
+        end: TieEnd,
     ) -> Result<String, AllocError>
-        ensures { IfOk result (λ text. string_bytes text ≡ tie_to (layout self.now) column lane (Some other)) }
+        ensures { IfOk result (λ text. string_bytes text ≡ tie_to (layout self.now) column lane end (Some other)) }
     {
         match self.goes {
             Goes::Across => {
                 let from = self.down(column, lane);
-                tie_down(alloc, self.down(column, other).saturating_sub(from))
+                tie_down(alloc, self.down(column, other).saturating_sub(from), end)
             }
             Goes::Down => {
                 let from = self.lane_left(lane);
-                tie_right(alloc, self.lane_left(other).saturating_sub(from))
+                tie_right(alloc, self.lane_left(other).saturating_sub(from), end)
             }
         }
     }
@@ -365,16 +367,16 @@ impl Sheet {
         ensures { result ≡ picture_width (layout self.now) }
     {
         match self.goes {
-            Goes::Across => steps(LEFT + BETWEEN, COLUMN, self.columns().max(38)),
+            Goes::Across => steps(LEFT + BETWEEN, COLUMN, self.columns().max(44)),
             Goes::Down => self.width_down(),
         }
     }
 
     // The same of one that goes down.
     fn width_down(&self) -> usize
-        ensures { result ≡ max 740 (capped (lines_left (layout self.now) + 40 + 8 * self.now.shown)) }
+        ensures { result ≡ max 828 (capped (lines_left (layout self.now) + 40 + 8 * self.now.shown)) }
     {
-        steps(self.lines_left().saturating_add(40), LETTER, self.shown).max(740)
+        steps(self.lines_left().saturating_add(40), LETTER, self.shown).max(828)
     }
 
     // How many bands there are.

@@ -2,7 +2,7 @@
 ghost use Rattle.std.specs.Prelude.{◌≡◌, ◌++◌, string_bytes, IfOk, OnOk, if◌then◌else◌, []};
 ghost use Rattle.lab_drawing.specs.Drawings as drawings;
 ghost use Rattle.lab_drawing.specs.Heads as heads;
-ghost use Rattle.lab_drawing.specs.Heads.{condition_sign, condition_signs, dark_text, opening_text, owned_word, place_text, shape_sign, shape_signs, signs_of, signs_text, word_signs, word_text};
+ghost use Rattle.lab_drawing.specs.Heads.{condition_sign, condition_signs, dark_text, opening_text, place_text, shape_sign, shape_signs, signs_of, signs_text, word_signs, word_text};
 
 use crate::drawings::shape_text;
 use crate::frames::{Goes, steps};
@@ -10,6 +10,7 @@ use crate::lanes::Lane;
 use crate::marks::Shape;
 use crate::moments::Condition;
 use crate::strips::strip_for;
+use crate::ties::{TieEnd, end_text};
 use std::alloc::{AllocError, Global};
 
 // How wide a character is.
@@ -102,6 +103,17 @@ fn put_shape(text: &mut String, at: usize, shape: Shape, word: &str) -> Result<u
     Ok(sign_end(32, at, word))
 }
 
+// The same of the end of a tie.
+fn put_end(text: &mut String, at: usize, end: TieEnd, word: &str) -> Result<usize, AllocError>
+    ensures text { OnOk result (string_bytes text.new ≡ string_bytes text.old ++ shape_sign at (drawings.end_text end) word.now) }
+    ensures next { IfOk result (λ next. next ≡ heads.sign_end 32 at word.now) }
+{
+    put_place(text, at, 18)?;
+    text.push_str(end_text(end))?;
+    put_sign_word(text, 10, 3, word)?;
+    Ok(sign_end(32, at, word))
+}
+
 /// Appends the legend of the shapes. `AllocError` where the text couldn't grow.
 pub fn put_shapes(text: &mut String) -> Result<(), AllocError>
     ensures { OnOk result (string_bytes text.new ≡ string_bytes text.old ++ signs_text shape_sign 32 16 shape_signs) }
@@ -111,7 +123,10 @@ pub fn put_shapes(text: &mut String) -> Result<(), AllocError>
     let refused = put_shape(text, ended, Shape::Ended, "a wait ends")?;
     let played = put_shape(text, refused, Shape::Refused, "refused")?;
     let unhandled = put_shape(text, played, Shape::Played, "played")?;
-    put_shape(text, unhandled, Shape::Unhandled, "not handled")?;
+    let arrives = put_shape(text, unhandled, Shape::Unhandled, "not handled")?;
+    let merges = put_end(text, arrives, TieEnd::Arrives, "arrives")?;
+    let spurious = put_end(text, merges, TieEnd::Merges, "merges")?;
+    put_end(text, spurious, TieEnd::Lost, "spurious")?;
     Ok(())
 }
 
@@ -164,16 +179,6 @@ fn put_condition(
     Ok(sign_end(36, at, word))
 }
 
-// What is said of a mutex whose owner the kernel has recorded.
-fn owned_word(goes: Goes) -> &'static str
-    ensures { result.now ≡ owned_word goes }
-{
-    match goes {
-        Goes::Across => "owned",
-        Goes::Down => "owner recorded",
-    }
-}
-
 /// Appends the legend of the conditions. `AllocError` where the text couldn't grow.
 pub fn put_conditions(text: &mut String, goes: Goes) -> Result<(), AllocError>
     ensures { OnOk result (string_bytes text.new ≡ string_bytes text.old ++ signs_text (condition_sign goes) 36 20 (condition_signs goes)) }
@@ -182,7 +187,8 @@ pub fn put_conditions(text: &mut String, goes: Goes) -> Result<(), AllocError>
     let blocked = put_condition(text, goes, ready, Condition::Ready, "ready")?;
     let inband = put_condition(text, goes, blocked, Condition::Blocked, "blocked")?;
     let owned = put_condition(text, goes, inband, Condition::Inband, "in-band")?;
-    let stalled = put_condition(text, goes, owned, Condition::Owned, owned_word(goes))?;
+    let handed = put_condition(text, goes, owned, Condition::Owned, "owner recorded")?;
+    let stalled = put_condition(text, goes, handed, Condition::Handed, "handed on")?;
     let pending = put_condition(text, goes, stalled, Condition::Stalled, "stalled")?;
     let runs = put_condition(text, goes, pending, Condition::Pending, "events pending")?;
     put_condition(text, goes, runs, Condition::Runs, "timer runs")?;

@@ -21,6 +21,8 @@ pub enum Lane {
     Xbuf(u16),
     Timer(u16),
     Clock,
+    /// An interrupt line on a stage where it has a callback.
+    Line(Stage, u16),
     Stage(Stage),
 }
 
@@ -41,6 +43,8 @@ impl fmt::Display for Lane {
             Lane::Xbuf(number) => write!(f, "xbuf {number}"),
             Lane::Timer(number) => write!(f, "timer {number}"),
             Lane::Clock => write!(f, "clock"),
+            Lane::Line(Stage::Oob, number) => write!(f, "oob {number}"),
+            Lane::Line(Stage::Inband, number) => write!(f, "inband {number}"),
             Lane::Stage(Stage::Oob) => write!(f, "out-of-band"),
             Lane::Stage(Stage::Inband) => write!(f, "in-band"),
         }
@@ -61,8 +65,10 @@ fn place(lane: Lane) -> (u8, u16)
         Lane::Xbuf(number) => (6, number),
         Lane::Timer(number) => (7, number),
         Lane::Clock => (8, 0),
-        Lane::Stage(Stage::Oob) => (9, 0),
-        Lane::Stage(Stage::Inband) => (10, 0),
+        Lane::Line(Stage::Oob, number) => (9, number),
+        Lane::Stage(Stage::Oob) => (10, 0),
+        Lane::Line(Stage::Inband, number) => (11, number),
+        Lane::Stage(Stage::Inband) => (12, 0),
     }
 }
 

@@ -2,9 +2,11 @@
 //! What names no source is this profile's own.
 #![tactic(auto)]
 
+mod beside;
 mod downwards;
 mod drawings;
 mod escapes;
+mod events;
 mod frames;
 mod heads;
 mod labels;
@@ -17,10 +19,12 @@ mod strips;
 mod svg;
 mod tables;
 mod texts;
+mod ties;
 mod told;
 mod waits;
 mod words;
 
+pub use downwards::own_rank;
 pub use frames::{Goes, lanes_of};
 pub use lanes::Lane;
 pub use marks::{Mark, Shape, marks_of};

@@ -13,6 +13,7 @@ ghost use Rattle.lab_drawing.specs.Marks as marks;
 ghost use Rattle.lab_drawing.specs.Marks.{all_marked, is_called, mark_of, play_lane, play_shape, told_of};
 ghost use Rattle.lab_drawing.specs.Named as named;
 
+use crate::events::{OnLines, has_callback, note_lines, said_on, stage_beside};
 use crate::lanes::Lane;
 use crate::texts::{around, number, up_to};
 use crate::words::{outcome, shown};
@@ -31,6 +32,10 @@ pub enum Shape {
     Ended,
     /// A call that was refused.
     Refused,
+    /// A call that made an event pending on a line that has a callback.
+    Arrived,
+    /// The same on a line without one: the event is counted, and nothing is pending.
+    Spurious,
     /// A play whose callback handled it, or that calls none.
     Played,
     /// A play that no callback handled.
@@ -46,16 +51,16 @@ pub struct Mark<'a> {
     pub shape: Shape,
 }
 
-// The value of a key in the text of a call.
-fn value_of<'a>(call: &'a str, key: &str) -> Option<&'a str>
+/// The value of a key in the text of a call.
+pub fn value_of<'a>(call: &'a str, key: &str) -> Option<&'a str>
     ensures { option_map (λ value. value.now) result ≡ named.value_of call.now key.now }
 {
     let (_, behind) = around(key, call)?;
     Some(up_to(" ", behind))
 }
 
-// The number at a key.
-fn number_at(call: &str, key: &str) -> Option<u16>
+/// The number at a key.
+pub fn number_at(call: &str, key: &str) -> Option<u16>
     ensures { result ≡ named.number_at call.now key.now }
 {
     number(value_of(call, key)?)
@@ -175,7 +180,12 @@ fn play_place(play: Play) -> (Lane, Shape)
         Play::Clock => (Lane::Clock, Shape::Played),
         Play::Timer { timer, handled, .. } => (Lane::Timer(timer.0), fire_shape(handled)),
         Play::Deadline { thread } => (Lane::Thread(thread.0), Shape::Played),
-        Play::Line { stage, handled, .. } => (Lane::Stage(stage), fire_shape(handled)),
+        Play::Line {
+            line,
+            stage,
+            handled,
+            ..
+        } => (Lane::Line(stage, line.0), fire_shape(handled)),
     }
 }
 
@@ -203,8 +213,61 @@ fn mark_of<'a>(line: &TraceLine<'a>) -> Option<Mark<'a>>
     }
 }
 
+// The mark of an event on this line, where these have a callback.
+fn posted<'a>(lines: &[Lane], lane: Lane, mark: Mark<'a>) -> Mark<'a>
+    ensures { told_of result ≡ marks.posted lines.now lane (told_of mark.entry) }
+{
+    if has_callback(lines, lane) {
+        Mark {
+            line: mark.line,
+            lane: mark.lane,
+            names: Some(lane),
+            shape: Shape::Arrived,
+        }
+    } else {
+        Mark {
+            line: mark.line,
+            lane: mark.lane,
+            names: Some(stage_beside(lane)),
+            shape: Shape::Spurious,
+        }
+    }
+}
+
+// A mark that names this lane.
+fn naming<'a>(lane: Lane, mark: Mark<'a>) -> Mark<'a>
+    ensures { told_of result ≡ marks.naming lane (told_of mark.entry) }
+{
+    Mark {
+        line: mark.line,
+        lane: mark.lane,
+        names: Some(lane),
+        shape: mark.shape,
+    }
+}
+
+// The mark of a call that does this on lines, where these have a callback.
+fn done_on<'a>(lines: &[Lane], does: Option<OnLines>, mark: Mark<'a>) -> Mark<'a>
+    ensures { told_of result ≡ marks.done_on lines.now does (told_of mark.entry) }
+{
+    match does {
+        None => mark,
+        Some(OnLines::Requests(lane)) => naming(lane, mark),
+        Some(OnLines::Frees(lane)) => naming(lane, mark),
+        Some(OnLines::Posts(lane)) => posted(lines, lane, mark),
+    }
+}
+
+// The mark of a line of a trace, where these interrupt lines have a callback.
+fn marked_at<'a>(lines: &[Lane], line: &TraceLine<'a>) -> Option<Mark<'a>>
+    ensures { option_map told_of result ≡ marks.marked_at lines.now line.now }
+{
+    let mark = mark_of(line)?;
+    Some(done_on(lines, said_on(lines, &line.says), mark))
+}
+
 /// The marks of the lines of a trace: one for each entry and each play, in order, with its line, its lane, what it
-/// names, and how it looks. `AllocError` where the list couldn't grow.
+/// names, and how it looks. `AllocError` where a list couldn't grow.
 pub fn marks_of<'a>(alloc: Global, lines: &[TraceLine<'a>]) -> Result<Vec<Mark<'a>>, AllocError>
     ensures marks { IfOk result (λ marks. map told_of marks.items ≡ all_marked lines.now) }
 
@@ -212,10 +275,14 @@ pub fn marks_of<'a>(alloc: Global, lines: &[TraceLine<'a>]) -> Result<Vec<Mark<'
     ensures called { (line : TraceLine) (number : Option ℕ) (step : Step) (answer : Result Reply Refusal) → StepFits step → says_of line.says ≡ entry (step_parts number step answer) → mark_of line ≡ Some (step_told line.text.now step answer) }
 {
     let mut marks = Vec::new(alloc);
+    let mut called = Vec::new(alloc);
+    called.push(Lane::Clock)?;
     for line in lines {
-        if let Some(mark) = mark_of(line) {
+        if let Some(mark) = marked_at(called.as_slice(), line) {
             marks.push(mark)?;
         }
+        let does = said_on(called.as_slice(), &line.says);
+        note_lines(alloc, &mut called, does)?;
     }
     Ok(marks)
 }

@@ -3,6 +3,7 @@ ghost use Rattle.std.specs.Prelude.{◌≡◌};
 ghost use Rattle.lab_drawing.specs.Strips.{standing_of};
 
 use crate::lanes::{Lane, is_lane};
+use evl_base::Policy;
 
 /// How a lane stands after a call.
 #[derive(Clone, Copy, PartialEq, Eq, Debug)]
@@ -17,10 +18,12 @@ pub enum Condition {
     Picked,
     /// The stage is stalled.
     Stalled,
-    /// The stage isn't stalled, and events are pending there.
+    /// The stage isn't stalled, and events are pending there; the event of the line is pending.
     Pending,
     /// The mutex has a recorded owner; its word names one.
     Owned,
+    /// The mutex was handed on to a thread that hasn't finished its wait yet.
+    Handed,
     /// The timer runs.
     Runs,
     /// Out-of-band callers hold the stax.
@@ -31,18 +34,21 @@ pub enum Condition {
     Taken,
 }
 
-/// How one lane stands, with the effective rank of its thread, the owner of its mutex, how many events are pending on
-/// its stage, how many callers hold its stax, or who has the core.
+/// How one lane stands, with the effective rank of its thread, the owner of its mutex or who gets it, how many events
+/// are pending on its stage, how many callers hold its stax, or who has the core. Of a thread also its own policy, and
+/// the thread whose rank it is lent, if it is.
 #[derive(Clone, Copy, PartialEq, Eq, Debug)]
 pub struct Standing {
     pub lane: Lane,
     pub condition: Condition,
     pub number: Option<u16>,
+    pub policy: Option<Policy>,
+    pub lender: Option<u16>,
 }
 
 /// How a machine stands after a call: the date in nanoseconds, and the lanes that show something. The others show
-/// nothing: a thread that isn't attached, a stage that isn't stalled and has no pending event, a mutex with no recorded
-/// owner, a timer that doesn't run, a word that is free or hasn't been shown.
+/// nothing: a thread that isn't attached, a stage that isn't stalled and has no pending event, a line with none, a
+/// mutex with no recorded owner that isn't handed on, a timer that doesn't run, a word that is free or hasn't been shown.
 #[derive(Drop)]
 pub struct Moment {
     pub date: u64,

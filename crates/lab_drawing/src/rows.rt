@@ -19,6 +19,8 @@ fn character(shape: Shape) -> char
         Shape::Begun => '(',
         Shape::Ended => ')',
         Shape::Refused => 'x',
+        Shape::Arrived => '!',
+        Shape::Spurious => '?',
         Shape::Played => '#',
         Shape::Unhandled => '-',
     }
@@ -126,6 +128,6 @@ pub fn write_rows(alloc: Global, marks: &[Mark<'_>]) -> Result<String, AllocErro
     text.push_str(
         "o answered  ( a wait begins  ) a wait ends  x refused  # played  - not handled\n",
     )?;
-    text.push_str(". named by the call above\n")?;
+    text.push_str(". named by the call above  ! an event is pending  ? it is spurious\n")?;
     Ok(text)
 }

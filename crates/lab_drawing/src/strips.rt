@@ -1,14 +1,15 @@
 //! The strips below the lanes of a picture, which show how each stands, and the dates above them.
-ghost use Rattle.std.specs.Prelude.{◌≡◌, ◌<◌, ◌++◌, IfOk, OnOk, option_map, string_bytes};
+ghost use Rattle.std.specs.Prelude.{◌≡◌, ◌<◌, ◌++◌, Some, IfOk, OnOk, option_map, string_bytes};
 ghost use Rattle.lab_drawing.specs.Drawings as drawings;
 ghost use Rattle.lab_drawing.specs.Frames as frames;
 ghost use Rattle.lab_drawing.specs.Frames.{date_text, layout, number_above, number_sign, number_text};
 ghost use Rattle.lab_drawing.specs.Strips as strips;
 ghost use Rattle.lab_drawing.specs.Strips.{date_above, date_beside, date_mark, is_number, moment_text, standing_text, strip_at, tells_number, told_date, told_number, told_standing};
 
-use crate::downwards::{put_number_beside, strip_down};
+use crate::downwards::{own_rank, put_number_beside, strip_down};
 use crate::frames::{COLUMNS, Goes, Sheet};
 use crate::moments::{Condition, Moment, Standing};
+use evl_base::Policy;
 use std::alloc::{AllocError, Global};
 
 /// The strip of a condition, around the place where a mark stands.
@@ -32,6 +33,7 @@ pub fn strip_text(condition: Condition) -> &'static str
         Condition::Owned => {
             "<rect x=\"-8\" y=\"8.5\" width=\"16\" height=\"3\" fill=\"#5f6b7a\"/>"
         }
+        Condition::Handed => "<path d=\"M-8 8.5h16M-8 11.5h16\" stroke=\"#5f6b7a\"/>",
         Condition::Runs => "<path d=\"M-8 10h16M-4 8v4M4 8v4\" stroke=\"#5c4300\"/>",
         Condition::Oob => {
             "<rect x=\"-8\" y=\"7.5\" width=\"16\" height=\"5\" fill=\"#1f5fa8\"/>"
@@ -58,7 +60,7 @@ pub fn number_sign(condition: Condition) -> &'static str
     ensures { result.now ≡ number_sign condition }
 {
     match condition {
-        Condition::Owned | Condition::Claimed | Condition::Taken => "T",
+        Condition::Owned | Condition::Handed | Condition::Claimed | Condition::Taken => "T",
         Condition::Stalled | Condition::Pending => "+",
         _ => "",
     }
@@ -71,11 +73,11 @@ fn put_number(
     standing: Standing,
     number: u16,
 ) -> Result<(), AllocError>
-    ensures { OnOk result (string_bytes text.new ≡ string_bytes text.old ++ number_text (layout sheet.now) standing.lane standing.condition number) }
+    ensures { OnOk result (string_bytes text.new ≡ string_bytes text.old ++ number_text (layout sheet.now) standing number) }
 {
     match sheet.goes {
         Goes::Across => put_number_above(text, sheet, standing, number),
-        Goes::Down => put_number_beside(text, standing.lane, standing.condition, number),
+        Goes::Down => put_number_beside(text, standing, number),
     }
 }
 
@@ -110,9 +112,53 @@ fn is_number(one: Option<u16>, other: Option<u16>) -> bool
     }
 }
 
+// Whether two policies are written alike.
+fn is_written_so(one: Policy, other: Policy) -> bool
+    ensures { result ≡ strips.is_written_so one other }
+{
+    own_rank(one) == own_rank(other) && is_round(one) == is_round(other)
+}
+
+// Whether it is round-robin.
+fn is_round(policy: Policy) -> bool
+    ensures { result ≡ strips.is_round policy }
+{
+    matches!(policy, Policy::Rr { .. })
+}
+
+// Whether two policies are written alike, or neither is there.
+fn is_policy(one: Option<Policy>, other: Option<Policy>) -> bool
+    ensures { result ≡ strips.is_policy one other }
+{
+    match one {
+        None => other.is_none(),
+        Some(policy) => match other {
+            None => false,
+            Some(another) => is_written_so(policy, another),
+        },
+    }
+}
+
+// Whether a lane had the same policy, lent by the same thread.
+fn ranked_so(standing: Standing, earlier: Standing) -> bool
+    ensures { result ≡ strips.ranked_so standing earlier }
+{
+    is_policy(earlier.policy, standing.policy) && is_number(earlier.lender, standing.lender)
+}
+
+// Whether a lane stood with the same number, in a picture that goes down with the same policy and lender, too.
+fn stood_so(goes: Goes, standing: Standing, earlier: Standing) -> bool
+    ensures { result ≡ strips.stood_so goes standing (Some earlier) }
+{
+    match goes {
+        Goes::Across => is_number(earlier.number, standing.number),
+        Goes::Down => { is_number(earlier.number, standing.number) && ranked_so(standing, earlier) }
+    }
+}
+
 // Whether a lane's number is told in a column: where it is another than before, or a band begins.
-fn tells_number(column: usize, standing: Standing, before: Option<&Moment>) -> bool
-    ensures { result ≡ tells_number column standing (option_map (λ moment. moment.now) before.entry) }
+fn tells_number(goes: Goes, column: usize, standing: Standing, before: Option<&Moment>) -> bool
+    ensures { result ≡ tells_number goes column standing (option_map (λ moment. moment.now) before.entry) }
 {
     if column % COLUMNS == 0 {
         return true;
@@ -121,7 +167,7 @@ fn tells_number(column: usize, standing: Standing, before: Option<&Moment>) -> b
         None => true,
         Some(moment) => match moment.standing(standing.lane) {
             None => true,
-            Some(earlier) => !is_number(earlier.number, standing.number),
+            Some(earlier) => !stood_so(goes, standing, earlier),
         },
     }
 }
@@ -175,7 +221,7 @@ fn put_standing(
         text,
         sheet,
         standing,
-        tells_number(column, standing, before),
+        tells_number(sheet.goes, column, standing, before),
     )?;
     text.push_str("</g>\n")
 }

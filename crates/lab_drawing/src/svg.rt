@@ -8,6 +8,7 @@ ghost use Rattle.lab_drawing.specs.Pictures.{band_frame, body_text, column_text,
 ghost use Rattle.lab_drawing.specs.Titles.{HoldsTitles};
 ghost use Rattle.lab_drawing.specs.declared.frames.Shows.TheVariants.{Words};
 
+use crate::beside::put_beside;
 use crate::drawings::shape_text;
 use crate::escapes::{put_text, put_title};
 use crate::frames::{COLUMNS, Goes, Sheet, Shows};
@@ -17,16 +18,23 @@ use crate::marks::Mark;
 use crate::moments::Moment;
 use crate::pages::is_entry;
 use crate::strips::put_moment;
+use crate::ties::{TieEnd, end_of};
 use crate::waits::{no_waits, note, put_waits};
 use std::alloc::{AllocError, Global};
 
 // The tie of a mark to the lane of what its call names.
-fn tie(alloc: Global, sheet: &Sheet, column: usize, mark: &Mark<'_>) -> Result<String, AllocError>
-    ensures { IfOk result (λ text. string_bytes text ≡ tie_text (layout sheet.now) column mark.now) }
+fn tie(
+    alloc: Global,
+    sheet: &Sheet,
+    column: usize,
+    end: TieEnd,
+    mark: &Mark<'_>,
+) -> Result<String, AllocError>
+    ensures { IfOk result (λ text. string_bytes text ≡ tie_text (layout sheet.now) column end mark.now) }
 {
     match mark.names {
         None => Ok(String::new(alloc)),
-        Some(lane) => sheet.tie(alloc, column, mark.lane, lane),
+        Some(lane) => sheet.tie(alloc, column, mark.lane, lane, end),
     }
 }
 
@@ -60,6 +68,7 @@ fn put_label_of(
 {
     let from = pixels.saturating_add(indent(sheet.goes, mark.shape));
     let look = look_for(sheet.goes, mark.shape);
+    put_beside(alloc, text, sheet.goes, mark)?;
     put_label(alloc, text, sheet.goes, sheet.shown, from, look, mark.line)
 }
 
@@ -75,14 +84,15 @@ fn put_body(
     alloc: Global,
     sheet: &Sheet,
     column: usize,
+    end: TieEnd,
     mark: &Mark<'_>,
     text: &mut Vec<u8>,
 ) -> Result<(), AllocError>
-    ensures { OnOk result (text.new.items ≡ text.old.items ++ body_text (layout sheet.now) column mark.now) }
+    ensures { OnOk result (text.new.items ≡ text.old.items ++ body_text (layout sheet.now) column end mark.now) }
 {
     let far = sheet.to_line(column, mark.lane);
     let led = lead(alloc, sheet.goes, far)?;
-    let tied = tie(alloc, sheet, column, mark)?;
+    let tied = tie(alloc, sheet, column, end, mark)?;
     put_text(text, led.as_str())?;
     put_text(text, tied.as_str())?;
     put_text(text, shape_text(mark.shape))?;
@@ -90,22 +100,23 @@ fn put_body(
     Ok(())
 }
 
-// Appends a mark, with the line that it stands for as its title.
+// Appends a mark behind the moment before it, with the line that it stands for as its title.
 fn put_mark(
     alloc: Global,
     sheet: &Sheet,
     column: usize,
+    before: Option<&Moment>,
     mark: &Mark<'_>,
     text: &mut Vec<u8>,
 ) -> Result<(), AllocError>
-    ensures { OnOk result (text.new.items ≡ text.old.items ++ mark_text (layout sheet.now) column mark.now) }
+    ensures { OnOk result (text.new.items ≡ text.old.items ++ mark_text (layout sheet.now) column (option_map (λ moment. moment.now) before.entry) mark.now) }
 {
     let x = sheet.left_of(column, mark.lane);
     let y = sheet.top_of(column, mark.lane);
     let placed = place(alloc, x, y)?;
     put_text(text, placed.as_str())?;
     put_title(text, mark.line)?;
-    put_body(alloc, sheet, column, mark, text)?;
+    put_body(alloc, sheet, column, end_of(mark, before), mark, text)?;
     Ok(())
 }
 
@@ -163,7 +174,7 @@ fn put_column(
     let mut behind = frame(alloc, sheet, column)?;
     put_stood(alloc, sheet, column, known, &mut behind)?;
     put_text(text, behind.as_str())?;
-    put_mark(alloc, sheet, column, mark, text)?;
+    put_mark(alloc, sheet, column, known.before, mark, text)?;
     Ok(())
 }
 

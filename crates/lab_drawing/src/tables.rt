@@ -17,6 +17,8 @@ fn word(shape: Shape) -> &'static str
         Shape::Begun => "begun",
         Shape::Ended => "ended",
         Shape::Refused => "refused",
+        Shape::Arrived => "arrived",
+        Shape::Spurious => "spurious",
         Shape::Played => "played",
         Shape::Unhandled => "unhandled",
     }

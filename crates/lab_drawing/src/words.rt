@@ -111,5 +111,7 @@ pub fn standing_of(lane: Lane, how: &str) -> Option<Standing>
         lane,
         condition,
         number,
+        policy: None,
+        lender: None,
     })
 }

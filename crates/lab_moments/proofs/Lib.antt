@@ -1,2 +1,4 @@
+pub mod HandedLaws
+pub mod LenderLaws
 pub mod PendingLaws
 mod RunLaws

@@ -2,6 +2,8 @@
 //! What names no source is this profile's own.
 #![tactic(auto)]
 
+mod handed;
+mod lenders;
 mod moments;
 mod pending;
 mod runs;

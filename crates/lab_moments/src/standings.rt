@@ -1,9 +1,11 @@
 //! How the lanes of a picture stand, as a kernel's readers tell it.
 ghost use Rattle.std.specs.Prelude.{◌≡◌};
-ghost use Rattle.lab_moments.specs.Standings.{condition, is_picked, mutex_stands, pending_count, some_events, stage_stands, stands, thread_stands, timer_stands};
+ghost use Rattle.lab_moments.specs.Standings.{condition, event_stands, handed_stands, is_picked, mutex_stands, pending_count, some_events, stage_stands, stands, thread_stands, timer_stands};
 
+use crate::handed::handed_to;
+use crate::lenders::lender_of;
 use crate::pending::pending_count;
-use evl_base::{MutexId, Stage, ThreadId, TimerId};
+use evl_base::{LineNo, MutexId, Stage, ThreadId, TimerId};
 use evl_kernel::KernelOf;
 use lab_drawing::{Condition, Lane, Standing};
 use std::alloc::Global;
@@ -43,12 +45,30 @@ fn thread_standing<C>(kernel: &KernelOf<C, Global>, thread: u16) -> Option<Stand
             lane: Lane::Thread(thread),
             condition: condition(kernel, thread),
             number: Some(rank),
+            policy: kernel.policy(ThreadId(thread)),
+            lender: lender_of(kernel, thread, rank),
         }),
         None => None,
     }
 }
 
-// How a mutex stands, if it has a recorded owner.
+// How a mutex stands that has no recorded owner, if it has been handed on.
+fn handed_standing<C>(kernel: &KernelOf<C, Global>, mutex: u16) -> Option<Standing>
+    ensures standing { result ≡ handed_stands kernel.now.history.state mutex }
+{
+    match handed_to(kernel, mutex) {
+        Some(thread) => Some(Standing {
+            lane: Lane::Mutex(mutex),
+            condition: Condition::Handed,
+            number: Some(thread),
+            policy: None,
+            lender: None,
+        }),
+        None => None,
+    }
+}
+
+// How a mutex stands, if it has a recorded owner, or has been handed on.
 fn mutex_standing<C>(kernel: &KernelOf<C, Global>, mutex: u16) -> Option<Standing>
     ensures standing { result ≡ mutex_stands kernel.now.history.state mutex }
 {
@@ -57,8 +77,10 @@ fn mutex_standing<C>(kernel: &KernelOf<C, Global>, mutex: u16) -> Option<Standin
             lane: Lane::Mutex(mutex),
             condition: Condition::Owned,
             number: Some(owner.0),
+            policy: None,
+            lender: None,
         }),
-        None => None,
+        None => handed_standing(kernel, mutex),
     }
 }
 
@@ -71,6 +93,8 @@ fn timer_standing<C>(kernel: &KernelOf<C, Global>, timer: u16) -> Option<Standin
             lane: Lane::Timer(timer),
             condition: Condition::Runs,
             number: None,
+            policy: None,
+            lender: None,
         }),
         None => None,
     }
@@ -96,6 +120,8 @@ fn stage_standing<C>(kernel: &KernelOf<C, Global>, stage: Stage) -> Option<Stand
             lane: Lane::Stage(stage),
             condition: Condition::Stalled,
             number,
+            policy: None,
+            lender: None,
         });
     }
     match number {
@@ -103,13 +129,38 @@ fn stage_standing<C>(kernel: &KernelOf<C, Global>, stage: Stage) -> Option<Stand
             lane: Lane::Stage(stage),
             condition: Condition::Pending,
             number: Some(count),
+            policy: None,
+            lender: None,
         }),
         None => None,
     }
 }
 
-/// How a lane stands, where it shows something: an attached thread, a mutex with a recorded owner, a timer that runs, a
-/// stage that is stalled or on which events are pending.
+// How an interrupt line stands on a stage: whether its event is pending there.
+fn event_standing<C>(
+    kernel: &KernelOf<C, Global>,
+    lane: Lane,
+    stage: Stage,
+    number: u16,
+) -> Option<Standing>
+    ensures standing { result ≡ event_stands kernel.now.history.state lane stage number }
+{
+    if kernel.pending(stage, LineNo(number)) {
+        Some(Standing {
+            lane,
+            condition: Condition::Pending,
+            number: None,
+            policy: None,
+            lender: None,
+        })
+    } else {
+        None
+    }
+}
+
+/// How a lane stands, where it shows something: an attached thread, a mutex with a recorded owner or that was handed
+/// on, a timer that runs, a line (and the clock's) whose event is pending, a stage that is stalled or on which events
+/// are pending.
 pub fn standing<C>(kernel: &KernelOf<C, Global>, lane: Lane) -> Option<Standing>
     ensures standing { result ≡ stands kernel.now.history.state lane }
 {
@@ -118,7 +169,9 @@ pub fn standing<C>(kernel: &KernelOf<C, Global>, lane: Lane) -> Option<Standing>
         Lane::Mutex(mutex) => mutex_standing(kernel, mutex),
         Lane::Timer(timer) => timer_standing(kernel, timer),
         Lane::Stage(stage) => stage_standing(kernel, stage),
-        Lane::Sem(_) | Lane::Flags(_) | Lane::Xbuf(_) | Lane::Clock => None,
+        Lane::Line(stage, number) => event_standing(kernel, lane, stage, number),
+        Lane::Clock => event_standing(kernel, lane, Stage::Oob, 0),
+        Lane::Sem(_) | Lane::Flags(_) | Lane::Xbuf(_) => None,
         Lane::Stax(_) | Lane::Core => None,
     }
 }

@@ -6,10 +6,10 @@ use Rattle.std.specs.Str.{trim_start}
 use Rattle.evl_base.specs.declared.stage.Stage.TheVariants.{Inband, Oob}
 use Rattle.lab_drawing.specs.Lanes.{lane_text}
 use Rattle.lab_drawing.specs.declared.lanes.Lane.{Lane}
-use Rattle.lab_drawing.specs.declared.lanes.Lane.TheVariants.{Thread, Mutex, Stax, Core, Sem, Flags, Xbuf, Timer, Clock, Stage}
+use Rattle.lab_drawing.specs.declared.lanes.Lane.TheVariants.{Thread, Mutex, Stax, Core, Sem, Flags, Xbuf, Timer, Clock, Line, Stage}
 use Rattle.lab_drawing.specs.declared.marks.Mark.{Mark}
 use Rattle.lab_drawing.specs.declared.marks.Shape.{Shape}
-use Rattle.lab_drawing.specs.declared.marks.Shape.TheVariants.{Answered, Begun, Ended, Refused, Played, Unhandled}
+use Rattle.lab_drawing.specs.declared.marks.Shape.TheVariants.{Answered, Begun, Ended, Refused, Arrived, Spurious, Played, Unhandled}
 use Rattle.lab_reports.specs.Quotes.{json_text}
 
 -- the kind of a lane's track, and its number there
@@ -25,6 +25,8 @@ track_place (Stage Oob) = (7, 0)
 track_place (Stage Inband) = (8, 0)
 track_place (Stax number) = (9, number)
 track_place Core = (10, 0)
+track_place (Line Oob number) = (11, number)
+track_place (Line Inband number) = (12, number)
 
 -- a kind has 65,536 tracks
 abbrev pub track : Lane → ℕ
@@ -36,6 +38,8 @@ look_text Answered = codes "\"cat\": \"answered\", \"cname\": \"good\""
 look_text Begun = codes "\"cat\": \"begun\", \"cname\": \"thread_state_runnable\""
 look_text Ended = codes "\"cat\": \"ended\", \"cname\": \"thread_state_runnable\""
 look_text Refused = codes "\"cat\": \"refused\", \"cname\": \"terrible\""
+look_text Arrived = codes "\"cat\": \"arrived\", \"cname\": \"good\""
+look_text Spurious = codes "\"cat\": \"spurious\", \"cname\": \"bad\""
 look_text Played = codes "\"cat\": \"played\", \"cname\": \"rail_response\""
 look_text Unhandled = codes "\"cat\": \"unhandled\", \"cname\": \"grey\""
 

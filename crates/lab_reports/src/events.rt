@@ -13,7 +13,7 @@ use std::fmt;
 // The kind of a lane's track, and its number there.
 fn track_place(lane: Lane) -> (u32, u16)
     ensures place { result ≡ track_place lane }
-    ensures few { result.0 ≤ 10 }
+    ensures few { result.0 ≤ 12 }
 {
     match lane {
         Lane::Thread(number) => (0, number),
@@ -27,6 +27,8 @@ fn track_place(lane: Lane) -> (u32, u16)
         Lane::Stage(Stage::Inband) => (8, 0),
         Lane::Stax(number) => (9, number),
         Lane::Core => (10, 0),
+        Lane::Line(Stage::Oob, number) => (11, number),
+        Lane::Line(Stage::Inband, number) => (12, number),
     }
 }
 
@@ -54,6 +56,8 @@ impl fmt::Display for Look {
             Shape::Begun => "\"cat\": \"begun\", \"cname\": \"thread_state_runnable\"",
             Shape::Ended => "\"cat\": \"ended\", \"cname\": \"thread_state_runnable\"",
             Shape::Refused => "\"cat\": \"refused\", \"cname\": \"terrible\"",
+            Shape::Arrived => "\"cat\": \"arrived\", \"cname\": \"good\"",
+            Shape::Spurious => "\"cat\": \"spurious\", \"cname\": \"bad\"",
             Shape::Played => "\"cat\": \"played\", \"cname\": \"rail_response\"",
             Shape::Unhandled => "\"cat\": \"unhandled\", \"cname\": \"grey\"",
         };

@@ -1,25 +1,45 @@
 //! Traces that are read and drawn.
+use evl_plans::trace_plans;
 use lab_drawing::{
-    Condition, Lane, Mark, Moment, marks_of, told_moments, write_rows, write_svg, write_table,
-    write_told,
+    Condition, Lane, Mark, Moment, lanes_of, marks_of, told_moments, write_down, write_rows,
+    write_svg, write_table, write_told, write_told_down,
 };
 use lab_moments::moments_of;
-use lab_reports::write_events;
+use lab_reports::{program_plans, write_events};
 use lab_traces::{Misread, TraceLine, read_lines};
 use std::alloc::{AllocError, Global};
 
-// A trace with a call that is answered, one that is refused, and a play.
+// A trace with a call that is refused, a request, an interrupt with its play, and two that are spurious.
 const TRACE: &str = "board threads=2 sems=1 flags=0 xbufs=0 mutexes=0 groups=0 limit=100
 1 T0 try_get sem=0 -> Again
-2 T1 arrive line=5 -> done
+2 T1 request line=5 stage=oob callback=0 tag=7 -> done
+3 T1 arrive line=5 -> done
   line 5 oob count 1 none
+4 T1 arrive line=6 -> done
+5 T1 free line=5 stage=oob -> done
+6 T1 arrive line=5 -> done
 ";
 
 // The same as a table.
 const TABLE: &str = "row,lane,shows,line
 1,T0,refused,1 T0 try_get sem=0 -> Again
-2,T1,answered,2 T1 arrive line=5 -> done
-3,out-of-band,unhandled,line 5 oob count 1 none
+2,T1,answered,2 T1 request line=5 stage=oob callback=0 tag=7 -> done
+3,T1,arrived,3 T1 arrive line=5 -> done
+4,oob 5,unhandled,line 5 oob count 1 none
+5,T1,spurious,4 T1 arrive line=6 -> done
+6,T1,answered,5 T1 free line=5 stage=oob -> done
+7,T1,spurious,6 T1 arrive line=5 -> done
+";
+
+// The same in characters.
+const ROWS: &str = "T0          x      
+T1           o! ?o?
+sem 0       .      
+oob 5        ..- . 
+in-band         . .
+
+o answered  ( a wait begins  ) a wait ends  x refused  # played  - not handled
+. named by the call above  ! an event is pending  ? it is spurious
 ";
 
 // The same as trace events.
@@ -29,10 +49,14 @@ const EVENTS: &str = r#"{"traceEvents": [
 {"ph": "X", "name": "1 T0 try_get sem=0 -> Again", "cat": "refused", "cname": "terrible", "pid": 1, "tid": 0, "ts": 1, "dur": 1},
 {"ph": "M", "name": "thread_name", "pid": 1, "tid": 1, "args": {"name": "T1"}},
 {"ph": "M", "name": "thread_sort_index", "pid": 1, "tid": 1, "args": {"sort_index": 1}},
-{"ph": "X", "name": "2 T1 arrive line=5 -> done", "cat": "answered", "cname": "good", "pid": 1, "tid": 1, "ts": 2, "dur": 1},
-{"ph": "M", "name": "thread_name", "pid": 1, "tid": 458752, "args": {"name": "out-of-band"}},
-{"ph": "M", "name": "thread_sort_index", "pid": 1, "tid": 458752, "args": {"sort_index": 458752}},
-{"ph": "X", "name": "line 5 oob count 1 none", "cat": "unhandled", "cname": "grey", "pid": 1, "tid": 458752, "ts": 3, "dur": 1},
+{"ph": "X", "name": "2 T1 request line=5 stage=oob callback=0 tag=7 -> done", "cat": "answered", "cname": "good", "pid": 1, "tid": 1, "ts": 2, "dur": 1},
+{"ph": "X", "name": "3 T1 arrive line=5 -> done", "cat": "arrived", "cname": "good", "pid": 1, "tid": 1, "ts": 3, "dur": 1},
+{"ph": "M", "name": "thread_name", "pid": 1, "tid": 720901, "args": {"name": "oob 5"}},
+{"ph": "M", "name": "thread_sort_index", "pid": 1, "tid": 720901, "args": {"sort_index": 720901}},
+{"ph": "X", "name": "line 5 oob count 1 none", "cat": "unhandled", "cname": "grey", "pid": 1, "tid": 720901, "ts": 4, "dur": 1},
+{"ph": "X", "name": "4 T1 arrive line=6 -> done", "cat": "spurious", "cname": "bad", "pid": 1, "tid": 1, "ts": 5, "dur": 1},
+{"ph": "X", "name": "5 T1 free line=5 stage=oob -> done", "cat": "answered", "cname": "good", "pid": 1, "tid": 1, "ts": 6, "dur": 1},
+{"ph": "X", "name": "6 T1 arrive line=5 -> done", "cat": "spurious", "cname": "bad", "pid": 1, "tid": 1, "ts": 7, "dur": 1},
 {"ph": "M", "name": "process_name", "pid": 1, "args": {"name": "machine"}}
 ]}
 "#;
@@ -55,7 +79,7 @@ stax 0      ..  .
 core             .
 
 o answered  ( a wait begins  ) a wait ends  x refused  # played  - not handled
-. named by the call above
+. named by the call above  ! an event is pending  ? it is spurious
 ";
 
 // What is made of marks.
@@ -65,14 +89,24 @@ enum Form {
     Events,
     Rows,
     Picture,
+    PictureDown,
     // The picture of callers' lines.
     TellingPicture,
+    TellingDown,
 }
 
 // The picture of callers' lines.
 fn told_picture(alloc: Global, marks: &[Mark<'_>]) -> Result<Vec<u8>, AllocError> {
     match told_moments(alloc, marks) {
         Ok(moments) => write_told(alloc, marks, moments.as_slice()),
+        Err(error) => Err(error),
+    }
+}
+
+// The same, going down.
+fn told_down(alloc: Global, marks: &[Mark<'_>]) -> Result<Vec<u8>, AllocError> {
+    match told_moments(alloc, marks) {
+        Ok(moments) => write_told_down(alloc, marks, moments.as_slice()),
         Err(error) => Err(error),
     }
 }
@@ -84,6 +118,8 @@ fn written(alloc: Global, marks: &[Mark<'_>], form: Form) -> Result<Vec<u8>, All
         Form::Events => Ok(write_events(alloc, marks)?.into_bytes()),
         Form::Rows => Ok(write_rows(alloc, marks)?.into_bytes()),
         Form::Picture => write_svg(alloc, marks, &[]),
+        Form::PictureDown => write_down(alloc, marks, &[]),
+        Form::TellingDown => told_down(alloc, marks),
         Form::TellingPicture => told_picture(alloc, marks),
     }
 }
@@ -133,6 +169,21 @@ fn each_mark_is_an_event(rt: HostRuntime) {
 #[test]
 fn a_trace_is_drawn(rt: HostRuntime) {
     assert!(rt; is_svg(rt.alloc(), TRACE, Form::Picture));
+}
+
+#[test]
+fn a_trace_is_drawn_down(rt: HostRuntime) {
+    assert!(rt; is_svg(rt.alloc(), TRACE, Form::PictureDown));
+}
+
+#[test]
+fn callers_are_drawn_down(rt: HostRuntime) {
+    assert!(rt; is_svg(rt.alloc(), TOLD, Form::TellingDown));
+}
+
+#[test]
+fn lines_have_their_lanes(rt: HostRuntime) {
+    assert!(rt; is_drawn(rt.alloc(), TRACE, Form::Rows, ROWS));
 }
 
 #[test]
@@ -228,4 +279,94 @@ fn words_stand(alloc: Global, told: &str) -> bool {
 #[test]
 fn words_stand_as_they_were_shown(rt: HostRuntime) {
     assert!(rt; words_stand(rt.alloc(), TOLD));
+}
+
+// Two interrupts on a line while its stage is stalled, of which the second merges; and two ranks that are not a
+// thread's own: T2 waits for T1's mutex, and T3 has one with a ceiling.
+const LENT: &str = r#"
+step = [
+  { do = "request", who = 0, line = 5, stage = "oob", callback = 0 },
+  { do = "stall", who = 0, stage = "oob" },
+  { do = "arrive", who = 0, line = 5 },
+  { do = "arrive", who = 0, line = 5 },
+  { do = "unstall", who = 0, stage = "oob" },
+  { do = "attach", who = 1, policy = "fifo 10", stage = "oob" },
+  { do = "attach", who = 2, policy = "rr 20 1000", stage = "oob" },
+  { do = "attach", who = 3, policy = "weak 5", stage = "oob" },
+  { do = "claim", who = 2, mutex = 0, owner = 1 },
+  { do = "raise", who = 3, mutex = 1 },
+]
+[board]
+threads = 4
+mutexes = ["normal", "ceiling 50"]
+"#;
+
+// The picture of marks with the moments of this scenario, going down.
+fn lent_picture(alloc: Global, marks: &[Mark<'_>]) -> Result<Vec<u8>, AllocError> {
+    let lanes = lanes_of(alloc, marks)?;
+    let plans = program_plans(alloc)?;
+    let moments = moments_of(alloc, plans.as_slice(), LENT.as_bytes(), lanes.as_slice())?;
+    write_down(alloc, marks, moments.as_slice())
+}
+
+// The picture of the lines of its trace.
+fn lent_lines(alloc: Global, lines: &[TraceLine<'_>]) -> Result<Vec<u8>, AllocError> {
+    match marks_of(alloc, lines) {
+        Ok(marks) => lent_picture(alloc, marks.as_slice()),
+        Err(error) => Err(error),
+    }
+}
+
+// The picture of its trace; nothing where it can't be read.
+fn lent_trace(alloc: Global, trace: &[u8]) -> Result<Vec<u8>, AllocError> {
+    match read_lines(alloc, str::from_utf8(trace).unwrap_or("")) {
+        Ok(lines) => lent_lines(alloc, lines.as_slice()),
+        Err(_) => Ok(Vec::new(alloc)),
+    }
+}
+
+// The picture of the scenario.
+fn lent(alloc: Global) -> Result<Vec<u8>, AllocError> {
+    let plans = program_plans(alloc)?;
+    match trace_plans(alloc, plans.as_slice(), LENT.as_bytes(), None) {
+        Ok(trace) => lent_trace(alloc, trace.as_slice()),
+        Err(_) => Ok(Vec::new(alloc)),
+    }
+}
+
+// Whether the picture has this part.
+fn lent_has(alloc: Global, part: &str) -> bool {
+    match lent(alloc) {
+        Ok(picture) => str::from_utf8(picture.as_slice())
+            .unwrap_or("")
+            .contains(part),
+        Err(_) => false,
+    }
+}
+
+#[test]
+fn an_event_that_merges_is_told_apart(rt: HostRuntime) {
+    assert!(rt; lent_has(rt.alloc(), ",0)\"><path d=\"M-6 0l6 -6l6 6l-6 6Z\" fill"));
+    assert!(rt; lent_has(rt.alloc(), ",0)\"><path d=\"M-8 0l5 -5l5 5l-5 5Z"));
+}
+
+#[test]
+fn a_rank_is_told_with_its_lender(rt: HostRuntime) {
+    assert!(rt;
+        lent_has(
+            rt.alloc(),
+            ">f10</text><text x=\"8\" y=\"7\" font-weight=\"bold\">↑20T2</text>"
+        )
+    );
+    assert!(rt; lent_has(rt.alloc(), ">r20</text>"));
+}
+
+#[test]
+fn a_rank_is_told_with_its_ceiling(rt: HostRuntime) {
+    assert!(rt;
+        lent_has(
+            rt.alloc(),
+            ">w5</text><text x=\"8\" y=\"7\" font-weight=\"bold\">c50</text>"
+        )
+    );
 }

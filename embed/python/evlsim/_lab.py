@@ -165,7 +165,7 @@ def draw(what: Any, form: Form = "svg", page: int = 1) -> Picture:
     sem 0       .
     <BLANKLINE>
     o answered  ( a wait begins  ) a wait ends  x refused  # played  - not handled
-    . named by the call above
+    . named by the call above  ! an event is pending  ? it is spurious
     """
     text = what._drawn() if hasattr(what, "_drawn") else what
     one_of(BadQuestion, "form", form, FORMS)
