@@ -31,8 +31,9 @@ def test_faults_have_their_places():
     assert (first.line, first.byte, first.step, first.is_warning) == (7, 1, 1, False)
     assert 'did you mean "line"?' in first.message and (second.line, second.step) == (10, 2)
     (odd,) = evlsim.check(BOARD + '[[step]]\ndo = "put"\nwho = 0\nsem = 7\n')
-    assert odd.is_warning and odd.line is None and str(odd) == "step 1: warning: T0 put sem=7 is refused: Unknown"
-    assert evlsim.check(text_of("scenarios/lessons/stalled_inband_stage.toml")) == []
+    assert odd.is_warning and odd.line is None and str(odd).endswith("T0 put sem=7 is refused: Unknown (the board has sems=1)")
+    (merged,) = evlsim.check(text_of("scenarios/lessons/stalled_inband_stage.toml"))
+    assert merged.step == 6 and merged.message.startswith("T0 arrive line=3, which is pending inband already")
     assert evlsim.check(text[:-8])[0].step == 1
 
 

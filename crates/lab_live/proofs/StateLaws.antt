@@ -8,18 +8,25 @@ use Rattle.evl_clock.specs.Limits.{timer_count}
 use Rattle.evl_kernel.specs.histories.Histories.{History}
 use Rattle.evl_scenario.specs.Lines.{line_feed}
 use Rattle.lab_live.specs.Sessions.{Driven}
-use Rattle.lab_live.specs.States.{numbers_below, is_none, mutex_line, pending_end, pending_next, pending_so_far, pending_text, stage_line, state_text, thread_line, timer_line}
+use Rattle.lab_live.specs.States.{numbers_below, is_none, mutex_line, pending_end, pending_next, pending_so_far, pending_text, rest_text, stage_line, state_text, thread_line, timer_line}
+use Rattle.lab_live.specs.Wholes.{date_line, flags_line, sem_line, whole_text, whole_thread, xbuf_line}
 
 -- what is told behind what was told behind a text
 pub behind : (before mid after xs ys : List ℕ) → mid ≡ before ++ xs → after ≡ mid ++ ys → after ≡ before ++ (xs ++ ys)
 behind before mid after xs ys first more = more ∙ ap (λ (m : List ℕ). m ++ ys) first ∙ append_assoc before xs ys
 
--- what is told in five parts
-pub behind_four : (text first second third fourth all a b c d e : List ℕ) → first ≡ text ++ a → second ≡ first ++ b → third ≡ second ++ c → fourth ≡ third ++ d
-    → all ≡ fourth ++ e → all ≡ text ++ (a ++ (b ++ (c ++ (d ++ e))))
-behind_four text first second third fourth all a b c d e one two three four five =
-    behind text first all a (b ++ (c ++ (d ++ e))) one
-    (behind first second all b (c ++ (d ++ e)) two (behind second third all c (d ++ e) three (behind third fourth all d e four five)))
+-- what is told in four parts
+pub behind_three : (text first second third all a b c d : List ℕ) → first ≡ text ++ a → second ≡ first ++ b → third ≡ second ++ c → all ≡ third ++ d
+    → all ≡ text ++ (a ++ (b ++ (c ++ d)))
+behind_three text first second third all a b c d one two three four =
+    behind text first all a (b ++ (c ++ d)) one (behind first second all b (c ++ d) two (behind second third all c d three four))
+
+-- and in six
+pub behind_five : (text first second third fourth fifth all a b c d e f : List ℕ) → first ≡ text ++ a → second ≡ first ++ b → third ≡ second ++ c → fourth ≡ third ++ d
+    → fifth ≡ fourth ++ e → all ≡ fifth ++ f → all ≡ text ++ (a ++ (b ++ (c ++ (d ++ (e ++ f)))))
+behind_five text first second third fourth fifth all a b c d e f one two three four five six =
+    behind text first all a (b ++ (c ++ (d ++ (e ++ f)))) one
+    (behind first second all b (c ++ (d ++ (e ++ f))) two (behind_three second third fourth fifth all c d e f three four five six))
 
 -- ---- lines of all numbers below one
 
@@ -92,13 +99,31 @@ told_more passes line quiet first now next is so none more =
     ∙ ap (λ (t : List ℕ). first ++ t) (sym (so_far_more lines line))
     ∙ ap (λ (ls : List ℕ). first ++ pending_so_far ls) (sym (pending_more passes line is))
 
--- all of a machine, by its kernel's history
-pub state_told : (driven : Driven) (h : History) (threads mutexes : ℕ) (before after : List ℕ) → h ≡ driven.history → threads ≡ driven.board.threads
-    → mutexes ≡ length driven.board.mutexes.items
-    → after ≡ before ++ (flat_map (thread_line h) (numbers_below threads) ++ (flat_map (mutex_line h.state) (numbers_below mutexes)
-    ++ (stage_line h.state Oob ++ (stage_line h.state Inband ++ flat_map (timer_line h.state) (numbers_below timer_count)))))
-    → after ≡ before ++ state_text driven
+-- all but the threads of a machine, by its kernel's history
+pub rest_told : (driven : Driven) (h : History) (mutexes : ℕ) (before after : List ℕ) → h ≡ driven.history → mutexes ≡ length driven.board.mutexes.items
+    → after ≡ before ++ (flat_map (mutex_line h.state) (numbers_below mutexes)
+    ++ (stage_line h.state Oob ++ (stage_line h.state Inband ++ flat_map (timer_line h.state) (numbers_below timer_count))))
+    → after ≡ before ++ rest_text driven
+unfolding rest_text
+rest_told driven h mutexes before after own m told =
+    told ∙ (λ i. before ++ (flat_map (mutex_line (own i).state) (numbers_below (m i))
+    ++ (stage_line (own i).state Oob ++ (stage_line (own i).state Inband ++ flat_map (timer_line (own i).state) (numbers_below timer_count)))))
+
+-- and with them
+pub state_told : (driven : Driven) (h : History) (threads : ℕ) (before mid after : List ℕ) → h ≡ driven.history → threads ≡ driven.board.threads
+    → mid ≡ before ++ flat_map (thread_line h) (numbers_below threads) → after ≡ mid ++ rest_text driven → after ≡ before ++ state_text driven
 unfolding state_text
-state_told driven h threads mutexes before after own t m told =
-    told ∙ (λ i. before ++ (flat_map (thread_line (own i)) (numbers_below (t i)) ++ (flat_map (mutex_line (own i).state) (numbers_below (m i))
-    ++ (stage_line (own i).state Oob ++ (stage_line (own i).state Inband ++ flat_map (timer_line (own i).state) (numbers_below timer_count))))))
+state_told driven h threads before mid after own t first more =
+    behind before mid after (flat_map (thread_line h) (numbers_below threads)) (rest_text driven) first more
+    ∙ (λ i. before ++ (flat_map (thread_line (own i)) (numbers_below (t i)) ++ rest_text driven))
+
+-- all that a machine shows, by its kernel's history
+pub whole_told : (driven : Driven) (h : History) (threads sems flags xbufs : ℕ) (before after : List ℕ) → h ≡ driven.history → threads ≡ driven.board.threads
+    → sems ≡ length driven.board.sems.items → flags ≡ length driven.board.flags.items → xbufs ≡ length driven.board.xbufs.items
+    → after ≡ before ++ (date_line h.state ++ (flat_map (whole_thread h) (numbers_below threads) ++ (flat_map (sem_line h.state) (numbers_below sems)
+    ++ (flat_map (flags_line h.state) (numbers_below flags) ++ (flat_map (xbuf_line h.state) (numbers_below xbufs) ++ rest_text driven)))))
+    → after ≡ before ++ whole_text driven
+unfolding whole_text
+whole_told driven h threads sems flags xbufs before after own t m f x told =
+    told ∙ (λ i. before ++ (date_line (own i).state ++ (flat_map (whole_thread (own i)) (numbers_below (t i)) ++ (flat_map (sem_line (own i).state) (numbers_below (m i))
+    ++ (flat_map (flags_line (own i).state) (numbers_below (f i)) ++ (flat_map (xbuf_line (own i).state) (numbers_below (x i)) ++ rest_text driven))))))

@@ -1,3 +1,4 @@
 pub mod Answers
 pub mod Sessions
 pub mod States
+pub mod Wholes

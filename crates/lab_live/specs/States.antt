@@ -109,14 +109,17 @@ timer_line s timer = option_map_or (λ t. timer_text timer t.state) (timer_at s.
 
 -- ---- the machine
 
--- a line for each thread, for each mutex that has an owner, for each stage, and for each timer that there is
-unfoldable pub state_text : Driven → List ℕ
-state_text driven =
-    flat_map (thread_line driven.history) (numbers_below driven.board.threads)
-    ++ (flat_map (mutex_line driven.history.state) (numbers_below (length driven.board.mutexes.items))
+-- a line for each mutex that has an owner, for each stage, and for each timer that there is
+unfoldable pub rest_text : Driven → List ℕ
+rest_text driven =
+    flat_map (mutex_line driven.history.state) (numbers_below (length driven.board.mutexes.items))
     ++ (stage_line driven.history.state Oob
     ++ (stage_line driven.history.state Inband
-    ++ flat_map (timer_line driven.history.state) (numbers_below timer_count))))
+    ++ flat_map (timer_line driven.history.state) (numbers_below timer_count)))
+
+-- a line for each thread, and those
+unfoldable pub state_text : Driven → List ℕ
+state_text driven = flat_map (thread_line driven.history) (numbers_below driven.board.threads) ++ rest_text driven
 
 -- ---- for private clauses
 

@@ -5,10 +5,12 @@ ghost use Rattle.lab_live.specs.Answers as answers;
 ghost use Rattle.lab_live.specs.Answers.{Answers, Does, GoesOn, Makes, MayGoOn, TellsScenario, comment_text, may_call, script_of};
 ghost use Rattle.lab_lines.specs.Lines.{step_of_line, unread_text};
 ghost use Rattle.lab_live.specs.States.{state_text};
+ghost use Rattle.lab_live.specs.Wholes.{whole_text};
 
 use crate::helps::{write_help, write_help_of};
 use crate::session::Session;
 use crate::states::write_state;
+use crate::wholes::write_whole;
 use evl_scenario::{Step, Unwritten};
 use lab_lines::{Heard, Unread, read_step_line};
 use std::alloc::{AllocError, Global};
@@ -149,6 +151,7 @@ fn answer_other(
     ensures comment { (rest : List ℕ) → text.now ≡ 35 ∷ rest → OnOk result (string_bytes told.new ≡ string_bytes told.old ++ comment_text text.now) }
     ensures scenario { text.now ≡ codes "scenario" → OnOk result (TellsScenario (script_of session.now) (string_bytes told.old) (string_bytes told.new)) }
     ensures state { text.now ≡ codes "ps" → OnOk result (string_bytes told.new ≡ string_bytes told.old ++ state_text session.now) }
+    ensures whole { text.now ≡ codes "ps all" → OnOk result (string_bytes told.new ≡ string_bytes told.old ++ whole_text session.now) }
 {
     match text {
         b"" => Ok(()),
@@ -156,6 +159,7 @@ fn answer_other(
         b"?" => write_help(told),
         b"help" => write_help(told),
         b"ps" => write_state(told, session),
+        b"ps all" => write_whole(told, session),
         b"scenario" => write_own_scenario(alloc, told, session),
         b"save" => write_own_scenario(alloc, told, session),
         b"quit" => told.push_str("Ctrl-D ends\n"),
@@ -181,6 +185,7 @@ fn answer_text(
     ensures comment { (rest : List ℕ) → text.now ≡ 35 ∷ rest → OnOk result (string_bytes told.new ≡ string_bytes told.old ++ comment_text text.now) }
     ensures scenario { text.now ≡ codes "scenario" → OnOk result (TellsScenario (script_of session.old) (string_bytes told.old) (string_bytes told.new)) }
     ensures state { text.now ≡ codes "ps" → OnOk result (string_bytes told.new ≡ string_bytes told.old ++ state_text session.old) }
+    ensures whole { text.now ≡ codes "ps all" → OnOk result (string_bytes told.new ≡ string_bytes told.old ++ whole_text session.old) }
     ensures board { session.new.board ≡ session.old.board }
     ensures limit { session.new.limit ≡ session.old.limit }
     ensures history { MayGoOn session.old.history session.new.history }
@@ -193,9 +198,10 @@ fn answer_text(
 }
 
 /// Answers a line, without its line feed: a call with the lines of its trace, `?` and `? put` with help, `ps` with what
-/// the machine is doing, `scenario` with the scenario of the calls so far, a line that begins with `#` with itself, an
-/// empty one with nothing, and one that can't be read with `!`, the byte, from 1, and what was wanted there; that
-/// changes nothing. `AllocError` where memory couldn't grow: then nothing is told, but a call may have been made.
+/// the machine is doing, `ps all` with all that it shows, `scenario` with that of the calls so far, a line that begins
+/// with `#` with itself, an empty one with nothing, and one that can't be read with `!`, the byte, from 1, and what was
+/// wanted there; that changes nothing. `AllocError` where memory couldn't grow: then nothing is told, but a call may
+/// have been made.
 #[tactic(auto, using(crate::proofs::AnswerLaws::answered, crate::proofs::AnswerLaws::does_behind, crate::proofs::AnswerLaws::told_none, crate::proofs::AnswerLaws::told_behind, crate::proofs::AnswerLaws::tells_scenario))]
 pub fn answer_line(
     alloc: Global,
@@ -211,6 +217,7 @@ pub fn answer_line(
     ensures comment { (rest : List ℕ) → answers.trimmed line.now ≡ 35 ∷ rest → OnOk result (string_bytes told.new ≡ string_bytes told.old ++ comment_text (answers.trimmed line.now)) }
     ensures scenario { answers.trimmed line.now ≡ codes "scenario" → OnOk result (TellsScenario (script_of session.old) (string_bytes told.old) (string_bytes told.new)) }
     ensures state { answers.trimmed line.now ≡ codes "ps" → OnOk result (string_bytes told.new ≡ string_bytes told.old ++ state_text session.old) }
+    ensures whole { answers.trimmed line.now ≡ codes "ps all" → OnOk result (string_bytes told.new ≡ string_bytes told.old ++ whole_text session.old) }
     ensures board { session.new.board ≡ session.old.board }
     ensures limit { session.new.limit ≡ session.old.limit }
     ensures history { MayGoOn session.old.history session.new.history }

@@ -27,7 +27,7 @@ fn sample(key: &str) -> &'static str {
 
 /// What is told beside the forms.
 pub const NOTES: &str = "? WORD tells what a call's keys take
-ps tells threads, who waits for what, owners, pending lines and timers
+ps tells threads, who waits for what, owners, pending lines and timers; ps all ranks, counts, bits, bytes and the date too
 scenario, or save, prints the calls so far as a scenario
 a line that begins with # is answered with itself; behind a call # and what follows says nothing
 Ctrl-D ends

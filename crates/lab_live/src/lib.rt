@@ -6,6 +6,7 @@ mod answers;
 mod helps;
 mod session;
 mod states;
+mod wholes;
 
 pub use answers::answer_line;
 pub use helps::{write_call_of, write_forms};

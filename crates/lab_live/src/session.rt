@@ -208,6 +208,30 @@ impl Session {
         self.board.mutexes.len()
     }
 
+    /// How many semaphores the board has.
+    pub fn sems(&self) -> usize
+        ensures count { result ≡ length self.now.board.sems.items }
+        ensures few { result ≤ 64 }
+    {
+        self.board.sems.len()
+    }
+
+    /// How many flag groups the board has.
+    pub fn flags(&self) -> usize
+        ensures count { result ≡ length self.now.board.flags.items }
+        ensures few { result ≤ 64 }
+    {
+        self.board.flags.len()
+    }
+
+    /// How many cross-buffers the board has.
+    pub fn xbufs(&self) -> usize
+        ensures count { result ≡ length self.now.board.xbufs.items }
+        ensures few { result ≤ 16 }
+    {
+        self.board.xbufs.len()
+    }
+
     /// The trace of all that was asked so far. `AllocError` where memory couldn't grow.
     pub fn trace(&self, alloc: Global) -> Result<String, AllocError>
         ensures trace { IfOk result (λ text. string_bytes text ≡ history_trace self.now.board self.now.limit self.now.history.entries self.now.history.plays) }

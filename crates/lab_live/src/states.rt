@@ -2,7 +2,7 @@
 ghost use Rattle.std.specs.Prelude.{◌≡◌, ◌++◌, IfOk, OnOk, Some, flat_map, option_map, string_bytes};
 ghost use Rattle.evl_clock.specs.Limits.{timer_count};
 ghost use Rattle.lab_live.specs.States as states;
-ghost use Rattle.lab_live.specs.States.{begun_text, numbers_below, last_begun, mutex_line, owner_text, pending_end, pending_next, pending_on, pending_so_far, pending_text, stage_line, stalled_text, standing_text, state_text, thread_line, timer_line, timer_text, wait_text};
+ghost use Rattle.lab_live.specs.States.{begun_text, numbers_below, last_begun, mutex_line, owner_text, pending_end, pending_next, pending_on, pending_so_far, pending_text, rest_text, stage_line, stalled_text, standing_text, state_text, thread_line, timer_line, timer_text, wait_text};
 
 use crate::session::Session;
 use evl_base::{Entry, LINES, LineNo, MutexId, Refusal, Reply, Stage, ThreadId, TimerId};
@@ -73,8 +73,8 @@ fn write_standing<C>(
     }
 }
 
-// Writes what a thread waits for.
-fn write_wait<C>(
+/// Writes what a thread waits for. `AllocError` where memory couldn't grow.
+pub fn write_wait<C>(
     told: &mut String,
     kernel: &KernelOf<C, Global>,
     thread: ThreadId,
@@ -277,15 +277,23 @@ fn write_timers<C>(told: &mut String, kernel: &KernelOf<C, Global>) -> Result<()
     Ok(())
 }
 
-/// Writes what the machine is doing behind what was told. `AllocError` where memory couldn't grow.
-pub fn write_state(told: &mut String, session: &Session) -> Result<(), AllocError>
-    ensures { OnOk result (string_bytes told.new ≡ string_bytes told.old ++ state_text session.now) }
+/// Writes the mutexes that have an owner, the stages and the timers. `AllocError` where memory couldn't grow.
+pub fn write_rest(told: &mut String, session: &Session) -> Result<(), AllocError>
+    ensures { OnOk result (string_bytes told.new ≡ string_bytes told.old ++ rest_text session.now) }
 {
     let kernel = session.kernel();
-    write_threads(told, kernel, session.threads())?;
     write_mutexes(told, kernel, session.mutexes() as u16)?;
     write_stage(told, kernel, Stage::Oob)?;
     write_stage(told, kernel, Stage::Inband)?;
     write_timers(told, kernel)?;
+    Ok(())
+}
+
+/// Writes what the machine is doing behind what was told. `AllocError` where memory couldn't grow.
+pub fn write_state(told: &mut String, session: &Session) -> Result<(), AllocError>
+    ensures { OnOk result (string_bytes told.new ≡ string_bytes told.old ++ state_text session.now) }
+{
+    write_threads(told, session.kernel(), session.threads())?;
+    write_rest(told, session)?;
     Ok(())
 }

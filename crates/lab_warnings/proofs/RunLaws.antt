@@ -1,6 +1,6 @@
 -- What the steps of a scenario leave, one after the other.
-use Rattle.std.proofs.Common.{inl, inr, ◌≡◌, ◌≢◌, ◌⊎◌, ◌↔◌, ◌∙◌, ◌++◌, ◌+◌, ℕ, true, false, Bool, List, [], ◌∷◌, length, length-append, map, append-nil, append_assoc, Option, None, Some, Result, Ok, Err, IsTrue, IsFalse, OnOk, if◌then◌else◌, refl, sym, ap, arith}
-use Rattle.std.specs.Option.{option_or}
+use Rattle.std.proofs.Common.{inl, inr, ◌≡◌, ◌≢◌, ◌⊎◌, ◌↔◌, ◌∙◌, ◌++◌, ◌+◌, ℕ, true, false, Bool, List, [], ◌∷◌, length, length-append, drop, flat_map, map, append-nil, append_assoc, Result, Ok, Err, IsTrue, IsFalse, OnOk, if◌then◌else◌, refl, sym, ap, arith}
+use Rattle.std.proofs.Math.Seq.{drop-append_seam}
 use Rattle.std.proofs.lemmas.List.{length-map}
 use Rattle.evl_base.specs.declared.board.Board.{Board}
 use Rattle.evl_base.specs.declared.entry.Entry.{Entry}
@@ -22,10 +22,11 @@ use Rattle.evl_scenario.specs.declared.steps.Step.{Step}
 use Rattle.evl_shell.specs.Moments.{moment, wants_memory}
 use Rattle.evl_shell.specs.Runs.{Moment, Turn, beginning, turn}
 use Rattle.evl_shell.proofs.TurnLemmas.{turn-away, turn-entered}
-use Rattle.lab_warnings.specs.Runs.{Makes, entries_from, entry_in, first_unpicked, state_from, unpicked_at}
-use Rattle.lab_warnings.specs.Warnings.{end_lines, run_lines, script_lines, unpicked_line, warnings_of}
-use Rattle.lab_warnings.proofs.LineLaws.{behind}
-use Rattle.lab_warnings.specs.declared.picks.Unpicked.{Unpicked}
+use Rattle.lab_warnings.specs.Reasons.{spurious_so_far}
+use Rattle.lab_warnings.specs.Runs.{Makes, entries_from, entry_in, state_from}
+use Rattle.lab_warnings.specs.Warnings.{callback_of, counts_of, end_lines, entry_lines, installed_lines, odd_lines, run_lines, script_lines, step_lines, steps_lines, warnings_of}
+use Rattle.lab_warnings.proofs.LineLaws.{behind, behind_two}
+use Rattle.lab_warnings.specs.declared.counts.Counts.{Counts}
 
 -- ---- one step
 
@@ -68,25 +69,35 @@ makes old new step (Err NoMemory) adds keeps full bound memory = cc
 makes old new step (Err HistoryFull) adds keeps full bound memory = away old new step (full.0 refl) (keeps refl) bound
 makes old new step (Err refusal) adds keeps full bound memory = enters old new step (Err refusal) (λ e. absurd (let h = full.1 e in cc)) (adds refl) bound
 
+-- What is told of a step, in three parts: of the step, of its callback, and of the entries since it was made.
+pub stepped : {C : Type 0} (old new : KernelView C) (step : Step) → Makes old new step → (name : List ℕ) (counts : Counts) (bank : List Handler) (number before start : ℕ)
+    (text first second all : List ℕ) → before ≡ spurious_so_far old.history.state step.call → start ≡ length old.history.entries
+    → first ≡ text ++ odd_lines name number old.history.state step
+    → second ≡ first ++ installed_lines name counts bank number (callback_of step.call)
+    → all ≡ second ++ flat_map (entry_lines name counts number before new.history.state) (drop start new.history.entries)
+    → all ≡ text ++ step_lines name counts bank number old.history.state step (turn old.limit (moment old) step)
+unfolding step_lines
+stepped old new step made name counts bank number before start text first second all count at one two three =
+    let t = turn old.limit (moment old) step in
+    let after : new.history.state ≡ t.after.state = ap (λ (m : Moment). m.state) made.after in
+    let since : drop start new.history.entries ≡ entry_in step t =
+    ap (λ (n : ℕ). drop n new.history.entries) at ∙ ap (λ (es : List Entry). drop (length old.history.entries) es) made.entries ∙ drop-append_seam old.history.entries (entry_in step t) in
+    behind_two text first second all (odd_lines name number old.history.state step) (installed_lines name counts bank number (callback_of step.call)) _ one two three
+    ∙ (λ i. text ++ (odd_lines name number old.history.state step ++ (installed_lines name counts bank number (callback_of step.call)
+    ++ flat_map (entry_lines name counts number (count i) (after i)) (since i))))
+
 -- ---- one of some steps
-
-or_assoc : {T : Type 0} (a b c : Option T) → option_or (option_or a b) c ≡ option_or a (option_or b c)
-or_assoc None b c = refl
-or_assoc (Some x) b c = refl
-
-or_none : {T : Type 0} (a : Option T) → option_or a None ≡ a
-or_none None = refl
-or_none (Some x) = refl
 
 -- what a kernel leaves with the steps that are left is what it left with one more before it made that
 module _ {C : Type 0} (old new : KernelView C) (step : Step) (rest others : List Step) (split : rest ≡ step ∷ others) (made : Makes old new step) where
-  pub found_on : (number : ℕ) (found now all : Option Unpicked) → option_or found (first_unpicked number old.limit (moment old) rest) ≡ all
-      → now ≡ option_or found (unpicked_at old.history.state (number + 1) step)
-      → option_or now (first_unpicked (number + 1) new.limit (moment new) others) ≡ all
-  found_on number found now all before is =
-      (λ i. option_or (is i) (first_unpicked (number + 1) (made.limit i) (made.after i) others))
-      ∙ or_assoc found (unpicked_at old.history.state (number + 1) step) (first_unpicked (number + 1) old.limit (turn old.limit (moment old) step).after others)
-      ∙ ap (λ (ss : List Step). option_or found (first_unpicked number old.limit (moment old) ss)) (sym split)
+  pub told_on : (name : List ℕ) (counts : Counts) (bank : List Handler) (number : ℕ) (text now all : List ℕ)
+      → text ++ steps_lines name counts bank number old.limit (moment old) rest ≡ all
+      → now ≡ text ++ step_lines name counts bank (number + 1) old.history.state step (turn old.limit (moment old) step)
+      → now ++ steps_lines name counts bank (number + 1) new.limit (moment new) others ≡ all
+  told_on name counts bank number text now all before is =
+      (λ i. is i ++ steps_lines name counts bank (number + 1) (made.limit i) (made.after i) others)
+      ∙ append_assoc text (step_lines name counts bank (number + 1) old.history.state step (turn old.limit (moment old) step)) (steps_lines name counts bank (number + 1) old.limit (turn old.limit (moment old) step).after others)
+      ∙ ap (λ (ss : List Step). text ++ steps_lines name counts bank number old.limit (moment old) ss) (sym split)
       ∙ before
 
   pub entries_on : (all : List Entry) → old.history.entries ++ entries_from old.limit (moment old) rest ≡ all
@@ -105,9 +116,10 @@ module _ {C : Type 0} (old new : KernelView C) (step : Step) (rest others : List
 
 -- no steps are left
 module _ (limit : ℕ) (m : Moment) where
-  pub found_all : (number : ℕ) (rest : List Step) (found all : Option Unpicked) → length rest ≡ 0 → option_or found (first_unpicked number limit m rest) ≡ all → found ≡ all
-  found_all number [] found all none is = sym (or_none found) ∙ is
-  found_all number (step ∷ rest) found all none is = absurd (omega (arith, none))
+  pub told_all : (name : List ℕ) (counts : Counts) (bank : List Handler) (number : ℕ) (rest : List Step) (text all : List ℕ) → length rest ≡ 0
+      → text ++ steps_lines name counts bank number limit m rest ≡ all → text ≡ all
+  told_all name counts bank number [] text all none is = sym (append-nil text) ∙ is
+  told_all name counts bank number (step ∷ rest) text all none is = absurd (omega (arith, none))
 
   pub entries_all : (rest : List Step) (entries all : List Entry) → length rest ≡ 0 → entries ++ entries_from limit m rest ≡ all → entries ≡ all
   entries_all [] entries all none is = sym (append-nil entries) ∙ is
@@ -117,15 +129,15 @@ module _ (limit : ℕ) (m : Moment) where
   state_all [] all none is = is
   state_all (step ∷ rest) all none is = absurd (omega (arith, none))
 
--- what is seen in the end, and then on the way
-pub looked : (name : List ℕ) (threads asked limit : ℕ) (m : Moment) (steps : List Step) (found : Option Unpicked) (first entries : List Entry) (s : State) (before mid after : List ℕ)
-    → first ≡ [] → asked ≡ length steps → found ≡ first_unpicked 0 limit m steps → entries ≡ first ++ entries_from limit m steps → s ≡ state_from limit m steps
-    → mid ≡ before ++ end_lines name threads asked entries s → after ≡ mid ++ unpicked_line name found → after ≡ before ++ run_lines name threads limit m steps
+-- what is seen on the way, and then in the end
+pub looked : (name : List ℕ) (counts : Counts) (bank : List Handler) (asked limit : ℕ) (m : Moment) (steps : List Step) (first entries : List Entry) (s : State) (before mid after : List ℕ)
+    → first ≡ [] → asked ≡ length steps → mid ≡ before ++ steps_lines name counts bank 0 limit m steps → entries ≡ first ++ entries_from limit m steps → s ≡ state_from limit m steps
+    → after ≡ mid ++ end_lines name counts.threads asked entries s → after ≡ before ++ run_lines name counts bank limit m steps
 unfolding run_lines
-looked name threads asked limit m steps found first entries s before mid after none count seen all ends one two =
+looked name counts bank asked limit m steps first entries s before mid after none count one all ends two =
     let own : entries ≡ entries_from limit m steps = all ∙ ap (λ (es : List Entry). es ++ entries_from limit m steps) none in
-    behind before mid after (end_lines name threads asked entries s) (unpicked_line name found) one two
-    ∙ (λ i. before ++ (end_lines name threads (count i) (own i) (ends i) ++ unpicked_line name (seen i)))
+    behind before mid after (steps_lines name counts bank 0 limit m steps) (end_lines name counts.threads asked entries s) one two
+    ∙ (λ i. before ++ (steps_lines name counts bank 0 limit m steps ++ end_lines name counts.threads (count i) (own i) (ends i)))
 
 -- ---- from a kernel that was just made
 
@@ -148,33 +160,40 @@ unrefused r k can made range none = let why = range.1 none in cc
 refused : {K : Type 0} (r : Result K Refusal) (e : Refusal) (can : Bool) → r ≡ Err e → e ≡ Range → ((r ≡ Err Range) ↔ (can ≡ false)) → can ≡ false
 refused r e can is why range = range.0 (is ∙ ap (λ (x : Refusal). Err x) why)
 
--- a script over these callbacks, by what was opened of it
-pub opened_lines : {K : Type 0} (r : Result K Refusal) (made : K) (name : List ℕ) (bank : List Planned) (script : Script) (board : Board) (limit : ℕ) (steps : List Step) (kernel : KernelView Planned) (before after : List ℕ)
-    → r ≡ Ok made → ((r ≡ Err Range) ↔ (can_open board (length bank) limit ≡ false)) → board ≡ script.board → limit ≡ script.limit → steps ≡ script.steps
-    → IsOpened (λ p. p.kinds.0) (λ p. p.plan) board bank limit kernel → after ≡ before ++ run_lines name board.threads kernel.limit (moment kernel) steps
+-- as many are copied as there are
+same_count : (own bank : List Planned) → map told own ≡ map told bank → length (map told bank) ≡ length own
+same_count own bank same = sym (ap (λ (hs : List Handler). length hs) same) ∙ length-map own told
+
+-- a script over a copy of these callbacks, by what was opened of it
+pub opened_lines : {K : Type 0} (r : Result K Refusal) (made : K) (name : List ℕ) (own bank : List Planned) → map told own ≡ map told bank
+    → (script : Script) (board : Board) (limit : ℕ) (steps : List Step) (kernel : KernelView Planned) (before after : List ℕ)
+    → r ≡ Ok made → ((r ≡ Err Range) ↔ (can_open board (length own) limit ≡ false)) → board ≡ script.board → limit ≡ script.limit → steps ≡ script.steps
+    → IsOpened (λ p. p.kinds.0) (λ p. p.plan) board own limit kernel
+    → after ≡ before ++ run_lines name (counts_of board) (map told bank) kernel.limit (moment kernel) steps
     → after ≡ before ++ script_lines name (map told bank) script
 unfolding script_lines
-opened_lines r made name bank script board limit steps kernel before after is range b l s k lines =
-    let can = unrefused r made (can_open board (length bank) limit) is range in
+opened_lines r made name own bank same script board limit steps kernel before after is range b l s k lines =
+    let can = unrefused r made (can_open board (length own) limit) is range in
     let start : moment kernel ≡ beginning (opening board (map told bank)) =
-    (λ i. record { entries = length (k.entries i); state = (k.state ∙ (λ j. opening (k.board_is j) (k.bank_is j))) i }) in
-    let count : length (map told bank) ≡ length bank = length-map bank told in
+    (λ i. record { entries = length (k.entries i); state = (k.state ∙ (λ j. opening (k.board_is j) ((k.bank_is ∙ same) j))) i }) in
+    let count = same_count own bank same in
     let open_too : can_open script.board (length (map told bank)) script.limit ≢ false = λ e. can ((λ i. can_open (b i) (sym count i) (l i)) ∙ e) in
     lines ∙ ap (λ (ls : List ℕ). before ++ ls)
-    ((λ i. run_lines name board.threads ((k.limit_is ∙ l) i) (start i) (s i))
-    ∙ ap (λ (o : Board). run_lines name o.threads script.limit (beginning (opening o (map told bank))) script.steps) b
-    ∙ sym (chosen (can_open script.board (length (map told bank)) script.limit) (run_lines name script.board.threads script.limit (beginning (opening script.board (map told bank))) script.steps) [] open_too))
+    ((λ i. run_lines name (counts_of board) (map told bank) ((k.limit_is ∙ l) i) (start i) (s i))
+    ∙ ap (λ (o : Board). run_lines name (counts_of o) (map told bank) script.limit (beginning (opening o (map told bank))) script.steps) b
+    ∙ sym (chosen (can_open script.board (length (map told bank)) script.limit) (run_lines name (counts_of script.board) (map told bank) script.limit (beginning (opening script.board (map told bank))) script.steps) [] open_too))
 
 -- and where none could be opened
-pub none_opened : {K : Type 0} (r : Result K Refusal) (e : Refusal) (name : List ℕ) (bank : List Planned) (script : Script) (board : Board) (limit : ℕ) (before : List ℕ)
-    → r ≡ Err e → e ≡ Range → ((r ≡ Err Range) ↔ (can_open board (length bank) limit ≡ false)) → board ≡ script.board → limit ≡ script.limit
+pub none_opened : {K : Type 0} (r : Result K Refusal) (e : Refusal) (name : List ℕ) (own bank : List Planned) → map told own ≡ map told bank
+    → (script : Script) (board : Board) (limit : ℕ) (before : List ℕ)
+    → r ≡ Err e → e ≡ Range → ((r ≡ Err Range) ↔ (can_open board (length own) limit ≡ false)) → board ≡ script.board → limit ≡ script.limit
     → before ≡ before ++ script_lines name (map told bank) script
 unfolding script_lines
-none_opened r e name bank script board limit before is why range b l =
-    let can = refused r e (can_open board (length bank) limit) is why range in
-    let count : length (map told bank) ≡ length bank = length-map bank told in
+none_opened r e name own bank same script board limit before is why range b l =
+    let can = refused r e (can_open board (length own) limit) is why range in
+    let count = same_count own bank same in
     sym (append-nil before) ∙ ap (λ (ls : List ℕ). before ++ ls)
-    (sym (left_out (can_open script.board (length (map told bank)) script.limit) (run_lines name script.board.threads script.limit (beginning (opening script.board (map told bank))) script.steps) []
+    (sym (left_out (can_open script.board (length (map told bank)) script.limit) (run_lines name (counts_of script.board) (map told bank) script.limit (beginning (opening script.board (map told bank))) script.steps) []
     ((λ i. can_open (sym b i) (count i) (sym l i)) ∙ can)))
 
 -- a text that is refused for a fault of its own

@@ -1,91 +1,13 @@
 //! The warnings that are seen once all steps were made.
-ghost use Rattle.std.specs.Prelude.{◌≡◌, ◌++◌, true, length, string_bytes, OnOk};
-ghost use Rattle.evl_base.specs.Reply.{outcome_text};
+ghost use Rattle.std.specs.Prelude.{◌≡◌, ◌++◌, length, string_bytes, OnOk};
 ghost use Rattle.evl_pipeline.specs.Limits.{line_count};
-ghost use Rattle.evl_scenario.specs.Lines.{step_text};
-ghost use Rattle.evl_scenario.specs.Writings.{step_of_entry};
 ghost use Rattle.lab_warnings.specs.Warnings as lines;
-ghost use Rattle.lab_warnings.specs.Warnings.{end_lines, full_line, last_begun, pending_line, pending_lines, pending_text, place_text, refusal_line, refusal_lines, refused_text, wait_line, wait_lines, wait_text};
+ghost use Rattle.lab_warnings.specs.Warnings.{end_lines, full_line, last_begun, pending_line, pending_lines, pending_text, wait_line, wait_lines, wait_text};
 
+use crate::refusals::write_place;
 use evl_base::{Entry, LINES, LineNo, Refusal, Reply, Stage, ThreadId};
 use evl_plans::PlannedKernel;
 use std::alloc::AllocError;
-
-// Whether a call was refused so that it is warned of.
-fn is_warned(reply: &Result<Reply, Refusal>) -> bool
-    ensures { result ≡ lines.is_warned reply.now }
-{
-    match reply {
-        Err(Refusal::Busy | Refusal::Unknown) => true,
-        _ => false,
-    }
-}
-
-// The name of a refusal.
-fn reason_of(reply: &Result<Reply, Refusal>) -> &'static str
-    requires { lines.is_warned reply.now ≡ true }
-    ensures { result.now ≡ outcome_text reply.now }
-{
-    match reply {
-        Ok(_) => "",
-        Err(refusal) => refusal.name(),
-    }
-}
-
-// Writes where a warning belongs.
-pub(crate) fn write_place(told: &mut String, name: &str, number: usize) -> Result<(), AllocError>
-    ensures { OnOk result (string_bytes told.new ≡ string_bytes told.old ++ place_text name.now number) }
-{
-    write!(told, "{name}: step {number}: warning: ")?;
-    Ok(())
-}
-
-// Writes who makes the call of an entry, and the call.
-fn write_step(told: &mut String, entry: &Entry) -> Result<(), AllocError>
-    ensures { OnOk result (string_bytes told.new ≡ string_bytes told.old ++ step_text (step_of_entry entry.now)) }
-{
-    let who = entry.caller.0;
-    let call = &entry.call;
-    write!(told, "T{who} {call}")?;
-    Ok(())
-}
-
-// Writes the step of an entry, and why it was refused.
-fn write_refused(told: &mut String, entry: &Entry) -> Result<(), AllocError>
-    requires { lines.is_warned entry.now.reply ≡ true }
-    ensures { OnOk result (string_bytes told.new ≡ string_bytes told.old ++ refused_text entry.now) }
-{
-    let reason = reason_of(&entry.reply);
-    write_step(told, entry)?;
-    write!(told, " is refused: {reason}\n")?;
-    Ok(())
-}
-
-// Warns of a call that was refused as in use, or for something that isn't there.
-fn warn_of_refusal(
-    told: &mut String,
-    name: &str,
-    number: usize,
-    entry: &Entry,
-) -> Result<(), AllocError>
-    ensures { OnOk result (string_bytes told.new ≡ string_bytes told.old ++ refusal_line name.now number entry.now) }
-{
-    if !is_warned(&entry.reply) {
-        return Ok(());
-    }
-    write_place(told, name, number)?;
-    write_refused(told, entry)
-}
-
-// Warns of each call that was refused so.
-fn warn_of_refusals(told: &mut String, name: &str, entries: &[Entry]) -> Result<(), AllocError>
-    ensures { OnOk result (string_bytes told.new ≡ string_bytes told.old ++ refusal_lines name.now 0 entries.now) }
-{
-    for (i, entry) in entries.iter().enumerate() {
-        warn_of_refusal(told, name, i + 1, entry)?;
-    }
-    Ok(())
-}
 
 // Warns that the history was full before the last step.
 fn warn_of_limit(told: &mut String, name: &str, made: usize, asked: usize) -> Result<(), AllocError>
@@ -217,8 +139,8 @@ fn warn_of_pending(
     Ok(())
 }
 
-/// Warns of what a kernel, of so many threads, shows after a scenario of so many steps. `AllocError` where memory
-/// couldn't grow.
+/// Warns of what a kernel of so many threads shows after a scenario of so many steps. `AllocError` where memory couldn't
+/// grow.
 pub fn warn_of_end(
     told: &mut String,
     name: &str,
@@ -229,7 +151,6 @@ pub fn warn_of_end(
     ensures { OnOk result (string_bytes told.new ≡ string_bytes told.old ++ end_lines name.now threads asked kernel.now.history.entries kernel.now.history.state) }
 {
     let entries = kernel.kernel().history();
-    warn_of_refusals(told, name, entries)?;
     warn_of_limit(told, name, entries.len(), asked)?;
     warn_of_waits(told, name, kernel, threads)?;
     warn_of_pending(told, name, kernel, Stage::Oob)?;

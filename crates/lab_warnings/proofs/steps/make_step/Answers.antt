@@ -1,6 +1,6 @@
 use Rattle.std.proofs.Common.{◌∙◌, sym}
 use Rattle.lab_warnings.proofs.RunLaws.{makes}
-use Rattle.lab_warnings.proofs.picks.make_step.Goals as goal
+use Rattle.lab_warnings.proofs.steps.make_step.Goals as goal
 
 pub returns : goal.returns
 returns c =

@@ -1,9 +1,11 @@
-use Rattle.std.proofs.Common.{◌≡◌, ◌++◌, arith, ap, length, List}
+use Rattle.std.proofs.Common.{◌≡◌, ◌++◌, arith, ap, length, map, string_bytes, List}
+use Rattle.evl_plans.specs.Told.{handler_of}
 use Rattle.evl_scenario.specs.declared.steps.Step.{Step}
 use Rattle.evl_shell.specs.Moments.{moment}
-use Rattle.lab_warnings.specs.Runs.{entries_from, first_unpicked, state_from}
-use Rattle.lab_warnings.proofs.RunLaws.{entries_all, entries_on, found_all, found_on, state_all, state_on}
-use Rattle.lab_warnings.proofs.picks.make_steps.Goals as goal
+use Rattle.lab_warnings.specs.Runs.{entries_from, state_from}
+use Rattle.lab_warnings.specs.Warnings.{steps_lines}
+use Rattle.lab_warnings.proofs.RunLaws.{entries_all, entries_on, state_all, state_on, told_all, told_on}
+use Rattle.lab_warnings.proofs.steps.make_steps.Goals as goal
 
 pub loop-step-init : goal.loop-step-init
 loop-step-init c =
@@ -11,7 +13,7 @@ loop-step-init c =
     let k = c.args.kernel.now in
     record {
       left = omega (arith, ap (λ (ss : List Step). length ss) same, c.args.steps.ok.0, c.len-count.ensures);
-      found = ap (λ (ss : List Step). first_unpicked 0 k.limit (moment k) ss) same;
+      told = ap (λ (ss : List Step). string_bytes c.args.told.now ++ steps_lines c.args.name.now c.args.counts (map handler_of c.args.bank.now) 0 k.limit (moment k) ss) same;
       entries = ap (λ (ss : List Step). k.history.entries ++ entries_from k.limit (moment k) ss) same;
       state = ap (λ (ss : List Step). state_from k.limit (moment k) ss) same;
     }
@@ -20,23 +22,23 @@ pub loop-step-preserved : goal.loop-step-preserved
 loop-step-preserved c =
     let kept = c.loop-step.invariant in
     let old = c.loop-step.kernel in
-    let new = c.make_step.new.kernel in
+    let new = c.take_step.new.kernel in
     let step = c.in-Some.step in
     let split = c.in-Some.ensures.steps.0 in
-    let made = c.in_ok-make_step.ensures in
+    let did = c.in_ok-take_step.ensures in
     record {
       left = omega (arith, kept.left, ap (λ (ss : List Step). length ss) split);
-      found = found_on old new step _ _ split made c.loop-step.number c.loop-step.found c.first_of-found.result _ kept.found c.first_of-found.ensures;
-      entries = entries_on old new step _ _ split made _ kept.entries;
-      state = state_on old new step _ _ split made _ kept.state;
+      told = told_on old new step _ _ split did.makes c.args.name.now c.args.counts (map handler_of c.args.bank.now) c.loop-step.number (string_bytes c.loop-step.told) (string_bytes c.take_step.new.told) _ kept.told did.told;
+      entries = entries_on old new step _ _ split did.makes _ kept.entries;
+      state = state_on old new step _ _ split did.makes _ kept.state;
     }
 
-pub returns-clause-found : goal.returns-clause-found
-returns-clause-found c =
+pub returns-clause-told : goal.returns-clause-told
+returns-clause-told c =
     let k = c.loop-step.kernel in
     let rest = c.loop-step.step-iterator.rest in
     let none : length rest.items ≡ 0 = omega (arith, rest.ok.0, c.in-None.ensures.steps.0) in
-    found_all k.limit (moment k) c.loop-step.number rest.items c.loop-step.found _ none c.loop-step.invariant.found
+    told_all k.limit (moment k) c.args.name.now c.args.counts (map handler_of c.args.bank.now) c.loop-step.number rest.items (string_bytes c.loop-step.told) _ none c.loop-step.invariant.told
 
 pub returns-clause-entries : goal.returns-clause-entries
 returns-clause-entries c =
