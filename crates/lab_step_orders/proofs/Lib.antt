@@ -1,0 +1,10 @@
+pub mod Alike
+pub mod FirstLaws
+pub mod Opening
+pub mod OutcomeLaws
+pub mod RisingLaws
+pub mod Sound
+pub mod Standing
+pub mod TextLaws
+pub mod ToldLaws
+pub mod Turns

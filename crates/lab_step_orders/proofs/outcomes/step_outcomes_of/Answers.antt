@@ -1,0 +1,33 @@
+use Rattle.std.proofs.Common.{◌∙◌, List, ap, sym}
+use Rattle.std.specs.Prelude.{sum_by}
+use Rattle.lab_orders.proofs.Totals.{total_of_ones}
+use Rattle.lab_orders.specs.Machines.{orders}
+use Rattle.lab_step_orders.specs.Moments.{seen_of}
+use Rattle.lab_step_orders.specs.Outcomes.{told_text}
+use Rattle.lab_step_orders.specs.Seen.{Seen, first_seen, machine}
+use Rattle.lab_step_orders.specs.declared.moments.Moment.{Moment}
+use Rattle.lab_orders.specs.declared.nodes.Node.{Node}
+use Rattle.lab_step_orders.proofs.OutcomeLaws.{weight_of_ones}
+use Rattle.lab_step_orders.proofs.outcomes.step_outcomes_of.Goals as goal
+
+pub returns-in-Ok-outcomes_at : goal.returns-in-Ok-outcomes_at
+returns-in-Ok-outcomes_at c =
+    let crew = c.args.crew.now in
+    let found = c.in-Ok.found in
+    let ends = c.in-Ok.ensures in
+    let told = c.in-Ok-outcomes_at.ensures in
+    record {
+      counted = λ f. told.sums f ∙ ends.counted (λ (s : Seen). f (told_text crew s));
+      distinct = told.distinct;
+      lead = told.lead;
+      rise = told.rise;
+      count =
+          (c.in-Ok-count_of.ensures ∙ ap (λ (ends : List (Node Moment)). sum_by (λ end. end.count) ends) c.as_slice.ensures.value)
+          ∙ (sym (weight_of_ones seen_of found.ends.items)
+          ∙ (ends.counted (λ seen. 1)
+          ∙ total_of_ones (orders (machine crew) (first_seen crew) found.steps)));
+      gone = ends.gone;
+      whole = ends.whole;
+      cut = ends.cut;
+      more = ends.more;
+    }

@@ -1,0 +1,80 @@
+-- The callers of a machine's words as a machine: a step of it is one turn of one caller.
+use Rattle.std.specs.Prelude.{ℕ, ◌+◌, false, List, [], length, map, replicate, Option, Some, None, option_map, slice_get, slice_index, slice_index_or, slice_set}
+use Rattle.std.specs.Option.{option_map_or}
+use Rattle.lab_orders.specs.Machines.{Machine}
+use Rattle.lab_step_orders.specs.Words.{Shared, gate_after, mutex_after}
+use Rattle.lab_step_orders.specs.Programs.{limit_of, stage_of, next_call, turn_at}
+use Rattle.lab_step_orders.specs.Told.{answer_line}
+use Rattle.lab_step_orders.specs.declared.crews.Crew.{Crew}
+use Rattle.lab_step_orders.specs.declared.steps.Place.{Place}
+use Rattle.lab_step_orders.specs.declared.steps.Place.TheVariants.{Begins}
+use Rattle.lab_step_orders.specs.declared.steps.Then.{Then}
+use Rattle.lab_step_orders.specs.declared.steps.Then.TheVariants.{Stands, Answers}
+use Rattle.lab_step_orders.specs.declared.steps.Turn.{Turn}
+use Rattle.lab_step_orders.specs.declared.steps.WordStep.{WordStep}
+use Rattle.lab_step_orders.specs.declared.steps.WordStep.TheVariants.{AtGate, AtMutex}
+
+-- the words; and of each caller where it stands, how many of its calls are over, and what it was answered
+pub record Seen : Type 0 where
+  pub gates : List Shared
+  pub mutexes : List Shared
+  pub places : List Place
+  pub made : List ℕ
+  pub answers : List (List ℕ)
+
+-- nobody holds it
+abbrev pub free_word : ℕ → Shared
+free_word callers = record { word = 0; held = replicate callers false }
+
+abbrev pub first_seen : Crew → Seen
+first_seen c = record {
+  gates = replicate (length c.limits.items) (free_word (length c.callers.items));
+  mutexes = replicate c.mutexes (free_word (length c.callers.items));
+  places = map (λ caller. Begins) c.callers.items;
+  made = map (λ caller. 0) c.callers.items;
+  answers = map (λ caller. []) c.callers.items;
+}
+
+-- the list with the element at a place changed, if there is one
+abbrev pub changed_at : {A : Type 0} → (A → A) → ℕ → List A → List A
+changed_at f i xs = option_map_or (λ x. slice_set xs i (f x)) (slice_get xs i) xs
+
+-- the words after a turn of the caller k: no step changes none
+abbrev pub gates_after : Crew → ℕ → Option WordStep → List Shared → List Shared
+gates_after c k None gates = gates
+gates_after c k (Some (AtGate stax step)) gates = changed_at (gate_after (limit_of c stax.0) (stage_of c k) k step) stax.0 gates
+gates_after c k (Some (AtMutex mutex step)) gates = gates
+
+abbrev pub mutexes_after : ℕ → Option WordStep → List Shared → List Shared
+mutexes_after k None mutexes = mutexes
+mutexes_after k (Some (AtGate stax step)) mutexes = mutexes
+mutexes_after k (Some (AtMutex mutex step)) mutexes = changed_at (mutex_after k step) mutex.0 mutexes
+
+-- behind an answer the next call begins
+abbrev pub place_after : Then → Place
+place_after (Stands place) = place
+place_after (Answers answer) = Begins
+
+abbrev pub made_after : Then → ℕ → ℕ
+made_after (Stands place) made = made
+made_after (Answers answer) made = made + 1
+
+abbrev pub answers_after : Then → List ℕ → List ℕ
+answers_after (Stands place) told = told
+answers_after (Answers answer) told = answer_line told answer
+
+abbrev pub after : Crew → Seen → ℕ → Turn → Seen
+after c s k turn = record {
+  gates = gates_after c k turn.step s.gates;
+  mutexes = mutexes_after k turn.step s.mutexes;
+  places = slice_set s.places k (place_after turn.then);
+  made = slice_set s.made k (made_after turn.then (slice_index s.made k));
+  answers = slice_set s.answers k (answers_after turn.then (slice_index_or s.answers k []));
+}
+
+-- a caller that has made all its calls makes no turn
+abbrev pub go : Crew → Seen → ℕ → Option Seen
+go c s k = option_map (after c s k) (turn_at c s.gates s.mutexes k (slice_index_or s.places k Begins) (next_call c k (slice_index s.made k)))
+
+abbrev pub machine : Crew → Machine Seen
+machine c = record { callers = length c.callers.items; go = go c }

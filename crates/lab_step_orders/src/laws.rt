@@ -1,0 +1,18 @@
+//! What all orders of atomic steps keep. Each law is the contract of a function without a body.
+ghost use Rattle.lab_step_orders.specs.StepLaws.{NoStaxIsShared, OneHasTheMutex, WordsStand};
+
+/// Wherever the callers' steps lead, a world of `evl_words` stands behind each word: events of its seats lead there, each
+/// an atomic step that its seat may make.
+pub fn words_stand()
+    ensures { WordsStand }
+{}
+
+/// Wherever the callers' steps lead, two that hold one stax are of one stage.
+pub fn no_stax_is_shared()
+    ensures { NoStaxIsShared }
+{}
+
+/// Wherever the callers' steps lead, no two have one mutex.
+pub fn one_has_the_mutex()
+    ensures { OneHasTheMutex }
+{}

@@ -1,0 +1,26 @@
+//! Every order of the atomic steps that callers make on a machine's words: the words as plain numbers, each call a
+//! program of steps, and the outcomes of all orders.
+#![tactic(auto)]
+
+mod calls;
+mod crews;
+mod digests;
+mod laws;
+mod moments;
+mod outcomes;
+mod programs;
+mod seen;
+mod shared;
+mod steps;
+mod told;
+mod words;
+mod worlds;
+
+pub use calls::{Answer, WordCall};
+pub use crews::{Crew, CrewCaller};
+pub use laws::{no_stax_is_shared, one_has_the_mutex, words_stand};
+pub use moments::Moment;
+pub use outcomes::{StepOutcomes, step_outcomes_of};
+pub use seen::SeenSteps;
+pub use steps::{GateStep, MutexStep, Place, Then, Turn, WordStep};
+pub use worlds::Stepping;

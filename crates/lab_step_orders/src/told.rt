@@ -1,0 +1,187 @@
+//! What is told of callers and words at the end of an order.
+ghost use Rattle.std.specs.Prelude.{◌≡◌, ◌++◌, [], IfOk, OnOk, length, map, slice_index_or, string_bytes};
+ghost use Rattle.evl_words.specs.MutexBits.{number_in};
+ghost use Rattle.lab_step_orders.specs.Moments.{seen_of, shared_of};
+ghost use Rattle.lab_step_orders.specs.Outcomes.{mutexes_text, staxes_text, told_text};
+ghost use Rattle.lab_step_orders.specs.Told.{caller_line, lines_below, mark_text, mutex_text, owner_text, stax_text};
+
+use crate::crews::Crew;
+use crate::moments::Moment;
+use crate::shared::SharedWord;
+use crate::words::{count_in, mark_in, stage_in};
+use std::alloc::{AllocError, Global};
+
+// Lines that are told one by one.
+trait Lines {
+    ghost use Rattle.std.specs.Prelude.{ℕ, List};
+
+    /// The line of a number, or nothing.
+    ghost line: { Self → ℕ → List ℕ };
+
+    /// Writes the line of a number behind a text.
+    fn put(&self, text: &mut String, number: usize) -> Result<(), AllocError>
+        ensures { OnOk result (string_bytes text.new ≡ string_bytes text.old ++ line self.now number) };
+}
+
+// Writes the lines of all numbers below one behind a text.
+fn put_lines<L: Lines>(text: &mut String, lines: &L, count: usize) -> Result<(), AllocError>
+    ensures { OnOk result (string_bytes text.new ≡ string_bytes text.old ++ lines_below (L.line lines.now) count) }
+{
+    for number in 0..count {
+        match lines.put(text, number) {
+            Ok(()) => {}
+            Err(error) => return Err(error),
+        }
+    }
+    Ok(())
+}
+
+// What a caller was answered.
+fn told_at(answers: &[String], caller: usize) -> &str
+    ensures { result.now ≡ slice_index_or (map string_bytes answers.now) caller [] }
+{
+    match answers.get(caller) {
+        Some(told) => told.as_str(),
+        None => "",
+    }
+}
+
+// Lines of what callers were answered.
+#[derive(Drop)]
+struct Answered<'a> {
+    answers: &'a [String],
+}
+
+impl<'a> Lines for Answered<'a> {
+    ghost use Rattle.std.specs.Prelude.{map, string_bytes};
+    ghost use Rattle.lab_step_orders.specs.Told.{caller_line};
+
+    ghost line = { λ answered k. caller_line (map string_bytes answered.answers.now) k };
+
+    fn put(&self, text: &mut String, number: usize) -> Result<(), AllocError> {
+        let told = told_at(self.answers, number);
+        write!(text, "T{number}{told}\n")
+    }
+}
+
+// Writes the end of a word's line, with its mark.
+fn put_mark(text: &mut String, marked: bool) -> Result<(), AllocError>
+    ensures { OnOk result (string_bytes text.new ≡ string_bytes text.old ++ mark_text marked) }
+{
+    if marked {
+        text.push_str(", claimed\n")
+    } else {
+        text.push_str("\n")
+    }
+}
+
+// Writes the line of a stax.
+fn put_stax(text: &mut String, number: usize, word: u64) -> Result<(), AllocError>
+    ensures { OnOk result (string_bytes text.new ≡ string_bytes text.old ++ stax_text number word) }
+{
+    let stage = stage_in(word);
+    let count = count_in(word);
+    write!(text, "stax {number}: {stage}, held by {count}")?;
+    put_mark(text, mark_in(word))
+}
+
+// Lines of the staxes.
+#[derive(Drop)]
+struct Staxes<'a> {
+    gates: &'a [SharedWord],
+}
+
+impl<'a> Lines for Staxes<'a> {
+    ghost use Rattle.std.specs.Prelude.{map};
+    ghost use Rattle.lab_step_orders.specs.Moments.{shared_of};
+    ghost use Rattle.lab_step_orders.specs.Told.{stax_line};
+
+    ghost line = { λ staxes i. stax_line (map shared_of staxes.gates.now) i };
+
+    fn put(&self, text: &mut String, number: usize) -> Result<(), AllocError> {
+        match self.gates.get(number) {
+            Some(gate) => put_stax(text, number, gate.word),
+            None => Ok(()),
+        }
+    }
+}
+
+// The owner's number in a mutex's word.
+fn number_in(word: u64) -> u64
+    ensures { result ≡ number_in word }
+{
+    word % 65_536
+}
+
+// Writes who owns a mutex.
+fn put_owner(text: &mut String, number: u64) -> Result<(), AllocError>
+    ensures { OnOk result (string_bytes text.new ≡ string_bytes text.old ++ owner_text number) }
+{
+    if number == 0 {
+        return text.push_str("free");
+    }
+    let owner = number - 1;
+    write!(text, "T{owner}")
+}
+
+// Writes the line of a mutex.
+fn put_mutex(text: &mut String, number: usize, word: u64) -> Result<(), AllocError>
+    ensures { OnOk result (string_bytes text.new ≡ string_bytes text.old ++ mutex_text number word) }
+{
+    write!(text, "mutex {number}: ")?;
+    put_owner(text, number_in(word))?;
+    put_mark(text, mark_in(word))
+}
+
+// Lines of the mutexes.
+#[derive(Drop)]
+struct Mutexes<'a> {
+    mutexes: &'a [SharedWord],
+}
+
+impl<'a> Lines for Mutexes<'a> {
+    ghost use Rattle.std.specs.Prelude.{map};
+    ghost use Rattle.lab_step_orders.specs.Moments.{shared_of};
+    ghost use Rattle.lab_step_orders.specs.Told.{mutex_line};
+
+    ghost line = { λ lines i. mutex_line (map shared_of lines.mutexes.now) i };
+
+    fn put(&self, text: &mut String, number: usize) -> Result<(), AllocError> {
+        match self.mutexes.get(number) {
+            Some(mutex) => put_mutex(text, number, mutex.word),
+            None => Ok(()),
+        }
+    }
+}
+
+// Writes the lines of the staxes.
+fn put_staxes(text: &mut String, gates: &[SharedWord]) -> Result<(), AllocError>
+    ensures { OnOk result (string_bytes text.new ≡ string_bytes text.old ++ staxes_text (map shared_of gates.now)) }
+{
+    put_lines(text, &Staxes { gates }, gates.len())
+}
+
+// Writes the lines of the mutexes.
+fn put_mutexes(text: &mut String, mutexes: &[SharedWord]) -> Result<(), AllocError>
+    ensures { OnOk result (string_bytes text.new ≡ string_bytes text.old ++ mutexes_text (map shared_of mutexes.now)) }
+{
+    put_lines(text, &Mutexes { mutexes }, mutexes.len())
+}
+
+// Writes what each of so many callers was answered.
+fn put_answers(text: &mut String, answers: &[String], count: usize) -> Result<(), AllocError>
+    ensures { OnOk result (string_bytes text.new ≡ string_bytes text.old ++ lines_below (caller_line (map string_bytes answers.now)) count) }
+{
+    put_lines(text, &Answered { answers }, count)
+}
+
+/// What is told of an end: what each caller was answered, and how each stax and each mutex stands.
+pub(crate) fn told_of(alloc: Global, crew: &Crew, moment: &Moment) -> Result<String, AllocError>
+    ensures { IfOk result (λ told. string_bytes told ≡ told_text crew.now (seen_of moment.now)) }
+{
+    let mut text = String::new(alloc);
+    put_answers(&mut text, moment.answers.as_slice(), crew.callers.len())?;
+    put_staxes(&mut text, moment.gates.as_slice())?;
+    put_mutexes(&mut text, moment.mutexes.as_slice())?;
+    Ok(text)
+}

@@ -1,0 +1,49 @@
+//! Callers that step on words, as a world.
+use crate::crews::Crew;
+use crate::digests::digest_of;
+use crate::moments::{Moment, are_same, next_moment};
+use crate::seen::SeenSteps;
+use lab_orders::World;
+use std::alloc::{AllocError, Global};
+
+/// Callers whose steps are gone through.
+#[derive(Clone, Copy, Drop)]
+pub struct Stepping<'a> {
+    pub crew: &'a Crew,
+}
+
+impl<'a> World for Stepping<'a> {
+    ghost use Rattle.lab_step_orders.specs.Moments.{IsMoment, seen_of};
+    ghost use Rattle.lab_step_orders.specs.Seen.{Seen, machine};
+
+    type Moment = Moment;
+
+    type State = SeenSteps;
+
+    ghost machine = { λ stepping. machine stepping.crew.now };
+
+    ghost state = { λ stepping moment. seen_of moment };
+
+    ghost fits = { λ stepping moment. IsMoment stepping.crew.now moment };
+
+    fn callers(&self) -> u16 {
+        self.crew.count()
+    }
+
+    fn step(
+        &self,
+        alloc: Global,
+        moment: &Moment,
+        caller: u16,
+    ) -> Result<Option<Moment>, AllocError> {
+        next_moment(alloc, self.crew, moment, caller)
+    }
+
+    fn digest(&self, moment: &Moment) -> u64 {
+        digest_of(moment)
+    }
+
+    fn is_same(&self, one: &Moment, other: &Moment) -> bool {
+        are_same(one, other)
+    }
+}

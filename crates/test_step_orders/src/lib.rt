@@ -1,0 +1,5 @@
+//! Tests of the orders of callers' atomic steps.
+#![tactic(auto)]
+
+#[cfg(test)]
+mod words;

@@ -1,0 +1,160 @@
+//! Orders of atomic steps on words.
+use evl_base::{MutexId, Refusal, Stage, StaxId};
+use lab_step_orders::{Crew, CrewCaller, StepOutcomes, WordCall, step_outcomes_of};
+use std::alloc::{AllocError, Global};
+
+const ENTER: WordCall = WordCall::TryLockStax(StaxId(0));
+
+const LEAVE: WordCall = WordCall::UnlockStax(StaxId(0));
+
+const MARK: WordCall = WordCall::ClaimStax(StaxId(0));
+
+const LOCK: WordCall = WordCall::TryLockMutex(MutexId(0));
+
+const UNLOCK: WordCall = WordCall::UnlockMutexFast(MutexId(0));
+
+// A caller on a stage, with its calls.
+type Row = (Stage, &'static [WordCall]);
+
+// These callers over one stax that two may hold, and one mutex.
+fn callers_of(alloc: Global, rows: &[Row]) -> Result<Vec<CrewCaller>, AllocError> {
+    let mut callers = Vec::new(alloc);
+    for (stage, row) in rows {
+        let mut calls = Vec::new(alloc);
+        calls.extend_from_slice(row)?;
+        callers.push(CrewCaller {
+            stage: *stage,
+            calls,
+        })?;
+    }
+    Ok(callers)
+}
+
+fn crew_of(alloc: Global, limit: u16, rows: &[Row]) -> Result<Crew, Refusal> {
+    let Ok(callers) = callers_of(alloc, rows) else {
+        return Err(Refusal::NoMemory);
+    };
+    let mut limits = Vec::new(alloc);
+    let Ok(()) = limits.push(limit) else {
+        return Err(Refusal::NoMemory);
+    };
+    Crew::new(limits, 1, callers)
+}
+
+// How many orders there are, how many outcomes, how many moments, and how many orders have such an answer.
+#[derive(Clone, Copy, PartialEq, Eq)]
+struct Counts {
+    orders: u128,
+    outcomes: usize,
+    moments: usize,
+    with_answer: u128,
+}
+
+// What was found of them.
+fn counted(found: &StepOutcomes, answer: &str) -> Counts {
+    let mut with_answer: u128 = 0;
+    for outcome in &found.all {
+        if outcome.told.as_str().contains(answer) {
+            with_answer = with_answer.saturating_add(outcome.count);
+        }
+    }
+    Counts {
+        orders: found.count,
+        outcomes: found.all.len(),
+        moments: found.moments,
+        with_answer,
+    }
+}
+
+// The counts of these callers' orders; none where they can't be told.
+fn counts_of(alloc: Global, rows: &[Row], answer: &str) -> Option<Counts> {
+    let Ok(crew) = crew_of(alloc, 2, rows) else {
+        return None;
+    };
+    match step_outcomes_of(alloc, &crew, 100_000) {
+        Ok(found) => Some(counted(&found, answer)),
+        Err(_) => None,
+    }
+}
+
+// An in-band caller and an out-of-band one enter one stax and leave it.
+const TWO: [Row; 2] = [
+    (Stage::Inband, &[ENTER, LEAVE]),
+    (Stage::Oob, &[ENTER, LEAVE]),
+];
+
+#[test]
+fn two_that_enter_a_stax_may_race(rt: HostRuntime) {
+    let wanted = Counts {
+        orders: 18,
+        outcomes: 5,
+        moments: 35,
+        with_answer: 2,
+    };
+    assert!(rt; counts_of(rt.alloc(), &TWO, "Raced") == Some(wanted));
+}
+
+// Two in-band callers and an out-of-band one.
+const THREE: [Row; 3] = [
+    (Stage::Inband, &[ENTER, LEAVE]),
+    (Stage::Inband, &[ENTER, LEAVE]),
+    (Stage::Oob, &[ENTER, LEAVE]),
+];
+
+#[test]
+fn three_that_enter_a_stax_end_in_seventeen_ways(rt: HostRuntime) {
+    let wanted = Counts {
+        orders: 1242,
+        outcomes: 17,
+        moments: 345,
+        with_answer: 584,
+    };
+    assert!(rt; counts_of(rt.alloc(), &THREE, "Raced") == Some(wanted));
+}
+
+// The third one sets the mark between its two tries.
+const MARKING: [Row; 3] = [
+    (Stage::Inband, &[ENTER, LEAVE]),
+    (Stage::Inband, &[ENTER, LEAVE]),
+    (Stage::Oob, &[ENTER, MARK, ENTER, LEAVE]),
+];
+
+#[test]
+fn orders_with_a_mark_are_counted(rt: HostRuntime) {
+    let wanted = Counts {
+        orders: 17_664,
+        outcomes: 56,
+        moments: 1843,
+        with_answer: 9864,
+    };
+    assert!(rt; counts_of(rt.alloc(), &MARKING, "Raced") == Some(wanted));
+}
+
+// Two out-of-band callers lock one mutex and unlock it.
+const LOCKS: [Row; 2] = [(Stage::Oob, &[LOCK, UNLOCK]), (Stage::Oob, &[LOCK, UNLOCK])];
+
+#[test]
+fn two_that_try_a_mutex_end_in_three_ways(rt: HostRuntime) {
+    let wanted = Counts {
+        orders: 6,
+        outcomes: 3,
+        moments: 16,
+        with_answer: 4,
+    };
+    assert!(rt; counts_of(rt.alloc(), &LOCKS, "Busy") == Some(wanted));
+}
+
+// Whether no crew has staxes of this limit.
+fn is_refused(alloc: Global, limit: u16) -> bool {
+    match crew_of(alloc, limit, &TWO) {
+        Ok(_) => false,
+        Err(refusal) => refusal == Refusal::Range,
+    }
+}
+
+#[test]
+fn limits_are_those_of_a_board(rt: HostRuntime) {
+    assert!(rt; is_refused(rt.alloc(), 0));
+    assert!(rt; !is_refused(rt.alloc(), 1000));
+    assert!(rt; is_refused(rt.alloc(), 1001));
+}
