@@ -214,3 +214,25 @@ const STANDING: [(&str, &str); 3] = [
 fn the_state_is_told(rt: HostRuntime) {
     assert!(rt; is_driven(rt.alloc(), Asked::Lines(&STANDING)));
 }
+
+// The same, with all that is shown.
+const WHOLE: [(&str, &str); 4] = [
+    (
+        "T1 attach policy=fifo 10 stage=oob",
+        "2 T1 attach policy=fifo 10 stage=oob -> done\n",
+    ),
+    (
+        "T1 begin_get sem=0",
+        "3 T1 begin_get sem=0 until=none -> begun\n",
+    ),
+    ("T0 tick delta=7", "4 T0 tick delta=7 -> done\n"),
+    (
+        "ps all",
+        "date 7\nT0 inband\nT1 oob fifo 10 rank 522 picked, served: begin_get sem=0 until=none\nsem 0 count 0\noob, nothing pending\ninband, nothing pending\n",
+    ),
+];
+
+#[test]
+fn all_that_a_machine_shows_is_told(rt: HostRuntime) {
+    assert!(rt; is_driven(rt.alloc(), Asked::Lines(&WHOLE)));
+}

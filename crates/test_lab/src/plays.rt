@@ -1,8 +1,6 @@
 //! What is told of scenarios that were played.
-use evl_plans::Planned;
-use lab_reports::{first_difference, program_plans, write_json};
+use lab_reports::{first_difference, write_json};
 use lab_traces::{TraceLine, read_lines};
-use lab_warnings::warnings;
 use std::alloc::Global;
 
 // A trace with numbers, a text in place of a number, bytes, and plays.
@@ -20,26 +18,6 @@ const JSON: &str =
 {"file": "a \"b\"", "number": 2, "who": 1, "call": "write", "keys": {"xbuf": 0, "way": "in", "bytes": "0012"}, "answer": "done", "refused": false, "plays": [{"play": "line", "line": 5, "stage": "oob", "count": 1, "handled": false}, {"play": "clock"}]}
 {"file": "a \"b\"", "number": null, "who": 0, "call": "begin_get", "keys": {"sem": 0, "until": null}, "answer": "HistoryFull", "refused": true, "plays": []}
 "#;
-
-// A scenario of which something is told: T1 calls while T2 is picked and waits, a semaphore isn't there, a thread is
-// busy, and a line is pending in the end.
-const ODD: &str = r#"step = [
-  { do = "attach", who = 1, policy = "fifo 10", stage = "oob" }, { do = "attach", who = 2, policy = "fifo 20", stage = "oob" },
-  { do = "begin_get", who = 1, sem = 0 }, { do = "put", who = 1, sem = 0 }, { do = "put", who = 0, sem = 7 },
-  { do = "request", who = 0, line = 5, stage = "inband", callback = 0 }, { do = "stall", who = 0, stage = "inband" },
-  { do = "arrive", who = 0, line = 5 },
-]
-[board]
-threads = 3
-sems = [0]
-"#;
-
-const WARNED: &str = "a.toml: step 4: warning: T1 put sem=0 is refused: Busy
-a.toml: step 5: warning: T0 put sem=7 is refused: Unknown
-a.toml: step 3: warning: T1 waits until the end
-a.toml: at the end: warning: line 5 is still pending inband
-a.toml: step 3: warning: T1 calls while T2 is picked
-";
 
 // Whether the lines of a trace are told so.
 fn are_told(alloc: Global, lines: &[TraceLine<'_>], wanted: &str) -> bool {
@@ -63,21 +41,6 @@ fn difference(alloc: Global, stored: &str, made: &str) -> usize {
         Ok(Some(found)) => found.line,
         Ok(None) => 0,
         Err(_) => 1000,
-    }
-}
-
-// Whether just this is warned of, over callbacks.
-fn is_warned_over(alloc: Global, plans: &[Planned], text: &str, wanted: &str) -> bool {
-    let mut told = String::new(alloc);
-    let done = warnings(alloc, "a.toml", text.as_bytes(), plans, &mut told).is_ok();
-    done && told.as_str() == wanted
-}
-
-// Whether just this is warned of, over the program's callbacks.
-fn is_warned(alloc: Global, text: &str, wanted: &str) -> bool {
-    match program_plans(alloc) {
-        Ok(plans) => is_warned_over(alloc, plans.as_slice(), text, wanted),
-        Err(_) => false,
     }
 }
 
@@ -107,15 +70,4 @@ fn numbers_alone_are_no_difference(rt: HostRuntime) {
     for (one, other, line) in traces {
         assert!(rt; difference(rt.alloc(), one, other) == line, "{one}{other}");
     }
-}
-
-#[test]
-fn a_dry_run_warns(rt: HostRuntime) {
-    assert!(rt; is_warned(rt.alloc(), ODD, WARNED));
-}
-
-#[test]
-fn nothing_is_warned_of_a_plain_scenario(rt: HostRuntime) {
-    let text = "[board]\nthreads = 1\nsems = [0]\n[[step]]\ndo = \"put\"\nwho = 0\nsem = 0\n";
-    assert!(rt; is_warned(rt.alloc(), text, ""));
 }
