@@ -6,8 +6,8 @@ import base64, gzip, hashlib, html, json, os, re, shutil, subprocess, sys
 
 HERE = os.path.dirname(os.path.abspath(__file__))
 # Each after those that it imports: the one file has them one after another.
-MODULES = ('now', 'program', 'text', 'reads', 'asks', 'kept', 'complete', 'editor', 'picture', 'steps', 'orders',
-           'console', 'exercise', 'mine', 'page')
+MODULES = ('now', 'program', 'text', 'reads', 'asks', 'kept', 'complete', 'parts', 'editor', 'picture', 'steps',
+           'orders', 'console', 'exercise', 'mine', 'qr', 'share', 'page')
 # A line of a trace in a lesson: a click goes to its step.
 STEP = r'<button class="at" data-step="\1">\g<0></button>'
 # Where texts lie: in examples/, or at the top.
@@ -122,10 +122,9 @@ def page_of(parts):
     return re.sub('@([A-Z]+)@', lambda found: parts[found[1]], read(HERE, 'page.html'))
 
 
-def whole_page(parts, files, module, lessons, stored):
+def whole_page(parts, files, named):
     packed = lambda raw: base64.b64encode(gzip.compress(raw, 9, mtime=0)).decode()
-    scripts = [('lab.wasm', packed(module)), ('lessons.json', packed(lessons)), ('stored.json', packed(stored)),
-               ('worker.js', bundled(('host.js', 'worker.js')))]
+    scripts = [*((name, packed(raw)) for name, raw in named.items()), ('worker.js', bundled(('host.js', 'worker.js')))]
     inside = ''.join(f'<script type="text/plain" id="{name}">{text}</script>\n' for name, text in scripts)
     script = f'<script type="module">{bundled(files)}</script>'
     if inside.count('</script') != len(scripts) or script.count('</script') != 1:
@@ -160,10 +159,11 @@ def main():
     files = [f'js/{name}.js' for name in MODULES]
     lessons, stored = (json.dumps(it, ensure_ascii=False).encode() for it in (lessons_of(top), stored_of(top)))
     os.makedirs(folder, exist_ok=True)
-    page = whole_page(parts, files, module, lessons, stored)
+    bank = read(folder_of(top, 'banks'), 'program.toml').encode()
+    named = {'lab.wasm': module, 'lessons.json': lessons, 'stored.json': stored, 'program.toml': bank}
+    page = whole_page(parts, files, named)
     with open(os.path.join(folder, 'evl.html'), 'w', encoding='utf-8') as file:
         file.write(page)
-    named = {'lab.wasm': module, 'lessons.json': lessons, 'stored.json': stored}
     site_of(os.path.join(folder, 'site'), parts, files, named)
     print(f'{folder}/evl.html: {len(page.encode())} bytes, {"proved" if is_proved else "UNPROVED"}; '
           f'{folder}/site/: the same as separate files')

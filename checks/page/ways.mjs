@@ -1,6 +1,13 @@
 // A user's ways through the page, by clicks and keys, each with what must be there after it.
 import assert from 'node:assert/strict';
+import { spawnSync } from 'node:child_process';
+import fs from 'node:fs';
+import os from 'node:os';
+import path from 'node:path';
+import { qr_svg } from '../../page/js/qr.js';
+import { code_of } from '../../page/js/share.js';
 import { sleep } from './browsers.mjs';
+import { dice } from './runs.mjs';
 
 /** Words for what is on the page. */
 export class Page {
@@ -118,6 +125,7 @@ async function tables(page) {
   await at(6);
   assert.match(await row(6, 'T1'), /^T1 oob fifo 50 f50 picked .*served: begin_get sem=0/);
   assert.match(await row(6, 'sem 0'), /^sem 0 0/);
+  assert.equal(await page.see('plays'), 'line 8 oob: callback 1, do = [{ post_sem = 0 }]');
   await at(9);
   assert.match(await row(9, 'T1'), /^T1 oob fifo 50 f50 picked (\(changed\))?$/);
   await page.lesson('14. Inversion ended');
@@ -272,6 +280,29 @@ async function stops(page) {
   await page.lesson('Any bits, or all');
   assert.match(await page.see('at'), /of \d+$/);
 }
+/** A play that takes long says so, and is stopped; the page is answered after it. */
+async function stops_play(page) {
+  const { browser } = page;
+  await page.lesson('6. A deadline against');
+  await browser.evaluate(`(() => { const of = window.Worker.prototype, sends = of.postMessage;
+    of.postMessage = function (it) { if (!it.words) sends.call(this, it); };
+    window.sends = sends; })()`);
+  await browser.evaluate(`document.getElementById('text').dispatchEvent(new Event('input'))`);
+  await browser.until(`!document.getElementById('busy').hidden`);
+  assert.match(await page.see('busy'), /^Playing and drawing: \d+ s/);
+  await page.tab('walk');
+  await browser.click('#busy-stop');
+  await browser.until('!document.body.dataset.waits');
+  assert.match(await page.see('stale'), /^It was not played: stopped by you\./);
+  const told = await page.see('faults');
+  assert.match(told, /^warning the text was not checked: stopped by you.*not played: stopped by you/);
+  assert.equal(await browser.evaluate(`document.getElementById('busy').hidden`), true);
+  await browser.evaluate(`window.Worker.prototype.postMessage = window.sends`);
+  await page.put((await page.value('text')) + '# again\n');
+  assert.match(await page.see('faults'), /no fault, no warning/);
+  await browser.click('#back-to');
+  await browser.until('!document.body.dataset.waits');
+}
 async function callers(page) {
   const { browser } = page;
   await page.lesson('Stax stages');
@@ -322,6 +353,49 @@ async function pages(page) {
   await page.lesson('1. An interrupt');
   assert.equal(await browser.evaluate(`document.getElementById('pages').hidden`), true);
 }
+/** How high the painted text is, and how high the text itself is. */
+const HIGH = `(() => { const box = document.getElementById('text');
+  const had = document.getElementById('under').getBoundingClientRect().height;
+  box.style.height = '0';
+  const wanted = box.scrollHeight;
+  box.style.height = '';
+  return [had, wanted]; })()`;
+/** Of a long text there are elements near the view alone, and each line is where the text itself has it. */
+async function long_texts(page) {
+  const { browser } = page, made = selector => browser.evaluate(`document.querySelectorAll('${selector}').length`);
+  const own = await page.value('text'), put = '[[step]]\ndo = "put"\nwho = 0\nsem = 0\n';
+  const comment = `# ${'A line that is too long for one row of the text. '.repeat(3)}\u00e4\u00f6\u00fc\n`;
+  const steps = [...Array(30).keys()].map(n => comment.repeat(n % 3) + put.repeat(50)).join('');
+  const text = `limit = 5000\n[board]\nthreads = 1\nsems = [0]\n${steps}`;
+  const is_even = async () => {
+    const [had, wanted] = await browser.evaluate(HIGH);
+    assert.ok(Math.abs(had - wanted) < 3, `the painted text is ${had} high, the text ${wanted}`);
+  };
+  await page.put(text);
+  assert.equal((await page.see('under')).replace(/\s/g, ''), text.replace(/\s/g, ''));
+  assert.ok(await made('#under .line') < 1000 && await made('#entries .entry') < 500);
+  await is_even();
+  await browser.click('[data-walk="last"]');
+  await page.step(1500);
+  assert.equal(await made('#entries [data-step="1500"][aria-selected=true]'), 1);
+  const steps_seen = await browser.evaluate(`(() => { const all = [...document.querySelectorAll('#under .step')];
+    const it = all[0].getBoundingClientRect(), box = document.getElementById('editor').getBoundingClientRect();
+    return [all.map(it => it.textContent).join('|'), it.top >= box.top && it.bottom <= box.bottom]; })()`);
+  assert.match(steps_seen[0], /^\[\[step\]\]\|do = "put"\|who = 0\|sem = 0/);
+  assert.ok(steps_seen[1]);
+  await is_even();
+  assert.ok(await made('#under .line') < 2000);
+  let turn = await page.turn();
+  await browser.click('#back-to');
+  await page.played(turn);
+  assert.notEqual(await page.value('text'), text);
+  turn = await page.turn();
+  await browser.evaluate(`document.getElementById('text').focus()`);
+  await browser.undo();
+  await page.played(turn);
+  assert.equal(await page.value('text'), text);
+  await page.put(own);
+}
 async function handlers(page) {
   const { browser } = page;
   await page.put('[board]\nthreads = 1\nsems = [0, 0]\n' + ['request"\nline = 5\nstage = "oob"\ncallback = 0',
@@ -334,6 +408,21 @@ async function handlers(page) {
   assert.match(await page.see('note'), /no strips/);
   await page.put('[[callback]]\ndo = [{ post_semm = 1 }]\n', 'bank');
   assert.match(await page.see('faults'), /in the handlers/);
+  await page.put('', 'bank');
+  await browser.evaluate(`document.getElementById('bank').focus()`);
+  await browser.type('[');
+  assert.equal(await page.see('offers'), '[[callback]]');
+  await browser.key('Enter');
+  await browser.key('Enter');
+  await browser.type('do = [{ post_s');
+  assert.match(await page.see('offers'), /^post_sem = $/);
+  const [offers, bank] = await browser.evaluate(`['offers', 'bank'].map(id =>
+    document.getElementById(id).getBoundingClientRect().top)`);
+  assert.ok(offers > bank + 20 && offers < bank + 80, `${offers} is not just below ${bank}`);
+  await browser.key('Enter');
+  await browser.type('1 }]');
+  assert.equal(await page.value('bank'), '[[callback]]\ndo = [{ post_sem = 1 }]');
+  await browser.until(`document.getElementById('lines').textContent.includes('peek sem=1 -> count 2')`);
   await page.put('', 'bank');
   await browser.click('#text-tab');
 }
@@ -381,17 +470,88 @@ async function shares(page) {
   await browser.until(`document.getElementById('name').textContent === 'From a file'`);
   await page.open(page.url + '#text=bad');
   assert.match(await page.see('status'), /The link could not be read/);
+  await page.open(page.url + '#lesson=none');
+  assert.match(await page.see('status'), /The link could not be read: this page has no lesson none/);
   await page.lesson('4. A callback that wakes');
+  const own = await page.value('text');
+  await browser.click('#link');
+  await browser.until(`location.hash === '#lesson=lessons-a-callback-that-wakes-a-thread'`);
+  const named = await browser.evaluate('location.href');
+  await page.lesson('5. A timer');
+  await page.open(named);
+  assert.equal(await page.value('text'), own);
+  await page.put(own + '# mine\n');
   await browser.click('#link');
   await browser.until(`location.hash.startsWith('#text=')`);
-  const text = await page.value('text'), href = await browser.evaluate('location.href');
+  const href = await browser.evaluate('location.href');
+  await browser.click('#back-to');
   await page.open(href);
-  assert.equal(await page.value('text'), text);
+  assert.equal(await page.value('text'), own + '# mine\n');
+  assert.match(await page.see('at'), /of \d+$/);
   await page.open();
+}
+/** What another program reads from a code on the screen; null where there is no such program. */
+async function scanned(browser) {
+  const file = path.join(os.tmpdir(), `page-code-${process.pid}.png`);
+  await browser.shot(file);
+  const { stdout, error } = spawnSync('zbarimg', ['-q', '--raw', file], { encoding: 'utf8' });
+  fs.rmSync(file);
+  return error ? null : stdout.trim();
+}
+/** The QR code has the link, at the address that is written; of a text that is too long, that is said. */
+async function codes(page) {
+  const { browser } = page, link_is = says => browser.until(
+    `document.getElementById('code').open && ${says}.test(document.getElementById('code-link').value)`);
+  const at = async place => {
+    await browser.evaluate(`(() => { const it = document.getElementById('code-place');
+      it.value = '${place}'; it.dispatchEvent(new Event('change')); })()`);
+    await link_is(place ? `/^https:.*#(text|exercise)=/` : `/^#(text|exercise)=/`);
+  };
+  const points = svg => [...svg.matchAll(/ d="([^"]*)"/g)].pop()?.[1];
+  await page.lesson('Any bits, or all');
+  await browser.click('#code-button');
+  await link_is('/^file:.*#lesson=lessons-any-bits-or-all/');
+  await browser.key('Escape');
+  const text = (await page.value('text')).replace('fifo 30', 'fifo 31');
+  await page.put(text);
+  await browser.click('#code-button');
+  await link_is('/^file:.*#text=/');
+  assert.match(await page.see('code-said'), /points across\. This address is not of the web/);
+  await at('https://lab.example/evl.html#old');
+  const link = await page.value('code-link'), code = code_of(link);
+  assert.match(link, /^https:\/\/lab\.example\/evl\.html#text=[\w-]+$/);
+  const drawn = await browser.evaluate(`document.querySelector('#code-drawing svg').outerHTML`);
+  assert.equal(points(drawn), points(qr_svg(code, '')));
+  const says = `^${link.length} characters, ${code.rows.length} points across`;
+  assert.match(await page.see('code-said'), new RegExp(says));
+  await page.shot('code');
+  const read = await scanned(browser);
+  if (read !== null) assert.equal(read, link);
+  await at('');
+  await browser.key('Escape');
+  assert.equal(await browser.evaluate(`document.getElementById('code').open`), false);
+  await page.open(page.url + link.slice(link.indexOf('#')));
+  assert.equal(await page.value('text'), text);
+  const roll = dice(3), chance = Array.from({ length: 4000 }, () => String.fromCharCode(48 + roll(64))).join('');
+  await page.put(`${text}# ${chance}\n`);
+  await browser.click('#code-button');
+  await link_is('/#text=/');
+  assert.match(await page.see('code-said'), /^No code: the link has \d+ characters, and a QR code has room for 2953/);
+  assert.equal(await browser.evaluate(`document.querySelectorAll('#code-drawing svg').length`), 0);
+  await browser.key('Escape');
+  await page.lesson('2. A stalled out-of-band');
+  await browser.click('#make-button');
+  await browser.click('#make-code');
+  await link_is('/#exercise=/');
+  await browser.key('Escape');
+  await browser.key('Escape');
+  await page.open();
+  return read === null ? 'zbarimg is missing (Debian: zbar-tools): no other program read the code' : 'read by zbarimg';
 }
 /** Keyboard alone: all that can be reached by Tab has a name, and the tabs go by arrow keys. */
 async function keyboard(page) {
   const { browser } = page, seen = new Set();
+  await browser.evaluate(`document.getElementById('text-tab').click()`);
   await browser.evaluate('document.body.focus()');
   for (let i = 0; i < 90; i++) {
     await browser.key('Tab');
@@ -495,5 +655,5 @@ async function owns(page) {
   await page.lesson('5. A timer');
 }
 
-export const WAYS = { opens, walks, tables, edits, completes, drives, orders, stops, callers, pages, handlers,
-  exercises, owns, shares, keyboard, widths, keeps, compares };
+export const WAYS = { opens, walks, tables, edits, completes, drives, orders, stops, stops_play, callers, pages,
+  long_texts, handlers, exercises, owns, shares, codes, keyboard, widths, keeps, compares };

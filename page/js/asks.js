@@ -8,7 +8,7 @@ import { first_steps, steps_of, without_ask } from './text.js';
 export const ORDERS_SECONDS = 60;
 /** @type {Runner} One worker for what is short. */
 let short;
-/** @type {Runner} One for what is asked beside that: faults, and the machine that a text makes. */
+/** @type {Runner} One for what is asked beside that: pictures and faults. */
 let side;
 /** @type {Runner | null} One for orders, so that an edit is answered while orders are gone through. */
 let long = null;
@@ -17,6 +17,8 @@ export function begin_program(/** @type {Uint8Array} */ code) {
   side = new Runner(code);
 }
 export const stop_orders = (/** @type {string} */ why) => long?.stop(why);
+/** Ends what is played, drawn and checked. */
+export const stop_runs = (/** @type {string} */ why) => { short.stop(why); side.stop(why); };
 /** @param {string[]} words @param {string} text */
 export const run = (words, text) => short.ask([...words, FILE], { [FILE]: text });
 
@@ -24,31 +26,39 @@ const over = (/** @type {Text} */ it) => it.bank.trim() ? ['--bank', BANK] : [];
 const files_of = (/** @type {Text} */ it) => ({ [FILE]: it.text, [BANK]: it.bank });
 const word_of = (/** @type {Text} */ it) => it.kind === 'callers' ? 'callers' : 'play';
 
+/** A run that was stopped is no answer, and is reported. @param {string} what @param {string} why */
+const left_out = (what, why) =>
+  ({ fault: false, column: 0, where: '', says: `the text was not ${what}: ${why.trim()}` });
 /** Faults, and warnings where the text plays; the program does not check texts of callers. @param {Text} it */
 export async function checked(it) {
   if (it.kind !== 'play' && it.kind !== 'orders') return [];
   const orders = it.kind === 'orders', text = orders ? without_ask(it.text) : it.text;
-  const { out, err } = await side.ask(['check', FILE, ...over(it)], files_of({ ...it, text }));
+  const { status, out, err } = await side.ask(['check', FILE, ...over(it)], files_of({ ...it, text }));
+  if (status === -2) return [left_out('checked', err)];
   return read_faults(out + err, it.text, steps_of(it.text)).filter(told => told.fault || !orders);
 }
 /** @param {Text} it */
 export async function played(it) {
   const answer = await short.ask([word_of(it), FILE, ...over(it)], files_of(it));
-  const told = answer.status ? read_faults(answer.err, it.text, steps_of(it.text)) : [];
+  const told = answer.status === -2 ? [left_out('played', answer.err)]
+    : answer.status ? read_faults(answer.err, it.text, steps_of(it.text)) : [];
   return { ...answer, entries: read_trace(answer.out), told };
 }
 /**
- * A page of the picture, whose time goes across; over handlers of one's own that of the trace, with no strips.
- * @param {Text} it @param {string} out @returns {Promise<import('./program.js').Answer>}
+ * A page of the picture, whose time goes across. It is asked for beside the trace; over handlers of one's own it is
+ * that of the trace, with no strips.
+ * @param {Text} it @param {Promise<{ out: string }>} trace @returns {Promise<import('./program.js').Answer>}
  */
-export async function drawn(it, out, page = 1) {
-  const plain = it.kind !== 'callers' && !over(it).length;
+export async function drawn(it, trace, page = 1) {
+  const plain = it.kind !== 'callers' && !over(it).length, name = plain ? FILE : 'trace';
   const words = ['draw', '--across', ...page > 1 ? ['--page', `${page}`] : []];
-  return plain ? run(words, it.text) : short.ask([...words, 'trace'], { trace: out });
+  const text = plain ? it.text : (await trace).out;
+  if (!text) return { status: 0, out: '', err: '', ms: 0, memory: 0 };
+  return side.ask([...words, name], { [name]: text });
 }
 /** Each step of a scenario as the program writes it, after a head; nothing where it doesn't play. @param {Text} it */
 export async function machine_of(it) {
-  const { out } = await side.ask(['live', FILE, ...over(it)], files_of(it), '#\nscenario\n');
+  const { out } = await short.ask(['live', FILE, ...over(it)], files_of(it), '#\nscenario\n');
   const text = out.slice(out.lastIndexOf('\n#\n') + 3).trimEnd();
   return text ? { ...it, parts: (text + '\n').split(/^(?=\[\[step\]\])/m) } : null;
 }

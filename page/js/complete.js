@@ -9,12 +9,13 @@ let known_calls = new Map();
 export const offer_calls = (/** @type {Map<string, any>} */ list) => { known_calls = list; };
 
 const BOARD = ['threads', 'sems', 'flags', 'xbufs', 'mutexes', 'groups'], HEADS = ['[board]', '[[step]]'];
+const BANK_HEADS = ['[[callback]]'];
 /** @type {Record<string, string[]>} Values that the list of calls has none of. */
-const VALUES = { mutexes: ['"normal"', '"recursive"', '"ceiling 50"'], always_ends: ['true'], ends_waits: ['true'], as_picked: ['true'],
-  propagate: ['true'] };
+const VALUES = { mutexes: ['"normal"', '"recursive"', '"ceiling 50"'], always_ends: ['true'], ends_waits: ['true'],
+  as_picked: ['true'], propagate: ['true'] };
 const ORDERS_HEADS = ['[ask]', '[[setup]]', '[[step]]', '[board]'];
 const ASK = ['always_ends', 'ends_waits', 'never', 'as_picked'], CALLBACK = ['accepts', 'do'];
-const ACTIONS = ['every', 'post_sem', 'post_flags', 'bits', 'post_oob', 'post_inband', 'propagate'];
+const ACTIONS = ['every', 'post_sem', 'post_flags', 'bits', 'post_oob', 'propagate', 'stop_timer'];
 
 /** What one step's table or line has: its word, and which keys. @param {string} text */
 const step_of = text => ({ word: text.match(/\bdo\s*=\s*"(\w+)"/)?.[1] || '',
@@ -40,7 +41,8 @@ export function offered(text, at, kind) {
   const line = text.slice(text.lastIndexOf('\n', at - 1) + 1, at), before = text.slice(0, at);
   if (/#/.test(line.replace(/"[^"]*"?/g, ''))) return null;
   const head = line.match(/^\s*(\[+\w*)$/);
-  if (head) return { size: head[1].length, words: kind === 'orders' ? ORDERS_HEADS : HEADS };
+  const heads = kind === 'orders' ? ORDERS_HEADS : kind === 'bank' ? BANK_HEADS : HEADS;
+  if (head) return { size: head[1].length, words: heads };
   const table = [...before.matchAll(/^\s*\[+\s*(\w+)\s*\]+/gm)].pop(), name = table ? table[1] : '';
   const inline = line.lastIndexOf('{') > line.lastIndexOf('}'), rest = text.slice(at);
   const step = inline ? line.slice(line.lastIndexOf('{')) + rest.split(/[}\n]/)[0]
@@ -58,7 +60,8 @@ export function offered(text, at, kind) {
   has.delete(key[1]);
   const words = name === 'callback' ? (inline ? ACTIONS.map(it => it + sign) : less(CALLBACK))
     : name === 'board' ? less(kind === 'callers' ? [...BOARD, 'staxes'] : BOARD) : name === 'ask' ? less(ASK)
-    : inline || name === 'step' || name === 'setup' ? keys_left(word, has, sign) : ['limit = ', ...HEADS];
+    : kind === 'bank' ? heads : inline || name === 'step' || name === 'setup' ? keys_left(word, has, sign)
+    : ['limit = ', ...HEADS];
   return { size: key[1].length, words };
 }
 /** What may come in a line of the console. @param {string} line @param {number} at */
@@ -79,7 +82,7 @@ let open = null;
 export function close_offers() {
   open = null;
   $('offers').hidden = true;
-  for (const id of ['text', 'line']) $(id).removeAttribute('aria-activedescendant');
+  for (const id of ['text', 'bank', 'line']) $(id).removeAttribute('aria-activedescendant');
 }
 function show_offers() {
   const { box, words, chosen, place } = open, list = $('offers'), from = Math.max(0, chosen - 7);

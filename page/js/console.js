@@ -19,7 +19,7 @@ function show_said(trouble = '') {
     + escaped(it.answer).replace(refused, '<span class="refused">$1</span>'));
   if (trouble) told.push(`<span class="refused">${escaped(trouble)}</span>\n`);
   $('said').innerHTML = `<span class="dim">The machine after the last step of ${of}.</span>\n${told.join('')}`;
-  $('said').scrollTop = 1e9;
+  if (!$('console').hidden) $('said').scrollTop = 1e9;
   $('undo').disabled = !lines.length;
 }
 /** @param {string} line */

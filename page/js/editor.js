@@ -2,10 +2,13 @@
 import { $, now, escaped } from './now.js';
 import { put_text } from './kept.js';
 import { offer, offered } from './complete.js';
+import { Parts } from './parts.js';
 
 const MOST_FAULTS = 40;
-/** @type {string[]} The lines as they were painted. */
-let painted = [];
+/** How many letters a row has, and how wide one is. */
+let letters = 0, letter = 0;
+/** What is reported, by line: a fault rather than a warning. @type {Map<number, any>} */
+let marks = new Map();
 /** A line with what is reported of it underlined from its place on. @param {string} line @param {any} it */
 function marked(line, it) {
   let body = escaped(line) || ' ', kind = '';
@@ -18,35 +21,43 @@ function marked(line, it) {
   }
   return `<span class="line${kind}">${body}</span>`;
 }
-/** Lines are made anew from the first that differs from what is there to the last; a step moves a class alone. */
+/** What surely needs one row for each line is not laid out while it is far from the view. */
+const is_even = (/** @type {string[]} */ lines) => lines.every(line => line.length <= letters && /^[ -~]*$/.test(line));
+const painted = new Parts('editor', 'under',
+  part => part.lines.map((line, i) => marked(line, marks.get(part.from + i))).join(''),
+  part => {
+    part.box.classList.toggle('far', is_even(part.lines));
+    part.box.textContent = part.lines.map(line => line + '\n').join('');
+  });
 export function paint() {
-  const box = $('under'), marks = new Map(), old = painted;
+  marks = new Map();
   for (const it of now.told) if (it.line !== undefined && !marks.get(it.line)?.fault) marks.set(it.line, it);
-  painted = $('text').value.split('\n').map((/** @type {string} */ line, /** @type {number} */ i) =>
-    marked(line, marks.get(i)));
-  const least = Math.min(old.length, painted.length);
-  let from = 0, same = 0;
-  while (from < least && old[from] === painted[from]) from++;
-  while (same < least - from && old[old.length - 1 - same] === painted[painted.length - 1 - same]) same++;
-  const html = painted.slice(from, painted.length - same).join(''), gone = document.createRange();
-  if (from + same < old.length) {
-    gone.setStartBefore(box.children[from]);
-    gone.setEndAfter(box.children[old.length - same - 1]);
-    gone.deleteContents();
-  }
-  if (from) box.children[from - 1].insertAdjacentHTML('afterend', html);
-  else box.insertAdjacentHTML('afterbegin', html);
+  painted.put($('text').value.split('\n'), part => part.lines.map((line, i) => {
+    const it = marks.size ? marks.get(part.from + i) : null;
+    return it ? `${line}\n${it.fault} ${it.column}` : line;
+  }).join('\n'));
   paint_step();
 }
+/** The text's width changed; of what is hidden it stays. @param {number} width */
+export function refit_text(width) {
+  const pen = document.createElement('canvas').getContext('2d'), style = getComputedStyle($('under')), had = letters;
+  if (!pen || !width) return;
+  pen.font = `${style.fontSize} ${style.fontFamily}`;
+  letter = pen.measureText('x'.repeat(100)).width / 100;
+  letters = Math.floor(width / letter);
+  if (letters !== had) for (const it of painted.all) if (!it.full) it.box.classList.toggle('far', is_even(it.lines));
+}
+/** For paper. */
+export const paint_all = () => painted.fill_all();
 export function paint_step() {
-  const here = now.shown && !now.viewed ? now.steps[now.shown - 1] : null, lines = $('under').children;
+  const here = now.shown && !now.viewed ? now.steps[now.shown - 1] : null;
   for (const it of $('under').querySelectorAll('.step')) it.classList.remove('step');
-  if (here) for (let i = here.from; i <= here.to; i++) lines[i]?.classList.add('step');
+  if (here) for (let i = here.from; i <= here.to; i++) painted.line_at(i)?.classList.add('step');
 }
 /** @param {number} n */
 export function show_line(n) {
-  const it = $('under').children[n], box = $('editor');
-  const hidden = it && (it.offsetTop < box.scrollTop || it.offsetTop > box.scrollTop + box.clientHeight - 60);
+  const it = painted.line_at(n), box = $('editor'), top = box.scrollTop;
+  const hidden = it && (it.offsetTop < top || it.offsetTop > top + box.clientHeight - 60);
   if (hidden) box.scrollTop = Math.max(0, it.offsetTop - 60);
 }
 /** The word that is nearest in a message, and where the wrong one is. @param {any} it */
@@ -105,7 +116,7 @@ export function open_side(name) {
 /** Where the text's caret is on the screen: the painted text below has the same lines. */
 function caret_place() {
   const box = $('text'), before = box.value.slice(0, box.selectionStart).split('\n');
-  const line = $('under').children[before.length - 1], range = document.createRange();
+  const line = painted.line_at(before.length - 1), range = document.createRange();
   let left = before[before.length - 1].length;
   const walker = document.createTreeWalker(line, NodeFilter.SHOW_TEXT);
   for (let node = walker.nextNode(); node; node = walker.nextNode()) {
@@ -123,6 +134,18 @@ export function offer_in_text(asked = false) {
   const box = $('text');
   offer(box, offered(box.value, box.selectionStart, now.kind), caret_place, asked);
 }
+/** Where the caret of the handlers is, as long as no line of them needs two rows. */
+function bank_caret_place() {
+  const box = $('bank'), at = box.getBoundingClientRect(), style = getComputedStyle(box);
+  const high = parseFloat(style.lineHeight);
+  const lines = box.value.slice(0, box.selectionStart).split('\n'), last = lines[lines.length - 1];
+  const top = at.top + parseFloat(style.paddingTop) + high * (lines.length - 1) - box.scrollTop;
+  return new DOMRect(at.left + parseFloat(style.paddingLeft) + letter * last.length, top, 1, high);
+}
+export function offer_in_bank(asked = false) {
+  const box = $('bank');
+  offer(box, offered(box.value, box.selectionStart, 'bank'), bank_caret_place, asked);
+}
 /** Goes to the next place of what is sought, or the one before. @param {boolean} back */
 export function find(back) {
   const box = $($('side-text').hidden ? 'bank' : 'text');
@@ -137,5 +160,5 @@ export function find(back) {
   const line = text.slice(0, at).split('\n').length - 1;
   if (box.id === 'text') show_line(line);
   for (const it of $('under').querySelectorAll('.sought')) it.classList.remove('sought');
-  $('under').children[line]?.classList.add('sought');
+  painted.line_at(line)?.classList.add('sought');
 }

@@ -70,7 +70,7 @@ export function show_task() {
 export function make_exercise() {
   const it = now.lesson?.exercise, text = $('text').value;
   const put = (/** @type {string} */ id, /** @type {string} */ value) => { $('make-' + id).value = value; };
-  put('title', it ? it.title : now.lesson?.title || 'Exercise');
+  put('title', it ? it.title : `Exercise: ${(now.lesson?.title || 'my text').replace(/^\d+\. /, '')}`);
   put('question', it ? it.question : '');
   put('text', it ? it.text : text);
   put('solution', it ? it.solution : text);
@@ -99,7 +99,7 @@ export function make_hole() {
   box.focus();
 }
 /** What the form says. */
-function exercise_asked() {
+export function exercise_asked() {
   const value = (/** @type {string} */ id) => $('make-' + id).value;
   const check = value('check'), wanted = value('wanted').trim(), bank = $('bank').value;
   const [title, question, text, solution] = ['title', 'question', 'text', 'solution'].map(value);

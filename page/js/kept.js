@@ -27,16 +27,40 @@ export function keep_texts() {
     : changed ? 'kept in this browser' : '';
   $('back-to').disabled = !changed;
 }
-/** Puts a text into a box so that the browser's own undo can take it back. @param {string} text */
+/** So many lines a browser replaces by its own undo in no time; of more it makes seconds. */
+const MOST_UNDONE = 100;
+/** The last text that was put in past the browser's undo: its box, and what was there before and after.
+ * @type {{ box: any, had: string, is: string }} */
+let replaced = { box: null, had: '', is: '' };
+/** Puts a text into a box so that undo can take it back; only what differs is replaced. @param {string} text */
 export function put_text(/** @type {any} */ box, text, from = 0, to = box.value.length) {
-  if (box.value.slice(from, to) === text) return;
-  const had = document.activeElement, wanted = box.value.slice(0, from) + text + box.value.slice(to);
+  const had = box.value, wanted = had.slice(0, from) + text + had.slice(to), end = from + text.length;
+  if (had === wanted) return;
+  const least = Math.min(had.length, wanted.length);
+  let same = 0, rest = 0;
+  while (same < least && had[same] === wanted[same]) same++;
+  while (rest < least - same && had[had.length - 1 - rest] === wanted[wanted.length - 1 - rest]) rest++;
+  const old = had.slice(same, had.length - rest), part = wanted.slice(same, wanted.length - rest);
+  const active = document.activeElement, is_long = (old + part).split('\n').length > MOST_UNDONE;
   box.focus({ preventScroll: true });
-  box.setSelectionRange(from, to);
-  const done = box.offsetParent && document.execCommand(text ? 'insertText' : 'delete', false, text);
-  if (!done || box.value !== wanted) box.value = wanted;
-  box.setSelectionRange(from + text.length, from + text.length);
-  if (had instanceof HTMLElement && had !== box) had.focus({ preventScroll: true });
+  box.setSelectionRange(same, had.length - rest);
+  const done = !is_long && box.offsetParent && document.execCommand(part ? 'insertText' : 'delete', false, part);
+  if (!done || box.value !== wanted) {
+    box.value = wanted;
+    replaced = { box, had, is: wanted };
+  }
+  box.setSelectionRange(end, end);
+  if (active instanceof HTMLElement && active !== box) active.focus({ preventScroll: true });
+}
+/** Control and Z after what the browser's own undo does not know. @param {any} event */
+export function undo_key(event) {
+  const { box, had, is } = replaced, it = event.target;
+  if (event.key !== 'z' || !(event.ctrlKey || event.metaKey) || it !== box || it.value !== is) return false;
+  event.preventDefault();
+  replaced = { box, had: is, is: had };
+  it.value = had;
+  it.dispatchEvent(new Event('input'));
+  return true;
 }
 /** @param {string} name @param {string} text */
 export function save_file(name, text) {
@@ -49,13 +73,16 @@ export function save_file(name, text) {
 /** Copies a text where the browser lets a page do so. @param {string} text */
 export const copied = text =>
   navigator.clipboard ? navigator.clipboard.writeText(text).then(() => true, () => false) : Promise.resolve(false);
-/** @param {string} kind @param {any} it */
-export const link_of = async (kind, it) => `${location.href.split('#')[0]}#${kind}=${await packed(JSON.stringify(it))}`;
-/** What the address has in it: a text, or an exercise; null for nothing. */
+/** Where this page is. */
+export const own_place = () => location.href.split('#')[0];
+/** A link: of a lesson by its name, of a text or an exercise with all of it, packed. @param {string} kind */
+export const link_of = async (kind, /** @type {any} */ it, place = own_place()) =>
+  `${place}#${kind}=${kind === 'lesson' ? it.name : await packed(JSON.stringify(it))}`;
+/** What the address has in it: a lesson's name, a text, or an exercise; null for nothing. */
 export async function handed() {
-  const it = location.hash.match(/^#(text|exercise)=([\w-]+)$/);
+  const it = location.hash.match(/^#(lesson|text|exercise)=([\w-]+)$/);
   if (!it) return null;
-  const read = JSON.parse(await unpacked(it[2]));
+  const [, kind, name] = it, read = kind === 'lesson' ? { name, text: '' } : JSON.parse(await unpacked(name));
   if (typeof read.text !== 'string') throw new Error('it has no text');
-  return { kind: it[1], read, key: it[2].slice(0, 24) };
+  return { kind, read, key: name.slice(0, 24) };
 }

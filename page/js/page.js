@@ -1,23 +1,27 @@
 // The page: lessons, tabs, bars, keys, and what is done when a text changes.
 import { $, all, now, on, text_now } from './now.js';
-import { begin_program, calls, checked, run, stop_orders } from './asks.js';
+import { begin_program, calls, checked, run, stop_orders, stop_runs } from './asks.js';
 import { close_offers, offer_calls, offer_key, take_offer } from './complete.js';
 import { begin_console, console_key, offer_in_line, say, scenario_of_console, undo_line } from './console.js';
-import { find, go_to, indent, offer_in_text, open_side, paint, put_fix, show_faults } from './editor.js';
-import { check_exercise, exercise_lesson, exercise_made, make_exercise } from './exercise.js';
+import { find, go_to, indent, offer_in_bank, offer_in_text, open_side, paint, paint_all } from './editor.js';
+import { put_fix, refit_text, show_faults } from './editor.js';
+import { check_exercise, exercise_asked, exercise_lesson, exercise_made, make_exercise } from './exercise.js';
 import { make_hole, read_exercise, save_exercise, show_task, show_wanted } from './exercise.js';
 import { add_mine, mine_of, rename, show_mine } from './mine.js';
-import { copied, handed, keep_texts, kept, link_of, put_text, save_file } from './kept.js';
+import { handed, keep_texts, kept, put_text, save_file, undo_key } from './kept.js';
 import { go_orders, outcome_shown, view_of } from './orders.js';
 import { draw_all, mark_picture, refit, zoom_by } from './picture.js';
-import { json_of, part_of } from './program.js';
+import { json_of, part_of, RUN_SECONDS } from './program.js';
 import { FILE } from './reads.js';
-import { play_text, show_none, show_state, turn_by, walk } from './steps.js';
+import { code_place_changed, copy_code_link, name_of, share, show_code } from './share.js';
+import { fill_trace, know_bank, play_text, show_none, show_state, turn_by, walk } from './steps.js';
 import { kind_of, steps_of, KINDS } from './text.js';
 
 const NARROW = 760, LISTED = 1400, WAIT = 40;
 /** @type {number | undefined} */
 let timer;
+/** When the text was edited last: the first edit after a rest is answered at once, what follows when it rests. */
+let edited = 0;
 
 /** What the kind of the text changes on the page. @param {string} was */
 function show_kind(was) {
@@ -32,24 +36,34 @@ function show_kind(was) {
   stop_orders('the text was edited');
   $('verdict').textContent = '';
 }
+/** After a second, how long the text is played and drawn already; it can be stopped. @param {number} mine */
+function watch_run(mine) {
+  let seconds = 0;
+  const clock = setInterval(() => {
+    const goes = mine === now.turn && document.body.dataset.waits && now.kind !== 'orders';
+    if (!goes) return clearInterval(clock);
+    $('busy').hidden = false;
+    $('busy-says').textContent = `Playing and drawing: ${++seconds} s (at most ${RUN_SECONDS} s each)`;
+  }, 1000);
+}
 /** Checks, plays and draws the text. */
 async function play() {
   const mine = ++now.turn, was = document.body.dataset.kind || '', text = $('text').value;
   document.body.dataset.waits = 'yes';
+  watch_run(mine);
   now.steps = steps_of(text);
   now.kind = kind_of(text);
   now.viewed = null;
   show_kind(was);
   begin_console();
-  const asked = checked(text_now());
   if (now.kind === 'orders') {
-    now.told = await asked;
+    now.told = await checked(text_now());
     if (mine === now.turn) await play_orders(mine);
   } else if (now.kind === 'bank' || now.kind === 'empty') {
-    now.told = await asked;
+    now.told = await checked(text_now());
     show_none(now.kind === 'empty' ? 'The text is empty.' : 'These are handlers: they belong in their own tab.');
   } else {
-    const [told, answer] = await Promise.all([asked, play_text(mine, now.shown)]);
+    const shown = play_text(mine, now.shown), [told, answer] = await Promise.all([checked(text_now()), shown]);
     if (mine !== now.turn) return;
     now.told = answer.status && !told.some(it => it.fault) ? told.concat(answer.told) : told;
   }
@@ -58,6 +72,7 @@ async function play() {
   paint();
   document.body.dataset.at ||= String(performance.now());
   document.body.dataset.done = String(mine);
+  $('busy').hidden = true;
   delete document.body.dataset.waits;
 }
 /** @param {number} mine */
@@ -80,7 +95,10 @@ function changed_text() {
   keep_texts();
   document.body.dataset.waits = 'yes';
   clearTimeout(timer);
-  timer = setTimeout(play, WAIT);
+  const rests = performance.now() - edited > WAIT;
+  edited = performance.now();
+  if (rests) play();
+  else timer = setTimeout(play, WAIT);
 }
 /** @param {any} it @param {boolean} plain  whether its own text is taken, whatever is kept of it */
 async function open_lesson(it, plain = false) {
@@ -207,20 +225,16 @@ async function compare() {
   $('compared').textContent = `${same} of ${stored.length} are the same, ${seconds} s`
     + (differ.length ? `; not ${differ.join(', ')}` : '');
 }
-async function share() {
-  const text = $('text').value, bank = $('bank').value, { title, exercise } = now.lesson;
-  const it = { title, text, ...(bank.trim() ? { bank } : {}) };
-  const to = exercise?.text === text ? await link_of('exercise', exercise) : await link_of('text', it);
-  history.replaceState(null, '', to);
-  const done = await copied(to);
-  const here = location.protocol === 'file:' ? '; it opens where this page has this address' : '';
-  $('status').textContent = `${done ? 'link copied' : 'the link is in the address'} (${to.length} characters)${here}`;
-}
-/** What a link brought, as a lesson; a link that can't be read is reported. */
-async function lesson_of_link() {
+/** What a link brought, as a lesson; a link that can't be read is reported. @param {any[]} lessons */
+async function lesson_of_link(lessons) {
   try {
     const it = await handed();
     if (!it) return null;
+    if (it.kind === 'lesson') {
+      const found = lessons.find(lesson => name_of(lesson) === it.read.name);
+      if (!found) throw new Error(`this page has no lesson ${it.read.name}`);
+      return found;
+    }
     if (it.kind === 'exercise') return { ...exercise_lesson(it.read), own: true };
     const { title = 'From a link', text, bank = '' } = it.read;
     return { key: 'link ' + it.key, title, text, bank, own: true };
@@ -269,11 +283,12 @@ function asks_offer(event, does) {
 function wire_texts() {
   for (const id of ['text', 'bank']) {
     on(id, 'input', changed_text);
-    on(id, 'keydown', event => offer_key(event) || id === 'text' && asks_offer(event, offer_in_text) || indent(event));
+    const offers = id === 'text' ? offer_in_text : offer_in_bank;
+    on(id, 'keydown', event => undo_key(event) || offer_key(event) || asks_offer(event, offers) || indent(event));
+    on(id, 'input', event => { if (event.isTrusted) offers(); });
+    on(id, 'blur', close_offers);
   }
   for (const id of ['story', 'text', 'bank']) on(id + '-tab', 'click', () => open_side(id));
-  on('text', 'input', event => { if (event.isTrusted) offer_in_text(); });
-  on('text', 'blur', close_offers);
   on('line', 'input', event => { if (event.isTrusted) offer_in_line(); });
   on('line', 'blur', close_offers);
   on('line', 'keydown', event => offer_key(event) || asks_offer(event, offer_in_line) || console_key(event));
@@ -311,6 +326,7 @@ function wire_views() {
     if (event.target.dataset.open) view(outcome_shown(Number(event.target.dataset.open)));
   });
   on('orders-stop', 'click', () => stop_orders('stopped by you'));
+  on('busy-stop', 'click', () => stop_runs('stopped by you'));
   on('viewed-back', 'click', () => open_tab('orders'));
   on('viewed-take', 'click', () => {
     const it = now.viewed;
@@ -352,6 +368,9 @@ function wire_head() {
     changed_text();
   });
   on('link', 'click', share);
+  on('code-button', 'click', () => show_code());
+  on('code-place', 'change', code_place_changed);
+  on('code-copy', 'click', copy_code_link);
   on('print', 'click', () => window.print());
   on('compare', 'click', compare);
   on('check', 'click', check_exercise);
@@ -360,6 +379,7 @@ function wire_head() {
   on('make-check', 'change', show_wanted);
   on('make-hole', 'click', make_hole);
   on('make-save', 'click', save_exercise);
+  on('make-code', 'click', () => show_code({ kind: 'exercise', it: exercise_asked() }));
   on('wide', 'click', () => {
     $('wide').setAttribute('aria-pressed', String(document.body.classList.toggle('wide')));
     if (tab_now() === 'left') open_tab('walk');
@@ -400,6 +420,7 @@ function list_lessons(lessons) {
 async function start() {
   begin_program(await part_of('lab.wasm'));
   const given = await json_of('lessons.json');
+  know_bank(new TextDecoder().decode(await part_of('program.toml')));
   const lessons = given.map((/** @type {any} */ it) =>
     it.exercise ? exercise_lesson(it.exercise) : { key: `${it.group} ${it.title}`, ...it });
   list_lessons(lessons);
@@ -407,13 +428,15 @@ async function start() {
   wire_views();
   wire_head();
   new ResizeObserver(() => requestAnimationFrame(refit)).observe($('drawing'));
-  window.onbeforeprint = draw_all;
+  window.onbeforeprint = () => { draw_all(); fill_trace(); paint_all(); };
+  const text_fits = new ResizeObserver(found => requestAnimationFrame(() => refit_text(found[0].contentRect.width)));
+  text_fits.observe($('under'));
   window.onresize = () => { if (innerWidth > NARROW && tab_now() === 'left') open_tab('walk'); };
-  window.onhashchange = async () => { const it = await lesson_of_link(); if (it) open_lesson(it); };
+  window.onhashchange = async () => { const it = await lesson_of_link(lessons); if (it) open_lesson(it); };
   show_list(innerWidth >= LISTED);
   open_tab(innerWidth <= NARROW ? 'left' : 'walk');
   const last = lessons.find((/** @type {any} */ it) => it.key === kept.get('last')) || mine_of(kept.get('last'));
-  await open_lesson(await lesson_of_link() || last || lessons[0]);
+  await open_lesson(await lesson_of_link(lessons) || last || lessons[0]);
   offer_calls(await calls());
   document.body.dataset.ready = 'yes';
 }

@@ -4,7 +4,7 @@
 import { $, all, now, escaped } from './now.js';
 
 const PITCH = 30, LEFT = 104, ABOVE = 50, BELOW = 34, EACH = 5, LEAST = .85;
-/** @typedef {{ first: number, low: number, top: number, parts: string[], box?: any }} Band */
+/** @typedef {{ first: number, low: number, top: number, parts: (() => string)[], box?: any }} Band */
 /** @type {Map<number, { x: number, band: Band }[]>} The columns of each step. */
 let columns = new Map();
 /** @type {Band[]} */
@@ -35,6 +35,9 @@ function lanes_of(lines) {
   }
   return { lanes, found, end };
 }
+/** A line of the picture with ranks as the policy writes them. @param {string} line */
+const ranked = line =>
+  line.replace(/font-size="7">(\d+)</, (_, n) => `font-size="9" font-weight="bold">${rank_text(+n)}<`);
 /** A mark with its number below it, and the number of a played line above. @param {string} line @param {Band} band */
 function mark_of(line, says, number, band, y) {
   const played = says.match(/^\s+line (\d+) /), entry = /^\d/.test(says);
@@ -56,12 +59,13 @@ function read_picture(text) {
     if (y <= 28) { key.push(line); continue; }
     while (at + 1 < bands.length && y >= bands[at + 1].top) at++;
     while (at > 0 && y < bands[at].top) at--;
-    const says = line.match(/<title>([^<]*)/)?.[1], band = bands[at], plain = lanes.get(y)?.startsWith('T')
-      ? line.replace(/font-size="7">(\d+)</, (_, n) => `font-size="9" font-weight="bold">${rank_text(+n)}<`) : line;
-    if (says === undefined) { band.parts.push(plain); continue; }
+    const says = line.match(/<title>([^<]*)/)?.[1], band = bands[at], is_thread = lanes.get(y)?.startsWith('T');
+    if (says === undefined) { band.parts.push(() => is_thread ? ranked(line) : line); continue; }
     number = /^\d+ T/.test(says) ? parseInt(says) : says.startsWith('- ') ? number + 1 : number;
-    columns.set(number, [...columns.get(number) || [], { x, band }]);
-    band.parts.push(mark_of(plain, says, number, band, y));
+    const mine = number, column = columns.get(number);
+    if (column) column.push({ x, band });
+    else columns.set(number, [{ x, band }]);
+    band.parts.push(() => mark_of(is_thread ? ranked(line) : line, says, mine, band, y));
   }
   size = [end + 22, bands.reduce((sum, band) => sum + band.low - band.top + BELOW, 0)];
   return key;
@@ -79,7 +83,7 @@ function draw_band(band) {
   if (!band.box || band.box.firstChild) return;
   const height = band.low - band.top + BELOW;
   band.box.innerHTML = `<svg viewBox="0 ${band.top} ${size[0]} ${height}" aria-hidden="true" font-size="9" `
-    + `font-family="DejaVu Sans Mono, monospace">${band.parts.join('')}</svg>`;
+    + `font-family="DejaVu Sans Mono, monospace">${band.parts.map(part => part()).join('')}</svg>`;
   if (columns.get(now.shown)?.some(it => it.band === band)) mark_band(band);
 }
 const seen = typeof IntersectionObserver === 'undefined' ? null : new IntersectionObserver(found => {

@@ -42,6 +42,8 @@ function new_worker() {
   return new Worker(URL.createObjectURL(new Blob([here.textContent], { type: 'text/javascript' })));
 }
 
+/** So long a run may take, unless it is given more. */
+export const RUN_SECONDS = 10;
 export class Runner {
   /** @param {Uint8Array} code */
   constructor(code) {
@@ -82,7 +84,7 @@ export class Runner {
    * @param {string[]} words @param {Record<string, string>} files
    * @param {(text: string) => void} [heard] @returns {Promise<Answer>}
    */
-  ask(words, files = {}, input = '', seconds = 10, heard) {
+  ask(words, files = {}, input = '', seconds = RUN_SECONDS, heard) {
     return new Promise(done => {
       const id = ++this.last, timer = setTimeout(() => this.stop(`stopped after ${seconds} s`), seconds * 1000);
       this.asked.set(id, { done, at: performance.now(), timer, heard });

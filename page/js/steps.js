@@ -3,13 +3,17 @@ import { $, all, now, escaped, text_now } from './now.js';
 import { callers_at, drawn, machine_of, played, state_at } from './asks.js';
 import { paint_step, show_line } from './editor.js';
 import { has_step, mark_picture, rank_text, show_picture } from './picture.js';
-import { HOLE, passes_at } from './text.js';
+import { Parts } from './parts.js';
+import { actions_of, HOLE, passes_at, plays_at } from './text.js';
 
-const MOST_LINES = 6000, MOST_THREADS = 12, MARKS = 2000;
+const MOST_THREADS = 12, MARKS = 2000;
 /** The picture that is shown: of which text and trace, and which page of how many. */
 let shown_picture = { it: { kind: '', text: '', bank: '' }, out: '', title: '', page: 1, pages: 1 };
-/** The trace that is shown, as it was written into the page. */
-let shown_lines = '';
+/** The program's own callbacks, where the text has no handlers of its own. */
+let own_bank = '';
+export const know_bank = (/** @type {string} */ text) => { own_bank = text; };
+/** The lines of each step, by their places in the trace. @type {Map<number, number[]>} */
+let places = new Map();
 /** @param {any} it @param {number} i */
 function line_of(it, i) {
   const answer = ' <span class="nb">-&gt; <b>$1</b></span><i>$2</i>';
@@ -19,17 +23,23 @@ function line_of(it, i) {
   return `<div id="line-${i}" role="option" aria-selected="false" class="${it.kind}${refused}" `
     + `data-step="${it.number}">${text}</div>`;
 }
+const trace = new Parts('lines', 'entries', part => part.lines.map((it, i) => line_of(it, part.from + i)).join(''),
+  part => { part.box.classList.add('far'); part.box.textContent = ''; });
 /** @param {any[]} entries */
 function show_trace(entries) {
   now.entries = entries;
   now.count = entries.reduce((most, it) => Math.max(most, it.number), 0);
-  const rest = entries.length - MOST_LINES;
-  const html = entries.slice(0, MOST_LINES).map(line_of).join('')
-    + (rest > 0 ? `<div class="board">and ${rest} more lines, which the program itself prints</div>` : '');
-  if (html !== shown_lines) $('lines').innerHTML = shown_lines = html;
+  places = new Map();
+  for (const [i, it] of entries.entries()) if (it.kind !== 'board')
+    if (places.has(it.number)) places.get(it.number)?.push(i);
+    else places.set(it.number, [i]);
+  trace.put(entries, part => part.lines.map(it => `${it.number} ${it.line}`).join('\n'));
+  $('no-trace').hidden = true;
   $('slider').max = now.count;
   $('slider').disabled = !now.count;
 }
+/** For paper. */
+export const fill_trace = () => trace.fill_all();
 /** What does not play leaves what the same text showed when it last played, pale. @param {string} why */
 function show_stale(why) {
   $('stale').hidden = !now.entries.length || now.played !== now.lesson?.key;
@@ -40,7 +50,8 @@ function show_stale(why) {
 export function show_none(why) {
   $('stale').hidden = true;
   show_trace([]);
-  $('lines').innerHTML = shown_lines = `<div class="board">${escaped(why)}</div>`;
+  $('no-trace').hidden = false;
+  $('no-trace').textContent = why;
   now.machine = now.callers = null;
   show_picture('', '');
   show_state(0);
@@ -98,6 +109,7 @@ function cell(text, was, head) {
   return `<${name} class="changed ${is}" title="before: ${escaped(was || 'nothing')}">${escaped(text)}`
     + `<span class="heard"> (changed)</span></${head ? 'th' : 'td'}>`;
 }
+/** @param {any} at @param {any} before @param {number} step */
 function show_table(at, before, step) {
   const were = new Map(before.threads.map(it => [it[0], it])), had = new Map(before.rows);
   const when = step ? `After step ${step}; what it changed is marked` : 'At the start';
@@ -113,7 +125,11 @@ function show_table(at, before, step) {
     + `<tbody>${threads.join('')}</tbody></table>`,
     rows.length && `<table><caption class="${threads.length ? 'heard' : ''}">${when}</caption>`
     + `<tbody>${rows.join('')}</tbody></table>`];
-  $('state').innerHTML = parts.filter(Boolean).join('');
+  const actions = actions_of($('bank').value.trim() || own_bank);
+  const plays = step ? plays_at(now.entries, step) : [];
+  const says = plays.filter(it => actions[it.callback]).map(it => `<li>${it.of}: callback ${it.callback}, `
+    + `<code>${escaped(actions[it.callback])}</code></li>`);
+  $('state').innerHTML = parts.filter(Boolean).join('') + (says.length ? `<ul id="plays">${says.join('')}</ul>` : '');
 }
 /** @param {any} it */
 function show_in(box, it) {
@@ -127,7 +143,7 @@ export async function show_state(step) {
   $('slider').value = step;
   $('at').textContent = `step ${step} of ${now.count}`;
   for (const it of all('#lines [aria-selected=true]')) it.setAttribute('aria-selected', 'false');
-  const lines = step ? all(`#lines [data-step="${step}"]`) : [];
+  const lines = (step && places.get(step) || []).map(i => trace.line_at(i));
   for (const it of lines) it.setAttribute('aria-selected', 'true');
   for (const it of all('#story .at')) it.classList.toggle('now', it.dataset.step === String(step));
   if (lines[0]) $('lines').setAttribute('aria-activedescendant', lines[0].id);
@@ -160,7 +176,7 @@ async function turn_page(to) {
   const mine = now.turn, page = Math.max(1, Math.min(shown_picture.pages, to));
   if (page === shown_picture.page) return;
   shown_picture.page = page;
-  const svg = await drawn(shown_picture.it, shown_picture.out, page);
+  const svg = await drawn(shown_picture.it, Promise.resolve(shown_picture), page);
   if (mine !== now.turn || shown_picture.page !== page) return;
   show_picture(svg.out, shown_picture.title);
   show_pages();
@@ -174,10 +190,9 @@ function show_pages() {
 }
 /** Plays and draws a scenario: the text's own, or that of an outcome. @param {number} mine */
 export async function play_text(mine, step = 0) {
-  const it = text_now(), answer = await played(it);
-  const picture = answer.out ? drawn(it, answer.out) : { out: '', err: '', ms: 0, memory: 0 };
-  const made = it.kind === 'callers' || answer.status ? null : machine_of(it);
-  // Both are made in workers, while the trace is put into the page.
+  // All is asked at once: one worker plays and makes the machine, another draws; the trace is shown when it is there.
+  const it = text_now(), trace = played(it), picture = drawn(it, trace);
+  const made = it.kind === 'callers' ? null : machine_of(it), answer = await trace;
   if (mine === now.turn && answer.out) show_trace(answer.entries);
   const [svg, machine] = await Promise.all([picture, made]);
   if (mine !== now.turn) return answer;
@@ -194,10 +209,12 @@ export async function play_text(mine, step = 0) {
   } else {
     const why = answer.err.trim().replace(/^lab: /, '').replace('scenario.toml: ', '') || 'there is nothing to play';
     show_stale(it.text.includes(HOLE) ? `The text has a hole (${HOLE}). The text is played when it is filled.`
+      : answer.status === -2 ? `It was not played: ${why}.`
       : `It cannot be played: ${why}. The faults are listed below the text.`);
   }
-  const bare = it.bank.trim() && it.kind !== 'callers';
-  $('note').textContent = bare ? 'no strips over handlers of your own' : '';
+  const bare = it.bank.trim() && it.kind !== 'callers', undrawn = answer.out && !svg.out;
+  $('note').textContent = undrawn ? `not drawn: ${svg.err.trim().replace(/^lab: /, '')}`
+    : bare ? 'no strips over handlers of your own' : '';
   $('viewed').hidden = !now.viewed;
   $('viewed-title').textContent = now.viewed ? title : '';
   const memory = (Math.max(answer.memory, svg.memory) / 1048576).toFixed(1);

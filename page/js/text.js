@@ -145,3 +145,23 @@ export function lost_line(given, text) {
   }
   return null;
 }
+/** What each callback of handlers says that it does, by its number. @param {string} text */
+export const actions_of = text => text.split('\n').map(line => bare_of(line).trim()).join('\n')
+  .split(/^\[\[\s*callback\s*\]\]$/m).slice(1)
+  .map(part => part.split('\n').filter(Boolean).join(' ') || 'handles each event, and asks for nothing');
+/** What was played at a step, each with the number of its callback. @param {any[]} entries @param {number} step */
+export function plays_at(entries, step) {
+  const callbacks = new Map(), found = [];
+  for (const it of entries) {
+    if (it.number > step) break;
+    const played = it.kind === 'play' && it.number === step && it.line.match(/^\s+(line \d+ \w+|timer \d+) /);
+    if (played && callbacks.has(played[1])) found.push({ of: played[1], callback: callbacks.get(played[1]) });
+    const callback = it.kind === 'entry' && it.keys.match(/(?:line=(\d+) stage=(\w+) )?callback=(\d+)/);
+    if (!callback) continue;
+    const timer = it.call === 'new_timer' && it.answer.match(/^number (\d+)$/);
+    if (timer) callbacks.set(`timer ${timer[1]}`, Number(callback[3]));
+    if (it.call === 'request' && it.answer === 'done')
+      callbacks.set(`line ${callback[1]} ${callback[2]}`, Number(callback[3]));
+  }
+  return found;
+}

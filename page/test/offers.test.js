@@ -39,6 +39,10 @@ test('tables, the board and the handlers', () => {
   assert.ok(at('[board]\nthreads = 1\n|')?.words.includes('sems = '));
   assert.ok(!at('[board]\nthreads = 1\n|')?.words.includes('threads = '));
   assert.equal(at('# a comment |'), null);
+  assert.deepEqual(at('[|', 'bank')?.words, ['[[callback]]']);
+  assert.deepEqual(at('|', 'bank')?.words, ['[[callback]]']);
+  assert.deepEqual(at('[[callback]]\na|', 'bank')?.words, ['accepts = ', 'do = ']);
+  assert.ok(at('[[callback]]\ndo = [{ st|', 'bank')?.words.includes('stop_timer = '));
 });
 test('lines of the console', () => {
   assert.ok(offered_line('T0', 2)?.words.includes('T0 '));

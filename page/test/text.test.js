@@ -5,7 +5,7 @@ import path from 'node:path';
 import test from 'node:test';
 import { read_trace } from '../js/reads.js';
 import { ask_of, bare_of, first_steps, kind_of, lost_line } from '../js/text.js';
-import { passes_at, steps_of, with_ask, without_ask } from '../js/text.js';
+import { actions_of, passes_at, plays_at, steps_of, with_ask, without_ask } from '../js/text.js';
 
 const top = path.join(import.meta.dirname || path.dirname(new URL(import.meta.url).pathname), '../..');
 const folder = name => ['examples', '.'].map(above => path.join(top, above, name)).find(it => fs.existsSync(it)) || '';
@@ -58,4 +58,17 @@ test('a text of callers is cut after a step, with the core given back', () => {
   assert.ok(!first_steps(text, entries, 5)?.text.endsWith('do = "give"\nwho = 0\n[[step]]\ndo = "give"\nwho = 0\n'));
   assert.equal(first_steps('board = { threads = 1 }\n', entries, 1), null);
   assert.deepEqual([...passes_at(entries, 4)], [['7', 'T1']]);
+});
+test('a play has its callback, and the callback what it does', () => {
+  const actions = actions_of(fs.readFileSync(path.join(folder('banks'), 'program.toml'), 'utf8'));
+  assert.equal(actions.length, 8);
+  assert.deepEqual([actions[0], actions[1], actions[6]], ['handles each event, and asks for nothing',
+    'do = [{ post_sem = 0 }]', 'accepts = 2 do = [{ stop_timer = 0 }]']);
+  const entries = read_trace('board threads=1\n1 T0 request line=8 stage=oob callback=1 tag=0 -> done\n'
+    + '2 T0 request line=8 stage=oob callback=5 tag=0 -> Busy\n3 T0 new_timer callback=2 tag=0 -> number 0\n'
+    + '4 T0 arrive line=8 -> done\n  line 8 oob count 1 handled\n5 T0 tick delta=9 -> done\n  clock\n'
+    + '  timer 0 count 1 missed 0 none\n  line 9 oob count 1 spurious\n');
+  assert.deepEqual(plays_at(entries, 3), []);
+  assert.deepEqual(plays_at(entries, 4), [{ of: 'line 8 oob', callback: 1 }]);
+  assert.deepEqual(plays_at(entries, 5), [{ of: 'timer 0', callback: 2 }]);
 });
