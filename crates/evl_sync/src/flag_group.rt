@@ -3,7 +3,7 @@ ghost use Rattle.std.specs.Prelude.{◌≡◌, ◌<◌, ◌≤◌, false, [], le
 ghost use Rattle.evl_base.specs.Limits.{thread_limit};
 ghost use Rattle.evl_sync.specs.Queues.{number_of, stands_in};
 ghost use Rattle.evl_sync.specs.Steps.{step_by, unless};
-ghost use Rattle.evl_sync.specs.FlagGroups.{IsSoundGroup, begin_take, drop_waiter, opened_group, pairs, post, post_refusal, take_refusal, try_take, walk_of, walk_waiters};
+ghost use Rattle.evl_sync.specs.FlagGroups.{IsSoundGroup, Rests, begin_take, drop_waiter, opened_group, pairs, post, post_refusal, take_refusal, try_take, walk_of, walk_waiters};
 
 mod likeness;
 
@@ -162,13 +162,15 @@ impl FlagGroup {
     }
 }
 
-// One walk through the waiters, which tells whom it serves: which bits are left. Who goes on waiting stays.
+// One walk through the waiters, which tells whom it serves: which bits are left. Who goes on waiting stays. Nobody is
+// looked at once no bits are left, as nobody waits for none.
 fn walk(
     waiters: &mut ArrayVec<FlagWaiter, MAX_THREADS>,
     bits: u32,
     told: &mut ArrayVec<TakenBits, MAX_THREADS>,
 ) -> u32
     requires few { length waiters.old.items ≤ thread_limit }
+    requires rests { Rests 0 waiters.old.items }
     requires nobody { told.old.items ≡ [] }
     ensures served { pairs told.new.items ≡ (walk_of waiters.old.items bits).served }
     ensures waiting { waiters.new.items ≡ (walk_of waiters.old.items bits).waiting }
@@ -177,6 +179,9 @@ fn walk(
     let mut left = bits;
     let mut place = 0;
     while place < waiters.len() {
+        if left == 0 {
+            return 0;
+        }
         let waiter = waiters.as_slice()[place];
         match taken(waiter.kind, left) {
             Some(got) => {

@@ -75,6 +75,7 @@ impl Sem {
 
     /// Lowers the count by 1 where it isn't 0; else the thread, which doesn't wait here yet, begins to wait, behind
     /// those of its rank or a greater one. Whether it was served at once. (Xenomai 4: EVL semaphore)
+    #[inline(always)]
     pub fn begin_get(&mut self, thread: ThreadId, rank: u16) -> bool
         requires away { stands_in (λ w. w.thread) thread.0 self.old.waiters ≡ false }
         requires few { thread.0 < thread_limit }

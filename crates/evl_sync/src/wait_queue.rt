@@ -42,6 +42,7 @@ impl WaitQueue {
 
     /// A thread, which doesn't wait here yet, begins to wait: behind those of its rank or a greater one, before all
     /// others.
+    #[inline(always)]
     pub fn push(&mut self, thread: ThreadId, rank: u16)
         requires away { stands_in (λ w. w.thread) thread.0 self.old ≡ false }
         requires few { thread.0 < thread_limit }
@@ -79,6 +80,7 @@ impl WaitQueue {
 
     /// Lets the first one wait no more, and says who that was; none where nobody waits.
     #[tactic(auto, using(crate::proofs::QueueLaws::kept_first))]
+    #[inline(always)]
     pub fn pop(&mut self) -> Option<ThreadId>
         ensures first { number_of result ≡ first_of (λ w. w.thread) self.old }
         ensures rest { self.new ≡ rest_of self.old }

@@ -59,6 +59,7 @@ impl Services {
     }
 
     /// Nobody was served any more: the list is as a new one.
+    #[inline(always)]
     pub fn clear(&mut self)
         ensures nobody { self.new ≡ [] }
     {
@@ -67,6 +68,7 @@ impl Services {
     }
 
     /// How many were served, at most `MAX_THREADS`.
+    #[inline(always)]
     pub fn len(&self) -> usize
         ensures count { result ≡ length self.now }
         ensures few { result ≤ thread_limit }

@@ -17,6 +17,7 @@ const MAX_TRANSFER: u16 = 256;
 impl<A: Allocator> XbufOf<A> {
     /// Writes as `try_write` does, and tells whom that served into a list where nobody stands yet. (Xenomai 4: EVL
     /// cross-buffer; this profile)
+    #[inline(always)]
     pub fn try_write_telling(
         &mut self,
         stage: Stage,
@@ -39,6 +40,7 @@ impl<A: Allocator> XbufOf<A> {
 
     /// Reads as `try_read` does, in the place of the bytes that `got` had, and tells whom that served into a list where
     /// nobody stands yet. (Xenomai 4: EVL cross-buffer; this profile)
+    #[inline(always)]
     pub fn try_read_telling(
         &mut self,
         stage: Stage,
