@@ -1,5 +1,5 @@
 //! A run of host threads on one machine, from a seed to the texts of what they did.
-ghost use Rattle.std.specs.Prelude.{◌≡◌, ◌≤◌, All, IfOk, length};
+ghost use Rattle.std.specs.Prelude.{◌≡◌, ◌+◌, ◌≤◌, All, IfOk, length, min};
 ghost use Rattle.evl_kernel.specs.state.Limits.{callback_limit};
 ghost use denote.Param.Send.{IsSync};
 ghost use Rattle.evl_bank.specs.Bank.{program_bank};
@@ -7,7 +7,7 @@ ghost use Rattle.evl_kernel.specs.state.Callbacks.{AnswersByPlan};
 ghost use Rattle.evl_shell.specs.Histories.{AreSound};
 ghost use Rattle.evl_shell.specs.Runs.{handlers_of};
 ghost use Rattle.test_stress.specs.Boards.{shared_board};
-ghost use Rattle.test_stress.specs.Texts.{IsPlayedSo};
+ghost use Rattle.test_stress.specs.Texts.{AreTextsOfCallers, AreTextsOfRun, IsPlayedSo};
 
 use crate::boards::shared_board;
 use crate::dice::Dice;
@@ -40,7 +40,9 @@ pub struct Order {
 
 impl Order {
     // The threads of the board: those that choose, and the one that helps.
-    fn board_threads(self) -> u16 {
+    fn board_threads(self) -> u16
+        ensures { result ≡ min (self.threads + 1) 65535 }
+    {
         self.threads.saturating_add(1)
     }
 
@@ -175,7 +177,8 @@ fn texts_after(
     requires machine { All (λ c. c.machine ≡ machine.of) callers.items }
     requires sound { AreSound machine.of.first.history.bank }
     requires board { machine.of.first.history.board ≡ shared_board threads }
-    ensures { IfOk result (λ texts. IsPlayedSo machine.of.first.history.bank texts) }
+    ensures closed { IfOk result (λ texts. AreTextsOfCallers machine.of callers.items texts) }
+    ensures played { IfOk result (λ texts. IsPlayedSo machine.of.first.history.bank texts) }
 {
     match machine.close(callers) {
         Ok(kernel) => {
@@ -245,7 +248,7 @@ fn played<R: Threads + Wait + Sync>(
     requires sound { AreSound machine.of.first.history.bank }
     requires board { machine.of.first.history.board ≡ shared_board threads }
     requires shared { IsSync R.row }
-    ensures { IfOk result (λ texts. IsPlayedSo machine.of.first.history.bank texts) }
+    ensures { IfOk result (λ texts. AreTextsOfRun threads machine.of.first.history.bank texts) }
 {
     match called(rt, alloc, order, &machine.of, callers) {
         Ok((back, events)) => texts_after(alloc, threads, machine, back, events),
@@ -265,7 +268,7 @@ fn run_over<R: Threads + Wait + Sync>(
 ) -> Result<Texts, Failure>
     requires few { length bank.items ≤ callback_limit }
     requires shared { IsSync R.row }
-    ensures { IfOk result (λ texts. IsPlayedSo (handlers_of (λ (c : _). c.kinds.0) (λ (c : _). c.plan.value) bank.items) texts) }
+    ensures { IfOk result (λ texts. AreTextsOfRun (min (order.threads + 1) 65535) (handlers_of (λ (c : _). c.kinds.0) (λ (c : _). c.plan.value) bank.items) texts) }
 {
     know_bank(bank.as_slice());
     let threads = order.board_threads();
@@ -283,19 +286,20 @@ struct Runner {
 }
 
 impl BankUser for Runner {
-    ghost use Rattle.std.specs.Prelude.{IfOk};
-    ghost use Rattle.test_stress.specs.Texts.{IsPlayedSo};
+    ghost use Rattle.std.specs.Prelude.{◌+◌, IfOk, min};
+    ghost use Rattle.test_stress.specs.Texts.{AreTextsOfRun};
 
     type Output = Result<Texts, Failure>;
 
-    ghost makes = { λ runner bank output. IfOk output (λ texts. IsPlayedSo bank texts) };
+    ghost makes = { λ runner bank output. IfOk output (λ texts. AreTextsOfRun (min (runner.order.threads + 1) 65535) bank texts) };
 
     fn take<R: Threads + Wait + Sync>(self, rt: &R, bank: Vec<Callback>) -> Result<Texts, Failure> {
         run_over(rt, self.alloc, self.order, bank)
     }
 }
 
-/// The texts of a run over the program's callbacks: the scenario, played over them, writes just the trace.
+/// The texts of a run over the program's callbacks, of the threads that choose and one that helps: of one history of
+/// their calls. The scenario, played over the callbacks, writes just the trace.
 ///
 /// `Refused` where the machine wasn't made or closed, or memory was refused; `Differs` where a mutex's word didn't say
 /// what is recorded; `Unwritten` where the scenario would be too long.
@@ -304,7 +308,7 @@ pub fn run_hosts<R: Threads + Wait + Sync>(
     alloc: Global,
     order: Order,
 ) -> Result<Texts, Failure>
-    ensures { IfOk result (λ texts. IsPlayedSo program_bank texts) }
+    ensures { IfOk result (λ texts. AreTextsOfRun (min (order.threads + 1) 65535) program_bank texts) }
 {
     match with_program_bank(rt, alloc, Runner { alloc, order }) {
         Ok(answer) => answer,

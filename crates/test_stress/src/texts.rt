@@ -2,7 +2,7 @@
 ghost use Rattle.std.specs.Prelude.{◌≡◌, IfErr, IfOk};
 ghost use Rattle.evl_shell.specs.Histories.{AreSound};
 ghost use Rattle.test_stress.specs.Boards.{shared_board};
-ghost use Rattle.test_stress.specs.Texts.{IsPlayedSo, IsUntold};
+ghost use Rattle.test_stress.specs.Texts.{AreTextsOf, IsPlayedSo, IsUntold};
 
 use crate::boards::shared_board;
 use crate::events::Event;
@@ -44,6 +44,7 @@ pub fn texts_of<C, A: Allocator>(
 ) -> Result<Texts, Failure>
     requires board { kernel.now.history.board ≡ shared_board threads }
     requires sound { AreSound kernel.now.history.bank }
+    ensures texts { IfOk result (λ texts. AreTextsOf (shared_board threads) kernel.now.history texts) }
     ensures told { IfOk result (λ texts. IsPlayedSo kernel.now.history.bank texts) }
     ensures untold { IfErr result (λ failure. IsUntold kernel.now.history failure) }
 {
