@@ -4,4 +4,5 @@ mod TellingLaws
 mod GrowthLaws
 mod LineLaws
 mod AnswerLaws
+mod HelpLaws
 mod StateLaws

@@ -1,4 +1,5 @@
 pub mod Answers
+pub mod Helps
 pub mod Sessions
 pub mod States
 pub mod Wholes

@@ -165,7 +165,7 @@ fn answer_other(
         b"quit" => told.push_str("Ctrl-D ends\n"),
         [b'?', b' ', word @ ..] => {
             let name = std::str::from_utf8(word).unwrap_or("");
-            write_help_of(alloc, told, name)
+            write_help_of(told, name)
         }
         _ => answer_unread(alloc, text, told),
     }
