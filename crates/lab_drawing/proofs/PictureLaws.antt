@@ -6,7 +6,7 @@ use Rattle.std.proofs.lemmas.List.Sums.{count_by_more_no, count_by_more_yes, cou
 use Rattle.std.specs.Fmt.{is_char_start, take_chars}
 use Rattle.std.specs.Str.{trim_start}
 use Rattle.lab_drawing.specs.Drawings.{shape_text}
-use Rattle.lab_drawing.specs.Frames.{Layout, capped, layout_of, left_of, longest, most_shown, tie_text, to_line, top_of}
+use Rattle.lab_drawing.specs.Frames.{Layout, capped, dates_room, layout_of, left_of, longest, most_shown, tie_text, to_line, top_of}
 use Rattle.lab_drawing.specs.Heads.{head_text, place_text}
 use Rattle.lab_drawing.specs.Lanes.{lanes_in}
 use Rattle.lab_drawing.specs.Marks.{is_entry, line_of}
@@ -21,14 +21,15 @@ use Rattle.lab_drawing.specs.declared.ties.TieEnd.{TieEnd}
 use Rattle.lab_drawing.proofs.PageLaws.{drop_short, length_taken, take_short}
 use Rattle.lab_drawing.proofs.TitleLaws.{titles-append, titles-behind}
 
-abbrev laid_out : List Lane → ℕ → ℕ → Shows → Goes → Layout
-laid_out lanes shown count shows goes = record { lanes = lanes; shown = shown; count = count; shows = shows; goes = goes }
+abbrev laid_out : List Lane → ℕ → ℕ → Shows → Goes → ℕ → Layout
+laid_out lanes shown count shows goes dated = record { lanes = lanes; shown = shown; count = count; shows = shows; goes = goes; dated = dated }
 
-pub same_layout : (goes : Goes) (shows : Shows) (marks : List Mark) (lanes : List Lane) (most shown : ℕ) → lanes ≡ lanes_in marks → most ≡ most_shown shows
-    → shown ≡ min most (longest marks) → laid_out lanes shown (length marks) shows goes ≡ layout_of goes shows marks
-same_layout goes shows marks lanes most shown l m s =
-    ap (λ (x : List Lane). laid_out x shown (length marks) shows goes) l
-    ∙ ap (λ (x : ℕ). laid_out (lanes_in marks) x (length marks) shows goes) (s ∙ ap (λ (x : ℕ). min x (longest marks)) m)
+pub same_layout : (goes : Goes) (shows : Shows) (moments : List Moment) (marks : List Mark) (lanes : List Lane) (most shown dated : ℕ) → lanes ≡ lanes_in marks → most ≡ most_shown shows
+    → shown ≡ min most (longest marks) → dated ≡ dates_room moments → laid_out lanes shown (length marks) shows goes dated ≡ layout_of goes shows moments marks
+same_layout goes shows moments marks lanes most shown dated l m s d =
+    ap (λ (x : List Lane). laid_out x shown (length marks) shows goes dated) l
+    ∙ ap (λ (x : ℕ). laid_out (lanes_in marks) x (length marks) shows goes dated) (s ∙ ap (λ (x : ℕ). min x (longest marks)) m)
+    ∙ ap (λ (x : ℕ). laid_out (lanes_in marks) (min (most_shown shows) (longest marks)) (length marks) shows goes x) d
 
 -- ---- the first characters of a text
 
@@ -230,7 +231,7 @@ column_made frame stood mark first behind added t0 t1 t2 f s a e g =
 
 -- ---- the whole
 
-pub picture_made : (goes : Goes) (shows : Shows) (moments : List Moment) (marks : List Mark) (sheet : Layout) (none head headed drawn whole : List ℕ) → sheet ≡ layout_of goes shows marks → none ≡ []
+pub picture_made : (goes : Goes) (shows : Shows) (moments : List Moment) (marks : List Mark) (sheet : Layout) (none head headed drawn whole : List ℕ) → sheet ≡ layout_of goes shows moments marks → none ≡ []
     → headed ≡ none ++ head → head ≡ head_text sheet → drawn ≡ headed ++ columns_text sheet moments [] marks → whole ≡ drawn ++ codes "</svg>\n" → whole ≡ going_text goes shows moments marks
 picture_made goes shows moments marks sheet none head headed drawn whole s n e h d w =
     let columns : List ℕ = columns_text sheet moments [] marks in
@@ -260,5 +261,5 @@ columns_titles sheet moments before (mark ∷ rest) =
 pub svg_titles : (goes : Goes) (shows : Shows) (moments : List Moment) (marks : List Mark) (text : List ℕ) → text ≡ going_text goes shows moments marks → HoldsTitles (map line_of marks) text
 svg_titles goes shows moments marks text e =
     subst (HoldsTitles (map line_of marks)) (sym e)
-    (titles-behind (map line_of marks) (head_text (layout_of goes shows marks)) _
-    (titles-append (map line_of marks) _ (codes "</svg>\n") (columns_titles (layout_of goes shows marks) moments [] marks)))
+    (titles-behind (map line_of marks) (head_text (layout_of goes shows moments marks)) _
+    (titles-append (map line_of marks) _ (codes "</svg>\n") (columns_titles (layout_of goes shows moments marks) moments [] marks)))

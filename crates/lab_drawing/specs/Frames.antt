@@ -15,21 +15,23 @@ use Rattle.evl_base.specs.declared.stage.Stage.TheVariants.{Inband, Oob}
 use Rattle.lab_drawing.specs.declared.lanes.Lane.{Lane}
 use Rattle.lab_drawing.specs.declared.lanes.Lane.TheVariants.{Thread, Line, Stage}
 use Rattle.lab_drawing.specs.declared.marks.Mark.{Mark}
+use Rattle.lab_drawing.specs.declared.moments.Moment.{Moment}
 use Rattle.lab_drawing.specs.declared.moments.Standing.{Standing}
 use Rattle.lab_drawing.specs.declared.ties.TieEnd.{TieEnd}
 use Rattle.lab_drawing.specs.declared.moments.Condition.{Condition}
 use Rattle.lab_drawing.specs.declared.moments.Condition.TheVariants.{Owned, Handed, Claimed, Taken, Stalled, Pending}
 
--- its lanes from the first, how many characters are shown of a line, how many marks it has, what it shows of how lanes stand, and which way it goes
+-- its lanes from the first, how many characters are shown of a line, how many marks it has, what it shows of how lanes stand, which way it goes, and how wide the room for its dates is where that is down
 pub record Layout : Type 0 where
   pub lanes : List Lane
   pub shown : ℕ
   pub count : ℕ
   pub shows : Shows
   pub goes : Goes
+  pub dated : ℕ
 
 abbrev pub layout : Sheet → Layout
-layout sheet = record { lanes = sheet.lanes.items; shown = sheet.shown; count = sheet.count; shows = sheet.shows; goes = sheet.goes }
+layout sheet = record { lanes = sheet.lanes.items; shown = sheet.shown; count = sheet.count; shows = sheet.shows; goes = sheet.goes; dated = sheet.dated }
 
 -- in a picture that goes across the one, in a picture that goes down the other
 abbrev pub by_way : {A : Type 0} → Goes → A → A → A
@@ -48,14 +50,39 @@ abbrev pub longest : List Mark → ℕ
 longest [] = 0
 longest (mark ∷ rest) = max (length mark.line.now) (longest rest)
 
--- the layout of a picture of marks that goes this way
-abbrev pub layout_of : Goes → Shows → List Mark → Layout
-layout_of goes shows marks = record { lanes = lanes_in marks; shown = min (most_shown shows) (longest marks); count = length marks; shows = shows; goes = goes }
+-- ---- dates
 
--- ---- places: a number that is too great stays at the greatest
+-- the greatest unit that tells a date whole: how many nanoseconds it has, and its word
+abbrev pub unit_of : ℕ → ℕ × List ℕ
+unit_of date =
+    if date == 0 then (1, codes "ns")
+    else if date % 1000000000 == 0 then (1000000000, codes "s")
+    else if date % 1000000 == 0 then (1000000, codes "ms")
+    else if date % 1000 == 0 then (1000, codes "us")
+    else (1, codes "ns")
 
+abbrev pub date_text : ℕ → List ℕ
+date_text date = decimal (date / (unit_of date).0) ++ (codes " " ++ (unit_of date).1)
+
+-- how many characters the longest date has
+abbrev pub longest_date : List Moment → ℕ
+longest_date [] = 0
+longest_date (moment ∷ rest) = max (length (date_text moment.date)) (longest_date rest)
+
+-- a number that is too great stays at the greatest
 abbrev pub capped : ℕ → ℕ
 capped pixels = min pixels (2 ^ 64 - 1)
+
+-- how wide the room for dates is: as the longest one wants it
+abbrev pub dates_room : List Moment → ℕ
+dates_room moments = max 64 (capped (10 + 6 * longest_date moments))
+
+-- the layout of a picture of marks that goes this way, by the moments after their entries
+abbrev pub layout_of : Goes → Shows → List Moment → List Mark → Layout
+layout_of goes shows moments marks =
+    record { lanes = lanes_in marks; shown = min (most_shown shows) (longest marks); count = length marks; shows = shows; goes = goes; dated = dates_room moments }
+
+-- ---- places
 
 -- so much room, where it is told how lanes stand
 abbrev pub room : Shows → ℕ → ℕ
@@ -96,7 +123,7 @@ row_down sheet row = capped (band_top sheet row + 34 + 20 * (row % 60))
 
 -- where the lines begin, right of the lanes of a picture that goes down
 abbrev pub lines_left : Layout → ℕ
-lines_left sheet = capped (64 + 56 * length sheet.lanes)
+lines_left sheet = capped (sheet.dated + 56 * length sheet.lanes)
 
 -- how wide the picture is: as its widest band, or as its legend
 abbrev pub picture_width : Layout → ℕ
@@ -109,18 +136,6 @@ abbrev pub picture_height : Layout → ℕ
 picture_height sheet = by_way sheet.goes (capped (legend_height sheet + band_height sheet * band_count sheet)) (capped (capped (legend_height sheet + 36 * band_count sheet) + 20 * sheet.count))
 
 -- ---- texts
-
--- the greatest unit that tells a date whole: how many nanoseconds it has, and its word
-abbrev pub unit_of : ℕ → ℕ × List ℕ
-unit_of date =
-    if date == 0 then (1, codes "ns")
-    else if date % 1000000000 == 0 then (1000000000, codes "s")
-    else if date % 1000000 == 0 then (1000000, codes "ms")
-    else if date % 1000 == 0 then (1000, codes "us")
-    else (1, codes "ns")
-
-abbrev pub date_text : ℕ → List ℕ
-date_text date = decimal (date / (unit_of date).0) ++ (codes " " ++ (unit_of date).1)
 
 -- what stands before the number above a lane: T is that of a thread, + that of pending events
 abbrev pub number_sign : Condition → List ℕ
@@ -155,7 +170,7 @@ below_lane sheet column lane = capped (band_top sheet column + band_depth sheet)
 
 -- where a lane stands in a picture that goes down, from the left
 abbrev pub lane_left : Layout → Lane → ℕ
-lane_left sheet lane = capped (80 + 56 * unwrap_or (place_on sheet lane) 0)
+lane_left sheet lane = capped (sheet.dated + 16 + 56 * unwrap_or (place_on sheet lane) 0)
 
 -- where a mark stands in a lane: from the left, and from the top
 abbrev pub left_of : Layout → ℕ → Lane → ℕ
@@ -256,8 +271,8 @@ own_text policy = codes "<text x=\"8\" y=\"-3\" font-weight=\"bold\">" ++ (lette
 
 -- a rank that a thread lends: behind an arrow its priority, and the thread; or else that of a ceiling
 abbrev pub lent_text : ℕ → Option ℕ → List ℕ
-lent_text rank (Some thread) = codes "<text x=\"8\" y=\"7\" font-weight=\"bold\">" ++ (arrow ++ (decimal (priority_of rank) ++ (codes "T" ++ (decimal thread ++ codes "</text>"))))
-lent_text rank None = codes "<text x=\"8\" y=\"7\" font-weight=\"bold\">c" ++ (decimal (priority_of rank) ++ codes "</text>")
+lent_text rank (Some thread) = codes "<text x=\"8\" y=\"8.5\" font-weight=\"bold\">" ++ (arrow ++ (decimal (priority_of rank) ++ (codes "T" ++ (decimal thread ++ codes "</text>"))))
+lent_text rank None = codes "<text x=\"8\" y=\"8.5\" font-weight=\"bold\">c" ++ (decimal (priority_of rank) ++ codes "</text>")
 
 -- an effective rank that is another than the policy gives
 abbrev pub raised_text : Policy → ℕ → Option ℕ → List ℕ

@@ -50,7 +50,7 @@ word_text x y word = codes "<text x=\"" ++ (decimal x ++ (codes "\" y=\"" ++ (de
 
 -- in the legend of shapes, so far from the left
 abbrev pub shape_sign : ℕ → List ℕ → List ℕ → List ℕ
-shape_sign at drawn word = place_text at 18 ++ (drawn ++ word_text 10 3 word)
+shape_sign at drawn word = place_text at 18 ++ (drawn ++ word_text 12 3 word)
 
 -- in the legend of conditions
 abbrev pub condition_sign : Goes → ℕ → List ℕ → List ℕ → List ℕ

@@ -209,7 +209,7 @@ picture_text sheet moments marks = head_text sheet ++ (columns_text sheet moment
 
 -- the picture of marks that goes this way, and shows this of how lanes stand, by the moments after their entries
 abbrev pub going_text : Goes → Shows → List Moment → List Mark → List ℕ
-going_text goes shows moments marks = picture_text (layout_of goes shows marks) moments marks
+going_text goes shows moments marks = picture_text (layout_of goes shows moments marks) moments marks
 
 abbrev pub svg_text : Shows → List Moment → List Mark → List ℕ
 svg_text shows moments marks = going_text Across shows moments marks

@@ -1,5 +1,5 @@
 -- The dates above the lanes of a picture, and how each lane stands.
-use Rattle.std.specs.Prelude.{ℕ, ◌+◌, ◌%◌, ◌==◌, Bool, true, false, not, ◌&&◌, ◌||◌, List, [], ◌++◌, codes, decimal, find, flat_map, is_some, if◌then◌else◌, Option, Some, None}
+use Rattle.std.specs.Prelude.{ℕ, ◌+◌, ◌-◌, ◌%◌, ◌==◌, Bool, true, false, not, ◌&&◌, ◌||◌, List, [], ◌++◌, codes, decimal, find, flat_map, is_some, if◌then◌else◌, Option, Some, None}
 use Rattle.lab_drawing.specs.Drawings.{strip_for}
 use Rattle.evl_base.specs.declared.policy.Policy.{Policy}
 use Rattle.evl_base.specs.declared.policy.Policy.TheVariants.{Rr}
@@ -75,7 +75,7 @@ date_above sheet column date =
 
 -- at the left of its row
 abbrev pub date_beside : Layout → ℕ → ℕ → List ℕ
-date_beside sheet row date = codes "<text x=\"56\" y=\"" ++ (decimal (capped (row_down sheet row + 4)) ++ (codes "\" text-anchor=\"end\">" ++ (date_text date ++ codes "</text>\n")))
+date_beside sheet row date = codes "<text x=\"" ++ (decimal (sheet.dated - 8) ++ (codes "\" y=\"" ++ (decimal (capped (row_down sheet row + 4)) ++ (codes "\" text-anchor=\"end\">" ++ (date_text date ++ codes "</text>\n")))))
 
 abbrev pub date_mark : Layout → ℕ → ℕ → List ℕ
 date_mark sheet column date = by_way sheet.goes (date_above sheet column date) (date_beside sheet column date)

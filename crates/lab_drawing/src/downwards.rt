@@ -94,10 +94,12 @@ fn lent_text(alloc: Global, rank: u16, lender: Option<u16>) -> Result<String, Al
     match lender {
         Some(thread) => {
             format!(in alloc;
-                "<text x=\"8\" y=\"7\" font-weight=\"bold\">↑{priority}T{thread}</text>"
+                "<text x=\"8\" y=\"8.5\" font-weight=\"bold\">↑{priority}T{thread}</text>"
             )
         }
-        None => format!(in alloc; "<text x=\"8\" y=\"7\" font-weight=\"bold\">c{priority}</text>"),
+        None => format!(in alloc;
+            "<text x=\"8\" y=\"8.5\" font-weight=\"bold\">c{priority}</text>"
+        ),
     }
 }
 

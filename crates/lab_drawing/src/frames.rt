@@ -5,11 +5,13 @@ ghost use Rattle.lab_drawing.specs.Frames.{band_count, band_depth, band_height, 
 ghost use Rattle.lab_drawing.specs.Heads.{head_text, second_legend};
 ghost use Rattle.lab_drawing.specs.Lanes.{AreLanesOf, put_touched};
 
+use crate::dates::dates_room;
 use crate::downwards::{put_line_down, put_name_above};
 use crate::drawings::{lane_ink, put_lane_name, put_line};
 use crate::heads::{opening, put_conditions, put_shapes, put_words};
 use crate::lanes::{Lane, add_lane, index_of};
 use crate::marks::Mark;
+use crate::moments::Moment;
 use crate::ties::{TieEnd, tie_down, tie_right};
 use std::alloc::{AllocError, Global};
 
@@ -44,10 +46,8 @@ const MOST_TOLD: usize = 100;
 
 const CHARACTER: usize = 6;
 
-// In a picture that goes down: the room for the dates, how wide a lane is and where in it its line is, how high a row,
-// the names of lanes and the space below them, and how wide a character of a line.
-const DATED: usize = 64;
-
+// In a picture that goes down: how wide a lane is and where in it its line is, how high a row, the names of lanes and
+// the space below them, and how wide a character of a line.
 const LANE_DOWN: usize = 56;
 
 const IN_LANE: usize = 16;
@@ -81,12 +81,13 @@ pub enum Shows {
 }
 
 /// How a picture is laid out: its lanes from the first, the characters that are shown of a line, how many marks it has,
-/// what it shows of how lanes stand, and which way it goes.
+/// what it shows of how lanes stand, which way it goes, and how wide the room for its dates is where that is down.
 #[derive(Drop)]
 pub struct Sheet {
     pub lanes: Vec<Lane>,
     pub shown: usize,
     pub goes: Goes,
+    pub dated: usize,
     count: usize,
     shows: Shows,
 }
@@ -143,20 +144,24 @@ fn shown_of(marks: &[Mark<'_>], most: usize) -> usize
 }
 
 impl Sheet {
-    /// The sheet for some marks, and what it shows of how lanes stand. `AllocError` where its list couldn't grow.
+    /// The sheet for some marks and moments, and what it shows of how lanes stand. `AllocError` where memory couldn't
+    /// grow.
     pub fn of(
         alloc: Global,
         marks: &[Mark<'_>],
+        moments: &[Moment],
         shows: Shows,
         goes: Goes,
     ) -> Result<Sheet, AllocError>
-        ensures { IfOk result (λ sheet. layout sheet ≡ layout_of goes shows marks.now) }
+        ensures { IfOk result (λ sheet. layout sheet ≡ layout_of goes shows moments.now marks.now) }
     {
+        let dated = dates_room(alloc, moments)?;
         let lanes = lanes_of(alloc, marks)?;
         Ok(Sheet {
             lanes,
             shown: shown_of(marks, most_shown(shows)),
             goes,
+            dated,
             count: marks.len(),
             shows,
         })
@@ -292,14 +297,15 @@ impl Sheet {
     fn lines_left(&self) -> usize
         ensures { result ≡ lines_left (layout self.now) }
     {
-        steps(DATED, LANE_DOWN, self.lanes.len())
+        steps(self.dated, LANE_DOWN, self.lanes.len())
     }
 
     // Where a lane stands in a picture that goes down, from the left.
     fn lane_left(&self, lane: Lane) -> usize
         ensures { result ≡ lane_left (layout self.now) lane }
     {
-        steps(DATED + IN_LANE, LANE_DOWN, self.place(lane))
+        let first = self.dated.saturating_add(IN_LANE);
+        steps(first, LANE_DOWN, self.place(lane))
     }
 
     /// Where a mark stands in a lane, from the left.

@@ -99,7 +99,7 @@ fn put_shape(text: &mut String, at: usize, shape: Shape, word: &str) -> Result<u
 {
     put_place(text, at, 18)?;
     text.push_str(shape_text(shape))?;
-    put_sign_word(text, 10, 3, word)?;
+    put_sign_word(text, 12, 3, word)?;
     Ok(sign_end(32, at, word))
 }
 
@@ -110,7 +110,7 @@ fn put_end(text: &mut String, at: usize, end: TieEnd, word: &str) -> Result<usiz
 {
     put_place(text, at, 18)?;
     text.push_str(end_text(end))?;
-    put_sign_word(text, 10, 3, word)?;
+    put_sign_word(text, 12, 3, word)?;
     Ok(sign_end(32, at, word))
 }
 

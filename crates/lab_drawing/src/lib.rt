@@ -3,6 +3,7 @@
 #![tactic(auto)]
 
 mod beside;
+mod dates;
 mod downwards;
 mod drawings;
 mod escapes;

@@ -1,11 +1,11 @@
 //! The strips below the lanes of a picture, which show how each stands, and the dates above them.
-ghost use Rattle.std.specs.Prelude.{◌≡◌, ◌<◌, ◌++◌, Some, IfOk, OnOk, option_map, string_bytes};
+ghost use Rattle.std.specs.Prelude.{◌≡◌, ◌++◌, Some, IfOk, OnOk, option_map, string_bytes};
 ghost use Rattle.lab_drawing.specs.Drawings as drawings;
-ghost use Rattle.lab_drawing.specs.Frames as frames;
 ghost use Rattle.lab_drawing.specs.Frames.{date_text, layout, number_above, number_sign, number_text};
 ghost use Rattle.lab_drawing.specs.Strips as strips;
 ghost use Rattle.lab_drawing.specs.Strips.{date_above, date_beside, date_mark, is_number, moment_text, standing_text, strip_at, tells_number, told_date, told_number, told_standing};
 
+use crate::dates::date_text;
 use crate::downwards::{own_rank, put_number_beside, strip_down};
 use crate::frames::{COLUMNS, Goes, Sheet};
 use crate::moments::{Condition, Moment, Standing};
@@ -226,34 +226,6 @@ fn put_standing(
     text.push_str("</g>\n")
 }
 
-// The greatest unit that tells a date whole: how many nanoseconds it has, and its word.
-fn unit_of(date: u64) -> (u64, &'static str)
-    ensures nanoseconds { result.0 ≡ (frames.unit_of date).0 }
-    ensures word { result.1.now ≡ (frames.unit_of date).1 }
-    ensures some { 0 < result.0 }
-{
-    if date == 0 {
-        (1, "ns")
-    } else if date % 1_000_000_000 == 0 {
-        (1_000_000_000, "s")
-    } else if date % 1_000_000 == 0 {
-        (1_000_000, "ms")
-    } else if date % 1_000 == 0 {
-        (1_000, "us")
-    } else {
-        (1, "ns")
-    }
-}
-
-// A date in the greatest unit that tells it whole.
-fn date_text(alloc: Global, date: u64) -> Result<String, AllocError>
-    ensures { IfOk result (λ text. string_bytes text ≡ date_text date) }
-{
-    let (nanoseconds, word) = unit_of(date);
-    let count = date / nanoseconds;
-    format!(in alloc; "{count} {word}")
-}
-
 // Whether the moment before had this date.
 fn was_date(date: u64, before: Option<&Moment>) -> bool
     ensures { result ≡ strips.was_date date (option_map (λ moment. moment.now) before.entry) }
@@ -291,11 +263,12 @@ fn put_date_beside(
     ensures { OnOk result (string_bytes text.new ≡ string_bytes text.old ++ date_beside (layout sheet.now) row date) }
 {
     let told = date_text(alloc, date)?;
+    let x = sheet.dated.saturating_sub(8);
     let y = sheet.row_down(row).saturating_add(4);
     let shown = told.as_str();
     write!(
         text,
-        "<text x=\"56\" y=\"{y}\" text-anchor=\"end\">{shown}</text>\n"
+        "<text x=\"{x}\" y=\"{y}\" text-anchor=\"end\">{shown}</text>\n"
     )?;
     Ok(())
 }

@@ -233,7 +233,7 @@ fn picture(
     ensures text { IfOk result (λ text. text.items ≡ going_text goes shows moments.now marks.now) }
     ensures titles { IfOk result (λ text. HoldsTitles (map line_of marks.now) text.items) }
 {
-    let sheet = Sheet::of(alloc, marks, shows, goes)?;
+    let sheet = Sheet::of(alloc, marks, moments, shows, goes)?;
     let head = sheet.head(alloc)?;
     let mut text = Vec::new(alloc);
     put_text(&mut text, head.as_str())?;

@@ -1,9 +1,11 @@
 //! A moment of a machine.
 ghost use Rattle.std.specs.Prelude.{◌≡◌, IfOk, filter_map};
 ghost use Rattle.evl_kernel.specs.state.States.{date};
+ghost use Rattle.lab_moments.specs.Asked.{CountsAll};
 ghost use Rattle.lab_moments.specs.Standings.{stands};
 
-use crate::standings::standing;
+use crate::standings::standing_below;
+use evl_base::LINES;
 use evl_kernel::KernelOf;
 use lab_drawing::{Lane, Moment, Standing};
 use std::alloc::{AllocError, Global};
@@ -13,12 +15,14 @@ fn standings<C>(
     alloc: Global,
     kernel: &KernelOf<C, Global>,
     lanes: &[Lane],
+    below: u16,
 ) -> Result<Vec<Standing>, AllocError>
+    requires { CountsAll kernel.now.history.state below }
     ensures standings { IfOk result (λ told. told.items ≡ filter_map (stands kernel.now.history.state) lanes.now) }
 {
     let mut told = Vec::new(alloc);
     for lane in lanes {
-        if let Some(one) = standing(kernel, *lane) {
+        if let Some(one) = standing_below(kernel, *lane, below) {
             told.push(one)?;
         }
     }
@@ -35,7 +39,21 @@ pub fn moment_of<C>(
     ensures date { IfOk result (λ m. m.date ≡ date kernel.now.history.state) }
     ensures standings { IfOk result (λ m. m.standings.items ≡ filter_map (stands kernel.now.history.state) lanes.now) }
 {
-    let told = standings(alloc, kernel, lanes)?;
+    moment_below(alloc, kernel, lanes, LINES as u16)
+}
+
+/// The same, where nothing is pending on the lines from here on.
+pub(crate) fn moment_below<C>(
+    alloc: Global,
+    kernel: &KernelOf<C, Global>,
+    lanes: &[Lane],
+    below: u16,
+) -> Result<Moment, AllocError>
+    requires { CountsAll kernel.now.history.state below }
+    ensures date { IfOk result (λ m. m.date ≡ date kernel.now.history.state) }
+    ensures standings { IfOk result (λ m. m.standings.items ≡ filter_map (stands kernel.now.history.state) lanes.now) }
+{
+    let told = standings(alloc, kernel, lanes, below)?;
     Ok(Moment {
         date: kernel.now(),
         standings: told,

@@ -1,11 +1,12 @@
 //! How the lanes of a picture stand, as a kernel's readers tell it.
 ghost use Rattle.std.specs.Prelude.{◌≡◌};
+ghost use Rattle.lab_moments.specs.Asked.{CountsAll};
 ghost use Rattle.lab_moments.specs.Standings.{condition, event_stands, handed_stands, is_picked, mutex_stands, pending_count, some_events, stage_stands, stands, thread_stands, timer_stands};
 
 use crate::handed::handed_to;
 use crate::lenders::lender_of;
 use crate::pending::pending_count;
-use evl_base::{LineNo, MutexId, Stage, ThreadId, TimerId};
+use evl_base::{LINES, LineNo, MutexId, Stage, ThreadId, TimerId};
 use evl_kernel::KernelOf;
 use lab_drawing::{Condition, Lane, Standing};
 use std::alloc::Global;
@@ -101,20 +102,22 @@ fn timer_standing<C>(kernel: &KernelOf<C, Global>, timer: u16) -> Option<Standin
 }
 
 // How many events are pending on a stage, if any are.
-fn pending_events<C>(kernel: &KernelOf<C, Global>, stage: Stage) -> Option<u16>
+fn pending_events<C>(kernel: &KernelOf<C, Global>, stage: Stage, below: u16) -> Option<u16>
+    requires { CountsAll kernel.now.history.state below }
     ensures events { result ≡ some_events (pending_count kernel.now.history.state stage) }
 {
-    match pending_count(kernel, stage) {
+    match pending_count(kernel, stage, below) {
         0 => None,
         count => Some(count),
     }
 }
 
 // How a stage stands, if it is stalled, or events are pending there.
-fn stage_standing<C>(kernel: &KernelOf<C, Global>, stage: Stage) -> Option<Standing>
+fn stage_standing<C>(kernel: &KernelOf<C, Global>, stage: Stage, below: u16) -> Option<Standing>
+    requires { CountsAll kernel.now.history.state below }
     ensures standing { result ≡ stage_stands kernel.now.history.state stage }
 {
-    let number = pending_events(kernel, stage);
+    let number = pending_events(kernel, stage, below);
     if kernel.stalled(stage) {
         return Some(Standing {
             lane: Lane::Stage(stage),
@@ -164,11 +167,23 @@ fn event_standing<C>(
 pub fn standing<C>(kernel: &KernelOf<C, Global>, lane: Lane) -> Option<Standing>
     ensures standing { result ≡ stands kernel.now.history.state lane }
 {
+    standing_below(kernel, lane, LINES as u16)
+}
+
+/// The same, where nothing is pending on the lines from here on.
+pub(crate) fn standing_below<C>(
+    kernel: &KernelOf<C, Global>,
+    lane: Lane,
+    below: u16,
+) -> Option<Standing>
+    requires { CountsAll kernel.now.history.state below }
+    ensures standing { result ≡ stands kernel.now.history.state lane }
+{
     match lane {
         Lane::Thread(thread) => thread_standing(kernel, thread),
         Lane::Mutex(mutex) => mutex_standing(kernel, mutex),
         Lane::Timer(timer) => timer_standing(kernel, timer),
-        Lane::Stage(stage) => stage_standing(kernel, stage),
+        Lane::Stage(stage) => stage_standing(kernel, stage, below),
         Lane::Line(stage, number) => event_standing(kernel, lane, stage, number),
         Lane::Clock => event_standing(kernel, lane, Stage::Oob, 0),
         Lane::Sem(_) | Lane::Flags(_) | Lane::Xbuf(_) => None,

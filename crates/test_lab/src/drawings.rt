@@ -355,7 +355,7 @@ fn a_rank_is_told_with_its_lender(rt: HostRuntime) {
     assert!(rt;
         lent_has(
             rt.alloc(),
-            ">f10</text><text x=\"8\" y=\"7\" font-weight=\"bold\">↑20T2</text>"
+            ">f10</text><text x=\"8\" y=\"8.5\" font-weight=\"bold\">↑20T2</text>"
         )
     );
     assert!(rt; lent_has(rt.alloc(), ">r20</text>"));
@@ -366,7 +366,7 @@ fn a_rank_is_told_with_its_ceiling(rt: HostRuntime) {
     assert!(rt;
         lent_has(
             rt.alloc(),
-            ">w5</text><text x=\"8\" y=\"7\" font-weight=\"bold\">c50</text>"
+            ">w5</text><text x=\"8\" y=\"8.5\" font-weight=\"bold\">c50</text>"
         )
     );
 }

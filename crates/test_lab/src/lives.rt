@@ -183,11 +183,19 @@ fn each_form_is_read(rt: HostRuntime) {
     assert!(rt; is_driven(rt.alloc(), Asked::Forms));
 }
 
-// A form, and what its key takes.
-const HELP: [(&str, &str); 1] = [(
-    "? put",
-    "T0 put sem=0\n  sem: a number from 0 to 65535 is wanted\n",
-)];
+// Forms, and what their keys take.
+const HELP: [(&str, &str); 4] = [
+    (
+        "? put",
+        "T0 put sem=0\n  sem: a number from 0 to 65535 is wanted\n",
+    ),
+    (
+        "? finish",
+        "T0 finish [keep=false]\n  keep: true or false is wanted\n",
+    ),
+    ("? now", "T0 now\n"),
+    ("? nap", "! 3: there is no such call; ? tells all\n"),
+];
 
 #[test]
 fn help_tells_what_keys_take(rt: HostRuntime) {

@@ -1,9 +1,13 @@
-use Rattle.std.proofs.Common.{◌≡◌, ◌++◌, map}
+use Rattle.std.proofs.Common.{◌≡◌, ◌≤◌, ◌++◌, map}
 use Rattle.evl_shell.specs.Moments.{moment}
+use Rattle.lab_moments.specs.Asked.{below_entries, below_steps}
 use Rattle.lab_moments.specs.Moments.{moment_shown, shown_from}
 use Rattle.lab_moments.proofs.runs.make_steps.Given as goal
 
 abbrev pub invariant-loop-step : goal.invariant-loop-step
-invariant-loop-step l =
-    map moment_shown l.moments.items ++ shown_from l.lanes l.kernel.limit (moment l.kernel) l.step-iterator.rest.items
-    ≡ shown_from l.lanes l.initial.kernel.limit (moment l.initial.kernel) l.fn.steps.items
+invariant-loop-step l = record {
+  shown : map moment_shown l.moments.items ++ shown_from l.lanes l.kernel.limit (moment l.kernel) l.step-iterator.rest.items
+      ≡ shown_from l.lanes l.initial.kernel.limit (moment l.initial.kernel) l.fn.steps.items;
+  asked : below_entries l.kernel.history.entries ≤ l.below;
+  ask : below_steps l.step-iterator.rest.items ≤ l.below;
+}

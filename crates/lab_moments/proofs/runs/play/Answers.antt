@@ -1,7 +1,14 @@
 use Rattle.std.proofs.Common.{◌≡◌, IfOk, List, map, subst}
 use Rattle.lab_moments.specs.Moments.{Shown, moment_shown}
+use Rattle.lab_moments.proofs.AskedLaws.{all_ask, none_asked}
 use Rattle.lab_moments.proofs.RunLaws.{opened_shown}
 use Rattle.lab_moments.proofs.runs.play.Goals as goal
+
+pub make_steps-made-requires-clause-asked : goal.make_steps-made-requires-clause-asked
+make_steps-made-requires-clause-asked c = none_asked _ _ c.in-Ok.ensures.opened.entries
+
+pub make_steps-made-requires-clause-ask : goal.make_steps-made-requires-clause-ask
+make_steps-made-requires-clause-ask c = all_ask _ _ _ c.as_slice.ensures.value c.below_steps-below.ensures.below
 
 pub returns-in-Ok : goal.returns-in-Ok
 returns-in-Ok c =
